@@ -1,0 +1,4 @@
+pub mod Money
+pub mod Rows
+pub mod Names
+pub mod View

@@ -1,0 +1,50 @@
+-- Customers by name, in the order in which they came.
+use Rattle.std.specs.Prelude.{ℕ, ◌+◌, ◌<◌, ◌≤◌, ◌≢◌, Bool, ◌&&◌, IsTrue, nat_le, if◌then◌else◌, List, [], ◌∷◌, length, All, AllPairs, Contains, Option, Some, None}
+use Rattle.std.specs.List.{list_all}
+use Rattle.std.specs.declared.cmp.Ordering.{Ordering}
+use Rattle.std.specs.Ordering.{nat_cmp, is_eq}
+use Rattle.std.specs.Cmp.Lexicographic.{slice_cmp}
+
+-- a byte of printed ASCII, not a space
+abbrev pub is_printable : ℕ → Bool
+is_printable byte = nat_le 33 byte && nat_le byte 126
+
+-- 1 to 24 printable bytes
+abbrev pub is_name : List ℕ → Bool
+is_name name = nat_le 1 (length name) && (nat_le (length name) 24 && list_all is_printable name)
+
+-- the order of names, byte by byte
+abbrev pub name_cmp : List ℕ → List ℕ → Ordering
+name_cmp = slice_cmp nat_cmp
+
+-- whether two names are the same
+abbrev pub same_name : List ℕ → List ℕ → Bool
+same_name a b = is_eq (name_cmp a b)
+
+-- the number of the first customer of the name, of the customers from this number on
+abbrev pub customer_from : ℕ → List (List ℕ) → List ℕ → Option ℕ
+customer_from customer [] name = None
+customer_from customer (first ∷ names) name =
+    if same_name name first then Some customer else customer_from (customer + 1) names name
+
+-- a customer's number: the place of the name, from 0
+unfoldable pub customer_of : List (List ℕ) → List ℕ → Option ℕ
+customer_of names name = customer_from 0 names name
+
+-- customers by number, and how many there may be
+pub record NameList : Type 0 where
+  pub items : List (List ℕ)
+  pub limit : ℕ
+
+-- what is true of every list of customers: distinct names, and no more of them than the limit
+pub record IsNameList (names : NameList) : Type 0 where
+  pub named : All (λ name. IsTrue (is_name name)) names.items
+  pub distinct : AllPairs (λ a b. a ≢ b) names.items
+  pub within : length names.items ≤ names.limit
+  pub small : names.limit ≤ 65536
+
+-- the name may be added: it is one, no customer has it, and there is room
+pub record CanTake (names : NameList) (name : List ℕ) : Type 0 where
+  pub named : IsTrue (is_name name)
+  pub new : ¬ Contains names.items name
+  pub room : length names.items < names.limit

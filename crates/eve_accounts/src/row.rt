@@ -1,0 +1,56 @@
+//! Where a customer's balances stand.
+
+ghost use Rattle.std.specs.Prelude.{◌≡◌, ◌<◌};
+ghost use Rattle.eve_accounts.specs.Rows.{saving_row, checking_row};
+
+use std::marker::Model;
+
+/// The row of one balance: customer c, counted from 0, has the saving row 2c and the checking row 2c + 1.
+///
+/// docs/MODEL.md, "Rows". Contracts see it as its number.
+#[derive(Clone, Copy, Debug, PartialEq, Eq, PartialOrd, Ord)]
+pub struct Row {
+    number: u32,
+}
+
+impl Model for Row {
+    ghost use Rattle.std.specs.Prelude.{ℕ, ◌<◌};
+
+    ghost Value = { ℕ };
+
+    ghost view = { λ r. r.number };
+
+    ghost invariant = { λ r. r.number < 131072 };
+
+    ghost inverse = { λ n. record { number = n } };
+}
+
+impl Row {
+    /// The row of the customer's saving balance.
+    pub fn saving(customer: u32) -> Row
+        requires { customer < 65536 }
+        ensures { result ≡ saving_row customer }
+    {
+        Row {
+            number: 2 * customer,
+        }
+    }
+
+    /// The row of the customer's checking balance.
+    pub fn checking(customer: u32) -> Row
+        requires { customer < 65536 }
+        ensures { result ≡ checking_row customer }
+    {
+        Row {
+            number: 2 * customer + 1,
+        }
+    }
+
+    /// Its number, from 0.
+    pub fn number(self) -> u32
+        ensures number { result ≡ self }
+        ensures range { result < 131072 }
+    {
+        self.number
+    }
+}
