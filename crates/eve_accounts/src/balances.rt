@@ -61,6 +61,13 @@ impl Balances {
         self.cents[row.number() as usize] = balance;
     }
 
+    /// All balances, in row order.
+    pub fn as_slice(&self) -> &[Cents]
+        ensures { result.now ≡ self.now }
+    {
+        self.cents.as_slice()
+    }
+
     /// How many rows there are.
     pub fn len(&self) -> usize
         ensures len { result ≡ length self.now }

@@ -63,6 +63,7 @@ fn balances_copy(rt: HostRuntime) -> Result<(), Fail> {
         assert!(rt; !each.is_empty());
         assert_eq!(rt; each.get(saving), Cents::ZERO);
         assert_eq!(rt; each.get(checking), five);
+        assert_eq!(rt; each.as_slice(), [Cents::ZERO, five].as_slice());
     }
     assert!(rt; Balances::new(rt.alloc(), 0)?.is_empty());
     Ok(())

@@ -1,0 +1,4 @@
+mod Places
+mod CommitPlaces
+mod VotePlaces
+mod SentPlaces

@@ -1,0 +1,76 @@
+//! A view of a Vote frame.
+
+ghost use Rattle.std.specs.Prelude.{◌≡◌, IsTrue, Some};
+ghost use Rattle.eve_grammar.specs.Reading.{vote_of};
+ghost use Rattle.eve_grammar.specs.Bodies.{choice};
+ghost use Rattle.eve_frames.specs.Views.{body_in, most_batches, is_vote_frame, vote_in};
+
+use byteorder::{BigEndian, ByteOrder};
+use eve_grammar::Choice;
+
+/// A Vote frame, where it stands.
+#[derive(Clone, Copy, Debug)]
+pub struct VoteView<'a> {
+    /// The byte of the trace at which it begins.
+    pub offset: u64,
+    /// Its kind, the length of its body, and the body, as they stand.
+    pub bytes: &'a [u8],
+    pub ghost whole: { IsTrue (is_vote_frame bytes.now) },
+}
+
+impl<'a> VoteView<'a> {
+    /// The view of the frame that these bytes are.
+    #[tactic(auto, using(crate::proofs::VotePlaces::vote_laws))]
+    pub fn new(offset: u64, bytes: &'a [u8]) -> VoteView<'a>
+        requires { IsTrue (is_vote_frame bytes.now) }
+        ensures offset { result.offset ≡ offset }
+        ensures bytes { result.bytes.now ≡ bytes.now }
+        ensures read { vote_of most_batches (body_in bytes.now) ≡ Some (vote_in bytes.now) }
+    {
+        VoteView { offset, bytes }
+    }
+
+    /// The byte of the trace at which it begins.
+    pub fn offset(&self) -> u64
+        ensures { result ≡ self.now.offset }
+    {
+        self.offset
+    }
+
+    /// The whole frame, and no more.
+    pub fn bytes(&self) -> &'a [u8]
+        ensures { result.now ≡ self.now.bytes.now }
+    {
+        let frame = self.bytes;
+        frame
+    }
+
+    /// The number of the batch that it is on, from 1.
+    #[tactic(auto, using(crate::proofs::VotePlaces::vote_laws))]
+    pub fn seq(&self) -> u32
+        ensures { result ≡ (vote_in self.now.bytes.now).seq }
+    {
+        BigEndian::read_u32(&self.bytes[5..])
+    }
+
+    /// The view that it is in.
+    #[tactic(auto, using(crate::proofs::VotePlaces::vote_laws))]
+    pub fn view(&self) -> u32
+        ensures { result ≡ (vote_in self.now.bytes.now).view }
+    {
+        BigEndian::read_u32(&self.bytes[9..])
+    }
+
+    /// What it is for, with the token of a commit as it stands.
+    #[tactic(auto, using(crate::proofs::VotePlaces::vote_laws))]
+    pub fn choice(&self) -> Choice<'a>
+        ensures { choice result ≡ (vote_in self.now.bytes.now).choice }
+    {
+        let bytes = self.bytes;
+        if bytes[13] == 1 {
+            Choice::ForCommit(&bytes[14..46])
+        } else {
+            Choice::ForRollback
+        }
+    }
+}

@@ -1,0 +1,16 @@
+pub mod Codec
+pub mod FieldCodecs
+pub mod PartCodecs
+pub mod BodyCodecs
+pub mod FrameLaws
+pub mod Straight
+pub mod Scans
+pub mod Loops
+pub mod Slices
+pub mod Standing
+pub mod RestParts
+pub mod RestFrames
+pub mod Rests
+pub mod Gatherings
+pub mod Runs
+pub mod OneTrace

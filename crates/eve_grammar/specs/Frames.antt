@@ -1,0 +1,122 @@
+-- The frames of a trace, in their order.
+use Rattle.std.specs.Prelude.{ℕ, ◌+◌, ◌-◌, nat_lt, ◌==◌, Bool, true, false, not, ◌&&◌, ◌||◌, if◌then◌else◌, List, [], ◌∷◌, ◌++◌, map, length}
+use Rattle.std.specs.List.{flat_map, enumerate_from}
+use Rattle.eve_grammar.specs.Trace.{Customer, Batch, Access, Attempt, Commit, Rollback, Step, Attempts, Commits, RollsBack, Vote, Sent, Trace, Head}
+
+-- A frame with what it says. Batches, replicas and verifiers say their own number; an attempt's frame
+-- says nothing of its accesses, which have frames of their own behind it.
+pub data Frame : Type 0 where
+  OfCustomer : Customer → Frame
+  OfBatch : (number : ℕ) → Batch → Frame
+  OfReplica : (number : ℕ) → Frame
+  OfAttempt : Attempt → Frame
+  OfAccess : Access → Frame
+  OfCommit : Commit → Frame
+  OfRollback : Rollback → Frame
+  OfVerifier : (number : ℕ) → Frame
+  OfVote : Vote → Frame
+  OfSent : Sent → Frame
+  End : Frame
+
+-- the attempt as its own frame says it
+abbrev pub without_accesses : Attempt → Attempt
+without_accesses a =
+    record { seq = a.seq; view = a.view; serial = a.serial; certificate = a.certificate; replies = a.replies; token = a.token; accesses = [] }
+
+abbrev pub attempt_frames : Attempt → List Frame
+attempt_frames a = OfAttempt (without_accesses a) ∷ map OfAccess a.accesses
+
+abbrev pub step_frames : Step → List Frame
+step_frames (Attempts a) = attempt_frames a
+step_frames (Commits c) = OfCommit c ∷ []
+step_frames (RollsBack r) = OfRollback r ∷ []
+
+-- a replica's frame and those of its steps
+abbrev pub section_frames : ℕ × List Step → List Frame
+section_frames s = OfReplica s.0 ∷ flat_map step_frames s.1
+
+-- a verifier's frame and those of its votes
+abbrev pub verifier_frames : ℕ × List Vote → List Frame
+verifier_frames v = OfVerifier v.0 ∷ map OfVote v.1
+
+-- batches are numbered from 1, replicas and verifiers from 0
+abbrev pub batches_of : Trace → List (ℕ × Batch)
+batches_of t = enumerate_from 1 t.batches
+
+abbrev pub sections_of : Trace → List (ℕ × List Step)
+sections_of t = enumerate_from 0 t.sections
+
+abbrev pub verifiers_of : Trace → List (ℕ × List Vote)
+verifiers_of t = enumerate_from 0 t.verifiers
+
+-- customers, batches, each replica's section, each verifier's votes, the replies sent, the end
+unfoldable pub frames_of : Trace → List Frame
+frames_of t =
+    map OfCustomer t.customers ++ (map (λ b. OfBatch b.0 b.1) (batches_of t) ++ (flat_map section_frames (sections_of t)
+    ++ (flat_map verifier_frames (verifiers_of t) ++ (map OfSent t.sent ++ End ∷ []))))
+
+-- ---- which kind may stand where
+
+-- the byte that a frame begins with
+abbrev pub kind_of : Frame → ℕ
+kind_of (OfCustomer c) = 1
+kind_of (OfBatch n b) = 2
+kind_of (OfReplica n) = 16
+kind_of (OfAttempt a) = 17
+kind_of (OfAccess x) = 18
+kind_of (OfCommit c) = 19
+kind_of (OfRollback r) = 20
+kind_of (OfVerifier n) = 32
+kind_of (OfVote v) = 33
+kind_of (OfSent s) = 48
+kind_of End = 127
+
+-- How far the frames have come: how many of each have come, how many access frames the last attempt
+-- still has to have, and whether a reply sent, or the end, has come.
+pub record Place : Type 0 where
+  pub customers : ℕ
+  pub batches : ℕ
+  pub replicas : ℕ
+  pub accesses : ℕ
+  pub verifiers : ℕ
+  pub sending : Bool
+  pub ended : Bool
+
+abbrev pub start : Place
+start = record { customers = 0; batches = 0; replicas = 0; accesses = 0; verifiers = 0; sending = false; ended = false }
+
+-- behind a frame
+abbrev pub next : Place → Frame → Place
+next p (OfCustomer c) = record p { customers = p.customers + 1 }
+next p (OfBatch n b) = record p { batches = p.batches + 1 }
+next p (OfReplica n) = record p { replicas = p.replicas + 1 }
+next p (OfAttempt a) = record p { accesses = length a.certificate }
+next p (OfAccess x) = record p { accesses = p.accesses - 1 }
+next p (OfCommit c) = p
+next p (OfRollback r) = p
+next p (OfVerifier n) = record p { verifiers = p.verifiers + 1 }
+next p (OfVote v) = p
+next p (OfSent s) = record p { sending = true }
+next p End = record p { ended = true }
+
+-- in the sections: the next replica, a step of this one, or behind the last replica the first verifier
+abbrev pub is_allowed_in_sections : Head → Place → ℕ → Bool
+is_allowed_in_sections h p kind =
+    ((kind == 16) && nat_lt p.replicas h.replicas)
+    || ((nat_lt 0 p.replicas && ((kind == 17) || ((kind == 19) || (kind == 20)))) || ((kind == 32) && (p.replicas == h.replicas)))
+
+-- behind them: the next verifier, a vote of this one, or behind the last verifier a reply sent or the end
+abbrev pub is_allowed_behind_sections : Head → Place → ℕ → Bool
+is_allowed_behind_sections h p kind =
+    (not p.sending && (((kind == 32) && nat_lt p.verifiers h.verifiers) || (kind == 33)))
+    || ((p.verifiers == h.verifiers) && ((kind == 48) || (kind == 127)))
+
+-- whether a frame of the kind may stand there: a matter of the order of kinds alone
+abbrev pub is_allowed : Head → Place → ℕ → Bool
+is_allowed h p kind =
+    if p.ended then false
+    else if nat_lt p.customers h.customers then kind == 1
+    else if nat_lt p.batches h.batches then kind == 2
+    else if nat_lt 0 p.accesses then kind == 18
+    else if p.verifiers == 0 then is_allowed_in_sections h p kind
+    else is_allowed_behind_sections h p kind

@@ -1,0 +1,60 @@
+-- The trace that frames make up.
+use Rattle.std.specs.Prelude.{◌≡◌, List, [], ◌∷◌}
+use Rattle.eve_grammar.specs.Trace.{Customer, Batch, Access, Step, Attempts, Commits, RollsBack, Vote, Sent, Trace, Head, head_of}
+use Rattle.eve_grammar.specs.Frames.{Frame, OfCustomer, OfBatch, OfReplica, OfAttempt, OfAccess, OfCommit, OfRollback, OfVerifier, OfVote, OfSent, End, frames_of}
+
+-- What frames say: whole parts of a trace, and what belongs to a frame that stands before them,
+-- accesses to an attempt, steps to a replica, votes to a verifier.
+pub record Gathered : Type 0 where
+  pub customers : List Customer
+  pub batches : List Batch
+  pub accesses : List Access
+  pub steps : List Step
+  pub sections : List (List Step)
+  pub votes : List Vote
+  pub verifiers : List (List Vote)
+  pub sent : List Sent
+
+abbrev pub nothing : Gathered
+nothing = record { customers = []; batches = []; accesses = []; steps = []; sections = []; votes = []; verifiers = []; sent = [] }
+
+-- with one more frame, which stands before them
+abbrev pub gather : Frame → Gathered → Gathered
+gather (OfCustomer c) g = record g { customers = c ∷ g.customers }
+gather (OfBatch number b) g = record g { batches = b ∷ g.batches }
+gather (OfReplica number) g = record g { sections = g.steps ∷ g.sections; steps = [] }
+gather (OfAttempt a) g = record g { steps = Attempts (record a { accesses = g.accesses }) ∷ g.steps; accesses = [] }
+gather (OfAccess x) g = record g { accesses = x ∷ g.accesses }
+gather (OfCommit c) g = record g { steps = Commits c ∷ g.steps }
+gather (OfRollback r) g = record g { steps = RollsBack r ∷ g.steps }
+gather (OfVerifier number) g = record g { verifiers = g.votes ∷ g.verifiers; votes = [] }
+gather (OfVote v) g = record g { votes = v ∷ g.votes }
+gather (OfSent s) g = record g { sent = s ∷ g.sent }
+gather End g = g
+
+-- what all of them say, gathered from the last to the first
+abbrev pub gathered : List Frame → Gathered
+gathered [] = nothing
+gathered (f ∷ fs) = gather f (gathered fs)
+
+-- the whole parts, with the numbers that the header alone says
+abbrev pub headed : Head → Gathered → Trace
+headed h g = record {
+  quorum = h.quorum;
+  window = h.window;
+  workers = h.workers;
+  customers = g.customers;
+  batches = g.batches;
+  sections = g.sections;
+  verifiers = g.verifiers;
+  sent = g.sent;
+}
+
+-- the trace that frames make up under this header; what belongs to no frame before it is left out
+unfoldable pub trace_of : Head → List Frame → Trace
+trace_of h fs = headed h (gathered fs)
+
+-- the trace has this header and these frames
+pub record IsTraceOf (h : Head) (fs : List Frame) (t : Trace) : Type 0 where
+  pub head : head_of t ≡ h
+  pub frames : frames_of t ≡ fs

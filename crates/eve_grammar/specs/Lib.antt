@@ -1,0 +1,11 @@
+pub mod Trace
+pub mod Frames
+pub mod Spelling
+pub mod Limits
+pub mod Following
+pub mod Places
+pub mod Reading
+pub mod Scanning
+pub mod Bodies
+pub mod Cases
+pub mod Gathering

@@ -1,0 +1,158 @@
+-- Which traces there are: the limits of the format and the conditions of its fields.
+use Rattle.std.specs.Prelude.{◌≡◌, ℕ, pos, negsuc, ◌+◌, ◌-◌, ◌*◌, ◌^◌, ◌≤◌, ◌<◌, nat_le, nat_lt, ◌==◌, Bool, true, ◌&&◌, ◌||◌, IsTrue, List, [], ◌∷◌, length, sum}
+use Rattle.std.specs.List.{list_all}
+use Rattle.std.specs.Ordering.{int_eq}
+use Rattle.std.specs.Int.RustNames.{int_le}
+use Rattle.eve_accounts.specs.Money.{is_balance, is_saving, is_amount}
+use Rattle.eve_accounts.specs.Names.{is_name}
+use Rattle.eve_smallbank.specs.SmallBank.{Request, Balance, DepositChecking, TransactSaving, Amalgamate, WriteCheck}
+use Rattle.eve_smallbank.specs.Access.{is_write}
+use Rattle.eve_smallbank.specs.declared.request.Reply.{Reply}
+use Rattle.eve_smallbank.specs.declared.request.Reply.TheVariants.{Done, Total, Aborted}
+use Rattle.eve_smallbank.specs.declared.entry.Entry.{Entry}
+use Rattle.eve_grammar.specs.Trace.{Customer, Asked, Batch, Access, Attempt, Commit, Restore, Rollback, Step, Attempts, Commits, RollsBack, Choice, ForRollback, ForCommit, Vote, Sent, Trace, Head, head_of}
+use Rattle.eve_grammar.specs.Frames.{Frame, OfCustomer, OfBatch, OfReplica, OfAttempt, OfAccess, OfCommit, OfRollback, OfVerifier, OfVote, OfSent, End, kind_of, Place, is_allowed}
+use Rattle.eve_grammar.specs.Spelling.{body_text, length_of, spelling}
+
+abbrev pub is_between : ℕ → ℕ → ℕ → Bool
+is_between low high n = nat_le low n && nat_le n high
+
+-- a number of this many bytes
+abbrev pub is_number : ℕ → ℕ → Bool
+is_number bytes n = nat_lt n (256 ^ bytes)
+
+abbrev pub is_token : List ℕ → Bool
+is_token token = (length token == 32) && list_all (is_number 1) token
+
+-- ---- requests and replies
+
+abbrev pub is_request : Request → Bool
+is_request (Balance name) = is_name name
+is_request (DepositChecking name amount) = is_name name && is_amount amount
+is_request (TransactSaving name amount) = is_name name && is_amount amount
+is_request (Amalgamate from to) = is_name from && is_name to
+is_request (WriteCheck name amount) = is_name name && is_amount amount
+
+abbrev pub is_asked : Asked → Bool
+is_asked a = is_number 4 a.client && (is_number 8 a.number && is_request a.request)
+
+-- a total fits 64 bits
+abbrev pub is_reply : Reply → Bool
+is_reply Done = true
+is_reply (Total sum) = int_le (negsuc (2 ^ 63 - 1)) sum && int_le sum (pos (2 ^ 63 - 1))
+is_reply (Aborted why) = true
+
+-- ---- bodies of frames
+
+abbrev pub is_customer : Customer → Bool
+is_customer c = is_name c.name && (is_saving c.saving && is_balance c.checking)
+
+-- one parallelBatch or more, none empty, and 256 requests at most
+abbrev pub is_batch : Batch → Bool
+is_batch b =
+    nat_le 1 (length b.sizes) && (list_all (nat_le 1) b.sizes && (nat_le (sum b.sizes) 256
+    && ((length b.requests == sum b.sizes) && list_all is_asked b.requests)))
+
+abbrev pub version_limit : ℕ
+version_limit = 2 ^ 40
+
+-- an entry of one of this many rows; a read leaves what it saw
+abbrev pub is_entry : ℕ → Entry → Bool
+is_entry rows e =
+    nat_lt e.row rows && (nat_le e.version version_limit && (is_balance e.seen && (is_balance e.after && (is_write e.kind || int_eq e.after e.seen))))
+
+abbrev pub is_access : ℕ → Access → Bool
+is_access rows x =
+    is_number 1 x.worker && (is_number 2 x.place && (is_number 2 x.index && (nat_le (length x.entries) 3 && list_all (is_entry rows) x.entries)))
+
+-- an attempt as its own frame says it: one reply for each index of the certificate
+abbrev pub is_attempt : Attempt → Bool
+is_attempt a =
+    is_number 4 a.seq && (is_number 4 a.view && (is_between 1 256 (length a.certificate) && (list_all (is_number 2) a.certificate
+    && ((length a.replies == length a.certificate) && (list_all is_reply a.replies && is_token a.token)))))
+
+-- and with its accesses: as many of them
+abbrev pub is_whole_attempt : ℕ → Attempt → Bool
+is_whole_attempt rows a = is_attempt a && ((length a.accesses == length a.certificate) && list_all (is_access rows) a.accesses)
+
+abbrev pub is_commit : Commit → Bool
+is_commit c = is_number 4 c.seq && (is_number 4 c.view && is_token c.token)
+
+abbrev pub is_restore : ℕ → Restore → Bool
+is_restore rows r = nat_lt r.row rows && (nat_le r.version version_limit && is_balance r.value)
+
+-- each row is below the rows after it
+abbrev pub is_rising : List Restore → Bool
+is_rising [] = true
+is_rising (r ∷ rs) = list_all (λ q. nat_lt r.row q.row) rs && is_rising rs
+
+abbrev pub is_rollback : ℕ → Rollback → Bool
+is_rollback rows r = is_number 4 r.to && (is_number 4 r.view && (is_rising r.restores && list_all (is_restore rows) r.restores))
+
+abbrev pub is_step : ℕ → Step → Bool
+is_step rows (Attempts a) = is_whole_attempt rows a
+is_step rows (Commits c) = is_commit c
+is_step rows (RollsBack r) = is_rollback rows r
+
+abbrev pub is_choice : Choice → Bool
+is_choice ForRollback = true
+is_choice (ForCommit token) = is_token token
+
+-- a vote on one of this many batches
+abbrev pub is_vote : ℕ → Vote → Bool
+is_vote batches v = is_between 1 batches v.seq && (is_number 4 v.view && is_choice v.choice)
+
+-- a reply of one of this many replicas, in one of this many batches
+abbrev pub is_sent : ℕ → ℕ → Sent → Bool
+is_sent replicas batches s =
+    is_number 4 s.client && (is_number 8 s.number && (nat_lt s.replica replicas && (is_between 1 batches s.seq && is_reply s.reply)))
+
+-- ---- the header
+
+abbrev pub is_head : Head → Bool
+is_head h =
+    is_between 1 8 h.replicas && (is_between 1 16 h.verifiers && (nat_le h.quorum h.verifiers && (nat_lt h.verifiers (2 * h.quorum)
+    && (is_between 1 8 h.window && (is_between 1 8 h.workers && (is_between 1 4096 h.customers && nat_le h.batches 65535))))))
+
+-- two rows for each customer
+abbrev pub row_count : Head → ℕ
+row_count h = 2 * h.customers
+
+-- ---- the whole
+
+-- all limits but that on the length
+pub record HasLimits (t : Trace) : Type 0 where
+  pub head : IsTrue (is_head (head_of t))
+  pub customers : IsTrue (list_all is_customer t.customers)
+  pub batches : IsTrue (list_all is_batch t.batches)
+  pub sections : IsTrue (list_all (list_all (is_step (row_count (head_of t)))) t.sections)
+  pub votes : IsTrue (list_all (list_all (is_vote (length t.batches))) t.verifiers)
+  pub sent : IsTrue (list_all (is_sent (length t.sections) (length t.batches)) t.sent)
+
+-- the bytes are the trace, within the limits
+pub record Spells (bytes : List ℕ) (t : Trace) : Type 0 where
+  pub limits : HasLimits t
+  pub short : length_of t ≤ 2 ^ 30
+  pub spelled : bytes ≡ spelling t
+
+-- ---- frame by frame
+
+-- what the body of a frame at this place has to say
+abbrev pub is_body : Head → Place → Frame → Bool
+is_body h p (OfCustomer c) = is_customer c
+is_body h p (OfBatch number b) = (number == p.batches + 1) && is_batch b
+is_body h p (OfReplica number) = number == p.replicas
+is_body h p (OfAttempt a) = is_attempt a && (length a.accesses == 0)
+is_body h p (OfAccess x) = is_access (row_count h) x
+is_body h p (OfCommit c) = is_commit c
+is_body h p (OfRollback r) = is_rollback (row_count h) r
+is_body h p (OfVerifier number) = number == p.verifiers
+is_body h p (OfVote v) = is_vote h.batches v
+is_body h p (OfSent s) = is_sent h.replicas h.batches s
+is_body h p End = true
+
+-- the frame may stand at this place
+pub record FitsAt (h : Head) (p : Place) (f : Frame) : Type 0 where
+  pub allowed : IsTrue (is_allowed h p (kind_of f))
+  pub body : IsTrue (is_body h p f)
+  pub short : length (body_text f) < 2 ^ 32

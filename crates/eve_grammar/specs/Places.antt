@@ -1,0 +1,16 @@
+-- What stands at a place of bytes.
+use Rattle.std.specs.Prelude.{ℕ, ℤ, List, drop}
+use Rattle.std.specs.Int.{w64, cast_signed}
+use Rattle.byteorder.specs.Endian.{big_number}
+
+-- the bytes from a place on
+unfoldable pub bytes_from : ℕ → List ℕ → List ℕ
+bytes_from at bytes = drop at bytes
+
+-- the number of n bytes at a place
+unfoldable pub number_in : ℕ → ℕ → List ℕ → ℕ
+number_in n at bytes = big_number n (drop at bytes)
+
+-- two's complement in the eight bytes at a place
+unfoldable pub signed_in : ℕ → List ℕ → ℤ
+signed_in at bytes = cast_signed w64 (number_in 8 at bytes)

@@ -1,0 +1,113 @@
+-- A trace, as its parts in the grammar's order. What the grammar counts is the length of a list here,
+-- and what it numbers is the place in a list.
+use Rattle.std.specs.Prelude.{ℕ, ℤ, Bool, List, length}
+use Rattle.eve_smallbank.specs.SmallBank.{Request}
+use Rattle.eve_smallbank.specs.declared.request.Reply.{Reply}
+use Rattle.eve_smallbank.specs.declared.entry.Entry.{Entry}
+
+-- a customer's name and opening balances
+pub record Customer : Type 0 where
+  pub name : List ℕ
+  pub saving : ℤ
+  pub checking : ℤ
+
+-- a request of a client, under the client's number for it
+pub record Asked : Type 0 where
+  pub client : ℕ
+  pub number : ℕ
+  pub request : Request
+
+-- the sizes of its parallelBatches, and the requests of one after another
+pub record Batch : Type 0 where
+  pub sizes : List ℕ
+  pub requests : List Asked
+
+-- what a worker noted of the request with this index
+pub record Access : Type 0 where
+  pub worker : ℕ
+  pub place : ℕ
+  pub index : ℕ
+  pub entries : List Entry
+
+-- an execution of a batch; replies go by request index
+pub record Attempt : Type 0 where
+  pub seq : ℕ
+  pub view : ℕ
+  pub serial : Bool
+  pub certificate : List ℕ
+  pub replies : List Reply
+  pub token : List ℕ
+  pub accesses : List Access
+
+pub record Commit : Type 0 where
+  pub seq : ℕ
+  pub view : ℕ
+  pub token : List ℕ
+
+-- a row's version and value as they are committed
+pub record Restore : Type 0 where
+  pub row : ℕ
+  pub version : ℕ
+  pub value : ℤ
+
+-- the replica goes back to this number and on in the next view
+pub record Rollback : Type 0 where
+  pub to : ℕ
+  pub view : ℕ
+  pub restores : List Restore
+
+-- what a replica did, one thing after another
+pub data Step : Type 0 where
+  Attempts : Attempt → Step
+  Commits : Commit → Step
+  RollsBack : Rollback → Step
+
+pub data Choice : Type 0 where
+  ForRollback : Choice
+  ForCommit : (token : List ℕ) → Choice
+
+-- a verifier's vote on a batch in a view
+pub record Vote : Type 0 where
+  pub seq : ℕ
+  pub view : ℕ
+  pub choice : Choice
+
+-- a reply that a replica sent to a client
+pub record Sent : Type 0 where
+  pub client : ℕ
+  pub number : ℕ
+  pub replica : ℕ
+  pub seq : ℕ
+  pub reply : Reply
+
+-- sections go by replica, votes by verifier
+pub record Trace : Type 0 where
+  pub quorum : ℕ
+  pub window : ℕ
+  pub workers : ℕ
+  pub customers : List Customer
+  pub batches : List Batch
+  pub sections : List (List Step)
+  pub verifiers : List (List Vote)
+  pub sent : List Sent
+
+-- the numbers in the header
+pub record Head : Type 0 where
+  pub replicas : ℕ
+  pub verifiers : ℕ
+  pub quorum : ℕ
+  pub window : ℕ
+  pub workers : ℕ
+  pub customers : ℕ
+  pub batches : ℕ
+
+abbrev pub head_of : Trace → Head
+head_of t = record {
+  replicas = length t.sections;
+  verifiers = length t.verifiers;
+  quorum = t.quorum;
+  window = t.window;
+  workers = t.workers;
+  customers = length t.customers;
+  batches = length t.batches;
+}

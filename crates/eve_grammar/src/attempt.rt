@@ -1,0 +1,174 @@
+//! The body of an Attempt frame.
+
+ghost use Rattle.std.specs.Prelude.{◌≡◌};
+ghost use Rattle.eve_grammar.specs.Reading.{Gives, reply_at, serial_from, certified_at, attempt_of};
+ghost use Rattle.eve_grammar.specs.Scanning.{rest_at};
+ghost use Rattle.eve_grammar.specs.Bodies.{certified, attempt};
+
+use crate::fields::{token_at, u8_at, u16_at, u32_at};
+use crate::reply::reply_at;
+
+/// An execution of a batch, without its access frames.
+#[derive(Clone, Copy, Debug, PartialEq, Eq)]
+pub struct AttemptBody<'a> {
+    /// The batch's number.
+    pub seq: u32,
+    /// The view.
+    pub view: u32,
+    /// Whether the batch was executed by one worker, in index order.
+    pub serial: bool,
+    /// 1 to 256 request indices of two bytes, in the order of execution.
+    pub certificate: &'a [u8],
+    /// As many replies of nine bytes, by request index.
+    pub replies: &'a [u8],
+    /// 32 bytes.
+    pub token: &'a [u8],
+}
+
+/// A certificate, and as many replies.
+#[derive(Clone, Copy)]
+struct Certified<'a> {
+    certificate: &'a [u8],
+    replies: &'a [u8],
+}
+
+fn serial_from(mode: u8) -> Option<bool>
+    ensures { result ≡ serial_from mode }
+{
+    match mode {
+        0 => Some(false),
+        1 => Some(true),
+        _ => None,
+    }
+}
+
+/// What stands behind this many replies.
+#[tactic(auto, unfolding(crate::specs::Scanning::rest_at))]
+fn behind_replies(count: u16, bytes: &[u8]) -> Option<&[u8]>
+    ensures { Gives (λ x. x.now) result (rest_at reply_at count bytes.now) }
+{
+    let mut rest = bytes;
+    for _ in 0..count {
+        let (_reply, more) = reply_at(rest)?;
+        rest = more;
+    }
+    Some(rest)
+}
+
+/// A count of 1 to 256, a certificate of as many indices, and as many replies.
+#[tactic(auto, unfolding(crate::specs::Reading::certified_at))]
+fn certified_at(bytes: &[u8]) -> Option<(Certified<'_>, &[u8])>
+    ensures { Gives (λ x. (certified x.0, x.1.now)) result (certified_at bytes.now) }
+{
+    let Some((count, rest)) = u16_at(bytes) else {
+        return None;
+    };
+    if count == 0 || count > 256 || rest.len() < 2 * count as usize {
+        return None;
+    }
+    let (certificate, replies) = rest.split_at(2 * count as usize);
+    let Some(behind) = behind_replies(count, replies) else {
+        return None;
+    };
+    let replies = &replies[..9 * count as usize];
+    Some((
+        Certified {
+            certificate,
+            replies,
+        },
+        behind,
+    ))
+}
+
+impl<'a> AttemptBody<'a> {
+    /// The body that these bytes are, and no more; `None` where they are none.
+    ///
+    /// docs/TRACE.md, "Frames".
+    #[tactic(auto, unfolding(crate::specs::Reading::attempt_of))]
+    pub fn read(body: &'a [u8]) -> Option<AttemptBody<'a>>
+        ensures { Gives attempt result (attempt_of body.now) }
+    {
+        let (seq, rest) = u32_at(body)?;
+        let (view, rest) = u32_at(rest)?;
+        let (mode, rest) = u8_at(rest)?;
+        let serial = serial_from(mode)?;
+        let Some((certified, rest)) = certified_at(rest) else {
+            return None;
+        };
+        let (token, rest) = token_at(rest)?;
+        if !rest.is_empty() {
+            return None;
+        }
+        Some(AttemptBody {
+            seq,
+            view,
+            serial,
+            certificate: certified.certificate,
+            replies: certified.replies,
+            token,
+        })
+    }
+}
+
+#[cfg(test)]
+mod tests {
+    use super::*;
+    use eve_smallbank::Reply;
+
+    // two requests in serial mode, the second first, and one byte too many
+    const LONG: [u8; 66] = [
+        0, 0, 0, 1, 0, 0, 0, 2, 1, 0, 2, 0, 1, 0, 0, 1, 255, 255, 255, 255, 255, 255, 255, 251, 4,
+        0, 0, 0, 0, 0, 0, 0, 0, 1, 2, 3, 4, 5, 6, 7, 8, 9, 10, 11, 12, 13, 14, 15, 16, 17, 18, 19,
+        20, 21, 22, 23, 24, 25, 26, 27, 28, 29, 30, 31, 32, 0,
+    ];
+
+    fn changed(mut bytes: [u8; 66], at: usize, byte: u8) -> [u8; 66] {
+        if let Some(place) = bytes.get_mut(at) {
+            *place = byte;
+        }
+        bytes
+    }
+
+    #[test]
+    fn attempts(rt: HostRuntime) {
+        let right = &LONG[..65];
+        let Some(attempt) = AttemptBody::read(right) else {
+            panic!(rt; "an attempt");
+        };
+        assert_eq!(rt; (attempt.seq, attempt.view), (1, 2));
+        assert!(rt; attempt.serial);
+        assert_eq!(rt; attempt.certificate, [0, 1, 0, 0].as_slice());
+        let Some((first, rest)) = reply_at(attempt.replies) else {
+            panic!(rt; "a reply");
+        };
+        assert_eq!(rt; first, Reply::Total(-5));
+        assert_eq!(rt; rest.len(), 9);
+        assert_eq!(rt; attempt.token, &right[33..]);
+        for len in 0..=LONG.len() {
+            let read = AttemptBody::read(&LONG[..len]);
+            assert_eq!(rt; read.is_some(), len == right.len(), "length {len}");
+        }
+        let cases: [(usize, u8, &str); 8] = [
+            (8, 2, "mode 2"),
+            (10, 0, "no request"),
+            (10, 1, "a count too low"),
+            (10, 3, "a count too high"),
+            (9, 1, "a count past 256"),
+            (15, 0, "a value of a reply without one"),
+            (15, 6, "reply code 6"),
+            (32, 1, "a value of an abort"),
+        ];
+        for (at, byte, why) in cases {
+            let bytes = changed(LONG, at, byte);
+            let read = AttemptBody::read(&bytes[..65]);
+            assert!(rt; read.is_none(), "{why}");
+        }
+        let mut most = [0; 43 + 11 * 256];
+        most[9] = 1;
+        assert!(rt; AttemptBody::read(&most).is_some(), "256 requests");
+        let mut more = [0; 43 + 11 * 257];
+        more[9] = 1;
+        more[10] = 1;
+        assert!(rt; AttemptBody::read(&more).is_none(), "257 requests");
+    }
+}

@@ -1,0 +1,177 @@
+//! The body of a Batch frame.
+
+ghost use Rattle.std.specs.Prelude.{◌≡◌, sum, IfSome};
+ghost use Rattle.eve_grammar.specs.Reading.{Gives, many_at, asked_at, sizes_at, batch_of};
+ghost use Rattle.eve_grammar.specs.Scanning.{total_at, rest_at};
+ghost use Rattle.eve_grammar.specs.Bodies.{numbers_in, requests_in, batch};
+
+use crate::fields::{u16_at, u32_at};
+use crate::request::asked_at;
+
+/// A batch of requests, in parallelBatches.
+#[derive(Clone, Copy, Debug, PartialEq, Eq)]
+pub struct BatchBody<'a> {
+    /// The batch's number, from 1.
+    pub number: u32,
+    /// How many requests each parallelBatch has: numbers of two bytes, none 0, of sum 256 at most.
+    pub sizes: &'a [u8],
+    /// The requests of one parallelBatch after another.
+    pub requests: &'a [u8],
+}
+
+/// The sizes of parallelBatches, and their sum.
+#[derive(Clone, Copy)]
+struct Sizes<'a> {
+    sizes: &'a [u8],
+    total: u32,
+}
+
+/// The sum of sizes, if none is 0, and what stands behind them.
+#[tactic(auto, unfolding(crate::specs::Scanning::total_at))]
+fn total_at(count: u16, bytes: &[u8]) -> Option<(u32, &[u8])>
+    ensures { Gives (λ x. (x.0, x.1.now)) result (total_at count bytes.now) }
+{
+    let mut total: u32 = 0;
+    let mut rest = bytes;
+    for _ in 0..count {
+        let (size, more) = u16_at(rest)?;
+        if size == 0 {
+            return None;
+        }
+        total += size as u32;
+        rest = more;
+    }
+    Some((total, rest))
+}
+
+/// What stands behind this many requests.
+#[tactic(auto, unfolding(crate::specs::Scanning::rest_at))]
+fn behind_requests(count: u32, bytes: &[u8]) -> Option<&[u8]>
+    ensures { Gives (λ x. x.now) result (rest_at asked_at count bytes.now) }
+{
+    let mut rest = bytes;
+    for _ in 0..count {
+        let Some((_asked, more)) = asked_at(rest) else {
+            return None;
+        };
+        rest = more;
+    }
+    Some(rest)
+}
+
+/// A count and as many sizes, none 0 and 256 requests at most.
+#[tactic(auto, unfolding(crate::specs::Reading::sizes_at))]
+fn sizes_at(bytes: &[u8]) -> Option<(Sizes<'_>, &[u8])>
+    ensures sizes { Gives (λ x. (numbers_in x.0.sizes.now, x.1.now)) result (sizes_at bytes.now) }
+    ensures total { IfSome result (λ x. x.0.total ≡ sum (numbers_in x.0.sizes.now)) }
+{
+    let Some((count, rest)) = u16_at(bytes) else {
+        return None;
+    };
+    let Some((total, behind)) = total_at(count, rest) else {
+        return None;
+    };
+    if count == 0 || total > 256 {
+        return None;
+    }
+    let sizes = &rest[..2 * count as usize];
+    Some((Sizes { sizes, total }, behind))
+}
+
+/// This many requests: their bytes, and what stands behind them.
+fn requests_at(count: u32, bytes: &[u8]) -> Option<(&[u8], &[u8])>
+    ensures { Gives (λ x. (requests_in count x.0.now, x.1.now)) result (many_at asked_at count bytes.now) }
+{
+    let Some(behind) = behind_requests(count, bytes) else {
+        return None;
+    };
+    Some((&bytes[..bytes.len() - behind.len()], behind))
+}
+
+impl<'a> BatchBody<'a> {
+    /// The body that these bytes are, and no more; `None` where they are none.
+    ///
+    /// docs/TRACE.md, "Frames". The number is read as it stands.
+    #[tactic(auto, unfolding(crate::specs::Reading::batch_of))]
+    pub fn read(body: &'a [u8]) -> Option<BatchBody<'a>>
+        ensures { Gives batch result (batch_of body.now) }
+    {
+        let (number, rest) = u32_at(body)?;
+        let Some((groups, rest)) = sizes_at(rest) else {
+            return None;
+        };
+        let (requests, rest) = requests_at(groups.total, rest)?;
+        if !rest.is_empty() {
+            return None;
+        }
+        Some(BatchBody {
+            number,
+            sizes: groups.sizes,
+            requests,
+        })
+    }
+}
+
+#[cfg(test)]
+mod tests {
+    use super::*;
+    use eve_smallbank::Request;
+
+    // a deposit and an amalgamation, each in a group of its own, and one byte too many
+    const LONG: [u8; 57] = [
+        0, 0, 0, 1, 0, 2, 0, 1, 0, 1, 0, 0, 0, 7, 0, 0, 0, 0, 0, 0, 0, 1, 2, 3, 97, 110, 110, 0, 0,
+        0, 0, 0, 0, 1, 244, 0, 0, 0, 8, 0, 0, 0, 0, 0, 0, 0, 2, 4, 3, 97, 110, 110, 3, 98, 111, 98,
+        0,
+    ];
+    // sizes of 65,535 and 2, whose sum is 1 in 16 bits, and one request
+    const WRAPS: [u8; 27] = [
+        0, 0, 0, 1, 0, 2, 255, 255, 0, 2, 0, 0, 0, 7, 0, 0, 0, 0, 0, 0, 0, 1, 1, 3, 97, 110, 110,
+    ];
+
+    fn changed(mut bytes: [u8; 57], at: usize, byte: u8) -> [u8; 57] {
+        if let Some(place) = bytes.get_mut(at) {
+            *place = byte;
+        }
+        bytes
+    }
+
+    #[test]
+    fn batches(rt: HostRuntime) {
+        let right = &LONG[..56];
+        let Some(batch) = BatchBody::read(right) else {
+            panic!(rt; "a batch");
+        };
+        assert_eq!(rt; batch.number, 1);
+        assert_eq!(rt; batch.sizes, [0, 1, 0, 1].as_slice());
+        assert_eq!(rt; batch.requests, &right[10..]);
+        let Some((first, rest)) = asked_at(batch.requests) else {
+            panic!(rt; "a request");
+        };
+        assert_eq!(rt; (first.client, first.number), (7, 1));
+        assert!(rt; matches!(first.request, Request::DepositChecking(_, _)));
+        assert_eq!(rt; rest.len(), 21);
+        for len in 0..=LONG.len() {
+            let read = BatchBody::read(&LONG[..len]);
+            assert_eq!(rt; read.is_some(), len == right.len(), "length {len}");
+        }
+        let cases: [(usize, u8, &str); 11] = [
+            (5, 0, "no group"),
+            (5, 1, "a size too few"),
+            (7, 0, "an empty group"),
+            (6, 1, "257 requests in a group"),
+            (22, 0, "request code 0"),
+            (22, 6, "request code 6"),
+            (23, 0, "no name"),
+            (24, 32, "a space in a name"),
+            (27, 1, "an amount past 10^12"),
+            (47, 5, "a request code with other fields"),
+            (52, 25, "a second name too long"),
+        ];
+        for (at, byte, why) in cases {
+            let bytes = changed(LONG, at, byte);
+            let read = BatchBody::read(&bytes[..56]);
+            assert!(rt; read.is_none(), "{why}");
+        }
+        assert!(rt; BatchBody::read(&WRAPS).is_none(), "a sum that wraps");
+    }
+}

@@ -1,0 +1,77 @@
+//! Entries of access frames.
+
+ghost use Rattle.std.specs.Prelude.{◌≡◌, ◌<◌, ◌≤◌, ◌||◌};
+ghost use Rattle.std.specs.Ordering.{int_eq};
+ghost use Rattle.eve_smallbank.specs.Access.{is_write};
+ghost use Rattle.eve_grammar.specs.Reading.{Gives, kind_from, entry_at};
+
+use crate::places::{bytes_from, i64_in, u32_in, u64_in};
+use eve_accounts::{Cents, Row};
+use eve_smallbank::{Entry, Kind};
+
+/// The row of this number.
+pub fn row_of(number: u32) -> Row
+    requires { number < 131072 }
+    ensures { result ≡ number }
+{
+    if number % 2 == 0 {
+        Row::saving(number / 2)
+    } else {
+        Row::checking(number / 2)
+    }
+}
+
+fn kind_from(code: u8) -> Option<Kind>
+    ensures { result ≡ kind_from code }
+{
+    match code {
+        0 => Some(Kind::Read),
+        1 => Some(Kind::Write),
+        _ => None,
+    }
+}
+
+/// Whether the values are those of an entry of this kind: a read leaves what it saw.
+fn agree(kind: Kind, seen: Cents, after: Cents) -> bool
+    ensures { result ≡ (is_write kind || int_eq after seen) }
+{
+    match kind {
+        Kind::Read => after.get() == seen.get(),
+        Kind::Write => true,
+    }
+}
+
+/// An entry in 29 bytes, of one of this many rows.
+///
+/// docs/TRACE.md, "Parts": a version of at most 2^40, and a read leaves what it saw.
+pub fn entry_at(rows: u32, bytes: &[u8]) -> Option<(Entry, &[u8])>
+    requires { rows ≤ 131072 }
+    ensures { Gives (λ x. (x.0, x.1.now)) result (entry_at rows bytes.now) }
+{
+    if bytes.len() < 29 {
+        return None;
+    }
+    let Some(kind) = kind_from(bytes[4]) else {
+        return None;
+    };
+    let Some(seen) = Cents::new(i64_in(bytes, 13)) else {
+        return None;
+    };
+    let Some(after) = Cents::new(i64_in(bytes, 21)) else {
+        return None;
+    };
+    let number = u32_in(bytes, 0);
+    let version = u64_in(bytes, 5);
+    if number >= rows || version > 1_099_511_627_776 || !agree(kind, seen, after) {
+        return None;
+    }
+    let row = row_of(number);
+    let entry = Entry {
+        row,
+        kind,
+        version,
+        seen,
+        after,
+    };
+    Some((entry, bytes_from(bytes, 29)))
+}

@@ -1,0 +1,157 @@
+//! Numbers, names, money and tokens at the front of a slice.
+//!
+//! Each reader gives the value and the bytes behind it, or `None` where no such value stands in front.
+
+ghost use Rattle.std.specs.Prelude.{◌≡◌};
+ghost use Rattle.std.specs.List.{list_all};
+ghost use Rattle.eve_accounts.specs.Names.{is_name, is_printable};
+ghost use Rattle.eve_grammar.specs.Reading.{Gives, number_at, name_at, balance_at, saving_at, amount_at, move_at, token_at, number_of};
+
+use byteorder::{BigEndian, ByteOrder};
+use eve_accounts::{Amount, Cents};
+
+/// One byte.
+pub fn u8_at(bytes: &[u8]) -> Option<(u8, &[u8])>
+    ensures { Gives (λ x. (x.0, x.1.now)) result (number_at 1 bytes.now) }
+{
+    match bytes {
+        [] => None,
+        [first, rest @ ..] => Some((*first, rest)),
+    }
+}
+
+/// A number of two bytes, the highest first.
+pub fn u16_at(bytes: &[u8]) -> Option<(u16, &[u8])>
+    ensures { Gives (λ x. (x.0, x.1.now)) result (number_at 2 bytes.now) }
+{
+    if bytes.len() < 2 {
+        return None;
+    }
+    Some((BigEndian::read_u16(bytes), &bytes[2..]))
+}
+
+/// A number of four bytes, the highest first.
+pub fn u32_at(bytes: &[u8]) -> Option<(u32, &[u8])>
+    ensures { Gives (λ x. (x.0, x.1.now)) result (number_at 4 bytes.now) }
+{
+    if bytes.len() < 4 {
+        return None;
+    }
+    Some((BigEndian::read_u32(bytes), &bytes[4..]))
+}
+
+/// A number of eight bytes, the highest first.
+pub fn u64_at(bytes: &[u8]) -> Option<(u64, &[u8])>
+    ensures { Gives (λ x. (x.0, x.1.now)) result (number_at 8 bytes.now) }
+{
+    if bytes.len() < 8 {
+        return None;
+    }
+    Some((BigEndian::read_u64(bytes), &bytes[8..]))
+}
+
+/// The number that the body of one byte is, as a Replica or a Verifier frame has it.
+///
+/// docs/TRACE.md, "Frames". `None` for a body of another length.
+#[tactic(auto, unfolding(crate::specs::Reading::number_of))]
+pub fn number_of(body: &[u8]) -> Option<u8>
+    ensures { Gives (λ x. x) result (number_of body.now) }
+{
+    match body {
+        [number] => Some(*number),
+        _ => None,
+    }
+}
+
+fn all_printable(name: &[u8]) -> bool
+    ensures { result ≡ list_all is_printable name.now }
+{
+    name.iter().all(|byte| 33 <= *byte && *byte <= 126)
+}
+
+fn is_name_text(name: &[u8]) -> bool
+    ensures { result ≡ is_name name.now }
+{
+    1 <= name.len() && name.len() <= 24 && all_printable(name)
+}
+
+/// A length of one byte and a name of 1 to 24 bytes, each in 0x21..=0x7E.
+#[tactic(auto, unfolding(crate::specs::Reading::name_at))]
+pub fn name_at(bytes: &[u8]) -> Option<(&[u8], &[u8])>
+    ensures { Gives (λ x. (x.0.now, x.1.now)) result (name_at bytes.now) }
+{
+    let (len, rest) = u8_at(bytes)?;
+    let len = len as usize;
+    if rest.len() < len {
+        return None;
+    }
+    let (name, rest) = rest.split_at(len);
+    if is_name_text(name) {
+        Some((name, rest))
+    } else {
+        None
+    }
+}
+
+/// A balance in cents, within 10^15 of zero, in eight bytes.
+#[tactic(auto, unfolding(crate::specs::Reading::balance_at))]
+pub fn balance_at(bytes: &[u8]) -> Option<(Cents, &[u8])>
+    ensures { Gives (λ x. (x.0, x.1.now)) result (balance_at bytes.now) }
+{
+    if bytes.len() < 8 {
+        return None;
+    }
+    let cents = Cents::new(BigEndian::read_i64(bytes))?;
+    Some((cents, &bytes[8..]))
+}
+
+/// A balance in cents that isn't below 0, in eight bytes.
+#[tactic(auto, unfolding(crate::specs::Reading::saving_at))]
+pub fn saving_at(bytes: &[u8]) -> Option<(Cents, &[u8])>
+    ensures { Gives (λ x. (x.0, x.1.now)) result (saving_at bytes.now) }
+{
+    if bytes.len() < 8 {
+        return None;
+    }
+    let cents = Cents::new(BigEndian::read_i64(bytes))?;
+    if 0 <= cents.get() {
+        Some((cents, &bytes[8..]))
+    } else {
+        None
+    }
+}
+
+/// An amount in cents, within 10^12 of zero, in eight bytes.
+#[tactic(auto, unfolding(crate::specs::Reading::amount_at))]
+pub fn amount_at(bytes: &[u8]) -> Option<(Amount, &[u8])>
+    ensures { Gives (λ x. (x.0, x.1.now)) result (amount_at bytes.now) }
+{
+    if bytes.len() < 8 {
+        return None;
+    }
+    let amount = Amount::new(BigEndian::read_i64(bytes))?;
+    Some((amount, &bytes[8..]))
+}
+
+/// A name and an amount.
+#[tactic(auto, unfolding(crate::specs::Reading::move_at))]
+pub fn move_at(bytes: &[u8]) -> Option<((&[u8], Amount), &[u8])>
+    ensures { Gives (λ x. ((x.0.0.now, x.0.1), x.1.now)) result (move_at bytes.now) }
+{
+    let (name, rest) = name_at(bytes)?;
+    let Some((amount, rest)) = amount_at(rest) else {
+        return None;
+    };
+    Some(((name, amount), rest))
+}
+
+/// The 32 bytes of a token.
+#[tactic(auto, unfolding(crate::specs::Reading::token_at))]
+pub fn token_at(bytes: &[u8]) -> Option<(&[u8], &[u8])>
+    ensures { Gives (λ x. (x.0.now, x.1.now)) result (token_at bytes.now) }
+{
+    if bytes.len() < 32 {
+        return None;
+    }
+    Some(bytes.split_at(32))
+}

@@ -1,0 +1,134 @@
+//! The header's limits.
+
+ghost use Rattle.std.specs.Prelude.{◌≡◌};
+ghost use Rattle.eve_grammar.specs.Limits.{is_head};
+ghost use Rattle.eve_grammar.specs.Reading.{Gives, header_of};
+ghost use Rattle.eve_grammar.specs.Bodies.{limits};
+
+use crate::places::{u16_in, u24_in, u32_in};
+
+/// How many there are of what a trace speaks of.
+///
+/// docs/TRACE.md, "Header".
+#[derive(Clone, Copy, Debug, PartialEq, Eq)]
+pub struct Head {
+    /// Replicas, 1 to 8.
+    pub replicas: u8,
+    /// Verifiers, 1 to 16.
+    pub verifiers: u8,
+    /// How many votes decide: more than half of the verifiers, at most all.
+    pub quorum: u8,
+    /// How many batches are attempted before the first is decided, 1 to 8.
+    pub window: u8,
+    /// Workers of a replica, 1 to 8.
+    pub workers: u8,
+    /// Customers, 1 to 4096.
+    pub customers: u32,
+    /// Batches, at most 65,535.
+    pub batches: u32,
+}
+
+impl Head {
+    /// Whether the numbers lie in their ranges.
+    pub fn is_right(&self) -> bool
+        ensures { result ≡ is_head (limits self.now) }
+    {
+        1 <= self.replicas
+            && self.replicas <= 8
+            && 1 <= self.verifiers
+            && self.verifiers <= 16
+            && self.quorum <= self.verifiers
+            && (self.verifiers as u32) < 2 * self.quorum as u32
+            && 1 <= self.window
+            && self.window <= 8
+            && 1 <= self.workers
+            && self.workers <= 8
+            && 1 <= self.customers
+            && self.customers <= 4096
+            && self.batches <= 65535
+    }
+
+    /// The limits in the 18 bytes of a header from the version to the batches; `None` where they aren't
+    /// version 1, the limits and zeros.
+    ///
+    /// docs/TRACE.md, "Header". The six bytes before them and the length behind them are not looked at here.
+    pub fn read(bytes: &[u8]) -> Option<Head>
+        ensures { Gives limits result (header_of bytes.now) }
+    {
+        if bytes.len() != 18 || u16_in(bytes, 0) != 1 || u24_in(bytes, 7) != 0 {
+            return None;
+        }
+        let head = Head {
+            replicas: bytes[2],
+            verifiers: bytes[3],
+            quorum: bytes[4],
+            window: bytes[5],
+            workers: bytes[6],
+            customers: u32_in(bytes, 10),
+            batches: u32_in(bytes, 14),
+        };
+        if head.is_right() { Some(head) } else { None }
+    }
+}
+
+#[cfg(test)]
+mod tests {
+    use super::*;
+
+    // the largest limits, and one byte too many
+    const LONG: [u8; 19] = [
+        0, 1, 8, 16, 9, 8, 8, 0, 0, 0, 0, 0, 16, 0, 0, 0, 255, 255, 0,
+    ];
+
+    fn changed(mut bytes: [u8; 19], at: usize, byte: u8) -> [u8; 19] {
+        if let Some(place) = bytes.get_mut(at) {
+            *place = byte;
+        }
+        bytes
+    }
+
+    #[test]
+    fn heads(rt: HostRuntime) {
+        let right = &LONG[..18];
+        let Some(head) = Head::read(right) else {
+            panic!(rt; "a head");
+        };
+        let largest = Head {
+            replicas: 8,
+            verifiers: 16,
+            quorum: 9,
+            window: 8,
+            workers: 8,
+            customers: 4096,
+            batches: 65535,
+        };
+        assert_eq!(rt; head, largest);
+        for len in 0..=LONG.len() {
+            let read = Head::read(&LONG[..len]);
+            assert_eq!(rt; read.is_some(), len == right.len(), "length {len}");
+        }
+        let cases: [(usize, u8, &str); 16] = [
+            (1, 3, "version 3"),
+            (2, 0, "no replica"),
+            (2, 9, "nine replicas"),
+            (3, 0, "no verifier"),
+            (3, 17, "17 verifiers"),
+            (4, 8, "a quorum of half"),
+            (4, 17, "a quorum above all"),
+            (5, 0, "no window"),
+            (5, 9, "a window of nine"),
+            (6, 0, "no worker"),
+            (6, 9, "nine workers"),
+            (7, 1, "a byte that isn't zero"),
+            (9, 1, "a byte that isn't zero"),
+            (12, 0, "no customer"),
+            (13, 1, "4097 customers"),
+            (15, 1, "more than 65,535 batches"),
+        ];
+        for (at, byte, why) in cases {
+            let bytes = changed(LONG, at, byte);
+            let read = Head::read(&bytes[..18]);
+            assert!(rt; read.is_none(), "{why}");
+        }
+    }
+}

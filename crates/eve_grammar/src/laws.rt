@@ -1,0 +1,44 @@
+//! Laws about the definitions. Each body is empty: the contract is the law.
+
+ghost use Rattle.std.specs.Prelude.{◌≡◌, ◌≤◌, ◌^◌, ℕ, IsTrue, List};
+ghost use Rattle.eve_grammar.specs.Trace.{Trace, Head, head_of};
+ghost use Rattle.eve_grammar.specs.Frames.{Frame, frames_of};
+ghost use Rattle.eve_grammar.specs.Spelling.{length_of};
+ghost use Rattle.eve_grammar.specs.Limits.{HasLimits, is_head, Spells};
+ghost use Rattle.eve_grammar.specs.Following.{IsRun};
+ghost use Rattle.eve_grammar.specs.Gathering.{trace_of, IsTraceOf};
+ghost use Rattle.eve_grammar.specs.Cases.{empty_run, empty_run_bytes, deposit_committed, deposit_committed_bytes};
+
+/// A trace has one spelling at most.
+pub fn traces_have_one_spelling()
+    ensures { (bytes more : List ℕ) (t : Trace) → Spells bytes t → Spells more t → bytes ≡ more }
+{}
+
+/// Bytes are the spelling of one trace at most.
+pub fn bytes_spell_one_trace()
+    ensures { (bytes : List ℕ) (t u : Trace) → Spells bytes t → Spells bytes u → t ≡ u }
+{}
+
+/// The bytes of two small traces.
+pub fn small_traces_are_spelled()
+    ensures empty_run { Spells empty_run_bytes empty_run }
+    ensures deposit_committed { Spells deposit_committed_bytes deposit_committed }
+{}
+
+/// A trace is what its header and its frames make up, so no two traces share both.
+pub fn frames_make_up_their_trace()
+    ensures { (t : Trace) → trace_of (head_of t) (frames_of t) ≡ t }
+{}
+
+/// Frames that run from the first to the end, under a header within its limits, are those of
+/// exactly one trace, which has the limits.
+pub fn each_run_is_one_trace()
+    ensures exists { (h : Head) (fs : List Frame) → IsTrue (is_head h) → IsRun h fs → IsTraceOf h fs (trace_of h fs) }
+    ensures limits { (h : Head) (fs : List Frame) → IsTrue (is_head h) → IsRun h fs → HasLimits (trace_of h fs) }
+    ensures only { (h : Head) (fs : List Frame) (t : Trace) → IsTraceOf h fs t → t ≡ trace_of h fs }
+{}
+
+/// The frames of a trace within its limits, of at most 2^30 bytes, run from the first to the end.
+pub fn each_trace_runs()
+    ensures { (t : Trace) → HasLimits t → length_of t ≤ 2 ^ 30 → IsRun (head_of t) (frames_of t) }
+{}

@@ -1,0 +1,34 @@
+//! The grammar of traces: what a trace is, its one spelling, and exact readers of every field and body.
+#![tactic(auto)]
+
+mod access;
+mod attempt;
+mod batch;
+mod commit;
+mod customer;
+mod entry;
+mod fields;
+mod head;
+pub mod laws;
+mod places;
+mod reply;
+mod request;
+mod restore;
+mod rollback;
+mod sent;
+mod vote;
+
+pub use access::AccessBody;
+pub use attempt::AttemptBody;
+pub use batch::BatchBody;
+pub use commit::CommitBody;
+pub use customer::CustomerBody;
+pub use entry::{entry_at, row_of};
+pub use fields::{number_of, u8_at, u16_at, u32_at, u64_at};
+pub use head::Head;
+pub use reply::reply_at;
+pub use request::{Asked, asked_at};
+pub use restore::{Restore, restore_at};
+pub use rollback::RollbackBody;
+pub use sent::SentBody;
+pub use vote::{Choice, VoteBody};

@@ -1,0 +1,47 @@
+//! Restores of rollback frames.
+
+ghost use Rattle.std.specs.Prelude.{◌≡◌, ◌<◌, ◌≤◌};
+ghost use Rattle.eve_grammar.specs.Reading.{Gives, restore_at};
+ghost use Rattle.eve_grammar.specs.Bodies.{restore};
+
+use crate::entry::row_of;
+use crate::places::{bytes_from, i64_in, u32_in, u64_in};
+use eve_accounts::{Cents, Row};
+
+/// A row's version and value as they are committed.
+#[derive(Clone, Copy, Debug, PartialEq, Eq)]
+pub struct Restore {
+    /// The row.
+    pub row: Row,
+    /// Its version, from 0.
+    pub version: u64,
+    /// Its value.
+    pub value: Cents,
+}
+
+/// A restore in 20 bytes, of one of this many rows.
+///
+/// docs/TRACE.md, "Parts": a version of at most 2^40.
+pub fn restore_at(rows: u32, bytes: &[u8]) -> Option<(Restore, &[u8])>
+    requires { rows ≤ 131072 }
+    ensures { Gives (λ x. (restore x.0, x.1.now)) result (restore_at rows bytes.now) }
+{
+    if bytes.len() < 20 {
+        return None;
+    }
+    let Some(value) = Cents::new(i64_in(bytes, 12)) else {
+        return None;
+    };
+    let number = u32_in(bytes, 0);
+    let version = u64_in(bytes, 4);
+    if number >= rows || version > 1_099_511_627_776 {
+        return None;
+    }
+    let row = row_of(number);
+    let restore = Restore {
+        row,
+        version,
+        value,
+    };
+    Some((restore, bytes_from(bytes, 20)))
+}

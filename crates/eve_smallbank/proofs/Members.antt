@@ -1,0 +1,60 @@
+-- Members of a list, and lists in another order.
+use Rattle.std.proofs.Common.{◌≡◌, Bool, false, List, [], ◌∷◌, ◌++◌, refl, sym, subst, ◌⊎◌, inl, inr}
+use Rattle.std.specs.List.{AllByRecursion, list_any}
+use Rattle.std.proofs.lemmas.Bool.{or_from, or_parts}
+use Rattle.eve_smallbank.specs.Conflict.{IsReordering}
+
+pub data In {A : Type 0} : A → List A → Type 0 where
+  here : {x : A} {xs : List A} → In x (x ∷ xs)
+  there : {x y : A} {xs : List A} → In x xs → In x (y ∷ xs)
+
+pub all_in : {A : Type 0} (P : A → Type 0) {x : A} {xs : List A} → AllByRecursion P xs → In x xs → P x
+all_in P all here = all.0
+all_in P all (there i) = all_in P all.1 i
+
+pub all_from_in : {A : Type 0} (P : A → Type 0) (xs : List A) → ((x : A) → In x xs → P x) → AllByRecursion P xs
+all_from_in P [] h = tt
+all_from_in P (x ∷ xs) h = (h x here, all_from_in P xs (λ y i. h y (there i)))
+
+-- no member passes
+pub list_any-none : {A : Type 0} (p : A → Bool) (xs : List A) → ((x : A) → In x xs → p x ≡ false) → list_any p xs ≡ false
+list_any-none p [] h = refl
+list_any-none p (x ∷ xs) h = or_from (p x) (list_any p xs) (h x here) (list_any-none p xs (λ y i. h y (there i)))
+
+pub none_of_list_any : {A : Type 0} {x : A} (p : A → Bool) (xs : List A) → list_any p xs ≡ false → In x xs → p x ≡ false
+none_of_list_any p [] h i = elim i [ ]
+none_of_list_any p (x ∷ xs) h here = (or_parts (p x) (list_any p xs) h).0
+none_of_list_any p (y ∷ xs) h (there i) = none_of_list_any p xs (or_parts (p y) (list_any p xs) h).1 i
+
+pub in_front : {A : Type 0} {x : A} {xs : List A} (ys : List A) → In x xs → In x (xs ++ ys)
+in_front ys here = here
+in_front ys (there i) = there (in_front ys i)
+
+pub in_middle : {A : Type 0} (x : A) (front back : List A) → In x (front ++ x ∷ back)
+in_middle x [] back = here
+in_middle x (y ∷ front) back = there (in_middle x front back)
+
+-- one more element in the middle
+pub in_around : {A : Type 0} {z : A} (x : A) (front back : List A) → In z (front ++ back) → In z (front ++ x ∷ back)
+in_around x [] back i = there i
+in_around x (y ∷ front) back here = here
+in_around x (y ∷ front) back (there i) = there (in_around x front back i)
+
+pub in_after : {A : Type 0} {z : A} (xs ys : List A) → IsReordering xs ys → In z xs → In z ys
+in_after [] ys r i = elim i [ ]
+in_after {A} {z} (x ∷ xs) ys r here = subst (In z) (sym r.2) (in_middle z r.0 r.1)
+in_after {A} {z} (x ∷ xs) ys r (there i) = subst (In z) (sym r.2) (in_around x r.0 r.1 (in_after xs (r.0 ++ r.1) r.3 i))
+
+pub in_cases : {A : Type 0} {z : A} (x : A) (front back : List A) → In z (front ++ x ∷ back) → (z ≡ x) ⊎ In z (front ++ back)
+in_cases x [] back here = inl refl
+in_cases x [] back (there i) = inr i
+in_cases x (y ∷ front) back here = inr here
+in_cases x (y ∷ front) back (there i) = elim (in_cases x front back i) [ inl e ↦ inl e | inr j ↦ inr (there j) ]
+
+pub in_before : {A : Type 0} {z : A} (xs ys : List A) → IsReordering xs ys → In z ys → In z xs
+in_before {A} {z} [] ys r i = subst (In z) r i
+in_before {A} {z} (x ∷ xs) ys r i =
+    elim (in_cases x r.0 r.1 (subst (In z) r.2 i)) [
+      | inl e ↦ subst (λ y. In y (x ∷ xs)) (sym e) here
+      | inr j ↦ there (in_before xs (r.0 ++ r.1) r.3 j)
+    ]

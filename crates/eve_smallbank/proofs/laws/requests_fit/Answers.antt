@@ -1,0 +1,5 @@
+use Rattle.eve_smallbank.proofs.Fitting.{always_fits}
+use Rattle.eve_smallbank.proofs.laws.requests_fit.Goals as goal
+
+pub returns : goal.returns
+returns c = always_fits

@@ -1,0 +1,11 @@
+pub mod SmallBank
+pub mod Access
+pub mod Chain
+pub mod Conflict
+pub mod SerialOrder
+pub mod Execution
+pub mod Spelling
+pub mod Few
+pub mod Touch
+pub mod Decide
+pub mod FromValues

@@ -1,0 +1,27 @@
+//! What a request noted of one row.
+
+use eve_accounts::{Cents, Row};
+
+/// Whether a row was read or written.
+#[derive(Clone, Copy, Debug, PartialEq, Eq)]
+pub enum Kind {
+    /// The row keeps its version and its value.
+    Read,
+    /// The row's version rises by one, also where its value stays.
+    Write,
+}
+
+/// One row that a request read or wrote.
+#[derive(Clone, Copy, Debug, PartialEq, Eq)]
+pub struct Entry {
+    /// The row.
+    pub row: Row,
+    /// Whether it was read or written.
+    pub kind: Kind,
+    /// The row's version before the request, from 0.
+    pub version: u64,
+    /// The row's value before the request.
+    pub seen: Cents,
+    /// The row's value after the request; a read leaves what it saw.
+    pub after: Cents,
+}

@@ -1,0 +1,42 @@
+//! Laws about the definitions. Each body is empty: the contract is the law.
+
+ghost use Rattle.std.specs.Prelude.{◌≡◌, ℕ, List, map};
+ghost use Rattle.std.specs.List.{AllByRecursion};
+ghost use Rattle.eve_smallbank.specs.SmallBank.{Request};
+ghost use Rattle.eve_smallbank.specs.declared.entry.Entry.{Entry};
+ghost use Rattle.eve_smallbank.specs.Access.{Executed, Fits};
+ghost use Rattle.eve_smallbank.specs.Touch.{touched_of, rows_in};
+ghost use Rattle.eve_smallbank.specs.Chain.{Table, visible_at, Sees, IsRowChained, HasOneEach, IsWalk, row_entries};
+ghost use Rattle.eve_smallbank.specs.Execution.{executed_on};
+ghost use Rattle.eve_smallbank.specs.SerialOrder.{IsSound, IsSerial};
+
+/// What a request makes of the rows that it meets fits it.
+pub fn requests_fit()
+    ensures { (names : List (List ℕ)) (table : Table) (request : Request) → Fits names (executed_on names table request) }
+{}
+
+/// Executed requests that fit one by one, and whose rows are chained each by itself, are serial.
+pub fn serial_order_from_chains()
+    ensures { (names : List (List ℕ)) (base : Table) (before : List Entry) (xs : List Executed)
+        → IsSound names base before xs → IsSerial names base before xs }
+{}
+
+/// A row is chained where its own entries, gathered along the requests, each see what those before it leave.
+pub fn rows_are_chained_by_walks()
+    ensures { (base : Table) (row : ℕ) (before : List Entry) (xs : List Executed) → HasOneEach row xs
+        → IsWalk (visible_at base before row) (row_entries row xs) → IsRowChained base row before xs }
+{}
+
+/// A record that fits and that saw what a table has is what its request makes of that table: reply, rows,
+/// kinds and values after follow from the values seen.
+pub fn fitting_records_are_unique()
+    ensures { (names : List (List ℕ)) (table : Table) (x : Executed) → Fits names x
+        → AllByRecursion (Sees table) x.entries → x ≡ executed_on names table x.request }
+{}
+
+/// A record that fits has an entry for each row that its request touches, in order, and none where the
+/// request is refused.
+pub fn fitting_records_touch_their_rows()
+    ensures { (names : List (List ℕ)) (x : Executed) → Fits names x
+        → map (λ e. e.row) x.entries ≡ map (λ r. r.0) (rows_in (touched_of names x.request)) }
+{}

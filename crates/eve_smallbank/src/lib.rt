@@ -1,0 +1,23 @@
+//! SmallBank: five transactions on a bank, what each reads and writes row by row, and the laws of
+//! executed requests.
+#![tactic(auto)]
+
+mod apply_request;
+mod decision;
+mod entry;
+mod few;
+pub mod laws;
+mod request;
+mod rows;
+mod touch;
+
+pub use apply_request::apply;
+pub use decision::{Decision, Effect, decide};
+pub use entry::{Entry, Kind};
+pub use few::UpToThree;
+pub use request::{Abort, Reply, Request};
+pub use rows::Touched;
+pub use touch::touched;
+
+#[cfg(test)]
+mod tests;

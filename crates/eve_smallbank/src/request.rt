@@ -1,0 +1,45 @@
+//! What clients ask for, and what they are answered.
+
+use eve_accounts::Amount;
+
+/// A transaction of SmallBank (Alomari et al., ICDE 2008) with borrowed names.
+///
+/// docs/MODEL.md, "Transactions", has the effect of each. Contracts see it by `plain`, with each name
+/// as its list of bytes.
+#[derive(Clone, Copy, Debug, PartialEq, Eq)]
+pub enum Request<'a> {
+    /// Both balances of the customer, added up.
+    Balance(&'a [u8]),
+    /// The amount comes to the checking balance.
+    DepositChecking(&'a [u8], Amount),
+    /// The amount, which may be below 0, comes to the saving balance.
+    TransactSaving(&'a [u8], Amount),
+    /// All that the first customer has comes to the checking balance of the second.
+    Amalgamate(&'a [u8], &'a [u8]),
+    /// A check over the amount is paid from the checking balance.
+    WriteCheck(&'a [u8], Amount),
+}
+
+/// What a client is answered.
+#[derive(Clone, Copy, Debug, PartialEq, Eq)]
+pub enum Reply {
+    /// The transaction took effect.
+    Done,
+    /// The sum of both balances, in cents.
+    Total(i64),
+    /// Nothing changed.
+    Aborted(Abort),
+}
+
+/// Why a transaction changed nothing.
+#[derive(Clone, Copy, Debug, PartialEq, Eq)]
+pub enum Abort {
+    /// No customer has the name.
+    NoSuchName,
+    /// The amount is below 0.
+    BadAmount,
+    /// The saving balance would fall below 0.
+    Insufficient,
+    /// A new balance would lie more than 10^15 from zero.
+    OutOfRange,
+}

@@ -1,0 +1,11 @@
+-- What a clause reads of a source over a reader.
+use Rattle.std.specs.Prelude.{ℕ}
+use Rattle.eve_streams.specs.declared.source_of.SourceOf.{SourceOf}
+
+-- the reader behind the source
+abbrev pub reader_of : {R : Type 0} → SourceOf R → R
+reader_of s = s.reader
+
+-- how many fetches have failed
+abbrev pub failures_of : {R : Type 0} → SourceOf R → ℕ
+failures_of s = s.failures

@@ -1,0 +1,68 @@
+//! Sinks: what takes bytes, and counts how often it failed.
+
+ghost use Rattle.std.specs.Prelude.{◌≡◌, ◌≢◌, ◌≤◌, ◌<◌, ℕ, Option, List, length, take, IfOk, OnOk, OnErr};
+ghost use Rattle.std.specs.Io.KnownBytes.{Appends, Keeps};
+ghost use Rattle.eve_streams.specs.Failures.{after_failure};
+ghost use Rattle.eve_streams.specs.Front.{AppendsFront};
+
+/// A sink failed, and counted it.
+#[derive(Clone, Copy, Debug, PartialEq, Eq)]
+pub struct SendFault;
+
+/// What takes bytes.
+pub trait Sink {
+    // The bytes taken so far, where they are known.
+    ghost written: { Self → Option (List ℕ) };
+
+    // How many sends have failed, in 64 bits that wrap: a call that stops at its first failure
+    // can be told from one that met none at every count.
+    ghost failures: { Self → ℕ };
+
+    /// Takes a front of `bytes`, at least one byte where there is one, and answers how many; or
+    /// fails, takes nothing and counts one failure.
+    fn send(&mut self, bytes: &[u8]) -> Result<usize, SendFault>
+        ensures within { IfOk result (λ n. n ≤ length bytes.now) }
+        ensures some { IfOk result (λ n. 0 < length bytes.now → 0 < n) }
+        ensures takes { IfOk result
+            (λ n. Appends (written self.old) (written self.new) (take n bytes.now)) }
+        ensures nothing { OnErr result (Keeps (written self.old) (written self.new)) }
+        ensures fine { OnOk result (failures self.new ≡ failures self.old) }
+        ensures counted { OnErr result (failures self.new ≡ after_failure (failures self.old)) };
+}
+
+/// A failure shows: a count is never the same after one more failure.
+pub fn a_failure_shows()
+    ensures { (failures : ℕ) → after_failure failures ≢ failures }
+{}
+
+/// Sends all of `bytes`. After a fault a front of them has been taken, and not all of them; the
+/// sink failed once, in this call.
+pub fn send_all<S: Sink>(sink: &mut S, bytes: &[u8]) -> Result<(), SendFault>
+    ensures sent { OnOk result (Appends (S.written sink.old) (S.written sink.new) bytes.now) }
+    ensures front { OnErr result
+        (AppendsFront (S.written sink.old) (S.written sink.new) bytes.now) }
+    ensures fine { OnOk result (S.failures sink.new ≡ S.failures sink.old) }
+    ensures counted { OnErr result (S.failures sink.new ≡ after_failure (S.failures sink.old)) }
+{
+    let (_, result) = send_front(sink, bytes);
+    result
+}
+
+// Sends until all is sent or the sink fails, and answers how many bytes were sent.
+pub(crate) fn send_front<S: Sink>(sink: &mut S, bytes: &[u8]) -> (usize, Result<(), SendFault>)
+    ensures within { result.0 ≤ length bytes.now }
+    ensures all { OnOk result.1 (result.0 ≡ length bytes.now) }
+    ensures front { OnErr result.1 (result.0 < length bytes.now) }
+    ensures sent { Appends (S.written sink.old) (S.written sink.new) (take result.0 bytes.now) }
+    ensures fine { OnOk result.1 (S.failures sink.new ≡ S.failures sink.old) }
+    ensures counted { OnErr result.1 (S.failures sink.new ≡ after_failure (S.failures sink.old)) }
+{
+    let mut sent = 0;
+    'rest: while sent < bytes.len() {
+        match sink.send(&bytes[sent..]) {
+            Ok(n) => sent += n,
+            Err(fault) => return (sent, Err(fault)),
+        }
+    }
+    (sent, Ok(()))
+}

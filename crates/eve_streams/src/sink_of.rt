@@ -1,0 +1,65 @@
+//! Sinks over the standard library's writers.
+
+ghost use Rattle.std.specs.Prelude.{◌≡◌};
+ghost use Rattle.eve_streams.specs.Writers.{writer_of, failures_of};
+
+use crate::{SendFault, Sink};
+use std::io::{ErrorKind, Write};
+
+/// A sink over a writer: its bytes are the writer's, and over a `Vec<u8>` it is a sink in memory.
+/// A write that a signal interrupts is tried again; one that fails, or takes nothing where there
+/// are bytes, is a failure.
+#[derive(Drop)]
+pub struct SinkOf<W: Drop> {
+    writer: W,
+    failures: u64,
+}
+
+// How often one send tries a write that is interrupted.
+const MOST_TRIES: u32 = 1 << 31;
+
+impl<W: Write + Drop> SinkOf<W> {
+    /// A sink that has not failed yet.
+    pub fn new(writer: W) -> SinkOf<W>
+        ensures writer { writer_of result ≡ writer }
+        ensures fine { failures_of result ≡ 0 }
+    {
+        SinkOf {
+            writer,
+            failures: 0,
+        }
+    }
+
+    /// The writer behind the sink.
+    pub fn writer(&self) -> &W
+        ensures { result.now ≡ writer_of self.now }
+    {
+        &self.writer
+    }
+
+    /// How many sends have failed, in 64 bits that wrap.
+    pub fn failures(&self) -> u64
+        ensures { result ≡ failures_of self.now }
+    {
+        self.failures
+    }
+}
+
+impl<W: Write + Drop> Sink for SinkOf<W> {
+    ghost written = { λ s. W.contents s.writer };
+
+    ghost failures = { λ s. s.failures };
+
+    fn send(&mut self, bytes: &[u8]) -> Result<usize, SendFault> {
+        'tries: for _ in 0..MOST_TRIES {
+            match self.writer.write(bytes) {
+                Ok(0) if !bytes.is_empty() => break,
+                Ok(n) => return Ok(n),
+                Err(e) if e.kind() == ErrorKind::Interrupted => {}
+                Err(_) => break,
+            }
+        }
+        self.failures = self.failures.wrapping_add(1);
+        Err(SendFault)
+    }
+}

@@ -1,0 +1,77 @@
+//! How a balance and a reply are spelled in a token.
+
+ghost use Rattle.std.specs.Prelude.{◌≡◌, ◌<◌, ◌≤◌, ◌++◌, ℕ, List, length, drop, refl};
+ghost use Rattle.std.proofs.Common.{lit<, lit≤};
+ghost use Rattle.eve_smallbank.specs.declared.request.Reply.TheVariants.{Done, Total, Aborted};
+ghost use Rattle.eve_smallbank.specs.Spelling.{money_text, reply_text};
+ghost use Rattle.eve_token.specs.declared.TheConstants.{BLOCK};
+
+use byteorder::{BigEndian, ByteOrder};
+use eve_accounts::Cents;
+use eve_smallbank::{Abort, Reply};
+
+/// What a token spells by a fixed number of bytes.
+///
+/// docs/TRACE.md, "Token".
+pub(crate) trait Spell {
+    /// How many bytes there are.
+    const LEN: usize;
+
+    ghost LEN: { ℕ };
+
+    // The bytes of a value.
+    ghost text: { Self → List ℕ };
+
+    /// Writes the bytes at the start of `out`, and leaves the rest of it as it is.
+    fn spell(&self, out: &mut [u8])
+        requires { LEN ≤ length out.old }
+        ensures { out.new ≡ text self.now ++ drop LEN out.old };
+
+    ghost length_text: { (x : Self) → length (text x) ≡ LEN };
+
+    // A block holds at least one.
+    ghost fits: { (0 < LEN) × (LEN ≤ BLOCK) };
+}
+
+/// A balance in cents, as eight bytes.
+impl Spell for Cents {
+    const LEN: usize = 8;
+
+    ghost LEN = { 8 };
+
+    ghost text = { money_text };
+
+    ghost length_text = { λ _. refl };
+
+    ghost fits = { (lit< tt, lit≤ tt) };
+
+    fn spell(&self, out: &mut [u8]) {
+        BigEndian::write_i64(out, self.get());
+    }
+}
+
+/// A reply, as a byte for its kind and eight bytes for the total, which are 0 where there is none.
+impl Spell for Reply {
+    const LEN: usize = 9;
+
+    ghost LEN = { 9 };
+
+    ghost text = { reply_text };
+
+    ghost length_text = { elim [ Done ↦ refl | Total _ ↦ refl | Aborted _ ↦ refl ] };
+
+    ghost fits = { (lit< tt, lit≤ tt) };
+
+    fn spell(&self, out: &mut [u8]) {
+        let (kind, total) = match *self {
+            Reply::Done => (0, 0),
+            Reply::Total(total) => (1, total),
+            Reply::Aborted(Abort::NoSuchName) => (2, 0),
+            Reply::Aborted(Abort::BadAmount) => (3, 0),
+            Reply::Aborted(Abort::Insufficient) => (4, 0),
+            Reply::Aborted(Abort::OutOfRange) => (5, 0),
+        };
+        out[0] = kind;
+        BigEndian::write_i64(&mut out[1..], total);
+    }
+}

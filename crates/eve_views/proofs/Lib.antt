@@ -1,0 +1,10 @@
+pub mod Bytes
+pub mod FrameLaws
+pub mod WalkLaws
+pub mod Keeping
+pub mod StartLaws
+pub mod Reaching
+pub mod HeaderLaws
+pub mod FormLaws
+pub mod TraceLaws
+pub mod WholeTraces

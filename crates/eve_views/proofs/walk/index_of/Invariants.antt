@@ -1,0 +1,12 @@
+use Rattle.std.proofs.Common.{◌≡◌, ◌-◌, length}
+use Rattle.eve_grammar.specs.Bodies.{limits}
+use Rattle.eve_views.specs.Places.{place}
+use Rattle.eve_views.proofs.Reaching.{Walking}
+use Rattle.eve_views.proofs.walk.index_of.Given as goal
+
+abbrev pub invariant-frames : goal.invariant-frames
+invariant-frames l =
+    Walking (limits l.fn.head) l.bytes l.at (place l.reached) l.offsets.items l.starts × (l.reached.head ≡ l.fn.head)
+
+abbrev pub decreases-frames : goal.decreases-frames
+decreases-frames l = length l.bytes - l.at

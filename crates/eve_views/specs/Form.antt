@@ -1,0 +1,94 @@
+-- The faults of form: what is wrong with bytes that are no trace, and where it stands.
+use Rattle.std.specs.Prelude.{◌≡◌, ◌≢◌, ℕ, ◌+◌, ◌^◌, ◌≤◌, ◌<◌, nat_le, Bool, ◌&&◌, IsTrue, IsFalse, ◌==◌, nat_eq, List, [], ◌++◌, length, take, drop, slice_index, None, codes, ◌⊎◌}
+use Rattle.std.specs.List.{starts_with}
+use Rattle.byteorder.specs.Endian.{big_number}
+use Rattle.eve_grammar.specs.Trace.{Head}
+use Rattle.eve_grammar.specs.Frames.{Frame, Place, start, is_allowed}
+use Rattle.eve_grammar.specs.Spelling.{frame_text, frames_text, head_text}
+use Rattle.eve_grammar.specs.Limits.{is_head, FitsAt}
+use Rattle.eve_views.specs.Code.{number_of}
+use Rattle.eve_grammar.specs.Following.{Follow, after}
+use Rattle.eve_views.specs.declared.fault.Code.{Code}
+use Rattle.eve_views.specs.declared.fault.Code.TheVariants as code
+use Rattle.eve_views.specs.declared.fault.Fault.{Fault}
+use Rattle.eve_views.specs.declared.fault.CheckFault.{CheckFault}
+use Rattle.eve_views.specs.declared.fault.CheckFault.TheVariants.{Found, Memory}
+
+-- ---- the header
+
+-- 32 bytes or more, 2^30 at most, and as many as the header says
+abbrev pub is_sized : List ℕ → Bool
+is_sized bytes = nat_le 32 (length bytes) && (nat_le (length bytes) (2 ^ 30) && (big_number 8 (drop 24 bytes) == length bytes))
+
+-- the first six bytes are those of a trace
+abbrev pub has_magic : List ℕ → Bool
+has_magic bytes = starts_with nat_eq bytes (codes "EVESBK")
+
+-- what a header says but for its magic bytes and the total length: bytes 6 to 23
+abbrev pub said_by : List ℕ → List ℕ
+said_by header = take 18 (drop 6 header)
+
+-- the header says a head within the limits
+pub record SaysHead (bytes : List ℕ) (h : Head) : Type 0 where
+  pub limits : IsTrue (is_head h)
+  pub said : said_by bytes ≡ said_by (head_text h 0)
+
+-- ---- the frames
+
+-- The header says a head, and from byte 32 up to this offset there are frames that may stand there.
+-- So at this offset the next frame is due, or the end was the last.
+pub record IsReached (bytes : List ℕ) (at : ℕ) : Type 0 where
+  pub head : Head
+  pub front : List Frame
+  pub says : SaysHead bytes head
+  pub right : Follow head start front
+  pub at_is : at ≡ 32 + length (frames_text front)
+  pub within : at ≤ length bytes
+  pub before : take at bytes ≡ take 32 bytes ++ frames_text front
+
+abbrev pub place_at : {bytes : List ℕ} {at : ℕ} → IsReached bytes at → Place
+place_at r = after start r.front
+
+-- a frame of a kind that may stand there lies at the front of the bytes as a whole
+abbrev pub is_framed : Head → Place → List ℕ → Bool
+is_framed h p bytes = nat_le 5 (length bytes) && (is_allowed h p (slice_index bytes 0) && nat_le (5 + big_number 4 (drop 1 bytes)) (length bytes))
+
+-- where a frame is due none of a kind that may stand there lies in the bytes as a whole, or a byte follows the end
+pub record HasNoFrame (h : Head) (p : Place) (bytes : List ℕ) : Type 0 where
+  pub unframed : IsFalse (is_framed h p bytes)
+  pub more : IsTrue p.ended → bytes ≢ []
+
+-- a frame of a kind that may stand there lies in the bytes as a whole, and its body differs from all that such a frame can say
+pub record HasWrongBody (h : Head) (p : Place) (bytes : List ℕ) : Type 0 where
+  pub framed : IsTrue (is_framed h p bytes)
+  pub none : (f : Frame) (rest : List ℕ) → FitsAt h p f → bytes ≢ frame_text f ++ rest
+
+-- ---- all of them
+
+-- a fault of form stands at this offset
+abbrev pub StandsInForm : Code → List ℕ → ℕ → Type 0
+StandsInForm code.Length bytes at = (at ≡ 0) × IsFalse (is_sized bytes)
+StandsInForm code.Magic bytes at = (at ≡ 0) × IsFalse (has_magic bytes)
+StandsInForm code.Head bytes at = (at ≡ 0) × ((h : Head) → ¬ SaysHead bytes h)
+StandsInForm code.Frame bytes at = (r : IsReached bytes at) × HasNoFrame r.head (place_at r) (drop at bytes)
+StandsInForm code.Body bytes at = (r : IsReached bytes at) × HasWrongBody r.head (place_at r) (drop at bytes)
+StandsInForm _ bytes at = ⊥
+
+-- the fault is one of form; it names no replica
+pub record IsFormFault (bytes : List ℕ) (f : Fault) : Type 0 where
+  pub stands : StandsInForm f.code bytes f.offset
+  pub outside : f.replica ≡ None
+
+-- by offset, then by number
+abbrev pub IsUpTo : Fault → Fault → Type 0
+IsUpTo f g = (f.offset < g.offset) ⊎ ((f.offset ≡ g.offset) × (number_of f.code ≤ number_of g.code))
+
+-- the first of the faults of form
+pub record IsLeastFormFault (bytes : List ℕ) (f : Fault) : Type 0 where
+  pub is : IsFormFault bytes f
+  pub least : (g : Fault) → IsFormFault bytes g → IsUpTo f g
+
+-- a fact about the fault, if one was found
+abbrev pub IfFound : CheckFault → (Fault → Type 0) → Type 0
+IfFound Memory P = Unit {0}
+IfFound (Found f) P = P f

@@ -1,0 +1,41 @@
+-- What the walk finds.
+use Rattle.std.specs.Prelude.{◌≡◌, ◌<◌, ℕ, ◌+◌, Bool, ◌||◌, ◌==◌, if◌then◌else◌, List, [], ◌∷◌, drop, slice_index, slice_get, Some, Result, Ok, Err}
+use Rattle.byteorder.specs.Endian.{big_number}
+use Rattle.eve_grammar.specs.Trace.{Head}
+use Rattle.eve_grammar.specs.Frames.{Frame, OfReplica, OfVerifier, kind_of}
+use Rattle.eve_grammar.specs.Spelling.{frames_text}
+use Rattle.eve_grammar.specs.Following.{IsRun}
+use Rattle.eve_views.specs.Places.{accesses_in}
+use Rattle.eve_views.specs.Sequence.{offsets_of}
+use Rattle.eve_views.specs.declared.fault.Code.{Code}
+use Rattle.eve_views.specs.declared.starts.Starts.{Starts}
+use Rattle.eve_views.specs.declared.walk.Framed.{Framed}
+use Rattle.eve_views.specs.declared.walk.Index.{Index}
+
+-- what is kept of a frame that was taken from the front of these bytes
+abbrev pub kept : List ℕ → Result (Frame × List ℕ) Code → Result Framed Code
+kept bytes (Ok x) = Ok (record { kind = slice_index bytes 0; len = 5 + big_number 4 (drop 1 bytes); accesses = accesses_in x.0 })
+kept bytes (Err c) = Err c
+
+-- a reply sent, or the end
+abbrev pub is_last : Frame → Bool
+is_last f = (kind_of f == 48) || (kind_of f == 127)
+
+-- how many frames stand before the first reply sent, or the end
+abbrev pub sent_from : List Frame → ℕ
+sent_from [] = 0
+sent_from (f ∷ fs) = if is_last f then 0 else (sent_from fs + 1)
+
+-- the frames that begin parts
+pub record AreStarts (h : Head) (fs : List Frame) (s : Starts) : Type 0 where
+  pub sections : (e : ℕ) → e < h.replicas → slice_get fs (slice_index s.sections e) ≡ Some (OfReplica e)
+  pub verifiers : (v : ℕ) → v < h.verifiers → slice_get fs (slice_index s.verifiers v) ≡ Some (OfVerifier v)
+  pub sent : s.sent ≡ sent_from fs
+
+-- these are the frames behind the header, up to the end
+pub record IsIndex (h : Head) (bytes : List ℕ) (i : Index) : Type 0 where
+  pub frames : List Frame
+  pub run : IsRun h frames
+  pub text : drop 32 bytes ≡ frames_text frames
+  pub offsets : i.offsets.items ≡ offsets_of 32 frames
+  pub starts : AreStarts h frames i.starts

@@ -1,0 +1,9 @@
+pub mod Code
+pub mod Form
+pub mod Header
+pub mod Sequence
+pub mod Walk
+pub mod Places
+pub mod Starting
+pub mod Indexing
+pub mod Held

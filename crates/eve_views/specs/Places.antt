@@ -1,0 +1,27 @@
+-- The code's places, as values.
+use Rattle.std.specs.Prelude.{ℕ, ◌+◌, ◌-◌, true, ◌==◌, if◌then◌else◌, length}
+use Rattle.eve_grammar.specs.Frames.{Frame, OfAttempt, Place}
+use Rattle.eve_views.specs.declared.place.Place as code
+
+-- the place that the counters say
+abbrev pub place : code.Place → Place
+place p =
+    record { customers = p.customers; batches = p.batches; replicas = p.replicas; accesses = p.accesses; verifiers = p.verifiers; sending = p.sending; ended = p.ended }
+
+-- how many access frames have to follow the frame
+abbrev pub accesses_in : Frame → ℕ
+accesses_in (OfAttempt a) = length a.certificate
+accesses_in _ = 0
+
+-- the place behind a frame of that kind, which so many access frames have to follow
+abbrev pub moved : Place → ℕ → ℕ → Place
+moved p kind accesses =
+    if kind == 1 then record p { customers = p.customers + 1 }
+    else if kind == 2 then record p { batches = p.batches + 1 }
+    else if kind == 16 then record p { replicas = p.replicas + 1 }
+    else if kind == 17 then record p { accesses = accesses }
+    else if kind == 18 then record p { accesses = p.accesses - 1 }
+    else if kind == 32 then record p { verifiers = p.verifiers + 1 }
+    else if kind == 48 then record p { sending = true }
+    else if kind == 127 then record p { ended = true }
+    else p

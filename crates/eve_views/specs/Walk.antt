@@ -1,0 +1,51 @@
+-- Which frames lie in bytes, by taking one after another. A device: it names the frames of a trace that was
+-- read. What a trace is, and what is wrong with other bytes, is said without it.
+use Rattle.std.specs.Prelude.{ℕ, zero, suc, ◌==◌, ◌&&◌, if◌then◌else◌, List, [], ◌∷◌, length, take, drop, slice_index, Option, Some, None, Result, Ok, Err}
+use Rattle.byteorder.specs.Endian.{big_number}
+use Rattle.eve_grammar.specs.Trace.{Head}
+use Rattle.eve_grammar.specs.Frames.{Frame, Place, start, next}
+use Rattle.eve_grammar.specs.Reading.{body_of}
+use Rattle.eve_views.specs.Form.{is_framed}
+use Rattle.eve_views.specs.declared.fault.Code.{Code}
+use Rattle.eve_views.specs.declared.fault.Code.TheVariants as code
+
+-- the frame with that body, and what follows it
+abbrev pub with_rest : List ℕ → Option Frame → Result (Frame × List ℕ) Code
+with_rest rest (Some f) = Ok (f, rest)
+with_rest rest None = Err code.Body
+
+-- the frame at the front of bytes in which one lies
+abbrev pub inside : Head → Place → List ℕ → Result (Frame × List ℕ) Code
+inside h p bytes =
+    let len = big_number 4 (drop 1 bytes) in
+    with_rest (drop len (drop 5 bytes)) (body_of h p (slice_index bytes 0) (take len (drop 5 bytes)))
+
+-- the frame at the front of the bytes, or what is wrong there
+unfoldable pub frame_at : Head → Place → List ℕ → Result (Frame × List ℕ) Code
+frame_at h p bytes = if is_framed h p bytes then inside h p bytes else Err code.Frame
+
+-- the frames that were found, or what is wrong and the bytes from there on
+abbrev pub Walked : Type 0
+Walked = Result (List Frame) (Code × List ℕ)
+
+abbrev pub behind : Frame → Walked → Walked
+behind f (Ok fs) = Ok (f ∷ fs)
+behind f (Err e) = Err e
+
+abbrev pub step : List ℕ → Result (Frame × List ℕ) Code → (Frame → List ℕ → Walked) → Walked
+step bytes (Ok x) go = behind x.0 (go x.0 x.1)
+step bytes (Err c) go = Err (c, bytes)
+
+-- at most that many frames
+unfoldable pub walk : ℕ → Head → Place → List ℕ → Walked
+walk zero h p bytes = Err (code.Frame, bytes)
+walk (suc n) h p bytes =
+    if p.ended && (length bytes == 0) then Ok [] else step bytes (frame_at h p bytes) (λ f rest. walk n h (next p f) rest)
+
+abbrev found_in : Walked → List Frame
+found_in (Ok fs) = fs
+found_in (Err e) = []
+
+-- the frames of which the bytes are made, if they are made of frames
+unfoldable pub frames_in : Head → List ℕ → List Frame
+frames_in h bytes = found_in (walk (suc (length bytes)) h start bytes)

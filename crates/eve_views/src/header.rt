@@ -1,0 +1,45 @@
+//! The header of a trace.
+
+ghost use Rattle.std.specs.Prelude.{◌≡◌, IsTrue, codes, take, IfOk, IfErr};
+ghost use Rattle.eve_grammar.specs.Bodies.{limits};
+ghost use Rattle.eve_views.specs.Form.{is_sized, has_magic, said_by};
+ghost use Rattle.eve_views.specs.Header.{IsHeader, StopsAtHeader};
+
+use crate::fault::Code;
+use byteorder::{BigEndian, ByteOrder};
+use eve_grammar::Head;
+
+/// Whether there are as many bytes as a trace may have and as the header says.
+fn is_sized(bytes: &[u8]) -> bool
+    ensures { result ≡ is_sized bytes.now }
+{
+    32 <= bytes.len()
+        && bytes.len() <= 1_073_741_824
+        && BigEndian::read_u64(&bytes[24..]) == bytes.len() as u64
+}
+
+/// Whether the bytes begin as those of a trace.
+fn has_magic(bytes: &[u8]) -> bool
+    ensures { result ≡ has_magic bytes.now }
+{
+    bytes.starts_with(b"EVESBK")
+}
+
+/// The head that the header says, or the first fault of the header.
+///
+/// docs/TRACE.md, "Header".
+pub fn head_of(bytes: &[u8]) -> Result<Head, Code>
+    ensures head { IfOk result (λ h. IsHeader bytes.now (limits h)) }
+    ensures fault { IfErr result (StopsAtHeader bytes.now) }
+{
+    if !is_sized(bytes) {
+        return Err(Code::Length);
+    }
+    if !has_magic(bytes) {
+        return Err(Code::Magic);
+    }
+    match Head::read(&bytes[6..24]) {
+        Some(head) => Ok(head),
+        None => Err(Code::Head),
+    }
+}

@@ -1,0 +1,90 @@
+//! The walk over a trace, frame by frame.
+
+ghost use Rattle.std.specs.Prelude.{◌≡◌, ◌≤◌, ◌^◌, length, IfOk, IfErr};
+ghost use Rattle.eve_grammar.specs.Bodies.{limits};
+ghost use Rattle.eve_views.specs.Form.{SaysHead, IsFormFault, IfFound};
+ghost use Rattle.eve_views.specs.Places.{place};
+ghost use Rattle.eve_views.specs.Walk.{frame_at};
+ghost use Rattle.eve_views.specs.Indexing.{kept, IsIndex};
+
+use crate::body::accesses_behind;
+use crate::fault::{CheckFault, Code, Fault};
+use crate::place::Place;
+use crate::starts::Starts;
+use eve_grammar::{Head, u8_at, u32_at};
+use std::alloc::Global;
+
+/// A whole frame at the front of bytes: its kind, its length in bytes, and how many access frames have to follow.
+#[derive(Clone, Copy)]
+struct Framed {
+    kind: u8,
+    len: usize,
+    accesses: usize,
+}
+
+/// The frame at the front of the bytes, or what is wrong there.
+#[tactic(auto, unfolding(crate::specs::Walk::frame_at))]
+fn frame_in_front(at: &Place, bytes: &[u8]) -> Result<Framed, Code>
+    requires { at.now.head.customers ≤ 65536 }
+    ensures { result ≡ kept bytes.now (frame_at (limits at.now.head) (place at.now) bytes.now) }
+{
+    let Some((kind, rest)) = u8_at(bytes) else {
+        return Err(Code::Frame);
+    };
+    let Some((len, rest)) = u32_at(rest) else {
+        return Err(Code::Frame);
+    };
+    let len = len as usize;
+    if !at.allows(kind) || rest.len() < len {
+        return Err(Code::Frame);
+    }
+    match accesses_behind(at, kind, &rest[..len]) {
+        Some(accesses) => Ok(Framed {
+            kind,
+            len: 5 + len,
+            accesses,
+        }),
+        None => Err(Code::Body),
+    }
+}
+
+/// Where the frames of a trace begin, and which of them begin its parts.
+#[derive(Drop)]
+pub struct Index {
+    /// The byte offset of each frame.
+    pub offsets: Vec<u32>,
+    /// The frames that begin parts.
+    pub starts: Starts,
+}
+
+/// Finds the frames behind a header, or the first fault among them.
+pub fn index_of(alloc: Global, head: Head, bytes: &[u8]) -> Result<Index, CheckFault>
+    requires says { SaysHead bytes.now (limits head) }
+    requires header { 32 ≤ length bytes.now }
+    requires length { length bytes.now ≤ 2 ^ 30 }
+    ensures found { IfOk result (IsIndex (limits head) bytes.now) }
+    ensures fault { IfErr result (λ e. IfFound e (IsFormFault bytes.now)) }
+{
+    let mut offsets = Vec::new(alloc);
+    let mut starts = Starts::new();
+    let mut reached = Place::start(head);
+    let mut at: usize = 32;
+    'frames: while !reached.ended || at < bytes.len() {
+        match frame_in_front(&reached, &bytes[at..]) {
+            Err(code) => {
+                return Err(CheckFault::Found(Fault {
+                    code,
+                    offset: at as u64,
+                    replica: None,
+                }));
+            }
+            Ok(frame) => {
+                starts.note(&reached, frame.kind, offsets.len() as u32);
+                offsets.push(at as u32)?;
+                reached.pass(frame.kind, frame.accesses);
+                at += frame.len;
+            }
+        }
+    }
+    Ok(Index { offsets, starts })
+}
