@@ -132,7 +132,10 @@ mod tests {
             if let Some(place) = bytes.get_mut(at) {
                 *place = byte;
             }
-            let read = AccessBody::read(2, &bytes[..64]);
+            let Some((_, body)) = bytes.as_slice().split_last() else {
+                panic!(rt; "a byte");
+            };
+            let read = AccessBody::read(2, body);
             assert!(rt; read.is_none(), "{why}");
         }
         let mut most = [0; 6 + 29 * 3];

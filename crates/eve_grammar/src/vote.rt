@@ -104,7 +104,10 @@ mod tests {
         ];
         for (at, byte, why) in cases {
             let bytes = changed(LONG, at, byte);
-            let read = VoteBody::read(1, &bytes[..41]);
+            let Some((_, body)) = bytes.as_slice().split_last() else {
+                panic!(rt; "a byte");
+            };
+            let read = VoteBody::read(1, body);
             assert!(rt; read.is_none(), "{why}");
         }
         let mut zeros = [0; 41];

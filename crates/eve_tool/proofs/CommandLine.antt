@@ -1,0 +1,130 @@
+-- What a command line without a fault names.
+use Rattle.std.proofs.Common.{◌≡◌, ◌⊎◌, inl, inr, subst, refl, Bool, true, false, not, ◌&&◌, if◌then◌else◌, List, [], ◌∷◌, Option, Some, None, codes, is_some, option_map, option_and_then}
+use Rattle.clap.specs.Words.{IsAmong, Kinds, Row, Shape, Text, built, fault_of, is_simple, is_simple_and_free, subcommand_of}
+use Rattle.clap.specs.Kinds.{check_kinds, or_else}
+use Rattle.clap.specs.Simple.{argument_words, built_leaf, entered, inherited, label_of, names_of, rows_at}
+use Rattle.clap.specs.Walk.{Held, Names, answers_to, finished, nothing_held, settled, stop_after, walk, walk_from}
+use Rattle.clap.specs.Facts.{explicit_source}
+use Rattle.clap.specs.Faults.{check_fault, defaults_fault, entered_fault, level_fault, settle_fault, walk_fault}
+use Rattle.clap.specs.Takes.{is_given}
+use Rattle.std.specs.List.{list_any}
+use Rattle.clap.proofs.OnLiterals.{clap_on_literals}
+use Rattle.eve_tool.specs.Words.{Answers, AsksForHelp, SaysOf, call_named, call_of, call_unless, eve, faults_of, program, show}
+use Rattle.clap.specs.declared.error.kind.ErrorKind.{ErrorKind}
+use Rattle.clap.specs.declared.error.kind.ErrorKind.TheVariants as kind
+use Rattle.eve_tool.specs.declared.words.Asked.{Asked}
+use Rattle.eve_tool.specs.declared.words.Asked.TheVariants as asked
+use Rattle.eve_tool.specs.declared.words.Call.{Call}
+use Rattle.eve_tool.specs.declared.words.Call.TheVariants.{Show}
+
+-- the program is of the kind of which clap says what it makes of the words
+pub eve_is_simple : is_simple eve ≡ true
+unfolding clap_on_literals
+eve_is_simple = refl
+
+pub eve_is_free : is_simple_and_free eve ≡ true
+unfolding clap_on_literals
+eve_is_free = refl
+
+-- where none of five steps fails, the last doesn't
+last_is_empty : (a b c d e : Kinds) → or_else a (or_else b (or_else c (or_else d e))) ≡ [] → e ≡ []
+last_is_empty [] [] [] [] e h = h
+last_is_empty [] [] [] (k ∷ d) e h = cc
+last_is_empty [] [] (k ∷ c) d e h = cc
+last_is_empty [] (k ∷ b) c d e h = cc
+last_is_empty (k ∷ a) b c d e h = cc
+
+has_when_wanted : (has wants_help wants_argument : Bool) → check_kinds wants_help (not has && true) wants_argument ≡ [] → has ≡ true
+has_when_wanted true help argument h = refl
+has_when_wanted false true argument h = cc
+has_when_wanted false false argument h = cc
+
+-- where nothing is wrong with a level that wants a subcommand, there is one
+subcommand_wanted : (s : Shape) (names : Names) (h : Held) (words : List Text) (has : Bool) (below : Kinds) → s.subcommand_required ≡ true
+    → level_fault s names h words has below ≡ [] → has ≡ true
+subcommand_wanted s names h words has below wants right =
+    let end = (walk s.rules names h words).held in
+    let last : check_fault s (finished s.rules end) has ≡ [] = last_is_empty
+    (walk_fault s names (walk_from h) words)
+    below
+    (settle_fault s.rules s.args_override_self end)
+    (defaults_fault (settled s.rules end).rows s.rules)
+    (check_fault s (finished s.rules end) has)
+    right in
+    has_when_wanted has
+    (not has && (s.arg_required_else_help && not (list_any (λ r. explicit_source r.source) (finished s.rules end))))
+    (not (s.subcommand_negates_reqs && has) && list_any (λ a. a.required && not (is_given a.id (finished s.rules end))) s.rules)
+    (rw wants at last)
+
+-- the subcommand as the program has it once it is built
+abbrev built_show : Shape
+built_show = built_leaf (inherited program.top show)
+
+abbrev entered_if : Bool → List Text → Option (Text × List Row)
+entered_if is_met rest = option_map (λ s. rows_at s rest) (if is_met then Some built_show else None)
+
+call_if : (is_met : Bool) (rest : List Text) → is_some (entered_if is_met rest) ≡ true → option_and_then call_named (entered_if is_met rest) ≡ Some Show
+unfolding clap_on_literals
+call_if true rest h = refl
+call_if false rest h = cc
+
+-- the subcommand that was entered is a call
+entered_call : (stop : Option (Text × List Text)) → is_some (entered (built eve) stop) ≡ true
+    → option_and_then call_named (entered (built eve) stop) ≡ Some Show
+unfolding clap_on_literals
+entered_call None h = cc
+entered_call (Some p) h = call_if (answers_to p.0 (label_of built_show)) p.1 h
+
+-- words without a fault name a subcommand
+entered_without_faults : (words : List Text) → fault_of eve words ≡ [] → is_some (subcommand_of eve words) ≡ true
+entered_without_faults words h =
+    let above = built eve in
+    let rest = argument_words eve words in
+    let stop = (walk above.top.rules (names_of above) nothing_held rest).stopped in
+    subcommand_wanted above.top (names_of above) nothing_held rest (is_some (entered above stop)) (entered_fault above stop) refl h
+
+-- words without a fault are a call
+pub call_without_faults : (words : List Text) → fault_of eve words ≡ [] → call_of words ≡ option_and_then call_named (subcommand_of eve words)
+unfolding call_of faults_of
+call_without_faults words h = rw h refl
+
+-- and it is one of the program's
+pub show_without_faults : (words : List Text) → fault_of eve words ≡ [] → option_and_then call_named (subcommand_of eve words) ≡ Some Show
+show_without_faults words h =
+    let above = built eve in
+    entered_call (stop_after above.top.rules (names_of above) (argument_words eve words)) (entered_without_faults words h)
+
+-- words with a fault are no call
+no_call : (words : List Text) (k : ErrorKind) → IsAmong k (faults_of words) → call_of words ≡ None
+unfolding call_of
+no_call words k among = none_if (faults_of words) k among (option_and_then call_named (subcommand_of eve words)) where
+  none_if : (kinds : Kinds) (k : ErrorKind) → IsAmong k kinds → (found : Option Call) → call_unless kinds found ≡ None
+  none_if [] k among found = absurd among
+  none_if (x ∷ xs) k among found = refl
+
+-- what is said of a fault is an answer to the words
+pub answers_with_fault : (words : List Text) (k : ErrorKind) (a : Asked) → (k ≡ kind.OutOfMemory) ⊎ IsAmong k (fault_of eve words) → SaysOf k a → Answers words a
+unfolding faults_of
+answers_with_fault words k (asked.Call call) found says = absurd says
+answers_with_fault words k (asked.Help text) (inl e) says = cc
+answers_with_fault words k (asked.Help text) (inr among) says =
+    let help = subst (λ (x : ErrorKind). IsAmong x (fault_of eve words)) says among in (no_call words kind.DisplayHelp help, help)
+answers_with_fault words k (asked.Refused text) (inl e) says = absurd (says.1 e)
+answers_with_fault words k (asked.Refused text) (inr among) says = (no_call words k among, record { what = k; found = among; no_help = says.0 })
+
+-- ---- plain words, behind the program's name
+
+show_call : (name : Text) → call_of (name ∷ codes "show" ∷ []) ≡ Some Show
+unfolding call_of faults_of clap_on_literals
+show_call name = refl
+
+pub called_show : (words : List Text) (name : Text) → words ≡ name ∷ codes "show" ∷ [] → call_of words ≡ Some Show
+called_show words name e = rw e (show_call name)
+
+help_fault : (name : Text) → faults_of (name ∷ codes "--help" ∷ []) ≡ kind.DisplayHelp ∷ []
+unfolding faults_of clap_on_literals
+help_fault name = refl
+
+pub asked_help : (words : List Text) (name : Text) → words ≡ name ∷ codes "--help" ∷ [] → (call_of words ≡ None) × AsksForHelp words
+asked_help words name e =
+    let among : AsksForHelp words = rw (e, help_fault name) (inl refl) in (no_call words kind.DisplayHelp among, among)

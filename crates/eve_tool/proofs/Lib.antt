@@ -1,0 +1,3 @@
+mod CommandLine
+mod Cutting
+mod Sending

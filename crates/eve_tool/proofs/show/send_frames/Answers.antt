@@ -1,0 +1,53 @@
+use Rattle.std.proofs.Common.{◌≡◌, ◌<◌, ◌≤◌, ◌+◌, ◌++◌, ◌∙◌, ap, refl, length, arith}
+use Rattle.std.specs.String.{string_bytes}
+use Rattle.std.proofs.lemmas.Result.{on_err_weaker, on_ok_weaker}
+use Rattle.eve_tool.proofs.Sending.{AppendsFront-none, OnErr-holds, all_is_sent, front_of_held, front_so_far, header_is_held, held_is_sent, next_is_held, trace_lines-some}
+use Rattle.eve_tool.specs.Show.{header_line}
+use Rattle.eve_tool.proofs.show.send_frames.Goals.{then-len+in_ok-send_text, else-len}
+use Rattle.eve_tool.proofs.show.send_frames.Goals as goal
+
+pub returns-in_err-text-clause-front : goal.returns-in_err-text-clause-front
+returns-in_err-text-clause-front g c =
+    OnErr-holds c.from_residual.result (AppendsFront-none (g.O.Sink.written c.args.out.now) _ (trace_lines-some c.args.trace.now.frames))
+
+pub returns-in_err-push_frame_line-clause-front : goal.returns-in_err-push_frame_line-clause-front
+returns-in_err-push_frame_line-clause-front g c =
+    OnErr-holds c.from_residual-in_err-push_frame_line.result (AppendsFront-none (g.O.Sink.written c.args.out.now) _ (trace_lines-some c.args.trace.now.frames))
+
+pub frames-init : goal.frames-init
+frames-init g c =
+    let held : string_bytes c.push_frame_line.new.text ≡ header_line = c.in_ok-push_frame_line.ensures ∙ ap (λ l. l ++ header_line) c.in_ok-text.ensures.bytes in
+    (header_is_held _ _ c.args.trace.now.frames held, refl)
+
+pub returns-in_err-push_frame-clause-front : goal.returns-in_err-push_frame-clause-front
+returns-in_err-push_frame-clause-front g c =
+    let within : c.frames.i < length c.args.trace.now.frames = omega arith in
+    OnErr-holds c.from_residual-in_err-push_frame.result (front_so_far _ _ _ c.args.trace.now.frames c.frames.i within c.frames.invariant.0)
+
+pub returns-in_err-send_text-clause-front : goal.returns-in_err-send_text-clause-front
+returns-in_err-send_text-clause-front g c =
+    let frames = c.args.trace.now.frames in
+    let within : c.frames.i < length frames = omega arith in
+    let far = next_is_held _ _ _ (string_bytes c.push_frame.new.text) frames c.frames.i within c.in_ok-push_frame.ensures c.frames.invariant.0 in
+    OnErr-holds c.from_residual-in_err-send_text.result (front_of_held _ _ _ _ frames (c.frames.i + 1) far c.in_err-send_text.ensures.front)
+
+pub frames-preserved : goal.frames-preserved
+frames-preserved g c =
+    let frames = c.args.trace.now.frames in
+    let within : c.frames.i < length frames = omega arith in
+    let far = next_is_held _ _ _ (string_bytes c.push_frame.new.text) frames c.frames.i within c.in_ok-push_frame.ensures c.frames.invariant.0 in
+    elim c.if-len.branch [
+      | then-len+in_ok-send_text w ↦ rw (w.out-is, w.text-is)
+          (held_is_sent _ _ _ _ _ frames (c.frames.i + 1) w.in_ok-send_text.ensures.empty w.in_ok-send_text.ensures.sent far, w.in_ok-send_text.ensures.fine ∙ c.frames.invariant.1)
+      | else-len w ↦ rw (w.out-is, w.text-is) (far, c.frames.invariant.1)
+    ]
+
+pub returns-clause-sent : goal.returns-clause-sent
+returns-clause-sent g c =
+    let frames = c.args.trace.now.frames in
+    let past : length frames ≤ c.frames.i = omega arith in
+    on_ok_weaker c.send_text-2.result (all_is_sent _ _ _ _ frames c.frames.i past c.frames.invariant.0) c.send_text-2.ensures.sent
+
+pub returns-clause-front : goal.returns-clause-front
+returns-clause-front g c =
+    on_err_weaker c.send_text-2.result (front_of_held _ _ _ _ c.args.trace.now.frames c.frames.i c.frames.invariant.0) c.send_text-2.ensures.front

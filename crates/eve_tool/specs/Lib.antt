@@ -1,0 +1,4 @@
+pub mod Fault
+pub mod Lines
+pub mod Words
+pub mod Show

@@ -1,0 +1,21 @@
+-- The lines that the program prints.
+use Rattle.std.specs.Prelude.{ℕ, List, [], ◌∷◌, ◌++◌, Option, Some, None, codes, decimal}
+use Rattle.eve_views.specs.Code.{name_of, number_of}
+use Rattle.eve_views.specs.declared.fault.Fault.{Fault}
+
+-- the byte that ends a line
+abbrev pub line_feed : List ℕ
+line_feed = 10 ∷ []
+
+-- a frame: where it begins, its kind, how many bytes its body has
+unfoldable pub frame_line : ℕ → List ℕ → ℕ → List ℕ
+frame_line offset name body_len = decimal offset ++ (codes " " ++ (name ++ (codes " " ++ (decimal body_len ++ line_feed))))
+
+-- the replica in whose section a fault stands
+abbrev pub replica_text : Option ℕ → List ℕ
+replica_text (Some replica) = codes ", replica " ++ decimal replica
+replica_text None = []
+
+-- a fault: its code, where it stands, and in whose section
+unfoldable pub fault_line : Fault → List ℕ
+fault_line f = codes "no: F" ++ (decimal (number_of f.code) ++ (codes " " ++ (name_of f.code ++ (codes " at byte " ++ (decimal f.offset ++ (replica_text f.replica ++ line_feed))))))

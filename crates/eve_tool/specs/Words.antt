@@ -1,0 +1,69 @@
+-- What the words of a command line ask for.
+use Rattle.std.specs.Prelude.{◌≡◌, ◌≢◌, true, if◌then◌else◌, List, [], ◌∷◌, Option, Some, None, codes, option_and_then}
+use Rattle.std.specs.Str.{bytes_eq}
+use Rattle.clap.specs.Words.{App, Shape, Text, IsAmong, Kinds, fault_of, new_app, subcommand_of, with_subcommand}
+use Rattle.clap.specs.Walk.{Row}
+use Rattle.clap.specs.declared.error.kind.ErrorKind.TheVariants as kind
+use Rattle.clap.specs.declared.error.kind.ErrorKind.{ErrorKind}
+use Rattle.eve_tool.specs.declared.words.Call.{Call}
+use Rattle.eve_tool.specs.declared.words.Call.TheVariants.{Show}
+use Rattle.eve_tool.specs.declared.words.Asked.{Asked}
+use Rattle.eve_tool.specs.declared.words.Asked.TheVariants as asked
+
+-- the program wants a subcommand
+abbrev pub program : App
+program = let new = new_app (codes "eve") in record new { top = record new.top { disable_help_subcommand = true; subcommand_required = true } }
+
+abbrev pub show : Shape
+show = (new_app (codes "show")).top
+
+-- the program with its subcommands
+abbrev pub eve : App
+eve = with_subcommand program show
+
+-- the call of a subcommand
+abbrev pub call_named : Text × List Row → Option Call
+call_named found = if bytes_eq found.0 (codes "show") then Some Show else None
+
+-- what clap finds wrong with the words, the program's name first, or a request for help
+unfoldable pub faults_of : List Text → Kinds
+faults_of words = fault_of eve words
+
+-- a call only where nothing is wrong
+abbrev pub call_unless : Kinds → Option Call → Option Call
+call_unless [] call = call
+call_unless (k ∷ ks) call = None
+
+-- the call that the words are
+unfoldable pub call_of : List Text → Option Call
+call_of words = call_unless (faults_of words) (option_and_then call_named (subcommand_of eve words))
+
+-- what is answered to words in which clap finds this wrong
+abbrev pub SaysOf : ErrorKind → Asked → Type 0
+SaysOf k (asked.Call call) = ⊥
+SaysOf k (asked.Help text) = k ≡ kind.DisplayHelp
+SaysOf k (asked.Refused text) = (k ≢ kind.DisplayHelp) × (k ≢ kind.OutOfMemory)
+
+-- the words are the call `show`
+abbrev pub CallsShow : List Text → Type 0
+CallsShow words = call_of words ≡ Some Show
+
+-- the words are no call
+abbrev pub CallsNothing : List Text → Type 0
+CallsNothing words = call_of words ≡ None
+
+-- the words ask for help
+abbrev pub AsksForHelp : List Text → Type 0
+AsksForHelp words = IsAmong kind.DisplayHelp (faults_of words)
+
+-- something else is wrong with the words
+pub record IsWrong (words : List Text) : Type 0 where
+  pub what : ErrorKind
+  pub found : IsAmong what (faults_of words)
+  pub no_help : what ≢ kind.DisplayHelp
+
+-- the answer is the call that the words are, help where they ask for it, or a refusal where they are wrong
+abbrev pub Answers : List Text → Asked → Type 0
+Answers words (asked.Call call) = call_of words ≡ Some call
+Answers words (asked.Help text) = CallsNothing words × AsksForHelp words
+Answers words (asked.Refused text) = CallsNothing words × IsWrong words

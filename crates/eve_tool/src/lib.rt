@@ -1,0 +1,14 @@
+//! The program `eve` as a library: its command line, its lines, and `serve`, which is all of it.
+#![tactic(auto)]
+
+mod fault;
+mod lines;
+mod program;
+mod show;
+mod words;
+
+pub use fault::ToolFault;
+pub use program::{serve, stop};
+
+#[cfg(test)]
+mod tests;

@@ -1,0 +1,121 @@
+//! The program over any streams.
+
+ghost use Rattle.std.specs.Prelude.{◌≡◌, ◌≢◌, ◌≤◌, ◌<◌, ◌⊎◌, ℕ, List, [], ◌∷◌, codes, map};
+ghost use Rattle.std.specs.Prelude.{IfOk, IfErr, OnOk, OnErr};
+ghost use Rattle.eve_streams.specs.Failures.{after_failure};
+ghost use Rattle.eve_tool.specs.Fault.{status_of};
+ghost use Rattle.eve_tool.specs.Show.{WritesAllOf, WritesFrontOf};
+ghost use Rattle.eve_tool.specs.Words.{AsksForHelp, CallsNothing, CallsShow, IsWrong};
+
+use crate::fault::ToolFault;
+use crate::show::show;
+use crate::words::{Asked, Call, read_words};
+use arrayvec::ArrayString;
+use eve_streams::{Sink, Source, send_all};
+use std::alloc::Global;
+use std::convert::AsStr;
+use std::fmt::Write;
+
+// How many bytes the line of a fault has at most.
+const LONGEST_FAULT: usize = 64;
+
+/// Says on `err` why the program ends without an answer, and answers the exit status. What can't be
+/// said is lost.
+pub fn stop<E: Sink>(fault: ToolFault, err: &mut E) -> u8
+    ensures { result ≡ status_of fault }
+{
+    let mut line = ArrayString::<LONGEST_FAULT>::new();
+    if writeln!(line, "{fault}").is_ok() {
+        let _ = send_all(err, line.as_str().as_bytes());
+    }
+    fault.status()
+}
+
+// Does what the words ask for, and answers the exit status.
+fn answer<S: AsStr, I: Source, O: Sink, E: Sink>(
+    alloc: Global,
+    words: &[S],
+    input: &mut I,
+    out: &mut O,
+    err: &mut E,
+) -> Result<u8, ToolFault>
+    ensures all { CallsShow (map S.text words.now)
+        → IfOk result (WritesAllOf (I.remaining input.old) (O.written out.old)
+        (O.written out.new)) }
+    ensures fine { CallsShow (map S.text words.now)
+        → OnOk result ((I.failures input.new ≡ I.failures input.old)
+        × (O.failures out.new ≡ O.failures out.old)) }
+    ensures status { CallsShow (map S.text words.now) → IfOk result (λ status. status < 2) }
+    ensures quiet { CallsShow (map S.text words.now) → err.new ≡ err.old }
+    ensures front { CallsShow (map S.text words.now)
+        → OnErr result ((out.new ≡ out.old)
+        ⊎ WritesFrontOf (I.remaining input.old) (O.written out.old) (O.written out.new)) }
+    ensures read { IfErr result (λ e. e ≡ ToolFault.Read
+        → (I.failures input.new ≡ after_failure (I.failures input.old)) × (out.new ≡ out.old)) }
+    ensures write { IfErr result (λ e. e ≡ ToolFault.Write
+        → O.failures out.new ≡ after_failure (O.failures out.old)) }
+    ensures unread { CallsNothing (map S.text words.now) → input.new ≡ input.old }
+    ensures help { CallsNothing (map S.text words.now) → IfOk result (λ status. status ≡ 0
+        → AsksForHelp (map S.text words.now)) }
+    ensures wrong { CallsNothing (map S.text words.now) → IfOk result (λ status. status ≢ 0
+        → (status ≡ 2) × IsWrong (map S.text words.now) × (out.new ≡ out.old)) }
+{
+    match read_words(alloc, words)? {
+        Asked::Call(Call::Show) => show(alloc, input, out),
+        Asked::Help(text) => {
+            send_all(out, text.as_str().as_bytes())?;
+            Ok(0)
+        }
+        Asked::Refused(text) => {
+            let _ = send_all(err, text.as_str().as_bytes());
+            Ok(2)
+        }
+    }
+}
+
+/// Runs the program: does what the words of the command line ask for, the first of which is the
+/// program's name, and answers the exit status.
+#[tactic(auto, using(crate::proofs::CommandLine::called_show, crate::proofs::CommandLine::asked_help))]
+pub fn serve<S: AsStr, I: Source, O: Sink, E: Sink>(
+    alloc: Global,
+    words: &[S],
+    input: &mut I,
+    out: &mut O,
+    err: &mut E,
+) -> u8
+    // `show` is a call, and `--help` asks for help.
+    ensures show { (name : List ℕ) → map S.text words.now ≡ name ∷ codes "show" ∷ []
+        → CallsShow (map S.text words.now) }
+    ensures help { (name : List ℕ) → map S.text words.now ≡ name ∷ codes "--help" ∷ []
+        → CallsNothing (map S.text words.now) × AsksForHelp (map S.text words.now) }
+
+    // All is said, on `out`.
+    ensures all { CallsShow (map S.text words.now) → result < 2
+        → WritesAllOf (I.remaining input.old) (O.written out.old) (O.written out.new) result }
+    ensures fine { CallsShow (map S.text words.now) → result < 2
+        → (I.failures input.new ≡ I.failures input.old)
+        × (O.failures out.new ≡ O.failures out.old) × (err.new ≡ err.old) }
+
+    // The input failed; or memory ran out, or `out` failed.
+    ensures read { CallsShow (map S.text words.now) → result ≡ 2
+        → (I.failures input.new ≡ after_failure (I.failures input.old)) }
+    ensures front { CallsShow (map S.text words.now) → result ≡ 3
+        → (out.new ≡ out.old)
+        ⊎ WritesFrontOf (I.remaining input.old) (O.written out.old) (O.written out.new) }
+
+    // The words are no call.
+    ensures unread { CallsNothing (map S.text words.now) → input.new ≡ input.old }
+    ensures helped { CallsNothing (map S.text words.now) → result ≡ 0
+        → AsksForHelp (map S.text words.now) }
+    ensures refused { CallsNothing (map S.text words.now) → result ≢ 1 }
+    ensures wrong { CallsNothing (map S.text words.now) → result ≡ 2
+        → IsWrong (map S.text words.now) }
+
+    ensures status { result ≤ 3 }
+    ensures silent { result ≡ 2 → out.new ≡ out.old }
+{
+    match answer(alloc, words, input, out, err) {
+        Ok(status) => status,
+        Err(fault) => stop(fault, err),
+    }
+}

@@ -1,0 +1,140 @@
+//! The call `show`: the frames of a trace, a line for each.
+
+ghost use Rattle.std.specs.Prelude.{◌≡◌, ◌≢◌, ◌<◌, ◌⊎◌, ℕ, ◌++◌, [], length, slice_get, Some};
+ghost use Rattle.std.specs.Prelude.{IfOk, IfErr, OnOk, OnErr};
+ghost use Rattle.std.specs.String.{string_bytes};
+ghost use Rattle.std.specs.Io.KnownBytes.{Appends};
+ghost use Rattle.eve_grammar.specs.Frames.{Frame};
+ghost use Rattle.eve_grammar.specs.Spelling.{frame_text, located};
+ghost use Rattle.eve_streams.specs.Failures.{after_failure};
+ghost use Rattle.eve_streams.specs.Front.{AppendsFront};
+ghost use Rattle.eve_tool.specs.Lines.{fault_line};
+ghost use Rattle.eve_tool.specs.Show.{WritesAll, WritesAllOf, WritesFront, WritesFrontOf, line_of, trace_lines};
+
+use crate::fault::ToolFault;
+use crate::lines::{push_fault_line, push_frame_line};
+use eve_streams::{Sink, Source, read_all, send_all};
+use eve_views::{CheckFault, Fault, Trace};
+use std::alloc::{AllocError, Global};
+
+// How many bytes a trace has at most.
+const LONGEST_TRACE: u32 = 1 << 30;
+
+// How many bytes of lines are sent together, about, and how many a line has at most.
+const ROOM: usize = 64 * 1024;
+
+const LONGEST_LINE: usize = 64;
+
+// Sends the text, and empties it.
+fn send_text<O: Sink>(text: &mut String, out: &mut O) -> Result<(), ToolFault>
+    ensures sent { OnOk result (Appends (O.written out.old) (O.written out.new)
+        (string_bytes text.old)) }
+    ensures empty { OnOk result (string_bytes text.new ≡ []) }
+    ensures fine { OnOk result (O.failures out.new ≡ O.failures out.old) }
+    ensures front { OnErr result (AppendsFront (O.written out.old) (O.written out.new)
+        (string_bytes text.old)) }
+    ensures why { IfErr result (λ e. e ≡ ToolFault.Write) }
+    ensures counted { OnErr result (O.failures out.new ≡ after_failure (O.failures out.old)) }
+{
+    send_all(out, text.as_str().as_bytes())?;
+    text.clear();
+    Ok(())
+}
+
+// Appends the line of frame number i.
+fn push_frame(text: &mut String, trace: &Trace<'_>, i: usize) -> Result<(), AllocError>
+    requires { i < length trace.now.frames }
+    ensures { (p : ℕ × Frame) → slice_get (located frame_text 32 trace.now.frames) i ≡ Some p
+        → OnOk result (string_bytes text.new ≡ string_bytes text.old ++ line_of p) }
+{
+    let frame = trace.frame(i);
+    push_frame_line(text, frame.offset(), frame.kind_name(), frame.body_len())
+}
+
+// Sends the lines of the header and of all frames, many at a time.
+fn send_frames<O: Sink>(alloc: Global, trace: &Trace<'_>, out: &mut O) -> Result<(), ToolFault>
+    ensures sent { OnOk result (Appends (O.written out.old) (O.written out.new)
+        (trace_lines trace.now.frames)) }
+    ensures fine { OnOk result (O.failures out.new ≡ O.failures out.old) }
+    ensures front { OnErr result (AppendsFront (O.written out.old) (O.written out.new)
+        (trace_lines trace.now.frames)) }
+    ensures why { IfErr result (λ e. e ≢ ToolFault.Read) }
+    ensures write { IfErr result (λ e. e ≡ ToolFault.Write
+        → O.failures out.new ≡ after_failure (O.failures out.old)) }
+    ensures memory { IfErr result (λ e. e ≡ ToolFault.Memory
+        → O.failures out.new ≡ O.failures out.old) }
+{
+    let mut text = String::with_capacity(alloc, ROOM)?;
+    push_frame_line(&mut text, 0, "Header", 32)?;
+    'frames: for i in 0..trace.frame_count() {
+        push_frame(&mut text, trace, i)?;
+        if text.len() > ROOM - LONGEST_LINE {
+            send_text(&mut text, out)?;
+        }
+    }
+    send_text(&mut text, out)
+}
+
+// Sends the line of a fault.
+fn send_fault<O: Sink>(alloc: Global, fault: &Fault, out: &mut O) -> Result<(), ToolFault>
+    ensures sent { OnOk result (Appends (O.written out.old) (O.written out.new)
+        (fault_line fault.now)) }
+    ensures fine { OnOk result (O.failures out.new ≡ O.failures out.old) }
+    ensures front { OnErr result (AppendsFront (O.written out.old) (O.written out.new)
+        (fault_line fault.now)) }
+    ensures why { IfErr result (λ e. e ≢ ToolFault.Read) }
+    ensures write { IfErr result (λ e. e ≡ ToolFault.Write
+        → O.failures out.new ≡ after_failure (O.failures out.old)) }
+    ensures memory { IfErr result (λ e. e ≡ ToolFault.Memory
+        → O.failures out.new ≡ O.failures out.old) }
+{
+    let mut text = String::new(alloc);
+    push_fault_line(&mut text, fault)?;
+    send_text(&mut text, out)
+}
+
+// Sends what there is to say of the bytes, and answers the exit status.
+fn show_bytes<O: Sink>(alloc: Global, bytes: &[u8], out: &mut O) -> Result<u8, ToolFault>
+    ensures all { IfOk result (WritesAll bytes.now (O.written out.old) (O.written out.new)) }
+    ensures fine { OnOk result (O.failures out.new ≡ O.failures out.old) }
+    ensures front { OnErr result ((out.new ≡ out.old)
+        ⊎ WritesFront bytes.now (O.written out.old) (O.written out.new)) }
+    ensures why { IfErr result (λ e. e ≢ ToolFault.Read) }
+    ensures write { IfErr result (λ e. e ≡ ToolFault.Write
+        → O.failures out.new ≡ after_failure (O.failures out.old)) }
+{
+    match Trace::read(alloc, bytes) {
+        Ok(trace) => {
+            send_frames(alloc, &trace, out)?;
+            Ok(0)
+        }
+        Err(CheckFault::Found(fault)) => {
+            send_fault(alloc, &fault, out)?;
+            Ok(1)
+        }
+        Err(CheckFault::Memory) => Err(ToolFault::Memory),
+    }
+}
+
+/// Reads a trace and sends its lines, and answers 0; or sends the line of its first fault of form,
+/// and answers 1. It reads at most one byte more than a trace may have, which is the fault then.
+pub(crate) fn show<I: Source, O: Sink>(
+    alloc: Global,
+    input: &mut I,
+    out: &mut O,
+) -> Result<u8, ToolFault>
+    ensures all { IfOk result (WritesAllOf (I.remaining input.old) (O.written out.old)
+        (O.written out.new)) }
+    ensures status { IfOk result (λ status. status < 2) }
+    ensures fine { OnOk result ((I.failures input.new ≡ I.failures input.old)
+        × (O.failures out.new ≡ O.failures out.old)) }
+    ensures front { OnErr result ((out.new ≡ out.old)
+        ⊎ WritesFrontOf (I.remaining input.old) (O.written out.old) (O.written out.new)) }
+    ensures read { IfErr result (λ e. e ≡ ToolFault.Read
+        → (I.failures input.new ≡ after_failure (I.failures input.old)) × (out.new ≡ out.old)) }
+    ensures write { IfErr result (λ e. e ≡ ToolFault.Write
+        → O.failures out.new ≡ after_failure (O.failures out.old)) }
+{
+    let bytes = read_all(alloc, input, LONGEST_TRACE)?;
+    show_bytes(alloc, bytes.as_slice(), out)
+}

@@ -1,0 +1,77 @@
+//! What the words of a command line ask for.
+
+ghost use Rattle.std.specs.Prelude.{◌≡◌, IfOk, map, option_and_then};
+ghost use Rattle.clap.specs.Words.{app_of, kind_of, subcommand_rows_of};
+ghost use Rattle.eve_tool.specs.Words.{Answers, SaysOf, call_named, eve};
+
+use clap::error::ErrorKind;
+use clap::{ArgMatches, Command, Error};
+use std::alloc::{AllocError, Global};
+use std::convert::AsStr;
+
+/// A call of the program, one for each subcommand.
+#[derive(Clone, Copy, Debug, PartialEq, Eq)]
+pub(crate) enum Call {
+    /// Prints the frames of a trace.
+    Show,
+}
+
+/// What the words of a command line come to.
+#[derive(Debug, Drop)]
+pub(crate) enum Asked {
+    /// They are a call.
+    Call(Call),
+    /// They ask for help, which is this text.
+    Help(String),
+    /// They are no call, and this text says why.
+    Refused(String),
+}
+
+const EXAMPLE: &str = "Example:\n  eve show < examples/empty-run.trace";
+
+// The command line of the program.
+fn command<'a>(alloc: Global) -> Result<Command<'a>, AllocError>
+    ensures { IfOk result (λ c. app_of c ≡ eve) }
+{
+    let show = Command::new(alloc, "show").about(
+        "Prints the frames of the trace on standard input, a line for each",
+    );
+    Command::new(alloc, "eve")
+        .about("Records and audits traces of replicated SmallBank servers")
+        .after_help(EXAMPLE)
+        .disable_help_subcommand(true)
+        .subcommand_required(true)
+        .subcommand(show)
+}
+
+// The call of the subcommand that was met.
+fn call_in(matches: &ArgMatches<'_>) -> Option<Call>
+    ensures { result ≡ option_and_then call_named (subcommand_rows_of matches.now) }
+{
+    match matches.subcommand_name() {
+        Some("show") => Some(Call::Show),
+        _ => None,
+    }
+}
+
+// What clap answers where it gives no matches.
+fn answer_of(alloc: Global, error: &Error) -> Result<Asked, AllocError>
+    ensures { IfOk result (SaysOf (kind_of error.now)) }
+{
+    match error.kind() {
+        ErrorKind::OutOfMemory => Err(AllocError),
+        ErrorKind::DisplayHelp => Ok(Asked::Help(error.to_string(alloc)?)),
+        _ => Ok(Asked::Refused(error.to_string(alloc)?)),
+    }
+}
+
+/// Reads the words of a command line, of which the first is the program's name.
+pub(crate) fn read_words<S: AsStr>(alloc: Global, words: &[S]) -> Result<Asked, AllocError>
+    ensures { IfOk result (Answers (map S.text words.now)) }
+{
+    let command = command(alloc)?;
+    match command.try_get_matches_from(words) {
+        Ok(matches) => Ok(Asked::Call(call_in(&matches).unwrap())),
+        Err(error) => answer_of(alloc, &error),
+    }
+}
