@@ -75,7 +75,7 @@ const ROLLBACK_AND_SERIAL_RERUN_LINES: &str = "0 Header 32
 1034 End 0
 ";
 
-const HELP: &str = "Records and audits traces of replicated SmallBank servers
+const HELP: &str = "Shows traces of replicated SmallBank servers
 
 Usage: eve <COMMAND>
 

@@ -37,7 +37,7 @@ fn command<'a>(alloc: Global) -> Result<Command<'a>, AllocError>
         "Prints the frames of the trace on standard input, a line for each",
     );
     Command::new(alloc, "eve")
-        .about("Records and audits traces of replicated SmallBank servers")
+        .about("Shows traces of replicated SmallBank servers")
         .after_help(EXAMPLE)
         .disable_help_subcommand(true)
         .subcommand_required(true)
