@@ -1,11 +1,11 @@
 -- Where a Commit frame's fields stand.
-use Rattle.std.proofs.Common.{◌≡◌, ℕ, ◌+◌, ◌≤◌, List, length, take, drop, Option, Some, is_some, unwrap_or, refl, sym, ap, ◌∙◌, arith}
+use Rattle.std.proofs.Common.{◌≡◌, ℕ, List, length, take, drop, Some, ap, ◌∙◌, arith}
 use Rattle.std.specs.Prelude.{IsTrue}
 use Rattle.std.proofs.lemmas.List.{length-drop}
 use Rattle.byteorder.specs.Endian.{big_number}
 use Rattle.eve_grammar.specs.Trace.{Commit}
 use Rattle.eve_grammar.specs.Reading.{number_at, both, made, commit_from, token_at, commit_of}
-use Rattle.eve_frames.specs.Views.{body_in, is_commit_frame, commit_in}
+use Rattle.eve_frames.specs.Views.{is_commit_frame, commit_in}
 use Rattle.eve_frames.proofs.Places.{found, number_some, bytes_some, made_some, whole_some, both_some, Takes-number}
 
 pub record CommitAt (bytes : List ℕ) (c : Commit) : Type 0 where

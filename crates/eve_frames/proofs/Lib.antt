@@ -1,4 +1,12 @@
 mod Places
-mod CommitPlaces
-mod VotePlaces
+mod Lists
+mod CustomerPlaces
+mod BatchPlaces
 mod SentPlaces
+mod AttemptPlaces
+mod AccessPlaces
+mod CommitPlaces
+mod RollbackPlaces
+mod VotePlaces
+pub mod Rereading
+pub mod Fitting

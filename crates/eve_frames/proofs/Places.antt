@@ -1,11 +1,11 @@
 -- Where the fields of a frame stand in its bytes.
-use Rattle.std.proofs.Common.{◌≡◌, ℕ, ℤ, zero, suc, ◌+◌, ◌*◌, ◌<◌, ◌≤◌, Bool, true, false, cond, ltb, eqb, List, [], ◌∷◌, length, get_or, take, drop, Option, Some, None, is_some, unwrap_or, refl, sym, ap, subst, ◌∙◌, arith}
-use Rattle.std.specs.Prelude.{IsTrue, slice_get}
+use Rattle.std.proofs.Common.{◌≡◌, ℕ, ◌+◌, ◌≤◌, Bool, true, false, cond, ltb, eqb, List, length, get_or, take, drop, Option, Some, None, is_some, unwrap_or, refl, sym, ap, ◌∙◌, arith, ◌-◌}
+use Rattle.std.specs.Prelude.{IsTrue}
 use Rattle.std.specs.Int.{w64, cast_signed}
 use Rattle.std.proofs.lemmas.Bool.{ltb-false, eqb-true}
-use Rattle.std.proofs.lemmas.List.{length-drop, drop-drop, get_or-drop}
+use Rattle.std.proofs.lemmas.List.{take_rest, length-drop, drop-drop, get_or-drop}
 use Rattle.byteorder.specs.Endian.{big_number}
-use Rattle.eve_grammar.specs.Reading.{◌>>=◌, Reader, number_at, bytes_at, signed_at, both, led_by, made, made_if, only, whole, many_at}
+use Rattle.eve_grammar.specs.Reading.{◌>>=◌, Reader, number_at, bytes_at, signed_at, both, both_by, led_by, made, made_if, only, whole}
 
 -- what was found, and not the value for what wasn't
 pub found : {A : Type 0} (o : Option A) (other : A) → IsTrue (is_some o) → o ≡ Some (unwrap_or o other)
@@ -145,3 +145,18 @@ byte_at k bytes =
     let e : get_or (drop k bytes) 0 0 ≡ get_or bytes (k + 0) 0 = get_or-drop k bytes 0 0 in
     let z : k + 0 ≡ k = omega arith in
     omega (arith, e, ap (λ (i : ℕ). get_or bytes i 0) z)
+
+-- the number at a place, read in all that stands from there on
+pub number_from : (n k : ℕ) (bytes : List ℕ) → big_number n (drop k bytes) ≡ big_number n (take (length bytes - k) (drop k bytes))
+number_from n k bytes = ap (big_number n) (sym (take_rest bytes k))
+
+-- two fields, of which the first, of any length, says how the second is read
+pub by_some : {A B : Type 0} (one : Reader A) (two : A → Reader B) (bytes : List ℕ) (x : (A × B) × List ℕ) → both_by one two bytes ≡ Some x
+    → (rest : List ℕ) × (one bytes ≡ Some (x.0.0, rest)) × (two x.0.0 rest ≡ Some (x.0.1, x.1))
+by_some {A = A} {B = B} one two bytes x e =
+    let a = bind_some (one bytes) (λ a. two a.0 a.1 >>= λ b. Some ((a.0, b.0), b.1)) x e in
+    let b = bind_some (two a.0.0 a.0.1) (λ b. Some ((a.0.0, b.0), b.1)) x a.2 in
+    let there : (A × B) × List ℕ = ((a.0.0, b.0.0), b.0.1) in
+    let same = some_is there x b.2 in
+    let first : a.0.0 ≡ x.0.0 = ap (λ (y : (A × B) × List ℕ). y.0.0) same in
+    (a.0.1, a.1 ∙ ap (λ (y : A). Some (y, a.0.1)) first, ap (λ (y : A). two y a.0.1) (sym first) ∙ b.1 ∙ ap (λ (y : (A × B) × List ℕ). Some (y.0.1, y.1)) same)

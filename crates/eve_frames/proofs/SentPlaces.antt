@@ -1,5 +1,5 @@
 -- Where a Sent frame's fields stand.
-use Rattle.std.proofs.Common.{◌≡◌, ℕ, ◌+◌, ◌-◌, List, length, get_or, take, drop, Option, Some, None, refl, sym, ap, ◌∙◌, arith}
+use Rattle.std.proofs.Common.{◌≡◌, ℕ, ◌-◌, List, length, get_or, take, drop, Option, Some, sym, ap, ◌∙◌, arith}
 use Rattle.std.specs.Prelude.{IsTrue, nat_lt}
 use Rattle.std.proofs.lemmas.List.{take_rest, length-drop, drop-drop}
 use Rattle.byteorder.specs.Endian.{big_number}

@@ -1,14 +1,35 @@
 //! Views of single frames: each lends its bytes, and reads its fields where they stand.
 #![tactic(auto)]
 
+mod access;
+mod attempt;
+mod batch;
+mod certificate;
 mod commit;
+mod customer;
+mod entries;
 mod frame;
+pub mod laws;
+mod replies;
+mod requests;
+mod restores;
+mod rollback;
 mod sent;
 #[cfg(test)]
 mod tests;
 mod vote;
 
+pub use access::AccessView;
+pub use attempt::AttemptView;
+pub use batch::BatchView;
+pub use certificate::Certificate;
 pub use commit::CommitView;
+pub use customer::CustomerView;
+pub use entries::Entries;
 pub use frame::FrameView;
+pub use replies::Replies;
+pub use requests::Requests;
+pub use restores::Restores;
+pub use rollback::RollbackView;
 pub use sent::SentView;
 pub use vote::VoteView;

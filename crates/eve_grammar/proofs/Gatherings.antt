@@ -9,14 +9,14 @@ use Rattle.eve_grammar.specs.Gathering.{Gathered, gather, gathered, headed, trac
 abbrev parts : List Customer → List Batch → List (List Step) → List (List Vote) → List Sent → Gathered
 parts cs bs ss vs sent = record { customers = cs; batches = bs; accesses = []; steps = []; sections = ss; votes = []; verifiers = vs; sent = sent }
 
-abbrev with_votes : Gathered → List Vote → Gathered
+abbrev pub with_votes : Gathered → List Vote → Gathered
 with_votes g vs = record g { votes = vs }
 
-abbrev with_accesses : Gathered → List Access → Gathered
+abbrev pub with_accesses : Gathered → List Access → Gathered
 with_accesses g xs = record g { accesses = xs }
 
 -- steps, all of whose accesses they have
-abbrev with_steps : Gathered → List Step → Gathered
+abbrev pub with_steps : Gathered → List Step → Gathered
 with_steps g ss = record g { accesses = []; steps = ss }
 
 -- ---- votes, and what is sent
@@ -25,7 +25,7 @@ gathered-sent : (sent : List Sent) → gathered (map OfSent sent ++ End ∷ []) 
 gathered-sent [] = refl
 gathered-sent (s ∷ sent) = ap (gather (OfSent s)) (gathered-sent sent)
 
-gathered-votes : (vs : List Vote) (rest : List Frame) (g : Gathered) → gathered rest ≡ g → gathered (map OfVote vs ++ rest) ≡ with_votes g (vs ++ g.votes)
+pub gathered-votes : (vs : List Vote) (rest : List Frame) (g : Gathered) → gathered rest ≡ g → gathered (map OfVote vs ++ rest) ≡ with_votes g (vs ++ g.votes)
 gathered-votes [] rest g e = e
 gathered-votes (v ∷ vs) rest g e = ap (gather (OfVote v)) (gathered-votes vs rest g e)
 
@@ -40,7 +40,7 @@ gathered-verifiers (v ∷ vs) n sent rest e =
 
 -- ---- sections
 
-gathered-accesses : (xs : List Access) (rest : List Frame) (g : Gathered) → gathered rest ≡ g → gathered (map OfAccess xs ++ rest) ≡ with_accesses g (xs ++ g.accesses)
+pub gathered-accesses : (xs : List Access) (rest : List Frame) (g : Gathered) → gathered rest ≡ g → gathered (map OfAccess xs ++ rest) ≡ with_accesses g (xs ++ g.accesses)
 gathered-accesses [] rest g e = e
 gathered-accesses (x ∷ xs) rest g e = ap (gather (OfAccess x)) (gathered-accesses xs rest g e)
 
@@ -56,7 +56,7 @@ gathered-step (Attempts a) ss rest g e = gathered-attempt a ss rest g e
 gathered-step (Commits c) ss rest g e = ap (gather (OfCommit c)) e
 gathered-step (RollsBack r) ss rest g e = ap (gather (OfRollback r)) e
 
-gathered-steps : (ss : List Step) (rest : List Frame) (g : Gathered) → gathered rest ≡ with_steps g [] → gathered (flat_map step_frames ss ++ rest) ≡ with_steps g ss
+pub gathered-steps : (ss : List Step) (rest : List Frame) (g : Gathered) → gathered rest ≡ with_steps g [] → gathered (flat_map step_frames ss ++ rest) ≡ with_steps g ss
 gathered-steps [] rest g e = e
 gathered-steps (s ∷ ss) rest g e =
     let later = flat_map step_frames ss in

@@ -8,3 +8,9 @@ pub mod HeaderLaws
 pub mod FormLaws
 pub mod TraceLaws
 pub mod WholeTraces
+pub mod Fronting
+pub mod Locating
+pub mod PartLaws
+pub mod CutLaws
+pub mod StartsAt
+pub mod StepLaws

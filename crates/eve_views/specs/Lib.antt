@@ -7,3 +7,6 @@ pub mod Places
 pub mod Starting
 pub mod Indexing
 pub mod Held
+pub mod Fronts
+pub mod Parts
+pub mod StepKinds

@@ -1,15 +1,23 @@
 //! Traces read in place: the first fault of form, or a trace whose frames are lent as views.
 #![tactic(auto)]
 
+mod accesses;
 mod body;
 mod fault;
+mod frames;
 mod header;
 mod place;
 mod starts;
+mod steps;
 #[cfg(test)]
 mod tests;
 mod trace;
+mod votes;
 mod walk;
 
+pub use accesses::Accesses;
 pub use fault::{CheckFault, Code, Fault};
+pub use frames::Frames;
+pub use steps::{Step, Steps};
 pub use trace::Trace;
+pub use votes::Votes;

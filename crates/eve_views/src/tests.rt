@@ -1,6 +1,6 @@
 //! The worked cases of form.
 
-use crate::{CheckFault, Code, Fault, Trace};
+use crate::{CheckFault, Code, Fault, Step, Trace};
 use std::alloc::{AllocError, Global};
 use std::test::Fail;
 
@@ -66,6 +66,79 @@ fn reads_the_stored_run(rt: HostRuntime) -> Result<(), Fail> {
     let trace = Trace::read(rt.alloc(), &bytes)?;
     assert_eq!(rt; trace.frame_count(), 9);
     assert_eq!(rt; (trace.head().customers, trace.head().batches), (1, 1));
+    Ok(())
+}
+
+/// Each part of the stored run with its reply sent, and where it stands.
+#[test]
+fn lends_the_parts(rt: HostRuntime) -> Result<(), Fail> {
+    let sent = b"\x30\0\0\0\x1a\0\0\0\x07\0\0\0\0\0\0\0\x01\0\0\0\0\x01\0\0\0\0\0\0\0\0\0";
+    let mut frames = [b"".as_slice(); 10];
+    frames[..8].copy_from_slice(&FRAMES[..8]);
+    frames[8] = sent;
+    frames[9] = FRAMES[8];
+    let bytes = traced(rt.alloc(), 1, &frames)?;
+    let trace = Trace::read(rt.alloc(), &bytes)?;
+    assert_eq!(rt; trace.sent_count(), 1);
+    if trace.head().customers == 1 && trace.head().batches == 1 && trace.head().verifiers == 1 {
+        let customer = trace.customer(0);
+        assert_eq!(rt;
+            (customer.offset(), customer.name()),
+            (32, b"ann".as_slice())
+        );
+        let batch = trace.batch(1);
+        assert_eq!(rt; (batch.offset(), batch.len()), (57, 1));
+        let votes = trace.votes(0);
+        assert_eq!(rt; votes.len(), 1);
+        if votes.len() == 1 {
+            assert_eq!(rt; (votes.get(0).offset(), votes.get(0).seq()), (251, 1));
+        }
+        let reply = trace.sent(0);
+        assert_eq!(rt; (reply.offset(), reply.client()), (297, 7));
+    }
+    for (offset, section) in [
+        (94, None),
+        (95, Some(0)),
+        (160, Some(0)),
+        (244, Some(0)),
+        (245, None),
+        (333, None),
+    ] {
+        assert_eq!(rt; trace.section_of(offset), section, "{offset}");
+    }
+    Ok(())
+}
+
+/// The steps of the stored run's replica, and all frames.
+#[test]
+fn walks_steps_and_frames(rt: HostRuntime) -> Result<(), Fail> {
+    let bytes = traced(rt.alloc(), 1, &FRAMES)?;
+    let trace = Trace::read(rt.alloc(), &bytes)?;
+    let mut steps = trace.section(0);
+    let Some(Step::Attempt(attempt, accesses)) = steps.next() else {
+        panic!(rt; "an attempt");
+    };
+    assert_eq!(rt;
+        (attempt.offset(), attempt.seq(), accesses.len()),
+        (101, 1, 1)
+    );
+    if accesses.len() == 1 {
+        assert_eq!(rt;
+            (accesses.get(0).offset(), accesses.get(0).index()),
+            (160, 0)
+        );
+    }
+    let Some(Step::Commit(commit)) = steps.next() else {
+        panic!(rt; "a commit");
+    };
+    assert_eq!(rt; (commit.offset(), commit.seq()), (200, 1));
+    assert!(rt; steps.next().is_none());
+    let mut frames = trace.frames();
+    for frame in FRAMES {
+        let next = frames.next().expect(&rt, "a frame");
+        assert_eq!(rt; next.bytes(), frame);
+    }
+    assert!(rt; frames.next().is_none());
     Ok(())
 }
 

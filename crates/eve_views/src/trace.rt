@@ -1,19 +1,25 @@
 //! A trace that was read.
 
-ghost use Rattle.std.specs.Prelude.{◌≡◌, ◌≤◌, ◌<◌, ◌+◌, ◌-◌, Some, length, take, drop, slice_get, IfOk, IfErr};
-ghost use Rattle.eve_grammar.specs.Frames.{Frame};
-ghost use Rattle.eve_grammar.specs.Spelling.{frame_text, frames_text};
-ghost use Rattle.eve_grammar.specs.Trace.{Trace as TraceValue};
-ghost use Rattle.eve_grammar.specs.Limits.{Spells};
+ghost use Rattle.std.specs.Prelude.{◌≡◌, ℕ, ◌≤◌, IsTrue, IsFalse, ◌<◌, ◌+◌, ◌-◌, Some, IfSome, IfNone, length, take, drop, slice_get, IfOk, IfErr};
+ghost use Rattle.eve_grammar.specs.Frames.{Frame, frames_of};
+ghost use Rattle.eve_grammar.specs.Spelling.{frame_text, frames_text, frames_at, section_start, customers_at, batches_at, steps_at, votes_at, sent_at};
+ghost use Rattle.eve_grammar.specs.Trace.{Trace as TraceValue, head_of};
+ghost use Rattle.eve_grammar.specs.Limits.{HasLimits, Spells};
+ghost use Rattle.eve_frames.specs.Views.{customer_in, batch_in, sent_in};
 ghost use Rattle.eve_grammar.specs.Gathering.{trace_of};
 ghost use Rattle.eve_grammar.specs.Bodies.{limits};
 ghost use Rattle.eve_views.specs.Sequence.{Sequence, SpellsFrames};
 ghost use Rattle.eve_views.specs.Form.{IsLeastFormFault, IfFound};
+ghost use Rattle.eve_views.specs.Fronts.{whole, before_section, before_verifier, before_sent};
+ghost use Rattle.eve_views.specs.Parts.{is_in_section};
 
 use crate::fault::{CheckFault, Fault};
+use crate::frames::Frames;
 use crate::header::head_of;
+use crate::steps::Steps;
+use crate::votes::Votes;
 use crate::walk::{Index, index_of};
-use eve_frames::FrameView;
+use eve_frames::{BatchView, CustomerView, FrameView, SentView};
 use eve_grammar::Head;
 use std::alloc::Global;
 use std::marker::Model;
@@ -110,6 +116,144 @@ impl<'a> Trace<'a> {
             offset: from as u64,
             bytes: part(bytes, from, to),
         }
+    }
+
+    /// All frames, one behind the other.
+    pub fn frames(&self) -> Frames<'_, 'a>
+        ensures { result ≡ frames_at (whole self.now) }
+    {
+        Frames::new(self)
+    }
+
+    /// What is true of each trace that was read: it is within the limits, and has this header and these frames.
+    pub fn is_whole(&self)
+        ensures limits { HasLimits (whole self.now) }
+        ensures head { head_of (whole self.now) ≡ self.now.head }
+        ensures frames { frames_of (whole self.now) ≡ self.now.frames }
+    {
+        let _head = self.head;
+    }
+
+    /// A customer, by number from 0.
+    pub fn customer(&self, i: u32) -> CustomerView<'a>
+        requires { i < length (whole self.now).customers }
+        ensures { slice_get (customers_at (whole self.now)) i ≡ Some (result.offset, customer_in result.bytes.now) }
+    {
+        self.is_whole();
+        let frame = self.frame(i as usize);
+        CustomerView::new(frame.offset, frame.bytes)
+    }
+
+    /// A batch, by its number from 1.
+    pub fn batch(&self, n: u32) -> BatchView<'a>
+        requires from_one { 1 ≤ n }
+        requires there { n ≤ length (whole self.now).batches }
+        ensures { slice_get (batches_at (whole self.now)) (n - 1) ≡ Some (result.offset, batch_in result.bytes.now) }
+    {
+        self.is_whole();
+        let frame = self.frame(self.head.customers as usize + n as usize - 1);
+        BatchView::new(frame.offset, frame.bytes)
+    }
+
+    /// The number of the frame that begins a section, or of the frame behind the last section.
+    fn section_from(&self, e: u8) -> u32
+        requires { e ≤ length (whole self.now).sections }
+        ensures { result ≡ length (before_section (whole self.now) e) }
+    {
+        self.is_whole();
+        if e < self.head.replicas {
+            self.index.starts.sections[e as usize]
+        } else {
+            self.index.starts.verifiers[0]
+        }
+    }
+
+    /// The number of the frame that begins a verifier's part, or of the frame behind the last.
+    fn verifier_from(&self, v: u8) -> u32
+        requires { v ≤ length (whole self.now).verifiers }
+        ensures { result ≡ length (before_verifier (whole self.now) v) }
+    {
+        self.is_whole();
+        if v < self.head.verifiers {
+            self.index.starts.verifiers[v as usize]
+        } else {
+            self.index.starts.sent
+        }
+    }
+
+    /// The number of the first reply sent, or of the end.
+    fn sent_from(&self) -> u32
+        ensures { result ≡ length (before_sent (whole self.now)) }
+    {
+        self.is_whole();
+        self.index.starts.sent
+    }
+
+    /// What a replica did, by the replica's number from 0, step by step.
+    pub fn section(&self, e: u8) -> Steps<'_, 'a>
+        requires { e < length (whole self.now).sections }
+        ensures { result ≡ steps_at (whole self.now) e }
+    {
+        self.is_whole();
+        let from = self.section_from(e) as usize + 1;
+        let to = self.section_from(e + 1) as usize;
+        Steps::new(self, from, to)
+    }
+
+    /// The byte at which a section begins, or the byte behind the last section.
+    fn section_begins(&self, e: u8) -> u64
+        requires { e ≤ length (whole self.now).sections }
+        ensures { result ≡ section_start (whole self.now) e }
+    {
+        self.is_whole();
+        self.start_of(self.section_from(e) as usize) as u64
+    }
+
+    /// The replica in whose section this byte of the trace lies; a section begins with its replica's own frame.
+    ///
+    /// `None` for the header, customers, batches, votes, replies sent, the end, and what lies behind it.
+    pub fn section_of(&self, offset: u64) -> Option<u8>
+        ensures inside { IfSome result (λ e. (e < length (whole self.now).sections) × IsTrue (is_in_section (whole self.now) e offset)) }
+        ensures outside { IfNone result ((e : ℕ) → e < length (whole self.now).sections → IsFalse (is_in_section (whole self.now) e offset)) }
+    {
+        self.is_whole();
+        let replicas = self.head.replicas;
+        'sections: for e in 0..replicas {
+            if self.section_begins(e) <= offset && offset < self.section_begins(e + 1) {
+                return Some(e);
+            }
+        }
+        None
+    }
+
+    /// The votes of a verifier, by the verifier's number from 0.
+    pub fn votes(&self, v: u8) -> Votes<'_, 'a>
+        requires { v < length (whole self.now).verifiers }
+        ensures { result ≡ votes_at (whole self.now) v }
+    {
+        self.is_whole();
+        let from = self.verifier_from(v) as usize + 1;
+        let to = self.verifier_from(v + 1) as usize;
+        Votes::new(self, from, to)
+    }
+
+    /// How many replies were sent.
+    pub fn sent_count(&self) -> usize
+        ensures { result ≡ length (whole self.now).sent }
+    {
+        self.is_whole();
+        self.frame_count() - 1 - self.sent_from() as usize
+    }
+
+    /// A reply sent, by its place from 0.
+    pub fn sent(&self, i: usize) -> SentView<'a>
+        requires { i < length (whole self.now).sent }
+        ensures { slice_get (sent_at (whole self.now)) i ≡ Some (result.offset, sent_in result.bytes.now) }
+    {
+        self.is_whole();
+        let first = self.frame_count() - 1 - self.sent_count();
+        let frame = self.frame(first + i);
+        SentView::new(frame.offset, frame.bytes)
     }
 }
 

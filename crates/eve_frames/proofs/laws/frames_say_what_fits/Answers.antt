@@ -1,0 +1,14 @@
+use Rattle.eve_frames.proofs.Fitting.{customer_fits, batch_fits, attempt_fits, access_fits, commit_fits, rollback_fits, vote_fits, sent_fits}
+use Rattle.eve_frames.proofs.laws.frames_say_what_fits.Goals as goal
+
+pub returns : goal.returns
+returns c = record {
+  customers = customer_fits;
+  batches = batch_fits;
+  attempts = attempt_fits;
+  accesses = access_fits;
+  commits = commit_fits;
+  rollbacks = rollback_fits;
+  votes = vote_fits;
+  sent = sent_fits;
+}

@@ -1,0 +1,60 @@
+//! Going through the restores of a rollback.
+
+ghost use Rattle.std.specs.Prelude.{◌≡◌, ℕ, IsTrue, List};
+ghost use Rattle.std.specs.Iterator.{YieldsFirstBy, item_count};
+ghost use Rattle.eve_grammar.specs.Trace.{Restore};
+ghost use Rattle.eve_grammar.specs.Reading.{restore_at};
+ghost use Rattle.eve_grammar.specs.Bodies.{list_in, restore};
+ghost use Rattle.eve_frames.specs.Items.{are_there};
+ghost use Rattle.eve_frames.specs.Views.{most_rows};
+
+use eve_grammar::{Restore, restore_at};
+use std::marker::Model;
+
+/// The restores of a rollback that are still to come.
+#[derive(Drop)]
+pub struct Restores<'a> {
+    // how many
+    count: usize,
+    // they stand in front of these
+    bytes: &'a [u8],
+}
+
+impl<'a> Model for Restores<'a> {
+    ghost Value = { List Restore };
+
+    ghost view = { λ it. list_in (restore_at most_rows) it.count it.bytes.now };
+
+    ghost invariant = { λ it. IsTrue (are_there (restore_at most_rows) it.count it.bytes.now) };
+}
+
+impl<'a> Restores<'a> {
+    /// This many restores, which stand in front of the bytes.
+    pub(crate) fn new(count: usize, bytes: &'a [u8]) -> Restores<'a>
+        requires { IsTrue (are_there (restore_at most_rows) count bytes.now) }
+        ensures { result ≡ list_in (restore_at most_rows) count bytes.now }
+    {
+        Restores { count, bytes }
+    }
+}
+
+impl<'a> Iterator for Restores<'a> {
+    type Item = Restore;
+
+    ghost next_gives = { YieldsFirstBy restore (λ rest. rest) };
+
+    ghost remaining = { item_count (λ rest. rest) };
+
+    fn next(&mut self) -> Option<Restore> {
+        let count = self.count;
+        if count == 0 {
+            return None;
+        }
+        let Some((found, rest)) = restore_at(8192, self.bytes) else {
+            unreachable!();
+        };
+        self.count = count - 1;
+        self.bytes = rest;
+        Some(found)
+    }
+}

@@ -1,0 +1,58 @@
+//! The access frames of an attempt.
+
+ghost use Rattle.std.specs.Prelude.{◌≡◌, ◌<◌, ◌-◌, length, slice_get, Some};
+ghost use Rattle.eve_frames.specs.Views.{access_in};
+ghost use Rattle.eve_views.specs.Parts.{accesses_between, AreAccesses};
+
+use crate::trace::Trace;
+use eve_frames::AccessView;
+use std::marker::Model;
+
+/// The access frames of an attempt, where they stand.
+///
+/// Contracts see them as a list of accesses, each with its byte offset.
+#[derive(Drop)]
+pub struct Accesses<'t, 'a> {
+    trace: &'t Trace<'a>,
+    from: usize,
+    to: usize,
+}
+
+impl<'t, 'a> Model for Accesses<'t, 'a> {
+    ghost use Rattle.std.specs.Prelude.{ℕ, ◌-◌, List};
+    ghost use Rattle.eve_grammar.specs.Trace.{Access};
+    ghost use Rattle.eve_views.specs.Parts.{accesses_between, AreAccesses};
+
+    ghost Value = { List (ℕ × Access) };
+
+    ghost view = { λ x. accesses_between x.trace.now.frames x.from (x.to - x.from) };
+
+    ghost invariant = { λ x. AreAccesses x.trace.now.frames x.from x.to };
+}
+
+impl<'t, 'a> Accesses<'t, 'a> {
+    /// The frames between two numbers.
+    pub(crate) fn new(trace: &'t Trace<'a>, from: usize, to: usize) -> Accesses<'t, 'a>
+        requires { AreAccesses trace.now.frames from to }
+        ensures { result ≡ accesses_between trace.now.frames from (to - from) }
+    {
+        Accesses { trace, from, to }
+    }
+
+    /// How many there are: as many as the attempt's batch has requests.
+    pub fn len(&self) -> usize
+        ensures { result ≡ length self.now }
+    {
+        self.to - self.from
+    }
+
+    /// An access frame, by its place from 0.
+    pub fn get(&self, i: usize) -> AccessView<'a>
+        requires { i < length self.now }
+        ensures { slice_get self.now i ≡ Some (result.offset, access_in result.bytes.now) }
+    {
+        prove!(self.from <= self.to);
+        let frame = self.trace.frame(self.from + i);
+        AccessView::new(frame.offset, frame.bytes)
+    }
+}

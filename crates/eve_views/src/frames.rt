@@ -1,0 +1,54 @@
+//! The frames of a trace, one behind the other.
+
+ghost use Rattle.std.specs.Prelude.{◌≡◌, ℕ, [], ◌∷◌, drop, IfSome, IfNone};
+ghost use Rattle.eve_grammar.specs.Frames.{Frame};
+ghost use Rattle.eve_grammar.specs.Spelling.{frames_at, frame_text};
+ghost use Rattle.eve_views.specs.Fronts.{whole};
+
+use crate::trace::Trace;
+use eve_frames::FrameView;
+use std::marker::Model;
+
+/// The frames of a trace that are still to come.
+///
+/// Contracts see them as a list of frames, each with its byte offset.
+#[derive(Drop)]
+pub struct Frames<'t, 'a> {
+    trace: &'t Trace<'a>,
+    at: usize,
+}
+
+impl<'t, 'a> Model for Frames<'t, 'a> {
+    ghost use Rattle.std.specs.Prelude.{ℕ, List, ◌≤◌, length};
+    ghost use Rattle.eve_grammar.specs.Frames.{Frame};
+    ghost use Rattle.eve_views.specs.Parts.{frames_from};
+
+    ghost Value = { List (ℕ × Frame) };
+
+    ghost view = { λ x. frames_from x.trace.now.frames x.at };
+
+    ghost invariant = { λ x. x.at ≤ length x.trace.now.frames };
+}
+
+impl<'t, 'a> Frames<'t, 'a> {
+    /// From the first.
+    pub(crate) fn new(trace: &'t Trace<'a>) -> Frames<'t, 'a>
+        ensures { result ≡ frames_at (whole trace.now) }
+    {
+        trace.is_whole();
+        Frames { trace, at: 0 }
+    }
+
+    /// The next frame.
+    pub fn next(&mut self) -> Option<FrameView<'a>>
+        ensures none { IfNone result (self.old ≡ []) }
+        ensures some { IfSome result (λ v. (f : Frame) × (self.old ≡ (v.offset, f) ∷ self.new) × (v.bytes.now ≡ frame_text f)) }
+    {
+        if self.at == self.trace.frame_count() {
+            return None;
+        }
+        let frame = self.trace.frame(self.at);
+        self.at += 1;
+        Some(frame)
+    }
+}

@@ -1,0 +1,58 @@
+//! The votes of a verifier.
+
+ghost use Rattle.std.specs.Prelude.{◌≡◌, ◌<◌, ◌-◌, length, slice_get, Some};
+ghost use Rattle.eve_frames.specs.Views.{vote_in};
+ghost use Rattle.eve_views.specs.Parts.{votes_between, AreVotes};
+
+use crate::trace::Trace;
+use eve_frames::VoteView;
+use std::marker::Model;
+
+/// The votes of a verifier, where they stand.
+///
+/// Contracts see them as a list of votes, each with its byte offset.
+#[derive(Drop)]
+pub struct Votes<'t, 'a> {
+    trace: &'t Trace<'a>,
+    from: usize,
+    to: usize,
+}
+
+impl<'t, 'a> Model for Votes<'t, 'a> {
+    ghost use Rattle.std.specs.Prelude.{ℕ, ◌-◌, List};
+    ghost use Rattle.eve_grammar.specs.Trace.{Vote};
+    ghost use Rattle.eve_views.specs.Parts.{votes_between, AreVotes};
+
+    ghost Value = { List (ℕ × Vote) };
+
+    ghost view = { λ x. votes_between x.trace.now.frames x.from (x.to - x.from) };
+
+    ghost invariant = { λ x. AreVotes x.trace.now.frames x.from x.to };
+}
+
+impl<'t, 'a> Votes<'t, 'a> {
+    /// The frames between two numbers.
+    pub(crate) fn new(trace: &'t Trace<'a>, from: usize, to: usize) -> Votes<'t, 'a>
+        requires { AreVotes trace.now.frames from to }
+        ensures { result ≡ votes_between trace.now.frames from (to - from) }
+    {
+        Votes { trace, from, to }
+    }
+
+    /// How many there are.
+    pub fn len(&self) -> usize
+        ensures { result ≡ length self.now }
+    {
+        self.to - self.from
+    }
+
+    /// A vote, by its place from 0.
+    pub fn get(&self, i: usize) -> VoteView<'a>
+        requires { i < length self.now }
+        ensures { slice_get self.now i ≡ Some (result.offset, vote_in result.bytes.now) }
+    {
+        prove!(self.from <= self.to);
+        let frame = self.trace.frame(self.from + i);
+        VoteView::new(frame.offset, frame.bytes)
+    }
+}
