@@ -13,4 +13,5 @@ pub mod RestFrames
 pub mod Rests
 pub mod Gatherings
 pub mod Runs
+pub mod HeaderParts
 pub mod OneTrace

@@ -1,20 +1,20 @@
 -- Bytes are the spelling of one trace at most.
 use Rattle.std.proofs.Common.{◌≡◌, ℕ, ◌^◌, ◌<◌, Bool, true, false, List, [], ◌∷◌, ◌++◌, length, take, drop, Some, refl, sym, ap, subst, ◌∙◌, append_assoc, arith}
-use Rattle.std.specs.Prelude.{IsTrue, codes, slice_index}
+use Rattle.std.specs.Prelude.{IsTrue, slice_index}
 use Rattle.std.proofs.lemmas.Bool.{lt-ltb}
-use Rattle.std.proofs.lemmas.List.{take_at, drop_at, drop-drop}
+use Rattle.std.proofs.lemmas.List.{take_at, drop_at}
 use Rattle.byteorder.specs.Endian.{big_bytes}
-use Rattle.byteorder.specs.Numbers.{length-bytes_high_first}
 use Rattle.eve_grammar.specs.Trace.{Trace, Head, head_of}
 use Rattle.eve_grammar.specs.Frames.{Frame, kind_of, Place, start, next, frames_of}
-use Rattle.eve_grammar.specs.Spelling.{body_text, frame_text, frames_text, head_text, length_of, spelling}
+use Rattle.eve_grammar.specs.Spelling.{body_text, frame_text, frames_text, length_of, spelling}
 use Rattle.eve_grammar.specs.Limits.{is_head, FitsAt, Spells}
 use Rattle.eve_grammar.specs.Following.{Follow, after, IsRun}
 use Rattle.eve_grammar.specs.Reading.{number_at, body_of, header_of}
 use Rattle.eve_grammar.specs.Gathering.{trace_of}
 use Rattle.eve_grammar.proofs.Codec.{some_is}
 use Rattle.eve_grammar.proofs.FieldCodecs.{Codec-number4}
-use Rattle.eve_grammar.proofs.FrameLaws.{limits_text, Exact-header, head_text_parts, body_of-again}
+use Rattle.eve_grammar.proofs.FrameLaws.{limits_text, Exact-header, body_of-again}
+use Rattle.eve_grammar.proofs.HeaderParts.{in_parts, header_parts, length-limits_text, behind_magic, behind_total}
 use Rattle.eve_grammar.proofs.Standing.{not_ended}
 use Rattle.eve_grammar.proofs.Gatherings.{trace_of-frames_of}
 use Rattle.eve_grammar.proofs.Runs.{run_of_trace}
@@ -83,25 +83,6 @@ same_frames h p (f ∷ fs) (g ∷ gs) right one other one_ends other_ends e =
 -- ---- the header
 
 -- a header in three parts, and what stands behind it
-abbrev in_parts : Head → ℕ → List ℕ → List ℕ
-in_parts h total rest = codes "EVESBK" ++ (limits_text h ++ (big_bytes 8 total ++ rest))
-
-parts_of : (h : Head) (total : ℕ) (rest : List ℕ) → head_text h total ++ rest ≡ in_parts h total rest
-parts_of h total rest =
-    ap (λ (b : List ℕ). b ++ rest) (head_text_parts h total) ∙ append_assoc (codes "EVESBK") (limits_text h ++ big_bytes 8 total) rest
-    ∙ ap (λ (b : List ℕ). codes "EVESBK" ++ b) (append_assoc (limits_text h) (big_bytes 8 total) rest)
-
-behind_magic : (h : Head) (total : ℕ) (rest : List ℕ) → drop 6 (in_parts h total rest) ≡ limits_text h ++ (big_bytes 8 total ++ rest)
-behind_magic h total rest = drop_at (codes "EVESBK") (limits_text h ++ (big_bytes 8 total ++ rest)) 6 refl
-
-length-limits_text : (h : Head) → length (limits_text h) ≡ 18
-length-limits_text h = refl
-
-behind_header : (h : Head) (total : ℕ) (rest : List ℕ) → drop 32 (in_parts h total rest) ≡ rest
-behind_header h total rest =
-    sym (drop-drop 26 6 (in_parts h total rest)) ∙ ap (drop 26) (behind_magic h total rest) ∙ sym (drop-drop 8 18 (limits_text h ++ (big_bytes 8 total ++ rest)))
-    ∙ ap (drop 8) (drop_at (limits_text h) (big_bytes 8 total ++ rest) 18 (length-limits_text h)) ∙ drop_at (big_bytes 8 total) rest 8 (length-bytes_high_first 8 total)
-
 same_head : (h k : Head) (n m : ℕ) (rest more : List ℕ) → IsTrue (is_head h) → IsTrue (is_head k) → in_parts h n rest ≡ in_parts k m more → h ≡ k
 same_head h k n m rest more h_right k_right e =
     let texts : limits_text h ≡ limits_text k =
@@ -113,14 +94,14 @@ same_head h k n m rest more h_right k_right e =
 
 spelled_parts : (t : Trace) → spelling t ≡ in_parts (head_of t) (length_of t) (frames_text (frames_of t))
 unfolding spelling
-spelled_parts t = parts_of (head_of t) (length_of t) (frames_text (frames_of t))
+spelled_parts t = header_parts (head_of t) (length_of t) (frames_text (frames_of t))
 
 pub one_trace : (bytes : List ℕ) (t u : Trace) → Spells bytes t → Spells bytes u → t ≡ u
 one_trace bytes t u one other =
     let e = sym (spelled_parts t) ∙ sym one.spelled ∙ other.spelled ∙ spelled_parts u in
     let heads : head_of t ≡ head_of u = same_head (head_of t) (head_of u) (length_of t) (length_of u) (frames_text (frames_of t)) (frames_text (frames_of u)) one.limits.head other.limits.head e in
     let texts : frames_text (frames_of t) ≡ frames_text (frames_of u) =
-    sym (behind_header (head_of t) (length_of t) (frames_text (frames_of t))) ∙ ap (drop 32) e ∙ behind_header (head_of u) (length_of u) (frames_text (frames_of u)) in
+    sym (behind_total (head_of t) (length_of t) (frames_text (frames_of t))) ∙ ap (drop 32) e ∙ behind_total (head_of u) (length_of u) (frames_text (frames_of u)) in
     let first : IsRun (head_of t) (frames_of t) = run_of_trace t one.limits one.short in
     let second : IsRun (head_of t) (frames_of u) = subst (λ (h : Head). IsRun h (frames_of u)) (sym heads) (run_of_trace u other.limits other.short) in
     let frames : frames_of t ≡ frames_of u = same_frames (head_of t) start (frames_of t) (frames_of u) one.limits.head first.follow second.follow first.ended second.ended texts in

@@ -1,12 +1,12 @@
 -- The header, byte by byte.
-use Rattle.std.proofs.Common.{◌≡◌, ℕ, ◌^◌, ◌≤◌, true, leb, eqb, List, [], ◌∷◌, ◌++◌, length, take, drop, Some, refl, sym, ap, ◌∙◌, append_assoc, arith}
+use Rattle.std.proofs.Common.{◌≡◌, ℕ, ◌^◌, ◌≤◌, true, leb, eqb, List, [], ◌∷◌, ◌++◌, length, take, drop, Some, refl, sym, ap, ◌∙◌, arith}
 use Rattle.std.specs.Prelude.{codes, nat_eq}
 use Rattle.std.specs.Cmp.Lexicographic.{pointwise}
 use Rattle.std.proofs.lemmas.Bool.{le-leb, leb-true, eq-eqb, eqb-true, and_parts, and_from}
 use Rattle.std.proofs.lemmas.Nat.{be_bytes_8}
-use Rattle.std.proofs.lemmas.List.{take_at, drop_at, take-append-drop, append-nil, length-append, length-take, length-drop, drop-drop}
+use Rattle.std.proofs.lemmas.List.{take_at, take-append-drop, append-nil, length-append, length-take, length-drop, drop-drop}
 use Rattle.byteorder.specs.Endian.{big_bytes, big_number}
-use Rattle.byteorder.specs.Numbers.{big_number-reads_back, big_from-take, length-bytes_high_first}
+use Rattle.byteorder.specs.Numbers.{big_number-reads_back, big_from-take}
 use Rattle.eve_grammar.specs.Trace.{Head}
 use Rattle.eve_grammar.specs.Spelling.{frames_text, head_text}
 use Rattle.eve_grammar.specs.Reading.{header_of}
@@ -14,32 +14,10 @@ use Rattle.eve_views.specs.Sequence.{Sequence, SpellsFrames}
 use Rattle.eve_views.specs.Form.{is_sized, has_magic, said_by, SaysHead}
 use Rattle.eve_views.specs.Header.{IsHeader}
 use Rattle.eve_grammar.proofs.Codec.{IsBytes, IsBytes-drop, IsBytes-take}
-use Rattle.eve_grammar.proofs.FrameLaws.{limits_text, Exact-header, head_text_parts}
+use Rattle.eve_grammar.proofs.FrameLaws.{limits_text, Exact-header}
+use Rattle.eve_grammar.proofs.HeaderParts.{in_parts, header_parts, length-limits_text, length-head_text, behind_magic, behind_limits, behind_total}
 
 -- ---- its parts
-
-length-limits_text : (h : Head) → length (limits_text h) ≡ 18
-length-limits_text h = refl
-
--- a header in three parts
-abbrev pub in_parts : Head → ℕ → List ℕ → List ℕ
-in_parts h total rest = codes "EVESBK" ++ (limits_text h ++ (big_bytes 8 total ++ rest))
-
-header_parts : (h : Head) (total : ℕ) (rest : List ℕ) → head_text h total ++ rest ≡ in_parts h total rest
-header_parts h total rest =
-    ap (λ (b : List ℕ). b ++ rest) (head_text_parts h total) ∙ append_assoc (codes "EVESBK") (limits_text h ++ big_bytes 8 total) rest
-    ∙ ap (λ (b : List ℕ). codes "EVESBK" ++ b) (append_assoc (limits_text h) (big_bytes 8 total) rest)
-
-behind_magic : (h : Head) (total : ℕ) (rest : List ℕ) → drop 6 (in_parts h total rest) ≡ limits_text h ++ (big_bytes 8 total ++ rest)
-behind_magic h total rest = drop_at (codes "EVESBK") (limits_text h ++ (big_bytes 8 total ++ rest)) 6 refl
-
-behind_limits : (h : Head) (total : ℕ) (rest : List ℕ) → drop 24 (in_parts h total rest) ≡ big_bytes 8 total ++ rest
-behind_limits h total rest =
-    sym (drop-drop 18 6 (in_parts h total rest)) ∙ ap (drop 18) (behind_magic h total rest) ∙ drop_at (limits_text h) (big_bytes 8 total ++ rest) 18 (length-limits_text h)
-
-behind_total : (h : Head) (total : ℕ) (rest : List ℕ) → drop 32 (in_parts h total rest) ≡ rest
-behind_total h total rest =
-    sym (drop-drop 8 24 (in_parts h total rest)) ∙ ap (drop 8) (behind_limits h total rest) ∙ drop_at (big_bytes 8 total) rest 8 (length-bytes_high_first 8 total)
 
 said_in_parts : (h : Head) (total : ℕ) (rest : List ℕ) → said_by (in_parts h total rest) ≡ limits_text h
 said_in_parts h total rest = ap (take 18) (behind_magic h total rest) ∙ take_at (limits_text h) (big_bytes 8 total ++ rest) 18 (length-limits_text h)
@@ -47,10 +25,6 @@ said_in_parts h total rest = ap (take 18) (behind_magic h total rest) ∙ take_a
 said_by_text : (h : Head) → said_by (head_text h 0) ≡ limits_text h
 said_by_text h =
     ap said_by (sym (append-nil (head_text h 0)) ∙ header_parts h 0 []) ∙ said_in_parts h 0 []
-
-pub length-head_text : (h : Head) (total : ℕ) → length (head_text h total) ≡ 32
-length-head_text h total =
-    ap length (head_text_parts h total) ∙ omega (arith, length-append (codes "EVESBK") (limits_text h ++ big_bytes 8 total), length-append (limits_text h) (big_bytes 8 total), length-limits_text h, length-bytes_high_first 8 total)
 
 -- ---- what it says
 

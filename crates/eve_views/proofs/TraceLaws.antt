@@ -16,7 +16,8 @@ use Rattle.eve_views.specs.Indexing.{AreStarts, IsIndex}
 use Rattle.eve_grammar.proofs.Codec.{IsBytes}
 use Rattle.eve_views.proofs.FrameLaws.{length-frame_text}
 use Rattle.eve_views.proofs.WalkLaws.{run_read}
-use Rattle.eve_views.proofs.HeaderLaws.{says_head, header_spelled, Sized-from, length-head_text}
+use Rattle.eve_views.proofs.HeaderLaws.{says_head, header_spelled, Sized-from}
+use Rattle.eve_grammar.proofs.HeaderParts.{length-head_text}
 use Rattle.eve_views.proofs.FormLaws.{refused_behind}
 
 abbrev pub read_of : Head → List ℕ → Sequence

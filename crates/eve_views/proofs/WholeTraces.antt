@@ -11,7 +11,7 @@ use Rattle.eve_views.specs.declared.fault.CheckFault.{CheckFault}
 use Rattle.eve_views.specs.declared.fault.CheckFault.TheVariants.{Found, Memory}
 use Rattle.eve_views.specs.Form.{IfFound}
 use Rattle.eve_views.specs.Sequence.{Sequence, SpellsFrames}
-use Rattle.eve_views.proofs.HeaderLaws.{length-head_text}
+use Rattle.eve_grammar.proofs.HeaderParts.{length-head_text}
 
 -- a head and frames, as bytes of this length
 abbrev text_of : Head → List Frame → ℕ → List ℕ

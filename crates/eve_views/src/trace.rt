@@ -9,7 +9,8 @@ ghost use Rattle.eve_frames.specs.Views.{customer_in, batch_in, sent_in};
 ghost use Rattle.eve_grammar.specs.Gathering.{trace_of};
 ghost use Rattle.eve_grammar.specs.Bodies.{limits};
 ghost use Rattle.eve_views.specs.Sequence.{Sequence, SpellsFrames};
-ghost use Rattle.eve_views.specs.Form.{IsLeastFormFault, IfFound};
+ghost use Rattle.eve_views.specs.Form.{IsFormFault, IsLeastFormFault, IfFound};
+ghost use Rattle.eve_views.specs.declared.fault.Fault.{Fault as FaultValue};
 ghost use Rattle.eve_views.specs.Fronts.{whole, before_section, before_verifier, before_sent};
 ghost use Rattle.eve_views.specs.Parts.{is_in_section};
 
@@ -56,6 +57,7 @@ impl<'a> Trace<'a> {
     pub fn read(alloc: Global, bytes: &'a [u8]) -> Result<Trace<'a>, CheckFault>
         ensures spelled { IfOk result (SpellsFrames bytes.now) }
         ensures trace { IfOk result (λ t. Spells bytes.now (trace_of t.head t.frames)) }
+        ensures faultless { IfOk result (λ _. (f : FaultValue) → ¬ IsFormFault bytes.now f) }
         ensures least { IfErr result (λ e. IfFound e (IsLeastFormFault bytes.now)) }
         ensures none { IfErr result (λ e. IfFound e (λ _. (t : Sequence) → ¬ SpellsFrames bytes.now t)) }
         ensures no_trace { IfErr result (λ e. IfFound e (λ _. (t : TraceValue) → ¬ Spells bytes.now t)) }

@@ -1,7 +1,7 @@
 use Rattle.std.proofs.Common.{arith}
 use Rattle.eve_grammar.specs.Bodies.{limits}
 use Rattle.eve_views.proofs.HeaderLaws.{says_head}
-use Rattle.eve_views.proofs.FormLaws.{refused_at_header}
+use Rattle.eve_views.proofs.FormLaws.{refused_at_header, refused_behind}
 use Rattle.eve_views.proofs.TraceLaws.{held_of, found_least, found_none, found_within}
 use Rattle.eve_views.proofs.WholeTraces.{spells_trace, no_trace, found_no_trace}
 use Rattle.eve_views.proofs.trace.Trace.read.Goals as goal
@@ -50,3 +50,8 @@ pub returns-in-Err-index_of-clause-no_trace : goal.returns-in-Err-index_of-claus
 returns-in-Err-index_of-clause-no_trace c =
     found_no_trace c.args.bytes.now c.in-Err-index_of.fault
     (found_none c.args.bytes.now (limits c.in-Ok.head) c.in-Err-index_of.fault (λ i. omega (arith, c.type_inv.bytes i)) c.in-Ok.ensures.head c.in-Err-index_of.ensures.fault)
+
+pub returns-in-Ok-index_of-clause-faultless : goal.returns-in-Ok-index_of-clause-faultless
+returns-in-Ok-index_of-clause-faultless c = λ f stands.
+    let held = held_of c.args.bytes.now (limits c.in-Ok.head) c.in-Ok-index_of.index (λ i. omega (arith, c.type_inv.bytes i)) c.in-Ok.ensures.head c.in-Ok-index_of.ensures.found in
+    (refused_behind c.args.bytes.now (limits c.in-Ok.head) f c.in-Ok.ensures.head (λ i. omega (arith, c.type_inv.bytes i)) stands).none _ held.spells
