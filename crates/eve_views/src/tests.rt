@@ -79,23 +79,21 @@ fn lends_the_parts(rt: HostRuntime) -> Result<(), Fail> {
     frames[9] = FRAMES[8];
     let bytes = traced(rt.alloc(), 1, &frames)?;
     let trace = Trace::read(rt.alloc(), &bytes)?;
+    assert_eq!(rt; (trace.customer_count(), trace.batch_count()), (1, 1));
+    assert_eq!(rt; (trace.section_count(), trace.verifier_count()), (1, 1));
     assert_eq!(rt; trace.sent_count(), 1);
-    if trace.head().customers == 1 && trace.head().batches == 1 && trace.head().verifiers == 1 {
-        let customer = trace.customer(0);
-        assert_eq!(rt;
-            (customer.offset(), customer.name()),
-            (32, b"ann".as_slice())
-        );
-        let batch = trace.batch(1);
-        assert_eq!(rt; (batch.offset(), batch.len()), (57, 1));
-        let votes = trace.votes(0);
-        assert_eq!(rt; votes.len(), 1);
-        if votes.len() == 1 {
-            assert_eq!(rt; (votes.get(0).offset(), votes.get(0).seq()), (251, 1));
-        }
-        let reply = trace.sent(0);
-        assert_eq!(rt; (reply.offset(), reply.client()), (297, 7));
-    }
+    let customer = trace.customer(0);
+    assert_eq!(rt;
+        (customer.offset(), customer.name()),
+        (32, b"ann".as_slice())
+    );
+    let batch = trace.batch(1);
+    assert_eq!(rt; (batch.offset(), batch.len()), (57, 1));
+    let votes = trace.votes(0);
+    assert_eq!(rt; votes.len(), 1);
+    assert_eq!(rt; (votes.get(0).offset(), votes.get(0).seq()), (251, 1));
+    let reply = trace.sent(0);
+    assert_eq!(rt; (reply.offset(), reply.client()), (297, 7));
     for (offset, section) in [
         (94, None),
         (95, Some(0)),
@@ -114,6 +112,7 @@ fn lends_the_parts(rt: HostRuntime) -> Result<(), Fail> {
 fn walks_steps_and_frames(rt: HostRuntime) -> Result<(), Fail> {
     let bytes = traced(rt.alloc(), 1, &FRAMES)?;
     let trace = Trace::read(rt.alloc(), &bytes)?;
+    assert_eq!(rt; trace.section_count(), 1);
     let mut steps = trace.section(0);
     let Some(Step::Attempt(attempt, accesses)) = steps.next() else {
         panic!(rt; "an attempt");

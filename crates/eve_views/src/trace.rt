@@ -83,7 +83,8 @@ impl<'a> Trace<'a> {
     pub fn head(&self) -> Head
         ensures { limits result ≡ self.now.head }
     {
-        self.head
+        let head = self.head;
+        head
     }
 
     /// How many frames there are, with the end.
@@ -134,6 +135,38 @@ impl<'a> Trace<'a> {
         ensures frames { frames_of (whole self.now) ≡ self.now.frames }
     {
         let _head = self.head;
+    }
+
+    /// How many customers there are.
+    pub fn customer_count(&self) -> u32
+        ensures { result ≡ length (whole self.now).customers }
+    {
+        self.is_whole();
+        self.head.customers
+    }
+
+    /// How many batches there are.
+    pub fn batch_count(&self) -> u32
+        ensures { result ≡ length (whole self.now).batches }
+    {
+        self.is_whole();
+        self.head.batches
+    }
+
+    /// How many replicas there are, each with a section.
+    pub fn section_count(&self) -> u8
+        ensures { result ≡ length (whole self.now).sections }
+    {
+        self.is_whole();
+        self.head.replicas
+    }
+
+    /// How many verifiers there are.
+    pub fn verifier_count(&self) -> u8
+        ensures { result ≡ length (whole self.now).verifiers }
+    {
+        self.is_whole();
+        self.head.verifiers
     }
 
     /// A customer, by number from 0.

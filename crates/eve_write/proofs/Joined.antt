@@ -1,0 +1,118 @@
+-- What several writes do together.
+use Rattle.std.proofs.Common.{◌≡◌, ℕ, ◌+◌, ◌<◌, List, [], ◌∷◌, ◌++◌, Option, length, get_or, take, drop, refl, sym, subst, ◌∙◌, ap, append_assoc, append-nil, Result, Ok, Err, Some, true, slice_get, zero, suc, map}
+use Rattle.std.specs.Borrow.{Bor}
+use Rattle.std.specs.List.{flat_map, list_all}
+use Rattle.std.proofs.lemmas.List.{drop_more, take_more, take-append-drop}
+use Rattle.std.proofs.lemmas.Bool.{false≢true}
+use Rattle.std.specs.Result.{IsErr}
+use Rattle.std.proofs.lemmas.List.Folds.{flat_map-map}
+use Rattle.std.proofs.lemmas.List.Concat.{flat_map-append}
+use Rattle.std.proofs.KnownBytes.{Appends-trans}
+use Rattle.eve_streams.specs.Failures.{after_failure}
+use Rattle.eve_streams.proofs.Joining.{AppendsFront-after, AppendsFront-more}
+use Rattle.eve_write.specs.Writing.{Wrote, Stopped, Writes, joined}
+
+-- xs, and then ys
+pub Wrote-then : {S : Type 0} {written : S → Option (List ℕ)} {failures : S → ℕ} {a b c : S} {xs ys : List ℕ}
+    → Wrote written failures a b xs → Wrote written failures b c ys → Wrote written failures a c (xs ++ ys)
+Wrote-then {written = written} {a = a} {b = b} {c = c} {xs = xs} {ys = ys} one two = record {
+  sent = Appends-trans (written a) (written b) (written c) xs ys one.sent two.sent;
+  fine = two.fine ∙ one.fine;
+}
+
+-- all of xs, and then a front of ys
+pub Stopped-later : {S : Type 0} {written : S → Option (List ℕ)} {failures : S → ℕ} {a b c : S} {xs ys : List ℕ}
+    → Wrote written failures a b xs → Stopped written failures b c ys → Stopped written failures a c (xs ++ ys)
+Stopped-later {written = written} {a = a} {b = b} {c = c} {xs = xs} {ys = ys} one two = record {
+  front = AppendsFront-after (written a) (written b) (written c) xs ys one.sent two.front;
+  counted = two.counted ∙ ap after_failure one.fine;
+}
+
+-- a front of xs is one of xs and what follows
+pub Stopped-before : {S : Type 0} {written : S → Option (List ℕ)} {failures : S → ℕ} {a b : S} {xs : List ℕ} (ys : List ℕ)
+    → Stopped written failures a b xs → Stopped written failures a b (xs ++ ys)
+Stopped-before {written = written} {a = a} {b = b} {xs = xs} ys one = record {
+  front = AppendsFront-more (written a) (written b) xs ys one.front;
+  counted = one.counted;
+}
+
+-- for functions that write several texts, one after the other
+pub ruleset writes = (Wrote-then, Stopped-later, Stopped-before)
+
+-- a list is what stands before a place, the item there, and what follows
+flat_map-split : {X : Type 0} (f : X → List ℕ) (xs : List X) (i : ℕ) (x : X) → i < length xs → x ≡ get_or xs i x
+    → (flat_map f (take i xs) ++ f x) ++ flat_map f (drop (i + 1) xs) ≡ flat_map f xs
+flat_map-split f xs i x within is =
+    let front = flat_map f (take i xs) in
+    let rest : drop i xs ≡ x ∷ drop (i + 1) xs = drop_more xs i x within ∙ ap (λ y. y ∷ drop (i + 1) xs) (sym is) in
+    let parts : flat_map f (take i xs ++ drop i xs) ≡ front ++ flat_map f (drop i xs) = flat_map-append f (take i xs) (drop i xs) in
+    append_assoc front (f x) (flat_map f (drop (i + 1) xs)) ∙ ap (λ ys. front ++ flat_map f ys) (sym rest) ∙ sym parts ∙ ap (flat_map f) (take-append-drop i xs)
+
+-- all items before a place, and then a front of the one there
+pub Stopped-more : {S X : Type 0} {written : S → Option (List ℕ)} {failures : S → ℕ} {a b c : S} (f : X → List ℕ) (xs : List X) (i : ℕ) (x : X)
+    → i < length xs → x ≡ get_or xs i x → Wrote written failures a b (flat_map f (take i xs)) → Stopped written failures b c (f x) → Stopped written failures a c (flat_map f xs)
+Stopped-more {written = written} {failures = failures} {a = a} {c = c} f xs i x within is one two =
+    subst (Stopped written failures a c) (flat_map-split f xs i x within is) (Stopped-before (flat_map f (drop (i + 1) xs)) (Stopped-later one two))
+
+-- the last text is not followed by nothing
+pub joined_is : (texts : List (Bor (List ℕ))) → joined texts ≡ flat_map (λ x. x.now) texts
+joined_is [] = refl
+joined_is (x ∷ []) = sym (append-nil x.now)
+joined_is (x ∷ y ∷ ys) = ap (λ l. x.now ++ l) (joined_is (y ∷ ys))
+
+-- what stopped answers a fault
+pub Writes-at_err : {S A E : Type 0} (written : S → Option (List ℕ)) (failures : S → ℕ) (old new : S) (text : List ℕ) (result : Result A E)
+    → IsErr result → Stopped written failures old new text → Writes written failures old new result text
+Writes-at_err written failures old new text (Ok x) is_err stopped = absurd (false≢true is_err)
+Writes-at_err written failures old new text (Err e) is_err stopped = stopped
+
+-- xs, and then what the last call writes
+pub Writes-then : {S A E : Type 0} (written : S → Option (List ℕ)) (failures : S → ℕ) (a b c : S) (xs ys : List ℕ) (result : Result A E)
+    → Wrote written failures a b xs → Writes written failures b c result ys → Writes written failures a c result (xs ++ ys)
+Writes-then written failures a b c xs ys (Ok x) one two = Wrote-then one two
+Writes-then written failures a b c xs ys (Err e) one two = Stopped-later one two
+
+-- ---- equal texts
+
+-- equal texts, and equal ones behind them
+pub app : {a b c d : List ℕ} → a ≡ b → c ≡ d → (a ++ c) ≡ (b ++ d)
+app {b = b} {c = c} front rest = ap (λ x. x ++ c) front ∙ ap (λ x. b ++ x) rest
+
+-- equal texts, and the same behind them
+pub onto : (t : List ℕ) {a b : List ℕ} → a ≡ b → (a ++ t) ≡ (b ++ t)
+onto t front = ap (λ x. x ++ t) front
+
+-- equal texts behind the same byte
+pub led : (byte : ℕ) {a b : List ℕ} → a ≡ b → (byte ∷ a) ≡ (byte ∷ b)
+led byte rest = ap (λ x. byte ∷ x) rest
+
+-- ---- lists of items
+
+-- each item fits where every one does
+pub all_fit : {X : Type 0} (xs : List X) → list_all (λ _. true) xs ≡ true
+all_fit [] = refl
+all_fit (x ∷ xs) = all_fit xs
+
+-- one item more is written
+pub Wrote-more : {S X : Type 0} {written : S → Option (List ℕ)} {failures : S → ℕ} {a b c : S} (f : X → List ℕ) (xs : List X) (i : ℕ) (x : X)
+    → i < length xs → x ≡ get_or xs i x → Wrote written failures a b (flat_map f (take i xs)) → Wrote written failures b c (f x) → Wrote written failures a c (flat_map f (take (i + 1) xs))
+Wrote-more {written = written} {failures = failures} {a = a} {c = c} f xs i x within is one two =
+    let more : take (i + 1) xs ≡ take i xs ++ x ∷ [] = take_more xs i x within ∙ ap (λ y. take i xs ++ y ∷ []) (sym is) in
+    let joins : flat_map f (take i xs) ++ f x ≡ flat_map f (take (i + 1) xs) =
+    ap (λ t. flat_map f (take i xs) ++ t) (sym (append-nil (f x))) ∙ sym (flat_map-append f (take i xs) (x ∷ [])) ∙ ap (flat_map f) (sym more) in
+    subst (Wrote written failures a c) joins (Wrote-then one two)
+
+-- what stands at a place, by the list
+pub at_place : {X : Type 0} (xs : List X) (i : ℕ) (x : X) → slice_get xs i ≡ Some x → x ≡ get_or xs i x
+at_place [] i x found = cc
+at_place (y ∷ ys) zero x found = cc
+at_place (y ∷ ys) (suc i) x found = at_place ys i x found
+
+-- items of the code as what they are
+pub each_as : {X Y : Type 0} (f : Y → List ℕ) (view : X → Y) (xs ys : List X) → xs ≡ ys → flat_map (λ x. f (view x)) xs ≡ flat_map f (map view ys)
+each_as f view xs ys same = ap (flat_map (λ x. f (view x))) same ∙ sym (flat_map-map f view ys)
+
+pub flat_map-flat_map : {X Y : Type 0} (f : Y → List ℕ) (g : X → List Y) (xs : List X) → flat_map f (flat_map g xs) ≡ flat_map (λ x. flat_map f (g x)) xs
+flat_map-flat_map f g [] = refl
+flat_map-flat_map f g (x ∷ xs) =
+    flat_map-append f (g x) (flat_map g xs) ∙ ap (λ t. flat_map f (g x) ++ t) (flat_map-flat_map f g xs)

@@ -1,0 +1,99 @@
+-- The owned parts of a trace as the plain data that they are.
+use Rattle.std.specs.Prelude.{ℕ, ◌==◌, Bool, true, List, Vec, map}
+use Rattle.std.specs.List.{list_all}
+use Rattle.std.specs.declared.alloc.Global.{Global}
+use Rattle.eve_smallbank.specs.SmallBank.{Request, Balance, DepositChecking, TransactSaving, Amalgamate, WriteCheck}
+use Rattle.eve_grammar.specs.Trace.{Customer, Asked, Batch, Access, Attempt, Commit, Rollback, Step, Attempts, Commits, RollsBack, Choice, ForRollback, ForCommit, Vote, Sent, Trace}
+use Rattle.eve_grammar.specs.Bodies.{restore}
+use Rattle.eve_write.specs.declared.customer.CustomerData.{CustomerData}
+use Rattle.eve_write.specs.declared.request.TransactionData.{TransactionData}
+use Rattle.eve_write.specs.declared.request.TransactionData.TheVariants as of
+use Rattle.eve_write.specs.declared.request.RequestData.{RequestData}
+use Rattle.eve_write.specs.declared.batch.BatchData.{BatchData}
+use Rattle.eve_write.specs.declared.access.AccessData.{AccessData}
+use Rattle.eve_write.specs.declared.attempt.AttemptData.{AttemptData}
+use Rattle.eve_write.specs.declared.commit.CommitData.{CommitData}
+use Rattle.eve_write.specs.declared.rollback.RollbackData.{RollbackData}
+use Rattle.eve_write.specs.declared.step.Step as code
+use Rattle.eve_write.specs.declared.step.Step.TheVariants as does
+use Rattle.eve_write.specs.declared.vote.ChoiceData.TheVariants as chosen
+use Rattle.eve_write.specs.declared.vote.ChoiceData.{ChoiceData}
+use Rattle.eve_write.specs.declared.vote.VoteData.{VoteData}
+use Rattle.eve_write.specs.declared.sent.SentData.{SentData}
+use Rattle.eve_write.specs.declared.parts.Parts.{Parts}
+
+abbrev pub customer : CustomerData → Customer
+customer c = record { name = c.name.items; saving = c.saving; checking = c.checking }
+
+abbrev pub transaction : TransactionData → Request
+transaction (of.Balance name) = Balance name.items
+transaction (of.DepositChecking name amount) = DepositChecking name.items amount
+transaction (of.TransactSaving name amount) = TransactSaving name.items amount
+transaction (of.Amalgamate from to) = Amalgamate from.items to.items
+transaction (of.WriteCheck name amount) = WriteCheck name.items amount
+
+abbrev pub asked : RequestData → Asked
+asked a = record { client = a.client; number = a.number; request = transaction a.transaction }
+
+abbrev pub batch : BatchData → Batch
+batch b = record { sizes = b.sizes.items; requests = map asked b.requests.items }
+
+abbrev pub access : AccessData → Access
+access x = record { worker = x.worker; place = x.place; index = x.index; entries = x.entries }
+
+abbrev pub attempt : AttemptData → Attempt
+attempt a =
+    record { seq = a.seq; view = a.view; serial = a.serial; certificate = a.certificate.items; replies = a.replies.items; token = a.token; accesses = map access a.accesses.items }
+
+abbrev pub commit : CommitData → Commit
+commit c = record { seq = c.seq; view = c.view; token = c.token }
+
+abbrev pub rollback : RollbackData → Rollback
+rollback r = record { to = r.to; view = r.view; restores = map restore r.restores.items }
+
+abbrev pub step : code.Step → Step
+step (does.Attempt a) = Attempts (attempt a)
+step (does.Commit c) = Commits (commit c)
+step (does.Rollback r) = RollsBack (rollback r)
+
+-- the choice, with the token of a commit
+abbrev pub choice : ChoiceData → List ℕ → Choice
+choice chosen.ForRollback token = ForRollback
+choice chosen.ForCommit token = ForCommit token
+
+abbrev pub vote : VoteData → Vote
+vote v = record { seq = v.seq; view = v.view; choice = choice v.choice v.token }
+
+-- a vote for a rollback has zeros for its token
+abbrev pub has_due_token : ChoiceData → List ℕ → Bool
+has_due_token chosen.ForRollback token = list_all (λ byte. byte == 0) token
+has_due_token chosen.ForCommit token = true
+
+abbrev pub sent : SentData → Sent
+sent s = record { client = s.client; number = s.number; replica = s.replica; seq = s.seq; reply = s.reply }
+
+-- the byte of a choice
+abbrev pub choice_code : ChoiceData → ℕ
+choice_code chosen.ForRollback = 0
+choice_code chosen.ForCommit = 1
+
+-- the steps of a replica
+abbrev pub section : Vec code.Step Global → List Step
+section s = map step s.items
+
+-- the votes of a verifier
+abbrev pub votes : Vec VoteData Global → List Vote
+votes v = map vote v.items
+
+-- the parts as a trace
+abbrev pub trace : Parts → Trace
+trace p = record {
+  quorum = p.quorum;
+  window = p.window;
+  workers = p.workers;
+  customers = map customer p.customers.items;
+  batches = map batch p.batches.items;
+  sections = map section p.sections.items;
+  verifiers = map votes p.verifiers.items;
+  sent = map sent p.sent.items;
+}

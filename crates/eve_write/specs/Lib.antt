@@ -1,0 +1,4 @@
+pub mod Writing
+pub mod Data
+pub mod Writable
+pub mod Passes

@@ -1,0 +1,109 @@
+//! Accesses and their frames.
+
+ghost use Rattle.std.specs.Prelude.{◌≡◌, ◌∷◌, ◌++◌, true, length};
+ghost use Rattle.std.specs.List.{list_all};
+ghost use Rattle.byteorder.specs.Endian.{big_bytes};
+ghost use Rattle.eve_grammar.specs.Frames.{OfAccess};
+ghost use Rattle.eve_grammar.specs.Spelling.{body_text, frame_text};
+ghost use Rattle.eve_grammar.specs.Limits.{row_count, is_entry, is_access};
+ghost use Rattle.eve_grammar.specs.Bodies.{limits};
+ghost use Rattle.eve_write.specs.Data.{access as plain};
+ghost use Rattle.eve_write.specs.Writing.{Writes};
+
+use crate::fields::{byte, write_entries};
+use crate::judge::Judge;
+use crate::measure::Measure;
+use crate::spell::{Spell, send_texts};
+use eve_grammar::Head;
+use eve_smallbank::{Entry, UpToThree};
+use eve_streams::{SendFault, Sink};
+
+/// What a worker noted of a request. Contracts see it by `access`.
+#[derive(Clone, Copy)]
+pub struct AccessData {
+    /// The worker, from 0.
+    pub worker: u8,
+    /// The record's place among the worker's, from 0.
+    pub place: u16,
+    /// The request's index, from 0.
+    pub index: u16,
+    /// What was read and written, row by row.
+    pub entries: UpToThree<Entry>,
+}
+
+impl AccessData {
+    // How long the body of its frame is.
+    pub(crate) fn body_len(&self) -> u32
+        ensures { result ≡ length (body_text (OfAccess (plain self.now))) }
+    {
+        6 + 29 * self.entries.len() as u32
+    }
+
+    // Writes what stands before the entries.
+    fn write_front<W: Sink>(&self, out: &mut W) -> Result<(), SendFault>
+        ensures { Writes W.written W.failures out.old out.new result
+            (18 ∷ (big_bytes 4 (length (body_text (OfAccess (plain self.now))))
+            ++ (big_bytes 1 self.now.worker ++ (big_bytes 2 self.now.place
+            ++ (big_bytes 2 self.now.index ++ big_bytes 1 (length self.now.entries)))))) }
+    {
+        let body_len = self.body_len().to_be_bytes();
+        let worker = byte(self.worker);
+        let place = self.place.to_be_bytes();
+        let index = self.index.to_be_bytes();
+        let count = byte(self.entries.len() as u8);
+        send_texts(out, &[&[18], &body_len, &worker, &place, &index, &count])
+    }
+}
+
+/// Writes an Access frame.
+///
+/// docs/TRACE.md, "Frames". After a fault a front of the frame has been taken, and not all of it.
+pub fn write_access<W: Sink>(out: &mut W, access: &AccessData) -> Result<(), SendFault>
+    ensures { Writes W.written W.failures out.old out.new result (frame_text (OfAccess (plain access.now))) }
+{
+    access.write_front(out)?;
+    write_entries(out, &access.entries)
+}
+
+impl Spell for AccessData {
+    ghost text = { λ x. frame_text (OfAccess (plain x)) };
+
+    ghost fits = { λ _. true };
+
+    fn write<W: Sink>(&self, out: &mut W) -> Result<(), SendFault> {
+        write_access(out, self)
+    }
+}
+
+impl Measure for AccessData {
+    ghost size = { λ x. length (frame_text (OfAccess (plain x))) };
+
+    ghost sound = { λ _. true };
+
+    fn text_len(&self) -> u64 {
+        5 + self.body_len() as u64
+    }
+}
+
+fn entries_are_right(entries: &UpToThree<Entry>, head: &Head) -> bool
+    ensures { result ≡ list_all (is_entry (row_count (limits head.now))) entries.now }
+{
+    for i in 0..entries.len() {
+        if !entries.at(i).is_right(head) {
+            return false;
+        }
+    }
+    true
+}
+
+impl Judge for AccessData {
+    ghost right = { λ h x. is_access (row_count h) (plain x) };
+
+    fn is_right(&self, head: &Head) -> bool {
+        let _worker = self.worker;
+        let _place = self.place;
+        let _index = self.index;
+        let _count = self.entries.len();
+        entries_are_right(&self.entries, head)
+    }
+}

@@ -1,0 +1,145 @@
+//! Attempts and their frames.
+
+ghost use Rattle.std.specs.Prelude.{◌≡◌, ◌-◌, ◌^◌, ◌==◌, ◌&&◌, ◌∷◌, ◌++◌, if◌then◌else◌, min, IsTrue, length};
+ghost use Rattle.std.specs.List.{flat_map, list_all};
+ghost use Rattle.byteorder.specs.Endian.{big_bytes};
+ghost use Rattle.eve_smallbank.specs.Spelling.{reply_text};
+ghost use Rattle.eve_grammar.specs.Frames.{attempt_frames, OfAttempt};
+ghost use Rattle.eve_grammar.specs.Spelling.{frames_text, body_text, frame_text};
+ghost use Rattle.eve_grammar.specs.Limits.{row_count, is_access, is_whole_attempt, is_attempt};
+ghost use Rattle.eve_grammar.specs.Bodies.{limits};
+ghost use Rattle.eve_write.specs.Data.{attempt as plain};
+ghost use Rattle.eve_write.specs.Writing.{Writes};
+
+use crate::access::AccessData;
+use crate::fields::{byte, indices_fit, token_fits};
+use crate::judge::{Judge, all_right};
+use crate::measure::len_of_each;
+use crate::spell::{send_texts, write_each};
+use eve_grammar::Head;
+use eve_smallbank::Reply;
+use eve_streams::{SendFault, Sink};
+
+/// An execution of a batch. Contracts see it by `attempt`.
+#[derive(Drop)]
+pub struct AttemptData {
+    /// The batch's number, from 1.
+    pub seq: u32,
+    /// The view.
+    pub view: u32,
+    /// Whether one worker ran all requests in order of index.
+    pub serial: bool,
+    /// The indices of the requests, in the order that the replica names.
+    pub certificate: Vec<u16>,
+    /// The replies, by index.
+    pub replies: Vec<Reply>,
+    /// The token of the balances after it and the replies.
+    pub token: [u8; 32],
+    /// What the workers noted, in the order in which it was taken.
+    pub accesses: Vec<AccessData>,
+}
+
+fn mode_byte(serial: bool) -> [u8; 1]
+    ensures { result ≡ big_bytes 1 (if serial then 1 else 0) }
+{
+    if serial { byte(1) } else { byte(0) }
+}
+
+impl AttemptData {
+    // How long the body of its own frame is.
+    pub(crate) fn body_len(&self) -> u32
+        requires { IsTrue (is_attempt (plain self.now)) }
+        ensures { result ≡ length (body_text (OfAttempt (plain self.now))) }
+    {
+        43 + 11 * self.certificate.len() as u32
+    }
+
+    // Writes what stands before the certificate.
+    fn write_front<W: Sink>(&self, out: &mut W) -> Result<(), SendFault>
+        requires { IsTrue (is_attempt (plain self.now)) }
+        ensures { Writes W.written W.failures out.old out.new result
+            (17 ∷ (big_bytes 4 (length (body_text (OfAttempt (plain self.now))))
+            ++ (big_bytes 4 self.now.seq ++ (big_bytes 4 self.now.view
+            ++ (big_bytes 1 (if self.now.serial then 1 else 0)
+            ++ big_bytes 2 (length self.now.certificate.items)))))) }
+    {
+        let body_len = self.body_len().to_be_bytes();
+        let seq = self.seq.to_be_bytes();
+        let view = self.view.to_be_bytes();
+        let mode = mode_byte(self.serial);
+        let count = (self.certificate.len() as u16).to_be_bytes();
+        send_texts(out, &[&[17], &body_len, &seq, &view, &mode, &count])
+    }
+}
+
+// Writes replies, and a token behind them.
+fn write_results<W: Sink>(out: &mut W, replies: &[Reply], token: &[u8]) -> Result<(), SendFault>
+    ensures { Writes W.written W.failures out.old out.new result
+        (flat_map reply_text replies.now ++ token.now) }
+{
+    write_each(out, replies)?;
+    send_texts(out, &[token])
+}
+
+/// Writes an Attempt frame, without the frames of its accesses.
+///
+/// docs/TRACE.md, "Frames". After a fault a front of the frame has been taken, and not all of it.
+pub fn write_attempt<W: Sink>(out: &mut W, attempt: &AttemptData) -> Result<(), SendFault>
+    requires { IsTrue (is_attempt (plain attempt.now)) }
+    ensures { Writes W.written W.failures out.old out.new result (frame_text (OfAttempt (plain attempt.now))) }
+{
+    attempt.write_front(out)?;
+    write_each(out, attempt.certificate.as_slice())?;
+    write_results(out, attempt.replies.as_slice(), &attempt.token)
+}
+
+impl AttemptData {
+    // How many bytes its frames take, those of its accesses included, and 2^64 - 1 for more.
+    pub(crate) fn text_len(&self) -> u64
+        requires { IsTrue (is_attempt (plain self.now)) }
+        ensures { result ≡ min (length (frames_text (attempt_frames (plain self.now)))) (2 ^ 64 - 1) }
+    {
+        let frame = 5 + self.body_len() as u64;
+        len_of_each(self.accesses.as_slice()).saturating_add(frame)
+    }
+
+    // Writes its frames, those of its accesses included.
+    pub(crate) fn write_frames<W: Sink>(&self, out: &mut W) -> Result<(), SendFault>
+        requires { IsTrue (is_attempt (plain self.now)) }
+        ensures { Writes W.written W.failures out.old out.new result
+            (frames_text (attempt_frames (plain self.now))) }
+    {
+        write_attempt(out, self)?;
+        write_each(out, self.accesses.as_slice())
+    }
+
+    // Whether its own frame lies within the limits.
+    fn is_counted(&self, head: &Head) -> bool
+        ensures { result ≡ is_attempt (plain self.now) }
+    {
+        let _seq = self.seq;
+        let _view = self.view;
+        token_fits(&self.token);
+        indices_fit(self.certificate.as_slice());
+        let count = self.certificate.len();
+        1 <= count
+            && count <= 256
+            && self.replies.len() == count
+            && all_right(self.replies.as_slice(), head)
+    }
+
+    // Whether it has as many accesses as replies, each within the limits.
+    fn has_accesses(&self, head: &Head) -> bool
+        ensures { result ≡ ((length (plain self.now).accesses == length self.now.certificate.items)
+            && list_all (is_access (row_count (limits head.now))) (plain self.now).accesses) }
+    {
+        self.accesses.len() == self.certificate.len() && all_right(self.accesses.as_slice(), head)
+    }
+
+    // Whether it lies within the limits, with its accesses.
+    pub(crate) fn is_right(&self, head: &Head) -> bool
+        ensures { result ≡ is_whole_attempt (row_count (limits head.now)) (plain self.now) }
+    {
+        self.is_counted(head) && self.has_accesses(head)
+    }
+}

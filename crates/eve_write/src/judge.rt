@@ -1,0 +1,84 @@
+//! Which parts lie within the limits of a trace.
+
+ghost use Rattle.std.specs.Prelude.{◌≡◌, Bool};
+ghost use Rattle.std.specs.List.{list_all};
+ghost use Rattle.eve_smallbank.specs.Access.{is_write};
+ghost use Rattle.eve_grammar.specs.Trace.{Head};
+ghost use Rattle.eve_grammar.specs.Limits.{row_count, is_entry, is_restore, is_reply};
+ghost use Rattle.eve_grammar.specs.Bodies.{limits, restore};
+
+use eve_grammar::{Head, Restore};
+use eve_smallbank::{Entry, Kind, Reply};
+
+/// What a trace under a header may hold or not.
+pub(crate) trait Judge {
+    // Whether it lies within the limits.
+    ghost right: { Head → Self → Bool };
+
+    /// Whether it lies within the limits.
+    fn is_right(&self, head: &Head) -> bool
+        ensures { result ≡ right (limits head.now) self.now };
+}
+
+/// Whether all of them lie within the limits.
+pub(crate) fn all_right<T: Judge>(items: &[T], head: &Head) -> bool
+    ensures { result ≡ list_all (T.right (limits head.now)) items.now }
+{
+    for item in items {
+        if !item.is_right(head) {
+            return false;
+        }
+    }
+    true
+}
+
+// How many rows a trace with this header has.
+fn row_count(head: &Head) -> u64
+    ensures { result ≡ row_count (limits head.now) }
+{
+    2 * head.customers as u64
+}
+
+const MOST_VERSIONS: u64 = 1 << 40;
+
+impl Judge for Entry {
+    ghost right = { λ h e. is_entry (row_count h) e };
+
+    fn is_right(&self, head: &Head) -> bool {
+        let (seen, after) = (self.seen.get(), self.after.get());
+        (self.row.number() as u64) < row_count(head)
+            && self.version <= MOST_VERSIONS
+            && (is_write(self.kind) || after == seen)
+    }
+}
+
+fn is_write(kind: Kind) -> bool
+    ensures { result ≡ is_write kind }
+{
+    match kind {
+        Kind::Read => false,
+        Kind::Write => true,
+    }
+}
+
+impl Judge for Restore {
+    ghost right = { λ h r. is_restore (row_count h) (restore r) };
+
+    fn is_right(&self, head: &Head) -> bool {
+        let _value = self.value.get();
+        (self.row.number() as u64) < row_count(head) && self.version <= MOST_VERSIONS
+    }
+}
+
+impl Judge for Reply {
+    ghost right = { λ h r. is_reply r };
+
+    // A total lies within the limits as it stands.
+    fn is_right(&self, _head: &Head) -> bool {
+        match *self {
+            Reply::Done => true,
+            Reply::Total(_total) => true,
+            Reply::Aborted(_) => true,
+        }
+    }
+}

@@ -1,0 +1,41 @@
+//! Traces written: the owned parts of a trace, one call a frame, and whole traces gathered.
+#![tactic(auto)]
+
+mod access;
+mod attempt;
+mod batch;
+mod commit;
+mod customer;
+mod fields;
+mod gathering;
+mod head;
+mod judge;
+pub mod laws;
+mod marks;
+mod measure;
+mod parts;
+mod request;
+mod rollback;
+mod sections;
+mod sent;
+mod spell;
+mod step;
+mod vote;
+
+pub use access::{AccessData, write_access};
+pub use attempt::{AttemptData, write_attempt};
+pub use batch::{BatchData, write_batch};
+pub use commit::{CommitData, write_commit};
+pub use customer::{CustomerData, write_customer};
+pub use gathering::{GatherFault, gather};
+pub use head::write_header;
+pub use marks::{write_end, write_replica, write_verifier};
+pub use parts::Parts;
+pub use request::{RequestData, TransactionData};
+pub use rollback::{RollbackData, write_rollback};
+pub use sent::{SentData, write_sent};
+pub use step::Step;
+pub use vote::{ChoiceData, VoteData, write_vote};
+
+#[cfg(test)]
+mod tests;

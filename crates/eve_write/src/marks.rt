@@ -1,0 +1,36 @@
+//! Frames that begin a replica's section or a verifier's votes, and the last frame.
+
+ghost use Rattle.eve_grammar.specs.Frames.{OfReplica, OfVerifier, End};
+ghost use Rattle.eve_grammar.specs.Spelling.{frame_text};
+ghost use Rattle.eve_write.specs.Writing.{Writes};
+
+use crate::fields::byte;
+use crate::spell::send_texts;
+use eve_streams::{SendFault, Sink};
+
+/// Writes a Replica frame.
+///
+/// docs/TRACE.md, "Frames". After a fault a front of the frame has been taken, and not all of it.
+pub fn write_replica<W: Sink>(out: &mut W, number: u8) -> Result<(), SendFault>
+    ensures { Writes W.written W.failures out.old out.new result (frame_text (OfReplica number)) }
+{
+    send_texts(out, &[&[16, 0, 0, 0, 1], &byte(number)])
+}
+
+/// Writes a Verifier frame.
+///
+/// docs/TRACE.md, "Frames". After a fault a front of the frame has been taken, and not all of it.
+pub fn write_verifier<W: Sink>(out: &mut W, number: u8) -> Result<(), SendFault>
+    ensures { Writes W.written W.failures out.old out.new result (frame_text (OfVerifier number)) }
+{
+    send_texts(out, &[&[32, 0, 0, 0, 1], &byte(number)])
+}
+
+/// Writes the End frame.
+///
+/// docs/TRACE.md, "Frames". After a fault a front of the frame has been taken, and not all of it.
+pub fn write_end<W: Sink>(out: &mut W) -> Result<(), SendFault>
+    ensures { Writes W.written W.failures out.old out.new result (frame_text End) }
+{
+    send_texts(out, &[&[127, 0, 0, 0, 0]])
+}

@@ -1,0 +1,128 @@
+//! Requests with names of their own.
+
+ghost use Rattle.std.specs.Prelude.{◌≡◌, ◌≤◌, IsTrue, length};
+ghost use Rattle.std.specs.List.{flat_map, list_all};
+ghost use Rattle.eve_smallbank.specs.SmallBank.{plain};
+ghost use Rattle.eve_grammar.specs.Spelling.{asked_text};
+ghost use Rattle.eve_grammar.specs.Limits.{is_asked};
+ghost use Rattle.eve_write.specs.Data.{transaction, asked};
+
+use crate::fields::send_request;
+use crate::judge::Judge;
+use crate::spell::{Spell, send_texts};
+use eve_accounts::{Amount, is_name};
+use eve_grammar::Head;
+use eve_smallbank::Request;
+use eve_streams::{SendFault, Sink};
+
+/// A transaction of SmallBank (Alomari et al., ICDE 2008) with names of its own.
+///
+/// docs/MODEL.md, "Transactions", has the effect of each. Contracts see it by `transaction`.
+#[derive(Drop)]
+pub enum TransactionData {
+    /// Both balances of the customer, added up.
+    Balance(Vec<u8>),
+    /// The amount comes to the checking balance.
+    DepositChecking(Vec<u8>, Amount),
+    /// The amount, which may be below 0, comes to the saving balance.
+    TransactSaving(Vec<u8>, Amount),
+    /// All that the first customer has comes to the checking balance of the second.
+    Amalgamate(Vec<u8>, Vec<u8>),
+    /// A check over the amount is paid from the checking balance.
+    WriteCheck(Vec<u8>, Amount),
+}
+
+/// A request of a client. Contracts see it by `asked`.
+#[derive(Drop)]
+pub struct RequestData {
+    /// The client.
+    pub client: u32,
+    /// The client's number for it.
+    pub number: u64,
+    /// What is asked for.
+    pub transaction: TransactionData,
+}
+
+impl RequestData {
+    /// What is asked for, with borrowed names.
+    pub fn request(&self) -> Request<'_>
+        ensures { plain result ≡ (asked self.now).request }
+    {
+        match &self.transaction {
+            TransactionData::Balance(name) => Request::Balance(name.as_slice()),
+            TransactionData::DepositChecking(name, amount) => {
+                Request::DepositChecking(name.as_slice(), *amount)
+            }
+            TransactionData::TransactSaving(name, amount) => {
+                Request::TransactSaving(name.as_slice(), *amount)
+            }
+            TransactionData::Amalgamate(from, to) => {
+                Request::Amalgamate(from.as_slice(), to.as_slice())
+            }
+            TransactionData::WriteCheck(name, amount) => {
+                Request::WriteCheck(name.as_slice(), *amount)
+            }
+        }
+    }
+}
+
+impl Spell for RequestData {
+    ghost text = { λ r. asked_text (asked r) };
+
+    ghost fits = { λ r. is_asked (asked r) };
+
+    fn write<W: Sink>(&self, out: &mut W) -> Result<(), SendFault> {
+        let client = self.client.to_be_bytes();
+        let number = self.number.to_be_bytes();
+        send_texts(out, &[&client, &number])?;
+        send_request(out, self.request())
+    }
+}
+
+// How long a request is in bytes, its client and number included.
+fn len_of_request(request: &RequestData) -> u32
+    requires { IsTrue (is_asked (asked request.now)) }
+    ensures len { result ≡ length (asked_text (asked request.now)) }
+    ensures small { result ≤ 65 }
+{
+    match request.request() {
+        Request::Balance(name) => 14 + name.len() as u32,
+        Request::Amalgamate(from, to) => 15 + from.len() as u32 + to.len() as u32,
+        Request::DepositChecking(name, _)
+        | Request::TransactSaving(name, _)
+        | Request::WriteCheck(name, _) => 22 + name.len() as u32,
+    }
+}
+
+/// How long at most 256 requests are together in bytes.
+pub(crate) fn len_of_requests(requests: &[RequestData]) -> u32
+    requires few { length requests.now ≤ 256 }
+    requires right { IsTrue (list_all (λ r. is_asked (asked r)) requests.now) }
+    ensures len { result ≡ length (flat_map (λ r. asked_text (asked r)) requests.now) }
+    ensures small { result ≤ 65536 }
+{
+    let mut len = 0;
+    for request in requests {
+        len += len_of_request(request);
+    }
+    len
+}
+
+impl Judge for RequestData {
+    ghost right = { λ h r. is_asked (asked r) };
+
+    fn is_right(&self, _head: &Head) -> bool {
+        let _client = self.client;
+        let _number = self.number;
+        match self.request() {
+            Request::Balance(name) => is_name(name),
+            Request::Amalgamate(from, to) => is_name(from) && is_name(to),
+            Request::DepositChecking(name, amount)
+            | Request::TransactSaving(name, amount)
+            | Request::WriteCheck(name, amount) => {
+                let _cents = amount.get();
+                is_name(name)
+            }
+        }
+    }
+}

@@ -1,0 +1,68 @@
+//! What a replica does, one thing after another.
+
+ghost use Rattle.eve_grammar.specs.Spelling.{step_text};
+ghost use Rattle.eve_write.specs.Data.{step};
+ghost use Rattle.eve_write.specs.Passes.{fits_step, right_step, step_size};
+
+use crate::attempt::AttemptData;
+use crate::commit::{CommitData, commit_fits, write_commit};
+use crate::judge::Judge;
+use crate::measure::Measure;
+use crate::rollback::{RollbackData, write_rollback};
+use crate::spell::Spell;
+use eve_grammar::Head;
+use eve_streams::{SendFault, Sink};
+
+/// What a replica did. Contracts see it by `step`.
+#[derive(Drop)]
+pub enum Step {
+    /// It executed a batch.
+    Attempt(AttemptData),
+    /// It committed a batch.
+    Commit(CommitData),
+    /// It rolled back.
+    Rollback(RollbackData),
+}
+
+impl Spell for Step {
+    ghost text = { λ s. step_text (step s) };
+
+    ghost fits = { fits_step };
+
+    fn write<W: Sink>(&self, out: &mut W) -> Result<(), SendFault> {
+        match self {
+            Step::Attempt(attempt) => attempt.write_frames(out),
+            Step::Commit(commit) => write_commit(out, commit),
+            Step::Rollback(rollback) => write_rollback(out, rollback),
+        }
+    }
+}
+
+impl Measure for Step {
+    ghost size = { step_size };
+
+    ghost sound = { fits_step };
+
+    fn text_len(&self) -> u64 {
+        match self {
+            Step::Attempt(attempt) => attempt.text_len(),
+            Step::Commit(commit) => 5 + commit.body_len() as u64,
+            Step::Rollback(rollback) => 5 + rollback.body_len() as u64,
+        }
+    }
+}
+
+impl Judge for Step {
+    ghost right = { right_step };
+
+    fn is_right(&self, head: &Head) -> bool {
+        match self {
+            Step::Attempt(attempt) => attempt.is_right(head),
+            Step::Commit(commit) => {
+                commit_fits(commit);
+                true
+            }
+            Step::Rollback(rollback) => rollback.is_right(head),
+        }
+    }
+}
