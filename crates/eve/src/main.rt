@@ -15,16 +15,10 @@ fn main(rt: HostRuntime) -> ExitCode {
     let mut out = SinkOf::new(rt.stdout());
     let mut err = SinkOf::new(rt.stderr());
     let status = match words_of(&rt) {
-        Ok(words) => serve(rt.alloc(), words.as_slice(), &mut input, &mut out, &mut err),
+        Ok(words) => serve(&rt, words.as_slice(), &mut input, &mut out, &mut err),
         Err(e) if e.kind() == io::ErrorKind::OutOfMemory => stop(ToolFault::Memory, &mut err),
         // Words that aren't text are no call.
-        Err(_) => serve(
-            rt.alloc(),
-            &["eve", "\u{fffd}"],
-            &mut input,
-            &mut out,
-            &mut err,
-        ),
+        Err(_) => serve(&rt, &["eve", "\u{fffd}"], &mut input, &mut out, &mut err),
     };
     ExitCode::from(status)
 }

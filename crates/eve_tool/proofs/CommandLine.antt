@@ -9,13 +9,13 @@ use Rattle.clap.specs.Faults.{check_fault, defaults_fault, entered_fault, level_
 use Rattle.clap.specs.Takes.{is_given}
 use Rattle.std.specs.List.{list_any}
 use Rattle.clap.proofs.OnLiterals.{clap_on_literals}
-use Rattle.eve_tool.specs.Words.{Answers, AsksForHelp, SaysOf, call_named, call_of, call_unless, eve, faults_of, program, show}
+use Rattle.eve_tool.specs.Words.{Answers, AsksForHelp, SaysOf, audit, call_named, call_of, call_unless, eve, faults_of, program, show}
 use Rattle.clap.specs.declared.error.kind.ErrorKind.{ErrorKind}
 use Rattle.clap.specs.declared.error.kind.ErrorKind.TheVariants as kind
 use Rattle.eve_tool.specs.declared.words.Asked.{Asked}
 use Rattle.eve_tool.specs.declared.words.Asked.TheVariants as asked
 use Rattle.eve_tool.specs.declared.words.Call.{Call}
-use Rattle.eve_tool.specs.declared.words.Call.TheVariants.{Show}
+use Rattle.eve_tool.specs.declared.words.Call.TheVariants.{Audit, Show}
 
 -- the program is of the kind of which clap says what it makes of the words
 pub eve_is_simple : is_simple eve ≡ true
@@ -56,24 +56,30 @@ subcommand_wanted s names h words has below wants right =
     (not (s.subcommand_negates_reqs && has) && list_any (λ a. a.required && not (is_given a.id (finished s.rules end))) s.rules)
     (rw wants at last)
 
--- the subcommand as the program has it once it is built
+-- the subcommands as the program has them once it is built
+abbrev built_audit : Shape
+built_audit = built_leaf (inherited program.top audit)
+
 abbrev built_show : Shape
 built_show = built_leaf (inherited program.top show)
 
-abbrev entered_if : Bool → List Text → Option (Text × List Row)
-entered_if is_met rest = option_map (λ s. rows_at s rest) (if is_met then Some built_show else None)
+abbrev entered_if : Bool → Bool → List Text → Option (Text × List Row)
+entered_if is_audit is_show rest =
+    option_map (λ s. rows_at s rest) (if is_audit then Some built_audit else (if is_show then Some built_show else None))
 
-call_if : (is_met : Bool) (rest : List Text) → is_some (entered_if is_met rest) ≡ true → option_and_then call_named (entered_if is_met rest) ≡ Some Show
+call_if : (is_audit is_show : Bool) (rest : List Text) → is_some (entered_if is_audit is_show rest) ≡ true
+    → is_some (option_and_then call_named (entered_if is_audit is_show rest)) ≡ true
 unfolding clap_on_literals
-call_if true rest h = refl
-call_if false rest h = cc
+call_if true is_show rest h = refl
+call_if false true rest h = refl
+call_if false false rest h = cc
 
 -- the subcommand that was entered is a call
 entered_call : (stop : Option (Text × List Text)) → is_some (entered (built eve) stop) ≡ true
-    → option_and_then call_named (entered (built eve) stop) ≡ Some Show
+    → is_some (option_and_then call_named (entered (built eve) stop)) ≡ true
 unfolding clap_on_literals
 entered_call None h = cc
-entered_call (Some p) h = call_if (answers_to p.0 (label_of built_show)) p.1 h
+entered_call (Some p) h = call_if (answers_to p.0 (label_of built_audit)) (answers_to p.0 (label_of built_show)) p.1 h
 
 -- words without a fault name a subcommand
 entered_without_faults : (words : List Text) → fault_of eve words ≡ [] → is_some (subcommand_of eve words) ≡ true
@@ -89,8 +95,8 @@ unfolding call_of faults_of
 call_without_faults words h = rw h refl
 
 -- and it is one of the program's
-pub show_without_faults : (words : List Text) → fault_of eve words ≡ [] → option_and_then call_named (subcommand_of eve words) ≡ Some Show
-show_without_faults words h =
+pub some_without_faults : (words : List Text) → fault_of eve words ≡ [] → is_some (option_and_then call_named (subcommand_of eve words)) ≡ true
+some_without_faults words h =
     let above = built eve in
     entered_call (stop_after above.top.rules (names_of above) (argument_words eve words)) (entered_without_faults words h)
 
@@ -113,6 +119,13 @@ answers_with_fault words k (asked.Refused text) (inl e) says = absurd (says.1 e)
 answers_with_fault words k (asked.Refused text) (inr among) says = (no_call words k among, record { what = k; found = among; no_help = says.0 })
 
 -- ---- plain words, behind the program's name
+
+audit_call : (name : Text) → call_of (name ∷ codes "audit" ∷ []) ≡ Some Audit
+unfolding call_of faults_of clap_on_literals
+audit_call name = refl
+
+pub called_audit : (words : List Text) (name : Text) → words ≡ name ∷ codes "audit" ∷ [] → call_of words ≡ Some Audit
+called_audit words name e = rw e (audit_call name)
 
 show_call : (name : Text) → call_of (name ∷ codes "show" ∷ []) ≡ Some Show
 unfolding call_of faults_of clap_on_literals

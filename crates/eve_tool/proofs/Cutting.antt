@@ -1,14 +1,20 @@
 -- What is said of bytes where only so many of them were read.
-use Rattle.std.proofs.Common.{◌≡◌, ℕ, ◌+◌, ◌^◌, ◌<◌, ◌≤◌, inl, inr, Bool, true, false, ◌&&◌, List, length, take, Some, None, refl, sym, subst, ◌∙◌, arith}
+use Rattle.std.proofs.Common.{◌≡◌, ℕ, ◌+◌, ◌^◌, ◌<◌, ◌≤◌, inl, inr, Bool, true, false, ◌&&◌, List, length, take, Some, None, refl, ap, sym, subst, ◌∙◌, arith}
 use Rattle.std.specs.Prelude.{IfSome, IsFalse, Option, nat_le}
 use Rattle.std.proofs.lemmas.Bool.{cases_lt, lt-leb}
 use Rattle.std.proofs.lemmas.List.{length-take, take_all}
-use Rattle.eve_views.specs.Code.{number_of}
+use Rattle.eve_audit.proofs.Piecewise.{orders_phase, structure_phase}
+use Rattle.eve_audit.specs.Verdict.{IsFirst, IsJudged, IsVerdict, Precedes, Stands, in_form, in_orders, in_section}
+use Rattle.eve_audit.specs.declared.verdict.Verdict.{Verdict}
+use Rattle.eve_audit.specs.declared.verdict.Verdict.TheVariants.{No, Yes}
+use Rattle.eve_views.specs.Code.{number_of, phase_of}
 use Rattle.eve_views.specs.Form.{IsFormFault, IsLeastFormFault, IsUpTo, StandsInForm, is_sized}
 use Rattle.eve_views.specs.declared.fault.Code.{Code}
 use Rattle.eve_views.specs.declared.fault.Code.TheVariants as code
 use Rattle.eve_views.specs.declared.fault.Fault.{Fault}
-use Rattle.eve_tool.specs.Show.{Shows, WritesAll, WritesAllOf, WritesFront, WritesFrontOf}
+use Rattle.eve_tool.specs.Audit.{Audits}
+use Rattle.eve_tool.specs.Show.{Shows}
+use Rattle.eve_tool.specs.Writes.{WritesAll, WritesAllOf, WritesFront, WritesFrontOf}
 
 number-least : (c : Code) → 1 ≤ number_of c
 number-least code.Length = omega arith
@@ -69,22 +75,95 @@ Shows-cut limit bytes text status enough shows =
           let long : 2 ^ 30 < length bytes = omega arith in
           inr (record { fault = found.0.fault; least = same_fault (take (limit + 1) bytes) bytes found.0.fault read long found.0.least; line = found.0.line }, found.1)
 
--- and so is what was written of it
-pub WritesAllOf-cut : (limit : ℕ) (known : Option (List ℕ)) (lent read : List ℕ) (old new : Option (List ℕ)) (status : ℕ) → 2 ^ 30 ≤ limit → lent ≡ read
-    → IfSome known (λ bytes. read ≡ take (limit + 1) bytes) → WritesAll lent old new status → WritesAllOf known old new status
-WritesAllOf-cut limit None lent read old new status enough same cut all = tt
-WritesAllOf-cut limit (Some bytes) lent read old new status enough same cut all = record {
+-- ---- verdicts
+
+phase-least : (c : Code) → 1 ≤ phase_of c
+phase-least code.Length = omega arith
+phase-least _ = omega arith
+
+-- no fault comes before one of the first phase
+length_is_judged : (bytes : List ℕ) → 2 ^ 30 < length bytes → IsJudged bytes length_fault
+length_is_judged bytes long = record {
+  stands = in_form (length_stands bytes long);
+  alone = λ g stands hinders. absurd (omega (arith, hinders.0, phase-least g.code));
+}
+
+-- what stands as Length is a fault of form
+stands_outside : (bytes : List ℕ) (f : Fault) → f.code ≡ code.Length → Stands bytes f → f.replica ≡ None
+stands_outside bytes f is_length (in_form is) = is.outside
+stands_outside bytes f is_length (in_orders t spells is) = absurd (omega (arith, orders_phase f.code t f.offset is.stands, ap phase_of is_length))
+stands_outside bytes f is_length (in_section t e spells below is) = absurd (omega (arith, structure_phase f.code t e f.offset is.stands, ap phase_of is_length))
+
+-- the fault precedes Length, so it is Length
+precedes_length : (f : Fault) → Precedes f length_fault → (f.offset ≡ 0) × (f.code ≡ code.Length)
+precedes_length f (inl before) = absurd (omega (arith, before, phase-least f.code))
+precedes_length f (inr up_to) = let front = at_front f up_to.1 in (front.0, is_length f.code front.1)
+
+precedes_all : (f g : Fault) → f.offset ≡ 0 → f.code ≡ code.Length → Precedes f g
+precedes_all f g front is_length =
+    let low : phase_of f.code ≡ 1 = ap phase_of is_length in
+    let number : number_of f.code ≡ 1 = ap number_of is_length in
+    elim (cases_lt 1 (phase_of g.code)) [
+      | inl later ↦ inl (omega (arith, low, later))
+      | inr same ↦ inr (omega (arith, low, same, phase-least g.code), first_of_all f g front (omega (arith, number)))
+    ]
+
+-- bytes that are too long have one first fault, whatever they are
+same_first : (xs ys : List ℕ) (f : Fault) → 2 ^ 30 < length xs → 2 ^ 30 < length ys → IsFirst xs f → IsFirst ys f
+same_first xs ys f long longer first =
+    let is_its = precedes_length f (first.first length_fault (length_is_judged xs long)) in
+    let low : phase_of f.code ≡ 1 = ap phase_of is_its.1 in
+    record {
+      judged = record {
+        stands = in_form (record {
+          stands = subst (λ (c : Code). StandsInForm c ys f.offset) (sym is_its.1) (is_its.0, too_long ys longer);
+          outside = stands_outside xs f is_its.1 first.judged.stands;
+        });
+        alone = λ g stands hinders. absurd (omega (arith, hinders.0, low, phase-least g.code));
+      };
+      first = λ g judged. precedes_all f g is_its.0 is_its.1;
+    }
+
+same_verdict : (xs ys : List ℕ) (v : Verdict) → 2 ^ 30 < length xs → 2 ^ 30 < length ys → IsVerdict xs v → IsVerdict ys v
+same_verdict xs ys (Yes s) long longer is = absurd (is.1.none length_fault (in_form (length_stands xs long)))
+same_verdict xs ys (No f) long longer is = same_first xs ys f long longer is
+
+-- the verdict on a number of bytes that no trace has is the verdict on all of them
+pub Audits-cut : (limit : ℕ) (bytes text : List ℕ) (status : ℕ) → 2 ^ 30 ≤ limit → Audits (take (limit + 1) bytes) text status → Audits bytes text status
+Audits-cut limit bytes text status enough audits =
+    elim (cases_lt (limit + 1) (length bytes)) [
+      | inl longer ↦
+          let read : 2 ^ 30 < length (take (limit + 1) bytes) = omega (arith, length-take (limit + 1) bytes) in
+          let long : 2 ^ 30 < length bytes = omega arith in
+          record {
+            verdict = audits.verdict;
+            is = same_verdict (take (limit + 1) bytes) bytes audits.verdict read long audits.is;
+            line = audits.line;
+            ends = audits.ends;
+          }
+      | inr all ↦ subst (λ (b : List ℕ). Audits b text status) (take_all (limit + 1) bytes all) audits
+    ]
+
+-- ---- what was written
+
+-- where what is said of the front of the bytes is said of all, so is what was written of it
+pub WritesAllOf-cut : (says : List ℕ → List ℕ → ℕ → Type 0) (limit : ℕ) (known : Option (List ℕ)) (lent read : List ℕ) (old new : Option (List ℕ)) (status : ℕ)
+    → ((bytes text : List ℕ) (s : ℕ) → says (take (limit + 1) bytes) text s → says bytes text s) → lent ≡ read
+    → IfSome known (λ bytes. read ≡ take (limit + 1) bytes) → WritesAll says lent old new status → WritesAllOf says known old new status
+WritesAllOf-cut says limit None lent read old new status cuts same cut all = tt
+WritesAllOf-cut says limit (Some bytes) lent read old new status cuts same cut all = record {
   text = all.text;
-  shows = Shows-cut limit bytes all.text status enough (subst (λ (b : List ℕ). Shows b all.text status) (same ∙ cut) all.shows);
+  said = cuts bytes all.text status (subst (λ (b : List ℕ). says b all.text status) (same ∙ cut) all.said);
   written = all.written;
 }
 
-pub WritesFrontOf-cut : (limit : ℕ) (known : Option (List ℕ)) (lent read : List ℕ) (old new : Option (List ℕ)) → 2 ^ 30 ≤ limit → lent ≡ read
-    → IfSome known (λ bytes. read ≡ take (limit + 1) bytes) → WritesFront lent old new → WritesFrontOf known old new
-WritesFrontOf-cut limit None lent read old new enough same cut front = tt
-WritesFrontOf-cut limit (Some bytes) lent read old new enough same cut front = record {
+pub WritesFrontOf-cut : (says : List ℕ → List ℕ → ℕ → Type 0) (limit : ℕ) (known : Option (List ℕ)) (lent read : List ℕ) (old new : Option (List ℕ))
+    → ((bytes text : List ℕ) (s : ℕ) → says (take (limit + 1) bytes) text s → says bytes text s) → lent ≡ read
+    → IfSome known (λ bytes. read ≡ take (limit + 1) bytes) → WritesFront says lent old new → WritesFrontOf says known old new
+WritesFrontOf-cut says limit None lent read old new cuts same cut front = tt
+WritesFrontOf-cut says limit (Some bytes) lent read old new cuts same cut front = record {
   text = front.text;
   status = front.status;
-  shows = Shows-cut limit bytes front.text front.status enough (subst (λ (b : List ℕ). Shows b front.text front.status) (same ∙ cut) front.shows);
+  said = cuts bytes front.text front.status (subst (λ (b : List ℕ). says b front.text front.status) (same ∙ cut) front.said);
   written = front.written;
 }

@@ -1,3 +1,3 @@
 mod CommandLine
 mod Cutting
-mod Sending
+mod SentLines

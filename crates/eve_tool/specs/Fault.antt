@@ -9,6 +9,7 @@ use Rattle.eve_tool.specs.declared.fault.ToolFault.TheVariants as fault
 abbrev pub status_of : ToolFault → ℕ
 status_of fault.Read = 2
 status_of fault.Write = 3
+status_of fault.Random = 3
 status_of fault.Memory = 3
 
 -- what a source that was not read comes to

@@ -1,5 +1,8 @@
 -- The lines that the program prints.
 use Rattle.std.specs.Prelude.{ℕ, List, [], ◌∷◌, ◌++◌, Option, Some, None, codes, decimal}
+use Rattle.eve_audit.specs.declared.verdict.Summary.{Summary}
+use Rattle.eve_audit.specs.declared.verdict.Verdict.{Verdict}
+use Rattle.eve_audit.specs.declared.verdict.Verdict.TheVariants.{Yes, No}
 use Rattle.eve_views.specs.Code.{name_of, number_of}
 use Rattle.eve_views.specs.declared.fault.Fault.{Fault}
 
@@ -19,3 +22,17 @@ replica_text None = []
 -- a fault: its code, where it stands, and in whose section
 unfoldable pub fault_line : Fault → List ℕ
 fault_line f = codes "no: F" ++ (decimal (number_of f.code) ++ (codes " " ++ (name_of f.code ++ (codes " at byte " ++ (decimal f.offset ++ (replica_text f.replica ++ line_feed))))))
+
+-- a trace without a fault: how many replicas and batches, and what all replicas have committed
+unfoldable pub yes_line : Summary → List ℕ
+yes_line s = codes "yes: " ++ (decimal s.replicas ++ (codes " replicas, " ++ (decimal s.batches ++ (codes " batches, " ++ (decimal s.committed ++ (codes " committed" ++ line_feed))))))
+
+-- a verdict: the fault, or yes
+abbrev pub verdict_line : Verdict → List ℕ
+verdict_line (Yes s) = yes_line s
+verdict_line (No f) = fault_line f
+
+-- the exit status: 0 for yes, 1 for no
+abbrev pub status_of_verdict : Verdict → ℕ
+status_of_verdict (Yes s) = 0
+status_of_verdict (No f) = 1

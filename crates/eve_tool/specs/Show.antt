@@ -1,11 +1,9 @@
 -- What `show` says of bytes.
-use Rattle.std.specs.Prelude.{◌≡◌, ℕ, List, ◌++◌, length, codes, Option, IfSome, ◌⊎◌}
+use Rattle.std.specs.Prelude.{◌≡◌, ℕ, List, ◌++◌, length, codes, ◌⊎◌}
 use Rattle.std.specs.List.{flat_map}
-use Rattle.std.specs.Io.KnownBytes.{Appends}
 use Rattle.eve_frames.specs.Kinds.{kind_name}
 use Rattle.eve_grammar.specs.Frames.{Frame, kind_of}
 use Rattle.eve_grammar.specs.Spelling.{body_text, frame_text, located}
-use Rattle.eve_streams.specs.Front.{AppendsFront}
 use Rattle.eve_views.specs.Form.{IsLeastFormFault}
 use Rattle.eve_views.specs.Sequence.{Sequence, SpellsFrames}
 use Rattle.eve_views.specs.declared.fault.Fault.{Fault}
@@ -37,23 +35,3 @@ pub record ShowsFault (bytes text : List ℕ) : Type 0 where
 -- the text is what `show` says of the bytes, and the number is the exit status
 abbrev pub Shows : List ℕ → List ℕ → ℕ → Type 0
 Shows bytes text status = (ShowsTrace bytes text × (status ≡ 0)) ⊎ (ShowsFault bytes text × (status ≡ 1))
-
--- what `show` says of the bytes was written
-pub record WritesAll (bytes : List ℕ) (old new : Option (List ℕ)) (status : ℕ) : Type 0 where
-  pub text : List ℕ
-  pub shows : Shows bytes text status
-  pub written : Appends old new text
-
--- a front of what `show` says of the bytes was written, and not all of it
-pub record WritesFront (bytes : List ℕ) (old new : Option (List ℕ)) : Type 0 where
-  pub text : List ℕ
-  pub status : ℕ
-  pub shows : Shows bytes text status
-  pub written : AppendsFront old new text
-
--- the same, where the bytes are known
-abbrev pub WritesAllOf : Option (List ℕ) → Option (List ℕ) → Option (List ℕ) → ℕ → Type 0
-WritesAllOf known old new status = IfSome known (λ bytes. WritesAll bytes old new status)
-
-abbrev pub WritesFrontOf : Option (List ℕ) → Option (List ℕ) → Option (List ℕ) → Type 0
-WritesFrontOf known old new = IfSome known (λ bytes. WritesFront bytes old new)

@@ -6,7 +6,7 @@ use Rattle.clap.specs.Walk.{Row}
 use Rattle.clap.specs.declared.error.kind.ErrorKind.TheVariants as kind
 use Rattle.clap.specs.declared.error.kind.ErrorKind.{ErrorKind}
 use Rattle.eve_tool.specs.declared.words.Call.{Call}
-use Rattle.eve_tool.specs.declared.words.Call.TheVariants.{Show}
+use Rattle.eve_tool.specs.declared.words.Call.TheVariants.{Audit, Show}
 use Rattle.eve_tool.specs.declared.words.Asked.{Asked}
 use Rattle.eve_tool.specs.declared.words.Asked.TheVariants as asked
 
@@ -14,16 +14,19 @@ use Rattle.eve_tool.specs.declared.words.Asked.TheVariants as asked
 abbrev pub program : App
 program = let new = new_app (codes "eve") in record new { top = record new.top { disable_help_subcommand = true; subcommand_required = true } }
 
+abbrev pub audit : Shape
+audit = (new_app (codes "audit")).top
+
 abbrev pub show : Shape
 show = (new_app (codes "show")).top
 
 -- the program with its subcommands
 abbrev pub eve : App
-eve = with_subcommand program show
+eve = with_subcommand (with_subcommand program audit) show
 
 -- the call of a subcommand
 abbrev pub call_named : Text × List Row → Option Call
-call_named found = if bytes_eq found.0 (codes "show") then Some Show else None
+call_named found = if bytes_eq found.0 (codes "audit") then Some Audit else (if bytes_eq found.0 (codes "show") then Some Show else None)
 
 -- what clap finds wrong with the words, the program's name first, or a request for help
 unfoldable pub faults_of : List Text → Kinds
@@ -44,9 +47,17 @@ SaysOf k (asked.Call call) = ⊥
 SaysOf k (asked.Help text) = k ≡ kind.DisplayHelp
 SaysOf k (asked.Refused text) = (k ≢ kind.DisplayHelp) × (k ≢ kind.OutOfMemory)
 
+-- the words are the call `audit`
+abbrev pub CallsAudit : List Text → Type 0
+CallsAudit words = call_of words ≡ Some Audit
+
 -- the words are the call `show`
 abbrev pub CallsShow : List Text → Type 0
 CallsShow words = call_of words ≡ Some Show
+
+-- the words are a call
+abbrev pub CallsSome : List Text → Type 0
+CallsSome words = call_of words ≢ None
 
 -- the words are no call
 abbrev pub CallsNothing : List Text → Type 0

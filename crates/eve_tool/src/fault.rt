@@ -4,6 +4,7 @@ ghost use Rattle.std.specs.Prelude.{◌≡◌};
 ghost use Rattle.eve_tool.specs.Fault.{fault_of_read, status_of};
 ghost use Rattle.eve_tool.specs.declared.fault.ToolFault.TheVariants.{Memory, Write};
 
+use eve_audit::AuditFault;
 use eve_streams::{ReadFault, SendFault};
 use std::alloc::AllocError;
 use thiserror::Error;
@@ -17,6 +18,9 @@ pub enum ToolFault {
     /// The output can't be written.
     #[error("eve: cannot write output")]
     Write,
+    /// The system gave no random words.
+    #[error("eve: no random source")]
+    Random,
     /// Memory ran out.
     #[error("eve: out of memory")]
     Memory,
@@ -29,7 +33,7 @@ impl ToolFault {
     {
         match self {
             ToolFault::Read => 2,
-            ToolFault::Write | ToolFault::Memory => 3,
+            ToolFault::Write | ToolFault::Random | ToolFault::Memory => 3,
         }
     }
 }
@@ -50,6 +54,14 @@ impl From<SendFault> for ToolFault {
 
     fn from(_why: SendFault) -> ToolFault {
         ToolFault::Write
+    }
+}
+
+impl From<AuditFault> for ToolFault {
+    ghost from_gives = { λ _ e. e ≡ Memory };
+
+    fn from(_why: AuditFault) -> ToolFault {
+        ToolFault::Memory
     }
 }
 

@@ -1,9 +1,11 @@
 //! The program `eve` as a library: its command line, its lines, and `serve`, which is all of it.
 #![tactic(auto)]
 
+mod audit;
 mod fault;
 mod lines;
 mod program;
+mod sending;
 mod show;
 mod words;
 

@@ -2,8 +2,9 @@
 
 ghost use Rattle.std.specs.Prelude.{◌≡◌, ◌++◌, OnOk};
 ghost use Rattle.std.specs.String.{string_bytes};
-ghost use Rattle.eve_tool.specs.Lines.{fault_line, frame_line};
+ghost use Rattle.eve_tool.specs.Lines.{fault_line, frame_line, yes_line};
 
+use eve_audit::Summary;
 use eve_views::Fault;
 use std::alloc::AllocError;
 
@@ -20,6 +21,21 @@ pub(crate) fn push_frame_line(
         ≡ string_bytes text.old ++ frame_line offset name.now body_len) }
 {
     writeln!(text, "{offset} {name} {body_len}")
+}
+
+// Appends the line that says yes: how many replicas and batches there are, and the least last
+// committed number over the replicas.
+#[tactic(auto, unfolding(crate::specs::Lines::yes_line))]
+pub(crate) fn push_yes_line(text: &mut String, summary: &Summary) -> Result<(), AllocError>
+    ensures { OnOk result (string_bytes text.new ≡ string_bytes text.old ++ yes_line summary.now) }
+{
+    let replicas = summary.replicas;
+    let batches = summary.batches;
+    let committed = summary.committed;
+    writeln!(
+        text,
+        "yes: {replicas} replicas, {batches} batches, {committed} committed"
+    )
 }
 
 // Appends the line that says no: the fault's code, the byte at which it stands, and the replica in

@@ -3,18 +3,21 @@
 ghost use Rattle.std.specs.Prelude.{◌≡◌, ◌≢◌, ◌≤◌, ◌<◌, ◌⊎◌, ℕ, List, [], ◌∷◌, codes, map};
 ghost use Rattle.std.specs.Prelude.{IfOk, IfErr, OnOk, OnErr};
 ghost use Rattle.eve_streams.specs.Failures.{after_failure};
+ghost use Rattle.eve_tool.specs.Audit.{Audits};
 ghost use Rattle.eve_tool.specs.Fault.{status_of};
-ghost use Rattle.eve_tool.specs.Show.{WritesAllOf, WritesFrontOf};
-ghost use Rattle.eve_tool.specs.Words.{AsksForHelp, CallsNothing, CallsShow, IsWrong};
+ghost use Rattle.eve_tool.specs.Show.{Shows};
+ghost use Rattle.eve_tool.specs.Words.{AsksForHelp, CallsAudit, CallsNothing, CallsShow, CallsSome, IsWrong};
+ghost use Rattle.eve_tool.specs.Writes.{WritesAllOf, WritesFrontOf};
 
+use crate::audit::audit;
 use crate::fault::ToolFault;
 use crate::show::show;
 use crate::words::{Asked, Call, read_words};
 use arrayvec::ArrayString;
 use eve_streams::{Sink, Source, send_all};
-use std::alloc::Global;
 use std::convert::AsStr;
 use std::fmt::Write;
+use std::random::RandomSource;
 
 // How many bytes the line of a fault has at most.
 const LONGEST_FAULT: usize = 64;
@@ -32,24 +35,30 @@ pub fn stop<E: Sink>(fault: ToolFault, err: &mut E) -> u8
 }
 
 // Does what the words ask for, and answers the exit status.
-fn answer<S: AsStr, I: Source, O: Sink, E: Sink>(
-    alloc: Global,
+fn answer<R: AllocGlobal + RandomSource, S: AsStr, I: Source, O: Sink, E: Sink>(
+    rt: &R,
     words: &[S],
     input: &mut I,
     out: &mut O,
     err: &mut E,
 ) -> Result<u8, ToolFault>
-    ensures all { CallsShow (map S.text words.now)
-        → IfOk result (WritesAllOf (I.remaining input.old) (O.written out.old)
+    ensures shown { CallsShow (map S.text words.now)
+        → IfOk result (WritesAllOf Shows (I.remaining input.old) (O.written out.old)
         (O.written out.new)) }
-    ensures fine { CallsShow (map S.text words.now)
+    ensures audited { CallsAudit (map S.text words.now)
+        → IfOk result (WritesAllOf Audits (I.remaining input.old) (O.written out.old)
+        (O.written out.new)) }
+    ensures fine { CallsSome (map S.text words.now)
         → OnOk result ((I.failures input.new ≡ I.failures input.old)
         × (O.failures out.new ≡ O.failures out.old)) }
-    ensures status { CallsShow (map S.text words.now) → IfOk result (λ status. status < 2) }
-    ensures quiet { CallsShow (map S.text words.now) → err.new ≡ err.old }
-    ensures front { CallsShow (map S.text words.now)
+    ensures status { CallsSome (map S.text words.now) → IfOk result (λ status. status < 2) }
+    ensures quiet { CallsSome (map S.text words.now) → err.new ≡ err.old }
+    ensures front_shown { CallsShow (map S.text words.now)
         → OnErr result ((out.new ≡ out.old)
-        ⊎ WritesFrontOf (I.remaining input.old) (O.written out.old) (O.written out.new)) }
+        ⊎ WritesFrontOf Shows (I.remaining input.old) (O.written out.old) (O.written out.new)) }
+    ensures front_audited { CallsAudit (map S.text words.now)
+        → OnErr result ((out.new ≡ out.old)
+        ⊎ WritesFrontOf Audits (I.remaining input.old) (O.written out.old) (O.written out.new)) }
     ensures read { IfErr result (λ e. e ≡ ToolFault.Read
         → (I.failures input.new ≡ after_failure (I.failures input.old)) × (out.new ≡ out.old)) }
     ensures write { IfErr result (λ e. e ≡ ToolFault.Write
@@ -60,8 +69,9 @@ fn answer<S: AsStr, I: Source, O: Sink, E: Sink>(
     ensures wrong { CallsNothing (map S.text words.now) → IfOk result (λ status. status ≢ 0
         → (status ≡ 2) × IsWrong (map S.text words.now) × (out.new ≡ out.old)) }
 {
-    match read_words(alloc, words)? {
-        Asked::Call(Call::Show) => show(alloc, input, out),
+    match read_words(rt.alloc(), words)? {
+        Asked::Call(Call::Audit) => audit(rt, input, out),
+        Asked::Call(Call::Show) => show(rt.alloc(), input, out),
         Asked::Help(text) => {
             send_all(out, text.as_str().as_bytes())?;
             Ok(0)
@@ -74,34 +84,42 @@ fn answer<S: AsStr, I: Source, O: Sink, E: Sink>(
 }
 
 /// Runs the program: does what the words of the command line ask for, the first of which is the
-/// program's name, and answers the exit status.
-#[tactic(auto, using(crate::proofs::CommandLine::called_show, crate::proofs::CommandLine::asked_help))]
-pub fn serve<S: AsStr, I: Source, O: Sink, E: Sink>(
-    alloc: Global,
+/// program's name, and answers the exit status. Memory and the random words of `audit` come from
+/// `rt`; the words are asked for once the input is read.
+#[tactic(auto, using(crate::proofs::CommandLine::called_audit, crate::proofs::CommandLine::called_show, crate::proofs::CommandLine::asked_help))]
+pub fn serve<R: AllocGlobal + RandomSource, S: AsStr, I: Source, O: Sink, E: Sink>(
+    rt: &R,
     words: &[S],
     input: &mut I,
     out: &mut O,
     err: &mut E,
 ) -> u8
-    // `show` is a call, and `--help` asks for help.
+    // `audit` and `show` are calls, and `--help` asks for help.
+    ensures audit { (name : List ℕ) → map S.text words.now ≡ name ∷ codes "audit" ∷ []
+        → CallsAudit (map S.text words.now) }
     ensures show { (name : List ℕ) → map S.text words.now ≡ name ∷ codes "show" ∷ []
         → CallsShow (map S.text words.now) }
     ensures help { (name : List ℕ) → map S.text words.now ≡ name ∷ codes "--help" ∷ []
         → CallsNothing (map S.text words.now) × AsksForHelp (map S.text words.now) }
 
     // All is said, on `out`.
-    ensures all { CallsShow (map S.text words.now) → result < 2
-        → WritesAllOf (I.remaining input.old) (O.written out.old) (O.written out.new) result }
-    ensures fine { CallsShow (map S.text words.now) → result < 2
+    ensures audited { CallsAudit (map S.text words.now) → result < 2
+        → WritesAllOf Audits (I.remaining input.old) (O.written out.old) (O.written out.new) result }
+    ensures shown { CallsShow (map S.text words.now) → result < 2
+        → WritesAllOf Shows (I.remaining input.old) (O.written out.old) (O.written out.new) result }
+    ensures fine { CallsSome (map S.text words.now) → result < 2
         → (I.failures input.new ≡ I.failures input.old)
         × (O.failures out.new ≡ O.failures out.old) × (err.new ≡ err.old) }
 
-    // The input failed; or memory ran out, or `out` failed.
-    ensures read { CallsShow (map S.text words.now) → result ≡ 2
+    // The input failed; or no random words were given, memory ran out, or `out` failed.
+    ensures read { CallsSome (map S.text words.now) → result ≡ 2
         → (I.failures input.new ≡ after_failure (I.failures input.old)) }
-    ensures front { CallsShow (map S.text words.now) → result ≡ 3
+    ensures front_audited { CallsAudit (map S.text words.now) → result ≡ 3
         → (out.new ≡ out.old)
-        ⊎ WritesFrontOf (I.remaining input.old) (O.written out.old) (O.written out.new) }
+        ⊎ WritesFrontOf Audits (I.remaining input.old) (O.written out.old) (O.written out.new) }
+    ensures front_shown { CallsShow (map S.text words.now) → result ≡ 3
+        → (out.new ≡ out.old)
+        ⊎ WritesFrontOf Shows (I.remaining input.old) (O.written out.old) (O.written out.new) }
 
     // The words are no call.
     ensures unread { CallsNothing (map S.text words.now) → input.new ≡ input.old }
@@ -114,7 +132,7 @@ pub fn serve<S: AsStr, I: Source, O: Sink, E: Sink>(
     ensures status { result ≤ 3 }
     ensures silent { result ≡ 2 → out.new ≡ out.old }
 {
-    match answer(alloc, words, input, out, err) {
+    match answer(rt, words, input, out, err) {
         Ok(status) => status,
         Err(fault) => stop(fault, err),
     }

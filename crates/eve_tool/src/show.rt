@@ -8,38 +8,23 @@ ghost use Rattle.eve_grammar.specs.Frames.{Frame};
 ghost use Rattle.eve_grammar.specs.Spelling.{frame_text, located};
 ghost use Rattle.eve_streams.specs.Failures.{after_failure};
 ghost use Rattle.eve_streams.specs.Front.{AppendsFront};
-ghost use Rattle.eve_tool.specs.Lines.{fault_line};
-ghost use Rattle.eve_tool.specs.Show.{WritesAll, WritesAllOf, WritesFront, WritesFrontOf, line_of, trace_lines};
+ghost use Rattle.eve_tool.specs.Show.{Shows, line_of, trace_lines};
+ghost use Rattle.eve_tool.specs.Writes.{WritesAll, WritesAllOf, WritesFront, WritesFrontOf};
 
 use crate::fault::ToolFault;
-use crate::lines::{push_fault_line, push_frame_line};
-use eve_streams::{Sink, Source, read_all, send_all};
-use eve_views::{CheckFault, Fault, Trace};
+use crate::lines::push_frame_line;
+use crate::sending::{send_fault, send_text};
+use eve_streams::{Sink, Source, read_all};
+use eve_views::{CheckFault, Trace};
 use std::alloc::{AllocError, Global};
 
 // How many bytes a trace has at most.
-const LONGEST_TRACE: u32 = 1 << 30;
+pub(crate) const LONGEST_TRACE: u32 = 1 << 30;
 
 // How many bytes of lines are sent together, about, and how many a line has at most.
 const ROOM: usize = 64 * 1024;
 
 const LONGEST_LINE: usize = 64;
-
-// Sends the text, and empties it.
-fn send_text<O: Sink>(text: &mut String, out: &mut O) -> Result<(), ToolFault>
-    ensures sent { OnOk result (Appends (O.written out.old) (O.written out.new)
-        (string_bytes text.old)) }
-    ensures empty { OnOk result (string_bytes text.new ≡ []) }
-    ensures fine { OnOk result (O.failures out.new ≡ O.failures out.old) }
-    ensures front { OnErr result (AppendsFront (O.written out.old) (O.written out.new)
-        (string_bytes text.old)) }
-    ensures why { IfErr result (λ e. e ≡ ToolFault.Write) }
-    ensures counted { OnErr result (O.failures out.new ≡ after_failure (O.failures out.old)) }
-{
-    send_all(out, text.as_str().as_bytes())?;
-    text.clear();
-    Ok(())
-}
 
 // Appends the line of frame number i.
 fn push_frame(text: &mut String, trace: &Trace<'_>, i: usize) -> Result<(), AllocError>
@@ -75,30 +60,12 @@ fn send_frames<O: Sink>(alloc: Global, trace: &Trace<'_>, out: &mut O) -> Result
     send_text(&mut text, out)
 }
 
-// Sends the line of a fault.
-fn send_fault<O: Sink>(alloc: Global, fault: &Fault, out: &mut O) -> Result<(), ToolFault>
-    ensures sent { OnOk result (Appends (O.written out.old) (O.written out.new)
-        (fault_line fault.now)) }
-    ensures fine { OnOk result (O.failures out.new ≡ O.failures out.old) }
-    ensures front { OnErr result (AppendsFront (O.written out.old) (O.written out.new)
-        (fault_line fault.now)) }
-    ensures why { IfErr result (λ e. e ≢ ToolFault.Read) }
-    ensures write { IfErr result (λ e. e ≡ ToolFault.Write
-        → O.failures out.new ≡ after_failure (O.failures out.old)) }
-    ensures memory { IfErr result (λ e. e ≡ ToolFault.Memory
-        → O.failures out.new ≡ O.failures out.old) }
-{
-    let mut text = String::new(alloc);
-    push_fault_line(&mut text, fault)?;
-    send_text(&mut text, out)
-}
-
 // Sends what there is to say of the bytes, and answers the exit status.
 fn show_bytes<O: Sink>(alloc: Global, bytes: &[u8], out: &mut O) -> Result<u8, ToolFault>
-    ensures all { IfOk result (WritesAll bytes.now (O.written out.old) (O.written out.new)) }
+    ensures all { IfOk result (WritesAll Shows bytes.now (O.written out.old) (O.written out.new)) }
     ensures fine { OnOk result (O.failures out.new ≡ O.failures out.old) }
     ensures front { OnErr result ((out.new ≡ out.old)
-        ⊎ WritesFront bytes.now (O.written out.old) (O.written out.new)) }
+        ⊎ WritesFront Shows bytes.now (O.written out.old) (O.written out.new)) }
     ensures why { IfErr result (λ e. e ≢ ToolFault.Read) }
     ensures write { IfErr result (λ e. e ≡ ToolFault.Write
         → O.failures out.new ≡ after_failure (O.failures out.old)) }
@@ -123,13 +90,13 @@ pub(crate) fn show<I: Source, O: Sink>(
     input: &mut I,
     out: &mut O,
 ) -> Result<u8, ToolFault>
-    ensures all { IfOk result (WritesAllOf (I.remaining input.old) (O.written out.old)
-        (O.written out.new)) }
+    ensures all { IfOk result (WritesAllOf Shows (I.remaining input.old)
+        (O.written out.old) (O.written out.new)) }
     ensures status { IfOk result (λ status. status < 2) }
     ensures fine { OnOk result ((I.failures input.new ≡ I.failures input.old)
         × (O.failures out.new ≡ O.failures out.old)) }
     ensures front { OnErr result ((out.new ≡ out.old)
-        ⊎ WritesFrontOf (I.remaining input.old) (O.written out.old) (O.written out.new)) }
+        ⊎ WritesFrontOf Shows (I.remaining input.old) (O.written out.old) (O.written out.new)) }
     ensures read { IfErr result (λ e. e ≡ ToolFault.Read
         → (I.failures input.new ≡ after_failure (I.failures input.old)) × (out.new ≡ out.old)) }
     ensures write { IfErr result (λ e. e ≡ ToolFault.Write

@@ -8,6 +8,9 @@ use examples::{
     BYTE_AFTER_END, DEPOSIT_COMMITTED, EMPTY_RUN, ROLLBACK_AND_SERIAL_RERUN, TWO_ORDERS_AGREE,
 };
 use std::alloc::Global;
+use std::io;
+use std::io::ErrorKind;
+use std::random::RandomSource;
 
 // What `show` says of the examples, in the order of examples/README.md.
 const EMPTY_RUN_LINES: &str = "0 Header 32
@@ -75,17 +78,19 @@ const ROLLBACK_AND_SERIAL_RERUN_LINES: &str = "0 Header 32
 1034 End 0
 ";
 
-const HELP: &str = "Shows traces of replicated SmallBank servers
+const HELP: &str = "Audits traces of replicated SmallBank servers
 
 Usage: eve <COMMAND>
 
 Commands:
-  show  Prints the frames of the trace on standard input, a line for each
+  audit  Prints the verdict on the trace on standard input: yes, or the first fault
+  show   Prints the frames of the trace on standard input, a line for each
 
 Options:
   -h, --help  Print help
 
-Example:
+Examples:
+  eve audit < examples/deposit-committed.trace
   eve show < examples/empty-run.trace
 ";
 
@@ -99,12 +104,32 @@ For more information, try '--help'.
 ";
 
 const NO_SUBCOMMAND: &str = "error: 'eve' requires a subcommand but one was not provided
-  [subcommands: show]
+  [subcommands: audit, show]
 
 Usage: eve <COMMAND>
 
 For more information, try '--help'.
 ";
+
+// A runtime that gives no random words.
+#[derive(Drop)]
+struct NoRandom {
+    alloc: Global,
+}
+
+impl Alloc for NoRandom {
+    type A = Global;
+
+    fn alloc(&self) -> Global {
+        self.alloc
+    }
+}
+
+impl RandomSource for NoRandom {
+    fn fill_bytes(&self, _buf: &mut [u8]) -> io::Result<()> {
+        Err(io::Error::from(ErrorKind::Other))
+    }
+}
 
 // A sink in memory.
 fn memory(alloc: Global) -> SinkOf<Vec<u8>> {
@@ -128,12 +153,103 @@ fn shows_each_example(rt: HostRuntime) {
         let mut input = SourceOf::new(trace);
         let (mut out, mut err) = (memory(rt.alloc()), memory(rt.alloc()));
         assert_eq!(rt;
-            serve(rt.alloc(), &["eve", "show"], &mut input, &mut out, &mut err),
+            serve(&rt, &["eve", "show"], &mut input, &mut out, &mut err),
             status
         );
         assert_eq!(rt; out.writer().as_slice(), lines.as_bytes());
         assert!(rt; err.writer().is_empty());
     }
+}
+
+#[test]
+fn audits_what_has_no_fault(rt: HostRuntime) {
+    for (trace, line) in [
+        (
+            EMPTY_RUN.as_slice(),
+            "yes: 1 replicas, 0 batches, 0 committed\n",
+        ),
+        (
+            DEPOSIT_COMMITTED.as_slice(),
+            "yes: 1 replicas, 1 batches, 1 committed\n",
+        ),
+        (
+            TWO_ORDERS_AGREE.as_slice(),
+            "yes: 2 replicas, 1 batches, 1 committed\n",
+        ),
+        (
+            ROLLBACK_AND_SERIAL_RERUN.as_slice(),
+            "yes: 1 replicas, 3 batches, 3 committed\n",
+        ),
+    ] {
+        let mut input = SourceOf::new(trace);
+        let (mut out, mut err) = (memory(rt.alloc()), memory(rt.alloc()));
+        assert_eq!(rt;
+            serve(&rt, &["eve", "audit"], &mut input, &mut out, &mut err),
+            0
+        );
+        assert_eq!(rt; out.writer().as_slice(), line.as_bytes());
+        assert!(rt; err.writer().is_empty());
+    }
+}
+
+#[test]
+fn audits_what_has_a_fault(rt: HostRuntime) {
+    // A window of one batch: the third attempt is past it.
+    let mut past_the_window = ROLLBACK_AND_SERIAL_RERUN;
+    past_the_window[11] = 1;
+    for (trace, line) in [
+        (b"".as_slice(), "no: F1 Length at byte 0\n"),
+        (BYTE_AFTER_END.as_slice(), "no: F4 Frame at byte 302\n"),
+        (
+            past_the_window.as_slice(),
+            "no: F20 Attempt at byte 420, replica 0\n",
+        ),
+    ] {
+        let mut input = SourceOf::new(trace);
+        let (mut out, mut err) = (memory(rt.alloc()), memory(rt.alloc()));
+        assert_eq!(rt;
+            serve(&rt, &["eve", "audit"], &mut input, &mut out, &mut err),
+            1
+        );
+        assert_eq!(rt; out.writer().as_slice(), line.as_bytes());
+        assert!(rt; err.writer().is_empty());
+    }
+}
+
+#[test]
+fn random_words_are_asked_for_once_the_input_is_read(rt: HostRuntime) {
+    let no_random = NoRandom { alloc: rt.alloc() };
+    for (failing_read, said, wanted) in [
+        (1, "eve: cannot read input\n", 2),
+        (0, "eve: no random source\n", 3),
+    ] {
+        let mut input = FailsAt::new(SourceOf::new(BYTE_AFTER_END.as_slice()), failing_read);
+        let (mut out, mut err) = (memory(rt.alloc()), memory(rt.alloc()));
+        let status = serve(
+            &no_random,
+            &["eve", "audit"],
+            &mut input,
+            &mut out,
+            &mut err,
+        );
+        assert_eq!(rt; status, wanted);
+        assert!(rt; out.writer().is_empty());
+        assert_eq!(rt; err.writer().as_slice(), said.as_bytes());
+    }
+}
+
+#[test]
+fn a_verdict_that_cannot_be_written(rt: HostRuntime) {
+    let mut input = SourceOf::new(BYTE_AFTER_END.as_slice());
+    let mut out = FailsAt::new(OneByte::new(memory(rt.alloc())), 4);
+    let mut err = memory(rt.alloc());
+    let status = serve(&rt, &["eve", "audit"], &mut input, &mut out, &mut err);
+    assert_eq!(rt; status, 3);
+    assert_eq!(rt; out.stream().stream().writer().as_slice(), "no:".as_bytes());
+    assert_eq!(rt;
+        err.writer().as_slice(),
+        "eve: cannot write output\n".as_bytes()
+    );
 }
 
 #[test]
@@ -146,10 +262,7 @@ fn words_that_are_no_call(rt: HostRuntime) {
     ] {
         let mut input = SourceOf::new(EMPTY_RUN.as_slice());
         let (mut out, mut err) = (memory(rt.alloc()), memory(rt.alloc()));
-        assert_eq!(rt;
-            serve(rt.alloc(), words, &mut input, &mut out, &mut err),
-            status
-        );
+        assert_eq!(rt; serve(&rt, words, &mut input, &mut out, &mut err), status);
         assert_eq!(rt; out.writer().as_slice(), said.as_bytes());
         assert_eq!(rt; err.writer().as_slice(), refused.as_bytes());
         assert_eq!(rt; input.reader().len(), EMPTY_RUN.len());
@@ -162,7 +275,7 @@ fn each_read_fails_in_turn(rt: HostRuntime) {
     for call in 1..=reads + 1 {
         let mut input = FailsAt::new(OneByte::new(SourceOf::new(EMPTY_RUN.as_slice())), call);
         let (mut out, mut err) = (memory(rt.alloc()), memory(rt.alloc()));
-        let status = serve(rt.alloc(), &["eve", "show"], &mut input, &mut out, &mut err);
+        let status = serve(&rt, &["eve", "show"], &mut input, &mut out, &mut err);
         let (lines, said, wanted) = if call <= reads {
             ("", "eve: cannot read input\n", 2)
         } else {
@@ -181,7 +294,7 @@ fn each_write_fails_in_turn(rt: HostRuntime) {
         let mut input = SourceOf::new(EMPTY_RUN.as_slice());
         let mut out = FailsAt::new(OneByte::new(memory(rt.alloc())), call);
         let mut err = memory(rt.alloc());
-        let status = serve(rt.alloc(), &["eve", "show"], &mut input, &mut out, &mut err);
+        let status = serve(&rt, &["eve", "show"], &mut input, &mut out, &mut err);
         let (said, wanted) = if call <= writes {
             ("eve: cannot write output\n", 3)
         } else {
@@ -200,7 +313,7 @@ fn a_failed_word_of_fault_changes_no_status(rt: HostRuntime) {
         let mut input = FailsAt::new(SourceOf::new(EMPTY_RUN.as_slice()), failing_read);
         let mut out = memory(rt.alloc());
         let mut err = FailsAt::new(memory(rt.alloc()), 1);
-        let status = serve(rt.alloc(), &words, &mut input, &mut out, &mut err);
+        let status = serve(&rt, &words, &mut input, &mut out, &mut err);
         assert_eq!(rt; status, wanted);
         assert!(rt; out.writer().is_empty());
         assert_eq!(rt; err.failures(), 1);

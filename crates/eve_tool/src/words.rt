@@ -12,6 +12,8 @@ use std::convert::AsStr;
 /// A call of the program, one for each subcommand.
 #[derive(Clone, Copy, Debug, PartialEq, Eq)]
 pub(crate) enum Call {
+    /// Prints the verdict on a trace.
+    Audit,
     /// Prints the frames of a trace.
     Show,
 }
@@ -27,20 +29,25 @@ pub(crate) enum Asked {
     Refused(String),
 }
 
-const EXAMPLE: &str = "Example:\n  eve show < examples/empty-run.trace";
+const EXAMPLES: &str =
+    "Examples:\n  eve audit < examples/deposit-committed.trace\n  eve show < examples/empty-run.trace";
 
 // The command line of the program.
 fn command<'a>(alloc: Global) -> Result<Command<'a>, AllocError>
     ensures { IfOk result (λ c. app_of c ≡ eve) }
 {
+    let audit = Command::new(alloc, "audit").about(
+        "Prints the verdict on the trace on standard input: yes, or the first fault",
+    );
     let show = Command::new(alloc, "show").about(
         "Prints the frames of the trace on standard input, a line for each",
     );
     Command::new(alloc, "eve")
-        .about("Shows traces of replicated SmallBank servers")
-        .after_help(EXAMPLE)
+        .about("Audits traces of replicated SmallBank servers")
+        .after_help(EXAMPLES)
         .disable_help_subcommand(true)
         .subcommand_required(true)
+        .subcommand(audit)?
         .subcommand(show)
 }
 
@@ -49,6 +56,7 @@ fn call_in(matches: &ArgMatches<'_>) -> Option<Call>
     ensures { result ≡ option_and_then call_named (subcommand_rows_of matches.now) }
 {
     match matches.subcommand_name() {
+        Some("audit") => Some(Call::Audit),
         Some("show") => Some(Call::Show),
         _ => None,
     }

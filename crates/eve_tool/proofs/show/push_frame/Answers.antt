@@ -3,7 +3,7 @@ use Rattle.std.specs.Prelude.{slice_index}
 use Rattle.std.specs.String.{string_bytes}
 use Rattle.std.proofs.lemmas.Result.{on_ok_weaker}
 use Rattle.eve_frames.specs.Kinds.{kind_name}
-use Rattle.eve_tool.proofs.Sending.{length-body, line_of_view}
+use Rattle.eve_tool.proofs.SentLines.{length-body, line_of_view}
 use Rattle.eve_tool.proofs.show.push_frame.Goals as goal
 
 pub returns : goal.returns

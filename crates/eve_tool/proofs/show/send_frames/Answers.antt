@@ -1,7 +1,7 @@
 use Rattle.std.proofs.Common.{◌≡◌, ◌<◌, ◌≤◌, ◌+◌, ◌++◌, ◌∙◌, ap, refl, length, arith}
 use Rattle.std.specs.String.{string_bytes}
 use Rattle.std.proofs.lemmas.Result.{on_err_weaker, on_ok_weaker}
-use Rattle.eve_tool.proofs.Sending.{AppendsFront-none, OnErr-holds, all_is_sent, front_of_held, front_so_far, header_is_held, held_is_sent, next_is_held, trace_lines-some}
+use Rattle.eve_tool.proofs.SentLines.{AppendsFront-none, OnErr-holds, all_is_sent, front_of_held, front_so_far, header_is_held, held_is_sent, next_is_held, trace_lines-some}
 use Rattle.eve_tool.specs.Show.{header_line}
 use Rattle.eve_tool.proofs.show.send_frames.Goals.{then-len+in_ok-send_text, else-len}
 use Rattle.eve_tool.proofs.show.send_frames.Goals as goal

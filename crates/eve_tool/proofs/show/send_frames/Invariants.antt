@@ -1,7 +1,7 @@
 -- What was sent, what is held and what is to come are all the lines.
 use Rattle.std.proofs.Common.{◌≡◌}
 use Rattle.std.specs.String.{string_bytes}
-use Rattle.eve_tool.proofs.Sending.{SendsSoFar}
+use Rattle.eve_tool.proofs.SentLines.{SendsSoFar}
 use Rattle.eve_tool.proofs.show.send_frames.Given as goal
 
 abbrev pub invariant-frames : goal.invariant-frames

@@ -1,10 +1,9 @@
-use Rattle.std.proofs.Common.{◌≡◌, ◌∙◌, Some, ap, refl, sym, subst, true, map, List, []}
+use Rattle.std.proofs.Common.{◌≡◌, ◌∙◌, is_some, ap, sym, subst, true, map, List, []}
 use Rattle.std.specs.Prelude.{option_and_then}
 use Rattle.std.proofs.lemmas.Result.{IfOk-weaker}
 use Rattle.clap.specs.Words.{App, HasKind, HasMatchesOf, Text, fault_of, is_simple_and_free, kind_of}
 use Rattle.eve_tool.specs.Words.{Answers, SaysOf, call_named, eve}
-use Rattle.eve_tool.proofs.CommandLine.{answers_with_fault, call_without_faults, eve_is_free, eve_is_simple, show_without_faults}
-use Rattle.eve_tool.specs.declared.words.Call.TheVariants.{Show}
+use Rattle.eve_tool.proofs.CommandLine.{answers_with_fault, call_without_faults, eve_is_free, eve_is_simple, some_without_faults}
 use Rattle.eve_tool.proofs.words.read_words.Goals as goal
 
 pub returns-in-Ok : goal.returns-in-Ok
@@ -27,5 +26,5 @@ unwrap-requires g c =
     let is_eve = c.in_ok-command.ensures in
     let right : fault_of eve words ≡ [] = subst (λ (a : App). is_simple_and_free a ≡ true → fault_of a words ≡ []) is_eve c.in-Ok.ensures.kinds eve_is_free in
     let found = subst (λ (a : App). HasMatchesOf a words c.in-Ok.matches) is_eve c.in-Ok.ensures.matches eve_is_simple in
-    let is_show : c.call_in.result ≡ Some Show = c.call_in.ensures ∙ (ap (option_and_then call_named) found.1 ∙ show_without_faults words right) in
-    rw is_show refl
+    let same = c.call_in.ensures ∙ ap (option_and_then call_named) found.1 in
+    ap is_some same ∙ some_without_faults words right

@@ -1,0 +1,2 @@
+pub mod Piecewise
+pub mod Verdicts

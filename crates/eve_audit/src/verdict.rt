@@ -1,0 +1,32 @@
+//! What an audit answers.
+
+use eve_views::Fault;
+
+/// What a trace without a fault comes to.
+#[derive(Clone, Copy, Debug, PartialEq, Eq)]
+pub struct Summary {
+    /// How many replicas there are.
+    pub replicas: u32,
+    /// How many batches there are.
+    pub batches: u32,
+    /// The least last committed number over the replicas.
+    pub committed: u32,
+}
+
+/// The verdict on the bytes of a trace.
+///
+/// docs/MODEL.md, "Verdict".
+#[derive(Clone, Copy, Debug, PartialEq, Eq)]
+pub enum Verdict {
+    /// No fault stands.
+    Yes(Summary),
+    /// The first fault, by phase, then offset, then number.
+    No(Fault),
+}
+
+/// Why an audit answers nothing.
+#[derive(Clone, Copy, Debug, PartialEq, Eq)]
+pub enum AuditFault {
+    /// Want of memory, which decides nothing.
+    Memory,
+}

@@ -1,0 +1,336 @@
+-- The steps of a section, one after another.
+use Rattle.std.proofs.Common.{◌≡◌, ℕ, zero, suc, ◌+◌, ◌-◌, ◌<◌, ◌≤◌, ◌==◌, Bool, true, false, List, [], ◌∷◌, ◌++◌, map, length, take, drop, replicate, Option, Some, None, IsTrue, refl, sym, ap, subst, ◌∙◌, append_assoc, arith}
+use Rattle.std.specs.Prelude.{slice_index_or}
+use Rattle.std.specs.List.{AllByRecursion, list_all}
+use Rattle.std.proofs.lemmas.Bool.{and_parts, and_from, eqb-true, false≢true}
+use Rattle.std.proofs.lemmas.List.{append-nil, map-append, length-map, length-append, length-drop, length-replicate, drop_all, drop-append-le, drop-drop, drop_at, take-append-le, take_all}
+use Rattle.eve_grammar.specs.Trace.{Access, Attempt, Commit, Rollback, Step, Attempts, Commits, RollsBack, Trace, head_of}
+use Rattle.eve_grammar.specs.Frames.{without_accesses}
+use Rattle.eve_grammar.specs.Spelling.{located, step_text, steps_of, steps_at, accesses_at}
+use Rattle.eve_grammar.specs.Limits.{is_step, row_count, HasLimits}
+use Rattle.eve_views.specs.declared.fault.Fault.{Fault}
+use Rattle.eve_history.specs.declared.fate.Fate.{Fate}
+use Rattle.eve_history.specs.declared.fate.Fate.TheVariants.{Committed, Discarded, Open}
+use Rattle.eve_history.specs.declared.wrong.Wrong.{Wrong}
+use Rattle.eve_history.specs.Section.{Placed, SectionState, start, next, committing, state_after, path_of, commits_first, is_right_commit, are_right}
+use Rattle.eve_history.specs.Fates.{fate_in, fates_from}
+use Rattle.eve_history.specs.Told.{Ran, ran, ordered, attempts_among, rollbacks_among, access_with, telling}
+use Rattle.eve_history.specs.Faults.{IsStructureFault, IsLeastStructureFault}
+use Rattle.eve_history.specs.FirstWrong.{wrong_step, first_wrong, first_of, fault_of}
+use Rattle.eve_history.specs.Coming.{KeptAttempt, Kept, open_count, kept_ran, telling_of, StandsAt, open_fates, HasCome}
+use Rattle.eve_history.proofs.Structure.{state_after-append, are_right-push, right_step, steps_on, found_is_least, none_stands}
+
+-- ---- before the first step
+
+all_located : {A : Type 0} (p : A → Bool) (text : A → List ℕ) (at : ℕ) (xs : List A) → list_all p xs ≡ true → list_all (λ x. p x.1) (located text at xs) ≡ true
+all_located p text at [] all = refl
+all_located p text at (x ∷ xs) all =
+    let parts = and_parts (p x) (list_all p xs) all in
+    and_from (p x) (list_all (λ y. p y.1) (located text (at + length (text x)) xs)) parts.0 (all_located p text (at + length (text x)) xs parts.1)
+
+all_in_section : (p : Step → Bool) (sections : List (List Step)) (e : ℕ) → list_all (list_all p) sections ≡ true → list_all p (slice_index_or sections e []) ≡ true
+all_in_section p [] e all = refl
+all_in_section p (s ∷ sections) zero all = (and_parts (list_all p s) (list_all (list_all p) sections) all).0
+all_in_section p (s ∷ sections) (suc e) all = all_in_section p sections e (and_parts (list_all p s) (list_all (list_all p) sections) all).1
+
+steps_fit : (t : Trace) (e : ℕ) → HasLimits t → list_all (λ x. is_step (row_count (head_of t)) x.1) (steps_at t e) ≡ true
+unfolding steps_at
+steps_fit t e limits = all_located (is_step (row_count (head_of t))) step_text _ (steps_of t e) (all_in_section (is_step (row_count (head_of t))) t.sections e limits.sections)
+
+abbrev pub nothing : Kept
+nothing = record { view = 0; last = 0; rolled_back = false; attempts = []; fates = []; records = []; rollbacks = [] }
+
+pub come_start : (t : Trace) (e : ℕ) → HasLimits t → HasCome t e (steps_at t e) nothing
+come_start t e limits = record {
+  front = [];
+  split = refl;
+  right = refl;
+  stands = record { view = refl; last = refl; rolled_back = refl; pending = refl; fewer = omega arith };
+  attempts = refl;
+  is_kept = record { within = tt; fewer = omega arith };
+  fates = refl;
+  rollbacks = refl;
+  fit = steps_fit t e limits;
+}
+
+-- ---- one step more
+
+attempts_among-push : (xs : List (ℕ × Step)) (x : ℕ × Step) → attempts_among (xs ++ x ∷ []) ≡ attempts_among xs ++ attempts_among (x ∷ [])
+attempts_among-push [] x = refl
+attempts_among-push ((at, Attempts a) ∷ xs) x = ap (λ (ys : List (ℕ × Attempt)). (at, a) ∷ ys) (attempts_among-push xs x)
+attempts_among-push ((at, Commits c) ∷ xs) x = attempts_among-push xs x
+attempts_among-push ((at, RollsBack r) ∷ xs) x = attempts_among-push xs x
+
+rollbacks_among-push : (xs : List (ℕ × Step)) (x : ℕ × Step) → rollbacks_among (xs ++ x ∷ []) ≡ rollbacks_among xs ++ rollbacks_among (x ∷ [])
+rollbacks_among-push [] x = refl
+rollbacks_among-push ((at, Attempts a) ∷ xs) x = rollbacks_among-push xs x
+rollbacks_among-push ((at, Commits c) ∷ xs) x = rollbacks_among-push xs x
+rollbacks_among-push ((at, RollsBack r) ∷ xs) x = ap (λ (ys : List (ℕ × Rollback)). (at, r) ∷ ys) (rollbacks_among-push xs x)
+
+pub state_of : {t : Trace} {e : ℕ} {rest : List (ℕ × Step)} {k : Kept} → HasCome t e rest k → SectionState
+state_of come = state_after start come.front
+
+-- a step at which something is wrong
+pub come_wrong : (t : Trace) (e : ℕ) (step : ℕ × Step) (rest : List (ℕ × Step)) (k : Kept) (w : Wrong) (come : HasCome t e (step ∷ rest) k)
+    → wrong_step t (state_after start come.front) step ≡ Some w → IsLeastStructureFault t e (fault_of e w)
+come_wrong t e step rest k w come wrong =
+    found_is_least t e w
+    (ap (first_wrong t start) come.split ∙ steps_on t start come.front (step ∷ rest) come.right
+    ∙ ap (λ (o : Option Wrong). first_of o (first_wrong t (next (state_after start come.front) step) rest)) wrong)
+
+-- what is the same after any step that is right
+module _ (t : Trace) (e : ℕ) (step : ℕ × Step) (rest : List (ℕ × Step)) (k : Kept) (come : HasCome t e (step ∷ rest) k) (nothing_is : wrong_step t (state_after start come.front) step ≡ None) where
+  one_more : steps_at t e ≡ (come.front ++ step ∷ []) ++ rest
+  one_more = come.split ∙ sym (append_assoc come.front (step ∷ []) rest)
+
+  still_right : are_right t start (come.front ++ step ∷ []) ≡ true
+  still_right = are_right-push t start come.front step come.right (right_step t (state_after start come.front) step nothing_is)
+
+  stands_next : (k' : Kept) → StandsAt (next (state_after start come.front) step) k' → StandsAt (state_after start (come.front ++ step ∷ [])) k'
+  stands_next k' stands = subst (λ (s : SectionState). StandsAt s k') (sym (state_after-append start come.front (step ∷ []))) stands
+
+  rest_fits : IsTrue (list_all (λ x. is_step (row_count (head_of t)) x.1) rest)
+  rest_fits = (and_parts (is_step (row_count (head_of t)) step.1) _ come.fit).1
+
+-- ---- fates
+
+pub open_attempt : (at : ℕ) (a : Attempt) (rest : List (ℕ × Step)) (b n : ℕ) → open_fates ((at, Attempts a) ∷ rest) b n ≡ open_fates rest b n
+open_attempt at a rest b zero = refl
+open_attempt at a rest b (suc n) = ap (λ (fs : List Fate). fate_in rest b ∷ fs) (open_attempt at a rest (suc b) n)
+
+pub open_push : (rest : List (ℕ × Step)) (b n : ℕ) → open_fates rest b (suc n) ≡ open_fates rest b n ++ fate_in rest (b + n) ∷ []
+open_push rest b zero = let e : b + 0 ≡ b = omega arith in ap (λ (m : ℕ). fate_in rest m ∷ []) (sym e)
+open_push rest b (suc n) =
+    let e : suc b + n ≡ b + suc n = omega arith in
+    ap (λ (fs : List Fate). fate_in rest b ∷ fs) (open_push rest (suc b) n ∙ ap (λ (m : ℕ). open_fates rest (suc b) n ++ fate_in rest m ∷ []) e)
+
+pub open_commit : (at : ℕ) (c : Commit) (rest : List (ℕ × Step)) (b n : ℕ) → open_fates ((at, Commits c) ∷ rest) (suc b) n ≡ open_fates rest b n
+open_commit at c rest b zero = refl
+open_commit at c rest b (suc n) = ap (λ (fs : List Fate). fate_in rest b ∷ fs) (open_commit at c rest (suc b) n)
+
+pub open_rollback : (at : ℕ) (r : Rollback) (rest : List (ℕ × Step)) (b n : ℕ) → open_fates ((at, RollsBack r) ∷ rest) b n ≡ replicate n Discarded
+open_rollback at r rest b zero = refl
+open_rollback at r rest b (suc n) = ap (λ (fs : List Fate). Discarded ∷ fs) (open_rollback at r rest (suc b) n)
+
+pub open_end : (b n : ℕ) → open_fates [] b n ≡ replicate n Open
+open_end b zero = refl
+open_end b (suc n) = ap (λ (fs : List Fate). Open ∷ fs) (open_end (suc b) n)
+
+-- ---- an attempt
+
+same_ran : (records more : List (ℕ × Access)) (xs : List KeptAttempt) → AllByRecursion (λ a. a.from + length a.attempt.certificate ≤ length records) xs → map (kept_ran (records ++ more)) xs ≡ map (kept_ran records) xs
+same_ran records more [] within = refl
+same_ran records more (a ∷ xs) within =
+    let first : a.from + length a.attempt.certificate ≤ length records = within.0 in
+    let one : drop a.from (records ++ more) ≡ drop a.from records ++ more = drop-append-le a.from records more (omega arith) in
+    let two : take (length a.attempt.certificate) (drop a.from records ++ more) ≡ take (length a.attempt.certificate) (drop a.from records) =
+    take-append-le (length a.attempt.certificate) (drop a.from records) more (omega (arith, length-drop a.from records)) in
+    λ i. record { offset = a.offset; attempt = a.attempt; ordered = (ap (take (length a.attempt.certificate)) one ∙ two) i } ∷ same_ran records more xs within.1 i
+
+still_within : (n m : ℕ) (xs : List KeptAttempt) (a : KeptAttempt) → n ≤ m → AllByRecursion (λ a. a.from + length a.attempt.certificate ≤ n) xs → a.from + length a.attempt.certificate ≤ m
+    → AllByRecursion (λ a. a.from + length a.attempt.certificate ≤ m) (xs ++ a ∷ [])
+still_within n m [] a le within last = (last, tt)
+still_within n m (x ∷ xs) a le within last = let first : x.from + length x.attempt.certificate ≤ n = within.0 in (omega arith, still_within n m xs a le within.1 last)
+
+-- with the attempt and its records
+abbrev pub with_attempt : Kept → ℕ → Attempt → List (ℕ × Access) → Kept
+with_attempt k at said records = record k {
+  rolled_back = false;
+  attempts = k.attempts ++ record { offset = at; attempt = said; from = length k.records } ∷ [];
+  records = k.records ++ records;
+}
+
+module _ (t : Trace) (e at : ℕ) (b : Attempt) (rest : List (ℕ × Step)) (k : Kept) (come : HasCome t e ((at, Attempts b) ∷ rest) k) (right : wrong_step t (state_after start come.front) (at, Attempts b) ≡ None) where
+  abbrev state : SectionState
+  state = state_after start come.front
+
+  abbrev added : KeptAttempt
+  added = record { offset = at; attempt = without_accesses b; from = length k.records }
+
+  attempt_stands : StandsAt (next state (at, Attempts b)) (with_attempt k at (without_accesses b) (ordered at b))
+  attempt_stands =
+      let fewer : length k.fates ≤ length k.attempts = come.is_kept.fewer in
+      let few : length k.fates ≤ length (map (λ (a : KeptAttempt). a.attempt) k.attempts) = omega (arith, length-map k.attempts (λ (a : KeptAttempt). a.attempt)) in
+      record {
+        view = come.stands.view;
+        last = come.stands.last;
+        rolled_back = refl;
+        pending = map-append (λ (p : Placed). without_accesses p.attempt) state.pending (record { offset = at; attempt = b; path = path_of state } ∷ [])
+            ∙ ap (λ (xs : List Attempt). xs ++ without_accesses b ∷ []) come.stands.pending
+            ∙ sym (drop-append-le (length k.fates) (map (λ (a : KeptAttempt). a.attempt) k.attempts) (without_accesses b ∷ []) few)
+            ∙ ap (drop (length k.fates)) (sym (map-append (λ (a : KeptAttempt). a.attempt) k.attempts (added ∷ [])));
+        fewer = omega (arith, length-append k.attempts (added ∷ []));
+      }
+
+  its_records : kept_ran (k.records ++ ordered at b) added ≡ ran (at, b)
+  its_records =
+      let many : length (ordered at b) ≤ length b.certificate = omega (arith, length-map b.certificate (access_with (accesses_at at b))) in
+      λ i. record {
+        offset = at;
+        attempt = without_accesses b;
+        ordered = (ap (take (length b.certificate)) (drop_at k.records (ordered at b) (length k.records) refl) ∙ take_all (length b.certificate) (ordered at b) many) i;
+      }
+
+  attempts_more : map (kept_ran (k.records ++ ordered at b)) (k.attempts ++ added ∷ []) ≡ map ran (attempts_among (come.front ++ (at, Attempts b) ∷ []))
+  attempts_more =
+      map-append (kept_ran (k.records ++ ordered at b)) k.attempts (added ∷ [])
+      ∙ ap (λ (rs : List Ran). rs ++ kept_ran (k.records ++ ordered at b) added ∷ []) (same_ran k.records (ordered at b) k.attempts come.is_kept.within ∙ come.attempts)
+      ∙ ap (λ (r : Ran). map ran (attempts_among come.front) ++ r ∷ []) its_records
+      ∙ sym (map-append ran (attempts_among come.front) ((at, b) ∷ [])) ∙ ap (map ran) (sym (attempts_among-push come.front (at, Attempts b)))
+
+  attempt_fates : fates_from 0 (steps_at t e) ≡ k.fates ++ (open_fates rest 0 (open_count (with_attempt k at (without_accesses b) (ordered at b))) ++ fates_from (open_count (with_attempt k at (without_accesses b) (ordered at b))) rest)
+  attempt_fates =
+      let n = open_count k in
+      let fewer : length k.fates ≤ length k.attempts = come.is_kept.fewer in
+      let more : suc n ≡ open_count (with_attempt k at (without_accesses b) (ordered at b)) = omega (arith, length-append k.attempts (added ∷ [])) in
+      let here : 0 + n ≡ n = omega arith in
+      come.fates
+      ∙ ap (λ (fs : List Fate). k.fates ++ fs)
+      (ap (λ (fs : List Fate). fs ++ (fate_in rest n ∷ fates_from (suc n) rest)) (open_attempt at b rest 0 n)
+      ∙ sym (append_assoc (open_fates rest 0 n) (fate_in rest n ∷ []) (fates_from (suc n) rest))
+      ∙ ap (λ (fs : List Fate). fs ++ fates_from (suc n) rest) (ap (λ (m : ℕ). open_fates rest 0 n ++ fate_in rest m ∷ []) (sym here) ∙ sym (open_push rest 0 n))
+      ∙ ap (λ (m : ℕ). open_fates rest 0 m ++ fates_from m rest) more)
+
+  pub come_attempt : HasCome t e rest (with_attempt k at (without_accesses b) (ordered at b))
+  come_attempt =
+      let long : length (k.records ++ ordered at b) ≡ length k.records + length b.certificate =
+      length-append k.records (ordered at b) ∙ ap (λ (n : ℕ). length k.records + n) (length-map b.certificate (access_with (accesses_at at b))) in
+      record {
+        front = come.front ++ (at, Attempts b) ∷ [];
+        split = one_more t e (at, Attempts b) rest k come right;
+        right = still_right t e (at, Attempts b) rest k come right;
+        stands = stands_next t e (at, Attempts b) rest k come right _ attempt_stands;
+        attempts = attempts_more;
+        is_kept = record {
+          within = still_within (length k.records) (length (k.records ++ ordered at b)) k.attempts added (omega arith) come.is_kept.within (omega arith);
+          fewer = attempt_stands.fewer;
+        };
+        fates = attempt_fates;
+        rollbacks = come.rollbacks ∙ sym (rollbacks_among-push come.front (at, Attempts b) ∙ append-nil (rollbacks_among come.front));
+        fit = rest_fits t e (at, Attempts b) rest k come right;
+      }
+
+-- ---- a commit
+
+abbrev pub with_commit : Kept → ℕ → Kept
+with_commit k seq = record k { last = seq; fates = k.fates ++ Committed ∷ [] }
+
+module _ (t : Trace) (e at : ℕ) (c : Commit) (rest : List (ℕ × Step)) (k : Kept) (come : HasCome t e ((at, Commits c) ∷ rest) k) (right : wrong_step t (state_after start come.front) (at, Commits c) ≡ None) where
+  committed_right : is_right_commit (state_after start come.front) c ≡ true
+  committed_right = right_step t (state_after start come.front) (at, Commits c) right
+
+  commit_stands : (s : SectionState) (pending : List Placed) → s.pending ≡ pending → commits_first pending c ≡ true → c.seq ≡ s.last + 1 → StandsAt s k → StandsAt (committing s pending) (with_commit k c.seq) × (length k.fates < length k.attempts)
+  commit_stands s [] is first seq stands = absurd (false≢true first)
+  commit_stands s (p ∷ ps) is first seq stands =
+      let items = map (λ (a : KeptAttempt). a.attempt) k.attempts in
+      let open_is : without_accesses p.attempt ∷ map (λ (q : Placed). without_accesses q.attempt) ps ≡ drop (length k.fates) items = ap (map (λ (q : Placed). without_accesses q.attempt)) (sym is) ∙ stands.pending in
+      let count : suc (length ps) ≡ length k.attempts - length k.fates =
+      ap suc (sym (length-map ps (λ (q : Placed). without_accesses q.attempt))) ∙ ap length open_is ∙ length-drop (length k.fates) items ∙ ap (λ (n : ℕ). n - length k.fates) (length-map k.attempts (λ (a : KeptAttempt). a.attempt)) in
+      let long : length (k.fates ++ Committed ∷ []) ≡ length k.fates + 1 = length-append k.fates (Committed ∷ []) in (
+        record {
+          view = stands.view;
+          last = seq;
+          rolled_back = stands.rolled_back;
+          pending = ap (drop 1) open_is ∙ drop-drop 1 (length k.fates) items ∙ ap (λ (n : ℕ). drop n items) (sym long);
+          fewer = omega arith;
+        },
+        omega arith,
+      )
+
+  commit_parts : StandsAt (next (state_after start come.front) (at, Commits c)) (with_commit k c.seq) × (length k.fates < length k.attempts)
+  commit_parts =
+      let s = state_after start come.front in
+      let parts = and_parts (c.seq == s.last + 1) (commits_first s.pending c) committed_right in
+      commit_stands s s.pending refl parts.1 (eqb-true c.seq (s.last + 1) parts.0) come.stands
+
+  commit_fates : fates_from 0 (steps_at t e) ≡ (k.fates ++ Committed ∷ []) ++ (open_fates rest 0 (open_count (with_commit k c.seq)) ++ fates_from (open_count (with_commit k c.seq)) rest)
+  commit_fates =
+      let m = open_count (with_commit k c.seq) in
+      let some : length k.fates < length k.attempts = commit_parts.1 in
+      let more : open_count k ≡ suc m = omega (arith, length-append k.fates (Committed ∷ [])) in
+      let less : suc m - 1 ≡ m = omega arith in
+      come.fates
+      ∙ ap (λ (n : ℕ). k.fates ++ (open_fates ((at, Commits c) ∷ rest) 0 n ++ fates_from (n - 1) rest)) more
+      ∙ ap (λ (n : ℕ). k.fates ++ ((Committed ∷ open_fates ((at, Commits c) ∷ rest) 1 m) ++ fates_from n rest)) less
+      ∙ ap (λ (fs : List Fate). k.fates ++ (Committed ∷ (fs ++ fates_from m rest))) (open_commit at c rest 0 m)
+      ∙ sym (append_assoc k.fates (Committed ∷ []) (open_fates rest 0 m ++ fates_from m rest))
+
+  pub come_commit : HasCome t e rest (with_commit k c.seq)
+  come_commit = record {
+    front = come.front ++ (at, Commits c) ∷ [];
+    split = one_more t e (at, Commits c) rest k come right;
+    right = still_right t e (at, Commits c) rest k come right;
+    stands = stands_next t e (at, Commits c) rest k come right _ commit_parts.0;
+    attempts = come.attempts ∙ ap (map ran) (sym (attempts_among-push come.front (at, Commits c) ∙ append-nil (attempts_among come.front)));
+    is_kept = record { within = come.is_kept.within; fewer = commit_parts.0.fewer };
+    fates = commit_fates;
+    rollbacks = come.rollbacks ∙ sym (rollbacks_among-push come.front (at, Commits c) ∙ append-nil (rollbacks_among come.front));
+    fit = rest_fits t e (at, Commits c) rest k come right;
+  }
+
+-- ---- a rollback
+
+abbrev pub with_rollback : Kept → ℕ → Rollback → Kept
+with_rollback k at r = record k { view = r.view; rolled_back = true; fates = k.fates ++ replicate (open_count k) Discarded; rollbacks = k.rollbacks ++ (at, r) ∷ [] }
+
+module _ (t : Trace) (e at : ℕ) (r : Rollback) (rest : List (ℕ × Step)) (k : Kept) (come : HasCome t e ((at, RollsBack r) ∷ rest) k) (right : wrong_step t (state_after start come.front) (at, RollsBack r) ≡ None) where
+  all_settled : length (k.fates ++ replicate (open_count k) Discarded) ≡ length k.attempts
+  all_settled =
+      let fewer : length k.fates ≤ length k.attempts = come.is_kept.fewer in
+      omega (arith, length-append k.fates (replicate (open_count k) Discarded), length-replicate (open_count k) Discarded)
+
+  rollback_stands : StandsAt (next (state_after start come.front) (at, RollsBack r)) (with_rollback k at r)
+  rollback_stands = record {
+    view = refl;
+    last = come.stands.last;
+    rolled_back = refl;
+    pending = sym (drop_all (length (k.fates ++ replicate (open_count k) Discarded)) (map (λ (a : KeptAttempt). a.attempt) k.attempts) (omega (arith, all_settled, length-map k.attempts (λ (a : KeptAttempt). a.attempt))));
+    fewer = omega (arith, all_settled);
+  }
+
+  rollback_fates : fates_from 0 (steps_at t e)
+      ≡ (k.fates ++ replicate (open_count k) Discarded) ++ (open_fates rest 0 (open_count (with_rollback k at r)) ++ fates_from (open_count (with_rollback k at r)) rest)
+  rollback_fates =
+      let none : 0 ≡ open_count (with_rollback k at r) = omega (arith, all_settled) in
+      come.fates
+      ∙ ap (λ (fs : List Fate). k.fates ++ (fs ++ fates_from 0 rest)) (open_rollback at r rest 0 (open_count k))
+      ∙ sym (append_assoc k.fates (replicate (open_count k) Discarded) (fates_from 0 rest))
+      ∙ ap (λ (m : ℕ). (k.fates ++ replicate (open_count k) Discarded) ++ (open_fates rest 0 m ++ fates_from m rest)) none
+
+  pub come_rollback : HasCome t e rest (with_rollback k at r)
+  come_rollback = record {
+    front = come.front ++ (at, RollsBack r) ∷ [];
+    split = one_more t e (at, RollsBack r) rest k come right;
+    right = still_right t e (at, RollsBack r) rest k come right;
+    stands = stands_next t e (at, RollsBack r) rest k come right _ rollback_stands;
+    attempts = come.attempts ∙ ap (map ran) (sym (attempts_among-push come.front (at, RollsBack r) ∙ append-nil (attempts_among come.front)));
+    is_kept = record { within = come.is_kept.within; fewer = rollback_stands.fewer };
+    fates = rollback_fates;
+    rollbacks = ap (λ (rs : List (ℕ × Rollback)). rs ++ (at, r) ∷ []) come.rollbacks ∙ sym (rollbacks_among-push come.front (at, RollsBack r));
+    fit = rest_fits t e (at, RollsBack r) rest k come right;
+  }
+
+-- ---- behind the last step
+
+module _ (t : Trace) (e : ℕ) (k : Kept) (come : HasCome t e [] k) where
+  all_came : steps_at t e ≡ come.front
+  all_came = come.split ∙ append-nil come.front
+
+  pub come_right : are_right t start (steps_at t e) ≡ true
+  come_right = ap (are_right t start) all_came ∙ come.right
+
+  pub come_faultless : (f : Fault) → IsStructureFault t e f → ⊥
+  come_faultless f is =
+      none_stands t e f (ap (first_wrong t start) come.split ∙ steps_on t start come.front [] come.right) is
+
+  pub come_told : telling_of k ≡ telling t e
+  unfolding telling
+  come_told =
+      let fates : k.fates ++ replicate (open_count k) Open ≡ fates_from 0 (steps_at t e) =
+      ap (λ (fs : List Fate). k.fates ++ fs) (sym (append-nil (replicate (open_count k) Open)) ∙ ap (λ (fs : List Fate). fs ++ []) (sym (open_end 0 (open_count k)))) ∙ sym come.fates in
+      λ i. record {
+        committed = (come.stands.last ∙ ap (λ (xs : List (ℕ × Step)). (state_after start xs).last) (sym all_came)) i;
+        attempts = (come.attempts ∙ ap (λ (xs : List (ℕ × Step)). map ran (attempts_among xs)) (sym all_came)) i;
+        fates = fates i;
+        rollbacks = (come.rollbacks ∙ ap rollbacks_among (sym all_came)) i;
+      }

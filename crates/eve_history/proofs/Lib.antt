@@ -1,0 +1,13 @@
+pub mod Counting
+pub mod Groups
+pub mod Places
+pub mod OrderLaws
+pub mod Marking
+pub mod Finding
+pub mod Coming
+pub mod Records
+pub mod Taking
+pub mod FateLaws
+pub mod Positions
+pub mod Structure
+pub mod Tickets

@@ -1,0 +1,231 @@
+-- Customers and batches, one after another: the first that is there again.
+use Rattle.std.proofs.Common.{◌≡◌, ℕ, zero, suc, ◌+◌, ◌<◌, ◌≤◌, Bool, true, List, [], ◌∷◌, ◌++◌, map, length, take, drop, slice_get, Contains, Some, None, refl, sym, ap, subst, ◌∙◌, inl, inr, add-one, arith}
+use Rattle.std.specs.List.{flat_map, list_all}
+use Rattle.std.proofs.lemmas.Bool.{and_parts, cases_lt}
+use Rattle.std.proofs.lemmas.List.{append-nil, map-append, take_all, length-map, length-take-le}
+use Rattle.std.proofs.lemmas.List.Concat.{flat_map-append}
+use Rattle.std.proofs.lemmas.List.FromFn.{length-enumerate_from}
+use Rattle.eve_accounts.specs.Names.{is_name, NameList}
+use Rattle.eve_grammar.specs.Trace.{Customer, Batch, Trace}
+use Rattle.eve_grammar.specs.Frames.{batches_of}
+use Rattle.eve_grammar.specs.Spelling.{located, customer_text, batch_text, batches_start, customers_at, batches_at}
+use Rattle.eve_grammar.specs.Limits.{is_customer, HasLimits}
+use Rattle.eve_views.specs.declared.fault.Code.{Code}
+use Rattle.eve_views.specs.declared.fault.Code.TheVariants as code
+use Rattle.eve_views.specs.declared.fault.Fault.{Fault}
+use Rattle.eve_views.specs.Code.{number_of}
+use Rattle.eve_views.specs.Form.{IsUpTo}
+use Rattle.eve_history.specs.Told.{names_of}
+use Rattle.eve_history.specs.Faults.{SomePlace, name_at, Ticket, tickets_at, IsNamedAgain, IsAskedAgain, StandsInOrders, IsOrderFault, IsLeastOrderFault}
+use Rattle.eve_history.specs.Notes.{IsRepeated, AreNoted, HasDistinctNames, HasDistinctRequests}
+use Rattle.eve_history.proofs.Places.{no_place, place_push, cut_at, Rising, located_rising, first_place, from_low, located_within, weaker_place}
+
+-- ---- lists
+
+pub take_one_more : {A : Type 0} (xs : List A) (i : ℕ) (x : A) → slice_get xs i ≡ Some x → take (i + 1) xs ≡ take i xs ++ x ∷ []
+take_one_more {A = A} xs i x e = ap (λ (n : ℕ). take n xs) (add-one i) ∙ by xs i e
+  where
+    same : (y : A) → Some y ≡ Some x → y ≡ x
+    same y e = cc
+
+    by : (xs : List A) (i : ℕ) → slice_get xs i ≡ Some x → take (suc i) xs ≡ take i xs ++ x ∷ []
+    by [] i e = absurd (cc)
+    by (y ∷ xs) zero e = ap (λ (z : A). z ∷ []) (same y e)
+    by (y ∷ xs) (suc i) e = ap (λ (zs : List A). y ∷ zs) (by xs i e)
+
+pub of_located : {A : Type 0} (text : A → List ℕ) (at : ℕ) (xs : List A) (i : ℕ) (x : ℕ × A) → slice_get (located text at xs) i ≡ Some x → slice_get xs i ≡ Some x.1
+of_located text at [] i x e = absurd (cc)
+of_located {A = A} text at (y ∷ xs) zero x e = ap Some (same (at, y) x e)
+  where
+    same : (v w : ℕ × A) → Some v ≡ Some w → v.1 ≡ w.1
+    same v w e = ap (λ (u : ℕ × A). u.1) (inside v w e)
+      where
+        inside : (v w : ℕ × A) → Some v ≡ Some w → v ≡ w
+        inside v w e = cc
+of_located text at (y ∷ xs) (suc i) x e = of_located text (at + length (text y)) xs i x e
+
+pub length-located : {A : Type 0} (text : A → List ℕ) (at : ℕ) (xs : List A) → length (located text at xs) ≡ length xs
+length-located text at [] = refl
+length-located text at (x ∷ xs) = ap suc (length-located text (at + length (text x)) xs)
+
+pub all_at : {A : Type 0} (p : A → Bool) (xs : List A) (i : ℕ) (x : A) → list_all p xs ≡ true → slice_get xs i ≡ Some x → p x ≡ true
+all_at p [] i x all e = absurd (cc)
+all_at {A = A} p (y ∷ xs) zero x all e = ap p (sym (same y x e)) ∙ (and_parts (p y) (list_all p xs) all).0
+  where
+    same : (y x : A) → Some y ≡ Some x → y ≡ x
+    same y x e = cc
+all_at p (y ∷ xs) (suc i) x all e = all_at p xs i x (and_parts (p y) (list_all p xs) all).1 e
+
+up_to : (f g : Fault) → f.offset ≤ g.offset → number_of f.code ≤ number_of g.code → IsUpTo f g
+up_to f g le number = elim (cases_lt f.offset g.offset) [
+  | inl lt ↦ inl lt
+  | inr ge ↦ inr (omega arith, number)
+]
+
+-- ---- customers
+
+-- so many customers have come, and no name twice
+pub record Naming (t : Trace) (i : ℕ) (names : NameList) : Type 0 where
+  pub items : names.items ≡ map name_at (take i (customers_at t))
+  pub limit : names.limit ≡ length t.customers
+  pub apart : ¬ SomePlace (take i (customers_at t)) IsNamedAgain
+
+pub naming_start : (t : Trace) (names : NameList) → names.items ≡ [] → names.limit ≡ length t.customers → Naming t 0 names
+naming_start t names none limit = record { items = none; limit = limit; apart = no_place IsNamedAgain }
+
+pub naming_more : (t : Trace) (i : ℕ) (names after : NameList) (c : ℕ × Customer) → Naming t i names → slice_get (customers_at t) i ≡ Some c → ¬ Contains names.items (name_at c)
+    → after ≡ record names { items = names.items ++ name_at c ∷ [] } → Naming t (i + 1) after
+naming_more t i names after c naming at new added =
+    let more = take_one_more (customers_at t) i c at in
+    record {
+      items = ap (λ (n : NameList). n.items) added ∙ ap (λ (ns : List (List ℕ)). ns ++ name_at c ∷ []) naming.items
+          ∙ sym (map-append name_at (take i (customers_at t)) (c ∷ [])) ∙ ap (map name_at) (sym more);
+      limit = ap (λ (n : NameList). n.limit) added ∙ naming.limit;
+      apart = λ again. elim (place_push IsNamedAgain (take i (customers_at t)) c (subst (λ xs. SomePlace xs IsNamedAgain) more again)) [
+        | inl front ↦ naming.apart front
+        | inr here ↦ new (subst (λ (ns : List (List ℕ)). Contains ns (name_at c)) (sym naming.items) here)
+      ];
+    }
+
+customer_count : (t : Trace) → length (customers_at t) ≡ length t.customers
+unfolding customers_at
+customer_count t = length-located customer_text 32 t.customers
+
+pub naming_room : (t : Trace) (i : ℕ) (names : NameList) → Naming t i names → i < length t.customers → length names.items < names.limit
+naming_room t i names naming lt =
+    let few : i ≤ length (customers_at t) = omega (arith, customer_count t) in
+    let count : length names.items ≡ i = ap length naming.items ∙ length-map (take i (customers_at t)) name_at ∙ length-take-le i (customers_at t) few in
+    omega (arith, naming.limit)
+
+pub is_named : (t : Trace) (i : ℕ) (c : ℕ × Customer) → HasLimits t → slice_get (customers_at t) i ≡ Some c → is_name (name_at c) ≡ true
+unfolding customers_at
+is_named t i c limits at = (and_parts (is_name c.1.name) _ (all_at is_customer t.customers i c.1 limits.customers (of_located customer_text 32 t.customers i c at))).0
+
+names_are : (t : Trace) → map name_at (customers_at t) ≡ names_of t
+unfolding customers_at
+names_are t = by 32 t.customers
+  where
+    by : (at : ℕ) (xs : List Customer) → map name_at (located customer_text at xs) ≡ map (λ c. c.name) xs
+    by at [] = refl
+    by at (x ∷ xs) = ap (λ (ns : List (List ℕ)). x.name ∷ ns) (by (at + length (customer_text x)) xs)
+
+all_customers : (t : Trace) (i : ℕ) → length t.customers ≤ i → take i (customers_at t) ≡ customers_at t
+all_customers t i le = take_all i (customers_at t) (omega (arith, customer_count t))
+
+pub naming_end : (t : Trace) (i : ℕ) (names : NameList) → Naming t i names → length t.customers ≤ i → names.items ≡ names_of t
+naming_end t i names naming le = naming.items ∙ ap (map name_at) (all_customers t i le) ∙ names_are t
+
+pub naming_apart : (t : Trace) (i : ℕ) (names : NameList) → Naming t i names → length t.customers ≤ i → HasDistinctNames t
+naming_apart t i names naming le = λ at again.
+    naming.apart (subst (λ xs. SomePlace xs IsNamedAgain) (sym (all_customers t i le)) (weaker_place _ IsNamedAgain (customers_at t) (λ b c h. h.1) again))
+
+customers_rise : (t : Trace) → Rising 32 (customers_at t)
+unfolding customers_at
+customers_rise t = located_rising customer_text 32 t.customers
+
+batches_rise : (t : Trace) → Rising (batches_start t) (batches_at t)
+unfolding batches_at
+batches_rise t = located_rising batch_text (batches_start t) (batches_of t)
+
+customers_within : (t : Trace) (at : ℕ) → StandsInOrders code.SameName t at → at ≤ batches_start t
+unfolding customers_at
+customers_within t at again = located_within IsNamedAgain customer_text 32 at t.customers again
+
+abbrev pub fault : Code → ℕ → Fault
+fault c at = record { code = c; offset = at; replica = None }
+
+pub named_again : (t : Trace) (i : ℕ) (names : NameList) (c : ℕ × Customer) → Naming t i names → slice_get (customers_at t) i ≡ Some c → Contains names.items (name_at c)
+    → IsLeastOrderFault t (fault code.SameName c.0)
+named_again t i names c naming at again = record {
+  is = record { stands = here; outside = refl };
+  least = λ g other. by g.code g refl other.stands;
+}
+  where
+    here : StandsInOrders code.SameName t c.0
+    here = record {
+      before = take i (customers_at t);
+      item = c;
+      rest = drop (suc i) (customers_at t);
+      is = cut_at (customers_at t) i c at;
+      holds = (refl, subst (λ (ns : List (List ℕ)). Contains ns (name_at c)) naming.items again);
+    }
+
+    by : (d : Code) (g : Fault) → g.code ≡ d → StandsInOrders d t g.offset → IsUpTo (fault code.SameName c.0) g
+    by code.SameName g e stands =
+        up_to (fault code.SameName c.0) g
+        (first_place IsNamedAgain 32 g.offset (take i (customers_at t)) c (drop (suc i) (customers_at t)) (subst (Rising 32) (cut_at (customers_at t) i c at) (customers_rise t)) naming.apart
+        (subst (λ xs. SomePlace xs (λ b y. (y.0 ≡ g.offset) × IsNamedAgain b y)) (cut_at (customers_at t) i c at) stands))
+        (let number : number_of g.code ≡ 10 = ap number_of e in omega arith)
+    by code.SameRequest g e stands =
+        let from = from_low IsAskedAgain (batches_start t) g.offset (batches_at t) (batches_rise t) stands in
+        let to = customers_within t c.0 here in
+        up_to (fault code.SameName c.0) g (omega arith) (let number : number_of g.code ≡ 11 = ap number_of e in omega arith)
+    by d g e stands = absurd stands
+
+-- ---- requests
+
+-- the requests of so many batches have come, and none twice
+pub record Asking (t : Trace) (i : ℕ) (noted : List Ticket) : Type 0 where
+  pub items : noted ≡ flat_map tickets_at (take i (batches_at t))
+  pub apart : ¬ SomePlace (take i (batches_at t)) IsAskedAgain
+
+pub asking_start : (t : Trace) → Asking t 0 []
+asking_start t = record { items = refl; apart = no_place IsAskedAgain }
+
+pub asking_more : (t : Trace) (i : ℕ) (noted after : List Ticket) (b : ℕ × (ℕ × Batch)) → Asking t i noted → slice_get (batches_at t) i ≡ Some b → AreNoted noted (tickets_at b) after
+    → Asking t (i + 1) after
+asking_more t i noted after b asking at more =
+    let one = take_one_more (batches_at t) i b at in
+    record {
+      items = more.noted ∙ ap (λ (ts : List Ticket). ts ++ tickets_at b) asking.items
+          ∙ ap (λ (ts : List Ticket). flat_map tickets_at (take i (batches_at t)) ++ ts) (sym (append-nil (tickets_at b)))
+          ∙ sym (flat_map-append tickets_at (take i (batches_at t)) (b ∷ [])) ∙ ap (flat_map tickets_at) (sym one);
+      apart = λ again. elim (place_push IsAskedAgain (take i (batches_at t)) b (subst (λ xs. SomePlace xs IsAskedAgain) one again)) [
+        | inl front ↦ asking.apart front
+        | inr here ↦ more.new (subst (λ (ts : List Ticket). IsRepeated ts (tickets_at b)) (sym asking.items) here)
+      ];
+    }
+
+batch_count : (t : Trace) → length (batches_at t) ≡ length t.batches
+unfolding batches_at
+batch_count t = length-located batch_text (batches_start t) (batches_of t) ∙ length-enumerate_from 1 t.batches
+
+pub asking_apart : (t : Trace) (i : ℕ) (noted : List Ticket) → Asking t i noted → length t.batches ≤ i → HasDistinctRequests t
+asking_apart t i noted asking le = λ at again.
+    let all : take i (batches_at t) ≡ batches_at t = take_all i (batches_at t) (omega (arith, batch_count t)) in
+    asking.apart (subst (λ xs. SomePlace xs IsAskedAgain) (sym all) (weaker_place _ IsAskedAgain (batches_at t) (λ b c h. h.1) again))
+
+pub asked_again : (t : Trace) (i : ℕ) (noted : List Ticket) (b : ℕ × (ℕ × Batch)) → HasDistinctNames t → Asking t i noted → slice_get (batches_at t) i ≡ Some b → IsRepeated noted (tickets_at b)
+    → IsLeastOrderFault t (fault code.SameRequest b.0)
+asked_again t i noted b distinct asking at again = record {
+  is = record {
+    stands = record {
+      before = take i (batches_at t);
+      item = b;
+      rest = drop (suc i) (batches_at t);
+      is = cut_at (batches_at t) i b at;
+      holds = (refl, subst (λ (ts : List Ticket). IsRepeated ts (tickets_at b)) asking.items again);
+    };
+    outside = refl;
+  };
+  least = λ g other. by g.code g refl other.stands;
+}
+  where
+    by : (d : Code) (g : Fault) → g.code ≡ d → StandsInOrders d t g.offset → IsUpTo (fault code.SameRequest b.0) g
+    by code.SameRequest g e stands =
+        up_to (fault code.SameRequest b.0) g
+        (first_place IsAskedAgain (batches_start t) g.offset (take i (batches_at t)) b (drop (suc i) (batches_at t)) (subst (Rising (batches_start t)) (cut_at (batches_at t) i b at) (batches_rise t)) asking.apart
+        (subst (λ xs. SomePlace xs (λ b y. (y.0 ≡ g.offset) × IsAskedAgain b y)) (cut_at (batches_at t) i b at) stands))
+        (let number : number_of g.code ≡ 11 = ap number_of e in omega arith)
+    by code.SameName g e stands = absurd (distinct g.offset stands)
+    by d g e stands = absurd stands
+
+-- ---- neither
+
+pub none_twice : (t : Trace) → HasDistinctNames t → HasDistinctRequests t → (f : Fault) → ¬ IsOrderFault t f
+none_twice t names requests f is = by f.code is.stands
+  where
+    by : (c : Code) → ¬ StandsInOrders c t f.offset
+    by code.SameName stands = names f.offset stands
+    by code.SameRequest stands = requests f.offset stands
+    by c stands = stands

@@ -1,0 +1,43 @@
+use Rattle.std.proofs.Common.{◌≡◌, ℕ, List, [], ◌∷◌, sym, subst, rules}
+use Rattle.std.proofs.lemmas.Result.{err_from_is_err_and}
+use Rattle.eve_grammar.specs.Trace.{Step}
+use Rattle.eve_grammar.specs.Spelling.{steps_at}
+use Rattle.eve_views.specs.Fronts.{whole}
+use Rattle.eve_views.specs.StepKinds.{IsStep}
+use Rattle.eve_views.specs.declared.fault.Fault.{Fault}
+use Rattle.eve_history.specs.Faults.{IsLeastStructureFault}
+use Rattle.eve_history.specs.Coming.{Kept, kept, HasCome}
+use Rattle.eve_history.proofs.Coming.{come_start, come_told, come_faultless}
+use Rattle.eve_history.proofs.Taking.{weaker_found}
+use Rattle.eve_history.proofs.history.History.of.Goals as goal
+
+pub loop-step-init : goal.loop-step-init
+loop-step-init c =
+    let t = whole c.args.trace.now in
+    let e = c.args.e in
+    subst (λ (xs : List (ℕ × Step)). HasCome t e xs (kept c.new-notes.result)) (sym c.section-steps.ensures)
+    (subst (λ (k : Kept). HasCome t e (steps_at t e) k) (sym c.new-notes.ensures) (come_start t e c.is_whole.ensures.limits))
+
+pub returns-in_err-take-clause-least : goal.returns-in_err-take-clause-least
+returns-in_err-take-clause-least c =
+    let t = whole c.args.trace.now in
+    let e = c.args.e in
+    let some = c.in-Some.ensures.some in
+    let come = subst (λ (xs : List (ℕ × Step)). HasCome t e xs (kept c.loop-step.notes)) some.1 c.loop-step.invariant in
+    let P : Fault → Type 0 =
+    λ f. (rest : List (ℕ × Step)) (next : ℕ × Step) → HasCome t e (next ∷ rest) (kept c.loop-step.notes) → IsStep c.in-Some.step next → IsLeastStructureFault t e f in
+    let least = weaker_found c.in_err-take.field-0.0 P (IsLeastStructureFault t e) (λ f wrong. wrong c.next.new.self some.0 come some.2) c.in_err-take.ensures.wrong in
+    let p = err_from_is_err_and c.from_residual.result c.from_residual.ensures.1 in
+    rw (p.1, p.2) least
+
+pub returns-clause-telling : goal.returns-clause-telling
+returns-clause-telling c =
+    let t = whole c.args.trace.now in
+    let none : c.loop-step.steps ≡ [] = search rules in
+    come_told t c.args.e (kept c.loop-step.notes) (subst (λ (xs : List (ℕ × Step)). HasCome t c.args.e xs (kept c.loop-step.notes)) none c.loop-step.invariant)
+
+pub returns-clause-none : goal.returns-clause-none
+returns-clause-none c =
+    let t = whole c.args.trace.now in
+    let none : c.loop-step.steps ≡ [] = search rules in
+    come_faultless t c.args.e (kept c.loop-step.notes) (subst (λ (xs : List (ℕ × Step)). HasCome t c.args.e xs (kept c.loop-step.notes)) none c.loop-step.invariant)

@@ -1,0 +1,41 @@
+use Rattle.std.proofs.Common.{sym, subst, ◌∙◌}
+use Rattle.std.proofs.lemmas.Result.{MatchResult-weaker, on_ok_weaker}
+use Rattle.eve_views.specs.Fronts.{whole}
+use Rattle.eve_views.specs.StepKinds.{IsStep}
+use Rattle.eve_history.specs.Coming.{kept}
+use Rattle.eve_history.proofs.Taking.{weaker_found, comes_next, commit_next, rollback_next}
+use Rattle.eve_history.proofs.history.take.Goals as goal
+
+pub returns-in-Attempt-clause-taken : goal.returns-in-Attempt-clause-taken
+returns-in-Attempt-clause-taken c =
+    on_ok_weaker c.take_attempt.result (λ taken rest next come is.
+    let found = comes_next (whole c.args.trace.now) c.args.e rest next (kept c.args.notes.now) c.in-Attempt.attempt c.in-Attempt.accesses (subst (λ s. IsStep s next) c.in-Attempt.is is) come in
+    taken rest found.0 found.1) c.take_attempt.ensures.taken
+
+pub returns-in-Attempt-clause-wrong : goal.returns-in-Attempt-clause-wrong
+returns-in-Attempt-clause-wrong c =
+    MatchResult-weaker c.take_attempt.result c.take_attempt.ensures.wrong (λ _ h. h) (λ x h. weaker_found x _ _ (λ f wrong rest next come is.
+    let found = comes_next (whole c.args.trace.now) c.args.e rest next (kept c.args.notes.now) c.in-Attempt.attempt c.in-Attempt.accesses (subst (λ s. IsStep s next) c.in-Attempt.is is) come in
+    wrong rest found.0 found.1) h)
+
+pub returns-in-Commit-clause-taken : goal.returns-in-Commit-clause-taken
+returns-in-Commit-clause-taken c =
+    on_ok_weaker c.take_commit.result (λ taken rest next come is.
+    taken (whole c.args.trace.now) rest (commit_next (whole c.args.trace.now) c.args.e rest next (kept c.args.notes.now) c.in-Commit.commit (subst (λ s. IsStep s next) c.in-Commit.is is) come)) c.take_commit.ensures.taken
+
+pub returns-in-Commit-clause-wrong : goal.returns-in-Commit-clause-wrong
+returns-in-Commit-clause-wrong c =
+    MatchResult-weaker c.take_commit.result c.take_commit.ensures.wrong (λ _ h. h) (λ x h. weaker_found x _ _ (λ f wrong rest next come is.
+    wrong (whole c.args.trace.now) rest (commit_next (whole c.args.trace.now) c.args.e rest next (kept c.args.notes.now) c.in-Commit.commit (subst (λ s. IsStep s next) c.in-Commit.is is) come)) h)
+
+pub returns-in-Rollback-clause-taken : goal.returns-in-Rollback-clause-taken
+returns-in-Rollback-clause-taken c =
+    on_ok_weaker c.take_rollback.result (λ taken rest next come is.
+    taken (whole c.args.trace.now) rest (c.head.ensures ∙ sym c.is_whole.ensures.head)
+    (rollback_next (whole c.args.trace.now) c.args.e rest next (kept c.args.notes.now) c.in-Rollback.rollback (subst (λ s. IsStep s next) c.in-Rollback.is is) come)) c.take_rollback.ensures.taken
+
+pub returns-in-Rollback-clause-wrong : goal.returns-in-Rollback-clause-wrong
+returns-in-Rollback-clause-wrong c =
+    MatchResult-weaker c.take_rollback.result c.take_rollback.ensures.wrong (λ _ h. h) (λ x h. weaker_found x _ _ (λ f wrong rest next come is.
+    wrong (whole c.args.trace.now) rest (c.head.ensures ∙ sym c.is_whole.ensures.head)
+    (rollback_next (whole c.args.trace.now) c.args.e rest next (kept c.args.notes.now) c.in-Rollback.rollback (subst (λ s. IsStep s next) c.in-Rollback.is is) come)) h)

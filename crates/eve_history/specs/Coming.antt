@@ -1,0 +1,110 @@
+-- What is kept of a section's steps that have come.
+use Rattle.std.specs.Prelude.{◌≡◌, ℕ, zero, suc, ◌+◌, ◌-◌, ◌≤◌, Bool, true, IsTrue, List, [], ◌∷◌, ◌++◌, map, length, take, drop, replicate}
+use Rattle.std.specs.List.{AllByRecursion, list_all}
+use Rattle.eve_grammar.specs.Trace.{Access, Attempt, Rollback, Step, Attempts, Trace, head_of}
+use Rattle.eve_grammar.specs.Frames.{without_accesses}
+use Rattle.eve_grammar.specs.Spelling.{steps_at, accesses_at}
+use Rattle.eve_grammar.specs.Limits.{is_step, row_count}
+use Rattle.eve_frames.specs.Views.{attempt_in, access_in, rollback_in}
+use Rattle.eve_frames.specs.declared.access.AccessView.{AccessView}
+use Rattle.eve_frames.specs.declared.rollback.RollbackView.{RollbackView}
+use Rattle.eve_history.specs.declared.fate.Fate.{Fate}
+use Rattle.eve_history.specs.declared.fate.Fate.TheVariants.{Open}
+use Rattle.eve_history.specs.declared.notes.Attempted.{Attempted}
+use Rattle.eve_history.specs.declared.notes.Notes.{Notes}
+use Rattle.eve_history.specs.Section.{SectionState, start, state_after, are_right}
+use Rattle.eve_history.specs.Fates.{fate_in, fates_from}
+use Rattle.eve_history.specs.Told.{Ran, ran, attempts_among, rollbacks_among, Telling}
+
+-- ---- what is kept
+
+-- an attempt, and where its access records begin among those of the section
+pub record KeptAttempt : Type 0 where
+  pub offset : ℕ
+  pub attempt : Attempt
+  pub from : ℕ
+
+-- Attempts stand in the order of their frames. The first of them are settled, and have a fate.
+pub record Kept : Type 0 where
+  pub view : ℕ
+  pub last : ℕ
+  pub rolled_back : Bool
+  pub attempts : List KeptAttempt
+  pub fates : List Fate
+  pub records : List (ℕ × Access)
+  pub rollbacks : List (ℕ × Rollback)
+
+abbrev pub seen : AccessView → ℕ × Access
+seen v = (v.offset, access_in v.bytes.now)
+
+abbrev pub rolled : RollbackView → ℕ × Rollback
+rolled v = (v.offset, rollback_in v.bytes.now)
+
+abbrev pub kept_attempt : Attempted → KeptAttempt
+kept_attempt a = record { offset = a.view.offset; attempt = attempt_in a.view.bytes.now; from = a.from }
+
+abbrev pub kept : Notes → Kept
+kept n = record {
+  view = n.view;
+  last = n.last;
+  rolled_back = n.rolled_back;
+  attempts = map kept_attempt n.attempts.items;
+  fates = n.fates.items;
+  records = map seen n.records.items;
+  rollbacks = map rolled n.rollbacks.items;
+}
+
+-- how many attempts are open
+abbrev pub open_count : Kept → ℕ
+open_count k = length k.attempts - length k.fates
+
+-- ---- what it tells
+
+abbrev pub kept_ran : List (ℕ × Access) → KeptAttempt → Ran
+kept_ran records a = record { offset = a.offset; attempt = a.attempt; ordered = take (length a.attempt.certificate) (drop a.from records) }
+
+abbrev pub telling_of : Kept → Telling
+telling_of k = record {
+  committed = k.last;
+  attempts = map (kept_ran k.records) k.attempts;
+  fates = k.fates ++ replicate (open_count k) Open;
+  rollbacks = k.rollbacks;
+}
+
+-- the records of each attempt are there, and no more fates than attempts
+pub record IsKept (k : Kept) : Type 0 where
+  pub within : AllByRecursion (λ a. a.from + length a.attempt.certificate ≤ length k.records) k.attempts
+  pub fewer : length k.fates ≤ length k.attempts
+
+-- ---- while steps come
+
+-- where the section has come to, in numbers
+pub record StandsAt (s : SectionState) (k : Kept) : Type 0 where
+  pub view : k.view ≡ s.view
+  pub last : k.last ≡ s.last
+  pub rolled_back : k.rolled_back ≡ s.rolled_back
+  pub pending : map (λ p. without_accesses p.attempt) s.pending ≡ drop (length k.fates) (map (λ a. a.attempt) k.attempts)
+  pub fewer : length k.fates ≤ length k.attempts
+
+-- what becomes of this many open attempts in the steps, that many being open before them
+abbrev pub open_fates : List (ℕ × Step) → ℕ → ℕ → List Fate
+open_fates steps before zero = []
+open_fates steps before (suc n) = fate_in steps before ∷ open_fates steps (suc before) n
+
+-- these steps of replica e's section are still to come, all before them were right, and this is kept of those
+pub record HasCome (t : Trace) (e : ℕ) (rest : List (ℕ × Step)) (k : Kept) : Type 0 where
+  pub front : List (ℕ × Step)
+  pub split : steps_at t e ≡ front ++ rest
+  pub right : are_right t start front ≡ true
+  pub stands : StandsAt (state_after start front) k
+  pub attempts : map (kept_ran k.records) k.attempts ≡ map ran (attempts_among front)
+  pub is_kept : IsKept k
+  pub fates : fates_from 0 (steps_at t e) ≡ k.fates ++ (open_fates rest 0 (open_count k) ++ fates_from (open_count k) rest)
+  pub rollbacks : k.rollbacks ≡ rollbacks_among front
+  pub fit : IsTrue (list_all (λ x. is_step (row_count (head_of t)) x.1) rest)
+
+-- an attempt comes next, and this is what its frames say
+pub record ComesNext (t : Trace) (e : ℕ) (rest : List (ℕ × Step)) (b : Attempt) (k : Kept) (at : ℕ) (said : Attempt) (records : List (ℕ × Access)) : Type 0 where
+  pub come : HasCome t e ((at, Attempts b) ∷ rest) k
+  pub attempt : said ≡ without_accesses b
+  pub accesses : records ≡ accesses_at at b

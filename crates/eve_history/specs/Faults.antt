@@ -1,0 +1,107 @@
+-- The faults of orders and of structure, and where they stand. docs/MODEL.md, "Faults".
+use Rattle.std.specs.Prelude.{◌≡◌, ℕ, IsTrue, IsFalse, List, [], ◌∷◌, ◌++◌, map, Contains, Some, None}
+use Rattle.std.specs.List.{flat_map}
+use Rattle.eve_grammar.specs.Trace.{Customer, Asked, Batch, Access, Attempt, Commit, Rollback, Step, Attempts, Commits, RollsBack, Trace}
+use Rattle.eve_grammar.specs.Spelling.{customers_at, batches_at, steps_at, accesses_at}
+use Rattle.eve_views.specs.declared.fault.Code.{Code}
+use Rattle.eve_views.specs.declared.fault.Code.TheVariants as code
+use Rattle.eve_views.specs.declared.fault.Fault.{Fault}
+use Rattle.eve_views.specs.Form.{IsUpTo}
+use Rattle.eve_history.specs.Section.{SectionState, start, state_after, is_right_attempt, is_right_certificate, is_right_access, is_right_place, is_right_commit, is_right_rollback, are_right_accesses, are_right}
+
+-- at some place of the list the fact holds, of what stands before and of what stands there
+pub record SomePlace {A : Type 0} (xs : List A) (P : List A → A → Type 0) : Type 0 where
+  pub before : List A
+  pub item : A
+  pub rest : List A
+  pub is : xs ≡ before ++ item ∷ rest
+  pub holds : P before item
+
+-- ---- orders
+
+abbrev pub name_at : ℕ × Customer → List ℕ
+name_at c = c.1.name
+
+-- a request's client, and the client's number for it
+abbrev pub Ticket : Type 0
+Ticket = ℕ × ℕ
+
+abbrev pub ticket : Asked → Ticket
+ticket a = (a.client, a.number)
+
+-- those of a batch's requests
+abbrev pub tickets_at : ℕ × (ℕ × Batch) → List Ticket
+tickets_at b = map ticket b.1.1.requests
+
+-- an earlier customer has the name
+abbrev pub IsNamedAgain : List (ℕ × Customer) → ℕ × Customer → Type 0
+IsNamedAgain before c = Contains (map name_at before) (name_at c)
+
+-- one of the batch's requests occurs earlier, in the batch or before it
+abbrev pub IsAskedAgain : List (ℕ × (ℕ × Batch)) → ℕ × (ℕ × Batch) → Type 0
+IsAskedAgain before b = SomePlace (tickets_at b) (λ earlier own. Contains (flat_map tickets_at before ++ earlier) own)
+
+-- a fault of orders stands at this offset
+abbrev pub StandsInOrders : Code → Trace → ℕ → Type 0
+StandsInOrders code.SameName t at = SomePlace (customers_at t) (λ before c. (c.0 ≡ at) × IsNamedAgain before c)
+StandsInOrders code.SameRequest t at = SomePlace (batches_at t) (λ before b. (b.0 ≡ at) × IsAskedAgain before b)
+StandsInOrders _ t at = ⊥
+
+-- the fault is one of orders; it lies outside the sections
+pub record IsOrderFault (t : Trace) (f : Fault) : Type 0 where
+  pub stands : StandsInOrders f.code t f.offset
+  pub outside : f.replica ≡ None
+
+-- the first of the faults of orders
+pub record IsLeastOrderFault (t : Trace) (f : Fault) : Type 0 where
+  pub is : IsOrderFault t f
+  pub least : (g : Fault) → IsOrderFault t g → IsUpTo f g
+
+-- ---- structure
+
+abbrev pub OfAttempt : Step → (Attempt → Type 0) → Type 0
+OfAttempt (Attempts a) P = P a
+OfAttempt _ P = ⊥
+
+abbrev pub OfCommit : Step → (Commit → Type 0) → Type 0
+OfCommit (Commits c) P = P c
+OfCommit _ P = ⊥
+
+abbrev pub OfRollback : Step → (Rollback → Type 0) → Type 0
+OfRollback (RollsBack r) P = P r
+OfRollback _ P = ⊥
+
+-- of a step of replica e before which all steps are right: its offset, where the section has come to, and the step
+abbrev pub AtStep : Trace → ℕ → (ℕ → SectionState → Step → Type 0) → Type 0
+AtStep t e P = SomePlace (steps_at t e) (λ before step. IsTrue (are_right t start before) × P step.0 (state_after start before) step.1)
+
+abbrev pub accesses_of : List (ℕ × Access) → List Access
+accesses_of xs = map (λ x. x.1) xs
+
+-- of an access record of an attempt of replica e, where all frames of the section before it are right: its
+-- offset, the attempt, the records of the attempt before it, and the record
+abbrev pub AtAccess : Trace → ℕ → (ℕ → Attempt → List Access → Access → Type 0) → Type 0
+AtAccess t e P = AtStep t e (λ offset s step. OfAttempt step (λ a.
+    IsTrue (is_right_attempt t s a) × IsTrue (is_right_certificate t a)
+    × SomePlace (accesses_at offset a) (λ before x. IsTrue (are_right_accesses t a [] (accesses_of before)) × P x.0 a (accesses_of before) x.1)))
+
+-- A fault of structure stands at this offset in replica e's section. It is judged where all frames of the
+-- section before it are right, so that only the first wrong frame counts, with all that is wrong with it.
+abbrev pub StandsInStructure : Code → Trace → ℕ → ℕ → Type 0
+StandsInStructure code.Attempt t e at = AtStep t e (λ offset s step. (offset ≡ at) × OfAttempt step (λ a. IsFalse (is_right_attempt t s a)))
+StandsInStructure code.Certificate t e at = AtStep t e (λ offset s step. (offset ≡ at) × OfAttempt step (λ a. IsFalse (is_right_certificate t a)))
+StandsInStructure code.Access t e at = AtAccess t e (λ offset a before x. (offset ≡ at) × IsFalse (is_right_access t a before x))
+StandsInStructure code.WorkerOrder t e at = AtAccess t e (λ offset a before x. (offset ≡ at) × IsFalse (is_right_place before x))
+StandsInStructure code.Commit t e at = AtStep t e (λ offset s step. (offset ≡ at) × OfCommit step (λ c. IsFalse (is_right_commit s c)))
+StandsInStructure code.Rollback t e at = AtStep t e (λ offset s step. (offset ≡ at) × OfRollback step (λ r. IsFalse (is_right_rollback t s r)))
+StandsInStructure _ t e at = ⊥
+
+-- the fault is one of structure in replica e's section
+pub record IsStructureFault (t : Trace) (e : ℕ) (f : Fault) : Type 0 where
+  pub stands : StandsInStructure f.code t e f.offset
+  pub inside : f.replica ≡ Some e
+
+-- the first of the faults of structure in replica e's section
+pub record IsLeastStructureFault (t : Trace) (e : ℕ) (f : Fault) : Type 0 where
+  pub is : IsStructureFault t e f
+  pub least : (g : Fault) → IsStructureFault t e g → IsUpTo f g

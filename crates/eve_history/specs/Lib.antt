@@ -1,0 +1,10 @@
+pub mod Certificate
+pub mod Groups
+pub mod Section
+pub mod Fates
+pub mod Told
+pub mod Faults
+pub mod FirstWrong
+pub mod Notes
+pub mod Marking
+pub mod Coming

@@ -1,0 +1,125 @@
+//! Customers and requests, in the order in which they came.
+
+ghost use Rattle.std.specs.Prelude.{◌≡◌, ◌≤◌, ◌++◌, ◌∷◌, [], Contains, IfOk, IfErr, MatchBool, IsTrue, map, length};
+ghost use Rattle.eve_grammar.specs.Limits.{is_batch};
+ghost use Rattle.eve_frames.specs.Views.{batch_in};
+ghost use Rattle.eve_views.specs.Form.{IfFound};
+ghost use Rattle.eve_views.specs.Fronts.{whole};
+ghost use Rattle.eve_views.specs.declared.fault.Fault.{Fault};
+ghost use Rattle.eve_views.specs.declared.fault.CheckFault.TheVariants.{Found, Memory};
+ghost use Rattle.eve_history.specs.Told.{names_of};
+ghost use Rattle.eve_history.specs.Faults.{IsOrderFault, IsLeastOrderFault, ticket};
+ghost use Rattle.eve_history.specs.Notes.{AreNoted, IsRepeated, requests_said, HasDistinctNames, HasDistinctRequests};
+
+use eve_accounts::{NameFault, Names};
+use eve_frames::BatchView;
+use eve_views::{CheckFault, Code, Fault, Trace};
+use indexmap::IndexSet;
+use std::alloc::Global;
+use std::hash::RandomState;
+
+/// A fault outside the sections.
+fn outside(code: Code, offset: u64) -> CheckFault
+    ensures { result ≡ Found (record { code = code; offset = offset; replica = None }) }
+{
+    CheckFault::Found(Fault {
+        code,
+        offset,
+        replica: None,
+    })
+}
+
+/// Notes a request's client and the client's number for it: whether they are new.
+fn is_new(
+    noted: &mut IndexSet<(u32, u64), RandomState>,
+    ticket: (u32, u64),
+) -> Result<bool, CheckFault>
+    ensures new { IfOk result (λ new. MatchBool new
+        ((¬ Contains noted.old.keys ticket) × (noted.new.keys ≡ noted.old.keys ++ ticket ∷ []))
+        (Contains noted.old.keys ticket)) }
+    ensures memory { IfErr result (λ e. e ≡ Memory) }
+{
+    let is_new = noted.insert(ticket)?;
+    Ok(is_new)
+}
+
+/// Notes the requests of a batch: whether all are new.
+fn are_new(
+    noted: &mut IndexSet<(u32, u64), RandomState>,
+    batch: &BatchView<'_>,
+) -> Result<bool, CheckFault>
+    ensures new { IfOk result (λ new. MatchBool new
+        (AreNoted noted.old.keys (map ticket (requests_said batch.now.bytes.now)) noted.new.keys)
+        (IsRepeated noted.old.keys (map ticket (requests_said batch.now.bytes.now)))) }
+    ensures memory { IfErr result (λ e. e ≡ Memory) }
+{
+    for asked in batch.requests() {
+        if !is_new(noted, (asked.client, asked.number))? {
+            return Ok(false);
+        }
+    }
+    Ok(true)
+}
+
+/// The customers' names, in order, or the first customer whose name an earlier one has.
+fn names_in_order<'a>(
+    alloc: Global,
+    trace: &Trace<'a>,
+    random: RandomState,
+) -> Result<Names<'a>, CheckFault>
+    ensures names { IfOk result (λ names. names.items ≡ names_of (whole trace.now)) }
+    ensures apart { IfOk result (λ _. HasDistinctNames (whole trace.now)) }
+    ensures fault { IfErr result (λ e. IfFound e (IsLeastOrderFault (whole trace.now))) }
+{
+    trace.is_whole();
+    let count = trace.head().customers;
+    let mut names = Names::new(alloc, random, count);
+    for i in 0..count {
+        let customer = trace.customer(i);
+        match names.add(customer.name()) {
+            Ok(_) => {}
+            Err(NameFault::SameName) => {
+                return Err(outside(Code::SameName, customer.offset()));
+            }
+            Err(NameFault::BadName) => unreachable!(),
+            Err(NameFault::Full) => unreachable!(),
+            Err(NameFault::Memory) => return Err(CheckFault::Memory),
+        }
+    }
+    Ok(names)
+}
+
+/// Whether all requests differ in client or number, or the first batch with one that an earlier request has.
+fn requests_apart(alloc: Global, trace: &Trace<'_>, random: RandomState) -> Result<(), CheckFault>
+    requires { HasDistinctNames (whole trace.now) }
+    ensures apart { IfOk result (λ _. HasDistinctRequests (whole trace.now)) }
+    ensures fault { IfErr result (λ e. IfFound e (IsLeastOrderFault (whole trace.now))) }
+{
+    trace.is_whole();
+    let mut noted = IndexSet::with_hasher(alloc, random);
+    for i in 0..trace.head().batches {
+        let batch = trace.batch(i + 1);
+        if !are_new(&mut noted, &batch)? {
+            return Err(outside(Code::SameRequest, batch.offset()));
+        }
+    }
+    Ok(())
+}
+
+/// The customers' names, in order, where no two customers share a name and no two requests share client and
+/// number; else the first fault of orders.
+///
+/// docs/MODEL.md, "Faults". One look-up for each customer and each request. Want of memory decides nothing.
+pub fn orders<'a>(
+    alloc: Global,
+    trace: &Trace<'a>,
+    random: RandomState,
+) -> Result<Names<'a>, CheckFault>
+    ensures names { IfOk result (λ names. names.items ≡ names_of (whole trace.now)) }
+    ensures none { IfOk result (λ _. (f : Fault) → ¬ IsOrderFault (whole trace.now) f) }
+    ensures least { IfErr result (λ e. IfFound e (IsLeastOrderFault (whole trace.now))) }
+{
+    let names = names_in_order(alloc, trace, random)?;
+    requests_apart(alloc, trace, random)?;
+    Ok(names)
+}

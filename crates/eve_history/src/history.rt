@@ -1,0 +1,144 @@
+//! What a replica did.
+
+ghost use Rattle.std.specs.Prelude.{◌≡◌, ◌<◌, ◌∷◌, ℕ, List, Some, IfOk, IfErr, OnOk, length, slice_get};
+ghost use Rattle.eve_grammar.specs.Trace.{Step as StepValue};
+ghost use Rattle.eve_frames.specs.Views.{attempt_in, access_in, rollback_in};
+ghost use Rattle.eve_views.specs.Form.{IfFound};
+ghost use Rattle.eve_views.specs.Fronts.{whole};
+ghost use Rattle.eve_views.specs.StepKinds.{IsStep};
+ghost use Rattle.eve_views.specs.declared.fault.Fault.{Fault};
+ghost use Rattle.eve_history.specs.Told.{Ran, telling, IsRightSection};
+ghost use Rattle.eve_history.specs.Faults.{IsStructureFault, IsLeastStructureFault};
+ghost use Rattle.eve_history.specs.Coming.{kept, HasCome};
+
+use crate::fate::Fate;
+use crate::notes::Notes;
+use eve_frames::{AccessView, AttemptView, RollbackView};
+use eve_views::{CheckFault, Step, Trace};
+use std::alloc::Global;
+use std::marker::Model;
+
+/// What a replica did, as its section tells it: its attempts, what became of each and in which order each ran, and its
+/// rollbacks. Attempts and rollbacks are numbered from 0, in the order of their frames.
+///
+/// docs/MODEL.md, "Section state, fate".
+#[derive(Drop)]
+pub struct History<'a> {
+    notes: Notes<'a>,
+}
+
+impl<'a> Model for History<'a> {
+    ghost use Rattle.eve_history.specs.Told.{Telling};
+
+    ghost Value = { Telling };
+
+    ghost use Rattle.eve_history.specs.Coming.{kept, telling_of, IsKept};
+
+    ghost view = { λ h. telling_of (kept h.notes) };
+
+    ghost invariant = { λ h. IsKept (kept h.notes) };
+}
+
+/// Takes the next step of a replica's section, or says what is wrong with it.
+fn take<'a>(
+    notes: &mut Notes<'a>,
+    trace: &Trace<'a>,
+    e: u8,
+    step: Step<'_, 'a>,
+) -> Result<(), CheckFault>
+    requires { (rest : List (ℕ × StepValue)) × (next : ℕ × StepValue) × HasCome (whole trace.now) e (next ∷ rest) (kept notes.old) × IsStep step next }
+    ensures taken { OnOk result ((rest : List (ℕ × StepValue)) (next : ℕ × StepValue) → HasCome (whole trace.now) e (next ∷ rest) (kept notes.old) → IsStep step.entry next
+        → HasCome (whole trace.now) e rest (kept notes.new)) }
+    ensures wrong { IfErr result (λ x. IfFound x (λ f. (rest : List (ℕ × StepValue)) (next : ℕ × StepValue) → HasCome (whole trace.now) e (next ∷ rest) (kept notes.old) → IsStep step.entry next
+        → IsLeastStructureFault (whole trace.now) e f)) }
+{
+    trace.is_whole();
+    match step {
+        Step::Attempt(attempt, accesses) => notes.take_attempt(trace, e, &attempt, &accesses),
+        Step::Commit(commit) => notes.take_commit(e, &commit),
+        Step::Rollback(rollback) => notes.take_rollback(&trace.head(), e, &rollback),
+    }
+}
+
+impl<'a> History<'a> {
+    /// What a replica did, by the replica's number from 0, where its section is right; else the first fault of structure
+    /// in it.
+    ///
+    /// docs/MODEL.md, "Section state, fate" and "Faults". One pass over the section's frames. Want of memory decides
+    /// nothing.
+    pub fn of(alloc: Global, trace: &Trace<'a>, e: u8) -> Result<History<'a>, CheckFault>
+        requires { e < length (whole trace.now).sections }
+        ensures telling { IfOk result (λ history. history ≡ telling (whole trace.now) e) }
+        ensures right { IfOk result (λ _. IsRightSection (whole trace.now) e) }
+        ensures none { IfOk result (λ _. (f : Fault) → ¬ IsStructureFault (whole trace.now) e f) }
+        ensures least { IfErr result (λ x. IfFound x (IsLeastStructureFault (whole trace.now) e)) }
+    {
+        trace.is_whole();
+        let mut notes = Notes::new(alloc);
+        let mut steps = trace.section(e);
+        while let Some(step) = steps.next() {
+            take(&mut notes, trace, e, step)?;
+        }
+        Ok(History { notes })
+    }
+
+    /// The last number that the replica committed; 0 where it committed none.
+    pub fn committed(&self) -> u32
+        ensures { result ≡ self.now.committed }
+    {
+        self.notes.last
+    }
+
+    /// How many attempts there are.
+    pub fn attempts(&self) -> usize
+        ensures attempts { result ≡ length self.now.attempts }
+        ensures fates { result ≡ length self.now.fates }
+    {
+        self.notes.attempts.len()
+    }
+
+    /// An attempt. Its access records have frames of their own.
+    pub fn attempt(&self, i: usize) -> AttemptView<'a>
+        requires { i < length self.now.attempts }
+        ensures { (r : Ran) × (slice_get self.now.attempts i ≡ Some r) × (result.offset ≡ r.offset) × (attempt_in result.bytes.now ≡ r.attempt) × (length r.ordered ≡ length r.attempt.certificate) }
+    {
+        self.notes.attempts[i].view
+    }
+
+    /// What became of an attempt.
+    pub fn fate(&self, i: usize) -> Fate
+        requires { i < length self.now.fates }
+        ensures { slice_get self.now.fates i ≡ Some result }
+    {
+        if i < self.notes.fates.len() {
+            self.notes.fates[i]
+        } else {
+            Fate::Open
+        }
+    }
+
+    /// The access record that an attempt's certificate lists at a place, from 0.
+    pub fn ordered(&self, i: usize, place: usize) -> AccessView<'a>
+        requires attempt { i < length self.now.attempts }
+        requires place { (r : Ran) → slice_get self.now.attempts i ≡ Some r → place < length r.ordered }
+        ensures { (r : Ran) × (slice_get self.now.attempts i ≡ Some r) × (slice_get r.ordered place ≡ Some (result.offset, access_in result.bytes.now)) }
+    {
+        let from = self.notes.attempts[i].from;
+        self.notes.records[from + place]
+    }
+
+    /// How many rollbacks there are.
+    pub fn rollbacks(&self) -> usize
+        ensures { result ≡ length self.now.rollbacks }
+    {
+        self.notes.rollbacks.len()
+    }
+
+    /// A rollback.
+    pub fn rollback(&self, i: usize) -> RollbackView<'a>
+        requires { i < length self.now.rollbacks }
+        ensures { slice_get self.now.rollbacks i ≡ Some (result.offset, rollback_in result.bytes.now) }
+    {
+        self.notes.rollbacks[i]
+    }
+}

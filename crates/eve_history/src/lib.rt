@@ -1,0 +1,18 @@
+//! Who is a customer, which request came when, and what a replica's section tells: which attempts it committed,
+//! discarded or left open, and in which order each ran.
+#![tactic(auto)]
+
+mod arrivals;
+mod certificate;
+mod fate;
+mod history;
+pub mod laws;
+mod marks;
+mod notes;
+#[cfg(test)]
+mod tests;
+mod wrong;
+
+pub use arrivals::orders;
+pub use fate::Fate;
+pub use history::History;

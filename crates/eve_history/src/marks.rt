@@ -1,0 +1,96 @@
+//! Which access records of an attempt have come.
+
+ghost use Rattle.std.specs.Prelude.{◌≡◌, ◌≤◌, ◌<◌, [], ◌∷◌, ◌++◌, List, length, slice_index};
+ghost use Rattle.eve_grammar.specs.Trace.{Access};
+ghost use Rattle.eve_frames.specs.Views.{access_in};
+ghost use Rattle.eve_history.specs.Marking.{AreMarked, IsJudged, AreJudged};
+
+use crate::wrong::Wrong;
+use eve_frames::AccessView;
+use eve_views::{Accesses, Code};
+
+/// Which access records of an attempt have come, and how many of each worker.
+#[derive(Drop)]
+pub struct Marks {
+    /// Whether the record of an index has come.
+    seen: [bool; 256],
+    /// Its number in frame order, from 0.
+    numbers: [u8; 256],
+    /// How many records of a worker have come.
+    places: [u16; 8],
+}
+
+impl Marks {
+    /// None.
+    pub fn new() -> Marks
+        ensures { AreMarked [] result }
+    {
+        Marks {
+            seen: [false; 256],
+            numbers: [0; 256],
+            places: [0; 8],
+        }
+    }
+
+    /// The number of the record of an index, in frame order.
+    pub fn number(&self, index: u16) -> u8
+        requires { index < 256 }
+        ensures { result ≡ slice_index self.now.numbers index }
+    {
+        self.numbers[index as usize]
+    }
+
+    /// Marks the next record, which has this number, or says what is wrong with it.
+    ///
+    /// docs/MODEL.md, "Section state, fate". There are so many workers, and so many indexes.
+    fn mark(
+        &mut self,
+        workers: u8,
+        count: usize,
+        number: u8,
+        access: &AccessView<'_>,
+    ) -> Option<Code>
+        requires workers { workers ≤ 8 }
+        requires count { count ≤ 256 }
+        requires marked { (before : List Access) × AreMarked before self.old × (number ≡ length before) }
+        ensures { (before : List Access) → AreMarked before self.old → number ≡ length before → IsJudged workers count before (access_in access.now.bytes.now) result self.new }
+    {
+        let worker = access.worker();
+        let index = access.index() as usize;
+        if worker >= workers || index >= count || self.seen[index] {
+            return Some(Code::Access);
+        }
+        if access.place() != self.places[worker as usize] {
+            return Some(Code::WorkerOrder);
+        }
+        self.seen[index] = true;
+        self.numbers[index] = number;
+        self.places[worker as usize] += 1;
+        None
+    }
+
+    /// Marks the records of an attempt, or says what is wrong with the first that is.
+    pub fn mark_all(
+        &mut self,
+        workers: u8,
+        count: usize,
+        accesses: &Accesses<'_, '_>,
+    ) -> Option<Wrong>
+        requires workers { workers ≤ 8 }
+        requires count { count ≤ 256 }
+        requires few { length accesses.now ≤ 256 }
+        requires none { AreMarked [] self.old }
+        ensures { AreJudged workers count accesses.now result self.new }
+    {
+        for i in 0..accesses.len() {
+            let access = accesses.get(i);
+            if let Some(code) = self.mark(workers, count, i as u8, &access) {
+                return Some(Wrong {
+                    code,
+                    offset: access.offset(),
+                });
+            }
+        }
+        None
+    }
+}

@@ -1,0 +1,284 @@
+//! What a replica's section tells, step by step.
+
+ghost use Rattle.std.specs.Prelude.{◌≡◌, ◌≤◌, ◌<◌, ◌++◌, ◌∷◌, [], ℕ, List, IsTrue, IfOk, IfErr, OnOk, IfNone, ◌==◌, false, map, length};
+ghost use Rattle.std.specs.List.{AllByRecursion, list_any};
+ghost use Rattle.eve_grammar.specs.Trace.{Trace as TraceValue, Attempt, Step as StepValue, Attempts, Commits, RollsBack, head_of};
+ghost use Rattle.eve_grammar.specs.Frames.{without_accesses};
+ghost use Rattle.eve_grammar.specs.Limits.{is_attempt};
+ghost use Rattle.eve_grammar.specs.Bodies.{limits};
+ghost use Rattle.eve_grammar.specs.Spelling.{accesses_at};
+ghost use Rattle.eve_frames.specs.Views.{attempt_in, access_in, commit_in, rollback_in};
+ghost use Rattle.eve_views.specs.Form.{IfFound};
+ghost use Rattle.eve_views.specs.Fronts.{whole};
+ghost use Rattle.eve_views.specs.StepKinds.{IsStep};
+ghost use Rattle.eve_views.specs.declared.fault.CheckFault.TheVariants.{Found, Memory};
+ghost use Rattle.eve_history.specs.Section.{SectionState, is_due, is_right_commit, is_right_rollback};
+ghost use Rattle.eve_history.specs.Told.{access_with};
+ghost use Rattle.eve_history.specs.Faults.{accesses_of, IsLeastStructureFault};
+ghost use Rattle.eve_history.specs.FirstWrong.{wrong_attempt, wrong_step, fault_of};
+ghost use Rattle.eve_history.specs.Marking.{AreMarked};
+ghost use Rattle.eve_history.specs.Coming.{seen, kept, StandsAt, HasCome, ComesNext};
+
+use crate::certificate::{is_certificate, read_order};
+use crate::fate::Fate;
+use crate::marks::Marks;
+use crate::wrong::Wrong;
+use eve_frames::{AccessView, AttemptView, CommitView, RollbackView};
+use eve_grammar::Head;
+use eve_views::{Accesses, CheckFault, Code, Fault, Trace};
+use std::alloc::Global;
+
+/// An attempt, and where its access records begin among those of the section.
+#[derive(Clone, Copy)]
+pub struct Attempted<'a> {
+    /// Its frame.
+    pub view: AttemptView<'a>,
+    /// The place of the record that stands first in its certificate's order.
+    pub from: usize,
+}
+
+/// What is kept of the steps of a section that have come.
+#[derive(Drop)]
+pub struct Notes<'a> {
+    /// The section's view.
+    pub view: u32,
+    /// The last committed number.
+    pub last: u32,
+    /// Whether no attempt came since a rollback.
+    pub rolled_back: bool,
+    /// The attempts, in the order of their frames.
+    pub attempts: Vec<Attempted<'a>>,
+    /// What became of those that are settled, which are the first of them.
+    pub fates: Vec<Fate>,
+    /// The access records of one attempt after another, each attempt's in its certificate's order.
+    pub records: Vec<AccessView<'a>>,
+    /// The rollbacks, in the order of their frames.
+    pub rollbacks: Vec<RollbackView<'a>>,
+}
+
+/// The fault in this replica's section.
+fn fault_in(e: u8, wrong: Wrong) -> CheckFault
+    ensures { result ≡ Found (fault_of e wrong) }
+{
+    CheckFault::Found(Fault {
+        code: wrong.code,
+        offset: wrong.offset,
+        replica: Some(e),
+    })
+}
+
+/// Keeps the access records of an attempt in its certificate's order.
+fn keep_records<'a>(
+    records: &mut Vec<AccessView<'a>>,
+    accesses: &Accesses<'_, 'a>,
+    order: &[u16],
+    marks: &Marks,
+) -> Result<(), CheckFault>
+    requires marked { AreMarked (accesses_of accesses.now) marks.now }
+    requires there { AllByRecursion (λ i. (i < 256) × IsTrue (list_any (λ y. y.index == i) (accesses_of accesses.now))) order.now }
+    ensures kept { OnOk result (map seen records.new.items ≡ map seen records.old.items ++ map (access_with accesses.now) order.now) }
+    ensures memory { IfErr result (λ e. e ≡ Memory) }
+{
+    for index in order {
+        let number = marks.number(*index);
+        records.push(accesses.get(number as usize))?;
+    }
+    Ok(())
+}
+
+impl<'a> Notes<'a> {
+    /// Before the first step.
+    pub fn new(alloc: Global) -> Notes<'a>
+        ensures { kept result ≡ record { view = 0; last = 0; rolled_back = false; attempts = []; fates = []; records = []; rollbacks = [] } }
+    {
+        Notes {
+            view: 0,
+            last: 0,
+            rolled_back: false,
+            attempts: Vec::new(alloc),
+            fates: Vec::new(alloc),
+            records: Vec::new(alloc),
+            rollbacks: Vec::new(alloc),
+        }
+    }
+
+    /// Whether an attempt's number, view and mode are those that are due.
+    fn is_due(&self, head: &Head, attempt: &AttemptView<'_>) -> bool
+        requires { length (kept self.now).fates ≤ length (kept self.now).attempts }
+        ensures due { (t : TraceValue) (s : SectionState) → StandsAt s (kept self.now) → limits head.now ≡ head_of t → result ≡ is_due t s (attempt_in attempt.now.bytes.now) }
+        ensures from_one { IsTrue result → 1 ≤ (attempt_in attempt.now.bytes.now).seq }
+        ensures there { IsTrue result → (attempt_in attempt.now.bytes.now).seq ≤ head.now.batches }
+    {
+        let seq = attempt.seq();
+        let open = self.attempts.len() - self.fates.len();
+        if seq <= self.last || (seq - self.last - 1) as usize != open {
+            return false;
+        }
+        if seq > head.batches || seq as u64 > self.last as u64 + head.window as u64 {
+            return false;
+        }
+        attempt.view() == self.view && attempt.is_serial() == self.rolled_back
+    }
+
+    /// What is wrong with an attempt but for its access records.
+    fn wrong_attempt(
+        &self,
+        trace: &Trace<'_>,
+        attempt: &AttemptView<'_>,
+        order: &[u16],
+    ) -> Option<Code>
+        requires fewer { length (kept self.now).fates ≤ length (kept self.now).attempts }
+        requires order { order.now ≡ (attempt_in attempt.now.bytes.now).certificate }
+        ensures { (s : SectionState) → StandsAt s (kept self.now) → result ≡ wrong_attempt (whole trace.now) s (attempt_in attempt.now.bytes.now) }
+    {
+        trace.is_whole();
+        if !self.is_due(&trace.head(), attempt) {
+            return Some(Code::Attempt);
+        }
+        let batch = trace.batch(attempt.seq());
+        if order.len() != batch.len() {
+            return Some(Code::Attempt);
+        }
+        if !is_certificate(&batch, attempt.is_serial(), order) {
+            return Some(Code::Certificate);
+        }
+        None
+    }
+
+    /// Whether the commit is of the first open attempt.
+    fn commits_first(&self, commit: &CommitView<'_>) -> bool
+        ensures { (s : SectionState) → StandsAt s (kept self.now) → result ≡ is_right_commit s (commit_in commit.now.bytes.now) }
+    {
+        let settled = self.fates.len();
+        if settled >= self.attempts.len() {
+            return false;
+        }
+        if commit.seq() as u64 != self.last as u64 + 1 {
+            return false;
+        }
+        let first = self.attempts[settled].view;
+        first.view() == commit.view() && first.token() == commit.token()
+    }
+
+    /// Whether the rollback is to the last committed number, of a batch that is still to come, and in the next view.
+    fn rolls_back(&self, head: &Head, rollback: &RollbackView<'_>) -> bool
+        ensures { (t : TraceValue) (s : SectionState) → StandsAt s (kept self.now) → limits head.now ≡ head_of t → result ≡ is_right_rollback t s (rollback_in rollback.now.bytes.now) }
+    {
+        rollback.to() == self.last
+            && self.last < head.batches
+            && rollback.view() as u64 == self.view as u64 + 1
+    }
+
+    /// What is wrong with the next attempt; where nothing is, its access records are marked.
+    fn judge(
+        &self,
+        trace: &Trace<'_>,
+        attempt: &AttemptView<'_>,
+        accesses: &Accesses<'_, '_>,
+        order: &[u16],
+        marks: &mut Marks,
+    ) -> Option<Wrong>
+        requires fewer { length (kept self.now).fates ≤ length (kept self.now).attempts }
+        requires order { order.now ≡ (attempt_in attempt.now.bytes.now).certificate }
+        requires few { length order.now ≤ 256 }
+        requires many { length accesses.now ≡ length order.now }
+        requires none { AreMarked [] marks.old }
+        ensures wrong { (s : SectionState) (b : Attempt) → StandsAt s (kept self.now) → attempt_in attempt.now.bytes.now ≡ without_accesses b → accesses.now ≡ accesses_at attempt.now.offset b
+            → result ≡ wrong_step (whole trace.now) s (attempt.now.offset, Attempts b) }
+        ensures marked { IfNone result (AreMarked (accesses_of accesses.now) marks.new) }
+    {
+        trace.is_whole();
+        if let Some(code) = self.wrong_attempt(trace, attempt, order) {
+            return Some(Wrong {
+                code,
+                offset: attempt.offset(),
+            });
+        }
+        let workers = if attempt.is_serial() {
+            1
+        } else {
+            trace.head().workers
+        };
+        marks.mark_all(workers, order.len(), accesses)
+    }
+
+    /// Takes the next attempt, which becomes open, or says which of its frames is wrong.
+    pub fn take_attempt(
+        &mut self,
+        trace: &Trace<'a>,
+        e: u8,
+        attempt: &AttemptView<'a>,
+        accesses: &Accesses<'_, 'a>,
+    ) -> Result<(), CheckFault>
+        requires { (rest : List (ℕ × StepValue)) × (b : Attempt) × ComesNext (whole trace.now) e rest b (kept self.old) attempt.now.offset (attempt_in attempt.now.bytes.now) accesses.now }
+        ensures taken { OnOk result ((rest : List (ℕ × StepValue)) (b : Attempt) → ComesNext (whole trace.now) e rest b (kept self.old) attempt.now.offset (attempt_in attempt.now.bytes.now) accesses.now
+            → HasCome (whole trace.now) e rest (kept self.new)) }
+        ensures wrong { IfErr result (λ x. IfFound x (λ f. (rest : List (ℕ × StepValue)) (b : Attempt) → ComesNext (whole trace.now) e rest b (kept self.old) attempt.now.offset (attempt_in attempt.now.bytes.now) accesses.now
+            → IsLeastStructureFault (whole trace.now) e f)) }
+    {
+        let mut indexes = [0; 256];
+        read_order(attempt, &mut indexes);
+        let order = &indexes[..attempt.len()];
+        let mut marks = Marks::new();
+        if let Some(wrong) = self.judge(trace, attempt, accesses, order, &mut marks) {
+            return Err(fault_in(e, wrong));
+        }
+        let from = self.records.len();
+        keep_records(&mut self.records, accesses, order, &marks)?;
+        self.attempts.push(Attempted {
+            view: *attempt,
+            from,
+        })?;
+        self.rolled_back = false;
+        Ok(())
+    }
+
+    /// Takes the next commit, of the first open attempt, or says that it is wrong.
+    pub fn take_commit(&mut self, e: u8, commit: &CommitView<'_>) -> Result<(), CheckFault>
+        ensures taken { OnOk result ((t : TraceValue) (rest : List (ℕ × StepValue)) → HasCome t e ((commit.now.offset, Commits (commit_in commit.now.bytes.now)) ∷ rest) (kept self.old)
+            → HasCome t e rest (kept self.new)) }
+        ensures wrong { IfErr result (λ x. IfFound x (λ f. (t : TraceValue) (rest : List (ℕ × StepValue)) → HasCome t e ((commit.now.offset, Commits (commit_in commit.now.bytes.now)) ∷ rest) (kept self.old)
+            → IsLeastStructureFault t e f)) }
+    {
+        if !self.commits_first(commit) {
+            return Err(fault_in(
+                e,
+                Wrong {
+                    code: Code::Commit,
+                    offset: commit.offset(),
+                },
+            ));
+        }
+        self.fates.push(Fate::Committed)?;
+        self.last = commit.seq();
+        Ok(())
+    }
+
+    /// Takes the next rollback, which discards all open attempts, or says that it is wrong.
+    pub fn take_rollback(
+        &mut self,
+        head: &Head,
+        e: u8,
+        rollback: &RollbackView<'a>,
+    ) -> Result<(), CheckFault>
+        ensures taken { OnOk result ((t : TraceValue) (rest : List (ℕ × StepValue)) → limits head.now ≡ head_of t → HasCome t e ((rollback.now.offset, RollsBack (rollback_in rollback.now.bytes.now)) ∷ rest) (kept self.old)
+            → HasCome t e rest (kept self.new)) }
+        ensures wrong { IfErr result (λ x. IfFound x (λ f. (t : TraceValue) (rest : List (ℕ × StepValue)) → limits head.now ≡ head_of t → HasCome t e ((rollback.now.offset, RollsBack (rollback_in rollback.now.bytes.now)) ∷ rest) (kept self.old)
+            → IsLeastStructureFault t e f)) }
+    {
+        if !self.rolls_back(head, rollback) {
+            return Err(fault_in(
+                e,
+                Wrong {
+                    code: Code::Rollback,
+                    offset: rollback.offset(),
+                },
+            ));
+        }
+        self.rollbacks.push(*rollback)?;
+        self.fates.resize(self.attempts.len(), Fate::Discarded)?;
+        self.view = rollback.view();
+        self.rolled_back = true;
+        Ok(())
+    }
+}

@@ -1,0 +1,116 @@
+//! The call `audit`: the verdict on a trace.
+
+ghost use Rattle.std.specs.Prelude.{◌≡◌, ◌≢◌, ◌<◌, ◌⊎◌};
+ghost use Rattle.std.specs.Prelude.{IfOk, IfErr, OnOk, OnErr};
+ghost use Rattle.std.specs.Io.KnownBytes.{Appends};
+ghost use Rattle.eve_streams.specs.Failures.{after_failure};
+ghost use Rattle.eve_streams.specs.Front.{AppendsFront};
+ghost use Rattle.eve_tool.specs.Audit.{Audits};
+ghost use Rattle.eve_tool.specs.Lines.{status_of_verdict, verdict_line, yes_line};
+ghost use Rattle.eve_tool.specs.Writes.{WritesAll, WritesAllOf, WritesFront, WritesFrontOf};
+
+use crate::fault::ToolFault;
+use crate::lines::push_yes_line;
+use crate::sending::{send_fault, send_text};
+use crate::show::LONGEST_TRACE;
+use eve_audit::{Summary, Verdict, audit_one};
+use eve_streams::{Sink, Source, read_all};
+use std::alloc::Global;
+use std::hash::RandomState;
+use std::random::RandomSource;
+
+// Sends the line that says yes.
+fn send_yes<O: Sink>(alloc: Global, summary: &Summary, out: &mut O) -> Result<(), ToolFault>
+    ensures sent { OnOk result (Appends (O.written out.old) (O.written out.new)
+        (yes_line summary.now)) }
+    ensures fine { OnOk result (O.failures out.new ≡ O.failures out.old) }
+    ensures front { OnErr result (AppendsFront (O.written out.old) (O.written out.new)
+        (yes_line summary.now)) }
+    ensures why { IfErr result (λ e. e ≢ ToolFault.Read) }
+    ensures write { IfErr result (λ e. e ≡ ToolFault.Write
+        → O.failures out.new ≡ after_failure (O.failures out.old)) }
+{
+    let mut text = String::new(alloc);
+    push_yes_line(&mut text, summary)?;
+    send_text(&mut text, out)
+}
+
+// Sends the line of a verdict, and answers the exit status.
+fn send_verdict<O: Sink>(alloc: Global, verdict: &Verdict, out: &mut O) -> Result<u8, ToolFault>
+    ensures sent { OnOk result (Appends (O.written out.old) (O.written out.new)
+        (verdict_line verdict.now)) }
+    ensures status { IfOk result (λ status. status ≡ status_of_verdict verdict.now) }
+    ensures fine { OnOk result (O.failures out.new ≡ O.failures out.old) }
+    ensures front { OnErr result (AppendsFront (O.written out.old) (O.written out.new)
+        (verdict_line verdict.now)) }
+    ensures why { IfErr result (λ e. e ≢ ToolFault.Read) }
+    ensures write { IfErr result (λ e. e ≡ ToolFault.Write
+        → O.failures out.new ≡ after_failure (O.failures out.old)) }
+{
+    match verdict {
+        Verdict::Yes(summary) => {
+            send_yes(alloc, summary, out)?;
+            Ok(0)
+        }
+        Verdict::No(fault) => {
+            send_fault(alloc, fault, out)?;
+            Ok(1)
+        }
+    }
+}
+
+// Sends the verdict on the bytes, and answers the exit status.
+fn audit_bytes<O: Sink>(
+    alloc: Global,
+    bytes: &[u8],
+    random: RandomState,
+    out: &mut O,
+) -> Result<u8, ToolFault>
+    ensures all { IfOk result (WritesAll Audits bytes.now (O.written out.old) (O.written out.new)) }
+    ensures status { IfOk result (λ status. status < 2) }
+    ensures fine { OnOk result (O.failures out.new ≡ O.failures out.old) }
+    ensures front { OnErr result ((out.new ≡ out.old)
+        ⊎ WritesFront Audits bytes.now (O.written out.old) (O.written out.new)) }
+    ensures why { IfErr result (λ e. e ≢ ToolFault.Read) }
+    ensures write { IfErr result (λ e. e ≡ ToolFault.Write
+        → O.failures out.new ≡ after_failure (O.failures out.old)) }
+{
+    let verdict = audit_one(alloc, bytes, random)?;
+    send_verdict(alloc, &verdict, out)
+}
+
+// The random words of the run.
+fn random_words<R: RandomSource>(rt: &R) -> Result<RandomState, ToolFault>
+    ensures { IfErr result (λ e. e ≡ ToolFault.Random) }
+{
+    match RandomState::new(rt) {
+        Ok(random) => Ok(random),
+        Err(_) => Err(ToolFault::Random),
+    }
+}
+
+/// Reads a trace, asks for random words, and sends the line of the verdict: with the answer 0 where
+/// it is yes, and 1 where it is the first fault. It reads at most one byte more than a trace may
+/// have, which is the fault then.
+pub(crate) fn audit<R: AllocGlobal + RandomSource, I: Source, O: Sink>(
+    rt: &R,
+    input: &mut I,
+    out: &mut O,
+) -> Result<u8, ToolFault>
+    ensures all { IfOk result (WritesAllOf Audits (I.remaining input.old) (O.written out.old)
+        (O.written out.new)) }
+    ensures status { IfOk result (λ status. status < 2) }
+    ensures fine { OnOk result ((I.failures input.new ≡ I.failures input.old)
+        × (O.failures out.new ≡ O.failures out.old)) }
+    ensures front { OnErr result ((out.new ≡ out.old)
+        ⊎ WritesFrontOf Audits (I.remaining input.old) (O.written out.old) (O.written out.new)) }
+    ensures read { IfErr result (λ e. e ≡ ToolFault.Read
+        → (I.failures input.new ≡ after_failure (I.failures input.old)) × (out.new ≡ out.old)) }
+    ensures write { IfErr result (λ e. e ≡ ToolFault.Write
+        → O.failures out.new ≡ after_failure (O.failures out.old)) }
+{
+    let alloc = rt.alloc();
+    let bytes = read_all(alloc, input, LONGEST_TRACE)?;
+    let random = random_words(rt)?;
+    audit_bytes(alloc, bytes.as_slice(), random, out)
+}

@@ -1,0 +1,53 @@
+//! The lines that more than one call sends.
+
+ghost use Rattle.std.specs.Prelude.{◌≡◌, ◌≢◌, []};
+ghost use Rattle.std.specs.Prelude.{IfErr, OnOk, OnErr};
+ghost use Rattle.std.specs.String.{string_bytes};
+ghost use Rattle.std.specs.Io.KnownBytes.{Appends};
+ghost use Rattle.eve_streams.specs.Failures.{after_failure};
+ghost use Rattle.eve_streams.specs.Front.{AppendsFront};
+ghost use Rattle.eve_tool.specs.Lines.{fault_line};
+
+use crate::fault::ToolFault;
+use crate::lines::push_fault_line;
+use eve_streams::{Sink, send_all};
+use eve_views::Fault;
+use std::alloc::Global;
+
+// Sends the text, and empties it.
+pub(crate) fn send_text<O: Sink>(text: &mut String, out: &mut O) -> Result<(), ToolFault>
+    ensures sent { OnOk result (Appends (O.written out.old) (O.written out.new)
+        (string_bytes text.old)) }
+    ensures empty { OnOk result (string_bytes text.new ≡ []) }
+    ensures fine { OnOk result (O.failures out.new ≡ O.failures out.old) }
+    ensures front { OnErr result (AppendsFront (O.written out.old) (O.written out.new)
+        (string_bytes text.old)) }
+    ensures why { IfErr result (λ e. e ≡ ToolFault.Write) }
+    ensures counted { OnErr result (O.failures out.new ≡ after_failure (O.failures out.old)) }
+{
+    send_all(out, text.as_str().as_bytes())?;
+    text.clear();
+    Ok(())
+}
+
+// Sends the line of a fault.
+pub(crate) fn send_fault<O: Sink>(
+    alloc: Global,
+    fault: &Fault,
+    out: &mut O,
+) -> Result<(), ToolFault>
+    ensures sent { OnOk result (Appends (O.written out.old) (O.written out.new)
+        (fault_line fault.now)) }
+    ensures fine { OnOk result (O.failures out.new ≡ O.failures out.old) }
+    ensures front { OnErr result (AppendsFront (O.written out.old) (O.written out.new)
+        (fault_line fault.now)) }
+    ensures why { IfErr result (λ e. e ≢ ToolFault.Read) }
+    ensures write { IfErr result (λ e. e ≡ ToolFault.Write
+        → O.failures out.new ≡ after_failure (O.failures out.old)) }
+    ensures memory { IfErr result (λ e. e ≡ ToolFault.Memory
+        → O.failures out.new ≡ O.failures out.old) }
+{
+    let mut text = String::new(alloc);
+    push_fault_line(&mut text, fault)?;
+    send_text(&mut text, out)
+}

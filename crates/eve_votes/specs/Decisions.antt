@@ -1,0 +1,58 @@
+-- What was found to be decided as commit.
+use Rattle.std.specs.Prelude.{◌≡◌, ℕ, ◌+◌, List, length, Option, Some, None, IfSome, slice_index_or, ◌⊎◌}
+use Rattle.std.specs.Option.{option_map}
+use Rattle.eve_grammar.specs.Trace.{ForCommit, Vote, Trace}
+use Rattle.eve_grammar.specs.Spelling.{batches_at}
+use Rattle.eve_views.specs.declared.fault.Code.TheVariants as code
+use Rattle.eve_votes.specs.Votes.{IsDecided}
+use Rattle.eve_votes.specs.Faults.{SomePlace, StandsInVotes}
+use Rattle.eve_votes.specs.Least.{IsBelow}
+use Rattle.eve_votes.specs.declared.decisions.Decision.{Decision}
+
+abbrev pub said : Decision → ℕ × List ℕ
+said d = (d.view, d.token.now)
+
+-- the view and the token in which the batch is decided, as far as it was found
+unfoldable pub decision_in : List (Option Decision) → ℕ → Option (ℕ × List ℕ)
+decision_in ds n = option_map said (slice_index_or ds n None)
+
+-- what was found is decided, with a token of 32 bytes
+pub record IsKnown (t : Trace) (n : ℕ) (d : ℕ × List ℕ) : Type 0 where
+  pub decided : IsDecided t n d.0 d.1
+  pub token : length d.1 ≡ 32
+
+-- what holds all along: a place for each number, what was found is decided, and there are two decisions at
+-- the least offset so far
+pub record Judging (t : Trace) (ds : List (Option Decision)) (least : Option ℕ) : Type 0 where
+  pub long : length ds ≡ length t.batches + 1
+  pub known : (n : ℕ) → IfSome (decision_in ds n) (IsKnown t n)
+  pub stands : IfSome least (StandsInVotes code.TwoDecisions t)
+
+-- what was found stays
+abbrev pub Keeps : List (Option Decision) → List (Option Decision) → Type 0
+Keeps before after = (n : ℕ) (d : ℕ × List ℕ) → decision_in before n ≡ Some d → decision_in after n ≡ Some d
+
+-- the batch of this number stands at this offset
+abbrev pub IsBatchAt : Trace → ℕ → ℕ → Type 0
+IsBatchAt t n at = SomePlace (batches_at t) (λ _ b. (b.0 ≡ at) × (b.1.0 ≡ n))
+
+-- two decisions were found for the batch, which stands at this offset alone
+pub record IsClash (t : Trace) (n : ℕ) (least : Option ℕ) : Type 0 where
+  pub offset : ℕ
+  pub only : (at : ℕ) → IsBatchAt t n at → at ≡ offset
+  pub below : IsBelow least offset
+
+-- a decision was found for the batch, in this view or in another, which is then known
+pub record IsFound (t : Trace) (ds : List (Option Decision)) (least : Option ℕ) (n view : ℕ) : Type 0 where
+  pub found : ℕ × List ℕ
+  pub is : decision_in ds n ≡ Some found
+  pub same : (found.0 ≡ view) ⊎ IsClash t n least
+
+-- what the vote is for was found, if it is decided as commit
+abbrev pub Agrees : Trace → List (Option Decision) → Option ℕ → Vote → Type 0
+Agrees t ds least w = (token : List ℕ) → w.choice ≡ ForCommit token → IsDecided t w.seq w.view token → IsFound t ds least w.seq w.view
+
+-- the decisions are those of the trace
+pub record AreDecisions (t : Trace) (ds : List (Option Decision)) : Type 0 where
+  pub known : (n : ℕ) → IfSome (decision_in ds n) (IsKnown t n)
+  pub all : (n view : ℕ) (token : List ℕ) → IsDecided t n view token → decision_in ds n ≡ Some (view, token)

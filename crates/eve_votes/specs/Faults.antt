@@ -1,0 +1,59 @@
+-- The faults of votes, and where they stand. docs/MODEL.md, "Faults".
+use Rattle.std.specs.Prelude.{◌≡◌, ◌≢◌, ℕ, ◌≤◌, IsTrue, List, ◌∷◌, ◌++◌, length, filter, None}
+use Rattle.std.specs.List.{list_any}
+use Rattle.eve_grammar.specs.Trace.{Vote, Trace}
+use Rattle.eve_grammar.specs.Spelling.{batches_at, votes_at, votes_of}
+use Rattle.eve_views.specs.declared.fault.Code.{Code}
+use Rattle.eve_views.specs.declared.fault.Code.TheVariants as code
+use Rattle.eve_views.specs.declared.fault.Fault.{Fault}
+use Rattle.eve_views.specs.Form.{IsUpTo}
+use Rattle.eve_votes.specs.Votes.{is_vote_on, IsDecided}
+
+-- at some place of the list the fact holds, of what stands before and of what stands there
+pub record SomePlace {A : Type 0} (xs : List A) (P : List A → A → Type 0) : Type 0 where
+  pub before : List A
+  pub item : A
+  pub rest : List A
+  pub is : xs ≡ before ++ item ∷ rest
+  pub holds : P before item
+
+-- two views of the batch are decided as commit
+pub record HasTwoDecisions (t : Trace) (n : ℕ) : Type 0 where
+  pub view : ℕ
+  pub other : ℕ
+  pub token : List ℕ
+  pub other_token : List ℕ
+  pub apart : view ≢ other
+  pub decided : IsDecided t n view token
+  pub other_decided : IsDecided t n other other_token
+
+-- the verifier has an earlier vote on this batch in this view
+abbrev pub IsFurther : List (ℕ × Vote) → ℕ × Vote → Type 0
+IsFurther before w = IsTrue (list_any (λ u. is_vote_on w.1.seq w.1.view u.1) before)
+
+-- such a vote stands at this offset among those of a verifier
+abbrev pub IsFurtherAt : List (ℕ × Vote) → ℕ → Type 0
+IsFurtherAt votes at = SomePlace votes (λ before w. (w.0 ≡ at) × IsFurther before w)
+
+-- a fault of votes stands at this offset
+abbrev pub StandsInVotes : Code → Trace → ℕ → Type 0
+StandsInVotes code.TwoVotes t at = (v : ℕ) × IsFurtherAt (votes_at t v) at
+StandsInVotes code.TwoDecisions t at = SomePlace (batches_at t) (λ _ b. (b.0 ≡ at) × HasTwoDecisions t b.1.0)
+StandsInVotes _ t at = ⊥
+
+-- the fault is one of votes; it lies outside the sections
+pub record IsVoteFault (t : Trace) (f : Fault) : Type 0 where
+  pub stands : StandsInVotes f.code t f.offset
+  pub outside : f.replica ≡ None
+
+-- the first of the faults of votes
+pub record IsLeastVoteFault (t : Trace) (f : Fault) : Type 0 where
+  pub is : IsVoteFault t f
+  pub least : (g : Fault) → IsVoteFault t g → IsUpTo f g
+
+-- what holds where no fault of votes stands: each verifier votes once on a batch in a view, and a batch
+-- is decided as commit in one view, with one token
+pub record AreVotesSound (t : Trace) : Type 0 where
+  pub once : (v n view : ℕ) → length (filter (is_vote_on n view) (votes_of t v)) ≤ 1
+  pub one_view : (n view other : ℕ) (token other_token : List ℕ) → IsDecided t n view token → IsDecided t n other other_token → view ≡ other
+  pub one_token : (n view other : ℕ) (token other_token : List ℕ) → IsDecided t n view token → IsDecided t n other other_token → token ≡ other_token

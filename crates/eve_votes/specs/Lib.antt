@@ -1,0 +1,7 @@
+pub mod Votes
+pub mod Faults
+pub mod Least
+pub mod First
+pub mod Ballots
+pub mod Decisions
+pub mod Held

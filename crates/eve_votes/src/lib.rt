@@ -1,0 +1,12 @@
+//! What the verifiers of a trace decided: who voted for what, and the faults of their votes.
+#![tactic(auto)]
+
+mod ballots;
+mod decisions;
+mod least;
+mod tally;
+#[cfg(test)]
+mod tests;
+mod voting;
+
+pub use tally::Tally;

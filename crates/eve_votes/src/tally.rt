@@ -1,0 +1,148 @@
+//! What the verifiers decided.
+
+ghost use Rattle.std.specs.Prelude.{◌≡◌, ◌+◌, ℕ, List, None, Some, length, IfOk, IfErr, IsTrue, ◌↔◌};
+ghost use Rattle.std.specs.List.{All};
+ghost use Rattle.eve_grammar.specs.Trace.{ForCommit};
+ghost use Rattle.eve_views.specs.Fronts.{whole};
+ghost use Rattle.eve_views.specs.Form.{IfFound};
+ghost use Rattle.eve_views.specs.declared.fault.Fault.{Fault as FaultValue};
+ghost use Rattle.eve_votes.specs.Votes.{backers, IsDecided, IsRolledBack};
+ghost use Rattle.eve_votes.specs.Faults.{IsVoteFault, IsLeastVoteFault, AreVotesSound};
+ghost use Rattle.eve_votes.specs.First.{first_fault, outside};
+
+use crate::ballots::{Ballots, backers};
+use crate::decisions::{Decision, decide, is_backed};
+use crate::voting::cast;
+use eve_grammar::Choice;
+use eve_views::{CheckFault, Code, Fault, Trace};
+use std::alloc::{AllocError, Global};
+use std::collections::BTreeMap;
+use std::marker::Model;
+
+/// The votes of a trace, counted.
+///
+/// docs/MODEL.md, "Decided, rolled back". Contracts see it as the trace that it was made of: what is decided is
+/// said of that trace by `IsDecided` and `IsRolledBack`. It keeps an entry for each vote, and a place for each batch.
+#[derive(Drop)]
+pub struct Tally<'t, 'a> {
+    trace: &'t Trace<'a>,
+    ballots: Ballots<'a>,
+    decisions: Vec<Option<Decision<'a>>>,
+}
+
+impl<'t, 'a> Model for Tally<'t, 'a> {
+    ghost use Rattle.eve_grammar.specs.Trace.{Trace};
+    ghost use Rattle.eve_views.specs.Fronts.{whole};
+
+    ghost Value = { Trace };
+
+    ghost use Rattle.eve_votes.specs.Held.{IsTally};
+
+    ghost view = { λ x. whole x.trace.now };
+
+    ghost invariant = { IsTally };
+}
+
+/// A token as an array.
+fn array_of(token: &[u8]) -> [u8; 32]
+    requires { length token.now ≡ 32 }
+    ensures { result ≡ token.now }
+{
+    let mut array = [0; 32];
+    array.copy_from_slice(token);
+    array
+}
+
+/// A place for each batch, by its number, with nothing decided.
+fn none_decided<'a>(alloc: Global, batches: u32) -> Result<Vec<Option<Decision<'a>>>, AllocError>
+    ensures long { IfOk result (λ v. length v.items ≡ batches + 1) }
+    ensures none { IfOk result (λ v. All (λ d. d ≡ None) v.items) }
+{
+    let mut decisions = Vec::new(alloc);
+    decisions.resize(batches as usize + 1, None)?;
+    Ok(decisions)
+}
+
+/// The first of the two faults: the one at the lower offset, and at one offset the one with the lower number.
+fn first_fault(again: Option<u64>, apart: Option<u64>) -> Option<Fault>
+    ensures { result ≡ first_fault again apart }
+{
+    match (again, apart) {
+        (None, None) => None,
+        (Some(offset), None) => Some(outside(Code::TwoVotes, offset)),
+        (None, Some(offset)) => Some(outside(Code::TwoDecisions, offset)),
+        (Some(again), Some(apart)) => Some(if apart < again {
+            outside(Code::TwoDecisions, apart)
+        } else {
+            outside(Code::TwoVotes, again)
+        }),
+    }
+}
+
+/// A fault outside the sections.
+fn outside(code: Code, offset: u64) -> Fault
+    ensures { result ≡ outside code offset }
+{
+    Fault {
+        code,
+        offset,
+        replica: None,
+    }
+}
+
+impl<'t, 'a> Tally<'t, 'a> {
+    /// Counts the votes, or finds the first fault of votes.
+    ///
+    /// docs/MODEL.md, "Faults": a further vote of a verifier on a batch in a view stands at that Vote, two views
+    /// of a batch decided as commit stand at the Batch. Two passes over the votes; each looks up a vote in a tree,
+    /// so the time is that of a sort, also where all votes are on one batch. Want of memory decides nothing.
+    pub fn of(alloc: Global, trace: &'t Trace<'a>) -> Result<Tally<'t, 'a>, CheckFault>
+        ensures trace { IfOk result (λ tally. tally ≡ whole trace.now) }
+        ensures sound { IfOk result (λ _. AreVotesSound (whole trace.now)) }
+        ensures none { IfOk result (λ _. (f : FaultValue) → ¬ IsVoteFault (whole trace.now) f) }
+        ensures least { IfErr result (λ e. IfFound e (IsLeastVoteFault (whole trace.now))) }
+    {
+        let mut ballots = BTreeMap::new(alloc);
+        trace.is_whole();
+        let again = cast(trace, &mut ballots)?;
+        let mut decisions = none_decided(alloc, trace.head().batches)?;
+        let apart = decide(trace, &ballots, &mut decisions);
+        match first_fault(again, apart) {
+            Some(fault) => Err(CheckFault::Found(fault)),
+            None => Ok(Tally {
+                trace,
+                ballots,
+                decisions,
+            }),
+        }
+    }
+
+    /// The view in which a batch is decided as commit, and with which token of 32 bytes, by the batch's number
+    /// from 1. `None` where it is decided in no view, or there is no such batch.
+    pub fn decided(&self, n: u32) -> Option<(u32, [u8; 32])>
+        ensures { (view : ℕ) (token : List ℕ) → IsDecided self.now n view token ↔ (result ≡ Some (view, token)) }
+    {
+        let Some(kept) = self.decisions.get(n as usize) else {
+            return None;
+        };
+        match *kept {
+            Some(decision) => Some((decision.view, array_of(decision.token))),
+            None => None,
+        }
+    }
+
+    /// How many verifiers have exactly one vote on a batch in a view, and it is for a commit with this token.
+    /// There is one for each verifier at most, so 16 at most.
+    pub fn votes_for(&self, n: u32, view: u32, token: &[u8; 32]) -> u8
+        ensures { result ≡ backers self.now n view (ForCommit token.now) }
+    {
+        backers(self.trace, &self.ballots, n, view, Choice::ForCommit(token))
+    }
+
+    /// Whether a quorum of verifiers has exactly one vote on a batch in a view, and it is for a rollback.
+    pub fn rolled_back(&self, n: u32, view: u32) -> bool
+        ensures { IsTrue result ↔ IsRolledBack self.now n view }
+    {
+        is_backed(self.trace, &self.ballots, n, view, Choice::ForRollback)
+    }
+}
