@@ -21,10 +21,11 @@ pub data Stands (bytes : List ℕ) (f : Fault) : Type 0 where
 abbrev pub Precedes : Fault → Fault → Type 0
 Precedes f g = (phase_of f.code < phase_of g.code) ⊎ ((phase_of f.code ≡ phase_of g.code) × IsUpTo f g)
 
--- No fault of an earlier phase keeps this one from being judged. Of the phases from 3 on, in which a replica is
--- judged by itself, another replica's fault is no such fault.
+-- A fault of an earlier phase keeps another from being judged. In phases 3 to 7 a replica is judged by itself: there
+-- only a fault of the phases before, or one of its own, does.
 abbrev pub Hinders : Fault → Fault → Type 0
-Hinders g f = (phase_of g.code < phase_of f.code) × ((phase_of f.code < 3) ⊎ ((phase_of g.code < 3) ⊎ (g.replica ≡ f.replica)))
+Hinders g f =
+    (phase_of g.code < phase_of f.code) × ((phase_of f.code < 3) ⊎ ((7 < phase_of f.code) ⊎ ((phase_of g.code < 3) ⊎ (g.replica ≡ f.replica))))
 
 pub record IsJudged (bytes : List ℕ) (f : Fault) : Type 0 where
   pub stands : Stands bytes f
