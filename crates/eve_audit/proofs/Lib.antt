@@ -1,2 +1,11 @@
-pub mod Piecewise
+pub mod Phases
+pub mod Firsts
 pub mod Verdicts
+pub mod Piecewise
+pub mod Kept
+pub mod Told
+pub mod Accepted
+pub mod Where
+pub mod Placed
+pub mod Unique
+pub mod Within

@@ -1,95 +1,11 @@
--- Phases, and which fault comes first.
-use Rattle.std.proofs.Common.{◌≡◌, ℕ, ◌+◌, ◌-◌, ◌^◌, ◌<◌, ◌≤◌, ◌⊎◌, inl, inr, List, Option, Some, None, refl, sym, ap, ◌∙◌, arith, min, subst}
+-- The first of the replicas' own faults, replica by replica.
+use Rattle.std.proofs.Common.{◌≡◌, ℕ, ◌+◌, ◌-◌, ◌^◌, ◌<◌, ◌≤◌, ◌⊎◌, inl, inr, Option, Some, None, sym, ap, arith, min, subst}
 use Rattle.std.proofs.lemmas.Bool.{cases_lt}
 use Rattle.eve_grammar.specs.Trace.{Trace}
-use Rattle.eve_views.specs.Code.{phase_of}
-use Rattle.eve_views.specs.Form.{StandsInForm, IsUpTo}
-use Rattle.eve_views.specs.declared.fault.Code.{Code}
-use Rattle.eve_views.specs.declared.fault.Code.TheVariants as code
+use Rattle.eve_views.specs.Form.{IsUpTo}
 use Rattle.eve_views.specs.declared.fault.Fault.{Fault}
-use Rattle.eve_history.specs.Faults.{StandsInOrders, StandsInStructure, IsStructureFault, IsLeastStructureFault}
-use Rattle.eve_audit.specs.Verdict.{Precedes, last_of}
-use Rattle.eve_audit.specs.Pieces.{IsFirstBelow, HasNoneBelow, IsFoundBelow, IsLeastBelow}
-
--- ---- phases
-
-pub form_phase : (c : Code) (bytes : List ℕ) (at : ℕ) → StandsInForm c bytes at → phase_of c ≡ 1
-form_phase code.Length bytes at stands = refl
-form_phase code.Magic bytes at stands = refl
-form_phase code.Head bytes at stands = refl
-form_phase code.Frame bytes at stands = refl
-form_phase code.Body bytes at stands = refl
-form_phase code.SameName bytes at stands = absurd stands
-form_phase code.SameRequest bytes at stands = absurd stands
-form_phase code.Attempt bytes at stands = absurd stands
-form_phase code.Certificate bytes at stands = absurd stands
-form_phase code.Access bytes at stands = absurd stands
-form_phase code.WorkerOrder bytes at stands = absurd stands
-form_phase code.Commit bytes at stands = absurd stands
-form_phase code.Rollback bytes at stands = absurd stands
-form_phase code.Record bytes at stands = absurd stands
-form_phase code.Version bytes at stands = absurd stands
-form_phase code.Value bytes at stands = absurd stands
-form_phase code.Restore bytes at stands = absurd stands
-form_phase code.Token bytes at stands = absurd stands
-form_phase code.TwoVotes bytes at stands = absurd stands
-form_phase code.TwoDecisions bytes at stands = absurd stands
-form_phase code.NoMajority bytes at stands = absurd stands
-form_phase code.RollbackNoMajority bytes at stands = absurd stands
-form_phase code.Outcome bytes at stands = absurd stands
-form_phase code.Reply bytes at stands = absurd stands
-
-pub orders_phase : (c : Code) (t : Trace) (at : ℕ) → StandsInOrders c t at → phase_of c ≡ 2
-orders_phase code.Length t at stands = absurd stands
-orders_phase code.Magic t at stands = absurd stands
-orders_phase code.Head t at stands = absurd stands
-orders_phase code.Frame t at stands = absurd stands
-orders_phase code.Body t at stands = absurd stands
-orders_phase code.SameName t at stands = refl
-orders_phase code.SameRequest t at stands = refl
-orders_phase code.Attempt t at stands = absurd stands
-orders_phase code.Certificate t at stands = absurd stands
-orders_phase code.Access t at stands = absurd stands
-orders_phase code.WorkerOrder t at stands = absurd stands
-orders_phase code.Commit t at stands = absurd stands
-orders_phase code.Rollback t at stands = absurd stands
-orders_phase code.Record t at stands = absurd stands
-orders_phase code.Version t at stands = absurd stands
-orders_phase code.Value t at stands = absurd stands
-orders_phase code.Restore t at stands = absurd stands
-orders_phase code.Token t at stands = absurd stands
-orders_phase code.TwoVotes t at stands = absurd stands
-orders_phase code.TwoDecisions t at stands = absurd stands
-orders_phase code.NoMajority t at stands = absurd stands
-orders_phase code.RollbackNoMajority t at stands = absurd stands
-orders_phase code.Outcome t at stands = absurd stands
-orders_phase code.Reply t at stands = absurd stands
-
-pub structure_phase : (c : Code) (t : Trace) (e at : ℕ) → StandsInStructure c t e at → phase_of c ≡ 3
-structure_phase code.Length t e at stands = absurd stands
-structure_phase code.Magic t e at stands = absurd stands
-structure_phase code.Head t e at stands = absurd stands
-structure_phase code.Frame t e at stands = absurd stands
-structure_phase code.Body t e at stands = absurd stands
-structure_phase code.SameName t e at stands = absurd stands
-structure_phase code.SameRequest t e at stands = absurd stands
-structure_phase code.Attempt t e at stands = refl
-structure_phase code.Certificate t e at stands = refl
-structure_phase code.Access t e at stands = refl
-structure_phase code.WorkerOrder t e at stands = refl
-structure_phase code.Commit t e at stands = refl
-structure_phase code.Rollback t e at stands = refl
-structure_phase code.Record t e at stands = absurd stands
-structure_phase code.Version t e at stands = absurd stands
-structure_phase code.Value t e at stands = absurd stands
-structure_phase code.Restore t e at stands = absurd stands
-structure_phase code.Token t e at stands = absurd stands
-structure_phase code.TwoVotes t e at stands = absurd stands
-structure_phase code.TwoDecisions t e at stands = absurd stands
-structure_phase code.NoMajority t e at stands = absurd stands
-structure_phase code.RollbackNoMajority t e at stands = absurd stands
-structure_phase code.Outcome t e at stands = absurd stands
-structure_phase code.Reply t e at stands = absurd stands
+use Rattle.eve_audit.specs.Verdict.{Precedes, IsOwnFault, last_of}
+use Rattle.eve_audit.specs.Pieces.{IsFirstOf, HasNone, IsFaultBelow, IsFoundBelow, IsLeastBelow}
 
 -- ---- the order of faults
 
@@ -99,7 +15,7 @@ up_to-trans f g h (inl a) (inr b) = inl (omega (arith, a, b.0))
 up_to-trans f g h (inr a) (inl b) = inl (omega (arith, a.0, b))
 up_to-trans f g h (inr a) (inr b) = inr (omega (arith, a.0, b.0), omega (arith, a.1, b.1))
 
-pub precedes-trans : (f g h : Fault) → Precedes f g → Precedes g h → Precedes f h
+precedes-trans : (f g h : Fault) → Precedes f g → Precedes g h → Precedes f h
 precedes-trans f g h (inl a) (inl b) = inl (omega (arith, a, b))
 precedes-trans f g h (inl a) (inr b) = inl (omega (arith, a, b.0))
 precedes-trans f g h (inr a) (inl b) = inl (omega (arith, a.0, b))
@@ -107,50 +23,47 @@ precedes-trans f g h (inr a) (inr b) = inr (omega (arith, a.0, b.0), up_to-trans
 
 -- ---- replica by replica
 
-least_first : (t : Trace) (e : ℕ) (f g : Fault) → IsLeastStructureFault t e f → IsStructureFault t e g → Precedes f g
-least_first t e f g least is =
-    inr (structure_phase f.code t e f.offset least.is.stands ∙ sym (structure_phase g.code t e g.offset is.stands), least.least g is)
-
-below_more : (k e : ℕ) → k < e + 1 → (k < e) ⊎ (k ≡ e)
+pub below_more : (k e : ℕ) → k < e + 1 → (k < e) ⊎ (k ≡ e)
 below_more k e lt = elim (cases_lt k e) [ inl less ↦ inl less | inr le ↦ inr (omega (arith, lt, le)) ]
 
--- this replica's section has no fault
-pub none_more : (t : Trace) (e : ℕ) (first : Option Fault) → IsFoundBelow t e first → ((f : Fault) → ¬ IsStructureFault t e f) → IsFoundBelow t (e + 1) first
-none_more t e None found none = λ k g lt is. elim (below_more k e lt) [ inl less ↦ found k g less is | inr same ↦ none g (subst (λ (i : ℕ). IsStructureFault t i g) same is) ]
+-- a fault below the next number is one below this, or this replica's
+fault_below : (t : Trace) (e : ℕ) (f : Fault) → IsFaultBelow t (e + 1) f → IsFaultBelow t e f ⊎ IsOwnFault t e f
+fault_below t e f below = elim (below_more below.0 e below.1) [
+  | inl less ↦ inl (below.0, less, below.2)
+  | inr same ↦ inr (subst (λ (k : ℕ). IsOwnFault t k f) same below.2)
+]
+
+more_below : (t : Trace) (e : ℕ) (f : Fault) → IsFaultBelow t e f → IsFaultBelow t (e + 1) f
+more_below t e f below = (below.0, omega (arith, below.1), below.2)
+
+own_below : (t : Trace) (e : ℕ) (f : Fault) → IsOwnFault t e f → IsFaultBelow t (e + 1) f
+own_below t e f is = (e, omega arith, is)
+
+-- this replica has no fault of its own
+pub none_more : (t : Trace) (e : ℕ) (first : Option Fault) → IsFoundBelow t e first → HasNone (IsOwnFault t e) → IsFoundBelow t (e + 1) first
+none_more t e None found none = λ g below. elim (fault_below t e g below) [ inl less ↦ found g less | inr own ↦ none g own ]
 none_more t e (Some f) found none = record {
-  replica = found.replica;
-  below = (let below = found.below in omega (arith, below));
-  is = found.is;
-  first = λ k g lt is. elim (below_more k e lt) [ inl less ↦ found.first k g less is | inr same ↦ absurd (none g (subst (λ (i : ℕ). IsStructureFault t i g) same is)) ];
+  is = more_below t e f found.is;
+  first = λ g below. elim (fault_below t e g below) [ inl less ↦ found.first g less | inr own ↦ absurd (none g own) ];
 }
 
 -- it has the first one
-pub first_more : (t : Trace) (e : ℕ) (f : Fault) → HasNoneBelow t e → IsLeastStructureFault t e f → IsFirstBelow t (e + 1) f
-first_more t e f none least = record {
-  replica = e;
-  below = omega arith;
-  is = least.is;
-  first = λ k g lt is. elim (below_more k e lt) [ inl less ↦ absurd (none k g less is) | inr same ↦ least_first t e f g least (subst (λ (i : ℕ). IsStructureFault t i g) same is) ];
+pub first_more : (t : Trace) (e : ℕ) (f : Fault) → HasNone (IsFaultBelow t e) → IsFirstOf (IsOwnFault t e) f → IsFirstOf (IsFaultBelow t (e + 1)) f
+first_more t e f none own_first = record {
+  is = own_below t e f own_first.is;
+  first = λ g below. elim (fault_below t e g below) [ inl less ↦ absurd (none g less) | inr own ↦ own_first.first g own ];
 }
 
 -- it has one beside an earlier replica's
-pub both_more : (t : Trace) (e : ℕ) (f g h : Fault) → IsFirstBelow t e g → IsLeastStructureFault t e f → (h ≡ g) ⊎ (h ≡ f) → Precedes h g → Precedes h f → IsFirstBelow t (e + 1) h
-both_more t e f g h found least (inl same) before after = record {
-  replica = found.replica;
-  below = (let below = found.below in omega (arith, below));
-  is = subst (λ (x : Fault). IsStructureFault t found.replica x) (sym same) found.is;
-  first = λ k x lt is. elim (below_more k e lt) [
-    | inl less ↦ precedes-trans h g x before (found.first k x less is)
-    | inr own ↦ precedes-trans h f x after (least_first t e f x least (subst (λ (i : ℕ). IsStructureFault t i x) own is))
+pub both_more : (t : Trace) (e : ℕ) (f g h : Fault) → IsFirstOf (IsFaultBelow t e) g → IsFirstOf (IsOwnFault t e) f → (h ≡ g) ⊎ (h ≡ f) → Precedes h g → Precedes h f → IsFirstOf (IsFaultBelow t (e + 1)) h
+both_more t e f g h found own_first one before after = record {
+  is = elim one [
+    | inl same ↦ subst (λ (x : Fault). IsFaultBelow t (e + 1) x) (sym same) (more_below t e g found.is)
+    | inr same ↦ subst (λ (x : Fault). IsFaultBelow t (e + 1) x) (sym same) (own_below t e f own_first.is)
   ];
-}
-both_more t e f g h found least (inr same) before after = record {
-  replica = e;
-  below = omega arith;
-  is = subst (λ (x : Fault). IsStructureFault t e x) (sym same) least.is;
-  first = λ k x lt is. elim (below_more k e lt) [
-    | inl less ↦ precedes-trans h g x before (found.first k x less is)
-    | inr own ↦ precedes-trans h f x after (least_first t e f x least (subst (λ (i : ℕ). IsStructureFault t i x) own is))
+  first = λ x below. elim (fault_below t e x below) [
+    | inl less ↦ precedes-trans h g x before (found.first x less)
+    | inr own ↦ precedes-trans h f x after (own_first.first x own)
   ];
 }
 

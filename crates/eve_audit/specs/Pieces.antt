@@ -1,27 +1,83 @@
--- What is found replica by replica.
-use Rattle.std.specs.Prelude.{◌≡◌, ℕ, ◌<◌, ◌≤◌, ◌-◌, ◌^◌, ◌⊎◌, Option, Some, None}
+-- What is found replica by replica, and of all replicas together.
+use Rattle.std.specs.Prelude.{◌≡◌, ℕ, ◌<◌, ◌≤◌, ◌-◌, ◌^◌, ◌⊎◌, List, length, map, take, Option, Some, None}
 use Rattle.eve_grammar.specs.Trace.{Trace}
+use Rattle.eve_grammar.specs.Frames.{sections_of}
 use Rattle.eve_views.specs.declared.fault.Fault.{Fault}
-use Rattle.eve_history.specs.Faults.{IsStructureFault}
-use Rattle.eve_audit.specs.Verdict.{Precedes, last_of}
+use Rattle.eve_history.specs.Faults.{IsOrderFault}
+use Rattle.eve_history.specs.Told.{Telling, telling, IsRightSection}
+use Rattle.eve_serial.specs.Sound.{SettledAreSound}
+use Rattle.eve_banks.specs.Settling.{Settling, settling}
+use Rattle.eve_restores.specs.Tables.{RestoresAreRight}
+use Rattle.eve_tokens.specs.Faults.{TokensAreDue}
+use Rattle.eve_votes.specs.Faults.{IsVoteFault, AreVotesSound}
+use Rattle.eve_majorities.specs.Faults.{AllAreBacked, IsMajorityFault}
+use Rattle.eve_agree.specs.Faults.{ReplicasAgree, IsOutcomeFault}
+use Rattle.eve_replies.specs.Faults.{AllReplied, IsReplyFault}
+use Rattle.eve_audit.specs.Verdict.{IsOwnFault, Precedes, last_of}
 
--- a fault in the section of a replica below n, which precedes every other there
-pub record IsFirstBelow (t : Trace) (n : ℕ) (f : Fault) : Type 0 where
-  pub replica : ℕ
-  pub below : replica < n
-  pub is : IsStructureFault t replica f
-  pub first : (e : ℕ) (g : Fault) → e < n → IsStructureFault t e g → Precedes f g
+-- of some faults the one that precedes every other
+pub record IsFirstOf (S : Fault → Type 0) (f : Fault) : Type 0 where
+  pub is : S f
+  pub first : (g : Fault) → S g → Precedes f g
 
--- no fault in the sections of the replicas below n
-abbrev pub HasNoneBelow : Trace → ℕ → Type 0
-HasNoneBelow t n = (e : ℕ) (g : Fault) → e < n → ¬ IsStructureFault t e g
+abbrev pub HasNone : (Fault → Type 0) → Type 0
+HasNone S = (f : Fault) → ¬ S f
 
--- the first fault in the sections of the replicas below n, if there is one
+-- ---- replica by replica
+
+-- what holds of a replica that has no fault of its own
+pub record IsSoundReplica (t : Trace) (e : ℕ) : Type 0 where
+  pub right : IsRightSection t e
+  pub sound : SettledAreSound t e
+  pub restores : RestoresAreRight t e
+  pub tokens : TokensAreDue t e
+
+-- a fault that a replica below n has of its own
+abbrev pub IsFaultBelow : Trace → ℕ → Fault → Type 0
+IsFaultBelow t n f = (e : ℕ) × (e < n) × IsOwnFault t e f
+
+-- the first of those, if there is one
 abbrev pub IsFoundBelow : Trace → ℕ → Option Fault → Type 0
-IsFoundBelow t n (Some f) = IsFirstBelow t n f
-IsFoundBelow t n None = HasNoneBelow t n
+IsFoundBelow t n (Some f) = IsFirstOf (IsFaultBelow t n) f
+IsFoundBelow t n None = HasNone (IsFaultBelow t n)
+
+-- what the replicas below n tell, and what they committed, in their order; all of them are sound
+pub record AreKept (t : Trace) (n : ℕ) (told : List Telling) (wrote : List Settling) : Type 0 where
+  pub histories : told ≡ map (λ s. telling t s.0) (take n (sections_of t))
+  pub settled : wrote ≡ map (λ s. settling t s.0) (take n (sections_of t))
+  pub sound : (e : ℕ) → e < n → IsSoundReplica t e
 
 -- the least last committed number of the replicas below n, and the greatest of 32 bits where there is none
 pub record IsLeastBelow (t : Trace) (n c : ℕ) : Type 0 where
   pub least : (e : ℕ) → e < n → c ≤ last_of t e
   pub reached : ((n ≡ 0) × (c ≡ 2 ^ 32 - 1)) ⊎ ((e : ℕ) × (e < n) × (last_of t e ≡ c))
+
+-- what was found in the replicas below n; and where that is nothing, what was kept of them
+pub record IsJudgedBelow (t : Trace) (n : ℕ) (first : Option Fault) (told : List Telling) (wrote : List Settling) (committed : ℕ) : Type 0 where
+  pub found : IsFoundBelow t n first
+  pub kept : first ≡ None → AreKept t n told wrote
+  pub least : first ≡ None → IsLeastBelow t n committed
+
+-- ---- all replicas together
+
+-- a fault that is judged only where no replica has one of its own
+pub data IsCommonFault (t : Trace) (f : Fault) : Type 0 where
+  of_votes : IsVoteFault t f → IsCommonFault t f
+  of_majorities : IsMajorityFault t f → IsCommonFault t f
+  of_agreement : IsOutcomeFault t f → IsCommonFault t f
+  of_replies : IsReplyFault t f → IsCommonFault t f
+
+-- what holds where there is none
+pub record IsSoundTogether (t : Trace) : Type 0 where
+  pub votes : AreVotesSound t
+  pub backed : AllAreBacked t
+  pub agree : ReplicasAgree t
+  pub replied : AllReplied t
+
+-- ---- the trace
+
+-- a fault of any phase but that of form
+pub data IsTraceFault (t : Trace) (f : Fault) : Type 0 where
+  in_orders : IsOrderFault t f → IsTraceFault t f
+  in_section : IsFaultBelow t (length t.sections) f → IsTraceFault t f
+  in_common : IsCommonFault t f → IsTraceFault t f

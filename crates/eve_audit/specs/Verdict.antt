@@ -1,5 +1,5 @@
 -- The verdict on bytes. docs/MODEL.md, "Verdict".
-use Rattle.std.specs.Prelude.{◌≡◌, ℕ, ◌<◌, ◌≤◌, List, length, ◌⊎◌}
+use Rattle.std.specs.Prelude.{◌≡◌, ℕ, ◌<◌, ◌≤◌, List, length, ◌⊎◌, ⊤}
 use Rattle.eve_grammar.specs.Trace.{Trace}
 use Rattle.eve_grammar.specs.Limits.{Spells}
 use Rattle.eve_views.specs.Code.{phase_of}
@@ -7,15 +7,35 @@ use Rattle.eve_views.specs.Form.{IsFormFault, IsUpTo}
 use Rattle.eve_views.specs.declared.fault.Fault.{Fault}
 use Rattle.eve_history.specs.Faults.{IsOrderFault, IsStructureFault}
 use Rattle.eve_history.specs.Told.{telling}
+use Rattle.eve_serial.specs.Faults.{IsRecordFault, IsChainFault}
+use Rattle.eve_restores.specs.Faults.{IsRestoreFault}
+use Rattle.eve_tokens.specs.Faults.{IsTokenFault}
+use Rattle.eve_votes.specs.Faults.{IsVoteFault}
+use Rattle.eve_majorities.specs.Faults.{IsMajorityFault}
+use Rattle.eve_agree.specs.Faults.{IsOutcomeFault}
+use Rattle.eve_replies.specs.Faults.{IsReplyFault}
+use Rattle.eve_theorem.specs.Audited.{IsAudited}
 use Rattle.eve_audit.specs.declared.verdict.Summary.{Summary}
 use Rattle.eve_audit.specs.declared.verdict.Verdict.{Verdict}
 use Rattle.eve_audit.specs.declared.verdict.Verdict.TheVariants.{Yes, No}
+
+-- a fault of replica e's own, judged by its section alone
+pub data IsOwnFault (t : Trace) (e : ℕ) (f : Fault) : Type 0 where
+  of_structure : IsStructureFault t e f → IsOwnFault t e f
+  of_records : IsRecordFault t e f → IsOwnFault t e f
+  of_chains : IsChainFault t e f → IsOwnFault t e f
+  of_restores : IsRestoreFault t e f → IsOwnFault t e f
+  of_tokens : IsTokenFault t e f → IsOwnFault t e f
 
 -- a fault stands: one of form in the bytes, any other in the trace that they spell
 pub data Stands (bytes : List ℕ) (f : Fault) : Type 0 where
   in_form : IsFormFault bytes f → Stands bytes f
   in_orders : (t : Trace) → Spells bytes t → IsOrderFault t f → Stands bytes f
-  in_section : (t : Trace) (e : ℕ) → Spells bytes t → e < length t.sections → IsStructureFault t e f → Stands bytes f
+  in_section : (t : Trace) (e : ℕ) → Spells bytes t → e < length t.sections → IsOwnFault t e f → Stands bytes f
+  in_votes : (t : Trace) → Spells bytes t → IsVoteFault t f → Stands bytes f
+  in_majorities : (t : Trace) → Spells bytes t → IsMajorityFault t f → Stands bytes f
+  in_agreement : (t : Trace) → Spells bytes t → IsOutcomeFault t f → Stands bytes f
+  in_replies : (t : Trace) → Spells bytes t → IsReplyFault t f → Stands bytes f
 
 -- by phase, then offset, then number
 abbrev pub Precedes : Fault → Fault → Type 0
@@ -56,3 +76,19 @@ pub record IsFaultless (bytes : List ℕ) (t : Trace) : Type 0 where
 abbrev pub IsVerdict : List ℕ → Verdict → Type 0
 IsVerdict bytes (Yes s) = (t : Trace) × IsFaultless bytes t × IsSummary t s
 IsVerdict bytes (No f) = IsFirst bytes f
+
+-- the bytes are a trace that is audited
+pub record SpellsAudited (bytes : List ℕ) : Type 0 where
+  pub trace : Trace
+  pub spells : Spells bytes trace
+  pub audited : IsAudited trace
+
+-- a yes is said of such bytes alone
+abbrev pub IsYesOfAudited : List ℕ → Verdict → Type 0
+IsYesOfAudited bytes (Yes s) = SpellsAudited bytes
+IsYesOfAudited bytes (No f) = ⊤
+
+-- a no names a byte of these, or the one behind them
+abbrev pub LiesWithin : List ℕ → Verdict → Type 0
+LiesWithin bytes (Yes s) = ⊤
+LiesWithin bytes (No f) = f.offset ≤ length bytes

@@ -2,9 +2,13 @@
 #![tactic(auto)]
 
 mod audit;
-mod pieces;
+pub mod laws;
+mod precedence;
+mod replica;
+mod replicas;
 #[cfg(test)]
 mod tests;
+mod together;
 mod verdict;
 
 pub use audit::audit_one;

@@ -1,11 +1,15 @@
 //! A committed deposit, and what is wrong with it where it is changed.
 
+use crate::replicas::judge_replicas;
 use crate::{Summary, Verdict, audit_one};
-use eve_views::{Code, Fault};
+use eve_agree::equal_balances;
+use eve_history::orders;
+use eve_views::{CheckFault, Code, Fault, Trace};
+use std::alloc::{AllocError, Global};
 use std::hash::RandomState;
 use std::test::Fail;
 
-/// The worked case `deposit-committed`.
+/// The worked case `deposit-committed` up to its end.
 const DEPOSIT: &[u8] =
     b"EVESBK\0\x01\x01\x01\x01\x01\x01\0\0\0\0\0\0\x01\0\0\0\x01\0\0\0\0\0\0\x01\x2e\
 \x01\0\0\0\x14\x03ann\0\0\0\0\0\0\0\0\0\0\0\0\0\0\0\0\
@@ -15,8 +19,54 @@ const DEPOSIT: &[u8] =
 \x12\0\0\0\x23\0\0\0\0\0\x01\0\0\0\x01\x01\0\0\0\0\0\0\0\0\0\0\0\0\0\0\0\0\0\0\0\0\0\0\x01\xf4\
 \x13\0\0\0\x28\0\0\0\x01\0\0\0\0\xe4\x13\x02\x29\x83\x83\xde\x95\xa3\x8c\x6b\x57\x20\x29\x77\x40\x55\x9d\xd3\x69\x90\xc8\x1e\xbe\x27\xc6\xf4\x28\x59\xfa\x31\xaa\
 \x20\0\0\0\x01\0\
-\x21\0\0\0\x29\0\0\0\x01\0\0\0\0\x01\xe4\x13\x02\x29\x83\x83\xde\x95\xa3\x8c\x6b\x57\x20\x29\x77\x40\x55\x9d\xd3\x69\x90\xc8\x1e\xbe\x27\xc6\xf4\x28\x59\xfa\x31\xaa\
-\x7f\0\0\0\0";
+\x21\0\0\0\x29\0\0\0\x01\0\0\0\0\x01\xe4\x13\x02\x29\x83\x83\xde\x95\xa3\x8c\x6b\x57\x20\x29\x77\x40\x55\x9d\xd3\x69\x90\xc8\x1e\xbe\x27\xc6\xf4\x28\x59\xfa\x31\xaa";
+
+/// Its last frame.
+const END: &[u8] = b"\x7f\0\0\0\0";
+
+/// Bytes of the deposit that are changed, and frames that are added before its end.
+#[derive(Drop)]
+struct Change {
+    bytes: &'static [(usize, u8)],
+    frames: &'static [u8],
+    fault: Fault,
+}
+
+/// A change of bytes alone.
+fn altered(bytes: &'static [(usize, u8)], code: Code, offset: u64, replica: Option<u8>) -> Change {
+    added(bytes, b"", code, offset, replica)
+}
+
+fn added(
+    bytes: &'static [(usize, u8)],
+    frames: &'static [u8],
+    code: Code,
+    offset: u64,
+    replica: Option<u8>,
+) -> Change {
+    Change {
+        bytes,
+        frames,
+        fault: Fault {
+            code,
+            offset,
+            replica,
+        },
+    }
+}
+
+fn changed(alloc: Global, change: &Change) -> Result<Vec<u8>, AllocError> {
+    let mut bytes = Vec::new(alloc);
+    bytes.extend_from_slice(DEPOSIT)?;
+    for &(place, byte) in change.bytes {
+        if let Some(there) = bytes.get_mut(place) {
+            *there = byte;
+        }
+    }
+    bytes.extend_from_slice(change.frames)?;
+    bytes.extend_from_slice(END)?;
+    Ok(bytes)
+}
 
 #[test]
 fn says_yes(rt: HostRuntime) -> Result<(), Fail> {
@@ -25,35 +75,118 @@ fn says_yes(rt: HostRuntime) -> Result<(), Fail> {
         batches: 1,
         committed: 1,
     };
-    let verdict = audit_one(rt.alloc(), DEPOSIT, RandomState::new(&rt)?);
+    let bytes = changed(rt.alloc(), &altered(&[], Code::Length, 0, None))?;
+    let verdict = audit_one(&rt, rt.alloc(), &bytes, RandomState::new(&rt)?);
     assert_eq!(rt; verdict, Ok(Verdict::Yes(summary)));
     Ok(())
 }
 
-/// One byte changed, and the first fault then.
+/// The first fault, phase by phase.
 #[test]
 fn names_the_first_fault(rt: HostRuntime) -> Result<(), Fail> {
-    for (place, byte, code, offset, replica) in [
-        (31, 0x2f, Code::Length, 0, None),
-        (97, 1, Code::Frame, 95, None),
-        (109, 2, Code::Attempt, 101, Some(0)),
-        (118, 1, Code::Certificate, 101, Some(0)),
-        (165, 1, Code::Access, 160, Some(0)),
-        (167, 1, Code::WorkerOrder, 160, Some(0)),
-        (212, 1, Code::Commit, 200, Some(0)),
+    for change in [
+        altered(&[(31, 0x2f)], Code::Length, 0, None),
+        altered(&[(97, 1)], Code::Frame, 95, None),
+        altered(&[(109, 2)], Code::Attempt, 101, Some(0)),
+        altered(&[(118, 1)], Code::Certificate, 101, Some(0)),
+        altered(&[(165, 1)], Code::Access, 160, Some(0)),
+        altered(&[(167, 1)], Code::WorkerOrder, 160, Some(0)),
+        altered(&[(212, 1)], Code::Commit, 200, Some(0)),
+        altered(&[(199, 0xf5)], Code::Record, 160, Some(0)),
+        altered(
+            &[(159, 0xab), (244, 0xab), (296, 0xab)],
+            Code::Token,
+            101,
+            Some(0),
+        ),
+        added(
+            &[(31, 0x5c)],
+            b"\x21\0\0\0\x29\0\0\0\x01\0\0\0\0\x01\xe4\x13\x02\x29\x83\x83\xde\x95\xa3\x8c\x6b\x57\x20\x29\x77\x40\x55\x9d\xd3\x69\x90\xc8\x1e\xbe\x27\xc6\xf4\x28\x59\xfa\x31\xaa",
+            Code::TwoVotes,
+            297,
+            None,
+        ),
+        added(
+            &[(9, 4), (10, 3), (31, 0x6e)],
+            b"\x20\0\0\0\x01\x01\
+\x21\0\0\0\x29\0\0\0\x01\0\0\0\0\x01\xe4\x13\x02\x29\x83\x83\xde\x95\xa3\x8c\x6b\x57\x20\x29\x77\x40\x55\x9d\xd3\x69\x90\xc8\x1e\xbe\x27\xc6\xf4\x28\x59\xfa\x31\xaa\
+\x20\0\0\0\x01\x02\x20\0\0\0\x01\x03",
+            Code::NoMajority,
+            200,
+            Some(0),
+        ),
+        added(
+            &[(31, 0x4d)],
+            b"\x30\0\0\0\x1a\0\0\0\x07\0\0\0\0\0\0\0\x01\0\0\0\0\x01\x04\0\0\0\0\0\0\0\0",
+            Code::Reply,
+            297,
+            None,
+        ),
     ] {
-        let mut bytes = Vec::new(rt.alloc());
-        bytes.extend_from_slice(DEPOSIT)?;
-        if let Some(there) = bytes.get_mut(place) {
-            *there = byte;
-        }
+        let bytes = changed(rt.alloc(), &change)?;
+        let verdict = audit_one(&rt, rt.alloc(), &bytes, RandomState::new(&rt)?);
+        assert_eq!(rt;
+            verdict,
+            Ok(Verdict::No(change.fault)),
+            "at {}",
+            change.fault.offset
+        );
+    }
+    Ok(())
+}
+
+/// Two replicas run a deposit and a check in two orders: the penalty falls due in one of them.
+const BALANCES_DIFFER: &[u8] =
+    b"EVESBK\0\x01\x02\x01\x01\x01\x01\0\0\0\0\0\0\x01\0\0\0\x01\0\0\0\0\0\0\x02}\
+\x01\0\0\0\x14\x03ann\0\0\0\0\0\0\0\0\0\0\0\0\0\0\0d\
+\x02\0\0\0:\0\0\0\x01\0\x01\0\x02\0\0\0\x07\0\0\0\0\0\0\0\x01\x02\x03ann\0\0\0\0\0\0\02\0\0\0\x07\0\0\0\0\0\0\0\x02\x05\x03ann\0\0\0\0\0\0\0x\
+\x10\0\0\0\x01\0\
+\x11\0\0\0A\0\0\0\x01\0\0\0\0\0\0\x02\0\0\0\x01\0\0\0\0\0\0\0\0\0\0\0\0\0\0\0\0\0\0\xd9\xbe\xc8\xc8F\xc4\x165H\xf9\xc4MEp%W\xbfP\xcd\x95%\x0d\x0f%\x1e\xb3*y\xfd\xea\xf8\xb0\
+\x12\0\0\0#\0\0\0\0\0\x01\0\0\0\x01\x01\0\0\0\0\0\0\0\0\0\0\0\0\0\0\0d\0\0\0\0\0\0\0\x96\
+\x12\0\0\0@\0\0\x01\0\x01\x02\0\0\0\0\0\0\0\0\0\0\0\0\0\0\0\0\0\0\0\0\0\0\0\0\0\0\0\0\0\0\0\0\x01\x01\0\0\0\0\0\0\0\x01\0\0\0\0\0\0\0\x96\0\0\0\0\0\0\0\x1e\
+\x13\0\0\0(\0\0\0\x01\0\0\0\0\xd9\xbe\xc8\xc8F\xc4\x165H\xf9\xc4MEp%W\xbfP\xcd\x95%\x0d\x0f%\x1e\xb3*y\xfd\xea\xf8\xb0\
+\x10\0\0\0\x01\x01\
+\x11\0\0\0A\0\0\0\x01\0\0\0\0\0\0\x02\0\x01\0\0\0\0\0\0\0\0\0\0\0\0\0\0\0\0\0\0\0\0}5\x1a-\x9a\xb0\xb7F\x92\xf0\x13\xf9Fr\xf5\xb7\xd9gs\xc9\xaf\x8d\x94\xa0\xe7H\x07:\x99\xf7\x87\xd5\
+\x12\0\0\0@\0\0\0\0\x01\x02\0\0\0\0\0\0\0\0\0\0\0\0\0\0\0\0\0\0\0\0\0\0\0\0\0\0\0\0\0\0\0\0\x01\x01\0\0\0\0\0\0\0\0\0\0\0\0\0\0\0d\xff\xff\xff\xff\xff\xff\xff\x88\
+\x12\0\0\0#\0\0\x01\0\0\x01\0\0\0\x01\x01\0\0\0\0\0\0\0\x01\xff\xff\xff\xff\xff\xff\xff\x88\xff\xff\xff\xff\xff\xff\xff\xba\
+\x13\0\0\0(\0\0\0\x01\0\0\0\0}5\x1a-\x9a\xb0\xb7F\x92\xf0\x13\xf9Fr\xf5\xb7\xd9gs\xc9\xaf\x8d\x94\xa0\xe7H\x07:\x99\xf7\x87\xd5\
+\x20\0\0\0\x01\0\
+!\0\0\0)\0\0\0\x01\0\0\0\0\x01\xd9\xbe\xc8\xc8F\xc4\x165H\xf9\xc4MEp%W\xbfP\xcd\x95%\x0d\x0f%\x1e\xb3*y\xfd\xea\xf8\xb0\
+\x7f\0\0\0\0";
+
+/// Two replicas run a balance and a deposit in two orders, with two totals.
+const REPLIES_DIFFER: &[u8] =
+    b"EVESBK\0\x01\x02\x01\x01\x01\x01\0\0\0\0\0\0\x01\0\0\0\x01\0\0\0\0\0\0\x02u\
+\x01\0\0\0\x14\x03ann\0\0\0\0\0\0\0\0\0\0\0\0\0\0\0d\
+\x02\0\0\02\0\0\0\x01\0\x01\0\x02\0\0\0\x07\0\0\0\0\0\0\0\x01\x01\x03ann\0\0\0\x07\0\0\0\0\0\0\0\x02\x02\x03ann\0\0\0\0\0\0\02\
+\x10\0\0\0\x01\0\
+\x11\0\0\0A\0\0\0\x01\0\0\0\0\0\0\x02\0\0\0\x01\x01\0\0\0\0\0\0\0d\0\0\0\0\0\0\0\0\0\x01\xda\x08g\xd7K\x9b\x82\x89\x20\xf2\xab\xf2\xf1(\xce\xa3h|\xa1%\x8b\x16\x0f&\x12\xb7\xdc\xec\xc4P\xa7\
+\x12\0\0\0@\0\0\0\0\0\x02\0\0\0\0\0\0\0\0\0\0\0\0\0\0\0\0\0\0\0\0\0\0\0\0\0\0\0\0\0\0\0\0\x01\0\0\0\0\0\0\0\0\0\0\0\0\0\0\0\0d\0\0\0\0\0\0\0d\
+\x12\0\0\0#\0\0\x01\0\x01\x01\0\0\0\x01\x01\0\0\0\0\0\0\0\0\0\0\0\0\0\0\0d\0\0\0\0\0\0\0\x96\
+\x13\0\0\0(\0\0\0\x01\0\0\0\0\x01\xda\x08g\xd7K\x9b\x82\x89\x20\xf2\xab\xf2\xf1(\xce\xa3h|\xa1%\x8b\x16\x0f&\x12\xb7\xdc\xec\xc4P\xa7\
+\x10\0\0\0\x01\x01\
+\x11\0\0\0A\0\0\0\x01\0\0\0\0\0\0\x02\0\x01\0\0\x01\0\0\0\0\0\0\0\x96\0\0\0\0\0\0\0\0\0u\x9b\x12\xd2\xf0\x0c\xdf\xd4\xc2\xfd\xf5\x98\xbf7\xc5.\x95\xe3Jo#\x9as+t\xe6\xf6V\xcd\x83\xb51\
+\x12\0\0\0#\0\0\0\0\x01\x01\0\0\0\x01\x01\0\0\0\0\0\0\0\0\0\0\0\0\0\0\0d\0\0\0\0\0\0\0\x96\
+\x12\0\0\0@\0\0\x01\0\0\x02\0\0\0\0\0\0\0\0\0\0\0\0\0\0\0\0\0\0\0\0\0\0\0\0\0\0\0\0\0\0\0\0\x01\0\0\0\0\0\0\0\0\x01\0\0\0\0\0\0\0\x96\0\0\0\0\0\0\0\x96\
+\x13\0\0\0(\0\0\0\x01\0\0\0\0u\x9b\x12\xd2\xf0\x0c\xdf\xd4\xc2\xfd\xf5\x98\xbf7\xc5.\x95\xe3Jo#\x9as+t\xe6\xf6V\xcd\x83\xb51\
+\x20\0\0\0\x01\0\
+!\0\0\0)\0\0\0\x01\0\0\0\0\x01\x01\xda\x08g\xd7K\x9b\x82\x89\x20\xf2\xab\xf2\xf1(\xce\xa3h|\xa1%\x8b\x16\x0f&\x12\xb7\xdc\xec\xc4P\xa7\
+\x7f\0\0\0\0";
+
+/// What two replicas came to differs at the second one's attempt, though each by itself is right.
+#[test]
+fn replicas_differ(rt: HostRuntime) -> Result<(), Fail> {
+    for (bytes, offset) in [(BALANCES_DIFFER, 356), (REPLIES_DIFFER, 348)] {
+        let trace = Trace::read(rt.alloc(), bytes)?;
+        let names = orders(rt.alloc(), &trace, RandomState::new(&rt)?)?;
+        let found = judge_replicas(&rt, rt.alloc(), &trace, &names)?;
         let fault = Fault {
-            code,
+            code: Code::Outcome,
             offset,
-            replica,
+            replica: Some(1),
         };
-        let verdict = audit_one(rt.alloc(), &bytes, RandomState::new(&rt)?);
-        assert_eq!(rt; verdict, Ok(Verdict::No(fault)), "at {place}");
+        let judged = equal_balances(rt.alloc(), &trace, &found.histories, &found.settled);
+        assert_eq!(rt; judged, Err(CheckFault::Found(fault)), "at {offset}");
     }
     Ok(())
 }

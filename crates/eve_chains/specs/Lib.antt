@@ -1,7 +1,1 @@
-pub mod Visible
-pub mod Committed
-pub mod Sound
-pub mod Faults
-pub mod Tables
-pub mod Records
-pub mod Along
+pub mod Walking

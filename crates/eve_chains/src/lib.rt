@@ -1,12 +1,10 @@
-//! What a replica's committed batches amount to: records and chains judged, and what follows from them for
-//! SmallBank on one thread.
+//! Records and chains judged: what a replica's settled attempts amount to.
 #![tactic(auto)]
 
-mod along;
-mod fitting;
-pub mod laws;
-mod table;
+mod judge;
 #[cfg(test)]
 mod tests;
-mod versioned;
-mod written;
+mod walk;
+
+pub use eve_banks::Settled;
+pub use judge::check;

@@ -1,63 +1,172 @@
-//! The worked deposit: its record fits, and others don't.
+//! The worked cases of chains.
 
-use crate::along::{judge_along, take_back_along, write_along, write_values_along};
-use crate::fitting::fits;
-use crate::table::Table;
-use eve_accounts::{Amount, Balances, Names};
-use eve_frames::AccessView;
-use eve_grammar::AccessBody;
-use eve_smallbank::{Abort, Reply, Request};
-use eve_views::Trace;
-use std::hash::RandomState;
+use crate::walk::chains;
+use eve_history::History;
+use eve_views::{CheckFault, Code, Fault, Trace};
+use std::alloc::{AllocError, Global};
 use std::test::Fail;
 
-/// A trace of a customer with nothing in its accounts and no batch.
-const EMPTY: &[u8] =
-    b"EVESBK\0\x01\x01\x01\x01\x01\x01\0\0\0\0\0\0\x01\0\0\0\0\0\0\0\0\0\0\0\x4a\x01\0\0\0\x14\x03ann\0\0\0\0\0\0\0\0\0\0\0\0\0\0\0\0\x10\0\0\0\x01\0\x20\0\0\0\x01\0\x7f\0\0\0\0";
+/// `two-deposits-in-version-order`, frame by frame.
+const IN_VERSION_ORDER: &[&[u8]] = &[
+    b"EVESBK\0\x01\x01\x01\x01\x01\x01\0\0\0\0\0\0\x01\0\0\0\x01\0\0\0\0\0\0\x01z",
+    b"\x01\0\0\0\x14\x03ann\0\0\0\0\0\0\0\0\0\0\0\0\0\0\0\0",
+    b"\x02\0\0\0\x3a\0\0\0\x01\0\x01\0\x02\0\0\0\x07\0\0\0\0\0\0\0\x01\x02\x03ann\0\0\0\0\0\0\0\x05\0\0\0\x07\0\0\0\0\0\0\0\x02\x02\x03ann\0\0\0\0\0\0\0\x07",
+    b"\x10\0\0\0\x01\0",
+    b"\x11\0\0\0A\0\0\0\x01\0\0\0\0\0\0\x02\0\x01\0\0\0\0\0\0\0\0\0\0\0\0\0\0\0\0\0\0\0\0\x24\x0c\x80\x25\xc0\x36\xd0W\x82R\xd5\xdb\x85u\x83\xb5V\x16i\x9e\x16\xb5\xf2\xc1\xdd\x7e\x1b\x07\xc7r\xd6V",
+    b"\x12\0\0\0\x23\0\0\0\0\x01\x01\0\0\0\x01\x01\0\0\0\0\0\0\0\0\0\0\0\0\0\0\0\0\0\0\0\0\0\0\0\x07",
+    b"\x12\0\0\0\x23\0\0\x01\0\0\x01\0\0\0\x01\x01\0\0\0\0\0\0\0\x01\0\0\0\0\0\0\0\x07\0\0\0\0\0\0\0\x0c",
+    b"\x13\0\0\0\x28\0\0\0\x01\0\0\0\0\x24\x0c\x80\x25\xc0\x36\xd0W\x82R\xd5\xdb\x85u\x83\xb5V\x16i\x9e\x16\xb5\xf2\xc1\xdd\x7e\x1b\x07\xc7r\xd6V",
+    b"\x20\0\0\0\x01\0",
+    b"\x21\0\0\0\x29\0\0\0\x01\0\0\0\0\x01\x24\x0c\x80\x25\xc0\x36\xd0W\x82R\xd5\xdb\x85u\x83\xb5V\x16i\x9e\x16\xb5\xf2\xc1\xdd\x7e\x1b\x07\xc7r\xd6V",
+    b"\x7f\0\0\0\0",
+];
 
-/// A deposit of 500 that saw version 0.
-const DEPOSIT: &[u8] =
-    b"\x12\0\0\0\x23\0\0\0\0\0\x01\0\0\0\x01\x01\0\0\0\0\0\0\0\0\0\0\0\0\0\0\0\0\0\0\0\0\0\0\x01\xf4";
+/// `two-deposits-in-frame-order`, frame by frame.
+const IN_FRAME_ORDER: &[&[u8]] = &[
+    b"EVESBK\0\x01\x01\x01\x01\x01\x01\0\0\0\0\0\0\x01\0\0\0\x01\0\0\0\0\0\0\x01z",
+    b"\x01\0\0\0\x14\x03ann\0\0\0\0\0\0\0\0\0\0\0\0\0\0\0\0",
+    b"\x02\0\0\0\x3a\0\0\0\x01\0\x01\0\x02\0\0\0\x07\0\0\0\0\0\0\0\x01\x02\x03ann\0\0\0\0\0\0\0\x05\0\0\0\x07\0\0\0\0\0\0\0\x02\x02\x03ann\0\0\0\0\0\0\0\x07",
+    b"\x10\0\0\0\x01\0",
+    b"\x11\0\0\0A\0\0\0\x01\0\0\0\0\0\0\x02\0\0\0\x01\0\0\0\0\0\0\0\0\0\0\0\0\0\0\0\0\0\0\x2e\xbc\xa2\xc1\x8fbU\x97\x37\x88Sw\xfe\x1b\x38\x35\xbe\x16\x7c\xaa\xa5A\xec\xc9a\xcfC\xe4dF\x1e\xb5",
+    b"\x12\0\0\0\x23\0\0\0\0\x01\x01\0\0\0\x01\x01\0\0\0\0\0\0\0\0\0\0\0\0\0\0\0\0\0\0\0\0\0\0\0\x07",
+    b"\x12\0\0\0\x23\0\0\x01\0\0\x01\0\0\0\x01\x01\0\0\0\0\0\0\0\x01\0\0\0\0\0\0\0\x07\0\0\0\0\0\0\0\x0c",
+    b"\x13\0\0\0\x28\0\0\0\x01\0\0\0\0\x2e\xbc\xa2\xc1\x8fbU\x97\x37\x88Sw\xfe\x1b\x38\x35\xbe\x16\x7c\xaa\xa5A\xec\xc9a\xcfC\xe4dF\x1e\xb5",
+    b"\x20\0\0\0\x01\0",
+    b"\x21\0\0\0\x29\0\0\0\x01\0\0\0\0\x01\x2e\xbc\xa2\xc1\x8fbU\x97\x37\x88Sw\xfe\x1b\x38\x35\xbe\x16\x7c\xaa\xa5A\xec\xc9a\xcfC\xe4dF\x1e\xb5",
+    b"\x7f\0\0\0\0",
+];
 
-fn access_in(bytes: &[u8]) -> Option<AccessView<'_>> {
-    if bytes.len() < 5 {
-        return None;
+/// `version-right-value-stale`, frame by frame.
+const STALE_VALUE: &[&[u8]] = &[
+    b"EVESBK\0\x01\x01\x01\x01\x01\x01\0\0\0\0\0\0\x01\0\0\0\x01\0\0\0\0\0\0\x01\xf8",
+    b"\x01\0\0\0\x14\x03ann\0\0\0\0\0\0\0\0\0\0\0\0\0\0\0\0",
+    b"\x02\0\0\0K\0\0\0\x01\0\x01\0\x03\0\0\0\x07\0\0\0\0\0\0\0\x01\x03\x03ann\0\0\0\0\0\0\x07\xd0\0\0\0\x07\0\0\0\0\0\0\0\x02\x01\x03ann\0\0\0\x07\0\0\0\0\0\0\0\x03\x05\x03ann\0\0\0\0\0\0\x03\xe8",
+    b"\x10\0\0\0\x01\0",
+    b"\x11\0\0\0L\0\0\0\x01\0\0\0\0\0\0\x03\0\0\0\x01\0\x02\0\0\0\0\0\0\0\0\0\x01\0\0\0\0\0\0\x07\xd0\0\0\0\0\0\0\0\0\0\xef\xdd\x39\xc5\x29d\xef\x7c\x3b\x8d\x82z\x39yX\xbf\xa1\x9c\x1c\x8e\x8e\x8a\xf6\x19\x9e\xd9\x84\xc9\xa9a\xdb\xfd",
+    b"\x12\0\0\0\x23\0\0\0\0\0\x01\0\0\0\0\x01\0\0\0\0\0\0\0\0\0\0\0\0\0\0\0\0\0\0\0\0\0\0\x07\xd0",
+    b"\x12\0\0\0\x40\0\0\x01\0\x01\x02\0\0\0\0\0\0\0\0\0\0\0\0\x01\0\0\0\0\0\0\x07\xd0\0\0\0\0\0\0\x07\xd0\0\0\0\x01\0\0\0\0\0\0\0\0\0\0\0\0\0\0\0\0\0\0\0\0\0\0\0\0\0",
+    b"\x12\0\0\0\x40\0\0\x02\0\x02\x02\0\0\0\0\0\0\0\0\0\0\0\0\x01\0\0\0\0\0\0\0\0\0\0\0\0\0\0\0\0\0\0\0\x01\x01\0\0\0\0\0\0\0\0\0\0\0\0\0\0\0\0\xff\xff\xff\xff\xff\xff\xfb\xb4",
+    b"\x13\0\0\0\x28\0\0\0\x01\0\0\0\0\xef\xdd\x39\xc5\x29d\xef\x7c\x3b\x8d\x82z\x39yX\xbf\xa1\x9c\x1c\x8e\x8e\x8a\xf6\x19\x9e\xd9\x84\xc9\xa9a\xdb\xfd",
+    b"\x20\0\0\0\x01\0",
+    b"\x21\0\0\0\x29\0\0\0\x01\0\0\0\0\x01\xef\xdd\x39\xc5\x29d\xef\x7c\x3b\x8d\x82z\x39yX\xbf\xa1\x9c\x1c\x8e\x8e\x8a\xf6\x19\x9e\xd9\x84\xc9\xa9a\xdb\xfd",
+    b"\x7f\0\0\0\0",
+];
+
+/// `value-wrong-before-version-wrong`, frame by frame.
+const VALUE_BEFORE_VERSION: &[&[u8]] = &[
+    b"EVESBK\0\x01\x01\x01\x01\x01\x01\0\0\0\0\0\0\x02\0\0\0\x01\0\0\0\0\0\0\x01\x93",
+    b"\x01\0\0\0\x14\x03ann\0\0\0\0\0\0\0\0\0\0\0\0\0\0\0\0",
+    b"\x01\0\0\0\x14\x03bob\0\0\0\0\0\0\0\0\0\0\0\0\0\0\0\0",
+    b"\x02\0\0\0\x3a\0\0\0\x01\0\x01\0\x02\0\0\0\x07\0\0\0\0\0\0\0\x01\x02\x03bob\0\0\0\0\0\0\0\x05\0\0\0\x07\0\0\0\0\0\0\0\x02\x02\x03ann\0\0\0\0\0\0\0\x07",
+    b"\x10\0\0\0\x01\0",
+    b"\x11\0\0\0A\0\0\0\x01\0\0\0\0\0\0\x02\0\0\0\x01\0\0\0\0\0\0\0\0\0\0\0\0\0\0\0\0\0\0S\x98c\xb5\x05A\x9d\x9cC\x20G\x89\x09\xdf\x1e\x30\xc4\xc5\xfd\x95\xf7\xb3\xc1\x85t\x1f\xcf\x25\xc9\xebK\x08",
+    b"\x12\0\0\0\x23\0\0\0\0\0\x01\0\0\0\x03\x01\0\0\0\0\0\0\0\0\0\0\0\0\0\0\0\x01\0\0\0\0\0\0\0\x06",
+    b"\x12\0\0\0\x23\0\0\x01\0\x01\x01\0\0\0\x01\x01\0\0\0\0\0\0\0\x01\0\0\0\0\0\0\0\0\0\0\0\0\0\0\0\x07",
+    b"\x13\0\0\0\x28\0\0\0\x01\0\0\0\0S\x98c\xb5\x05A\x9d\x9cC\x20G\x89\x09\xdf\x1e\x30\xc4\xc5\xfd\x95\xf7\xb3\xc1\x85t\x1f\xcf\x25\xc9\xebK\x08",
+    b"\x20\0\0\0\x01\0",
+    b"\x21\0\0\0\x29\0\0\0\x01\0\0\0\0\x01S\x98c\xb5\x05A\x9d\x9cC\x20G\x89\x09\xdf\x1e\x30\xc4\xc5\xfd\x95\xf7\xb3\xc1\x85t\x1f\xcf\x25\xc9\xebK\x08",
+    b"\x7f\0\0\0\0",
+];
+
+/// `only-the-version-is-wrong`, frame by frame.
+const ONLY_THE_VERSION: &[&[u8]] = &[
+    b"EVESBK\0\x01\x02\x01\x01\x01\x01\0\0\0\0\0\0\x01\0\0\0\x01\0\0\0\0\0\0\x01\xc4",
+    b"\x01\0\0\0\x14\x03ann\0\0\0\0\0\0\0\0\0\0\0\0\0\0\0\0",
+    b"\x02\0\0\0\x21\0\0\0\x01\0\x01\0\x01\0\0\0\x07\0\0\0\0\0\0\0\x01\x02\x03ann\0\0\0\0\0\0\x01\xf4",
+    b"\x10\0\0\0\x01\0",
+    b"\x11\0\0\0\x36\0\0\0\x01\0\0\0\0\0\0\x01\0\0\0\0\0\0\0\0\0\0\0\xe4\x13\x02\x29\x83\x83\xde\x95\xa3\x8ckW\x20\x29w\x40U\x9d\xd3i\x90\xc8\x1e\xbe\x27\xc6\xf4\x28Y\xfa\x31\xaa",
+    b"\x12\0\0\0\x23\0\0\0\0\0\x01\0\0\0\x01\x01\0\0\0\0\0\0\0\x01\0\0\0\0\0\0\0\0\0\0\0\0\0\0\x01\xf4",
+    b"\x13\0\0\0\x28\0\0\0\x01\0\0\0\0\xe4\x13\x02\x29\x83\x83\xde\x95\xa3\x8ckW\x20\x29w\x40U\x9d\xd3i\x90\xc8\x1e\xbe\x27\xc6\xf4\x28Y\xfa\x31\xaa",
+    b"\x10\0\0\0\x01\x01",
+    b"\x11\0\0\0\x36\0\0\0\x01\0\0\0\0\0\0\x01\0\0\0\0\0\0\0\0\0\0\0\xe4\x13\x02\x29\x83\x83\xde\x95\xa3\x8ckW\x20\x29w\x40U\x9d\xd3i\x90\xc8\x1e\xbe\x27\xc6\xf4\x28Y\xfa\x31\xaa",
+    b"\x12\0\0\0\x23\0\0\0\0\0\x01\0\0\0\x01\x01\0\0\0\0\0\0\0\0\0\0\0\0\0\0\0\0\0\0\0\0\0\0\x01\xf4",
+    b"\x13\0\0\0\x28\0\0\0\x01\0\0\0\0\xe4\x13\x02\x29\x83\x83\xde\x95\xa3\x8ckW\x20\x29w\x40U\x9d\xd3i\x90\xc8\x1e\xbe\x27\xc6\xf4\x28Y\xfa\x31\xaa",
+    b"\x20\0\0\0\x01\0",
+    b"\x21\0\0\0\x29\0\0\0\x01\0\0\0\0\x01\xe4\x13\x02\x29\x83\x83\xde\x95\xa3\x8ckW\x20\x29w\x40U\x9d\xd3i\x90\xc8\x1e\xbe\x27\xc6\xf4\x28Y\xfa\x31\xaa",
+    b"\x7f\0\0\0\0",
+];
+
+/// `rollback-and-serial-rerun`, frame by frame.
+const RERUN: &[&[u8]] = &[
+    b"EVESBK\0\x01\x01\x01\x01\x02\x01\0\0\0\0\0\0\x01\0\0\0\x03\0\0\0\0\0\0\x04\x0f",
+    b"\x01\0\0\0\x14\x03ann\0\0\0\0\0\0\0\0\0\0\0\0\0\0\0\0",
+    b"\x02\0\0\0\x21\0\0\0\x01\0\x01\0\x01\0\0\0\x07\0\0\0\0\0\0\0\x01\x02\x03ann\0\0\0\0\0\0\0d",
+    b"\x02\0\0\0\x21\0\0\0\x02\0\x01\0\x01\0\0\0\x07\0\0\0\0\0\0\0\x02\x02\x03ann\0\0\0\0\0\0\0\x14",
+    b"\x02\0\0\0\x21\0\0\0\x03\0\x01\0\x01\0\0\0\x07\0\0\0\0\0\0\0\x03\x02\x03ann\0\0\0\0\0\0\0\x03",
+    b"\x10\0\0\0\x01\0",
+    b"\x11\0\0\0\x36\0\0\0\x01\0\0\0\0\0\0\x01\0\0\0\0\0\0\0\0\0\0\0\xc3\xe1\xc7\x32W\x9c\x3d\x9e\x3f\xc1SF\x9dI\xd8\x0b\x8f\x8f\xab\xba\xfdo\xe0r\xad\x21\xed\xd1\x9a\x85\x82Z",
+    b"\x12\0\0\0\x23\0\0\0\0\0\x01\0\0\0\x01\x01\0\0\0\0\0\0\0\0\0\0\0\0\0\0\0\0\0\0\0\0\0\0\0d",
+    b"\x13\0\0\0\x28\0\0\0\x01\0\0\0\0\xc3\xe1\xc7\x32W\x9c\x3d\x9e\x3f\xc1SF\x9dI\xd8\x0b\x8f\x8f\xab\xba\xfdo\xe0r\xad\x21\xed\xd1\x9a\x85\x82Z",
+    b"\x11\0\0\0\x36\0\0\0\x02\0\0\0\0\0\0\x01\0\0\0\0\0\0\0\0\0\0\0\xe9\xc3\x09\xa0\xd7\x5bx\xfd\x80\x20\x39z\x20\xfd\xc0\x19\x17Q\x60\x06\xbe\x1f\x9d\xe7a\x5f\x18f\x5f\x08ca",
+    b"\x12\0\0\0\x23\0\0\0\0\0\x01\0\0\0\x01\x01\0\0\0\0\0\0\0\x01\0\0\0\0\0\0\0d\0\0\0\0\0\0\0x",
+    b"\x11\0\0\0\x36\0\0\0\x03\0\0\0\0\0\0\x01\0\0\0\0\0\0\0\0\0\0\0\xdc\x8a\x39\xfc\x37\x34\xf3\x1b\xd4\xc0\xfbH\xe9\x05\xdb\x1dw\xf6\x1f\xf2o\xfa\xf2\x02\x1c\xa7\x20\x8f\x11\x0d\x29C",
+    b"\x12\0\0\0\x23\0\0\0\0\0\x01\0\0\0\x01\x01\0\0\0\0\0\0\0\x02\0\0\0\0\0\0\0x\0\0\0\0\0\0\0\x7b",
+    b"\x14\0\0\0\x20\0\0\0\x01\0\0\0\x01\0\0\0\x01\0\0\0\x01\0\0\0\0\0\0\0\x01\0\0\0\0\0\0\0d",
+    b"\x11\0\0\0\x36\0\0\0\x02\0\0\0\x01\x01\0\x01\0\0\0\0\0\0\0\0\0\0\0\xe9\xc3\x09\xa0\xd7\x5bx\xfd\x80\x20\x39z\x20\xfd\xc0\x19\x17Q\x60\x06\xbe\x1f\x9d\xe7a\x5f\x18f\x5f\x08ca",
+    b"\x12\0\0\0\x23\0\0\0\0\0\x01\0\0\0\x01\x01\0\0\0\0\0\0\0\x01\0\0\0\0\0\0\0d\0\0\0\0\0\0\0x",
+    b"\x11\0\0\0\x36\0\0\0\x03\0\0\0\x01\0\0\x01\0\0\0\0\0\0\0\0\0\0\0\xdc\x8a\x39\xfc\x37\x34\xf3\x1b\xd4\xc0\xfbH\xe9\x05\xdb\x1dw\xf6\x1f\xf2o\xfa\xf2\x02\x1c\xa7\x20\x8f\x11\x0d\x29C",
+    b"\x12\0\0\0\x23\0\0\0\0\0\x01\0\0\0\x01\x01\0\0\0\0\0\0\0\x02\0\0\0\0\0\0\0x\0\0\0\0\0\0\0\x7b",
+    b"\x13\0\0\0\x28\0\0\0\x02\0\0\0\x01\xe9\xc3\x09\xa0\xd7\x5bx\xfd\x80\x20\x39z\x20\xfd\xc0\x19\x17Q\x60\x06\xbe\x1f\x9d\xe7a\x5f\x18f\x5f\x08ca",
+    b"\x13\0\0\0\x28\0\0\0\x03\0\0\0\x01\xdc\x8a\x39\xfc\x37\x34\xf3\x1b\xd4\xc0\xfbH\xe9\x05\xdb\x1dw\xf6\x1f\xf2o\xfa\xf2\x02\x1c\xa7\x20\x8f\x11\x0d\x29C",
+    b"\x20\0\0\0\x01\0",
+    b"\x21\0\0\0\x29\0\0\0\x01\0\0\0\0\x01\xc3\xe1\xc7\x32W\x9c\x3d\x9e\x3f\xc1SF\x9dI\xd8\x0b\x8f\x8f\xab\xba\xfdo\xe0r\xad\x21\xed\xd1\x9a\x85\x82Z",
+    b"\x21\0\0\0\x29\0\0\0\x02\0\0\0\0\0\0\0\0\0\0\0\0\0\0\0\0\0\0\0\0\0\0\0\0\0\0\0\0\0\0\0\0\0\0\0\0\0",
+    b"\x21\0\0\0\x29\0\0\0\x02\0\0\0\x01\x01\xe9\xc3\x09\xa0\xd7\x5bx\xfd\x80\x20\x39z\x20\xfd\xc0\x19\x17Q\x60\x06\xbe\x1f\x9d\xe7a\x5f\x18f\x5f\x08ca",
+    b"\x21\0\0\0\x29\0\0\0\x03\0\0\0\x01\x01\xdc\x8a\x39\xfc\x37\x34\xf3\x1b\xd4\xc0\xfbH\xe9\x05\xdb\x1dw\xf6\x1f\xf2o\xfa\xf2\x02\x1c\xa7\x20\x8f\x11\x0d\x29C",
+    b"\x7f\0\0\0\0",
+];
+
+fn joined(alloc: Global, parts: &[&[u8]]) -> Result<Vec<u8>, AllocError> {
+    let mut bytes = Vec::new(alloc);
+    for part in parts {
+        bytes.extend_from_slice(part)?;
     }
-    let _body = AccessBody::read(8192, &bytes[5..])?;
-    Some(AccessView::new(160, bytes))
+    Ok(bytes)
+}
+
+/// What the chains of a replica's attempts amount to.
+fn judged(alloc: Global, bytes: &[u8], e: u8) -> Result<(), CheckFault> {
+    let trace = Trace::read(alloc, bytes)?;
+    trace.is_whole();
+    if e >= trace.section_count() {
+        return Ok(());
+    }
+    let history = History::of(alloc, &trace, e)?;
+    chains(alloc, &history, &trace)
+}
+
+fn found(code: Code, offset: u64) -> Result<(), CheckFault> {
+    Err(CheckFault::Found(Fault {
+        code,
+        offset,
+        replica: Some(0),
+    }))
 }
 
 #[test]
-fn judges_a_record(rt: HostRuntime) -> Result<(), Fail> {
-    let access = access_in(DEPOSIT).ok_or("an access")?;
-    let mut names = Names::new(rt.alloc(), RandomState::new(&rt)?, 1);
-    assert_eq!(rt; names.add(b"ann"), Ok(0));
-    let amount = Amount::new(500).ok_or("in range")?;
-    let less = Amount::new(499).ok_or("in range")?;
-    let deposit = Request::DepositChecking(b"ann", amount);
-    assert!(rt; fits(&deposit, &names, Reply::Done, &access));
-    let out_of_range = Reply::Aborted(Abort::OutOfRange);
-    assert!(rt; !fits(&deposit, &names, out_of_range, &access));
-    let other_amount = Request::DepositChecking(b"ann", less);
-    assert!(rt; !fits(&other_amount, &names, Reply::Done, &access));
-    let other_row = Request::TransactSaving(b"ann", amount);
-    assert!(rt; !fits(&other_row, &names, Reply::Done, &access));
-    let two_rows = Request::Balance(b"ann");
-    assert!(rt; !fits(&two_rows, &names, Reply::Total(0), &access));
+fn deposits_are_chained_in_the_certificates_order(rt: HostRuntime) -> Result<(), Fail> {
+    let right = joined(rt.alloc(), IN_VERSION_ORDER)?;
+    assert_eq!(rt; judged(rt.alloc(), &right, 0), Ok(()));
+    let wrong = joined(rt.alloc(), IN_FRAME_ORDER)?;
+    assert_eq!(rt; judged(rt.alloc(), &wrong, 0), found(Code::Version, 196));
     Ok(())
 }
 
-/// With no records nothing is wrong, and nothing changes.
 #[test]
-fn goes_along_no_records(rt: HostRuntime) -> Result<(), Fail> {
-    let trace = Trace::read(rt.alloc(), EMPTY)?;
-    let mut table = Table::opening(rt.alloc(), &trace)?;
-    let from = Table::opening(rt.alloc(), &trace)?;
-    let mut balances = Balances::new(rt.alloc(), 2)?;
-    assert_eq!(rt; judge_along(&mut table, 0, &[]), None);
-    write_along(&mut table, &[]);
-    take_back_along(&mut table, &[], &from);
-    write_values_along(&mut balances, &[]);
-    assert_eq!(rt; balances.len(), 2);
+fn values_are_judged_beside_versions(rt: HostRuntime) -> Result<(), Fail> {
+    let stale = joined(rt.alloc(), STALE_VALUE)?;
+    assert_eq!(rt; judged(rt.alloc(), &stale, 0), found(Code::Value, 333));
+    let both = joined(rt.alloc(), VALUE_BEFORE_VERSION)?;
+    assert_eq!(rt; judged(rt.alloc(), &both, 0), found(Code::Value, 221));
+    let version = joined(rt.alloc(), ONLY_THE_VERSION)?;
+    assert_eq!(rt; judged(rt.alloc(), &version, 0), found(Code::Version, 160));
+    assert_eq!(rt; judged(rt.alloc(), &version, 1), Ok(()));
+    Ok(())
+}
+
+#[test]
+fn discarded_writes_are_taken_back(rt: HostRuntime) -> Result<(), Fail> {
+    let rerun = joined(rt.alloc(), RERUN)?;
+    assert_eq!(rt; judged(rt.alloc(), &rerun, 0), Ok(()));
     Ok(())
 }

@@ -14,10 +14,10 @@ use Rattle.eve_history.specs.declared.fate.Fate.TheVariants.{Committed, Discarde
 use Rattle.eve_history.specs.declared.wrong.Wrong.{Wrong}
 use Rattle.eve_history.specs.Section.{Placed, SectionState, start, next, committing, state_after, path_of, commits_first, is_right_commit, are_right}
 use Rattle.eve_history.specs.Fates.{fate_in, fates_from}
-use Rattle.eve_history.specs.Told.{Ran, ran, ordered, attempts_among, rollbacks_among, access_with, telling}
+use Rattle.eve_history.specs.Told.{Ran, ran, placed_at, ordered, attempts_among, rollbacks_among, access_with, telling}
 use Rattle.eve_history.specs.Faults.{IsStructureFault, IsLeastStructureFault}
 use Rattle.eve_history.specs.FirstWrong.{wrong_step, first_wrong, first_of, fault_of}
-use Rattle.eve_history.specs.Coming.{KeptAttempt, Kept, open_count, kept_ran, telling_of, StandsAt, open_fates, HasCome}
+use Rattle.eve_history.specs.Coming.{KeptAttempt, Kept, open_count, kept_ran, rans, ran_at, telling_of, StandsAt, AreSettled, open_fates, HasCome}
 use Rattle.eve_history.proofs.Structure.{state_after-append, are_right-push, right_step, steps_on, found_is_least, none_stands}
 
 -- ---- before the first step
@@ -38,7 +38,7 @@ unfolding steps_at
 steps_fit t e limits = all_located (is_step (row_count (head_of t))) step_text _ (steps_of t e) (all_in_section (is_step (row_count (head_of t))) t.sections e limits.sections)
 
 abbrev pub nothing : Kept
-nothing = record { view = 0; last = 0; rolled_back = false; attempts = []; fates = []; records = []; rollbacks = [] }
+nothing = record { view = 0; last = 0; rolled_back = false; attempts = []; fates = []; commits = []; records = []; rollbacks = [] }
 
 pub come_start : (t : Trace) (e : ℕ) → HasLimits t → HasCome t e (steps_at t e) nothing
 come_start t e limits = record {
@@ -47,7 +47,8 @@ come_start t e limits = record {
   right = refl;
   stands = record { view = refl; last = refl; rolled_back = refl; pending = refl; fewer = omega arith };
   attempts = refl;
-  is_kept = record { within = tt; fewer = omega arith };
+  settled = record { pending = refl; committed = refl };
+  is_kept = record { within = tt; fewer = omega arith; count = refl; there = tt };
   fates = refl;
   rollbacks = refl;
   fit = steps_fit t e limits;
@@ -83,6 +84,9 @@ module _ (t : Trace) (e : ℕ) (step : ℕ × Step) (rest : List (ℕ × Step)) 
   one_more : steps_at t e ≡ (come.front ++ step ∷ []) ++ rest
   one_more = come.split ∙ sym (append_assoc come.front (step ∷ []) rest)
 
+  settled_next : (rs : List Ran) (n : ℕ) (places : List ℕ) → AreSettled (next (state_after start come.front) step) rs n places → AreSettled (state_after start (come.front ++ step ∷ [])) rs n places
+  settled_next rs n places settled = subst (λ (s : SectionState). AreSettled s rs n places) (sym (state_after-append start come.front (step ∷ []))) settled
+
   still_right : are_right t start (come.front ++ step ∷ []) ≡ true
   still_right = are_right-push t start come.front step come.right (right_step t (state_after start come.front) step nothing_is)
 
@@ -115,6 +119,66 @@ open_rollback at r rest b (suc n) = ap (λ (fs : List Fate). Discarded ∷ fs) (
 pub open_end : (b n : ℕ) → open_fates [] b n ≡ replicate n Open
 open_end b zero = refl
 open_end b (suc n) = ap (λ (fs : List Fate). Open ∷ fs) (open_end (suc b) n)
+
+-- ---- committed attempts
+
+abbrev placed_ran : Placed → Ran
+placed_ran p = ran (placed_at p)
+
+ran_among : (rs more : List Ran) (place : ℕ) → place < length rs → ran_at (rs ++ more) place ≡ ran_at rs place
+ran_among [] more place lt = absurd (omega arith)
+ran_among (r ∷ rs) more zero lt = refl
+ran_among (r ∷ rs) more (suc place) lt = ran_among rs more place (omega arith)
+
+rans_among : (rs more : List Ran) (places : List ℕ) → AllByRecursion (λ place. place < length rs) places → map (ran_at (rs ++ more)) places ≡ map (ran_at rs) places
+rans_among rs more [] there = refl
+rans_among rs more (place ∷ places) there = λ i. ran_among rs more place there.0 i ∷ rans_among rs more places there.1 i
+
+still_there : (n m : ℕ) (places : List ℕ) → n ≤ m → AllByRecursion (λ place. place < n) places → AllByRecursion (λ place. place < m) places
+still_there n m [] le there = tt
+still_there n m (place ∷ places) le there = let first : place < n = there.0 in (omega arith, still_there n m places le there.1)
+
+one_more_there : (n place : ℕ) (places : List ℕ) → place < n → AllByRecursion (λ p. p < n) places → AllByRecursion (λ p. p < n) (places ++ place ∷ [])
+one_more_there n place [] lt there = (lt, tt)
+one_more_there n place (p ∷ places) lt there = (there.0, one_more_there n place places lt there.1)
+
+-- what stands first behind so many
+first_behind : (rs : List Ran) (n : ℕ) (r : Ran) (rest : List Ran) → r ∷ rest ≡ drop n rs → ran_at rs n ≡ r
+first_behind [] n r rest e = absurd (none n e)
+  where
+    none : (n : ℕ) → r ∷ rest ≡ drop n [] → ⊥
+    none zero e = absurd (cc)
+    none (suc n) e = absurd (cc)
+first_behind (x ∷ rs) zero r rest e = same x rs r rest e
+  where
+    same : (x : Ran) (xs : List Ran) (y : Ran) (ys : List Ran) → y ∷ ys ≡ x ∷ xs → x ≡ y
+    same x xs y ys e = cc
+first_behind (x ∷ rs) (suc n) r rest e = first_behind rs n r rest e
+
+settled_attempt : (s : SectionState) (at : ℕ) (a : Attempt) (rs after : List Ran) (n : ℕ) (places : List ℕ) → after ≡ rs ++ ran (at, a) ∷ [] → n ≤ length rs → AllByRecursion (λ place. place < length rs) places
+    → AreSettled s rs n places → AreSettled (next s (at, Attempts a)) after n places
+settled_attempt s at a rs after n places is few there settled = subst (λ (xs : List Ran). AreSettled (next s (at, Attempts a)) xs n places) (sym is) (record {
+  pending = map-append placed_ran s.pending (record { offset = at; attempt = a; path = path_of s } ∷ [])
+      ∙ ap (λ (xs : List Ran). xs ++ ran (at, a) ∷ []) settled.pending
+      ∙ sym (drop-append-le n rs (ran (at, a) ∷ []) few);
+  committed = rans_among rs (ran (at, a) ∷ []) places there ∙ settled.committed;
+})
+
+settled_commit : (s : SectionState) (pending : List Placed) (c : Commit) (rs : List Ran) (n m : ℕ) (places : List ℕ) → s.pending ≡ pending → commits_first pending c ≡ true → m ≡ n + 1
+    → AreSettled s rs n places → AreSettled (committing s pending) rs m (places ++ n ∷ [])
+settled_commit s [] c rs n m places is first more settled = absurd (false≢true first)
+settled_commit s (p ∷ ps) c rs n m places is first more settled =
+    let open_is : placed_ran p ∷ map placed_ran ps ≡ drop n rs = ap (map placed_ran) (sym is) ∙ settled.pending in
+    record {
+      pending = ap (drop 1) open_is ∙ drop-drop 1 n rs ∙ ap (λ (k : ℕ). drop k rs) (sym more);
+      committed = map-append (ran_at rs) places (n ∷ [])
+          ∙ ap (λ (r : Ran). map (ran_at rs) places ++ r ∷ []) (first_behind rs n (placed_ran p) (map placed_ran ps) open_is)
+          ∙ ap (λ (xs : List Ran). xs ++ placed_ran p ∷ []) settled.committed
+          ∙ sym (map-append placed_ran s.committed (p ∷ []));
+    }
+
+settled_rollback : (s : SectionState) (at : ℕ) (r : Rollback) (rs : List Ran) (n m : ℕ) (places : List ℕ) → length rs ≤ m → AreSettled s rs n places → AreSettled (next s (at, RollsBack r)) rs m places
+settled_rollback s at r rs n m places all settled = record { pending = sym (drop_all m rs all); committed = settled.committed }
 
 -- ---- an attempt
 
@@ -171,11 +235,16 @@ module _ (t : Trace) (e at : ℕ) (b : Attempt) (rest : List (ℕ × Step)) (k :
         ordered = (ap (take (length b.certificate)) (drop_at k.records (ordered at b) (length k.records) refl) ∙ take_all (length b.certificate) (ordered at b) many) i;
       }
 
-  attempts_more : map (kept_ran (k.records ++ ordered at b)) (k.attempts ++ added ∷ []) ≡ map ran (attempts_among (come.front ++ (at, Attempts b) ∷ []))
-  attempts_more =
+  one_ran_more : rans (with_attempt k at (without_accesses b) (ordered at b)) ≡ rans k ++ ran (at, b) ∷ []
+  one_ran_more =
       map-append (kept_ran (k.records ++ ordered at b)) k.attempts (added ∷ [])
-      ∙ ap (λ (rs : List Ran). rs ++ kept_ran (k.records ++ ordered at b) added ∷ []) (same_ran k.records (ordered at b) k.attempts come.is_kept.within ∙ come.attempts)
-      ∙ ap (λ (r : Ran). map ran (attempts_among come.front) ++ r ∷ []) its_records
+      ∙ ap (λ (rs : List Ran). rs ++ kept_ran (k.records ++ ordered at b) added ∷ []) (same_ran k.records (ordered at b) k.attempts come.is_kept.within)
+      ∙ ap (λ (r : Ran). rans k ++ r ∷ []) its_records
+
+  attempts_more : rans (with_attempt k at (without_accesses b) (ordered at b)) ≡ map ran (attempts_among (come.front ++ (at, Attempts b) ∷ []))
+  attempts_more =
+      one_ran_more
+      ∙ ap (λ (rs : List Ran). rs ++ ran (at, b) ∷ []) come.attempts
       ∙ sym (map-append ran (attempts_among come.front) ((at, b) ∷ [])) ∙ ap (map ran) (sym (attempts_among-push come.front (at, Attempts b)))
 
   attempt_fates : fates_from 0 (steps_at t e) ≡ k.fates ++ (open_fates rest 0 (open_count (with_attempt k at (without_accesses b) (ordered at b))) ++ fates_from (open_count (with_attempt k at (without_accesses b) (ordered at b))) rest)
@@ -195,15 +264,23 @@ module _ (t : Trace) (e at : ℕ) (b : Attempt) (rest : List (ℕ × Step)) (k :
   come_attempt =
       let long : length (k.records ++ ordered at b) ≡ length k.records + length b.certificate =
       length-append k.records (ordered at b) ∙ ap (λ (n : ℕ). length k.records + n) (length-map b.certificate (access_with (accesses_at at b))) in
+      let many : length (rans k) ≡ length k.attempts = length-map k.attempts (kept_ran k.records) in
+      let longer : length (k.attempts ++ added ∷ []) ≡ length k.attempts + 1 = length-append k.attempts (added ∷ []) in
+      let fewer : length k.fates ≤ length k.attempts = come.is_kept.fewer in
       record {
         front = come.front ++ (at, Attempts b) ∷ [];
         split = one_more t e (at, Attempts b) rest k come right;
         right = still_right t e (at, Attempts b) rest k come right;
         stands = stands_next t e (at, Attempts b) rest k come right _ attempt_stands;
         attempts = attempts_more;
+        settled = settled_next t e (at, Attempts b) rest k come right _ _ _
+            (settled_attempt state at b (rans k) (rans (with_attempt k at (without_accesses b) (ordered at b))) (length k.fates) k.commits one_ran_more (omega arith)
+            (still_there (length k.attempts) (length (rans k)) k.commits (omega arith) come.is_kept.there) come.settled);
         is_kept = record {
           within = still_within (length k.records) (length (k.records ++ ordered at b)) k.attempts added (omega arith) come.is_kept.within (omega arith);
           fewer = attempt_stands.fewer;
+          count = come.is_kept.count;
+          there = still_there (length k.attempts) (length (k.attempts ++ added ∷ [])) k.commits (omega arith) come.is_kept.there;
         };
         fates = attempt_fates;
         rollbacks = come.rollbacks ∙ sym (rollbacks_among-push come.front (at, Attempts b) ∙ append-nil (rollbacks_among come.front));
@@ -213,7 +290,7 @@ module _ (t : Trace) (e at : ℕ) (b : Attempt) (rest : List (ℕ × Step)) (k :
 -- ---- a commit
 
 abbrev pub with_commit : Kept → ℕ → Kept
-with_commit k seq = record k { last = seq; fates = k.fates ++ Committed ∷ [] }
+with_commit k seq = record k { last = seq; fates = k.fates ++ Committed ∷ []; commits = k.commits ++ length k.fates ∷ [] }
 
 module _ (t : Trace) (e at : ℕ) (c : Commit) (rest : List (ℕ × Step)) (k : Kept) (come : HasCome t e ((at, Commits c) ∷ rest) k) (right : wrong_step t (state_after start come.front) (at, Commits c) ≡ None) where
   committed_right : is_right_commit (state_after start come.front) c ≡ true
@@ -237,11 +314,15 @@ module _ (t : Trace) (e at : ℕ) (c : Commit) (rest : List (ℕ × Step)) (k : 
         omega arith,
       )
 
+  commit_seq : c.seq ≡ (state_after start come.front).last + 1
+  commit_seq = let s = state_after start come.front in eqb-true c.seq (s.last + 1) (and_parts (c.seq == s.last + 1) (commits_first s.pending c) committed_right).0
+
+  commit_first : commits_first (state_after start come.front).pending c ≡ true
+  commit_first = let s = state_after start come.front in (and_parts (c.seq == s.last + 1) (commits_first s.pending c) committed_right).1
+
   commit_parts : StandsAt (next (state_after start come.front) (at, Commits c)) (with_commit k c.seq) × (length k.fates < length k.attempts)
   commit_parts =
-      let s = state_after start come.front in
-      let parts = and_parts (c.seq == s.last + 1) (commits_first s.pending c) committed_right in
-      commit_stands s s.pending refl parts.1 (eqb-true c.seq (s.last + 1) parts.0) come.stands
+      commit_stands (state_after start come.front) (state_after start come.front).pending refl commit_first commit_seq come.stands
 
   commit_fates : fates_from 0 (steps_at t e) ≡ (k.fates ++ Committed ∷ []) ++ (open_fates rest 0 (open_count (with_commit k c.seq)) ++ fates_from (open_count (with_commit k c.seq)) rest)
   commit_fates =
@@ -262,7 +343,15 @@ module _ (t : Trace) (e at : ℕ) (c : Commit) (rest : List (ℕ × Step)) (k : 
     right = still_right t e (at, Commits c) rest k come right;
     stands = stands_next t e (at, Commits c) rest k come right _ commit_parts.0;
     attempts = come.attempts ∙ ap (map ran) (sym (attempts_among-push come.front (at, Commits c) ∙ append-nil (attempts_among come.front)));
-    is_kept = record { within = come.is_kept.within; fewer = commit_parts.0.fewer };
+    settled = settled_next t e (at, Commits c) rest k come right _ _ _
+        (settled_commit (state_after start come.front) (state_after start come.front).pending c (rans k) (length k.fates) (length (k.fates ++ Committed ∷ [])) k.commits refl commit_first
+        (length-append k.fates (Committed ∷ [])) come.settled);
+    is_kept = record {
+      within = come.is_kept.within;
+      fewer = commit_parts.0.fewer;
+      count = length-append k.commits (length k.fates ∷ []) ∙ ap (λ (n : ℕ). n + 1) (come.is_kept.count ∙ come.stands.last) ∙ sym commit_seq;
+      there = one_more_there (length k.attempts) (length k.fates) k.commits commit_parts.1 come.is_kept.there;
+    };
     fates = commit_fates;
     rollbacks = come.rollbacks ∙ sym (rollbacks_among-push come.front (at, Commits c) ∙ append-nil (rollbacks_among come.front));
     fit = rest_fits t e (at, Commits c) rest k come right;
@@ -304,7 +393,10 @@ module _ (t : Trace) (e at : ℕ) (r : Rollback) (rest : List (ℕ × Step)) (k 
     right = still_right t e (at, RollsBack r) rest k come right;
     stands = stands_next t e (at, RollsBack r) rest k come right _ rollback_stands;
     attempts = come.attempts ∙ ap (map ran) (sym (attempts_among-push come.front (at, RollsBack r) ∙ append-nil (attempts_among come.front)));
-    is_kept = record { within = come.is_kept.within; fewer = rollback_stands.fewer };
+    settled = settled_next t e (at, RollsBack r) rest k come right _ _ _
+        (settled_rollback (state_after start come.front) at r (rans k) (length k.fates) (length (k.fates ++ replicate (open_count k) Discarded)) k.commits
+        (omega (arith, all_settled, length-map k.attempts (kept_ran k.records))) come.settled);
+    is_kept = record { within = come.is_kept.within; fewer = rollback_stands.fewer; count = come.is_kept.count; there = come.is_kept.there };
     fates = rollback_fates;
     rollbacks = ap (λ (rs : List (ℕ × Rollback)). rs ++ (at, r) ∷ []) come.rollbacks ∙ sym (rollbacks_among-push come.front (at, RollsBack r));
     fit = rest_fits t e (at, RollsBack r) rest k come right;
@@ -323,14 +415,16 @@ module _ (t : Trace) (e : ℕ) (k : Kept) (come : HasCome t e [] k) where
   come_faultless f is =
       none_stands t e f (ap (first_wrong t start) come.split ∙ steps_on t start come.front [] come.right) is
 
-  pub come_told : telling_of k ≡ telling t e
+  pub come_told : telling_of e k ≡ telling t e
   unfolding telling
   come_told =
       let fates : k.fates ++ replicate (open_count k) Open ≡ fates_from 0 (steps_at t e) =
       ap (λ (fs : List Fate). k.fates ++ fs) (sym (append-nil (replicate (open_count k) Open)) ∙ ap (λ (fs : List Fate). fs ++ []) (sym (open_end 0 (open_count k)))) ∙ sym come.fates in
       λ i. record {
+        replica = e;
         committed = (come.stands.last ∙ ap (λ (xs : List (ℕ × Step)). (state_after start xs).last) (sym all_came)) i;
         attempts = (come.attempts ∙ ap (λ (xs : List (ℕ × Step)). map ran (attempts_among xs)) (sym all_came)) i;
         fates = fates i;
+        commits = (come.settled.committed ∙ ap (λ (xs : List (ℕ × Step)). map (λ p. ran (placed_at p)) (state_after start xs).committed) (sym all_came)) i;
         rollbacks = (come.rollbacks ∙ ap rollbacks_among (sym all_came)) i;
       }

@@ -166,3 +166,9 @@ get_in_part {A = A} xs from count place x lt e = in_front (drop from xs) count p
 
 pub part_length : {A : Type 0} (xs : List A) (from count : ℕ) → from + count ≤ length xs → length (take count (drop from xs)) ≡ count
 part_length xs from count le = length-take-le count (drop from xs) (omega (arith, length-drop from xs))
+
+-- the value there doesn't depend on what stands for none
+pub get_there : {A : Type 0} (xs : List A) (i : ℕ) (d : A) → i < length xs → slice_get xs i ≡ Some (slice_index_or xs i d)
+get_there [] i d lt = absurd (omega arith)
+get_there (x ∷ xs) zero d lt = refl
+get_there (x ∷ xs) (suc i) d lt = get_there xs i d (omega arith)

@@ -5,9 +5,11 @@ pub mod OrderLaws
 pub mod Marking
 pub mod Finding
 pub mod Coming
+pub mod CommitLaws
 pub mod Records
 pub mod Taking
 pub mod FateLaws
 pub mod Positions
 pub mod Structure
 pub mod Tickets
+pub mod Standing

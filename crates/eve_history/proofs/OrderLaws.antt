@@ -14,9 +14,9 @@ use Rattle.eve_views.specs.declared.fault.Code.{Code}
 use Rattle.eve_views.specs.declared.fault.Code.TheVariants as code
 use Rattle.eve_views.specs.declared.fault.Fault.{Fault}
 use Rattle.eve_views.specs.Code.{number_of}
-use Rattle.eve_views.specs.Form.{IsUpTo}
+use Rattle.eve_views.specs.Form.{IsUpTo, SomePlace}
 use Rattle.eve_history.specs.Told.{names_of}
-use Rattle.eve_history.specs.Faults.{SomePlace, name_at, Ticket, tickets_at, IsNamedAgain, IsAskedAgain, StandsInOrders, IsOrderFault, IsLeastOrderFault}
+use Rattle.eve_history.specs.Faults.{name_at, Ticket, tickets_at, IsNamedAgain, IsAskedAgain, StandsInOrders, IsOrderFault, IsLeastOrderFault}
 use Rattle.eve_history.specs.Notes.{IsRepeated, AreNoted, HasDistinctNames, HasDistinctRequests}
 use Rattle.eve_history.proofs.Places.{no_place, place_push, cut_at, Rising, located_rising, first_place, from_low, located_within, weaker_place}
 

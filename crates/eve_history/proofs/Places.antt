@@ -3,7 +3,7 @@ use Rattle.std.proofs.Common.{◌≡◌, ℕ, zero, suc, ◌+◌, ◌≤◌, Lis
 use Rattle.std.proofs.lemmas.List.{append-nil, length-append}
 use Rattle.std.specs.List.{flat_map}
 use Rattle.eve_grammar.specs.Spelling.{located}
-use Rattle.eve_history.specs.Faults.{SomePlace}
+use Rattle.eve_views.specs.Form.{SomePlace}
 
 pub place_here : {A : Type 0} (P : List A → A → Type 0) (x : A) (xs : List A) → P [] x → SomePlace (x ∷ xs) P
 place_here P x xs h = record { before = []; item = x; rest = xs; is = refl; holds = h }

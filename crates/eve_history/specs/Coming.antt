@@ -1,20 +1,20 @@
 -- What is kept of a section's steps that have come.
-use Rattle.std.specs.Prelude.{◌≡◌, ℕ, zero, suc, ◌+◌, ◌-◌, ◌≤◌, Bool, true, IsTrue, List, [], ◌∷◌, ◌++◌, map, length, take, drop, replicate}
+use Rattle.std.specs.Prelude.{◌≡◌, ℕ, zero, suc, ◌+◌, ◌-◌, ◌<◌, ◌≤◌, Bool, true, IsTrue, List, [], ◌∷◌, ◌++◌, map, length, take, drop, replicate, slice_index_or, false}
 use Rattle.std.specs.List.{AllByRecursion, list_all}
 use Rattle.eve_grammar.specs.Trace.{Access, Attempt, Rollback, Step, Attempts, Trace, head_of}
 use Rattle.eve_grammar.specs.Frames.{without_accesses}
 use Rattle.eve_grammar.specs.Spelling.{steps_at, accesses_at}
-use Rattle.eve_grammar.specs.Limits.{is_step, row_count}
+use Rattle.eve_grammar.specs.Limits.{is_step, row_count, Spells}
 use Rattle.eve_frames.specs.Views.{attempt_in, access_in, rollback_in}
-use Rattle.eve_frames.specs.declared.access.AccessView.{AccessView}
 use Rattle.eve_frames.specs.declared.rollback.RollbackView.{RollbackView}
 use Rattle.eve_history.specs.declared.fate.Fate.{Fate}
 use Rattle.eve_history.specs.declared.fate.Fate.TheVariants.{Open}
 use Rattle.eve_history.specs.declared.notes.Attempted.{Attempted}
 use Rattle.eve_history.specs.declared.notes.Notes.{Notes}
+use Rattle.eve_history.specs.Standing.{frame_in, IsAccessAt}
 use Rattle.eve_history.specs.Section.{SectionState, start, state_after, are_right}
 use Rattle.eve_history.specs.Fates.{fate_in, fates_from}
-use Rattle.eve_history.specs.Told.{Ran, ran, attempts_among, rollbacks_among, Telling}
+use Rattle.eve_history.specs.Told.{Ran, ran, placed_at, attempts_among, rollbacks_among, Telling}
 
 -- ---- what is kept
 
@@ -24,18 +24,21 @@ pub record KeptAttempt : Type 0 where
   pub attempt : Attempt
   pub from : ℕ
 
--- Attempts stand in the order of their frames. The first of them are settled, and have a fate.
+-- Attempts stand in the order of their frames. The first of them are settled, and have a fate. Those that were
+-- committed are kept by their places among the attempts.
 pub record Kept : Type 0 where
   pub view : ℕ
   pub last : ℕ
   pub rolled_back : Bool
   pub attempts : List KeptAttempt
   pub fates : List Fate
+  pub commits : List ℕ
   pub records : List (ℕ × Access)
   pub rollbacks : List (ℕ × Rollback)
 
-abbrev pub seen : AccessView → ℕ × Access
-seen v = (v.offset, access_in v.bytes.now)
+-- the access record whose frame begins at this byte
+abbrev pub seen : List ℕ → ℕ → ℕ × Access
+seen bytes at = (at, access_in (frame_in bytes at))
 
 abbrev pub rolled : RollbackView → ℕ × Rollback
 rolled v = (v.offset, rollback_in v.bytes.now)
@@ -50,7 +53,8 @@ kept n = record {
   rolled_back = n.rolled_back;
   attempts = map kept_attempt n.attempts.items;
   fates = n.fates.items;
-  records = map seen n.records.items;
+  commits = n.commits.items;
+  records = map (seen n.bytes.now) n.records.items;
   rollbacks = map rolled n.rollbacks.items;
 }
 
@@ -63,18 +67,37 @@ open_count k = length k.attempts - length k.fates
 abbrev pub kept_ran : List (ℕ × Access) → KeptAttempt → Ran
 kept_ran records a = record { offset = a.offset; attempt = a.attempt; ordered = take (length a.attempt.certificate) (drop a.from records) }
 
-abbrev pub telling_of : Kept → Telling
-telling_of k = record {
+abbrev pub rans : Kept → List Ran
+rans k = map (kept_ran k.records) k.attempts
+
+abbrev pub no_ran : Ran
+no_ran = record {
+  offset = 0;
+  attempt = record { seq = 0; view = 0; serial = false; certificate = []; replies = []; token = []; accesses = [] };
+  ordered = [];
+}
+
+-- the attempt at this place
+abbrev pub ran_at : List Ran → ℕ → Ran
+ran_at rs place = slice_index_or rs place no_ran
+
+abbrev pub telling_of : ℕ → Kept → Telling
+telling_of e k = record {
+  replica = e;
   committed = k.last;
-  attempts = map (kept_ran k.records) k.attempts;
+  attempts = rans k;
   fates = k.fates ++ replicate (open_count k) Open;
+  commits = map (ran_at (rans k)) k.commits;
   rollbacks = k.rollbacks;
 }
 
--- the records of each attempt are there, and no more fates than attempts
+-- The records of each attempt are there, and no more fates than attempts. As many were committed as the last
+-- committed number says, and they are there.
 pub record IsKept (k : Kept) : Type 0 where
   pub within : AllByRecursion (λ a. a.from + length a.attempt.certificate ≤ length k.records) k.attempts
   pub fewer : length k.fates ≤ length k.attempts
+  pub count : length k.commits ≡ k.last
+  pub there : AllByRecursion (λ place. place < length k.attempts) k.commits
 
 -- ---- while steps come
 
@@ -85,6 +108,11 @@ pub record StandsAt (s : SectionState) (k : Kept) : Type 0 where
   pub rolled_back : k.rolled_back ≡ s.rolled_back
   pub pending : map (λ p. without_accesses p.attempt) s.pending ≡ drop (length k.fates) (map (λ a. a.attempt) k.attempts)
   pub fewer : length k.fates ≤ length k.attempts
+
+-- Of these attempts the ones behind the settled ones are open, and those at these places are committed.
+pub record AreSettled (s : SectionState) (rs : List Ran) (settled : ℕ) (places : List ℕ) : Type 0 where
+  pub pending : map (λ p. ran (placed_at p)) s.pending ≡ drop settled rs
+  pub committed : map (ran_at rs) places ≡ map (λ p. ran (placed_at p)) s.committed
 
 -- what becomes of this many open attempts in the steps, that many being open before them
 abbrev pub open_fates : List (ℕ × Step) → ℕ → ℕ → List Fate
@@ -97,7 +125,8 @@ pub record HasCome (t : Trace) (e : ℕ) (rest : List (ℕ × Step)) (k : Kept) 
   pub split : steps_at t e ≡ front ++ rest
   pub right : are_right t start front ≡ true
   pub stands : StandsAt (state_after start front) k
-  pub attempts : map (kept_ran k.records) k.attempts ≡ map ran (attempts_among front)
+  pub attempts : rans k ≡ map ran (attempts_among front)
+  pub settled : AreSettled (state_after start front) (rans k) (length k.fates) k.commits
   pub is_kept : IsKept k
   pub fates : fates_from 0 (steps_at t e) ≡ k.fates ++ (open_fates rest 0 (open_count k) ++ fates_from (open_count k) rest)
   pub rollbacks : k.rollbacks ≡ rollbacks_among front
@@ -108,3 +137,13 @@ pub record ComesNext (t : Trace) (e : ℕ) (rest : List (ℕ × Step)) (b : Atte
   pub come : HasCome t e ((at, Attempts b) ∷ rest) k
   pub attempt : said ≡ without_accesses b
   pub accesses : records ≡ accesses_at at b
+
+-- the bytes are the trace, and the records are kept by the bytes at which their frames begin
+pub record IsNoted (t : Trace) (n : Notes) : Type 0 where
+  pub spelled : Spells n.bytes.now t
+  pub records : AllByRecursion (IsAccessAt n.bytes.now) n.records.items
+
+-- what is kept of a whole section
+pub record IsWhole (n : Notes) : Type 0 where
+  pub kept : IsKept (kept n)
+  pub records : AllByRecursion (IsAccessAt n.bytes.now) n.records.items

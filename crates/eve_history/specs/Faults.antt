@@ -6,16 +6,8 @@ use Rattle.eve_grammar.specs.Spelling.{customers_at, batches_at, steps_at, acces
 use Rattle.eve_views.specs.declared.fault.Code.{Code}
 use Rattle.eve_views.specs.declared.fault.Code.TheVariants as code
 use Rattle.eve_views.specs.declared.fault.Fault.{Fault}
-use Rattle.eve_views.specs.Form.{IsUpTo}
+use Rattle.eve_views.specs.Form.{IsUpTo, SomePlace}
 use Rattle.eve_history.specs.Section.{SectionState, start, state_after, is_right_attempt, is_right_certificate, is_right_access, is_right_place, is_right_commit, is_right_rollback, are_right_accesses, are_right}
-
--- at some place of the list the fact holds, of what stands before and of what stands there
-pub record SomePlace {A : Type 0} (xs : List A) (P : List A → A → Type 0) : Type 0 where
-  pub before : List A
-  pub item : A
-  pub rest : List A
-  pub is : xs ≡ before ++ item ∷ rest
-  pub holds : P before item
 
 -- ---- orders
 

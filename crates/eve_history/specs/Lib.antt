@@ -7,4 +7,5 @@ pub mod Faults
 pub mod FirstWrong
 pub mod Notes
 pub mod Marking
+pub mod Standing
 pub mod Coming

@@ -3,7 +3,8 @@ use Rattle.std.specs.Prelude.{◌≡◌, ℕ, List, ◌++◌, Contains}
 use Rattle.eve_grammar.specs.Trace.{Asked, Trace}
 use Rattle.eve_frames.specs.Views.{batch_in}
 use Rattle.eve_views.specs.declared.fault.Code.TheVariants as code
-use Rattle.eve_history.specs.Faults.{SomePlace, Ticket, StandsInOrders}
+use Rattle.eve_views.specs.Form.{SomePlace}
+use Rattle.eve_history.specs.Faults.{Ticket, StandsInOrders}
 
 -- the requests that a batch's frame says
 abbrev pub requests_said : List ℕ → List Asked

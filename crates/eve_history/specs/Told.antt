@@ -3,7 +3,7 @@
 use Rattle.std.specs.Prelude.{ℕ, zero, suc, ◌==◌, IsTrue, if◌then◌else◌, List, [], ◌∷◌, map, Option, Some, None, slice_get, slice_index_or, Bool, true, false}
 use Rattle.eve_smallbank.specs.SmallBank.{Request, Balance}
 use Rattle.eve_grammar.specs.Trace.{Asked, Access, Attempt, Rollback, Step, Attempts, Commits, RollsBack, Trace}
-use Rattle.eve_grammar.specs.Frames.{without_accesses}
+use Rattle.eve_grammar.specs.Frames.{without_accesses, sections_of}
 use Rattle.eve_grammar.specs.Spelling.{accesses_at, steps_at}
 use Rattle.eve_history.specs.declared.fate.Fate.{Fate}
 use Rattle.eve_history.specs.declared.fate.Fate.TheVariants.{Committed, Discarded, Open}
@@ -45,25 +45,37 @@ pub record Ran : Type 0 where
 abbrev pub ran : ℕ × Attempt → Ran
 ran (at, a) = record { offset = at; attempt = without_accesses a; ordered = ordered at a }
 
--- A section's last committed number; its attempts in the order of their frames, and what became of each; its
--- rollbacks with the offsets of their frames.
+-- an attempt with its frame's offset
+abbrev pub placed_at : Placed → ℕ × Attempt
+placed_at p = (p.offset, p.attempt)
+
+-- Whose section it is; its last committed number; its attempts in the order of their frames, and what became of
+-- each; its committed attempts, by number; its rollbacks with the offsets of their frames.
 pub record Telling : Type 0 where
+  pub replica : ℕ
   pub committed : ℕ
   pub attempts : List Ran
   pub fates : List Fate
+  pub commits : List Ran
   pub rollbacks : List (ℕ × Rollback)
 
-abbrev pub told_by : List (ℕ × Step) → Telling
-told_by steps = record {
+abbrev pub told_by : ℕ → List (ℕ × Step) → Telling
+told_by e steps = record {
+  replica = e;
   committed = (state_after start steps).last;
   attempts = map ran (attempts_among steps);
   fates = fates_from 0 steps;
+  commits = map (λ p. ran (placed_at p)) (state_after start steps).committed;
   rollbacks = rollbacks_among steps;
 }
 
 -- what replica e's section tells
 unfoldable pub telling : Trace → ℕ → Telling
-telling t e = told_by (steps_at t e)
+telling t e = told_by e (steps_at t e)
+
+-- what each replica's section tells, in the order of the replicas
+unfoldable pub tellings : Trace → List Telling
+tellings t = map (λ s. telling t s.0) (sections_of t)
 
 -- ---- orders
 
@@ -116,7 +128,3 @@ abbrev pub picked : (Fate → Bool) → List (ℕ × Attempt) → List Fate → 
 picked test [] fates = []
 picked test (x ∷ xs) [] = []
 picked test (x ∷ xs) (fate ∷ fates) = if test fate then x ∷ picked test xs fates else picked test xs fates
-
--- an attempt with its frame's offset
-abbrev pub placed_at : Placed → ℕ × Attempt
-placed_at p = (p.offset, p.attempt)

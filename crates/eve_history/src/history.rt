@@ -1,6 +1,6 @@
 //! What a replica did.
 
-ghost use Rattle.std.specs.Prelude.{◌≡◌, ◌<◌, ◌∷◌, ℕ, List, Some, IfOk, IfErr, OnOk, length, slice_get};
+ghost use Rattle.std.specs.Prelude.{◌≡◌, ◌≤◌, ◌<◌, ◌-◌, ◌∷◌, ℕ, List, Some, IfOk, IfErr, OnOk, length, slice_get};
 ghost use Rattle.eve_grammar.specs.Trace.{Step as StepValue};
 ghost use Rattle.eve_frames.specs.Views.{attempt_in, access_in, rollback_in};
 ghost use Rattle.eve_views.specs.Form.{IfFound};
@@ -9,9 +9,10 @@ ghost use Rattle.eve_views.specs.StepKinds.{IsStep};
 ghost use Rattle.eve_views.specs.declared.fault.Fault.{Fault};
 ghost use Rattle.eve_history.specs.Told.{Ran, telling, IsRightSection};
 ghost use Rattle.eve_history.specs.Faults.{IsStructureFault, IsLeastStructureFault};
-ghost use Rattle.eve_history.specs.Coming.{kept, HasCome};
+ghost use Rattle.eve_history.specs.Coming.{kept, HasCome, IsNoted};
 
 use crate::fate::Fate;
+use crate::frame::frame_at;
 use crate::notes::Notes;
 use eve_frames::{AccessView, AttemptView, RollbackView};
 use eve_views::{CheckFault, Step, Trace};
@@ -24,6 +25,7 @@ use std::marker::Model;
 /// docs/MODEL.md, "Section state, fate".
 #[derive(Drop)]
 pub struct History<'a> {
+    replica: u8,
     notes: Notes<'a>,
 }
 
@@ -32,11 +34,11 @@ impl<'a> Model for History<'a> {
 
     ghost Value = { Telling };
 
-    ghost use Rattle.eve_history.specs.Coming.{kept, telling_of, IsKept};
+    ghost use Rattle.eve_history.specs.Coming.{kept, telling_of, IsWhole};
 
-    ghost view = { λ h. telling_of (kept h.notes) };
+    ghost view = { λ h. telling_of h.replica (kept h.notes) };
 
-    ghost invariant = { λ h. IsKept (kept h.notes) };
+    ghost invariant = { λ h. IsWhole h.notes };
 }
 
 /// Takes the next step of a replica's section, or says what is wrong with it.
@@ -46,9 +48,11 @@ fn take<'a>(
     e: u8,
     step: Step<'_, 'a>,
 ) -> Result<(), CheckFault>
-    requires { (rest : List (ℕ × StepValue)) × (next : ℕ × StepValue) × HasCome (whole trace.now) e (next ∷ rest) (kept notes.old) × IsStep step next }
+    requires noted { IsNoted (whole trace.now) notes.old }
+    requires comes { (rest : List (ℕ × StepValue)) × (next : ℕ × StepValue) × HasCome (whole trace.now) e (next ∷ rest) (kept notes.old) × IsStep step next }
     ensures taken { OnOk result ((rest : List (ℕ × StepValue)) (next : ℕ × StepValue) → HasCome (whole trace.now) e (next ∷ rest) (kept notes.old) → IsStep step.entry next
         → HasCome (whole trace.now) e rest (kept notes.new)) }
+    ensures noted { OnOk result (IsNoted (whole trace.now) notes.new) }
     ensures wrong { IfErr result (λ x. IfFound x (λ f. (rest : List (ℕ × StepValue)) (next : ℕ × StepValue) → HasCome (whole trace.now) e (next ∷ rest) (kept notes.old) → IsStep step.entry next
         → IsLeastStructureFault (whole trace.now) e f)) }
 {
@@ -69,24 +73,42 @@ impl<'a> History<'a> {
     pub fn of(alloc: Global, trace: &Trace<'a>, e: u8) -> Result<History<'a>, CheckFault>
         requires { e < length (whole trace.now).sections }
         ensures telling { IfOk result (λ history. history ≡ telling (whole trace.now) e) }
+        ensures replica { IfOk result (λ history. history.replica ≡ e) }
         ensures right { IfOk result (λ _. IsRightSection (whole trace.now) e) }
         ensures none { IfOk result (λ _. (f : Fault) → ¬ IsStructureFault (whole trace.now) e f) }
         ensures least { IfErr result (λ x. IfFound x (IsLeastStructureFault (whole trace.now) e)) }
     {
         trace.is_whole();
-        let mut notes = Notes::new(alloc);
+        let mut notes = Notes::new(alloc, trace.bytes());
         let mut steps = trace.section(e);
         while let Some(step) = steps.next() {
             take(&mut notes, trace, e, step)?;
         }
-        Ok(History { notes })
+        Ok(History { replica: e, notes })
+    }
+
+    /// The replica's number, from 0.
+    pub fn replica(&self) -> u8
+        ensures { result ≡ self.now.replica }
+    {
+        self.replica
     }
 
     /// The last number that the replica committed; 0 where it committed none.
     pub fn committed(&self) -> u32
-        ensures { result ≡ self.now.committed }
+        ensures number { result ≡ self.now.committed }
+        ensures count { result ≡ length self.now.commits }
     {
         self.notes.last
+    }
+
+    /// The attempt by which the replica committed batch n, of the batches from 1 on: its number among the attempts.
+    pub fn committed_attempt(&self, n: u32) -> usize
+        requires one { 1 ≤ n }
+        requires there { n ≤ length self.now.commits }
+        ensures { (r : Ran) × (slice_get self.now.commits (n - 1) ≡ Some r) × (slice_get self.now.attempts result ≡ Some r) }
+    {
+        self.notes.commits[n as usize - 1]
     }
 
     /// How many attempts there are.
@@ -124,7 +146,8 @@ impl<'a> History<'a> {
         ensures { (r : Ran) × (slice_get self.now.attempts i ≡ Some r) × (slice_get r.ordered place ≡ Some (result.offset, access_in result.bytes.now)) }
     {
         let from = self.notes.attempts[i].from;
-        self.notes.records[from + place]
+        let at = self.notes.records[from + place];
+        AccessView::new(at as u64, frame_at(self.notes.bytes, at))
     }
 
     /// How many rollbacks there are.

@@ -1,10 +1,11 @@
 //! Laws about the definitions. Each body is empty: the contract is the law.
 
-ghost use Rattle.std.specs.Prelude.{◌≡◌, ◌≤◌, ℕ, map};
+ghost use Rattle.std.specs.Prelude.{◌≡◌, ◌≤◌, ℕ, suc, Some, map, length, slice_get};
 ghost use Rattle.eve_grammar.specs.Trace.{Trace};
-ghost use Rattle.eve_history.specs.Told.{history, placed_at, picked, is_committed, is_discarded, attempts_among};
+ghost use Rattle.eve_history.specs.Told.{ran, telling, IsRightSection, history, placed_at, picked, is_committed, is_discarded, attempts_among};
 ghost use Rattle.eve_grammar.specs.Spelling.{length_of, steps_at};
 ghost use Rattle.eve_views.specs.declared.fault.Fault.{Fault};
+ghost use Rattle.eve_history.specs.Section.{Placed};
 ghost use Rattle.eve_history.specs.Faults.{IsOrderFault, IsStructureFault};
 ghost use Rattle.eve_history.specs.Fates.{fates_from};
 
@@ -13,6 +14,14 @@ ghost use Rattle.eve_history.specs.Fates.{fates_from};
 pub fn fates_are_as_the_section_ends()
     ensures committed { (t : Trace) (e : ℕ) → map placed_at (history t e).committed ≡ picked is_committed (attempts_among (steps_at t e)) (fates_from 0 (steps_at t e)) }
     ensures discarded { (t : Trace) (e : ℕ) → map placed_at (history t e).discarded ≡ picked is_discarded (attempts_among (steps_at t e)) (fates_from 0 (steps_at t e)) }
+{}
+
+/// The committed attempts that a section tells are those that it has committed in the end: as many as its last committed
+/// number says, and the attempt at place n, from 0, is of batch n + 1.
+pub fn committed_attempts_are_the_sections()
+    ensures commits { (t : Trace) (e : ℕ) → (telling t e).commits ≡ map (λ p. ran (placed_at p)) (history t e).committed }
+    ensures count { (t : Trace) (e : ℕ) → IsRightSection t e → length (telling t e).commits ≡ (telling t e).committed }
+    ensures numbers { (t : Trace) (e n : ℕ) (p : Placed) → IsRightSection t e → slice_get (history t e).committed n ≡ Some p → p.attempt.seq ≡ suc n }
 {}
 
 /// Faults of orders and of structure stand within the trace.

@@ -5,6 +5,7 @@
 mod arrivals;
 mod certificate;
 mod fate;
+mod frame;
 mod history;
 pub mod laws;
 mod marks;

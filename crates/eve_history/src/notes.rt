@@ -1,6 +1,6 @@
 //! What a replica's section tells, step by step.
 
-ghost use Rattle.std.specs.Prelude.{◌≡◌, ◌≤◌, ◌<◌, ◌++◌, ◌∷◌, [], ℕ, List, IsTrue, IfOk, IfErr, OnOk, IfNone, ◌==◌, false, map, length};
+ghost use Rattle.std.specs.Prelude.{◌≡◌, ◌≤◌, ◌<◌, ◌++◌, ◌∷◌, ◌^◌, [], ℕ, List, IsTrue, IfOk, IfErr, OnOk, IfNone, ◌==◌, false, map, length};
 ghost use Rattle.std.specs.List.{AllByRecursion, list_any};
 ghost use Rattle.eve_grammar.specs.Trace.{Trace as TraceValue, Attempt, Step as StepValue, Attempts, Commits, RollsBack, head_of};
 ghost use Rattle.eve_grammar.specs.Frames.{without_accesses};
@@ -17,13 +17,13 @@ ghost use Rattle.eve_history.specs.Told.{access_with};
 ghost use Rattle.eve_history.specs.Faults.{accesses_of, IsLeastStructureFault};
 ghost use Rattle.eve_history.specs.FirstWrong.{wrong_attempt, wrong_step, fault_of};
 ghost use Rattle.eve_history.specs.Marking.{AreMarked};
-ghost use Rattle.eve_history.specs.Coming.{seen, kept, StandsAt, HasCome, ComesNext};
+ghost use Rattle.eve_history.specs.Coming.{kept, StandsAt, HasCome, ComesNext, IsNoted};
 
 use crate::certificate::{is_certificate, read_order};
 use crate::fate::Fate;
 use crate::marks::Marks;
 use crate::wrong::Wrong;
-use eve_frames::{AccessView, AttemptView, CommitView, RollbackView};
+use eve_frames::{AttemptView, CommitView, RollbackView};
 use eve_grammar::Head;
 use eve_views::{Accesses, CheckFault, Code, Fault, Trace};
 use std::alloc::Global;
@@ -40,6 +40,8 @@ pub struct Attempted<'a> {
 /// What is kept of the steps of a section that have come.
 #[derive(Drop)]
 pub struct Notes<'a> {
+    /// The trace's bytes.
+    pub bytes: &'a [u8],
     /// The section's view.
     pub view: u32,
     /// The last committed number.
@@ -50,8 +52,11 @@ pub struct Notes<'a> {
     pub attempts: Vec<Attempted<'a>>,
     /// What became of those that are settled, which are the first of them.
     pub fates: Vec<Fate>,
-    /// The access records of one attempt after another, each attempt's in its certificate's order.
-    pub records: Vec<AccessView<'a>>,
+    /// The places among the attempts of those that were committed, by number.
+    pub commits: Vec<usize>,
+    /// The access records of one attempt after another, each attempt's in its certificate's order, by the bytes at which
+    /// their frames begin.
+    pub records: Vec<u32>,
     /// The rollbacks, in the order of their frames.
     pub rollbacks: Vec<RollbackView<'a>>,
 }
@@ -68,35 +73,41 @@ fn fault_in(e: u8, wrong: Wrong) -> CheckFault
 }
 
 /// Keeps the access records of an attempt in its certificate's order.
-fn keep_records<'a>(
-    records: &mut Vec<AccessView<'a>>,
-    accesses: &Accesses<'_, 'a>,
+fn keep_records(
+    records: &mut Vec<u32>,
+    accesses: &Accesses<'_, '_>,
     order: &[u16],
     marks: &Marks,
 ) -> Result<(), CheckFault>
     requires marked { AreMarked (accesses_of accesses.now) marks.now }
     requires there { AllByRecursion (λ i. (i < 256) × IsTrue (list_any (λ y. y.index == i) (accesses_of accesses.now))) order.now }
-    ensures kept { OnOk result (map seen records.new.items ≡ map seen records.old.items ++ map (access_with accesses.now) order.now) }
+    requires small { AllByRecursion (λ x. x.0 < 2 ^ 32) accesses.now }
+    ensures kept { OnOk result (records.new.items ≡ records.old.items ++ map (λ i. (access_with accesses.now i).0) order.now) }
     ensures memory { IfErr result (λ e. e ≡ Memory) }
 {
     for index in order {
         let number = marks.number(*index);
-        records.push(accesses.get(number as usize))?;
+        let access = accesses.get(number as usize);
+        records.push(access.offset() as u32)?;
     }
     Ok(())
 }
 
 impl<'a> Notes<'a> {
     /// Before the first step.
-    pub fn new(alloc: Global) -> Notes<'a>
-        ensures { kept result ≡ record { view = 0; last = 0; rolled_back = false; attempts = []; fates = []; records = []; rollbacks = [] } }
+    pub fn new(alloc: Global, bytes: &'a [u8]) -> Notes<'a>
+        ensures bytes { result.bytes.now ≡ bytes.now }
+        ensures none { result.records.items ≡ [] }
+        ensures kept { kept result ≡ record { view = 0; last = 0; rolled_back = false; attempts = []; fates = []; commits = []; records = []; rollbacks = [] } }
     {
         Notes {
+            bytes,
             view: 0,
             last: 0,
             rolled_back: false,
             attempts: Vec::new(alloc),
             fates: Vec::new(alloc),
+            commits: Vec::new(alloc),
             records: Vec::new(alloc),
             rollbacks: Vec::new(alloc),
         }
@@ -210,9 +221,11 @@ impl<'a> Notes<'a> {
         attempt: &AttemptView<'a>,
         accesses: &Accesses<'_, 'a>,
     ) -> Result<(), CheckFault>
-        requires { (rest : List (ℕ × StepValue)) × (b : Attempt) × ComesNext (whole trace.now) e rest b (kept self.old) attempt.now.offset (attempt_in attempt.now.bytes.now) accesses.now }
+        requires noted { IsNoted (whole trace.now) self.old }
+        requires comes { (rest : List (ℕ × StepValue)) × (b : Attempt) × ComesNext (whole trace.now) e rest b (kept self.old) attempt.now.offset (attempt_in attempt.now.bytes.now) accesses.now }
         ensures taken { OnOk result ((rest : List (ℕ × StepValue)) (b : Attempt) → ComesNext (whole trace.now) e rest b (kept self.old) attempt.now.offset (attempt_in attempt.now.bytes.now) accesses.now
             → HasCome (whole trace.now) e rest (kept self.new)) }
+        ensures noted { OnOk result (IsNoted (whole trace.now) self.new) }
         ensures wrong { IfErr result (λ x. IfFound x (λ f. (rest : List (ℕ × StepValue)) (b : Attempt) → ComesNext (whole trace.now) e rest b (kept self.old) attempt.now.offset (attempt_in attempt.now.bytes.now) accesses.now
             → IsLeastStructureFault (whole trace.now) e f)) }
     {
@@ -237,6 +250,7 @@ impl<'a> Notes<'a> {
     pub fn take_commit(&mut self, e: u8, commit: &CommitView<'_>) -> Result<(), CheckFault>
         ensures taken { OnOk result ((t : TraceValue) (rest : List (ℕ × StepValue)) → HasCome t e ((commit.now.offset, Commits (commit_in commit.now.bytes.now)) ∷ rest) (kept self.old)
             → HasCome t e rest (kept self.new)) }
+        ensures noted { OnOk result ((t : TraceValue) → IsNoted t self.old → IsNoted t self.new) }
         ensures wrong { IfErr result (λ x. IfFound x (λ f. (t : TraceValue) (rest : List (ℕ × StepValue)) → HasCome t e ((commit.now.offset, Commits (commit_in commit.now.bytes.now)) ∷ rest) (kept self.old)
             → IsLeastStructureFault t e f)) }
     {
@@ -249,7 +263,10 @@ impl<'a> Notes<'a> {
                 },
             ));
         }
+        let place = self.fates.len();
+        self.commits.reserve(1)?;
         self.fates.push(Fate::Committed)?;
+        self.commits.push_reserved(place);
         self.last = commit.seq();
         Ok(())
     }
@@ -263,6 +280,7 @@ impl<'a> Notes<'a> {
     ) -> Result<(), CheckFault>
         ensures taken { OnOk result ((t : TraceValue) (rest : List (ℕ × StepValue)) → limits head.now ≡ head_of t → HasCome t e ((rollback.now.offset, RollsBack (rollback_in rollback.now.bytes.now)) ∷ rest) (kept self.old)
             → HasCome t e rest (kept self.new)) }
+        ensures noted { OnOk result ((t : TraceValue) → IsNoted t self.old → IsNoted t self.new) }
         ensures wrong { IfErr result (λ x. IfFound x (λ f. (t : TraceValue) (rest : List (ℕ × StepValue)) → limits head.now ≡ head_of t → HasCome t e ((rollback.now.offset, RollsBack (rollback_in rollback.now.bytes.now)) ∷ rest) (kept self.old)
             → IsLeastStructureFault t e f)) }
     {

@@ -91,6 +91,25 @@ fn tells_a_rollback(rt: HostRuntime) -> Result<(), Fail> {
     Ok(())
 }
 
+#[test]
+fn tells_a_commit_behind_a_rollback(rt: HostRuntime) -> Result<(), Fail> {
+    let frames = [
+        FRAMES[0], FRAMES[1], FRAMES[2], FRAMES[3], FRAMES[4], ROLLBACK, FRAMES[3], FRAMES[4],
+        FRAMES[5], FRAMES[6], FRAMES[7], FRAMES[8],
+    ];
+    let mut bytes = traced(rt.alloc(), 1, 1, &frames)?;
+    assert!(rt; bytes.len() == 418);
+    bytes[229] = 1;
+    bytes[230] = 1;
+    bytes[328] = 1;
+    let trace = Trace::read(rt.alloc(), &bytes)?;
+    let history = history_of(rt.alloc(), &trace)?;
+    assert!(rt; history.committed() == 1);
+    assert_eq!(rt; history.attempts(), 2);
+    assert_eq!(rt; history.committed_attempt(1), 1);
+    Ok(())
+}
+
 /// A byte of the section changed, and what is wrong then.
 #[test]
 fn finds_what_was_changed(rt: HostRuntime) -> Result<(), Fail> {

@@ -18,6 +18,7 @@ use eve_streams::{Sink, Source, read_all};
 use std::alloc::Global;
 use std::hash::RandomState;
 use std::random::RandomSource;
+use std::thread::Threads;
 
 // Sends the line that says yes.
 fn send_yes<O: Sink>(alloc: Global, summary: &Summary, out: &mut O) -> Result<(), ToolFault>
@@ -60,7 +61,8 @@ fn send_verdict<O: Sink>(alloc: Global, verdict: &Verdict, out: &mut O) -> Resul
 }
 
 // Sends the verdict on the bytes, and answers the exit status.
-fn audit_bytes<O: Sink>(
+fn audit_bytes<R: Threads + Sync, O: Sink>(
+    rt: &R,
     alloc: Global,
     bytes: &[u8],
     random: RandomState,
@@ -75,7 +77,7 @@ fn audit_bytes<O: Sink>(
     ensures write { IfErr result (λ e. e ≡ ToolFault.Write
         → O.failures out.new ≡ after_failure (O.failures out.old)) }
 {
-    let verdict = audit_one(alloc, bytes, random)?;
+    let verdict = audit_one(rt, alloc, bytes, random)?;
     send_verdict(alloc, &verdict, out)
 }
 
@@ -92,7 +94,7 @@ fn random_words<R: RandomSource>(rt: &R) -> Result<RandomState, ToolFault>
 /// Reads a trace, asks for random words, and sends the line of the verdict: with the answer 0 where
 /// it is yes, and 1 where it is the first fault. It reads at most one byte more than a trace may
 /// have, which is the fault then.
-pub(crate) fn audit<R: AllocGlobal + RandomSource, I: Source, O: Sink>(
+pub(crate) fn audit<R: AllocGlobal + RandomSource + Threads + Sync, I: Source, O: Sink>(
     rt: &R,
     input: &mut I,
     out: &mut O,
@@ -112,5 +114,5 @@ pub(crate) fn audit<R: AllocGlobal + RandomSource, I: Source, O: Sink>(
     let alloc = rt.alloc();
     let bytes = read_all(alloc, input, LONGEST_TRACE)?;
     let random = random_words(rt)?;
-    audit_bytes(alloc, bytes.as_slice(), random, out)
+    audit_bytes(rt, alloc, bytes.as_slice(), random, out)
 }

@@ -18,6 +18,7 @@ use eve_streams::{Sink, Source, send_all};
 use std::convert::AsStr;
 use std::fmt::Write;
 use std::random::RandomSource;
+use std::thread::Threads;
 
 // How many bytes the line of a fault has at most.
 const LONGEST_FAULT: usize = 64;
@@ -35,7 +36,7 @@ pub fn stop<E: Sink>(fault: ToolFault, err: &mut E) -> u8
 }
 
 // Does what the words ask for, and answers the exit status.
-fn answer<R: AllocGlobal + RandomSource, S: AsStr, I: Source, O: Sink, E: Sink>(
+fn answer<R: AllocGlobal + RandomSource + Threads + Sync, S: AsStr, I: Source, O: Sink, E: Sink>(
     rt: &R,
     words: &[S],
     input: &mut I,
@@ -87,7 +88,7 @@ fn answer<R: AllocGlobal + RandomSource, S: AsStr, I: Source, O: Sink, E: Sink>(
 /// program's name, and answers the exit status. Memory and the random words of `audit` come from
 /// `rt`; the words are asked for once the input is read.
 #[tactic(auto, using(crate::proofs::CommandLine::called_audit, crate::proofs::CommandLine::called_show, crate::proofs::CommandLine::asked_help))]
-pub fn serve<R: AllocGlobal + RandomSource, S: AsStr, I: Source, O: Sink, E: Sink>(
+pub fn serve<R: AllocGlobal + RandomSource + Threads + Sync, S: AsStr, I: Source, O: Sink, E: Sink>(
     rt: &R,
     words: &[S],
     input: &mut I,

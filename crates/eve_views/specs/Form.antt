@@ -1,5 +1,5 @@
 -- The faults of form: what is wrong with bytes that are no trace, and where it stands.
-use Rattle.std.specs.Prelude.{◌≡◌, ◌≢◌, ℕ, ◌+◌, ◌^◌, ◌≤◌, ◌<◌, nat_le, Bool, ◌&&◌, IsTrue, IsFalse, ◌==◌, nat_eq, List, [], ◌++◌, length, take, drop, slice_index, None, codes, ◌⊎◌}
+use Rattle.std.specs.Prelude.{◌≡◌, ◌≢◌, ℕ, ◌+◌, ◌^◌, ◌≤◌, ◌<◌, nat_le, Bool, ◌&&◌, IsTrue, IsFalse, ◌==◌, nat_eq, List, [], ◌∷◌, ◌++◌, length, take, drop, slice_index, None, codes, ◌⊎◌}
 use Rattle.std.specs.List.{starts_with}
 use Rattle.byteorder.specs.Endian.{big_number}
 use Rattle.eve_grammar.specs.Trace.{Head}
@@ -78,6 +78,14 @@ StandsInForm _ bytes at = ⊥
 pub record IsFormFault (bytes : List ℕ) (f : Fault) : Type 0 where
   pub stands : StandsInForm f.code bytes f.offset
   pub outside : f.replica ≡ None
+
+-- at some place of the list the fact holds, of what stands before and of what stands there
+pub record SomePlace {A : Type 0} (xs : List A) (P : List A → A → Type 0) : Type 0 where
+  pub before : List A
+  pub item : A
+  pub rest : List A
+  pub is : xs ≡ before ++ item ∷ rest
+  pub holds : P before item
 
 -- by offset, then by number
 abbrev pub IsUpTo : Fault → Fault → Type 0

@@ -65,6 +65,7 @@ fn reads_the_stored_run(rt: HostRuntime) -> Result<(), Fail> {
     let bytes = traced(rt.alloc(), 1, &FRAMES)?;
     let trace = Trace::read(rt.alloc(), &bytes)?;
     assert_eq!(rt; trace.frame_count(), 9);
+    assert_eq!(rt; trace.bytes(), bytes.as_slice());
     assert_eq!(rt; (trace.head().customers, trace.head().batches), (1, 1));
     Ok(())
 }

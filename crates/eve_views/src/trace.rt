@@ -128,6 +128,14 @@ impl<'a> Trace<'a> {
         Frames::new(self)
     }
 
+    /// All its bytes, header and frames.
+    pub fn bytes(&self) -> &'a [u8]
+        ensures { Spells result.now (whole self.now) }
+    {
+        let all = self.bytes;
+        all
+    }
+
     /// What is true of each trace that was read: it is within the limits, and has this header and these frames.
     pub fn is_whole(&self)
         ensures limits { HasLimits (whole self.now) }

@@ -5,7 +5,7 @@ use Rattle.std.specs.List.{list_all, enumerate_from}
 use Rattle.std.specs.Option.{option_map}
 use Rattle.eve_grammar.specs.Trace.{Batch}
 use Rattle.eve_grammar.specs.Spelling.{located}
-use Rattle.eve_votes.specs.Faults.{SomePlace}
+use Rattle.eve_views.specs.Form.{SomePlace}
 
 -- ---- the last place, and those before it
 

@@ -5,7 +5,8 @@ use Rattle.eve_grammar.specs.Trace.{ForCommit, Vote, Trace}
 use Rattle.eve_grammar.specs.Spelling.{batches_at}
 use Rattle.eve_views.specs.declared.fault.Code.TheVariants as code
 use Rattle.eve_votes.specs.Votes.{IsDecided}
-use Rattle.eve_votes.specs.Faults.{SomePlace, StandsInVotes}
+use Rattle.eve_views.specs.Form.{SomePlace}
+use Rattle.eve_votes.specs.Faults.{StandsInVotes}
 use Rattle.eve_votes.specs.Least.{IsBelow}
 use Rattle.eve_votes.specs.declared.decisions.Decision.{Decision}
 

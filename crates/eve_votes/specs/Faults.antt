@@ -6,16 +6,8 @@ use Rattle.eve_grammar.specs.Spelling.{batches_at, votes_at, votes_of}
 use Rattle.eve_views.specs.declared.fault.Code.{Code}
 use Rattle.eve_views.specs.declared.fault.Code.TheVariants as code
 use Rattle.eve_views.specs.declared.fault.Fault.{Fault}
-use Rattle.eve_views.specs.Form.{IsUpTo}
+use Rattle.eve_views.specs.Form.{IsUpTo, SomePlace}
 use Rattle.eve_votes.specs.Votes.{is_vote_on, IsDecided}
-
--- at some place of the list the fact holds, of what stands before and of what stands there
-pub record SomePlace {A : Type 0} (xs : List A) (P : List A → A → Type 0) : Type 0 where
-  pub before : List A
-  pub item : A
-  pub rest : List A
-  pub is : xs ≡ before ++ item ∷ rest
-  pub holds : P before item
 
 -- two views of the batch are decided as commit
 pub record HasTwoDecisions (t : Trace) (n : ℕ) : Type 0 where

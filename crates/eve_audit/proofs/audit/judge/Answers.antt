@@ -1,27 +1,38 @@
-use Rattle.std.proofs.Common.{◌≡◌, ◌≤◌, length, sym, ap, ◌∙◌}
-use Rattle.eve_grammar.specs.Trace.{Head, head_of}
+use Rattle.std.proofs.Common.{◌≤◌, length, arith}
 use Rattle.eve_views.specs.Fronts.{whole}
 use Rattle.eve_audit.specs.Verdict.{IsFirst}
-use Rattle.eve_audit.proofs.Verdicts.{order_first, section_first, faultless, summary_is, found_weaker, some_replica}
+use Rattle.eve_audit.specs.Pieces.{IsFirstOf, IsTraceFault}
+use Rattle.eve_audit.proofs.Firsts.{found_weaker}
+use Rattle.eve_audit.proofs.Verdicts.{faultless, trace_first}
+use Rattle.eve_audit.proofs.Within.{trace_fault_within, long_as}
 use Rattle.eve_audit.proofs.audit.judge.Goals as goal
 
-pub returns-in-Err-orders-clause-no : goal.returns-in-Err-orders-clause-no
-returns-in-Err-orders-clause-no c =
-    found_weaker _ (IsFirst c.args.bytes.now) c.in-Err-orders.why
-    (λ f least. order_first c.args.bytes.now (whole c.in-Ok.trace) f c.in-Ok.ensures.trace c.in-Ok.ensures.faultless least) c.in-Err-orders.ensures.least
+pub returns-in-Ok-judge_trace-clause-yes : goal.returns-in-Ok-judge_trace-clause-yes
+returns-in-Ok-judge_trace-clause-yes g c =
+    let bytes = c.args.bytes.now in
+    let t = whole c.in-Ok.trace in
+    let spells = c.in-Ok.ensures.trace in
+    (t, faultless bytes t spells (λ u other. c.bytes_spell_one_trace.ensures bytes u t other spells) c.in-Ok.ensures.faultless c.in-Ok-judge_trace.ensures.none, c.in-Ok-judge_trace.ensures.summary)
 
-pub returns-in-Err-pieces-clause-no : goal.returns-in-Err-pieces-clause-no
-returns-in-Err-pieces-clause-no c =
-    found_weaker _ (IsFirst c.args.bytes.now) c.in-Err-pieces.why
-    (λ f found. section_first c.args.bytes.now (whole c.in-Ok.trace) f c.in-Ok.ensures.trace c.in-Ok.ensures.faultless c.in-Ok-orders.ensures.none found) c.in-Err-pieces.ensures.first
+pub returns-in-Ok-judge_trace-clause-audited : goal.returns-in-Ok-judge_trace-clause-audited
+returns-in-Ok-judge_trace-clause-audited g c =
+    let t = whole c.in-Ok.trace in
+    record { trace = t; spells = c.in-Ok.ensures.trace; audited = c.accepted_traces_are_audited.ensures t c.in-Ok-judge_trace.ensures.accepted }
 
-pub returns-clause-yes : goal.returns-clause-yes
-returns-clause-yes c =
-    let head = c.is_whole.ensures.head in
-    let many : length (whole c.in-Ok.trace).sections ≡ c.head-head.result.replicas = ap (λ (h : Head). h.replicas) (head ∙ sym c.head-head.ensures) in
-    let batches : length (whole c.in-Ok.trace).batches ≡ c.head-head.result.batches = ap (λ (h : Head). h.batches) (head ∙ sym c.head-head.ensures) in
-    let some : 1 ≤ length (whole c.in-Ok.trace).sections = some_replica (head_of (whole c.in-Ok.trace)) c.is_whole.ensures.limits.head in (
-      whole c.in-Ok.trace,
-      faultless c.args.bytes.now (whole c.in-Ok.trace) c.in-Ok.ensures.trace c.in-Ok.ensures.faultless c.in-Ok-orders.ensures.none c.in-Ok-pieces.ensures.none,
-      summary_is (whole c.in-Ok.trace) _ (sym many) (sym batches) some c.in-Ok-pieces.ensures.committed,
-    )
+pub returns-clause-no : goal.returns-clause-no
+returns-clause-no g c =
+    let bytes = c.args.bytes.now in
+    let t = whole c.in-Ok.trace in
+    let spells = c.in-Ok.ensures.trace in
+    found_weaker (IsFirstOf (IsTraceFault t)) (IsFirst bytes) c.in-Err-judge_trace.why
+    (λ f found. trace_first bytes t spells (λ u other. c.bytes_spell_one_trace.ensures bytes u t other spells) f c.in-Ok.ensures.faultless found) c.in-Err-judge_trace.ensures.first
+
+pub returns-clause-within : goal.returns-clause-within
+returns-clause-within g c =
+    let bytes = c.args.bytes.now in
+    let t = whole c.in-Ok.trace in
+    let long = long_as bytes t c.in-Ok.ensures.trace in
+    found_weaker (IsFirstOf (IsTraceFault t)) (λ f. f.offset ≤ length bytes) c.in-Err-judge_trace.why
+    (λ f found.
+    let within = trace_fault_within t (c.faults_lie_within.ensures.orders t) (λ e. (c.fates_are_as_the_section_ends.ensures.committed t e, c.fates_are_as_the_section_ends.ensures.discarded t e)) f found.is in
+    omega (arith, within, long)) c.in-Err-judge_trace.ensures.first

@@ -16,7 +16,7 @@ returns c =
     let at : slice_get items c.args.i ≡ Some x = get_is items c.args.i x (omega arith) c.index.ensures in
     let one : slice_get (map kept_attempt items) c.args.i ≡ Some (kept_attempt x) = get_mapped kept_attempt items c.args.i x at in
     let many : length (kept_ran (kept n).records (kept_attempt x)).ordered ≡ length (kept_attempt x).attempt.certificate =
-    part_length (kept n).records x.from (length (kept_attempt x).attempt.certificate) (rec_at _ (map kept_attempt items) c.args.i (kept_attempt x) c.self.invariant.within one) in
+    part_length (kept n).records x.from (length (kept_attempt x).attempt.certificate) (rec_at _ (map kept_attempt items) c.args.i (kept_attempt x) c.self.invariant.kept.within one) in
     subst (λ (v : Telling).
     (r : Ran) × (slice_get v.attempts c.args.i ≡ Some r) × (x.view.offset ≡ r.offset) × (attempt_in x.view.bytes.now ≡ r.attempt) × (length r.ordered ≡ length r.attempt.certificate)) c.self.view_is
     (kept_ran (kept n).records (kept_attempt x), get_mapped (kept_ran (kept n).records) (map kept_attempt items) c.args.i (kept_attempt x) one, refl, refl, many)

@@ -1,6 +1,9 @@
 use Rattle.std.proofs.Common.{◌≡◌, ℕ, List, [], ◌∷◌, sym, subst, rules}
 use Rattle.std.proofs.lemmas.Result.{err_from_is_err_and}
+use Rattle.std.specs.List.{AllByRecursion}
 use Rattle.eve_grammar.specs.Trace.{Step}
+use Rattle.eve_grammar.specs.Limits.{Spells}
+use Rattle.eve_history.specs.Standing.{IsAccessAt}
 use Rattle.eve_grammar.specs.Spelling.{steps_at}
 use Rattle.eve_views.specs.Fronts.{whole}
 use Rattle.eve_views.specs.StepKinds.{IsStep}
@@ -14,16 +17,30 @@ use Rattle.eve_history.proofs.history.History.of.Goals as goal
 pub loop-step-init : goal.loop-step-init
 loop-step-init c =
     let t = whole c.args.trace.now in
-    let e = c.args.e in
-    subst (λ (xs : List (ℕ × Step)). HasCome t e xs (kept c.new-notes.result)) (sym c.section-steps.ensures)
-    (subst (λ (k : Kept). HasCome t e (steps_at t e) k) (sym c.new-notes.ensures) (come_start t e c.is_whole.ensures.limits))
+    let e = c.args.e in (
+      subst (λ (xs : List (ℕ × Step)). HasCome t e xs (kept c.new-notes.result)) (sym c.section-steps.ensures)
+          (subst (λ (k : Kept). HasCome t e (steps_at t e) k) (sym c.new-notes.ensures.kept) (come_start t e c.is_whole.ensures.limits)),
+      record {
+        spelled = subst (λ (b : List ℕ). Spells b t) (sym c.new-notes.ensures.bytes) c.bytes.ensures;
+        records = subst (AllByRecursion (IsAccessAt c.new-notes.result.bytes.now)) (sym c.new-notes.ensures.none) tt;
+      },
+    )
+
+pub take-requires-clause-noted : goal.take-requires-clause-noted
+take-requires-clause-noted c = c.loop-step.invariant.1
+
+pub invariant_of-result : goal.invariant_of-result
+invariant_of-result c =
+    let none : c.loop-step.steps ≡ [] = search rules in
+    let come = subst (λ (xs : List (ℕ × Step)). HasCome (whole c.args.trace.now) c.args.e xs (kept c.loop-step.notes)) none c.loop-step.invariant.0 in
+    record { kept = come.is_kept; records = c.loop-step.invariant.1.records }
 
 pub returns-in_err-take-clause-least : goal.returns-in_err-take-clause-least
 returns-in_err-take-clause-least c =
     let t = whole c.args.trace.now in
     let e = c.args.e in
     let some = c.in-Some.ensures.some in
-    let come = subst (λ (xs : List (ℕ × Step)). HasCome t e xs (kept c.loop-step.notes)) some.1 c.loop-step.invariant in
+    let come = subst (λ (xs : List (ℕ × Step)). HasCome t e xs (kept c.loop-step.notes)) some.1 c.loop-step.invariant.0 in
     let P : Fault → Type 0 =
     λ f. (rest : List (ℕ × Step)) (next : ℕ × Step) → HasCome t e (next ∷ rest) (kept c.loop-step.notes) → IsStep c.in-Some.step next → IsLeastStructureFault t e f in
     let least = weaker_found c.in_err-take.field-0.0 P (IsLeastStructureFault t e) (λ f wrong. wrong c.next.new.self some.0 come some.2) c.in_err-take.ensures.wrong in
@@ -34,10 +51,16 @@ pub returns-clause-telling : goal.returns-clause-telling
 returns-clause-telling c =
     let t = whole c.args.trace.now in
     let none : c.loop-step.steps ≡ [] = search rules in
-    come_told t c.args.e (kept c.loop-step.notes) (subst (λ (xs : List (ℕ × Step)). HasCome t c.args.e xs (kept c.loop-step.notes)) none c.loop-step.invariant)
+    come_told t c.args.e (kept c.loop-step.notes) (subst (λ (xs : List (ℕ × Step)). HasCome t c.args.e xs (kept c.loop-step.notes)) none c.loop-step.invariant.0)
 
 pub returns-clause-none : goal.returns-clause-none
 returns-clause-none c =
     let t = whole c.args.trace.now in
     let none : c.loop-step.steps ≡ [] = search rules in
-    come_faultless t c.args.e (kept c.loop-step.notes) (subst (λ (xs : List (ℕ × Step)). HasCome t c.args.e xs (kept c.loop-step.notes)) none c.loop-step.invariant)
+    come_faultless t c.args.e (kept c.loop-step.notes) (subst (λ (xs : List (ℕ × Step)). HasCome t c.args.e xs (kept c.loop-step.notes)) none c.loop-step.invariant.0)
+
+pub loop-step-preserved : goal.loop-step-preserved
+loop-step-preserved c =
+    let some = c.in-Some.ensures.some in
+    let come = subst (λ (xs : List (ℕ × Step)). HasCome (whole c.args.trace.now) c.args.e xs (kept c.loop-step.notes)) some.1 c.loop-step.invariant.0 in
+    (c.in_ok-take.ensures.taken c.next.new.self some.0 come some.2, c.in_ok-take.ensures.noted)

@@ -1,7 +1,10 @@
-use Rattle.std.proofs.Common.{◌≡◌, ℕ, ◌+◌, ◌^◌, ◌<◌, ◌≤◌, map, length, get_or, drop, slice_get, vec_len, Some, ap, sym, ◌∙◌, arith, rules}
+use Rattle.std.proofs.Common.{◌≡◌, ℕ, ◌+◌, ◌^◌, ◌<◌, ◌≤◌, map, length, get_or, drop, slice_get, vec_len, List, IsTrue, Some, ap, sym, subst, ◌∙◌, arith, rules}
 use Rattle.std.proofs.lemmas.List.{length-map, length-take}
 use Rattle.eve_history.specs.declared.notes.Notes.{Notes}
 use Rattle.eve_history.specs.declared.notes.Attempted.{Attempted}
+use Rattle.std.specs.List.{AllByRecursion}
+use Rattle.eve_frames.specs.Views.{is_access_frame, access_in}
+use Rattle.eve_history.specs.Standing.{IsAccessAt}
 use Rattle.eve_history.specs.Told.{Ran, Telling}
 use Rattle.eve_history.specs.Coming.{kept, kept_attempt, kept_ran, telling_of, IsKept, seen}
 use Rattle.eve_history.proofs.Finding.{get_mapped, get_is, rec_at, get_in_part}
@@ -13,9 +16,9 @@ record Here (n : Notes) (v : Telling) (i place : ℕ) (x : Attempted) : Type 0 w
   short : place < length (kept_attempt x).attempt.certificate
   within : x.from + length (kept_attempt x).attempt.certificate ≤ length n.records.items
 
-here : (n : Notes) (v : Telling) (i place : ℕ) (x : Attempted) → telling_of (kept n) ≡ v → IsKept (kept n) → i < length v.attempts → ((r : Ran) → slice_get v.attempts i ≡ Some r → place < length r.ordered)
+here : (e : ℕ) (n : Notes) (v : Telling) (i place : ℕ) (x : Attempted) → telling_of e (kept n) ≡ v → IsKept (kept n) → i < length v.attempts → ((r : Ran) → slice_get v.attempts i ≡ Some r → place < length r.ordered)
     → x ≡ get_or n.attempts.items i x → Here n v i place x
-here n v i place x is is_kept lt short read =
+here e n v i place x is is_kept lt short read =
     let items = n.attempts.items in
     let count : length v.attempts ≡ length items =
     ap (λ (v : Telling). length v.attempts) (sym is) ∙ length-map (map kept_attempt items) (kept_ran (kept n).records) ∙ length-map items kept_attempt in
@@ -28,38 +31,64 @@ here n v i place x is is_kept lt short read =
     record {
       told = told;
       short = omega (arith, length-take (length (kept_attempt x).attempt.certificate) (drop x.from (kept n).records));
-      within = omega (arith, within, length-map n.records.items seen);
+      within = omega (arith, within, length-map n.records.items (seen n.bytes.now));
     }
 
 pub overflow_add-from : goal.overflow_add-from
 overflow_add-from c =
     let n = c.self.inside.notes in
-    let h = here n c.args.self.now c.args.i c.args.place c.index.result.now c.self.view_is c.self.invariant c.requires.attempt c.requires.place c.index.ensures in
+    let h = here c.self.inside.replica n c.args.self.now c.args.i c.args.place c.index.result.now c.self.view_is c.self.invariant.kept c.requires.attempt c.requires.place c.index.ensures in
     let short = h.short in
     let within = h.within in
     let count : vec_len n.records ≡ length n.records.items = search rules in
     let small : vec_len n.records < 2 ^ 64 = search rules in
     record { fits = omega arith }
 
-pub index-requires-2 : goal.index-requires-2
-index-requires-2 c =
+pub index-at-requires : goal.index-at-requires
+index-at-requires c =
     let n = c.self.inside.notes in
-    let h = here n c.args.self.now c.args.i c.args.place c.index.result.now c.self.view_is c.self.invariant c.requires.attempt c.requires.place c.index.ensures in
+    let h = here c.self.inside.replica n c.args.self.now c.args.i c.args.place c.index.result.now c.self.view_is c.self.invariant.kept c.requires.attempt c.requires.place c.index.ensures in
     let short = h.short in
     let within = h.within in
     let count : vec_len n.records ≡ length n.records.items = search rules in
     omega arith
 
+-- where the record was found, its frame begins
+found_there : (n : Notes) (place at : ℕ) → place < length n.records.items → at ≡ get_or n.records.items place at → AllByRecursion (IsAccessAt n.bytes.now) n.records.items → (slice_get n.records.items place ≡ Some at) × IsAccessAt n.bytes.now at
+found_there n place at lt read all = let got = get_is n.records.items place at lt read in (got, rec_at (IsAccessAt n.bytes.now) n.records.items place at all got)
+
+pub frame_at-requires : goal.frame_at-requires
+frame_at-requires c =
+    let n = c.self.inside.notes in
+    let x = c.index.result.now in
+    let h = here c.self.inside.replica n c.args.self.now c.args.i c.args.place x c.self.view_is c.self.invariant.kept c.requires.attempt c.requires.place c.index.ensures in
+    let short = h.short in
+    let within = h.within in
+    (found_there n (x.from + c.args.place) c.index-at.result.now (omega arith) c.index-at.ensures c.self.invariant.records).1.framed
+
+pub new-requires : goal.new-requires
+new-requires c =
+    let n = c.self.inside.notes in
+    let x = c.index.result.now in
+    let h = here c.self.inside.replica n c.args.self.now c.args.i c.args.place x c.self.view_is c.self.invariant.kept c.requires.attempt c.requires.place c.index.ensures in
+    let short = h.short in
+    let within = h.within in
+    subst (λ (b : List ℕ). IsTrue (is_access_frame b)) (sym c.frame_at.ensures)
+    (found_there n (x.from + c.args.place) c.index-at.result.now (omega arith) c.index-at.ensures c.self.invariant.records).1.access
+
 pub returns : goal.returns
 returns c =
     let n = c.self.inside.notes in
     let x = c.index.result.now in
-    let h = here n c.args.self.now c.args.i c.args.place x c.self.view_is c.self.invariant c.requires.attempt c.requires.place c.index.ensures in
+    let at = c.index-at.result.now in
+    let h = here c.self.inside.replica n c.args.self.now c.args.i c.args.place x c.self.view_is c.self.invariant.kept c.requires.attempt c.requires.place c.index.ensures in
     let short = h.short in
     let within = h.within in
-    let y = c.index-2.result.now in
-    let at : slice_get n.records.items (x.from + c.args.place) ≡ Some y = get_is n.records.items (x.from + c.args.place) y (omega arith) c.index-2.ensures in (
+    let found = found_there n (x.from + c.args.place) at (omega arith) c.index-at.ensures c.self.invariant.records in
+    let is : seen n.bytes.now at ≡ (c.new.result.offset, access_in c.new.result.bytes.now) =
+    λ i. (sym c.new.ensures.offset i, access_in (sym (c.new.ensures.bytes ∙ c.frame_at.ensures) i)) in (
       kept_ran (kept n).records (kept_attempt x),
       h.told,
-      get_in_part (kept n).records x.from (length (kept_attempt x).attempt.certificate) c.args.place (seen y) h.short (get_mapped seen n.records.items (x.from + c.args.place) y at),
+      get_in_part (kept n).records x.from (length (kept_attempt x).attempt.certificate) c.args.place (seen n.bytes.now at) h.short (get_mapped (seen n.bytes.now) n.records.items (x.from + c.args.place) at found.0)
+          ∙ ap Some is,
     )

@@ -9,10 +9,12 @@ use Rattle.eve_views.specs.declared.fault.CheckFault.{CheckFault}
 use Rattle.eve_views.specs.Form.{IfFound}
 use Rattle.eve_views.specs.Fronts.{whole}
 use Rattle.eve_history.specs.Section.{start, state_after}
-use Rattle.eve_history.specs.Told.{ordered}
+use Rattle.eve_history.specs.Told.{ordered, access_with}
 use Rattle.eve_history.specs.Faults.{accesses_of, IsLeastStructureFault}
 use Rattle.eve_history.specs.Coming.{KeptAttempt, kept, kept_attempt, seen, HasCome, ComesNext}
 use Rattle.eve_history.proofs.Coming.{come_wrong, come_attempt, with_attempt}
+use Rattle.eve_history.specs.Standing.{IsAccessAt}
+use Rattle.eve_history.proofs.Standing.{all_seen, all_small, seen_in_order, access_frames}
 use Rattle.eve_history.proofs.Taking.{its_records_count, its_indexes, its_order}
 use Rattle.eve_history.proofs.notes.Notes.take_attempt.Goals as goal
 
@@ -20,7 +22,7 @@ pub judge-requires-clause-many : goal.judge-requires-clause-many
 judge-requires-clause-many c =
     let said = attempt_in c.args.attempt.now.bytes.now in
     let order : take c.len.result c.read_order.new.order ≡ said.certificate = ap (λ (n : ℕ). take n c.read_order.new.order) c.len.ensures.certificate ∙ c.read_order.ensures in
-    its_records_count (whole c.args.trace.now) c.args.e c.requires.0 c.requires.1 (kept c.args.self.now) c.args.attempt.now.offset said c.args.accesses.now c.requires.2 ∙ ap length (sym order)
+    its_records_count (whole c.args.trace.now) c.args.e c.requires.comes.0 c.requires.comes.1 (kept c.args.self.now) c.args.attempt.now.offset said c.args.accesses.now c.requires.comes.2 ∙ ap length (sym order)
 
 pub returns-in-Some-clause-wrong : goal.returns-in-Some-clause-wrong
 returns-in-Some-clause-wrong c =
@@ -42,11 +44,11 @@ keep_records-requires-clause-there c =
     let at = c.args.attempt.now.offset in
     let said = attempt_in c.args.attempt.now.bytes.now in
     let xs = c.args.accesses.now in
-    let b = c.requires.1 in
-    let comes = c.requires.2 in
+    let b = c.requires.comes.1 in
+    let comes = c.requires.comes.2 in
     let order : take c.len.result c.read_order.new.order ≡ said.certificate = ap (λ (n : ℕ). take n c.read_order.new.order) c.len.ensures.certificate ∙ c.read_order.ensures in
     subst (AllByRecursion (λ i. (i < 256) × IsTrue (list_any (λ y. y.index == i) (accesses_of xs)))) (sym order)
-    (its_indexes t c.args.e c.requires.0 b (kept c.args.self.now) at said xs comes
+    (its_indexes t c.args.e c.requires.comes.0 b (kept c.args.self.now) at said xs comes
     (sym (c.in_default.ensures.wrong (state_after start comes.come.front) b comes.come.stands comes.attempt comes.accesses)))
 
 pub returns-clause-taken : goal.returns-clause-taken
@@ -58,15 +60,49 @@ returns-clause-taken c = λ rest b comes.
     let said = attempt_in c.args.attempt.now.bytes.now in
     let xs = c.args.accesses.now in
     let order : take c.len.result c.read_order.new.order ≡ said.certificate = ap (λ (m : ℕ). take m c.read_order.new.order) c.len.ensures.certificate ∙ c.read_order.ensures in
-    let from : c.len-from.result ≡ length k.records = (let count : c.len-from.result ≡ length n.records.items = search rules in count ∙ sym (length-map n.records.items seen)) in
+    let from : c.len-from.result ≡ length k.records = (let count : c.len-from.result ≡ length n.records.items = search rules in count ∙ sym (length-map n.records.items (seen n.bytes.now))) in
     let added : KeptAttempt = record { offset = at; attempt = without_accesses b; from = length k.records } in
     let same : added ≡ record { offset = at; attempt = said; from = c.len-from.result } = λ i. record { offset = at; attempt = sym comes.attempt i; from = sym from i } in
     let attempts : k.attempts ++ added ∷ [] ≡ map kept_attempt c.push.new.self.items =
     ap (λ (a : KeptAttempt). k.attempts ++ a ∷ []) same ∙ sym (ap (map kept_attempt) c.in_ok-push.ensures.items ∙ map-append kept_attempt n.attempts.items (record { view = c.args.attempt.now; from = c.len-from.result } ∷ [])) in
-    let records : k.records ++ ordered at b ≡ map seen c.keep_records.new.records.items =
-    ap (λ (ys : List (ℕ × Access)). k.records ++ ys) (sym (its_order t c.args.e rest b k at said xs comes _ order)) ∙ sym c.in_ok-keep_records.ensures.kept in
+    let own = take c.len.result c.read_order.new.order in
+    let there : AllByRecursion (λ i. (i < 256) × IsTrue (list_any (λ y. y.index == i) (accesses_of xs))) own =
+    subst (AllByRecursion (λ i. (i < 256) × IsTrue (list_any (λ y. y.index == i) (accesses_of xs)))) (sym order)
+    (its_indexes t c.args.e rest b k at said xs comes (sym (c.in_default.ensures.wrong (state_after start comes.come.front) b comes.come.stands comes.attempt comes.accesses))) in
+    let again = seen_in_order n.bytes.now xs own (all_seen n.bytes.now t c.args.e rest b k at said xs c.requires.noted.spelled comes) there in
+    let records : k.records ++ ordered at b ≡ map (seen n.bytes.now) c.keep_records.new.records.items =
+    ap (λ (ys : List (ℕ × Access)). k.records ++ ys) (sym (again ∙ its_order t c.args.e rest b k at said xs comes own order))
+    ∙ sym (ap (map (seen n.bytes.now)) c.in_ok-keep_records.ensures.kept ∙ map-append (seen n.bytes.now) n.records.items (map (λ i. (access_with xs i).0) own)) in
     let is : with_attempt k at (without_accesses b) (ordered at b) ≡ kept (record n { rolled_back = false; attempts = c.push.new.self; records = c.keep_records.new.records }) =
     λ i. record k { rolled_back = false; attempts = attempts i; records = records i } in
     subst (HasCome t c.args.e rest) is
     (come_attempt t c.args.e at b rest k comes.come
     (sym (c.in_default.ensures.wrong (state_after start comes.come.front) b comes.come.stands comes.attempt comes.accesses)))
+
+pub keep_records-requires-clause-small : goal.keep_records-requires-clause-small
+keep_records-requires-clause-small c =
+    let n = c.args.self.now in
+    let said = attempt_in c.args.attempt.now.bytes.now in
+    let xs = c.args.accesses.now in
+    all_small n.bytes.now xs
+    (all_seen n.bytes.now (whole c.args.trace.now) c.args.e c.requires.comes.0 c.requires.comes.1 (kept n) c.args.attempt.now.offset said xs c.requires.noted.spelled c.requires.comes.2)
+
+pub returns-clause-noted : goal.returns-clause-noted
+returns-clause-noted c =
+    let t = whole c.args.trace.now in
+    let n = c.args.self.now in
+    let at = c.args.attempt.now.offset in
+    let said = attempt_in c.args.attempt.now.bytes.now in
+    let xs = c.args.accesses.now in
+    let b = c.requires.comes.1 in
+    let comes = c.requires.comes.2 in
+    let own = take c.len.result c.read_order.new.order in
+    let order : own ≡ said.certificate = ap (λ (n : ℕ). take n c.read_order.new.order) c.len.ensures.certificate ∙ c.read_order.ensures in
+    let there : AllByRecursion (λ i. (i < 256) × IsTrue (list_any (λ y. y.index == i) (accesses_of xs))) own =
+    subst (AllByRecursion (λ i. (i < 256) × IsTrue (list_any (λ y. y.index == i) (accesses_of xs)))) (sym order)
+    (its_indexes t c.args.e c.requires.comes.0 b (kept n) at said xs comes (sym (c.in_default.ensures.wrong (state_after start comes.come.front) b comes.come.stands comes.attempt comes.accesses))) in
+    record {
+      spelled = c.requires.noted.spelled;
+      records = subst (AllByRecursion (IsAccessAt n.bytes.now)) (sym c.in_ok-keep_records.ensures.kept)
+          (access_frames n.bytes.now xs n.records.items own (all_seen n.bytes.now t c.args.e c.requires.comes.0 b (kept n) at said xs c.requires.noted.spelled comes) there c.requires.noted.records);
+    }

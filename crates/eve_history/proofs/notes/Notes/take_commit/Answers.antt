@@ -1,4 +1,4 @@
-use Rattle.std.proofs.Common.{◌≡◌, ℕ, List, ◌∷◌, ap, sym, subst, ◌∙◌}
+use Rattle.std.proofs.Common.{◌≡◌, ℕ, List, [], ◌∷◌, ◌++◌, length, ap, sym, subst, ◌∙◌, rules}
 use Rattle.eve_grammar.specs.Trace.{Trace, Step, Commits}
 use Rattle.eve_frames.specs.Views.{commit_in}
 use Rattle.eve_views.specs.declared.fault.Code.TheVariants as code
@@ -32,8 +32,11 @@ returns-clause-taken c = λ t rest come.
     let k = kept c.args.self.now in
     let at = c.args.commit.now.offset in
     let said = commit_in c.args.commit.now.bytes.now in
-    let is : with_commit k said.seq ≡ kept (record c.args.self.now { last = c.seq-self.result; fates = c.push.new.self }) =
-    λ i. record k { last = sym c.seq-self.ensures i; fates = sym c.in_ok-push.ensures.items i } in
+    let place : length k.fates ≡ c.len-place.result = search rules in
+    let commits : k.commits ++ length k.fates ∷ [] ≡ c.push_reserved.new.self.items =
+    ap (λ (n : ℕ). k.commits ++ n ∷ []) place ∙ ap (λ (ns : List ℕ). ns ++ c.len-place.result ∷ []) (sym c.in_ok-reserve.ensures.items) ∙ sym c.push_reserved.ensures.items in
+    let is : with_commit k said.seq ≡ kept (record c.args.self.now { last = c.seq-self.result; fates = c.push.new.self; commits = c.push_reserved.new.self }) =
+    λ i. record k { last = sym c.seq-self.ensures i; fates = sym c.in_ok-push.ensures.items i; commits = commits i } in
     subst (HasCome t e rest) is
     (come_commit t e at said rest k come
     (commit_right t (state_after start come.front) at said (sym (c.commits_first.ensures (state_after start come.front) come.stands) ∙ c.if-not-commits_first.false)))

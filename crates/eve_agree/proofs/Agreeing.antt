@@ -1,0 +1,210 @@
+-- The least of the faults of agreement, batch after batch.
+use Rattle.std.proofs.Common.{◌≡◌, ◌≢◌, ℕ, zero, suc, ◌+◌, ◌-◌, ◌<◌, ◌≤◌, ℤ, nat_le, Bool, true, false, cond, List, [], ◌∷◌, ◌++◌, length, take, drop, slice_get, get_or, set, Option, Some, None, IfSome, refl, sym, ap, subst, ◌∙◌, inl, inr, ◌⊎◌, arith, add-one, get_or-set_same, get_or-set_other}
+use Rattle.std.proofs.lemmas.Bool.{cases_lt, cases_eq, leb-true, leb-false}
+use Rattle.std.proofs.lemmas.List.{length-set, get_or-append_right, get_or_append_left, length-append}
+use Rattle.eve_smallbank.specs.declared.request.Reply.{Reply}
+use Rattle.eve_grammar.specs.Trace.{Trace}
+use Rattle.eve_grammar.specs.Spelling.{length_of}
+use Rattle.eve_views.specs.declared.fault.Code.{Code}
+use Rattle.eve_views.specs.declared.fault.Code.TheVariants as code
+use Rattle.eve_views.specs.declared.fault.Fault.{Fault}
+use Rattle.eve_views.specs.Form.{IsUpTo, SomePlace}
+use Rattle.eve_views.specs.Code.{number_of}
+use Rattle.eve_history.specs.Section.{Placed}
+use Rattle.eve_history.specs.Told.{Telling, telling, tellings, history, committed_at, IsRightSection}
+use Rattle.eve_history.proofs.Places.{cut_at}
+use Rattle.eve_serial.specs.Committed.{balances_to}
+use Rattle.eve_serial.proofs.Linked.{last_committed, some_injective, none≢some}
+use Rattle.eve_banks.specs.Settling.{Settling}
+use Rattle.eve_tokens.proofs.Walking.{get_at_seam}
+use Rattle.eve_agree.specs.Faults.{first_to_commit, HaveSameOutcome, HasCommitted, ReplicasAgree, StandsInAgreement, IsOutcomeFault, IsLeastOutcomeFault}
+use Rattle.eve_agree.specs.Judging.{NoneBefore, Stand, IsUpToAt, Lowers, IsJudged, outcome_fault, lower}
+use Rattle.eve_agree.proofs.Outcomes.{IsOf, last_told, telling_at, committed_low, replica_there, first_there}
+
+-- ---- the lesser of two
+
+pub lower_lowers : (least : Option Fault) (at e : ℕ) → Lowers least (lower least at e)
+lower_lowers None at e to up = absurd up
+lower_lowers (Some f) at e to up = by (nat_le f.offset at) refl
+  where
+    by : (b : Bool) → nat_le f.offset at ≡ b → IsUpToAt (cond b (Some f) (Some (outcome_fault at e))) to
+    by true le = up
+    by false le = (let more = leb-false f.offset at le in let is : f.offset ≤ to = up in omega arith)
+
+pub lower_here : (least : Option Fault) (at e : ℕ) → IsUpToAt (lower least at e) at
+lower_here None at e = omega arith
+lower_here (Some f) at e = by (nat_le f.offset at) refl
+  where
+    by : (b : Bool) → nat_le f.offset at ≡ b → IsUpToAt (cond b (Some f) (Some (outcome_fault at e))) at
+    by true le = leb-true f.offset at le
+    by false le = omega arith
+
+pub lower_stands : (t : Trace) (least : Option Fault) (at e : ℕ) → Stand t least → IsOutcomeFault t (outcome_fault at e) → Stand t (lower least at e)
+lower_stands t None at e stand is = (refl, is)
+lower_stands t (Some f) at e stand is = by (nat_le f.offset at)
+  where
+    by : (b : Bool) → Stand t (cond b (Some f) (Some (outcome_fault at e)))
+    by true = stand
+    by false = (refl, is)
+
+pub judged_later : (t : Trace) (least now : Option Fault) (e n : ℕ) → Lowers least now → IsJudged t least e n → IsJudged t now e n
+judged_later t least now e n lowers judged p at = elim (judged p at) [ inl same ↦ inl same | inr up ↦ inr (lowers p.offset up) ]
+
+-- ---- one replica and one batch
+
+take_length : {A : Type 0} (xs : List A) (n : ℕ) (x : A) → slice_get xs n ≡ Some x → length (take n xs) ≡ n
+take_length [] n x e = none≢some x e
+take_length (y ∷ xs) zero x e = refl
+take_length (y ∷ xs) (suc n) x e = ap suc (take_length xs n x e)
+
+-- it differs
+pub differs : (t : Trace) (e f n at : ℕ) (rs : List Reply) → IsOf t e n at rs → first_to_commit t n ≡ Some f → ¬ HaveSameOutcome t e f n → IsOutcomeFault t (outcome_fault at e)
+differs t e f n at rs own first apart = by n own.item own.at own.offset_is first apart
+  where
+    by : (n : ℕ) (p : Placed) → committed_at t e n ≡ Some p → at ≡ p.offset → first_to_commit t n ≡ Some f → ¬ HaveSameOutcome t e f n → IsOutcomeFault t (outcome_fault at e)
+    by zero p here is first apart = none≢some p here
+    by (suc m) p here is first apart =
+        let number : length (take m (history t e).committed) + 1 ≡ suc m = add-one (length (take m (history t e).committed)) ∙ ap suc (take_length (history t e).committed m p here) in
+        record {
+          replica = e;
+          stands = record {
+            before = take m (history t e).committed;
+            item = p;
+            rest = drop (suc m) (history t e).committed;
+            is = cut_at (history t e).committed m p here;
+            holds = (sym is, subst (λ (k : ℕ). IfSome (first_to_commit t k) (λ g. ¬ HaveSameOutcome t e g k)) (sym number) (subst (λ (o : Option ℕ). IfSome o (λ g. ¬ HaveSameOutcome t e g (suc m))) (sym first) apart));
+          };
+          inside = refl;
+        }
+
+pub judged_same : (t : Trace) (least : Option Fault) (e f n : ℕ) → first_to_commit t n ≡ Some f → HaveSameOutcome t e f n → IsJudged t least e n
+judged_same t least e f n first same p at = inl (subst (λ (o : Option ℕ). IfSome o (λ g. HaveSameOutcome t e g n)) (sym first) same)
+
+pub judged_apart : (t : Trace) (least : Option Fault) (e n at : ℕ) (rs : List Reply) → IsOf t e n at rs → IsJudged t (lower least at e) e n
+judged_apart t least e n at rs own p here =
+    let same : p ≡ own.item = some_injective p own.item (sym here ∙ own.at) in
+    inr (subst (IsUpToAt (lower least at e)) (own.offset_is ∙ sym (ap (λ (q : Placed). q.offset) same)) (lower_here least at e))
+
+-- it didn't commit the batch
+pub judged_none : (t : Trace) (least : Option Fault) (e n : ℕ) → IsRightSection t e → (history t e).last < n → IsJudged t least e n
+judged_none t least e n right less p at = absurd (let low = committed_low t e n p right at in omega arith)
+
+-- it is not there
+pub judged_missing : (t : Trace) (least : Option Fault) (e n : ℕ) → length t.sections ≤ e → IsJudged t least e n
+judged_missing t least e n past p at = absurd (let there = replica_there t e n p at in omega arith)
+
+-- ---- one batch
+
+-- of the replicas below this one, the batch is judged
+pub record InBatch (t : Trace) (before : Option Fault) (n e : ℕ) (least : Option Fault) : Type 0 where
+  pub stand : Stand t least
+  pub lowers : Lowers before least
+  pub judged : (i : ℕ) → i < e → IsJudged t least i n
+
+module _ (t : Trace) (before : Option Fault) (n : ℕ) where
+  pub batch_start : (f : ℕ) (hs : List Telling) → hs ≡ tellings t → ((e : ℕ) → IsRightSection t e) → Stand t before → NoneBefore hs n f → f < length t.sections → first_to_commit t n ≡ Some f → InBatch t before n (f + 1) before
+  batch_start f hs told right stand none there first = record {
+    stand = stand;
+    lowers = λ at up. up;
+    judged = λ i lt. elim (cases_lt i f) [
+      | inl early ↦
+          let low = none i (telling t i) early (ap (λ (xs : List Telling). slice_get xs i) told ∙ telling_at t i (omega arith)) in
+          let last = last_told t i (telling t i) refl in
+          judged_none t before i n (right i) (omega arith)
+      | inr late ↦
+          let same : i ≡ f = omega arith in
+          judged_same t before i f n first (subst (λ (j : ℕ). HaveSameOutcome t j f n) (sym same) (record { balances = refl; replies = refl }))
+    ];
+  }
+
+  pub batch_more : (e : ℕ) (least now : Option Fault) → InBatch t before n e least → Stand t now → Lowers least now → IsJudged t now e n → InBatch t before n (e + 1) now
+  batch_more e least now known stand lowers here = record {
+    stand = stand;
+    lowers = λ at up. lowers at (known.lowers at up);
+    judged = λ i lt. elim (cases_lt i e) [
+      | inl early ↦ judged_later t least now i n lowers (known.judged i early)
+      | inr late ↦ let same : i ≡ e = omega arith in subst (λ (j : ℕ). IsJudged t now j n) (sym same) here
+    ];
+  }
+
+  pub batch_end : (e : ℕ) (least : Option Fault) → InBatch t before n e least → length t.sections ≤ e → (i : ℕ) → IsJudged t least i n
+  batch_end e least known past i = elim (cases_lt i e) [ inl there ↦ known.judged i there | inr missing ↦ judged_missing t least i n (omega arith) ]
+
+-- ---- all batches
+
+-- the batches up to this one are judged
+pub record Judged (t : Trace) (n : ℕ) (least : Option Fault) : Type 0 where
+  pub stand : Stand t least
+  pub judged : (e m : ℕ) → 1 ≤ m → m ≤ n → IsJudged t least e m
+
+module _ (t : Trace) where
+  pub judged_start : Judged t 0 None
+  judged_start = record { stand = tt; judged = λ e m one none. absurd (omega arith) }
+
+  pub judged_more : (n : ℕ) (least now : Option Fault) → Judged t n least → Stand t now → Lowers least now → ((e : ℕ) → IsJudged t now e (n + 1)) → Judged t (n + 1) now
+  judged_more n least now known stand lowers here = record {
+    stand = stand;
+    judged = λ e m one le. elim (cases_lt m (n + 1)) [
+      | inl early ↦ judged_later t least now e m lowers (known.judged e m one (omega arith))
+      | inr late ↦ let same : m ≡ n + 1 = omega arith in subst (λ (k : ℕ). IsJudged t now e k) (sym same) (here e)
+    ];
+  }
+
+  -- nothing was found, up to the last number of all
+  pub all_judged : (hs : List Telling) (n : ℕ) (least : Option Fault) → hs ≡ tellings t → ((e : ℕ) → IsRightSection t e) → ((e : ℕ) (h : Telling) → slice_get hs e ≡ Some h → h.committed ≤ n) → Judged t n least
+      → (e m : ℕ) → IsJudged t least e m
+  all_judged hs n least told right most known e zero p at = none≢some p at
+  all_judged hs n least told right most known e (suc m) p at =
+      let there = replica_there t e (suc m) p at in
+      let low = committed_low t e (suc m) p (right e) at in
+      let last = last_told t e (telling t e) refl in
+      let le = most e (telling t e) (ap (λ (xs : List Telling). slice_get xs e) told ∙ telling_at t e there) in
+      known.judged e (suc m) (omega arith) (omega arith) p at
+
+  got_within : {A : Type 0} (xs : List A) (i : ℕ) → i < length xs → (x : A) × (slice_get xs i ≡ Some x)
+  got_within [] i lt = absurd (omega arith)
+  got_within (x ∷ xs) zero lt = (x, refl)
+  got_within (x ∷ xs) (suc i) lt = got_within xs i (omega arith)
+
+  pub they_agree : ((e : ℕ) → IsRightSection t e) → ((e m : ℕ) → IsJudged t None e m) → ReplicasAgree t
+  they_agree right judged e zero has = absurd (let one = has.0 in omega arith)
+  they_agree right judged e (suc m) has =
+      let le = has.1 in
+      let count = last_committed t e (right e) in
+      let got = got_within (history t e).committed m (omega arith) in
+      elim (judged e (suc m) got.0 got.1) [ inl same ↦ same | inr up ↦ absurd up ]
+
+  -- a fault stands where the outcome differs
+  same_and_not : (o : Option ℕ) (P : ℕ → Type 0) → IfSome o P → IfSome o (λ f. ¬ P f) → (f : ℕ) → o ≡ Some f → ⊥
+  same_and_not None P same apart f is = absurd cc
+  same_and_not (Some g) P same apart f is = apart same
+
+  -- what was found is up to each place at which the outcome differs
+  up_to_each : (least : Option Fault) (e at : ℕ) → ((e : ℕ) → IsRightSection t e) → ((e m : ℕ) → IsJudged t least e m) → StandsInAgreement code.Outcome t e at → IsUpToAt least at
+  up_to_each least e at right judged place =
+      let n = suc (length place.before) in
+      let here : committed_at t e n ≡ Some place.item = ap (λ (ps : List Placed). slice_get ps (length place.before)) place.is ∙ get_at_seam place.before place.item place.rest in
+      let apart : IfSome (first_to_commit t n) (λ f. ¬ HaveSameOutcome t e f n) =
+      subst (λ (k : ℕ). IfSome (first_to_commit t k) (λ f. ¬ HaveSameOutcome t e f k)) (add-one (length place.before)) place.holds.1 in
+      let first = first_there t e n place.item (right e) here in
+      elim (judged e n place.item here) [
+        | inl same ↦ absurd (same_and_not (first_to_commit t n) (λ f. HaveSameOutcome t e f n) same apart first.0 first.1)
+        | inr up ↦ subst (IsUpToAt least) place.holds.0 up
+      ]
+
+  pub none_stands : ((e : ℕ) → IsRightSection t e) → ((e m : ℕ) → IsJudged t None e m) → (f : Fault) → ¬ IsOutcomeFault t f
+  none_stands right judged f is = by f.code is.stands
+    where
+      by : (c : Code) → StandsInAgreement c t is.replica f.offset → ⊥
+      by code.Outcome stands = up_to_each None is.replica f.offset right judged stands
+      by c stands = absurd stands
+
+  pub is_least : (f : Fault) → ((e : ℕ) → IsRightSection t e) → ((e m : ℕ) → IsJudged t (Some f) e m) → Stand t (Some f) → IsLeastOutcomeFault t f
+  is_least f right judged stand = record { is = stand.1; least = λ g is. by g.code g.offset g.replica is.replica is.stands }
+    where
+      by : (c : Code) (at : ℕ) (r : Option ℕ) (e : ℕ) → StandsInAgreement c t e at → IsUpTo f (record { code = c; offset = at; replica = r })
+      by code.Outcome at r e stands =
+          let le : f.offset ≤ at = up_to_each (Some f) e at right judged stands in
+          let number : number_of f.code ≡ number_of code.Outcome = ap number_of stand.0 in
+          elim (cases_lt f.offset at) [ inl lt ↦ inl lt | inr ge ↦ inr (omega arith, omega arith) ]
+      by c at r e stands = absurd stands

@@ -1,0 +1,8 @@
+use Rattle.eve_views.specs.Fronts.{whole}
+use Rattle.eve_banks.specs.Settling.{settlings}
+use Rattle.eve_agree.specs.Judging.{AreAfter}
+use Rattle.eve_agree.proofs.Agreeing.{Judged}
+use Rattle.eve_agree.proofs.agreement.equal_balances.Given as goal
+
+abbrev pub invariant-loop-n : goal.invariant-loop-n
+invariant-loop-n l = record { after : AreAfter (settlings (whole l.trace)) l.n l.all.items; judged : Judged (whole l.trace) l.n l.least }

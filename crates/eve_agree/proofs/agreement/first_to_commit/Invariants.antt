@@ -1,0 +1,5 @@
+use Rattle.eve_agree.specs.Judging.{NoneBefore}
+use Rattle.eve_agree.proofs.agreement.first_to_commit.Given as goal
+
+abbrev pub invariant-loop-e : goal.invariant-loop-e
+invariant-loop-e l = NoneBefore l.histories l.n l.e

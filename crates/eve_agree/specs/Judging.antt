@@ -1,0 +1,50 @@
+-- What is kept while the batches are judged one after another.
+use Rattle.std.specs.Prelude.{◌≡◌, ℕ, ℤ, ◌≤◌, ◌<◌, nat_le, if◌then◌else◌, List, [], length, Option, Some, None, IfSome, slice_get, slice_index_or, ◌⊎◌}
+use Rattle.eve_smallbank.specs.Access.{balance_at}
+use Rattle.eve_grammar.specs.Trace.{Trace}
+use Rattle.eve_views.specs.declared.fault.Code.TheVariants as code
+use Rattle.eve_views.specs.declared.fault.Fault.{Fault}
+use Rattle.eve_history.specs.Section.{Placed}
+use Rattle.eve_history.specs.Told.{Telling, committed_at}
+use Rattle.eve_banks.specs.Settling.{Settling, values_in}
+use Rattle.eve_agree.specs.Faults.{first_to_commit, HaveSameOutcome, IsOutcomeFault}
+
+-- the balances are those after the first n batches of the replica, or after all where it has fewer
+pub record IsAfter (s : Settling) (n : ℕ) (balances : List ℤ) : Type 0 where
+  pub rows : length balances ≡ length s.opening
+  pub values : balance_at balances ≡ values_in s n
+
+-- those of each replica are
+pub record AreAfter (settled : List Settling) (n : ℕ) (all : List (List ℤ)) : Type 0 where
+  pub as_many : length all ≡ length settled
+  pub each : (e : ℕ) (s : Settling) → slice_get settled e ≡ Some s → IsAfter s n (slice_index_or all e [])
+
+-- none of the first replicas committed the batch
+abbrev pub NoneBefore : List Telling → ℕ → ℕ → Type 0
+NoneBefore hs n e = (i : ℕ) (h : Telling) → i < e → slice_get hs i ≡ Some h → h.committed < n
+
+-- what was found is a fault of agreement
+abbrev pub Stand : Trace → Option Fault → Type 0
+Stand t least = IfSome least (λ f. (f.code ≡ code.Outcome) × IsOutcomeFault t f)
+
+-- something was found at this offset or before it
+abbrev pub IsUpToAt : Option Fault → ℕ → Type 0
+IsUpToAt None at = ⊥
+IsUpToAt (Some f) at = f.offset ≤ at
+
+-- what was found stays found, or something before it
+abbrev pub Lowers : Option Fault → Option Fault → Type 0
+Lowers least now = (at : ℕ) → IsUpToAt least at → IsUpToAt now at
+
+-- where replica e committed batch n it has the outcome of the first that did, or something was found there or before
+abbrev pub IsJudged : Trace → Option Fault → ℕ → ℕ → Type 0
+IsJudged t least e n = (p : Placed) → committed_at t e n ≡ Some p → IfSome (first_to_commit t n) (λ f. HaveSameOutcome t e f n) ⊎ IsUpToAt least p.offset
+
+-- a fault of replica e at this offset
+abbrev pub outcome_fault : ℕ → ℕ → Fault
+outcome_fault at e = record { code = code.Outcome; offset = at; replica = Some e }
+
+-- the lesser of what was found and a fault of replica e at this offset
+abbrev pub lower : Option Fault → ℕ → ℕ → Option Fault
+lower None at e = Some (outcome_fault at e)
+lower (Some f) at e = if nat_le f.offset at then Some f else Some (outcome_fault at e)

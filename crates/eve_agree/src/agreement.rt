@@ -1,0 +1,215 @@
+//! The faults of agreement.
+
+ghost use Rattle.std.specs.Prelude.{◌≡◌, ◌≤◌, ◌<◌, ◌-◌, ◌↔◌, ℕ, IsTrue, IfOk, IfErr, IfSome, IfNone, Some, length, slice_get};
+ghost use Rattle.eve_frames.specs.Views.{attempt_in};
+ghost use Rattle.eve_views.specs.Form.{IfFound};
+ghost use Rattle.eve_views.specs.Fronts.{whole};
+ghost use Rattle.eve_views.specs.declared.fault.Fault.{Fault as FaultValue};
+ghost use Rattle.eve_grammar.specs.Trace.{Trace as TraceValue};
+ghost use Rattle.eve_history.specs.Told.{Ran, Telling, tellings, IsRightSection};
+ghost use Rattle.eve_banks.specs.Settling.{settling, settlings, values_in};
+ghost use Rattle.eve_serial.specs.Committed.{values_to};
+ghost use Rattle.eve_agree.specs.Faults.{first_to_commit, ReplicasAgree, IsOutcomeFault, IsLeastOutcomeFault};
+ghost use Rattle.eve_agree.specs.Judging.{NoneBefore, IsAfter, AreAfter, Stand, Lowers, IsJudged, lower};
+
+use eve_accounts::Balances;
+use eve_banks::Settled;
+use eve_banks::laws::settled_values_are_the_banks;
+use eve_frames::AttemptView;
+use eve_history::History;
+use eve_smallbank::Reply;
+use eve_views::{CheckFault, Code, Fault, Trace};
+use std::alloc::{AllocError, Global};
+
+/// Judges the outcomes of all committed batches: each replica has the balances after a batch, and the replies to it, of the
+/// lowest-numbered replica that committed it; else the first attempt where it differs.
+///
+/// docs/MODEL.md, "Faults". Balances and replies are compared themselves. It keeps the balances of each replica once, and goes
+/// with all of them from batch to batch. Want of memory decides nothing.
+pub fn equal_balances(
+    alloc: Global,
+    trace: &Trace<'_>,
+    histories: &[History<'_>],
+    settled: &[Settled<'_>],
+) -> Result<(), CheckFault>
+    requires histories { histories.now ≡ tellings (whole trace.now) }
+    requires right { (e : ℕ) → IsRightSection (whole trace.now) e }
+    requires settled { settled.now ≡ settlings (whole trace.now) }
+    ensures agree { IfOk result (λ _. ReplicasAgree (whole trace.now)) }
+    ensures none { IfOk result (λ _. (f : FaultValue) → ¬ IsOutcomeFault (whole trace.now) f) }
+    ensures least { IfErr result (λ why. IfFound why (IsLeastOutcomeFault (whole trace.now))) }
+{
+    trace.is_whole();
+    settled_values_are_the_banks();
+    let mut all = opening_of_each(alloc, settled)?;
+    let mut least = None;
+    for n in 0..last_of_all(histories) {
+        advance_all(settled, n + 1, &mut all);
+        least = judge_batch(trace, histories, &all, n + 1, least);
+    }
+    match least {
+        Some(fault) => Err(CheckFault::Found(fault)),
+        None => Ok(()),
+    }
+}
+
+/// The opening balances, for each replica.
+fn opening_of_each(alloc: Global, settled: &[Settled<'_>]) -> Result<Vec<Balances>, AllocError>
+    ensures { IfOk result (λ all. AreAfter settled.now 0 all.items) }
+{
+    let mut all = Vec::new(alloc);
+    for each in settled {
+        let balances = each.balances_after(alloc, 0)?;
+        all.push(balances)?;
+    }
+    Ok(all)
+}
+
+/// The greatest number that a replica committed, 0 where there is none.
+fn last_of_all(histories: &[History<'_>]) -> u32
+    ensures { (e : ℕ) (h : Telling) → slice_get histories.now e ≡ Some h → h.committed ≤ result }
+{
+    let mut last = 0;
+    for each in histories {
+        last = last.max(each.committed());
+    }
+    last
+}
+
+/// Goes with each replica from its balances after the batch before to those after batch n.
+fn advance_all(settled: &[Settled<'_>], n: u32, all: &mut Vec<Balances>)
+    requires one { 1 ≤ n }
+    requires before { AreAfter settled.now (n - 1) all.old.items }
+    ensures { AreAfter settled.now n all.new.items }
+{
+    for e in 0..settled.len() {
+        advance(&settled[e], n, &mut all[e]);
+    }
+}
+
+/// Goes from a replica's balances after the batch before to those after batch n, the same where it didn't commit it.
+fn advance(settled: &Settled<'_>, n: u32, balances: &mut Balances)
+    requires one { 1 ≤ n }
+    requires before { IsAfter settled.now (n - 1) balances.old }
+    ensures { IsAfter settled.now n balances.new }
+{
+    if n <= settled.committed() {
+        settled.advance(n, balances);
+    }
+}
+
+/// Judges batch n: gives the least of the fault found so far and of those that stand in this batch.
+fn judge_batch(
+    trace: &Trace<'_>,
+    histories: &[History<'_>],
+    all: &[Balances],
+    n: u32,
+    least: Option<Fault>,
+) -> Option<Fault>
+    requires one { 1 ≤ n }
+    requires histories { histories.now ≡ tellings (whole trace.now) }
+    requires right { (e : ℕ) → IsRightSection (whole trace.now) e }
+    requires after { AreAfter (settlings (whole trace.now)) n all.now }
+    requires law { (e : ℕ) → values_in (settling (whole trace.now) e) n ≡ values_to (whole trace.now) e n }
+    requires stand { Stand (whole trace.now) least }
+    ensures stand { Stand (whole trace.now) result }
+    ensures lowers { Lowers least result }
+    ensures judged { (e : ℕ) → IsJudged (whole trace.now) result e n }
+{
+    let Some(first) = first_to_commit(histories, n) else {
+        return least;
+    };
+    let reference = committed_attempt(&histories[first], n);
+    let mut least = least;
+    for e in first + 1..histories.len() {
+        if n <= histories[e].committed() {
+            let attempt = committed_attempt(&histories[e], n);
+            if !is_same(&attempt, &all[e], &reference, &all[first]) {
+                least = lower(least, attempt.offset(), histories[e].replica());
+            }
+        }
+    }
+    least
+}
+
+/// The number of the first replica that committed batch n, if one did.
+fn first_to_commit(histories: &[History<'_>], n: u32) -> Option<usize>
+    ensures is { (t : TraceValue) → histories.now ≡ tellings t → result ≡ first_to_commit t n }
+    ensures there { IfSome result (λ f. (h : Telling) × (slice_get histories.now f ≡ Some h) × (n ≤ length h.commits)) }
+    ensures before { IfSome result (λ f. NoneBefore histories.now n f) }
+    ensures none { IfNone result (NoneBefore histories.now n (length histories.now)) }
+{
+    for e in 0..histories.len() {
+        if n <= histories[e].committed() {
+            return Some(e);
+        }
+    }
+    None
+}
+
+/// The attempt by which a replica committed batch n.
+fn committed_attempt<'a>(history: &History<'a>, n: u32) -> AttemptView<'a>
+    requires one { 1 ≤ n }
+    requires there { n ≤ length history.now.commits }
+    ensures { (r : Ran) × (slice_get history.now.commits (n - 1) ≡ Some r) × (result.offset ≡ r.offset) × (attempt_in result.bytes.now ≡ r.attempt) }
+{
+    history.attempt(history.committed_attempt(n))
+}
+
+/// Whether two attempts have the same replies, and the balances after them are the same.
+fn is_same(
+    attempt: &AttemptView<'_>,
+    balances: &Balances,
+    other: &AttemptView<'_>,
+    others: &Balances,
+) -> bool
+    ensures { IsTrue result ↔ ((balances.now ≡ others.now) × ((attempt_in attempt.now.bytes.now).replies ≡ (attempt_in other.now.bytes.now).replies)) }
+{
+    let replies = have_same_replies(attempt, other);
+    replies && are_same(balances, others)
+}
+
+/// Whether all balances are the same.
+fn are_same(balances: &Balances, others: &Balances) -> bool
+    ensures { IsTrue result ↔ (balances.now ≡ others.now) }
+{
+    balances.as_slice() == others.as_slice()
+}
+
+/// Whether two attempts have the same replies, by request index.
+fn have_same_replies(attempt: &AttemptView<'_>, other: &AttemptView<'_>) -> bool
+    ensures { IsTrue result ↔ ((attempt_in attempt.now.bytes.now).replies ≡ (attempt_in other.now.bytes.now).replies) }
+{
+    if attempt.len() != other.len() {
+        return false;
+    }
+    for i in 0..attempt.len() {
+        let own = attempt.reply(i);
+        let its = other.reply(i);
+        if !is_reply(own, its) {
+            return false;
+        }
+    }
+    true
+}
+
+/// Whether two replies are the same.
+fn is_reply(own: Reply, its: Reply) -> bool
+    ensures { IsTrue result ↔ (own ≡ its) }
+{
+    own == its
+}
+
+/// The lesser of a fault and the one at this offset, by offset.
+fn lower(least: Option<Fault>, offset: u64, replica: u8) -> Option<Fault>
+    ensures { result ≡ lower least offset replica }
+{
+    match least {
+        Some(fault) if fault.offset <= offset => Some(fault),
+        _ => Some(Fault {
+            code: Code::Outcome,
+            offset,
+            replica: Some(replica),
+        }),
+    }
+}

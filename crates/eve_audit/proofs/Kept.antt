@@ -1,0 +1,118 @@
+-- What is kept of the replicas, one after another, and of all of them.
+use Rattle.std.proofs.Common.{◌≡◌, ℕ, zero, suc, ◌+◌, ◌^◌, ◌<◌, ◌≤◌, min, Option, Some, None, inl, inr, List, [], ◌∷◌, ◌++◌, map, length, take, refl, sym, ap, subst, ◌∙◌, arith}
+use Rattle.std.specs.Prelude.{slice_index_or, IsTrue}
+use Rattle.std.specs.List.{enumerate_from, AllByRecursion}
+use Rattle.std.proofs.lemmas.Bool.{cases_lt}
+use Rattle.eve_grammar.specs.Trace.{Step, Trace}
+use Rattle.eve_grammar.specs.Frames.{OfReplica, sections_of}
+use Rattle.eve_grammar.specs.Spelling.{frame_text, step_text, located, section_start, steps_at}
+use Rattle.eve_history.specs.Section.{SectionState, start, state_after, settled, are_right}
+use Rattle.eve_history.specs.Told.{Telling, telling, tellings, history}
+use Rattle.eve_banks.specs.Settling.{Settling, settling, settlings}
+use Rattle.eve_serial.specs.Sound.{IsSoundAlong}
+use Rattle.eve_restores.specs.Tables.{all_restore_rightly}
+use Rattle.eve_tokens.specs.Faults.{due_token}
+use Rattle.eve_views.specs.declared.fault.Fault.{Fault}
+use Rattle.eve_audit.specs.Verdict.{IsOwnFault}
+use Rattle.eve_audit.specs.Pieces.{IsFirstOf, HasNone, IsSoundReplica, IsFaultBelow, AreKept, IsJudgedBelow}
+use Rattle.eve_audit.proofs.Piecewise.{below_more, none_more, least_more}
+
+-- ---- lists over the numbered sections
+
+module _ {A B : Type 0} (h : ℕ → B) where
+  one_more : (k n : ℕ) (xs : List A) → n < length xs
+      → map (λ s. h s.0) (take (suc n) (enumerate_from k xs)) ≡ map (λ s. h s.0) (take n (enumerate_from k xs)) ++ h (k + n) ∷ []
+  one_more k n [] lt = absurd (omega (arith, lt))
+  one_more k zero (x ∷ xs) lt = ap (λ (m : ℕ). h m ∷ []) (k_is k)
+    where
+      k_is : (k : ℕ) → k ≡ k + 0
+      k_is k = omega arith
+  one_more k (suc n) (x ∷ xs) lt = ap (λ (ys : List B). h k ∷ ys) (one_more (k + 1) n xs (omega (arith, lt)) ∙ ap (λ (m : ℕ). map (λ s. h s.0) (take n (enumerate_from (k + 1) xs)) ++ h m ∷ []) (next k n))
+    where
+      next : (k n : ℕ) → k + 1 + n ≡ k + suc n
+      next k n = omega arith
+
+  all_of_them : (k : ℕ) (xs : List A) → map (λ s. h s.0) (take (length xs) (enumerate_from k xs)) ≡ map (λ s. h s.0) (enumerate_from k xs)
+  all_of_them k [] = refl
+  all_of_them k (x ∷ xs) = ap (λ (ys : List B). h k ∷ ys) (all_of_them (k + 1) xs)
+
+-- ---- beyond the last replica there are no steps, and what there is none of is sound
+
+pub none_beyond : {A : Type 0} (place : ℕ) (xs : List (List A)) → length xs ≤ place → slice_index_or xs place [] ≡ []
+none_beyond place [] le = refl
+none_beyond zero (x ∷ xs) le = absurd (omega (arith, le))
+none_beyond (suc place) (x ∷ xs) le = none_beyond place xs (omega (arith, le))
+
+pub none_at : (t : Trace) (e : ℕ) → length t.sections ≤ e → steps_at t e ≡ []
+unfolding steps_at
+none_at t e le = ap (located step_text (section_start t e + length (frame_text (OfReplica e)))) (none_beyond e t.sections le)
+
+state_of_none : (t : Trace) (e : ℕ) → length t.sections ≤ e → history t e ≡ start
+unfolding history
+state_of_none t e le = ap (state_after start) (none_at t e le)
+
+sound_beyond : (t : Trace) (e : ℕ) → length t.sections ≤ e → IsSoundReplica t e
+sound_beyond t e le =
+    let none = sym (none_at t e le) in
+    let state = sym (state_of_none t e le) in
+    record {
+      right = subst (λ (xs : List (ℕ × Step)). IsTrue (are_right t start xs)) none refl;
+      sound = subst (λ (s : SectionState). AllByRecursion (IsSoundAlong t) (settled s)) state tt;
+      restores = subst (λ (xs : List (ℕ × Step)). IsTrue (all_restore_rightly t start xs)) none refl;
+      tokens = subst (λ (s : SectionState). AllByRecursion (λ p. p.attempt.token ≡ due_token t e p) s.committed) state tt;
+    }
+
+-- ---- what is kept
+
+pub none_kept : (t : Trace) → AreKept t 0 [] []
+none_kept t = record { histories = refl; settled = refl; sound = λ e lt. absurd (omega (arith, lt)) }
+
+pub kept_more : (t : Trace) (e : ℕ) (tells more_tells : List Telling) (settles more_settles : List Settling) (told : Telling) (wrote : Settling)
+    → e < length t.sections → AreKept t e tells settles → more_tells ≡ tells ++ told ∷ [] → more_settles ≡ settles ++ wrote ∷ []
+    → told ≡ telling t e → wrote ≡ settling t e → IsSoundReplica t e → AreKept t (e + 1) more_tells more_settles
+kept_more t e tells more_tells settles more_settles told wrote lt kept tells_is settles_is told_is wrote_is sound = record {
+  histories = tells_is ∙ ap (λ (x : Telling). tells ++ x ∷ []) told_is ∙ ap (λ (xs : List Telling). xs ++ telling t e ∷ []) kept.histories ∙ sym (later (telling t));
+  settled = settles_is ∙ ap (λ (x : Settling). settles ++ x ∷ []) wrote_is ∙ ap (λ (xs : List Settling). xs ++ settling t e ∷ []) kept.settled ∙ sym (later (settling t));
+  sound = λ k less. elim (below_more k e less) [ inl lower ↦ kept.sound k lower | inr same ↦ subst (IsSoundReplica t) (sym same) sound ];
+}
+  where
+    later : {B : Type 0} (h : ℕ → B) → map (λ s. h s.0) (take (e + 1) (sections_of t)) ≡ map (λ s. h s.0) (take e (sections_of t)) ++ h e ∷ []
+    later {B = B} h = ap (λ (m : ℕ). map (λ s. h s.0) (take m (sections_of t))) (plus_one e) ∙ one_more h 0 e t.sections lt ∙ ap (λ (m : ℕ). map (λ s. h s.0) (take e (sections_of t)) ++ h m ∷ []) (same e)
+      where
+        plus_one : (e : ℕ) → e + 1 ≡ suc e
+        plus_one e = omega arith
+
+        same : (e : ℕ) → 0 + e ≡ e
+        same e = omega arith
+
+module _ (t : Trace) (tells : List Telling) (settles : List Settling) (kept : AreKept t (length t.sections) tells settles) where
+  pub all_told : tells ≡ tellings t
+  unfolding tellings
+  all_told = kept.histories ∙ all_of_them (telling t) 0 t.sections
+
+  pub all_settled : settles ≡ settlings t
+  unfolding settlings
+  all_settled = kept.settled ∙ all_of_them (settling t) 0 t.sections
+
+  pub all_sound : (e : ℕ) → IsSoundReplica t e
+  all_sound e = elim (cases_lt e (length t.sections)) [ inl lt ↦ kept.sound e lt | inr le ↦ sound_beyond t e le ]
+
+-- ---- with what was found
+
+-- the next replica has no fault of its own
+pub sound_more : (t : Trace) (e : ℕ) (first : Option Fault) (tells more_tells : List Telling) (settles more_settles : List Settling) (c m : ℕ) (told : Telling) (wrote : Settling)
+    → IsJudgedBelow t e first tells settles c → e < length t.sections → told ≡ telling t e → wrote ≡ settling t e → IsSoundReplica t e → HasNone (IsOwnFault t e)
+    → more_tells ≡ tells ++ told ∷ [] → more_settles ≡ settles ++ wrote ∷ [] → m ≡ min c told.committed → told.committed < 2 ^ 32
+    → IsJudgedBelow t (e + 1) first more_tells more_settles m
+sound_more t e first tells more_tells settles more_settles c m told wrote judged lt told_is wrote_is sound none tells_is settles_is least small = record {
+  found = none_more t e first judged.found none;
+  kept = λ is. kept_more t e tells more_tells settles more_settles told wrote lt (judged.kept is) tells_is settles_is told_is wrote_is sound;
+  least = λ is. least_more t e c told.committed m (judged.least is) (ap (λ (x : Telling). x.committed) told_is) small least;
+}
+
+-- it has one
+pub fault_more : (t : Trace) (e : ℕ) (f : Fault) (told : List Telling) (wrote : List Settling) (c : ℕ) → IsFirstOf (IsFaultBelow t (e + 1)) f → IsJudgedBelow t (e + 1) (Some f) told wrote c
+fault_more t e f told wrote c found = record { found = found; kept = λ none. absurd (some_none none); least = λ none. absurd (some_none none) }
+  where
+    some_none : Some f ≡ None → ⊥
+    some_none e = cc

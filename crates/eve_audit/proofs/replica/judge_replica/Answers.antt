@@ -1,0 +1,37 @@
+use Rattle.std.proofs.Common.{ℕ, subst, sym, ◌∙◌, ap}
+use Rattle.eve_views.specs.Form.{IfFound}
+use Rattle.eve_views.specs.Fronts.{whole}
+use Rattle.eve_history.specs.Faults.{IsStructureFault}
+use Rattle.eve_history.specs.Told.{IsRightSection}
+use Rattle.eve_banks.specs.Settling.{settling}
+use Rattle.eve_audit.specs.Verdict.{IsOwnFault}
+use Rattle.eve_audit.specs.Pieces.{IsFirstOf, HasNone, IsSoundReplica}
+use Rattle.eve_audit.proofs.Told.{told_of, told_by_its_own}
+use Rattle.eve_audit.proofs.replica.judge_replica.Goals as goal
+
+pub settle-requires-clause-history : goal.settle-requires-clause-history
+settle-requires-clause-history g c κs within = told_by_its_own (whole c.args.trace.now) c.args.e c.in-Ok.history c.in-Ok.ensures.telling
+
+pub settle-requires-clause-right : goal.settle-requires-clause-right
+settle-requires-clause-right g c κs within =
+    subst (IsRightSection (whole c.args.trace.now)) (sym (told_of (whole c.args.trace.now) c.args.e c.in-Ok.history c.in-Ok.ensures.telling)) c.in-Ok.ensures.right
+
+pub settle-requires-clause-none : goal.settle-requires-clause-none
+settle-requires-clause-none g c κs within =
+    subst (λ (k : ℕ). HasNone (IsStructureFault (whole c.args.trace.now) k)) (sym (told_of (whole c.args.trace.now) c.args.e c.in-Ok.history c.in-Ok.ensures.telling)) c.in-Ok.ensures.none
+
+pub returns-in-Ok-settle-clause-settled : goal.returns-in-Ok-settle-clause-settled
+returns-in-Ok-settle-clause-settled g c =
+    c.in-Ok-settle.ensures.settled ∙ ap (settling (whole c.args.trace.now)) (told_of (whole c.args.trace.now) c.args.e c.in-Ok.history c.in-Ok.ensures.telling)
+
+pub returns-in-Ok-settle-clause-sound : goal.returns-in-Ok-settle-clause-sound
+returns-in-Ok-settle-clause-sound g c =
+    subst (IsSoundReplica (whole c.args.trace.now)) (told_of (whole c.args.trace.now) c.args.e c.in-Ok.history c.in-Ok.ensures.telling) c.in-Ok-settle.ensures.sound
+
+pub returns-in-Ok-settle-clause-none : goal.returns-in-Ok-settle-clause-none
+returns-in-Ok-settle-clause-none g c =
+    subst (λ (k : ℕ). HasNone (IsOwnFault (whole c.args.trace.now) k)) (told_of (whole c.args.trace.now) c.args.e c.in-Ok.history c.in-Ok.ensures.telling) c.in-Ok-settle.ensures.none
+
+pub returns-clause-first : goal.returns-clause-first
+returns-clause-first g c =
+    subst (λ (k : ℕ). IfFound c.in-Err-settle.why (IsFirstOf (IsOwnFault (whole c.args.trace.now) k))) (told_of (whole c.args.trace.now) c.args.e c.in-Ok.history c.in-Ok.ensures.telling) c.in-Err-settle.ensures.first

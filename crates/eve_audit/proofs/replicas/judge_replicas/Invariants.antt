@@ -1,0 +1,7 @@
+-- What was found in the replicas so far, and what was kept of them.
+use Rattle.eve_views.specs.Fronts.{whole}
+use Rattle.eve_audit.specs.Pieces.{IsJudgedBelow}
+use Rattle.eve_audit.proofs.replicas.judge_replicas.Given as goal
+
+abbrev pub invariant-replicas : goal.invariant-replicas
+invariant-replicas g l = IsJudgedBelow (whole l.trace) l.e l.first l.kept.histories.items l.kept.settled.items l.kept.committed

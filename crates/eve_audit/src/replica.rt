@@ -1,0 +1,87 @@
+//! The audit of one replica by itself.
+
+ghost use Rattle.std.specs.Prelude.{◌≡◌, ◌<◌, IfOk, IfErr, length};
+ghost use Rattle.eve_views.specs.Form.{IfFound};
+ghost use Rattle.eve_views.specs.Fronts.{whole};
+ghost use Rattle.eve_history.specs.Faults.{IsStructureFault};
+ghost use Rattle.eve_history.specs.Told.{telling, names_of, IsRightSection};
+ghost use Rattle.eve_banks.specs.Settling.{settling};
+ghost use Rattle.eve_audit.specs.Verdict.{IsOwnFault};
+ghost use Rattle.eve_audit.specs.Pieces.{IsFirstOf, HasNone, IsSoundReplica};
+
+use eve_accounts::Names;
+use eve_banks::Settled;
+use eve_chains::check;
+use eve_history::History;
+use eve_restores::rollbacks;
+use eve_tokens::tokens;
+use eve_views::{CheckFault, Trace};
+use std::alloc::Global;
+use std::thread::Threads;
+
+/// What one replica did, and what it committed.
+#[derive(Drop)]
+pub struct Piece<'a> {
+    /// What its section tells.
+    pub history: History<'a>,
+    /// What its committed batches wrote.
+    pub settled: Settled<'a>,
+}
+
+/// What a replica with a right section committed, or the first of its own faults.
+fn settle<'a, R: Threads + Sync>(
+    rt: &R,
+    alloc: Global,
+    trace: &Trace<'a>,
+    names: &Names<'_>,
+    history: &History<'a>,
+) -> Result<Settled<'a>, CheckFault>
+    requires history { history.now ≡ telling (whole trace.now) history.now.replica }
+    requires right { IsRightSection (whole trace.now) history.now.replica }
+    requires none { HasNone (IsStructureFault (whole trace.now) history.now.replica) }
+    requires names { names.now.items ≡ names_of (whole trace.now) }
+    ensures settled { IfOk result (λ settled. settled ≡ settling (whole trace.now) history.now.replica) }
+    ensures sound { IfOk result (λ _. IsSoundReplica (whole trace.now) history.now.replica) }
+    ensures none { IfOk result (λ _. HasNone (IsOwnFault (whole trace.now) history.now.replica)) }
+    ensures first { IfErr result (λ why. IfFound why (IsFirstOf (IsOwnFault (whole trace.now) history.now.replica))) }
+{
+    let settled = match check(rt, alloc, history, trace, names) {
+        Ok(settled) => settled,
+        Err(why) => return Err(why),
+    };
+    match rollbacks(alloc, trace, history, &settled) {
+        Ok(()) => {}
+        Err(why) => return Err(why),
+    }
+    match tokens(alloc, trace, history, &settled) {
+        Ok(()) => {}
+        Err(why) => return Err(why),
+    }
+    Ok(settled)
+}
+
+/// What a replica did and committed, or the first of its own faults, by the replica's number from 0.
+pub fn judge_replica<'a, R: Threads + Sync>(
+    rt: &R,
+    alloc: Global,
+    trace: &Trace<'a>,
+    names: &Names<'_>,
+    e: u8,
+) -> Result<Piece<'a>, CheckFault>
+    requires there { e < length (whole trace.now).sections }
+    requires names { names.now.items ≡ names_of (whole trace.now) }
+    ensures history { IfOk result (λ piece. piece.history ≡ telling (whole trace.now) e) }
+    ensures settled { IfOk result (λ piece. piece.settled ≡ settling (whole trace.now) e) }
+    ensures sound { IfOk result (λ _. IsSoundReplica (whole trace.now) e) }
+    ensures none { IfOk result (λ _. HasNone (IsOwnFault (whole trace.now) e)) }
+    ensures first { IfErr result (λ why. IfFound why (IsFirstOf (IsOwnFault (whole trace.now) e))) }
+{
+    let history = match History::of(alloc, trace, e) {
+        Ok(history) => history,
+        Err(why) => return Err(why),
+    };
+    match settle(rt, alloc, trace, names, &history) {
+        Ok(settled) => Ok(Piece { history, settled }),
+        Err(why) => Err(why),
+    }
+}

@@ -1,0 +1,81 @@
+//! The audit of each replica by itself.
+
+ghost use Rattle.std.specs.Prelude.{◌≡◌, ◌++◌, ◌∷◌, [], ℕ, IfOk, IfErr, OnOk, ◌<◌, ◌^◌, length, min};
+ghost use Rattle.eve_views.specs.Form.{IfFound};
+ghost use Rattle.eve_views.specs.Fronts.{whole};
+ghost use Rattle.eve_history.specs.Told.{names_of, tellings};
+ghost use Rattle.eve_banks.specs.Settling.{settlings};
+ghost use Rattle.eve_audit.specs.Pieces.{IsFirstOf, HasNone, IsSoundReplica, IsFaultBelow, IsLeastBelow};
+
+use crate::precedence::first_of;
+use crate::replica::{Piece, judge_replica};
+use eve_accounts::Names;
+use eve_banks::Settled;
+use eve_history::History;
+use eve_views::{CheckFault, Fault, Trace};
+use std::alloc::{AllocError, Global};
+use std::thread::Threads;
+
+/// What the replicas did and committed, in their order.
+#[derive(Drop)]
+pub struct Pieces<'a> {
+    /// What each section tells.
+    pub histories: Vec<History<'a>>,
+    /// What the committed batches of each wrote.
+    pub settled: Vec<Settled<'a>>,
+    /// The least last committed number over the replicas.
+    pub committed: u32,
+}
+
+/// Keeps the next replica's piece.
+fn keep<'a>(pieces: &mut Pieces<'a>, piece: Piece<'a>) -> Result<(), AllocError>
+    ensures histories { OnOk result (pieces.new.histories.items ≡ pieces.old.histories.items ++ piece.entry.history ∷ []) }
+    ensures settled { OnOk result (pieces.new.settled.items ≡ pieces.old.settled.items ++ piece.entry.settled ∷ []) }
+    ensures committed { OnOk result (pieces.new.committed ≡ min pieces.old.committed piece.entry.history.committed) }
+    ensures small { OnOk result (piece.entry.history.committed < 2 ^ 32) }
+{
+    let Piece { history, settled } = piece;
+    pieces.committed = pieces.committed.min(history.committed());
+    pieces.histories.push(history)?;
+    pieces.settled.push(settled)?;
+    Ok(())
+}
+
+/// What the replicas did and committed, each judged by itself; or the first of the faults that they have of their own.
+pub fn judge_replicas<'a, R: Threads + Sync>(
+    rt: &R,
+    alloc: Global,
+    trace: &Trace<'a>,
+    names: &Names<'_>,
+) -> Result<Pieces<'a>, CheckFault>
+    requires { names.now.items ≡ names_of (whole trace.now) }
+    ensures histories { IfOk result (λ pieces. pieces.histories.items ≡ tellings (whole trace.now)) }
+    ensures settled { IfOk result (λ pieces. pieces.settled.items ≡ settlings (whole trace.now)) }
+    ensures committed { IfOk result (λ pieces. IsLeastBelow (whole trace.now) (length (whole trace.now).sections) pieces.committed) }
+    ensures sound { IfOk result (λ _. (e : ℕ) → IsSoundReplica (whole trace.now) e) }
+    ensures none { IfOk result (λ _. HasNone (IsFaultBelow (whole trace.now) (length (whole trace.now).sections))) }
+    ensures first { IfErr result (λ why. IfFound why (IsFirstOf (IsFaultBelow (whole trace.now) (length (whole trace.now).sections)))) }
+{
+    let mut first: Option<Fault> = None;
+    let mut kept = Pieces {
+        histories: Vec::new(alloc),
+        settled: Vec::new(alloc),
+        committed: u32::MAX,
+    };
+    'replicas: for e in 0..trace.section_count() {
+        match judge_replica(rt, alloc, trace, names, e) {
+            Ok(piece) => keep(&mut kept, piece)?,
+            Err(CheckFault::Found(fault)) => {
+                first = Some(match first {
+                    Some(earlier) => first_of(earlier, fault),
+                    None => fault,
+                });
+            }
+            Err(CheckFault::Memory) => return Err(CheckFault::Memory),
+        }
+    }
+    match first {
+        Some(fault) => Err(CheckFault::Found(fault)),
+        None => Ok(kept),
+    }
+}

@@ -1,0 +1,49 @@
+//! The audit of all replicas together.
+
+ghost use Rattle.std.specs.Prelude.{◌≡◌, ℕ, IfOk, IfErr};
+ghost use Rattle.eve_views.specs.Form.{IfFound};
+ghost use Rattle.eve_views.specs.Fronts.{whole};
+ghost use Rattle.eve_history.specs.Told.{tellings, IsRightSection};
+ghost use Rattle.eve_serial.specs.Committed.{batch_tickets, AreDistinct};
+ghost use Rattle.eve_banks.specs.Settling.{settlings};
+ghost use Rattle.eve_audit.specs.Pieces.{IsFirstOf, HasNone, IsCommonFault, IsSoundTogether};
+
+use eve_agree::equal_balances;
+use eve_banks::Settled;
+use eve_history::History;
+use eve_majorities::majorities;
+use eve_replies::replies;
+use eve_views::{CheckFault, Trace};
+use eve_votes::Tally;
+use std::alloc::Global;
+
+/// Judges the votes, what was committed and rolled back by them, whether the replicas agree, and the replies that were
+/// sent; or the first fault of these.
+pub fn judge_together(
+    alloc: Global,
+    trace: &Trace<'_>,
+    histories: &[History<'_>],
+    settled: &[Settled<'_>],
+) -> Result<(), CheckFault>
+    requires histories { histories.now ≡ tellings (whole trace.now) }
+    requires settled { settled.now ≡ settlings (whole trace.now) }
+    requires right { (e : ℕ) → IsRightSection (whole trace.now) e }
+    requires apart { AreDistinct (batch_tickets (whole trace.now)) }
+    ensures sound { IfOk result (λ _. IsSoundTogether (whole trace.now)) }
+    ensures none { IfOk result (λ _. HasNone (IsCommonFault (whole trace.now))) }
+    ensures first { IfErr result (λ why. IfFound why (IsFirstOf (IsCommonFault (whole trace.now)))) }
+{
+    let tally = match Tally::of(alloc, trace) {
+        Ok(tally) => tally,
+        Err(why) => return Err(why),
+    };
+    match majorities(trace, histories, &tally) {
+        Ok(()) => {}
+        Err(why) => return Err(why),
+    }
+    match equal_balances(alloc, trace, histories, settled) {
+        Ok(()) => {}
+        Err(why) => return Err(why),
+    }
+    replies(trace, histories)
+}

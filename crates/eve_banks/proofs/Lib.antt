@@ -1,0 +1,5 @@
+mod Parts
+mod Committed
+mod Copying
+mod Advancing
+mod OpeningRows

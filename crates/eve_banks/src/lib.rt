@@ -1,0 +1,10 @@
+//! The balances after each batch that a replica committed.
+#![tactic(auto)]
+
+pub mod laws;
+mod opening;
+mod settled;
+#[cfg(test)]
+mod tests;
+
+pub use settled::Settled;

@@ -1,0 +1,168 @@
+-- What is found in settled attempts, one after another.
+use Rattle.std.proofs.Common.{◌≡◌, ℕ, ◌<◌, ◌≤◌, ◌==◌, nat_lt, Bool, true, false, cond, ◌||◌, ◌&&◌, List, [], ◌∷◌, ◌++◌, map, Option, Some, None, refl, sym, subst, ap, ◌∙◌, inl, inr, ◌⊎◌, append_assoc, append-nil, arith}
+use Rattle.std.specs.List.{AllByRecursion}
+use Rattle.std.proofs.lemmas.Bool.{cases_lt, and_parts, and_from, or_parts, eqb-true, eq-eqb, ltb-true, lt-ltb, false≢true}
+use Rattle.eve_smallbank.specs.declared.entry.Entry.{Entry}
+use Rattle.eve_smallbank.specs.Chain.{Table, Sees as SeesEntry, table_after}
+use Rattle.eve_smallbank.proofs.Members.{all_in, in_middle, in_around, in_cases}
+use Rattle.eve_grammar.specs.Trace.{Access, Attempt, Trace}
+use Rattle.eve_views.specs.Code.{number_of}
+use Rattle.eve_views.specs.Form.{IsUpTo, SomePlace}
+use Rattle.eve_views.specs.declared.fault.Code.{Code}
+use Rattle.eve_views.specs.declared.fault.Code.TheVariants as code
+use Rattle.eve_views.specs.declared.fault.Fault.{Fault}
+use Rattle.eve_history.specs.Section.{Placed}
+use Rattle.eve_serial.specs.Visible.{table_along}
+use Rattle.eve_serial.specs.Along.{entries_along, SeesOther, IsWrongAlong, AllSee, IsFirstAlong, is_before, first_of}
+use Rattle.eve_serial.proofs.AlongLaws.{table_after-append}
+use Rattle.eve_serial.proofs.Faultless.{in_place, place_of}
+use Rattle.eve_chains.specs.Walking.{entries_of, AreJudged, Sees, IsWrongIn, IsFirstIn, ArePlaced}
+use Rattle.eve_chains.proofs.Loading.{own}
+
+-- ---- what sees what it must is not wrong
+
+sees_at : (table : Table) (before : List (ℕ × Access)) (y : ℕ × Access) (rest : List (ℕ × Access)) → AllSee table (before ++ y ∷ rest) → AllByRecursion (SeesEntry (table_after table (entries_along before))) y.1.entries
+sees_at table [] y rest all = all.0
+sees_at table (x ∷ before) y rest all =
+    subst (λ (t : Table). AllByRecursion (SeesEntry t) y.1.entries) (sym (table_after-append table x.1.entries (entries_along before)))
+    (sees_at (table_after table x.1.entries) before y rest all.1)
+
+no_other : (c : Code) (table : Table) (es : List Entry) → AllByRecursion (SeesEntry table) es → SeesOther c table es → ⊥
+no_other code.Version table es all place = place.holds (all_in (SeesEntry table) all (in_place es place)).version
+no_other code.Value table es all place = place.holds (all_in (SeesEntry table) all (in_place es place)).value
+no_other _ table es all place = absurd place
+
+nothing_wrong : (e : ℕ) (table : Table) (xs : List (ℕ × Access)) (g : Fault) → AllSee table xs → IsWrongAlong e table xs g → ⊥
+nothing_wrong e table xs g all wrong =
+    no_other g.code (table_after table (entries_along wrong.stands.before)) wrong.stands.item.1.entries
+    (sees_at table wrong.stands.before wrong.stands.item wrong.stands.rest (subst (AllSee table) wrong.stands.is all)) wrong.stands.holds.1
+
+-- ---- the order of faults
+
+before_up : (f g : Fault) → is_before f g ≡ true → IsUpTo f g
+before_up f g h = by_offset (nat_lt f.offset g.offset) refl h
+  where
+    by_offset : (b : Bool) → nat_lt f.offset g.offset ≡ b → (b || ((f.offset == g.offset) && nat_lt (number_of f.code) (number_of g.code))) ≡ true → IsUpTo f g
+    by_offset true less h = inl (ltb-true f.offset g.offset less)
+    by_offset false more h =
+        let parts = and_parts (f.offset == g.offset) (nat_lt (number_of f.code) (number_of g.code)) h in
+        let number : number_of f.code < number_of g.code = ltb-true (number_of f.code) (number_of g.code) parts.1 in
+        inr (eqb-true f.offset g.offset parts.0, omega arith)
+
+not_before_up : (f g : Fault) → is_before f g ≡ false → IsUpTo g f
+not_before_up f g h =
+    let parts = or_parts (nat_lt f.offset g.offset) ((f.offset == g.offset) && nat_lt (number_of f.code) (number_of g.code)) h in
+    elim (cases_lt g.offset f.offset) [
+      | inl less ↦ inl less
+      | inr more ↦ elim (cases_lt f.offset g.offset) [
+        | inl less ↦ absurd (false≢true (sym parts.0 ∙ lt-ltb f.offset g.offset less))
+        | inr up ↦ same parts.1 (both more up)
+      ]
+    ]
+  where
+    both : f.offset ≤ g.offset → g.offset ≤ f.offset → g.offset ≡ f.offset
+    both m n = omega arith
+
+    same : ((f.offset == g.offset) && nat_lt (number_of f.code) (number_of g.code)) ≡ false → g.offset ≡ f.offset → IsUpTo g f
+    same none e =
+        elim (cases_lt (number_of f.code) (number_of g.code)) [
+          | inl less ↦ absurd (false≢true (sym none ∙ and_from (f.offset == g.offset) (nat_lt (number_of f.code) (number_of g.code)) (eq-eqb f.offset g.offset (sym e)) (lt-ltb (number_of f.code) (number_of g.code) less)))
+          | inr up ↦ inr (e, up)
+        ]
+
+up_through : (f g h : Fault) → IsUpTo f g → IsUpTo g h → IsUpTo f h
+up_through f g h (inl a) (inl b) = inl (omega arith)
+up_through f g h (inl a) (inr b) = let e : g.offset ≡ h.offset = b.0 in inl (omega arith)
+up_through f g h (inr a) (inl b) = let e : f.offset ≡ g.offset = a.0 in inl (omega arith)
+up_through f g h (inr a) (inr b) = let m : number_of f.code ≤ number_of g.code = a.1 in let n : number_of g.code ≤ number_of h.code = b.1 in inr (a.0 ∙ b.0, omega arith)
+
+-- ---- one attempt more
+
+all_around : {A : Type 0} (P : A → Type 0) (ps : List A) (p : A) (qs : List A) → AllByRecursion P (ps ++ qs) → P p → AllByRecursion P (ps ++ p ∷ qs)
+all_around P [] p qs all one = (one, all)
+all_around P (q ∷ ps) p qs all one = (all.0, all_around P ps p qs all.1 one)
+
+module _ (t : Trace) (e : ℕ) (ps : List Placed) (p : Placed) (qs : List Placed) where
+  abbrev Somewhere : List Placed → Fault → Type 0
+  Somewhere rs g = SomePlace rs (λ _ q. IsWrongIn t e g q)
+
+  middle : (g : Fault) → IsWrongIn t e g p → Somewhere (ps ++ p ∷ qs) g
+  middle g wrong = place_of (IsWrongIn t e g) (ps ++ p ∷ qs) (in_middle p ps qs) wrong
+
+  around : (g : Fault) → Somewhere (ps ++ qs) g → Somewhere (ps ++ p ∷ qs) g
+  around g place = place_of (IsWrongIn t e g) (ps ++ p ∷ qs) (in_around p ps qs (in_place (ps ++ qs) place)) place.holds
+
+  which : (g : Fault) → Somewhere (ps ++ p ∷ qs) g → IsWrongIn t e g p ⊎ Somewhere (ps ++ qs) g
+  which g place =
+      elim (in_cases p ps qs (in_place (ps ++ p ∷ qs) place)) [
+        | inl is ↦ inl (subst (IsWrongIn t e g) is place.holds)
+        | inr i ↦ inr (place_of (IsWrongIn t e g) (ps ++ qs) i place.holds)
+      ]
+
+  nowhere : (g : Fault) → AllByRecursion (Sees t) (ps ++ qs) → Somewhere (ps ++ qs) g → ⊥
+  nowhere g all place = nothing_wrong e (table_along t place.item.path) (own place.item) g (all_in (Sees t) all (in_place (ps ++ qs) place)) place.holds
+
+  choose : (f g : Fault) → IsFirstIn t e (ps ++ qs) (Some f) → IsFirstAlong e (table_along t p.path) (own p) (Some g) → (b : Bool) → is_before g f ≡ b → IsFirstIn t e (ps ++ p ∷ qs) (cond b (Some g) (Some f))
+  choose f g first found true before = (
+    middle g found.0,
+    λ k place. elim (which k place) [
+      | inl wrong ↦ found.1 k wrong
+      | inr other ↦ up_through g f k (before_up g f before) (first.1 k other)
+    ],
+  )
+  choose f g first found false behind = (
+    around f first.0,
+    λ k place. elim (which k place) [
+      | inl wrong ↦ up_through f g k (not_before_up g f behind) (found.1 k wrong)
+      | inr other ↦ first.1 k other
+    ],
+  )
+
+  pub first_with : (o found : Option Fault) → IsFirstIn t e (ps ++ qs) o → IsFirstAlong e (table_along t p.path) (own p) found → IsFirstIn t e (ps ++ p ∷ qs) (first_of o found)
+  first_with None None first one = all_around (Sees t) ps p qs first one
+  first_with None (Some g) first one = (
+    middle g one.0,
+    λ k place. elim (which k place) [
+      | inl wrong ↦ one.1 k wrong
+      | inr other ↦ absurd (nowhere k first other)
+    ],
+  )
+  first_with (Some f) None first one = (
+    around f first.0,
+    λ k place. elim (which k place) [
+      | inl wrong ↦ absurd (nothing_wrong e (table_along t p.path) (own p) k one wrong)
+      | inr other ↦ first.1 k other
+    ],
+  )
+  first_with (Some f) (Some g) first one = choose f g first one (is_before g f) refl
+
+-- ---- several attempts
+
+-- the last of them
+pub judged_more : (e : ℕ) (table : Table) (xss : List (List (ℕ × Access))) (xs : List (ℕ × Access)) (before mid found : Option Fault) → AreJudged e table xss before mid
+    → IsFirstAlong e (table_after table (entries_of xss)) xs found → AreJudged e table (xss ++ xs ∷ []) before (first_of mid found)
+judged_more e table [] xs before mid found judged one = (found, one, ap (λ (o : Option Fault). first_of o found) judged)
+judged_more e table (ys ∷ xss) xs before mid found judged one = (
+  judged.0,
+  judged.1,
+  judged_more e (table_after table (entries_along ys)) xss xs (first_of before judged.0) mid found judged.2
+      (subst (λ (u : Table). IsFirstAlong e u xs found) (table_after-append table (entries_along ys) (entries_of xss)) one),
+)
+
+-- each attempt's records lead from what its path left to what it leaves with it
+abbrev pub Advances : Trace → List Attempt → List Placed → Type 0
+Advances t before [] = Unit {0}
+Advances t before (p ∷ ps) =
+    (table_along t (before ++ p.attempt ∷ []) ≡ table_after (table_along t before) (entries_along (own p))) × Advances t (before ++ p.attempt ∷ []) ps
+
+-- all of them
+pub first_with_all : (t : Trace) (e : ℕ) (done ps : List Placed) (before : List Attempt) (table : Table) (o last : Option Fault) → ArePlaced before ps → Advances t before ps
+    → table ≡ table_along t before → AreJudged e table (map own ps) o last → IsFirstIn t e done o → IsFirstIn t e (done ++ ps) last
+first_with_all t e done [] before table o last placed advances so judged first =
+    subst (λ (ps : List Placed). IsFirstIn t e ps last) (sym (append-nil done)) (subst (IsFirstIn t e done) (sym judged) first)
+first_with_all t e done (p ∷ ps) before table o last placed advances so judged first =
+    subst (λ (qs : List Placed). IsFirstIn t e qs last) (append_assoc done (p ∷ []) ps)
+    (first_with_all t e (done ++ p ∷ []) ps (before ++ p.attempt ∷ []) (table_after table (entries_along (own p))) (first_of o judged.0) last placed.1 advances.1
+    (ap (λ (u : Table). table_after u (entries_along (own p))) so ∙ sym advances.0) judged.2
+    (first_with t e done p [] o judged.0 (subst (λ (qs : List Placed). IsFirstIn t e qs o) (sym (append-nil done)) first)
+    (subst (λ (u : Table). IsFirstAlong e u (own p) judged.0) (so ∙ ap (table_along t) (sym placed.0)) judged.1)))

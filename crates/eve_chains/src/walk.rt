@@ -1,0 +1,163 @@
+//! A walk along a replica's section, which judges each attempt's entries once the attempt settles.
+
+ghost use Rattle.std.specs.Prelude.{◌≡◌, ℕ, List, ◌≤◌, ◌<◌, ◌-◌, ◌∷◌, IfOk, IfErr, OnOk, length};
+ghost use Rattle.std.specs.List.{AllByRecursion};
+ghost use Rattle.eve_grammar.specs.Trace.{Step as StepValue};
+ghost use Rattle.eve_grammar.specs.Spelling.{steps_at};
+ghost use Rattle.eve_views.specs.Form.{IfFound};
+ghost use Rattle.eve_views.specs.Fronts.{whole};
+ghost use Rattle.eve_views.specs.StepKinds.{IsStep};
+ghost use Rattle.eve_history.specs.Told.{telling, IsRightSection};
+ghost use Rattle.eve_serial.specs.Faults.{IsLeastChainFault};
+ghost use Rattle.eve_serial.specs.Along.{all_said, AreWithin, AllSettledSee};
+ghost use Rattle.eve_chains.specs.Walking.{records_of, records_from, IsCommitted, AreTried, AreTakenBack, HasWalked};
+
+use eve_frames::AccessView;
+use eve_history::History;
+use eve_serial::{Table, first_of, judge_along, take_back_along, write_along};
+use eve_views::{CheckFault, Fault, Step, Trace};
+use std::alloc::{AllocError, Global};
+
+/// Where a walk has come to.
+#[derive(Drop)]
+pub struct Walk<'a> {
+    /// What each row has behind the committed attempts.
+    pub committed: Table,
+    /// The same, except while the attempts are judged that a rollback discards.
+    pub working: Table,
+    /// How many attempts are committed or discarded: the first of them.
+    pub settled: usize,
+    /// How many attempts have come.
+    pub come: usize,
+    /// The first fault in the settled attempts.
+    pub first: Option<Fault>,
+    /// Room for the access records of one attempt.
+    pub records: Vec<AccessView<'a>>,
+}
+
+/// Makes the list that of an attempt's access records, in its certificate's order.
+fn load<'a>(
+    records: &mut Vec<AccessView<'a>>,
+    history: &History<'a>,
+    i: usize,
+) -> Result<(), AllocError>
+    requires { i < length history.now.attempts }
+    ensures { OnOk result (all_said records.new.items ≡ records_of history.now i) }
+{
+    records.clear();
+    for place in 0..history.attempt(i).len() {
+        records.push(history.ordered(i, place))?;
+    }
+    Ok(())
+}
+
+impl<'a> Walk<'a> {
+    /// Judges the first open attempt, and takes its writes.
+    fn commit(&mut self, history: &History<'a>) -> Result<(), AllocError>
+        requires open { self.old.settled < self.old.come }
+        requires come { self.old.come ≤ length history.now.attempts }
+        requires rows { length self.old.working ≡ length self.old.committed }
+        requires within { AreWithin (length self.old.committed) (records_of history.now self.old.settled) }
+        ensures { OnOk result (IsCommitted history.now self.old self.new) }
+    {
+        load(&mut self.records, history, self.settled)?;
+        let found = judge_along(&mut self.committed, history.replica(), &self.records);
+        write_along(&mut self.working, &self.records);
+        self.first = first_of(self.first, found);
+        self.settled += 1;
+        Ok(())
+    }
+
+    /// Judges the open attempts one after another.
+    fn try_open(&mut self, history: &History<'a>) -> Result<(), AllocError>
+        requires open { self.old.settled ≤ self.old.come }
+        requires come { self.old.come ≤ length history.now.attempts }
+        requires within { AllByRecursion (AreWithin (length self.old.working)) (records_from history.now self.old.settled (self.old.come - self.old.settled)) }
+        ensures { OnOk result (AreTried history.now (self.old.come - self.old.settled) self.old self.new) }
+    {
+        for i in self.settled..self.come {
+            load(&mut self.records, history, i)?;
+            let found = judge_along(&mut self.working, history.replica(), &self.records);
+            self.first = first_of(self.first, found);
+        }
+        Ok(())
+    }
+
+    /// Gives the rows that the open attempts write what they have behind the committed ones.
+    fn take_back(&mut self, history: &History<'a>) -> Result<(), AllocError>
+        requires open { self.old.settled ≤ self.old.come }
+        requires come { self.old.come ≤ length history.now.attempts }
+        requires rows { length self.old.committed ≡ length self.old.working }
+        requires within { AllByRecursion (AreWithin (length self.old.working)) (records_from history.now self.old.settled (self.old.come - self.old.settled)) }
+        ensures { OnOk result (AreTakenBack history.now (self.old.come - self.old.settled) self.old self.new) }
+    {
+        for i in self.settled..self.come {
+            load(&mut self.records, history, i)?;
+            take_back_along(&mut self.working, &self.records, &self.committed);
+        }
+        Ok(())
+    }
+
+    /// Takes the next step.
+    fn take(
+        &mut self,
+        history: &History<'a>,
+        trace: &Trace<'a>,
+        step: Step<'_, 'a>,
+    ) -> Result<(), AllocError>
+        requires history { history.now ≡ telling (whole trace.now) history.now.replica }
+        requires right { IsRightSection (whole trace.now) history.now.replica }
+        requires next { (rest : List (ℕ × StepValue)) × (next : ℕ × StepValue) × HasWalked (whole trace.now) history.now.replica (next ∷ rest) self.old × IsStep step next }
+        ensures { OnOk result ((rest : List (ℕ × StepValue)) (next : ℕ × StepValue) → HasWalked (whole trace.now) history.now.replica (next ∷ rest) self.old → IsStep step.entry next
+            → HasWalked (whole trace.now) history.now.replica rest self.new) }
+    {
+        trace.is_whole();
+        match step {
+            Step::Attempt(_, _) => {
+                let attempts = history.attempts();
+                prove!(self.come < attempts);
+                self.come += 1;
+            }
+            Step::Commit(_) => self.commit(history)?,
+            Step::Rollback(_) => {
+                self.try_open(history)?;
+                self.take_back(history)?;
+                self.settled = self.come;
+            }
+        }
+        Ok(())
+    }
+}
+
+/// Judges what the entries of a replica's settled attempts see: each sees what its path left, or the first fault of
+/// chains, by offset and then by number.
+///
+/// docs/MODEL.md, "What an entry must see" and "Faults". One walk along the section; a discarded attempt's writes are
+/// taken back row by row. Want of memory decides nothing.
+pub fn chains<'a>(alloc: Global, history: &History<'a>, trace: &Trace<'a>) -> Result<(), CheckFault>
+    requires history { history.now ≡ telling (whole trace.now) history.now.replica }
+    requires right { IsRightSection (whole trace.now) history.now.replica }
+    ensures see { IfOk result (λ _. AllSettledSee (whole trace.now) history.now.replica) }
+    ensures least { IfErr result (λ why. IfFound why (IsLeastChainFault (whole trace.now) history.now.replica)) }
+{
+    trace.is_whole();
+    if history.replica() >= trace.section_count() {
+        return Ok(());
+    }
+    let mut walk = Walk {
+        committed: Table::opening(alloc, trace)?,
+        working: Table::opening(alloc, trace)?,
+        settled: 0,
+        come: 0,
+        first: None,
+        records: Vec::new(alloc),
+    };
+    let mut steps = trace.section(history.replica());
+    while let Some(step) = steps.next() {
+        walk.take(history, trace, step)?;
+    }
+    match walk.first {
+        Some(fault) => Err(CheckFault::Found(fault)),
+        None => Ok(()),
+    }
+}

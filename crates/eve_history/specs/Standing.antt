@@ -1,0 +1,22 @@
+-- Frames by the bytes at which they begin.
+use Rattle.std.specs.Prelude.{ℕ, ◌+◌, ◌^◌, ◌<◌, ◌≤◌, IsTrue, List, length, take, drop}
+use Rattle.byteorder.specs.Endian.{big_number}
+use Rattle.eve_frames.specs.Views.{is_access_frame}
+
+-- how long the frame is that begins at this byte
+abbrev pub frame_length : List ℕ → ℕ → ℕ
+frame_length bytes at = 5 + big_number 4 (drop 1 (drop at bytes))
+
+-- that frame: its kind, the length of its body, and the body
+abbrev pub frame_in : List ℕ → ℕ → List ℕ
+frame_in bytes at = take (frame_length bytes at) (drop at bytes)
+
+-- it lies within the bytes
+pub record IsFramed (bytes : List ℕ) (at : ℕ) : Type 0 where
+  pub within : at + frame_length bytes at ≤ length bytes
+  pub small : at < 2 ^ 32
+
+-- and it is an Access frame
+pub record IsAccessAt (bytes : List ℕ) (at : ℕ) : Type 0 where
+  pub framed : IsFramed bytes at
+  pub access : IsTrue (is_access_frame (frame_in bytes at))

@@ -1,0 +1,5 @@
+pub mod Marking
+pub mod Noting
+pub mod Discarding
+pub mod Walking
+pub mod Restoring

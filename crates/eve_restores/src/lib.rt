@@ -1,0 +1,10 @@
+//! Whether each rollback of a replica restores what it must.
+#![tactic(auto)]
+
+mod judge;
+pub mod laws;
+mod marks;
+#[cfg(test)]
+mod tests;
+
+pub use judge::rollbacks;

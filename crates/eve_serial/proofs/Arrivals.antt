@@ -1,0 +1,85 @@
+-- Where no fault of orders stands, no two requests of the batches have one client and number.
+use Rattle.std.proofs.Common.{◌≡◌, ℕ, ◌+◌, List, [], ◌∷◌, ◌++◌, map, length, Contains, refl, sym, subst, ap, ◌∙◌, inl, inr, ◌⊎◌, append_assoc, append-nil}
+use Rattle.std.specs.Prelude.{⊤}
+use Rattle.std.specs.List.{flat_map, enumerate_from}
+use Rattle.std.proofs.lemmas.Grind.{flat_map-append}
+use Rattle.eve_grammar.specs.Trace.{Batch, Trace}
+use Rattle.eve_grammar.specs.Frames.{batches_of}
+use Rattle.eve_grammar.specs.Spelling.{located, batch_text, batches_start, batches_at}
+use Rattle.eve_views.specs.declared.fault.Code.TheVariants as code
+use Rattle.eve_views.specs.Form.{SomePlace}
+use Rattle.eve_history.specs.Faults.{Ticket, ticket, tickets_at, StandsInOrders}
+use Rattle.eve_smallbank.proofs.Members.{In, here}
+use Rattle.eve_serial.specs.Committed.{batch_tickets, AreDistinct}
+use Rattle.eve_serial.proofs.Distinct.{Distinct, in_cons, in_left, in_right}
+use Rattle.eve_serial.proofs.Once.{place_in, distinct_pairs}
+
+-- ---- each is new behind those before
+
+abbrev Fresh : List Ticket → List Ticket → Type 0
+Fresh before [] = ⊤
+Fresh before (x ∷ xs) = (In x before → ⊥) × Fresh (before ++ x ∷ []) xs
+
+fresh_append : (before xs ys : List Ticket) → Fresh before xs → Fresh (before ++ xs) ys → Fresh before (xs ++ ys)
+fresh_append before [] ys f g = subst (λ (b : List Ticket). Fresh b ys) (append-nil before) g
+fresh_append before (x ∷ xs) ys f g =
+    (f.0, fresh_append (before ++ x ∷ []) xs ys f.1 (subst (λ (b : List Ticket). Fresh b ys) (sym (append_assoc before (x ∷ []) xs)) g))
+
+fresh_distinct : (before xs : List Ticket) → Fresh before xs → Distinct xs × ((z : Ticket) → In z before → In z xs → ⊥)
+fresh_distinct before [] f = (tt, λ z i j. elim j [ ])
+fresh_distinct before (x ∷ xs) f =
+    let rest = fresh_distinct (before ++ x ∷ []) xs f.1 in
+    ((λ i. rest.1 x (in_right before (x ∷ []) here) i, rest.0), λ z i j. apart z i rest.1 (in_cons xs j))
+  where
+    apart : (z : Ticket) → In z before → ((y : Ticket) → In y (before ++ x ∷ []) → In y xs → ⊥) → (z ≡ x) ⊎ In z xs → ⊥
+    apart z i rest (inl e) = f.0 (subst (λ (y : Ticket). In y before) e i)
+    apart z i rest (inr j) = rest z (in_left before (x ∷ []) i) j
+
+-- ---- one batch after another
+
+contained : {x : Ticket} (xs : List Ticket) → In x xs → Contains xs x
+contained xs i = let p = place_in xs i in (p.place, p.within, p.is)
+
+own_fresh : (noted front own : List Ticket) → ((earlier : List Ticket) (x : Ticket) (rest : List Ticket) → front ++ own ≡ earlier ++ x ∷ rest → Contains (noted ++ earlier) x → ⊥)
+    → Fresh (noted ++ front) own
+own_fresh noted front [] none = tt
+own_fresh noted front (x ∷ own) none = (
+  λ i. none front x own refl (contained (noted ++ front) i),
+  subst (λ (b : List Ticket). Fresh b own) (sym (append_assoc noted front (x ∷ [])))
+      (own_fresh noted (front ++ x ∷ []) own (λ earlier y rest e c. none earlier y rest (sym (append_assoc front (x ∷ []) own) ∙ e) c)),
+)
+
+-- a batch with its number and its offset
+abbrev Numbered : Type 0
+Numbered = ℕ × (ℕ × Batch)
+
+abbrev NoneAgain : List Numbered → Type 0
+NoneAgain bs =
+    (before : List Numbered) (b : Numbered) (after : List Numbered) → bs ≡ before ++ b ∷ after
+    → SomePlace (tickets_at b) (λ earlier own. Contains (flat_map tickets_at before ++ earlier) own) → ⊥
+
+all_fresh : (front rest : List Numbered) → NoneAgain (front ++ rest) → Fresh (flat_map tickets_at front) (flat_map tickets_at rest)
+all_fresh front [] none = tt
+all_fresh front (b ∷ rest) none =
+    let noted : List Ticket = flat_map tickets_at front in
+    fresh_append noted (tickets_at b) (flat_map tickets_at rest)
+    (subst (λ (l : List Ticket). Fresh l (tickets_at b)) (append-nil noted)
+    (own_fresh noted [] (tickets_at b) (λ earlier x after e c. none front b rest refl (record { before = earlier; item = x; rest = after; is = e; holds = c }))))
+    (subst (λ (l : List Ticket). Fresh l (flat_map tickets_at rest)) (flat_map-append tickets_at front (b ∷ []) ∙ ap (λ (l : List Ticket). noted ++ l) (append-nil (tickets_at b)))
+    (all_fresh (front ++ b ∷ []) rest (λ before c after e. none before c after (sym (append_assoc front (b ∷ []) rest) ∙ e))))
+
+tickets_located : (text : ℕ × Batch → List ℕ) (at : ℕ) (bs : List (ℕ × Batch)) → flat_map tickets_at (located text at bs) ≡ flat_map (λ b. map ticket b.1.requests) bs
+tickets_located text at [] = refl
+tickets_located text at (b ∷ bs) = ap (λ (l : List Ticket). map ticket b.1.requests ++ l) (tickets_located text (at + length (text b)) bs)
+
+tickets_numbered : (n : ℕ) (bs : List Batch) → flat_map (λ b. map ticket b.1.requests) (enumerate_from n bs) ≡ flat_map (λ b. map ticket b.requests) bs
+tickets_numbered n [] = refl
+tickets_numbered n (b ∷ bs) = ap (λ (l : List Ticket). map ticket b.requests ++ l) (tickets_numbered (n + 1) bs)
+
+pub tickets_apart : (t : Trace) → ((at : ℕ) → ¬ StandsInOrders code.SameRequest t at) → AreDistinct (batch_tickets t)
+unfolding batch_tickets batches_at
+tickets_apart t none =
+    let whole : flat_map tickets_at (batches_at t) ≡ flat_map (λ b. map ticket b.requests) t.batches = tickets_located batch_text (batches_start t) (batches_of t) ∙ tickets_numbered 1 t.batches in
+    let fresh : Fresh [] (flat_map tickets_at (batches_at t)) = all_fresh [] (batches_at t)
+    (λ before b after e again. none b.0 (record { before = before; item = b; rest = after; is = e; holds = (refl, again) })) in
+    distinct_pairs (flat_map (λ b. map ticket b.requests) t.batches) (subst Distinct whole (fresh_distinct [] (flat_map tickets_at (batches_at t)) fresh).0)

@@ -1,0 +1,4 @@
+pub mod SameBanks
+pub mod Outcomes
+pub mod Decisions
+pub mod Sentences

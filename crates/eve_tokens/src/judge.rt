@@ -1,0 +1,76 @@
+//! The faults of tokens.
+
+ghost use Rattle.std.specs.Prelude.{◌≡◌, ◌↔◌, IsTrue, IfOk, OnOk, IfErr};
+ghost use Rattle.eve_frames.specs.Views.{attempt_in};
+ghost use Rattle.eve_token.specs.Token.{token_of};
+ghost use Rattle.eve_views.specs.Form.{IfFound};
+ghost use Rattle.eve_views.specs.Fronts.{whole};
+ghost use Rattle.eve_views.specs.declared.fault.Fault.{Fault as FaultValue};
+ghost use Rattle.eve_history.specs.Told.{telling, IsRightSection};
+ghost use Rattle.eve_banks.specs.Settling.{settling};
+ghost use Rattle.eve_tokens.specs.Faults.{TokensAreDue, IsTokenFault, IsLeastTokenFault};
+
+use eve_accounts::Balances;
+use eve_banks::Settled;
+use eve_banks::laws::settled_values_are_the_banks;
+use eve_frames::AttemptView;
+use eve_history::{Fate, History};
+use eve_smallbank::Reply;
+use eve_token::token;
+use eve_views::{CheckFault, Code, Fault, Trace};
+use std::alloc::{AllocError, Global};
+
+/// The replies of an attempt, by request index, in place of those that were there.
+fn read_replies(attempt: &AttemptView<'_>, replies: &mut Vec<Reply>) -> Result<(), AllocError>
+    ensures { OnOk result (replies.new.items ≡ (attempt_in attempt.now.bytes.now).replies) }
+{
+    replies.clear();
+    replies.extend(attempt.replies())
+}
+
+/// Whether the attempt has the token of these balances and of its replies.
+fn is_due(attempt: &AttemptView<'_>, balances: &Balances, replies: &[Reply]) -> bool
+    ensures { IsTrue result ↔ ((attempt_in attempt.now.bytes.now).token ≡ token_of (attempt_in attempt.now.bytes.now).seq balances.now replies.now) }
+{
+    attempt.token() == token(attempt.seq(), balances, replies).as_slice()
+}
+
+/// Judges the tokens of a replica's committed attempts: each is that of the balances after its batch and of its replies;
+/// else the first that is not.
+///
+/// docs/MODEL.md, "Faults"; docs/TRACE.md, "Token". It goes from batch to batch and hashes each batch's balances once.
+/// Want of memory decides nothing.
+pub fn tokens(
+    alloc: Global,
+    trace: &Trace<'_>,
+    history: &History<'_>,
+    settled: &Settled<'_>,
+) -> Result<(), CheckFault>
+    requires history { history.now ≡ telling (whole trace.now) history.now.replica }
+    requires right { IsRightSection (whole trace.now) history.now.replica }
+    requires settled { settled.now ≡ settling (whole trace.now) history.now.replica }
+    ensures due { IfOk result (λ _. TokensAreDue (whole trace.now) history.now.replica) }
+    ensures none { IfOk result (λ _. (f : FaultValue) → ¬ IsTokenFault (whole trace.now) history.now.replica f) }
+    ensures least { IfErr result (λ why. IfFound why (IsLeastTokenFault (whole trace.now) history.now.replica)) }
+{
+    trace.is_whole();
+    settled_values_are_the_banks();
+    let mut balances = settled.balances_after(alloc, 0)?;
+    let mut replies = Vec::new(alloc);
+    for i in 0..history.attempts() {
+        if history.fate(i) != Fate::Committed {
+            continue;
+        }
+        let attempt = history.attempt(i);
+        settled.advance(attempt.seq(), &mut balances);
+        read_replies(&attempt, &mut replies)?;
+        if !is_due(&attempt, &balances, &replies) {
+            return Err(CheckFault::Found(Fault {
+                code: Code::Token,
+                offset: attempt.offset(),
+                replica: Some(history.replica()),
+            }));
+        }
+    }
+    Ok(())
+}

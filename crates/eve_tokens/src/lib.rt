@@ -1,0 +1,8 @@
+//! Whether each committed attempt of a replica has the token of its balances and replies.
+#![tactic(auto)]
+
+mod judge;
+#[cfg(test)]
+mod tests;
+
+pub use judge::tokens;
