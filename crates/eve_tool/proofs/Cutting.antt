@@ -3,8 +3,8 @@ use Rattle.std.proofs.Common.{◌≡◌, ℕ, ◌+◌, ◌^◌, ◌<◌, ◌≤�
 use Rattle.std.specs.Prelude.{IfSome, IsFalse, Option, nat_le}
 use Rattle.std.proofs.lemmas.Bool.{cases_lt, lt-leb}
 use Rattle.std.proofs.lemmas.List.{length-take, take_all}
-use Rattle.eve_audit.proofs.Piecewise.{orders_phase, structure_phase}
-use Rattle.eve_audit.specs.Verdict.{IsFirst, IsJudged, IsVerdict, Precedes, Stands, in_form, in_orders, in_section}
+use Rattle.eve_audit.proofs.Phases.{order_phase, structure_phase, record_phase, chain_phase, restore_phase, token_phase, vote_phase, majority_phase, outcome_phase, reply_phase}
+use Rattle.eve_audit.specs.Verdict.{IsFirst, IsJudged, IsOwnFault, IsVerdict, Precedes, Stands, in_agreement, in_form, in_majorities, in_orders, in_replies, in_section, in_votes, of_chains, of_records, of_restores, of_structure, of_tokens}
 use Rattle.eve_audit.specs.declared.verdict.Verdict.{Verdict}
 use Rattle.eve_audit.specs.declared.verdict.Verdict.TheVariants.{No, Yes}
 use Rattle.eve_views.specs.Code.{number_of, phase_of}
@@ -91,8 +91,16 @@ length_is_judged bytes long = record {
 -- what stands as Length is a fault of form
 stands_outside : (bytes : List ℕ) (f : Fault) → f.code ≡ code.Length → Stands bytes f → f.replica ≡ None
 stands_outside bytes f is_length (in_form is) = is.outside
-stands_outside bytes f is_length (in_orders t spells is) = absurd (omega (arith, orders_phase f.code t f.offset is.stands, ap phase_of is_length))
-stands_outside bytes f is_length (in_section t e spells below is) = absurd (omega (arith, structure_phase f.code t e f.offset is.stands, ap phase_of is_length))
+stands_outside bytes f is_length (in_orders t spells is) = absurd (omega (arith, order_phase t f is, ap phase_of is_length))
+stands_outside bytes f is_length (in_section t e spells below (of_structure is)) = absurd (omega (arith, structure_phase t e f is, ap phase_of is_length))
+stands_outside bytes f is_length (in_section t e spells below (of_records is)) = absurd (omega (arith, record_phase t e f is, ap phase_of is_length))
+stands_outside bytes f is_length (in_section t e spells below (of_chains is)) = absurd (omega (arith, chain_phase t e f is, ap phase_of is_length))
+stands_outside bytes f is_length (in_section t e spells below (of_restores is)) = absurd (omega (arith, restore_phase t e f is, ap phase_of is_length))
+stands_outside bytes f is_length (in_section t e spells below (of_tokens is)) = absurd (omega (arith, token_phase t e f is, ap phase_of is_length))
+stands_outside bytes f is_length (in_votes t spells is) = absurd (omega (arith, vote_phase t f is, ap phase_of is_length))
+stands_outside bytes f is_length (in_majorities t spells is) = absurd (omega (arith, majority_phase t f is, ap phase_of is_length))
+stands_outside bytes f is_length (in_agreement t spells is) = absurd (omega (arith, outcome_phase t f is, ap phase_of is_length))
+stands_outside bytes f is_length (in_replies t spells is) = absurd (omega (arith, reply_phase t f is, ap phase_of is_length))
 
 -- the fault precedes Length, so it is Length
 precedes_length : (f : Fault) → Precedes f length_fault → (f.offset ≡ 0) × (f.code ≡ code.Length)

@@ -11,6 +11,7 @@ use std::alloc::Global;
 use std::io;
 use std::io::ErrorKind;
 use std::random::RandomSource;
+use std::thread::Threads;
 
 // What `show` says of the examples, in the order of examples/README.md.
 const EMPTY_RUN_LINES: &str = "0 Header 32
@@ -113,11 +114,14 @@ For more information, try '--help'.
 
 // A runtime that gives no random words.
 #[derive(Drop)]
-struct NoRandom {
+struct NoRandom<R> {
+    threads: R,
     alloc: Global,
 }
 
-impl Alloc for NoRandom {
+impl<R: Threads> Threads for NoRandom<R> {}
+
+impl<R> Alloc for NoRandom<R> {
     type A = Global;
 
     fn alloc(&self) -> Global {
@@ -125,7 +129,7 @@ impl Alloc for NoRandom {
     }
 }
 
-impl RandomSource for NoRandom {
+impl<R> RandomSource for NoRandom<R> {
     fn fill_bytes(&self, _buf: &mut [u8]) -> io::Result<()> {
         Err(io::Error::from(ErrorKind::Other))
     }
@@ -218,7 +222,10 @@ fn audits_what_has_a_fault(rt: HostRuntime) {
 
 #[test]
 fn random_words_are_asked_for_once_the_input_is_read(rt: HostRuntime) {
-    let no_random = NoRandom { alloc: rt.alloc() };
+    let no_random = NoRandom {
+        threads: &rt,
+        alloc: rt.alloc(),
+    };
     for (failing_read, said, wanted) in [
         (1, "eve: cannot read input\n", 2),
         (0, "eve: no random source\n", 3),
