@@ -1,12 +1,9 @@
 //! Laws about the definitions. Each body is empty: the contract is the law.
 
-ghost use Rattle.std.specs.Prelude.{ℕ, ◌≤◌};
+ghost use Rattle.std.specs.Prelude.{ℕ};
 ghost use Rattle.eve_grammar.specs.Trace.{Trace};
-ghost use Rattle.eve_grammar.specs.Spelling.{length_of};
-ghost use Rattle.eve_views.specs.declared.fault.Fault.{Fault};
 ghost use Rattle.eve_history.specs.Told.{IsRightSection};
 ghost use Rattle.eve_restores.specs.Tables.{IsRestored, RestoresAreRight};
-ghost use Rattle.eve_restores.specs.Faults.{IsRestoreFault};
 
 /// In a right section whose rollbacks restore what they must, the replica works on what is committed behind each of them,
 /// versions too.
