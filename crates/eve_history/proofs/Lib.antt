@@ -12,4 +12,5 @@ pub mod FateLaws
 pub mod Positions
 pub mod Structure
 pub mod Tickets
+pub mod FrameTexts
 pub mod Standing

@@ -14,12 +14,8 @@ use Rattle.eve_views.specs.declared.fault.Fault.{Fault}
 use Rattle.eve_history.specs.Section.{SectionState, start, state_after, is_right_attempt, is_right_certificate, is_right_access, is_right_place, is_right_commit, is_right_rollback, are_right_accesses}
 use Rattle.eve_views.specs.Form.{SomePlace}
 use Rattle.eve_history.specs.Faults.{accesses_of, OfAttempt, OfCommit, OfRollback, AtStep, AtAccess, StandsInStructure, IsStructureFault, IsNamedAgain, IsAskedAgain, StandsInOrders, IsOrderFault}
+use Rattle.eve_history.proofs.FrameTexts.{mapped, nested, no_steps}
 use Rattle.eve_history.proofs.Places.{located_within, weaker_place}
-
--- frames of mapped parts
-mapped : {A : Type 0} (f : A → Frame) (xs : List A) → flat_map frame_text (map f xs) ≡ flat_map (λ x. frame_text (f x)) xs
-mapped f [] = refl
-mapped f (x ∷ xs) = ap (λ (b : List ℕ). frame_text (f x) ++ b) (mapped f xs)
 
 -- the whole is as long as the shared parts and what follows them
 sections_within : (t : Trace) → sections_start t ≤ length_of t
@@ -74,10 +70,6 @@ ends_within {A = A} text at (x ∷ xs) (z ∷ before) item rest e =
     others : (y z : ℕ × A) (ys zs : List (ℕ × A)) → ◌≡◌ {A = List (ℕ × A)} (y ∷ ys) (z ∷ zs) → ys ≡ zs
     others y z ys zs e = cc
 
-nested : (steps : List Step) → flat_map frame_text (flat_map step_frames steps) ≡ flat_map step_text steps
-nested [] = refl
-nested (s ∷ steps) = flat_map-append frame_text (step_frames s) (flat_map step_frames steps) ∙ ap (λ (b : List ℕ). step_text s ++ b) (nested steps)
-
 section_is : (e : ℕ) (steps : List Step) → length (section_text (e, steps)) ≡ length (frame_text (OfReplica e)) + length (flat_map step_text steps)
 section_is e steps = length-append (frame_text (OfReplica e)) (flat_map frame_text (flat_map step_frames steps)) ∙ ap (λ (b : List ℕ). length (frame_text (OfReplica e)) + length b) (nested steps)
 
@@ -122,11 +114,6 @@ module _ (t : Trace) (e : ℕ) where
 
       longer : (a b s whole behind more last front own steps : ℕ) → whole ≡ a + behind → behind ≡ b + more → more ≡ s + last → front + (own + steps) ≤ s → 32 + a + b + front + own + steps ≤ 32 + whole
       longer a b s whole behind more last front own steps p q r le = omega arith
-
-  no_steps : (place : ℕ) → (xs : List (List Step)) → length xs ≤ place → slice_index_or xs place [] ≡ []
-  no_steps place [] le = refl
-  no_steps zero (x ∷ xs) le = absurd (omega arith)
-  no_steps (suc place) (x ∷ xs) le = no_steps place xs (omega arith)
 
   step_within : (P : ℕ → SectionState → Step → Type 0) → (place : AtStep t e P) → place.item.0 + length (step_text place.item.1) ≤ length_of t
   unfolding steps_at

@@ -1,13 +1,12 @@
 -- Where the frames of a section stand in a trace's bytes.
 use Rattle.std.proofs.Common.{◌≡◌, ℕ, zero, suc, ◌+◌, ◌^◌, ◌<◌, ◌≤◌, ◌==◌, Bool, true, false, ◌||◌, cond, List, [], ◌∷◌, ◌++◌, map, length, take, drop, slice_get, Some, refl, sym, ap, subst, ◌∙◌, append_assoc, IsTrue, inl, inr, arith}
-use Rattle.std.specs.Prelude.{slice_index_or}
 use Rattle.std.specs.List.{AllByRecursion, flat_map, list_all, list_any}
 use Rattle.std.proofs.lemmas.Bool.{and_parts, cases_lt, false≢true}
 use Rattle.std.proofs.lemmas.List.{append-nil, length-append, take_at, drop_at}
 use Rattle.std.proofs.lemmas.List.Concat.{flat_map-append}
 use Rattle.byteorder.specs.Endian.{big_bytes, big_number}
-use Rattle.eve_grammar.specs.Trace.{Access, Attempt, Step, Attempts, Trace, head_of}
-use Rattle.eve_grammar.specs.Frames.{Frame, OfReplica, OfAttempt, OfAccess, step_frames, frames_of}
+use Rattle.eve_grammar.specs.Trace.{Access, Attempt, Rollback, Step, Attempts, RollsBack, Trace, head_of}
+use Rattle.eve_grammar.specs.Frames.{Frame, OfReplica, OfAttempt, OfAccess, OfRollback, step_frames, frames_of, without_accesses}
 use Rattle.eve_grammar.specs.Spelling.{body_text, frame_text, frames_text, head_text, length_of, spelling, located, step_text, section_start, steps_of, steps_at, accesses_at}
 use Rattle.eve_grammar.specs.Limits.{is_step, is_attempt, is_access, row_count, Spells}
 use Rattle.eve_grammar.proofs.HeaderParts.{length-head_text}
@@ -17,12 +16,13 @@ use Rattle.eve_views.proofs.FrameLaws.{length-frame_text}
 use Rattle.eve_views.proofs.CutLaws.{section_cut}
 use Rattle.eve_views.proofs.Locating.{section_begins}
 use Rattle.eve_grammar.proofs.FrameLaws.{small_head}
-use Rattle.eve_frames.specs.Views.{most_rows, is_access_frame, access_in}
-use Rattle.eve_frames.proofs.Rereading.{access_again}
-use Rattle.eve_history.specs.Standing.{frame_in, IsFramed, IsAccessAt}
+use Rattle.eve_frames.specs.Views.{most_rows, is_attempt_frame, attempt_in, is_access_frame, access_in, is_rollback_frame, rollback_in}
+use Rattle.eve_frames.proofs.Rereading.{attempt_again, access_again, rollback_again}
+use Rattle.eve_history.specs.Standing.{frame_in, IsFramed, IsAttemptAt, IsAccessAt, IsRollbackAt}
 use Rattle.eve_history.specs.Told.{access_with}
 use Rattle.eve_history.specs.Faults.{accesses_of}
-use Rattle.eve_history.specs.Coming.{Kept, ComesNext, seen}
+use Rattle.eve_history.specs.Coming.{Kept, HasCome, ComesNext, seen}
+use Rattle.eve_history.proofs.FrameTexts.{mapped, nested, no_steps}
 use Rattle.eve_history.proofs.OrderLaws.{all_at, of_located}
 
 -- a text stands at this place of another
@@ -106,10 +106,6 @@ split_at {A = A} (y ∷ xs) (suc i) x e = let s = split_at xs i x e in (y ∷ s.
 
 -- ---- the steps of a section
 
-nested : (steps : List Step) → flat_map frame_text (flat_map step_frames steps) ≡ flat_map step_text steps
-nested [] = refl
-nested (s ∷ steps) = flat_map-append frame_text (step_frames s) (flat_map step_frames steps) ∙ ap (λ (b : List ℕ). step_text s ++ b) (nested steps)
-
 section_stands : (t : Trace) (e : ℕ) → e < length t.sections → StandsIn (spelling t) (section_start t e + length (frame_text (OfReplica e))) (flat_map step_text (steps_of t e))
 unfolding spelling
 section_stands t e lt =
@@ -129,11 +125,6 @@ section_stands t e lt =
       offset = omega (arith, length-append head (frames_text before ++ own), length-append (frames_text before) own, length-head_text (head_of t) (length_of t), section_begins t e);
     }
 
-no_steps : (place : ℕ) (xs : List (List Step)) → length xs ≤ place → slice_index_or xs place [] ≡ []
-no_steps place [] le = refl
-no_steps zero (x ∷ xs) le = absurd (omega arith)
-no_steps (suc place) (x ∷ xs) le = no_steps place xs (omega arith)
-
 pub step_stands : (t : Trace) (e : ℕ) (before : List (ℕ × Step)) (step : ℕ × Step) (rest : List (ℕ × Step)) → steps_at t e ≡ before ++ step ∷ rest → StandsIn (spelling t) step.0 (step_text step.1)
 unfolding steps_at
 step_stands t e before step rest split = elim (cases_lt e (length t.sections)) [
@@ -152,10 +143,6 @@ first_stands {at = at} f fs stands = record {
   offset = stands.offset;
 }
 
-mapped : (xs : List Access) → flat_map frame_text (map OfAccess xs) ≡ flat_map (λ x. frame_text (OfAccess x)) xs
-mapped [] = refl
-mapped (x ∷ xs) = ap (λ (b : List ℕ). frame_text (OfAccess x) ++ b) (mapped xs)
-
 -- the access frames behind an attempt's own
 pub access_stands : {bytes : List ℕ} (at : ℕ) (b : Attempt) (i : ℕ) (x : ℕ × Access) → StandsIn bytes at (step_text (Attempts b)) → slice_get (accesses_at at b) i ≡ Some x → StandsIn bytes x.0 (frame_text (OfAccess x.1))
 access_stands {bytes = bytes} at b i x stands got =
@@ -164,17 +151,47 @@ access_stands {bytes = bytes} at b i x stands got =
     let all = flat_map (λ y. frame_text (OfAccess y)) b.accesses in
     let found = located_stands (λ y. frame_text (OfAccess y)) (at + length own) b.accesses s.0 x s.1 s.2 in
     let inside : StandsIn (step_text (Attempts b)) (length own) all =
-    record { front = own; behind = []; is = ap (λ (c : List ℕ). own ++ c) (mapped b.accesses ∙ sym (append-nil all)); offset = refl } in
+    record { front = own; behind = []; is = ap (λ (c : List ℕ). own ++ c) (mapped OfAccess b.accesses ∙ sym (append-nil all)); offset = refl } in
     let sum : at + length own + found.place ≡ x.0 = sym found.offset in
     subst (λ (o : ℕ). StandsIn bytes o (frame_text (OfAccess x.1))) sum (stands_inside (stands_inside stands inside) found.stands)
 
--- ---- the access records of an attempt that comes next
+-- ---- the step that comes next
 
 spelled_short : (bytes : List ℕ) (t : Trace) → Spells bytes t → length bytes ≤ 2 ^ 30
 unfolding spelling length_of
 spelled_short bytes t spelled =
     let few = spelled.short in
     omega (arith, ap length spelled.spelled, length-append (head_text (head_of t) (length_of t)) (frames_text (frames_of t)), length-head_text (head_of t) (length_of t))
+
+-- the trace's bytes hold it where it is said to stand
+next_stands : (bytes : List ℕ) (t : Trace) (e : ℕ) (rest : List (ℕ × Step)) (k : Kept) (at : ℕ) (step : Step) → Spells bytes t → HasCome t e ((at, step) ∷ rest) k → StandsIn bytes at (step_text step)
+next_stands bytes t e rest k at step spelled come =
+    subst (λ (c : List ℕ). StandsIn c at (step_text step)) (sym spelled.spelled) (step_stands t e come.front (at, step) rest come.split)
+
+few_rows : (bytes : List ℕ) (t : Trace) → Spells bytes t → row_count (head_of t) ≤ most_rows
+few_rows bytes t spelled = let small = (small_head (head_of t) spelled.limits.head).customers in omega (arith, small)
+
+-- an attempt is found again by the byte at which its frame begins
+pub attempt_there : (bytes : List ℕ) (t : Trace) (e : ℕ) (rest : List (ℕ × Step)) (k : Kept) (at : ℕ) (b : Attempt) → Spells bytes t → HasCome t e ((at, Attempts b) ∷ rest) k
+    → (attempt_in (frame_in bytes at) ≡ without_accesses b) × IsAttemptAt bytes at
+attempt_there bytes t e rest k at b spelled come =
+    let fits = (and_parts (is_step (row_count (head_of t)) (Attempts b)) _ come.fit).0 in
+    let stands = first_stands (OfAttempt b) (map OfAccess b.accesses) (next_stands bytes t e rest k at (Attempts b) spelled come) in
+    let framed = framed_there (OfAttempt b) (spelled_short bytes t spelled) stands in
+    let says = attempt_again b (and_parts (is_attempt b) _ fits).0 in
+    (ap attempt_in framed.0 ∙ says.1, record { framed = framed.1; attempt = subst (λ (c : List ℕ). IsTrue (is_attempt_frame c)) (sym framed.0) says.0 })
+
+-- and a rollback by that of its own
+pub rollback_there : (bytes : List ℕ) (t : Trace) (e : ℕ) (rest : List (ℕ × Step)) (k : Kept) (at : ℕ) (r : Rollback) → Spells bytes t → HasCome t e ((at, RollsBack r) ∷ rest) k
+    → (rollback_in (frame_in bytes at) ≡ r) × IsRollbackAt bytes at
+rollback_there bytes t e rest k at r spelled come =
+    let fits = (and_parts (is_step (row_count (head_of t)) (RollsBack r)) _ come.fit).0 in
+    let stands = first_stands (OfRollback r) [] (next_stands bytes t e rest k at (RollsBack r) spelled come) in
+    let framed = framed_there (OfRollback r) (spelled_short bytes t spelled) stands in
+    let says = rollback_again (row_count (head_of t)) r fits (few_rows bytes t spelled) in
+    (ap rollback_in framed.0 ∙ says.1, record { framed = framed.1; rollback = subst (λ (c : List ℕ). IsTrue (is_rollback_frame c)) (sym framed.0) says.0 })
+
+-- ---- the access records of an attempt that comes next
 
 -- a record is found again by the byte at which its frame begins
 pub record IsSeen (bytes : List ℕ) (x : ℕ × Access) : Type 0 where
@@ -198,16 +215,19 @@ pub all_seen : (bytes : List ℕ) (t : Trace) (e : ℕ) (rest : List (ℕ × Ste
     → AllByRecursion (IsSeen bytes) xs
 all_seen bytes t e rest b k at said xs spelled comes =
     let come = comes.come in
-    let small = (small_head (head_of t) spelled.limits.head).customers in
-    let few : row_count (head_of t) ≤ most_rows = omega (arith, small) in
+    let few = few_rows bytes t spelled in
     let fits = (and_parts (is_step (row_count (head_of t)) (Attempts b)) _ come.fit).0 in
     let records = (and_parts (length b.accesses == length b.certificate) (list_all (is_access (row_count (head_of t))) b.accesses) (and_parts (is_attempt b) _ fits).1).1 in
-    let step : StandsIn bytes at (step_text (Attempts b)) =
-    subst (λ (c : List ℕ). StandsIn c at (step_text (Attempts b))) (sym spelled.spelled) (step_stands t e come.front (at, Attempts b) rest come.split) in
+    let step = next_stands bytes t e rest k at (Attempts b) spelled come in
     subst (AllByRecursion (IsSeen bytes)) (sym comes.accesses) (from_each (IsSeen bytes) (accesses_at at b) (λ i x got.
     seen_again bytes (row_count (head_of t)) x (spelled_short bytes t spelled) few
     (all_at (is_access (row_count (head_of t))) b.accesses i x.1 records (of_located (λ y. frame_text (OfAccess y)) (at + length (frame_text (OfAttempt b))) b.accesses i x got))
     (access_stands at b i x step got)))
+
+-- one more of them
+pub one_more_framed : {A : Type 0} (P : A → Type 0) (xs : List A) (x : A) → P x → AllByRecursion P xs → AllByRecursion P (xs ++ x ∷ [])
+one_more_framed P [] x p all = (p, tt)
+one_more_framed P (y ∷ xs) x p all = (all.0, one_more_framed P xs x p all.1)
 
 pub all_small : (bytes : List ℕ) (xs : List (ℕ × Access)) → AllByRecursion (IsSeen bytes) xs → AllByRecursion (λ x. x.0 < 2 ^ 32) xs
 all_small bytes [] all = tt

@@ -6,12 +6,11 @@ use Rattle.eve_grammar.specs.Frames.{without_accesses}
 use Rattle.eve_grammar.specs.Spelling.{steps_at, accesses_at}
 use Rattle.eve_grammar.specs.Limits.{is_step, row_count, Spells}
 use Rattle.eve_frames.specs.Views.{attempt_in, access_in, rollback_in}
-use Rattle.eve_frames.specs.declared.rollback.RollbackView.{RollbackView}
 use Rattle.eve_history.specs.declared.fate.Fate.{Fate}
 use Rattle.eve_history.specs.declared.fate.Fate.TheVariants.{Open}
 use Rattle.eve_history.specs.declared.notes.Attempted.{Attempted}
 use Rattle.eve_history.specs.declared.notes.Notes.{Notes}
-use Rattle.eve_history.specs.Standing.{frame_in, IsAccessAt}
+use Rattle.eve_history.specs.Standing.{frame_in, IsAttemptAt, IsAccessAt, IsRollbackAt}
 use Rattle.eve_history.specs.Section.{SectionState, start, state_after, are_right}
 use Rattle.eve_history.specs.Fates.{fate_in, fates_from}
 use Rattle.eve_history.specs.Told.{Ran, ran, placed_at, attempts_among, rollbacks_among, Telling}
@@ -36,26 +35,28 @@ pub record Kept : Type 0 where
   pub records : List (ℕ × Access)
   pub rollbacks : List (ℕ × Rollback)
 
+-- the attempt whose frame begins at this byte
+abbrev pub kept_attempt : List ℕ → Attempted → KeptAttempt
+kept_attempt bytes a = record { offset = a.at; attempt = attempt_in (frame_in bytes a.at); from = a.from }
+
 -- the access record whose frame begins at this byte
 abbrev pub seen : List ℕ → ℕ → ℕ × Access
 seen bytes at = (at, access_in (frame_in bytes at))
 
-abbrev pub rolled : RollbackView → ℕ × Rollback
-rolled v = (v.offset, rollback_in v.bytes.now)
-
-abbrev pub kept_attempt : Attempted → KeptAttempt
-kept_attempt a = record { offset = a.view.offset; attempt = attempt_in a.view.bytes.now; from = a.from }
+-- the rollback whose frame begins at this byte
+abbrev pub rolled : List ℕ → ℕ → ℕ × Rollback
+rolled bytes at = (at, rollback_in (frame_in bytes at))
 
 abbrev pub kept : Notes → Kept
 kept n = record {
   view = n.view;
   last = n.last;
   rolled_back = n.rolled_back;
-  attempts = map kept_attempt n.attempts.items;
+  attempts = map (kept_attempt n.bytes.now) n.attempts.items;
   fates = n.fates.items;
   commits = n.commits.items;
   records = map (seen n.bytes.now) n.records.items;
-  rollbacks = map rolled n.rollbacks.items;
+  rollbacks = map (rolled n.bytes.now) n.rollbacks.items;
 }
 
 -- how many attempts are open
@@ -138,12 +139,18 @@ pub record ComesNext (t : Trace) (e : ℕ) (rest : List (ℕ × Step)) (b : Atte
   pub attempt : said ≡ without_accesses b
   pub accesses : records ≡ accesses_at at b
 
--- the bytes are the trace, and the records are kept by the bytes at which their frames begin
+-- what is kept of a frame is the byte at which it begins
+pub record AreFramed (n : Notes) : Type 0 where
+  pub attempts : AllByRecursion (λ a. IsAttemptAt n.bytes.now a.at) n.attempts.items
+  pub records : AllByRecursion (IsAccessAt n.bytes.now) n.records.items
+  pub rollbacks : AllByRecursion (IsRollbackAt n.bytes.now) n.rollbacks.items
+
+-- the bytes are the trace, and the frames that are kept stand in them
 pub record IsNoted (t : Trace) (n : Notes) : Type 0 where
   pub spelled : Spells n.bytes.now t
-  pub records : AllByRecursion (IsAccessAt n.bytes.now) n.records.items
+  pub framed : AreFramed n
 
 -- what is kept of a whole section
 pub record IsWhole (n : Notes) : Type 0 where
   pub kept : IsKept (kept n)
-  pub records : AllByRecursion (IsAccessAt n.bytes.now) n.records.items
+  pub framed : AreFramed n

@@ -12,7 +12,7 @@ ghost use Rattle.eve_history.specs.Faults.{IsStructureFault, IsLeastStructureFau
 ghost use Rattle.eve_history.specs.Coming.{kept, HasCome, IsNoted};
 
 use crate::fate::Fate;
-use crate::frame::frame_at;
+use crate::frame::{access_at, attempt_at, rollback_at};
 use crate::notes::Notes;
 use eve_frames::{AccessView, AttemptView, RollbackView};
 use eve_views::{CheckFault, Step, Trace};
@@ -60,7 +60,7 @@ fn take<'a>(
     match step {
         Step::Attempt(attempt, accesses) => notes.take_attempt(trace, e, &attempt, &accesses),
         Step::Commit(commit) => notes.take_commit(e, &commit),
-        Step::Rollback(rollback) => notes.take_rollback(&trace.head(), e, &rollback),
+        Step::Rollback(rollback) => notes.take_rollback(trace, e, &rollback),
     }
 }
 
@@ -124,7 +124,7 @@ impl<'a> History<'a> {
         requires { i < length self.now.attempts }
         ensures { (r : Ran) × (slice_get self.now.attempts i ≡ Some r) × (result.offset ≡ r.offset) × (attempt_in result.bytes.now ≡ r.attempt) × (length r.ordered ≡ length r.attempt.certificate) }
     {
-        self.notes.attempts[i].view
+        attempt_at(self.notes.bytes, self.notes.attempts[i].at)
     }
 
     /// What became of an attempt.
@@ -147,7 +147,7 @@ impl<'a> History<'a> {
     {
         let from = self.notes.attempts[i].from;
         let at = self.notes.records[from + place];
-        AccessView::new(at as u64, frame_at(self.notes.bytes, at))
+        access_at(self.notes.bytes, at)
     }
 
     /// How many rollbacks there are.
@@ -162,6 +162,6 @@ impl<'a> History<'a> {
         requires { i < length self.now.rollbacks }
         ensures { slice_get self.now.rollbacks i ≡ Some (result.offset, rollback_in result.bytes.now) }
     {
-        self.notes.rollbacks[i]
+        rollback_at(self.notes.bytes, self.notes.rollbacks[i])
     }
 }

@@ -1,6 +1,6 @@
 //! What a replica's section tells, step by step.
 
-ghost use Rattle.std.specs.Prelude.{◌≡◌, ◌≤◌, ◌<◌, ◌++◌, ◌∷◌, ◌^◌, [], ℕ, List, IsTrue, IfOk, IfErr, OnOk, IfNone, ◌==◌, false, map, length};
+ghost use Rattle.std.specs.Prelude.{◌≡◌, ◌≤◌, ◌<◌, ◌++◌, ◌∷◌, ◌^◌, [], ℕ, List, IsTrue, IfOk, IfErr, OnOk, IfNone, ◌==◌, ◌&&◌, false, map, length};
 ghost use Rattle.std.specs.List.{AllByRecursion, list_any};
 ghost use Rattle.eve_grammar.specs.Trace.{Trace as TraceValue, Attempt, Step as StepValue, Attempts, Commits, RollsBack, head_of};
 ghost use Rattle.eve_grammar.specs.Frames.{without_accesses};
@@ -12,15 +12,16 @@ ghost use Rattle.eve_views.specs.Form.{IfFound};
 ghost use Rattle.eve_views.specs.Fronts.{whole};
 ghost use Rattle.eve_views.specs.StepKinds.{IsStep};
 ghost use Rattle.eve_views.specs.declared.fault.CheckFault.TheVariants.{Found, Memory};
-ghost use Rattle.eve_history.specs.Section.{SectionState, is_due, is_right_commit, is_right_rollback};
+ghost use Rattle.eve_history.specs.Section.{SectionState, is_due, is_right_commit, is_right_rollback, same_bytes};
 ghost use Rattle.eve_history.specs.Told.{access_with};
 ghost use Rattle.eve_history.specs.Faults.{accesses_of, IsLeastStructureFault};
 ghost use Rattle.eve_history.specs.FirstWrong.{wrong_attempt, wrong_step, fault_of};
 ghost use Rattle.eve_history.specs.Marking.{AreMarked};
-ghost use Rattle.eve_history.specs.Coming.{kept, StandsAt, HasCome, ComesNext, IsNoted};
+ghost use Rattle.eve_history.specs.Coming.{kept, StandsAt, HasCome, ComesNext, AreFramed, IsNoted};
 
 use crate::certificate::{is_certificate, read_order};
 use crate::fate::Fate;
+use crate::frame::attempt_at;
 use crate::marks::Marks;
 use crate::wrong::Wrong;
 use eve_frames::{AttemptView, CommitView, RollbackView};
@@ -30,14 +31,14 @@ use std::alloc::Global;
 
 /// An attempt, and where its access records begin among those of the section.
 #[derive(Clone, Copy)]
-pub struct Attempted<'a> {
-    /// Its frame.
-    pub view: AttemptView<'a>,
+pub struct Attempted {
+    /// The byte at which its frame begins.
+    pub at: u32,
     /// The place of the record that stands first in its certificate's order.
     pub from: usize,
 }
 
-/// What is kept of the steps of a section that have come.
+/// What is kept of the steps of a section that have come. A frame is kept by the byte at which it begins.
 #[derive(Drop)]
 pub struct Notes<'a> {
     /// The trace's bytes.
@@ -49,16 +50,15 @@ pub struct Notes<'a> {
     /// Whether no attempt came since a rollback.
     pub rolled_back: bool,
     /// The attempts, in the order of their frames.
-    pub attempts: Vec<Attempted<'a>>,
+    pub attempts: Vec<Attempted>,
     /// What became of those that are settled, which are the first of them.
     pub fates: Vec<Fate>,
     /// The places among the attempts of those that were committed, by number.
     pub commits: Vec<usize>,
-    /// The access records of one attempt after another, each attempt's in its certificate's order, by the bytes at which
-    /// their frames begin.
+    /// The access records of one attempt after another, each attempt's in its certificate's order.
     pub records: Vec<u32>,
     /// The rollbacks, in the order of their frames.
-    pub rollbacks: Vec<RollbackView<'a>>,
+    pub rollbacks: Vec<u32>,
 }
 
 /// The fault in this replica's section.
@@ -70,6 +70,13 @@ fn fault_in(e: u8, wrong: Wrong) -> CheckFault
         offset: wrong.offset,
         replica: Some(e),
     })
+}
+
+/// Whether the commit has the attempt's view and token.
+fn is_of(commit: &CommitView<'_>, attempt: &AttemptView<'_>) -> bool
+    ensures { result ≡ (((attempt_in attempt.now.bytes.now).view == (commit_in commit.now.bytes.now).view) && same_bytes (attempt_in attempt.now.bytes.now).token (commit_in commit.now.bytes.now).token) }
+{
+    attempt.view() == commit.view() && attempt.token() == commit.token()
 }
 
 /// Keeps the access records of an attempt in its certificate's order.
@@ -97,7 +104,9 @@ impl<'a> Notes<'a> {
     /// Before the first step.
     pub fn new(alloc: Global, bytes: &'a [u8]) -> Notes<'a>
         ensures bytes { result.bytes.now ≡ bytes.now }
-        ensures none { result.records.items ≡ [] }
+        ensures attempts { result.attempts.items ≡ [] }
+        ensures records { result.records.items ≡ [] }
+        ensures rollbacks { result.rollbacks.items ≡ [] }
         ensures kept { kept result ≡ record { view = 0; last = 0; rolled_back = false; attempts = []; fates = []; commits = []; records = []; rollbacks = [] } }
     {
         Notes {
@@ -158,6 +167,7 @@ impl<'a> Notes<'a> {
 
     /// Whether the commit is of the first open attempt.
     fn commits_first(&self, commit: &CommitView<'_>) -> bool
+        requires { AreFramed self.now }
         ensures { (s : SectionState) → StandsAt s (kept self.now) → result ≡ is_right_commit s (commit_in commit.now.bytes.now) }
     {
         let settled = self.fates.len();
@@ -167,8 +177,7 @@ impl<'a> Notes<'a> {
         if commit.seq() as u64 != self.last as u64 + 1 {
             return false;
         }
-        let first = self.attempts[settled].view;
-        first.view() == commit.view() && first.token() == commit.token()
+        is_of(commit, &attempt_at(self.bytes, self.attempts[settled].at))
     }
 
     /// Whether the rollback is to the last committed number, of a batch that is still to come, and in the next view.
@@ -216,10 +225,10 @@ impl<'a> Notes<'a> {
     /// Takes the next attempt, which becomes open, or says which of its frames is wrong.
     pub fn take_attempt(
         &mut self,
-        trace: &Trace<'a>,
+        trace: &Trace<'_>,
         e: u8,
-        attempt: &AttemptView<'a>,
-        accesses: &Accesses<'_, 'a>,
+        attempt: &AttemptView<'_>,
+        accesses: &Accesses<'_, '_>,
     ) -> Result<(), CheckFault>
         requires noted { IsNoted (whole trace.now) self.old }
         requires comes { (rest : List (ℕ × StepValue)) × (b : Attempt) × ComesNext (whole trace.now) e rest b (kept self.old) attempt.now.offset (attempt_in attempt.now.bytes.now) accesses.now }
@@ -239,7 +248,7 @@ impl<'a> Notes<'a> {
         let from = self.records.len();
         keep_records(&mut self.records, accesses, order, &marks)?;
         self.attempts.push(Attempted {
-            view: *attempt,
+            at: attempt.offset() as u32,
             from,
         })?;
         self.rolled_back = false;
@@ -248,6 +257,7 @@ impl<'a> Notes<'a> {
 
     /// Takes the next commit, of the first open attempt, or says that it is wrong.
     pub fn take_commit(&mut self, e: u8, commit: &CommitView<'_>) -> Result<(), CheckFault>
+        requires { AreFramed self.old }
         ensures taken { OnOk result ((t : TraceValue) (rest : List (ℕ × StepValue)) → HasCome t e ((commit.now.offset, Commits (commit_in commit.now.bytes.now)) ∷ rest) (kept self.old)
             → HasCome t e rest (kept self.new)) }
         ensures noted { OnOk result ((t : TraceValue) → IsNoted t self.old → IsNoted t self.new) }
@@ -274,17 +284,20 @@ impl<'a> Notes<'a> {
     /// Takes the next rollback, which discards all open attempts, or says that it is wrong.
     pub fn take_rollback(
         &mut self,
-        head: &Head,
+        trace: &Trace<'_>,
         e: u8,
-        rollback: &RollbackView<'a>,
+        rollback: &RollbackView<'_>,
     ) -> Result<(), CheckFault>
-        ensures taken { OnOk result ((t : TraceValue) (rest : List (ℕ × StepValue)) → limits head.now ≡ head_of t → HasCome t e ((rollback.now.offset, RollsBack (rollback_in rollback.now.bytes.now)) ∷ rest) (kept self.old)
-            → HasCome t e rest (kept self.new)) }
-        ensures noted { OnOk result ((t : TraceValue) → IsNoted t self.old → IsNoted t self.new) }
-        ensures wrong { IfErr result (λ x. IfFound x (λ f. (t : TraceValue) (rest : List (ℕ × StepValue)) → limits head.now ≡ head_of t → HasCome t e ((rollback.now.offset, RollsBack (rollback_in rollback.now.bytes.now)) ∷ rest) (kept self.old)
-            → IsLeastStructureFault t e f)) }
+        requires noted { IsNoted (whole trace.now) self.old }
+        requires comes { (rest : List (ℕ × StepValue)) × HasCome (whole trace.now) e ((rollback.now.offset, RollsBack (rollback_in rollback.now.bytes.now)) ∷ rest) (kept self.old) }
+        ensures taken { OnOk result ((rest : List (ℕ × StepValue)) → HasCome (whole trace.now) e ((rollback.now.offset, RollsBack (rollback_in rollback.now.bytes.now)) ∷ rest) (kept self.old)
+            → HasCome (whole trace.now) e rest (kept self.new)) }
+        ensures noted { OnOk result (IsNoted (whole trace.now) self.new) }
+        ensures wrong { IfErr result (λ x. IfFound x (λ f. (rest : List (ℕ × StepValue)) → HasCome (whole trace.now) e ((rollback.now.offset, RollsBack (rollback_in rollback.now.bytes.now)) ∷ rest) (kept self.old)
+            → IsLeastStructureFault (whole trace.now) e f)) }
     {
-        if !self.rolls_back(head, rollback) {
+        trace.is_whole();
+        if !self.rolls_back(&trace.head(), rollback) {
             return Err(fault_in(
                 e,
                 Wrong {
@@ -293,7 +306,7 @@ impl<'a> Notes<'a> {
                 },
             ));
         }
-        self.rollbacks.push(*rollback)?;
+        self.rollbacks.push(rollback.offset() as u32)?;
         self.fates.resize(self.attempts.len(), Fate::Discarded)?;
         self.view = rollback.view();
         self.rolled_back = true;

@@ -3,7 +3,7 @@ use Rattle.std.proofs.lemmas.Result.{err_from_is_err_and}
 use Rattle.std.specs.List.{AllByRecursion}
 use Rattle.eve_grammar.specs.Trace.{Step}
 use Rattle.eve_grammar.specs.Limits.{Spells}
-use Rattle.eve_history.specs.Standing.{IsAccessAt}
+use Rattle.eve_history.specs.Standing.{IsAttemptAt, IsAccessAt, IsRollbackAt}
 use Rattle.eve_grammar.specs.Spelling.{steps_at}
 use Rattle.eve_views.specs.Fronts.{whole}
 use Rattle.eve_views.specs.StepKinds.{IsStep}
@@ -22,7 +22,11 @@ loop-step-init c =
           (subst (λ (k : Kept). HasCome t e (steps_at t e) k) (sym c.new-notes.ensures.kept) (come_start t e c.is_whole.ensures.limits)),
       record {
         spelled = subst (λ (b : List ℕ). Spells b t) (sym c.new-notes.ensures.bytes) c.bytes.ensures;
-        records = subst (AllByRecursion (IsAccessAt c.new-notes.result.bytes.now)) (sym c.new-notes.ensures.none) tt;
+        framed = record {
+          attempts = subst (AllByRecursion (λ a. IsAttemptAt c.new-notes.result.bytes.now a.at)) (sym c.new-notes.ensures.attempts) tt;
+          records = subst (AllByRecursion (IsAccessAt c.new-notes.result.bytes.now)) (sym c.new-notes.ensures.records) tt;
+          rollbacks = subst (AllByRecursion (IsRollbackAt c.new-notes.result.bytes.now)) (sym c.new-notes.ensures.rollbacks) tt;
+        };
       },
     )
 
@@ -33,7 +37,7 @@ pub invariant_of-result : goal.invariant_of-result
 invariant_of-result c =
     let none : c.loop-step.steps ≡ [] = search rules in
     let come = subst (λ (xs : List (ℕ × Step)). HasCome (whole c.args.trace.now) c.args.e xs (kept c.loop-step.notes)) none c.loop-step.invariant.0 in
-    record { kept = come.is_kept; records = c.loop-step.invariant.1.records }
+    record { kept = come.is_kept; framed = c.loop-step.invariant.1.framed }
 
 pub returns-in_err-take-clause-least : goal.returns-in_err-take-clause-least
 returns-in_err-take-clause-least c =

@@ -1,9 +1,9 @@
-use Rattle.std.proofs.Common.{◌≡◌, ℕ, ◌+◌, ◌^◌, ◌<◌, ◌≤◌, map, length, get_or, drop, slice_get, vec_len, List, IsTrue, Some, ap, sym, subst, ◌∙◌, arith, rules}
+use Rattle.std.proofs.Common.{◌≡◌, ℕ, ◌+◌, ◌^◌, ◌<◌, ◌≤◌, map, length, get_or, drop, slice_get, vec_len, Some, ap, sym, ◌∙◌, arith, rules}
 use Rattle.std.proofs.lemmas.List.{length-map, length-take}
 use Rattle.eve_history.specs.declared.notes.Notes.{Notes}
 use Rattle.eve_history.specs.declared.notes.Attempted.{Attempted}
 use Rattle.std.specs.List.{AllByRecursion}
-use Rattle.eve_frames.specs.Views.{is_access_frame, access_in}
+use Rattle.eve_frames.specs.Views.{access_in}
 use Rattle.eve_history.specs.Standing.{IsAccessAt}
 use Rattle.eve_history.specs.Told.{Ran, Telling}
 use Rattle.eve_history.specs.Coming.{kept, kept_attempt, kept_ran, telling_of, IsKept, seen}
@@ -12,25 +12,25 @@ use Rattle.eve_history.proofs.history.History.ordered.Goals as goal
 
 -- where an attempt's records are
 record Here (n : Notes) (v : Telling) (i place : ℕ) (x : Attempted) : Type 0 where
-  told : slice_get v.attempts i ≡ Some (kept_ran (kept n).records (kept_attempt x))
-  short : place < length (kept_attempt x).attempt.certificate
-  within : x.from + length (kept_attempt x).attempt.certificate ≤ length n.records.items
+  told : slice_get v.attempts i ≡ Some (kept_ran (kept n).records (kept_attempt n.bytes.now x))
+  short : place < length (kept_attempt n.bytes.now x).attempt.certificate
+  within : x.from + length (kept_attempt n.bytes.now x).attempt.certificate ≤ length n.records.items
 
 here : (e : ℕ) (n : Notes) (v : Telling) (i place : ℕ) (x : Attempted) → telling_of e (kept n) ≡ v → IsKept (kept n) → i < length v.attempts → ((r : Ran) → slice_get v.attempts i ≡ Some r → place < length r.ordered)
     → x ≡ get_or n.attempts.items i x → Here n v i place x
 here e n v i place x is is_kept lt short read =
     let items = n.attempts.items in
     let count : length v.attempts ≡ length items =
-    ap (λ (v : Telling). length v.attempts) (sym is) ∙ length-map (map kept_attempt items) (kept_ran (kept n).records) ∙ length-map items kept_attempt in
+    ap (λ (v : Telling). length v.attempts) (sym is) ∙ length-map (map (kept_attempt n.bytes.now) items) (kept_ran (kept n).records) ∙ length-map items (kept_attempt n.bytes.now) in
     let at : slice_get items i ≡ Some x = get_is items i x (omega arith) read in
-    let one : slice_get (map kept_attempt items) i ≡ Some (kept_attempt x) = get_mapped kept_attempt items i x at in
-    let told : slice_get v.attempts i ≡ Some (kept_ran (kept n).records (kept_attempt x)) =
-    ap (λ (w : Telling). slice_get w.attempts i) (sym is) ∙ get_mapped (kept_ran (kept n).records) (map kept_attempt items) i (kept_attempt x) one in
-    let within = rec_at _ (map kept_attempt items) i (kept_attempt x) is_kept.within one in
-    let few = short (kept_ran (kept n).records (kept_attempt x)) told in
+    let one : slice_get (map (kept_attempt n.bytes.now) items) i ≡ Some (kept_attempt n.bytes.now x) = get_mapped (kept_attempt n.bytes.now) items i x at in
+    let told : slice_get v.attempts i ≡ Some (kept_ran (kept n).records (kept_attempt n.bytes.now x)) =
+    ap (λ (w : Telling). slice_get w.attempts i) (sym is) ∙ get_mapped (kept_ran (kept n).records) (map (kept_attempt n.bytes.now) items) i (kept_attempt n.bytes.now x) one in
+    let within = rec_at _ (map (kept_attempt n.bytes.now) items) i (kept_attempt n.bytes.now x) is_kept.within one in
+    let few = short (kept_ran (kept n).records (kept_attempt n.bytes.now x)) told in
     record {
       told = told;
-      short = omega (arith, length-take (length (kept_attempt x).attempt.certificate) (drop x.from (kept n).records));
+      short = omega (arith, length-take (length (kept_attempt n.bytes.now x).attempt.certificate) (drop x.from (kept n).records));
       within = omega (arith, within, length-map n.records.items (seen n.bytes.now));
     }
 
@@ -57,38 +57,29 @@ index-at-requires c =
 found_there : (n : Notes) (place at : ℕ) → place < length n.records.items → at ≡ get_or n.records.items place at → AllByRecursion (IsAccessAt n.bytes.now) n.records.items → (slice_get n.records.items place ≡ Some at) × IsAccessAt n.bytes.now at
 found_there n place at lt read all = let got = get_is n.records.items place at lt read in (got, rec_at (IsAccessAt n.bytes.now) n.records.items place at all got)
 
-pub frame_at-requires : goal.frame_at-requires
-frame_at-requires c =
+pub access_at-requires : goal.access_at-requires
+access_at-requires c =
     let n = c.self.inside.notes in
     let x = c.index.result.now in
     let h = here c.self.inside.replica n c.args.self.now c.args.i c.args.place x c.self.view_is c.self.invariant.kept c.requires.attempt c.requires.place c.index.ensures in
     let short = h.short in
     let within = h.within in
-    (found_there n (x.from + c.args.place) c.index-at.result.now (omega arith) c.index-at.ensures c.self.invariant.records).1.framed
-
-pub new-requires : goal.new-requires
-new-requires c =
-    let n = c.self.inside.notes in
-    let x = c.index.result.now in
-    let h = here c.self.inside.replica n c.args.self.now c.args.i c.args.place x c.self.view_is c.self.invariant.kept c.requires.attempt c.requires.place c.index.ensures in
-    let short = h.short in
-    let within = h.within in
-    subst (λ (b : List ℕ). IsTrue (is_access_frame b)) (sym c.frame_at.ensures)
-    (found_there n (x.from + c.args.place) c.index-at.result.now (omega arith) c.index-at.ensures c.self.invariant.records).1.access
+    (found_there n (x.from + c.args.place) c.index-at.result.now (omega arith) c.index-at.ensures c.self.invariant.framed.records).1
 
 pub returns : goal.returns
 returns c =
     let n = c.self.inside.notes in
     let x = c.index.result.now in
     let at = c.index-at.result.now in
+    let a = kept_attempt n.bytes.now x in
     let h = here c.self.inside.replica n c.args.self.now c.args.i c.args.place x c.self.view_is c.self.invariant.kept c.requires.attempt c.requires.place c.index.ensures in
     let short = h.short in
     let within = h.within in
-    let found = found_there n (x.from + c.args.place) at (omega arith) c.index-at.ensures c.self.invariant.records in
-    let is : seen n.bytes.now at ≡ (c.new.result.offset, access_in c.new.result.bytes.now) =
-    λ i. (sym c.new.ensures.offset i, access_in (sym (c.new.ensures.bytes ∙ c.frame_at.ensures) i)) in (
-      kept_ran (kept n).records (kept_attempt x),
+    let found = found_there n (x.from + c.args.place) at (omega arith) c.index-at.ensures c.self.invariant.framed.records in
+    let is : seen n.bytes.now at ≡ (c.access_at.result.offset, access_in c.access_at.result.bytes.now) =
+    λ i. (sym c.access_at.ensures.offset i, access_in (sym c.access_at.ensures.bytes i)) in (
+      kept_ran (kept n).records a,
       h.told,
-      get_in_part (kept n).records x.from (length (kept_attempt x).attempt.certificate) c.args.place (seen n.bytes.now at) h.short (get_mapped (seen n.bytes.now) n.records.items (x.from + c.args.place) at found.0)
+      get_in_part (kept n).records x.from (length a.attempt.certificate) c.args.place (seen n.bytes.now at) h.short (get_mapped (seen n.bytes.now) n.records.items (x.from + c.args.place) at found.0)
           ∙ ap Some is,
     )

@@ -1,0 +1,29 @@
+use Rattle.std.proofs.Common.{◌≡◌, ℕ, ◌<◌, length, get_or, slice_get, Some, ap, sym, ◌∙◌, arith}
+use Rattle.std.proofs.lemmas.List.{length-map}
+use Rattle.eve_frames.specs.Views.{rollback_in}
+use Rattle.eve_history.specs.declared.notes.Notes.{Notes}
+use Rattle.eve_history.specs.Standing.{IsRollbackAt}
+use Rattle.eve_history.specs.Told.{Telling}
+use Rattle.eve_history.specs.Coming.{kept, rolled, telling_of}
+use Rattle.eve_history.proofs.Finding.{get_mapped, get_is, rec_at}
+use Rattle.eve_history.proofs.history.History.rollback.Goals as goal
+
+-- where the rollback was found
+found : (e : ℕ) (n : Notes) (v : Telling) (i at : ℕ) → telling_of e (kept n) ≡ v → i < length v.rollbacks → at ≡ get_or n.rollbacks.items i at → slice_get n.rollbacks.items i ≡ Some at
+found e n v i at is lt read =
+    let count : length v.rollbacks ≡ length n.rollbacks.items = ap (λ (v : Telling). length v.rollbacks) (sym is) ∙ length-map n.rollbacks.items (rolled n.bytes.now) in
+    get_is n.rollbacks.items i at (omega arith) read
+
+pub rollback_at-requires : goal.rollback_at-requires
+rollback_at-requires c =
+    let n = c.self.inside.notes in
+    rec_at (IsRollbackAt n.bytes.now) n.rollbacks.items c.args.i c.index.result.now c.self.invariant.framed.rollbacks
+    (found c.self.inside.replica n c.args.self.now c.args.i c.index.result.now c.self.view_is c.requires c.index.ensures)
+
+pub returns : goal.returns
+returns c =
+    let n = c.self.inside.notes in
+    let at = c.index.result.now in
+    ap (λ (v : Telling). slice_get v.rollbacks c.args.i) (sym c.self.view_is)
+    ∙ get_mapped (rolled n.bytes.now) n.rollbacks.items c.args.i at (found c.self.inside.replica n c.args.self.now c.args.i at c.self.view_is c.requires c.index.ensures)
+    ∙ (λ i. Some (sym c.rollback_at.ensures.offset i, rollback_in (sym c.rollback_at.ensures.bytes i)))
