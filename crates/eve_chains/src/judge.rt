@@ -24,7 +24,7 @@ use std::thread::Threads;
 /// docs/MODEL.md, "A record fits its request", "What an entry must see" and "Faults". Want of memory decides nothing.
 /// The time is linear in the entries.
 pub fn check<'a, R: Threads + Sync>(
-    _rt: &R,
+    rt: &R,
     alloc: Global,
     history: &History<'a>,
     trace: &Trace<'a>,
@@ -38,7 +38,7 @@ pub fn check<'a, R: Threads + Sync>(
     ensures none { IfOk result (λ _. HasNoFault (whole trace.now) history.now.replica) }
     ensures least { IfErr result (λ why. IfFound why (IsLeastFault (whole trace.now) history.now.replica)) }
 {
-    if let Err(why) = records(alloc, history, trace, names) {
+    if let Err(why) = records(rt, alloc, history, trace, names) {
         return Err(why);
     }
     if let Err(why) = chains(alloc, history, trace) {

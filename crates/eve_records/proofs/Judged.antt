@@ -1,7 +1,7 @@
 -- What is found among the records of the settled attempts is what is said of records.
-use Rattle.std.proofs.Common.{◌≡◌, ℕ, zero, suc, ◌+◌, ◌-◌, ◌<◌, ◌≤◌, Bool, true, false, cond, List, [], ◌∷◌, ◌++◌, map, length, take, slice_get, slice_index_or, Option, Some, None, refl, sym, subst, ap, ◌∙◌, inl, inr, ◌⊎◌, arith}
+use Rattle.std.proofs.Common.{◌≡◌, ℕ, zero, suc, ◌+◌, ◌-◌, ◌≤◌, Bool, true, false, cond, List, [], ◌∷◌, ◌++◌, map, length, slice_get, slice_index_or, Option, Some, None, refl, sym, subst, ap, ◌∙◌, inl, inr, ◌⊎◌, arith}
 use Rattle.std.proofs.lemmas.Bool.{cases_lt, cond-true, false≢true}
-use Rattle.std.proofs.lemmas.List.{length-map, take_all}
+use Rattle.std.proofs.lemmas.List.{length-map}
 use Rattle.std.proofs.Math.ListN.{get_or-map}
 use mathlib.Core.Path.{fun_ext}
 use Rattle.std.specs.List.{AllByRecursion}
@@ -291,17 +291,9 @@ module _ (t : Trace) (e : ℕ) (limits : HasLimits t) (right : IsRightSection t 
 
 -- ---- a history to its end
 
-pub item_there : {A : Type 0} (xs : List A) (i : ℕ) → i < length xs → (x : A) × (slice_get xs i ≡ Some x)
-item_there [] i lt = absurd (omega arith)
-item_there (x ∷ xs) zero lt = (x, refl)
-item_there (x ∷ xs) (suc i) lt = item_there xs i (omega arith)
-
-pub at_the_end : (t : Trace) (names : List (List ℕ)) (h : Telling) (n : ℕ) (o : Option ℕ) → names ≡ names_of t → h ≡ telling t h.replica → n ≡ length h.attempts → n ≡ length h.fates
-    → IsLeastUnfit names (all_records t (take n h.attempts) (take n h.fates)) o → IsLeastUnfit (names_of t) (judged_of t h.replica) o
-at_the_end t names h n o named is attempts fates found =
-    let whole_attempts : take n h.attempts ≡ h.attempts = take_all n h.attempts (omega arith) in
-    let whole_fates : take n h.fates ≡ h.fates = take_all n h.fates (omega arith) in
-    let told : all_records t (take n h.attempts) (take n h.fates) ≡ judged_of t h.replica =
-    (λ i. all_records t (whole_attempts i) (whole_fates i)) ∙ ap (λ (k : Telling). all_records t k.attempts k.fates) is ∙ judged_all t h.replica in
-    subst (λ (xs : List (ℕ × Executed)). IsLeastUnfit (names_of t) xs o) told
-    (subst (λ (ns : List (List ℕ)). IsLeastUnfit ns (all_records t (take n h.attempts) (take n h.fates)) o) named found)
+-- as a history tells it
+pub as_told : (t : Trace) (names : List (List ℕ)) (h : Telling) (o : Option ℕ) → names ≡ names_of t → h ≡ telling t h.replica
+    → IsLeastUnfit names (all_records t h.attempts h.fates) o → IsLeastUnfit (names_of t) (judged_of t h.replica) o
+as_told t names h o named is found =
+    subst (λ (xs : List (ℕ × Executed)). IsLeastUnfit (names_of t) xs o) (ap (λ (k : Telling). all_records t k.attempts k.fates) is ∙ judged_all t h.replica)
+    (subst (λ (ns : List (List ℕ)). IsLeastUnfit ns (all_records t h.attempts h.fates) o) named found)

@@ -1,5 +1,5 @@
 -- The least offset of the records that don't fit: of one list and of another behind it.
-use Rattle.std.proofs.Common.{◌≡◌, ℕ, zero, suc, ◌+◌, ◌≤◌, ◌<◌, nat_lt, Bool, true, false, cond, List, [], ◌∷◌, ◌++◌, map, take, slice_get, get_or, length, Option, Some, None, refl, sym, subst, ap, ◌∙◌, inl, inr, ◌⊎◌, add-one, append_assoc, append-nil, arith}
+use Rattle.std.proofs.Common.{◌≡◌, ℕ, ◌+◌, ◌≤◌, ◌<◌, nat_lt, Bool, true, false, cond, List, [], ◌∷◌, ◌++◌, map, take, slice_get, get_or, length, Option, Some, None, refl, sym, subst, ap, ◌∙◌, inl, inr, ◌⊎◌, arith}
 use Rattle.std.proofs.lemmas.Bool.{cases_lt, ltb-true, lt-ltb, false≢true}
 use Rattle.std.specs.List.{AllByRecursion}
 use Rattle.std.proofs.lemmas.List.{get_or-map, map_more}
@@ -10,16 +10,13 @@ use Rattle.eve_smallbank.specs.declared.request.Reply.TheVariants.{Done}
 use Rattle.eve_smallbank.specs.SmallBank.{Balance, plain}
 use Rattle.eve_smallbank.specs.Access.{Executed, Fits}
 use Rattle.eve_smallbank.proofs.Members.{all_in, all_from_in}
-use Rattle.eve_grammar.specs.Trace.{Access, Trace}
-use Rattle.eve_history.specs.declared.fate.Fate.{Fate}
-use Rattle.eve_history.specs.Told.{Ran}
+use Rattle.eve_grammar.specs.Trace.{Access}
 use Rattle.eve_views.specs.Form.{SomePlace}
 use Rattle.eve_serial.proofs.Distinct.{in_left, in_right}
 use Rattle.eve_serial.proofs.Settled.{all-append}
 use Rattle.eve_serial.proofs.Faultless.{in_place, place_of}
-use Rattle.eve_serial.proofs.Linked.{some_injective, none≢some}
 use Rattle.eve_serial.specs.Records.{recorded}
-use Rattle.eve_records.specs.Unfit.{recorded_of, records_of, all_records, IsLeastUnfit, lesser}
+use Rattle.eve_records.specs.Unfit.{recorded_of, IsLeastUnfit, lesser}
 
 -- ---- two lists
 
@@ -68,27 +65,6 @@ module _ (names : List (List ℕ)) where
   least_append xs ys None (Some n) first other = (unfit_right n xs ys other.0, all-append (IsUpToUnfit n) xs ys (up_from_fit n xs first) other.1)
   least_append xs ys (Some m) None first other = (unfit_left m xs ys first.0, all-append (IsUpToUnfit m) xs ys first.1 (up_from_fit m ys other))
   least_append xs ys (Some m) (Some n) first other = lesser_of m n xs ys (nat_lt n m) refl first other
-
--- ---- one attempt more
-
-all_records_next : (t : Trace) (rs : List Ran) (fates : List Fate) (i : ℕ) (r : Ran) (fate : Fate) → slice_get rs i ≡ Some r → slice_get fates i ≡ Some fate
-    → all_records t (take (suc i) rs) (take (suc i) fates) ≡ all_records t (take i rs) (take i fates) ++ records_of t r fate
-all_records_next t [] fates i r fate at its = none≢some r at
-all_records_next t (q ∷ rs) [] i r fate at its = none≢some fate its
-all_records_next t (q ∷ rs) (f ∷ fates) zero r fate at its =
-    append-nil (records_of t q f) ∙ ap (λ (x : Ran). records_of t x f) (some_injective q r at) ∙ ap (records_of t r) (some_injective f fate its)
-all_records_next t (q ∷ rs) (f ∷ fates) (suc i) r fate at its =
-    ap (λ (xs : List (ℕ × Executed)). records_of t q f ++ xs) (all_records_next t rs fates i r fate at its)
-    ∙ sym (append_assoc (records_of t q f) (all_records t (take i rs) (take i fates)) (records_of t r fate))
-
--- what was found of it counts
-pub least_more : (names : List (List ℕ)) (t : Trace) (rs : List Ran) (fates : List Fate) (i : ℕ) (r : Ran) (fate : Fate) (o p : Option ℕ) → slice_get rs i ≡ Some r → slice_get fates i ≡ Some fate
-    → IsLeastUnfit names (all_records t (take i rs) (take i fates)) o → IsLeastUnfit names (records_of t r fate) p
-    → IsLeastUnfit names (all_records t (take (i + 1) rs) (take (i + 1) fates)) (lesser o p)
-least_more names t rs fates i r fate o p at its first other =
-    subst (λ (n : ℕ). IsLeastUnfit names (all_records t (take n rs) (take n fates)) (lesser o p)) (sym (add-one i))
-    (subst (λ (xs : List (ℕ × Executed)). IsLeastUnfit names xs (lesser o p)) (sym (all_records_next t rs fates i r fate at its))
-    (least_append names (all_records t (take i rs) (take i fates)) (records_of t r fate) o p first other))
 
 -- ---- one record
 

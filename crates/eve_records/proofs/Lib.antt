@@ -1,3 +1,4 @@
 pub mod Least
 pub mod Attempts
 pub mod Judged
+pub mod Pieces

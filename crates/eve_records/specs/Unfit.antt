@@ -1,6 +1,6 @@
 -- The records of settled attempts, one after another, and the first that doesn't fit its request.
 -- docs/MODEL.md, "A record fits its request".
-use Rattle.std.specs.Prelude.{◌≡◌, ℕ, ◌<◌, ◌≤◌, nat_lt, Bool, true, false, if◌then◌else◌, List, [], ◌∷◌, ◌++◌, map, length, Option, Some, None, slice_index_or}
+use Rattle.std.specs.Prelude.{◌≡◌, ℕ, ◌<◌, ◌≤◌, nat_lt, Bool, true, false, if◌then◌else◌, List, [], ◌∷◌, ◌++◌, map, length, Option, Some, None, Result, Ok, Err, slice_get, slice_index_or}
 use Rattle.std.specs.List.{AllByRecursion}
 use Rattle.eve_smallbank.specs.declared.request.Reply.{Reply}
 use Rattle.eve_smallbank.specs.declared.request.Reply.TheVariants.{Done}
@@ -9,7 +9,7 @@ use Rattle.eve_smallbank.specs.Access.{Executed, Fits}
 use Rattle.eve_grammar.specs.Trace.{Access, Trace}
 use Rattle.eve_history.specs.declared.fate.Fate.{Fate}
 use Rattle.eve_history.specs.declared.fate.Fate.TheVariants.{Committed, Discarded, Open}
-use Rattle.eve_history.specs.Told.{Ran}
+use Rattle.eve_history.specs.Told.{Ran, Telling, telling, IsRightSection}
 use Rattle.eve_views.specs.Form.{SomePlace}
 use Rattle.eve_serial.specs.Visible.{executed_by}
 use Rattle.eve_serial.specs.Records.{recorded}
@@ -53,7 +53,25 @@ IsLeastUnfit names xs None = AllByRecursion (λ x. Fits names x.1) xs
 IsLeastUnfit names xs (Some at) =
     SomePlace xs (λ _ x. (x.0 ≡ at) × ¬ Fits names x.1) × AllByRecursion (λ x. ¬ Fits names x.1 → at ≤ x.0) xs
 
+-- the attempt at this place is one of those that a right section tells
+pub record CanBeJudged (t : Trace) (h : Telling) (i : ℕ) : Type 0 where
+  pub told : h ≡ telling t h.replica
+  pub right : IsRightSection t h.replica
+  pub attempt : i < length h.attempts
+  pub fate : i < length h.fates
+
+-- the same of the records of the attempt at this place
+abbrev pub IsLeastOfAttempt : List (List ℕ) → Trace → Telling → ℕ → Option ℕ → Type 0
+IsLeastOfAttempt names t h i least =
+    (r : Ran) (fate : Fate) → slice_get h.attempts i ≡ Some r → slice_get h.fates i ≡ Some fate → IsLeastUnfit names (records_of t r fate) least
+
 abbrev pub lesser : Option ℕ → Option ℕ → Option ℕ
 lesser None other = other
 lesser (Some m) None = Some m
 lesser (Some m) (Some n) = if nat_lt n m then Some n else Some m
+
+-- the last is the lesser of two that were found
+abbrev pub IsLesser : {E : Type 0} → Result (Option ℕ) E → Result (Option ℕ) E → Option ℕ → Type 0
+IsLesser (Ok first) (Ok other) least = least ≡ lesser first other
+IsLesser (Ok first) (Err why) least = ⊥
+IsLesser (Err why) other least = ⊥

@@ -1,18 +1,16 @@
 //! The faults of records.
 
-ghost use Rattle.std.specs.Prelude.{◌≡◌, ◌<◌, ◌∷◌, [], Some, OnOk, IfOk, IfErr, length, map, slice_get};
+ghost use Rattle.std.specs.Prelude.{◌≡◌, ◌<◌, ◌∷◌, [], None, Ok, Some, OnOk, IfOk, IfErr, length, map, slice_get};
 ghost use Rattle.eve_smallbank.specs.SmallBank.{plain};
 ghost use Rattle.eve_frames.specs.Views.{batch_in, access_in};
 ghost use Rattle.eve_views.specs.Form.{IfFound};
 ghost use Rattle.eve_views.specs.Fronts.{whole};
 ghost use Rattle.eve_views.specs.declared.fault.Fault.{Fault as FaultValue};
-ghost use Rattle.eve_views.specs.declared.fault.CheckFault.TheVariants.{Memory};
-ghost use Rattle.eve_history.specs.declared.fate.Fate.{Fate as FateValue};
 ghost use Rattle.eve_history.specs.Told.{Ran, telling, names_of, IsRightSection};
 ghost use Rattle.eve_serial.specs.Records.{recorded};
 ghost use Rattle.eve_serial.specs.Sound.{RecordsFit};
 ghost use Rattle.eve_serial.specs.Faults.{IsRecordFault, IsLeastRecordFault};
-ghost use Rattle.eve_records.specs.Unfit.{is_settled, recorded_of, records_of, HasRequests, IsLeastUnfit, lesser};
+ghost use Rattle.eve_records.specs.Unfit.{is_settled, recorded_of, all_records, HasRequests, IsLeastUnfit, CanBeJudged, IsLeastOfAttempt, lesser, IsLesser};
 
 use eve_accounts::Names;
 use eve_frames::{AccessView, BatchView};
@@ -20,14 +18,20 @@ use eve_history::{Fate, History};
 use eve_serial::fits;
 use eve_smallbank::{Reply, Request};
 use eve_views::{CheckFault, Code, Fault, Trace};
-use std::alloc::Global;
+use rayon::prelude::*;
+use std::alloc::{AllocError, Global};
+use std::thread::Threads;
+
+/// How few attempts are worth a thread of their own: one has up to 256 records.
+const LEAST_ATTEMPTS: usize = 16;
 
 /// Judges the records of a replica's settled attempts one by one: each fits its request, or the first that does not is
 /// named.
 ///
-/// docs/MODEL.md, "A record fits its request" and "Faults". One pass over the records; what is kept is the requests of
-/// one batch. Want of memory decides nothing.
-pub fn records(
+/// docs/MODEL.md, "A record fits its request" and "Faults". The attempts are judged in as many threads as there are
+/// processors, and what is kept of one is the requests of its batch. Want of memory decides nothing.
+pub fn records<R: Threads + Sync>(
+    rt: &R,
     alloc: Global,
     history: &History<'_>,
     trace: &Trace<'_>,
@@ -41,13 +45,7 @@ pub fn records(
     ensures least { IfErr result (λ why. IfFound why (IsLeastRecordFault (whole trace.now) history.now.replica)) }
 {
     trace.is_whole();
-    let mut requests = Vec::new(alloc);
-    let mut least = None;
-    for i in 0..history.attempts() {
-        let wrong = judge_attempt(history, i, trace, names, &mut requests)?;
-        least = lesser(least, wrong);
-    }
-    match least {
+    match first_unfit(rt, alloc, history, trace, names)? {
         None => Ok(()),
         Some(offset) => Err(CheckFault::Found(Fault {
             code: Code::Record,
@@ -57,29 +55,60 @@ pub fn records(
     }
 }
 
-/// The least offset of an attempt's records that don't fit. Those of an open attempt are not judged.
-fn judge_attempt<'a>(
+/// The least offset of the settled attempts' records that don't fit.
+fn first_unfit<R: Threads + Sync>(
+    rt: &R,
+    alloc: Global,
     history: &History<'_>,
-    i: usize,
-    trace: &Trace<'a>,
+    trace: &Trace<'_>,
     names: &Names<'_>,
-    requests: &mut Vec<Request<'a>>,
-) -> Result<Option<u64>, CheckFault>
+) -> Result<Option<u64>, AllocError>
     requires history { history.now ≡ telling (whole trace.now) history.now.replica }
     requires right { IsRightSection (whole trace.now) history.now.replica }
-    requires attempt { i < length history.now.attempts }
-    requires fate { i < length history.now.fates }
-    ensures least { IfOk result (λ least. (r : Ran) (fate : FateValue) → slice_get history.now.attempts i ≡ Some r → slice_get history.now.fates i ≡ Some fate
-        → IsLeastUnfit names.now.items (records_of (whole trace.now) r fate) least) }
-    ensures memory { IfErr result (λ why. why ≡ Memory) }
+    ensures { IfOk result (IsLeastUnfit names.now.items (all_records (whole trace.now) history.now.attempts history.now.fates)) }
+{
+    (0..history.attempts())
+        .into_par_iter()
+        .with_min_len(LEAST_ATTEMPTS)
+        .map(
+            |i: usize| -> Result<Option<u64>, AllocError>
+                requires { CanBeJudged (whole trace.now) history.now i }
+                ensures { IfOk result (IsLeastOfAttempt names.entry.now.items (whole trace.entry.now) history.entry.now i) }
+            { judge_attempt(alloc, history, i, trace, names) },
+        )
+        .reduce(
+            rt,
+            || -> Result<Option<u64>, AllocError>
+                ensures { result ≡ Ok None }
+            { Ok(None) },
+            |first: Result<Option<u64>, AllocError>, other: Result<
+                Option<u64>,
+                AllocError,
+            >| -> Result<Option<u64>, AllocError>
+                ensures { IfOk result (IsLesser first other) }
+            { lesser_found(first, other) },
+        )
+}
+
+/// The least offset of an attempt's records that don't fit. Those of an open attempt are not judged.
+fn judge_attempt(
+    alloc: Global,
+    history: &History<'_>,
+    i: usize,
+    trace: &Trace<'_>,
+    names: &Names<'_>,
+) -> Result<Option<u64>, AllocError>
+    requires { CanBeJudged (whole trace.now) history.now i }
+    ensures { IfOk result (IsLeastOfAttempt names.now.items (whole trace.now) history.now i) }
 {
     trace.is_whole();
     if !is_settled(history.fate(i)) {
         return Ok(None);
     }
     let batch = trace.batch(history.attempt(i).seq());
-    read_requests(requests, &batch)?;
-    Ok(judge_records(history, i, requests, names))
+    let mut requests = Vec::new(alloc);
+    read_requests(&mut requests, &batch)?;
+    Ok(judge_records(history, i, &requests, names))
 }
 
 fn is_settled(fate: Fate) -> bool
@@ -92,15 +121,14 @@ fn is_settled(fate: Fate) -> bool
     }
 }
 
-/// Puts the requests of a batch in the place of those that were there.
+/// Puts the requests of a batch into a list that has none.
 fn read_requests<'a>(
     requests: &mut Vec<Request<'a>>,
     batch: &BatchView<'a>,
-) -> Result<(), CheckFault>
-    ensures read { OnOk result (map plain requests.new.items ≡ map (λ a. a.request) (batch_in batch.now.bytes.now).1.requests) }
-    ensures memory { IfErr result (λ why. why ≡ Memory) }
+) -> Result<(), AllocError>
+    requires { requests.old.items ≡ [] }
+    ensures { OnOk result (map plain requests.new.items ≡ map (λ a. a.request) (batch_in batch.now.bytes.now).1.requests) }
 {
-    requests.clear();
     for asked in batch.requests() {
         requests.reserve(1)?;
         requests.push_reserved(asked.request);
@@ -145,6 +173,16 @@ fn judge_record(
     } else {
         Some(access.offset())
     }
+}
+
+/// The lesser of two offsets that were found, where the memory was there.
+fn lesser_found(
+    first: Result<Option<u64>, AllocError>,
+    other: Result<Option<u64>, AllocError>,
+) -> Result<Option<u64>, AllocError>
+    ensures { IfOk result (IsLesser first other) }
+{
+    Ok(lesser(first?, other?))
 }
 
 /// The lesser of two offsets, where there are any.

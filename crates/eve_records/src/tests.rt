@@ -6,6 +6,7 @@ use eve_views::{CheckFault, Code, Fault, Trace};
 use std::alloc::{AllocError, Global};
 use std::hash::RandomState;
 use std::test::Fail;
+use std::thread::Threads;
 
 /// The worked case `deposit-committed` up to the reply in its attempt, but for the length.
 const FRONT: &[u8] = b"EVESBK\0\x01\x01\x01\x01\x01\x01\0\0\0\0\0\0\x01\0\0\0\x01\0\0\0\0\0\0\0\0\
@@ -49,20 +50,31 @@ fn traced(alloc: Global, reply: u8, value: u8, step: &[u8]) -> Result<Vec<u8>, A
 }
 
 /// What is said of replica 0's records.
-fn judged(alloc: Global, bytes: &[u8], random: RandomState) -> Result<(), CheckFault> {
+fn judged<R: Threads + Sync>(
+    rt: &R,
+    alloc: Global,
+    bytes: &[u8],
+    random: RandomState,
+) -> Result<(), CheckFault> {
     let trace = Trace::read(alloc, bytes)?;
     trace.is_whole();
     let names = orders(alloc, &trace, random)?;
     let history = History::of(alloc, &trace, 0)?;
-    records(alloc, &history, &trace, &names)
+    records(rt, alloc, &history, &trace, &names)
 }
 
 #[test]
 fn passes_records_that_fit(rt: HostRuntime) -> Result<(), Fail> {
     let right = traced(rt.alloc(), 0, 0xf4, COMMIT)?;
-    assert_eq!(rt; judged(rt.alloc(), &right, RandomState::new(&rt)?), Ok(()));
+    assert_eq!(rt;
+        judged(&rt, rt.alloc(), &right, RandomState::new(&rt)?),
+        Ok(())
+    );
     let open = traced(rt.alloc(), 0, 0xf5, b"")?;
-    assert_eq!(rt; judged(rt.alloc(), &open, RandomState::new(&rt)?), Ok(()));
+    assert_eq!(rt;
+        judged(&rt, rt.alloc(), &open, RandomState::new(&rt)?),
+        Ok(())
+    );
     Ok(())
 }
 
@@ -76,7 +88,7 @@ fn names_a_record_that_does_not(rt: HostRuntime) -> Result<(), Fail> {
             offset: 160,
             replica: Some(0),
         };
-        let verdict = judged(rt.alloc(), &bytes, RandomState::new(&rt)?);
+        let verdict = judged(&rt, rt.alloc(), &bytes, RandomState::new(&rt)?);
         assert_eq!(rt; verdict, Err(CheckFault::Found(fault)));
     }
     Ok(())

@@ -10,12 +10,12 @@ unfolding telling
 own_replica t e h is = ap (λ (k : Telling). k.replica) is
 
 pub records-requires-clause-history : goal.records-requires-clause-history
-records-requires-clause-history c =
+records-requires-clause-history g c κs within =
     let t = whole c.in_ok-trace.trace in
     let told = c.in_ok-history.ensures.telling in
     told ∙ ap (telling t) (sym (own_replica t 0 c.in_ok-history.history told))
 
 pub records-requires-clause-right : goal.records-requires-clause-right
-records-requires-clause-right c =
+records-requires-clause-right g c κs within =
     let t = whole c.in_ok-trace.trace in
     subst (IsRightSection t) (sym (own_replica t 0 c.in_ok-history.history c.in_ok-history.ensures.telling)) c.in_ok-history.ensures.right
