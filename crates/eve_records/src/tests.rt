@@ -49,6 +49,58 @@ fn traced(alloc: Global, reply: u8, value: u8, step: &[u8]) -> Result<Vec<u8>, A
     Ok(bytes)
 }
 
+/// The header of forty batches, and the customer.
+const HEAD_OF_FORTY: &[u8] =
+    b"EVESBK\0\x01\x01\x01\x01\x01\x01\0\0\0\0\0\0\x01\0\0\0\x28\0\0\0\0\0\0\x1c\xe8\
+\x01\0\0\0\x14\x03ann\0\0\0\0\0\0\0\0\0\0\0\0\0\0\0\0";
+
+/// The view and the token of a commit.
+const COMMITTED: &[u8] =
+    b"\0\0\0\0\xe4\x13\x02\x29\x83\x83\xde\x95\xa3\x8c\x6b\x57\x20\x29\x77\x40\x55\x9d\xd3\x69\x90\xc8\x1e\xbe\x27\xc6\xf4\x28\x59\xfa\x31\xaa";
+
+fn append(bytes: &mut Vec<u8>, parts: &[&[u8]]) -> Result<(), AllocError> {
+    for part in parts {
+        bytes.extend_from_slice(part)?;
+    }
+    Ok(())
+}
+
+/// Forty batches of one deposit each, all committed: more attempts than one thread takes. What the deposits of batch 35
+/// and of this batch leave is wrong.
+fn forty(alloc: Global, wrong: u8) -> Result<Vec<u8>, AllocError> {
+    let mut bytes = Vec::new(alloc);
+    append(&mut bytes, &[HEAD_OF_FORTY])?;
+    for n in 1..41u8 {
+        append(
+            &mut bytes,
+            &[
+                b"\x02\0\0\0\x21\0\0\0",
+                &[n],
+                b"\0\x01\0\x01\0\0\0\x07\0\0\0\0\0\0\0",
+                &[n],
+                b"\x02\x03ann\0\0\0\0\0\0\x01\xf4",
+            ],
+        )?;
+    }
+    append(&mut bytes, &[b"\x10\0\0\0\x01\0"])?;
+    for n in 1..41u8 {
+        let value = if n == wrong || n == 35 { 0xf5 } else { 0xf4 };
+        append(
+            &mut bytes,
+            &[
+                b"\x11\0\0\0\x36\0\0\0",
+                &[n],
+                b"\0\0\0\0\0\0\x01\0\0\0",
+                MIDDLE,
+                &[value],
+            ],
+        )?;
+        append(&mut bytes, &[b"\x13\0\0\0\x28\0\0\0", &[n], COMMITTED])?;
+    }
+    append(&mut bytes, &[BACK])?;
+    Ok(bytes)
+}
+
 /// What is said of replica 0's records.
 fn judged<R: Threads + Sync>(
     rt: &R,
@@ -86,6 +138,22 @@ fn names_a_record_that_does_not(rt: HostRuntime) -> Result<(), Fail> {
         let fault = Fault {
             code: Code::Record,
             offset: 160,
+            replica: Some(0),
+        };
+        let verdict = judged(&rt, rt.alloc(), &bytes, RandomState::new(&rt)?);
+        assert_eq!(rt; verdict, Err(CheckFault::Found(fault)));
+    }
+    Ok(())
+}
+
+/// The first is named, whichever thread finds it.
+#[test]
+fn names_the_first_of_many_attempts(rt: HostRuntime) -> Result<(), Fail> {
+    for (wrong, offset) in [(20, 4378), (35, 6538)] {
+        let bytes = forty(rt.alloc(), wrong)?;
+        let fault = Fault {
+            code: Code::Record,
+            offset,
             replica: Some(0),
         };
         let verdict = judged(&rt, rt.alloc(), &bytes, RandomState::new(&rt)?);
