@@ -75,7 +75,7 @@ before_rest-append before [] ys = refl
 before_rest-append before (x ∷ xs) ys = before_rest-append (before_next before x.entries) xs ys
 
 -- an attempt that settles leads from what its path left to what it leaves with it
-leads : (t : Trace) (e : ℕ) (p : Placed) (path : List Attempt) → HasLimits t → IsRightSection t e → In p (settled (history t e))
+pub leads : (t : Trace) (e : ℕ) (p : Placed) (path : List Attempt) → HasLimits t → IsRightSection t e → In p (settled (history t e))
     → table_along t (path ++ p.attempt ∷ []) ≡ table_after (table_along t path) (entries_along (own p))
 unfolding record_at
 leads t e p path limits right i =
@@ -86,7 +86,7 @@ leads t e p path limits right i =
     ∙ sym (table_between (opening_table t) (executed_at t p.attempt) (access_with (accesses_at p.offset p.attempt)) (entries_before t path) p.attempt.certificate
     (same_entries t p (right_one t e p right i) (complete_one t e p limits i)))
 
-lead_all : (t : Trace) (e : ℕ) (path : List Attempt) (ps : List Placed) → HasLimits t → IsRightSection t e → ((p : Placed) → In p ps → In p (settled (history t e))) → Advances t path ps
+pub lead_all : (t : Trace) (e : ℕ) (path : List Attempt) (ps : List Placed) → HasLimits t → IsRightSection t e → ((p : Placed) → In p ps → In p (settled (history t e))) → Advances t path ps
 lead_all t e path [] limits right settles = tt
 lead_all t e path (p ∷ ps) limits right settles =
     (leads t e p path limits right (settles p here), lead_all t e (path ++ p.attempt ∷ []) ps limits right (λ q i. settles q (there i)))

@@ -2,6 +2,7 @@
 #![tactic(auto)]
 
 mod judge;
+pub mod laws;
 #[cfg(test)]
 mod tests;
 mod walk;
