@@ -478,3 +478,19 @@ one_each (WriteCheck name amount) (saving ∷ checking ∷ []) d e =
     let after : ℤ = checking -ℤ check_cost (record { saving = saving; checking = checking }) amount in
     as_many (the_same _ d e) (as_many_within (is_balance after) (kept saving ∷ written after ∷ []) (saving ∷ checking ∷ []) refl)
 one_each request values d e = absurd (nothing d e)
+
+-- ---- a request that is refused
+
+abbrev refusal_of : Abort → Decision
+refusal_of why = record { reply = Aborted why; effects = [] }
+
+as_refused : (x : Executed) (why : Abort) → decision_in x ≡ refusal_of why → x ≡ record { request = x.request; reply = Aborted why; entries = [] }
+as_refused x why is =
+    ap₂ (λ (r : Reply) (es : List Entry). let y : Executed = record { request = x.request; reply = r; entries = es } in y) (ap (λ d. d.reply) is) (no_effects x.entries (ap (λ d. d.effects) is))
+
+-- it fits with that answer and no entries
+pub refused_fits : (names : List (List ℕ)) (request : Request) (why : Abort) → touched_of names request ≡ touched.Refused why
+    → Fits names record { request = request; reply = Aborted why; entries = [] }
+refused_fits names request why is =
+    let table : Table = λ row. record { version = 0; value = pos 0 } in
+    subst (Fits names) (as_refused (executed_on names table request) why (refused names table request why is)) (always_fits names table request)

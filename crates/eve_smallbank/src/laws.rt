@@ -1,9 +1,12 @@
 //! Laws about the definitions. Each body is empty: the contract is the law.
 
-ghost use Rattle.std.specs.Prelude.{◌≡◌, ℕ, List, map};
+ghost use Rattle.std.specs.Prelude.{◌≡◌, ℕ, List, [], map};
 ghost use Rattle.std.specs.List.{AllByRecursion};
 ghost use Rattle.eve_smallbank.specs.SmallBank.{Request};
 ghost use Rattle.eve_smallbank.specs.declared.entry.Entry.{Entry};
+ghost use Rattle.eve_smallbank.specs.declared.request.Abort.{Abort};
+ghost use Rattle.eve_smallbank.specs.declared.request.Reply.TheVariants.{Aborted};
+ghost use Rattle.eve_smallbank.specs.declared.rows.Touched.TheVariants.{Refused};
 ghost use Rattle.eve_smallbank.specs.Access.{Executed, Fits};
 ghost use Rattle.eve_smallbank.specs.Touch.{touched_of, rows_in};
 ghost use Rattle.eve_smallbank.specs.Chain.{Table, visible_at, Sees, IsRowChained, HasOneEach, IsWalk, row_entries};
@@ -13,6 +16,12 @@ ghost use Rattle.eve_smallbank.specs.SerialOrder.{IsSound, IsSerial};
 /// What a request makes of the rows that it meets fits it.
 pub fn requests_fit()
     ensures { (names : List (List ℕ)) (table : Table) (request : Request) → Fits names (executed_on names table request) }
+{}
+
+/// A request that is refused before it touches a row fits with that answer and no entries.
+pub fn refused_requests_fit()
+    ensures { (names : List (List ℕ)) (request : Request) (why : Abort) → touched_of names request ≡ Refused why
+        → Fits names record { request = request; reply = Aborted why; entries = [] } }
 {}
 
 /// Executed requests that fit one by one, and whose rows are chained each by itself, are serial.

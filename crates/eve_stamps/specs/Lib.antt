@@ -1,0 +1,4 @@
+pub mod Applied
+pub mod Holding
+pub mod Stamping
+pub mod Stripes

@@ -1,0 +1,265 @@
+//! A request on the stripes that it is lent.
+
+ghost use Rattle.std.specs.Prelude.{◌≡◌, ◌<◌, ◌≤◌, ◌+◌, ℕ, List, IfOk, OnOk, OnErr, ◌&&◌, not, map, length, if◌then◌else◌, [], ◌∷◌, ◌++◌, vec_len, vec_capacity};
+ghost use Rattle.std.specs.List.{list_all, AllByRecursion};
+ghost use Rattle.eve_smallbank.specs.SmallBank.{plain};
+ghost use Rattle.eve_smallbank.specs.Access.{Fits, is_write};
+ghost use Rattle.eve_smallbank.specs.Chain.{Table, Sees};
+ghost use Rattle.eve_smallbank.specs.Touch.{touched_of, rows_in};
+ghost use Rattle.eve_smallbank.specs.Execution.{executed_on};
+ghost use Rattle.eve_stamps.specs.Applied.{noted_of, executed_by};
+ghost use Rattle.eve_stamps.specs.Stripes.{has_row, row_in, rows_now, is_above, noted_in};
+ghost use Rattle.eve_stamps.specs.Stamping.{has_row_in_two, rows_in_two, entries_within, entries_outside, is_worn, refusal, refusal_of_two, IsRefusedFor};
+
+use crate::executing::executed;
+use crate::journal::Journaled;
+use crate::rows::write;
+use crate::{AccessRecord, StampFault, Stripe};
+use eve_accounts::Row;
+use eve_grammar::Restore;
+use eve_smallbank::{Entry, Kind, Request, Touched, UpToThree, laws};
+use std::alloc::AllocError;
+
+/// No row is written at this version.
+const VERSION_LIMIT: u64 = 1 << 40;
+
+/// Runs the request on the stripe's rows as they are now, and notes it in the stripe's journal.
+///
+/// `touched` is the answer of `touched` for this request and the customers; all its rows have to lie in the stripe.
+/// A request that touches no row is noted too, with no entries. After a refusal the stripe is as it was.
+///
+/// docs/MODEL.md, "Stripe", "Entries", "A record fits its request".
+pub fn apply(
+    stripe: &mut Stripe,
+    request: &Request,
+    touched: &Touched,
+    tick: u64,
+    worker: u8,
+    place: u16,
+    index: u16,
+) -> Result<AccessRecord, StampFault>
+    requires touched { (names : List (List ℕ)) × (touched.now ≡ touched_of names (plain request.now)) }
+
+    // The record is the request's, executed on the rows as they were, and fits it whoever the customers are.
+    ensures exact { (names : List (List ℕ)) → touched.now ≡ touched_of names (plain request.now)
+        → IfOk result (λ r. r ≡ noted_of worker place index tick (executed_on names (rows_now stripe.old) (plain request.now))) }
+    ensures fits { (names : List (List ℕ)) → touched.now ≡ touched_of names (plain request.now)
+        → IfOk result (λ r. Fits names (executed_by (plain request.now) r)) }
+    ensures sees { IfOk result (λ r. AllByRecursion (Sees (rows_now stripe.old)) r.entries) }
+
+    // The journal gains exactly the record's entries.
+    ensures journal { IfOk result (λ r. stripe.new ≡ noted_in stripe.old tick r.entries) }
+    ensures refused { IsRefusedFor (refusal stripe.old tick (rows_in touched.now)) result }
+    ensures kept { OnErr result (stripe.new ≡ stripe.old) }
+{
+    laws::requests_fit();
+    let rows = rows_touched(touched);
+    let Some(seen) = seen_in(stripe, &rows) else {
+        return Err(StampFault::NoRow);
+    };
+    if !stripe.is_above(tick) {
+        return Err(StampFault::TickOrder);
+    }
+    if are_worn(&rows, &seen) {
+        return Err(StampFault::Worn);
+    }
+    let (reply, entries) = executed(request, touched, &seen);
+    if stripe.journal.reserve(1).is_err() {
+        return Err(StampFault::Memory);
+    }
+    write(&mut stripe.rows, &entries);
+    stripe.journal.push_reserved(Journaled { tick, entries });
+    stripe.greatest = Some(tick);
+    Ok(AccessRecord::new(worker, place, index, tick, reply, entries))
+}
+
+/// Runs the request on the rows of both stripes as they are now: a row that lies in both is seen and written in the
+/// first alone.
+///
+/// The first stripe's journal gains the entries of its rows, the second's the others, each at the tick and each also
+/// where it has none. Conditions and refusals are those of `apply`, with both stripes; after a refusal both are as
+/// they were.
+///
+/// docs/MODEL.md, "Stripe", "Entries", "A record fits its request".
+pub fn apply_two(
+    first: &mut Stripe,
+    second: &mut Stripe,
+    request: &Request,
+    touched: &Touched,
+    tick: u64,
+    worker: u8,
+    place: u16,
+    index: u16,
+) -> Result<AccessRecord, StampFault>
+    requires touched { (names : List (List ℕ)) × (touched.now ≡ touched_of names (plain request.now)) }
+
+    // The record is the request's, executed on the rows as they were, and fits it whoever the customers are.
+    ensures exact { (names : List (List ℕ)) → touched.now ≡ touched_of names (plain request.now)
+        → IfOk result (λ r. r ≡ noted_of worker place index tick (executed_on names (rows_in_two first.old second.old) (plain request.now))) }
+    ensures fits { (names : List (List ℕ)) → touched.now ≡ touched_of names (plain request.now)
+        → IfOk result (λ r. Fits names (executed_by (plain request.now) r)) }
+    ensures sees { IfOk result (λ r. AllByRecursion (Sees (rows_in_two first.old second.old)) r.entries) }
+
+    // The journals gain exactly the record's entries, each those of its rows.
+    ensures first { IfOk result (λ r. first.new ≡ noted_in first.old tick (entries_within first.old r.entries)) }
+    ensures second { IfOk result (λ r. second.new ≡ noted_in second.old tick (entries_outside first.old r.entries)) }
+    ensures refused { IsRefusedFor (refusal_of_two first.old second.old tick (rows_in touched.now)) result }
+    ensures first_kept { OnErr result (first.new ≡ first.old) }
+    ensures second_kept { OnErr result (second.new ≡ second.old) }
+{
+    laws::requests_fit();
+    let rows = rows_touched(touched);
+    let Some(seen) = seen_in_two(first, second, &rows) else {
+        return Err(StampFault::NoRow);
+    };
+    if !are_above(first, second, tick) {
+        return Err(StampFault::TickOrder);
+    }
+    if are_worn(&rows, &seen) {
+        return Err(StampFault::Worn);
+    }
+    let (reply, entries) = executed(request, touched, &seen);
+    let (within, outside) = split(first, &entries);
+    if reserve_in_both(&mut first.journal, &mut second.journal).is_err() {
+        return Err(StampFault::Memory);
+    }
+    write(&mut first.rows, &within);
+    first.journal.push_reserved(Journaled {
+        tick,
+        entries: within,
+    });
+    first.greatest = Some(tick);
+    write(&mut second.rows, &outside);
+    second.journal.push_reserved(Journaled {
+        tick,
+        entries: outside,
+    });
+    second.greatest = Some(tick);
+    Ok(AccessRecord::new(worker, place, index, tick, reply, entries))
+}
+
+/// The rows that are touched, none where the request is refused.
+fn rows_touched(touched: &Touched) -> UpToThree<(Row, Kind)>
+    ensures { result ≡ rows_in touched.now }
+{
+    match touched {
+        Touched::Refused(_) => UpToThree::new(),
+        Touched::Rows(rows) => *rows,
+    }
+}
+
+/// The rows as they are now, where all lie in the stripe.
+fn seen_in(stripe: &Stripe, rows: &UpToThree<(Row, Kind)>) -> Option<UpToThree<Restore>>
+    ensures { result ≡ (if list_all (λ r. has_row stripe.now r.0) rows.now then Some (map (λ r. row_in (rows_now stripe.now) r.0) rows.now) else None) }
+{
+    let mut seen = UpToThree::new();
+    for place in 0..rows.len() {
+        let Some(held) = stripe.see(rows.at(place).0) else {
+            return None;
+        };
+        seen.push(held);
+    }
+    Some(seen)
+}
+
+/// The rows as they are now, where each lies in the first stripe or in the second.
+fn seen_in_two(
+    first: &Stripe,
+    second: &Stripe,
+    rows: &UpToThree<(Row, Kind)>,
+) -> Option<UpToThree<Restore>>
+    ensures { result ≡ (if list_all (λ r. has_row_in_two first.now second.now r.0) rows.now then Some (map (λ r. row_in (rows_in_two first.now second.now) r.0) rows.now) else None) }
+{
+    let mut seen = UpToThree::new();
+    for place in 0..rows.len() {
+        let Some(held) = see_in_two(first, second, rows.at(place).0) else {
+            return None;
+        };
+        seen.push(held);
+    }
+    Some(seen)
+}
+
+fn see_in_two(first: &Stripe, second: &Stripe, row: Row) -> Option<Restore>
+    ensures { result ≡ (if has_row_in_two first.now second.now row then Some (row_in (rows_in_two first.now second.now) row) else None) }
+{
+    match first.see(row) {
+        Some(held) => Some(held),
+        None => second.see(row),
+    }
+}
+
+/// Whether the tick is above all that either stripe has had.
+fn are_above(first: &Stripe, second: &Stripe, tick: u64) -> bool
+    ensures { result ≡ (is_above tick first.now.greatest && is_above tick second.now.greatest) }
+{
+    first.is_above(tick) && second.is_above(tick)
+}
+
+/// Room for one more item in each.
+fn reserve_in_both(
+    first: &mut Vec<Journaled>,
+    second: &mut Vec<Journaled>,
+) -> Result<(), AllocError>
+    ensures first_items { first.new.items ≡ first.old.items }
+    ensures second_items { second.new.items ≡ second.old.items }
+    ensures first_room { OnOk result (vec_len first.new + 1 ≤ vec_capacity first.new) }
+    ensures second_room { OnOk result (vec_len second.new + 1 ≤ vec_capacity second.new) }
+{
+    first.reserve(1)?;
+    second.reserve(1)
+}
+
+/// Whether a row that is to be written has the greatest version.
+fn are_worn(rows: &UpToThree<(Row, Kind)>, seen: &UpToThree<Restore>) -> bool
+    requires { length seen.now ≡ length rows.now }
+    ensures { (now : Table) → seen.now ≡ map (λ r. row_in now r.0) rows.now → result ≡ is_worn now rows.now }
+{
+    for place in 0..rows.len() {
+        if is_write(rows.at(place).1) && VERSION_LIMIT <= seen.at(place).version {
+            return true;
+        }
+    }
+    false
+}
+
+fn is_write(kind: Kind) -> bool
+    ensures { result ≡ is_write kind }
+{
+    match kind {
+        Kind::Read => false,
+        Kind::Write => true,
+    }
+}
+
+/// The entries of the stripe's rows, and the others.
+fn split(stripe: &Stripe, entries: &UpToThree<Entry>) -> (UpToThree<Entry>, UpToThree<Entry>)
+    ensures within { result.0 ≡ entries_within stripe.now entries.now }
+    ensures outside { result.1 ≡ entries_outside stripe.now entries.now }
+{
+    let mut within = UpToThree::new();
+    let mut outside = UpToThree::new();
+    for place in 0..entries.len() {
+        put(stripe, &entries.at(place), &mut within, &mut outside);
+    }
+    (within, outside)
+}
+
+/// Appends the entry to the list that it belongs to.
+fn put(
+    stripe: &Stripe,
+    entry: &Entry,
+    within: &mut UpToThree<Entry>,
+    outside: &mut UpToThree<Entry>,
+)
+    requires room_within { length within.old < 3 }
+    requires room_outside { length outside.old < 3 }
+    ensures within { within.new ≡ within.old ++ (if has_row stripe.now entry.now.row then entry.now ∷ [] else []) }
+    ensures outside { outside.new ≡ outside.old ++ (if not (has_row stripe.now entry.now.row) then entry.now ∷ [] else []) }
+{
+    if stripe.has(entry.row) {
+        within.push(*entry);
+    } else {
+        outside.push(*entry);
+    }
+}

@@ -1,0 +1,69 @@
+//! What a request does where it meets rows.
+
+ghost use Rattle.std.specs.Prelude.{◌≡◌, ◌≤◌, ℕ, Bool, true, false, List, length, map, take};
+ghost use Rattle.std.specs.List.{list_all, AllByRecursion};
+ghost use Rattle.eve_smallbank.specs.SmallBank.{plain};
+ghost use Rattle.eve_smallbank.specs.Chain.{Table};
+ghost use Rattle.eve_smallbank.specs.Touch.{touched_of, rows_in};
+ghost use Rattle.eve_smallbank.specs.Execution.{executed_on};
+ghost use Rattle.eve_stamps.specs.Stripes.{row_in};
+ghost use Rattle.eve_stamps.specs.Holding.{entries_on, IsNoted};
+ghost use Rattle.eve_stamps.specs.Stamping.{is_worn};
+
+use eve_accounts::Cents;
+use eve_grammar::Restore;
+use eve_smallbank::{Effect, Entry, Kind, Reply, Request, Touched, UpToThree, decide, laws};
+
+/// What the request replies, and its entries, where it meets these rows.
+pub fn executed(
+    request: &Request,
+    touched: &Touched,
+    seen: &UpToThree<Restore>,
+) -> (Reply, UpToThree<Entry>)
+    requires touched { (names : List (List ℕ)) × (touched.now ≡ touched_of names (plain request.now)) }
+    requires seen { length seen.now ≡ length (rows_in touched.now) }
+    ensures exact { (names : List (List ℕ)) (table : Table) → touched.now ≡ touched_of names (plain request.now)
+        → seen.now ≡ map (λ r. row_in table r.0) (rows_in touched.now)
+        → executed_on names table (plain request.now) ≡ record { request = plain request.now; reply = result.0; entries = result.1 } }
+    ensures noted { (is_there : ℕ → Bool) (table : Table) → seen.now ≡ map (λ r. row_in table r.0) (rows_in touched.now)
+        → list_all (λ r. is_there r.0) (rows_in touched.now) ≡ true → is_worn table (rows_in touched.now) ≡ false
+        → AllByRecursion (IsNoted is_there table) result.1 }
+{
+    laws::requests_fit();
+    laws::fitting_records_are_unique();
+    laws::fitting_records_touch_their_rows();
+    let values = values_in(seen);
+    let decision = decide(request, touched, &values[..seen.len()]);
+    (decision.reply, entries_of(seen, &decision.effects))
+}
+
+/// The values of the rows, first in an array.
+fn values_in(seen: &UpToThree<Restore>) -> [Cents; 3]
+    ensures { take (length seen.now) result ≡ map (λ r. r.value) seen.now }
+{
+    let mut values = [Cents::ZERO; 3];
+    for place in 0..seen.len() {
+        values[place] = seen.at(place).value;
+    }
+    values
+}
+
+/// An entry for each row.
+fn entries_of(seen: &UpToThree<Restore>, effects: &UpToThree<Effect>) -> UpToThree<Entry>
+    requires { length effects.now ≡ length seen.now }
+    ensures { result ≡ entries_on seen.now effects.now }
+{
+    let mut entries = UpToThree::new();
+    for place in 0..seen.len() {
+        let held = seen.at(place);
+        let effect = effects.at(place);
+        entries.push(Entry {
+            row: held.row,
+            kind: effect.kind,
+            version: held.version,
+            seen: held.value,
+            after: effect.after,
+        });
+    }
+    entries
+}

@@ -1,0 +1,107 @@
+//! Rows with their versions and values, in rising order.
+
+ghost use Rattle.std.specs.Prelude.{◌≡◌, ◌≤◌, ◌+◌, ◌++◌, nat_le, [], ◌∷◌, filter, length, vec_len, vec_capacity};
+ghost use Rattle.std.specs.List.{AllByRecursion};
+ghost use Rattle.eve_smallbank.specs.Chain.{table_after};
+ghost use Rattle.eve_stamps.specs.Stripes.{RowsRise, IsEntryIn, JournalLiesIn, table_in, rows_in_table, table_after_journal};
+ghost use Rattle.eve_stamps.specs.Holding.{IsPlaceOf, changed};
+
+use crate::journal::Journaled;
+use eve_accounts::Row;
+use eve_grammar::Restore;
+use eve_smallbank::{Entry, Kind, UpToThree};
+
+/// Where the row stands, if it does.
+pub fn place_of(rows: &[Restore], row: Row) -> Option<usize>
+    requires { RowsRise rows.now }
+    ensures { IsPlaceOf rows.now row result }
+{
+    rows.binary_search_by_key(&row.number(), |held| held.row.number())
+        .ok()
+}
+
+/// Takes the writes among the entries.
+pub fn write(rows: &mut [Restore], entries: &UpToThree<Entry>)
+    requires rise { RowsRise rows.old }
+    requires entries { AllByRecursion (IsEntryIn rows.old) entries.now }
+    ensures { rows.new ≡ rows_in_table (table_after (table_in rows.old) entries.now) rows.old }
+{
+    for place in 0..entries.len() {
+        write_one(rows, &entries.at(place));
+    }
+}
+
+fn write_one(rows: &mut [Restore], entry: &Entry)
+    requires rise { RowsRise rows.old }
+    requires entry { IsEntryIn rows.old entry.now }
+    ensures { rows.new ≡ rows_in_table (table_after (table_in rows.old) (entry.now ∷ [])) rows.old }
+{
+    match entry.kind {
+        Kind::Read => {}
+        Kind::Write => {
+            let Some(place) = place_of(rows, entry.row) else {
+                unreachable!();
+            };
+            rows[place] = Restore {
+                row: entry.row,
+                version: entry.version + 1,
+                value: entry.after,
+            };
+        }
+    }
+}
+
+/// Takes the writes of the journal up to the tick.
+pub fn write_up_to(rows: &mut [Restore], journal: &[Journaled], tick: u64)
+    requires rise { RowsRise rows.old }
+    requires journal { JournalLiesIn rows.old journal.now }
+    ensures { rows.new ≡ rows_in_table (table_after_journal (table_in rows.old) (filter (λ j. nat_le j.tick tick) journal.now)) rows.old }
+{
+    for journaled in journal {
+        write_if_up_to(rows, journaled, tick);
+    }
+}
+
+fn write_if_up_to(rows: &mut [Restore], journaled: &Journaled, tick: u64)
+    requires rise { RowsRise rows.old }
+    requires entries { AllByRecursion (IsEntryIn rows.old) journaled.now.entries }
+    ensures { rows.new ≡ rows_in_table (table_after_journal (table_in rows.old) (filter (λ j. nat_le j.tick tick) (journaled.now ∷ []))) rows.old }
+{
+    if journaled.tick <= tick {
+        write(rows, &journaled.entries);
+    }
+}
+
+/// How many rows have another version now.
+pub fn changed_count(base: &[Restore], now: &[Restore]) -> usize
+    requires { length now.now ≡ length base.now }
+    ensures { result ≡ length (changed base.now now.now) }
+{
+    let mut count = 0;
+    for place in 0..base.len() {
+        count += usize::from(base[place].version != now[place].version);
+    }
+    count
+}
+
+/// Appends the rows that have another version now, where there is room.
+pub fn append_changed(base: &[Restore], now: &[Restore], restores: &mut Vec<Restore>)
+    requires as_many { length now.now ≡ length base.now }
+    requires room { vec_len restores.old + length (changed base.now now.now) ≤ vec_capacity restores.old }
+    ensures items { restores.new.items ≡ restores.old.items ++ changed base.now now.now }
+    ensures capacity { vec_capacity restores.new ≡ vec_capacity restores.old }
+{
+    for place in 0..base.len() {
+        append_if_changed(base[place], now[place], restores);
+    }
+}
+
+fn append_if_changed(base: Restore, now: Restore, restores: &mut Vec<Restore>)
+    requires { vec_len restores.old + length (changed (base ∷ []) (now ∷ [])) ≤ vec_capacity restores.old }
+    ensures items { restores.new.items ≡ restores.old.items ++ changed (base ∷ []) (now ∷ []) }
+    ensures capacity { vec_capacity restores.new ≡ vec_capacity restores.old }
+{
+    if base.version != now.version {
+        restores.push_reserved(base);
+    }
+}
