@@ -1,0 +1,3 @@
+pub mod Dealt
+pub mod Rows
+pub mod Shown
