@@ -1,0 +1,4 @@
+pub mod Noted
+pub mod Kept
+pub mod Seen
+pub mod Rows

@@ -1,0 +1,104 @@
+//! What a pass of the queue knows, and the rule over the queue and all passes.
+
+use crossbeam_queue::protocol::{Join, Lesson, Outcome, Protocol, Split};
+use crossbeam_queue::{Pass, RuledArrayQueue};
+use eve_stamps::AccessRecord;
+use std::collections::LinkedList;
+
+/// Whether a pass takes, what it took, the workers that it stands for, and what these noted. It is spoken of in proofs
+/// alone: no value of it is made.
+pub struct Ledger {
+    pub takes: bool,
+    pub taken: LinkedList<AccessRecord>,
+    pub from: u8,
+    pub below: u8,
+    pub noted: LinkedList<AccessRecord>,
+}
+
+/// The rule: what a worker noted is what was taken of it, then what the queue holds of it.
+pub struct EachOnce;
+
+impl Protocol<AccessRecord, Ledger> for EachOnce {
+    ghost use Rattle.eve_recorder.specs.Kept.{Kept, newcomer};
+
+    ghost holds = { Kept };
+
+    ghost first = { newcomer };
+}
+
+/// The queue of a recorder.
+pub type Queue = RuledArrayQueue<AccessRecord, Ledger, EachOnce>;
+
+/// A pass of it.
+pub type QueuePass = Pass<AccessRecord, Ledger>;
+
+/// A worker's part is cut off a pass, and joined to it.
+pub struct WorkerCut;
+
+impl Split<Ledger> for WorkerCut {
+    ghost use Rattle.eve_recorder.specs.Kept.{rest_of, worker_of};
+
+    ghost left = { rest_of };
+
+    ghost right = { worker_of };
+}
+
+impl Join<Ledger> for WorkerCut {
+    ghost use Rattle.eve_recorder.specs.Kept.{with_worker, nobody};
+
+    ghost both = { with_worker };
+
+    ghost spent = { nobody };
+}
+
+/// The taker's part is cut off a pass, and joined to it.
+pub struct TakerCut;
+
+impl Split<Ledger> for TakerCut {
+    ghost use Rattle.eve_recorder.specs.Kept.{no_taker, taker_of};
+
+    ghost left = { no_taker };
+
+    ghost right = { taker_of };
+}
+
+impl Join<Ledger> for TakerCut {
+    ghost use Rattle.eve_recorder.specs.Kept.{with_taker, nobody};
+
+    ghost both = { with_taker };
+
+    ghost spent = { nobody };
+}
+
+/// A record is noted, or the queue is found full.
+pub struct Notes;
+
+impl Outcome<AccessRecord, Ledger> for Notes {
+    ghost use Rattle.std.specs.Prelude.{◌≡◌};
+    ghost use Rattle.eve_recorder.specs.Kept.{noting};
+
+    ghost then = { λ v x w. w ≡ noting v x };
+}
+
+impl Lesson<AccessRecord, Ledger> for Notes {
+    ghost use Rattle.eve_recorder.specs.Kept.{SeesSome};
+
+    ghost fact = { SeesSome };
+}
+
+/// A record is taken, or the queue is found empty.
+pub struct Takes;
+
+impl Outcome<AccessRecord, Ledger> for Takes {
+    ghost use Rattle.std.specs.Prelude.{◌≡◌};
+    ghost use Rattle.eve_recorder.specs.Kept.{taking, TakesFront};
+    ghost use Rattle.eve_recorder.specs.Noted.{IsOrderly};
+
+    ghost then = { λ v x w. (w ≡ taking v x) × IsOrderly w.taken × TakesFront w };
+}
+
+impl Lesson<AccessRecord, Ledger> for Takes {
+    ghost use Rattle.eve_recorder.specs.Kept.{SeesAll};
+
+    ghost fact = { SeesAll };
+}

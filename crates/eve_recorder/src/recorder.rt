@@ -1,0 +1,192 @@
+//! The recorder: how it is made, its two steps, and how it is ended.
+
+ghost use Rattle.std.specs.Prelude.{◌≡◌, ◌<◌, ◌≤◌, ◌+◌, false, [], ◌++◌, ◌∷◌, ℕ, min, length, IfOk, OnOk, IfErr, IfSome, IsSome, IfNone, Some, slice_get};
+ghost use Rattle.crossbeam_queue.specs.Passes.{view, IsPassOf, IsSamePass};
+ghost use Rattle.eve_recorder.specs.Noted.{of_worker, IsOrderly};
+ghost use Rattle.eve_recorder.specs.Kept.{ledger};
+ghost use Rattle.eve_recorder.specs.Seen.{Desk, Noter, Taker, Places, Gathered, fresh, fresh_places, noted_on, IsWhole, WasFull, WasEmpty};
+
+use crate::ledger::{Notes, Queue, QueuePass, TakerCut, Takes, WorkerCut};
+use crate::row::Row;
+use crate::seats::Seats;
+use crate::taken::Taken;
+use crate::taker_seat::TakerSeat;
+use crate::worker_seat::WorkerSeat;
+use eve_stamps::AccessRecord;
+use std::alloc::{AllocError, Global};
+use std::marker::Model;
+use std::sync::Wait;
+
+/// Why a record was not noted.
+#[derive(Clone, Copy, Debug, PartialEq, Eq)]
+pub enum NoteFault {
+    /// The queue was full at one moment. The record comes back.
+    Full(AccessRecord),
+}
+
+/// A bounded queue of records, which workers note and one taker takes. Contracts see which recorder it is and its room
+/// (`Desk`); the lists stand in the seats.
+///
+/// docs/MODEL.md, "Recorder lists, drawn numbers".
+#[derive(Drop)]
+pub struct Recorder {
+    pub(crate) queue: Queue,
+}
+
+impl Model for Recorder {
+    ghost use Rattle.crossbeam_queue.specs.Passes.{ruled_capacity};
+    ghost use Rattle.eve_recorder.specs.Seen.{Desk};
+
+    ghost Value = { Desk };
+
+    ghost view = { λ r. record { recorder = r.queue.table.shared.table_id; room = ruled_capacity r.queue } };
+}
+
+impl Recorder {
+    /// A recorder with room for so many queued records, and its seats: one for each worker, and the taker's.
+    pub fn new(alloc: Global, workers: u8, room: usize) -> Result<(Recorder, Seats), AllocError>
+        requires workers { (1 ≤ workers) × (workers ≤ 8) }
+        requires room { (1 ≤ room) × (room ≤ 256) }
+        ensures room { IfOk result (λ r. r.0.room ≡ room) }
+        ensures seats { IfOk result (λ r. r.1 ≡ fresh_places r.0.recorder workers) }
+    {
+        let (queue, mut main) = Queue::ruled(alloc, room)?;
+        let taker = queue.another::<TakerCut>(&mut main);
+        let s0 = cut(&queue, &mut main, 0, workers);
+        let s1 = cut(&queue, &mut main, 1, workers);
+        let s2 = cut(&queue, &mut main, 2, workers);
+        let s3 = cut(&queue, &mut main, 3, workers);
+        let s4 = cut(&queue, &mut main, 4, workers);
+        let s5 = cut(&queue, &mut main, 5, workers);
+        let s6 = cut(&queue, &mut main, 6, workers);
+        let s7 = cut(&queue, &mut main, 7, workers);
+        let seats = Seats {
+            main,
+            workers,
+            row: Row {
+                s0,
+                s1,
+                s2,
+                s3,
+                s4,
+                s5,
+                s6,
+                s7,
+            },
+            taker: Some(TakerSeat { pass: taker }),
+        };
+        Ok((Recorder { queue }, seats))
+    }
+
+    /// Appends the record to its worker's list. The record names the worker and the next place of the seat, and the
+    /// seat is of this recorder.
+    pub fn note<R: Wait>(
+        &self,
+        rt: &R,
+        seat: &mut WorkerSeat,
+        made: AccessRecord,
+    ) -> Result<(), NoteFault>
+        requires own { seat.old.recorder ≡ self.now.recorder }
+        requires next { (made.worker ≡ seat.old.worker) × (made.place ≡ length seat.old.noted) }
+        ensures ok { OnOk result (seat.new ≡ record seat.old { noted = seat.old.noted ++ made ∷ [] }) }
+        ensures same { IfErr result (λ e. (e ≡ NoteFault.Full made) × (seat.new ≡ seat.old)) }
+        ensures own { (seat.new.recorder ≡ seat.old.recorder) × (seat.new.worker ≡ seat.old.worker) }
+        ensures full { IfErr result (λ _. WasFull self.now.room seat.old.worker seat.old.noted) }
+    {
+        match self.queue.push_as::<Notes, R>(rt, &mut seat.pass, made) {
+            Ok(()) => {
+                seat.place += 1;
+                Ok(())
+            }
+            Err(made) => Err(NoteFault::Full(made)),
+        }
+    }
+
+    /// Takes the oldest record that is queued, None where the queue was empty at one moment. The seat is of this
+    /// recorder. What was taken of each worker has the places 0, 1, 2, .., each once.
+    pub fn take<R: Wait>(&self, rt: &R, seat: &mut TakerSeat) -> Option<AccessRecord>
+        requires { seat.old.recorder ≡ self.now.recorder }
+        ensures some { IfSome result (λ x. seat.new ≡ record seat.old { taken = seat.old.taken ++ x ∷ [] }) }
+        ensures none { IfNone result (seat.new ≡ seat.old) }
+        ensures own { seat.new.recorder ≡ seat.old.recorder }
+        ensures empty { IfNone result (WasEmpty seat.old.taken) }
+        ensures orderly { IsOrderly seat.new.taken }
+    {
+        self.queue.pop_as::<Takes, R>(rt, &mut seat.pass)
+    }
+
+    /// Ends the recorder, of which all seats are back. What is queued can still be taken, by `Taken::next`.
+    pub fn finish(self, seats: Seats) -> Taken
+        requires own { seats.recorder ≡ self.recorder }
+        requires whole { IsWhole seats }
+        ensures noted { (w : ℕ) (x : Noter) → slice_get seats.seats w ≡ Some (Some x) → of_worker w result.noted ≡ x.noted }
+        ensures others { (w : ℕ) → seats.workers ≤ w → of_worker w result.noted ≡ [] }
+        ensures taken { IfSome seats.taker (λ t. result.taken ≡ t.taken) }
+    {
+        let Recorder { queue } = self;
+        let Seats {
+            mut main,
+            workers,
+            row,
+            taker,
+        } = seats;
+        let Row {
+            s0,
+            s1,
+            s2,
+            s3,
+            s4,
+            s5,
+            s6,
+            s7,
+        } = row;
+        put_back(&queue, &mut main, s7, 7, workers);
+        put_back(&queue, &mut main, s6, 6, workers);
+        put_back(&queue, &mut main, s5, 5, workers);
+        put_back(&queue, &mut main, s4, 4, workers);
+        put_back(&queue, &mut main, s3, 3, workers);
+        put_back(&queue, &mut main, s2, 2, workers);
+        put_back(&queue, &mut main, s1, 1, workers);
+        put_back(&queue, &mut main, s0, 0, workers);
+        let Some(taker) = taker else { unreachable!() };
+        let TakerSeat { pass } = taker;
+        queue.absorb::<TakerCut>(&mut main, pass);
+        Taken { queue, pass: main }
+    }
+}
+
+// Cuts the seat of worker `w` off, if there is to be one.
+fn cut(queue: &Queue, main: &mut QueuePass, w: u8, workers: u8) -> Option<WorkerSeat>
+    requires queue { IsPassOf queue.now main.old }
+    requires main { view main.old ≡ ledger false [] (min workers w) 8 [] }
+    requires few { (workers ≤ 8) × (w < 8) }
+    ensures queue { IsSamePass main.old main.new }
+    ensures main { view main.new ≡ ledger false [] (min workers (w + 1)) 8 [] }
+    ensures seat { result ≡ fresh queue.now.table.shared.table_id workers w }
+{
+    if w >= workers {
+        return None;
+    }
+    let pass = queue.another::<WorkerCut>(main);
+    Some(WorkerSeat {
+        pass,
+        worker: w,
+        place: 0,
+    })
+}
+
+// Joins the seat of worker `w`, if there is one.
+fn put_back(queue: &Queue, main: &mut QueuePass, seat: Option<WorkerSeat>, w: u8, workers: u8)
+    requires queue { IsPassOf queue.now main.old }
+    requires main { view main.old ≡ ledger false [] (min workers (w + 1)) 8 (view main.old).noted }
+    requires few { (workers ≤ 8) × (w < 8) }
+    requires there { w < workers → IsSome seat }
+    requires own { IfSome seat (λ s. (s.recorder ≡ queue.now.table.shared.table_id) × (s.worker ≡ w) × (w < workers)) }
+    ensures queue { IsSamePass main.old main.new }
+    ensures main { view main.new ≡ ledger false [] (min workers w) 8 ((view main.old).noted ++ noted_on seat) }
+{
+    if let Some(seat) = seat {
+        let WorkerSeat { pass, .. } = seat;
+        queue.absorb::<WorkerCut>(main, pass);
+    }
+}

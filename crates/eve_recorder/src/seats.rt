@@ -1,0 +1,80 @@
+//! The seats that are not given out.
+
+ghost use Rattle.std.specs.Prelude.{◌≡◌, ◌<◌, IfSome, IsTrue, ◌↔◌, None, Some, slice_set, slice_index_or};
+ghost use Rattle.eve_recorder.specs.Seen.{Noter, Taker, Places, IsWhole};
+
+use crate::ledger::QueuePass;
+use crate::row::Row;
+use crate::taker_seat::TakerSeat;
+use crate::worker_seat::WorkerSeat;
+use std::marker::Model;
+
+/// The seats of a recorder. Contracts see which are there (`Places`).
+///
+/// docs/MODEL.md, "Recorder lists, drawn numbers".
+#[derive(Drop)]
+pub struct Seats {
+    pub(crate) main: QueuePass,
+    pub(crate) workers: u8,
+    pub(crate) row: Row,
+    pub(crate) taker: Option<TakerSeat>,
+}
+
+impl Model for Seats {
+    ghost use Rattle.std.specs.Prelude.{◌≡◌, ◌≤◌, false, []};
+    ghost use Rattle.crossbeam_queue.specs.Passes.{view as view_of};
+    ghost use Rattle.eve_recorder.specs.Seen.{Places, IsSeated, IsAt};
+    ghost use Rattle.eve_recorder.specs.Rows.{row_of};
+    ghost use Rattle.eve_recorder.specs.Kept.{ledger};
+
+    ghost Value = { Places };
+
+    ghost view = { λ s. record { recorder = s.main.table_id; workers = s.workers; seats = row_of s.row; taker = s.taker } };
+
+    ghost invariant = { λ s. (s.main.me.1 ≡ []) × (view_of s.main ≡ ledger false [] s.workers 8 []) × (s.workers ≤ 8) × IsSeated s.main.table_id s.workers (row_of s.row) × IsAt s.main.table_id s.taker };
+}
+
+impl Seats {
+    /// The seat of a worker, None where it isn't there.
+    pub fn worker(&mut self, w: u8) -> Option<WorkerSeat>
+        ensures out { result ≡ slice_index_or self.old.seats w None }
+        ensures rest { self.new ≡ record self.old { seats = slice_set self.old.seats w None } }
+        ensures own { IfSome result (λ s. (s.recorder ≡ self.old.recorder) × (s.worker ≡ w) × (w < self.old.workers)) }
+    {
+        self.row.take(w)
+    }
+
+    /// The taker's seat, None where it isn't there.
+    pub fn taker(&mut self) -> Option<TakerSeat>
+        ensures out { result ≡ self.old.taker }
+        ensures rest { self.new ≡ record self.old { taker = None } }
+        ensures own { IfSome result (λ s. s.recorder ≡ self.old.recorder) }
+    {
+        self.taker.take()
+    }
+
+    /// Puts a worker's seat back.
+    pub fn give_back(&mut self, seat: WorkerSeat)
+        requires own { seat.recorder ≡ self.old.recorder }
+        requires there { seat.worker < self.old.workers }
+        ensures { self.new ≡ record self.old { seats = slice_set self.old.seats seat.worker (Some seat) } }
+    {
+        let w = seat.worker;
+        self.row.put(w, seat);
+    }
+
+    /// Puts the taker's seat back.
+    pub fn give_taker(&mut self, seat: TakerSeat)
+        requires { seat.recorder ≡ self.old.recorder }
+        ensures { self.new ≡ record self.old { taker = Some seat } }
+    {
+        self.taker = Some(seat);
+    }
+
+    /// Whether every seat is there.
+    pub fn whole(&self) -> bool
+        ensures { IsTrue result ↔ IsWhole self.now }
+    {
+        self.taker.is_some() && self.row.has_below(self.workers)
+    }
+}

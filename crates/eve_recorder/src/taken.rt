@@ -1,0 +1,48 @@
+//! What is left of a recorder that was ended.
+
+ghost use Rattle.std.specs.Prelude.{◌≡◌, ◌<◌, [], ◌++◌, ◌∷◌, ℕ, IfSome, IfNone};
+ghost use mathlib.Core.List.{IsPrefix};
+ghost use Rattle.eve_recorder.specs.Seen.{Gathered};
+ghost use Rattle.eve_recorder.specs.Noted.{of_worker, IsOrderly};
+
+use crate::ledger::{Queue, QueuePass, Takes};
+use eve_stamps::AccessRecord;
+use std::marker::Model;
+use std::sync::Wait;
+
+/// What is still queued, to be taken. Contracts see all that was noted and what of it was taken (`Gathered`).
+///
+/// docs/MODEL.md, "Recorder lists, drawn numbers".
+#[derive(Drop)]
+pub struct Taken {
+    pub(crate) queue: Queue,
+    pub(crate) pass: QueuePass,
+}
+
+impl Model for Taken {
+    ghost use Rattle.std.specs.Prelude.{◌≡◌, true};
+    ghost use Rattle.crossbeam_queue.specs.Passes.{view as view_of, IsPassOf};
+    ghost use Rattle.eve_recorder.specs.Seen.{Gathered};
+    ghost use Rattle.eve_recorder.specs.Noted.{IsOrderly};
+    ghost use Rattle.eve_recorder.specs.Kept.{ledger};
+
+    ghost Value = { Gathered };
+
+    ghost view = { λ s. record { noted = (view_of s.pass).noted; taken = (view_of s.pass).taken } };
+
+    ghost invariant = { λ s. IsPassOf s.queue s.pass × (view_of s.pass ≡ ledger true (view_of s.pass).taken 0 8 (view_of s.pass).noted) × IsOrderly (view_of s.pass).taken };
+}
+
+impl Taken {
+    /// The oldest record that is queued. None only once all that each worker noted was taken. Until then what was taken
+    /// of each worker is the beginning of what it noted.
+    pub fn next<R: Wait>(&mut self, rt: &R) -> Option<AccessRecord>
+        ensures some { IfSome result (λ x. self.new ≡ record self.old { taken = self.old.taken ++ x ∷ [] }) }
+        ensures none { IfNone result (self.new ≡ self.old) }
+        ensures all { IfNone result ((w : ℕ) → w < 8 → of_worker w self.old.noted ≡ of_worker w self.old.taken) }
+        ensures front { IfSome result (λ _. (w : ℕ) → w < 8 → IsPrefix (of_worker w self.new.taken) (of_worker w self.new.noted)) }
+        ensures orderly { IsOrderly self.new.taken }
+    {
+        self.queue.pop_as::<Takes, R>(rt, &mut self.pass)
+    }
+}
