@@ -1,0 +1,11 @@
+pub mod Changes
+pub mod Inserting
+pub mod Holding
+pub mod Counting
+pub mod Sharing
+pub mod Gathering
+pub mod Histories
+pub mod Keeping
+pub mod Schedules
+pub mod Listing
+pub mod Reaching
