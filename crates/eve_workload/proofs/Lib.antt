@@ -1,0 +1,6 @@
+mod Cuts
+mod Listing
+mod Mixed
+mod Parts
+mod Placing
+mod Ranges

@@ -1,0 +1,2 @@
+pub mod Mixing
+pub mod Groups
