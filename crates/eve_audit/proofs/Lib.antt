@@ -4,8 +4,10 @@ pub mod Verdicts
 pub mod Piecewise
 pub mod Kept
 pub mod Told
+pub mod Found
 pub mod Accepted
 pub mod Where
 pub mod Placed
 pub mod Unique
 pub mod Within
+pub mod Answering

@@ -1,15 +1,18 @@
 //! The verdict on the bytes of a trace.
 #![tactic(auto)]
 
-mod audit;
+mod judge;
 pub mod laws;
 mod precedence;
 mod replica;
 mod replicas;
+mod share;
+mod slots;
 #[cfg(test)]
 mod tests;
 mod together;
 mod verdict;
+mod workers;
 
-pub use audit::audit_one;
+pub use judge::{audit, audit_one};
 pub use verdict::{AuditFault, Summary, Verdict};

@@ -6,6 +6,7 @@ ghost use Rattle.eve_views.specs.Fronts.{whole};
 ghost use Rattle.eve_history.specs.Faults.{IsStructureFault};
 ghost use Rattle.eve_history.specs.Told.{telling, names_of, IsRightSection};
 ghost use Rattle.eve_banks.specs.Settling.{settling};
+ghost use Rattle.eve_audit.specs.Findings.{IsPieceOf};
 ghost use Rattle.eve_audit.specs.Verdict.{IsOwnFault};
 ghost use Rattle.eve_audit.specs.Pieces.{IsFirstOf, HasNone, IsSoundReplica};
 
@@ -70,10 +71,7 @@ pub fn judge_replica<'a, R: Threads + Sync>(
 ) -> Result<Piece<'a>, CheckFault>
     requires there { e < length (whole trace.now).sections }
     requires names { names.now.items ≡ names_of (whole trace.now) }
-    ensures history { IfOk result (λ piece. piece.history ≡ telling (whole trace.now) e) }
-    ensures settled { IfOk result (λ piece. piece.settled ≡ settling (whole trace.now) e) }
-    ensures sound { IfOk result (λ _. IsSoundReplica (whole trace.now) e) }
-    ensures none { IfOk result (λ _. HasNone (IsOwnFault (whole trace.now) e)) }
+    ensures piece { IfOk result (IsPieceOf (whole trace.now) e) }
     ensures first { IfErr result (λ why. IfFound why (IsFirstOf (IsOwnFault (whole trace.now) e))) }
 {
     let history = match History::of(alloc, trace, e) {

@@ -1,14 +1,17 @@
 //! The audit of each replica by itself.
 
-ghost use Rattle.std.specs.Prelude.{◌≡◌, ◌++◌, ◌∷◌, [], ℕ, IfOk, IfErr, OnOk, ◌<◌, ◌^◌, length, min};
+ghost use Rattle.std.specs.Prelude.{◌≡◌, ◌++◌, ◌∷◌, [], ℕ, IfOk, IfErr, IfSome, OnOk, ◌<◌, ◌^◌, length, min, All};
 ghost use Rattle.eve_views.specs.Form.{IfFound};
 ghost use Rattle.eve_views.specs.Fronts.{whole};
 ghost use Rattle.eve_history.specs.Told.{names_of, tellings};
 ghost use Rattle.eve_banks.specs.Settling.{settlings};
+ghost use Rattle.eve_audit.specs.Findings.{AreTrue, IsAnswerOf, IsPieceOf};
+ghost use Rattle.eve_audit.specs.Verdict.{IsOwnFault};
 ghost use Rattle.eve_audit.specs.Pieces.{IsFirstOf, HasNone, IsSoundReplica, IsFaultBelow, IsLeastBelow};
 
 use crate::precedence::first_of;
 use crate::replica::{Piece, judge_replica};
+use crate::slots::Slot;
 use eve_accounts::Names;
 use eve_banks::Settled;
 use eve_history::History;
@@ -41,14 +44,57 @@ fn keep<'a>(pieces: &mut Pieces<'a>, piece: Piece<'a>) -> Result<(), AllocError>
     Ok(())
 }
 
-/// What the replicas did and committed, each judged by itself; or the first of the faults that they have of their own.
+// Takes what was found of a replica, if that comes next in its worker's slot.
+fn take_found<'a>(
+    trace: &Trace<'a>,
+    slots: &mut [Slot<'a>],
+    e: u8,
+) -> Option<Result<Piece<'a>, Fault>>
+    requires { All (AreTrue (whole trace.now)) slots.old }
+    ensures answer { IfSome result (IsAnswerOf (whole trace.now) e) }
+    ensures left { All (AreTrue (whole trace.now)) slots.new }
+{
+    if slots.is_empty() {
+        return None;
+    }
+    let worker = e as usize % slots.len();
+    slots[worker].take(e)
+}
+
+// What a replica did and committed, or the first of its own faults: as was found before, or else as it is judged here.
+fn judge_missing<'a, R: Threads + Sync>(
+    rt: &R,
+    alloc: Global,
+    trace: &Trace<'a>,
+    names: &Names<'_>,
+    slots: &mut [Slot<'a>],
+    e: u8,
+) -> Result<Piece<'a>, CheckFault>
+    requires there { e < length (whole trace.now).sections }
+    requires names { names.now.items ≡ names_of (whole trace.now) }
+    requires slots { All (AreTrue (whole trace.now)) slots.old }
+    ensures piece { IfOk result (IsPieceOf (whole trace.now) e) }
+    ensures first { IfErr result (λ why. IfFound why (IsFirstOf (IsOwnFault (whole trace.now) e))) }
+    ensures left { All (AreTrue (whole trace.now)) slots.new }
+{
+    match take_found(trace, slots, e) {
+        Some(Ok(piece)) => Ok(piece),
+        Some(Err(fault)) => Err(CheckFault::Found(fault)),
+        None => judge_replica(rt, alloc, trace, names, e),
+    }
+}
+
+/// What the replicas did and committed, each judged by itself, by its worker or here; or the first of the faults that they
+/// have of their own.
 pub fn judge_replicas<'a, R: Threads + Sync>(
     rt: &R,
     alloc: Global,
     trace: &Trace<'a>,
     names: &Names<'_>,
+    slots: &mut [Slot<'a>],
 ) -> Result<Pieces<'a>, CheckFault>
-    requires { names.now.items ≡ names_of (whole trace.now) }
+    requires names { names.now.items ≡ names_of (whole trace.now) }
+    requires slots { All (AreTrue (whole trace.now)) slots.old }
     ensures histories { IfOk result (λ pieces. pieces.histories.items ≡ tellings (whole trace.now)) }
     ensures settled { IfOk result (λ pieces. pieces.settled.items ≡ settlings (whole trace.now)) }
     ensures committed { IfOk result (λ pieces. IsLeastBelow (whole trace.now) (length (whole trace.now).sections) pieces.committed) }
@@ -63,7 +109,7 @@ pub fn judge_replicas<'a, R: Threads + Sync>(
         committed: u32::MAX,
     };
     'replicas: for e in 0..trace.section_count() {
-        match judge_replica(rt, alloc, trace, names, e) {
+        match judge_missing(rt, alloc, trace, names, slots, e) {
             Ok(piece) => keep(&mut kept, piece)?,
             Err(CheckFault::Found(fault)) => {
                 first = Some(match first {

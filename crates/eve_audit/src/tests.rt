@@ -1,13 +1,20 @@
-//! A committed deposit, and what is wrong with it where it is changed.
+//! A committed deposit, and what is wrong with it where it is changed; and audits by several workers.
+
+mod traces;
 
 use crate::replicas::judge_replicas;
-use crate::{Summary, Verdict, audit_one};
+use crate::{Summary, Verdict, audit, audit_one};
 use eve_agree::equal_balances;
 use eve_history::orders;
+use eve_recorder::{Gate, OpenGate};
 use eve_views::{CheckFault, Code, Fault, Trace};
 use std::alloc::{AllocError, Global};
 use std::hash::RandomState;
+use std::sync::Wait;
+use std::sync::atomic::{AtomicU64, Ordering};
 use std::test::Fail;
+use std::thread;
+use traces::{EARLIER_PHASE_IN_LATER_REPLICA, ROLLBACK_AND_SERIAL_RERUN, TWO_ORDERS_AGREE};
 
 /// The worked case `deposit-committed` up to its end.
 const DEPOSIT: &[u8] =
@@ -179,7 +186,7 @@ fn replicas_differ(rt: HostRuntime) -> Result<(), Fail> {
     for (bytes, offset) in [(BALANCES_DIFFER, 356), (REPLIES_DIFFER, 348)] {
         let trace = Trace::read(rt.alloc(), bytes)?;
         let names = orders(rt.alloc(), &trace, RandomState::new(&rt)?)?;
-        let found = judge_replicas(&rt, rt.alloc(), &trace, &names)?;
+        let found = judge_replicas(&rt, rt.alloc(), &trace, &names, &mut [])?;
         let fault = Fault {
             code: Code::Outcome,
             offset,
@@ -188,5 +195,83 @@ fn replicas_differ(rt: HostRuntime) -> Result<(), Fail> {
         let judged = equal_balances(rt.alloc(), &trace, &found.histories, &found.settled);
         assert_eq!(rt; judged, Err(CheckFault::Found(fault)), "at {offset}");
     }
+    Ok(())
+}
+
+fn yes(replicas: u32, batches: u32, committed: u32) -> Verdict {
+    Verdict::Yes(Summary {
+        replicas,
+        batches,
+        committed,
+    })
+}
+
+fn no(code: Code, offset: u64, replica: Option<u8>) -> Verdict {
+    Verdict::No(Fault {
+        code,
+        offset,
+        replica,
+    })
+}
+
+/// Every number of workers gives the same verdict.
+#[test]
+fn workers_change_no_verdict(rt: HostRuntime) -> Result<(), Fail> {
+    for (bytes, verdict) in [
+        (TWO_ORDERS_AGREE, yes(2, 1, 1)),
+        (ROLLBACK_AND_SERIAL_RERUN, yes(1, 3, 3)),
+        (
+            EARLIER_PHASE_IN_LATER_REPLICA,
+            no(Code::Commit, 350, Some(1)),
+        ),
+        (BALANCES_DIFFER, no(Code::NoMajority, 535, Some(1))),
+        (DEPOSIT, no(Code::Length, 0, None)),
+    ] {
+        for workers in 1..=16 {
+            let random = RandomState::new(&rt)?;
+            let found = audit(&rt, rt.alloc(), bytes, workers, random, &OpenGate);
+            assert_eq!(rt; found, Ok(verdict), "by {workers}");
+        }
+    }
+    Ok(())
+}
+
+/// How often a piece looks whether the others have come, at most.
+const TURNS: u32 = 10_000_000;
+
+/// Holds each piece until as many have entered as are wanted, or its turns are over.
+#[derive(Drop)]
+struct Meeting {
+    wanted: u64,
+    entered: AtomicU64,
+    met: AtomicU64,
+}
+
+impl Gate for Meeting {
+    fn enter<R: Wait>(&self, _rt: &R, _piece: u32) {
+        self.entered.fetch_add(1, Ordering::SeqCst);
+        for _ in 0..TURNS {
+            if self.entered.load(Ordering::SeqCst) >= self.wanted {
+                self.met.fetch_add(1, Ordering::SeqCst);
+                return;
+            }
+            thread::yield_now();
+        }
+    }
+}
+
+/// Two workers are at their replicas at the same time: each is held until the other has come.
+#[test]
+fn two_workers_meet(rt: HostRuntime) -> Result<(), Fail> {
+    let gate = Meeting {
+        wanted: 2,
+        entered: AtomicU64::new(0),
+        met: AtomicU64::new(0),
+    };
+    let random = RandomState::new(&rt)?;
+    let verdict = audit(&rt, rt.alloc(), TWO_ORDERS_AGREE, 2, random, &gate);
+    assert_eq!(rt; verdict, Ok(yes(2, 1, 1)));
+    assert_eq!(rt; gate.entered.load(Ordering::SeqCst), 2);
+    assert_eq!(rt; gate.met.load(Ordering::SeqCst), 2);
     Ok(())
 }

@@ -20,17 +20,16 @@ pub settle-requires-clause-none : goal.settle-requires-clause-none
 settle-requires-clause-none g c κs within =
     subst (λ (k : ℕ). HasNone (IsStructureFault (whole c.args.trace.now) k)) (sym (told_of (whole c.args.trace.now) c.args.e c.in-Ok.history c.in-Ok.ensures.telling)) c.in-Ok.ensures.none
 
-pub returns-in-Ok-settle-clause-settled : goal.returns-in-Ok-settle-clause-settled
-returns-in-Ok-settle-clause-settled g c =
-    c.in-Ok-settle.ensures.settled ∙ ap (settling (whole c.args.trace.now)) (told_of (whole c.args.trace.now) c.args.e c.in-Ok.history c.in-Ok.ensures.telling)
-
-pub returns-in-Ok-settle-clause-sound : goal.returns-in-Ok-settle-clause-sound
-returns-in-Ok-settle-clause-sound g c =
-    subst (IsSoundReplica (whole c.args.trace.now)) (told_of (whole c.args.trace.now) c.args.e c.in-Ok.history c.in-Ok.ensures.telling) c.in-Ok-settle.ensures.sound
-
-pub returns-in-Ok-settle-clause-none : goal.returns-in-Ok-settle-clause-none
-returns-in-Ok-settle-clause-none g c =
-    subst (λ (k : ℕ). HasNone (IsOwnFault (whole c.args.trace.now) k)) (told_of (whole c.args.trace.now) c.args.e c.in-Ok.history c.in-Ok.ensures.telling) c.in-Ok-settle.ensures.none
+pub returns-in-Ok-settle-clause-piece : goal.returns-in-Ok-settle-clause-piece
+returns-in-Ok-settle-clause-piece g c =
+    let t = whole c.args.trace.now in
+    let is = told_of t c.args.e c.in-Ok.history c.in-Ok.ensures.telling in
+    record {
+      history = c.in-Ok.ensures.telling;
+      settled = c.in-Ok-settle.ensures.settled ∙ ap (settling t) is;
+      sound = subst (IsSoundReplica t) is c.in-Ok-settle.ensures.sound;
+      none = subst (λ (k : ℕ). HasNone (IsOwnFault t k)) is c.in-Ok-settle.ensures.none;
+    }
 
 pub returns-clause-first : goal.returns-clause-first
 returns-clause-first g c =

@@ -5,32 +5,32 @@ use Rattle.eve_audit.specs.Pieces.{IsFirstOf, IsFaultBelow, IsCommonFault, IsTra
 use Rattle.eve_audit.proofs.Firsts.{found_weaker, section_first, common_first, none_in_trace}
 use Rattle.eve_audit.proofs.Verdicts.{summary_is, some_replica}
 use Rattle.eve_audit.proofs.Accepted.{no_request_again, accepted_of}
-use Rattle.eve_audit.proofs.audit.judge_trace.Goals as goal
+use Rattle.eve_audit.proofs.judge.judge_trace.Goals as goal
 
-pub returns-in-Err-judge_replicas-clause-first : goal.returns-in-Err-judge_replicas-clause-first
-returns-in-Err-judge_replicas-clause-first g c =
+pub returns-in-Err-clause-first : goal.returns-in-Err-clause-first
+returns-in-Err-clause-first g c =
     let t = whole c.args.trace.now in
-    found_weaker (IsFirstOf (IsFaultBelow t (length t.sections))) (IsFirstOf (IsTraceFault t)) c.in-Err-judge_replicas.why (λ f found. section_first t f c.in-Ok.ensures.none found) c.in-Err-judge_replicas.ensures.first
+    found_weaker (IsFirstOf (IsFaultBelow t (length t.sections))) (IsFirstOf (IsTraceFault t)) c.in-Err.why (λ f found. section_first t f c.requires.orders found) c.in-Err.ensures.first
 
 pub judge_together-requires-clause-apart : goal.judge_together-requires-clause-apart
-judge_together-requires-clause-apart g c = let t = whole c.args.trace.now in c.requests_take_effect_once.ensures.apart t (no_request_again t c.in-Ok.ensures.none)
+judge_together-requires-clause-apart g c = let t = whole c.args.trace.now in c.requests_take_effect_once.ensures.apart t (no_request_again t c.requires.orders)
 
 pub returns-in-Err-judge_together-clause-first : goal.returns-in-Err-judge_together-clause-first
 returns-in-Err-judge_together-clause-first g c =
     let t = whole c.args.trace.now in
     found_weaker (IsFirstOf (IsCommonFault t)) (IsFirstOf (IsTraceFault t)) c.in-Err-judge_together.why
-    (λ f found. common_first t f c.in-Ok.ensures.none c.in-Ok-judge_replicas.ensures.none found) c.in-Err-judge_together.ensures.first
+    (λ f found. common_first t f c.requires.orders c.in-Ok.ensures.none found) c.in-Err-judge_together.ensures.first
 
 pub returns-clause-summary : goal.returns-clause-summary
 returns-clause-summary g c =
     let t = whole c.args.trace.now in
     let some : 1 ≤ length t.sections = some_replica (head_of t) c.is_whole.ensures.limits.head in
-    summary_is t _ c.section_count.ensures c.batch_count.ensures some c.in-Ok-judge_replicas.ensures.committed
+    summary_is t _ c.section_count.ensures c.batch_count.ensures some c.in-Ok.ensures.committed
 
 pub returns-clause-accepted : goal.returns-clause-accepted
 returns-clause-accepted g c =
     let t = whole c.args.trace.now in
-    accepted_of t c.is_whole.ensures.limits (c.requests_take_effect_once.ensures.apart t (no_request_again t c.in-Ok.ensures.none)) c.in-Ok-judge_replicas.ensures.sound c.in-Ok-judge_together.ensures.sound
+    accepted_of t c.is_whole.ensures.limits (c.requests_take_effect_once.ensures.apart t (no_request_again t c.requires.orders)) c.in-Ok.ensures.sound c.in-Ok-judge_together.ensures.sound
 
 pub returns-clause-none : goal.returns-clause-none
-returns-clause-none g c = none_in_trace (whole c.args.trace.now) c.in-Ok.ensures.none c.in-Ok-judge_replicas.ensures.none c.in-Ok-judge_together.ensures.none
+returns-clause-none g c = none_in_trace (whole c.args.trace.now) c.requires.orders c.in-Ok.ensures.none c.in-Ok-judge_together.ensures.none

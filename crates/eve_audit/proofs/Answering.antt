@@ -1,0 +1,40 @@
+-- From what is found in a trace to the answer for its bytes.
+use Rattle.std.proofs.Common.{◌≡◌, ◌≤◌, ℕ, List, length, arith}
+use Rattle.eve_grammar.specs.Trace.{Trace}
+use Rattle.eve_grammar.specs.Limits.{Spells}
+use Rattle.eve_grammar.specs.Spelling.{length_of}
+use Rattle.eve_views.specs.Form.{IsLeastFormFault, IfFound}
+use Rattle.eve_views.specs.declared.fault.CheckFault.{CheckFault}
+use Rattle.eve_views.specs.declared.fault.CheckFault.TheVariants.{Found, Memory}
+use Rattle.eve_views.specs.declared.fault.Fault.{Fault}
+use Rattle.eve_history.specs.Faults.{IsOrderFault}
+use Rattle.eve_theorem.specs.Audited.{IsAudited}
+use Rattle.eve_audit.specs.declared.verdict.Summary.{Summary}
+use Rattle.eve_audit.specs.declared.verdict.Verdict.TheVariants.{Yes, No}
+use Rattle.eve_audit.specs.Verdict.{IsSummary}
+use Rattle.eve_audit.specs.Pieces.{IsFirstOf, HasNone, IsTraceFault}
+use Rattle.eve_audit.specs.Answer.{IsAnswer, IsRead}
+use Rattle.eve_audit.specs.Where.{FatesAreAsItEnds}
+use Rattle.eve_audit.proofs.Verdicts.{faultless, found_in_form, trace_first}
+use Rattle.eve_audit.proofs.Within.{trace_fault_within, long_as}
+
+module _ (bytes : List ℕ) (t : Trace) (read : IsRead bytes t) (once : (u : Trace) → Spells bytes u → u ≡ t) where
+  pub no_for : ((f : Fault) → IsOrderFault t f → f.offset ≤ length_of t) → ((e : ℕ) → FatesAreAsItEnds t e) → (f : Fault) → IsFirstOf (IsTraceFault t) f → IsAnswer bytes (No f)
+  no_for orders fates f found = record {
+    verdict = trace_first bytes t read.spells once f read.none found;
+    yes = tt;
+    within = (let within = trace_fault_within t orders fates f found.is in let long = long_as bytes t read.spells in omega (arith, within, long));
+  }
+
+  pub yes_for : (s : Summary) → IsSummary t s → HasNone (IsTraceFault t) → IsAudited t → IsAnswer bytes (Yes s)
+  yes_for s summary none audited = record {
+    verdict = (t, faultless bytes t read.spells once read.none none, summary);
+    yes = record { trace = t; spells = read.spells; audited = audited };
+    within = tt;
+  }
+
+-- a fault of form
+pub form_for : (bytes : List ℕ) (why : CheckFault) → IfFound why (IsLeastFormFault bytes) → IfFound why (λ _. (t : Trace) → ¬ Spells bytes t) → IfFound why (λ f. f.offset ≤ length bytes)
+    → IfFound why (λ f. IsAnswer bytes (No f))
+form_for bytes Memory least none within = tt
+form_for bytes (Found f) least none within = record { verdict = found_in_form bytes (Found f) least none; yes = tt; within = within }

@@ -1,0 +1,12 @@
+use Rattle.std.proofs.lemmas.Result.{IfOk-weaker}
+use Rattle.eve_audit.specs.Verdict.{IsVerdict, IsYesOfAudited, LiesWithin}
+use Rattle.eve_audit.proofs.judge.audit.Goals as goal
+
+pub returns-in-Ok-judge_side_by_side-clause-verdict : goal.returns-in-Ok-judge_side_by_side-clause-verdict
+returns-in-Ok-judge_side_by_side-clause-verdict g c = IfOk-weaker c.verdict_on.result _ (IsVerdict c.args.bytes.now) (λ v answer. (answer c.args.bytes.now c.in-Ok.ensures.read).verdict) c.verdict_on.ensures
+
+pub returns-in-Ok-judge_side_by_side-clause-yes : goal.returns-in-Ok-judge_side_by_side-clause-yes
+returns-in-Ok-judge_side_by_side-clause-yes g c = IfOk-weaker c.verdict_on.result _ (IsYesOfAudited c.args.bytes.now) (λ v answer. (answer c.args.bytes.now c.in-Ok.ensures.read).yes) c.verdict_on.ensures
+
+pub returns-in-Ok-judge_side_by_side-clause-within : goal.returns-in-Ok-judge_side_by_side-clause-within
+returns-in-Ok-judge_side_by_side-clause-within g c = IfOk-weaker c.verdict_on.result _ (LiesWithin c.args.bytes.now) (λ v answer. (answer c.args.bytes.now c.in-Ok.ensures.read).within) c.verdict_on.ensures

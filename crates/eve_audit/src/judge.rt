@@ -1,0 +1,171 @@
+//! The verdict on a trace, from what its phases find.
+
+ghost use Rattle.std.specs.Prelude.{◌≡◌, ◌≤◌, ℕ, List, IfOk, IfErr, All, length};
+ghost use Rattle.eve_views.specs.Form.{IfFound};
+ghost use Rattle.eve_views.specs.Fronts.{whole};
+ghost use Rattle.eve_history.specs.Faults.{IsOrderFault};
+ghost use Rattle.eve_history.specs.Told.{names_of};
+ghost use Rattle.eve_theorem.specs.Accepted.{IsAccepted};
+ghost use Rattle.eve_audit.specs.Answer.{IsAnswer, IsRead};
+ghost use Rattle.eve_audit.specs.Findings.{AreTrue};
+ghost use Rattle.eve_audit.specs.Verdict.{IsSummary, IsVerdict, IsYesOfAudited, LiesWithin};
+ghost use Rattle.eve_audit.specs.Pieces.{IsFirstOf, HasNone, IsTraceFault};
+ghost use Rattle.eve_audit.specs.declared.verdict.Verdict.TheVariants.{No};
+
+use crate::replicas::judge_replicas;
+use crate::slots::Slot;
+use crate::together::judge_together;
+use crate::verdict::{AuditFault, Summary, Verdict};
+use crate::workers::judge_side_by_side;
+use eve_accounts::Names;
+use eve_grammar::laws::bytes_spell_one_trace;
+use eve_history::laws::{fates_are_as_the_section_ends, faults_lie_within};
+use eve_history::orders;
+use eve_recorder::Gate;
+use eve_serial::laws::requests_take_effect_once;
+use eve_theorem::accepted_traces_are_audited;
+use eve_views::{CheckFault, Trace};
+use std::alloc::{AllocError, Global};
+use std::hash::RandomState;
+use std::sync::Wait;
+use std::thread::Threads;
+
+/// A trace that was read, and the names of its customers.
+#[derive(Drop)]
+struct Opened<'a> {
+    trace: Trace<'a>,
+    names: Names<'a>,
+}
+
+/// Reads a trace and judges its orders.
+fn open<'a>(alloc: Global, bytes: &'a [u8], random: RandomState) -> Result<Opened<'a>, CheckFault>
+    ensures read { IfOk result (λ opened. IsRead bytes.now (whole opened.trace)) }
+    ensures names { IfOk result (λ opened. opened.names.items ≡ names_of (whole opened.trace)) }
+    ensures orders { IfOk result (λ opened. HasNone (IsOrderFault (whole opened.trace))) }
+    ensures fault { IfErr result (λ why. IfFound why (λ f. IsAnswer bytes.now (No f))) }
+{
+    bytes_spell_one_trace();
+    faults_lie_within();
+    fates_are_as_the_section_ends();
+    let trace = match Trace::read(alloc, bytes) {
+        Ok(trace) => trace,
+        Err(why) => return Err(why),
+    };
+    match orders(alloc, &trace, random) {
+        Ok(names) => Ok(Opened { trace, names }),
+        Err(why) => Err(why),
+    }
+}
+
+/// The summary of a trace without a fault, or its first fault, where its orders have none. What workers have found of the
+/// replicas isn't judged again.
+fn judge_trace<'a, R: Threads + Sync>(
+    rt: &R,
+    alloc: Global,
+    trace: &Trace<'a>,
+    names: &Names<'_>,
+    slots: &mut [Slot<'a>],
+) -> Result<Summary, CheckFault>
+    requires names { names.now.items ≡ names_of (whole trace.now) }
+    requires orders { HasNone (IsOrderFault (whole trace.now)) }
+    requires slots { All (AreTrue (whole trace.now)) slots.old }
+    ensures summary { IfOk result (IsSummary (whole trace.now)) }
+    ensures accepted { IfOk result (λ _. IsAccepted (whole trace.now)) }
+    ensures none { IfOk result (λ _. HasNone (IsTraceFault (whole trace.now))) }
+    ensures first { IfErr result (λ why. IfFound why (IsFirstOf (IsTraceFault (whole trace.now)))) }
+{
+    trace.is_whole();
+    requests_take_effect_once();
+    let found = match judge_replicas(rt, alloc, trace, names, slots) {
+        Ok(found) => found,
+        Err(why) => return Err(why),
+    };
+    match judge_together(alloc, trace, &found.histories, &found.settled) {
+        Ok(()) => {}
+        Err(why) => return Err(why),
+    }
+    Ok(Summary {
+        replicas: trace.section_count() as u32,
+        batches: trace.batch_count(),
+        committed: found.committed,
+    })
+}
+
+/// The verdict on the bytes that a trace was read from, where its orders have no fault.
+fn verdict_on<'a, R: Threads + Sync>(
+    rt: &R,
+    alloc: Global,
+    trace: &Trace<'a>,
+    names: &Names<'_>,
+    slots: &mut [Slot<'a>],
+) -> Result<Verdict, AuditFault>
+    requires names { names.now.items ≡ names_of (whole trace.now) }
+    requires orders { HasNone (IsOrderFault (whole trace.now)) }
+    requires slots { All (AreTrue (whole trace.now)) slots.old }
+    ensures { IfOk result (λ verdict. (bytes : List ℕ) → IsRead bytes (whole trace.now) → IsAnswer bytes verdict) }
+{
+    bytes_spell_one_trace();
+    faults_lie_within();
+    fates_are_as_the_section_ends();
+    accepted_traces_are_audited();
+    match judge_trace(rt, alloc, trace, names, slots) {
+        Ok(summary) => Ok(Verdict::Yes(summary)),
+        Err(CheckFault::Found(fault)) => Ok(Verdict::No(fault)),
+        Err(CheckFault::Memory) => Err(AuditFault::Memory),
+    }
+}
+
+/// Audits the bytes of a trace on one thread: the first fault, or yes with the summary where none stands. Where it is yes,
+/// the bytes spell a trace that is one-thread SmallBank, batch by batch, and all else that `IsAudited` says; the first
+/// fault stands within the bytes, or at their end.
+///
+/// docs/MODEL.md, "Verdict" and "The audit theorem". Nothing recorded is trusted. Want of memory decides nothing. The time
+/// is linear in the trace, but for the tokens, which hash all balances once a batch. It waits for nobody.
+pub fn audit_one<R: Threads + Sync>(
+    rt: &R,
+    alloc: Global,
+    bytes: &[u8],
+    random: RandomState,
+) -> Result<Verdict, AuditFault>
+    ensures verdict { IfOk result (IsVerdict bytes.now) }
+    ensures yes { IfOk result (IsYesOfAudited bytes.now) }
+    ensures within { IfOk result (LiesWithin bytes.now) }
+{
+    match open(alloc, bytes, random) {
+        Ok(opened) => verdict_on(rt, alloc, &opened.trace, &opened.names, &mut []),
+        Err(CheckFault::Found(fault)) => Ok(Verdict::No(fault)),
+        Err(CheckFault::Memory) => Err(AuditFault::Memory),
+    }
+}
+
+/// Audits the bytes of a trace as `audit_one` does, the replicas side by side on up to 16 workers: the same verdict, for
+/// every number of workers and every order in which they end.
+///
+/// docs/MODEL.md, "Verdict" and "The audit theorem". Worker e mod `workers` judges replica e by itself, and enters the gate
+/// with e first. A worker that can't be started is run by the caller, and a replica for which a worker had no memory is
+/// judged again by the caller. What the replicas come to together is judged once all workers have ended. Nothing is
+/// promised of which threads run, and it returns where the gate does.
+pub fn audit<R: Threads + Wait + Sync, G: Gate>(
+    rt: &R,
+    alloc: Global,
+    bytes: &[u8],
+    workers: u8,
+    random: RandomState,
+    gate: &G,
+) -> Result<Verdict, AuditFault>
+    requires { (1 ≤ workers) × (workers ≤ 16) }
+    ensures verdict { IfOk result (IsVerdict bytes.now) }
+    ensures yes { IfOk result (IsYesOfAudited bytes.now) }
+    ensures within { IfOk result (LiesWithin bytes.now) }
+{
+    let opened = match open(alloc, bytes, random) {
+        Ok(opened) => opened,
+        Err(CheckFault::Found(fault)) => return Ok(Verdict::No(fault)),
+        Err(CheckFault::Memory) => return Err(AuditFault::Memory),
+    };
+    let (trace, names) = (&opened.trace, &opened.names);
+    match judge_side_by_side(rt, alloc, trace, names, workers, gate) {
+        Ok(mut slots) => verdict_on(rt, alloc, trace, names, slots.as_mut_slice()),
+        Err(AllocError) => Err(AuditFault::Memory),
+    }
+}

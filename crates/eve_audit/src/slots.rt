@@ -1,0 +1,85 @@
+//! What was found of replicas before the caller asks for it.
+
+ghost use Rattle.std.specs.Prelude.{◌≡◌, ◌∷◌, [], ◌<◌, IfSome, IsNone, length};
+ghost use Rattle.eve_views.specs.Fronts.{whole};
+ghost use Rattle.eve_history.specs.Told.{names_of};
+ghost use Rattle.eve_audit.specs.Findings.{AreTrue, finding};
+
+use crate::replica::{Piece, judge_replica};
+use crate::share::Share;
+use eve_accounts::Names;
+use eve_views::{CheckFault, Fault, Trace};
+use std::alloc::Global;
+use std::collections::VecDeque;
+use std::thread::Threads;
+
+/// What judging a replica by itself came to.
+#[derive(Drop)]
+pub struct Finding<'a> {
+    /// The replica's number, from 0.
+    pub replica: u8,
+    /// What it did and committed, or the first of its own faults.
+    pub answer: Result<Piece<'a>, Fault>,
+}
+
+/// What one worker has found, in the order in which it judged.
+#[derive(Drop)]
+pub struct Slot<'a> {
+    /// Which replicas are the worker's.
+    pub share: Share,
+    /// A finding for each replica that it judged.
+    pub findings: VecDeque<Finding<'a>>,
+}
+
+impl<'a> Slot<'a> {
+    /// A worker's before it has judged a replica.
+    pub fn new(alloc: Global, share: Share) -> Self
+        ensures { result.findings.items ≡ [] }
+    {
+        Slot {
+            share,
+            findings: VecDeque::new(alloc),
+        }
+    }
+
+    /// Judges a replica by itself, and keeps what that comes to. Where memory runs out nothing is kept.
+    pub fn judge<R: Threads + Sync>(
+        &mut self,
+        rt: &R,
+        alloc: Global,
+        trace: &Trace<'a>,
+        names: &Names<'_>,
+        e: u8,
+    )
+        requires there { e < length (whole trace.now).sections }
+        requires names { names.now.items ≡ names_of (whole trace.now) }
+        requires so_far { AreTrue (whole trace.now) self.old }
+        ensures { AreTrue (whole trace.now) self.new }
+    {
+        if self.findings.reserve(1).is_err() {
+            return;
+        }
+        let answer = match judge_replica(rt, alloc, trace, names, e) {
+            Ok(piece) => Ok(piece),
+            Err(CheckFault::Found(fault)) => Err(fault),
+            Err(CheckFault::Memory) => return,
+        };
+        self.findings
+            .push_back_reserved(Finding { replica: e, answer });
+    }
+
+    /// Takes what was found of a replica, if that comes next.
+    pub fn take(&mut self, e: u8) -> Option<Result<Piece<'a>, Fault>>
+        ensures next { IfSome result (λ answer. self.old.findings.items ≡ finding e answer ∷ self.new.findings.items) }
+        ensures none { IsNone result → self.new ≡ self.old }
+    {
+        match self.findings.front() {
+            Some(next) if next.replica == e => {}
+            _ => return None,
+        }
+        match self.findings.pop_front() {
+            Some(next) => Some(next.answer),
+            None => None,
+        }
+    }
+}

@@ -1,0 +1,98 @@
+//! Workers, which judge replicas side by side.
+
+ghost use Rattle.std.specs.Prelude.{◌≡◌, ◌<◌, ◌≤◌, [], IfOk, All, length};
+ghost use Rattle.std.specs.Thread.{IsSync};
+ghost use Rattle.eve_views.specs.Fronts.{whole};
+ghost use Rattle.eve_history.specs.Told.{names_of};
+ghost use Rattle.eve_audit.specs.Findings.{AreTrue};
+
+use crate::share::Share;
+use crate::slots::Slot;
+use eve_accounts::Names;
+use eve_recorder::Gate;
+use eve_views::Trace;
+use std::alloc::{AllocError, Global};
+use std::sync::Wait;
+use std::thread;
+use std::thread::Threads;
+
+/// What workers find of the replicas, side by side, each replica judged by itself. Worker e mod `workers` judges replica e,
+/// and enters the gate with e first. A worker that can't be started is run by the caller; where a worker has no memory for
+/// a replica, nothing is found of it.
+pub fn judge_side_by_side<'a, R: Threads + Wait + Sync, G: Gate>(
+    rt: &R,
+    alloc: Global,
+    trace: &Trace<'a>,
+    names: &Names<'_>,
+    workers: u8,
+    gate: &G,
+) -> Result<Vec<Slot<'a>>, AllocError>
+    requires some { 1 ≤ workers }
+    requires names { names.now.items ≡ names_of (whole trace.now) }
+    ensures { IfOk result (λ slots. All (AreTrue (whole trace.now)) slots.items) }
+{
+    trace.is_whole();
+    let mut slots = empty_slots(alloc, workers.min(trace.section_count()))?;
+    judge_shares(rt, alloc, trace, names, gate, slots.as_mut_slice());
+    Ok(slots)
+}
+
+// Judges a worker's replicas.
+fn judge_share<'a, R: Threads + Wait + Sync, G: Gate>(
+    rt: &R,
+    alloc: Global,
+    trace: &Trace<'a>,
+    names: &Names<'_>,
+    gate: &G,
+    slot: &mut Slot<'a>,
+)
+    requires names { names.now.items ≡ names_of (whole trace.now) }
+    requires so_far { AreTrue (whole trace.now) slot.old }
+    ensures { AreTrue (whole trace.now) slot.new }
+{
+    let share = slot.share;
+    for e in 0..trace.section_count() {
+        if share.has(e) {
+            gate.enter(rt, u32::from(e));
+            slot.judge(rt, alloc, trace, names, e);
+        }
+    }
+}
+
+// A slot for each worker that has a replica to judge.
+fn empty_slots<'a>(alloc: Global, workers: u8) -> Result<Vec<Slot<'a>>, AllocError>
+    ensures len { IfOk result (λ slots. length slots.items ≡ workers) }
+    ensures empty { IfOk result (λ slots. All (λ slot. slot.findings.items ≡ []) slots.items) }
+{
+    let mut slots = Vec::with_capacity(alloc, workers as usize)?;
+    for worker in 0..workers {
+        slots.push(Slot::new(alloc, Share::new(worker, workers)))?;
+    }
+    Ok(slots)
+}
+
+// Judges the workers' replicas, each worker's in a thread of its own where one can be started.
+fn judge_shares<'a, R: Threads + Wait + Sync, G: Gate>(
+    rt: &R,
+    alloc: Global,
+    trace: &Trace<'a>,
+    names: &Names<'_>,
+    gate: &G,
+    slots: &mut [Slot<'a>],
+)
+    requires names { names.now.items ≡ names_of (whole trace.now) }
+    requires some { 0 < length slots.old }
+    requires so_far { All (AreTrue (whole trace.now)) slots.old }
+    ensures { All (AreTrue (whole trace.now)) slots.new }
+{
+    let workers = slots.len();
+    thread::for_each_mut(
+        rt,
+        slots,
+        workers,
+        &|_: usize, slot: &mut Slot|
+            requires { IsSync R.row × IsSync G.row × (names.now.items ≡ names_of (whole trace.now)) × AreTrue (whole trace.now) slot.old }
+            ensures { AreTrue (whole trace.entry.now) slot.new }
+        { judge_share(rt, alloc, trace, names, gate, slot) },
+    );
+}
