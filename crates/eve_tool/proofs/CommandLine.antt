@@ -9,13 +9,11 @@ use Rattle.clap.specs.Faults.{check_fault, defaults_fault, entered_fault, level_
 use Rattle.clap.specs.Takes.{is_given}
 use Rattle.std.specs.List.{list_any}
 use Rattle.clap.proofs.OnLiterals.{clap_on_literals}
-use Rattle.eve_tool.specs.Words.{Answers, AsksForHelp, SaysOf, audit, call_named, call_of, call_unless, eve, faults_of, program, show}
+use Rattle.eve_tool.specs.Words.{Answers, AsksForHelp, SaysOf, Subcommand, Audit, Show, audit, call_of, call_unless, eve, faults_of, program, show, subcommand_named}
 use Rattle.clap.specs.declared.error.kind.ErrorKind.{ErrorKind}
 use Rattle.clap.specs.declared.error.kind.ErrorKind.TheVariants as kind
 use Rattle.eve_tool.specs.declared.words.Asked.{Asked}
 use Rattle.eve_tool.specs.declared.words.Asked.TheVariants as asked
-use Rattle.eve_tool.specs.declared.words.Call.{Call}
-use Rattle.eve_tool.specs.declared.words.Call.TheVariants.{Audit, Show}
 
 -- the program is of the kind of which clap says what it makes of the words
 pub eve_is_simple : is_simple eve ≡ true
@@ -68,7 +66,7 @@ entered_if is_audit is_show rest =
     option_map (λ s. rows_at s rest) (if is_audit then Some built_audit else (if is_show then Some built_show else None))
 
 call_if : (is_audit is_show : Bool) (rest : List Text) → is_some (entered_if is_audit is_show rest) ≡ true
-    → is_some (option_and_then call_named (entered_if is_audit is_show rest)) ≡ true
+    → is_some (option_and_then subcommand_named (entered_if is_audit is_show rest)) ≡ true
 unfolding clap_on_literals
 call_if true is_show rest h = refl
 call_if false true rest h = refl
@@ -76,7 +74,7 @@ call_if false false rest h = cc
 
 -- the subcommand that was entered is a call
 entered_call : (stop : Option (Text × List Text)) → is_some (entered (built eve) stop) ≡ true
-    → is_some (option_and_then call_named (entered (built eve) stop)) ≡ true
+    → is_some (option_and_then subcommand_named (entered (built eve) stop)) ≡ true
 unfolding clap_on_literals
 entered_call None h = cc
 entered_call (Some p) h = call_if (answers_to p.0 (label_of built_audit)) (answers_to p.0 (label_of built_show)) p.1 h
@@ -90,12 +88,12 @@ entered_without_faults words h =
     subcommand_wanted above.top (names_of above) nothing_held rest (is_some (entered above stop)) (entered_fault above stop) refl h
 
 -- words without a fault are a call
-pub call_without_faults : (words : List Text) → fault_of eve words ≡ [] → call_of words ≡ option_and_then call_named (subcommand_of eve words)
+pub call_without_faults : (words : List Text) → fault_of eve words ≡ [] → call_of words ≡ option_and_then subcommand_named (subcommand_of eve words)
 unfolding call_of faults_of
 call_without_faults words h = rw h refl
 
 -- and it is one of the program's
-pub some_without_faults : (words : List Text) → fault_of eve words ≡ [] → is_some (option_and_then call_named (subcommand_of eve words)) ≡ true
+pub some_without_faults : (words : List Text) → fault_of eve words ≡ [] → is_some (option_and_then subcommand_named (subcommand_of eve words)) ≡ true
 some_without_faults words h =
     let above = built eve in
     entered_call (stop_after above.top.rules (names_of above) (argument_words eve words)) (entered_without_faults words h)
@@ -103,8 +101,8 @@ some_without_faults words h =
 -- words with a fault are no call
 no_call : (words : List Text) (k : ErrorKind) → IsAmong k (faults_of words) → call_of words ≡ None
 unfolding call_of
-no_call words k among = none_if (faults_of words) k among (option_and_then call_named (subcommand_of eve words)) where
-  none_if : (kinds : Kinds) (k : ErrorKind) → IsAmong k kinds → (found : Option Call) → call_unless kinds found ≡ None
+no_call words k among = none_if (faults_of words) k among (option_and_then subcommand_named (subcommand_of eve words)) where
+  none_if : (kinds : Kinds) (k : ErrorKind) → IsAmong k kinds → (found : Option Subcommand) → call_unless kinds found ≡ None
   none_if [] k among found = absurd among
   none_if (x ∷ xs) k among found = refl
 

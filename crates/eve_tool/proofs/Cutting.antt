@@ -4,7 +4,7 @@ use Rattle.std.specs.Prelude.{IfSome, IsFalse, Option, nat_le}
 use Rattle.std.proofs.lemmas.Bool.{cases_lt, lt-leb}
 use Rattle.std.proofs.lemmas.List.{length-take, take_all}
 use Rattle.eve_audit.proofs.Phases.{order_phase, structure_phase, record_phase, chain_phase, restore_phase, token_phase, vote_phase, majority_phase, outcome_phase, reply_phase}
-use Rattle.eve_audit.specs.Verdict.{IsFirst, IsJudged, IsOwnFault, IsVerdict, Precedes, Stands, in_agreement, in_form, in_majorities, in_orders, in_replies, in_section, in_votes, of_chains, of_records, of_restores, of_structure, of_tokens}
+use Rattle.eve_audit.specs.Verdict.{IsFirst, IsJudged, IsVerdict, Precedes, Stands, in_agreement, in_form, in_majorities, in_orders, in_replies, in_section, in_votes, of_chains, of_records, of_restores, of_structure, of_tokens}
 use Rattle.eve_audit.specs.declared.verdict.Verdict.{Verdict}
 use Rattle.eve_audit.specs.declared.verdict.Verdict.TheVariants.{No, Yes}
 use Rattle.eve_views.specs.Code.{number_of, phase_of}

@@ -1,12 +1,13 @@
 -- What the words of a command line ask for.
-use Rattle.std.specs.Prelude.{◌≡◌, ◌≢◌, true, if◌then◌else◌, List, [], ◌∷◌, Option, Some, None, codes, option_and_then}
+use Rattle.std.specs.Prelude.{◌≡◌, ◌≢◌, pos, true, if◌then◌else◌, List, [], ◌∷◌, Option, Some, None, codes, option_and_then}
 use Rattle.std.specs.Str.{bytes_eq}
-use Rattle.clap.specs.Words.{App, Shape, Text, IsAmong, Kinds, fault_of, new_app, subcommand_of, with_subcommand}
+use Rattle.clap.specs.Words.{App, Rule, Shape, Text, IsAmong, Kinds, fault_of, new_app, new_rule, subcommand_of, with_rule, with_subcommand}
 use Rattle.clap.specs.Walk.{Row}
+use Rattle.clap.specs.declared.builder.value_parser.ValueParser.TheVariants as vp
 use Rattle.clap.specs.declared.error.kind.ErrorKind.TheVariants as kind
 use Rattle.clap.specs.declared.error.kind.ErrorKind.{ErrorKind}
 use Rattle.eve_tool.specs.declared.words.Call.{Call}
-use Rattle.eve_tool.specs.declared.words.Call.TheVariants.{Audit, Show}
+use Rattle.eve_tool.specs.declared.words.Call.TheVariants as call
 use Rattle.eve_tool.specs.declared.words.Asked.{Asked}
 use Rattle.eve_tool.specs.declared.words.Asked.TheVariants as asked
 
@@ -14,8 +15,17 @@ use Rattle.eve_tool.specs.declared.words.Asked.TheVariants as asked
 abbrev pub program : App
 program = let new = new_app (codes "eve") in record new { top = record new.top { disable_help_subcommand = true; subcommand_required = true } }
 
+-- the argument that says how many workers audit
+abbrev pub workers : Rule
+workers = record (new_rule (codes "workers")) {
+  long = Some (codes "workers");
+  value_names = 1;
+  defaults = codes "1" ∷ [];
+  parser = Some (vp.Signed (pos 1) (pos 16));
+}
+
 abbrev pub audit : Shape
-audit = (new_app (codes "audit")).top
+audit = (with_rule (new_app (codes "audit")) workers).top
 
 abbrev pub show : Shape
 show = (new_app (codes "show")).top
@@ -24,22 +34,29 @@ show = (new_app (codes "show")).top
 abbrev pub eve : App
 eve = with_subcommand (with_subcommand program audit) show
 
--- the call of a subcommand
-abbrev pub call_named : Text × List Row → Option Call
-call_named found = if bytes_eq found.0 (codes "audit") then Some Audit else (if bytes_eq found.0 (codes "show") then Some Show else None)
+pub data Subcommand : Type 0 where
+  Audit : Subcommand
+  Show : Subcommand
+
+abbrev pub subcommand_named : Text × List Row → Option Subcommand
+subcommand_named found = if bytes_eq found.0 (codes "audit") then Some Audit else (if bytes_eq found.0 (codes "show") then Some Show else None)
+
+abbrev pub subcommand_of_call : Call → Subcommand
+subcommand_of_call (call.Audit _) = Audit
+subcommand_of_call call.Show = Show
 
 -- what clap finds wrong with the words, the program's name first, or a request for help
 unfoldable pub faults_of : List Text → Kinds
 faults_of words = fault_of eve words
 
 -- a call only where nothing is wrong
-abbrev pub call_unless : Kinds → Option Call → Option Call
+abbrev pub call_unless : Kinds → Option Subcommand → Option Subcommand
 call_unless [] call = call
 call_unless (k ∷ ks) call = None
 
 -- the call that the words are
-unfoldable pub call_of : List Text → Option Call
-call_of words = call_unless (faults_of words) (option_and_then call_named (subcommand_of eve words))
+unfoldable pub call_of : List Text → Option Subcommand
+call_of words = call_unless (faults_of words) (option_and_then subcommand_named (subcommand_of eve words))
 
 -- what is answered to words in which clap finds this wrong
 abbrev pub SaysOf : ErrorKind → Asked → Type 0
@@ -75,6 +92,6 @@ pub record IsWrong (words : List Text) : Type 0 where
 
 -- the answer is the call that the words are, help where they ask for it, or a refusal where they are wrong
 abbrev pub Answers : List Text → Asked → Type 0
-Answers words (asked.Call call) = call_of words ≡ Some call
+Answers words (asked.Call call) = call_of words ≡ Some (subcommand_of_call call)
 Answers words (asked.Help text) = CallsNothing words × AsksForHelp words
 Answers words (asked.Refused text) = CallsNothing words × IsWrong words

@@ -13,11 +13,14 @@ use crate::fault::ToolFault;
 use crate::lines::push_yes_line;
 use crate::sending::{send_fault, send_text};
 use crate::show::LONGEST_TRACE;
-use eve_audit::{Summary, Verdict, audit_one};
+use crate::worker_count::WorkerCount;
+use eve_audit::{Summary, Verdict};
+use eve_recorder::OpenGate;
 use eve_streams::{Sink, Source, read_all};
 use std::alloc::Global;
 use std::hash::RandomState;
 use std::random::RandomSource;
+use std::sync::Wait;
 use std::thread::Threads;
 
 // Sends the line that says yes.
@@ -61,10 +64,11 @@ fn send_verdict<O: Sink>(alloc: Global, verdict: &Verdict, out: &mut O) -> Resul
 }
 
 // Sends the verdict on the bytes, and answers the exit status.
-fn audit_bytes<R: Threads + Sync, O: Sink>(
+fn audit_bytes<R: Threads + Wait + Sync, O: Sink>(
     rt: &R,
     alloc: Global,
     bytes: &[u8],
+    workers: WorkerCount,
     random: RandomState,
     out: &mut O,
 ) -> Result<u8, ToolFault>
@@ -77,7 +81,7 @@ fn audit_bytes<R: Threads + Sync, O: Sink>(
     ensures write { IfErr result (λ e. e ≡ ToolFault.Write
         → O.failures out.new ≡ after_failure (O.failures out.old)) }
 {
-    let verdict = audit_one(rt, alloc, bytes, random)?;
+    let verdict = eve_audit::audit(rt, alloc, bytes, workers.get(), random, &OpenGate)?;
     send_verdict(alloc, &verdict, out)
 }
 
@@ -91,11 +95,12 @@ fn random_words<R: RandomSource>(rt: &R) -> Result<RandomState, ToolFault>
     }
 }
 
-/// Reads a trace, asks for random words, and sends the line of the verdict: with the answer 0 where
-/// it is yes, and 1 where it is the first fault. It reads at most one byte more than a trace may
-/// have, which is the fault then.
-pub(crate) fn audit<R: AllocGlobal + RandomSource + Threads + Sync, I: Source, O: Sink>(
+/// Reads a trace, asks for random words, and sends the line of the verdict, which so many workers
+/// find: with the answer 0 where it is yes, and 1 where it is the first fault. It reads at most one
+/// byte more than a trace may have, which is the fault then.
+pub(crate) fn audit<R: AllocGlobal + RandomSource + Threads + Wait + Sync, I: Source, O: Sink>(
     rt: &R,
+    workers: WorkerCount,
     input: &mut I,
     out: &mut O,
 ) -> Result<u8, ToolFault>
@@ -114,5 +119,5 @@ pub(crate) fn audit<R: AllocGlobal + RandomSource + Threads + Sync, I: Source, O
     let alloc = rt.alloc();
     let bytes = read_all(alloc, input, LONGEST_TRACE)?;
     let random = random_words(rt)?;
-    audit_bytes(rt, alloc, bytes.as_slice(), random, out)
+    audit_bytes(rt, alloc, bytes.as_slice(), workers, random, out)
 }

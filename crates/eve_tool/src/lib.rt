@@ -8,6 +8,7 @@ mod program;
 mod sending;
 mod show;
 mod words;
+mod worker_count;
 
 pub use fault::ToolFault;
 pub use program::{serve, stop};

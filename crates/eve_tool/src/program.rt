@@ -18,6 +18,7 @@ use eve_streams::{Sink, Source, send_all};
 use std::convert::AsStr;
 use std::fmt::Write;
 use std::random::RandomSource;
+use std::sync::Wait;
 use std::thread::Threads;
 
 // How many bytes the line of a fault has at most.
@@ -36,13 +37,13 @@ pub fn stop<E: Sink>(fault: ToolFault, err: &mut E) -> u8
 }
 
 // Does what the words ask for, and answers the exit status.
-fn answer<R: AllocGlobal + RandomSource + Threads + Sync, S: AsStr, I: Source, O: Sink, E: Sink>(
-    rt: &R,
-    words: &[S],
-    input: &mut I,
-    out: &mut O,
-    err: &mut E,
-) -> Result<u8, ToolFault>
+fn answer<
+    R: AllocGlobal + RandomSource + Threads + Wait + Sync,
+    S: AsStr,
+    I: Source,
+    O: Sink,
+    E: Sink,
+>(rt: &R, words: &[S], input: &mut I, out: &mut O, err: &mut E) -> Result<u8, ToolFault>
     ensures shown { CallsShow (map S.text words.now)
         → IfOk result (WritesAllOf Shows (I.remaining input.old) (O.written out.old)
         (O.written out.new)) }
@@ -71,7 +72,7 @@ fn answer<R: AllocGlobal + RandomSource + Threads + Sync, S: AsStr, I: Source, O
         → (status ≡ 2) × IsWrong (map S.text words.now) × (out.new ≡ out.old)) }
 {
     match read_words(rt.alloc(), words)? {
-        Asked::Call(Call::Audit) => audit(rt, input, out),
+        Asked::Call(Call::Audit(workers)) => audit(rt, workers, input, out),
         Asked::Call(Call::Show) => show(rt.alloc(), input, out),
         Asked::Help(text) => {
             send_all(out, text.as_str().as_bytes())?;
@@ -85,16 +86,17 @@ fn answer<R: AllocGlobal + RandomSource + Threads + Sync, S: AsStr, I: Source, O
 }
 
 /// Runs the program: does what the words of the command line ask for, the first of which is the
-/// program's name, and answers the exit status. Memory and the random words of `audit` come from
-/// `rt`; the words are asked for once the input is read.
+/// program's name, and answers the exit status. Memory, the random words and the threads of `audit`
+/// come from `rt`; the words are asked for once the input is read. How many workers audit changes
+/// nothing of what is said. It returns where the threads that it started do.
 #[tactic(auto, using(crate::proofs::CommandLine::called_audit, crate::proofs::CommandLine::called_show, crate::proofs::CommandLine::asked_help))]
-pub fn serve<R: AllocGlobal + RandomSource + Threads + Sync, S: AsStr, I: Source, O: Sink, E: Sink>(
-    rt: &R,
-    words: &[S],
-    input: &mut I,
-    out: &mut O,
-    err: &mut E,
-) -> u8
+pub fn serve<
+    R: AllocGlobal + RandomSource + Threads + Wait + Sync,
+    S: AsStr,
+    I: Source,
+    O: Sink,
+    E: Sink,
+>(rt: &R, words: &[S], input: &mut I, out: &mut O, err: &mut E) -> u8
     // `audit` and `show` are calls, and `--help` asks for help.
     ensures audit { (name : List ℕ) → map S.text words.now ≡ name ∷ codes "audit" ∷ []
         → CallsAudit (map S.text words.now) }

@@ -11,6 +11,7 @@ use std::alloc::Global;
 use std::io;
 use std::io::ErrorKind;
 use std::random::RandomSource;
+use std::sync::Wait;
 use std::thread::Threads;
 
 // What `show` says of the examples, in the order of examples/README.md.
@@ -92,7 +93,27 @@ Options:
 
 Examples:
   eve audit < examples/deposit-committed.trace
+  eve audit --workers 2 < examples/two-orders-agree.trace
   eve show < examples/empty-run.trace
+";
+
+const AUDIT_HELP: &str = "Prints the verdict on the trace on standard input: yes, or the first fault
+
+Usage: eve audit [OPTIONS]
+
+Options:
+      --workers <N>  How many threads judge the replicas side by side, 1 to 16 [default: 1]
+  -h, --help         Print help
+";
+
+const NO_WORKERS: &str = "error: invalid value '0' for '--workers <N>': 0 is not in 1..=16
+
+For more information, try '--help'.
+";
+
+const SEVENTEEN_WORKERS: &str = "error: invalid value '17' for '--workers <N>': 17 is not in 1..=16
+
+For more information, try '--help'.
 ";
 
 const SHOWS: &str = "error: unrecognized subcommand 'shows'
@@ -120,6 +141,8 @@ struct NoRandom<R> {
 }
 
 impl<R: Threads> Threads for NoRandom<R> {}
+
+impl<R: Wait> Wait for NoRandom<R> {}
 
 impl<R> Alloc for NoRandom<R> {
     type A = Global;
@@ -221,6 +244,27 @@ fn audits_what_has_a_fault(rt: HostRuntime) {
 }
 
 #[test]
+fn workers_change_nothing(rt: HostRuntime) {
+    for (trace, line, status) in [
+        (
+            TWO_ORDERS_AGREE.as_slice(),
+            "yes: 2 replicas, 1 batches, 1 committed\n",
+            0,
+        ),
+        (BYTE_AFTER_END.as_slice(), "no: F4 Frame at byte 302\n", 1),
+    ] {
+        for workers in ["1", "2", "16"] {
+            let words = ["eve", "audit", "--workers", workers];
+            let mut input = SourceOf::new(trace);
+            let (mut out, mut err) = (memory(rt.alloc()), memory(rt.alloc()));
+            assert_eq!(rt; serve(&rt, &words, &mut input, &mut out, &mut err), status);
+            assert_eq!(rt; out.writer().as_slice(), line.as_bytes(), "by {workers}");
+            assert!(rt; err.writer().is_empty());
+        }
+    }
+}
+
+#[test]
 fn random_words_are_asked_for_once_the_input_is_read(rt: HostRuntime) {
     let no_random = NoRandom {
         threads: &rt,
@@ -264,6 +308,19 @@ fn words_that_are_no_call(rt: HostRuntime) {
     for (words, status, said, refused) in [
         (["eve", "--help"].as_slice(), 0, HELP, ""),
         (["eve", "-h"].as_slice(), 0, HELP, ""),
+        (["eve", "audit", "--help"].as_slice(), 0, AUDIT_HELP, ""),
+        (
+            ["eve", "audit", "--workers", "0"].as_slice(),
+            2,
+            "",
+            NO_WORKERS,
+        ),
+        (
+            ["eve", "audit", "--workers", "17"].as_slice(),
+            2,
+            "",
+            SEVENTEEN_WORKERS,
+        ),
         (["eve", "shows"].as_slice(), 2, "", SHOWS),
         (["eve"].as_slice(), 2, "", NO_SUBCOMMAND),
     ] {

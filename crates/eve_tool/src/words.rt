@@ -1,19 +1,20 @@
 //! What the words of a command line ask for.
 
-ghost use Rattle.std.specs.Prelude.{◌≡◌, IfOk, map, option_and_then};
-ghost use Rattle.clap.specs.Words.{app_of, kind_of, subcommand_rows_of};
-ghost use Rattle.eve_tool.specs.Words.{Answers, SaysOf, call_named, eve};
+ghost use Rattle.std.specs.Prelude.{◌≡◌, false, IfOk, map, option_and_then, option_map};
+ghost use Rattle.clap.specs.Words.{app_of, kind_of, rule_of, subcommand_rows_of};
+ghost use Rattle.eve_tool.specs.Words.{Answers, SaysOf, eve, subcommand_named, subcommand_of_call, workers};
 
+use crate::worker_count::WorkerCount;
 use clap::error::ErrorKind;
-use clap::{ArgMatches, Command, Error};
+use clap::{Arg, ArgMatches, Command, Error, value_parser};
 use std::alloc::{AllocError, Global};
 use std::convert::AsStr;
 
 /// A call of the program, one for each subcommand.
 #[derive(Clone, Copy, Debug, PartialEq, Eq)]
 pub(crate) enum Call {
-    /// Prints the verdict on a trace.
-    Audit,
+    /// Prints the verdict on a trace, found by this many workers.
+    Audit(WorkerCount),
     /// Prints the frames of a trace.
     Show,
 }
@@ -30,15 +31,29 @@ pub(crate) enum Asked {
 }
 
 const EXAMPLES: &str =
-    "Examples:\n  eve audit < examples/deposit-committed.trace\n  eve show < examples/empty-run.trace";
+    "Examples:\n  eve audit < examples/deposit-committed.trace\n  eve audit --workers 2 < examples/two-orders-agree.trace\n  eve show < examples/empty-run.trace";
+
+// How many workers audit.
+fn workers_argument<'a>(alloc: Global) -> Arg<'a>
+    ensures rule { rule_of result ≡ workers }
+    ensures local { result.global ≡ false }
+{
+    let parser = value_parser!(u8).range(1..=16);
+    Arg::new(alloc, "workers")
+        .long("workers")
+        .value_name("N")
+        .help("How many threads judge the replicas side by side, 1 to 16")
+        .default_value("1")
+        .value_parser(parser)
+}
 
 // The command line of the program.
 fn command<'a>(alloc: Global) -> Result<Command<'a>, AllocError>
     ensures { IfOk result (λ c. app_of c ≡ eve) }
 {
-    let audit = Command::new(alloc, "audit").about(
-        "Prints the verdict on the trace on standard input: yes, or the first fault",
-    );
+    let audit = Command::new(alloc, "audit")
+        .about("Prints the verdict on the trace on standard input: yes, or the first fault")
+        .arg(workers_argument(alloc))?;
     let show = Command::new(alloc, "show").about(
         "Prints the frames of the trace on standard input, a line for each",
     );
@@ -51,12 +66,21 @@ fn command<'a>(alloc: Global) -> Result<Command<'a>, AllocError>
         .subcommand(show)
 }
 
+// How many workers the words ask for.
+fn workers_in(matches: &ArgMatches<'_>) -> WorkerCount {
+    let given = match matches.subcommand_matches("audit") {
+        Some(audit) => audit.get_one::<u8>("workers"),
+        None => None,
+    };
+    WorkerCount::nearest(given.unwrap_or(1))
+}
+
 // The call of the subcommand that was met.
 fn call_in(matches: &ArgMatches<'_>) -> Option<Call>
-    ensures { result ≡ option_and_then call_named (subcommand_rows_of matches.now) }
+    ensures { option_map subcommand_of_call result ≡ option_and_then subcommand_named (subcommand_rows_of matches.now) }
 {
     match matches.subcommand_name() {
-        Some("audit") => Some(Call::Audit),
+        Some("audit") => Some(Call::Audit(workers_in(matches))),
         Some("show") => Some(Call::Show),
         _ => None,
     }

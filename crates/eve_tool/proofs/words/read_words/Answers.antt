@@ -1,8 +1,9 @@
-use Rattle.std.proofs.Common.{◌≡◌, ◌∙◌, is_some, ap, sym, subst, true, map, List, []}
-use Rattle.std.specs.Prelude.{option_and_then}
+use Rattle.std.proofs.Common.{◌≡◌, ◌∙◌, ap, sym, subst, true, map, List, []}
+use Rattle.std.specs.Prelude.{option_and_then, option_map}
 use Rattle.std.proofs.lemmas.Result.{IfOk-weaker}
+use Rattle.clap.proofs.CallerLemmas.{some_of_text}
 use Rattle.clap.specs.Words.{App, HasKind, HasMatchesOf, Text, fault_of, is_simple_and_free, kind_of}
-use Rattle.eve_tool.specs.Words.{Answers, SaysOf, call_named, eve}
+use Rattle.eve_tool.specs.Words.{Answers, SaysOf, eve, subcommand_named, subcommand_of_call}
 use Rattle.eve_tool.proofs.CommandLine.{answers_with_fault, call_without_faults, eve_is_free, eve_is_simple, some_without_faults}
 use Rattle.eve_tool.proofs.words.read_words.Goals as goal
 
@@ -12,7 +13,7 @@ returns-in-Ok g c =
     let is_eve = c.in_ok-command.ensures in
     let right : fault_of eve words ≡ [] = subst (λ (a : App). is_simple_and_free a ≡ true → fault_of a words ≡ []) is_eve c.in-Ok.ensures.kinds eve_is_free in
     let found = subst (λ (a : App). HasMatchesOf a words c.in-Ok.matches) is_eve c.in-Ok.ensures.matches eve_is_simple in
-    call_without_faults words right ∙ (ap (option_and_then call_named) (sym found.1) ∙ (sym c.call_in.ensures ∙ c.unwrap.ensures))
+    call_without_faults words right ∙ (ap (option_and_then subcommand_named) (sym found.1) ∙ (sym c.call_in.ensures ∙ ap (option_map subcommand_of_call) c.unwrap.ensures))
 
 pub returns-in-Err : goal.returns-in-Err
 returns-in-Err g c =
@@ -26,5 +27,5 @@ unwrap-requires g c =
     let is_eve = c.in_ok-command.ensures in
     let right : fault_of eve words ≡ [] = subst (λ (a : App). is_simple_and_free a ≡ true → fault_of a words ≡ []) is_eve c.in-Ok.ensures.kinds eve_is_free in
     let found = subst (λ (a : App). HasMatchesOf a words c.in-Ok.matches) is_eve c.in-Ok.ensures.matches eve_is_simple in
-    let same = c.call_in.ensures ∙ ap (option_and_then call_named) found.1 in
-    ap is_some same ∙ some_without_faults words right
+    let same = c.call_in.ensures ∙ ap (option_and_then subcommand_named) found.1 in
+    some_of_text subcommand_of_call c.call_in.result _ same (some_without_faults words right)
