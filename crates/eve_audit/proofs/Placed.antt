@@ -9,7 +9,8 @@ use Rattle.eve_views.specs.Code.{phase_of}
 use Rattle.eve_views.specs.declared.fault.Code.{Code}
 use Rattle.eve_views.specs.declared.fault.Code.TheVariants as code
 use Rattle.eve_views.specs.declared.fault.Fault.{Fault}
-use Rattle.eve_history.specs.Section.{Placed, SectionState, start, state_after, settled, is_right_attempt, is_right_certificate, is_right_access, is_right_place, is_right_commit, is_right_rollback, are_right_accesses}
+use Rattle.eve_grammar.specs.Accesses.{is_right_place}
+use Rattle.eve_history.specs.Section.{Placed, SectionState, start, state_after, settled, is_right_attempt, is_right_certificate, is_right_access, is_right_commit, is_right_rollback, are_right_accesses}
 use Rattle.eve_history.specs.Told.{history, names_of}
 use Rattle.eve_views.specs.Form.{SomePlace}
 use Rattle.eve_history.specs.Faults.{accesses_of, OfAttempt, OfCommit, OfRollback, AtStep, AtAccess, StandsInStructure}

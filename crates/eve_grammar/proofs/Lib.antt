@@ -15,3 +15,5 @@ pub mod Gatherings
 pub mod Runs
 pub mod HeaderParts
 pub mod OneTrace
+pub mod Counting
+pub mod Grouping

@@ -9,3 +9,6 @@ pub mod Scanning
 pub mod Bodies
 pub mod Cases
 pub mod Gathering
+pub mod Certificate
+pub mod Accesses
+pub mod Groups

@@ -4,6 +4,7 @@
 mod access;
 mod attempt;
 mod batch;
+mod certificate;
 mod commit;
 mod customer;
 mod entry;
@@ -21,6 +22,7 @@ mod vote;
 pub use access::AccessBody;
 pub use attempt::AttemptBody;
 pub use batch::BatchBody;
+pub use certificate::{is_certificate, is_permutation};
 pub use commit::CommitBody;
 pub use customer::CustomerBody;
 pub use entry::{entry_at, row_of};

@@ -10,14 +10,15 @@ use Rattle.eve_grammar.specs.Spelling.{batch_text, batches_start, batches_at}
 use Rattle.eve_grammar.specs.Limits.{is_batch, HasLimits}
 use Rattle.eve_views.specs.declared.fault.Code.TheVariants as code
 use Rattle.eve_history.specs.declared.marks.Marks.{Marks}
-use Rattle.eve_history.specs.Certificate.{is_certificate}
+use Rattle.eve_grammar.specs.Certificate.{is_certificate}
 use Rattle.eve_history.specs.Section.{Placed, SectionState, no_batch, batch_at, is_due, same_bytes, commits_first, is_right_commit}
 use Rattle.eve_history.specs.Told.{access_with}
 use Rattle.eve_history.specs.Faults.{accesses_of}
 use Rattle.eve_history.specs.FirstWrong.{wrong_attempt}
 use Rattle.eve_history.specs.Marking.{AreMarked}
 use Rattle.eve_history.specs.Coming.{KeptAttempt, Kept, StandsAt}
-use Rattle.eve_history.proofs.OrderLaws.{all_at, of_located}
+use Rattle.eve_grammar.proofs.Grouping.{all_at}
+use Rattle.eve_history.proofs.OrderLaws.{of_located}
 use Rattle.eve_history.proofs.Marking.{drop_here}
 
 -- ---- batches

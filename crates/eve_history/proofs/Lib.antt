@@ -1,5 +1,3 @@
-pub mod Counting
-pub mod Groups
 pub mod Places
 pub mod OrderLaws
 pub mod Marking

@@ -18,6 +18,7 @@ use Rattle.eve_views.specs.Form.{IsUpTo, SomePlace}
 use Rattle.eve_history.specs.Told.{names_of}
 use Rattle.eve_history.specs.Faults.{name_at, Ticket, tickets_at, IsNamedAgain, IsAskedAgain, StandsInOrders, IsOrderFault, IsLeastOrderFault}
 use Rattle.eve_history.specs.Notes.{IsRepeated, AreNoted, HasDistinctNames, HasDistinctRequests}
+use Rattle.eve_grammar.proofs.Grouping.{all_at}
 use Rattle.eve_history.proofs.Places.{no_place, place_push, cut_at, Rising, located_rising, first_place, from_low, located_within, weaker_place}
 
 -- ---- lists
@@ -47,14 +48,6 @@ of_located text at (y ∷ xs) (suc i) x e = of_located text (at + length (text y
 pub length-located : {A : Type 0} (text : A → List ℕ) (at : ℕ) (xs : List A) → length (located text at xs) ≡ length xs
 length-located text at [] = refl
 length-located text at (x ∷ xs) = ap suc (length-located text (at + length (text x)) xs)
-
-pub all_at : {A : Type 0} (p : A → Bool) (xs : List A) (i : ℕ) (x : A) → list_all p xs ≡ true → slice_get xs i ≡ Some x → p x ≡ true
-all_at p [] i x all e = absurd (cc)
-all_at {A = A} p (y ∷ xs) zero x all e = ap p (sym (same y x e)) ∙ (and_parts (p y) (list_all p xs) all).0
-  where
-    same : (y x : A) → Some y ≡ Some x → y ≡ x
-    same y x e = cc
-all_at p (y ∷ xs) (suc i) x all e = all_at p xs i x (and_parts (p y) (list_all p xs) all).1 e
 
 up_to : (f g : Fault) → f.offset ≤ g.offset → number_of f.code ≤ number_of g.code → IsUpTo f g
 up_to f g le number = elim (cases_lt f.offset g.offset) [

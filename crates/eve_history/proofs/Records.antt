@@ -5,10 +5,11 @@ use Rattle.std.proofs.lemmas.Bool.{cases_Bool, cases_eq, and_parts, and_from, no
 use Rattle.std.proofs.lemmas.List.{map-append, length-map}
 use Rattle.eve_grammar.specs.Trace.{Access, Attempt, Attempts, Trace}
 use Rattle.eve_grammar.specs.Limits.{is_number, is_between, is_step, is_attempt}
-use Rattle.eve_history.specs.Certificate.{occurrences, all_below, is_permutation, keeps_groups}
-use Rattle.eve_history.specs.Section.{SectionState, batch_at, is_due, request_count, worker_count, is_new_access, is_right_place, is_right_attempt, is_right_certificate, are_right_accesses}
+use Rattle.eve_grammar.specs.Certificate.{occurrences, all_below, is_permutation, keeps_groups}
+use Rattle.eve_grammar.specs.Accesses.{is_new_access, is_right_place}
+use Rattle.eve_history.specs.Section.{SectionState, batch_at, is_due, request_count, worker_count, is_right_attempt, is_right_certificate, are_right_accesses}
 use Rattle.eve_history.specs.FirstWrong.{wrong_step}
-use Rattle.eve_history.proofs.Counting.{occurrences-append, permutes, all_below_at}
+use Rattle.eve_grammar.proofs.Counting.{occurrences-append, permutes, all_below_at}
 use Rattle.eve_history.proofs.Structure.{right_step}
 
 abbrev index_of : Access → ℕ

@@ -23,7 +23,8 @@ use Rattle.eve_history.specs.Told.{access_with}
 use Rattle.eve_history.specs.Faults.{accesses_of}
 use Rattle.eve_history.specs.Coming.{Kept, HasCome, ComesNext, seen}
 use Rattle.eve_history.proofs.FrameTexts.{mapped, nested, no_steps}
-use Rattle.eve_history.proofs.OrderLaws.{all_at, of_located}
+use Rattle.eve_grammar.proofs.Grouping.{all_at}
+use Rattle.eve_history.proofs.OrderLaws.{of_located}
 
 -- a text stands at this place of another
 pub record StandsIn (bytes : List ℕ) (at : ℕ) (text : List ℕ) : Type 0 where

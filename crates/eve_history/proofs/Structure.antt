@@ -10,7 +10,8 @@ use Rattle.eve_views.specs.declared.fault.Code.{Code}
 use Rattle.eve_views.specs.declared.fault.Code.TheVariants as code
 use Rattle.eve_views.specs.declared.fault.Fault.{Fault}
 use Rattle.eve_views.specs.Code.{number_of}
-use Rattle.eve_history.specs.Section.{SectionState, start, next, state_after, is_right_attempt, is_right_certificate, is_right_access, is_right_place, is_right_commit, is_right_rollback, are_right_accesses, is_right, are_right}
+use Rattle.eve_grammar.specs.Accesses.{is_right_place}
+use Rattle.eve_history.specs.Section.{SectionState, start, next, state_after, is_right_attempt, is_right_certificate, is_right_access, is_right_commit, is_right_rollback, are_right_accesses, is_right, are_right}
 use Rattle.eve_views.specs.Form.{SomePlace}
 use Rattle.eve_history.specs.Faults.{OfAttempt, OfCommit, OfRollback, accesses_of, AtStep, AtAccess, StandsInStructure, IsStructureFault, IsLeastStructureFault}
 use Rattle.eve_history.specs.declared.wrong.Wrong.{Wrong}

@@ -7,7 +7,8 @@ use Rattle.eve_views.specs.declared.fault.Code.{Code}
 use Rattle.eve_views.specs.declared.fault.Code.TheVariants as code
 use Rattle.eve_views.specs.declared.fault.Fault.{Fault}
 use Rattle.eve_views.specs.Form.{IsUpTo, SomePlace}
-use Rattle.eve_history.specs.Section.{SectionState, start, state_after, is_right_attempt, is_right_certificate, is_right_access, is_right_place, is_right_commit, is_right_rollback, are_right_accesses, are_right}
+use Rattle.eve_grammar.specs.Accesses.{is_right_place}
+use Rattle.eve_history.specs.Section.{SectionState, start, state_after, is_right_attempt, is_right_certificate, is_right_access, is_right_commit, is_right_rollback, are_right_accesses, are_right}
 
 -- ---- orders
 

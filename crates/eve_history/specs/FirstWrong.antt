@@ -7,7 +7,8 @@ use Rattle.eve_views.specs.declared.fault.Code.{Code}
 use Rattle.eve_views.specs.declared.fault.Code.TheVariants as code
 use Rattle.eve_views.specs.declared.fault.Fault.{Fault}
 use Rattle.eve_history.specs.declared.wrong.Wrong.{Wrong}
-use Rattle.eve_history.specs.Section.{SectionState, next, request_count, worker_count, is_right_attempt, is_right_certificate, is_new_access, is_right_place, is_right_commit, is_right_rollback}
+use Rattle.eve_grammar.specs.Accesses.{is_new_access, is_right_place}
+use Rattle.eve_history.specs.Section.{SectionState, next, request_count, worker_count, is_right_attempt, is_right_certificate, is_right_commit, is_right_rollback}
 
 -- what is wrong at this offset, or else later
 abbrev pub found_or : ℕ → Option Code → Option Wrong → Option Wrong

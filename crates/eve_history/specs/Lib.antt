@@ -1,5 +1,3 @@
-pub mod Certificate
-pub mod Groups
 pub mod Section
 pub mod Fates
 pub mod Told

@@ -1,11 +1,11 @@
 -- A replica's section, step by step: where it has come to, and which step is right there.
 -- docs/MODEL.md, "Section state, fate".
-use Rattle.std.specs.Prelude.{ℕ, ◌+◌, ◌-◌, nat_lt, nat_le, ◌==◌, Bool, true, false, not, ◌&&◌, if◌then◌else◌, List, [], ◌∷◌, ◌++◌, map, length, slice_index_or}
+use Rattle.std.specs.Prelude.{ℕ, ◌+◌, ◌-◌, nat_lt, nat_le, ◌==◌, Bool, true, false, ◌&&◌, if◌then◌else◌, List, [], ◌∷◌, ◌++◌, map, length, slice_index_or}
 use Rattle.std.specs.Bool.{beq}
-use Rattle.std.specs.List.{list_any, count_by}
 use Rattle.std.specs.Cmp.Lexicographic.{pointwise}
 use Rattle.eve_grammar.specs.Trace.{Batch, Access, Attempt, Commit, Rollback, Step, Attempts, Commits, RollsBack, Trace}
-use Rattle.eve_history.specs.Certificate.{is_certificate}
+use Rattle.eve_grammar.specs.Certificate.{is_certificate}
+use Rattle.eve_grammar.specs.Accesses.{is_new_access, is_right_place}
 
 -- an attempt with its frame's offset, and with those on its path: the ones before it that no rollback before it discarded
 pub record Placed : Type 0 where
@@ -81,17 +81,9 @@ is_right_certificate t a = is_certificate (batch_at t a.seq).sizes (request_coun
 abbrev pub worker_count : Trace → Attempt → ℕ
 worker_count t a = if a.serial then 1 else t.workers
 
--- the worker is one of so many, and the index one of so many that no access before it has
-abbrev pub is_new_access : ℕ → ℕ → List Access → Access → Bool
-is_new_access workers count before x = nat_lt x.worker workers && (nat_lt x.index count && not (list_any (λ y. y.index == x.index) before))
-
 -- the worker is there, and the index is one of the batch that no access before it has
 abbrev pub is_right_access : Trace → Attempt → List Access → Access → Bool
 is_right_access t a before x = is_new_access (worker_count t a) (request_count t a) before x
-
--- a worker's places count from 0
-abbrev pub is_right_place : List Access → Access → Bool
-is_right_place before x = x.place == count_by (λ y. y.worker == x.worker) before
 
 abbrev pub same_bytes : List ℕ → List ℕ → Bool
 same_bytes = pointwise ◌==◌

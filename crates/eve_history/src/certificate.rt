@@ -1,57 +1,11 @@
-//! Whether a certificate lists the indexes of its batch in an order that may be.
+//! The certificate of an attempt against its batch.
 
-ghost use Rattle.std.specs.Prelude.{◌≡◌, ◌≤◌, ◌<◌, ℕ, IsTrue, List, length, take, slice_index};
-ghost use Rattle.std.specs.List.{AllByRecursion};
+ghost use Rattle.std.specs.Prelude.{◌≡◌, ◌≤◌, ◌<◌, ℕ, IsTrue, length, take, slice_index};
 ghost use Rattle.eve_grammar.specs.Limits.{is_batch};
+ghost use Rattle.eve_grammar.specs.Certificate.{group_of, is_certificate};
 ghost use Rattle.eve_frames.specs.Views.{attempt_in, batch_in};
-ghost use Rattle.eve_history.specs.Certificate.{is_permutation, group_of, is_grouped, counts_from, is_certificate};
-ghost use Rattle.eve_history.specs.Groups.{AreGroups};
 
 use eve_frames::{AttemptView, BatchView};
-
-/// Whether each number below their count stands in the order once.
-pub fn is_permutation(order: &[u16]) -> bool
-    requires { length order.now ≤ 256 }
-    ensures { result ≡ is_permutation (length order.now) order.now }
-{
-    let mut seen = [false; 256];
-    for index in order {
-        let index = *index as usize;
-        if index >= order.len() || seen[index] {
-            return false;
-        }
-        seen[index] = true;
-    }
-    true
-}
-
-/// Whether no index stands behind one of a later parallelBatch, where those are the indexes' parallelBatches.
-pub fn is_grouped(groups: &[u8; 256], order: &[u16]) -> bool
-    requires { AllByRecursion (λ i. i < 256) order.now }
-    ensures { (sizes : List ℕ) → AreGroups sizes order.now groups.now → result ≡ is_grouped sizes order.now }
-{
-    let mut last = 0;
-    for index in order {
-        let group = groups[*index as usize];
-        if group < last {
-            return false;
-        }
-        last = group;
-    }
-    true
-}
-
-/// Whether the order is the listed one.
-pub fn is_listed(order: &[u16]) -> bool
-    ensures { result ≡ counts_from 0 order.now }
-{
-    for (place, index) in order.iter().enumerate() {
-        if *index as usize != place {
-            return false;
-        }
-    }
-    true
-}
 
 /// The indexes of a certificate, in its order.
 pub fn read_order(attempt: &AttemptView<'_>, order: &mut [u16; 256])
@@ -89,12 +43,5 @@ pub fn is_certificate(batch: &BatchView<'_>, serial: bool, order: &[u16]) -> boo
     requires count { length order.now ≡ length (batch_in batch.now.bytes.now).1.requests }
     ensures { result ≡ is_certificate (batch_in batch.now.bytes.now).1.sizes (length (batch_in batch.now.bytes.now).1.requests) serial order.now }
 {
-    if !is_permutation(order) {
-        return false;
-    }
-    let groups = groups_of(batch);
-    if !is_grouped(&groups, order) {
-        return false;
-    }
-    !serial || is_listed(order)
+    eve_grammar::is_certificate(&groups_of(batch), serial, order)
 }

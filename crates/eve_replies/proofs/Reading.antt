@@ -4,7 +4,7 @@ use Rattle.std.proofs.lemmas.List.{map-append, take_more_set}
 use Rattle.eve_grammar.specs.Trace.{Asked, Batch}
 use Rattle.eve_grammar.specs.Limits.{is_batch}
 use Rattle.eve_history.specs.Faults.{Ticket, ticket}
-use Rattle.eve_history.proofs.Groups.{few_requests}
+use Rattle.eve_grammar.proofs.Grouping.{few_requests}
 use Rattle.eve_replies.specs.declared.tickets.Ticket.{Ticket as Item}
 use Rattle.eve_replies.specs.Keeping.{ticket_of, kept_in}
 

@@ -3,7 +3,7 @@ use Rattle.std.proofs.Common.{◌≡◌, ℕ, zero, suc, ◌≤◌, ◌<◌, nat
 use Rattle.std.specs.Prelude.{⊤}
 use Rattle.std.proofs.lemmas.Bool.{cases_lt, and_parts, eqb-true, eq-eqb, ltb-true, cond-true}
 use Rattle.std.specs.List.{list_all}
-use Rattle.eve_history.specs.Certificate.{occurrences, all_below, is_permutation}
+use Rattle.eve_grammar.specs.Certificate.{occurrences, all_below, is_permutation}
 use Rattle.eve_smallbank.proofs.Members.{In, here, there, in_middle, in_around}
 use Rattle.eve_serial.proofs.Permutations.{found, all_below_at, none_above}
 

@@ -6,7 +6,7 @@ use Rattle.std.proofs.lemmas.List.{length-map}
 use Rattle.std.proofs.Math.ListN.{get_or-map}
 use Rattle.std.specs.List.{flat_map}
 use Rattle.eve_grammar.specs.Trace.{Asked, Batch, Attempt, Trace}
-use Rattle.eve_history.specs.Certificate.{is_permutation, keeps_groups, KeepsGroups}
+use Rattle.eve_grammar.specs.Certificate.{is_permutation, keeps_groups, KeepsGroups}
 use Rattle.eve_history.specs.Section.{Placed, no_batch, batch_at, request_count}
 use Rattle.eve_history.specs.Told.{no_request, history, committed_at, IsRightSection}
 use Rattle.eve_history.specs.Faults.{Ticket, ticket}

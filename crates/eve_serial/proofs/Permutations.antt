@@ -3,7 +3,7 @@ use Rattle.std.proofs.Common.{◌≡◌, ℕ, zero, suc, ◌≤◌, ◌<◌, Boo
 use Rattle.std.proofs.lemmas.Bool.{cases_Bool, cases_lt, cases_eq, and_parts, eqb-true, eq-eqb, ne_eqb, ltb-true, cond-true, cond-false}
 use Rattle.std.proofs.lemmas.List.{map-append}
 use Rattle.std.specs.List.{list_all}
-use Rattle.eve_history.specs.Certificate.{occurrences, all_below, is_permutation}
+use Rattle.eve_grammar.specs.Certificate.{occurrences, all_below, is_permutation}
 use Rattle.eve_smallbank.specs.Conflict.{IsReordering}
 
 -- ---- from counts

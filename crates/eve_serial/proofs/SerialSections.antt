@@ -15,7 +15,7 @@ use Rattle.eve_smallbank.proofs.Members.{all_in}
 use Rattle.eve_smallbank.proofs.Chains.{visible_at-before_next, values_of-table_after}
 use Rattle.eve_smallbank.proofs.SerialOrders.{serial}
 use Rattle.eve_grammar.specs.Trace.{Attempt, Trace}
-use Rattle.eve_history.specs.Certificate.{is_permutation, keeps_groups}
+use Rattle.eve_grammar.specs.Certificate.{is_permutation, keeps_groups}
 use Rattle.eve_history.specs.Section.{Placed, batch_at, request_count}
 use Rattle.eve_history.specs.Told.{no_request, history, committed_at, requests_by, order_of, IsRightSection, names_of}
 use Rattle.eve_serial.specs.Visible.{opening_of, opening_table, executed_at, executed_in, execution, executions, entries_before}

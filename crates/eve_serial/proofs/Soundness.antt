@@ -10,8 +10,9 @@ use Rattle.eve_smallbank.proofs.Members.{In, here, there, all_in, all_from_in, n
 use Rattle.eve_smallbank.proofs.Chains.{chained_by_rows}
 use Rattle.eve_grammar.specs.Trace.{Access, Attempt, Trace}
 use Rattle.eve_grammar.specs.Limits.{HasLimits}
-use Rattle.eve_history.specs.Certificate.{is_permutation, keeps_groups}
-use Rattle.eve_history.specs.Section.{Placed, settled, batch_at, request_count, is_right_certificate, is_right_access, is_right_place, are_right_accesses}
+use Rattle.eve_grammar.specs.Certificate.{is_permutation, keeps_groups}
+use Rattle.eve_grammar.specs.Accesses.{is_right_place}
+use Rattle.eve_history.specs.Section.{Placed, settled, batch_at, request_count, is_right_certificate, is_right_access, are_right_accesses}
 use Rattle.eve_history.specs.Told.{history, IsRightSection, names_of}
 use Rattle.eve_serial.specs.Visible.{opening_table, entries_at, executed_with, executed_at, executed_by, execution, entries_before, before_index, visible_to}
 use Rattle.eve_serial.specs.Sound.{RecordsFit, EntriesSee, IsSoundAlong, SettledAreSound}

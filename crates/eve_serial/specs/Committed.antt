@@ -7,7 +7,7 @@ use Rattle.eve_smallbank.specs.declared.request.Reply.{Reply}
 use Rattle.eve_smallbank.specs.Access.{Executed, bank_of, values_after}
 use Rattle.eve_smallbank.specs.Conflict.{AgreesWithConflicts}
 use Rattle.eve_grammar.specs.Trace.{Attempt, Trace}
-use Rattle.eve_history.specs.Certificate.{is_permutation}
+use Rattle.eve_grammar.specs.Certificate.{is_permutation}
 use Rattle.eve_history.specs.Section.{Placed, batch_at, request_count}
 use Rattle.eve_history.specs.Told.{no_request, history, committed_at, order_of, names_of}
 use Rattle.eve_history.specs.Faults.{Ticket, ticket}

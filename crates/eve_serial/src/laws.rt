@@ -7,7 +7,7 @@ ghost use Rattle.eve_smallbank.specs.declared.entry.Entry.{Entry};
 ghost use Rattle.eve_smallbank.specs.Chain.{Table, table_after};
 ghost use Rattle.eve_grammar.specs.Trace.{Trace};
 ghost use Rattle.eve_grammar.specs.Limits.{HasLimits};
-ghost use Rattle.eve_history.specs.Certificate.{KeepsGroups};
+ghost use Rattle.eve_grammar.specs.Certificate.{KeepsGroups};
 ghost use Rattle.eve_history.specs.Section.{Placed, batch_at};
 ghost use Rattle.eve_history.specs.Told.{ordered, committed_at, IsRightSection, names_of};
 ghost use Rattle.eve_views.specs.declared.fault.Code.TheVariants as code;

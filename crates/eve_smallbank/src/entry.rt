@@ -1,5 +1,7 @@
 //! What a request noted of one row.
 
+ghost use Rattle.std.specs.Prelude.{◌≡◌};
+
 use eve_accounts::{Cents, Row};
 
 /// Whether a row was read or written.
@@ -9,6 +11,20 @@ pub enum Kind {
     Read,
     /// The row's version rises by one, also where its value stays.
     Write,
+}
+
+impl Kind {
+    ghost use Rattle.eve_smallbank.specs.Access.{is_write};
+
+    /// Whether the row gets a new version.
+    pub fn is_write(self) -> bool
+        ensures { result ≡ is_write self }
+    {
+        match self {
+            Kind::Read => false,
+            Kind::Write => true,
+        }
+    }
 }
 
 /// One row that a request read or wrote.

@@ -4,7 +4,7 @@ use Rattle.eve_smallbank.specs.SmallBank.{run}
 use Rattle.eve_smallbank.proofs.Members.{all_in}
 use Rattle.eve_grammar.specs.Trace.{Sent, Trace}
 use Rattle.eve_grammar.specs.Spelling.{steps_at}
-use Rattle.eve_history.specs.Certificate.{KeepsGroups}
+use Rattle.eve_grammar.specs.Certificate.{KeepsGroups}
 use Rattle.eve_history.specs.Section.{Placed, batch_at}
 use Rattle.eve_history.specs.Told.{committed_at}
 use Rattle.eve_votes.specs.Votes.{IsDecided}

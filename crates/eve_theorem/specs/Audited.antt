@@ -3,7 +3,7 @@ use Rattle.std.specs.Prelude.{◌≡◌, ℕ, ◌+◌, ◌-◌, ◌*◌, ◌<◌
 use Rattle.eve_grammar.specs.Trace.{Commit, Rollback, Sent, Commits, RollsBack, Trace}
 use Rattle.eve_grammar.specs.Spelling.{steps_at}
 use Rattle.eve_smallbank.specs.SmallBank.{run}
-use Rattle.eve_history.specs.Certificate.{KeepsGroups}
+use Rattle.eve_grammar.specs.Certificate.{KeepsGroups}
 use Rattle.eve_history.specs.Section.{Placed, batch_at}
 use Rattle.eve_history.specs.Told.{committed_at}
 use Rattle.eve_serial.specs.Committed.{opening_bank, bank_after, orders_to, replies_to, IsSerialAfter, committed_tickets, AreDistinct}

@@ -1,6 +1,6 @@
 use Rattle.std.proofs.Common.{ℕ, ◌+◌, ◌≤◌, ◌<◌, sum, sym, subst, arith}
 use Rattle.eve_frames.specs.Views.{batch_in}
-use Rattle.eve_history.proofs.Groups.{Grouped, grouping_start, goes_further, grouped_further, grouped_here, grouping_more, first_size, some_size, some_end, few_requests}
+use Rattle.eve_grammar.proofs.Grouping.{Grouped, grouping_start, goes_further, grouped_further, grouped_here, grouping_more, first_size, some_size, some_end, few_requests}
 use Rattle.eve_history.proofs.certificate.groups_of.Goals as goal
 use Rattle.eve_history.proofs.certificate.groups_of.Goals.{then-index-end, else-index-end}
 

@@ -4,7 +4,7 @@ use Rattle.eve_grammar.specs.Spelling.{batches_at}
 use Rattle.eve_frames.specs.Views.{attempt_in, batch_in}
 use Rattle.eve_views.specs.Fronts.{whole}
 use Rattle.eve_history.specs.Section.{is_due}
-use Rattle.eve_history.specs.Certificate.{is_certificate}
+use Rattle.eve_grammar.specs.Certificate.{is_certificate}
 use Rattle.eve_history.proofs.Finding.{batch_is, batch_fits, wrong_count, wrong_certificate, right_attempt}
 use Rattle.eve_history.proofs.notes.Notes.wrong_attempt.Goals as goal
 

@@ -1,9 +1,0 @@
-use Rattle.std.proofs.Common.{◌≡◌, List, ℕ, drop}
-use Rattle.eve_history.specs.Certificate.{is_grouped}
-use Rattle.eve_history.specs.Groups.{AreGroups}
-use Rattle.eve_history.proofs.Groups.{goes_on}
-use Rattle.eve_history.proofs.certificate.is_grouped.Given as goal
-
-abbrev pub invariant-loop-index : goal.invariant-loop-index
-invariant-loop-index l =
-    (sizes : List ℕ) → AreGroups sizes l.order l.groups → goes_on sizes l.last (drop l.index-index l.order) ≡ is_grouped sizes l.order

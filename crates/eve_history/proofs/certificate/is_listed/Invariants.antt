@@ -1,6 +1,0 @@
-use Rattle.std.proofs.Common.{◌≡◌, drop}
-use Rattle.eve_history.specs.Certificate.{counts_from}
-use Rattle.eve_history.proofs.certificate.is_listed.Given as goal
-
-abbrev pub invariant-loop-place : goal.invariant-loop-place
-invariant-loop-place l = counts_from l.place (drop l.place l.order) ≡ counts_from 0 l.order
