@@ -1,7 +1,7 @@
 //! The program `eve`: `serve` over the words and the streams of the process.
 #![tactic(auto)]
 
-use eve_streams::{SinkOf, SourceOf};
+use eve_streams::{Buffered, Sink, SinkOf, SourceOf};
 use eve_tool::{ToolFault, serve, stop};
 use std::process::ExitCode;
 use std::{env, io};
@@ -10,15 +10,25 @@ fn words_of(rt: &HostRuntime) -> io::Result<Vec<String>> {
     Ok(env::args(rt)?.collect(rt.alloc())?)
 }
 
+// Sends on what was said and is still held, where the call came to its end.
+fn finish<O: Sink + Drop, E: Sink>(status: u8, out: &mut Buffered<O>, err: &mut E) -> u8 {
+    if status < 2 && out.flush().is_err() {
+        return stop(ToolFault::Write, err);
+    }
+    status
+}
+
 fn main(rt: HostRuntime) -> ExitCode {
     let mut input = SourceOf::new(rt.stdin());
-    let mut out = SinkOf::new(rt.stdout());
     let mut err = SinkOf::new(rt.stderr());
+    let Ok(mut out) = Buffered::new(rt.alloc(), SinkOf::new(rt.stdout())) else {
+        return ExitCode::from(stop(ToolFault::Memory, &mut err));
+    };
     let status = match words_of(&rt) {
         Ok(words) => serve(&rt, words.as_slice(), &mut input, &mut out, &mut err),
         Err(e) if e.kind() == io::ErrorKind::OutOfMemory => stop(ToolFault::Memory, &mut err),
         // Words that aren't text are no call.
         Err(_) => serve(&rt, &["eve", "\u{fffd}"], &mut input, &mut out, &mut err),
     };
-    ExitCode::from(status)
+    ExitCode::from(finish(status, &mut out, &mut err))
 }

@@ -14,9 +14,10 @@ use Rattle.eve_audit.specs.declared.verdict.Verdict.TheVariants.{Yes, No}
 use Rattle.eve_audit.specs.Verdict.{IsSummary}
 use Rattle.eve_audit.specs.Pieces.{IsFirstOf, HasNone, IsTraceFault}
 use Rattle.eve_audit.specs.Answer.{IsAnswer, IsRead}
-use Rattle.eve_audit.specs.Where.{FatesAreAsItEnds}
+use Rattle.eve_audit.proofs.Sections.{FatesAreAsItEnds}
 use Rattle.eve_audit.proofs.Verdicts.{faultless, found_in_form, trace_first}
 use Rattle.eve_audit.proofs.Within.{trace_fault_within, long_as}
+use Rattle.eve_audit.proofs.Naming.{named_in, named_in_none}
 
 module _ (bytes : List ℕ) (t : Trace) (read : IsRead bytes t) (once : (u : Trace) → Spells bytes u → u ≡ t) where
   pub no_for : ((f : Fault) → IsOrderFault t f → f.offset ≤ length_of t) → ((e : ℕ) → FatesAreAsItEnds t e) → (f : Fault) → IsFirstOf (IsTraceFault t) f → IsAnswer bytes (No f)
@@ -24,6 +25,7 @@ module _ (bytes : List ℕ) (t : Trace) (read : IsRead bytes t) (once : (u : Tra
     verdict = trace_first bytes t read.spells once f read.none found;
     yes = tt;
     within = (let within = trace_fault_within t orders fates f found.is in let long = long_as bytes t read.spells in omega (arith, within, long));
+    replica = named_in bytes t read.spells once fates f found.is;
   }
 
   pub yes_for : (s : Summary) → IsSummary t s → HasNone (IsTraceFault t) → IsAudited t → IsAnswer bytes (Yes s)
@@ -31,10 +33,12 @@ module _ (bytes : List ℕ) (t : Trace) (read : IsRead bytes t) (once : (u : Tra
     verdict = (t, faultless bytes t read.spells once read.none none, summary);
     yes = record { trace = t; spells = read.spells; audited = audited };
     within = tt;
+    replica = tt;
   }
 
 -- a fault of form
 pub form_for : (bytes : List ℕ) (why : CheckFault) → IfFound why (IsLeastFormFault bytes) → IfFound why (λ _. (t : Trace) → ¬ Spells bytes t) → IfFound why (λ f. f.offset ≤ length bytes)
     → IfFound why (λ f. IsAnswer bytes (No f))
 form_for bytes Memory least none within = tt
-form_for bytes (Found f) least none within = record { verdict = found_in_form bytes (Found f) least none; yes = tt; within = within }
+form_for bytes (Found f) least none within =
+    record { verdict = found_in_form bytes (Found f) least none; yes = tt; within = within; replica = named_in_none bytes f least.is none }

@@ -51,7 +51,7 @@ state_of_none : (t : Trace) (e : ℕ) → length t.sections ≤ e → history t 
 unfolding history
 state_of_none t e le = ap (state_after start) (none_at t e le)
 
-sound_beyond : (t : Trace) (e : ℕ) → length t.sections ≤ e → IsSoundReplica t e
+pub sound_beyond : (t : Trace) (e : ℕ) → length t.sections ≤ e → IsSoundReplica t e
 sound_beyond t e le =
     let none = sym (none_at t e le) in
     let state = sym (state_of_none t e le) in

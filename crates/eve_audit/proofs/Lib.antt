@@ -1,3 +1,4 @@
+pub mod Sections
 pub mod Phases
 pub mod Firsts
 pub mod Verdicts
@@ -11,3 +12,10 @@ pub mod Placed
 pub mod Unique
 pub mod Within
 pub mod Answering
+pub mod Deciding
+pub mod FittingRecords
+pub mod Unfaulted
+pub mod UnfaultedTogether
+pub mod Faultless
+pub mod Outside
+pub mod Naming

@@ -21,7 +21,7 @@ use Rattle.eve_tokens.specs.Faults.{StandsInTokens}
 use Rattle.eve_majorities.specs.Faults.{StandsInMajorities}
 use Rattle.eve_agree.specs.Faults.{StandsInAgreement}
 use Rattle.eve_audit.specs.Verdict.{Stands, in_form, in_orders, in_section, in_votes, in_majorities, in_agreement, in_replies, IsOwnFault, of_structure, of_records, of_chains, of_restores, of_tokens}
-use Rattle.eve_audit.specs.Where.{LiesIn, FatesAreAsItEnds}
+use Rattle.eve_audit.proofs.Sections.{LiesIn, FatesAreAsItEnds}
 use Rattle.eve_audit.proofs.Phases.{form_phase, order_phase, structure_phase, record_phase, chain_phase, restore_phase, token_phase, vote_phase, majority_phase, outcome_phase, reply_phase}
 use Rattle.eve_audit.proofs.Where.{StepIn, at_place, steps_in, starts_in, step_in, access_in, committed_in, settled_in}
 

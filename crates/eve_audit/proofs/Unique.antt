@@ -12,7 +12,7 @@ use Rattle.eve_audit.specs.declared.verdict.Summary.{Summary}
 use Rattle.eve_audit.specs.declared.verdict.Verdict.{Verdict}
 use Rattle.eve_audit.specs.declared.verdict.Verdict.TheVariants.{Yes, No}
 use Rattle.eve_audit.specs.Verdict.{Precedes, IsFirst, IsSummary, IsVerdict}
-use Rattle.eve_audit.specs.Where.{LiesIn, FatesAreAsItEnds}
+use Rattle.eve_audit.proofs.Sections.{LiesIn, FatesAreAsItEnds}
 use Rattle.eve_audit.proofs.Where.{one_section}
 use Rattle.eve_audit.proofs.Placed.{is_inside, IsPlaced, outside, inside, placed}
 

@@ -48,7 +48,7 @@ found_in_form bytes (Found f) least none = form_first bytes f least none
 
 module _ (bytes : List ℕ) (t : Trace) (spells : Spells bytes t) (once : (u : Trace) → Spells bytes u → u ≡ t) where
   -- what stands in the trace stands in its bytes
-  stands_in_bytes : (f : Fault) → IsTraceFault t f → Stands bytes f
+  pub stands_in_bytes : (f : Fault) → IsTraceFault t f → Stands bytes f
   stands_in_bytes f (of_trace.in_orders is) = in_orders t spells is
   stands_in_bytes f (of_trace.in_section below) = in_section t below.0 spells below.1 below.2
   stands_in_bytes f (of_trace.in_common (of_votes is)) = in_votes t spells is

@@ -13,7 +13,7 @@ use Rattle.eve_history.specs.declared.fate.Fate.{Fate}
 use Rattle.eve_history.specs.Section.{settled}
 use Rattle.eve_history.specs.Told.{attempts_among, picked, placed_at, is_committed, is_discarded, history}
 use Rattle.eve_history.specs.Fates.{fates_from}
-use Rattle.eve_audit.specs.Where.{LiesIn, FatesAreAsItEnds}
+use Rattle.eve_audit.proofs.Sections.{LiesIn, FatesAreAsItEnds}
 use Rattle.eve_audit.proofs.Kept.{none_at}
 
 -- ---- what holds of all holds at some place

@@ -19,7 +19,7 @@ use Rattle.eve_views.specs.Form.{StandsInForm}
 use Rattle.eve_audit.specs.Verdict as stand
 use Rattle.eve_audit.specs.Verdict.{Stands, IsOwnFault, of_structure, of_records, of_chains, of_restores, of_tokens}
 use Rattle.eve_audit.specs.Pieces.{IsTraceFault, in_orders, in_section, in_common, of_votes, of_majorities, of_agreement, of_replies}
-use Rattle.eve_audit.specs.Where.{LiesIn, FatesAreAsItEnds}
+use Rattle.eve_audit.proofs.Sections.{LiesIn, FatesAreAsItEnds}
 use Rattle.eve_audit.proofs.Where.{Between, at_place, all_located, mapped, front_more}
 use Rattle.eve_audit.proofs.Kept.{none_beyond}
 use Rattle.eve_audit.proofs.Placed.{structure_lies, record_lies, chain_lies, restore_lies, token_lies, majority_lies, outcome_lies}
@@ -49,7 +49,7 @@ sent_ends t =
         → c ≡ c' → b ≡ b' → s ≡ s' → v ≡ v' → m ≡ m' → 32 + c' + b' + s' + v' + m' ≤ 32 + whole
     summed c b s v m c' b' s' v' m' end whole behind_c behind_b behind_s behind_v p q r u w x y z k l = omega arith
 
-fewer : {A : Type 0} (text : A → List ℕ) (n : ℕ) (xs : List A) → length (flat_map text (take n xs)) ≤ length (flat_map text xs)
+pub fewer : {A : Type 0} (text : A → List ℕ) (n : ℕ) (xs : List A) → length (flat_map text (take n xs)) ≤ length (flat_map text xs)
 fewer text zero xs = omega arith
 fewer text (suc n) [] = omega arith
 fewer text (suc n) (x ∷ xs) = let later = fewer text n xs in omega (arith, later, length-append (text x) (flat_map text (take n xs)), length-append (text x) (flat_map text xs))

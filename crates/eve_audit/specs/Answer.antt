@@ -4,7 +4,7 @@ use Rattle.eve_grammar.specs.Trace.{Trace}
 use Rattle.eve_grammar.specs.Limits.{Spells}
 use Rattle.eve_views.specs.Form.{IsFormFault}
 use Rattle.eve_audit.specs.declared.verdict.Verdict.{Verdict}
-use Rattle.eve_audit.specs.Verdict.{IsVerdict, IsYesOfAudited, LiesWithin}
+use Rattle.eve_audit.specs.Verdict.{IsVerdict, IsYesOfAudited, LiesWithin, NamesReplica}
 use Rattle.eve_audit.specs.Pieces.{HasNone}
 
 -- the bytes spell this trace, and have no fault of form
@@ -12,8 +12,9 @@ pub record IsRead (bytes : List ℕ) (t : Trace) : Type 0 where
   pub spells : Spells bytes t
   pub none : HasNone (IsFormFault bytes)
 
--- the verdict on the bytes, with what a yes means and where a no lies
+-- the verdict on the bytes, with what a yes means, where a no lies, and which replica it names
 pub record IsAnswer (bytes : List ℕ) (v : Verdict) : Type 0 where
   pub verdict : IsVerdict bytes v
   pub yes : IsYesOfAudited bytes v
   pub within : LiesWithin bytes v
+  pub replica : NamesReplica bytes v

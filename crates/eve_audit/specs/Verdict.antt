@@ -15,6 +15,7 @@ use Rattle.eve_majorities.specs.Faults.{IsMajorityFault}
 use Rattle.eve_agree.specs.Faults.{IsOutcomeFault}
 use Rattle.eve_replies.specs.Faults.{IsReplyFault}
 use Rattle.eve_theorem.specs.Audited.{IsAudited}
+use Rattle.eve_audit.specs.Where.{NamesItsSection}
 use Rattle.eve_audit.specs.declared.verdict.Summary.{Summary}
 use Rattle.eve_audit.specs.declared.verdict.Verdict.{Verdict}
 use Rattle.eve_audit.specs.declared.verdict.Verdict.TheVariants.{Yes, No}
@@ -92,3 +93,8 @@ IsYesOfAudited bytes (No f) = ⊤
 abbrev pub LiesWithin : List ℕ → Verdict → Type 0
 LiesWithin bytes (Yes s) = ⊤
 LiesWithin bytes (No f) = f.offset ≤ length bytes
+
+-- a no names the replica in whose section it lies, and none where it lies in none
+abbrev pub NamesReplica : List ℕ → Verdict → Type 0
+NamesReplica bytes (Yes s) = ⊤
+NamesReplica bytes (No f) = NamesItsSection bytes f

@@ -1,16 +1,13 @@
--- In which section an offset lies.
-use Rattle.std.specs.Prelude.{◌≡◌, ℕ, ◌+◌, ◌<◌, ◌≤◌, map}
+-- Which replica a fault names. docs/MODEL.md, "Faults".
+use Rattle.std.specs.Prelude.{◌≡◌, ℕ, ◌↔◌, IsTrue, List, Some, None}
 use Rattle.eve_grammar.specs.Trace.{Trace}
-use Rattle.eve_grammar.specs.Spelling.{section_start, steps_at}
-use Rattle.eve_history.specs.Told.{history, placed_at, picked, is_committed, is_discarded, attempts_among}
-use Rattle.eve_history.specs.Fates.{fates_from}
+use Rattle.eve_grammar.specs.Limits.{Spells}
+use Rattle.eve_views.specs.Parts.{is_in_section}
+use Rattle.eve_views.specs.declared.fault.Fault.{Fault}
 
--- the offset lies in the section of replica e
-abbrev pub LiesIn : Trace → ℕ → ℕ → Type 0
-LiesIn t e at = (section_start t e ≤ at) × (at < section_start t (e + 1))
-
--- what a section has committed and discarded in the end are its attempts with that fate
-abbrev pub FatesAreAsItEnds : Trace → ℕ → Type 0
-FatesAreAsItEnds t e =
-    (map placed_at (history t e).committed ≡ picked is_committed (attempts_among (steps_at t e)) (fates_from 0 (steps_at t e)))
-    × (map placed_at (history t e).discarded ≡ picked is_discarded (attempts_among (steps_at t e)) (fates_from 0 (steps_at t e)))
+-- the fault names the replica in whose section it lies, and none where it lies in none
+pub record NamesItsSection (bytes : List ℕ) (f : Fault) : Type 0 where
+  -- in the trace that the bytes spell
+  pub names : (t : Trace) → Spells bytes t → (e : ℕ) → (f.replica ≡ Some e) ↔ IsTrue (is_in_section t e f.offset)
+  -- bytes that are no trace have no sections
+  pub outside : ((t : Trace) → ¬ Spells bytes t) → f.replica ≡ None

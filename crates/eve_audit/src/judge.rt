@@ -8,7 +8,7 @@ ghost use Rattle.eve_history.specs.Told.{names_of};
 ghost use Rattle.eve_theorem.specs.Accepted.{IsAccepted};
 ghost use Rattle.eve_audit.specs.Answer.{IsAnswer, IsRead};
 ghost use Rattle.eve_audit.specs.Findings.{AreTrue};
-ghost use Rattle.eve_audit.specs.Verdict.{IsSummary, IsVerdict, IsYesOfAudited, LiesWithin};
+ghost use Rattle.eve_audit.specs.Verdict.{IsSummary, IsVerdict, IsYesOfAudited, LiesWithin, NamesReplica};
 ghost use Rattle.eve_audit.specs.Pieces.{IsFirstOf, HasNone, IsTraceFault};
 ghost use Rattle.eve_audit.specs.declared.verdict.Verdict.TheVariants.{No};
 
@@ -117,7 +117,7 @@ fn verdict_on<'a, R: Threads + Sync>(
 
 /// Audits the bytes of a trace on one thread: the first fault, or yes with the summary where none stands. Where it is yes,
 /// the bytes spell a trace that is one-thread SmallBank, batch by batch, and all else that `IsAudited` says; the first
-/// fault stands within the bytes, or at their end.
+/// fault stands within the bytes, or at their end, and names the replica in whose section it lies, if it lies in one.
 ///
 /// docs/MODEL.md, "Verdict" and "The audit theorem". Nothing recorded is trusted. Want of memory decides nothing. The time
 /// is linear in the trace, but for the tokens, which hash all balances once a batch. It waits for nobody.
@@ -130,6 +130,7 @@ pub fn audit_one<R: Threads + Sync>(
     ensures verdict { IfOk result (IsVerdict bytes.now) }
     ensures yes { IfOk result (IsYesOfAudited bytes.now) }
     ensures within { IfOk result (LiesWithin bytes.now) }
+    ensures replica { IfOk result (NamesReplica bytes.now) }
 {
     match open(alloc, bytes, random) {
         Ok(opened) => verdict_on(rt, alloc, &opened.trace, &opened.names, &mut []),
@@ -157,6 +158,7 @@ pub fn audit<R: Threads + Wait + Sync, G: Gate>(
     ensures verdict { IfOk result (IsVerdict bytes.now) }
     ensures yes { IfOk result (IsYesOfAudited bytes.now) }
     ensures within { IfOk result (LiesWithin bytes.now) }
+    ensures replica { IfOk result (NamesReplica bytes.now) }
 {
     let opened = match open(alloc, bytes, random) {
         Ok(opened) => opened,

@@ -1,9 +1,15 @@
 //! Laws about the definitions. A body calls the laws that its own stands on: the contract is the law.
 
-ghost use Rattle.std.specs.Prelude.{◌≡◌, ◌≤◌, ℕ, List, length};
+ghost use Rattle.std.specs.Prelude.{◌≡◌, ◌≤◌, ◌<◌, ◌^◌, ℕ, List, length, slice_index_or};
+ghost use Rattle.eve_grammar.specs.Trace.{Trace};
+ghost use Rattle.eve_grammar.specs.Limits.{Spells};
 ghost use Rattle.eve_views.specs.declared.fault.Fault.{Fault};
+ghost use Rattle.eve_theorem.specs.Audited.{IsAudited};
+ghost use Rattle.eve_audit.specs.declared.verdict.Summary.{Summary};
 ghost use Rattle.eve_audit.specs.declared.verdict.Verdict.{Verdict};
-ghost use Rattle.eve_audit.specs.Verdict.{Stands, IsVerdict};
+ghost use Rattle.eve_audit.specs.declared.verdict.Verdict.TheVariants.{Yes};
+ghost use Rattle.eve_audit.specs.Verdict.{Stands, IsVerdict, SpellsAudited};
+ghost use Rattle.eve_audit.specs.Where.{NamesItsSection};
 
 /// Bytes have one verdict at most.
 ///
@@ -23,4 +29,34 @@ pub fn standing_faults_lie_within()
 {
     eve_history::laws::faults_lie_within();
     eve_history::laws::fates_are_as_the_section_ends();
+}
+
+/// Each fault that stands names the replica in whose section it lies, and none where it lies in none: so does each
+/// fault that a phase names. What is below 2^8 is a byte.
+///
+/// docs/MODEL.md, "Faults".
+pub fn standing_faults_name_their_section()
+    ensures { (bytes : List ℕ) (f : Fault) → ((i : ℕ) → slice_index_or bytes i 0 < 2 ^ 8) → Stands bytes f
+        → NamesItsSection bytes f }
+{
+    eve_grammar::laws::bytes_spell_one_trace();
+    eve_history::laws::fates_are_as_the_section_ends();
+}
+
+/// Where the verdict on bytes is yes, they spell a trace, and the trace that they spell is audited: whatever call found
+/// the verdict. Each fault can be decided, so where none stands all is as `IsAudited` says.
+///
+/// docs/MODEL.md, "The audit theorem".
+pub fn a_yes_is_audited()
+    ensures spelled { (bytes : List ℕ) (s : Summary) → IsVerdict bytes (Yes s) → SpellsAudited bytes }
+    ensures audited { (bytes : List ℕ) (s : Summary) (t : Trace) → IsVerdict bytes (Yes s) → Spells bytes t
+        → IsAudited t }
+{
+    eve_grammar::laws::bytes_spell_one_trace();
+    eve_smallbank::laws::requests_fit();
+    eve_smallbank::laws::fitting_records_are_unique();
+    eve_serial::laws::requests_take_effect_once();
+    eve_serial::laws::faults_tell_what_is_wrong();
+    eve_serial::laws::sound_attempts_fit_and_see();
+    eve_theorem::accepted_traces_are_audited();
 }

@@ -1,8 +1,9 @@
 //! What was found of replicas before the caller asks for it.
 
-ghost use Rattle.std.specs.Prelude.{◌≡◌, ◌∷◌, [], ◌<◌, IfSome, IsNone, length};
+ghost use Rattle.std.specs.Prelude.{◌≡◌, ◌≢◌, ◌∷◌, [], ◌<◌, List, IfSome, IsNone, length};
 ghost use Rattle.eve_views.specs.Fronts.{whole};
 ghost use Rattle.eve_history.specs.Told.{names_of};
+ghost use Rattle.eve_audit.specs.declared.slots.Finding.{Finding as FindingValue};
 ghost use Rattle.eve_audit.specs.Findings.{AreTrue, finding};
 
 use crate::replica::{Piece, judge_replica};
@@ -72,6 +73,8 @@ impl<'a> Slot<'a> {
     pub fn take(&mut self, e: u8) -> Option<Result<Piece<'a>, Fault>>
         ensures next { IfSome result (λ answer. self.old.findings.items ≡ finding e answer ∷ self.new.findings.items) }
         ensures none { IsNone result → self.new ≡ self.old }
+        ensures other { IsNone result → (first : FindingValue) (rest : List FindingValue)
+            → self.old.findings.items ≡ first ∷ rest → first.replica ≢ e }
     {
         match self.findings.front() {
             Some(next) if next.replica == e => {}

@@ -4,7 +4,6 @@ ghost use Rattle.std.specs.Prelude.{◌≡◌, ℕ, IfOk, IfErr};
 ghost use Rattle.eve_views.specs.Form.{IfFound};
 ghost use Rattle.eve_views.specs.Fronts.{whole};
 ghost use Rattle.eve_history.specs.Told.{tellings, IsRightSection};
-ghost use Rattle.eve_serial.specs.Committed.{batch_tickets, AreDistinct};
 ghost use Rattle.eve_banks.specs.Settling.{settlings};
 ghost use Rattle.eve_audit.specs.Pieces.{IsFirstOf, HasNone, IsCommonFault, IsSoundTogether};
 
@@ -28,7 +27,6 @@ pub fn judge_together(
     requires histories { histories.now ≡ tellings (whole trace.now) }
     requires settled { settled.now ≡ settlings (whole trace.now) }
     requires right { (e : ℕ) → IsRightSection (whole trace.now) e }
-    requires apart { AreDistinct (batch_tickets (whole trace.now)) }
     ensures sound { IfOk result (λ _. IsSoundTogether (whole trace.now)) }
     ensures none { IfOk result (λ _. HasNone (IsCommonFault (whole trace.now))) }
     ensures first { IfErr result (λ why. IfFound why (IsFirstOf (IsCommonFault (whole trace.now)))) }

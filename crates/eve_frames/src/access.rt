@@ -1,6 +1,6 @@
 //! A view of an Access frame.
 
-ghost use Rattle.std.specs.Prelude.{◌≡◌, ◌<◌, IsTrue, Some, length, slice_get};
+ghost use Rattle.std.specs.Prelude.{◌≡◌, ◌<◌, ◌≤◌, IsTrue, Some, length, slice_get};
 ghost use Rattle.eve_grammar.specs.Reading.{access_of};
 ghost use Rattle.eve_frames.specs.Views.{body_in, most_rows, is_access_frame, access_in};
 
@@ -75,7 +75,8 @@ impl<'a> AccessView<'a> {
     /// How many entries it has, three at most.
     #[tactic(auto, using(crate::proofs::AccessPlaces::access_laws))]
     pub fn len(&self) -> usize
-        ensures { result ≡ length (access_in self.now.bytes.now).entries }
+        ensures len { result ≡ length (access_in self.now.bytes.now).entries }
+        ensures limit { result ≤ 3 }
     {
         self.bytes[10] as usize
     }

@@ -1,11 +1,13 @@
 //! The faults of majorities.
 
-ghost use Rattle.std.specs.Prelude.{◌≡◌, ◌<◌, ◌≤◌, ◌+◌, ◌-◌, ◌^◌, ℕ, ◌⊎◌, ◌↔◌, IsTrue, IsFalse, IfSome, IfNone, IfOk, IfErr, length};
+ghost use Rattle.std.specs.Prelude.{◌≡◌, ◌≢◌, ◌<◌, ◌≤◌, ◌+◌, ◌-◌, ◌^◌, ℕ, ◌⊎◌, ◌↔◌, IsTrue, IsFalse, length};
+ghost use Rattle.std.specs.Prelude.{IfSome, IfNone, IfOk, IfErr};
 ghost use Rattle.eve_grammar.specs.Trace.{Step as StepValue};
 ghost use Rattle.eve_frames.specs.Views.{commit_in, rollback_in};
 ghost use Rattle.eve_views.specs.Form.{IsUpTo, IfFound};
 ghost use Rattle.eve_views.specs.Fronts.{whole};
 ghost use Rattle.eve_views.specs.StepKinds.{IsStep};
+ghost use Rattle.eve_views.specs.declared.fault.CheckFault.TheVariants.{Memory};
 ghost use Rattle.eve_views.specs.declared.fault.Fault.{Fault as FaultValue};
 ghost use Rattle.eve_history.specs.Told.{tellings, IsRightSection};
 ghost use Rattle.eve_votes.specs.Votes.{IsDecided, IsRolledBack};
@@ -107,7 +109,8 @@ fn first_of(f: Fault, g: Fault) -> Fault
 /// Judges the commits and rollbacks of all replicas: a majority of the verifiers voted for each; else the first without.
 ///
 /// docs/MODEL.md, "Decided, rolled back" and "Faults". The replicas' sections are right, as `histories` shows, and the
-/// votes are those of the trace. It takes no memory, and looks up one vote count for each commit and rollback.
+/// votes are those of the trace. It takes no memory, and never answers want of it; it looks up one vote count for each
+/// commit and rollback.
 pub fn majorities(
     trace: &Trace<'_>,
     histories: &[History<'_>],
@@ -119,6 +122,7 @@ pub fn majorities(
     ensures backed { IfOk result (λ _. AllAreBacked (whole trace.now)) }
     ensures none { IfOk result (λ _. (f : FaultValue) → ¬ IsMajorityFault (whole trace.now) f) }
     ensures least { IfErr result (λ why. IfFound why (IsLeastMajorityFault (whole trace.now))) }
+    ensures found { IfErr result (λ why. why ≢ Memory) }
 {
     let mut first: Option<Fault> = None;
     for history in histories {

@@ -1,13 +1,14 @@
 //! The faults of replies.
 
-ghost use Rattle.std.specs.Prelude.{◌≡◌, ◌≤◌, ◌↔◌, ◌-◌, ℕ, IsTrue, None, Some, IfSome, IfNone, IfOk, IfErr, length, slice_get};
+ghost use Rattle.std.specs.Prelude.{◌≡◌, ◌≢◌, ◌≤◌, ◌↔◌, ◌-◌, ℕ, IsTrue, None, Some, length, slice_get};
+ghost use Rattle.std.specs.Prelude.{IfSome, IfNone, IfOk, IfErr};
 ghost use Rattle.eve_frames.specs.Views.{attempt_in, sent_in};
 ghost use Rattle.eve_views.specs.Form.{IfFound};
 ghost use Rattle.eve_views.specs.Fronts.{whole};
+ghost use Rattle.eve_views.specs.declared.fault.CheckFault.TheVariants.{Memory};
 ghost use Rattle.eve_views.specs.declared.fault.Code.TheVariants as code;
 ghost use Rattle.eve_views.specs.declared.fault.Fault.{Fault as FaultValue};
-ghost use Rattle.eve_history.specs.Told.{Ran, telling, tellings, IsRightSection};
-ghost use Rattle.eve_serial.specs.Committed.{batch_tickets, AreDistinct};
+ghost use Rattle.eve_history.specs.Told.{Ran, telling, tellings};
 ghost use Rattle.eve_replies.specs.Faults.{IsReplied, AllReplied, IsReplyFault, IsLeastReplyFault};
 ghost use Rattle.eve_replies.specs.Keeping.{AreOf};
 
@@ -19,14 +20,14 @@ use eve_views::{CheckFault, Code, Fault, Trace};
 /// Judges the replies that were sent: the replica committed the batch, which has a request of that client under that
 /// number, and its reply is the one that was sent; else the first that is not so.
 ///
-/// docs/MODEL.md, "Faults". It takes no memory. Where replies are sent batch by batch, each batch is read once.
+/// docs/MODEL.md, "Faults". It takes no memory, and never answers want of it. Where replies are sent batch by batch,
+/// each batch is read once.
 pub fn replies(trace: &Trace<'_>, histories: &[History<'_>]) -> Result<(), CheckFault>
     requires histories { histories.now ≡ tellings (whole trace.now) }
-    requires right { (e : ℕ) → IsRightSection (whole trace.now) e }
-    requires apart { AreDistinct (batch_tickets (whole trace.now)) }
     ensures replied { IfOk result (λ _. AllReplied (whole trace.now)) }
     ensures none { IfOk result (λ _. (f : FaultValue) → ¬ IsReplyFault (whole trace.now) f) }
     ensures least { IfErr result (λ why. IfFound why (IsLeastReplyFault (whole trace.now))) }
+    ensures found { IfErr result (λ why. why ≢ Memory) }
 {
     trace.is_whole();
     let mut tickets = Tickets::new();

@@ -2,11 +2,11 @@
 use Rattle.std.proofs.Common.{◌≡◌, ℕ, zero, suc, ◌+◌, ◌-◌, ◌<◌, ◌≤◌, Bool, true, ◌==◌, nat_lt, List, [], ◌∷◌, ◌++◌, length, Option, Some, None, inl, inr, refl, sym, subst, ap, ◌∙◌, arith}
 use Rattle.std.proofs.lemmas.Bool.{cases_Bool, cases_eq, cases_lt, cases_order, and_parts, eqb-true, eq-eqb, ne_eqb, ltb-true, lt-ltb, le-ltb, cond-true, cond-false}
 use Rattle.std.proofs.lemmas.List.{length-append}
+use Rattle.eve_grammar.specs.Certificate.{group_of}
 use Rattle.eve_stamps.specs.Applied.{Applied}
 use Rattle.eve_schedule.specs.declared.event.Event.TheVariants.{Claim, Tick}
 use Rattle.eve_schedule.specs.declared.stage.Stage.{Stage}
 use Rattle.eve_schedule.specs.declared.stage.Stage.TheVariants as at
-use Rattle.eve_schedule.specs.Groups.{group_of}
 use Rattle.eve_schedule.specs.World.{Plan, World, noted_count}
 use Rattle.eve_schedule.specs.Events.{changed, current_group, may_claim, with_owner, with_applied, with_noted, placed, then_happens}
 use Rattle.eve_schedule.proofs.Changes.{counted, counted-changed}

@@ -9,12 +9,13 @@ use Rattle.eve_smallbank.specs.Chain.{Table, Sees, table_after, table_after_all,
 use Rattle.eve_smallbank.specs.Execution.{entry_on}
 use Rattle.eve_smallbank.specs.SmallBank.{Bank}
 use Rattle.eve_smallbank.proofs.Chains.{Follows, follows-push, table_after_all-push}
+use Rattle.eve_grammar.specs.Certificate.{group_of}
 use Rattle.eve_stamps.specs.Applied.{Applied}
 use Rattle.eve_schedule.specs.declared.event.Event.TheVariants.{Claim, Tick}
 use Rattle.eve_schedule.specs.declared.stage.Stage.{Stage}
 use Rattle.eve_schedule.specs.declared.stage.Stage.TheVariants as at
 use Rattle.eve_schedule.specs.Stripes.{stripe_count}
-use Rattle.eve_schedule.specs.Groups.{EachBefore, group_of}
+use Rattle.eve_schedule.specs.Before.{EachBefore}
 use Rattle.eve_schedule.specs.World.{Plan, World, request_at, executed_at, noted_count}
 use Rattle.eve_schedule.specs.Events.{changed, current_group, may_claim, is_owner, needs_at, next_stripe, last_stripe, is_free, with_owner, made, with_applied, with_noted, then_happens}
 use Rattle.eve_schedule.proofs.Changes.{at_change, changed-other, counted-at_least, greatest_passes, none_passes}

@@ -6,6 +6,7 @@ pub mod Sharing
 pub mod Gathering
 pub mod Histories
 pub mod Keeping
+pub mod KeptGroups
 pub mod Schedules
 pub mod Listing
 pub mod Reaching

@@ -11,17 +11,19 @@ use Rattle.eve_smallbank.proofs.Members.{In, here, there, all_in, list_any-none,
 use Rattle.eve_smallbank.proofs.Chains.{Follows, chain_follows, run_along}
 use Rattle.eve_smallbank.proofs.Fitting.{always_fits}
 use Rattle.eve_smallbank.proofs.Orders.{StandsAbove, stands_above_head, later_precedes_not, reordered}
+use Rattle.eve_grammar.specs.Certificate.{group_of, KeepsGroups}
 use Rattle.eve_stamps.specs.Applied.{Applied}
 use Rattle.eve_schedule.specs.declared.stage.Stage.{Stage}
 use Rattle.eve_schedule.specs.declared.stage.Stage.TheVariants as at
 use Rattle.eve_schedule.specs.Stripes.{stripe_of}
-use Rattle.eve_schedule.specs.Groups.{EachBefore, group_of, KeepsGroups}
+use Rattle.eve_schedule.specs.Before.{EachBefore}
 use Rattle.eve_schedule.specs.World.{Plan, World, request_at, executed_at, noted_count, records_of}
 use Rattle.eve_schedule.specs.Events.{needs_at}
 use Rattle.eve_schedule.specs.Serial.{IsReached, executed_in, IsSerial, order_of, is_done, IsComplete}
 use Rattle.eve_schedule.proofs.Holding.{flag, held, is_busy, has_index, Share, Bound, IsMade, executed, Holds, IsKept}
 use Rattle.eve_schedule.proofs.Sharing.{in_map, needed_by, stripe_below}
 use Rattle.eve_schedule.proofs.Keeping.{kept_after}
+use Rattle.eve_schedule.proofs.KeptGroups.{keeps}
 
 -- ---- the order of ticks
 
@@ -166,14 +168,13 @@ groups_kept p w kept done =
     let all : noted_count w.noted p.workers ≡ length p.requests = eqb-true (noted_count w.noted p.workers) (length p.requests) done in
     let idle : held is_busy w.stages p.workers ≡ 0 = omega (arith, all, kept.counts.claimed, kept.counts.within) in
     let claimed : w.claimed ≡ length p.requests = omega (arith, all, kept.counts.claimed, kept.counts.within) in
-    record {
-      each_once = λ i.
-          let none = no_less w.stages i p.workers idle in
-          let once : count_by (λ j. j == i) (order_of w) ≡ flag (nat_lt i w.claimed) = omega (arith, none, kept.counts.indexes i) in
-          once ∙ ap (λ k. flag (nat_lt i k)) claimed;
-      in_turn = along (λ x. x.index) (λ i j. group_of p.sizes i ≤ group_of p.sizes j) w.applied kept.rises
-          (λ x y i j less. in_turn p w kept.history kept.holds x y (in_after w.applied kept.history kept.same i) (in_after w.applied kept.history kept.same j) less);
-    }
+    keeps p.sizes (length p.requests) (order_of w)
+    (λ i.
+    let none = no_less w.stages i p.workers idle in
+    let once : count_by (λ j. j == i) (order_of w) ≡ flag (nat_lt i w.claimed) = omega (arith, none, kept.counts.indexes i) in
+    once ∙ ap (λ k. flag (nat_lt i k)) claimed)
+    (along (λ x. x.index) (λ i j. group_of p.sizes i ≤ group_of p.sizes j) w.applied kept.rises
+    (λ x y i j less. in_turn p w kept.history kept.holds x y (in_after w.applied kept.history kept.same i) (in_after w.applied kept.history kept.same j) less))
 
 -- ---- of reached worlds
 

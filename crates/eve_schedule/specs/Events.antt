@@ -2,13 +2,13 @@
 use Rattle.std.specs.Prelude.{ℕ, ◌+◌, nat_lt, ◌==◌, Bool, true, false, not, ◌&&◌, if◌then◌else◌, List, [], ◌∷◌, ◌++◌, length, Option, Some, None, is_some, is_none}
 use Rattle.eve_smallbank.specs.Chain.{table_after}
 use Rattle.eve_smallbank.specs.Execution.{executed_on}
+use Rattle.eve_grammar.specs.Certificate.{group_of}
 use Rattle.eve_stamps.specs.Applied.{Applied, noted_of}
 use Rattle.eve_schedule.specs.declared.event.Event.{Event}
 use Rattle.eve_schedule.specs.declared.event.Event.TheVariants.{Claim, LockStripe, Tick, Apply, Unlock, Note}
 use Rattle.eve_schedule.specs.declared.stage.Stage.{Stage}
 use Rattle.eve_schedule.specs.declared.stage.Stage.TheVariants as at
 use Rattle.eve_schedule.specs.Stripes.{stripe_count, needs, least_from, greatest_below}
-use Rattle.eve_schedule.specs.Groups.{group_of}
 use Rattle.eve_schedule.specs.World.{Plan, World, request_at, noted_count}
 
 abbrev pub worker_of : Event → ℕ

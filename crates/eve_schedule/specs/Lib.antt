@@ -1,5 +1,5 @@
 pub mod Stripes
-pub mod Groups
+pub mod Before
 pub mod World
 pub mod Events
 pub mod Serial

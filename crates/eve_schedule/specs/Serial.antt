@@ -4,9 +4,10 @@ use Rattle.std.specs.List.{AllByRecursion}
 use Rattle.eve_smallbank.specs.SmallBank.{run}
 use Rattle.eve_smallbank.specs.Access.{Executed, bank_of, Fits}
 use Rattle.eve_smallbank.specs.Chain.{values_of, IsChained}
+use Rattle.eve_grammar.specs.Certificate.{KeepsGroups}
 use Rattle.eve_stamps.specs.Applied.{Applied}
 use Rattle.eve_schedule.specs.declared.event.Event.{Event}
-use Rattle.eve_schedule.specs.Groups.{EachBefore, KeepsGroups}
+use Rattle.eve_schedule.specs.Before.{EachBefore}
 use Rattle.eve_schedule.specs.World.{Plan, World, begin, executed_at, noted_count, records_of}
 use Rattle.eve_schedule.specs.Events.{are_allowed, world_after}
 

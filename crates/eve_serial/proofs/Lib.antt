@@ -9,7 +9,6 @@ pub mod Once
 pub mod Arrivals
 pub mod Entries
 pub mod TableLaws
-pub mod RecordLaws
 pub mod AlongLaws
 pub mod Walking
 pub mod Advancing

@@ -9,3 +9,4 @@ pub mod Unique
 pub mod Deciding
 pub mod Records
 pub mod Applying
+pub mod Recording

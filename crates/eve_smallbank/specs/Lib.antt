@@ -9,3 +9,4 @@ pub mod Few
 pub mod Touch
 pub mod Decide
 pub mod FromValues
+pub mod Recorded

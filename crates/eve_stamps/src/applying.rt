@@ -3,7 +3,7 @@
 ghost use Rattle.std.specs.Prelude.{◌≡◌, ◌<◌, ◌≤◌, ◌+◌, ℕ, List, IfOk, OnOk, OnErr, ◌&&◌, not, map, length, if◌then◌else◌, [], ◌∷◌, ◌++◌, vec_len, vec_capacity};
 ghost use Rattle.std.specs.List.{list_all, AllByRecursion};
 ghost use Rattle.eve_smallbank.specs.SmallBank.{plain};
-ghost use Rattle.eve_smallbank.specs.Access.{Fits, is_write};
+ghost use Rattle.eve_smallbank.specs.Access.{Fits};
 ghost use Rattle.eve_smallbank.specs.Chain.{Table, Sees};
 ghost use Rattle.eve_smallbank.specs.Touch.{touched_of, rows_in};
 ghost use Rattle.eve_smallbank.specs.Execution.{executed_on};
@@ -53,7 +53,7 @@ pub fn apply(
     ensures kept { OnErr result (stripe.new ≡ stripe.old) }
 {
     laws::requests_fit();
-    let rows = rows_touched(touched);
+    let rows = touched.rows();
     let Some(seen) = seen_in(stripe, &rows) else {
         return Err(StampFault::NoRow);
     };
@@ -108,7 +108,7 @@ pub fn apply_two(
     ensures second_kept { OnErr result (second.new ≡ second.old) }
 {
     laws::requests_fit();
-    let rows = rows_touched(touched);
+    let rows = touched.rows();
     let Some(seen) = seen_in_two(first, second, &rows) else {
         return Err(StampFault::NoRow);
     };
@@ -136,16 +136,6 @@ pub fn apply_two(
     });
     second.greatest = Some(tick);
     Ok(AccessRecord::new(worker, place, index, tick, reply, entries))
-}
-
-/// The rows that are touched, none where the request is refused.
-fn rows_touched(touched: &Touched) -> UpToThree<(Row, Kind)>
-    ensures { result ≡ rows_in touched.now }
-{
-    match touched {
-        Touched::Refused(_) => UpToThree::new(),
-        Touched::Rows(rows) => *rows,
-    }
 }
 
 /// The rows as they are now, where all lie in the stripe.
@@ -216,20 +206,11 @@ fn are_worn(rows: &UpToThree<(Row, Kind)>, seen: &UpToThree<Restore>) -> bool
     ensures { (now : Table) → seen.now ≡ map (λ r. row_in now r.0) rows.now → result ≡ is_worn now rows.now }
 {
     for place in 0..rows.len() {
-        if is_write(rows.at(place).1) && VERSION_LIMIT <= seen.at(place).version {
+        if rows.at(place).1.is_write() && VERSION_LIMIT <= seen.at(place).version {
             return true;
         }
     }
     false
-}
-
-fn is_write(kind: Kind) -> bool
-    ensures { result ≡ is_write kind }
-{
-    match kind {
-        Kind::Read => false,
-        Kind::Write => true,
-    }
 }
 
 /// The entries of the stripe's rows, and the others.

@@ -9,7 +9,7 @@ use Rattle.eve_history.specs.Section.{Placed, batch_at}
 use Rattle.eve_history.specs.Told.{committed_at}
 use Rattle.eve_votes.specs.Votes.{IsDecided}
 use Rattle.eve_votes.proofs.Deciding.{quorum_limits}
-use Rattle.eve_serial.proofs.Linked.{in_at}
+use Rattle.eve_serial.proofs.Linked.{in_at, committed_number}
 use Rattle.eve_serial.specs.Committed.{opening_bank, bank_after, orders_to, replies_to, IsSerialAfter, committed_tickets, AreDistinct}
 use Rattle.eve_restores.specs.Tables.{IsRestored}
 use Rattle.eve_replies.specs.Faults.{IsReplied}
@@ -41,6 +41,7 @@ module _ (t : Trace) (accepted : IsAccepted t) where
       → ((e n : ℕ) (p : Placed) → committed_at t e n ≡ Some p → KeepsGroups (batch_at t n).sizes (length (batch_at t n).requests) p.attempt.certificate)
       → ((e : ℕ) → AreDistinct (committed_tickets t e)) → ((e k : ℕ) → IsRestored t e k) → IsAudited t
   audited_with serial from_opening keeps_groups once restored = record {
+    numbered = λ e n p at. committed_number t e n p (accepted.right e) at;
     serial = serial;
     from_opening = from_opening;
     keeps_groups = keeps_groups;

@@ -24,6 +24,8 @@ pub record IsBackedReply (t : Trace) (s : Sent) : Type 0 where
 
 -- Each committed batch of each replica is SmallBank on one thread, and what else a yes says.
 pub record IsAudited (t : Trace) : Type 0 where
+  -- the attempt by which a replica committed its n-th batch is of batch n
+  pub numbered : (e n : ℕ) (p : Placed) → committed_at t e n ≡ Some p → p.attempt.seq ≡ n
   -- each batch, from the bank before it and in its certificate's order
   pub serial : (e n : ℕ) → IsSerialAfter t e n
   -- and all of them, from the opening balances

@@ -1,5 +1,5 @@
 -- What a command line without a fault names.
-use Rattle.std.proofs.Common.{◌≡◌, ◌⊎◌, inl, inr, subst, refl, Bool, true, false, not, ◌&&◌, if◌then◌else◌, List, [], ◌∷◌, Option, Some, None, codes, is_some, option_map, option_and_then}
+use Rattle.std.proofs.Common.{◌≡◌, ◌⊎◌, inl, inr, subst, refl, Bool, true, false, not, ◌&&◌, ◌||◌, ap₂, ◌∙◌, if◌then◌else◌, List, [], ◌∷◌, Option, Some, None, codes, is_some, option_map, option_and_then}
 use Rattle.clap.specs.Words.{IsAmong, Kinds, Row, Shape, Text, built, fault_of, is_simple, is_simple_and_free, subcommand_of}
 use Rattle.clap.specs.Kinds.{check_kinds, or_else}
 use Rattle.clap.specs.Simple.{argument_words, built_leaf, entered, inherited, label_of, names_of, rows_at}
@@ -9,8 +9,10 @@ use Rattle.clap.specs.Faults.{check_fault, defaults_fault, entered_fault, level_
 use Rattle.clap.specs.Takes.{is_given}
 use Rattle.std.specs.List.{list_any}
 use Rattle.clap.proofs.OnLiterals.{clap_on_literals}
-use Rattle.eve_tool.specs.Words.{Answers, AsksForHelp, SaysOf, Subcommand, Audit, Show, audit, call_of, call_unless, eve, faults_of, program, show, subcommand_named}
+use Rattle.eve_tool.specs.Words.{Answers, AsksForHelp, SaysOf, Subcommand, Audit, Run, Show, NamesNoMixer, mixer_in, audit, run, call_of, call_unless, eve, faults_of, program, show, subcommand_named}
 use Rattle.clap.specs.declared.error.kind.ErrorKind.{ErrorKind}
+use Rattle.eve_workload.specs.declared.mixer.Mixer.{Mixer}
+use Rattle.eve_workload.specs.declared.mixer.Mixer.TheVariants.{First, Whole}
 use Rattle.clap.specs.declared.error.kind.ErrorKind.TheVariants as kind
 use Rattle.eve_tool.specs.declared.words.Asked.{Asked}
 use Rattle.eve_tool.specs.declared.words.Asked.TheVariants as asked
@@ -23,6 +25,10 @@ eve_is_simple = refl
 pub eve_is_free : is_simple_and_free eve ≡ true
 unfolding clap_on_literals
 eve_is_free = refl
+
+-- what either would set is not set
+pub neither : (a b both : Bool) → both ≡ (a || b) → a ≡ false → b ≡ false → both ≡ false
+neither a b both is first second = is ∙ ap₂ (λ (x y : Bool). x || y) first second
 
 -- where none of five steps fails, the last doesn't
 last_is_empty : (a b c d e : Kinds) → or_else a (or_else b (or_else c (or_else d e))) ≡ [] → e ≡ []
@@ -61,23 +67,43 @@ built_audit = built_leaf (inherited program.top audit)
 abbrev built_show : Shape
 built_show = built_leaf (inherited program.top show)
 
-abbrev entered_if : Bool → Bool → List Text → Option (Text × List Row)
-entered_if is_audit is_show rest =
-    option_map (λ s. rows_at s rest) (if is_audit then Some built_audit else (if is_show then Some built_show else None))
+abbrev built_run : Shape
+built_run = built_leaf (inherited program.top run)
 
-call_if : (is_audit is_show : Bool) (rest : List Text) → is_some (entered_if is_audit is_show rest) ≡ true
-    → is_some (option_and_then subcommand_named (entered_if is_audit is_show rest)) ≡ true
+abbrev entered_if : Bool → Bool → Bool → List Text → Option (Text × List Row)
+entered_if is_audit is_run is_show rest =
+    option_map (λ s. rows_at s rest)
+    (if is_audit then Some built_audit else (if is_run then Some built_run else (if is_show then Some built_show else None)))
+
+-- what was entered is no call: it is `run`, with a mixer that isn't there
+pub record EntersNoMixer (found : Option (Text × List Row)) : Type 0 where
+  pub rows : List Row
+  pub met : found ≡ Some (codes "run", rows)
+  pub unknown : mixer_in rows ≡ None
+
+no_mixer : (rows : List Row) → option_map Run (mixer_in rows) ≡ None → mixer_in rows ≡ None
+no_mixer rows h = by (mixer_in rows) h
+  where
+    by : (m : Option Mixer) → option_map Run m ≡ None → m ≡ None
+    by None h = refl
+    by (Some m) h = absurd (cc)
+
+call_if : (is_audit is_run is_show : Bool) (rest : List Text) → is_some (entered_if is_audit is_run is_show rest) ≡ true
+    → option_and_then subcommand_named (entered_if is_audit is_run is_show rest) ≡ None → EntersNoMixer (entered_if is_audit is_run is_show rest)
 unfolding clap_on_literals
-call_if true is_show rest h = refl
-call_if false true rest h = refl
-call_if false false rest h = cc
+call_if true is_run is_show rest h none = cc
+call_if false true is_show rest h none =
+    record { rows = (rows_at built_run rest).1; met = refl; unknown = no_mixer (rows_at built_run rest).1 none }
+call_if false false true rest h none = cc
+call_if false false false rest h none = cc
 
--- the subcommand that was entered is a call
+-- where the subcommand that was entered is no call, it is `run`, with a mixer that isn't there
 entered_call : (stop : Option (Text × List Text)) → is_some (entered (built eve) stop) ≡ true
-    → is_some (option_and_then subcommand_named (entered (built eve) stop)) ≡ true
+    → option_and_then subcommand_named (entered (built eve) stop) ≡ None → EntersNoMixer (entered (built eve) stop)
 unfolding clap_on_literals
-entered_call None h = cc
-entered_call (Some p) h = call_if (answers_to p.0 (label_of built_audit)) (answers_to p.0 (label_of built_show)) p.1 h
+entered_call None h none = cc
+entered_call (Some p) h none =
+    call_if (answers_to p.0 (label_of built_audit)) (answers_to p.0 (label_of built_run)) (answers_to p.0 (label_of built_show)) p.1 h none
 
 -- words without a fault name a subcommand
 entered_without_faults : (words : List Text) → fault_of eve words ≡ [] → is_some (subcommand_of eve words) ≡ true
@@ -92,11 +118,13 @@ pub call_without_faults : (words : List Text) → fault_of eve words ≡ [] → 
 unfolding call_of faults_of
 call_without_faults words h = rw h refl
 
--- and it is one of the program's
-pub some_without_faults : (words : List Text) → fault_of eve words ≡ [] → is_some (option_and_then subcommand_named (subcommand_of eve words)) ≡ true
-some_without_faults words h =
+-- or they name a mixer that isn't there
+pub mixer_without_faults : (words : List Text) → fault_of eve words ≡ [] → option_and_then subcommand_named (subcommand_of eve words) ≡ None
+    → NamesNoMixer words
+mixer_without_faults words h none =
     let above = built eve in
-    entered_call (stop_after above.top.rules (names_of above) (argument_words eve words)) (entered_without_faults words h)
+    let found = entered_call (stop_after above.top.rules (names_of above) (argument_words eve words)) (entered_without_faults words h) none in
+    record { rows = found.rows; met = found.met; unknown = found.unknown }
 
 -- words with a fault are no call
 no_call : (words : List Text) (k : ErrorKind) → IsAmong k (faults_of words) → call_of words ≡ None
@@ -114,7 +142,7 @@ answers_with_fault words k (asked.Help text) (inl e) says = cc
 answers_with_fault words k (asked.Help text) (inr among) says =
     let help = subst (λ (x : ErrorKind). IsAmong x (fault_of eve words)) says among in (no_call words kind.DisplayHelp help, help)
 answers_with_fault words k (asked.Refused text) (inl e) says = absurd (says.1 e)
-answers_with_fault words k (asked.Refused text) (inr among) says = (no_call words k among, record { what = k; found = among; no_help = says.0 })
+answers_with_fault words k (asked.Refused text) (inr among) says = (no_call words k among, inl (record { what = k; found = among; no_help = says.0 }))
 
 -- ---- plain words, behind the program's name
 
@@ -124,6 +152,21 @@ audit_call name = refl
 
 pub called_audit : (words : List Text) (name : Text) → words ≡ name ∷ codes "audit" ∷ [] → call_of words ≡ Some Audit
 called_audit words name e = rw e (audit_call name)
+
+run_call : (name : Text) → call_of (name ∷ codes "run" ∷ []) ≡ Some (Run First)
+unfolding call_of faults_of clap_on_literals
+run_call name = refl
+
+pub called_run : (words : List Text) (name : Text) → words ≡ name ∷ codes "run" ∷ [] → call_of words ≡ Some (Run First)
+called_run words name e = rw e (run_call name)
+
+whole_call : (name : Text) → call_of (name ∷ codes "run" ∷ codes "--mixer" ∷ codes "whole" ∷ []) ≡ Some (Run Whole)
+unfolding call_of faults_of clap_on_literals
+whole_call name = refl
+
+pub called_run_whole : (words : List Text) (name : Text) → words ≡ name ∷ codes "run" ∷ codes "--mixer" ∷ codes "whole" ∷ []
+    → call_of words ≡ Some (Run Whole)
+called_run_whole words name e = rw e (whole_call name)
 
 show_call : (name : Text) → call_of (name ∷ codes "show" ∷ []) ≡ Some Show
 unfolding call_of faults_of clap_on_literals

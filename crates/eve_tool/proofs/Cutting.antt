@@ -4,7 +4,7 @@ use Rattle.std.specs.Prelude.{IfSome, IsFalse, Option, nat_le}
 use Rattle.std.proofs.lemmas.Bool.{cases_lt, lt-leb}
 use Rattle.std.proofs.lemmas.List.{length-take, take_all}
 use Rattle.eve_audit.proofs.Phases.{order_phase, structure_phase, record_phase, chain_phase, restore_phase, token_phase, vote_phase, majority_phase, outcome_phase, reply_phase}
-use Rattle.eve_audit.specs.Verdict.{IsFirst, IsJudged, IsVerdict, Precedes, Stands, in_agreement, in_form, in_majorities, in_orders, in_replies, in_section, in_votes, of_chains, of_records, of_restores, of_structure, of_tokens}
+use Rattle.eve_audit.specs.Verdict.{IsFirst, IsJudged, IsVerdict, IsYesOfAudited, Precedes, SpellsAudited, Stands, in_agreement, in_form, in_majorities, in_orders, in_replies, in_section, in_votes, of_chains, of_records, of_restores, of_structure, of_tokens}
 use Rattle.eve_audit.specs.declared.verdict.Verdict.{Verdict}
 use Rattle.eve_audit.specs.declared.verdict.Verdict.TheVariants.{No, Yes}
 use Rattle.eve_views.specs.Code.{number_of, phase_of}
@@ -13,6 +13,7 @@ use Rattle.eve_views.specs.declared.fault.Code.{Code}
 use Rattle.eve_views.specs.declared.fault.Code.TheVariants as code
 use Rattle.eve_views.specs.declared.fault.Fault.{Fault}
 use Rattle.eve_tool.specs.Audit.{Audits}
+use Rattle.eve_tool.specs.Lines.{status_of_verdict}
 use Rattle.eve_tool.specs.Show.{Shows}
 use Rattle.eve_tool.specs.Writes.{WritesAll, WritesAllOf, WritesFront, WritesFrontOf}
 
@@ -136,6 +137,11 @@ same_verdict : (xs ys : List ℕ) (v : Verdict) → 2 ^ 30 < length xs → 2 ^ 3
 same_verdict xs ys (Yes s) long longer is = absurd (is.1.none length_fault (in_form (length_stands xs long)))
 same_verdict xs ys (No f) long longer is = same_first xs ys f long longer is
 
+-- of which no verdict is yes
+no_yes : (xs ys : List ℕ) (v : Verdict) → 2 ^ 30 < length xs → IsVerdict xs v → IsYesOfAudited ys v
+no_yes xs ys (Yes s) long is = absurd (is.1.none length_fault (in_form (length_stands xs long)))
+no_yes xs ys (No f) long is = tt
+
 -- the verdict on a number of bytes that no trace has is the verdict on all of them
 pub Audits-cut : (limit : ℕ) (bytes text : List ℕ) (status : ℕ) → 2 ^ 30 ≤ limit → Audits (take (limit + 1) bytes) text status → Audits bytes text status
 Audits-cut limit bytes text status enough audits =
@@ -146,6 +152,7 @@ Audits-cut limit bytes text status enough audits =
           record {
             verdict = audits.verdict;
             is = same_verdict (take (limit + 1) bytes) bytes audits.verdict read long audits.is;
+            yes = no_yes (take (limit + 1) bytes) bytes audits.verdict read audits.is;
             line = audits.line;
             ends = audits.ends;
           }
@@ -175,3 +182,12 @@ WritesFrontOf-cut says limit (Some bytes) lent read old new cuts same cut front 
   said = cuts bytes front.text front.status (subst (λ (b : List ℕ). says b front.text front.status) (same ∙ cut) front.said);
   written = front.written;
 }
+
+-- where the status is that of a yes, the bytes spell a trace that is audited
+pub audited_of : (known : Option (List ℕ)) (old new : Option (List ℕ)) (status : ℕ) → WritesAllOf Audits known old new status → status ≡ 0 → IfSome known SpellsAudited
+audited_of None old new status all is = tt
+audited_of (Some bytes) old new status all is = by all.said.verdict (sym all.said.ends ∙ is) all.said.yes
+  where
+    by : (v : Verdict) → status_of_verdict v ≡ 0 → IsYesOfAudited bytes v → SpellsAudited bytes
+    by (Yes s) e said = said
+    by (No f) e said = absurd (omega (arith, e))

@@ -1,3 +1,5 @@
 mod CommandLine
+mod FoundValues
 mod Cutting
 mod SentLines
+mod WholeInput

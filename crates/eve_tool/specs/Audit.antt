@@ -1,12 +1,14 @@
 -- What `audit` says of bytes.
 use Rattle.std.specs.Prelude.{◌≡◌, ℕ, List}
-use Rattle.eve_audit.specs.Verdict.{IsVerdict}
+use Rattle.eve_audit.specs.Verdict.{IsVerdict, IsYesOfAudited}
 use Rattle.eve_audit.specs.declared.verdict.Verdict.{Verdict}
 use Rattle.eve_tool.specs.Lines.{status_of_verdict, verdict_line}
 
--- the text is the line of the verdict on the bytes, and the number is the exit status
+-- the text is the line of the verdict on the bytes, and the number is the exit status; where it is the line of a yes,
+-- the bytes spell a trace that is audited
 pub record Audits (bytes text : List ℕ) (status : ℕ) : Type 0 where
   pub verdict : Verdict
   pub is : IsVerdict bytes verdict
+  pub yes : IsYesOfAudited bytes verdict
   pub line : text ≡ verdict_line verdict
   pub ends : status ≡ status_of_verdict verdict

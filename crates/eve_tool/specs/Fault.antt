@@ -8,6 +8,9 @@ use Rattle.eve_tool.specs.declared.fault.ToolFault.TheVariants as fault
 -- the exit status: 2 where the input is at fault, 3 where the machine is
 abbrev pub status_of : ToolFault → ℕ
 status_of fault.Read = 2
+status_of (fault.Line number) = 2
+status_of fault.TooLong = 2
+status_of fault.Broken = 3
 status_of fault.Write = 3
 status_of fault.Random = 3
 status_of fault.Memory = 3

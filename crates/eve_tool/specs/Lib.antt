@@ -4,3 +4,4 @@ pub mod Words
 pub mod Writes
 pub mod Show
 pub mod Audit
+pub mod Run

@@ -1,11 +1,13 @@
 -- What the words of a command line ask for.
-use Rattle.std.specs.Prelude.{◌≡◌, ◌≢◌, pos, true, if◌then◌else◌, List, [], ◌∷◌, Option, Some, None, codes, option_and_then}
+use Rattle.std.specs.Prelude.{◌≡◌, ◌≢◌, ◌⊎◌, pos, true, if◌then◌else◌, List, [], ◌∷◌, Option, Some, None, codes, find, slice_get, option_and_then, option_map}
 use Rattle.std.specs.Str.{bytes_eq}
 use Rattle.clap.specs.Words.{App, Rule, Shape, Text, IsAmong, Kinds, fault_of, new_app, new_rule, subcommand_of, with_rule, with_subcommand}
 use Rattle.clap.specs.Walk.{Row}
 use Rattle.clap.specs.declared.builder.value_parser.ValueParser.TheVariants as vp
 use Rattle.clap.specs.declared.error.kind.ErrorKind.TheVariants as kind
 use Rattle.clap.specs.declared.error.kind.ErrorKind.{ErrorKind}
+use Rattle.eve_workload.specs.declared.mixer.Mixer.{Mixer}
+use Rattle.eve_workload.specs.declared.mixer.Mixer.TheVariants.{First, Whole}
 use Rattle.eve_tool.specs.declared.words.Call.{Call}
 use Rattle.eve_tool.specs.declared.words.Call.TheVariants as call
 use Rattle.eve_tool.specs.declared.words.Asked.{Asked}
@@ -30,19 +32,45 @@ audit = (with_rule (new_app (codes "audit")) workers).top
 abbrev pub show : Shape
 show = (new_app (codes "show")).top
 
+-- the argument that names the mixer
+abbrev pub mixer : Rule
+mixer = record (new_rule (codes "mixer")) {
+  long = Some (codes "mixer");
+  value_names = 1;
+  defaults = codes "first" ∷ [];
+}
+
+abbrev pub run : Shape
+run = (with_rule (new_app (codes "run")) mixer).top
+
 -- the program with its subcommands
 abbrev pub eve : App
-eve = with_subcommand (with_subcommand program audit) show
+eve = with_subcommand (with_subcommand (with_subcommand program audit) run) show
 
 pub data Subcommand : Type 0 where
   Audit : Subcommand
+  Run : Mixer → Subcommand
   Show : Subcommand
 
+-- the first value of an argument among what was found
+abbrev pub value_in : Text → List Row → Option Text
+value_in id rows = option_and_then (λ r. slice_get r.values 0) (find (λ r. bytes_eq r.id id) rows)
+
+abbrev pub mixer_named : Text → Option Mixer
+mixer_named name = if bytes_eq name (codes "first") then Some First else (if bytes_eq name (codes "whole") then Some Whole else None)
+
+-- the mixer that is named among what was found
+abbrev pub mixer_in : List Row → Option Mixer
+mixer_in rows = option_and_then mixer_named (value_in (codes "mixer") rows)
+
 abbrev pub subcommand_named : Text × List Row → Option Subcommand
-subcommand_named found = if bytes_eq found.0 (codes "audit") then Some Audit else (if bytes_eq found.0 (codes "show") then Some Show else None)
+subcommand_named found =
+    if bytes_eq found.0 (codes "audit") then Some Audit
+    else (if bytes_eq found.0 (codes "run") then option_map Run (mixer_in found.1) else (if bytes_eq found.0 (codes "show") then Some Show else None))
 
 abbrev pub subcommand_of_call : Call → Subcommand
 subcommand_of_call (call.Audit _) = Audit
+subcommand_of_call (call.Run mixer) = Run mixer
 subcommand_of_call call.Show = Show
 
 -- what clap finds wrong with the words, the program's name first, or a request for help
@@ -72,6 +100,10 @@ CallsAudit words = call_of words ≡ Some Audit
 abbrev pub CallsShow : List Text → Type 0
 CallsShow words = call_of words ≡ Some Show
 
+-- the words are the call `run` with this mixer
+abbrev pub CallsRun : Mixer → List Text → Type 0
+CallsRun mixer words = call_of words ≡ Some (Run mixer)
+
 -- the words are a call
 abbrev pub CallsSome : List Text → Type 0
 CallsSome words = call_of words ≢ None
@@ -90,8 +122,18 @@ pub record IsWrong (words : List Text) : Type 0 where
   pub found : IsAmong what (faults_of words)
   pub no_help : what ≢ kind.DisplayHelp
 
+-- the words are `run` with a mixer that isn't there
+pub record NamesNoMixer (words : List Text) : Type 0 where
+  pub rows : List Row
+  pub met : subcommand_of eve words ≡ Some (codes "run", rows)
+  pub unknown : mixer_in rows ≡ None
+
+-- the words are refused
+abbrev pub IsRefused : List Text → Type 0
+IsRefused words = IsWrong words ⊎ NamesNoMixer words
+
 -- the answer is the call that the words are, help where they ask for it, or a refusal where they are wrong
 abbrev pub Answers : List Text → Asked → Type 0
 Answers words (asked.Call call) = call_of words ≡ Some (subcommand_of_call call)
 Answers words (asked.Help text) = CallsNothing words × AsksForHelp words
-Answers words (asked.Refused text) = CallsNothing words × IsWrong words
+Answers words (asked.Refused text) = CallsNothing words × IsRefused words

@@ -1,16 +1,18 @@
 //! The call `audit`: the verdict on a trace.
 
-ghost use Rattle.std.specs.Prelude.{◌≡◌, ◌≢◌, ◌<◌, ◌⊎◌};
+ghost use Rattle.std.specs.Prelude.{◌≡◌, ◌<◌, ◌⊎◌};
 ghost use Rattle.std.specs.Prelude.{IfOk, IfErr, OnOk, OnErr};
 ghost use Rattle.std.specs.Io.KnownBytes.{Appends};
 ghost use Rattle.eve_streams.specs.Failures.{after_failure};
 ghost use Rattle.eve_streams.specs.Front.{AppendsFront};
+ghost use Rattle.eve_tool.specs.Fault.{status_of};
 ghost use Rattle.eve_tool.specs.Audit.{Audits};
 ghost use Rattle.eve_tool.specs.Lines.{status_of_verdict, verdict_line, yes_line};
 ghost use Rattle.eve_tool.specs.Writes.{WritesAll, WritesAllOf, WritesFront, WritesFrontOf};
 
 use crate::fault::ToolFault;
 use crate::lines::push_yes_line;
+use crate::random::random_words;
 use crate::sending::{send_fault, send_text};
 use crate::show::LONGEST_TRACE;
 use crate::worker_count::WorkerCount;
@@ -30,7 +32,7 @@ fn send_yes<O: Sink>(alloc: Global, summary: &Summary, out: &mut O) -> Result<()
     ensures fine { OnOk result (O.failures out.new ≡ O.failures out.old) }
     ensures front { OnErr result (AppendsFront (O.written out.old) (O.written out.new)
         (yes_line summary.now)) }
-    ensures why { IfErr result (λ e. e ≢ ToolFault.Read) }
+    ensures why { IfErr result (λ e. status_of e ≡ 3) }
     ensures write { IfErr result (λ e. e ≡ ToolFault.Write
         → O.failures out.new ≡ after_failure (O.failures out.old)) }
 {
@@ -47,7 +49,7 @@ fn send_verdict<O: Sink>(alloc: Global, verdict: &Verdict, out: &mut O) -> Resul
     ensures fine { OnOk result (O.failures out.new ≡ O.failures out.old) }
     ensures front { OnErr result (AppendsFront (O.written out.old) (O.written out.new)
         (verdict_line verdict.now)) }
-    ensures why { IfErr result (λ e. e ≢ ToolFault.Read) }
+    ensures why { IfErr result (λ e. status_of e ≡ 3) }
     ensures write { IfErr result (λ e. e ≡ ToolFault.Write
         → O.failures out.new ≡ after_failure (O.failures out.old)) }
 {
@@ -77,22 +79,12 @@ fn audit_bytes<R: Threads + Wait + Sync, O: Sink>(
     ensures fine { OnOk result (O.failures out.new ≡ O.failures out.old) }
     ensures front { OnErr result ((out.new ≡ out.old)
         ⊎ WritesFront Audits bytes.now (O.written out.old) (O.written out.new)) }
-    ensures why { IfErr result (λ e. e ≢ ToolFault.Read) }
+    ensures why { IfErr result (λ e. status_of e ≡ 3) }
     ensures write { IfErr result (λ e. e ≡ ToolFault.Write
         → O.failures out.new ≡ after_failure (O.failures out.old)) }
 {
     let verdict = eve_audit::audit(rt, alloc, bytes, workers.get(), random, &OpenGate)?;
     send_verdict(alloc, &verdict, out)
-}
-
-// The random words of the run.
-fn random_words<R: RandomSource>(rt: &R) -> Result<RandomState, ToolFault>
-    ensures { IfErr result (λ e. e ≡ ToolFault.Random) }
-{
-    match RandomState::new(rt) {
-        Ok(random) => Ok(random),
-        Err(_) => Err(ToolFault::Random),
-    }
 }
 
 /// Reads a trace, asks for random words, and sends the line of the verdict, which so many workers
@@ -111,7 +103,7 @@ pub(crate) fn audit<R: AllocGlobal + RandomSource + Threads + Wait + Sync, I: So
         × (O.failures out.new ≡ O.failures out.old)) }
     ensures front { OnErr result ((out.new ≡ out.old)
         ⊎ WritesFrontOf Audits (I.remaining input.old) (O.written out.old) (O.written out.new)) }
-    ensures read { IfErr result (λ e. e ≡ ToolFault.Read
+    ensures refused { IfErr result (λ e. status_of e ≡ 2
         → (I.failures input.new ≡ after_failure (I.failures input.old)) × (out.new ≡ out.old)) }
     ensures write { IfErr result (λ e. e ≡ ToolFault.Write
         → O.failures out.new ≡ after_failure (O.failures out.old)) }

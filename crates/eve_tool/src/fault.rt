@@ -15,6 +15,15 @@ pub enum ToolFault {
     /// The input can't be read, or it was read 2^31 times without an end.
     #[error("eve: cannot read input")]
     Read,
+    /// This line of the workload, counted from 1, is the first that isn't right.
+    #[error("eve: workload line {0}")]
+    Line(u32),
+    /// The workload has more than 2^30 bytes, or the trace would have.
+    #[error("eve: too long")]
+    TooLong,
+    /// The run is broken: a replica failed, or a batch was not committed.
+    #[error("eve: run broken")]
+    Broken,
     /// The output can't be written.
     #[error("eve: cannot write output")]
     Write,
@@ -32,8 +41,8 @@ impl ToolFault {
         ensures { result ≡ status_of self }
     {
         match self {
-            ToolFault::Read => 2,
-            ToolFault::Write | ToolFault::Random | ToolFault::Memory => 3,
+            ToolFault::Read | ToolFault::Line(_) | ToolFault::TooLong => 2,
+            ToolFault::Broken | ToolFault::Write | ToolFault::Random | ToolFault::Memory => 3,
         }
     }
 }

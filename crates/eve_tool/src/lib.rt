@@ -5,6 +5,8 @@ mod audit;
 mod fault;
 mod lines;
 mod program;
+mod random;
+mod run;
 mod sending;
 mod show;
 mod words;

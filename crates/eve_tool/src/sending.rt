@@ -1,11 +1,12 @@
 //! The lines that more than one call sends.
 
-ghost use Rattle.std.specs.Prelude.{◌≡◌, ◌≢◌, []};
+ghost use Rattle.std.specs.Prelude.{◌≡◌, []};
 ghost use Rattle.std.specs.Prelude.{IfErr, OnOk, OnErr};
 ghost use Rattle.std.specs.String.{string_bytes};
 ghost use Rattle.std.specs.Io.KnownBytes.{Appends};
 ghost use Rattle.eve_streams.specs.Failures.{after_failure};
 ghost use Rattle.eve_streams.specs.Front.{AppendsFront};
+ghost use Rattle.eve_tool.specs.Fault.{status_of};
 ghost use Rattle.eve_tool.specs.Lines.{fault_line};
 
 use crate::fault::ToolFault;
@@ -41,7 +42,7 @@ pub(crate) fn send_fault<O: Sink>(
     ensures fine { OnOk result (O.failures out.new ≡ O.failures out.old) }
     ensures front { OnErr result (AppendsFront (O.written out.old) (O.written out.new)
         (fault_line fault.now)) }
-    ensures why { IfErr result (λ e. e ≢ ToolFault.Read) }
+    ensures why { IfErr result (λ e. status_of e ≡ 3) }
     ensures write { IfErr result (λ e. e ≡ ToolFault.Write
         → O.failures out.new ≡ after_failure (O.failures out.old)) }
     ensures memory { IfErr result (λ e. e ≡ ToolFault.Memory

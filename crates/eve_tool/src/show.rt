@@ -1,6 +1,6 @@
 //! The call `show`: the frames of a trace, a line for each.
 
-ghost use Rattle.std.specs.Prelude.{◌≡◌, ◌≢◌, ◌<◌, ◌⊎◌, ℕ, ◌++◌, [], length, slice_get, Some};
+ghost use Rattle.std.specs.Prelude.{◌≡◌, ◌<◌, ◌⊎◌, ℕ, ◌++◌, [], length, slice_get, Some};
 ghost use Rattle.std.specs.Prelude.{IfOk, IfErr, OnOk, OnErr};
 ghost use Rattle.std.specs.String.{string_bytes};
 ghost use Rattle.std.specs.Io.KnownBytes.{Appends};
@@ -8,6 +8,7 @@ ghost use Rattle.eve_grammar.specs.Frames.{Frame};
 ghost use Rattle.eve_grammar.specs.Spelling.{frame_text, located};
 ghost use Rattle.eve_streams.specs.Failures.{after_failure};
 ghost use Rattle.eve_streams.specs.Front.{AppendsFront};
+ghost use Rattle.eve_tool.specs.Fault.{status_of};
 ghost use Rattle.eve_tool.specs.Show.{Shows, line_of, trace_lines};
 ghost use Rattle.eve_tool.specs.Writes.{WritesAll, WritesAllOf, WritesFront, WritesFrontOf};
 
@@ -43,7 +44,7 @@ fn send_frames<O: Sink>(alloc: Global, trace: &Trace<'_>, out: &mut O) -> Result
     ensures fine { OnOk result (O.failures out.new ≡ O.failures out.old) }
     ensures front { OnErr result (AppendsFront (O.written out.old) (O.written out.new)
         (trace_lines trace.now.frames)) }
-    ensures why { IfErr result (λ e. e ≢ ToolFault.Read) }
+    ensures why { IfErr result (λ e. status_of e ≡ 3) }
     ensures write { IfErr result (λ e. e ≡ ToolFault.Write
         → O.failures out.new ≡ after_failure (O.failures out.old)) }
     ensures memory { IfErr result (λ e. e ≡ ToolFault.Memory
@@ -66,7 +67,7 @@ fn show_bytes<O: Sink>(alloc: Global, bytes: &[u8], out: &mut O) -> Result<u8, T
     ensures fine { OnOk result (O.failures out.new ≡ O.failures out.old) }
     ensures front { OnErr result ((out.new ≡ out.old)
         ⊎ WritesFront Shows bytes.now (O.written out.old) (O.written out.new)) }
-    ensures why { IfErr result (λ e. e ≢ ToolFault.Read) }
+    ensures why { IfErr result (λ e. status_of e ≡ 3) }
     ensures write { IfErr result (λ e. e ≡ ToolFault.Write
         → O.failures out.new ≡ after_failure (O.failures out.old)) }
 {
@@ -97,7 +98,7 @@ pub(crate) fn show<I: Source, O: Sink>(
         × (O.failures out.new ≡ O.failures out.old)) }
     ensures front { OnErr result ((out.new ≡ out.old)
         ⊎ WritesFrontOf Shows (I.remaining input.old) (O.written out.old) (O.written out.new)) }
-    ensures read { IfErr result (λ e. e ≡ ToolFault.Read
+    ensures refused { IfErr result (λ e. status_of e ≡ 2
         → (I.failures input.new ≡ after_failure (I.failures input.old)) × (out.new ≡ out.old)) }
     ensures write { IfErr result (λ e. e ≡ ToolFault.Write
         → O.failures out.new ≡ after_failure (O.failures out.old)) }

@@ -1,12 +1,14 @@
 //! What the words of a command line ask for.
 
 ghost use Rattle.std.specs.Prelude.{◌≡◌, false, IfOk, map, option_and_then, option_map};
-ghost use Rattle.clap.specs.Words.{app_of, kind_of, rule_of, subcommand_rows_of};
-ghost use Rattle.eve_tool.specs.Words.{Answers, SaysOf, eve, subcommand_named, subcommand_of_call, workers};
+ghost use Rattle.clap.specs.Words.{app_of, found_of, kind_of, rule_of, subcommand_rows_of};
+ghost use Rattle.clap.specs.Walk.{rows_of};
+ghost use Rattle.eve_tool.specs.Words.{Answers, SaysOf, eve, mixer, mixer_in, mixer_named, subcommand_named, subcommand_of_call, workers};
 
 use crate::worker_count::WorkerCount;
 use clap::error::ErrorKind;
 use clap::{Arg, ArgMatches, Command, Error, value_parser};
+use eve_replica::eve_workload::Mixer;
 use std::alloc::{AllocError, Global};
 use std::convert::AsStr;
 
@@ -15,6 +17,8 @@ use std::convert::AsStr;
 pub(crate) enum Call {
     /// Prints the verdict on a trace, found by this many workers.
     Audit(WorkerCount),
+    /// Runs a workload, whose batches this mixer cuts, and prints the trace.
+    Run(Mixer),
     /// Prints the frames of a trace.
     Show,
 }
@@ -30,8 +34,12 @@ pub(crate) enum Asked {
     Refused(String),
 }
 
+// What is said where another mixer is named.
+const NO_MIXER: &str =
+    "error: invalid value for '--mixer <MIXER>': it is 'first' or 'whole'\n\nFor more information, try '--help'.\n";
+
 const EXAMPLES: &str =
-    "Examples:\n  eve audit < examples/deposit-committed.trace\n  eve audit --workers 2 < examples/two-orders-agree.trace\n  eve show < examples/empty-run.trace";
+    "Examples:\n  eve run < examples/two-deposits.workload | eve audit\n  eve audit < examples/deposit-committed.trace\n  eve audit --workers 2 < examples/two-orders-agree.trace\n  eve show < examples/empty-run.trace";
 
 // How many workers audit.
 fn workers_argument<'a>(alloc: Global) -> Arg<'a>
@@ -47,6 +55,23 @@ fn workers_argument<'a>(alloc: Global) -> Arg<'a>
         .value_parser(parser)
 }
 
+const RUN_EXAMPLE: &str =
+    "Example:\n  eve run --mixer whole < examples/two-deposits.workload > two-deposits.trace";
+
+// Which mixer cuts the batches of a workload.
+fn mixer_argument<'a>(alloc: Global) -> Arg<'a>
+    ensures rule { rule_of result ≡ mixer }
+    ensures local { result.global ≡ false }
+{
+    Arg::new(alloc, "mixer")
+        .long("mixer")
+        .value_name("MIXER")
+        .help(
+            "How batches are cut into groups that run in parallel: 'first' fit, or each batch 'whole'",
+        )
+        .default_value("first")
+}
+
 // The command line of the program.
 fn command<'a>(alloc: Global) -> Result<Command<'a>, AllocError>
     ensures { IfOk result (λ c. app_of c ≡ eve) }
@@ -54,15 +79,20 @@ fn command<'a>(alloc: Global) -> Result<Command<'a>, AllocError>
     let audit = Command::new(alloc, "audit")
         .about("Prints the verdict on the trace on standard input: yes, or the first fault")
         .arg(workers_argument(alloc))?;
+    let run = Command::new(alloc, "run")
+        .about("Runs the workload on standard input on replicas, and prints the trace of the run")
+        .after_help(RUN_EXAMPLE)
+        .arg(mixer_argument(alloc))?;
     let show = Command::new(alloc, "show").about(
         "Prints the frames of the trace on standard input, a line for each",
     );
     Command::new(alloc, "eve")
-        .about("Audits traces of replicated SmallBank servers")
+        .about("Records runs of replicated SmallBank servers, and audits their traces")
         .after_help(EXAMPLES)
         .disable_help_subcommand(true)
         .subcommand_required(true)
         .subcommand(audit)?
+        .subcommand(run)?
         .subcommand(show)
 }
 
@@ -75,12 +105,36 @@ fn workers_in(matches: &ArgMatches<'_>) -> WorkerCount {
     WorkerCount::nearest(given.unwrap_or(1))
 }
 
+// The mixer of that name.
+fn mixer_named(name: &str) -> Option<Mixer>
+    ensures { result ≡ mixer_named name.now }
+{
+    if name == "first" {
+        Some(Mixer::First)
+    } else if name == "whole" {
+        Some(Mixer::Whole)
+    } else {
+        None
+    }
+}
+
+// The mixer that was named.
+fn mixer_of(found: &ArgMatches<'_>) -> Option<Mixer>
+    ensures { result ≡ mixer_in (rows_of (found_of found.now)) }
+{
+    match found.get_str("mixer") {
+        Some(name) => mixer_named(name),
+        None => None,
+    }
+}
+
 // The call of the subcommand that was met.
 fn call_in(matches: &ArgMatches<'_>) -> Option<Call>
     ensures { option_map subcommand_of_call result ≡ option_and_then subcommand_named (subcommand_rows_of matches.now) }
 {
     match matches.subcommand_name() {
         Some("audit") => Some(Call::Audit(workers_in(matches))),
+        Some("run") => Some(Call::Run(mixer_of(matches.subcommand_matches("run")?)?)),
         Some("show") => Some(Call::Show),
         _ => None,
     }
@@ -103,7 +157,10 @@ pub(crate) fn read_words<S: AsStr>(alloc: Global, words: &[S]) -> Result<Asked, 
 {
     let command = command(alloc)?;
     match command.try_get_matches_from(words) {
-        Ok(matches) => Ok(Asked::Call(call_in(&matches).unwrap())),
+        Ok(matches) => match call_in(&matches) {
+            Some(call) => Ok(Asked::Call(call)),
+            None => Ok(Asked::Refused(String::from_str(alloc, NO_MIXER)?)),
+        },
         Err(error) => answer_of(alloc, &error),
     }
 }

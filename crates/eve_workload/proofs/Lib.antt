@@ -1,6 +1,16 @@
 mod Cuts
+mod Decimals
+mod Deployments
+mod Drafting
+mod Holding
+mod LineKinds
+mod LineLaws
 mod Listing
 mod Mixed
+mod Options
 mod Parts
 mod Placing
 mod Ranges
+mod Reading
+mod Splitting
+mod Wholes

@@ -1,2 +1,9 @@
 pub mod Mixing
 pub mod Groups
+pub mod Workload
+pub mod Lines
+pub mod Steps
+pub mod Held
+pub mod Words
+pub mod Said
+pub mod Drafts

@@ -1,10 +1,14 @@
 //! Requests in memory of their own.
 
 ghost use Rattle.std.specs.Prelude.{◌≡◌, ◌<◌, All, IfOk, length, map};
-ghost use Rattle.eve_grammar.specs.Trace.{Asked};
+ghost use Rattle.eve_smallbank.specs.SmallBank.{plain};
+ghost use Rattle.eve_grammar.specs.Trace.{Asked as Listed};
+ghost use Rattle.eve_grammar.specs.Bodies.{asked as said};
 ghost use Rattle.eve_workload.specs.Groups.{listed};
 ghost use Rattle.eve_write.specs.Data.{asked, transaction};
 
+use eve_grammar::Asked;
+use eve_smallbank::Request;
 use eve_write::{RequestData, TransactionData};
 use std::alloc::{AllocError, Global};
 
@@ -15,7 +19,7 @@ pub(crate) fn copy_listed(
     order: &[u16],
 ) -> Result<Vec<RequestData>, AllocError>
     requires { All (λ i. i < length requests.now) order.now }
-    ensures { IfOk result (λ rs. (other : Asked) →
+    ensures { IfOk result (λ rs. (other : Listed) →
         map asked rs.items ≡ listed (map asked requests.now) other order.now) }
 {
     let mut copies = Vec::with_capacity(alloc, order.len())?;
@@ -28,28 +32,40 @@ pub(crate) fn copy_listed(
 fn copy_request(alloc: Global, request: &RequestData) -> Result<RequestData, AllocError>
     ensures { IfOk result (λ r. asked r ≡ asked request.now) }
 {
+    let asks = request.request();
     Ok(RequestData {
         client: request.client,
         number: request.number,
-        transaction: copy_transaction(alloc, &request.transaction)?,
+        transaction: owned_transaction(alloc, &asks)?,
     })
 }
 
-fn copy_transaction(alloc: Global, asked: &TransactionData) -> Result<TransactionData, AllocError>
-    ensures { IfOk result (λ t. transaction t ≡ transaction asked.now) }
+/// The request with names of its own.
+pub(crate) fn owned(alloc: Global, listed: &Asked<'_>) -> Result<RequestData, AllocError>
+    ensures { IfOk result (λ r. asked r ≡ said listed.now) }
 {
-    Ok(match asked {
-        TransactionData::Balance(name) => TransactionData::Balance(name.to_vec(alloc)?),
-        TransactionData::DepositChecking(name, amount) => {
+    Ok(RequestData {
+        client: listed.client,
+        number: listed.number,
+        transaction: owned_transaction(alloc, &listed.request)?,
+    })
+}
+
+fn owned_transaction(alloc: Global, request: &Request<'_>) -> Result<TransactionData, AllocError>
+    ensures { IfOk result (λ t. transaction t ≡ plain request.now) }
+{
+    Ok(match request {
+        Request::Balance(name) => TransactionData::Balance(name.to_vec(alloc)?),
+        Request::DepositChecking(name, amount) => {
             TransactionData::DepositChecking(name.to_vec(alloc)?, *amount)
         }
-        TransactionData::TransactSaving(name, amount) => {
+        Request::TransactSaving(name, amount) => {
             TransactionData::TransactSaving(name.to_vec(alloc)?, *amount)
         }
-        TransactionData::Amalgamate(from, to) => {
+        Request::Amalgamate(from, to) => {
             TransactionData::Amalgamate(from.to_vec(alloc)?, to.to_vec(alloc)?)
         }
-        TransactionData::WriteCheck(name, amount) => {
+        Request::WriteCheck(name, amount) => {
             TransactionData::WriteCheck(name.to_vec(alloc)?, *amount)
         }
     })

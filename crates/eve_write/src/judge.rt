@@ -2,13 +2,12 @@
 
 ghost use Rattle.std.specs.Prelude.{◌≡◌, Bool};
 ghost use Rattle.std.specs.List.{list_all};
-ghost use Rattle.eve_smallbank.specs.Access.{is_write};
 ghost use Rattle.eve_grammar.specs.Trace.{Head};
 ghost use Rattle.eve_grammar.specs.Limits.{row_count, is_entry, is_restore, is_reply};
 ghost use Rattle.eve_grammar.specs.Bodies.{limits, restore};
 
 use eve_grammar::{Head, Restore};
-use eve_smallbank::{Entry, Kind, Reply};
+use eve_smallbank::{Entry, Reply};
 
 /// What a trace under a header may hold or not.
 pub(crate) trait Judge {
@@ -48,16 +47,7 @@ impl Judge for Entry {
         let (seen, after) = (self.seen.get(), self.after.get());
         (self.row.number() as u64) < row_count(head)
             && self.version <= MOST_VERSIONS
-            && (is_write(self.kind) || after == seen)
-    }
-}
-
-fn is_write(kind: Kind) -> bool
-    ensures { result ≡ is_write kind }
-{
-    match kind {
-        Kind::Read => false,
-        Kind::Write => true,
+            && (self.kind.is_write() || after == seen)
     }
 }
 

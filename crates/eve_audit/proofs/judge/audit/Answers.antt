@@ -1,5 +1,5 @@
 use Rattle.std.proofs.lemmas.Result.{IfOk-weaker}
-use Rattle.eve_audit.specs.Verdict.{IsVerdict, IsYesOfAudited, LiesWithin}
+use Rattle.eve_audit.specs.Verdict.{IsVerdict, IsYesOfAudited, LiesWithin, NamesReplica}
 use Rattle.eve_audit.proofs.judge.audit.Goals as goal
 
 pub returns-in-Ok-judge_side_by_side-clause-verdict : goal.returns-in-Ok-judge_side_by_side-clause-verdict
@@ -10,3 +10,6 @@ returns-in-Ok-judge_side_by_side-clause-yes g c = IfOk-weaker c.verdict_on.resul
 
 pub returns-in-Ok-judge_side_by_side-clause-within : goal.returns-in-Ok-judge_side_by_side-clause-within
 returns-in-Ok-judge_side_by_side-clause-within g c = IfOk-weaker c.verdict_on.result _ (LiesWithin c.args.bytes.now) (λ v answer. (answer c.args.bytes.now c.in-Ok.ensures.read).within) c.verdict_on.ensures
+
+pub returns-in-Ok-judge_side_by_side-clause-replica : goal.returns-in-Ok-judge_side_by_side-clause-replica
+returns-in-Ok-judge_side_by_side-clause-replica g c = IfOk-weaker c.verdict_on.result _ (NamesReplica c.args.bytes.now) (λ v answer. (answer c.args.bytes.now c.in-Ok.ensures.read).replica) c.verdict_on.ensures

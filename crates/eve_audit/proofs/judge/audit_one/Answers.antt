@@ -1,5 +1,5 @@
 use Rattle.std.proofs.lemmas.Result.{IfOk-weaker}
-use Rattle.eve_audit.specs.Verdict.{IsVerdict, IsYesOfAudited, LiesWithin}
+use Rattle.eve_audit.specs.Verdict.{IsVerdict, IsYesOfAudited, LiesWithin, NamesReplica}
 use Rattle.eve_audit.proofs.judge.audit_one.Goals as goal
 
 pub returns-in-Ok-clause-verdict : goal.returns-in-Ok-clause-verdict
@@ -10,3 +10,6 @@ returns-in-Ok-clause-yes g c = IfOk-weaker c.verdict_on.result _ (IsYesOfAudited
 
 pub returns-in-Ok-clause-within : goal.returns-in-Ok-clause-within
 returns-in-Ok-clause-within g c = IfOk-weaker c.verdict_on.result _ (LiesWithin c.args.bytes.now) (λ v answer. (answer c.args.bytes.now c.in-Ok.ensures.read).within) c.verdict_on.ensures
+
+pub returns-in-Ok-clause-replica : goal.returns-in-Ok-clause-replica
+returns-in-Ok-clause-replica g c = IfOk-weaker c.verdict_on.result _ (NamesReplica c.args.bytes.now) (λ v answer. (answer c.args.bytes.now c.in-Ok.ensures.read).replica) c.verdict_on.ensures

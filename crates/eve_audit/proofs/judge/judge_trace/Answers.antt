@@ -12,9 +12,6 @@ returns-in-Err-clause-first g c =
     let t = whole c.args.trace.now in
     found_weaker (IsFirstOf (IsFaultBelow t (length t.sections))) (IsFirstOf (IsTraceFault t)) c.in-Err.why (λ f found. section_first t f c.requires.orders found) c.in-Err.ensures.first
 
-pub judge_together-requires-clause-apart : goal.judge_together-requires-clause-apart
-judge_together-requires-clause-apart g c = let t = whole c.args.trace.now in c.requests_take_effect_once.ensures.apart t (no_request_again t c.requires.orders)
-
 pub returns-in-Err-judge_together-clause-first : goal.returns-in-Err-judge_together-clause-first
 returns-in-Err-judge_together-clause-first g c =
     let t = whole c.args.trace.now in

@@ -21,26 +21,26 @@ use Rattle.eve_stamps.proofs.applying.apply_two.Goals as goal
 
 pub returns-then-not-are_above-clause-refused : goal.returns-then-not-are_above-clause-refused
 returns-then-not-are_above-clause-refused c =
-    let is : IsSeen (has_row_in_two c.args.first.now c.args.second.now) (rows_in_two c.args.first.now c.args.second.now) (rows_in c.args.touched.now) c.in-Some.seen = seen_is (has_row_in_two c.args.first.now c.args.second.now) (rows_in_two c.args.first.now c.args.second.now) (rows_in c.args.touched.now) c.rows_touched-rows.result c.in-Some.seen c.rows_touched-rows.ensures c.in-Some.ensures in
+    let is : IsSeen (has_row_in_two c.args.first.now c.args.second.now) (rows_in_two c.args.first.now c.args.second.now) (rows_in c.args.touched.now) c.in-Some.seen = seen_is (has_row_in_two c.args.first.now c.args.second.now) (rows_in_two c.args.first.now c.args.second.now) (rows_in c.args.touched.now) c.rows-rows.result c.in-Some.seen c.rows-rows.ensures c.in-Some.ensures in
     refused_late _ (has_row_in_two c.args.first.now c.args.second.now) (is_above c.args.tick c.args.first.now.greatest && is_above c.args.tick c.args.second.now.greatest) (rows_in_two c.args.first.now c.args.second.now) (rows_in c.args.touched.now) c.in-Some.seen is (sym c.are_above.ensures ∙ search (rules, not-true))
 
 pub returns-then-are_worn-clause-refused : goal.returns-then-are_worn-clause-refused
 returns-then-are_worn-clause-refused c =
-    let is : IsSeen (has_row_in_two c.args.first.now c.args.second.now) (rows_in_two c.args.first.now c.args.second.now) (rows_in c.args.touched.now) c.in-Some.seen = seen_is (has_row_in_two c.args.first.now c.args.second.now) (rows_in_two c.args.first.now c.args.second.now) (rows_in c.args.touched.now) c.rows_touched-rows.result c.in-Some.seen c.rows_touched-rows.ensures c.in-Some.ensures in
+    let is : IsSeen (has_row_in_two c.args.first.now c.args.second.now) (rows_in_two c.args.first.now c.args.second.now) (rows_in c.args.touched.now) c.in-Some.seen = seen_is (has_row_in_two c.args.first.now c.args.second.now) (rows_in_two c.args.first.now c.args.second.now) (rows_in c.args.touched.now) c.rows-rows.result c.in-Some.seen c.rows-rows.ensures c.in-Some.ensures in
     let timely : is_above c.args.tick c.args.first.now.greatest && is_above c.args.tick c.args.second.now.greatest ≡ true = sym c.are_above.ensures ∙ search (rules, not-false) in
-    let worn : is_worn (rows_in_two c.args.first.now c.args.second.now) (rows_in c.args.touched.now) ≡ true = sym (worn_told (has_row_in_two c.args.first.now c.args.second.now) (rows_in_two c.args.first.now c.args.second.now) (rows_in c.args.touched.now) c.rows_touched-rows.result c.in-Some.seen c.are_worn.result is c.rows_touched-rows.ensures c.are_worn.ensures) ∙ c.if-are_worn.true in
+    let worn : is_worn (rows_in_two c.args.first.now c.args.second.now) (rows_in c.args.touched.now) ≡ true = sym (worn_told (has_row_in_two c.args.first.now c.args.second.now) (rows_in_two c.args.first.now c.args.second.now) (rows_in c.args.touched.now) c.rows-rows.result c.in-Some.seen c.are_worn.result is c.rows-rows.ensures c.are_worn.ensures) ∙ c.if-are_worn.true in
     refused_worn _ (has_row_in_two c.args.first.now c.args.second.now) (is_above c.args.tick c.args.first.now.greatest && is_above c.args.tick c.args.second.now.greatest) (rows_in_two c.args.first.now c.args.second.now) (rows_in c.args.touched.now) c.in-Some.seen is timely worn
 
 pub executed-reply-requires-clause-seen : goal.executed-reply-requires-clause-seen
 executed-reply-requires-clause-seen c =
-    let is : IsSeen (has_row_in_two c.args.first.now c.args.second.now) (rows_in_two c.args.first.now c.args.second.now) (rows_in c.args.touched.now) c.in-Some.seen = seen_is (has_row_in_two c.args.first.now c.args.second.now) (rows_in_two c.args.first.now c.args.second.now) (rows_in c.args.touched.now) c.rows_touched-rows.result c.in-Some.seen c.rows_touched-rows.ensures c.in-Some.ensures in
+    let is : IsSeen (has_row_in_two c.args.first.now c.args.second.now) (rows_in_two c.args.first.now c.args.second.now) (rows_in c.args.touched.now) c.in-Some.seen = seen_is (has_row_in_two c.args.first.now c.args.second.now) (rows_in_two c.args.first.now c.args.second.now) (rows_in c.args.touched.now) c.rows-rows.result c.in-Some.seen c.rows-rows.ensures c.in-Some.ensures in
     length-seen (has_row_in_two c.args.first.now c.args.second.now) (rows_in_two c.args.first.now c.args.second.now) (rows_in c.args.touched.now) c.in-Some.seen is
 
 pub returns-then-is_err-clause-refused : goal.returns-then-is_err-clause-refused
 returns-then-is_err-clause-refused c =
-    let is : IsSeen (has_row_in_two c.args.first.now c.args.second.now) (rows_in_two c.args.first.now c.args.second.now) (rows_in c.args.touched.now) c.in-Some.seen = seen_is (has_row_in_two c.args.first.now c.args.second.now) (rows_in_two c.args.first.now c.args.second.now) (rows_in c.args.touched.now) c.rows_touched-rows.result c.in-Some.seen c.rows_touched-rows.ensures c.in-Some.ensures in
+    let is : IsSeen (has_row_in_two c.args.first.now c.args.second.now) (rows_in_two c.args.first.now c.args.second.now) (rows_in c.args.touched.now) c.in-Some.seen = seen_is (has_row_in_two c.args.first.now c.args.second.now) (rows_in_two c.args.first.now c.args.second.now) (rows_in c.args.touched.now) c.rows-rows.result c.in-Some.seen c.rows-rows.ensures c.in-Some.ensures in
     let timely : is_above c.args.tick c.args.first.now.greatest && is_above c.args.tick c.args.second.now.greatest ≡ true = sym c.are_above.ensures ∙ search (rules, not-false) in
-    let fresh : is_worn (rows_in_two c.args.first.now c.args.second.now) (rows_in c.args.touched.now) ≡ false = sym (worn_told (has_row_in_two c.args.first.now c.args.second.now) (rows_in_two c.args.first.now c.args.second.now) (rows_in c.args.touched.now) c.rows_touched-rows.result c.in-Some.seen c.are_worn.result is c.rows_touched-rows.ensures c.are_worn.ensures) ∙ c.if-are_worn.false in
+    let fresh : is_worn (rows_in_two c.args.first.now c.args.second.now) (rows_in c.args.touched.now) ≡ false = sym (worn_told (has_row_in_two c.args.first.now c.args.second.now) (rows_in_two c.args.first.now c.args.second.now) (rows_in c.args.touched.now) c.rows-rows.result c.in-Some.seen c.are_worn.result is c.rows-rows.ensures c.are_worn.ensures) ∙ c.if-are_worn.false in
     refused_memory _ (has_row_in_two c.args.first.now c.args.second.now) (is_above c.args.tick c.args.first.now.greatest && is_above c.args.tick c.args.second.now.greatest) (rows_in_two c.args.first.now c.args.second.now) (rows_in c.args.touched.now) c.in-Some.seen is timely fresh
 
 pub write-requires-clause-rise : goal.write-requires-clause-rise
@@ -49,17 +49,17 @@ write-requires-clause-rise c =
 
 pub write-requires-clause-entries : goal.write-requires-clause-entries
 write-requires-clause-entries c =
-    let is : IsSeen (has_row_in_two c.args.first.now c.args.second.now) (rows_in_two c.args.first.now c.args.second.now) (rows_in c.args.touched.now) c.in-Some.seen = seen_is (has_row_in_two c.args.first.now c.args.second.now) (rows_in_two c.args.first.now c.args.second.now) (rows_in c.args.touched.now) c.rows_touched-rows.result c.in-Some.seen c.rows_touched-rows.ensures c.in-Some.ensures in
-    let fresh : is_worn (rows_in_two c.args.first.now c.args.second.now) (rows_in c.args.touched.now) ≡ false = sym (worn_told (has_row_in_two c.args.first.now c.args.second.now) (rows_in_two c.args.first.now c.args.second.now) (rows_in c.args.touched.now) c.rows_touched-rows.result c.in-Some.seen c.are_worn.result is c.rows_touched-rows.ensures c.are_worn.ensures) ∙ c.if-are_worn.false in
+    let is : IsSeen (has_row_in_two c.args.first.now c.args.second.now) (rows_in_two c.args.first.now c.args.second.now) (rows_in c.args.touched.now) c.in-Some.seen = seen_is (has_row_in_two c.args.first.now c.args.second.now) (rows_in_two c.args.first.now c.args.second.now) (rows_in c.args.touched.now) c.rows-rows.result c.in-Some.seen c.rows-rows.ensures c.in-Some.ensures in
+    let fresh : is_worn (rows_in_two c.args.first.now c.args.second.now) (rows_in c.args.touched.now) ≡ false = sym (worn_told (has_row_in_two c.args.first.now c.args.second.now) (rows_in_two c.args.first.now c.args.second.now) (rows_in c.args.touched.now) c.rows-rows.result c.in-Some.seen c.are_worn.result is c.rows-rows.ensures c.are_worn.ensures) ∙ c.if-are_worn.false in
     let noted : AllByRecursion (IsNoted (has_row_in_two c.args.first.now c.args.second.now) (rows_in_two c.args.first.now c.args.second.now)) c.executed-reply.result.1 = c.executed-reply.ensures.noted (has_row_in_two c.args.first.now c.args.second.now) (rows_in_two c.args.first.now c.args.second.now) is.as_now is.there fresh in
     let own : AllByRecursion (IsNoted (has_row (stripe_of c.first.inside.base.items c.first.inside.journal.items c.first.inside.greatest)) (rows_now (stripe_of c.first.inside.base.items c.first.inside.journal.items c.first.inside.greatest))) c.split-within.result.0 = subst (λ (s : Stripe). AllByRecursion (IsNoted (has_row s) (rows_now s)) c.split-within.result.0) (sym c.first.view_is) (subst (λ (es : List Entry). AllByRecursion (IsNoted (has_row c.args.first.now) (rows_now c.args.first.now)) es) (sym c.split-within.ensures.within) (noted_within c.args.first.now c.args.second.now c.executed-reply.result.1 noted)) in
     rw c.deref_mut.ensures.value (entries_in_rows c.first.inside.base.items c.first.inside.rows.items c.first.inside.journal.items c.first.inside.greatest c.split-within.result.0 c.first.invariant own)
 
 pub invariant_of-first-2 : goal.invariant_of-first-2
 invariant_of-first-2 c =
-    let is : IsSeen (has_row_in_two c.args.first.now c.args.second.now) (rows_in_two c.args.first.now c.args.second.now) (rows_in c.args.touched.now) c.in-Some.seen = seen_is (has_row_in_two c.args.first.now c.args.second.now) (rows_in_two c.args.first.now c.args.second.now) (rows_in c.args.touched.now) c.rows_touched-rows.result c.in-Some.seen c.rows_touched-rows.ensures c.in-Some.ensures in
+    let is : IsSeen (has_row_in_two c.args.first.now c.args.second.now) (rows_in_two c.args.first.now c.args.second.now) (rows_in c.args.touched.now) c.in-Some.seen = seen_is (has_row_in_two c.args.first.now c.args.second.now) (rows_in_two c.args.first.now c.args.second.now) (rows_in c.args.touched.now) c.rows-rows.result c.in-Some.seen c.rows-rows.ensures c.in-Some.ensures in
     let timely : is_above c.args.tick c.args.first.now.greatest && is_above c.args.tick c.args.second.now.greatest ≡ true = sym c.are_above.ensures ∙ search (rules, not-false) in
-    let fresh : is_worn (rows_in_two c.args.first.now c.args.second.now) (rows_in c.args.touched.now) ≡ false = sym (worn_told (has_row_in_two c.args.first.now c.args.second.now) (rows_in_two c.args.first.now c.args.second.now) (rows_in c.args.touched.now) c.rows_touched-rows.result c.in-Some.seen c.are_worn.result is c.rows_touched-rows.ensures c.are_worn.ensures) ∙ c.if-are_worn.false in
+    let fresh : is_worn (rows_in_two c.args.first.now c.args.second.now) (rows_in c.args.touched.now) ≡ false = sym (worn_told (has_row_in_two c.args.first.now c.args.second.now) (rows_in_two c.args.first.now c.args.second.now) (rows_in c.args.touched.now) c.rows-rows.result c.in-Some.seen c.are_worn.result is c.rows-rows.ensures c.are_worn.ensures) ∙ c.if-are_worn.false in
     let noted : AllByRecursion (IsNoted (has_row_in_two c.args.first.now c.args.second.now) (rows_in_two c.args.first.now c.args.second.now)) c.executed-reply.result.1 = c.executed-reply.ensures.noted (has_row_in_two c.args.first.now c.args.second.now) (rows_in_two c.args.first.now c.args.second.now) is.as_now is.there fresh in
     let own : AllByRecursion (IsNoted (has_row (stripe_of c.first.inside.base.items c.first.inside.journal.items c.first.inside.greatest)) (rows_now (stripe_of c.first.inside.base.items c.first.inside.journal.items c.first.inside.greatest))) c.split-within.result.0 = subst (λ (s : Stripe). AllByRecursion (IsNoted (has_row s) (rows_now s)) c.split-within.result.0) (sym c.first.view_is) (subst (λ (es : List Entry). AllByRecursion (IsNoted (has_row c.args.first.now) (rows_now c.args.first.now)) es) (sym c.split-within.ensures.within) (noted_within c.args.first.now c.args.second.now c.executed-reply.result.1 noted)) in
     let above : is_above c.args.tick c.first.inside.greatest ≡ true = ap (λ (s : Stripe). is_above c.args.tick s.greatest) c.first.view_is ∙ (and_parts (is_above c.args.tick c.args.first.now.greatest) (is_above c.args.tick c.args.second.now.greatest) timely).0 in
@@ -73,17 +73,17 @@ write-requires-2-clause-rise c =
 
 pub write-requires-2-clause-entries : goal.write-requires-2-clause-entries
 write-requires-2-clause-entries c =
-    let is : IsSeen (has_row_in_two c.args.first.now c.args.second.now) (rows_in_two c.args.first.now c.args.second.now) (rows_in c.args.touched.now) c.in-Some.seen = seen_is (has_row_in_two c.args.first.now c.args.second.now) (rows_in_two c.args.first.now c.args.second.now) (rows_in c.args.touched.now) c.rows_touched-rows.result c.in-Some.seen c.rows_touched-rows.ensures c.in-Some.ensures in
-    let fresh : is_worn (rows_in_two c.args.first.now c.args.second.now) (rows_in c.args.touched.now) ≡ false = sym (worn_told (has_row_in_two c.args.first.now c.args.second.now) (rows_in_two c.args.first.now c.args.second.now) (rows_in c.args.touched.now) c.rows_touched-rows.result c.in-Some.seen c.are_worn.result is c.rows_touched-rows.ensures c.are_worn.ensures) ∙ c.if-are_worn.false in
+    let is : IsSeen (has_row_in_two c.args.first.now c.args.second.now) (rows_in_two c.args.first.now c.args.second.now) (rows_in c.args.touched.now) c.in-Some.seen = seen_is (has_row_in_two c.args.first.now c.args.second.now) (rows_in_two c.args.first.now c.args.second.now) (rows_in c.args.touched.now) c.rows-rows.result c.in-Some.seen c.rows-rows.ensures c.in-Some.ensures in
+    let fresh : is_worn (rows_in_two c.args.first.now c.args.second.now) (rows_in c.args.touched.now) ≡ false = sym (worn_told (has_row_in_two c.args.first.now c.args.second.now) (rows_in_two c.args.first.now c.args.second.now) (rows_in c.args.touched.now) c.rows-rows.result c.in-Some.seen c.are_worn.result is c.rows-rows.ensures c.are_worn.ensures) ∙ c.if-are_worn.false in
     let noted : AllByRecursion (IsNoted (has_row_in_two c.args.first.now c.args.second.now) (rows_in_two c.args.first.now c.args.second.now)) c.executed-reply.result.1 = c.executed-reply.ensures.noted (has_row_in_two c.args.first.now c.args.second.now) (rows_in_two c.args.first.now c.args.second.now) is.as_now is.there fresh in
     let own : AllByRecursion (IsNoted (has_row (stripe_of c.second.inside.base.items c.second.inside.journal.items c.second.inside.greatest)) (rows_now (stripe_of c.second.inside.base.items c.second.inside.journal.items c.second.inside.greatest))) c.split-within.result.1 = subst (λ (s : Stripe). AllByRecursion (IsNoted (has_row s) (rows_now s)) c.split-within.result.1) (sym c.second.view_is) (subst (λ (es : List Entry). AllByRecursion (IsNoted (has_row c.args.second.now) (rows_now c.args.second.now)) es) (sym c.split-within.ensures.outside) (noted_outside c.args.first.now c.args.second.now c.executed-reply.result.1 noted)) in
     rw c.deref_mut-2.ensures.value (entries_in_rows c.second.inside.base.items c.second.inside.rows.items c.second.inside.journal.items c.second.inside.greatest c.split-within.result.1 c.second.invariant own)
 
 pub invariant_of-second-2 : goal.invariant_of-second-2
 invariant_of-second-2 c =
-    let is : IsSeen (has_row_in_two c.args.first.now c.args.second.now) (rows_in_two c.args.first.now c.args.second.now) (rows_in c.args.touched.now) c.in-Some.seen = seen_is (has_row_in_two c.args.first.now c.args.second.now) (rows_in_two c.args.first.now c.args.second.now) (rows_in c.args.touched.now) c.rows_touched-rows.result c.in-Some.seen c.rows_touched-rows.ensures c.in-Some.ensures in
+    let is : IsSeen (has_row_in_two c.args.first.now c.args.second.now) (rows_in_two c.args.first.now c.args.second.now) (rows_in c.args.touched.now) c.in-Some.seen = seen_is (has_row_in_two c.args.first.now c.args.second.now) (rows_in_two c.args.first.now c.args.second.now) (rows_in c.args.touched.now) c.rows-rows.result c.in-Some.seen c.rows-rows.ensures c.in-Some.ensures in
     let timely : is_above c.args.tick c.args.first.now.greatest && is_above c.args.tick c.args.second.now.greatest ≡ true = sym c.are_above.ensures ∙ search (rules, not-false) in
-    let fresh : is_worn (rows_in_two c.args.first.now c.args.second.now) (rows_in c.args.touched.now) ≡ false = sym (worn_told (has_row_in_two c.args.first.now c.args.second.now) (rows_in_two c.args.first.now c.args.second.now) (rows_in c.args.touched.now) c.rows_touched-rows.result c.in-Some.seen c.are_worn.result is c.rows_touched-rows.ensures c.are_worn.ensures) ∙ c.if-are_worn.false in
+    let fresh : is_worn (rows_in_two c.args.first.now c.args.second.now) (rows_in c.args.touched.now) ≡ false = sym (worn_told (has_row_in_two c.args.first.now c.args.second.now) (rows_in_two c.args.first.now c.args.second.now) (rows_in c.args.touched.now) c.rows-rows.result c.in-Some.seen c.are_worn.result is c.rows-rows.ensures c.are_worn.ensures) ∙ c.if-are_worn.false in
     let noted : AllByRecursion (IsNoted (has_row_in_two c.args.first.now c.args.second.now) (rows_in_two c.args.first.now c.args.second.now)) c.executed-reply.result.1 = c.executed-reply.ensures.noted (has_row_in_two c.args.first.now c.args.second.now) (rows_in_two c.args.first.now c.args.second.now) is.as_now is.there fresh in
     let own : AllByRecursion (IsNoted (has_row (stripe_of c.second.inside.base.items c.second.inside.journal.items c.second.inside.greatest)) (rows_now (stripe_of c.second.inside.base.items c.second.inside.journal.items c.second.inside.greatest))) c.split-within.result.1 = subst (λ (s : Stripe). AllByRecursion (IsNoted (has_row s) (rows_now s)) c.split-within.result.1) (sym c.second.view_is) (subst (λ (es : List Entry). AllByRecursion (IsNoted (has_row c.args.second.now) (rows_now c.args.second.now)) es) (sym c.split-within.ensures.outside) (noted_outside c.args.first.now c.args.second.now c.executed-reply.result.1 noted)) in
     let above : is_above c.args.tick c.second.inside.greatest ≡ true = ap (λ (s : Stripe). is_above c.args.tick s.greatest) c.second.view_is ∙ (and_parts (is_above c.args.tick c.args.first.now.greatest) (is_above c.args.tick c.args.second.now.greatest) timely).1 in
@@ -93,24 +93,24 @@ invariant_of-second-2 c =
 
 pub returns-clause-exact : goal.returns-clause-exact
 returns-clause-exact c names same =
-    let is : IsSeen (has_row_in_two c.args.first.now c.args.second.now) (rows_in_two c.args.first.now c.args.second.now) (rows_in c.args.touched.now) c.in-Some.seen = seen_is (has_row_in_two c.args.first.now c.args.second.now) (rows_in_two c.args.first.now c.args.second.now) (rows_in c.args.touched.now) c.rows_touched-rows.result c.in-Some.seen c.rows_touched-rows.ensures c.in-Some.ensures in
+    let is : IsSeen (has_row_in_two c.args.first.now c.args.second.now) (rows_in_two c.args.first.now c.args.second.now) (rows_in c.args.touched.now) c.in-Some.seen = seen_is (has_row_in_two c.args.first.now c.args.second.now) (rows_in_two c.args.first.now c.args.second.now) (rows_in c.args.touched.now) c.rows-rows.result c.in-Some.seen c.rows-rows.ensures c.in-Some.ensures in
     c.new.ensures ∙ ap (noted_of c.args.worker c.args.place c.args.index c.args.tick) (sym (c.executed-reply.ensures.exact names (rows_in_two c.args.first.now c.args.second.now) same is.as_now))
 
 pub returns-clause-fits : goal.returns-clause-fits
 returns-clause-fits c names same =
-    let is : IsSeen (has_row_in_two c.args.first.now c.args.second.now) (rows_in_two c.args.first.now c.args.second.now) (rows_in c.args.touched.now) c.in-Some.seen = seen_is (has_row_in_two c.args.first.now c.args.second.now) (rows_in_two c.args.first.now c.args.second.now) (rows_in c.args.touched.now) c.rows_touched-rows.result c.in-Some.seen c.rows_touched-rows.ensures c.in-Some.ensures in
+    let is : IsSeen (has_row_in_two c.args.first.now c.args.second.now) (rows_in_two c.args.first.now c.args.second.now) (rows_in c.args.touched.now) c.in-Some.seen = seen_is (has_row_in_two c.args.first.now c.args.second.now) (rows_in_two c.args.first.now c.args.second.now) (rows_in c.args.touched.now) c.rows-rows.result c.in-Some.seen c.rows-rows.ensures c.in-Some.ensures in
     subst (λ (r : Applied). Fits names (executed_by (plain c.args.request.now) r)) (sym c.new.ensures) (subst (λ (x : Executed). Fits names x) (c.executed-reply.ensures.exact names (rows_in_two c.args.first.now c.args.second.now) same is.as_now) (c.requests_fit.ensures names (rows_in_two c.args.first.now c.args.second.now) (plain c.args.request.now)))
 
 pub returns-clause-sees : goal.returns-clause-sees
 returns-clause-sees c =
-    let is : IsSeen (has_row_in_two c.args.first.now c.args.second.now) (rows_in_two c.args.first.now c.args.second.now) (rows_in c.args.touched.now) c.in-Some.seen = seen_is (has_row_in_two c.args.first.now c.args.second.now) (rows_in_two c.args.first.now c.args.second.now) (rows_in c.args.touched.now) c.rows_touched-rows.result c.in-Some.seen c.rows_touched-rows.ensures c.in-Some.ensures in
-    let fresh : is_worn (rows_in_two c.args.first.now c.args.second.now) (rows_in c.args.touched.now) ≡ false = sym (worn_told (has_row_in_two c.args.first.now c.args.second.now) (rows_in_two c.args.first.now c.args.second.now) (rows_in c.args.touched.now) c.rows_touched-rows.result c.in-Some.seen c.are_worn.result is c.rows_touched-rows.ensures c.are_worn.ensures) ∙ c.if-are_worn.false in
+    let is : IsSeen (has_row_in_two c.args.first.now c.args.second.now) (rows_in_two c.args.first.now c.args.second.now) (rows_in c.args.touched.now) c.in-Some.seen = seen_is (has_row_in_two c.args.first.now c.args.second.now) (rows_in_two c.args.first.now c.args.second.now) (rows_in c.args.touched.now) c.rows-rows.result c.in-Some.seen c.rows-rows.ensures c.in-Some.ensures in
+    let fresh : is_worn (rows_in_two c.args.first.now c.args.second.now) (rows_in c.args.touched.now) ≡ false = sym (worn_told (has_row_in_two c.args.first.now c.args.second.now) (rows_in_two c.args.first.now c.args.second.now) (rows_in c.args.touched.now) c.rows-rows.result c.in-Some.seen c.are_worn.result is c.rows-rows.ensures c.are_worn.ensures) ∙ c.if-are_worn.false in
     let noted : AllByRecursion (IsNoted (has_row_in_two c.args.first.now c.args.second.now) (rows_in_two c.args.first.now c.args.second.now)) c.executed-reply.result.1 = c.executed-reply.ensures.noted (has_row_in_two c.args.first.now c.args.second.now) (rows_in_two c.args.first.now c.args.second.now) is.as_now is.there fresh in
     subst (λ (r : Applied). AllByRecursion (Sees (rows_in_two c.args.first.now c.args.second.now)) r.entries) (sym c.new.ensures) (all_sees (has_row_in_two c.args.first.now c.args.second.now) (rows_in_two c.args.first.now c.args.second.now) c.executed-reply.result.1 noted)
 
 pub returns-clause-refused : goal.returns-clause-refused
 returns-clause-refused c =
-    let is : IsSeen (has_row_in_two c.args.first.now c.args.second.now) (rows_in_two c.args.first.now c.args.second.now) (rows_in c.args.touched.now) c.in-Some.seen = seen_is (has_row_in_two c.args.first.now c.args.second.now) (rows_in_two c.args.first.now c.args.second.now) (rows_in c.args.touched.now) c.rows_touched-rows.result c.in-Some.seen c.rows_touched-rows.ensures c.in-Some.ensures in
+    let is : IsSeen (has_row_in_two c.args.first.now c.args.second.now) (rows_in_two c.args.first.now c.args.second.now) (rows_in c.args.touched.now) c.in-Some.seen = seen_is (has_row_in_two c.args.first.now c.args.second.now) (rows_in_two c.args.first.now c.args.second.now) (rows_in c.args.touched.now) c.rows-rows.result c.in-Some.seen c.rows-rows.ensures c.in-Some.ensures in
     let timely : is_above c.args.tick c.args.first.now.greatest && is_above c.args.tick c.args.second.now.greatest ≡ true = sym c.are_above.ensures ∙ search (rules, not-false) in
-    let fresh : is_worn (rows_in_two c.args.first.now c.args.second.now) (rows_in c.args.touched.now) ≡ false = sym (worn_told (has_row_in_two c.args.first.now c.args.second.now) (rows_in_two c.args.first.now c.args.second.now) (rows_in c.args.touched.now) c.rows_touched-rows.result c.in-Some.seen c.are_worn.result is c.rows_touched-rows.ensures c.are_worn.ensures) ∙ c.if-are_worn.false in
+    let fresh : is_worn (rows_in_two c.args.first.now c.args.second.now) (rows_in c.args.touched.now) ≡ false = sym (worn_told (has_row_in_two c.args.first.now c.args.second.now) (rows_in_two c.args.first.now c.args.second.now) (rows_in c.args.touched.now) c.rows-rows.result c.in-Some.seen c.are_worn.result is c.rows-rows.ensures c.are_worn.ensures) ∙ c.if-are_worn.false in
     taken_on (has_row_in_two c.args.first.now c.args.second.now) (is_above c.args.tick c.args.first.now.greatest && is_above c.args.tick c.args.second.now.greatest) (rows_in_two c.args.first.now c.args.second.now) (rows_in c.args.touched.now) c.in-Some.seen c.new.result is timely fresh

@@ -9,6 +9,6 @@ returns-clause-front g c =
     on_err_weaker c.send_verdict.result (λ front. inr (record {
       text = verdict_line verdict;
       status = status_of_verdict verdict;
-      said = record { verdict = verdict; is = c.in_ok-verdict.ensures.verdict; line = refl; ends = refl };
+      said = record { verdict = verdict; is = c.in_ok-verdict.ensures.verdict; yes = c.in_ok-verdict.ensures.yes; line = refl; ends = refl };
       written = front;
     })) c.send_verdict.ensures.front

@@ -1,11 +1,19 @@
-use Rattle.std.proofs.Common.{◌≡◌, ◌∙◌, ap, sym, subst, true, map, List, []}
+use Rattle.std.proofs.Common.{◌≡◌, ◌∙◌, ap, sym, subst, inr, true, map, List, [], Some, None}
 use Rattle.std.specs.Prelude.{option_and_then, option_map}
 use Rattle.std.proofs.lemmas.Result.{IfOk-weaker}
-use Rattle.clap.proofs.CallerLemmas.{some_of_text}
-use Rattle.clap.specs.Words.{App, HasKind, HasMatchesOf, Text, fault_of, is_simple_and_free, kind_of}
+use Rattle.clap.specs.Words.{App, HasKind, HasMatchesOf, Text, fault_of, is_simple_and_free, kind_of, subcommand_of}
 use Rattle.eve_tool.specs.Words.{Answers, SaysOf, eve, subcommand_named, subcommand_of_call}
-use Rattle.eve_tool.proofs.CommandLine.{answers_with_fault, call_without_faults, eve_is_free, eve_is_simple, some_without_faults}
+use Rattle.eve_tool.proofs.CommandLine.{answers_with_fault, call_without_faults, eve_is_free, eve_is_simple, mixer_without_faults}
 use Rattle.eve_tool.proofs.words.read_words.Goals as goal
+
+pub returns-in-Some : goal.returns-in-Some
+returns-in-Some g c =
+    let words : List Text = map g.S.AsStr.text c.args.words.now in
+    let is_eve = c.in_ok-command.ensures in
+    let right : fault_of eve words ≡ [] = subst (λ (a : App). is_simple_and_free a ≡ true → fault_of a words ≡ []) is_eve c.in-Ok.ensures.kinds eve_is_free in
+    let found = subst (λ (a : App). HasMatchesOf a words c.in-Ok.matches) is_eve c.in-Ok.ensures.matches eve_is_simple in
+    call_without_faults words right
+    ∙ (ap (option_and_then subcommand_named) (sym found.1) ∙ (sym c.call_in.ensures ∙ ap (option_map subcommand_of_call) c.in-Some.is))
 
 pub returns-in-Ok : goal.returns-in-Ok
 returns-in-Ok g c =
@@ -13,19 +21,12 @@ returns-in-Ok g c =
     let is_eve = c.in_ok-command.ensures in
     let right : fault_of eve words ≡ [] = subst (λ (a : App). is_simple_and_free a ≡ true → fault_of a words ≡ []) is_eve c.in-Ok.ensures.kinds eve_is_free in
     let found = subst (λ (a : App). HasMatchesOf a words c.in-Ok.matches) is_eve c.in-Ok.ensures.matches eve_is_simple in
-    call_without_faults words right ∙ (ap (option_and_then subcommand_named) (sym found.1) ∙ (sym c.call_in.ensures ∙ ap (option_map subcommand_of_call) c.unwrap.ensures))
+    let none : option_and_then subcommand_named (subcommand_of eve words) ≡ None =
+    ap (option_and_then subcommand_named) (sym found.1) ∙ (sym c.call_in.ensures ∙ ap (option_map subcommand_of_call) c.in-None.is) in
+    (call_without_faults words right ∙ none, inr (mixer_without_faults words right none))
 
-pub returns-in-Err : goal.returns-in-Err
-returns-in-Err g c =
+pub returns : goal.returns
+returns g c =
     let words : List Text = map g.S.AsStr.text c.args.words.now in
     let found = subst (λ (a : App). is_simple_and_free a ≡ true → HasKind (fault_of a words) c.in-Err.error) c.in_ok-command.ensures c.in-Err.ensures.kinds eve_is_free in
     IfOk-weaker c.answer_of.result (SaysOf (kind_of c.in-Err.error)) (Answers words) (λ a says. answers_with_fault words (kind_of c.in-Err.error) a found says) c.answer_of.ensures
-
-pub unwrap-requires : goal.unwrap-requires
-unwrap-requires g c =
-    let words : List Text = map g.S.AsStr.text c.args.words.now in
-    let is_eve = c.in_ok-command.ensures in
-    let right : fault_of eve words ≡ [] = subst (λ (a : App). is_simple_and_free a ≡ true → fault_of a words ≡ []) is_eve c.in-Ok.ensures.kinds eve_is_free in
-    let found = subst (λ (a : App). HasMatchesOf a words c.in-Ok.matches) is_eve c.in-Ok.ensures.matches eve_is_simple in
-    let same = c.call_in.ensures ∙ ap (option_and_then subcommand_named) found.1 in
-    some_of_text subcommand_of_call c.call_in.result _ same (some_without_faults words right)

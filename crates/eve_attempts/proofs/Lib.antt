@@ -1,0 +1,10 @@
+pub mod Listing
+pub mod TableLaws
+pub mod Marking
+pub mod Noting
+pub mod Ordered
+pub mod Keys
+pub mod Takings
+pub mod Walking
+pub mod Ledgering
+pub mod Closings

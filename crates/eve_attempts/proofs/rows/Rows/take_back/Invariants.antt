@@ -1,0 +1,14 @@
+use Rattle.std.proofs.Common.{◌≡◌, ◌≤◌, length, drop}
+use Rattle.eve_attempts.specs.Ledgers.{table_of, undone}
+use Rattle.eve_attempts.proofs.rows.Rows.take_back.Given as goal
+
+abbrev pub invariant-loop-end : goal.invariant-loop-end
+invariant-loop-end l = record {
+  within : l.end ≤ length l.written;
+  as_many : length l.self.balances ≡ length l.initial.self.balances;
+  versions : length l.self.versions ≡ length l.initial.self.versions;
+  table : table_of l.self ≡ undone (table_of l.initial.self) (drop l.end l.written);
+}
+
+abbrev pub decreases-loop-end : goal.decreases-loop-end
+decreases-loop-end l = l.end

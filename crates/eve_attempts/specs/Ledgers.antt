@@ -1,0 +1,92 @@
+-- A replica's own account of its rows, and of what is open on them. docs/MODEL.md, "Section state, fate".
+use Rattle.std.specs.Prelude.{◌≡◌, ℕ, ℤ, ◌+◌, ◌≤◌, Bool, false, ◌&&◌, IsTrue, if◌then◌else◌, List, [], ◌∷◌, length, replicate, slice_index_or}
+use Rattle.std.specs.List.{flat_map, list_all}
+use Rattle.eve_smallbank.specs.declared.entry.Entry.{Entry}
+use Rattle.eve_smallbank.specs.Access.{is_write, writes_row, balance_at}
+use Rattle.eve_smallbank.specs.Chain.{Table, table_after}
+use Rattle.eve_grammar.specs.Limits.{is_entry}
+
+-- An open attempt: its view, its token, and what its records wrote, in its certificate's order.
+pub record Opened : Type 0 where
+  pub view : ℕ
+  pub token : List ℕ
+  pub written : List Entry
+
+-- version and balance of each row, by number
+pub record Rows : Type 0 where
+  pub versions : List ℕ
+  pub balances : List ℤ
+
+-- The rows as they are now; the open attempts, in order; the view, the last committed number, and whether no attempt
+-- came since a rollback; how many workers there are, and how many attempts may be open.
+pub record Ledger : Type 0 where
+  pub rows : Rows
+  pub opened : List Opened
+  pub view : ℕ
+  pub committed : ℕ
+  pub is_next_serial : Bool
+  pub workers : ℕ
+  pub window : ℕ
+
+-- all rows at version 0
+abbrev pub opening_rows : List ℤ → Rows
+opening_rows balances = record { versions = replicate (length balances) 0; balances = balances }
+
+-- and nothing open or committed
+abbrev pub opening : List ℤ → ℕ → ℕ → Ledger
+opening balances workers window = record {
+  rows = opening_rows balances;
+  opened = [];
+  view = 0;
+  committed = 0;
+  is_next_serial = false;
+  workers = workers;
+  window = window;
+}
+
+abbrev pub row_count : Ledger → ℕ
+row_count s = length s.rows.balances
+
+-- ---- rows
+
+-- what each row has
+abbrev pub table_of : Rows → Table
+table_of rows row = record { version = slice_index_or rows.versions row 0; value = balance_at rows.balances row }
+
+abbrev pub rows_now : Ledger → Table
+rows_now s = table_of s.rows
+
+-- What each row had before these entries were written, the first of them first, where this is what it has behind them:
+-- what the first write of it saw.
+abbrev pub undone : Table → List Entry → Table
+undone table [] row = table row
+undone table (e ∷ es) row = if writes_row row e then record { version = e.version; value = e.seen } else undone table es row
+
+-- the writes of attempts, one attempt after another
+abbrev pub writes_in : List Opened → List Entry
+writes_in opened = flat_map (λ o. o.written) opened
+
+-- the writes of all open attempts
+abbrev pub open_writes : Ledger → List Entry
+open_writes s = writes_in s.opened
+
+-- what each row has as it is committed
+abbrev pub rows_committed : Ledger → Table
+rows_committed s = undone (rows_now s) (open_writes s)
+
+-- ---- what holds of every ledger
+
+-- a write of one of so many rows, within the limits of the format
+abbrev pub is_write_in : ℕ → Entry → Bool
+is_write_in rows e = is_write e.kind && is_entry rows e
+
+-- each attempt's writes, undone behind it, give the table that it found; the last leaves this one
+abbrev pub AreLaid : Table → List Opened → Table → Type 0
+AreLaid base [] now = base ≡ now
+AreLaid base (o ∷ opened) now =
+    (undone (table_after base o.written) o.written ≡ base) × AreLaid (table_after base o.written) opened now
+
+pub record IsLedger (s : Ledger) : Type 0 where
+  pub counted : s.committed + length s.opened ≤ 65535
+  pub written : IsTrue (list_all (is_write_in (row_count s)) (open_writes s))
+  pub laid : AreLaid (rows_committed s) s.opened (rows_now s)

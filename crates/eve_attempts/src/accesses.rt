@@ -1,0 +1,32 @@
+//! Whether records may stand as an attempt's access frames.
+
+ghost use Rattle.std.specs.Prelude.{◌≡◌, ◌≤◌, [], map, length};
+ghost use Rattle.eve_attempts.specs.Closing.{access_of, are_right_accesses};
+
+use eve_stamps::AccessRecord;
+
+/// Whether each record is of one of so many workers and of one of so many indexes, has an index that none before it
+/// has, and has its worker's next place.
+///
+/// docs/MODEL.md, "Section state, fate".
+pub fn are_right_accesses(workers: u8, count: usize, records: &[AccessRecord]) -> bool
+    requires few { length records.now ≤ 256 }
+    requires count { count ≤ 256 }
+    ensures { result ≡ are_right_accesses workers count [] (map access_of records.now) }
+{
+    let mut seen = [false; 256];
+    let mut places = [0; 256];
+    for record in records {
+        let worker = record.worker() as usize;
+        let index = record.index() as usize;
+        if worker >= workers as usize || index >= count || seen[index] {
+            return false;
+        }
+        if record.place() != places[worker] {
+            return false;
+        }
+        seen[index] = true;
+        places[worker] += 1;
+    }
+    true
+}

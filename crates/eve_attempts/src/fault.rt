@@ -1,0 +1,14 @@
+//! Why an attempt is refused, and a commit.
+
+/// Why the records of a batch are no attempt.
+#[derive(Clone, Copy, Debug, PartialEq, Eq)]
+pub enum CloseFault {
+    /// Memory ran out.
+    Memory,
+    /// They aren't what an attempt of the batch on these rows has.
+    Mismatch,
+}
+
+/// No open attempt is the next to be committed, or another one is.
+#[derive(Clone, Copy, Debug, PartialEq, Eq)]
+pub struct NotOpen;

@@ -1,0 +1,234 @@
+//! A replica's own account of its rows.
+
+ghost use Rattle.std.specs.Prelude.{◌≡◌, ◌<◌, ◌≤◌, ◌+◌, ◌-◌, ◌^◌, ◌↔◌, ℕ, List, [], length, slice_get, option_map, Some, IsTrue, IfOk, OnErr, IsOk, Err};
+ghost use Rattle.eve_grammar.specs.Limits.{is_batch};
+ghost use Rattle.eve_write.specs.Data.{batch as plain, attempt, commit, rollback};
+ghost use Rattle.eve_attempts.specs.Ledgers.{IsLedger, opening};
+ghost use Rattle.eve_attempts.specs.Closing.{touched_by, worker_count, Closes, AreMismatched};
+ghost use Rattle.eve_attempts.specs.Discarding.{Commits, RollsBack};
+
+use crate::fault::{CloseFault, NotOpen};
+use crate::front::AttemptFront;
+use crate::opened::OpenAttempt;
+use crate::replies::{token_fits, view_fits};
+use crate::restores::{restore_all, take_back_all, written_rows};
+use crate::rows::Rows;
+use crate::taken::take;
+use crate::walk::write_along;
+use eve_accounts::Balances;
+use eve_smallbank::Touched;
+use eve_stamps::AccessRecord;
+use eve_token::token;
+use eve_write::{AttemptData, BatchData, CommitData, RollbackData};
+use std::alloc::{AllocError, Global};
+use std::marker::Model;
+
+/// Version and balance of each row as the open attempts left them, with what is kept of these attempts: a commit needs
+/// their views and tokens, a rollback what they wrote.
+///
+/// docs/MODEL.md, "Section state, fate" and "Working table, committed table". Contracts see `Ledger` of the specs:
+/// `rows_now` is what the rows have, `rows_committed` what they have as they are committed.
+#[derive(Drop)]
+pub struct Ledger {
+    rows: Rows,
+    opened: Vec<OpenAttempt>,
+    view: u32,
+    committed: u32,
+    is_next_serial: bool,
+    workers: u8,
+    window: u8,
+}
+
+impl Model for Ledger {
+    ghost use Rattle.eve_attempts.specs.Ledgers as model;
+
+    ghost Value = { model.Ledger };
+
+    ghost use Rattle.eve_attempts.specs.Holding.{ledger_of};
+
+    ghost view = { ledger_of };
+
+    ghost invariant = { λ s. model.IsLedger (ledger_of s) };
+}
+
+impl Ledger {
+    /// All rows at version 0 with these balances, the view 0, nothing committed and nothing open: for so many workers,
+    /// and with at most so many attempts open at once.
+    pub fn new(
+        alloc: Global,
+        balances: &Balances,
+        workers: u8,
+        window: u8,
+    ) -> Result<Ledger, AllocError>
+        ensures { IfOk result (λ ledger. ledger ≡ opening balances.now workers window) }
+    {
+        Ok(Ledger {
+            rows: Rows::new(alloc, balances)?,
+            opened: Vec::new(alloc),
+            view: 0,
+            committed: 0,
+            is_next_serial: false,
+            workers,
+            window,
+        })
+    }
+
+    /// Does nothing: its contract says what is true of every ledger.
+    pub fn is_ledger(&self)
+        ensures { IsLedger self.now }
+    {
+        let _ = &self.rows;
+    }
+
+    /// The view.
+    pub fn view(&self) -> u32
+        ensures { result ≡ self.now.view }
+    {
+        self.view
+    }
+
+    /// The number of the last batch that was committed, 0 where none was.
+    pub fn committed(&self) -> u32
+        ensures { result ≡ self.now.committed }
+    {
+        self.committed
+    }
+
+    /// How many attempts are open.
+    pub fn opened(&self) -> usize
+        ensures { result ≡ length self.now.opened }
+    {
+        self.opened.len()
+    }
+
+    /// Whether no attempt came since a rollback, so that the next is serial.
+    pub fn is_next_serial(&self) -> bool
+        ensures { result ≡ self.now.is_next_serial }
+    {
+        self.is_next_serial
+    }
+
+    /// The token of the open attempt at that place, counted from 0.
+    pub fn token(&self, place: usize) -> [u8; 32]
+        requires { place < length self.now.opened }
+        ensures { option_map (λ o. o.token) (slice_get self.now.opened place) ≡ Some result }
+    {
+        self.opened[place].token
+    }
+
+    /// What the rows hold after the open attempts.
+    pub fn balances(&self) -> &Balances
+        ensures { result.now ≡ self.now.rows.balances }
+    {
+        self.rows.balances()
+    }
+
+    /// How many workers an attempt may have: worker 0 alone in serial mode.
+    fn workers_for(&self, serial: bool) -> u8
+        ensures { result ≡ worker_count self.now serial }
+    {
+        if serial { 1 } else { self.workers }
+    }
+
+    /// Makes an attempt of the records that were taken of a batch, in the order in which they were taken, and opens it.
+    ///
+    /// `touched` is what each of the batch's requests touches: the answers of `eve_smallbank::touched`, so that names
+    /// are looked up once for all replicas. The certificate is the indexes by rising tick, equal ticks by index. Refused
+    /// with `Mismatch` are records that are no attempt on these rows (`AreRight`). All memory is asked for before a row
+    /// changes, and a refusal changes nothing.
+    ///
+    /// docs/MODEL.md, "Section state, fate", "A record fits its request" and "Visible version, chained".
+    pub fn close(
+        &mut self,
+        alloc: Global,
+        front: AttemptFront,
+        batch: &BatchData,
+        touched: &[Touched],
+        records: &[AccessRecord],
+    ) -> Result<AttemptData, CloseFault>
+        requires seq { front.seq ≡ self.old.committed + 1 + length self.old.opened }
+        requires last { front.seq ≤ 65535 }
+        requires room { length self.old.opened < self.old.window }
+        requires view { front.view ≡ self.old.view }
+        requires serial { front.serial ≡ self.old.is_next_serial }
+        requires batch { IsTrue (is_batch (plain batch.now)) }
+        requires touched { (names : List (List ℕ)) × (touched.now ≡ touched_by names (plain batch.now)) }
+        ensures closed { IfOk result (λ a.
+            Closes front self.old self.new (plain batch.now) touched.now records.now (attempt a)) }
+        ensures mismatch { result ≡ Err CloseFault.Mismatch
+            → AreMismatched front self.old (plain batch.now) touched.now records.now }
+        ensures refused { OnErr result (self.new ≡ self.old) }
+    {
+        view_fits(front.view);
+        let workers = self.workers_for(front.serial);
+        let rows = self.rows.len();
+        let mut taken = take(alloc, workers, front.serial, rows, batch, touched, records)?;
+        if self.opened.reserve(1).is_err() {
+            return Err(CloseFault::Memory);
+        }
+        let order = taken.order.as_slice();
+        if !write_along(&mut self.rows, records, order, &mut taken.written) {
+            return Err(CloseFault::Mismatch);
+        }
+        let token = token(front.seq, self.rows.balances(), taken.replies.as_slice());
+        token_fits(&token);
+        self.opened.push_reserved(OpenAttempt {
+            view: front.view,
+            token,
+            written: taken.written,
+        });
+        self.is_next_serial = false;
+        Ok(AttemptData {
+            seq: front.seq,
+            view: front.view,
+            serial: front.serial,
+            certificate: taken.certificate,
+            replies: taken.replies,
+            token,
+            accesses: taken.accesses,
+        })
+    }
+
+    /// Commits the batch with this number, which the first open attempt must be of. It takes no memory.
+    ///
+    /// docs/MODEL.md, "Section state, fate". A refusal changes nothing.
+    pub fn commit(&mut self, seq: u32) -> Result<CommitData, NotOpen>
+        ensures committed { IfOk result (λ c. Commits self.old self.new (commit c)) }
+        ensures there { IsOk result ↔ ((seq ≡ self.old.committed + 1) × (0 < length self.old.opened)) }
+        ensures refused { OnErr result (self.new ≡ self.old) }
+    {
+        if self.opened.is_empty() || seq != self.committed + 1 {
+            return Err(NotOpen);
+        }
+        let first = self.opened.remove(0);
+        let token = first.token;
+        self.committed = seq;
+        Ok(CommitData {
+            seq,
+            view: first.view,
+            token,
+        })
+    }
+
+    /// Discards all open attempts, of which there may be none, and goes on in the next view.
+    ///
+    /// docs/MODEL.md, "Working table, committed table". Where memory runs out nothing has changed.
+    pub fn rollback(&mut self, alloc: Global) -> Result<RollbackData, AllocError>
+        requires { self.old.view < 2 ^ 32 - 1 }
+        ensures rolled_back { IfOk result (λ r. RollsBack self.old self.new (rollback r)) }
+        ensures refused { OnErr result (self.new ≡ self.old) }
+    {
+        let numbers = written_rows(alloc, self.opened.as_slice())?;
+        let mut restores = Vec::with_capacity(alloc, numbers.len())?;
+        take_back_all(&mut self.rows, self.opened.as_slice());
+        restore_all(&self.rows, numbers.as_slice(), &mut restores);
+        self.opened.clear();
+        self.view += 1;
+        self.is_next_serial = true;
+        Ok(RollbackData {
+            to: self.committed,
+            view: self.view,
+            restores,
+        })
+    }
+}

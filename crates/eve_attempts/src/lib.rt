@@ -1,0 +1,21 @@
+//! What a replica keeps of its rows while attempts are open: the records that were taken of a batch become an attempt
+//! or are refused, and attempts are committed or rolled back.
+#![tactic(auto)]
+
+mod accesses;
+mod fault;
+mod front;
+mod groups;
+mod ledger;
+mod noted;
+mod opened;
+mod order;
+mod replies;
+mod restores;
+mod rows;
+mod taken;
+mod walk;
+
+pub use fault::{CloseFault, NotOpen};
+pub use front::AttemptFront;
+pub use ledger::Ledger;

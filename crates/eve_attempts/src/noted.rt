@@ -1,0 +1,113 @@
+//! Whether records may be an attempt of a batch, whatever their order and whatever the rows have.
+
+ghost use Rattle.std.specs.Prelude.{◌≡◌, ◌≤◌, ◌<◌, ℕ, List, IsTrue, map, length, slice_get, option_map, Some};
+ghost use Rattle.std.specs.Bool.{Decides};
+ghost use Rattle.std.specs.List.{list_all, AllByRecursion};
+ghost use Rattle.eve_smallbank.specs.Access.{Fits};
+ghost use Rattle.eve_grammar.specs.Limits.{is_entry, is_access, is_batch};
+ghost use Rattle.eve_write.specs.Data.{batch as plain};
+ghost use Rattle.eve_attempts.specs.Closing.{touched_by, access_of, executed, AreNoted};
+
+use crate::accesses::are_right_accesses;
+use crate::groups::count_of;
+use eve_smallbank::{Entry, Touched, UpToThree, fits};
+use eve_stamps::AccessRecord;
+use eve_write::BatchData;
+
+const MOST_VERSIONS: u64 = 1 << 40;
+
+/// Whether the entry is of one of so many rows, at a version within the limit, and leaves what it saw if it is a read.
+fn is_entry(entry: &Entry, rows: usize) -> bool
+    ensures { result ≡ is_entry rows entry.now }
+{
+    let (seen, after) = (entry.seen.get(), entry.after.get());
+    (entry.row.number() as usize) < rows
+        && entry.version <= MOST_VERSIONS
+        && (entry.kind.is_write() || after == seen)
+}
+
+fn are_entries(entries: &UpToThree<Entry>, rows: usize) -> bool
+    ensures { result ≡ list_all (is_entry rows) entries.now }
+{
+    for place in 0..entries.len() {
+        if !is_entry(&entries.at(place), rows) {
+            return false;
+        }
+    }
+    true
+}
+
+/// Whether the record lies within the limits of the format.
+fn is_access(taken: &AccessRecord, rows: usize) -> bool
+    ensures { result ≡ is_access rows (access_of taken.now) }
+{
+    let _worker = taken.worker();
+    let _place = taken.place();
+    let _index = taken.index();
+    let entries = taken.entries();
+    let _count = entries.len();
+    are_entries(&entries, rows)
+}
+
+fn are_accesses(records: &[AccessRecord], rows: usize) -> bool
+    ensures { result ≡ list_all (is_access rows) (map access_of records.now) }
+{
+    for record in records {
+        if !is_access(record, rows) {
+            return false;
+        }
+    }
+    true
+}
+
+/// Whether the record fits the request of its index.
+fn is_fitting(batch: &BatchData, touched: &[Touched], taken: &AccessRecord) -> bool
+    requires touched { (names : List (List ℕ)) × (touched.now ≡ touched_by names (plain batch.now)) }
+    requires index { taken.now.index < length (plain batch.now).requests }
+    ensures { (names : List (List ℕ)) → touched.now ≡ touched_by names (plain batch.now)
+        → Decides result (Fits names (executed (plain batch.now) taken.now)) }
+{
+    let index = taken.index() as usize;
+    let asked = &batch.requests[index];
+    fits(
+        &asked.request(),
+        &touched[index],
+        taken.reply(),
+        &taken.entries(),
+    )
+}
+
+fn are_fitting(batch: &BatchData, touched: &[Touched], records: &[AccessRecord]) -> bool
+    requires touched { (names : List (List ℕ)) × (touched.now ≡ touched_by names (plain batch.now)) }
+    requires indexes { AllByRecursion (λ r. r.index < length (plain batch.now).requests) records.now }
+    ensures { (names : List (List ℕ)) → touched.now ≡ touched_by names (plain batch.now)
+        → Decides result (AllByRecursion (Fits names) (map (executed (plain batch.now)) records.now)) }
+{
+    for record in records {
+        if !is_fitting(batch, touched, record) {
+            return false;
+        }
+    }
+    true
+}
+
+/// Whether there is one record for each request, right as an access frame, of rows that are there, and fitting.
+///
+/// docs/MODEL.md, "Section state, fate" and "A record fits its request".
+pub fn are_noted(
+    workers: u8,
+    rows: usize,
+    batch: &BatchData,
+    touched: &[Touched],
+    records: &[AccessRecord],
+) -> bool
+    requires batch { IsTrue (is_batch (plain batch.now)) }
+    requires touched { (names : List (List ℕ)) × (touched.now ≡ touched_by names (plain batch.now)) }
+    ensures { Decides result (AreNoted workers rows (plain batch.now) touched.now records.now) }
+{
+    let count = count_of(batch);
+    if records.len() != count || !are_right_accesses(workers, count, records) {
+        return false;
+    }
+    are_accesses(records, rows) && are_fitting(batch, touched, records)
+}

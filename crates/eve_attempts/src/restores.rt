@@ -1,0 +1,74 @@
+//! What a rollback restores.
+
+ghost use Rattle.std.specs.Prelude.{◌≡◌, ◌<◌, ◌≤◌, ◌++◌, [], IsTrue, IfOk, OnOk, length, map, vec_len, vec_capacity};
+ghost use Rattle.std.specs.List.{list_all, AllByRecursion};
+ghost use Rattle.std.specs.List.Sorted.{IsPermutation, IsNonDecreasing};
+ghost use Rattle.eve_grammar.specs.Bodies.{restore};
+ghost use Rattle.eve_attempts.specs.Ledgers.{table_of, undone, is_write_in, writes_in};
+ghost use Rattle.eve_attempts.specs.Discarding.{restore_in};
+ghost use Rattle.eve_attempts.specs.Restoring.{rows_of, rising_from};
+
+use crate::opened::OpenAttempt;
+use crate::rows::Rows;
+use eve_grammar::{Restore, row_of};
+use eve_smallbank::Entry;
+use std::alloc::{AllocError, Global};
+
+/// Appends the rows of the entries.
+fn append_rows(rows: &mut Vec<u32>, written: &[Entry]) -> Result<(), AllocError>
+    requires { AllByRecursion (λ row. row < 131072) rows.old.items }
+    ensures rows { OnOk result (rows.new.items ≡ rows.old.items ++ rows_of written.now) }
+    ensures small { OnOk result (AllByRecursion (λ row. row < 131072) rows.new.items) }
+{
+    rows.reserve(written.len())?;
+    for entry in written {
+        rows.push_reserved(entry.row.number());
+    }
+    Ok(())
+}
+
+/// The rows that attempts wrote, rising, each as often as it was written.
+pub fn written_rows(alloc: Global, opened: &[OpenAttempt]) -> Result<Vec<u32>, AllocError>
+    ensures rows { IfOk result (λ rows. IsPermutation (rows_of (writes_in opened.now)) rows.items) }
+    ensures rising { IfOk result (λ rows. IsNonDecreasing rows.items) }
+    ensures small { IfOk result (λ rows. AllByRecursion (λ row. row < 131072) rows.items) }
+{
+    let mut rows = Vec::new(alloc);
+    for open in opened {
+        append_rows(&mut rows, open.written.as_slice())?;
+    }
+    rows.as_mut_slice().sort_unstable();
+    Ok(rows)
+}
+
+/// Gives the rows again what they had before the attempts, going back from the last.
+pub fn take_back_all(rows: &mut Rows, opened: &[OpenAttempt])
+    requires { IsTrue (list_all (is_write_in (length rows.old.balances)) (writes_in opened.now)) }
+    ensures as_many { length rows.new.balances ≡ length rows.old.balances }
+    ensures table { table_of rows.new ≡ undone (table_of rows.old) (writes_in opened.now) }
+{
+    let mut end = opened.len();
+    while end > 0 {
+        end -= 1;
+        let open = &opened[end];
+        rows.take_back(open.written.as_slice());
+    }
+}
+
+/// Appends each of the rows once, as it is now, where they rise.
+pub fn restore_all(rows: &Rows, numbers: &[u32], restores: &mut Vec<Restore>)
+    requires there { AllByRecursion (λ row. row < length rows.now.balances) numbers.now }
+    requires small { AllByRecursion (λ row. row < 131072) numbers.now }
+    requires none { restores.old.items ≡ [] }
+    requires empty { vec_len restores.old ≡ 0 }
+    requires room { length numbers.now ≤ vec_capacity restores.old }
+    ensures { map restore restores.new.items ≡ map (restore_in (table_of rows.now)) (rising_from 0 numbers.now) }
+{
+    let mut least = 0;
+    for number in numbers {
+        if least <= *number {
+            restores.push_reserved(rows.restore_of(row_of(*number)));
+            least = *number + 1;
+        }
+    }
+}

@@ -1,0 +1,84 @@
+-- A trace without a fault is accepted.
+use Rattle.std.proofs.Common.{◌≡◌, ℕ, ◌<◌, ◌≤◌, inl, inr, List, length}
+use Rattle.std.specs.List.{AllByRecursion}
+use Rattle.std.proofs.lemmas.Bool.{cases_lt}
+use Rattle.eve_smallbank.specs.SmallBank.{Request}
+use Rattle.eve_smallbank.specs.Access.{Executed, Fits}
+use Rattle.eve_smallbank.specs.Chain.{Table, Sees}
+use Rattle.eve_smallbank.specs.Execution.{executed_on}
+use Rattle.eve_grammar.specs.Trace.{Trace}
+use Rattle.eve_grammar.specs.Limits.{Spells, HasLimits}
+use Rattle.eve_views.specs.declared.fault.Code.TheVariants as code
+use Rattle.eve_history.specs.Told.{names_of, IsRightSection}
+use Rattle.eve_history.specs.Faults.{StandsInOrders}
+use Rattle.eve_serial.specs.Visible.{executed_by}
+use Rattle.eve_serial.specs.Committed.{batch_tickets, AreDistinct}
+use Rattle.eve_serial.specs.Sound.{OfSettledAccesses, RecordsFit, EntriesSee, SettledAreSound}
+use Rattle.eve_serial.specs.Faults.{HasNoFault}
+use Rattle.eve_theorem.specs.Accepted.{IsAccepted}
+use Rattle.eve_theorem.specs.Audited.{IsAudited}
+use Rattle.eve_audit.specs.declared.verdict.Summary.{Summary}
+use Rattle.eve_audit.specs.declared.verdict.Verdict.TheVariants.{Yes}
+use Rattle.eve_audit.specs.Verdict.{IsVerdict, IsFaultless, SpellsAudited, IsOwnFault, of_structure, of_records, of_chains, of_restores, of_tokens}
+use Rattle.eve_audit.specs.Pieces.{HasNone, IsSoundReplica, IsSoundTogether, IsTraceFault, in_orders, in_section, in_common, of_votes, of_majorities, of_agreement, of_replies}
+use Rattle.eve_audit.proofs.Accepted.{no_request_again, accepted_of}
+use Rattle.eve_audit.proofs.Kept.{sound_beyond}
+use Rattle.eve_audit.proofs.Verdicts.{stands_in_bytes}
+use Rattle.eve_audit.proofs.FittingRecords.{fits_decided}
+use Rattle.eve_audit.proofs.Unfaulted.{right_section, records_fit, right_restores, due_tokens}
+use Rattle.eve_audit.proofs.UnfaultedTogether.{sound_votes, all_backed, all_agree, all_replied}
+
+-- what is known of records and requests
+pub record Laws : Type 0 where
+  pub fit : (names : List (List ℕ)) (table : Table) (request : Request) → Fits names (executed_on names table request)
+  pub only : (names : List (List ℕ)) (table : Table) (x : Executed) → Fits names x → AllByRecursion (Sees table) x.entries → x ≡ executed_on names table x.request
+  pub apart : (t : Trace) → ((at : ℕ) → ¬ StandsInOrders code.SameRequest t at) → AreDistinct (batch_tickets t)
+  pub see : (t : Trace) (e : ℕ) → HasNoFault t e → EntriesSee t e
+  pub refuted : (t : Trace) (e : ℕ) → HasNoFault t e → OfSettledAccesses t e (λ p x. ¬ ¬ Fits (names_of t) (executed_by t p.attempt x))
+  pub sound : (t : Trace) (e : ℕ) → HasLimits t → IsRightSection t e → RecordsFit t e → EntriesSee t e → SettledAreSound t e
+
+module _ (laws : Laws) (t : Trace) (limits : HasLimits t) where
+  -- a replica without a fault of its own
+  own_sound : (e : ℕ) → HasNone (IsOwnFault t e) → IsSoundReplica t e
+  own_sound e none =
+      let right = right_section t e (λ f is. none f (of_structure is)) in
+      let attempts : HasNoFault t e = record { records = λ f is. none f (of_records is); chains = λ f is. none f (of_chains is) } in
+      record {
+        right = right;
+        sound = laws.sound t e limits right (records_fit t e (fits_decided laws.fit laws.only) (laws.refuted t e attempts)) (laws.see t e attempts);
+        restores = right_restores t e (λ f is. none f (of_restores is));
+        tokens = due_tokens t e (λ f is. none f (of_tokens is));
+      }
+
+  module _ (none : HasNone (IsTraceFault t)) where
+    all_sound : (e : ℕ) → IsSoundReplica t e
+    all_sound e = elim (cases_lt e (length t.sections)) [
+      | inl lt ↦ own_sound e (λ f is. none f (in_section (e, lt, is)))
+      | inr le ↦ sound_beyond t e le
+    ]
+
+    together : IsSoundTogether t
+    together = record {
+      votes = sound_votes t limits (λ f is. none f (in_common (of_votes is)));
+      backed = all_backed t (λ f is. none f (in_common (of_majorities is)));
+      agree = all_agree t (λ e. (all_sound e).right) (λ f is. none f (in_common (of_agreement is)));
+      replied = all_replied t (λ f is. none f (in_common (of_replies is)));
+    }
+
+    pub unfaulted_accepted : IsAccepted t
+    unfaulted_accepted = accepted_of t limits (laws.apart t (no_request_again t (λ f is. none f (in_orders is)))) all_sound together
+
+-- where nothing stands in the bytes, nothing does in the trace
+pub faultless_trace : (bytes : List ℕ) (t : Trace) → ((u : Trace) → Spells bytes u → u ≡ t) → IsFaultless bytes t → HasNone (IsTraceFault t)
+faultless_trace bytes t once faultless f is = faultless.none f (stands_in_bytes bytes t faultless.spells once f is)
+
+-- a yes is said of such bytes alone
+pub yes_audited : Laws → ((t : Trace) → IsAccepted t → IsAudited t) → ((bytes : List ℕ) (t u : Trace) → Spells bytes t → Spells bytes u → t ≡ u) → (bytes : List ℕ) (s : Summary) → IsVerdict bytes (Yes s) → SpellsAudited bytes
+yes_audited laws audited once bytes s is =
+    let t : Trace = is.0 in
+    let spells : Spells bytes t = is.1.spells in
+    record {
+      trace = t;
+      spells = spells;
+      audited = audited t (unfaulted_accepted laws t spells.limits (faultless_trace bytes t (λ u other. once bytes u t other spells) is.1));
+    }

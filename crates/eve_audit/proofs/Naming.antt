@@ -1,0 +1,101 @@
+-- A fault names the replica in whose section it lies.
+use Rattle.std.proofs.Common.{◌≡◌, ℕ, ◌+◌, ◌<◌, ◌≤◌, nat_le, nat_lt, List, Option, Some, None, sym, ap, subst, ◌∙◌, leb, ltb}
+use Rattle.std.specs.Prelude.{◌↔◌, IsTrue, ◌&&◌}
+use Rattle.std.proofs.lemmas.Bool.{and_parts, and_from, le-leb, lt-ltb, leb-true, ltb-true}
+use Rattle.eve_grammar.specs.Trace.{Trace}
+use Rattle.eve_grammar.specs.Limits.{Spells}
+use Rattle.eve_grammar.specs.Spelling.{section_start}
+use Rattle.eve_grammar.proofs.Codec.{IsBytes}
+use Rattle.eve_views.specs.Form.{IsFormFault}
+use Rattle.eve_views.specs.Parts.{is_in_section}
+use Rattle.eve_views.specs.declared.fault.Fault.{Fault}
+use Rattle.eve_views.proofs.HeaderLaws.{header_again_of}
+use Rattle.eve_views.proofs.FormLaws.{refused_behind}
+use Rattle.eve_views.proofs.WholeTraces.{no_trace}
+use Rattle.eve_audit.specs.Verdict.{Stands, in_form, in_orders, in_section, in_votes, in_majorities, in_agreement, in_replies, IsOwnFault, of_structure, of_records, of_chains, of_restores, of_tokens}
+use Rattle.eve_audit.specs.Where.{NamesItsSection}
+use Rattle.eve_audit.specs.Pieces as of
+use Rattle.eve_audit.specs.Pieces.{IsTraceFault, IsCommonFault}
+use Rattle.eve_audit.proofs.Sections.{LiesIn, FatesAreAsItEnds}
+use Rattle.eve_audit.proofs.Where.{one_section}
+use Rattle.eve_audit.proofs.Placed.{structure_lies, record_lies, chain_lies, restore_lies, token_lies, majority_lies, outcome_lies}
+use Rattle.eve_audit.proofs.Outside.{IsOutside, in_none, order_outside, vote_fault_outside, reply_outside}
+
+-- ---- the test of a section
+
+lies_from : (t : Trace) (e at : ℕ) → IsTrue (is_in_section t e at) → LiesIn t e at
+lies_from t e at held =
+    let parts = and_parts (nat_le (section_start t e) at) (nat_lt at (section_start t (e + 1))) held in
+    (leb-true (section_start t e) at parts.0, ltb-true at (section_start t (e + 1)) parts.1)
+
+held_from : (t : Trace) (e at : ℕ) → LiesIn t e at → IsTrue (is_in_section t e at)
+held_from t e at lies = and_from (nat_le (section_start t e) at) (nat_lt at (section_start t (e + 1))) (le-leb (section_start t e) at lies.0) (lt-ltb at (section_start t (e + 1)) lies.1)
+
+-- ---- in a trace
+
+-- the replica that is named is the one in whose section the offset lies
+abbrev Names : Trace → Fault → Type 0
+Names t f = (e : ℕ) → (f.replica ≡ Some e) ↔ IsTrue (is_in_section t e f.offset)
+
+inner : (d e : ℕ) → ◌≡◌ {A = Option ℕ} (Some d) (Some e) → d ≡ e
+inner d e same = cc
+
+not_named : (e : ℕ) → ◌≡◌ {A = Option ℕ} None (Some e) → ⊥
+not_named e same = cc
+
+inside : (t : Trace) (d : ℕ) (f : Fault) → f.replica ≡ Some d → LiesIn t d f.offset → Names t f
+inside t d f is lies e = (
+  λ named. held_from t e f.offset (subst (λ (k : ℕ). LiesIn t k f.offset) (inner d e (sym is ∙ named)) lies),
+  λ held. is ∙ ap (λ (k : ℕ). Some k) (one_section t d e f.offset lies (lies_from t e f.offset held)),
+)
+
+outside : (t : Trace) (f : Fault) → f.replica ≡ None → IsOutside t f.offset → Names t f
+outside t f is out e = (λ named. absurd (not_named e (sym is ∙ named)), λ held. absurd (in_none t e f.offset out (lies_from t e f.offset held)))
+
+module _ (t : Trace) (fates : (e : ℕ) → FatesAreAsItEnds t e) (f : Fault) where
+  own_names : (e : ℕ) → IsOwnFault t e f → Names t f
+  own_names e (of_structure is) = inside t e f is.inside (structure_lies t e f.code f.offset is.stands)
+  own_names e (of_records is) = inside t e f is.inside (record_lies t e (fates e) f.code f.offset is.stands)
+  own_names e (of_chains is) = inside t e f is.inside (chain_lies t e (fates e) f.code f.offset is.stands)
+  own_names e (of_restores is) = inside t e f is.inside (restore_lies t e f.code f.offset is.stands)
+  own_names e (of_tokens is) = inside t e f is.inside (token_lies t e (fates e) f.code f.offset is.stands)
+
+  common_names : IsCommonFault t f → Names t f
+  common_names (of.of_votes is) = outside t f is.outside (vote_fault_outside t f.code f.offset is.stands)
+  common_names (of.of_majorities is) = inside t is.replica f is.inside (majority_lies t is.replica f.code f.offset is.stands)
+  common_names (of.of_agreement is) = inside t is.replica f is.inside (outcome_lies t is.replica (fates is.replica) f.code f.offset is.stands)
+  common_names (of.of_replies is) = outside t f is.outside (reply_outside t f.code f.offset is.stands)
+
+  trace_names : IsTraceFault t f → Names t f
+  trace_names (of.in_orders is) = outside t f is.outside (order_outside t f.code f.offset is.stands)
+  trace_names (of.in_section below) = own_names below.0 below.2
+  trace_names (of.in_common is) = common_names is
+
+-- ---- in bytes
+
+-- of bytes that spell this trace
+pub named_in : (bytes : List ℕ) (t : Trace) → Spells bytes t → ((u : Trace) → Spells bytes u → u ≡ t) → ((e : ℕ) → FatesAreAsItEnds t e) → (f : Fault) → IsTraceFault t f → NamesItsSection bytes f
+named_in bytes t spells once fates f is = record {
+  names = λ u other. subst (λ (x : Trace). Names x f) (sym (once u other)) (trace_names t fates f is);
+  outside = λ none. absurd (none t spells);
+}
+
+-- of bytes that spell none
+pub named_in_none : (bytes : List ℕ) (f : Fault) → IsFormFault bytes f → ((t : Trace) → ¬ Spells bytes t) → NamesItsSection bytes f
+named_in_none bytes f is none = record { names = λ t spells. absurd (none t spells); outside = λ _. is.outside }
+
+form_alone : (bytes : List ℕ) (f : Fault) → IsBytes bytes → IsFormFault bytes f → (t : Trace) → ¬ Spells bytes t
+form_alone bytes f fits is = no_trace bytes (λ s spelled. (refused_behind bytes s.head f (header_again_of bytes s spelled).0 fits is).none s spelled)
+
+module _ (fates : (t : Trace) (e : ℕ) → FatesAreAsItEnds t e) (once : (bytes : List ℕ) (t u : Trace) → Spells bytes t → Spells bytes u → t ≡ u) (bytes : List ℕ) (f : Fault) where
+  of_trace : (t : Trace) → Spells bytes t → IsTraceFault t f → NamesItsSection bytes f
+  of_trace t spells is = named_in bytes t spells (λ u other. once bytes u t other spells) (fates t) f is
+
+  pub standing_named : IsBytes bytes → Stands bytes f → NamesItsSection bytes f
+  standing_named fits (in_form is) = named_in_none bytes f is (form_alone bytes f fits is)
+  standing_named fits (in_orders t spells is) = of_trace t spells (of.in_orders is)
+  standing_named fits (in_section t e spells lt is) = of_trace t spells (of.in_section (e, lt, is))
+  standing_named fits (in_votes t spells is) = of_trace t spells (of.in_common (of.of_votes is))
+  standing_named fits (in_majorities t spells is) = of_trace t spells (of.in_common (of.of_majorities is))
+  standing_named fits (in_agreement t spells is) = of_trace t spells (of.in_common (of.of_agreement is))
+  standing_named fits (in_replies t spells is) = of_trace t spells (of.in_common (of.of_replies is))

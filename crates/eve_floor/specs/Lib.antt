@@ -1,0 +1,3 @@
+pub mod Applying
+pub mod Executing
+pub mod Opening

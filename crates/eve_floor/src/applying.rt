@@ -1,0 +1,173 @@
+//! A request applied under the locks of its stripes.
+
+ghost use Rattle.std.specs.Prelude.{◌≡◌, ℕ, List, IfOk, IfErr};
+ghost use Rattle.eve_smallbank.specs.declared.request.Abort.{Abort};
+ghost use Rattle.eve_smallbank.specs.declared.rows.Touched.TheVariants.{Refused};
+ghost use Rattle.eve_tickets.specs.Shown.{Drawer};
+ghost use Rattle.eve_floor.specs.Executing.{with_drawn};
+ghost use Rattle.eve_floor.specs.Applying.{IsLookedUp, Applies, Refuses};
+
+use crate::stripes::span_of;
+use crate::{ExecFault, Floor};
+use eve_recorder::Gate;
+use eve_smallbank::{Request, Touched, laws};
+use eve_stamps::{AccessRecord, StampFault, Stripe, apply, apply_two, untouched};
+use eve_tickets::{TicketSeat, Tickets};
+use std::sync::{Mutex, Wait};
+
+/// What is to be executed, and what its record says of who does it.
+#[derive(Clone, Copy)]
+pub struct Task<'t> {
+    /// The request.
+    pub request: &'t Request<'t>,
+    /// The rows that it touches, as they were looked up.
+    pub reached: Touched,
+    /// Its index in the batch.
+    pub index: u16,
+    /// The worker.
+    pub worker: u8,
+    /// The place of the record among what the worker notes.
+    pub place: u16,
+}
+
+/// The record of the task, at a number that is drawn under the locks of its stripes.
+pub fn applied<R: Wait, G: Gate>(
+    rt: &R,
+    floor: &Floor,
+    tickets: &Tickets,
+    drawer: &mut TicketSeat,
+    task: &Task,
+    gate: &G,
+) -> Result<AccessRecord, ExecFault>
+    requires tickets { drawer.old.tickets ≡ tickets.now }
+    requires touched { IsLookedUp floor.now task.now }
+    ensures { Applies floor.now task.now drawer.old drawer.new result }
+{
+    let Touched::Rows(rows) = &task.reached else {
+        return on_none(rt, tickets, drawer, task, gate);
+    };
+    let span = span_of(rows);
+    let first = &floor.stripes[span.first];
+    if span.first == span.last {
+        return on_one(rt, first, tickets, drawer, task, gate);
+    }
+    let last = &floor.stripes[span.last];
+    on_two(rt, first, last, tickets, drawer, task, gate)
+}
+
+// A task that is refused before it touches a row takes no lock.
+fn on_none<R: Wait, G: Gate>(
+    rt: &R,
+    tickets: &Tickets,
+    drawer: &mut TicketSeat,
+    task: &Task,
+    gate: &G,
+) -> Result<AccessRecord, ExecFault>
+    requires tickets { drawer.old.tickets ≡ tickets.now }
+    requires refused { (why : Abort) × (task.now.reached ≡ Refused why) }
+    ensures { (names : List (List ℕ)) → IsLookedUp names task.now
+        → Applies names task.now drawer.old drawer.new result }
+{
+    laws::refused_requests_fit();
+    let Touched::Refused(why) = task.reached else {
+        unreachable!()
+    };
+    let tick = ticket(rt, tickets, drawer, task.index, gate)?;
+    Ok(untouched(why, tick, task.worker, task.place, task.index))
+}
+
+// A task whose rows lie in one stripe.
+fn on_one<R: Wait, G: Gate>(
+    rt: &R,
+    lock: &Mutex<Stripe>,
+    tickets: &Tickets,
+    drawer: &mut TicketSeat,
+    task: &Task,
+    gate: &G,
+) -> Result<AccessRecord, ExecFault>
+    requires tickets { drawer.old.tickets ≡ tickets.now }
+    requires touched { (names : List (List ℕ)) × IsLookedUp names task.now }
+    ensures { (names : List (List ℕ)) → IsLookedUp names task.now
+        → Applies names task.now drawer.old drawer.new result }
+{
+    let mut stripe = lock.lock(rt);
+    let tick = ticket(rt, tickets, drawer, task.index, gate)?;
+    let made = apply(
+        &mut stripe,
+        task.request,
+        &task.reached,
+        tick,
+        task.worker,
+        task.place,
+        task.index,
+    );
+    match made {
+        Ok(record) => Ok(record),
+        Err(why) => Err(fault_of(why)),
+    }
+}
+
+// A task whose rows lie in two stripes, of which the first is locked first.
+fn on_two<R: Wait, G: Gate>(
+    rt: &R,
+    first: &Mutex<Stripe>,
+    last: &Mutex<Stripe>,
+    tickets: &Tickets,
+    drawer: &mut TicketSeat,
+    task: &Task,
+    gate: &G,
+) -> Result<AccessRecord, ExecFault>
+    requires tickets { drawer.old.tickets ≡ tickets.now }
+    requires touched { (names : List (List ℕ)) × IsLookedUp names task.now }
+    ensures { (names : List (List ℕ)) → IsLookedUp names task.now
+        → Applies names task.now drawer.old drawer.new result }
+{
+    let mut first = first.lock(rt);
+    let mut last = last.lock(rt);
+    let tick = ticket(rt, tickets, drawer, task.index, gate)?;
+    let made = apply_two(
+        &mut first,
+        &mut last,
+        task.request,
+        &task.reached,
+        tick,
+        task.worker,
+        task.place,
+        task.index,
+    );
+    match made {
+        Ok(record) => Ok(record),
+        Err(why) => Err(fault_of(why)),
+    }
+}
+
+// Enters the gate with the index, and draws a number.
+fn ticket<R: Wait, G: Gate>(
+    rt: &R,
+    tickets: &Tickets,
+    drawer: &mut TicketSeat,
+    index: u16,
+    gate: &G,
+) -> Result<u64, ExecFault>
+    requires { drawer.old.tickets ≡ tickets.now }
+    ensures drawn { IfOk result (λ tick. drawer.new ≡ with_drawn tick drawer.old) }
+    ensures spent { IfErr result (λ why. Refuses why drawer.old drawer.new) }
+{
+    gate.enter(rt, u32::from(index));
+    match tickets.draw(drawer) {
+        Some(tick) => Ok(tick),
+        None => Err(ExecFault::Spent),
+    }
+}
+
+// The same fault, of an execution.
+fn fault_of(why: StampFault) -> ExecFault
+    ensures { (tick : ℕ) (drawer : Drawer) → Refuses result drawer (with_drawn tick drawer) }
+{
+    match why {
+        StampFault::NoRow => ExecFault::NoRow,
+        StampFault::TickOrder => ExecFault::TickOrder,
+        StampFault::Worn => ExecFault::Worn,
+        StampFault::Memory => ExecFault::Memory,
+    }
+}

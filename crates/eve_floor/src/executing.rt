@@ -1,0 +1,114 @@
+//! One request executed under the locks of its stripes, and its record noted.
+
+ghost use Rattle.std.specs.Prelude.{◌≡◌, ◌<◌, ◌≤◌, ℕ, List, IfOk, IfErr, length};
+ghost use Rattle.eve_smallbank.specs.SmallBank.{plain};
+ghost use Rattle.eve_smallbank.specs.Touch.{touched_of};
+ghost use Rattle.eve_write.specs.Data.{batch as plain_batch};
+ghost use Rattle.eve_floor.specs.Executing.{IsAt, KeepsSeats, Executes, Flushes, request_at};
+
+use crate::applying::{Task, applied};
+use crate::{ExecFault, Floor, Worker};
+use eve_recorder::{Gate, NoteFault, Recorder};
+use eve_smallbank::{Request, Touched, touched};
+use eve_tickets::Tickets;
+use eve_write::BatchData;
+use std::sync::Wait;
+
+/// Executes the request with this index in the batch, and notes its record.
+///
+/// The stripes that it touches are locked in rising order, the gate is entered with the index, and a number is drawn
+/// for its tick; then the request is applied, the locks are released, and the record is noted. A request that is
+/// refused before it touches a row takes no lock; the gate is entered and a number is drawn all the same.
+///
+/// Refused, in the order of the tests: Full, where a record waits already; Spent; NoRow; TickOrder; Worn; Memory, and
+/// the stripes are then as they were; and Full, where the queue was full: the request stands, and its record waits.
+/// May wait for other threads.
+///
+/// docs/MODEL.md, "Executions".
+pub fn execute<R: Wait, G: Gate>(
+    rt: &R,
+    floor: &Floor,
+    recorder: &Recorder,
+    tickets: &Tickets,
+    worker: &mut Worker,
+    batch: &BatchData,
+    index: u16,
+    gate: &G,
+) -> Result<(), ExecFault>
+    requires seats { IsAt recorder.now tickets.now worker.old }
+    requires index { index < length batch.now.requests.items }
+    requires place { length worker.old.seat.noted < 65536 }
+    ensures executes { let request = request_at (plain_batch batch.now) index in
+        Executes recorder.now floor.now request index worker.old worker.new result }
+    ensures seats { KeepsSeats worker.old worker.new }
+{
+    let request = request_at(batch, index);
+    let reached = touched(&request, floor.names);
+    execute_touched(
+        rt, floor, recorder, tickets, worker, &request, &reached, index, gate,
+    )
+}
+
+/// Executes the request as `execute` does, with the rows that it touches as they were looked up among the floor's
+/// names. It has this index in its batch.
+///
+/// docs/MODEL.md, "Executions".
+pub fn execute_touched<R: Wait, G: Gate>(
+    rt: &R,
+    floor: &Floor,
+    recorder: &Recorder,
+    tickets: &Tickets,
+    worker: &mut Worker,
+    request: &Request,
+    reached: &Touched,
+    index: u16,
+    gate: &G,
+) -> Result<(), ExecFault>
+    requires seats { IsAt recorder.now tickets.now worker.old }
+    requires touched { reached.now ≡ touched_of floor.now (plain request.now) }
+    requires place { length worker.old.seat.noted < 65536 }
+    ensures executes { Executes recorder.now floor.now (plain request.now) index worker.old worker.new result }
+    ensures seats { KeepsSeats worker.old worker.new }
+{
+    if worker.waiting.is_some() {
+        return Err(ExecFault::Full);
+    }
+    let task = Task {
+        request,
+        reached: *reached,
+        index,
+        worker: worker.seat.worker(),
+        place: worker.seat.place() as u16,
+    };
+    let made = applied(rt, floor, tickets, &mut worker.tickets, &task, gate)?;
+    worker.waiting = Some(made);
+    flush(rt, recorder, worker)
+}
+
+fn request_at(batch: &BatchData, index: u16) -> Request<'_>
+    requires { index < length batch.now.requests.items }
+    ensures { plain result ≡ request_at (plain_batch batch.now) index }
+{
+    batch.requests[index as usize].request()
+}
+
+/// Notes the record that waits. Full where the queue is full at one moment, and Ok where none waits. May wait for other
+/// threads.
+///
+/// docs/MODEL.md, "Executions".
+pub fn flush<R: Wait>(rt: &R, recorder: &Recorder, worker: &mut Worker) -> Result<(), ExecFault>
+    requires { worker.old.seat.recorder ≡ recorder.now.recorder }
+    ensures flushes { Flushes recorder.now worker.old worker.new result }
+    ensures seats { KeepsSeats worker.old worker.new }
+{
+    let Some(made) = worker.waiting else {
+        return Ok(());
+    };
+    match recorder.note(rt, &mut worker.seat, made) {
+        Ok(()) => {
+            worker.waiting = None;
+            Ok(())
+        }
+        Err(NoteFault::Full(_)) => Err(ExecFault::Full),
+    }
+}

@@ -1,0 +1,18 @@
+//! Why a request isn't executed.
+
+/// Why an execution notes no record, or `flush` none.
+#[derive(Clone, Copy, Debug, PartialEq, Eq)]
+pub enum ExecFault {
+    /// A record waits already, and nothing is done; or the queue was full at one moment, and the record waits.
+    Full,
+    /// The worker has drawn as many numbers as it may.
+    Spent,
+    /// A row that the request touches lies in no stripe that was locked.
+    NoRow,
+    /// The number drawn isn't above the greatest tick that a locked stripe has had.
+    TickOrder,
+    /// A row that the request is to write is at version 2^40.
+    Worn,
+    /// No memory is left.
+    Memory,
+}

@@ -1,0 +1,84 @@
+//! The stripes of all rows, each behind a lock of its own.
+
+ghost use Rattle.std.specs.Prelude.{◌≡◌, ◌*◌, ◌+◌, ◌<◌, ◌++◌, List, IfOk, IsErr, length, vec_len, vec_capacity};
+ghost use Rattle.eve_grammar.specs.declared.restore.Restore as spec;
+
+use crate::opening::opening_stripe;
+use crate::stripes::STRIPES;
+use crossbeam_utils::CachePadded;
+use eve_accounts::{Balances, Names};
+use eve_grammar::Restore;
+use eve_stamps::Stripe;
+use std::alloc::{AllocError, Global};
+use std::marker::Model;
+use std::sync::Mutex;
+
+/// The rows of all customers in sixteen stripes, both rows of customer c in stripe c mod 16, each stripe behind a lock
+/// of its own; and the customers' names. Contracts see the names; of what a lock holds they know that it is a stripe.
+///
+/// docs/MODEL.md, "Executions".
+#[derive(Drop)]
+pub struct Floor<'n> {
+    pub(crate) names: &'n Names<'n>,
+    pub(crate) stripes: Vec<CachePadded<Mutex<Stripe>>>,
+}
+
+impl<'n> Model for Floor<'n> {
+    ghost use Rattle.std.specs.Prelude.{◌≡◌, ℕ, List, vec_len};
+
+    ghost Value = { List (List ℕ) };
+
+    ghost view = { λ f. f.names.now.items };
+
+    ghost invariant = { λ f. vec_len f.stripes ≡ 16 };
+}
+
+impl<'n> Floor<'n> {
+    /// The opening balances in stripes: each row at version 0. Two rows for each name.
+    pub fn new(
+        alloc: Global,
+        names: &'n Names<'n>,
+        balances: &Balances,
+    ) -> Result<Floor<'n>, AllocError>
+        requires rows { length balances.now ≡ 2 * length names.now.items }
+        ensures { IfOk result (λ floor. floor ≡ names.now.items) }
+    {
+        let customers = names.len() as u32;
+        let mut stripes = Vec::with_capacity(alloc, STRIPES as usize)?;
+        for stripe in 0..STRIPES {
+            let opening = opening_stripe(alloc, balances, stripe, customers)?;
+            stripes.push(CachePadded::new(Mutex::new(opening)))?;
+        }
+        Ok(Floor { names, stripes })
+    }
+
+    /// Makes what was journaled up to that tick part of the committed base, in all stripes. The rows stay as they are
+    /// now.
+    pub fn settle(&mut self, tick: u64)
+        ensures { self.new ≡ self.old }
+    {
+        for stripe in self.stripes.iter_mut() {
+            stripe.get_mut().settle(tick);
+        }
+    }
+
+    /// Returns all stripes to their committed bases, and appends each row that was written since, as its base has it:
+    /// stripe by stripe, in each by rising row.
+    ///
+    /// Takes no memory: it fails, changing nothing, where the vector has no room for two rows of each customer.
+    pub fn undo(&mut self, restores: &mut Vec<Restore>) -> Result<(), AllocError>
+        ensures names { self.new ≡ self.old }
+        ensures appended { (undone : List spec.Restore) × (restores.new.items ≡ restores.old.items ++ undone) }
+        ensures capacity { vec_capacity restores.new ≡ vec_capacity restores.old }
+        ensures short { vec_capacity restores.old < vec_len restores.old + 2 * length self.old
+            → IsErr result × (restores.new.items ≡ restores.old.items) }
+    {
+        if restores.capacity() - restores.len() < 2 * self.names.len() {
+            return Err(AllocError);
+        }
+        for stripe in self.stripes.iter_mut() {
+            stripe.get_mut().undo(restores)?;
+        }
+        Ok(())
+    }
+}

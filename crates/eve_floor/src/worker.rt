@@ -1,0 +1,78 @@
+//! A worker, with its seats and the record that waits.
+
+ghost use Rattle.std.specs.Prelude.{◌≡◌, IfOk, IfErr, IsSome, None, length};
+ghost use Rattle.eve_floor.specs.Executing.{Executor};
+
+use eve_recorder::WorkerSeat;
+use eve_stamps::AccessRecord;
+use eve_tickets::TicketSeat;
+use std::marker::Model;
+
+/// One worker of a floor: its seat at a recorder, its seat at the tickets that give ticks, and the record that waits
+/// where the queue was full. Contracts see these three (`Executor`).
+///
+/// docs/MODEL.md, "Executions".
+#[derive(Drop)]
+pub struct Worker {
+    pub(crate) seat: WorkerSeat,
+    pub(crate) tickets: TicketSeat,
+    pub(crate) waiting: Option<AccessRecord>,
+}
+
+impl Model for Worker {
+    ghost use Rattle.std.specs.Prelude.{IfSome};
+    ghost use Rattle.eve_floor.specs.Executing.{Executor, IsNext};
+
+    ghost Value = { Executor };
+
+    ghost view = { λ w. record { seat = w.seat; tickets = w.tickets; waiting = w.waiting } };
+
+    ghost invariant = { λ w. IfSome w.waiting (IsNext w.seat) };
+}
+
+impl Worker {
+    /// A worker with these seats, where nothing waits.
+    pub fn new(seat: WorkerSeat, tickets: TicketSeat) -> Worker
+        ensures { result ≡ record { seat = seat; tickets = tickets; waiting = None } }
+    {
+        Worker {
+            seat,
+            tickets,
+            waiting: None,
+        }
+    }
+
+    /// The seats, or the worker again where a record waits in it.
+    pub fn into_seats(self) -> Result<(WorkerSeat, TicketSeat), Worker>
+        ensures seats { IfOk result (λ s. (s.0 ≡ self.seat) × (s.1 ≡ self.tickets) × (self.waiting ≡ None)) }
+        ensures waits { IfErr result (λ w. (w ≡ self) × IsSome self.waiting) }
+    {
+        if self.waiting.is_some() {
+            return Err(self);
+        }
+        let Worker { seat, tickets, .. } = self;
+        Ok((seat, tickets))
+    }
+
+    /// Takes out the record that waits, if one does: it is noted no more. The worker can then be taken apart.
+    pub fn take_waiting(&mut self) -> Option<AccessRecord>
+        ensures out { result ≡ self.old.waiting }
+        ensures rest { self.new ≡ record self.old { waiting = None } }
+    {
+        self.waiting.take()
+    }
+
+    /// The worker's number at its recorder, from 0.
+    pub fn worker(&self) -> u8
+        ensures { result ≡ self.now.seat.worker }
+    {
+        self.seat.worker()
+    }
+
+    /// The place of the record that it notes next, from 0.
+    pub fn place(&self) -> u32
+        ensures { result ≡ length self.now.seat.noted }
+    {
+        self.seat.place()
+    }
+}

@@ -1,0 +1,29 @@
+-- The workers of an attempt, and what they share.
+use Rattle.std.specs.Prelude.{◌≡◌, ℕ, ◌<◌, All, List, [], length, Option, Some, None, IsSome, slice_index_or}
+use Rattle.atomic_table.specs.Seated.{TableId}
+use Rattle.eve_tickets.specs.Shown.{Source, Drawer}
+use Rattle.eve_recorder.specs.Seen.{Noter}
+use Rattle.eve_replica.specs.declared.stage.Stage.{Stage}
+use Rattle.eve_replica.specs.declared.crew.Member.{Member}
+
+-- A worker with its seats at the recorder, at the tickets of ticks and at the tickets of claims that the stage has.
+pub record IsOn (s : Stage) (m : Member) : Type 0 where
+  pub recorder : m.worker.seat.recorder ≡ s.recorder.now.recorder
+  pub ticks : m.worker.tickets.tickets ≡ s.ticks.now
+  pub claims : m.claims.tickets ≡ s.claims.now
+
+-- and it has noted nothing
+abbrev pub IsReady : Stage → Member → Type 0
+IsReady s m = IsOn s m × (length m.worker.seat.noted ≡ 0)
+
+-- seats at these tickets
+abbrev pub AreTickets : Source → List Drawer → Type 0
+AreTickets tickets seats = All (λ d. d.tickets ≡ tickets) seats
+
+-- the seats of the workers below this number are there, and nothing is noted on them
+abbrev pub AreNoters : TableId → ℕ → List (Option Noter) → Type 0
+AreNoters recorder n seats = (w : ℕ) → w < n → slice_index_or seats w None ≡ Some record { recorder = recorder; worker = w; noted = [] }
+
+-- the seats with the numbers below this one are there
+abbrev pub AreThere : ℕ → List (Option Drawer) → Type 0
+AreThere n seats = (k : ℕ) → k < n → IsSome (slice_index_or seats k None)

@@ -1,0 +1,68 @@
+-- A replica as contracts see it, and what its calls make of it. docs/MODEL.md, "Section state, fate".
+use Rattle.std.specs.Prelude.{◌≡◌, ℕ, ◌+◌, Bool, true, false, ⊤, List, length}
+use Rattle.eve_stamps.specs.Applied.{Applied}
+use Rattle.eve_grammar.specs.Trace.{Batch, Attempt, Commit}
+use Rattle.eve_attempts.specs.declared.front.AttemptFront.{AttemptFront}
+use Rattle.eve_attempts.specs.Ledgers.{Ledger}
+use Rattle.eve_attempts.specs.Closing.{touched_by, Closes}
+use Rattle.eve_attempts.specs.Discarding.{Commits}
+use Rattle.eve_replica.specs.declared.fault.AttemptFault.{AttemptFault}
+use Rattle.eve_replica.specs.declared.fault.AttemptFault.TheVariants as attempt_fault
+
+-- The customers' names, the replica's account of its rows, and whether an attempt failed since the last rollback.
+pub record Replica : Type 0 where
+  pub names : List (List ℕ)
+  pub ledger : Ledger
+  pub is_broken : Bool
+
+-- These records were closed to the attempt, and nothing but the account has changed.
+pub record ClosesThese (front : AttemptFront) (old new : Replica) (b : Batch) (records : List Applied) (a : Attempt) : Type 0 where
+  pub closed : Closes front old.ledger new.ledger b (touched_by old.names b) records a
+  pub rest : new ≡ record old { ledger = new.ledger }
+
+-- Some records were, whatever threads noted them.
+abbrev pub ClosesSome : AttemptFront → Replica → Replica → Batch → Attempt → Type 0
+ClosesSome front old new b a = (records : List Applied) × ClosesThese front old new b records a
+
+-- what an attempt of the batch that is due says of itself, in this view and this mode
+abbrev pub front_of : Ledger → ℕ → Bool → AttemptFront
+front_of s view serial = record { seq = s.committed + 1 + length s.opened; view = view; serial = serial }
+
+-- The replica wasn't broken, and what its threads noted was closed to the attempt: all that holds of an attempt that is
+-- closed holds of it, however they ran.
+abbrev pub Attempts : ℕ → Bool → Replica → Replica → Batch → Attempt → Type 0
+Attempts view serial old new b a = (old.is_broken ≡ false) × ClosesSome (front_of old.ledger view serial) old new b a
+
+-- its account stays, and it is broken
+abbrev pub Breaks : Replica → Replica → Type 0
+Breaks old new = (old.is_broken ≡ false) × (new ≡ record old { is_broken = true })
+
+-- A broken replica refuses, and stays; every other fault breaks it.
+abbrev pub FailsAttempt : AttemptFault → Replica → Replica → Type 0
+FailsAttempt attempt_fault.Broken old new = (old.is_broken ≡ true) × (new ≡ old)
+FailsAttempt attempt_fault.Memory old new = Breaks old new
+FailsAttempt attempt_fault.TickOrder old new = Breaks old new
+FailsAttempt attempt_fault.Full old new = Breaks old new
+FailsAttempt attempt_fault.Worn old new = Breaks old new
+FailsAttempt attempt_fault.Spent old new = Breaks old new
+FailsAttempt attempt_fault.NoRow old new = Breaks old new
+FailsAttempt attempt_fault.Mismatch old new = Breaks old new
+
+-- it isn't that the replica was broken before
+abbrev pub IsFresh : AttemptFault → Type 0
+IsFresh attempt_fault.Broken = ⊥
+IsFresh attempt_fault.Memory = ⊤
+IsFresh attempt_fault.TickOrder = ⊤
+IsFresh attempt_fault.Full = ⊤
+IsFresh attempt_fault.Worn = ⊤
+IsFresh attempt_fault.Spent = ⊤
+IsFresh attempt_fault.NoRow = ⊤
+IsFresh attempt_fault.Mismatch = ⊤
+
+-- The replica wasn't broken, and these records were closed.
+abbrev pub ClosesOwn : AttemptFront → Replica → Replica → Batch → List Applied → Attempt → Type 0
+ClosesOwn front old new b records a = (old.is_broken ≡ false) × ClosesThese front old new b records a
+
+-- the first open attempt is committed
+abbrev pub CommitsFirst : Replica → Replica → Commit → Type 0
+CommitsFirst old new c = (old.is_broken ≡ false) × Commits old.ledger new.ledger c × (new ≡ record old { ledger = new.ledger })

@@ -1,0 +1,115 @@
+//! Why calls of a replica and of a deployment are refused.
+
+ghost use Rattle.std.specs.Prelude.{◌≡◌};
+ghost use Rattle.eve_replica.specs.Replicas.{IsFresh};
+ghost use Rattle.eve_replica.specs.declared.fault.AttemptFault.TheVariants as attempt;
+
+use eve_floor::ExecFault;
+use std::alloc::{AllocError, AllocFailed};
+
+/// Why a batch was not attempted. Every fault but `Broken` breaks the replica.
+#[derive(Clone, Copy, Debug, PartialEq, Eq)]
+pub enum AttemptFault {
+    /// Memory ran out.
+    Memory,
+    /// A tick was not above the greatest of a stripe.
+    TickOrder,
+    /// The recorder was full.
+    Full,
+    /// A row that a request writes is at version 2^40.
+    Worn,
+    /// A worker has drawn as many ticks as it may.
+    Spent,
+    /// A row that a request touches is not there.
+    NoRow,
+    /// What the workers noted is no attempt of the batch.
+    Mismatch,
+    /// An earlier attempt failed, and no rollback has succeeded since.
+    Broken,
+}
+
+/// Why records were not closed to an attempt.
+#[derive(Clone, Copy, Debug, PartialEq, Eq)]
+pub enum CloseFault {
+    /// Memory ran out.
+    Memory,
+    /// The records are no attempt of the batch.
+    Mismatch,
+    /// An attempt failed, and no rollback has succeeded since.
+    Broken,
+}
+
+/// Why nothing was committed.
+#[derive(Clone, Copy, Debug, PartialEq, Eq)]
+pub enum CommitFault {
+    /// The first open attempt, if there is one, is of another batch.
+    NotOpen,
+    /// An attempt failed, and no rollback has succeeded since.
+    Broken,
+}
+
+/// Why a workload was not run.
+#[derive(Clone, Copy, Debug, PartialEq, Eq)]
+pub enum RunFault {
+    /// Memory ran out.
+    Memory,
+    /// A replica failed otherwise, or a batch wasn't committed after twice as many windows as there are batches.
+    Broken,
+}
+
+impl From<AllocError> for AttemptFault {
+    ghost from_gives = { λ _ e. e ≡ attempt.Memory };
+
+    fn from(_e: AllocError) -> AttemptFault {
+        AttemptFault::Memory
+    }
+}
+
+impl<T: Drop> From<AllocFailed<T>> for AttemptFault {
+    ghost from_gives = { λ _ e. e ≡ attempt.Memory };
+
+    fn from(_e: AllocFailed<T>) -> AttemptFault {
+        AttemptFault::Memory
+    }
+}
+
+impl From<AllocError> for RunFault {
+    fn from(_e: AllocError) -> RunFault {
+        RunFault::Memory
+    }
+}
+
+impl<T: Drop> From<AllocFailed<T>> for RunFault {
+    fn from(_e: AllocFailed<T>) -> RunFault {
+        RunFault::Memory
+    }
+}
+
+impl From<AttemptFault> for RunFault {
+    fn from(why: AttemptFault) -> RunFault {
+        match why {
+            AttemptFault::Memory => RunFault::Memory,
+            _ => RunFault::Broken,
+        }
+    }
+}
+
+impl From<CommitFault> for RunFault {
+    fn from(_why: CommitFault) -> RunFault {
+        RunFault::Broken
+    }
+}
+
+/// The fault of an attempt in which a worker met this one.
+pub(crate) fn fault_of(why: ExecFault) -> AttemptFault
+    ensures { IsFresh result }
+{
+    match why {
+        ExecFault::Memory => AttemptFault::Memory,
+        ExecFault::TickOrder => AttemptFault::TickOrder,
+        ExecFault::Full => AttemptFault::Full,
+        ExecFault::Worn => AttemptFault::Worn,
+        ExecFault::Spent => AttemptFault::Spent,
+        ExecFault::NoRow => AttemptFault::NoRow,
+    }
+}

@@ -1,0 +1,22 @@
+//! Attempts by running threads, and the run of a whole deployment.
+#![tactic(auto)]
+
+mod batch;
+mod crew;
+mod deployment;
+mod fault;
+mod opening;
+mod progress;
+mod replica;
+mod running;
+mod sending;
+mod server;
+mod stage;
+mod work;
+
+pub use eve_attempts;
+pub use eve_floor;
+pub use eve_workload;
+pub use fault::{AttemptFault, CloseFault, CommitFault, RunFault};
+pub use replica::Replica;
+pub use running::run;

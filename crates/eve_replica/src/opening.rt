@@ -1,0 +1,84 @@
+//! What a run begins with.
+
+ghost use Rattle.std.specs.Prelude.{◌≡◌, ◌≢◌, ◌*◌, ◌<◌, ◌≤◌, [], slice_index_or, All, AllPairs, IsTrue, IfOk, length, map};
+ghost use Rattle.std.specs.List.{list_all};
+ghost use Rattle.eve_grammar.specs.Limits.{is_batch, is_customer};
+ghost use Rattle.eve_write.specs.Data.{batch as plain, customer};
+ghost use Rattle.eve_workload.specs.Mixing.{cut, batch_of};
+ghost use Rattle.eve_workload.specs.Workload.{names_of};
+ghost use Rattle.eve_replica.specs.Run.{batches_cut};
+
+use eve_accounts::{Balances, Names, Row};
+use eve_workload::{Mixer, Workload, mix};
+use eve_write::{BatchData, CustomerData};
+use std::alloc::{AllocError, Global};
+use std::hash::RandomState;
+
+/// The customers' names, in their order.
+pub(crate) fn names_of<'w>(
+    alloc: Global,
+    customers: &'w [CustomerData],
+    random: RandomState,
+) -> Result<Names<'w>, AllocError>
+    requires few { length customers.now ≤ 4096 }
+    requires right { IsTrue (list_all is_customer (map customer customers.now)) }
+    requires differ { AllPairs (λ a b. a ≢ b) (names_of (map customer customers.now)) }
+    ensures { IfOk result (λ names. names.items ≡ names_of (map customer customers.now)) }
+{
+    let mut names = Names::new(alloc, random, 4096);
+    for customer in customers {
+        if names.add(customer.name.as_slice()).is_err() {
+            return Err(AllocError);
+        }
+    }
+    Ok(names)
+}
+
+/// The customers' opening balances, by row.
+pub(crate) fn balances_of(alloc: Global, customers: &[CustomerData]) -> Result<Balances, AllocError>
+    requires { length customers.now ≤ 4096 }
+    ensures { IfOk result (λ balances. length balances ≡ 2 * length customers.now) }
+{
+    let mut balances = Balances::new(alloc, 2 * customers.len())?;
+    for place in 0..customers.len() {
+        balances.set(Row::saving(place as u32), customers[place].saving);
+        balances.set(Row::checking(place as u32), customers[place].checking);
+    }
+    Ok(balances)
+}
+
+/// Each batch of the workload, cut into parallelBatches.
+pub(crate) fn batches_of(
+    alloc: Global,
+    workload: &Workload,
+    names: &Names,
+    mixer: Mixer,
+) -> Result<Vec<BatchData>, AllocError>
+    requires { names.now.items ≡ names_of workload.now.customers }
+    ensures cut { IfOk result (λ batches. map plain batches.items ≡ batches_cut workload.now mixer) }
+    ensures right { IfOk result (λ batches. All (λ b. IsTrue (is_batch (plain b))) batches.items) }
+{
+    let mut batches = Vec::with_capacity(alloc, workload.batches() as usize)?;
+    for number in 0..workload.batches() {
+        batches.push(cut_batch(alloc, workload, number, names, mixer)?)?;
+    }
+    Ok(batches)
+}
+
+// The batch at this place, counted from 0, cut into parallelBatches.
+#[tactic(auto, using(crate::proofs::Cuts::listed_at))]
+fn cut_batch(
+    alloc: Global,
+    workload: &Workload,
+    place: u32,
+    names: &Names,
+    mixer: Mixer,
+) -> Result<BatchData, AllocError>
+    requires names { names.now.items ≡ names_of workload.now.customers }
+    requires there { place < length workload.now.batches }
+    requires few { place < 65535 }
+    ensures cut { IfOk result (λ b. plain b ≡ batch_of (cut (names_of workload.now.customers) mixer (slice_index_or workload.now.batches place []))) }
+    ensures right { IfOk result (λ b. IsTrue (is_batch (plain b))) }
+{
+    mix(alloc, workload.batch(place + 1), names, mixer)
+}

@@ -1,0 +1,386 @@
+//! One replica.
+
+ghost use Rattle.std.specs.Prelude.{◌≡◌, ◌+◌, ◌-◌, ◌*◌, ◌^◌, ◌<◌, ◌≤◌, ◌↔◌, true, false, IsTrue, IfOk, IfErr, OnOk, OnErr, Err, Some, length, vec_len, vec_capacity, option_map, slice_get};
+ghost use Rattle.eve_grammar.specs.Limits.{is_batch};
+ghost use Rattle.eve_write.specs.Data.{batch as plain, attempt, commit, rollback};
+ghost use Rattle.eve_attempts.specs.Ledgers.{opening};
+ghost use Rattle.eve_attempts.specs.Closing.{touched_by, AreMismatched};
+ghost use Rattle.eve_attempts.specs.Discarding.{RollsBack};
+ghost use Rattle.eve_tickets.specs.Shown.{fresh_seats};
+ghost use Rattle.eve_replica.specs.Replicas.{Attempts, FailsAttempt, IsFresh, ClosesThese, ClosesSome, ClosesOwn, CommitsFirst};
+ghost use Rattle.eve_replica.specs.Crews.{AreTickets};
+
+use crate::batch::run_batch;
+use crate::crew::crew_size;
+use crate::fault::{AttemptFault, CloseFault, CommitFault};
+use eve_accounts::{Balances, Names};
+use eve_attempts::{AttemptFront, CloseFault as Unclosed, Ledger};
+use eve_floor::Floor;
+use eve_recorder::Gate;
+use eve_smallbank::{Touched, touched};
+use eve_stamps::AccessRecord;
+use eve_tickets::{TicketSeat, TicketSeats, Tickets};
+use eve_write::{AttemptData, BatchData, CommitData, RollbackData};
+use std::alloc::{AllocError, Global};
+use std::marker::Model;
+use std::sync::Wait;
+use std::thread::Threads;
+
+/// How many ticks a worker may draw.
+const TICKS: u64 = 1 << 40;
+
+/// One replica: rows in stripes that its workers lock, and its own account of these rows, by which what the workers
+/// noted becomes an attempt or is refused.
+///
+/// docs/TRACE.md, "The deployment's procedure", and docs/MODEL.md, "Section state, fate". Contracts see its customers'
+/// names, its account and whether it is broken (`Replica` of the specs).
+#[derive(Drop)]
+pub struct Replica<'n> {
+    names: &'n Names<'n>,
+    floor: Floor<'n>,
+    ledger: Ledger,
+    ticks: Tickets,
+    // one for each worker
+    seats: Vec<TicketSeat>,
+    // for each open attempt the greatest tick of its records, where this replica's workers ran it
+    settles: Vec<Option<u64>>,
+    window: u8,
+    is_broken: bool,
+}
+
+impl<'n> Model for Replica<'n> {
+    ghost use Rattle.std.specs.Prelude.{◌≡◌, ◌*◌, ◌≤◌, length, vec_len};
+    ghost use Rattle.eve_attempts.specs.Ledgers.{row_count};
+    ghost use Rattle.eve_replica.specs.Crews.{AreTickets};
+    ghost use Rattle.eve_replica.specs.Replicas as model;
+
+    ghost Value = { model.Replica };
+
+    ghost view = { λ r. record { names = r.names.now.items; ledger = r.ledger; is_broken = r.is_broken } };
+
+    ghost invariant = { λ r. AreTickets r.ticks r.seats.items × (1 ≤ vec_len r.seats) × (vec_len r.seats ≤ 8)
+        × (vec_len r.settles ≡ length r.ledger.opened) × (r.ledger.window ≡ r.window)
+        × (row_count r.ledger ≡ 2 * length r.names.now.items) };
+}
+
+impl<'n> Replica<'n> {
+    /// A replica with these opening balances, for so many workers, and with at most `window` attempts open at once. Two
+    /// rows for each name. It is refused only where memory runs out.
+    pub fn new(
+        alloc: Global,
+        names: &'n Names<'n>,
+        balances: &Balances,
+        workers: u8,
+        window: u8,
+    ) -> Result<Replica<'n>, AllocError>
+        requires rows { length balances.now ≡ 2 * length names.now.items }
+        requires workers { (1 ≤ workers) × (workers ≤ 8) }
+        requires window { (1 ≤ window) × (window ≤ 8) }
+        ensures { IfOk result (λ r. r ≡ record { names = names.now.items; ledger = opening balances.now workers window; is_broken = false }) }
+    {
+        let (ticks, all) = Tickets::new(alloc, workers, TICKS)?;
+        let seats = Vec::with_capacity(alloc, workers as usize)?;
+        Ok(Replica {
+            names,
+            floor: Floor::new(alloc, names, balances)?,
+            ledger: Ledger::new(alloc, balances, workers, window)?,
+            seats: seats_of(&ticks, all, workers, seats),
+            ticks,
+            settles: Vec::with_capacity(alloc, window as usize)?,
+            window,
+            is_broken: false,
+        })
+    }
+
+    /// The view.
+    pub fn view(&self) -> u32
+        ensures { result ≡ self.now.ledger.view }
+    {
+        self.ledger.view()
+    }
+
+    /// The number of the last batch that was committed, 0 where none was.
+    pub fn committed(&self) -> u32
+        ensures { result ≡ self.now.ledger.committed }
+    {
+        self.ledger.committed()
+    }
+
+    /// How many attempts are open.
+    pub fn opened(&self) -> usize
+        ensures { result ≡ length self.now.ledger.opened }
+    {
+        self.ledger.opened()
+    }
+
+    /// Whether one more attempt may be open.
+    pub fn has_room(&self) -> bool
+        ensures { IsTrue result ↔ (length self.now.ledger.opened < self.now.ledger.window) }
+    {
+        self.ledger.opened() < self.window as usize
+    }
+
+    /// The number of the batch that is attempted next.
+    pub fn next_number(&self) -> u32
+        ensures { result ≡ self.now.ledger.committed + 1 + length self.now.ledger.opened }
+    {
+        self.ledger.is_ledger();
+        self.ledger.committed() + 1 + self.ledger.opened() as u32
+    }
+
+    /// Whether no attempt came since a rollback, so that the next is serial.
+    pub fn is_next_serial(&self) -> bool
+        ensures { result ≡ self.now.ledger.is_next_serial }
+    {
+        self.ledger.is_next_serial()
+    }
+
+    /// The token of the open attempt at that place, counted from 0.
+    pub fn token(&self, place: usize) -> [u8; 32]
+        requires { place < length self.now.ledger.opened }
+        ensures { option_map (λ o. o.token) (slice_get self.now.ledger.opened place) ≡ Some result }
+    {
+        self.ledger.token(place)
+    }
+
+    /// Whether an attempt failed, and no rollback has succeeded since.
+    pub fn is_broken(&self) -> bool
+        ensures { result ≡ self.now.is_broken }
+    {
+        self.is_broken
+    }
+}
+
+impl<'n> Replica<'n> {
+    /// Runs the batch by the replica's workers in threads, and makes an attempt of what they noted, which is open then.
+    ///
+    /// docs/TRACE.md, "The deployment's procedure". `view` and `serial` are the ones that are due. The gate is entered
+    /// before each execution, with the request's index. Nothing that the threads did is believed: the attempt is what
+    /// the replica's own account says of the records (`Closes`). Of the faults of workers that of the lowest is told; each
+    /// fault but `Broken` leaves the account as it was, and breaks the replica until `rollback` succeeds. May wait for
+    /// other threads.
+    pub fn run_attempt<R: Threads + Wait + Sync, G: Gate>(
+        &mut self,
+        rt: &R,
+        alloc: Global,
+        batch: &BatchData,
+        view: u32,
+        serial: bool,
+        gate: &G,
+    ) -> Result<AttemptData, AttemptFault>
+        requires last { self.old.ledger.committed + 1 + length self.old.ledger.opened ≤ 65535 }
+        requires room { length self.old.ledger.opened < self.old.ledger.window }
+        requires view { view ≡ self.old.ledger.view }
+        requires serial { serial ≡ self.old.ledger.is_next_serial }
+        requires batch { IsTrue (is_batch (plain batch.now)) }
+        ensures attempted { IfOk result (λ a. Attempts view serial self.old self.new (plain batch.now) (attempt a)) }
+        ensures refused { IfErr result (λ why. FailsAttempt why self.old self.new) }
+    {
+        if self.is_broken {
+            return Err(AttemptFault::Broken);
+        }
+        self.is_broken = true;
+        let front = AttemptFront {
+            seq: self.next_number(),
+            view,
+            serial,
+        };
+        let attempt = self.attempt(rt, alloc, front, batch, gate)?;
+        self.is_broken = false;
+        Ok(attempt)
+    }
+
+    /// Makes an attempt of records that a caller took, which is open then.
+    ///
+    /// The number, the view and the mode are the ones that are due. The stripes stay as they were, so that a later
+    /// `run_attempt` over the rows that it wrote can be `Mismatch` until a rollback discards it. `Broken` is tested
+    /// first, and comes exactly where the replica is broken. After a refusal nothing has changed.
+    pub fn close_attempt(
+        &mut self,
+        alloc: Global,
+        seq: u32,
+        view: u32,
+        serial: bool,
+        batch: &BatchData,
+        records: &[AccessRecord],
+    ) -> Result<AttemptData, CloseFault>
+        requires seq { seq ≡ self.old.ledger.committed + 1 + length self.old.ledger.opened }
+        requires last { seq ≤ 65535 }
+        requires room { length self.old.ledger.opened < self.old.ledger.window }
+        requires view { view ≡ self.old.ledger.view }
+        requires serial { serial ≡ self.old.ledger.is_next_serial }
+        requires batch { IsTrue (is_batch (plain batch.now)) }
+        ensures closed { IfOk result (λ a. ClosesOwn (record { seq = seq; view = view; serial = serial }) self.old self.new (plain batch.now) records.now (attempt a)) }
+        ensures mismatch { result ≡ Err CloseFault.Mismatch → AreMismatched (record { seq = seq; view = view; serial = serial }) self.old.ledger (plain batch.now) (touched_by self.old.names (plain batch.now)) records.now }
+        ensures broken { (result ≡ Err CloseFault.Broken) ↔ (self.old.is_broken ≡ true) }
+        ensures refused { OnErr result (self.new ≡ self.old) }
+    {
+        if self.is_broken {
+            return Err(CloseFault::Broken);
+        }
+        let front = AttemptFront { seq, view, serial };
+        match self.close(alloc, front, batch, records, None) {
+            Ok(attempt) => Ok(attempt),
+            Err(Unclosed::Memory) => Err(CloseFault::Memory),
+            Err(Unclosed::Mismatch) => Err(CloseFault::Mismatch),
+        }
+    }
+
+    /// Commits the batch with this number, of which the first open attempt must be. It takes no memory and waits for
+    /// nobody.
+    ///
+    /// docs/MODEL.md, "Section state, fate". `Broken` is tested first. A refusal changes nothing.
+    pub fn commit(&mut self, seq: u32) -> Result<CommitData, CommitFault>
+        ensures committed { IfOk result (λ c. CommitsFirst self.old self.new (commit c)) }
+        ensures there { IfOk result (λ _. seq ≡ self.old.ledger.committed + 1) }
+        ensures broken { (result ≡ Err CommitFault.Broken) ↔ (self.old.is_broken ≡ true) }
+        ensures refused { OnErr result (self.new ≡ self.old) }
+    {
+        if self.is_broken {
+            return Err(CommitFault::Broken);
+        }
+        match self.ledger.commit(seq) {
+            Ok(commit) => {
+                if let Some(tick) = self.settles.remove(0) {
+                    self.floor.settle(tick);
+                }
+                Ok(commit)
+            }
+            Err(_) => Err(CommitFault::NotOpen),
+        }
+    }
+
+    /// Discards all open attempts, puts the rows back to what is committed, also those that only an attempt that failed
+    /// has written, and goes on in the next view. The replica isn't broken any more.
+    ///
+    /// docs/MODEL.md, "Working table, committed table". All memory is asked for before a first stripe is undone; where
+    /// it runs out nothing has changed.
+    pub fn rollback(&mut self, alloc: Global) -> Result<RollbackData, AllocError>
+        requires { self.old.ledger.view < 2 ^ 32 - 1 }
+        ensures rolled_back { IfOk result (λ r. RollsBack self.old.ledger self.new.ledger (rollback r)) }
+        ensures whole { OnOk result (self.new ≡ record self.old { ledger = self.new.ledger; is_broken = false }) }
+        ensures refused { OnErr result (self.new ≡ self.old) }
+    {
+        let mut undone = Vec::with_capacity(alloc, 2 * self.names.len())?;
+        let rollback = self.ledger.rollback(alloc)?;
+        // there is room for every row, so nothing is refused here
+        let _ = self.floor.undo(&mut undone);
+        self.settles.clear();
+        self.is_broken = false;
+        Ok(rollback)
+    }
+
+    // Runs the batch, and closes what was noted.
+    fn attempt<R: Threads + Wait + Sync, G: Gate>(
+        &mut self,
+        rt: &R,
+        alloc: Global,
+        front: AttemptFront,
+        batch: &BatchData,
+        gate: &G,
+    ) -> Result<AttemptData, AttemptFault>
+        requires seq { front.seq ≡ self.old.ledger.committed + 1 + length self.old.ledger.opened }
+        requires last { front.seq ≤ 65535 }
+        requires room { length self.old.ledger.opened < self.old.ledger.window }
+        requires view { front.view ≡ self.old.ledger.view }
+        requires serial { front.serial ≡ self.old.ledger.is_next_serial }
+        requires batch { IsTrue (is_batch (plain batch.now)) }
+        ensures closed { IfOk result (λ a. ClosesSome front self.old self.new (plain batch.now) (attempt a)) }
+        ensures refused { OnErr result (self.new ≡ self.old) }
+        ensures fault { IfErr result IsFresh }
+    {
+        let crew = crew_size(batch.sizes.as_slice(), self.seats.len() as u8, front.serial);
+        let records = run_batch(
+            rt,
+            alloc,
+            &self.floor,
+            &self.ticks,
+            &mut self.seats,
+            batch,
+            crew,
+            gate,
+        )?;
+        let tick = greatest_tick(records.as_slice());
+        match self.close(alloc, front, batch, records.as_slice(), tick) {
+            Ok(attempt) => Ok(attempt),
+            Err(Unclosed::Memory) => Err(AttemptFault::Memory),
+            Err(Unclosed::Mismatch) => Err(AttemptFault::Mismatch),
+        }
+    }
+
+    // Closes the records, and keeps up to which tick the stripes are settled when the attempt is committed.
+    fn close(
+        &mut self,
+        alloc: Global,
+        front: AttemptFront,
+        batch: &BatchData,
+        records: &[AccessRecord],
+        tick: Option<u64>,
+    ) -> Result<AttemptData, Unclosed>
+        requires seq { front.seq ≡ self.old.ledger.committed + 1 + length self.old.ledger.opened }
+        requires last { front.seq ≤ 65535 }
+        requires room { length self.old.ledger.opened < self.old.ledger.window }
+        requires view { front.view ≡ self.old.ledger.view }
+        requires serial { front.serial ≡ self.old.ledger.is_next_serial }
+        requires batch { IsTrue (is_batch (plain batch.now)) }
+        ensures closed { IfOk result (λ a. ClosesThese front self.old self.new (plain batch.now) records.now (attempt a)) }
+        ensures mismatch { result ≡ Err Unclosed.Mismatch → AreMismatched front self.old.ledger (plain batch.now) (touched_by self.old.names (plain batch.now)) records.now }
+        ensures refused { OnErr result (self.new ≡ self.old) }
+    {
+        if self.settles.reserve(1).is_err() {
+            return Err(Unclosed::Memory);
+        }
+        let Ok(touched) = touched_in(alloc, self.names, batch) else {
+            return Err(Unclosed::Memory);
+        };
+        match self
+            .ledger
+            .close(alloc, front, batch, touched.as_slice(), records)
+        {
+            Ok(attempt) => {
+                self.settles.push_reserved(tick);
+                Ok(attempt)
+            }
+            Err(why) => Err(why),
+        }
+    }
+}
+
+// The seats of so many workers.
+fn seats_of(
+    tickets: &Tickets,
+    mut all: TicketSeats,
+    workers: u8,
+    mut seats: Vec<TicketSeat>,
+) -> Vec<TicketSeat>
+    requires tickets { tickets.now.seats ≡ workers }
+    requires all { all ≡ fresh_seats tickets.now }
+    requires few { workers ≤ 8 }
+    requires room { (vec_len seats ≡ 0) × (workers ≤ vec_capacity seats) }
+    ensures own { AreTickets tickets.now result.items }
+    ensures many { vec_len result ≡ workers }
+{
+    for number in 0..workers {
+        match all.seat(number) {
+            Some(seat) => seats.push_reserved(seat),
+            None => unreachable!(),
+        }
+    }
+    seats
+}
+
+// What each request of the batch touches.
+fn touched_in(alloc: Global, names: &Names, batch: &BatchData) -> Result<Vec<Touched>, AllocError>
+    ensures { IfOk result (λ t. t.items ≡ touched_by names.now.items (plain batch.now)) }
+{
+    let mut all = Vec::with_capacity(alloc, batch.requests.len())?;
+    for request in &batch.requests {
+        all.push(touched(&request.request(), names))?;
+    }
+    Ok(all)
+}
+
+// The greatest tick of the records.
+fn greatest_tick(records: &[AccessRecord]) -> Option<u64> {
+    records.iter().map(|record| record.tick()).max()
+}

@@ -1,0 +1,5 @@
+use Rattle.eve_smallbank.proofs.Recording.{AreNotedBelow}
+use Rattle.eve_smallbank.proofs.fit.are_noted.Given as goal
+
+abbrev pub invariant-loop-place : goal.invariant-loop-place
+invariant-loop-place l = AreNotedBelow l.rows l.entries l.effects l.place

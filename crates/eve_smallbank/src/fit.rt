@@ -1,0 +1,70 @@
+//! Whether a reply and entries fit a request.
+
+ghost use Rattle.std.specs.Prelude.{◌≡◌, ◌≤◌, ℕ, List, length, map, take};
+ghost use Rattle.std.specs.Bool.{Decides};
+ghost use Rattle.eve_smallbank.specs.SmallBank.{plain};
+ghost use Rattle.eve_smallbank.specs.Access.{Fits};
+ghost use Rattle.eve_smallbank.specs.Touch.{touched_of};
+ghost use Rattle.eve_smallbank.specs.Recorded.{noted_from, IsNoted};
+
+use crate::{Effect, Entry, Kind, Reply, Request, Touched, UpToThree, decide};
+use eve_accounts::{Cents, Row};
+
+/// Whether the reply and the entries that were noted of a request are what it does to each bank of the
+/// customers that has the values seen.
+///
+/// docs/MODEL.md, "A record fits its request". `touched` is the answer of `touched` for this request.
+pub fn fits(request: &Request, touched: &Touched, reply: Reply, entries: &UpToThree<Entry>) -> bool
+    requires { (names : List (List ℕ)) × (touched.now ≡ touched_of names (plain request.now)) }
+    ensures { (names : List (List ℕ)) → touched.now ≡ touched_of names (plain request.now)
+        → Decides result (Fits names (record { request = plain request.now; reply = reply; entries = entries.now })) }
+{
+    let rows = touched.rows();
+    if entries.len() != rows.len() {
+        return false;
+    }
+    let seen = values_seen(entries);
+    let decision = decide(request, touched, &seen[..rows.len()]);
+    is_same(decision.reply, reply) && are_noted(entries, &rows, &decision.effects)
+}
+
+fn is_same(reply: Reply, other: Reply) -> bool
+    ensures { Decides result (reply ≡ other) }
+{
+    reply == other
+}
+
+/// The values that the entries saw, first in an array.
+fn values_seen(entries: &UpToThree<Entry>) -> [Cents; 3]
+    ensures { take (length entries.now) result ≡ map (λ e. e.seen) entries.now }
+{
+    let mut values = [Cents::ZERO; 3];
+    for place in 0..entries.len() {
+        values[place] = entries.at(place).seen;
+    }
+    values
+}
+
+/// Whether the entries are of these rows with these effects, one for each.
+fn are_noted(
+    entries: &UpToThree<Entry>,
+    rows: &UpToThree<(Row, Kind)>,
+    effects: &UpToThree<Effect>,
+) -> bool
+    requires entries { length entries.now ≡ length rows.now }
+    requires effects { length effects.now ≡ length rows.now }
+    ensures { Decides result (entries.now ≡ noted_from rows.now entries.now effects.now) }
+{
+    for place in 0..rows.len() {
+        if !is_noted(&entries.at(place), rows.at(place).0, &effects.at(place)) {
+            return false;
+        }
+    }
+    true
+}
+
+fn is_noted(entry: &Entry, row: Row, effect: &Effect) -> bool
+    ensures { Decides result (IsNoted row entry.now effect.now) }
+{
+    entry.row == row && entry.kind == effect.kind && entry.after == effect.after
+}

@@ -1,0 +1,59 @@
+-- What `run` says of bytes.
+use Rattle.std.specs.Prelude.{◌≡◌, ℕ, ◌^◌, ◌<◌, List, length, ◌⊎◌}
+use Rattle.eve_grammar.specs.Trace.{Trace, head_of}
+use Rattle.eve_grammar.specs.Spelling.{length_of}
+use Rattle.eve_grammar.specs.Limits.{HasLimits, Spells}
+use Rattle.eve_workload.specs.declared.mixer.Mixer.{Mixer}
+use Rattle.eve_workload.specs.Workload.{Workload, IsWorkload}
+use Rattle.eve_workload.specs.Workload.{head_of as head_asked}
+use Rattle.eve_workload.specs.Lines.{workload_text}
+use Rattle.eve_workload.specs.Steps.{IsBadLine}
+use Rattle.eve_write.specs.declared.parts.Parts.{Parts}
+use Rattle.eve_replica.specs.Run.{batches_cut, IsRunOf}
+
+-- a trace with the workload's numbers and customers and, in order, the cut of each of its batches
+pub record IsTraceOf (workload : Workload) (mixer : Mixer) (trace : Trace) : Type 0 where
+  pub head : head_of trace ≡ head_asked workload
+  pub customers : trace.customers ≡ workload.customers
+  pub batches : trace.batches ≡ batches_cut workload mixer
+
+-- the bytes are the text of this workload
+pub record IsText (bytes : List ℕ) (workload : Workload) : Type 0 where
+  pub text : bytes ≡ workload_text workload
+  pub right : IsWorkload workload
+
+-- the parts are those of a run of the workload of which the bytes are the text
+pub record IsRunOfText (mixer : Mixer) (bytes : List ℕ) (parts : Parts) : Type 0 where
+  pub workload : Workload
+  pub typed : IsText bytes workload
+  pub run : IsRunOf workload mixer parts
+
+-- the bytes are a workload, and the text spells a trace of it; the exit status is 0
+pub record Runs (mixer : Mixer) (bytes text : List ℕ) (status : ℕ) : Type 0 where
+  pub workload : Workload
+  pub typed : IsText bytes workload
+  pub trace : Trace
+  pub spelled : Spells text trace
+  pub run : IsTraceOf workload mixer trace
+  pub ends : status ≡ 0
+
+-- the bytes are a workload, and a trace of it has more than 2^30 bytes
+pub record RunsTooLong (mixer : Mixer) (bytes : List ℕ) : Type 0 where
+  pub workload : Workload
+  pub typed : IsText bytes workload
+  pub trace : Trace
+  pub limits : HasLimits trace
+  pub run : IsTraceOf workload mixer trace
+  pub long : 2 ^ 30 < length_of trace
+
+-- the bytes, or a trace of them, are more than 2^30
+abbrev pub IsTooLong : Mixer → List ℕ → Type 0
+IsTooLong mixer bytes = (2 ^ 30 < length bytes) ⊎ RunsTooLong mixer bytes
+
+-- a line of the bytes is bad
+abbrev pub HasBadLine : List ℕ → Type 0
+HasBadLine bytes = (number : ℕ) × IsBadLine bytes number
+
+-- the bytes are no workload, or too long a one
+abbrev pub RefusesRun : Mixer → List ℕ → Type 0
+RefusesRun mixer bytes = HasBadLine bytes ⊎ IsTooLong mixer bytes

@@ -1,0 +1,139 @@
+//! The call `run`: a deployment serves a workload, and the trace of the run is written.
+
+ghost use Rattle.std.specs.Prelude.{◌≡◌, ◌≢◌, ◌≤◌, ◌<◌, ◌^◌, ◌⊎◌, length, Err};
+ghost use Rattle.std.specs.Prelude.{IfOk, IfErr, IfSome, OnOk, OnErr};
+ghost use Rattle.eve_grammar.specs.Spelling.{length_of, spelling};
+ghost use Rattle.eve_streams.specs.Failures.{after_failure};
+ghost use Rattle.eve_write.specs.Data.{trace};
+ghost use Rattle.eve_write.specs.Writable.{HasSpelling};
+ghost use Rattle.eve_write.specs.Writing.{Wrote, Stopped};
+ghost use Rattle.eve_workload.specs.Workload.{IsWorkload};
+ghost use Rattle.eve_workload.specs.Lines.{workload_text};
+ghost use Rattle.eve_tool.specs.Fault.{status_of};
+ghost use Rattle.eve_tool.specs.Run.{Runs, IsRunOfText, HasBadLine, RefusesRun};
+ghost use Rattle.eve_tool.specs.Writes.{WritesAll, WritesAllOf, WritesFront, WritesFrontOf};
+
+use crate::fault::ToolFault;
+use crate::random::random_words;
+use crate::show::LONGEST_TRACE;
+use eve_recorder::OpenGate;
+use eve_replica::RunFault;
+use eve_replica::eve_workload::{Mixer, Workload, WorkloadFault};
+use eve_streams::{Sink, Source, read_all};
+use eve_write::{GatherFault, Parts, gather};
+use std::alloc::Global;
+use std::random::RandomSource;
+use std::sync::Wait;
+use std::thread::Threads;
+
+// How many bytes a workload has at most.
+const LONGEST_WORKLOAD: u32 = 1 << 30;
+
+// Sends the trace of the parts.
+fn send_trace<O: Sink>(parts: &Parts, out: &mut O) -> Result<(), ToolFault>
+    requires { HasSpelling parts.now }
+    ensures sent { OnOk result ((length_of (trace parts.now) ≤ 2 ^ 30)
+        × Wrote O.written O.failures out.old out.new (spelling (trace parts.now))) }
+    ensures long { result ≡ Err ToolFault.TooLong → (2 ^ 30 < length_of (trace parts.now))
+        × (out.new ≡ out.old) }
+    ensures stopped { result ≡ Err ToolFault.Write → (length_of (trace parts.now) ≤ 2 ^ 30)
+        × Stopped O.written O.failures out.old out.new (spelling (trace parts.now)) }
+    ensures why { IfErr result (λ e. (e ≡ ToolFault.TooLong) ⊎ (e ≡ ToolFault.Write)) }
+{
+    match gather(parts, LONGEST_TRACE as u64, out) {
+        Ok(_) => Ok(()),
+        Err(GatherFault::Write) => Err(ToolFault::Write),
+        Err(GatherFault::TooLong) => Err(ToolFault::TooLong),
+        Err(GatherFault::Shape) => unreachable!(),
+    }
+}
+
+// The workload of which these bytes are the text.
+fn workload_of(alloc: Global, bytes: &[u8]) -> Result<Workload, ToolFault>
+    ensures read { IfOk result (λ w. bytes.now ≡ workload_text w) }
+    ensures right { IfOk result IsWorkload }
+    ensures line { IfErr result (λ e. status_of e ≡ 2 → HasBadLine bytes.now) }
+    ensures why { IfErr result (λ e. e ≢ ToolFault.Write) }
+{
+    match Workload::read(alloc, bytes) {
+        Ok(workload) => Ok(workload),
+        Err(WorkloadFault::Line(line)) => Err(ToolFault::Line(line)),
+        Err(WorkloadFault::Memory) => Err(ToolFault::Memory),
+    }
+}
+
+// Runs the workload of these bytes, and answers the parts of its trace.
+fn parts_of<R: RandomSource + Threads + Wait + Sync>(
+    rt: &R,
+    alloc: Global,
+    bytes: &[u8],
+    mixer: Mixer,
+) -> Result<Parts, ToolFault>
+    ensures run { IfOk result (IsRunOfText mixer bytes.now) }
+    ensures line { IfErr result (λ e. status_of e ≡ 2 → HasBadLine bytes.now) }
+    ensures why { IfErr result (λ e. e ≢ ToolFault.Write) }
+{
+    let workload = workload_of(alloc, bytes)?;
+    let random = random_words(rt)?;
+    match eve_replica::run(rt, alloc, &workload, mixer, random, &OpenGate) {
+        Ok(parts) => Ok(parts),
+        Err(RunFault::Memory) => Err(ToolFault::Memory),
+        Err(RunFault::Broken) => Err(ToolFault::Broken),
+    }
+}
+
+// Runs the workload of these bytes and sends the trace, and answers the exit status.
+fn run_bytes<R: RandomSource + Threads + Wait + Sync, O: Sink>(
+    rt: &R,
+    alloc: Global,
+    bytes: &[u8],
+    mixer: Mixer,
+    out: &mut O,
+) -> Result<u8, ToolFault>
+    ensures all { IfOk result (WritesAll (Runs mixer) bytes.now (O.written out.old)
+        (O.written out.new)) }
+    ensures status { IfOk result (λ status. status ≡ 0) }
+    ensures fine { OnOk result (O.failures out.new ≡ O.failures out.old) }
+    ensures front { OnErr result ((out.new ≡ out.old)
+        ⊎ WritesFront (Runs mixer) bytes.now (O.written out.old) (O.written out.new)) }
+    ensures refused { IfErr result (λ e. status_of e ≡ 2
+        → (out.new ≡ out.old) × RefusesRun mixer bytes.now) }
+    ensures write { IfErr result (λ e. e ≡ ToolFault.Write
+        → O.failures out.new ≡ after_failure (O.failures out.old)) }
+{
+    let parts = parts_of(rt, alloc, bytes, mixer)?;
+    send_trace(&parts, out)?;
+    Ok(0)
+}
+
+/// Reads a workload, asks for random words once it is accepted, runs it, and sends the trace, with the
+/// answer 0.
+///
+/// docs/TRACE.md, "Workload" and "The deployment's procedure". A workload of more than 2^30 bytes is too long,
+/// and so is one whose trace would be; nothing is sent then, nor where a line of it is bad.
+pub(crate) fn run<R: AllocGlobal + RandomSource + Threads + Wait + Sync, I: Source, O: Sink>(
+    rt: &R,
+    mixer: Mixer,
+    input: &mut I,
+    out: &mut O,
+) -> Result<u8, ToolFault>
+    ensures all { IfOk result (WritesAllOf (Runs mixer) (I.remaining input.old) (O.written out.old)
+        (O.written out.new)) }
+    ensures status { IfOk result (λ status. status ≡ 0) }
+    ensures fine { OnOk result ((I.failures input.new ≡ I.failures input.old)
+        × (O.failures out.new ≡ O.failures out.old)) }
+    ensures front { OnErr result ((out.new ≡ out.old)
+        ⊎ WritesFrontOf (Runs mixer) (I.remaining input.old) (O.written out.old) (O.written out.new)) }
+    ensures refused { IfErr result (λ e. status_of e ≡ 2 → (out.new ≡ out.old)
+        × ((I.failures input.new ≡ after_failure (I.failures input.old))
+        ⊎ IfSome (I.remaining input.old) (RefusesRun mixer))) }
+    ensures write { IfErr result (λ e. e ≡ ToolFault.Write
+        → O.failures out.new ≡ after_failure (O.failures out.old)) }
+{
+    let alloc = rt.alloc();
+    let bytes = read_all(alloc, input, LONGEST_WORKLOAD)?;
+    if bytes.len() > LONGEST_WORKLOAD as usize {
+        return Err(ToolFault::TooLong);
+    }
+    run_bytes(rt, alloc, bytes.as_slice(), mixer, out)
+}

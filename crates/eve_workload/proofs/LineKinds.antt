@@ -1,0 +1,25 @@
+-- The kind of a line by the number of its words.
+use Rattle.std.proofs.Common.{◌≡◌, ℕ, List, length, ap, ◌∙◌, sym, refl, arith}
+use Rattle.eve_smallbank.specs.SmallBank.{Request, Balance, DepositChecking, TransactSaving, Amalgamate, WriteCheck}
+use Rattle.eve_grammar.specs.Trace.{Asked}
+use Rattle.eve_workload.specs.declared.deployment.Deployment.{Deployment}
+use Rattle.eve_workload.specs.Lines.{Line, HeadLine, CustomerLine, BatchLine, RequestLine, line_words, request_words}
+
+short_request : (client number : List ℕ) (r : Request) → length (request_words client number r) ≡ 6 → ⊥
+short_request client number (Balance name) six = omega (arith, six)
+short_request client number (DepositChecking name amount) six = omega (arith, six)
+short_request client number (TransactSaving name amount) six = omega (arith, six)
+short_request client number (Amalgamate from to) six = omega (arith, six)
+short_request client number (WriteCheck name amount) six = omega (arith, six)
+
+pub with_five : (l : Line) (words : List (List ℕ)) → length words ≡ 5 → line_words l ≡ words → ((a : Asked) → l ≡ RequestLine a → ⊥) → ⊥
+with_five (HeadLine d) words five is other = omega (arith, five, ap length is)
+with_five (CustomerLine c) words five is other = omega (arith, five, ap length is)
+with_five BatchLine words five is other = omega (arith, five, ap length is)
+with_five (RequestLine a) words five is other = other a refl
+
+pub with_six : (l : Line) (words : List (List ℕ)) → length words ≡ 6 → line_words l ≡ words → ((d : Deployment) → l ≡ HeadLine d → ⊥) → ⊥
+with_six (HeadLine d) words six is other = other d refl
+with_six (CustomerLine c) words six is other = omega (arith, six, ap length is)
+with_six BatchLine words six is other = omega (arith, six, ap length is)
+with_six (RequestLine a) words six is other = short_request _ _ a.request (ap length is ∙ six)

@@ -1,0 +1,22 @@
+use Rattle.std.proofs.Common.{◌≡◌, ℕ, length, IsTrue, sym, subst, ap, ◌∙◌}
+use Rattle.std.proofs.lemmas.List.{length-map}
+use Rattle.eve_workload.specs.Lines.{line_words}
+use Rattle.eve_workload.specs.Steps.{is_line}
+use Rattle.eve_workload.specs.Words.{bytes_of}
+use Rattle.eve_workload.proofs.Options.{none_map}
+use Rattle.eve_workload.proofs.LineKinds.{with_five, with_six}
+use Rattle.eve_workload.proofs.line.line_of.Goals as goal
+
+pub returns-in-5-clause-none : goal.returns-in-5-clause-none
+returns-in-5-clause-none c =
+    none_map c.line_of_five.result _ _
+    (λ none l right words. with_five l (bytes_of c.args.words.now) (length-map c.args.words.now _ ∙ c.in-5.is) words
+    (λ a is. none a (subst (λ m. IsTrue (is_line m)) is right) (ap line_words (sym is) ∙ words)))
+    c.line_of_five.ensures.none
+
+pub returns-in-6-clause-none : goal.returns-in-6-clause-none
+returns-in-6-clause-none c =
+    none_map c.line_of_six.result _ _
+    (λ none l right words. with_six l (bytes_of c.args.words.now) (length-map c.args.words.now _ ∙ c.in-6.is) words
+    (λ d is. none d (subst (λ m. IsTrue (is_line m)) is right) (ap line_words (sym is) ∙ words)))
+    c.line_of_six.ensures.none

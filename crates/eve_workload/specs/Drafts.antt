@@ -1,0 +1,89 @@
+-- What a draft keeps of the lines that it has taken. Of the lines before, the nearest stands first.
+use Rattle.std.specs.Prelude.{◌≡◌, ℕ, ◌*◌, ◌<◌, ◌≤◌, Bool, take, List, [], ◌∷◌, ◌++◌, map, length, Option, Some, None, IfSome, MatchBool}
+use Rattle.std.specs.List.{list_any}
+use Rattle.std.specs.Ordering.{nat_cmp, is_eq, ordering_then}
+use Rattle.std.specs.Borrow.{Bor}
+use Rattle.eve_accounts.specs.Names.{same_name}
+use Rattle.eve_grammar.specs.Trace.{Asked}
+use Rattle.eve_write.specs.Data.{customer, asked}
+use Rattle.eve_workload.specs.declared.deployment.Deployment.{Deployment}
+use Rattle.eve_workload.specs.declared.draft.Last.{Last}
+use Rattle.eve_workload.specs.declared.draft.Last.TheVariants as last
+use Rattle.eve_workload.specs.declared.draft.Pair.{Pair}
+use Rattle.eve_workload.specs.declared.draft.Draft.{Draft}
+use Rattle.eve_workload.specs.Workload.{names_of}
+use Rattle.eve_workload.specs.Lines.{Line, HeadLine, CustomerLine, BatchLine, RequestLine, line_text}
+use Rattle.eve_workload.specs.Steps.{customers_in, requests_in, last_requests, IsRightBehind, AreRight}
+
+-- what the last line is
+abbrev pub last_in : List Line → Last
+last_in [] = last.Nothing
+last_in (HeadLine d ∷ before) = last.Head
+last_in (CustomerLine c ∷ before) = last.Customer
+last_in (BatchLine ∷ before) = last.Batch
+last_in (RequestLine a ∷ before) = last.Request
+
+-- the deployment of the last head
+abbrev pub deployment_in : List Line → Option Deployment
+deployment_in [] = None
+deployment_in (HeadLine d ∷ before) = Some d
+deployment_in (CustomerLine c ∷ before) = deployment_in before
+deployment_in (BatchLine ∷ before) = deployment_in before
+deployment_in (RequestLine a ∷ before) = deployment_in before
+
+-- where batches start among the requests
+abbrev pub starts_in : List Line → List ℕ
+starts_in [] = []
+starts_in (HeadLine d ∷ before) = starts_in before
+starts_in (CustomerLine c ∷ before) = starts_in before
+starts_in (BatchLine ∷ before) = starts_in before ++ length (requests_in before) ∷ []
+starts_in (RequestLine a ∷ before) = starts_in before
+
+-- the number of the line behind the head, or of the head
+abbrev pub next_of : List Line → ℕ
+next_of [] = 1
+next_of (line ∷ before) = 2
+
+-- whether a name is among keys
+abbrev pub has_name : List (Bor (List ℕ)) → List ℕ → Bool
+has_name keys name = list_any (λ key. same_name name key.now) keys
+
+-- whether two pairs are the same
+abbrev pub same_pair : Pair → Pair → Bool
+same_pair p q = is_eq (ordering_then (nat_cmp p.client q.client) (nat_cmp p.number q.number))
+
+-- whether a pair is among keys
+abbrev pub has_pair : List Pair → Pair → Bool
+has_pair keys pair = list_any (same_pair pair) keys
+
+-- a request's pair
+abbrev pub key_of : Asked → Pair
+key_of a = record { client = a.client; number = a.number }
+
+-- few enough that their counts fit
+pub record IsSmall (d : Draft) : Type 0 where
+  pub customers : length d.customers.items ≤ 4096
+  pub starts : length d.starts.items ≤ 65535
+  pub requests : length d.requests.items ≤ 65535 * 256
+
+-- the draft keeps these lines, which are right
+pub record Keeps (d : Draft) (before : List Line) : Type 0 where
+  pub right : AreRight before
+  pub last : d.last ≡ last_in before
+  pub deployment : IfSome (deployment_in before) (λ e. d.deployment ≡ e)
+  pub customers : map customer d.customers.items ≡ customers_in before
+  pub requests : map asked d.requests.items ≡ requests_in before
+  pub starts : d.starts.items ≡ starts_in before
+  pub count : d.count ≡ last_requests before
+  pub names : (name : List ℕ) → has_name d.names.keys name ≡ list_any (same_name name) (names_of (customers_in before))
+  pub pairs : (pair : Pair) → has_pair d.pairs.keys pair ≡ list_any (same_pair pair) (map key_of (requests_in before))
+
+-- the line was taken, or it may not stand behind these
+abbrev pub Takes : Draft → List Line → Line → Bool → Type 0
+Takes new before line taken = MatchBool taken (Keeps new (line ∷ before)) (¬ IsRightBehind before line)
+
+-- so many bytes in front of the text are a line that was taken, or none that may stand behind these is there
+abbrev pub TakesLine : Draft → List Line → List ℕ → Option ℕ → Type 0
+TakesLine new before text (Some len) =
+    (line : Line) × (take len text ≡ line_text line) × (len ≤ length text) × (0 < len) × Keeps new (line ∷ before)
+TakesLine new before text None = (line : Line) (behind : List ℕ) → text ≡ line_text line ++ behind → ¬ IsRightBehind before line

@@ -1,0 +1,125 @@
+-- Which line may stand behind which, and the first that may not. Of the lines before, the nearest stands first.
+use Rattle.std.specs.Prelude.{◌≡◌, ℕ, ◌+◌, ◌*◌, nat_le, nat_lt, Bool, true, false, ◌&&◌, IsTrue, List, [], ◌∷◌, ◌++◌, ⊤, map, length, Contains}
+use Rattle.eve_grammar.specs.Trace.{Customer, Asked}
+use Rattle.eve_grammar.specs.Limits.{is_between, is_customer, is_asked}
+use Rattle.eve_workload.specs.declared.deployment.Deployment.{Deployment}
+use Rattle.eve_workload.specs.Workload.{names_of, pair_of}
+use Rattle.eve_workload.specs.Lines.{Line, HeadLine, CustomerLine, BatchLine, RequestLine, line_text}
+
+-- the customers of lines, as they are listed
+abbrev pub customers_in : List Line → List Customer
+customers_in [] = []
+customers_in (HeadLine d ∷ before) = customers_in before
+customers_in (CustomerLine c ∷ before) = customers_in before ++ c ∷ []
+customers_in (BatchLine ∷ before) = customers_in before
+customers_in (RequestLine a ∷ before) = customers_in before
+
+-- the requests of lines, as they are listed
+abbrev pub requests_in : List Line → List Asked
+requests_in [] = []
+requests_in (HeadLine d ∷ before) = requests_in before
+requests_in (CustomerLine c ∷ before) = requests_in before
+requests_in (BatchLine ∷ before) = requests_in before
+requests_in (RequestLine a ∷ before) = requests_in before ++ a ∷ []
+
+-- how many batches lines open
+abbrev pub batches_in : List Line → ℕ
+batches_in [] = 0
+batches_in (HeadLine d ∷ before) = batches_in before
+batches_in (CustomerLine c ∷ before) = batches_in before
+batches_in (BatchLine ∷ before) = batches_in before + 1
+batches_in (RequestLine a ∷ before) = batches_in before
+
+-- how many requests stand behind the last line that isn't one
+abbrev pub last_requests : List Line → ℕ
+last_requests [] = 0
+last_requests (HeadLine d ∷ before) = 0
+last_requests (CustomerLine c ∷ before) = 0
+last_requests (BatchLine ∷ before) = 0
+last_requests (RequestLine a ∷ before) = last_requests before + 1
+
+-- whether lines of these kinds may follow one another
+abbrev pub may_follow : List Line → Line → Bool
+may_follow [] (HeadLine d) = true
+may_follow [] (CustomerLine c) = false
+may_follow [] BatchLine = false
+may_follow [] (RequestLine a) = false
+may_follow (HeadLine d ∷ before) (HeadLine e) = false
+may_follow (HeadLine d ∷ before) (CustomerLine c) = true
+may_follow (HeadLine d ∷ before) BatchLine = false
+may_follow (HeadLine d ∷ before) (RequestLine a) = false
+may_follow (CustomerLine c ∷ before) (HeadLine d) = false
+may_follow (CustomerLine c ∷ before) (CustomerLine e) = true
+may_follow (CustomerLine c ∷ before) BatchLine = true
+may_follow (CustomerLine c ∷ before) (RequestLine a) = false
+may_follow (BatchLine ∷ before) (HeadLine d) = false
+may_follow (BatchLine ∷ before) (CustomerLine c) = false
+may_follow (BatchLine ∷ before) BatchLine = false
+may_follow (BatchLine ∷ before) (RequestLine a) = true
+may_follow (RequestLine a ∷ before) (HeadLine d) = false
+may_follow (RequestLine a ∷ before) (CustomerLine c) = false
+may_follow (RequestLine a ∷ before) BatchLine = true
+may_follow (RequestLine a ∷ before) (RequestLine b) = true
+
+-- whether the text may end behind the lines: a customer is there, and the last batch has a request
+abbrev pub may_end : List Line → Bool
+may_end [] = false
+may_end (HeadLine d ∷ before) = false
+may_end (CustomerLine c ∷ before) = true
+may_end (BatchLine ∷ before) = false
+may_end (RequestLine a ∷ before) = true
+
+-- the ranges of the numbers of line 1
+abbrev pub is_deployment : Deployment → Bool
+is_deployment d =
+    is_between 1 8 d.replicas && (is_between 1 16 d.verifiers && (nat_le d.quorum d.verifiers && (nat_lt d.verifiers (2 * d.quorum)
+    && (is_between 1 8 d.window && is_between 1 8 d.workers))))
+
+-- whether what the line says lies in its ranges
+abbrev pub is_line : Line → Bool
+is_line (HeadLine d) = is_deployment d
+is_line (CustomerLine c) = is_customer c
+is_line BatchLine = true
+is_line (RequestLine a) = is_asked a
+
+-- whether there are fewer of them than there may be: 4,096 customers, 65,535 batches, 256 requests of a batch
+abbrev pub has_room : List Line → Line → Bool
+has_room before (HeadLine d) = true
+has_room before (CustomerLine c) = nat_lt (length (customers_in before)) 4096
+has_room before BatchLine = nat_lt (batches_in before) 65535
+has_room before (RequestLine a) = nat_lt (last_requests before) 256
+
+-- no customer has the name yet, no request the client and the number
+abbrev pub IsNew : List Line → Line → Type 0
+IsNew before (HeadLine d) = ⊤
+IsNew before (CustomerLine c) = ¬ Contains (names_of (customers_in before)) c.name
+IsNew before BatchLine = ⊤
+IsNew before (RequestLine a) = ¬ Contains (map pair_of (requests_in before)) (pair_of a)
+
+-- the line may stand behind these
+pub record IsRightBehind (before : List Line) (line : Line) : Type 0 where
+  pub follows : IsTrue (may_follow before line)
+  pub ranges : IsTrue (is_line line)
+  pub room : IsTrue (has_room before line)
+  pub new : IsNew before line
+
+-- each line may stand behind those before it
+abbrev pub AreRight : List Line → Type 0
+AreRight [] = ⊤
+AreRight (line ∷ before) = IsRightBehind before line × AreRight before
+
+-- the text of lines
+abbrev pub text_before : List Line → List ℕ
+text_before [] = []
+text_before (line ∷ before) = text_before before ++ line_text line
+
+-- The first line that isn't right, counted from 1: those before it are complete and right one behind another,
+-- no complete line that may stand there follows, and the text may not end there.
+pub record IsBadLine (bytes : List ℕ) (number : ℕ) : Type 0 where
+  pub before : List Line
+  pub rest : List ℕ
+  pub text : bytes ≡ text_before before ++ rest
+  pub right : AreRight before
+  pub count : number ≡ length before + 1
+  pub wrong : (line : Line) (behind : List ℕ) → rest ≡ line_text line ++ behind → ¬ IsRightBehind before line
+  pub unended : rest ≡ [] → may_end before ≡ false

@@ -1,0 +1,261 @@
+//! A workload, as far as its lines have been read.
+
+ghost use Rattle.std.specs.Prelude.{◌≡◌, ◌≤◌, ℕ, ◌+◌, List, [], not, true, if◌then◌else◌, length, IfOk, IsTrue};
+ghost use Rattle.eve_accounts.specs.Names.{same_name};
+ghost use Rattle.eve_grammar.specs.Trace.{Customer, Asked as AskedValue};
+ghost use Rattle.eve_grammar.specs.Limits.{is_customer, is_asked};
+ghost use Rattle.eve_grammar.specs.Bodies.{customer as borrowed_customer, asked as borrowed_asked};
+ghost use Rattle.eve_workload.specs.declared.deployment.Deployment.{Deployment as DeploymentValue};
+ghost use Rattle.eve_workload.specs.declared.draft.Pair.{Pair as PairValue};
+ghost use Rattle.eve_workload.specs.Lines.{Line as LineValue, HeadLine, CustomerLine, BatchLine, RequestLine};
+ghost use Rattle.eve_workload.specs.Steps.{may_follow, may_end, is_deployment, is_line};
+ghost use Rattle.eve_workload.specs.Said.{said};
+ghost use Rattle.eve_workload.specs.Drafts.{last_in, next_of, has_name, has_pair, same_pair, IsSmall, Keeps, Takes, TakesLine};
+
+use crate::deployment::Deployment;
+use crate::line::{Line, line_of};
+use crate::requests::owned;
+use crate::words::split_line;
+use eve_grammar::{Asked, CustomerBody};
+use eve_write::{CustomerData, RequestData};
+use std::alloc::{AllocError, Global};
+use std::collections::BTreeSet;
+
+/// What the last line was.
+#[derive(Clone, Copy)]
+pub(crate) enum Last {
+    Nothing,
+    Head,
+    Customer,
+    Batch,
+    Request,
+}
+
+/// What tells one request from another.
+#[derive(Clone, Copy, PartialEq, Eq, PartialOrd, Ord)]
+pub(crate) struct Pair {
+    pub client: u32,
+    pub number: u64,
+}
+
+/// What the lines that were read say.
+#[derive(Drop)]
+pub(crate) struct Draft<'a> {
+    pub last: Last,
+    pub deployment: Deployment,
+    pub customers: Vec<CustomerData>,
+    pub names: BTreeSet<&'a [u8]>,
+    pub requests: Vec<RequestData>,
+    pub pairs: BTreeSet<Pair>,
+    // Where each batch starts among the requests.
+    pub starts: Vec<u32>,
+    // How many requests the last batch has.
+    pub count: u32,
+}
+
+impl<'a> Draft<'a> {
+    /// Nothing was read.
+    pub(crate) fn new(alloc: Global) -> Draft<'a>
+        ensures { Keeps result [] }
+    {
+        Draft {
+            last: Last::Nothing,
+            deployment: Deployment {
+                replicas: 0,
+                verifiers: 0,
+                quorum: 0,
+                window: 0,
+                workers: 0,
+            },
+            customers: Vec::new(alloc),
+            names: BTreeSet::new(alloc),
+            requests: Vec::new(alloc),
+            pairs: BTreeSet::new(alloc),
+            starts: Vec::new(alloc),
+            count: 0,
+        }
+    }
+
+    /// Takes the first line of a text, and says how long it is; `None` where it is no line that may stand here.
+    pub(crate) fn take_line(
+        &mut self,
+        alloc: Global,
+        text: &'a [u8],
+        words: &mut Vec<&'a [u8]>,
+    ) -> Result<Option<usize>, AllocError>
+        requires { IsSmall self.old }
+        ensures { IfOk result (λ taken. (before : List LineValue) → Keeps self.old before → TakesLine self.new before text.entry.now taken) }
+    {
+        let Some(len) = split_line(text, words)? else {
+            return Ok(None);
+        };
+        let Some(line) = line_of(words.as_slice()) else {
+            return Ok(None);
+        };
+        let taken = self.take(alloc, &line)?;
+        Ok(if taken { Some(len) } else { None })
+    }
+
+    // Takes a line, or says that it may not stand here.
+    fn take(&mut self, alloc: Global, line: &Line<'a>) -> Result<bool, AllocError>
+        requires small { IsSmall self.old }
+        requires right { IsTrue (is_line (said line.now)) }
+        ensures { IfOk result (λ taken. (before : List LineValue) → Keeps self.old before → Takes self.new before (said line.now) taken) }
+    {
+        match line {
+            Line::Head(deployment) => Ok(self.take_head(*deployment)),
+            Line::Customer(customer) => self.take_customer(alloc, customer),
+            Line::Batch => self.take_batch(),
+            Line::Request(asked) => self.take_request(alloc, asked),
+        }
+    }
+
+    fn take_head(&mut self, deployment: Deployment) -> bool
+        requires { IsTrue (is_deployment deployment) }
+        ensures { (before : List LineValue) → Keeps self.old before → Takes self.new before (HeadLine deployment) result }
+    {
+        if !self.last.takes_head() {
+            return false;
+        }
+        self.deployment = deployment;
+        self.last = Last::Head;
+        true
+    }
+
+    fn take_customer(
+        &mut self,
+        alloc: Global,
+        customer: &CustomerBody<'a>,
+    ) -> Result<bool, AllocError>
+        requires { IsTrue (is_customer (borrowed_customer customer.now)) }
+        ensures { IfOk result (λ taken. (before : List LineValue) → Keeps self.old before → Takes self.new before (CustomerLine (borrowed_customer customer.now)) taken) }
+    {
+        if !self.last.takes_customer() {
+            return Ok(false);
+        }
+        if self.customers.len() >= 4096 {
+            return Ok(false);
+        }
+        let name = customer.name;
+        if !add_name(&mut self.names, name)? {
+            return Ok(false);
+        }
+        self.customers.push(CustomerData {
+            name: name.to_vec(alloc)?,
+            saving: customer.saving,
+            checking: customer.checking,
+        })?;
+        self.last = Last::Customer;
+        Ok(true)
+    }
+
+    fn take_batch(&mut self) -> Result<bool, AllocError>
+        requires { IsSmall self.old }
+        ensures { IfOk result (λ taken. (before : List LineValue) → Keeps self.old before → Takes self.new before BatchLine taken) }
+    {
+        if !self.last.takes_batch() {
+            return Ok(false);
+        }
+        if self.starts.len() >= 65535 {
+            return Ok(false);
+        }
+        self.starts.push(self.requests.len() as u32)?;
+        self.count = 0;
+        self.last = Last::Batch;
+        Ok(true)
+    }
+
+    fn take_request(&mut self, alloc: Global, asked: &Asked<'a>) -> Result<bool, AllocError>
+        requires { IsTrue (is_asked (borrowed_asked asked.now)) }
+        ensures { IfOk result (λ taken. (before : List LineValue) → Keeps self.old before → Takes self.new before (RequestLine (borrowed_asked asked.now)) taken) }
+    {
+        if !self.last.takes_request() {
+            return Ok(false);
+        }
+        if self.count >= 256 {
+            return Ok(false);
+        }
+        let pair = Pair {
+            client: asked.client,
+            number: asked.number,
+        };
+        if !add_pair(&mut self.pairs, pair)? {
+            return Ok(false);
+        }
+        self.requests.push(owned(alloc, asked)?)?;
+        self.count += 1;
+        self.last = Last::Request;
+        Ok(true)
+    }
+
+    /// The number of the next line, from 1.
+    pub(crate) fn next_line(&self) -> u32
+        requires { IsSmall self.now }
+        ensures { (before : List LineValue) → Keeps self.now before → result ≡ length before + 1 }
+    {
+        let first = self.last.next_line();
+        first + (self.customers.len() + self.starts.len() + self.requests.len()) as u32
+    }
+}
+
+impl Last {
+    fn takes_head(self) -> bool
+        ensures { (before : List LineValue) (d : DeploymentValue) → self ≡ last_in before → result ≡ may_follow before (HeadLine d) }
+    {
+        matches!(self, Last::Nothing)
+    }
+
+    fn takes_customer(self) -> bool
+        ensures { (before : List LineValue) (c : Customer) → self ≡ last_in before → result ≡ may_follow before (CustomerLine c) }
+    {
+        matches!(self, Last::Head | Last::Customer)
+    }
+
+    fn takes_batch(self) -> bool
+        ensures { (before : List LineValue) → self ≡ last_in before → result ≡ may_follow before BatchLine }
+    {
+        matches!(self, Last::Customer | Last::Request)
+    }
+
+    fn takes_request(self) -> bool
+        ensures { (before : List LineValue) (a : AskedValue) → self ≡ last_in before → result ≡ may_follow before (RequestLine a) }
+    {
+        matches!(self, Last::Batch | Last::Request)
+    }
+
+    /// Whether a text may end behind this line.
+    pub(crate) fn may_end(self) -> bool
+        ensures { (before : List LineValue) → self ≡ last_in before → result ≡ may_end before }
+    {
+        matches!(self, Last::Customer | Last::Request)
+    }
+
+    // The number of the line behind the head, or of the head.
+    fn next_line(self) -> u32
+        ensures next { (before : List LineValue) → self ≡ last_in before → result ≡ next_of before }
+        ensures small { result ≤ 2 }
+    {
+        match self {
+            Last::Nothing => 1,
+            _ => 2,
+        }
+    }
+}
+
+// Adds a name; whether it is new.
+fn add_name<'a>(names: &mut BTreeSet<&'a [u8]>, name: &'a [u8]) -> Result<bool, AllocError>
+    ensures new { IfOk result (λ new. new ≡ not (has_name names.old.keys name.entry.now)) }
+    ensures kept { IfOk result (λ new. (other : List ℕ) →
+        has_name names.new.keys other ≡ (if same_name name.entry.now other then true else has_name names.old.keys other)) }
+{
+    Ok(names.insert(name)?)
+}
+
+// Adds a pair; whether it is new.
+fn add_pair(pairs: &mut BTreeSet<Pair>, pair: Pair) -> Result<bool, AllocError>
+    ensures new { IfOk result (λ new. new ≡ not (has_pair pairs.old.keys pair)) }
+    ensures kept { IfOk result (λ new. (other : PairValue) →
+        has_pair pairs.new.keys other ≡ (if same_pair pair other then true else has_pair pairs.old.keys other)) }
+{
+    Ok(pairs.insert(pair)?)
+}
