@@ -80,18 +80,20 @@ const ROLLBACK_AND_SERIAL_RERUN_LINES: &str = "0 Header 32
 1034 End 0
 ";
 
-const HELP: &str = "Audits traces of replicated SmallBank servers
+const HELP: &str = "Records runs of replicated SmallBank servers, and audits their traces
 
 Usage: eve <COMMAND>
 
 Commands:
   audit  Prints the verdict on the trace on standard input: yes, or the first fault
+  run    Runs the workload on standard input on replicas, and prints the trace of the run
   show   Prints the frames of the trace on standard input, a line for each
 
 Options:
   -h, --help  Print help
 
 Examples:
+  eve run < examples/two-deposits.workload | eve audit
   eve audit < examples/deposit-committed.trace
   eve audit --workers 2 < examples/two-orders-agree.trace
   eve show < examples/empty-run.trace
@@ -126,7 +128,7 @@ For more information, try '--help'.
 ";
 
 const NO_SUBCOMMAND: &str = "error: 'eve' requires a subcommand but one was not provided
-  [subcommands: audit, show]
+  [subcommands: audit, run, show]
 
 Usage: eve <COMMAND>
 
