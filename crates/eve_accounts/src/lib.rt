@@ -2,14 +2,17 @@
 #![tactic(auto)]
 
 mod balances;
+mod keyed_hash;
 mod money;
 mod names;
 mod row;
+mod set_row;
 
 pub use balances::Balances;
 pub use money::{Amount, Cents};
 pub use names::{NameFault, Names, is_name};
 pub use row::Row;
+pub use set_row::SetRow;
 
 #[cfg(test)]
 mod tests;

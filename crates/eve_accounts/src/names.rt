@@ -4,6 +4,7 @@ ghost use Rattle.std.specs.Prelude.{◌≡◌, ◌≤◌, ◌<◌, ◌↔◌, �
 ghost use Rattle.std.specs.List.{list_all};
 ghost use Rattle.eve_accounts.specs.Names.{NameList, IsNameList, CanTake, is_printable, is_name, customer_of};
 
+use crate::keyed_hash::KeyedHash;
 use indexmap::IndexSet;
 use std::alloc::Global;
 use std::hash::RandomState;
@@ -45,7 +46,7 @@ pub enum NameFault {
 /// docs/MODEL.md, "Names". The names' bytes are borrowed. Contracts see the list with its limit.
 #[derive(Drop)]
 pub struct Names<'a> {
-    set: IndexSet<&'a [u8], RandomState>,
+    set: IndexSet<&'a [u8], KeyedHash>,
     limit: u32,
 }
 
@@ -68,7 +69,7 @@ impl<'a> Names<'a> {
         ensures { result ≡ record { items = []; limit = limit } }
     {
         Names {
-            set: IndexSet::with_hasher(alloc, random),
+            set: IndexSet::with_hasher(alloc, KeyedHash::new(&random)),
             limit,
         }
     }

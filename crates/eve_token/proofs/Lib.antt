@@ -1,1 +1,6 @@
 pub mod WorkedTokens
+pub mod Levels
+pub mod Leaves
+pub mod Places
+pub mod Keeping
+pub mod Messages

@@ -1,1 +1,3 @@
+pub mod Merkle
 pub mod Token
+pub mod Places

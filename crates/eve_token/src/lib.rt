@@ -1,14 +1,20 @@
 //! Tokens: the hash by which replicas compare what they made of a batch.
 #![tactic(auto)]
 
-ghost use Rattle.std.specs.Prelude.{◌≡◌, ◌≤◌, ◌*◌, ◌++◌, ℕ, List, length, take};
+ghost use Rattle.std.specs.Prelude.{◌≡◌, ◌≤◌, ◌<◌, ◌*◌, ◌++◌, ◌⊎◌, ℕ, List, length, take};
 ghost use Rattle.std.specs.List.{flat_map};
 ghost use Rattle.sha2.specs.Hashers.{Holds256};
-ghost use Rattle.eve_token.specs.Token.{token_of};
+ghost use Rattle.eve_token.specs.Token.{flat_token, token_of};
 
+pub mod laws;
+mod merkle;
 mod spell;
+mod tree;
 
+use crate::merkle::root_over;
+pub use crate::merkle::token_of;
 use crate::spell::Spell;
+pub use crate::tree::RowTree;
 use eve_accounts::Balances;
 use eve_smallbank::Reply;
 use sha2::{Digest, Sha256};
@@ -16,12 +22,26 @@ use sha2::{Digest, Sha256};
 /// How many bytes go to the hasher at once: 144 balances or 128 replies.
 const BLOCK: usize = 1152;
 
-/// The token of an attempt: SHA-256 (FIPS 180-4) of `EVESB1`, the batch's number, the balances of
-/// all rows after the attempt, in row order, and the replies, in request order.
+/// The token of an attempt, by the version of the trace: of the batch's number, the balances of all rows after the
+/// attempt, in row order, and the replies, in request order.
 ///
-/// docs/TRACE.md, "Token", has the bytes. It allocates nothing.
-pub fn token(seq: u32, balances: &Balances, replies: &[Reply]) -> [u8; 32]
-    ensures { result ≡ token_of seq balances.now replies.now }
+/// docs/TRACE.md, "Token" and "Merkle token", has the bytes, and FIPS 180-4 the hash. It allocates nothing.
+pub fn token(version: u16, seq: u32, balances: &Balances, replies: &[Reply]) -> [u8; 32]
+    requires version { (version ≡ 1) ⊎ (version ≡ 2) }
+    requires rows { version ≡ 2 → 0 < length balances.now }
+    requires replies { version ≡ 2 → 0 < length replies.now }
+    ensures { result ≡ token_of version seq balances.now replies.now }
+{
+    if version == 1 {
+        hash_flat(seq, balances, replies)
+    } else {
+        token_of(seq, &root_over(0, balances.as_slice()), replies)
+    }
+}
+
+// The token of version 1.
+fn hash_flat(seq: u32, balances: &Balances, replies: &[Reply]) -> [u8; 32]
+    ensures { result ≡ flat_token seq balances.now replies.now }
 {
     let mut hasher = Sha256::new();
     hasher.update(b"EVESB1");
@@ -52,6 +72,3 @@ fn spell_all<T: Spell>(items: &[T], out: &mut [u8])
         item.spell(&mut out[i * T::LEN..]);
     }
 }
-
-#[cfg(test)]
-mod tests;

@@ -31,6 +31,9 @@ pub(crate) trait Spell {
 
     // A block holds at least one.
     ghost fits: { (0 < LEN) × (LEN ≤ BLOCK) };
+
+    // A leaf's message holds it behind the byte and the number.
+    ghost short: { LEN ≤ 9 };
 }
 
 /// A balance in cents, as eight bytes.
@@ -44,6 +47,8 @@ impl Spell for Cents {
     ghost length_text = { λ _. refl };
 
     ghost fits = { (lit< tt, lit≤ tt) };
+
+    ghost short = { lit≤ tt };
 
     fn spell(&self, out: &mut [u8]) {
         BigEndian::write_i64(out, self.get());
@@ -61,6 +66,8 @@ impl Spell for Reply {
     ghost length_text = { elim [ Done ↦ refl | Total _ ↦ refl | Aborted _ ↦ refl ] };
 
     ghost fits = { (lit< tt, lit≤ tt) };
+
+    ghost short = { lit≤ tt };
 
     fn spell(&self, out: &mut [u8]) {
         let (kind, total) = match *self {

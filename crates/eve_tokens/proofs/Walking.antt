@@ -13,7 +13,7 @@ use Rattle.eve_frames.specs.declared.attempt.AttemptView.{AttemptView}
 use Rattle.eve_views.specs.declared.fault.Code.{Code}
 use Rattle.eve_views.specs.declared.fault.Code.TheVariants as code
 use Rattle.eve_views.specs.declared.fault.Fault.{Fault}
-use Rattle.eve_views.specs.Form.{IsUpTo, SomePlace}
+use Rattle.eve_views.specs.Form.{IsUpTo, SomePlace, IsLeast}
 use Rattle.eve_token.specs.Token.{token_of}
 use Rattle.eve_history.specs.declared.fate.Fate.{Fate}
 use Rattle.eve_history.specs.declared.fate.Fate.TheVariants.{Committed, Discarded, Open}
@@ -26,7 +26,7 @@ use Rattle.eve_serial.specs.Visible.{opening_rows}
 use Rattle.eve_serial.specs.Committed.{first_rows, values_to, balances_to}
 use Rattle.eve_serial.proofs.Linked.{committed_number}
 use Rattle.eve_banks.specs.Settling.{Settling, settling, values_in}
-use Rattle.eve_tokens.specs.Faults.{due_token, TokensAreDue, StandsInTokens, IsTokenFault, IsLeastTokenFault}
+use Rattle.eve_tokens.specs.Faults.{due_token, TokensAreDue, StandsInTokens, IsTokenFault}
 
 -- ---- lists
 
@@ -240,14 +240,14 @@ module _ (t : Trace) (e : ℕ) where
   -- the token that is due, of what was read
   pub due_is : (s : Settling) (i offset seq : ℕ) (said : Attempt) (b after : List ℤ) (replies : List Reply) (judging : Judging t e i b) (next : IsNext t e i judging.done judging.rest offset said)
       → s ≡ settling t e → ((n : ℕ) → values_in (settling t e) n ≡ values_to t e n) → seq ≡ said.seq → length after ≡ length b → balance_at after ≡ values_in s seq → replies ≡ said.replies
-      → token_of said.seq after replies ≡ due_token t e next.item
+      → token_of 1 said.seq after replies ≡ due_token t e next.item
   due_is s i offset seq said b after replies judging next settled law is rows values same =
       let its_seq : said.seq ≡ next.item.attempt.seq = ap (λ (a : Attempt). a.seq) next.said_is in
       let its_replies : replies ≡ next.item.attempt.replies = same ∙ ap (λ (a : Attempt). a.replies) next.said_is in
       let its_values : balance_at after ≡ values_to t e next.item.attempt.seq = values ∙ (λ k. values_in (settled k) ((is ∙ its_seq) k)) ∙ law next.item.attempt.seq in
       let its_rows : length after ≡ 2 * length t.customers = rows ∙ judging.rows ∙ rows_told t e in
       let all : after ≡ balances_to t e next.item.attempt.seq = rows_are after ∙ (λ k. first_rows (its_rows k) (its_values k)) in
-      λ k. token_of (its_seq k) (all k) (its_replies k)
+      λ k. token_of 1 (its_seq k) (all k) (its_replies k)
 
   pub judging_on : (s : Settling) (i offset seq : ℕ) (said : Attempt) (b after : List ℤ) (judging : Judging t e i b) (next : IsNext t e i judging.done judging.rest offset said)
       → s ≡ settling t e → seq ≡ said.seq → length after ≡ length b → balance_at after ≡ values_in s seq → said.token ≡ due_token t e next.item → Judging t e (i + 1) after
@@ -316,14 +316,14 @@ first_committed t e Q done p rest at split none place =
 
 module _ (t : Trace) (e : ℕ) where
   abbrev IsWrong : ℕ × Attempt → Type 0
-  IsWrong x = x.1.token ≢ token_of x.1.seq (balances_to t e x.1.seq) x.1.replies
+  IsWrong x = x.1.token ≢ token_of 1 x.1.seq (balances_to t e x.1.seq) x.1.replies
 
   none_wrong : (ps : List Placed) → AllByRecursion (λ p. p.attempt.token ≡ due_token t e p) ps → AllByRecursion (λ p. ¬ IsWrong (placed_at p)) ps
   none_wrong [] due = tt
   none_wrong (p ∷ ps) due = ((λ wrong. wrong due.0), none_wrong ps due.1)
 
   pub token_is_wrong : (i offset : ℕ) (said : Attempt) (b : List ℤ) (judging : Judging t e i b) (next : IsNext t e i judging.done judging.rest offset said) → said.token ≢ due_token t e next.item
-      → IsLeastTokenFault t e (record { code = code.Token; offset = offset; replica = Some e })
+      → IsLeast (IsTokenFault t e) (record { code = code.Token; offset = offset; replica = Some e })
   token_is_wrong i offset said b judging next wrong =
       record {
         is = record {

@@ -11,9 +11,9 @@ use Rattle.eve_history.specs.Section.{Placed}
 use Rattle.eve_history.specs.Told.{history}
 use Rattle.eve_serial.specs.Committed.{balances_to}
 
--- the token of the balances after the attempt's batch, as replica e committed it, and of the attempt's replies
+-- version 1's token of the balances after the attempt's batch, as replica e committed it, and of the attempt's replies
 abbrev pub due_token : Trace → ℕ → Placed → List ℕ
-due_token t e p = token_of p.attempt.seq (balances_to t e p.attempt.seq) p.attempt.replies
+due_token t e p = token_of 1 p.attempt.seq (balances_to t e p.attempt.seq) p.attempt.replies
 
 -- each committed attempt of replica e has the token that it must have
 abbrev pub TokensAreDue : Trace → ℕ → Type 0
@@ -28,8 +28,3 @@ StandsInTokens _ t e at = ⊥
 pub record IsTokenFault (t : Trace) (e : ℕ) (f : Fault) : Type 0 where
   pub stands : StandsInTokens f.code t e f.offset
   pub inside : f.replica ≡ Some e
-
--- the first of the faults of tokens in replica e's section
-pub record IsLeastTokenFault (t : Trace) (e : ℕ) (f : Fault) : Type 0 where
-  pub is : IsTokenFault t e f
-  pub least : (g : Fault) → IsTokenFault t e g → IsUpTo f g

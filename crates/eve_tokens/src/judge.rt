@@ -3,12 +3,12 @@
 ghost use Rattle.std.specs.Prelude.{◌≡◌, ◌↔◌, IsTrue, IfOk, OnOk, IfErr};
 ghost use Rattle.eve_frames.specs.Views.{attempt_in};
 ghost use Rattle.eve_token.specs.Token.{token_of};
-ghost use Rattle.eve_views.specs.Form.{IfFound};
+ghost use Rattle.eve_views.specs.Form.{IfFound, IsLeast, HasNone};
 ghost use Rattle.eve_views.specs.Fronts.{whole};
 ghost use Rattle.eve_views.specs.declared.fault.Fault.{Fault as FaultValue};
 ghost use Rattle.eve_history.specs.Told.{telling, IsRightSection};
 ghost use Rattle.eve_banks.specs.Settling.{settling};
-ghost use Rattle.eve_tokens.specs.Faults.{TokensAreDue, IsTokenFault, IsLeastTokenFault};
+ghost use Rattle.eve_tokens.specs.Faults.{TokensAreDue, IsTokenFault};
 
 use eve_accounts::Balances;
 use eve_banks::Settled;
@@ -30,9 +30,10 @@ fn read_replies(attempt: &AttemptView<'_>, replies: &mut Vec<Reply>) -> Result<(
 
 /// Whether the attempt has the token of these balances and of its replies.
 fn is_due(attempt: &AttemptView<'_>, balances: &Balances, replies: &[Reply]) -> bool
-    ensures { IsTrue result ↔ ((attempt_in attempt.now.bytes.now).token ≡ token_of (attempt_in attempt.now.bytes.now).seq balances.now replies.now) }
+    ensures { IsTrue result ↔ ((attempt_in attempt.now.bytes.now).token
+        ≡ token_of 1 (attempt_in attempt.now.bytes.now).seq balances.now replies.now) }
 {
-    attempt.token() == token(attempt.seq(), balances, replies).as_slice()
+    attempt.token() == token(1, attempt.seq(), balances, replies).as_slice()
 }
 
 /// Judges the tokens of a replica's committed attempts: each is that of the balances after its batch and of its replies;
@@ -50,8 +51,8 @@ pub fn tokens(
     requires right { IsRightSection (whole trace.now) history.now.replica }
     requires settled { settled.now ≡ settling (whole trace.now) history.now.replica }
     ensures due { IfOk result (λ _. TokensAreDue (whole trace.now) history.now.replica) }
-    ensures none { IfOk result (λ _. (f : FaultValue) → ¬ IsTokenFault (whole trace.now) history.now.replica f) }
-    ensures least { IfErr result (λ why. IfFound why (IsLeastTokenFault (whole trace.now) history.now.replica)) }
+    ensures none { IfOk result (λ _. HasNone (IsTokenFault (whole trace.now) history.now.replica)) }
+    ensures least { IfErr result (λ why. IfFound why (IsLeast (IsTokenFault (whole trace.now) history.now.replica))) }
 {
     trace.is_whole();
     settled_values_are_the_banks();

@@ -24,7 +24,7 @@ advance-requires-clause-one c =
     let e = c.args.history.now.replica in
     let v = c.attempt-attempt.result in
     let is : c.fate.result ≡ Committed = search rules in
-    let next = next_is t e c.args.history.now c.loop-i.i c.fate.result c.loop-i.balances v c.requires.history c.requires.right c.fate.ensures is c.loop-i.invariant c.attempt-attempt.ensures in
+    let next = next_is t e c.args.history.now c.loop-i.i c.fate.result c.loop-i.balances v c.requires.history c.requires.right c.fate.ensures is c.loop-i.invariant c.attempt-attempt.ensures.says in
     let number = next_number t e c.loop-i.i v.offset c.seq.result (attempt_in v.bytes.now) c.loop-i.invariant.done c.loop-i.invariant.rest next c.seq.ensures in
     omega arith
 
@@ -34,7 +34,7 @@ advance-requires-clause-there c =
     let e = c.args.history.now.replica in
     let v = c.attempt-attempt.result in
     let is : c.fate.result ≡ Committed = search rules in
-    let next = next_is t e c.args.history.now c.loop-i.i c.fate.result c.loop-i.balances v c.requires.history c.requires.right c.fate.ensures is c.loop-i.invariant c.attempt-attempt.ensures in
+    let next = next_is t e c.args.history.now c.loop-i.i c.fate.result c.loop-i.balances v c.requires.history c.requires.right c.fate.ensures is c.loop-i.invariant c.attempt-attempt.ensures.says in
     next_there t e c.args.settled.now c.loop-i.i v.offset c.seq.result (attempt_in v.bytes.now) c.loop-i.invariant.done c.loop-i.invariant.rest c.requires.settled next c.seq.ensures
 
 pub advance-requires-clause-before : goal.advance-requires-clause-before
@@ -43,7 +43,7 @@ advance-requires-clause-before c =
     let e = c.args.history.now.replica in
     let v = c.attempt-attempt.result in
     let is : c.fate.result ≡ Committed = search rules in
-    let next = next_is t e c.args.history.now c.loop-i.i c.fate.result c.loop-i.balances v c.requires.history c.requires.right c.fate.ensures is c.loop-i.invariant c.attempt-attempt.ensures in
+    let next = next_is t e c.args.history.now c.loop-i.i c.fate.result c.loop-i.balances v c.requires.history c.requires.right c.fate.ensures is c.loop-i.invariant c.attempt-attempt.ensures.says in
     values_before t e c.args.settled.now c.loop-i.i v.offset c.seq.result (attempt_in v.bytes.now) c.loop-i.balances c.loop-i.invariant c.requires.settled next c.seq.ensures
 
 pub returns-then-not-is_due-clause-least : goal.returns-then-not-is_due-clause-least
@@ -52,7 +52,7 @@ returns-then-not-is_due-clause-least c =
     let e = c.args.history.now.replica in
     let v = c.attempt-attempt.result in
     let is : c.fate.result ≡ Committed = search rules in
-    let next = next_is t e c.args.history.now c.loop-i.i c.fate.result c.loop-i.balances v c.requires.history c.requires.right c.fate.ensures is c.loop-i.invariant c.attempt-attempt.ensures in
+    let next = next_is t e c.args.history.now c.loop-i.i c.fate.result c.loop-i.balances v c.requires.history c.requires.right c.fate.ensures is c.loop-i.invariant c.attempt-attempt.ensures.says in
     let law : (n : ℕ) → values_in (settling t e) n ≡ values_to t e n = λ n. c.settled_values_are_the_banks.ensures t e n c.is_whole.ensures.limits c.requires.right in
     let due = due_is t e c.args.settled.now c.loop-i.i v.offset c.seq.result (attempt_in v.bytes.now) c.loop-i.balances c.advance.new.balances c.deref.result.now c.loop-i.invariant next c.requires.settled law c.seq.ensures
     c.advance.ensures.rows c.advance.ensures.values (c.deref.ensures.value ∙ c.in_ok-read_replies.ensures) in
@@ -66,7 +66,7 @@ loop-i-preserved c =
     let e = c.args.history.now.replica in
     let v = c.attempt-attempt.result in
     let is : c.fate.result ≡ Committed = search rules in
-    let next = next_is t e c.args.history.now c.loop-i.i c.fate.result c.loop-i.balances v c.requires.history c.requires.right c.fate.ensures is c.loop-i.invariant c.attempt-attempt.ensures in
+    let next = next_is t e c.args.history.now c.loop-i.i c.fate.result c.loop-i.balances v c.requires.history c.requires.right c.fate.ensures is c.loop-i.invariant c.attempt-attempt.ensures.says in
     let law : (n : ℕ) → values_in (settling t e) n ≡ values_to t e n = λ n. c.settled_values_are_the_banks.ensures t e n c.is_whole.ensures.limits c.requires.right in
     let due = due_is t e c.args.settled.now c.loop-i.i v.offset c.seq.result (attempt_in v.bytes.now) c.loop-i.balances c.advance.new.balances c.deref.result.now c.loop-i.invariant next c.requires.settled law c.seq.ensures
     c.advance.ensures.rows c.advance.ensures.values (c.deref.ensures.value ∙ c.in_ok-read_replies.ensures) in
