@@ -1,10 +1,10 @@
 -- Numbers and their one spelling.
-use Rattle.std.proofs.Common.{Option, Some, None, IfNone, int_lt, Bool, true, IsTrue, ◌&&◌, nat_le, ℤ, pos, negsuc, leb-true, ◌≡◌, ◌≢◌, ℕ, zero, suc, ◌+◌, ◌-◌, ◌*◌, ◌^◌, ◌<◌, ◌≤◌, List, [], ◌∷◌, length, take, drop, get_or, sym, ap, subst, ◌∙◌, refl, arith}
+use Rattle.std.proofs.Common.{Option, Some, None, IfNone, int_lt, IsTrue, ℤ, pos, negsuc, leb-true, ◌≡◌, ◌≢◌, ℕ, zero, suc, ◌+◌, ◌-◌, ◌*◌, ◌^◌, ◌<◌, ◌≤◌, List, ◌∷◌, length, take, drop, get_or, sym, ap, subst, ◌∙◌, arith}
 use Rattle.std.specs.Fmt.{decimal, signed_decimal}
 use Rattle.std.specs.Int.RustNames.{int_le}
 use Rattle.eve_accounts.specs.Money.{is_balance, is_saving, is_amount, amount_of}
 use Rattle.std.specs.Char.{digit_value}
-use Rattle.std.specs.Str.Parse.{digits_value, AllDigits, IsNumeral}
+use Rattle.std.specs.Str.Parse.{digits_value, AllDigits}
 use Rattle.std.proofs.lemmas.Fmt.{decimal_is_IsNumeral, decimal-digits_value, first_decimal, decimal_digit, decimal_injective, signed_decimal_injective}
 use Rattle.std.proofs.lemmas.Bool.{and_parts, cond-true, ltb-true}
 use Rattle.std.proofs.lemmas.Int.Digits.{digits_value_more, digits_more}

@@ -1,5 +1,5 @@
 -- The words of a line 1 spell one deployment.
-use Rattle.std.proofs.Common.{◌≡◌, ◌≢◌, ℕ, ◌^◌, ◌<◌, ◌≤◌, ◌*◌, Bool, IsTrue, ◌&&◌, nat_le, nat_lt, List, [], ◌∷◌, sym, ap, ◌∙◌, leb-true, get_or, arith}
+use Rattle.std.proofs.Common.{◌≡◌, ℕ, ◌^◌, ◌<◌, ◌≤◌, ◌*◌, IsTrue, ◌&&◌, nat_le, nat_lt, List, [], ap, leb-true, get_or, arith}
 use Rattle.std.specs.Fmt.{decimal}
 use Rattle.std.proofs.lemmas.Bool.{and_parts}
 use Rattle.std.proofs.lemmas.Fmt.{decimal_injective}

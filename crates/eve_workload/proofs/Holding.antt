@@ -1,5 +1,5 @@
 -- Batches in one list of requests.
-use Rattle.std.proofs.Common.{◌≢◌, AllPairs, Bool, ◌&&◌, IsTrue, nat_le, nat_lt, ◌*◌, map, ◌≡◌, ℕ, zero, suc, ◌+◌, ◌-◌, ◌<◌, ◌≤◌, List, [], ◌∷◌, ◌++◌, length, take, drop, get_or, Option, Some, refl, sym, ap, subst, ◌∙◌, arith, length-append, add-one, leb-true}
+use Rattle.std.proofs.Common.{◌≢◌, AllPairs, Bool, ◌&&◌, IsTrue, nat_le, nat_lt, ◌*◌, map, ◌≡◌, ℕ, zero, suc, ◌+◌, ◌-◌, ◌<◌, ◌≤◌, List, [], ◌∷◌, ◌++◌, length, take, drop, get_or, Some, refl, sym, ap, subst, ◌∙◌, arith, length-append, add-one, leb-true}
 use Rattle.std.specs.List.{flat_map, list_all, slice_get}
 use Rattle.std.proofs.lemmas.List.{append_assoc, length-map, take-map, drop-map}
 use Rattle.std.proofs.lemmas.Bool.{and_parts}

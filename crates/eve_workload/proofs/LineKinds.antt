@@ -1,5 +1,5 @@
 -- The kind of a line by the number of its words.
-use Rattle.std.proofs.Common.{◌≡◌, ℕ, List, length, ap, ◌∙◌, sym, refl, arith}
+use Rattle.std.proofs.Common.{◌≡◌, ℕ, List, length, ap, ◌∙◌, refl, arith}
 use Rattle.eve_smallbank.specs.SmallBank.{Request, Balance, DepositChecking, TransactSaving, Amalgamate, WriteCheck}
 use Rattle.eve_grammar.specs.Trace.{Asked}
 use Rattle.eve_workload.specs.declared.deployment.Deployment.{Deployment}

@@ -1,5 +1,5 @@
 -- A line is spelled once, and its words have no space and no line feed in them.
-use Rattle.std.proofs.Common.{◌≡◌, ◌≢◌, ℕ, ℤ, pos, negsuc, zero, suc, ◌+◌, ◌*◌, ◌^◌, ◌<◌, ◌≤◌, ◌==◌, Bool, true, false, not, ◌&&◌, IsTrue, nat_le, nat_lt, List, [], ◌∷◌, ◌++◌, length, take, drop, get_or, map, refl, sym, ap, subst, ◌∙◌, arith, leb-true, append_assoc, length-append}
+use Rattle.std.proofs.Common.{◌≡◌, ◌≢◌, ℕ, ℤ, pos, negsuc, suc, ◌^◌, ◌<◌, ◌≤◌, ◌==◌, true, false, not, ◌&&◌, IsTrue, nat_le, List, [], ◌∷◌, ◌++◌, length, drop, get_or, refl, sym, ap, ◌∙◌, arith, leb-true, append_assoc}
 use Rattle.std.specs.List.{list_all, join_with_byte}
 use Rattle.std.specs.Fmt.{decimal, signed_decimal}
 use Rattle.std.specs.Int.RustNames.{int_le}
@@ -13,12 +13,11 @@ use Rattle.eve_accounts.specs.Names.{is_printable, is_name}
 use Rattle.eve_smallbank.specs.SmallBank.{Request, Balance, DepositChecking, TransactSaving, Amalgamate, WriteCheck}
 use Rattle.eve_grammar.specs.Trace.{Customer, Asked}
 use Rattle.eve_grammar.specs.Limits.{is_number, is_customer, is_request, is_asked}
-use Rattle.eve_workload.specs.declared.deployment.Deployment.{Deployment}
 use Rattle.eve_workload.specs.Lines.{Line, HeadLine, CustomerLine, BatchLine, RequestLine, line_words, line_text, request_words, text_of_words}
-use Rattle.eve_workload.specs.Steps.{is_deployment, is_line}
+use Rattle.eve_workload.specs.Steps.{is_line}
 use Rattle.eve_workload.specs.Words.{is_inside, IsFirstLine}
 use Rattle.eve_workload.proofs.Decimals.{same_balance, saving_balance, amount_balance}
-use Rattle.eve_workload.proofs.Deployments.{deployment_small, same_deployment, IsSmall}
+use Rattle.eve_workload.proofs.Deployments.{deployment_small, same_deployment}
 
 -- ---- words without spaces
 
@@ -188,7 +187,7 @@ request_inside client number (WriteCheck name amount) first second right =
     let parts = and_parts (is_name name) (is_amount amount) right in
     four client number name (signed_decimal amount) first second (name_inside name parts.0) (balance_inside amount (amount_balance amount parts.1))
 
-line_inside : (l : Line) → IsTrue (is_line l) → IsTrue (list_all (list_all is_inside) (line_words l))
+pub line_inside : (l : Line) → IsTrue (is_line l) → IsTrue (list_all (list_all is_inside) (line_words l))
 line_inside (HeadLine d) right =
     let small = deployment_small d right in
     and_from (list_all is_inside (decimal d.replicas)) (list_all (list_all is_inside) (decimal d.verifiers ∷ decimal d.quorum ∷ decimal d.window ∷ decimal d.workers ∷ []))
@@ -209,7 +208,7 @@ line_inside (RequestLine a) right =
     request_inside (decimal a.client) (decimal a.number) a.request
     (decimal_inside a.client (omega arith)) (decimal_inside a.number (ltb-true a.number (256 ^ 8) rest.0)) rest.1
 
-line_some : (l : Line) → 1 ≤ length (line_words l)
+pub line_some : (l : Line) → 1 ≤ length (line_words l)
 line_some (HeadLine d) = omega arith
 line_some (CustomerLine c) = omega arith
 line_some BatchLine = omega arith
@@ -235,7 +234,7 @@ more_words w v ws r =
     let rest = join_with_byte 32 (v ∷ ws) in
     append_assoc (w ++ (32 ∷ rest)) (10 ∷ []) r ∙ append_assoc w (32 ∷ rest) (10 ∷ r) ∙ ap (λ t. w ++ (32 ∷ t)) (sym (append_assoc rest (10 ∷ []) r))
 
-unique_words : (ws vs : List (List ℕ)) (r s : List ℕ) → 1 ≤ length ws → 1 ≤ length vs → IsTrue (list_all (list_all is_inside) ws) → IsTrue (list_all (list_all is_inside) vs) → text_of_words ws ++ r ≡ text_of_words vs ++ s → ws ≡ vs
+pub unique_words : (ws vs : List (List ℕ)) (r s : List ℕ) → 1 ≤ length ws → 1 ≤ length vs → IsTrue (list_all (list_all is_inside) ws) → IsTrue (list_all (list_all is_inside) vs) → text_of_words ws ++ r ≡ text_of_words vs ++ s → ws ≡ vs
 unique_words [] vs r s some some' in_ws in_vs same = absurd (omega arith)
 unique_words (w ∷ ws) [] r s some some' in_ws in_vs same = absurd (omega arith)
 unique_words (w ∷ []) (v ∷ []) r s some some' in_ws in_vs same =

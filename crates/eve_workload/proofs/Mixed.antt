@@ -1,6 +1,6 @@
 -- Requests cut into parallelBatches.
 use Rattle.std.proofs.Common.{◌≡◌, ℕ, zero, suc, ◌<◌, ◌≤◌, ◌==◌, Bool, true, false, ◌&&◌, List, [], ◌∷◌, ◌++◌, map, length, sum, All, nat_le, inl, inr, refl, sym, ap, subst, ◌∙◌, arith}
-use Rattle.std.specs.Prelude.{slice_index_or, IsPermutation, IsFalse, ◌||◌}
+use Rattle.std.specs.Prelude.{negsuc, slice_index_or, IsPermutation, IsFalse, ◌||◌, if◌then◌else◌}
 use Rattle.std.specs.List.{list_any, list_all, flat_map, range_with_len}
 use Rattle.std.proofs.lemmas.Bool.{or_parts, or_from, and_parts, le-leb, and_from, and_cases, and_left, and_right, eq-eqb, ne_eqb, eqb-false}
 use Rattle.std.proofs.lemmas.List.{append-nil, length-map, length_push}
@@ -10,15 +10,18 @@ use Rattle.std.proofs.lemmas.List.FromFn.{fill_by_all}
 use Rattle.std.proofs.lemmas.List.Quantifiers.{all_pairs_push}
 use Rattle.std.proofs.lemmas.List.Sorted.{IsPermutation-refl, length_permutation, All-permutation}
 use Rattle.eve_smallbank.specs.declared.entry.Kind.{Kind}
+use Rattle.eve_smallbank.specs.declared.request.Abort.TheVariants.{NoSuchName, BadAmount}
+use Rattle.eve_smallbank.specs.declared.rows.Touched.{Touched}
+use Rattle.eve_smallbank.specs.declared.rows.Touched.TheVariants.{Refused}
+use Rattle.eve_smallbank.specs.SmallBank.{DepositChecking}
 use Rattle.eve_smallbank.specs.Access.{is_write, Rows}
+use Rattle.eve_smallbank.specs.Touch.{touched_of, rows_in, knows_names}
 use Rattle.eve_grammar.specs.Trace.{Asked}
 use Rattle.eve_grammar.specs.Limits.{is_asked, is_batch}
-use Rattle.eve_write.specs.declared.request.RequestData.{RequestData}
-use Rattle.eve_write.specs.Data.{asked}
 use Rattle.eve_workload.specs.declared.mixer.Mixer.{Mixer}
 use Rattle.eve_workload.specs.declared.mixer.Mixer.TheVariants.{First, Whole}
 use Rattle.eve_workload.specs.Mixing.{collide, share, rows_touched, conflict, first_fit, cut, batch_of, AreApart}
-use Rattle.eve_workload.specs.Groups.{share_at, listed, AreGroups}
+use Rattle.eve_workload.specs.Groups.{rows_at, share_at, refused_request, listed, AreGroups}
 use Rattle.eve_workload.proofs.Cuts.{first_fit_keeps, all_first_fit, first_fit_same, groups_same, sum_of_lengths}
 
 -- ---- each request once
@@ -71,36 +74,58 @@ at_index f [] i d = refl
 at_index f (x ∷ xs) zero d = refl
 at_index f (x ∷ xs) (suc i) d = at_index f xs i d
 
-map_twice : {A B C : Type 0} (g : B → C) (f : A → B) (xs : List A) → map (λ x. g (f x)) xs ≡ map g (map f xs)
-map_twice g f [] = refl
-map_twice g f (x ∷ xs) = ap (λ ys. g (f x) ∷ ys) (map_twice g f xs)
+-- what a request touches
+abbrev touched_by : List (List ℕ) → Asked → Touched
+touched_by names a = touched_of names a.request
 
-module _ (names : List (List ℕ)) (rs : List RequestData) (other : Asked) where
+no_rows : (names : List (List ℕ)) → rows_touched names refused_request ≡ []
+no_rows names =
+    elim (knows_names names (DepositChecking [] (negsuc 0)))
+    as (λ b. rows_in (if b then Refused BadAmount else Refused NoSuchName) ≡ []) [ true ↦ refl | false ↦ refl ]
+
+rows_are : (names : List (List ℕ)) (rs : List Asked) (i : ℕ) → rows_touched names (slice_index_or rs i refused_request) ≡ rows_at (map (touched_by names) rs) i
+rows_are names [] i = no_rows names
+rows_are names (r ∷ rs) zero = refl
+rows_are names (r ∷ rs) (suc i) = rows_are names rs i
+
+module _ (names : List (List ℕ)) (rs : List Asked) where
   by_index : ℕ → Asked
-  by_index i = slice_index_or (map asked rs) i other
+  by_index i = slice_index_or rs i refused_request
 
-  all_indexes : (n : ℕ) → length rs ≡ n → map by_index (range_with_len 0 n) ≡ map asked rs
+  all_indexes : (n : ℕ) → length rs ≡ n → map by_index (range_with_len 0 n) ≡ rs
   unfolding by_index
-  all_indexes n count = sym (fill_by_all by_index (map asked rs) n other (length-map rs asked ∙ count) (λ k below. refl))
+  all_indexes n count = sym (fill_by_all by_index rs n refused_request count (λ k below. refl))
 
-  pub first_cut : (rows : List Rows) (sizes order : List ℕ) → rows ≡ map (λ r. rows_touched names (asked r)) rs → AreGroups sizes order (first_fit (share_at rows (rows_touched names other)) [] (range_with_len 0 (length rows))) → AreGroups sizes (listed (map asked rs) other order) (cut names First (map asked rs))
+  first_cut_of : (sizes order : List ℕ) → AreGroups sizes order (first_fit (share_at (rows_at (map (touched_by names) rs))) [] (range_with_len 0 (length (map (touched_by names) rs)))) → AreGroups sizes (listed rs order) (cut names First rs)
   unfolding by_index
-  first_cut rows sizes order touched are =
-      let touches : (i : ℕ) → rows_touched names (by_index i) ≡ slice_index_or rows i (rows_touched names other) =
-      λ i. at_index (rows_touched names) (map asked rs) i other
-      ∙ ap (λ rs'. slice_index_or rs' i (rows_touched names other)) (sym (touched ∙ map_twice (rows_touched names) asked rs)) in
-      let clash : ℕ → ℕ → Bool = share_at rows (rows_touched names other) in
-      let same : (i j : ℕ) → conflict names (by_index i) (by_index j) ≡ clash i j = λ i j. (λ k. share (touches i k) (touches j k)) in
-      let count : length rs ≡ length rows = sym (ap length touched ∙ length-map rs (λ r. rows_touched names (asked r))) in
-      subst (AreGroups sizes (listed (map asked rs) other order))
-      (first_fit_same by_index clash (conflict names) same [] (range_with_len 0 (length rows)) ∙ ap (first_fit (conflict names) []) (all_indexes (length rows) count))
-      (groups_same by_index sizes order (first_fit clash [] (range_with_len 0 (length rows))) are)
+  first_cut_of sizes order are =
+      let n : ℕ = length (map (touched_by names) rs) in
+      let clash : ℕ → ℕ → Bool = share_at (rows_at (map (touched_by names) rs)) in
+      let same : (i j : ℕ) → conflict names (by_index i) (by_index j) ≡ clash i j =
+      λ i j. (λ k. share (rows_are names rs i k) (rows_are names rs j k)) in
+      subst (AreGroups sizes (listed rs order))
+      (first_fit_same by_index clash (conflict names) same [] (range_with_len 0 n) ∙ ap (first_fit (conflict names) []) (all_indexes n (sym (length-map rs (touched_by names)))))
+      (groups_same by_index sizes order (first_fit clash [] (range_with_len 0 n)) are)
 
-  pub whole_cut : (n : ℕ) (sizes order : List ℕ) → length rs ≡ n → AreGroups sizes order (range_with_len 0 n ∷ []) → AreGroups sizes (listed (map asked rs) other order) (cut names Whole (map asked rs))
+  whole_cut_of : (n : ℕ) (sizes order : List ℕ) → length rs ≡ n → AreGroups sizes order (range_with_len 0 n ∷ []) → AreGroups sizes (listed rs order) (cut names Whole rs)
   unfolding by_index
-  whole_cut n sizes order count are =
-      subst (AreGroups sizes (listed (map asked rs) other order)) (ap (λ group. group ∷ []) (all_indexes n count))
+  whole_cut_of n sizes order count are =
+      subst (AreGroups sizes (listed rs order)) (ap (λ group. group ∷ []) (all_indexes n count))
       (groups_same by_index sizes order (range_with_len 0 n ∷ []) are)
+
+  module _ (touched : List Touched) (is : touched ≡ map (touched_by names) rs) (sizes order : List ℕ) where
+    pub first_cut : AreGroups sizes order (first_fit (share_at (rows_at touched)) [] (range_with_len 0 (length touched))) → AreGroups sizes (listed rs order) (cut names First rs)
+    first_cut are =
+        first_cut_of sizes order
+        (subst (λ ts. AreGroups sizes order (first_fit (share_at (rows_at ts)) [] (range_with_len 0 (length ts)))) is are)
+
+    pub whole_cut : AreGroups sizes order (range_with_len 0 (length touched) ∷ []) → AreGroups sizes (listed rs order) (cut names Whole rs)
+    whole_cut = whole_cut_of (length touched) sizes order (sym (ap length is ∙ length-map rs (touched_by names)))
+
+-- what the listed requests touch
+pub touched_listed : (f : Asked → Touched) (rs : List Asked) (order : List ℕ) → map (λ i. slice_index_or (map f rs) i (f refused_request)) order ≡ map f (listed rs order)
+touched_listed f rs [] = refl
+touched_listed f rs (i ∷ order) = λ k. sym (at_index f rs i refused_request) k ∷ touched_listed f rs order k
 
 pub batch_is : (sizes : List ℕ) (requests order : List Asked) (groups : List (List Asked)) → requests ≡ order → AreGroups sizes order groups → record { sizes = sizes; requests = requests } ≡ batch_of groups
 batch_is sizes requests order groups same are = λ i. record { sizes = are.sizes_are i; requests = (same ∙ are.order_is) i }

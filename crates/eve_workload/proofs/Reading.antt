@@ -1,15 +1,14 @@
 -- A text that is read line by line.
-use Rattle.std.proofs.Common.{◌≡◌, ◌≢◌, ℕ, zero, suc, ◌+◌, ◌-◌, ◌*◌, ◌<◌, ◌≤◌, Bool, true, false, IsTrue, List, [], ◌∷◌, ◌++◌, map, length, take, drop, Option, Some, None, refl, sym, ap, subst, ◌∙◌, arith, length-append, append_assoc}
+use Rattle.std.proofs.Common.{◌≡◌, ℕ, ◌+◌, ◌-◌, ◌*◌, ◌<◌, ◌≤◌, Bool, true, false, IsTrue, List, [], ◌∷◌, ◌++◌, length, take, drop, Some, None, refl, sym, ap, ◌∙◌, arith, length-append}
 use Rattle.std.specs.List.{join_with_byte}
 use Rattle.std.proofs.lemmas.Bool.{ltb-true, false≢true}
-use Rattle.std.proofs.lemmas.List.{length-map, take-append-drop, length-drop, drop-drop, take_all, drop_all, append-nil}
-use Rattle.eve_grammar.specs.Trace.{Customer, Asked}
+use Rattle.std.proofs.lemmas.List.{length-map, take-append-drop, length-drop, take_all, append-nil}
+use Rattle.eve_grammar.specs.Trace.{Asked}
 use Rattle.eve_write.specs.Data.{customer, asked}
-use Rattle.eve_workload.specs.declared.deployment.Deployment.{Deployment}
 use Rattle.eve_workload.specs.declared.draft.Draft.{Draft}
 use Rattle.eve_workload.specs.Lines.{Line, HeadLine, CustomerLine, BatchLine, RequestLine, line_words, line_text}
-use Rattle.eve_workload.specs.Steps.{customers_in, requests_in, batches_in, last_requests, may_follow, may_end, has_room, IsRightBehind, AreRight, text_before, IsBadLine}
-use Rattle.eve_workload.specs.Drafts.{starts_in, IsSmall, Keeps, TakesLine}
+use Rattle.eve_workload.specs.Steps.{customers_in, requests_in, batches_in, last_requests, may_follow, may_end, AreRight, text_before, IsBadLine}
+use Rattle.eve_workload.specs.Drafts.{IsSmall, Keeps, TakesLine}
 use Rattle.eve_workload.proofs.Drafting.{batches_are}
 use Rattle.eve_workload.proofs.Splitting.{up_to}
 

@@ -1,8 +1,8 @@
 -- A line that is split into words.
-use Rattle.std.proofs.Common.{◌≡◌, ◌≢◌, ℕ, zero, suc, ◌+◌, ◌-◌, ◌<◌, ◌≤◌, ◌==◌, Bool, true, not, ◌&&◌, IsTrue, List, [], ◌∷◌, ◌++◌, length, take, drop, get_or, map, sym, ap, subst, ◌∙◌, refl, arith, append_assoc, length-append, below_more}
+use Rattle.std.proofs.Common.{◌≡◌, ◌≢◌, ℕ, ◌+◌, ◌-◌, ◌<◌, ◌≤◌, ◌==◌, true, false, not, inl, inr, ◌&&◌, IsTrue, List, [], ◌∷◌, ◌++◌, length, take, drop, get_or, sym, ap, subst, ◌∙◌, refl, arith, append_assoc, length-append, below_more}
 use Rattle.std.specs.List.{list_all, flat_map, join_with_byte}
-use Rattle.std.proofs.lemmas.Bool.{and_from, ne_eqb}
-use Rattle.std.proofs.lemmas.List.{take_more, take-append-drop, take-take, drop-take, take_all, get_or_at, append-nil, length-drop, get_or-drop}
+use Rattle.std.proofs.lemmas.Bool.{and_from, and_parts, and_cases, eqb-true, eqb-false, not-true, not-false}
+use Rattle.std.proofs.lemmas.List.{take_more, take-append-drop, take-take, drop-take, get_or_at, append-nil, length-drop, get_or-drop}
 use Rattle.std.proofs.lemmas.List.Folds.{list_all-append}
 use Rattle.std.proofs.lemmas.List.Concat.{flat_map-append}
 use Rattle.eve_workload.specs.Lines.{text_of_words}
@@ -76,15 +76,23 @@ split_space text words word from at split there is word_is =
       none = none_more text at split.none (λ feed. omega (arith, feed, is));
     }
 
-pub split_inside : (text : List ℕ) (words : List (List ℕ)) (from at : ℕ) → IsSplit text words from at → at < length text → get_or text at 0 ≢ 32 → get_or text at 0 ≢ 10 → IsSplit text words from (at + 1)
-split_inside text words from at split there no_space no_feed =
+-- the byte behind a word, where it is no line feed
+pub space_here : (byte : ℕ) → is_inside byte ≡ false → byte ≢ 10 → byte ≡ 32
+space_here byte outside no_feed =
+    elim (and_cases (not (byte == 32)) (not (byte == 10)) outside) [
+      | inl space ↦ eqb-true byte 32 (not-false (byte == 32) space)
+      | inr feed ↦ absurd (no_feed (eqb-true byte 10 (not-false (byte == 10) feed)))
+    ]
+
+pub split_inside : (text : List ℕ) (words : List (List ℕ)) (from at : ℕ) → IsSplit text words from at → at < length text → is_inside (get_or text at 0) ≡ true → IsSplit text words from (at + 1)
+split_inside text words from at split there inside =
     let order = split.order in
     let size : (at + 1) - from ≡ (at - from) + 1 = omega arith in
     let within : at - from < length (drop from text) = omega (arith, length-drop from text) in
     let byte = get_or text at 0 in
     let read : get_or (drop from text) (at - from) 0 ≡ byte =
     get_or-drop from text (at - from) 0 ∙ (let sum : from + (at - from) ≡ at = omega arith in ap (λ n. get_or text n 0) sum) in
-    let inside : IsTrue (is_inside byte) = and_from (not (byte == 32)) (not (byte == 10)) (ap not (ne_eqb byte 32 no_space)) (ap not (ne_eqb byte 10 no_feed)) in
+    let no_feed : byte ≢ 10 = eqb-false byte 10 (not-true (byte == 10) (and_parts (not (byte == 32)) (not (byte == 10)) inside).1) in
     let more : take ((at + 1) - from) (drop from text) ≡ take (at - from) (drop from text) ++ byte ∷ [] =
     ap (λ n. take n (drop from text)) size ∙ take_more (drop from text) (at - from) 0 within ∙ ap (λ b. take (at - from) (drop from text) ++ b ∷ []) read in
     record {

@@ -1,8 +1,8 @@
 -- The lines of a text that may end make up a workload.
-use Rattle.std.proofs.Common.{◌≡◌, ◌≢◌, ℕ, zero, suc, ◌+◌, ◌*◌, ◌<◌, ◌≤◌, Bool, true, false, ◌&&◌, IsTrue, nat_le, nat_lt, List, [], ◌∷◌, ◌++◌, map, length, drop, Option, Some, None, IfSome, AllPairs, Contains, refl, sym, ap, subst, ◌∙◌, arith, length-append, append_assoc}
+use Rattle.std.proofs.Common.{◌≡◌, ◌≢◌, ℕ, suc, ◌+◌, ◌*◌, ◌<◌, ◌≤◌, Bool, true, false, ◌&&◌, IsTrue, nat_le, nat_lt, List, [], ◌∷◌, ◌++◌, map, length, drop, Option, Some, None, IfSome, AllPairs, Contains, refl, sym, ap, subst, ◌∙◌, arith, length-append, append_assoc}
 use Rattle.std.specs.List.{list_all, flat_map}
-use Rattle.std.proofs.lemmas.Bool.{false≢true, and_parts, and_from, le-leb, leb-true, lt-ltb, ltb-true}
-use Rattle.std.proofs.lemmas.List.{append-nil, length-map, map_push, get_or_default}
+use Rattle.std.proofs.lemmas.Bool.{false≢true, and_parts, and_from, le-leb, ltb-true}
+use Rattle.std.proofs.lemmas.List.{append-nil, map_push, get_or_default}
 use Rattle.std.proofs.lemmas.List.Quantifiers.{all_pairs_push}
 use Rattle.std.proofs.lemmas.List.Folds.{list_all-append}
 use Rattle.std.proofs.lemmas.List.Concat.{flat_map-append}
@@ -11,7 +11,7 @@ use Rattle.eve_grammar.specs.Limits.{is_between, is_customer, is_asked, is_head}
 use Rattle.eve_workload.specs.declared.deployment.Deployment.{Deployment}
 use Rattle.eve_workload.specs.Workload.{Workload, IsWorkload, head_of, is_listed, names_of, pair_of, requests_of}
 use Rattle.eve_workload.specs.Lines.{Line, HeadLine, CustomerLine, BatchLine, RequestLine, line_text, batch_lines, workload_text}
-use Rattle.eve_workload.specs.Steps.{customers_in, requests_in, batches_in, last_requests, may_follow, may_end, is_deployment, IsRightBehind, AreRight, text_before}
+use Rattle.eve_workload.specs.Steps.{customers_in, requests_in, batches_in, last_requests, may_follow, may_end, is_deployment, AreRight, text_before}
 use Rattle.eve_workload.specs.Held.{cut_at, starts_from, workload_of, IsHeld}
 use Rattle.eve_workload.specs.declared.workload.Workload.TheInside.{Inside}
 use Rattle.eve_workload.specs.declared.draft.Draft.{Draft}

@@ -1,4 +1,8 @@
 pub mod Mixing
+pub mod GroupSets
+pub mod Marks
+pub mod Seats
+pub mod Cut
 pub mod Groups
 pub mod Workload
 pub mod Lines

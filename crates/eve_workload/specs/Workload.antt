@@ -1,5 +1,5 @@
 -- A workload: what a deployment is asked to do.
-use Rattle.std.specs.Prelude.{◌≡◌, ◌≢◌, ℕ, Bool, ◌&&◌, IsTrue, List, map, length, AllPairs}
+use Rattle.std.specs.Prelude.{◌≢◌, ℕ, Bool, ◌&&◌, IsTrue, List, map, length, AllPairs}
 use Rattle.std.specs.List.{list_all, flat_map}
 use Rattle.eve_grammar.specs.Trace.{Customer, Asked, Head}
 use Rattle.eve_grammar.specs.Limits.{is_between, is_customer, is_asked, is_head}

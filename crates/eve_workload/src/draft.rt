@@ -21,6 +21,13 @@ use eve_write::{CustomerData, RequestData};
 use std::alloc::{AllocError, Global};
 use std::collections::BTreeSet;
 
+const MOST_CUSTOMERS: usize = 4096;
+
+const MOST_BATCHES: usize = 65535;
+
+// Of one batch.
+const MOST_REQUESTS: u32 = 256;
+
 /// What the last line was.
 #[derive(Clone, Copy)]
 pub(crate) enum Last {
@@ -133,7 +140,7 @@ impl<'a> Draft<'a> {
         if !self.last.takes_customer() {
             return Ok(false);
         }
-        if self.customers.len() >= 4096 {
+        if self.customers.len() >= MOST_CUSTOMERS {
             return Ok(false);
         }
         let name = customer.name;
@@ -156,7 +163,7 @@ impl<'a> Draft<'a> {
         if !self.last.takes_batch() {
             return Ok(false);
         }
-        if self.starts.len() >= 65535 {
+        if self.starts.len() >= MOST_BATCHES {
             return Ok(false);
         }
         self.starts.push(self.requests.len() as u32)?;
@@ -172,7 +179,7 @@ impl<'a> Draft<'a> {
         if !self.last.takes_request() {
             return Ok(false);
         }
-        if self.count >= 256 {
+        if self.count >= MOST_REQUESTS {
             return Ok(false);
         }
         let pair = Pair {

@@ -4,13 +4,16 @@ ghost use Rattle.std.specs.Prelude.{◌≡◌};
 ghost use Rattle.eve_workload.specs.declared.fault.WorkloadFault.TheVariants.{Memory};
 
 use std::alloc::AllocError;
+use thiserror::Error;
 
 /// Why a text was not read.
-#[derive(Clone, Copy, Debug, PartialEq, Eq)]
+#[derive(Clone, Copy, Debug, PartialEq, Eq, Error)]
 pub enum WorkloadFault {
     /// The line with this number, counted from 1, is the first that isn't right.
+    #[error("line {0} of the workload is not right")]
     Line(u32),
     /// Memory ran out.
+    #[error("out of memory")]
     Memory,
 }
 

@@ -1,10 +1,29 @@
-//! What follows from how a batch is cut, of all requests. The functions do nothing; their contracts are the laws.
+//! What follows from the definitions, of all texts and of all requests. The functions do nothing; their contracts are
+//! the laws.
 
-ghost use Rattle.std.specs.Prelude.{List, ℕ, All, IsPermutation};
+ghost use Rattle.std.specs.Prelude.{◌≡◌, List, ℕ, All, IsPermutation};
 ghost use Rattle.eve_grammar.specs.Trace.{Asked};
 ghost use Rattle.eve_workload.specs.declared.mixer.Mixer.{Mixer};
 ghost use Rattle.eve_workload.specs.declared.mixer.Mixer.TheVariants.{First};
 ghost use Rattle.eve_workload.specs.Mixing.{cut, batch_of, AreApart};
+ghost use Rattle.eve_workload.specs.Workload.{Workload, IsWorkload};
+ghost use Rattle.eve_workload.specs.Lines.{workload_text};
+ghost use Rattle.eve_workload.specs.Steps.{IsBadLine};
+
+/// A text has at most one bad line.
+pub fn bad_lines_are_unique()
+    ensures { (text : List ℕ) → (m n : ℕ) → IsBadLine text m → IsBadLine text n → m ≡ n }
+{}
+
+/// A text is of at most one workload.
+pub fn workloads_are_unique()
+    ensures { (w v : Workload) → IsWorkload w → IsWorkload v → workload_text w ≡ workload_text v → w ≡ v }
+{}
+
+/// The text of a workload has no bad line.
+pub fn workloads_have_no_bad_line()
+    ensures { (w : Workload) → IsWorkload w → (n : ℕ) → ¬ IsBadLine (workload_text w) n }
+{}
 
 /// No two requests of a parallelBatch that the first mixer made are in conflict.
 pub fn parallel_batches_are_apart()
@@ -13,5 +32,6 @@ pub fn parallel_batches_are_apart()
 
 /// A cut keeps each request, and adds none.
 pub fn cuts_keep_requests()
-    ensures { (names : List (List ℕ)) → (mixer : Mixer) → (requests : List Asked) → IsPermutation requests (batch_of (cut names mixer requests)).requests }
+    ensures { (names : List (List ℕ)) → (mixer : Mixer) → (requests : List Asked) →
+        IsPermutation requests (batch_of (cut names mixer requests)).requests }
 {}

@@ -1,23 +1,24 @@
 //! Workloads, and how the requests of a batch are cut into parallelBatches.
 #![tactic(auto)]
 
-mod conflict;
+mod cut;
 mod deployment;
 mod draft;
 mod fault;
+mod group_set;
 mod groups;
 pub mod laws;
 mod line;
+mod lookups;
+mod marks;
 mod mixer;
 mod numbers;
 mod requests;
+mod seats;
 mod words;
 mod workload;
 
 pub use deployment::Deployment;
 pub use fault::WorkloadFault;
-pub use mixer::{Mixer, mix};
+pub use mixer::{MixedBatch, Mixer, mix, mix_touched};
 pub use workload::Workload;
-
-#[cfg(test)]
-mod tests;

@@ -11,6 +11,8 @@ const MINUS: u8 = b'-';
 
 const MOST_CENTS: u64 = 1_000_000_000_000_000;
 
+const LEAST_SAVING: i64 = 0;
+
 /// The number that the word spells, where it is below 2^64.
 pub(crate) fn number(word: &[u8]) -> Option<u64>
     ensures spelled { IfSome result (λ n. word.now ≡ decimal n) }
@@ -145,7 +147,7 @@ pub(crate) fn saving(word: &[u8]) -> Option<Cents>
     ensures none { IfNone result ((z : ℤ) → IsTrue (is_saving z) → word.now ≢ signed_decimal z) }
 {
     let cents = balance(word)?;
-    if cents.get() < 0 {
+    if cents.get() < LEAST_SAVING {
         return None;
     }
     Some(cents)

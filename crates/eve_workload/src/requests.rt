@@ -2,7 +2,6 @@
 
 ghost use Rattle.std.specs.Prelude.{◌≡◌, ◌<◌, All, IfOk, length, map};
 ghost use Rattle.eve_smallbank.specs.SmallBank.{plain};
-ghost use Rattle.eve_grammar.specs.Trace.{Asked as Listed};
 ghost use Rattle.eve_grammar.specs.Bodies.{asked as said};
 ghost use Rattle.eve_workload.specs.Groups.{listed};
 ghost use Rattle.eve_write.specs.Data.{asked, transaction};
@@ -19,8 +18,7 @@ pub(crate) fn copy_listed(
     order: &[u16],
 ) -> Result<Vec<RequestData>, AllocError>
     requires { All (λ i. i < length requests.now) order.now }
-    ensures { IfOk result (λ rs. (other : Listed) →
-        map asked rs.items ≡ listed (map asked requests.now) other order.now) }
+    ensures { IfOk result (λ rs. map asked rs.items ≡ listed (map asked requests.now) order.now) }
 {
     let mut copies = Vec::with_capacity(alloc, order.len())?;
     for index in order {

@@ -1,7 +1,7 @@
 //! Words of a line.
 
 ghost use Rattle.std.specs.Prelude.{◌≡◌, ◌≢◌, ◌↔◌, ℕ, List, ◌∷◌, ◌++◌, IfOk, IfSome, IfNone, IsTrue};
-ghost use Rattle.eve_workload.specs.Words.{bytes_of, IsFirstLine};
+ghost use Rattle.eve_workload.specs.Words.{is_inside, bytes_of, IsFirstLine};
 
 use std::alloc::AllocError;
 
@@ -21,16 +21,23 @@ pub(crate) fn split_line<'a>(
     words.clear();
     let mut from = 0;
     for at in 0..text.len() {
-        if text[at] == LINE_FEED {
+        let byte = text[at];
+        if !is_inside(byte) {
             words.push(&text[from..at])?;
-            return Ok(Some(at + 1));
-        }
-        if text[at] == SPACE {
-            words.push(&text[from..at])?;
+            if byte == LINE_FEED {
+                return Ok(Some(at + 1));
+            }
             from = at + 1;
         }
     }
     Ok(None)
+}
+
+// Whether the byte may stand in a word.
+fn is_inside(byte: u8) -> bool
+    ensures { result ≡ is_inside byte }
+{
+    byte != SPACE && byte != LINE_FEED
 }
 
 /// Whether the word is this one.

@@ -1,11 +1,11 @@
-use Rattle.std.proofs.Common.{◌≡◌, ◌<◌, [], All, length}
+use Rattle.std.proofs.Common.{◌≡◌, [], length}
 use Rattle.std.specs.List.{range_with_len}
-use Rattle.eve_smallbank.specs.Access.{Rows}
 use Rattle.eve_workload.specs.Mixing.{first_fit}
-use Rattle.eve_workload.specs.Groups.{share_at, AreGroups}
+use Rattle.eve_workload.specs.Groups.{rows_at, share_at}
+use Rattle.eve_workload.specs.Cut.{IsCut}
 use Rattle.eve_workload.proofs.groups.first_fit.Given as goal
 
-abbrev pub invariant-loop-index : goal.invariant-loop-index
-invariant-loop-index l =
-    ((other : Rows) → AreGroups l.sizes.items l.order.items (first_fit (share_at l.rows other) [] (range_with_len 0 l.index)))
-    × (All (λ i. i < l.index) l.order.items) × (length l.order.items ≡ l.index)
+abbrev pub invariant-loop-request : goal.invariant-loop-request
+invariant-loop-request l =
+    (length l.cut.seats.items ≡ l.request-index)
+    × IsCut l.cut (rows_at l.touched) (first_fit (share_at (rows_at l.touched)) [] (range_with_len 0 l.request-index))

@@ -1,4 +1,4 @@
-use Rattle.std.proofs.Common.{◌≡◌, IsTrue, [], ◌∷◌, subst, sym, ap, ◌∙◌}
+use Rattle.std.proofs.Common.{IsTrue, [], ◌∷◌, subst, ◌∙◌}
 use Rattle.eve_workload.specs.Steps.{is_deployment}
 use Rattle.eve_workload.proofs.Deployments.{IsSmall, deployment_small, same_deployment}
 use Rattle.eve_workload.proofs.line.head_line.Goals as goal

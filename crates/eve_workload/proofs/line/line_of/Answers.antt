@@ -1,4 +1,4 @@
-use Rattle.std.proofs.Common.{◌≡◌, ℕ, length, IsTrue, sym, subst, ap, ◌∙◌}
+use Rattle.std.proofs.Common.{IsTrue, sym, subst, ap, ◌∙◌}
 use Rattle.std.proofs.lemmas.List.{length-map}
 use Rattle.eve_workload.specs.Lines.{line_words}
 use Rattle.eve_workload.specs.Steps.{is_line}

@@ -1,4 +1,4 @@
-use Rattle.std.proofs.Common.{◌≡◌, length, sym, ap, ◌∙◌, arith, rules}
+use Rattle.std.proofs.Common.{◌≡◌, length, ap, arith, rules}
 use Rattle.std.proofs.lemmas.List.{length-map}
 use Rattle.eve_write.specs.Data.{customer, asked}
 use Rattle.eve_workload.proofs.Drafting.{line_count}

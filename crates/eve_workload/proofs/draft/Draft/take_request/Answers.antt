@@ -1,4 +1,4 @@
-use Rattle.std.proofs.Common.{◌≡◌, refl, sym, ◌∙◌, arith}
+use Rattle.std.proofs.Common.{refl, sym, ◌∙◌, arith}
 use Rattle.eve_grammar.specs.Bodies.{asked}
 use Rattle.eve_workload.proofs.Drafting.{request_taken, pair_refused, is_known, is_fresh}
 use Rattle.eve_workload.proofs.draft.Draft.take_request.Goals as goal

@@ -1,4 +1,4 @@
-use Rattle.std.proofs.Common.{◌≡◌, ◌-◌, ◌<◌, ◌≤◌, length, map, arith, ap, sym, ◌∙◌, refl}
+use Rattle.std.proofs.Common.{◌-◌, arith}
 use Rattle.eve_workload.proofs.Holding.{starts_count, batch_rises, batch_within, batch_found, batch_listed, listed_some, listed_few, listed_right}
 use Rattle.eve_workload.proofs.workload.Workload.batch.Goals as goal
 

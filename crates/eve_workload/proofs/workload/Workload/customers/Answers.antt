@@ -1,4 +1,4 @@
-use Rattle.std.proofs.Common.{length, arith}
+use Rattle.std.proofs.Common.{arith}
 use Rattle.eve_workload.proofs.Holding.{customer_count, customers_some, customers_few, customers_right, customers_differ}
 use Rattle.eve_workload.proofs.workload.Workload.customers.Goals as goal
 

@@ -1,4 +1,4 @@
-use Rattle.std.proofs.Common.{◌≡◌, length, arith, rules, sym, ◌∙◌, refl}
+use Rattle.std.proofs.Common.{◌≡◌, length, arith, rules, refl}
 use Rattle.eve_workload.proofs.Holding.{starts_count, batches_few, customer_count, customers_few, head_is, head_right, is_workload}
 use Rattle.eve_workload.proofs.workload.Workload.head.Goals as goal
 

@@ -1,7 +1,7 @@
 use Rattle.std.proofs.Common.{◌≡◌, Some, None, sym, subst, ◌∙◌, arith}
 use Rattle.std.proofs.lemmas.List.{take_rest}
 use Rattle.eve_workload.specs.Drafts.{TakesLine}
-use Rattle.eve_workload.proofs.Reading.{keeps_small, read_more, read_bad, read_early}
+use Rattle.eve_workload.proofs.Reading.{keeps_small, read_more, read_bad}
 use Rattle.eve_workload.proofs.workload.Workload.read.Goals as goal
 
 pub next_line-number-requires : goal.next_line-number-requires

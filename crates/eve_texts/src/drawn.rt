@@ -1,0 +1,161 @@
+//! Batches that are drawn, cut and compared with the definition.
+
+use crate::model::{Drawn, DrawnKind, Member, cut_of};
+use eve_accounts::{Amount, Names};
+use eve_workload::{Mixer, mix};
+use eve_write::{BatchData, RequestData, TransactionData};
+use std::alloc::{AllocError, Global};
+use std::hash::RandomState;
+use std::io;
+use std::io::Write;
+
+/// Numbers that are drawn one after another, always the same.
+#[derive(Drop)]
+struct Draws {
+    state: u64,
+}
+
+impl Draws {
+    /// A number below `limit`, which isn't 0.
+    fn below(&mut self, limit: u32) -> u32 {
+        self.state = self
+            .state
+            .wrapping_mul(6_364_136_223_846_793_005)
+            .wrapping_add(1_442_695_040_888_963_407);
+        let high = (self.state >> 32) as u32;
+        if limit == 0 { 0 } else { high % limit }
+    }
+
+    // A request of one of so many customers, seldom of none.
+    fn request(&mut self, customers: u32) -> Drawn {
+        let kind = match self.below(5) {
+            0 => DrawnKind::Balance,
+            1 => DrawnKind::DepositChecking,
+            2 => DrawnKind::TransactSaving,
+            3 => DrawnKind::Amalgamate,
+            _ => DrawnKind::WriteCheck,
+        };
+        Drawn {
+            kind,
+            customer: self.customer(customers),
+            other: self.customer(customers),
+            amount: i64::from(self.below(20)) - 2,
+        }
+    }
+
+    fn customer(&mut self, customers: u32) -> u32 {
+        if self.below(16) == 0 {
+            customers
+        } else {
+            self.below(customers)
+        }
+    }
+}
+
+/// Cuts so many batches, and says how many aren't cut as the definition says.
+pub fn drawn<W: Write>(rt: &HostRuntime, out: &mut W, count: &str) -> io::Result<()> {
+    let alloc = rt.alloc();
+    let count = count.parse::<u32>().unwrap_or(0);
+    let listed = names_of(alloc)?;
+    let mut draws = Draws { state: 1 };
+    let mut wrong = 0u32;
+    for _ in 0..count {
+        let customers = draws.below(64).saturating_add(1);
+        let requests = draws.below(256).saturating_add(1);
+        if !is_as_defined(rt, &mut draws, listed.as_slice(), customers, requests)? {
+            wrong = wrong.saturating_add(1);
+        }
+    }
+    writeln!(out, "{count} batches drawn: {wrong} cut otherwise")
+}
+
+// The names of 64 customers, and of one who is none.
+fn names_of(alloc: Global) -> Result<Vec<Vec<u8>>, AllocError> {
+    let mut names = Vec::new(alloc);
+    for customer in 0..65u32 {
+        let name = format!(in alloc; "c{customer}")?;
+        names.push(name.as_bytes().to_vec(alloc)?)?;
+    }
+    Ok(names)
+}
+
+// Draws a batch of so many customers and requests, and says whether it is cut as the definition says.
+fn is_as_defined(
+    rt: &HostRuntime,
+    draws: &mut Draws,
+    listed: &[Vec<u8>],
+    customers: u32,
+    count: u32,
+) -> io::Result<bool> {
+    let alloc = rt.alloc();
+    let mut names = Names::new(alloc, RandomState::new(rt)?, 64);
+    for name in listed.iter().take(customers as usize) {
+        if names.add(name.as_slice()).is_err() {
+            return Ok(false);
+        }
+    }
+    let mut asked = Vec::new(alloc);
+    let mut requests = Vec::new(alloc);
+    for number in 0..count {
+        let request = draws.request(customers);
+        asked.push(request)?;
+        requests.push(RequestData {
+            client: 7,
+            number: u64::from(number),
+            transaction: transaction_of(alloc, &request, listed)?,
+        })?;
+    }
+    if requests.is_empty() || requests.len() > 256 {
+        return Ok(false);
+    }
+    let batch = mix(alloc, requests.as_slice(), &names, Mixer::First)?;
+    let groups = cut_of(alloc, asked.as_slice(), customers)?;
+    Ok(are_same(&batch, groups.as_slice()))
+}
+
+fn transaction_of(
+    alloc: Global,
+    request: &Drawn,
+    listed: &[Vec<u8>],
+) -> Result<TransactionData, AllocError> {
+    let name = name_at(alloc, listed, request.customer)?;
+    let Some(amount) = Amount::new(request.amount) else {
+        return Ok(TransactionData::Balance(name));
+    };
+    Ok(match request.kind {
+        DrawnKind::Balance => TransactionData::Balance(name),
+        DrawnKind::DepositChecking => TransactionData::DepositChecking(name, amount),
+        DrawnKind::TransactSaving => TransactionData::TransactSaving(name, amount),
+        DrawnKind::Amalgamate => {
+            TransactionData::Amalgamate(name, name_at(alloc, listed, request.other)?)
+        }
+        DrawnKind::WriteCheck => TransactionData::WriteCheck(name, amount),
+    })
+}
+
+fn name_at(alloc: Global, listed: &[Vec<u8>], place: u32) -> Result<Vec<u8>, AllocError> {
+    match listed.get(place as usize) {
+        Some(name) => name.as_slice().to_vec(alloc),
+        None => Ok(Vec::new(alloc)),
+    }
+}
+
+// Whether the batch lists the requests of these groups; a request's number is its index.
+fn are_same(batch: &BatchData, groups: &[Vec<Member>]) -> bool {
+    if batch.sizes.len() != groups.len() {
+        return false;
+    }
+    let mut requests = batch.requests.iter();
+    for (size, group) in batch.sizes.iter().zip(groups) {
+        if usize::from(*size) != group.len() {
+            return false;
+        }
+        for member in group {
+            match requests.next() {
+                Some(request) if request.number == member.index as u64 => {}
+                _ => return false,
+            }
+        }
+    }
+    requests.next().is_none()
+}

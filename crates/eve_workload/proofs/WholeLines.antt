@@ -1,0 +1,193 @@
+-- The lines of a workload are right one behind another, and its text has no bad line.
+use Rattle.std.proofs.Common.{◌≡◌, ◌≢◌, ℕ, ◌+◌, ◌*◌, ◌≤◌, true, ◌&&◌, nat_le, nat_lt, List, [], ◌∷◌, ◌++◌, map, length, AllPairs, Contains, inl, inr, refl, sym, ap, subst, ◌∙◌, arith, length-append, append_assoc}
+use Rattle.std.specs.List.{list_all, flat_map, join_with_byte}
+use Rattle.std.proofs.lemmas.Bool.{and_parts, and_from, leb-true, lt-ltb, false≢true, cases_order}
+use Rattle.std.proofs.lemmas.List.{append-nil, map-append, get_or_append_left, get_or_at}
+use Rattle.eve_grammar.specs.Trace.{Customer, Asked}
+use Rattle.eve_grammar.specs.Limits.{is_between, is_customer, is_asked}
+use Rattle.eve_workload.specs.declared.deployment.Deployment.{Deployment}
+use Rattle.eve_workload.specs.Workload.{Workload, IsWorkload, is_listed, names_of, pair_of, requests_of}
+use Rattle.eve_workload.specs.Lines.{Line, HeadLine, CustomerLine, BatchLine, RequestLine, line_words, line_text, batch_lines, lines_of, workload_text}
+use Rattle.eve_workload.specs.Steps.{customers_in, requests_in, batches_in, last_requests, may_follow, may_end, is_deployment, IsRightBehind, AreRight, text_before, IsBadLine}
+use Rattle.eve_workload.proofs.OneAnswer.{same_lines, follows_fewer}
+
+-- lines with more lines behind them; the nearest first
+abbrev pub onto : List Line → List Line → List Line
+onto before [] = before
+onto before (line ∷ lines) = onto (line ∷ before) lines
+
+pub onto-append : (before lines more : List Line) → onto before (lines ++ more) ≡ onto (onto before lines) more
+onto-append before [] more = refl
+onto-append before (line ∷ lines) more = onto-append (line ∷ before) lines more
+
+onto_text : (before lines : List Line) → text_before (onto before lines) ≡ text_before before ++ flat_map line_text lines
+onto_text before [] = sym (append-nil (text_before before))
+onto_text before (line ∷ lines) = onto_text (line ∷ before) lines ∙ append_assoc (text_before before) (line_text line) (flat_map line_text lines)
+
+-- ---- elements that differ
+
+fresh : {A : Type 0} (xs ys : List A) (x : A) → AllPairs (λ a b. a ≢ b) (xs ++ x ∷ ys) → ¬ Contains xs x
+fresh xs ys x apart found =
+    apart found.0 (length xs) x found.1 (omega (arith, length-append xs (x ∷ ys)))
+    (get_or_append_left xs (x ∷ ys) x found.0 found.1 ∙ found.2 ∙ sym (get_or_at xs x ys x (length xs) refl))
+
+-- a text may end here, or a batch may be opened
+pub record IsClosed (before : List Line) : Type 0 where
+  pub ends : may_end before ≡ true
+  pub opens : may_follow before BatchLine ≡ true
+
+-- ---- customers
+
+customers_closed : (before : List Line) (cs : List Customer) → IsClosed before → IsClosed (onto before (map CustomerLine cs))
+customers_closed before [] closed = closed
+customers_closed before (c ∷ cs) closed = customers_closed (CustomerLine c ∷ before) cs record { ends = refl; opens = refl }
+
+customers_no_batches : (before : List Line) (cs : List Customer) → batches_in (onto before (map CustomerLine cs)) ≡ batches_in before
+customers_no_batches before [] = refl
+customers_no_batches before (c ∷ cs) = customers_no_batches (CustomerLine c ∷ before) cs
+
+customers_no_requests : (before : List Line) (cs : List Customer) → requests_in (onto before (map CustomerLine cs)) ≡ requests_in before
+customers_no_requests before [] = refl
+customers_no_requests before (c ∷ cs) = customers_no_requests (CustomerLine c ∷ before) cs
+
+customers_right : (before : List Line) (cs : List Customer) → AreRight before → ((c : Customer) → may_follow before (CustomerLine c) ≡ true) → list_all is_customer cs ≡ true → length (customers_in before) + length cs ≤ 4096 → AllPairs (λ a b. a ≢ b) (names_of (customers_in before ++ cs)) → AreRight (onto before (map CustomerLine cs))
+customers_right before [] right follows all few apart = right
+customers_right before (c ∷ cs) right follows all few apart =
+    let parts = and_parts (is_customer c) (list_all is_customer cs) all in
+    let names = subst (AllPairs (λ a b. a ≢ b)) (map-append (λ (e : Customer). e.name) (customers_in before) (c ∷ cs)) apart in
+    let here : IsRightBehind before (CustomerLine c) = record {
+      follows = follows c;
+      ranges = parts.0;
+      room = lt-ltb (length (customers_in before)) 4096 (omega arith);
+      new = fresh (names_of (customers_in before)) (names_of cs) c.name names;
+    } in
+    customers_right (CustomerLine c ∷ before) cs (here, right) (λ e. refl) parts.1 (omega (arith, length-append (customers_in before) (c ∷ [])))
+    (subst (λ xs. AllPairs (λ a b. a ≢ b) (names_of xs)) (sym (append_assoc (customers_in before) (c ∷ []) cs)) apart)
+
+-- ---- requests
+
+requests_closed : (before : List Line) (rs : List Asked) → IsClosed before → IsClosed (onto before (map RequestLine rs))
+requests_closed before [] closed = closed
+requests_closed before (r ∷ rs) closed = requests_closed (RequestLine r ∷ before) rs record { ends = refl; opens = refl }
+
+some_closed : (before : List Line) (rs : List Asked) → 1 ≤ length rs → IsClosed (onto before (map RequestLine rs))
+some_closed before [] some = absurd (omega arith)
+some_closed before (r ∷ rs) some = requests_closed (RequestLine r ∷ before) rs record { ends = refl; opens = refl }
+
+requests_no_batches : (before : List Line) (rs : List Asked) → batches_in (onto before (map RequestLine rs)) ≡ batches_in before
+requests_no_batches before [] = refl
+requests_no_batches before (r ∷ rs) = requests_no_batches (RequestLine r ∷ before) rs
+
+requests_listed : (before : List Line) (rs : List Asked) → requests_in (onto before (map RequestLine rs)) ≡ requests_in before ++ rs
+requests_listed before [] = sym (append-nil (requests_in before))
+requests_listed before (r ∷ rs) = requests_listed (RequestLine r ∷ before) rs ∙ append_assoc (requests_in before) (r ∷ []) rs
+
+requests_right : (before : List Line) (rs more : List Asked) → AreRight before → ((a : Asked) → may_follow before (RequestLine a) ≡ true) → list_all is_asked rs ≡ true → last_requests before + length rs ≤ 256 → AllPairs (λ p q. p ≢ q) (map pair_of (requests_in before ++ (rs ++ more))) → AreRight (onto before (map RequestLine rs))
+requests_right before [] more right follows all few apart = right
+requests_right before (r ∷ rs) more right follows all few apart =
+    let parts = and_parts (is_asked r) (list_all is_asked rs) all in
+    let pairs = subst (AllPairs (λ p q. p ≢ q)) (map-append pair_of (requests_in before) (r ∷ (rs ++ more))) apart in
+    let here : IsRightBehind before (RequestLine r) = record {
+      follows = follows r;
+      ranges = parts.0;
+      room = lt-ltb (last_requests before) 256 (omega arith);
+      new = fresh (map pair_of (requests_in before)) (map pair_of (rs ++ more)) (pair_of r) pairs;
+    } in
+    requests_right (RequestLine r ∷ before) rs more (here, right) (λ a. refl) parts.1 (omega arith)
+    (subst (λ xs. AllPairs (λ p q. p ≢ q) (map pair_of xs)) (sym (append_assoc (requests_in before) (r ∷ []) (rs ++ more))) apart)
+
+-- ---- batches
+
+batches_right : (before : List Line) (parts : List (List Asked)) → AreRight before → IsClosed before → list_all is_listed parts ≡ true → batches_in before + length parts ≤ 65535 → AllPairs (λ p q. p ≢ q) (map pair_of (requests_in before ++ requests_of parts)) → AreRight (onto before (flat_map batch_lines parts)) × IsClosed (onto before (flat_map batch_lines parts))
+batches_right before [] right closed all few apart = (right, closed)
+batches_right before (part ∷ parts) right closed all few apart =
+    let both = and_parts (is_listed part) (list_all is_listed parts) all in
+    let listed = and_parts (is_between 1 256 (length part)) (list_all is_asked part) both.0 in
+    let count = and_parts (nat_le 1 (length part)) (nat_le (length part) 256) listed.0 in
+    let opened : IsRightBehind before BatchLine = record {
+      follows = closed.opens;
+      ranges = refl;
+      room = lt-ltb (batches_in before) 65535 (omega arith);
+      new = tt;
+    } in
+    let inside : List Line = onto (BatchLine ∷ before) (map RequestLine part) in
+    let inside_right = requests_right (BatchLine ∷ before) part (requests_of parts) (opened, right) (λ a. refl) listed.1 (let most = leb-true (length part) 256 count.1 in omega arith) apart in
+    let inside_closed = some_closed (BatchLine ∷ before) part (leb-true 1 (length part) count.0) in
+    let rest = batches_right inside parts inside_right inside_closed both.1 (omega (arith, requests_no_batches (BatchLine ∷ before) part))
+    (subst (λ xs. AllPairs (λ p q. p ≢ q) (map pair_of xs)) (sym (ap (λ xs. xs ++ requests_of parts) (requests_listed (BatchLine ∷ before) part) ∙ append_assoc (requests_in before) part (requests_of parts))) apart) in
+    subst (λ lines. AreRight lines × IsClosed lines) (sym (onto-append (BatchLine ∷ before) (map RequestLine part) (flat_map batch_lines parts))) rest
+
+-- ---- all lines
+
+pub line_long : (line : Line) → 1 ≤ length (line_text line)
+line_long line = omega (arith, length-append (join_with_byte 32 (line_words line)) (10 ∷ []))
+
+module _ (w : Workload) (is : IsWorkload w) where
+  -- the lines, the nearest first
+  abbrev pub lines_back : List Line
+  lines_back = onto [] (lines_of w)
+
+  deployment_right : (is_deployment w.deployment ≡ true) × (nat_le 1 (length w.customers) ≡ true) × (nat_le (length w.customers) 4096 ≡ true) × (nat_le (length w.batches) 65535 ≡ true)
+  deployment_right =
+      let d : Deployment = w.deployment in
+      let counts = is_between 1 4096 (length w.customers) && nat_le (length w.batches) 65535 in
+      let six = is_between 1 8 d.workers && counts in
+      let five = is_between 1 8 d.window && six in
+      let four = nat_lt d.verifiers (2 * d.quorum) && five in
+      let three = nat_le d.quorum d.verifiers && four in
+      let two = is_between 1 16 d.verifiers && three in
+      let first = and_parts (is_between 1 8 d.replicas) two is.head in
+      let second = and_parts (is_between 1 16 d.verifiers) three first.1 in
+      let third = and_parts (nat_le d.quorum d.verifiers) four second.1 in
+      let fourth = and_parts (nat_lt d.verifiers (2 * d.quorum)) five third.1 in
+      let fifth = and_parts (is_between 1 8 d.window) six fourth.1 in
+      let sixth = and_parts (is_between 1 8 d.workers) counts fifth.1 in
+      let counted = and_parts (is_between 1 4096 (length w.customers)) (nat_le (length w.batches) 65535) sixth.1 in
+      let customers = and_parts (nat_le 1 (length w.customers)) (nat_le (length w.customers) 4096) counted.0 in (
+        and_from (is_between 1 8 d.replicas) (is_between 1 16 d.verifiers && (nat_le d.quorum d.verifiers && (nat_lt d.verifiers (2 * d.quorum) && (is_between 1 8 d.window && is_between 1 8 d.workers)))) first.0
+            (and_from (is_between 1 16 d.verifiers) (nat_le d.quorum d.verifiers && (nat_lt d.verifiers (2 * d.quorum) && (is_between 1 8 d.window && is_between 1 8 d.workers))) second.0
+            (and_from (nat_le d.quorum d.verifiers) (nat_lt d.verifiers (2 * d.quorum) && (is_between 1 8 d.window && is_between 1 8 d.workers)) third.0
+            (and_from (nat_lt d.verifiers (2 * d.quorum)) (is_between 1 8 d.window && is_between 1 8 d.workers) fourth.0
+            (and_from (is_between 1 8 d.window) (is_between 1 8 d.workers) fifth.0 sixth.0)))),
+        customers.0,
+        customers.1,
+        counted.1,
+      )
+
+  some_customers_closed : (before : List Line) (cs : List Customer) → 1 ≤ length cs → IsClosed (onto before (map CustomerLine cs))
+  some_customers_closed before [] some = absurd (omega arith)
+  some_customers_closed before (c ∷ cs) some = customers_closed (CustomerLine c ∷ before) cs record { ends = refl; opens = refl }
+
+  pub back_right : AreRight lines_back × IsClosed lines_back
+  back_right =
+      let head : List Line = HeadLine w.deployment ∷ [] in
+      let head_right : AreRight head = (record { follows = refl; ranges = deployment_right.0; room = refl; new = tt }, tt) in
+      let most = leb-true (length w.customers) 4096 deployment_right.2 in
+      let inside : List Line = onto head (map CustomerLine w.customers) in
+      let right : AreRight inside = customers_right head w.customers head_right (λ c. refl) is.customers (omega arith) is.names in
+      let closed : IsClosed inside = some_customers_closed head w.customers (leb-true 1 (length w.customers) deployment_right.1) in
+      let few = leb-true (length w.batches) 65535 deployment_right.3 in
+      let all = batches_right inside w.batches right closed is.batches (omega (arith, customers_no_batches head w.customers))
+      (subst (λ xs. AllPairs (λ p q. p ≢ q) (map pair_of (xs ++ requests_of w.batches))) (sym (customers_no_requests head w.customers)) is.pairs) in
+      subst (λ lines. AreRight lines × IsClosed lines) (sym (onto-append head (map CustomerLine w.customers) (flat_map batch_lines w.batches))) all
+
+  pub back_text : workload_text w ≡ text_before lines_back ++ []
+  back_text = sym (onto_text [] (lines_of w)) ∙ sym (append-nil (text_before lines_back))
+
+  pub no_bad_line : (n : ℕ) → ¬ IsBadLine (workload_text w) n
+  no_bad_line n bad =
+      elim (cases_order (length bad.before) (length lines_back)) [
+        | inl equal ↦
+            let same = same_lines bad.before lines_back bad.rest [] bad.right back_right.0 equal (sym bad.text ∙ back_text) in
+            false≢true (sym (bad.unended same.1) ∙ ap may_end same.0 ∙ back_right.1.ends)
+        | inr apart ↦
+            elim apart [
+              | inl less ↦
+                  let next = follows_fewer bad.before lines_back bad.rest [] bad.right back_right.0 less (sym bad.text ∙ back_text) in
+                  bad.wrong next.0 next.1 next.2 next.3
+              | inr more ↦
+                  let next = follows_fewer lines_back bad.before [] bad.rest back_right.0 bad.right more (sym back_text ∙ bad.text) in
+                  let long = ap length next.2 in
+                  omega (arith, long, length-append (line_text next.0) next.1, line_long next.0)
+            ]
+      ]

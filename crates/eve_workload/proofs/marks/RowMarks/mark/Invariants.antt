@@ -1,0 +1,12 @@
+use Rattle.std.proofs.Common.{◌≡◌, ℕ, take}
+use Rattle.std.specs.Prelude.{◌==◌, ◌&&◌, ◌||◌}
+use Rattle.std.specs.List.{list_any}
+use Rattle.eve_smallbank.specs.declared.entry.Kind.{Kind}
+use Rattle.eve_workload.specs.Mixing.{collide}
+use Rattle.eve_workload.specs.Marks.{is_barred}
+use Rattle.eve_workload.proofs.marks.RowMarks.mark.Given as goal
+
+abbrev pub invariant-loop-place : goal.invariant-loop-place
+invariant-loop-place l =
+    (row : ℕ × Kind) → (other : ℕ)
+    → is_barred l.self row other ≡ (is_barred l.initial.self row other || (list_any (collide row) (take l.place l.rows) && (other == l.group)))
