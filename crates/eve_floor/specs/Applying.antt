@@ -2,6 +2,8 @@
 use Rattle.std.specs.Prelude.{◌≡◌, ℕ, List, Result, Ok, Err}
 use Rattle.eve_smallbank.specs.SmallBank.{plain}
 use Rattle.eve_smallbank.specs.Touch.{touched_of}
+use Rattle.eve_stamps.specs.declared.fault.StampFault.{StampFault}
+use Rattle.eve_stamps.specs.declared.fault.StampFault.TheVariants as stamp
 use Rattle.eve_stamps.specs.Applied.{Applied}
 use Rattle.eve_tickets.specs.Shown.{Drawer}
 use Rattle.eve_floor.specs.declared.applying.Task.{Task}
@@ -12,6 +14,13 @@ use Rattle.eve_floor.specs.Executing.{IsRecordOf, with_drawn, IsSpent}
 -- the rows that the task touches were looked up among these names
 abbrev pub IsLookedUp : List (List ℕ) → Task → Type 0
 IsLookedUp names task = task.reached ≡ touched_of names (plain task.request.now)
+
+-- the same fault, of an execution
+abbrev pub told : StampFault → ExecFault
+told stamp.NoRow = fault.NoRow
+told stamp.TickOrder = fault.TickOrder
+told stamp.Worn = fault.Worn
+told stamp.Memory = fault.Memory
 
 -- what a seat has drawn where no record was made: nothing where it was spent, else one number
 abbrev pub Refuses : ExecFault → Drawer → Drawer → Type 0

@@ -3,15 +3,13 @@
 ghost use Rattle.std.specs.Prelude.{◌≡◌, ℕ, List, IfOk, IfErr};
 ghost use Rattle.eve_smallbank.specs.declared.request.Abort.{Abort};
 ghost use Rattle.eve_smallbank.specs.declared.rows.Touched.TheVariants.{Refused};
-ghost use Rattle.eve_tickets.specs.Shown.{Drawer};
 ghost use Rattle.eve_floor.specs.Executing.{with_drawn};
 ghost use Rattle.eve_floor.specs.Applying.{IsLookedUp, Applies, Refuses};
 
-use crate::stripes::span_of;
 use crate::{ExecFault, Floor};
 use eve_recorder::Gate;
 use eve_smallbank::{Request, Touched, laws};
-use eve_stamps::{AccessRecord, StampFault, Stripe, apply, apply_two, untouched};
+use eve_stamps::{AccessRecord, Stripe, apply, apply_two, span_of, untouched};
 use eve_tickets::{TicketSeat, Tickets};
 use std::sync::{Mutex, Wait};
 
@@ -92,7 +90,7 @@ fn on_one<R: Wait, G: Gate>(
 {
     let mut stripe = lock.lock(rt);
     let tick = ticket(rt, tickets, drawer, task.index, gate)?;
-    let made = apply(
+    Ok(apply(
         &mut stripe,
         task.request,
         &task.reached,
@@ -100,11 +98,7 @@ fn on_one<R: Wait, G: Gate>(
         task.worker,
         task.place,
         task.index,
-    );
-    match made {
-        Ok(record) => Ok(record),
-        Err(why) => Err(fault_of(why)),
-    }
+    )?)
 }
 
 // A task whose rows lie in two stripes, of which the first is locked first.
@@ -125,7 +119,7 @@ fn on_two<R: Wait, G: Gate>(
     let mut first = first.lock(rt);
     let mut last = last.lock(rt);
     let tick = ticket(rt, tickets, drawer, task.index, gate)?;
-    let made = apply_two(
+    Ok(apply_two(
         &mut first,
         &mut last,
         task.request,
@@ -134,11 +128,7 @@ fn on_two<R: Wait, G: Gate>(
         task.worker,
         task.place,
         task.index,
-    );
-    match made {
-        Ok(record) => Ok(record),
-        Err(why) => Err(fault_of(why)),
-    }
+    )?)
 }
 
 // Enters the gate with the index, and draws a number.
@@ -157,17 +147,5 @@ fn ticket<R: Wait, G: Gate>(
     match tickets.draw(drawer) {
         Some(tick) => Ok(tick),
         None => Err(ExecFault::Spent),
-    }
-}
-
-// The same fault, of an execution.
-fn fault_of(why: StampFault) -> ExecFault
-    ensures { (tick : ℕ) (drawer : Drawer) → Refuses result drawer (with_drawn tick drawer) }
-{
-    match why {
-        StampFault::NoRow => ExecFault::NoRow,
-        StampFault::TickOrder => ExecFault::TickOrder,
-        StampFault::Worn => ExecFault::Worn,
-        StampFault::Memory => ExecFault::Memory,
     }
 }

@@ -1,5 +1,10 @@
 //! Why a request isn't executed.
 
+ghost use Rattle.std.specs.Prelude.{◌≡◌};
+ghost use Rattle.eve_floor.specs.Applying.{told};
+
+use eve_stamps::StampFault;
+
 /// Why an execution notes no record, or `flush` none.
 #[derive(Clone, Copy, Debug, PartialEq, Eq)]
 pub enum ExecFault {
@@ -15,4 +20,17 @@ pub enum ExecFault {
     Worn,
     /// No memory is left.
     Memory,
+}
+
+impl From<StampFault> for ExecFault {
+    ghost from_gives = { λ why e. e ≡ told why };
+
+    fn from(why: StampFault) -> ExecFault {
+        match why {
+            StampFault::NoRow => ExecFault::NoRow,
+            StampFault::TickOrder => ExecFault::TickOrder,
+            StampFault::Worn => ExecFault::Worn,
+            StampFault::Memory => ExecFault::Memory,
+        }
+    }
 }

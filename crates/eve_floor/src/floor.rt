@@ -3,12 +3,10 @@
 ghost use Rattle.std.specs.Prelude.{◌≡◌, ◌*◌, ◌+◌, ◌<◌, ◌++◌, List, IfOk, IsErr, length, vec_len, vec_capacity};
 ghost use Rattle.eve_grammar.specs.declared.restore.Restore as spec;
 
-use crate::opening::opening_stripe;
-use crate::stripes::STRIPES;
 use crossbeam_utils::CachePadded;
 use eve_accounts::{Balances, Names};
 use eve_grammar::Restore;
-use eve_stamps::Stripe;
+use eve_stamps::{STRIPES, Stripe, opening_stripe};
 use std::alloc::{AllocError, Global};
 use std::marker::Model;
 use std::sync::Mutex;

@@ -5,14 +5,9 @@ mod applying;
 mod executing;
 mod fault;
 mod floor;
-mod opening;
-mod stripes;
 mod worker;
 
 pub use executing::{execute, execute_touched, flush};
 pub use fault::ExecFault;
 pub use floor::Floor;
 pub use worker::Worker;
-
-#[cfg(test)]
-mod tests;

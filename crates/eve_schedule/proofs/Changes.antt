@@ -1,5 +1,5 @@
 -- A function that has another value at one number, and the least and the greatest that passes.
-use Rattle.std.proofs.Common.{◌≡◌, ℕ, zero, suc, ◌+◌, ◌<◌, ◌≤◌, Bool, true, false, cond, ◌==◌, Option, Some, None, is_none, refl, sym, subst, ap, ◌∙◌, inl, inr, arith}
+use Rattle.std.proofs.Common.{◌≡◌, ℕ, zero, suc, ◌+◌, ◌-◌, ◌<◌, ◌≤◌, Bool, true, false, cond, ◌==◌, Option, Some, None, is_none, refl, sym, subst, ap, ◌∙◌, inl, inr, arith}
 use Rattle.std.proofs.lemmas.Bool.{cases_Bool, cases_eq, eqb-true, eqb-false, eq-eqb, ne_eqb, cond-true, cond-false, false≢true}
 use Rattle.eve_schedule.specs.Stripes.{least_from, greatest_below}
 use Rattle.eve_schedule.specs.Events.{changed}
@@ -84,4 +84,55 @@ none_passes i (suc n) test e s low high =
         | inl same ↦ ap test same ∙ f
         | inr other ↦ none_passes (suc i) n test (ap is_none (sym (cond-false (test i) (Some i) (least_from (suc i) n test) f)) ∙ e) s (omega arith) (omega arith)
       ]
+    ]
+
+-- the first that passes is the least
+pub least_is : (i n : ℕ) (test : ℕ → Bool) (s : ℕ) → i ≤ s → s < i + n → test s ≡ true → ((r : ℕ) → r < s → test r ≡ false) → least_from i n test ≡ Some s
+least_is i zero test s low high t none = absurd (omega arith)
+least_is i (suc n) test s low high t none =
+    elim (cases_eq i s) [
+      | inl same ↦
+          let here : test i ≡ true = ap test same ∙ t in
+          cond-true (test i) (Some i) (least_from (suc i) n test) here ∙ ap Some same
+      | inr other ↦
+          cond-false (test i) (Some i) (least_from (suc i) n test) (none i (omega arith)) ∙ least_is (suc i) n test s (omega arith) (omega arith) t none
+    ]
+
+-- where none passes there is no least
+pub least_none : (i n : ℕ) (test : ℕ → Bool) → ((r : ℕ) → test r ≡ false) → least_from i n test ≡ None
+least_none i zero test none = refl
+least_none i (suc n) test none = cond-false (test i) (Some i) (least_from (suc i) n test) (none i) ∙ least_none (suc i) n test none
+
+-- where the highest passes it is the greatest
+pub greatest_at : (n : ℕ) (test : ℕ → Bool) → 0 < n → test (n - 1) ≡ true → greatest_below n test ≡ Some (n - 1)
+greatest_at zero test some t = absurd (omega arith)
+greatest_at (suc n) test some t =
+    let same : suc n - 1 ≡ n = omega arith in
+    cond-true (test n) (Some n) (greatest_below n test) (ap test (sym same) ∙ t) ∙ ap Some (sym same)
+
+-- where it doesn't, the greatest is below it
+pub greatest_down : (n : ℕ) (test : ℕ → Bool) → 0 < n → test (n - 1) ≡ false → greatest_below n test ≡ greatest_below (n - 1) test
+greatest_down zero test some f = absurd (omega arith)
+greatest_down (suc n) test some f =
+    let same : suc n - 1 ≡ n = omega arith in
+    cond-false (test n) (Some n) (greatest_below n test) (ap test (sym same) ∙ f) ∙ ap (λ k. greatest_below k test) (sym same)
+
+some_same : (m k : ℕ) → Some m ≡ Some k → m ≡ k
+some_same m k e = cc
+
+-- what passes is one of them
+pub least_small : (i n : ℕ) (test : ℕ → Bool) (s : ℕ) → least_from i n test ≡ Some s → s < i + n
+least_small i zero test s e = absurd (cc)
+least_small i (suc n) test s e =
+    elim (cases_Bool (test i)) [
+      | inl t ↦ let same : i ≡ s = some_same i s (sym (cond-true (test i) (Some i) (least_from (suc i) n test) t) ∙ e) in omega arith
+      | inr f ↦ let rest : s < suc i + n = least_small (suc i) n test s (sym (cond-false (test i) (Some i) (least_from (suc i) n test) f) ∙ e) in omega arith
+    ]
+
+pub greatest_small : (n : ℕ) (test : ℕ → Bool) (s : ℕ) → greatest_below n test ≡ Some s → s < n
+greatest_small zero test s e = absurd (cc)
+greatest_small (suc n) test s e =
+    elim (cases_Bool (test n)) [
+      | inl t ↦ let same : n ≡ s = some_same n s (sym (cond-true (test n) (Some n) (greatest_below n test) t) ∙ e) in omega arith
+      | inr f ↦ let rest : s < n = greatest_small n test s (sym (cond-false (test n) (Some n) (greatest_below n test) f) ∙ e) in omega arith
     ]

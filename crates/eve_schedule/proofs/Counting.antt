@@ -27,7 +27,7 @@ group_of-mono (size ∷ sizes) i j h =
           subst (λ k. k ≤ group_of (size ∷ sizes) j) (sym here) (subst (λ k. suc (group_of sizes (i - size)) ≤ k) (sym there) (omega arith))
     ]
 
-noted_counted : (noted : ℕ → List Applied) (n : ℕ) → noted_count noted n ≡ counted length noted n
+pub noted_counted : (noted : ℕ → List Applied) (n : ℕ) → noted_count noted n ≡ counted length noted n
 noted_counted noted zero = refl
 noted_counted noted (suc n) = ap (λ k. k + length (noted n)) (noted_counted noted n)
 

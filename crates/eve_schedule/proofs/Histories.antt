@@ -14,7 +14,7 @@ use Rattle.eve_stamps.specs.Applied.{Applied}
 use Rattle.eve_schedule.specs.declared.event.Event.TheVariants.{Claim, Tick}
 use Rattle.eve_schedule.specs.declared.stage.Stage.{Stage}
 use Rattle.eve_schedule.specs.declared.stage.Stage.TheVariants as at
-use Rattle.eve_schedule.specs.Stripes.{stripe_count}
+use Rattle.eve_stamps.specs.Opening.{stripe_count}
 use Rattle.eve_schedule.specs.Before.{EachBefore}
 use Rattle.eve_schedule.specs.World.{Plan, World, request_at, executed_at, noted_count}
 use Rattle.eve_schedule.specs.Events.{changed, current_group, may_claim, is_owner, needs_at, next_stripe, last_stripe, is_free, with_owner, made, with_applied, with_noted, then_happens}
@@ -80,7 +80,7 @@ not_both : (v : ℕ) (o : Option ℕ) → is_none o ≡ true → is_owner v o �
 not_both v None h k = false≢true k
 not_both v (Some u) h k = false≢true h
 
-one_owner : (u v : ℕ) (o : Option ℕ) → is_owner u o ≡ true → is_owner v o ≡ true → u ≡ v
+pub one_owner : (u v : ℕ) (o : Option ℕ) → is_owner u o ≡ true → is_owner v o ≡ true → u ≡ v
 one_owner u v None h k = absurd (false≢true h)
 one_owner u v (Some w) h k = sym (eqb-true w u h) ∙ eqb-true w v k
 
@@ -164,7 +164,7 @@ holds_tick p w v i history h stage none holds =
           (λ _. ready_later p w.counter (w.counter + 1) (current_group p w) w.owners history u (w.stages u) (omega arith) (holds.ready u l));
     }
 
-sees_on : (names : List (List ℕ)) (table : Table) (bank : Bank) (rows : Rows) → AllByRecursion (Sees table) (map (entry_on names table bank) rows)
+pub sees_on : (names : List (List ℕ)) (table : Table) (bank : Bank) (rows : Rows) → AllByRecursion (Sees table) (map (entry_on names table bank) rows)
 sees_on names table bank [] = tt
 sees_on names table bank (r ∷ rows) = (record { version = refl; value = refl }, sees_on names table bank rows)
 

@@ -101,7 +101,7 @@ nobody test (suc n) h =
     let none : flag (test at.Idle) ≡ 0 = ap flag h in
     omega (arith, none, nobody test n h)
 
-nothing_noted : (n : ℕ) → noted_count (λ _. []) n ≡ 0
+pub nothing_noted : (n : ℕ) → noted_count (λ _. []) n ≡ 0
 nothing_noted zero = refl
 nothing_noted (suc n) = let before = nothing_noted n in omega (arith, before)
 

@@ -15,7 +15,7 @@ use Rattle.eve_grammar.specs.Certificate.{group_of, KeepsGroups}
 use Rattle.eve_stamps.specs.Applied.{Applied}
 use Rattle.eve_schedule.specs.declared.stage.Stage.{Stage}
 use Rattle.eve_schedule.specs.declared.stage.Stage.TheVariants as at
-use Rattle.eve_schedule.specs.Stripes.{stripe_of}
+use Rattle.eve_stamps.specs.Opening.{stripe_of}
 use Rattle.eve_schedule.specs.Before.{EachBefore}
 use Rattle.eve_schedule.specs.World.{Plan, World, request_at, executed_at, noted_count, records_of}
 use Rattle.eve_schedule.specs.Events.{needs_at}

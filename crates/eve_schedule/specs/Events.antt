@@ -8,7 +8,8 @@ use Rattle.eve_schedule.specs.declared.event.Event.{Event}
 use Rattle.eve_schedule.specs.declared.event.Event.TheVariants.{Claim, LockStripe, Tick, Apply, Unlock, Note}
 use Rattle.eve_schedule.specs.declared.stage.Stage.{Stage}
 use Rattle.eve_schedule.specs.declared.stage.Stage.TheVariants as at
-use Rattle.eve_schedule.specs.Stripes.{stripe_count, needs, least_from, greatest_below}
+use Rattle.eve_stamps.specs.Opening.{stripe_count}
+use Rattle.eve_schedule.specs.Stripes.{needs, least_from, greatest_below}
 use Rattle.eve_schedule.specs.World.{Plan, World, request_at, noted_count}
 
 abbrev pub worker_of : Event → ℕ

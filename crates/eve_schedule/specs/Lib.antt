@@ -3,4 +3,7 @@ pub mod Before
 pub mod World
 pub mod Events
 pub mod Serial
+pub mod Schedule
+pub mod Applying
+pub mod Scheduled
 pub mod Worked

@@ -1,19 +1,12 @@
 -- The stripes of rows that a request needs. docs/MODEL.md, "Schedule".
-use Rattle.std.specs.Prelude.{ℕ, zero, suc, ◌/◌, ◌%◌, ◌==◌, Bool, if◌then◌else◌, List, Option, Some, None}
-use Rattle.std.specs.List.{list_any}
+use Rattle.std.specs.Prelude.{ℕ, zero, suc, Bool, if◌then◌else◌, List, Option, Some, None}
 use Rattle.eve_smallbank.specs.SmallBank.{Request}
 use Rattle.eve_smallbank.specs.Touch.{touched_of, rows_in}
-
-abbrev pub stripe_count : ℕ
-stripe_count = 16
-
--- both rows of a customer lie in one stripe
-abbrev pub stripe_of : ℕ → ℕ
-stripe_of row = row / 2 % stripe_count
+use Rattle.eve_stamps.specs.Opening.{touches}
 
 -- whether the request touches a row of the stripe
 abbrev pub needs : List (List ℕ) → Request → ℕ → Bool
-needs names request stripe = list_any (λ r. stripe_of r.0 == stripe) (rows_in (touched_of names request))
+needs names request stripe = touches (rows_in (touched_of names request)) stripe
 
 -- the least of n numbers from this one on that passes
 abbrev pub least_from : ℕ → ℕ → (ℕ → Bool) → Option ℕ

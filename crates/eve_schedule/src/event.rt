@@ -1,5 +1,7 @@
 //! What may happen next.
 
+ghost use Rattle.std.specs.Prelude.{◌≡◌};
+
 /// One step of one worker, given by its number, from 0.
 ///
 /// docs/MODEL.md, "Schedule", says where each is allowed and what it does.
@@ -17,4 +19,22 @@ pub enum Event {
     Unlock(u8),
     /// Its record goes to the end of its list.
     Note(u8),
+}
+
+impl Event {
+    ghost use Rattle.eve_schedule.specs.Events.{worker_of};
+
+    /// The worker.
+    pub fn worker(&self) -> u8
+        ensures { result ≡ worker_of self.now }
+    {
+        match *self {
+            Event::Claim(worker)
+            | Event::LockStripe(worker)
+            | Event::Tick(worker)
+            | Event::Apply(worker)
+            | Event::Unlock(worker)
+            | Event::Note(worker) => worker,
+        }
+    }
 }

@@ -1,4 +1,4 @@
--- Journals, entry by entry and tick by tick.
+-- Public: other crates cite these lemmas. Journals, entry by entry and tick by tick.
 use Rattle.std.proofs.Common.{◌≡◌, ℕ, ◌<◌, nat_le, nat_lt, ◌==◌, Bool, true, false, cond, ◌&&◌, List, [], ◌∷◌, ◌++◌, filter, refl, sym, ap, ap₂, ◌∙◌, inl, inr, arith}
 use Rattle.std.specs.List.{AllByRecursion}
 use Rattle.std.proofs.lemmas.Bool.{cases_lt, eqb-true, lt-leb, le-leb, lt-ltb, le-ltb, false≢true}

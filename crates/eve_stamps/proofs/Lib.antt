@@ -6,3 +6,4 @@ pub mod Versions
 pub mod Keeping
 pub mod Refusing
 pub mod Outcomes
+pub mod OpeningLaws

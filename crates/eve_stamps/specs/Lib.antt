@@ -1,4 +1,5 @@
 pub mod Applied
 pub mod Holding
+pub mod Opening
 pub mod Stamping
 pub mod Stripes

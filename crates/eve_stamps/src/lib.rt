@@ -6,14 +6,15 @@ mod executing;
 mod fault;
 mod journal;
 pub mod laws;
+mod opening;
 mod record;
 mod rows;
+mod span;
 mod stripe;
 
 pub use applying::{apply, apply_two};
 pub use fault::StampFault;
+pub use opening::opening_stripe;
 pub use record::{AccessRecord, untouched};
+pub use span::{STRIPES, Span, span_of};
 pub use stripe::Stripe;
-
-#[cfg(test)]
-mod tests;

@@ -1,6 +1,0 @@
-use Rattle.std.proofs.Common.{◌≡◌}
-use Rattle.eve_floor.specs.Opening.{opening_rows}
-use Rattle.eve_floor.proofs.opening.opening_rows.Given as goal
-
-abbrev pub invariant-loop-customer : goal.invariant-loop-customer
-invariant-loop-customer l = l.rows.items ≡ opening_rows l.balances l.stripe l.customer

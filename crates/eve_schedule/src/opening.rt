@@ -1,0 +1,54 @@
+//! What a schedule begins with.
+
+ghost use Rattle.std.specs.Prelude.{◌≡◌, ◌*◌, ◌≤◌, IfOk, length, map, replicate, [], None};
+ghost use Rattle.std.specs.List.{range_with_len};
+ghost use Rattle.eve_stamps.specs.Opening.{opening_rows, stripe_count};
+
+use crate::Stage;
+use eve_accounts::Balances;
+use eve_stamps::{AccessRecord, STRIPES, Stripe, opening_stripe};
+use std::alloc::{AllocError, Global};
+
+/// The stripes of so many customers, with their opening balances.
+pub fn opening_stripes(
+    alloc: Global,
+    balances: &Balances,
+    customers: u32,
+) -> Result<Vec<Stripe>, AllocError>
+    requires few { customers ≤ 65536 }
+    requires rows { length balances.now ≡ 2 * customers }
+    ensures { IfOk result (λ stripes. stripes.items
+        ≡ map (λ i. record { base = opening_rows balances.now i customers; journal = []; greatest = None })
+        (range_with_len 0 stripe_count)) }
+{
+    let mut stripes = Vec::with_capacity(alloc, STRIPES as usize)?;
+    for stripe in 0..STRIPES {
+        stripes.push(opening_stripe(alloc, balances, stripe, customers)?)?;
+    }
+    Ok(stripes)
+}
+
+/// For each worker no records.
+pub fn no_records(alloc: Global, workers: u8) -> Result<Vec<Vec<AccessRecord>>, AllocError>
+    ensures { IfOk result (λ noted. map (λ v. v.items) noted.items ≡ replicate workers []) }
+{
+    let mut noted = Vec::with_capacity(alloc, workers as usize)?;
+    for _ in 0..workers {
+        noted.push(Vec::new(alloc))?;
+    }
+    Ok(noted)
+}
+
+/// For each stripe no owner.
+pub fn no_owners(alloc: Global) -> Result<Vec<Option<u8>>, AllocError>
+    ensures { IfOk result (λ owners. owners.items ≡ replicate stripe_count None) }
+{
+    vec![in alloc; None; STRIPES as usize]
+}
+
+/// For each worker no request.
+pub fn all_idle(alloc: Global, workers: u8) -> Result<Vec<Stage>, AllocError>
+    ensures { IfOk result (λ stages. stages.items ≡ replicate workers Stage.Idle) }
+{
+    vec![in alloc; Stage::Idle; workers as usize]
+}

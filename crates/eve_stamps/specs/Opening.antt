@@ -1,0 +1,37 @@
+-- Which rows lie in which stripe, and what a stripe has at first. docs/MODEL.md, "Schedule".
+use Rattle.std.specs.Prelude.{ℕ, ℤ, ◌/◌, ◌%◌, ◌==◌, Bool, List, [], ◌∷◌, filter, flat_map}
+use Rattle.std.specs.List.{range_with_len, list_any}
+use Rattle.eve_accounts.specs.Rows.{saving_row, checking_row}
+use Rattle.eve_smallbank.specs.Access.{Rows, balance_at}
+use Rattle.eve_grammar.specs.declared.restore.Restore.{Restore}
+
+abbrev pub stripe_count : ℕ
+stripe_count = 16
+
+-- customer c lies in stripe c mod 16
+abbrev pub stripe_of_customer : ℕ → ℕ
+stripe_of_customer customer = customer % stripe_count
+
+-- and so does each of its two rows
+abbrev pub stripe_of : ℕ → ℕ
+stripe_of row = stripe_of_customer (row / 2)
+
+-- whether one of these rows lies in the stripe
+abbrev pub touches : Rows → ℕ → Bool
+touches rows stripe = list_any (λ r. stripe_of r.0 == stripe) rows
+
+-- ---- at first
+
+-- the row at version 0, with its opening balance
+abbrev pub opening_row : List ℤ → ℕ → Restore
+opening_row balances row = record { row = row; version = 0; value = balance_at balances row }
+
+-- both rows of a customer
+abbrev pub rows_of_customer : List ℤ → ℕ → List Restore
+rows_of_customer balances customer =
+    opening_row balances (saving_row customer) ∷ opening_row balances (checking_row customer) ∷ []
+
+-- the rows of the stripe, where there are so many customers
+abbrev pub opening_rows : List ℤ → ℕ → ℕ → List Restore
+opening_rows balances stripe customers =
+    flat_map (rows_of_customer balances) (filter (λ c. stripe_of_customer c == stripe) (range_with_len 0 customers))

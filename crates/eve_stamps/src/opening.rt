@@ -1,0 +1,59 @@
+//! What each stripe has at first.
+
+ghost use Rattle.std.specs.Prelude.{◌≡◌, ◌*◌, ◌≤◌, ◌<◌, IfOk, length, None, []};
+ghost use Rattle.eve_stamps.specs.Opening.{opening_row, opening_rows};
+
+use crate::Stripe;
+use crate::span::STRIPES;
+use eve_accounts::{Balances, Row};
+use eve_grammar::Restore;
+use std::alloc::{AllocError, Global};
+
+/// The stripe with its rows of so many customers, at version 0 with their opening balances.
+pub fn opening_stripe(
+    alloc: Global,
+    balances: &Balances,
+    stripe: u32,
+    customers: u32,
+) -> Result<Stripe, AllocError>
+    requires few { customers ≤ 65536 }
+    requires rows { length balances.now ≡ 2 * customers }
+    ensures { IfOk result (λ s.
+        s ≡ record { base = opening_rows balances.now stripe customers; journal = []; greatest = None }) }
+{
+    let rows = opening_rows(alloc, balances, stripe, customers)?;
+    Stripe::new(alloc, rows.as_slice())
+}
+
+// The rows of so many customers that lie in the stripe, at version 0 with their opening balances.
+fn opening_rows(
+    alloc: Global,
+    balances: &Balances,
+    stripe: u32,
+    customers: u32,
+) -> Result<Vec<Restore>, AllocError>
+    requires few { customers ≤ 65536 }
+    requires rows { length balances.now ≡ 2 * customers }
+    ensures { IfOk result (λ rows. rows.items ≡ opening_rows balances.now stripe customers) }
+{
+    let mut rows = Vec::new(alloc);
+    for customer in 0..customers {
+        if customer % STRIPES == stripe {
+            let saving = opening_row(balances, Row::saving(customer));
+            let checking = opening_row(balances, Row::checking(customer));
+            rows.extend_from_slice(&[saving, checking])?;
+        }
+    }
+    Ok(rows)
+}
+
+fn opening_row(balances: &Balances, row: Row) -> Restore
+    requires there { row < length balances.now }
+    ensures { result ≡ opening_row balances.now row }
+{
+    Restore {
+        row,
+        version: 0,
+        value: balances.get(row),
+    }
+}

@@ -1,0 +1,142 @@
+//! Customers and batches, in few words.
+
+use eve_accounts::{Amount, Balances, Cents, Names, Row};
+use eve_schedule::Schedule;
+use eve_write::{BatchData, RequestData, TransactionData};
+use std::alloc::{AllocError, Global};
+use std::hash::RandomState;
+use std::test::Fail;
+
+/// The names of all customers, one letter each.
+const LETTERS: &[u8] = b"abcdefghijklmnopqrst";
+
+/// The name of a customer, by number; past the last customer one that nobody has.
+pub(crate) fn name_of(customer: u8) -> &'static [u8] {
+    let place = customer as usize;
+    if place < LETTERS.len() {
+        &LETTERS[place..place + 1]
+    } else {
+        b"nobody"
+    }
+}
+
+/// So many customers.
+pub(crate) fn names(
+    alloc: Global,
+    random: RandomState,
+    customers: u8,
+) -> Result<Names<'static>, Fail> {
+    let mut names = Names::new(alloc, random, 100);
+    for customer in 0..customers {
+        names
+            .add(name_of(customer))
+            .ok()
+            .ok_or("no room for a name")?;
+    }
+    Ok(names)
+}
+
+/// So many cents.
+pub(crate) fn cents(value: i64) -> Result<Cents, Fail> {
+    Ok(Cents::new(value).ok_or("no balance")?)
+}
+
+/// The balance of a row, from the list of all.
+fn set_from(balances: &mut Balances, row: Row, values: &[i64]) -> Result<(), Fail> {
+    let place = row.number() as usize;
+    let value = values.get(place).copied().unwrap_or(0);
+    if place < balances.len() {
+        balances.set(row, cents(value)?);
+    }
+    Ok(())
+}
+
+/// These balances, by row, of 20 customers at most.
+pub(crate) fn balances(alloc: Global, values: &[i64]) -> Result<Balances, Fail> {
+    let mut balances = Balances::new(alloc, values.len())?;
+    for customer in 0..20 {
+        set_from(&mut balances, Row::saving(customer), values)?;
+        set_from(&mut balances, Row::checking(customer), values)?;
+    }
+    Ok(balances)
+}
+
+/// What is asked for, with customers by number.
+#[derive(Clone, Copy, Debug, PartialEq, Eq)]
+pub(crate) enum Ask {
+    Balance(u8),
+    Deposit(u8, i64),
+    Saving(u8, i64),
+    Amalgamate(u8, u8),
+    Check(u8, i64),
+}
+
+fn name(alloc: Global, customer: u8) -> Result<Vec<u8>, AllocError> {
+    Vec::from_slice(alloc, name_of(customer))
+}
+
+/// An amount of so many cents.
+pub(crate) fn amount(value: i64) -> Result<Amount, Fail> {
+    Ok(Amount::new(value).ok_or("no amount")?)
+}
+
+/// What is asked for, as a transaction.
+pub(crate) fn transaction(alloc: Global, ask: Ask) -> Result<TransactionData, Fail> {
+    Ok(match ask {
+        Ask::Balance(customer) => TransactionData::Balance(name(alloc, customer)?),
+        Ask::Deposit(customer, value) => {
+            TransactionData::DepositChecking(name(alloc, customer)?, amount(value)?)
+        }
+        Ask::Saving(customer, value) => {
+            TransactionData::TransactSaving(name(alloc, customer)?, amount(value)?)
+        }
+        Ask::Amalgamate(from, to) => {
+            TransactionData::Amalgamate(name(alloc, from)?, name(alloc, to)?)
+        }
+        Ask::Check(customer, value) => {
+            TransactionData::WriteCheck(name(alloc, customer)?, amount(value)?)
+        }
+    })
+}
+
+/// A batch with these parallelBatches.
+pub(crate) fn batch(alloc: Global, sizes: &[u16], asks: &[Ask]) -> Result<BatchData, Fail> {
+    let mut requests = Vec::new(alloc);
+    for (place, ask) in asks.iter().enumerate() {
+        let transaction = transaction(alloc, *ask)?;
+        requests.push(RequestData {
+            client: 7,
+            number: place as u64,
+            transaction,
+        })?;
+    }
+    Ok(BatchData {
+        sizes: Vec::from_slice(alloc, sizes)?,
+        requests,
+    })
+}
+
+/// The batch, to be executed by so many workers.
+pub(crate) fn opened<'s>(
+    alloc: Global,
+    names: &'s Names<'s>,
+    balances: &Balances,
+    batch: &'s BatchData,
+    workers: u8,
+) -> Result<Schedule<'s>, Fail> {
+    if 65536 <= batch.requests.len() {
+        return Err("too many requests".into());
+    }
+    if balances.len() != 2 * names.len() {
+        return Err("not two rows for each name".into());
+    }
+    Ok(Schedule::new(alloc, names, balances, batch, workers)?)
+}
+
+/// Customers with their balances, and a batch.
+#[derive(Drop)]
+pub(crate) struct Plan {
+    pub names: Names<'static>,
+    pub balances: Balances,
+    pub batch: BatchData,
+}

@@ -1,0 +1,380 @@
+//! A schedule written as lists: rows, owners, stages and records, with SmallBank on plain numbers.
+
+use crate::parts::{Ask, cents};
+use eve_accounts::Row;
+use eve_schedule::Event;
+use eve_smallbank::{Abort, Entry, Kind, Reply, UpToThree};
+use std::alloc::{AllocError, Global};
+use std::test::Fail;
+
+/// How many customers there are.
+pub(crate) const CUSTOMERS: u8 = 20;
+
+/// A record, field by field.
+#[derive(Clone, Copy, Debug, PartialEq, Eq)]
+pub(crate) struct Made {
+    pub worker: u8,
+    pub place: usize,
+    pub index: u16,
+    pub tick: u64,
+    pub reply: Reply,
+    pub entries: UpToThree<Entry>,
+}
+
+#[derive(Clone, Copy)]
+enum At {
+    Idle,
+    Claimed(u16),
+    Ticked(u16, u64),
+    Applied(Made),
+}
+
+/// What a request makes of the rows that it meets: its reply, and the rows with what they hold afterwards, where they
+/// are written.
+#[derive(Clone, Copy)]
+struct Done {
+    reply: Reply,
+    rows: [Option<(u16, Option<i64>)>; 3],
+}
+
+/// The world, as lists.
+#[derive(Drop)]
+pub(crate) struct Plain<'a> {
+    sizes: &'a [u16],
+    asks: &'a [Ask],
+    rows: Vec<(u64, i64)>,
+    owners: Vec<Option<u8>>,
+    claimed: u16,
+    counter: u64,
+    stages: Vec<At>,
+    /// What each worker has noted.
+    pub noted: Vec<Vec<Made>>,
+    applied: Vec<(u64, u16)>,
+}
+
+fn saving(customer: u8) -> u16 {
+    2 * u16::from(customer)
+}
+
+fn checking(customer: u8) -> u16 {
+    2 * u16::from(customer) + 1
+}
+
+fn row_of(row: u16) -> Row {
+    let customer = u32::from(row) / 2;
+    if row % 2 == 0 {
+        Row::saving(customer)
+    } else {
+        Row::checking(customer)
+    }
+}
+
+fn refused(why: Abort) -> Done {
+    Done {
+        reply: Reply::Aborted(why),
+        rows: [None, None, None],
+    }
+}
+
+fn one(row: u16, value: i64) -> Done {
+    Done {
+        reply: Reply::Done,
+        rows: [Some((row, Some(value))), None, None],
+    }
+}
+
+impl<'a> Plain<'a> {
+    pub(crate) fn new(
+        alloc: Global,
+        values: &[i64],
+        sizes: &'a [u16],
+        asks: &'a [Ask],
+        workers: u8,
+    ) -> Result<Plain<'a>, AllocError> {
+        let mut rows = Vec::new(alloc);
+        for value in values {
+            rows.push((0, *value))?;
+        }
+        let mut noted = Vec::new(alloc);
+        for _ in 0..workers {
+            noted.push(Vec::new(alloc))?;
+        }
+        Ok(Plain {
+            sizes,
+            asks,
+            rows,
+            owners: vec![in alloc; None; 16]?,
+            claimed: 0,
+            counter: 0,
+            stages: vec![in alloc; At::Idle; workers as usize]?,
+            noted,
+            applied: Vec::new(alloc),
+        })
+    }
+
+    fn noted_count(&self) -> usize {
+        let mut count: usize = 0;
+        for noted in self.noted.as_slice() {
+            count = count.wrapping_add(noted.len());
+        }
+        count
+    }
+
+    fn group_of(&self, index: usize) -> usize {
+        let mut end: usize = 0;
+        for (group, size) in self.sizes.iter().enumerate() {
+            end = end.wrapping_add(*size as usize);
+            if index < end {
+                return group;
+            }
+        }
+        self.sizes.len()
+    }
+
+    fn value(&self, row: u16) -> i64 {
+        self.rows.get(row as usize).map_or(0, |row| row.1)
+    }
+
+    fn does(&self, ask: Ask) -> Done {
+        let there = |customer: u8| customer < CUSTOMERS;
+        match ask {
+            Ask::Balance(c) if there(c) => {
+                let (saving, checking) = (saving(c), checking(c));
+                Done {
+                    reply: Reply::Total(self.value(saving).wrapping_add(self.value(checking))),
+                    rows: [Some((saving, None)), Some((checking, None)), None],
+                }
+            }
+            Ask::Deposit(c, amount) if there(c) => {
+                if amount < 0 {
+                    return refused(Abort::BadAmount);
+                }
+                one(checking(c), self.value(checking(c)).wrapping_add(amount))
+            }
+            Ask::Saving(c, amount) if there(c) => {
+                let after = self.value(saving(c)).wrapping_add(amount);
+                if after < 0 {
+                    return Done {
+                        reply: Reply::Aborted(Abort::Insufficient),
+                        rows: [Some((saving(c), None)), None, None],
+                    };
+                }
+                one(saving(c), after)
+            }
+            Ask::Amalgamate(from, to) if there(from) && there(to) => {
+                let sum = self
+                    .value(saving(from))
+                    .wrapping_add(self.value(checking(from)));
+                if from == to {
+                    return Done {
+                        reply: Reply::Done,
+                        rows: [
+                            Some((saving(from), Some(0))),
+                            Some((checking(from), Some(sum))),
+                            None,
+                        ],
+                    };
+                }
+                let after = self.value(checking(to)).wrapping_add(sum);
+                Done {
+                    reply: Reply::Done,
+                    rows: [
+                        Some((saving(from), Some(0))),
+                        Some((checking(from), Some(0))),
+                        Some((checking(to), Some(after))),
+                    ],
+                }
+            }
+            Ask::Check(c, amount) if there(c) => {
+                if amount < 0 {
+                    return refused(Abort::BadAmount);
+                }
+                let held = self.value(checking(c));
+                let penalty = if self.value(saving(c)).wrapping_add(held) < amount {
+                    100
+                } else {
+                    0
+                };
+                let left = held.wrapping_sub(amount).wrapping_sub(penalty);
+                Done {
+                    reply: Reply::Done,
+                    rows: [
+                        Some((saving(c), None)),
+                        Some((checking(c), Some(left))),
+                        None,
+                    ],
+                }
+            }
+            _ => refused(Abort::NoSuchName),
+        }
+    }
+
+    fn ask_at(&self, index: u16) -> Ask {
+        self.asks
+            .get(index as usize)
+            .copied()
+            .unwrap_or(Ask::Balance(CUSTOMERS))
+    }
+
+    fn needs(&self, index: u16, stripe: usize) -> bool {
+        for row in self.does(self.ask_at(index)).rows {
+            if let Some((row, _)) = row {
+                if (row / 2 % 16) as usize == stripe {
+                    return true;
+                }
+            }
+        }
+        false
+    }
+
+    fn owner(&self, stripe: usize) -> Option<u8> {
+        self.owners.get(stripe).copied().unwrap_or(None)
+    }
+
+    fn next_stripe(&self, worker: u8, index: u16) -> Option<usize> {
+        for stripe in 0..16 {
+            if self.needs(index, stripe) && self.owner(stripe) != Some(worker) {
+                return Some(stripe);
+            }
+        }
+        None
+    }
+
+    fn last_stripe(&self, worker: u8) -> Option<usize> {
+        let mut last = None;
+        for stripe in 0..16 {
+            if self.owner(stripe) == Some(worker) {
+                last = Some(stripe);
+            }
+        }
+        last
+    }
+
+    fn made(&mut self, worker: u8, index: u16, tick: u64) -> Result<Made, Fail> {
+        let done = self.does(self.ask_at(index));
+        let mut entries = UpToThree::new();
+        for row in done.rows {
+            let Some((row, after)) = row else {
+                break;
+            };
+            let Some(held) = self.rows.get_mut(row as usize) else {
+                break;
+            };
+            let at = row_of(row);
+            let entry = Entry {
+                row: at,
+                kind: if after.is_some() {
+                    Kind::Write
+                } else {
+                    Kind::Read
+                },
+                version: held.0,
+                seen: cents(held.1)?,
+                after: cents(after.unwrap_or(held.1))?,
+            };
+            if let Some(after) = after {
+                *held = (held.0.wrapping_add(1), after);
+            }
+            if entries.len() < 3 {
+                entries.push(entry);
+            }
+        }
+        let place = self
+            .noted
+            .get(worker as usize)
+            .map_or(0, |noted| noted.len());
+        Ok(Made {
+            worker,
+            place,
+            index,
+            tick,
+            reply: done.reply,
+            entries,
+        })
+    }
+
+    /// Whether the event is allowed. If it is, it happens.
+    pub(crate) fn step(&mut self, event: Event) -> Result<bool, Fail> {
+        let worker = event.worker();
+        let Some(stage) = self.stages.get(worker as usize).copied() else {
+            return Ok(false);
+        };
+        let next = match (event, stage) {
+            (Event::Claim(_), At::Idle) => {
+                let index = self.claimed;
+                if self.asks.len() <= index as usize
+                    || self.group_of(index as usize) != self.group_of(self.noted_count())
+                {
+                    return Ok(false);
+                }
+                self.claimed = index.wrapping_add(1);
+                At::Claimed(index)
+            }
+            (Event::LockStripe(_), At::Claimed(index)) => {
+                let Some(stripe) = self.next_stripe(worker, index) else {
+                    return Ok(false);
+                };
+                if self.owner(stripe).is_some() {
+                    return Ok(false);
+                }
+                if let Some(owner) = self.owners.get_mut(stripe) {
+                    *owner = Some(worker);
+                }
+                stage
+            }
+            (Event::Tick(_), At::Claimed(index)) => {
+                if self.next_stripe(worker, index).is_some() {
+                    return Ok(false);
+                }
+                let tick = self.counter;
+                self.counter = tick.wrapping_add(1);
+                At::Ticked(index, tick)
+            }
+            (Event::Apply(_), At::Ticked(index, tick)) => {
+                self.applied.push((tick, index))?;
+                At::Applied(self.made(worker, index, tick)?)
+            }
+            (Event::Unlock(_), At::Applied(_)) => {
+                let Some(stripe) = self.last_stripe(worker) else {
+                    return Ok(false);
+                };
+                if let Some(owner) = self.owners.get_mut(stripe) {
+                    *owner = None;
+                }
+                stage
+            }
+            (Event::Note(_), At::Applied(made)) => {
+                if self.last_stripe(worker).is_some() {
+                    return Ok(false);
+                }
+                if let Some(noted) = self.noted.get_mut(worker as usize) {
+                    noted.push(made)?;
+                }
+                At::Idle
+            }
+            _ => return Ok(false),
+        };
+        if let Some(stage) = self.stages.get_mut(worker as usize) {
+            *stage = next;
+        }
+        Ok(true)
+    }
+
+    /// Whether every request is noted.
+    pub(crate) fn done(&self) -> bool {
+        self.noted_count() == self.asks.len()
+    }
+
+    /// The indexes that are applied, by rising tick.
+    pub(crate) fn order(&mut self, alloc: Global) -> Result<Vec<u16>, AllocError> {
+        let mut order = Vec::new(alloc);
+        for tick in 0..self.counter {
+            for applied in self.applied.as_slice() {
+                if applied.0 == tick {
+                    order.push(applied.1)?;
+                }
+            }
+        }
+        Ok(order)
+    }
+}

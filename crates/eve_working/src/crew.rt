@@ -1,0 +1,100 @@
+//! Two workers, with what their seats are of.
+
+ghost use Rattle.std.specs.Prelude.{◌≡◌, ◌≤◌, ◌<◌, ◌^◌, IsTrue, length};
+ghost use Rattle.eve_floor.specs.Executing.{IsAt};
+
+use eve_floor::{ExecFault, Floor, Worker, execute, flush};
+use eve_recorder::{OpenGate, Recorder, TakerSeat};
+use eve_stamps::AccessRecord;
+use eve_tickets::Tickets;
+use eve_write::BatchData;
+use std::alloc::{AllocError, Global};
+use std::mem;
+use std::sync::Wait;
+
+/// Two workers, one of which is at hand, with the recorder and the tickets of their seats.
+#[derive(Drop)]
+pub struct Crew {
+    pub recorder: Recorder,
+    pub tickets: Tickets,
+    pub taker: TakerSeat,
+    pub hand: Worker,
+    pub other: Worker,
+    pub ghost hand_at: { IsAt recorder tickets hand },
+    pub ghost other_at: { IsAt recorder tickets other },
+    pub ghost taker_at: { taker.recorder ≡ recorder.recorder },
+}
+
+/// Workers 0 and 1, the first of them at hand: a queue with so much room, and so many numbers for each.
+pub fn crew_of(alloc: Global, room: usize, limit: u64) -> Result<Crew, AllocError>
+    requires room { (1 ≤ room) × (room ≤ 256) }
+    requires limit { limit ≤ 2 ^ 40 }
+{
+    let (recorder, mut seats) = Recorder::new(alloc, 2, room)?;
+    let (tickets, mut drawers) = Tickets::new(alloc, 2, limit)?;
+    let first = seats.worker(0).ok_or(AllocError)?;
+    let second = seats.worker(1).ok_or(AllocError)?;
+    let taker = seats.taker().ok_or(AllocError)?;
+    let one = drawers.seat(0).ok_or(AllocError)?;
+    let two = drawers.seat(1).ok_or(AllocError)?;
+    Ok(Crew {
+        recorder,
+        tickets,
+        taker,
+        hand: Worker::new(first, one),
+        other: Worker::new(second, two),
+    })
+}
+
+impl Crew {
+    /// The worker at hand, alone.
+    pub fn into_hand(self) -> Worker {
+        let Crew { hand, .. } = self;
+        hand
+    }
+
+    /// The other worker comes to hand.
+    pub fn turn(&mut self) {
+        mem::swap(&mut self.hand, &mut self.other);
+    }
+
+    /// The worker at hand executes a request, if it is there and the worker has a place for it.
+    pub fn execute<R: Wait>(
+        &mut self,
+        rt: &R,
+        floor: &Floor,
+        batch: &BatchData,
+        index: u16,
+    ) -> Result<(), ExecFault> {
+        if !may_execute(&self.hand, batch, index) {
+            return Err(ExecFault::NoRow);
+        }
+        execute(
+            rt,
+            floor,
+            &self.recorder,
+            &self.tickets,
+            &mut self.hand,
+            batch,
+            index,
+            &OpenGate,
+        )
+    }
+
+    /// What waits in the worker at hand is noted.
+    pub fn flush<R: Wait>(&mut self, rt: &R) -> Result<(), ExecFault> {
+        flush(rt, &self.recorder, &mut self.hand)
+    }
+
+    /// What was noted first, and not yet taken.
+    pub fn take<R: Wait>(&mut self, rt: &R) -> Option<AccessRecord> {
+        self.recorder.take(rt, &mut self.taker)
+    }
+}
+
+/// Whether the request is there, and the worker has a place for it.
+pub fn may_execute(worker: &Worker, batch: &BatchData, index: u16) -> bool
+    ensures { IsTrue result → (length worker.now.seat.noted < 65536) × (index < length batch.now.requests.items) }
+{
+    worker.place() < 65536 && usize::from(index) < batch.requests.len()
+}

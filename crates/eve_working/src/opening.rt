@@ -1,0 +1,64 @@
+//! Customers, their rows, and batches.
+
+use eve_accounts::{Amount, Balances, Names};
+use eve_floor::Floor;
+use eve_write::{BatchData, RequestData, TransactionData};
+use std::alloc::{AllocError, Global};
+use std::hash::RandomState;
+
+/// Seventeen customers, `a` to `q`: the first and the last of them lie in one stripe.
+pub fn customers(alloc: Global, random: RandomState) -> Result<Names<'static>, AllocError> {
+    let mut names = Names::new(alloc, random, 32);
+    let texts: [&[u8]; 17] = [
+        b"a", b"b", b"c", b"d", b"e", b"f", b"g", b"h", b"i", b"j", b"k", b"l", b"m", b"n", b"o",
+        b"p", b"q",
+    ];
+    for text in texts {
+        if names.add(text).is_err() {
+            return Err(AllocError);
+        }
+    }
+    Ok(names)
+}
+
+/// A floor where each customer has nothing.
+pub fn floor_of<'n>(alloc: Global, names: &'n Names<'n>) -> Result<Floor<'n>, AllocError> {
+    let balances = Balances::new(alloc, 2 * names.len())?;
+    Floor::new(alloc, names, &balances)
+}
+
+/// What is asked for: 5 cents are deposited for a customer, or all that one has is moved to another.
+#[derive(Clone, Copy)]
+pub enum Ask<'a> {
+    Deposit(&'a [u8]),
+    Move(&'a [u8], &'a [u8]),
+}
+
+/// A batch of these requests.
+pub fn batch_of(alloc: Global, asks: &[Ask]) -> Result<BatchData, AllocError> {
+    let mut requests = Vec::with_capacity(alloc, asks.len())?;
+    for ask in asks {
+        requests.push(RequestData {
+            client: 7,
+            number: 1,
+            transaction: transaction_of(alloc, *ask)?,
+        })?;
+    }
+    Ok(BatchData {
+        sizes: Vec::new(alloc),
+        requests,
+    })
+}
+
+fn transaction_of(alloc: Global, ask: Ask) -> Result<TransactionData, AllocError> {
+    match ask {
+        Ask::Deposit(to) => {
+            let five = Amount::new(5).ok_or(AllocError)?;
+            Ok(TransactionData::DepositChecking(to.to_vec(alloc)?, five))
+        }
+        Ask::Move(from, to) => Ok(TransactionData::Amalgamate(
+            from.to_vec(alloc)?,
+            to.to_vec(alloc)?,
+        )),
+    }
+}
