@@ -79,7 +79,7 @@ module _ (front : AttemptFront) (b : Batch) (touched : List Touched) (records : 
       (and_from (length (map access t.accesses.items) == length t.certificate.items) _ (eq-eqb (length (map access t.accesses.items)) (length t.certificate.items) (accesses ∙ sym long))
       (ap (list_all (is_access rows)) taken.accesses ∙ noted.limits))
 
-  pub is_attempt_of : (balances : List ℤ) (token : List ℕ) → front.seq ≤ 65535 → IsTrue (is_number 4 front.view) → IsTrue (is_token token) → token ≡ token_of front.seq balances t.replies.items
+  pub is_attempt_of : (balances : List ℤ) (token : List ℕ) → front.seq ≤ 65535 → IsTrue (is_number 4 front.view) → IsTrue (is_token token) → token ≡ token_of 1 front.seq balances t.replies.items
       → IsAttemptOf front rows balances records (records_in records t.order.items) (attempt_of front t token)
   is_attempt_of balances token seq view is tells = record {
     seq = refl;

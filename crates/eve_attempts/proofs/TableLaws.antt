@@ -1,13 +1,13 @@
 -- What a write leaves in the rows, what going back over writes gives, and what each entry along an attempt sees.
 use Rattle.std.proofs.Common.{◌≡◌, ℕ, ℤ, pos, zero, suc, ◌+◌, ◌<◌, ◌==◌, Bool, true, false, cond, ltb, ◌||◌, ◌&&◌, IsTrue, List, [], ◌∷◌, ◌++◌, map, filter, length, get_or, set, refl, sym, subst, ap, ap₂, ◌∙◌, inl, inr, append_assoc, arith}
 use mathlib.Core.Path.{fun_ext}
-use Rattle.std.specs.List.{AllByRecursion, list_any, list_all}
+use Rattle.std.specs.List.{AllByRecursion, flat_map, list_any, list_all}
 use Rattle.std.proofs.lemmas.List.Folds.{list_all-append}
 use Rattle.std.proofs.lemmas.Bool.{cases_Bool, cases_eq, and_parts, or_parts, ltb-true, eq-eqb, ne_eqb, eqb-true, cond-true, cond-false}
 use Rattle.std.proofs.lemmas.List.{get_or-set_other}
 use Rattle.std.proofs.lemmas.Grind.{get_or-set_at}
 use Rattle.eve_smallbank.specs.declared.entry.Entry.{Entry}
-use Rattle.eve_smallbank.specs.Access.{is_write, writes_row}
+use Rattle.eve_smallbank.specs.Access.{Executed, is_write, writes_row}
 use Rattle.eve_smallbank.specs.Chain.{Versioned, Table, left_by, Sees, IsChained, table_after, table_after_all}
 use Rattle.eve_smallbank.proofs.Chains.{Follows, chain_follows, follows_chain}
 use Rattle.eve_grammar.specs.Trace.{Batch}
@@ -177,6 +177,16 @@ pub undone_further : (base now : Table) (written es : List Entry) → undone now
 undone_further base now written es back all =
     undone-append (table_after now es) written (writes_among es)
     ∙ ap (λ (t : Table). undone t written) (undone-writes (table_after now es) es ∙ undone_seen now es all) ∙ back
+
+-- all that executed requests noted, undone behind their writes, gives the table that they found
+pub chain_undone : (table : Table) (xs : List Executed) → Follows table xs → undone (table_after_all table xs) (flat_map (λ x. x.entries) xs) ≡ table
+chain_undone table [] follows = refl
+chain_undone table (x ∷ xs) follows =
+    undone-append (table_after_all (table_after table x.entries) xs) x.entries (flat_map (λ y. y.entries) xs)
+    ∙ ap (λ (t : Table). undone t x.entries) (chain_undone (table_after table x.entries) xs follows.1) ∙ undone_seen table x.entries follows.0
+
+pub chained_undone : (table : Table) (xs : List Executed) → IsChained table [] xs → undone (table_after_all table xs) (flat_map (λ x. x.entries) xs) ≡ table
+chained_undone table xs chained = chain_undone table xs (follows_chain table [] xs chained)
 
 -- ---- along an attempt
 

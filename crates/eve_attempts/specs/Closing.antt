@@ -106,7 +106,7 @@ pub record IsAttemptOf (front : AttemptFront) (rows : ℕ) (balances : List ℤ)
   pub certificate : a.certificate ≡ indexes_of ordered
   pub many : length a.replies ≡ length records
   pub replies : AllByRecursion (λ r. slice_get a.replies r.index ≡ Some r.reply) records
-  pub token : a.token ≡ token_of a.seq balances a.replies
+  pub token : a.token ≡ token_of 1 a.seq balances a.replies
   pub accesses : a.accesses ≡ map access_of records
   pub whole : IsTrue (is_whole_attempt rows a)
 

@@ -101,6 +101,21 @@ impl Ledger {
         self.opened.len()
     }
 
+    /// The number of the batch that is attempted next.
+    pub fn next_number(&self) -> u32
+        ensures { result ≡ self.now.committed + 1 + length self.now.opened }
+    {
+        self.is_ledger();
+        self.committed + 1 + self.opened.len() as u32
+    }
+
+    /// Whether one more attempt may be open.
+    pub fn has_room(&self) -> bool
+        ensures { IsTrue result ↔ (length self.now.opened < self.now.window) }
+    {
+        self.opened.len() < self.window as usize
+    }
+
     /// Whether no attempt came since a rollback, so that the next is serial.
     pub fn is_next_serial(&self) -> bool
         ensures { result ≡ self.now.is_next_serial }
@@ -133,9 +148,9 @@ impl Ledger {
     /// Makes an attempt of the records that were taken of a batch, in the order in which they were taken, and opens it.
     ///
     /// `touched` is what each of the batch's requests touches: the answers of `eve_smallbank::touched`, so that names
-    /// are looked up once for all replicas. The certificate is the indexes by rising tick, equal ticks by index. Refused
-    /// with `Mismatch` are records that are no attempt on these rows (`AreRight`). All memory is asked for before a row
-    /// changes, and a refusal changes nothing.
+    /// are looked up once for all replicas. The certificate is the indexes by rising tick, equal ticks by index.
+    /// Refused with `Mismatch` are records that are no attempt on these rows (`AreRight`). All memory is asked for
+    /// before a row changes, and a refusal changes nothing.
     ///
     /// docs/MODEL.md, "Section state, fate", "A record fits its request" and "Visible version, chained".
     pub fn close(
@@ -170,7 +185,7 @@ impl Ledger {
         if !write_along(&mut self.rows, records, order, &mut taken.written) {
             return Err(CloseFault::Mismatch);
         }
-        let token = token(front.seq, self.rows.balances(), taken.replies.as_slice());
+        let token = token(1, front.seq, self.rows.balances(), taken.replies.as_slice());
         token_fits(&token);
         self.opened.push_reserved(OpenAttempt {
             view: front.view,

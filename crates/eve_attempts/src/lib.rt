@@ -6,6 +6,7 @@ mod accesses;
 mod fault;
 mod front;
 mod groups;
+pub mod laws;
 mod ledger;
 mod noted;
 mod opened;

@@ -72,8 +72,8 @@ returns-clause-closed c =
     let rows_is : c.len-rows.result ≡ row_count s = c.len-rows.ensures.balances in
     let workers_is : c.workers_for-workers.result ≡ worker_count s c.args.front.serial = c.workers_for-workers.ensures ∙ ap (λ (l : Ledger). worker_count l c.args.front.serial) (sym c.self.view_is) in
     let noted : AreNoted c.workers_for-workers.result c.len-rows.result b c.args.touched.now rs = c.in_ok-taken.ensures.noted in
-    let tells : c.token-token.result ≡ token_of c.args.front.seq c.write_along.new.rows.balances t.replies.items =
-    c.token-token.ensures ∙ ap₂ (λ (m : List ℤ) (ps : List Reply). token_of c.args.front.seq m ps) c.balances.ensures c.as_slice.ensures.value in
+    let tells : c.token-token.result ≡ token_of 1 c.args.front.seq c.write_along.new.rows.balances t.replies.items =
+    c.token-token.ensures ∙ ap₂ (λ (m : List ℤ) (ps : List Reply). token_of 1 c.args.front.seq m ps) c.balances.ensures c.as_slice.ensures.value in
     let written : c.write_along.new.written.items ≡ writes_along mine = c.if-not-write_along.ensures.written ∙ ap writes_along at in
     subst (λ (l : Ledger). Closes c.args.front l new b c.args.touched.now rs a) c.self.view_is (record {
       ordered = mine;

@@ -1,0 +1,166 @@
+//! What a worker met when it ran a request, and the record of it.
+
+ghost use Rattle.std.specs.Prelude.{◌≡◌, ◌<◌, ◌≤◌};
+
+use eve_accounts::Names;
+use eve_frames::{AccessView, AttemptView};
+use eve_grammar::Restore;
+use eve_smallbank::{Reply, UpToThree, touched};
+use eve_stamps::{AccessRecord, StampFault, Stripe, apply, untouched};
+use eve_views::Accesses;
+use eve_write::BatchData;
+use std::alloc::{AllocError, Global};
+
+const MOST_VERSIONS: u64 = 1 << 40;
+
+/// The worker, its place among what it notes, the request that it ran, and the index and the tick that it noted with
+/// it; what the request was told, and what it saw of the rows that it touches.
+#[derive(Clone, Copy)]
+pub struct Meeting {
+    pub worker: u8,
+    pub place: u16,
+    pub asked: u16,
+    pub index: u16,
+    pub tick: u64,
+    pub reply: Reply,
+    pub seen: UpToThree<Restore>,
+}
+
+/// What the attempt's access frames say that workers met, at ticks in the certificate's order.
+pub fn meetings_of(
+    alloc: Global,
+    attempt: &AttemptView,
+    accesses: &Accesses,
+) -> Result<Vec<Meeting>, AllocError> {
+    let mut met = Vec::with_capacity(alloc, accesses.len())?;
+    for place in 0..accesses.len() {
+        met.push(meeting_of(attempt, &accesses.get(place)))?;
+    }
+    Ok(met)
+}
+
+fn meeting_of(attempt: &AttemptView, access: &AccessView) -> Meeting {
+    let index = access.index();
+    Meeting {
+        worker: access.worker(),
+        place: access.place(),
+        asked: index,
+        index,
+        tick: rank_of(attempt, index),
+        reply: reply_of(attempt, index),
+        seen: rows_seen(access),
+    }
+}
+
+/// The place of the index in the certificate.
+fn rank_of(attempt: &AttemptView, index: u16) -> u64 {
+    for place in 0..attempt.len() {
+        if attempt.index_at(place) == index {
+            return place as u64;
+        }
+    }
+    0
+}
+
+fn reply_of(attempt: &AttemptView, index: u16) -> Reply {
+    if (index as usize) < attempt.len() {
+        attempt.reply(index as usize)
+    } else {
+        Reply::Done
+    }
+}
+
+fn rows_seen(access: &AccessView) -> UpToThree<Restore> {
+    let mut seen = UpToThree::new();
+    for place in 0..access.len() {
+        let entry = access.entry(place);
+        if seen.len() < 3 {
+            seen.push(Restore {
+                row: entry.row,
+                version: entry.version,
+                value: entry.seen,
+            });
+        }
+    }
+    seen
+}
+
+/// The record of a request that was run on rows as they were met, if they are its rows.
+pub fn record_of(
+    alloc: Global,
+    met: &Meeting,
+    batch: &BatchData,
+    names: &Names,
+) -> Result<Option<AccessRecord>, AllocError> {
+    if let Reply::Aborted(why) = met.reply {
+        if met.seen.is_empty() {
+            return Ok(Some(untouched(why, met.tick, met.worker, met.place, met.index)));
+        }
+    }
+    let Some(asked) = batch.requests.get(met.asked as usize) else {
+        return Ok(None);
+    };
+    let request = asked.request();
+    let reached = touched(&request, names);
+    let Some(mut stripe) = stripe_of(alloc, &met.seen)? else {
+        return Ok(None);
+    };
+    match apply(
+        &mut stripe,
+        &request,
+        &reached,
+        met.tick,
+        met.worker,
+        met.place,
+        met.index,
+    ) {
+        Ok(record) => Ok(Some(record)),
+        Err(StampFault::Memory) => Err(AllocError),
+        Err(_) => Ok(None),
+    }
+}
+
+/// The stripe of the rows as they were seen. Of three rows the first two are of one customer.
+fn stripe_of(alloc: Global, seen: &UpToThree<Restore>) -> Result<Option<Stripe>, AllocError> {
+    match seen.len() {
+        1 => of_one(alloc, seen.at(0)),
+        2 => of_two(alloc, seen.at(0), seen.at(1)),
+        3 if seen.at(2).row.number() < seen.at(0).row.number() => {
+            of_three(alloc, seen.at(2), seen.at(0), seen.at(1))
+        }
+        3 => of_three(alloc, seen.at(0), seen.at(1), seen.at(2)),
+        _ => Ok(None),
+    }
+}
+
+fn of_one(alloc: Global, row: Restore) -> Result<Option<Stripe>, AllocError> {
+    if row.version > MOST_VERSIONS {
+        return Ok(None);
+    }
+    Ok(Some(Stripe::new(alloc, &[row])?))
+}
+
+fn of_two(alloc: Global, a: Restore, b: Restore) -> Result<Option<Stripe>, AllocError> {
+    if a.version > MOST_VERSIONS || b.version > MOST_VERSIONS {
+        return Ok(None);
+    }
+    if a.row.number() >= b.row.number() {
+        return Ok(None);
+    }
+    Ok(Some(Stripe::new(alloc, &[a, b])?))
+}
+
+fn of_three(
+    alloc: Global,
+    a: Restore,
+    b: Restore,
+    c: Restore,
+) -> Result<Option<Stripe>, AllocError> {
+    if a.version > MOST_VERSIONS || b.version > MOST_VERSIONS || c.version > MOST_VERSIONS {
+        return Ok(None);
+    }
+    if a.row.number() >= b.row.number() || b.row.number() >= c.row.number() {
+        return Ok(None);
+    }
+    Ok(Some(Stripe::new(alloc, &[a, b, c])?))
+}

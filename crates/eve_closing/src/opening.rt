@@ -1,0 +1,70 @@
+//! What a workload begins with, and its batches.
+
+ghost use Rattle.std.specs.Prelude.{◌≡◌, ◌*◌, ◌<◌, ◌≤◌, IsTrue, IfOk, length};
+ghost use Rattle.eve_grammar.specs.Limits.{is_batch};
+ghost use Rattle.eve_write.specs.Data.{batch as plain};
+ghost use Rattle.eve_attempts.specs.Closing.{touched_by};
+
+use eve_accounts::{Balances, Names, Row};
+use eve_smallbank::{Touched, touched};
+use eve_workload::{Mixer, Workload, mix};
+use eve_write::{BatchData, CustomerData};
+use std::alloc::{AllocError, Global};
+use std::hash::RandomState;
+
+/// The customers' names, in their order.
+pub fn names_of<'w>(
+    alloc: Global,
+    customers: &'w [CustomerData],
+    random: RandomState,
+) -> Result<Names<'w>, AllocError> {
+    let mut names = Names::new(alloc, random, 4096);
+    for customer in customers {
+        if names.add(customer.name.as_slice()).is_err() {
+            return Err(AllocError);
+        }
+    }
+    Ok(names)
+}
+
+/// The customers' opening balances, by row.
+pub fn balances_of(alloc: Global, customers: &[CustomerData]) -> Result<Balances, AllocError>
+    requires { length customers.now ≤ 4096 }
+{
+    let mut balances = Balances::new(alloc, 2 * customers.len())?;
+    for place in 0..customers.len() {
+        balances.set(Row::saving(place as u32), customers[place].saving);
+        balances.set(Row::checking(place as u32), customers[place].checking);
+    }
+    Ok(balances)
+}
+
+/// The batch with this number, cut into parallelBatches.
+pub fn batch_of(
+    alloc: Global,
+    workload: &Workload,
+    number: u32,
+    names: &Names,
+    mixer: Mixer,
+) -> Result<BatchData, AllocError>
+    requires from_one { 1 ≤ number }
+    requires there { number ≤ length workload.now.batches }
+    ensures { IfOk result (λ b. IsTrue (is_batch (plain b))) }
+{
+    mix(alloc, workload.batch(number), names, mixer)
+}
+
+/// What each request of the batch touches.
+pub fn touched_in(
+    alloc: Global,
+    names: &Names,
+    batch: &BatchData,
+) -> Result<Vec<Touched>, AllocError>
+    ensures { IfOk result (λ t. t.items ≡ touched_by names.now.items (plain batch.now)) }
+{
+    let mut all = Vec::with_capacity(alloc, batch.requests.len())?;
+    for request in &batch.requests {
+        all.push(touched(&request.request(), names))?;
+    }
+    Ok(all)
+}
