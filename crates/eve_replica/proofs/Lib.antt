@@ -1,2 +1,4 @@
 pub mod Cuts
 pub mod Batches
+mod Bytes
+mod Parts

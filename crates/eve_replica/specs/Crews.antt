@@ -1,10 +1,19 @@
 -- The workers of an attempt, and what they share.
-use Rattle.std.specs.Prelude.{◌≡◌, ℕ, ◌<◌, All, List, [], length, Option, Some, None, IsSome, slice_index_or}
+use Rattle.std.specs.Prelude.{◌≡◌, ℕ, ◌<◌, ◌≤◌, All, List, [], length, Option, Some, None, IsSome, slice_index_or}
 use Rattle.atomic_table.specs.Seated.{TableId}
 use Rattle.eve_tickets.specs.Shown.{Source, Drawer}
 use Rattle.eve_recorder.specs.Seen.{Noter}
+use Rattle.eve_write.specs.Data.{batch as plain}
+use Rattle.eve_attempts.specs.Closing.{touched_by}
 use Rattle.eve_replica.specs.declared.stage.Stage.{Stage}
 use Rattle.eve_replica.specs.declared.crew.Member.{Member}
+
+-- The stage of a batch of at most 256 requests: each has a start, and what it touches was looked up among the floor's
+-- names.
+pub record IsSet (s : Stage) : Type 0 where
+  pub few : length s.batch.now.requests.items ≤ 256
+  pub starts : length s.starts.now ≡ length s.batch.now.requests.items
+  pub touched : s.touched.now ≡ touched_by s.floor.now (plain s.batch.now)
 
 -- A worker with its seats at the recorder, at the tickets of ticks and at the tickets of claims that the stage has.
 pub record IsOn (s : Stage) (m : Member) : Type 0 where
@@ -22,7 +31,8 @@ AreTickets tickets seats = All (λ d. d.tickets ≡ tickets) seats
 
 -- the seats of the workers below this number are there, and nothing is noted on them
 abbrev pub AreNoters : TableId → ℕ → List (Option Noter) → Type 0
-AreNoters recorder n seats = (w : ℕ) → w < n → slice_index_or seats w None ≡ Some record { recorder = recorder; worker = w; noted = [] }
+AreNoters recorder n seats =
+    (w : ℕ) → w < n → slice_index_or seats w None ≡ Some record { recorder = recorder; worker = w; noted = [] }
 
 -- the seats with the numbers below this one are there
 abbrev pub AreThere : ℕ → List (Option Drawer) → Type 0

@@ -1,3 +1,4 @@
 pub mod Run
 pub mod Replicas
 pub mod Crews
+pub mod Serving

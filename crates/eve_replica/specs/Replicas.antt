@@ -1,5 +1,5 @@
 -- A replica as contracts see it, and what its calls make of it. docs/MODEL.md, "Section state, fate".
-use Rattle.std.specs.Prelude.{◌≡◌, ℕ, ◌+◌, Bool, true, false, ⊤, List, length}
+use Rattle.std.specs.Prelude.{◌≡◌, ℕ, ◌+◌, ◌<◌, Bool, true, false, ⊤, List, length}
 use Rattle.eve_stamps.specs.Applied.{Applied}
 use Rattle.eve_grammar.specs.Trace.{Batch, Attempt, Commit}
 use Rattle.eve_attempts.specs.declared.front.AttemptFront.{AttemptFront}
@@ -16,7 +16,8 @@ pub record Replica : Type 0 where
   pub is_broken : Bool
 
 -- These records were closed to the attempt, and nothing but the account has changed.
-pub record ClosesThese (front : AttemptFront) (old new : Replica) (b : Batch) (records : List Applied) (a : Attempt) : Type 0 where
+pub record ClosesThese (front : AttemptFront) (old new : Replica) (b : Batch) (records : List Applied) (a : Attempt)
+    : Type 0 where
   pub closed : Closes front old.ledger new.ledger b (touched_by old.names b) records a
   pub rest : new ≡ record old { ledger = new.ledger }
 
@@ -63,6 +64,11 @@ IsFresh attempt_fault.Mismatch = ⊤
 abbrev pub ClosesOwn : AttemptFront → Replica → Replica → Batch → List Applied → Attempt → Type 0
 ClosesOwn front old new b records a = (old.is_broken ≡ false) × ClosesThese front old new b records a
 
+-- an attempt is open, and the first one that is has this number
+abbrev pub IsFirstOpen : Ledger → ℕ → Type 0
+IsFirstOpen s seq = (seq ≡ s.committed + 1) × (0 < length s.opened)
+
 -- the first open attempt is committed
 abbrev pub CommitsFirst : Replica → Replica → Commit → Type 0
-CommitsFirst old new c = (old.is_broken ≡ false) × Commits old.ledger new.ledger c × (new ≡ record old { ledger = new.ledger })
+CommitsFirst old new c =
+    (old.is_broken ≡ false) × Commits old.ledger new.ledger c × (new ≡ record old { ledger = new.ledger })

@@ -3,6 +3,7 @@
 ghost use Rattle.std.specs.Prelude.{◌≡◌, ◌≤◌, IsTrue, IfErr, length, vec_len, vec_capacity};
 ghost use Rattle.eve_grammar.specs.Limits.{is_batch};
 ghost use Rattle.eve_write.specs.Data.{batch as plain};
+ghost use Rattle.eve_attempts.specs.Closing.{touched_by};
 ghost use Rattle.eve_replica.specs.Crews.{AreTickets};
 ghost use Rattle.eve_replica.specs.Replicas.{IsFresh};
 
@@ -12,6 +13,7 @@ use crate::progress::Progress;
 use crate::stage::{Stage, starts_of};
 use eve_floor::Floor;
 use eve_recorder::{Gate, Recorder, TakerSeat};
+use eve_smallbank::Touched;
 use eve_stamps::AccessRecord;
 use eve_tickets::{TicketSeat, Tickets};
 use eve_write::BatchData;
@@ -20,6 +22,7 @@ use std::sync::Wait;
 use std::thread::Threads;
 
 /// Runs the requests of the batch by so many workers, and answers what these noted, in the order in which it was taken.
+/// `touched` is what each request touches, as it was looked up.
 ///
 /// The workers lend the last of the seats at the tickets of ticks, and give them back whatever comes.
 pub(crate) fn run_batch<R: Threads + Wait + Sync, G: Gate>(
@@ -29,10 +32,12 @@ pub(crate) fn run_batch<R: Threads + Wait + Sync, G: Gate>(
     ticks: &Tickets,
     seats: &mut Vec<TicketSeat>,
     batch: &BatchData,
+    touched: &[Touched],
     crew: u8,
     gate: &G,
 ) -> Result<Vec<AccessRecord>, AttemptFault>
     requires batch { IsTrue (is_batch (plain batch.now)) }
+    requires touched { touched.now ≡ touched_by floor.now (plain batch.now) }
     requires crew { (1 ≤ crew) × (crew ≤ 8) × (crew ≤ vec_len seats.old) }
     requires seats { AreTickets ticks.now seats.old.items }
     ensures seats { AreTickets ticks.now seats.new.items }
@@ -50,6 +55,7 @@ pub(crate) fn run_batch<R: Threads + Wait + Sync, G: Gate>(
         floor,
         ticks,
         batch,
+        touched,
         recorder: &recorder,
         claims: &claims,
         starts: starts.as_slice(),

@@ -4,7 +4,7 @@ ghost use Rattle.std.specs.Prelude.{◌≡◌, ◌+◌, ◌-◌, ◌<◌, ◌≤
 ghost use Rattle.std.specs.Thread.{IsSync};
 ghost use Rattle.eve_recorder.specs.Seen.{fresh_places};
 ghost use Rattle.eve_tickets.specs.Shown.{fresh_seats};
-ghost use Rattle.eve_replica.specs.Crews.{AreNoters, AreThere, AreTickets, IsOn, IsReady};
+ghost use Rattle.eve_replica.specs.Crews.{AreNoters, AreThere, AreTickets, IsOn, IsReady, IsSet};
 
 use crate::stage::Stage;
 use crate::work::run_share;
@@ -123,8 +123,7 @@ pub(crate) fn run_shares<R: Threads + Wait + Sync, G: Gate>(
     mut members: Vec<Member>,
     gate: &G,
 ) -> Vec<Member>
-    requires few { length stage.now.batch.now.requests.items ≤ 256 }
-    requires starts { length stage.now.starts.now ≡ length stage.now.batch.now.requests.items }
+    requires set { IsSet stage.now }
     requires some { 0 < vec_len members }
     requires members { All (IsReady stage.now) members.items }
     ensures members { All (IsOn stage.now) result.items }
@@ -136,8 +135,7 @@ pub(crate) fn run_shares<R: Threads + Wait + Sync, G: Gate>(
         members.as_mut_slice(),
         threads,
         &|_: usize, member: &mut Member|
-            requires { IsSync R.row × IsSync G.row × (length stage.now.batch.now.requests.items ≤ 256)
-                × (length stage.now.starts.now ≡ length stage.now.batch.now.requests.items) × IsReady stage.now member.old }
+            requires { IsSync R.row × IsSync G.row × IsSet stage.now × IsReady stage.now member.old }
             ensures { IsOn stage.entry.now member.new }
         { run_share(rt, stage, member, gate) },
     );

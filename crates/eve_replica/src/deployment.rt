@@ -1,27 +1,33 @@
 //! The state of a run.
 
-ghost use Rattle.std.specs.Prelude.{◌≡◌, ◌≤◌, ◌+◌, ◌<◌, All, IsTrue, OnOk, length, vec_len};
-ghost use Rattle.eve_grammar.specs.Limits.{is_batch};
-ghost use Rattle.eve_write.specs.Data.{batch as plain};
+ghost use Rattle.std.specs.Prelude.{◌≡◌, ℕ, ◌≤◌, ◌+◌, ◌<◌, All, List, OnOk, length};
+ghost use Rattle.eve_workload.specs.declared.mixer.MixedBatch.{MixedBatch};
+ghost use Rattle.eve_replica.specs.Serving.{Serves, IsSameRun, IsUnderWay};
 
 use crate::fault::RunFault;
 use crate::server::Server;
+use crate::votes::{vote_for_commit, vote_for_rollback};
+use eve_grammar::Head;
 use eve_recorder::Gate;
-use eve_write::{BatchData, ChoiceData, VoteData};
+use eve_workload::MixedBatch;
+use eve_write::VoteData;
 use std::alloc::Global;
 use std::sync::Wait;
 use std::thread::Threads;
 
-/// How far a run is: its replicas, the votes that each verifier gave, the view, and the last batch that was committed.
+/// How far a run is: its numbers and its batches, its replicas, the votes that each verifier gave, the view, and the
+/// last batch that was committed.
 #[derive(Drop)]
-pub(crate) struct Deployment<'n> {
+pub(crate) struct Deployment<'n, 'b> {
+    pub head: Head,
+    pub batches: &'b [MixedBatch],
     pub servers: Vec<Server<'n>>,
     pub votes: Vec<VoteData>,
     pub view: u32,
     pub committed: u32,
 }
 
-impl<'n> Deployment<'n> {
+impl<'n, 'b> Deployment<'n, 'b> {
     /// One window: the batches that aren't committed are attempted, as many as a window has, and decided in order.
     ///
     /// docs/TRACE.md, "The deployment's procedure".
@@ -29,19 +35,17 @@ impl<'n> Deployment<'n> {
         &mut self,
         rt: &R,
         alloc: Global,
-        batches: &[BatchData],
-        window: u8,
         gate: &G,
     ) -> Result<(), RunFault>
-        requires few { length batches.now ≤ 65535 }
-        requires right { All (λ b. IsTrue (is_batch (plain b))) batches.now }
+        requires under_way { IsUnderWay self.old }
         requires view { self.old.view < 131072 }
-        ensures servers { vec_len self.new.servers ≡ vec_len self.old.servers }
+        ensures under_way { OnOk result (IsUnderWay self.new) }
+        ensures same { IsSameRun self.old self.new }
         ensures view { OnOk result (self.new.view ≤ self.old.view + 1) }
     {
         let from = self.committed as usize;
-        let end = batches.len().min(from + window as usize);
-        attempt_all(rt, alloc, self.servers.as_mut_slice(), batches, gate)?;
+        let end = self.batches.len().min(from + self.head.window as usize);
+        attempt_all(rt, alloc, self.servers.as_mut_slice(), self.batches, gate)?;
         for number in from..end {
             match decided(self.servers.as_slice()) {
                 Some(token) => self.commit(number as u32 + 1, token)?,
@@ -53,33 +57,33 @@ impl<'n> Deployment<'n> {
 
     // Every verifier votes for the commit; who has the token commits, and who hasn't stops.
     fn commit(&mut self, seq: u32, token: [u8; 32]) -> Result<(), RunFault>
-        ensures servers { vec_len self.new.servers ≡ vec_len self.old.servers }
+        requires under_way { IsUnderWay self.old }
+        requires seq { (1 ≤ seq) × (seq ≤ length self.old.batches.now) }
+        ensures under_way { OnOk result (IsUnderWay self.new) }
+        ensures same { IsSameRun self.old self.new }
         ensures view { self.new.view ≡ self.old.view }
     {
-        self.votes.push(VoteData {
-            seq,
-            view: self.view,
-            choice: ChoiceData::ForCommit,
-            token,
-        })?;
+        let batches = self.batches.len();
+        vote_for_commit(&mut self.votes, batches, seq, self.view, token)?;
         self.committed = seq;
-        commit_all(self.servers.as_mut_slice(), seq, token)
+        commit_all(self.servers.as_mut_slice(), seq, token)?;
+        Ok(())
     }
 
     // Every verifier votes for the rollback, and who is live rolls back.
     fn roll_back(&mut self, alloc: Global, seq: u32) -> Result<(), RunFault>
-        requires { self.old.view < 131072 }
-        ensures servers { vec_len self.new.servers ≡ vec_len self.old.servers }
+        requires under_way { IsUnderWay self.old }
+        requires seq { (1 ≤ seq) × (seq ≤ length self.old.batches.now) }
+        requires view { self.old.view < 131072 }
+        ensures under_way { OnOk result (IsUnderWay self.new) }
+        ensures same { IsSameRun self.old self.new }
         ensures view { OnOk result (self.new.view ≡ self.old.view + 1) }
     {
-        self.votes.push(VoteData {
-            seq,
-            view: self.view,
-            choice: ChoiceData::ForRollback,
-            token: [0; 32],
-        })?;
+        let batches = self.batches.len();
+        vote_for_rollback(&mut self.votes, batches, seq, self.view)?;
         self.view += 1;
-        roll_back_all(self.servers.as_mut_slice(), alloc)
+        roll_back_all(self.servers.as_mut_slice(), alloc)?;
+        Ok(())
     }
 }
 
@@ -88,30 +92,34 @@ fn attempt_all<R: Threads + Wait + Sync, G: Gate>(
     rt: &R,
     alloc: Global,
     servers: &mut [Server],
-    batches: &[BatchData],
+    batches: &[MixedBatch],
     gate: &G,
 ) -> Result<(), RunFault>
     requires few { length batches.now ≤ 65535 }
-    requires right { All (λ b. IsTrue (is_batch (plain b))) batches.now }
+    requires serve { (rows : ℕ) × All (Serves rows batches.now) servers.old }
+    ensures { (rows : ℕ) → All (Serves rows batches.now) servers.old
+        → OnOk result (All (Serves rows batches.now) servers.new) }
 {
     for server in servers.iter_mut() {
-        if server.is_live {
-            server.attempt_window(rt, alloc, batches, gate)?;
-        }
+        server.attempt_window(rt, alloc, batches, gate)?;
     }
     Ok(())
 }
 
-fn commit_all(servers: &mut [Server], seq: u32, token: [u8; 32]) -> Result<(), RunFault> {
+fn commit_all(servers: &mut [Server], seq: u32, token: [u8; 32]) -> Result<(), RunFault>
+    ensures { (rows : ℕ) (batches : List MixedBatch) → All (Serves rows batches) servers.old
+        → OnOk result (All (Serves rows batches) servers.new) }
+{
     for server in servers.iter_mut() {
-        if server.is_live {
-            server.commit_or_stop(seq, token)?;
-        }
+        server.commit_or_stop(seq, token)?;
     }
     Ok(())
 }
 
-fn roll_back_all(servers: &mut [Server], alloc: Global) -> Result<(), RunFault> {
+fn roll_back_all(servers: &mut [Server], alloc: Global) -> Result<(), RunFault>
+    ensures { (rows : ℕ) (batches : List MixedBatch) → All (Serves rows batches) servers.old
+        → OnOk result (All (Serves rows batches) servers.new) }
+{
     for server in servers.iter_mut() {
         server.roll_back(alloc)?;
     }

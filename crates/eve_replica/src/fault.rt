@@ -6,6 +6,7 @@ ghost use Rattle.eve_replica.specs.declared.fault.AttemptFault.TheVariants as at
 
 use eve_floor::ExecFault;
 use std::alloc::{AllocError, AllocFailed};
+use thiserror::Error;
 
 /// Why a batch was not attempted. Every fault but `Broken` breaks the replica.
 #[derive(Clone, Copy, Debug, PartialEq, Eq)]
@@ -49,11 +50,13 @@ pub enum CommitFault {
 }
 
 /// Why a workload was not run.
-#[derive(Clone, Copy, Debug, PartialEq, Eq)]
+#[derive(Clone, Copy, Debug, PartialEq, Eq, Error)]
 pub enum RunFault {
     /// Memory ran out.
+    #[error("out of memory")]
     Memory,
     /// A replica failed otherwise, or a batch wasn't committed after twice as many windows as there are batches.
+    #[error("the run is broken")]
     Broken,
 }
 

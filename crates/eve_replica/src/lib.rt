@@ -5,6 +5,7 @@ mod batch;
 mod crew;
 mod deployment;
 mod fault;
+mod fits;
 mod opening;
 mod progress;
 mod replica;
@@ -12,6 +13,7 @@ mod running;
 mod sending;
 mod server;
 mod stage;
+mod votes;
 mod work;
 
 pub use eve_attempts;

@@ -1,16 +1,18 @@
 //! What a run begins with.
 
-ghost use Rattle.std.specs.Prelude.{◌≡◌, ◌≢◌, ◌*◌, ◌<◌, ◌≤◌, [], slice_index_or, All, AllPairs, IsTrue, IfOk, length, map};
+ghost use Rattle.std.specs.Prelude.{◌≡◌, ◌≢◌, ◌*◌, ◌<◌, ◌≤◌, [], slice_index_or, length, map};
+ghost use Rattle.std.specs.Prelude.{All, AllPairs, IsTrue, IfOk};
 ghost use Rattle.std.specs.List.{list_all};
-ghost use Rattle.eve_grammar.specs.Limits.{is_batch, is_customer};
+ghost use Rattle.eve_grammar.specs.Limits.{is_customer};
 ghost use Rattle.eve_write.specs.Data.{batch as plain, customer};
 ghost use Rattle.eve_workload.specs.Mixing.{cut, batch_of};
 ghost use Rattle.eve_workload.specs.Workload.{names_of};
 ghost use Rattle.eve_replica.specs.Run.{batches_cut};
+ghost use Rattle.eve_replica.specs.Serving.{IsMixed};
 
 use eve_accounts::{Balances, Names, Row};
-use eve_workload::{Mixer, Workload, mix};
-use eve_write::{BatchData, CustomerData};
+use eve_workload::{MixedBatch, Mixer, Workload, mix_touched};
+use eve_write::CustomerData;
 use std::alloc::{AllocError, Global};
 use std::hash::RandomState;
 
@@ -47,16 +49,16 @@ pub(crate) fn balances_of(alloc: Global, customers: &[CustomerData]) -> Result<B
     Ok(balances)
 }
 
-/// Each batch of the workload, cut into parallelBatches.
+/// Each batch of the workload, cut into parallelBatches. Here alone the names of its requests are looked up.
 pub(crate) fn batches_of(
     alloc: Global,
     workload: &Workload,
     names: &Names,
     mixer: Mixer,
-) -> Result<Vec<BatchData>, AllocError>
+) -> Result<Vec<MixedBatch>, AllocError>
     requires { names.now.items ≡ names_of workload.now.customers }
-    ensures cut { IfOk result (λ batches. map plain batches.items ≡ batches_cut workload.now mixer) }
-    ensures right { IfOk result (λ batches. All (λ b. IsTrue (is_batch (plain b))) batches.items) }
+    ensures cut { IfOk result (λ batches. map (λ m. plain m.batch) batches.items ≡ batches_cut workload.now mixer) }
+    ensures mixed { IfOk result (λ batches. All (IsMixed names.now.items) batches.items) }
 {
     let mut batches = Vec::with_capacity(alloc, workload.batches() as usize)?;
     for number in 0..workload.batches() {
@@ -73,12 +75,13 @@ fn cut_batch(
     place: u32,
     names: &Names,
     mixer: Mixer,
-) -> Result<BatchData, AllocError>
+) -> Result<MixedBatch, AllocError>
     requires names { names.now.items ≡ names_of workload.now.customers }
     requires there { place < length workload.now.batches }
     requires few { place < 65535 }
-    ensures cut { IfOk result (λ b. plain b ≡ batch_of (cut (names_of workload.now.customers) mixer (slice_index_or workload.now.batches place []))) }
-    ensures right { IfOk result (λ b. IsTrue (is_batch (plain b))) }
+    ensures cut { let requests = slice_index_or workload.now.batches place [] in
+        IfOk result (λ m. plain m.batch ≡ batch_of (cut (names_of workload.now.customers) mixer requests)) }
+    ensures mixed { IfOk result (IsMixed names.now.items) }
 {
-    mix(alloc, workload.batch(place + 1), names, mixer)
+    mix_touched(alloc, workload.batch(place + 1), names, mixer)
 }

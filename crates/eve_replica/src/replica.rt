@@ -1,13 +1,16 @@
 //! One replica.
 
-ghost use Rattle.std.specs.Prelude.{◌≡◌, ◌+◌, ◌-◌, ◌*◌, ◌^◌, ◌<◌, ◌≤◌, ◌↔◌, true, false, IsTrue, IfOk, IfErr, OnOk, OnErr, Err, Some, length, vec_len, vec_capacity, option_map, slice_get};
+ghost use Rattle.std.specs.Prelude.{◌≡◌, ◌+◌, ◌-◌, ◌*◌, ◌^◌, ◌<◌, ◌≤◌, ◌↔◌, true, false, Err, Some, length};
+ghost use Rattle.std.specs.Prelude.{vec_len, vec_capacity, option_map, slice_get};
+ghost use Rattle.std.specs.Prelude.{IsTrue, IfOk, IfErr, OnOk, OnErr, IsOk};
 ghost use Rattle.eve_grammar.specs.Limits.{is_batch};
 ghost use Rattle.eve_write.specs.Data.{batch as plain, attempt, commit, rollback};
 ghost use Rattle.eve_attempts.specs.Ledgers.{opening};
 ghost use Rattle.eve_attempts.specs.Closing.{touched_by, AreMismatched};
 ghost use Rattle.eve_attempts.specs.Discarding.{RollsBack};
 ghost use Rattle.eve_tickets.specs.Shown.{fresh_seats};
-ghost use Rattle.eve_replica.specs.Replicas.{Attempts, FailsAttempt, IsFresh, ClosesThese, ClosesSome, ClosesOwn, CommitsFirst};
+ghost use Rattle.eve_replica.specs.Replicas.{Attempts, FailsAttempt, IsFresh, ClosesThese, ClosesSome, ClosesOwn};
+ghost use Rattle.eve_replica.specs.Replicas.{IsFirstOpen, CommitsFirst};
 ghost use Rattle.eve_replica.specs.Crews.{AreTickets};
 
 use crate::batch::run_batch;
@@ -59,7 +62,7 @@ impl<'n> Model for Replica<'n> {
     ghost view = { λ r. record { names = r.names.now.items; ledger = r.ledger; is_broken = r.is_broken } };
 
     ghost invariant = { λ r. AreTickets r.ticks r.seats.items × (1 ≤ vec_len r.seats) × (vec_len r.seats ≤ 8)
-        × (vec_len r.settles ≡ length r.ledger.opened) × (r.ledger.window ≡ r.window)
+        × (r.floor ≡ r.names.now.items) × (vec_len r.settles ≡ length r.ledger.opened) × (r.ledger.window ≡ r.window)
         × (row_count r.ledger ≡ 2 * length r.names.now.items) };
 }
 
@@ -76,7 +79,8 @@ impl<'n> Replica<'n> {
         requires rows { length balances.now ≡ 2 * length names.now.items }
         requires workers { (1 ≤ workers) × (workers ≤ 8) }
         requires window { (1 ≤ window) × (window ≤ 8) }
-        ensures { IfOk result (λ r. r ≡ record { names = names.now.items; ledger = opening balances.now workers window; is_broken = false }) }
+        ensures { let ledger = opening balances.now workers window in
+            IfOk result (λ r. r ≡ record { names = names.now.items; ledger = ledger; is_broken = false }) }
     {
         let (ticks, all) = Tickets::new(alloc, workers, TICKS)?;
         let seats = Vec::with_capacity(alloc, workers as usize)?;
@@ -156,9 +160,9 @@ impl<'n> Replica<'n> {
     ///
     /// docs/TRACE.md, "The deployment's procedure". `view` and `serial` are the ones that are due. The gate is entered
     /// before each execution, with the request's index. Nothing that the threads did is believed: the attempt is what
-    /// the replica's own account says of the records (`Closes`). Of the faults of workers that of the lowest is told; each
-    /// fault but `Broken` leaves the account as it was, and breaks the replica until `rollback` succeeds. May wait for
-    /// other threads.
+    /// the replica's own account says of the records (`Closes`). Of the faults of workers that of the lowest is told;
+    /// each fault but `Broken` leaves the account as it was, and breaks the replica until `rollback` succeeds. May wait
+    /// for other threads.
     pub fn run_attempt<R: Threads + Wait + Sync, G: Gate>(
         &mut self,
         rt: &R,
@@ -179,15 +183,54 @@ impl<'n> Replica<'n> {
         if self.is_broken {
             return Err(AttemptFault::Broken);
         }
-        self.is_broken = true;
+        match touched_in(alloc, self.names, batch) {
+            Ok(touched) => {
+                self.run_touched(rt, alloc, batch, touched.as_slice(), view, serial, gate)
+            }
+            Err(_) => Err(self.broken_by(AttemptFault::Memory)),
+        }
+    }
+
+    /// Runs the batch as `run_attempt` does, of a replica that isn't broken, with what its requests touch as it was
+    /// looked up among the replica's names: a run looks them up once for all replicas.
+    pub(crate) fn run_touched<R: Threads + Wait + Sync, G: Gate>(
+        &mut self,
+        rt: &R,
+        alloc: Global,
+        batch: &BatchData,
+        touched: &[Touched],
+        view: u32,
+        serial: bool,
+        gate: &G,
+    ) -> Result<AttemptData, AttemptFault>
+        requires last { self.old.ledger.committed + 1 + length self.old.ledger.opened ≤ 65535 }
+        requires room { length self.old.ledger.opened < self.old.ledger.window }
+        requires view { view ≡ self.old.ledger.view }
+        requires serial { serial ≡ self.old.ledger.is_next_serial }
+        requires batch { IsTrue (is_batch (plain batch.now)) }
+        requires touched { touched.now ≡ touched_by self.old.names (plain batch.now) }
+        requires whole { self.old.is_broken ≡ false }
+        ensures attempted { IfOk result (λ a. Attempts view serial self.old self.new (plain batch.now) (attempt a)) }
+        ensures refused { IfErr result (λ why. FailsAttempt why self.old self.new) }
+    {
         let front = AttemptFront {
             seq: self.next_number(),
             view,
             serial,
         };
-        let attempt = self.attempt(rt, alloc, front, batch, gate)?;
-        self.is_broken = false;
-        Ok(attempt)
+        match self.attempt(rt, alloc, front, batch, touched, gate) {
+            Ok(attempt) => Ok(attempt),
+            Err(why) => Err(self.broken_by(why)),
+        }
+    }
+
+    // The replica is broken from now on, by this fault.
+    fn broken_by(&mut self, why: AttemptFault) -> AttemptFault
+        ensures broken { self.new ≡ record self.old { is_broken = true } }
+        ensures why { result ≡ why }
+    {
+        self.is_broken = true;
+        why
     }
 
     /// Makes an attempt of records that a caller took, which is open then.
@@ -210,16 +253,22 @@ impl<'n> Replica<'n> {
         requires view { view ≡ self.old.ledger.view }
         requires serial { serial ≡ self.old.ledger.is_next_serial }
         requires batch { IsTrue (is_batch (plain batch.now)) }
-        ensures closed { IfOk result (λ a. ClosesOwn (record { seq = seq; view = view; serial = serial }) self.old self.new (plain batch.now) records.now (attempt a)) }
-        ensures mismatch { result ≡ Err CloseFault.Mismatch → AreMismatched (record { seq = seq; view = view; serial = serial }) self.old.ledger (plain batch.now) (touched_by self.old.names (plain batch.now)) records.now }
+        ensures closed { IfOk result (λ a. ClosesOwn (record { seq = seq; view = view; serial = serial })
+            self.old self.new (plain batch.now) records.now (attempt a)) }
+        ensures mismatch { result ≡ Err CloseFault.Mismatch
+            → AreMismatched (record { seq = seq; view = view; serial = serial }) self.old.ledger (plain batch.now)
+            (touched_by self.old.names (plain batch.now)) records.now }
         ensures broken { (result ≡ Err CloseFault.Broken) ↔ (self.old.is_broken ≡ true) }
         ensures refused { OnErr result (self.new ≡ self.old) }
     {
         if self.is_broken {
             return Err(CloseFault::Broken);
         }
+        let Ok(touched) = touched_in(alloc, self.names, batch) else {
+            return Err(CloseFault::Memory);
+        };
         let front = AttemptFront { seq, view, serial };
-        match self.close(alloc, front, batch, records, None) {
+        match self.close(alloc, front, batch, touched.as_slice(), records, None) {
             Ok(attempt) => Ok(attempt),
             Err(Unclosed::Memory) => Err(CloseFault::Memory),
             Err(Unclosed::Mismatch) => Err(CloseFault::Mismatch),
@@ -229,10 +278,11 @@ impl<'n> Replica<'n> {
     /// Commits the batch with this number, of which the first open attempt must be. It takes no memory and waits for
     /// nobody.
     ///
-    /// docs/MODEL.md, "Section state, fate". `Broken` is tested first. A refusal changes nothing.
+    /// docs/MODEL.md, "Section state, fate". `Broken` is tested first, so that `NotOpen` comes exactly where the
+    /// replica isn't broken and the first open attempt, if there is one, has another number. A refusal changes nothing.
     pub fn commit(&mut self, seq: u32) -> Result<CommitData, CommitFault>
         ensures committed { IfOk result (λ c. CommitsFirst self.old self.new (commit c)) }
-        ensures there { IfOk result (λ _. seq ≡ self.old.ledger.committed + 1) }
+        ensures there { IsOk result ↔ ((self.old.is_broken ≡ false) × IsFirstOpen self.old.ledger seq) }
         ensures broken { (result ≡ Err CommitFault.Broken) ↔ (self.old.is_broken ≡ true) }
         ensures refused { OnErr result (self.new ≡ self.old) }
     {
@@ -263,7 +313,8 @@ impl<'n> Replica<'n> {
     {
         let mut undone = Vec::with_capacity(alloc, 2 * self.names.len())?;
         let rollback = self.ledger.rollback(alloc)?;
-        // there is room for every row, so nothing is refused here
+        // There is room for every row, so nothing is refused here. No clause needs that: attempts are made by the
+        // ledger alone, and one over rows that stayed would be `Mismatch`.
         let _ = self.floor.undo(&mut undone);
         self.settles.clear();
         self.is_broken = false;
@@ -277,6 +328,7 @@ impl<'n> Replica<'n> {
         alloc: Global,
         front: AttemptFront,
         batch: &BatchData,
+        touched: &[Touched],
         gate: &G,
     ) -> Result<AttemptData, AttemptFault>
         requires seq { front.seq ≡ self.old.ledger.committed + 1 + length self.old.ledger.opened }
@@ -285,6 +337,7 @@ impl<'n> Replica<'n> {
         requires view { front.view ≡ self.old.ledger.view }
         requires serial { front.serial ≡ self.old.ledger.is_next_serial }
         requires batch { IsTrue (is_batch (plain batch.now)) }
+        requires touched { touched.now ≡ touched_by self.old.names (plain batch.now) }
         ensures closed { IfOk result (λ a. ClosesSome front self.old self.new (plain batch.now) (attempt a)) }
         ensures refused { OnErr result (self.new ≡ self.old) }
         ensures fault { IfErr result IsFresh }
@@ -297,11 +350,12 @@ impl<'n> Replica<'n> {
             &self.ticks,
             &mut self.seats,
             batch,
+            touched,
             crew,
             gate,
         )?;
         let tick = greatest_tick(records.as_slice());
-        match self.close(alloc, front, batch, records.as_slice(), tick) {
+        match self.close(alloc, front, batch, touched, records.as_slice(), tick) {
             Ok(attempt) => Ok(attempt),
             Err(Unclosed::Memory) => Err(AttemptFault::Memory),
             Err(Unclosed::Mismatch) => Err(AttemptFault::Mismatch),
@@ -314,6 +368,7 @@ impl<'n> Replica<'n> {
         alloc: Global,
         front: AttemptFront,
         batch: &BatchData,
+        touched: &[Touched],
         records: &[AccessRecord],
         tick: Option<u64>,
     ) -> Result<AttemptData, Unclosed>
@@ -323,20 +378,18 @@ impl<'n> Replica<'n> {
         requires view { front.view ≡ self.old.ledger.view }
         requires serial { front.serial ≡ self.old.ledger.is_next_serial }
         requires batch { IsTrue (is_batch (plain batch.now)) }
-        ensures closed { IfOk result (λ a. ClosesThese front self.old self.new (plain batch.now) records.now (attempt a)) }
-        ensures mismatch { result ≡ Err Unclosed.Mismatch → AreMismatched front self.old.ledger (plain batch.now) (touched_by self.old.names (plain batch.now)) records.now }
+        requires touched { touched.now ≡ touched_by self.old.names (plain batch.now) }
+        ensures closed { IfOk result
+            (λ a. ClosesThese front self.old self.new (plain batch.now) records.now (attempt a)) }
+        ensures mismatch { let reached = touched_by self.old.names (plain batch.now) in
+            result ≡ Err Unclosed.Mismatch
+            → AreMismatched front self.old.ledger (plain batch.now) reached records.now }
         ensures refused { OnErr result (self.new ≡ self.old) }
     {
         if self.settles.reserve(1).is_err() {
             return Err(Unclosed::Memory);
         }
-        let Ok(touched) = touched_in(alloc, self.names, batch) else {
-            return Err(Unclosed::Memory);
-        };
-        match self
-            .ledger
-            .close(alloc, front, batch, touched.as_slice(), records)
-        {
+        match self.ledger.close(alloc, front, batch, touched, records) {
             Ok(attempt) => {
                 self.settles.push_reserved(tick);
                 Ok(attempt)

@@ -1,10 +1,10 @@
 //! The run of a whole deployment.
 
-ghost use Rattle.std.specs.Prelude.{◌≡◌, ◌≤◌, ◌*◌, All, IsTrue, IfOk, length, map, vec_len};
-ghost use Rattle.eve_grammar.specs.Limits.{is_batch};
-ghost use Rattle.eve_write.specs.Data.{batch as plain, customer};
+ghost use Rattle.std.specs.Prelude.{◌≡◌, ◌≤◌, ◌*◌, All, IfOk, length, map, vec_len};
+ghost use Rattle.eve_write.specs.Data.{batch as plain, customer, section};
 ghost use Rattle.eve_workload.specs.Workload.{names_of};
 ghost use Rattle.eve_replica.specs.Run.{IsRunOf};
+ghost use Rattle.eve_replica.specs.Serving.{IsMixed, Serves, Starts, AreVotes};
 
 use crate::deployment::Deployment;
 use crate::fault::RunFault;
@@ -15,12 +15,10 @@ use crate::server::Server;
 use eve_accounts::{Balances, Names};
 use eve_grammar::Head;
 use eve_recorder::Gate;
-use eve_streams::SinkOf;
-use eve_workload::{Mixer, Workload};
-use eve_write::{BatchData, CustomerData, GatherFault, Parts, Step, VoteData, gather};
+use eve_workload::{MixedBatch, Mixer, Workload};
+use eve_write::{BatchData, CustomerData, Parts, Step, VoteData};
 use std::alloc::{AllocError, Global};
 use std::hash::RandomState;
-use std::mem::replace;
 use std::sync::Wait;
 use std::thread::Threads;
 
@@ -59,43 +57,51 @@ fn run_named<R: Threads + Wait + Sync, G: Gate>(
     let head = workload.head();
     let balances = balances_of(alloc, workload.customers())?;
     let batches = batches_of(alloc, workload, names, mixer)?;
-    let deployment = run_windows(rt, alloc, &head, names, &balances, batches.as_slice(), gate)?;
-    let sent = replies_of(alloc, deployment.servers.as_slice(), batches.as_slice())?;
-    let Deployment { servers, votes, .. } = deployment;
-    let parts = Parts {
+    let Deployment { servers, votes, .. } = run_windows(
+        rt,
+        alloc,
+        &head,
+        names,
+        &balances,
+        batches.as_slice(),
+        gate,
+    )?;
+    let sent = replies_of(alloc, servers.as_slice(), batches.as_slice())?;
+    Ok(Parts {
         quorum: head.quorum,
         window: head.window,
         workers: head.workers,
         customers: copy_customers(alloc, workload.customers())?,
-        batches,
+        batches: plain_batches(alloc, batches)?,
         sections: sections_of(alloc, servers)?,
         verifiers: copies_of(alloc, votes.as_slice(), head.verifiers)?,
         sent,
-    };
-    match gather(&parts, 0, &mut SinkOf::new(Vec::new(alloc))) {
-        Err(GatherFault::TooLong) => Ok(parts),
-        _ => Err(RunFault::Broken),
-    }
+    })
 }
 
 // Windows, until all batches are committed.
-fn run_windows<'n, R: Threads + Wait + Sync, G: Gate>(
+fn run_windows<'n, 'b, R: Threads + Wait + Sync, G: Gate>(
     rt: &R,
     alloc: Global,
     head: &Head,
     names: &'n Names<'n>,
     balances: &Balances,
-    batches: &[BatchData],
+    batches: &'b [MixedBatch],
     gate: &G,
-) -> Result<Deployment<'n>, RunFault>
+) -> Result<Deployment<'n, 'b>, RunFault>
     requires rows { length balances.now ≡ 2 * length names.now.items }
     requires workers { (1 ≤ head.now.workers) × (head.now.workers ≤ 8) }
     requires window { (1 ≤ head.now.window) × (head.now.window ≤ 8) }
     requires few { length batches.now ≤ 65535 }
-    requires right { All (λ b. IsTrue (is_batch (plain b))) batches.now }
-    ensures { IfOk result (λ d. vec_len d.servers ≡ head.now.replicas) }
+    requires mixed { All (IsMixed names.now.items) batches.now }
+    requires customers { length names.now.items ≡ head.now.customers }
+    ensures many { IfOk result (λ d. vec_len d.servers ≡ head.now.replicas) }
+    ensures steps { IfOk result (λ d. All (Serves (2 * head.now.customers) batches.now) d.servers.items) }
+    ensures votes { IfOk result (λ d. AreVotes (length batches.now) d.votes.items) }
 {
     let mut deployment = Deployment {
+        head: *head,
+        batches,
         servers: servers_of(alloc, head, names, balances)?,
         votes: Vec::new(alloc),
         view: 0,
@@ -105,7 +111,7 @@ fn run_windows<'n, R: Threads + Wait + Sync, G: Gate>(
         if deployment.committed as usize >= batches.len() {
             break;
         }
-        deployment.run_window(rt, alloc, batches, head.window, gate)?;
+        deployment.run_window(rt, alloc, gate)?;
     }
     if (deployment.committed as usize) < batches.len() {
         return Err(RunFault::Broken);
@@ -122,15 +128,12 @@ fn servers_of<'n>(
     requires rows { length balances.now ≡ 2 * length names.now.items }
     requires workers { (1 ≤ head.now.workers) × (head.now.workers ≤ 8) }
     requires window { (1 ≤ head.now.window) × (head.now.window ≤ 8) }
-    ensures { IfOk result (λ servers. vec_len servers ≡ head.now.replicas) }
+    ensures many { IfOk result (λ servers. vec_len servers ≡ head.now.replicas) }
+    ensures start { IfOk result (λ servers. All (Starts names.now.items) servers.items) }
 {
     let mut servers = Vec::with_capacity(alloc, head.replicas as usize)?;
     for number in 0..head.replicas {
-        servers.push(Server {
-            replica: Replica::new(alloc, names, balances, head.workers, head.window)?,
-            is_live: true,
-            steps: Vec::new(alloc),
-        })?;
+        servers.push(server_of(alloc, head, names, balances)?)?;
     }
     Ok(servers)
 }
@@ -152,19 +155,52 @@ fn copy_customers(
     Ok(copies)
 }
 
-fn sections_of(alloc: Global, mut servers: Vec<Server>) -> Result<Vec<Vec<Step>>, AllocError>
-    ensures { IfOk result (λ sections. vec_len sections ≡ vec_len servers.entry) }
+// A replica that has done nothing.
+fn server_of<'n>(
+    alloc: Global,
+    head: &Head,
+    names: &'n Names<'n>,
+    balances: &Balances,
+) -> Result<Server<'n>, AllocError>
+    requires rows { length balances.now ≡ 2 * length names.now.items }
+    requires workers { (1 ≤ head.now.workers) × (head.now.workers ≤ 8) }
+    requires window { (1 ≤ head.now.window) × (head.now.window ≤ 8) }
+    ensures { IfOk result (Starts names.now.items) }
+{
+    Ok(Server {
+        replica: Replica::new(alloc, names, balances, head.workers, head.window)?,
+        is_live: true,
+        steps: Vec::new(alloc),
+    })
+}
+
+// The batches, without what their requests touch.
+fn plain_batches(alloc: Global, mixed: Vec<MixedBatch>) -> Result<Vec<BatchData>, AllocError>
+    ensures { IfOk result (λ batches. map plain batches.items ≡ map (λ m. plain m.batch) mixed.items) }
+{
+    let mut batches = Vec::with_capacity(alloc, mixed.len())?;
+    for one in mixed {
+        let MixedBatch { batch, .. } = one;
+        batches.push(batch)?;
+    }
+    Ok(batches)
+}
+
+// What each replica did.
+fn sections_of(alloc: Global, servers: Vec<Server>) -> Result<Vec<Vec<Step>>, AllocError>
+    ensures { IfOk result (λ sections. map section sections.items ≡ map (λ s. section s.steps) servers.entry.items) }
 {
     let mut sections = Vec::with_capacity(alloc, servers.len())?;
-    for place in 0..servers.len() {
-        let steps = replace(&mut servers[place].steps, Vec::new(alloc));
+    for server in servers {
+        let Server { steps, .. } = server;
         sections.push(steps)?;
     }
     Ok(sections)
 }
 
 fn copies_of(alloc: Global, votes: &[VoteData], count: u8) -> Result<Vec<Vec<VoteData>>, AllocError>
-    ensures { IfOk result (λ copies. vec_len copies ≡ count) }
+    ensures many { IfOk result (λ copies. vec_len copies ≡ count) }
+    ensures each { IfOk result (λ copies. All (λ c. c.items ≡ votes.now) copies.items) }
 {
     let mut copies = Vec::with_capacity(alloc, count as usize)?;
     for number in 0..count {

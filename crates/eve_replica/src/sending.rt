@@ -1,7 +1,13 @@
 //! The replies that replicas send.
 
+ghost use Rattle.std.specs.Prelude.{◌≤◌, ◌<◌, IfOk, OnOk, length};
+ghost use Rattle.eve_replica.specs.Serving.{AreReplies};
+
+use crate::fits::sent_fits;
 use crate::server::Server;
-use eve_write::{AttemptData, BatchData, SentData, Step};
+use eve_smallbank::Reply;
+use eve_workload::MixedBatch;
+use eve_write::{AttemptData, RequestData, SentData, Step};
 use std::alloc::{AllocError, Global};
 
 /// A reply for each request that a replica committed: by replica, then batch, then index.
@@ -10,29 +16,34 @@ use std::alloc::{AllocError, Global};
 pub(crate) fn replies_of(
     alloc: Global,
     servers: &[Server],
-    batches: &[BatchData],
-) -> Result<Vec<SentData>, AllocError> {
-    let mut sent = Vec::new(alloc);
-    for place in 0..servers.len().min(8) {
-        let steps = servers[place].steps.as_slice();
-        send_section(&mut sent, place as u8, steps, batches)?;
+    batches: &[MixedBatch],
+) -> Result<Vec<SentData>, AllocError>
+    requires few { length servers.now ≤ 8 }
+    ensures { IfOk result (λ replies. AreReplies (length servers.now) (length batches.now) replies.items) }
+{
+    let mut replies = Vec::new(alloc);
+    for place in 0..servers.len() {
+        send_section(&mut replies, place as u8, servers, batches)?;
     }
-    Ok(sent)
+    Ok(replies)
 }
 
-// Of each batch that the replica committed, the replies.
+// Of each batch that the replica at this place committed, the replies.
 fn send_section(
-    sent: &mut Vec<SentData>,
-    replica: u8,
-    steps: &[Step],
-    batches: &[BatchData],
-) -> Result<(), AllocError> {
-    for place in 0..steps.len() {
-        let (before, _) = steps.split_at(place);
-        if let Some(attempt) = committed_by(&steps[place], before) {
-            if let Some(batch) = batch_with(batches, attempt.seq) {
-                send_attempt(sent, replica, attempt, batch)?;
-            }
+    replies: &mut Vec<SentData>,
+    place: u8,
+    servers: &[Server],
+    batches: &[MixedBatch],
+) -> Result<(), AllocError>
+    requires there { place < length servers.now }
+    requires right { AreReplies (length servers.now) (length batches.now) replies.old.items }
+    ensures { OnOk result (AreReplies (length servers.now) (length batches.now) replies.new.items) }
+{
+    let steps = servers[place as usize].steps.as_slice();
+    for number in 0..steps.len() {
+        let (before, _) = steps.split_at(number);
+        if let Some(attempt) = committed_by(&steps[number], before) {
+            send_attempt(replies, place, servers, attempt, batches)?;
         }
     }
     Ok(())
@@ -53,27 +64,52 @@ fn committed_by<'s>(step: &Step, before: &'s [Step]) -> Option<&'s AttemptData> 
     None
 }
 
-fn batch_with(batches: &[BatchData], seq: u32) -> Option<&BatchData> {
-    if seq == 0 {
-        return None;
+// The replies of the attempt, of the replica at this place.
+fn send_attempt(
+    replies: &mut Vec<SentData>,
+    place: u8,
+    servers: &[Server],
+    attempt: &AttemptData,
+    batches: &[MixedBatch],
+) -> Result<(), AllocError>
+    requires there { place < length servers.now }
+    requires right { AreReplies (length servers.now) (length batches.now) replies.old.items }
+    ensures { OnOk result (AreReplies (length servers.now) (length batches.now) replies.new.items) }
+{
+    let seq = attempt.seq;
+    if seq < 1 || seq as usize > batches.len() {
+        return Ok(());
     }
-    batches.get(seq as usize - 1)
+    let requests = batches[seq as usize - 1].batch.requests.iter();
+    for (request, reply) in requests.zip(attempt.replies.iter()) {
+        send(replies, place, servers, seq, batches, request, *reply)?;
+    }
+    Ok(())
 }
 
-fn send_attempt(
-    sent: &mut Vec<SentData>,
-    replica: u8,
-    attempt: &AttemptData,
-    batch: &BatchData,
-) -> Result<(), AllocError> {
-    for (request, reply) in batch.requests.iter().zip(attempt.replies.iter()) {
-        sent.push(SentData {
-            client: request.client,
-            number: request.number,
-            replica,
-            seq: attempt.seq,
-            reply: *reply,
-        })?;
-    }
+// The reply to the request, which is in the batch with this number.
+fn send(
+    replies: &mut Vec<SentData>,
+    place: u8,
+    servers: &[Server],
+    seq: u32,
+    batches: &[MixedBatch],
+    request: &RequestData,
+    reply: Reply,
+) -> Result<(), AllocError>
+    requires there { place < length servers.now }
+    requires seq { (1 ≤ seq) × (seq ≤ length batches.now) }
+    requires right { AreReplies (length servers.now) (length batches.now) replies.old.items }
+    ensures { OnOk result (AreReplies (length servers.now) (length batches.now) replies.new.items) }
+{
+    let sent = SentData {
+        client: request.client,
+        number: request.number,
+        replica: place,
+        seq,
+        reply,
+    };
+    sent_fits(&sent, servers.len(), batches.len());
+    replies.push(sent)?;
     Ok(())
 }

@@ -1,14 +1,18 @@
 //! A replica of a run, with what it did.
 
-ghost use Rattle.std.specs.Prelude.{◌≤◌, ◌+◌, ◌<◌, All, IsTrue, length};
-ghost use Rattle.eve_grammar.specs.Limits.{is_batch};
-ghost use Rattle.eve_write.specs.Data.{batch as plain};
+ghost use Rattle.std.specs.Prelude.{◌≡◌, false, ◌≤◌, ◌+◌, ◌<◌, All, IsTrue, OnOk, length};
+ghost use Rattle.eve_grammar.specs.Limits.{is_step};
+ghost use Rattle.eve_attempts.specs.Ledgers.{row_count};
+ghost use Rattle.eve_write.specs.Data.{step as plain};
+ghost use Rattle.eve_replica.specs.Serving.{IsMixed, AreRightSteps, GoesOn};
 
 use crate::fault::RunFault;
+use crate::fits::commit_fits;
 use crate::replica::Replica;
 use eve_recorder::Gate;
-use eve_write::{BatchData, Step};
-use std::alloc::Global;
+use eve_workload::MixedBatch;
+use eve_write::Step;
+use std::alloc::{AllocError, Global};
 use std::sync::Wait;
 use std::thread::Threads;
 
@@ -30,17 +34,22 @@ impl<'n> Server<'n> {
         }
     }
 
-    /// Attempts the batches from its next one on, as many as a window has.
+    /// Attempts the batches from its next one on, as many as a window has, if the replica is live.
     pub(crate) fn attempt_window<R: Threads + Wait + Sync, G: Gate>(
         &mut self,
         rt: &R,
         alloc: Global,
-        batches: &[BatchData],
+        batches: &[MixedBatch],
         gate: &G,
     ) -> Result<(), RunFault>
         requires few { length batches.now ≤ 65535 }
-        requires right { All (λ b. IsTrue (is_batch (plain b))) batches.now }
+        requires mixed { All (IsMixed self.old.replica.names) batches.now }
+        requires whole { self.old.replica.is_broken ≡ false }
+        ensures { OnOk result (GoesOn self.old self.new) }
     {
+        if !self.is_live {
+            return Ok(());
+        }
         for _ in 0..8u8 {
             let number = self.replica.next_number() as usize;
             if number > batches.len() || !self.replica.has_room() {
@@ -56,35 +65,45 @@ impl<'n> Server<'n> {
         &mut self,
         rt: &R,
         alloc: Global,
-        batch: &BatchData,
+        mixed: &MixedBatch,
         gate: &G,
     ) -> Result<(), RunFault>
         requires last { self.old.replica.ledger.committed + 1 + length self.old.replica.ledger.opened ≤ 65535 }
         requires room { length self.old.replica.ledger.opened < self.old.replica.ledger.window }
-        requires right { IsTrue (is_batch (plain batch.now)) }
+        requires mixed { IsMixed self.old.replica.names mixed.now }
+        requires whole { self.old.replica.is_broken ≡ false }
+        ensures { OnOk result (GoesOn self.old self.new) }
     {
         let view = self.replica.view();
         let serial = self.replica.is_next_serial();
+        let batch = &mixed.batch;
+        let touched = mixed.touched.as_slice();
         let attempt = self
             .replica
-            .run_attempt(rt, alloc, batch, view, serial, gate)?;
-        self.steps.push(Step::Attempt(attempt))?;
+            .run_touched(rt, alloc, batch, touched, view, serial, gate)?;
+        self.did(Step::Attempt(attempt))?;
         Ok(())
     }
 
-    /// Commits the batch where the first open attempt has this token. Else the replica stops, with its open attempts.
-    pub(crate) fn commit_or_stop(&mut self, seq: u32, token: [u8; 32]) -> Result<(), RunFault> {
+    /// Commits the batch where the replica is live and its first open attempt has this token. Else it goes on no more,
+    /// and keeps its open attempts.
+    pub(crate) fn commit_or_stop(&mut self, seq: u32, token: [u8; 32]) -> Result<(), RunFault>
+        ensures { OnOk result (GoesOn self.old self.new) }
+    {
         if self.next_token() != Some(token) {
             self.is_live = false;
             return Ok(());
         }
         let commit = self.replica.commit(seq)?;
-        self.steps.push(Step::Commit(commit))?;
+        commit_fits(&commit);
+        self.did(Step::Commit(commit))?;
         Ok(())
     }
 
     /// Rolls back, if the replica is live.
-    pub(crate) fn roll_back(&mut self, alloc: Global) -> Result<(), RunFault> {
+    pub(crate) fn roll_back(&mut self, alloc: Global) -> Result<(), RunFault>
+        ensures { OnOk result (GoesOn self.old self.new) }
+    {
         if !self.is_live {
             return Ok(());
         }
@@ -92,7 +111,17 @@ impl<'n> Server<'n> {
             return Err(RunFault::Broken);
         }
         let rollback = self.replica.rollback(alloc)?;
-        self.steps.push(Step::Rollback(rollback))?;
+        self.did(Step::Rollback(rollback))?;
+        Ok(())
+    }
+
+    // One more thing that the replica did.
+    fn did(&mut self, step: Step) -> Result<(), AllocError>
+        requires right { IsTrue (is_step (row_count self.old.replica.ledger) (plain step)) }
+        ensures replica { self.new.replica ≡ self.old.replica }
+        ensures steps { OnOk result (AreRightSteps self.old → AreRightSteps self.new) }
+    {
+        self.steps.push(step)?;
         Ok(())
     }
 }

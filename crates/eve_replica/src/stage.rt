@@ -5,6 +5,7 @@ ghost use Rattle.std.specs.Prelude.{◌≡◌, ◌<◌, ◌≤◌, IfOk, length,
 use crate::progress::Progress;
 use eve_floor::Floor;
 use eve_recorder::Recorder;
+use eve_smallbank::Touched;
 use eve_tickets::Tickets;
 use eve_write::BatchData;
 use std::alloc::{AllocError, Global};
@@ -16,6 +17,8 @@ pub(crate) struct Stage<'s> {
     pub floor: &'s Floor<'s>,
     pub ticks: &'s Tickets,
     pub batch: &'s BatchData,
+    // what each of its requests touches
+    pub touched: &'s [Touched],
     pub recorder: &'s Recorder,
     pub claims: &'s Tickets,
     // for each request the index of the first of its parallelBatch

@@ -1,19 +1,23 @@
 //! What each worker does in an attempt.
 
 ghost use Rattle.std.specs.Prelude.{◌≡◌, ◌+◌, ◌<◌, ◌≤◌, IsTrue, IfSome, length};
-ghost use Rattle.eve_replica.specs.Crews.{IsOn, IsReady};
+ghost use Rattle.eve_smallbank.specs.Touch.{touched_of};
+ghost use Rattle.eve_smallbank.specs.SmallBank.{plain};
+ghost use Rattle.eve_write.specs.Data.{batch as plain_batch};
+ghost use Rattle.eve_attempts.specs.Closing.{request_at};
+ghost use Rattle.eve_replica.specs.Crews.{IsOn, IsReady, IsSet};
 
 use crate::crew::Member;
 use crate::stage::Stage;
-use eve_floor::execute;
+use eve_floor::execute_touched;
 use eve_recorder::Gate;
+use eve_smallbank::{Request, Touched};
 use std::sync::Wait;
 
 /// Claims requests of the batch and runs them, one after another, until they run out. A request waits until all of the
 /// parallelBatches before its own are noted.
 pub(crate) fn run_share<R: Wait, G: Gate>(rt: &R, stage: &Stage, member: &mut Member, gate: &G)
-    requires few { length stage.now.batch.now.requests.items ≤ 256 }
-    requires starts { length stage.now.starts.now ≡ length stage.now.batch.now.requests.items }
+    requires set { IsSet stage.now }
     requires ready { IsReady stage.now member.old }
     ensures { IsOn stage.now member.new }
 {
@@ -35,7 +39,7 @@ pub(crate) fn run_share<R: Wait, G: Gate>(rt: &R, stage: &Stage, member: &mut Me
 
 // The next request that nobody has claimed, by its index.
 fn claim(stage: &Stage, member: &mut Member) -> Option<u16>
-    requires few { length stage.now.batch.now.requests.items ≤ 256 }
+    requires set { IsSet stage.now }
     requires own { IsOn stage.now member.old }
     ensures own { IsOn stage.now member.new }
     ensures noted { member.new.worker.seat.noted ≡ member.old.worker.seat.noted }
@@ -57,22 +61,27 @@ fn run_one<R: Wait, G: Gate>(
     index: u16,
     gate: &G,
 ) -> bool
+    requires set { IsSet stage.now }
     requires there { index < length stage.now.batch.now.requests.items }
     requires place { length member.old.worker.seat.noted < 65536 }
     requires own { IsOn stage.now member.old }
     ensures own { IsOn stage.now member.new }
     ensures noted { IsTrue result → length member.new.worker.seat.noted ≡ length member.old.worker.seat.noted + 1 }
 {
-    match execute(
+    let request = request_at(stage, index);
+    let reached = touched_at(stage, index);
+    let executed = execute_touched(
         rt,
         stage.floor,
         stage.recorder,
         stage.ticks,
         &mut member.worker,
-        stage.batch,
+        &request,
+        &reached,
         index,
         gate,
-    ) {
+    );
+    match executed {
         Ok(()) => stage.progress.note(),
         Err(why) => {
             member.fault = Some(why);
@@ -80,4 +89,20 @@ fn run_one<R: Wait, G: Gate>(
             false
         }
     }
+}
+
+fn request_at<'s>(stage: &Stage<'s>, index: u16) -> Request<'s>
+    requires { index < length stage.now.batch.now.requests.items }
+    ensures { plain result ≡ request_at (plain_batch stage.now.batch.now) index }
+{
+    stage.batch.requests[index as usize].request()
+}
+
+// What the request with this index touches.
+fn touched_at(stage: &Stage, index: u16) -> Touched
+    requires set { IsSet stage.now }
+    requires there { index < length stage.now.batch.now.requests.items }
+    ensures { result ≡ touched_of stage.now.floor.now (request_at (plain_batch stage.now.batch.now) index) }
+{
+    stage.touched[index as usize]
 }

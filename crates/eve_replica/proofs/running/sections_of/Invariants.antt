@@ -1,5 +1,6 @@
-use Rattle.std.proofs.Common.{◌≡◌, vec_len}
+use Rattle.std.proofs.Common.{◌≡◌, map}
+use Rattle.eve_write.specs.Data.{section}
 use Rattle.eve_replica.proofs.running.sections_of.Given as goal
 
-abbrev pub invariant-loop-place : goal.invariant-loop-place
-invariant-loop-place l = (vec_len l.sections ≡ l.place) × (vec_len l.servers ≡ vec_len l.fn.servers)
+abbrev pub invariant-loop-server : goal.invariant-loop-server
+invariant-loop-server l = map section l.sections.items ≡ map (λ s. section s.steps) l.yielded

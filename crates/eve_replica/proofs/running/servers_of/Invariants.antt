@@ -1,5 +1,6 @@
-use Rattle.std.proofs.Common.{◌≡◌, vec_len}
+use Rattle.std.proofs.Common.{◌≡◌, All, vec_len}
+use Rattle.eve_replica.specs.Serving.{Starts}
 use Rattle.eve_replica.proofs.running.servers_of.Given as goal
 
 abbrev pub invariant-loop-number : goal.invariant-loop-number
-invariant-loop-number l = vec_len l.servers ≡ l.number
+invariant-loop-number l = (vec_len l.servers ≡ l.number) × All (Starts l.names.items) l.servers.items

@@ -1,0 +1,138 @@
+//! Gates that hold requests until others have entered, each for a limit of turns.
+
+ghost use Rattle.std.specs.Prelude.{◌<◌, IfSome};
+
+use eve_recorder::Gate;
+use std::sync::Wait;
+use std::sync::atomic::{AtomicU64, Ordering};
+use std::thread::yield_now;
+
+/// How often a request that is held lets another thread run before it goes on all the same.
+const TURNS: u32 = 10_000_000;
+
+// Whether the number rises above this one within the limit of turns.
+fn rises_above(number: &AtomicU64, least: u64) -> bool {
+    for _ in 0..TURNS {
+        if number.load(Ordering::SeqCst) > least {
+            return true;
+        }
+        yield_now();
+    }
+    false
+}
+
+/// Holds each of two requests until the other has entered.
+#[derive(Drop)]
+pub struct MeetingGate {
+    entered: AtomicU64,
+    missed: AtomicU64,
+}
+
+impl MeetingGate {
+    pub fn new() -> MeetingGate {
+        MeetingGate {
+            entered: AtomicU64::new(0),
+            missed: AtomicU64::new(0),
+        }
+    }
+
+    /// Whether both were inside at one moment.
+    pub fn have_met(&self) -> bool {
+        self.entered.load(Ordering::SeqCst) == 2 && self.missed.load(Ordering::SeqCst) == 0
+    }
+}
+
+impl Gate for MeetingGate {
+    fn enter<R: Wait>(&self, _rt: &R, _piece: u32) {
+        self.entered.fetch_add(1, Ordering::SeqCst);
+        if !rises_above(&self.entered, 1) {
+            self.missed.store(1, Ordering::SeqCst);
+        }
+    }
+}
+
+/// In which order an attempt of a knot is to run its last two requests.
+#[derive(Clone, Copy)]
+pub enum Turn {
+    /// The check before the amalgamation.
+    CheckFirst,
+    /// As they are listed.
+    InOrder,
+    /// In any: nothing is held.
+    Free,
+}
+
+/// How many requests a knot has.
+const KNOT: u64 = 5;
+
+/// Decides in which order the attempts of knots run what conflicts in them. A knot is five requests in one
+/// parallelBatch, for three workers: deposits for bob, cid and dan, an amalgamation of bob into ann, and a check of
+/// ann. Each customer has a stripe of its own, bob's before ann's.
+///
+/// A gate is entered with the locks held, so it can't turn two requests of one stripe round by itself. Where the check
+/// is to be first, the deposit for bob is held until the check has entered: the amalgamation waits for bob's stripe,
+/// and the check goes by. The other two deposits are held until the one for bob has entered, since the amalgamation
+/// could be faster else. In the order of the list both are held until the check has entered, so that one worker runs
+/// all the rest.
+///
+/// Attempts come one after another, so that they are told apart by counting entries: the first seven have a turn each,
+/// and those behind them aren't held.
+#[derive(Drop)]
+pub struct KnotGate {
+    turns: [Turn; 7],
+    entries: AtomicU64,
+    // how often each request of a knot has entered
+    entered: [AtomicU64; 5],
+    missed: AtomicU64,
+}
+
+impl KnotGate {
+    pub fn new(turns: [Turn; 7]) -> KnotGate {
+        KnotGate {
+            turns,
+            entries: AtomicU64::new(0),
+            entered: [
+                AtomicU64::new(0),
+                AtomicU64::new(0),
+                AtomicU64::new(0),
+                AtomicU64::new(0),
+                AtomicU64::new(0),
+            ],
+            missed: AtomicU64::new(0),
+        }
+    }
+
+    /// Whether no request was held longer than the limit of turns.
+    pub fn is_kept(&self) -> bool {
+        self.missed.load(Ordering::SeqCst) == 0
+    }
+
+    // The request that has to enter before this one goes on.
+    fn awaited(&self, attempt: u64, piece: u32) -> Option<usize>
+        ensures { IfSome result (λ other. other < 5) }
+    {
+        if attempt >= 7 {
+            return None;
+        }
+        match (self.turns[attempt as usize], piece) {
+            (Turn::CheckFirst, 0) => Some(4),
+            (Turn::CheckFirst, 1 | 2) => Some(0),
+            (Turn::InOrder, 1 | 2) => Some(4),
+            _ => None,
+        }
+    }
+}
+
+impl Gate for KnotGate {
+    fn enter<R: Wait>(&self, _rt: &R, piece: u32) {
+        let attempt = self.entries.fetch_add(1, Ordering::SeqCst) / KNOT;
+        if u64::from(piece) < KNOT {
+            self.entered[piece as usize].fetch_add(1, Ordering::SeqCst);
+        }
+        if let Some(other) = self.awaited(attempt, piece) {
+            if !rises_above(&self.entered[other], attempt) {
+                self.missed.store(1, Ordering::SeqCst);
+            }
+        }
+    }
+}

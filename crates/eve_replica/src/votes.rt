@@ -1,0 +1,50 @@
+//! The votes of a run, which each verifier gives.
+
+ghost use Rattle.std.specs.Prelude.{◌≤◌, OnOk};
+ghost use Rattle.eve_replica.specs.Serving.{AreVotes};
+
+use crate::fits::token_fits;
+use eve_write::{ChoiceData, VoteData};
+use std::alloc::AllocError;
+
+/// One more vote, for the commit of one of so many batches.
+pub(crate) fn vote_for_commit(
+    votes: &mut Vec<VoteData>,
+    batches: usize,
+    seq: u32,
+    view: u32,
+    token: [u8; 32],
+) -> Result<(), AllocError>
+    requires seq { (1 ≤ seq) × (seq ≤ batches) }
+    requires votes { AreVotes batches votes.old.items }
+    ensures { OnOk result (AreVotes batches votes.new.items) }
+{
+    token_fits(&token);
+    votes.push(VoteData {
+        seq,
+        view,
+        choice: ChoiceData::ForCommit,
+        token,
+    })?;
+    Ok(())
+}
+
+/// One more vote, for the rollback of one of so many batches.
+pub(crate) fn vote_for_rollback(
+    votes: &mut Vec<VoteData>,
+    batches: usize,
+    seq: u32,
+    view: u32,
+) -> Result<(), AllocError>
+    requires seq { (1 ≤ seq) × (seq ≤ batches) }
+    requires votes { AreVotes batches votes.old.items }
+    ensures { OnOk result (AreVotes batches votes.new.items) }
+{
+    votes.push(VoteData {
+        seq,
+        view,
+        choice: ChoiceData::ForRollback,
+        token: [0; 32],
+    })?;
+    Ok(())
+}
