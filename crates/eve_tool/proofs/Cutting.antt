@@ -3,18 +3,22 @@ use Rattle.std.proofs.Common.{◌≡◌, ℕ, ◌+◌, ◌^◌, ◌<◌, ◌≤�
 use Rattle.std.specs.Prelude.{IfSome, IsFalse, Option, nat_le}
 use Rattle.std.proofs.lemmas.Bool.{cases_lt, lt-leb}
 use Rattle.std.proofs.lemmas.List.{length-take, take_all}
-use Rattle.eve_audit.proofs.Phases.{order_phase, structure_phase, record_phase, chain_phase, restore_phase, token_phase, vote_phase, majority_phase, outcome_phase, reply_phase}
-use Rattle.eve_audit.specs.Verdict.{IsFirst, IsJudged, IsVerdict, IsYesOfAudited, Precedes, SpellsAudited, Stands, in_agreement, in_form, in_majorities, in_orders, in_replies, in_section, in_votes, of_chains, of_records, of_restores, of_structure, of_tokens}
+use Rattle.eve_audit.proofs.Firsts.{trace_phase}
+use Rattle.eve_audit.specs.Verdict.{IsFirst, IsJudged, IsVerdict, IsYesOfAudited, Precedes, SpellsAudited, Stands, in_form, in_trace}
 use Rattle.eve_audit.specs.declared.verdict.Verdict.{Verdict}
 use Rattle.eve_audit.specs.declared.verdict.Verdict.TheVariants.{No, Yes}
 use Rattle.eve_views.specs.Code.{number_of, phase_of}
-use Rattle.eve_views.specs.Form.{IsFormFault, IsLeastFormFault, IsUpTo, StandsInForm, is_sized}
+use Rattle.eve_views.specs.Form.{IsFormFault, IsUpTo, StandsInForm, is_sized, IsLeast}
 use Rattle.eve_views.specs.declared.fault.Code.{Code}
 use Rattle.eve_views.specs.declared.fault.Code.TheVariants as code
 use Rattle.eve_views.specs.declared.fault.Fault.{Fault}
+use Rattle.eve_tool.specs.declared.fault.ToolFault.{ToolFault}
+use Rattle.eve_tool.specs.declared.fault.ToolFault.TheVariants as fault
 use Rattle.eve_tool.specs.Audit.{Audits}
+use Rattle.eve_tool.specs.Calls.{Leaves}
 use Rattle.eve_tool.specs.Lines.{status_of_verdict}
 use Rattle.eve_tool.specs.Show.{Shows}
+use Rattle.eve_tool.specs.Words.{Audit, Show}
 use Rattle.eve_tool.specs.Writes.{WritesAll, WritesAllOf, WritesFront, WritesFrontOf}
 
 number-least : (c : Code) → 1 ≤ number_of c
@@ -50,7 +54,7 @@ first_of_all f g front low =
     elim (cases_lt f.offset g.offset) [ inl before ↦ inl before | inr reached ↦ inr (omega arith, omega arith) ]
 
 -- bytes that are too long have one first fault, whatever they are
-same_fault : (xs ys : List ℕ) (f : Fault) → 2 ^ 30 < length xs → 2 ^ 30 < length ys → IsLeastFormFault xs f → IsLeastFormFault ys f
+same_fault : (xs ys : List ℕ) (f : Fault) → 2 ^ 30 < length xs → 2 ^ 30 < length ys → IsLeast (IsFormFault xs) f → IsLeast (IsFormFault ys) f
 same_fault xs ys f long longer least =
     let front = at_front f (least.least length_fault (length_stands xs long)) in
     let is_its = is_length f.code front.1 in
@@ -92,16 +96,7 @@ length_is_judged bytes long = record {
 -- what stands as Length is a fault of form
 stands_outside : (bytes : List ℕ) (f : Fault) → f.code ≡ code.Length → Stands bytes f → f.replica ≡ None
 stands_outside bytes f is_length (in_form is) = is.outside
-stands_outside bytes f is_length (in_orders t spells is) = absurd (omega (arith, order_phase t f is, ap phase_of is_length))
-stands_outside bytes f is_length (in_section t e spells below (of_structure is)) = absurd (omega (arith, structure_phase t e f is, ap phase_of is_length))
-stands_outside bytes f is_length (in_section t e spells below (of_records is)) = absurd (omega (arith, record_phase t e f is, ap phase_of is_length))
-stands_outside bytes f is_length (in_section t e spells below (of_chains is)) = absurd (omega (arith, chain_phase t e f is, ap phase_of is_length))
-stands_outside bytes f is_length (in_section t e spells below (of_restores is)) = absurd (omega (arith, restore_phase t e f is, ap phase_of is_length))
-stands_outside bytes f is_length (in_section t e spells below (of_tokens is)) = absurd (omega (arith, token_phase t e f is, ap phase_of is_length))
-stands_outside bytes f is_length (in_votes t spells is) = absurd (omega (arith, vote_phase t f is, ap phase_of is_length))
-stands_outside bytes f is_length (in_majorities t spells is) = absurd (omega (arith, majority_phase t f is, ap phase_of is_length))
-stands_outside bytes f is_length (in_agreement t spells is) = absurd (omega (arith, outcome_phase t f is, ap phase_of is_length))
-stands_outside bytes f is_length (in_replies t spells is) = absurd (omega (arith, reply_phase t f is, ap phase_of is_length))
+stands_outside bytes f is_length (in_trace t spells is) = absurd (omega (arith, trace_phase t f is, ap phase_of is_length))
 
 -- the fault precedes Length, so it is Length
 precedes_length : (f : Fault) → Precedes f length_fault → (f.offset ≡ 0) × (f.code ≡ code.Length)
@@ -191,3 +186,35 @@ audited_of (Some bytes) old new status all is = by all.said.verdict (sym all.sai
     by : (v : Verdict) → status_of_verdict v ≡ 0 → IsYesOfAudited bytes v → SpellsAudited bytes
     by (Yes s) e said = said
     by (No f) e said = absurd (omega (arith, e))
+
+-- ---- what is left by a fault
+
+-- where no random words were given, nothing is asked of the bytes
+pub random_left : {O : Type 0} (written : O → Option (List ℕ)) (failures : O → ℕ) (known : Option (List ℕ)) (unread : Type 0) (old : O) (why : ToolFault)
+    → why ≡ fault.Random → Leaves written failures Audit known unread old old why
+random_left written failures known unread old why is = rw is (tt, refl)
+
+-- what a call that reads no further than a limit left of the bytes that were read
+pub audit_left : {O : Type 0} (written : O → Option (List ℕ)) (failures : O → ℕ) (known : Option (List ℕ)) (unread : Type 0) (bytes : List ℕ) (old new : O) (why : ToolFault)
+    → (WritesFront Audits bytes (written old) (written new) → WritesFrontOf Audits known (written old) (written new))
+    → Leaves written failures Audit (Some bytes) ⊥ old new why → Leaves written failures Audit known unread old new why
+audit_left written failures known unread bytes old new fault.Read cut left = absurd left.0
+audit_left written failures known unread bytes old new (fault.Line number) cut left = absurd left.0
+audit_left written failures known unread bytes old new fault.TooLong cut left = absurd left.0
+audit_left written failures known unread bytes old new fault.Broken cut left = absurd left.0
+audit_left written failures known unread bytes old new fault.Random cut left = left
+audit_left written failures known unread bytes old new fault.Memory cut (inl same) = inl same
+audit_left written failures known unread bytes old new fault.Memory cut (inr front) = absurd front.0
+audit_left written failures known unread bytes old new fault.Write cut left = (left.0, cut left.1)
+
+pub show_left : {O : Type 0} (written : O → Option (List ℕ)) (failures : O → ℕ) (known : Option (List ℕ)) (unread : Type 0) (bytes : List ℕ) (old new : O) (why : ToolFault)
+    → (WritesFront Shows bytes (written old) (written new) → WritesFrontOf Shows known (written old) (written new))
+    → Leaves written failures Show (Some bytes) ⊥ old new why → Leaves written failures Show known unread old new why
+show_left written failures known unread bytes old new fault.Read cut left = absurd left.0
+show_left written failures known unread bytes old new (fault.Line number) cut left = absurd left.0
+show_left written failures known unread bytes old new fault.TooLong cut left = absurd left.0
+show_left written failures known unread bytes old new fault.Broken cut left = absurd left.0
+show_left written failures known unread bytes old new fault.Random cut left = absurd left.0
+show_left written failures known unread bytes old new fault.Memory cut (inl same) = inl same
+show_left written failures known unread bytes old new fault.Memory cut (inr front) = inr (front.0, cut front.1)
+show_left written failures known unread bytes old new fault.Write cut left = (left.0, cut left.1)

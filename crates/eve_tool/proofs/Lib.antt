@@ -3,3 +3,4 @@ mod FoundValues
 mod Cutting
 mod SentLines
 mod WholeInput
+pub mod Leaving

@@ -3,22 +3,54 @@ use Rattle.std.proofs.Common.{◌≡◌, ℕ, ◌+◌, ◌<◌, ◌≤◌, ◌^�
 use Rattle.std.specs.Prelude.{IfSome}
 use Rattle.std.proofs.lemmas.Bool.{cases_lt}
 use Rattle.std.proofs.lemmas.List.{length-take, take_all}
+use Rattle.eve_tool.specs.declared.fault.ToolFault.{ToolFault}
+use Rattle.eve_tool.specs.declared.fault.ToolFault.TheVariants as fault
 use Rattle.eve_workload.specs.declared.mixer.Mixer.{Mixer}
-use Rattle.eve_tool.specs.Run.{RefusesRun}
+use Rattle.eve_workload.specs.Steps.{IsBadLine}
+use Rattle.eve_tool.specs.Calls.{Leaves}
+use Rattle.eve_tool.specs.Run.{IsRunnable, IsTooLong, Runs}
+use Rattle.eve_tool.specs.Words.{Run}
+use Rattle.eve_tool.specs.Writes.{WritesFront}
 
--- what is short enough was read whole, so what is said of it is said of the input
-pub said_of_all : (limit : ℕ) (known : Option (List ℕ)) (read bytes : List ℕ) → bytes ≡ read → IfSome known (λ k. read ≡ take (limit + 1) k)
-    → length read ≤ limit → (P : List ℕ → Type 0) → P bytes → IfSome known P
-said_of_all limit None read bytes same e short P p = tt
-said_of_all limit (Some k) read bytes same e short P p = subst P (same ∙ e ∙ all (cases_lt (limit + 1) (length k))) p
+-- the bytes that were read are all that was left, where that is known
+pub record IsAll (known : Option (List ℕ)) (bytes : List ℕ) : Type 0 where
+  pub same : IfSome known (λ k. bytes ≡ k)
+
+-- what is short enough was read whole
+pub short_is_all : (limit : ℕ) (known : Option (List ℕ)) (read bytes : List ℕ) → bytes ≡ read → IfSome known (λ k. read ≡ take (limit + 1) k)
+    → length read ≤ limit → IsAll known bytes
+short_is_all limit None read bytes same e short = record { same = tt }
+short_is_all limit (Some k) read bytes same e short = record { same = same ∙ e ∙ all (cases_lt (limit + 1) (length k)) }
   where
     all : (limit + 1 < length k) ⊎ (length k ≤ limit + 1) → take (limit + 1) k ≡ k
     all (inl longer) = absurd (omega (arith, length-take (limit + 1) k, ap length e))
     all (inr reached) = take_all (limit + 1) k reached
 
--- what isn't is no workload
-pub too_long : (mixer : Mixer) (known : Option (List ℕ)) (read : List ℕ) → IfSome known (λ k. read ≡ take (2 ^ 30 + 1) k) → 2 ^ 30 < length read
-    → IfSome known (RefusesRun mixer)
-too_long mixer None read e long = tt
-too_long mixer (Some k) read e long =
-    let longer : 2 ^ 30 < length k = omega (arith, length-take (2 ^ 30 + 1) k, ap length e) in inr (inl longer)
+-- what is said of all that was left is said of what was read
+pub of_all : {known : Option (List ℕ)} {bytes : List ℕ} → IsAll known bytes → (P : List ℕ → Type 0) → P bytes → IfSome known P
+of_all {known = None} all P p = tt
+of_all {known = Some k} all P p = subst P all.same p
+
+pub some_weaker : (known : Option (List ℕ)) (P Q : List ℕ → Type 0) → ((k : List ℕ) → P k → Q k) → IfSome known P → IfSome known Q
+some_weaker None P Q more p = tt
+some_weaker (Some k) P Q more p = more k p
+
+-- what was left is too long where too much of it was read
+pub too_long : (known : Option (List ℕ)) (read : List ℕ) → IfSome known (λ k. read ≡ take (2 ^ 30 + 1) k) → 2 ^ 30 < length read
+    → IfSome known (λ k. 2 ^ 30 < length k)
+too_long None read e long = tt
+too_long (Some k) read e long = omega (arith, length-take (2 ^ 30 + 1) k, ap length e)
+
+-- what a run left of the bytes that were read, which are all
+pub left_of_all : {O : Type 0} (written : O → Option (List ℕ)) (failures : O → ℕ) (mixer : Mixer) (known : Option (List ℕ)) (unread : Type 0)
+    (bytes : List ℕ) (old new : O) (why : ToolFault) → IsAll known bytes
+    → Leaves written failures (Run mixer) (Some bytes) ⊥ old new why → Leaves written failures (Run mixer) known unread old new why
+left_of_all written failures mixer known unread bytes old new fault.Read all left = absurd left.0
+left_of_all written failures mixer known unread bytes old new (fault.Line number) all left = (of_all all (λ b. IsBadLine b number) left.0, left.1)
+left_of_all written failures mixer known unread bytes old new fault.TooLong all left = (of_all all (IsTooLong mixer) left.0, left.1)
+left_of_all written failures mixer known unread bytes old new fault.Broken all left = (of_all all IsRunnable left.0, left.1)
+left_of_all written failures mixer known unread bytes old new fault.Random all left = (of_all all IsRunnable left.0, left.1)
+left_of_all written failures mixer known unread bytes old new fault.Memory all (inl same) = inl same
+left_of_all written failures mixer known unread bytes old new fault.Memory all (inr front) = absurd front.0
+left_of_all written failures mixer known unread bytes old new fault.Write all left =
+    (left.0, of_all all (λ b. WritesFront (Runs mixer) b (written old) (written new)) left.1)

@@ -1,7 +1,11 @@
 -- The exit statuses of faults, and where faults come from.
-use Rattle.std.specs.Prelude.{ℕ}
+use Rattle.std.specs.Prelude.{ℕ, List, ◌++◌, codes, decimal}
 use Rattle.eve_streams.specs.declared.reading.ReadFault.{ReadFault}
 use Rattle.eve_streams.specs.declared.reading.ReadFault.TheVariants as why
+use Rattle.eve_replica.specs.declared.fault.RunFault.{RunFault}
+use Rattle.eve_replica.specs.declared.fault.RunFault.TheVariants as run
+use Rattle.eve_workload.specs.declared.fault.WorkloadFault.{WorkloadFault}
+use Rattle.eve_workload.specs.declared.fault.WorkloadFault.TheVariants as workload
 use Rattle.eve_tool.specs.declared.fault.ToolFault.{ToolFault}
 use Rattle.eve_tool.specs.declared.fault.ToolFault.TheVariants as fault
 
@@ -19,3 +23,23 @@ status_of fault.Memory = 3
 abbrev pub fault_of_read : ReadFault → ToolFault
 fault_of_read why.Read = fault.Read
 fault_of_read why.Memory = fault.Memory
+
+-- what a workload that was not read comes to
+abbrev pub fault_of_workload : WorkloadFault → ToolFault
+fault_of_workload (workload.Line number) = fault.Line number
+fault_of_workload workload.Memory = fault.Memory
+
+-- what a workload that was not run comes to
+abbrev pub fault_of_run : RunFault → ToolFault
+fault_of_run run.Memory = fault.Memory
+fault_of_run run.Broken = fault.Broken
+
+-- what is said of a fault on the error stream, with the line feed
+abbrev pub error_line : ToolFault → List ℕ
+error_line fault.Read = codes "eve: cannot read input\n"
+error_line (fault.Line number) = codes "eve: workload line " ++ (decimal number ++ codes "\n")
+error_line fault.TooLong = codes "eve: too long\n"
+error_line fault.Broken = codes "eve: run broken\n"
+error_line fault.Write = codes "eve: cannot write output\n"
+error_line fault.Random = codes "eve: no random source\n"
+error_line fault.Memory = codes "eve: out of memory\n"

@@ -5,3 +5,4 @@ pub mod Writes
 pub mod Show
 pub mod Audit
 pub mod Run
+pub mod Calls

@@ -1,5 +1,5 @@
 -- What `run` says of bytes.
-use Rattle.std.specs.Prelude.{◌≡◌, ℕ, ◌^◌, ◌<◌, List, length, ◌⊎◌}
+use Rattle.std.specs.Prelude.{◌≡◌, ℕ, ◌^◌, ◌<◌, List, length, ◌⊎◌, ⊤}
 use Rattle.eve_grammar.specs.Trace.{Trace, head_of}
 use Rattle.eve_grammar.specs.Spelling.{length_of}
 use Rattle.eve_grammar.specs.Limits.{HasLimits, Spells}
@@ -10,6 +10,8 @@ use Rattle.eve_workload.specs.Lines.{workload_text}
 use Rattle.eve_workload.specs.Steps.{IsBadLine}
 use Rattle.eve_write.specs.declared.parts.Parts.{Parts}
 use Rattle.eve_replica.specs.Run.{batches_cut, IsRunOf}
+use Rattle.eve_tool.specs.declared.fault.ToolFault.{ToolFault}
+use Rattle.eve_tool.specs.declared.fault.ToolFault.TheVariants as fault
 
 -- a trace with the workload's numbers and customers and, in order, the cut of each of its batches
 pub record IsTraceOf (workload : Workload) (mixer : Mixer) (trace : Trace) : Type 0 where
@@ -21,6 +23,10 @@ pub record IsTraceOf (workload : Workload) (mixer : Mixer) (trace : Trace) : Typ
 pub record IsText (bytes : List ℕ) (workload : Workload) : Type 0 where
   pub text : bytes ≡ workload_text workload
   pub right : IsWorkload workload
+
+-- the bytes are the text of a workload
+abbrev pub IsRunnable : List ℕ → Type 0
+IsRunnable bytes = (workload : Workload) × IsText bytes workload
 
 -- the parts are those of a run of the workload of which the bytes are the text
 pub record IsRunOfText (mixer : Mixer) (bytes : List ℕ) (parts : Parts) : Type 0 where
@@ -50,10 +56,10 @@ pub record RunsTooLong (mixer : Mixer) (bytes : List ℕ) : Type 0 where
 abbrev pub IsTooLong : Mixer → List ℕ → Type 0
 IsTooLong mixer bytes = (2 ^ 30 < length bytes) ⊎ RunsTooLong mixer bytes
 
--- a line of the bytes is bad
-abbrev pub HasBadLine : List ℕ → Type 0
-HasBadLine bytes = (number : ℕ) × IsBadLine bytes number
-
--- the bytes are no workload, or too long a one
-abbrev pub RefusesRun : Mixer → List ℕ → Type 0
-RefusesRun mixer bytes = HasBadLine bytes ⊎ IsTooLong mixer bytes
+-- why the bytes are not run, before anything is sent
+abbrev pub StopsRun : List ℕ → ToolFault → Type 0
+StopsRun bytes (fault.Line number) = IsBadLine bytes number
+StopsRun bytes fault.Random = IsRunnable bytes
+StopsRun bytes fault.Broken = IsRunnable bytes
+StopsRun bytes fault.Memory = ⊤
+StopsRun bytes _ = ⊥

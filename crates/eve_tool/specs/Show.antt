@@ -4,7 +4,7 @@ use Rattle.std.specs.List.{flat_map}
 use Rattle.eve_frames.specs.Kinds.{kind_name}
 use Rattle.eve_grammar.specs.Frames.{Frame, kind_of}
 use Rattle.eve_grammar.specs.Spelling.{body_text, frame_text, located}
-use Rattle.eve_views.specs.Form.{IsLeastFormFault}
+use Rattle.eve_views.specs.Form.{IsFormFault, IsLeast}
 use Rattle.eve_views.specs.Sequence.{Sequence, SpellsFrames}
 use Rattle.eve_views.specs.declared.fault.Fault.{Fault}
 use Rattle.eve_tool.specs.Lines.{fault_line, frame_line}
@@ -29,7 +29,7 @@ pub record ShowsTrace (bytes text : List ℕ) : Type 0 where
 -- the bytes are no trace, and the text is the line of their first fault
 pub record ShowsFault (bytes text : List ℕ) : Type 0 where
   pub fault : Fault
-  pub least : IsLeastFormFault bytes fault
+  pub least : IsLeast (IsFormFault bytes) fault
   pub line : text ≡ fault_line fault
 
 -- the text is what `show` says of the bytes, and the number is the exit status

@@ -1,14 +1,13 @@
 //! The call `audit`: the verdict on a trace.
 
-ghost use Rattle.std.specs.Prelude.{◌≡◌, ◌<◌, ◌⊎◌};
-ghost use Rattle.std.specs.Prelude.{IfOk, IfErr, OnOk, OnErr};
+ghost use Rattle.std.specs.Prelude.{◌≡◌, ◌<◌, Some, IfOk, IfErr, OnOk};
 ghost use Rattle.std.specs.Io.KnownBytes.{Appends};
 ghost use Rattle.eve_streams.specs.Failures.{after_failure};
-ghost use Rattle.eve_streams.specs.Front.{AppendsFront};
-ghost use Rattle.eve_tool.specs.Fault.{status_of};
 ghost use Rattle.eve_tool.specs.Audit.{Audits};
+ghost use Rattle.eve_tool.specs.Calls.{Leaves, StopsSending};
 ghost use Rattle.eve_tool.specs.Lines.{status_of_verdict, verdict_line, yes_line};
-ghost use Rattle.eve_tool.specs.Writes.{WritesAll, WritesAllOf, WritesFront, WritesFrontOf};
+ghost use Rattle.eve_tool.specs.Words.{Audit};
+ghost use Rattle.eve_tool.specs.Writes.{WritesAll, WritesAllOf};
 
 use crate::fault::ToolFault;
 use crate::lines::push_yes_line;
@@ -30,11 +29,8 @@ fn send_yes<O: Sink>(alloc: Global, summary: &Summary, out: &mut O) -> Result<()
     ensures sent { OnOk result (Appends (O.written out.old) (O.written out.new)
         (yes_line summary.now)) }
     ensures fine { OnOk result (O.failures out.new ≡ O.failures out.old) }
-    ensures front { OnErr result (AppendsFront (O.written out.old) (O.written out.new)
+    ensures stopped { IfErr result (StopsSending O.written O.failures out.old out.new
         (yes_line summary.now)) }
-    ensures why { IfErr result (λ e. status_of e ≡ 3) }
-    ensures write { IfErr result (λ e. e ≡ ToolFault.Write
-        → O.failures out.new ≡ after_failure (O.failures out.old)) }
 {
     let mut text = String::new(alloc);
     push_yes_line(&mut text, summary)?;
@@ -47,11 +43,8 @@ fn send_verdict<O: Sink>(alloc: Global, verdict: &Verdict, out: &mut O) -> Resul
         (verdict_line verdict.now)) }
     ensures status { IfOk result (λ status. status ≡ status_of_verdict verdict.now) }
     ensures fine { OnOk result (O.failures out.new ≡ O.failures out.old) }
-    ensures front { OnErr result (AppendsFront (O.written out.old) (O.written out.new)
+    ensures stopped { IfErr result (StopsSending O.written O.failures out.old out.new
         (verdict_line verdict.now)) }
-    ensures why { IfErr result (λ e. status_of e ≡ 3) }
-    ensures write { IfErr result (λ e. e ≡ ToolFault.Write
-        → O.failures out.new ≡ after_failure (O.failures out.old)) }
 {
     match verdict {
         Verdict::Yes(summary) => {
@@ -77,11 +70,7 @@ fn audit_bytes<R: Threads + Wait + Sync, O: Sink>(
     ensures all { IfOk result (WritesAll Audits bytes.now (O.written out.old) (O.written out.new)) }
     ensures status { IfOk result (λ status. status < 2) }
     ensures fine { OnOk result (O.failures out.new ≡ O.failures out.old) }
-    ensures front { OnErr result ((out.new ≡ out.old)
-        ⊎ WritesFront Audits bytes.now (O.written out.old) (O.written out.new)) }
-    ensures why { IfErr result (λ e. status_of e ≡ 3) }
-    ensures write { IfErr result (λ e. e ≡ ToolFault.Write
-        → O.failures out.new ≡ after_failure (O.failures out.old)) }
+    ensures left { IfErr result (Leaves O.written O.failures Audit (Some bytes.now) ⊥ out.old out.new) }
 {
     let verdict = eve_audit::audit(rt, alloc, bytes, workers.get(), random, &OpenGate)?;
     send_verdict(alloc, &verdict, out)
@@ -101,12 +90,8 @@ pub(crate) fn audit<R: AllocGlobal + RandomSource + Threads + Wait + Sync, I: So
     ensures status { IfOk result (λ status. status < 2) }
     ensures fine { OnOk result ((I.failures input.new ≡ I.failures input.old)
         × (O.failures out.new ≡ O.failures out.old)) }
-    ensures front { OnErr result ((out.new ≡ out.old)
-        ⊎ WritesFrontOf Audits (I.remaining input.old) (O.written out.old) (O.written out.new)) }
-    ensures refused { IfErr result (λ e. status_of e ≡ 2
-        → (I.failures input.new ≡ after_failure (I.failures input.old)) × (out.new ≡ out.old)) }
-    ensures write { IfErr result (λ e. e ≡ ToolFault.Write
-        → O.failures out.new ≡ after_failure (O.failures out.old)) }
+    ensures left { IfErr result (Leaves O.written O.failures Audit (I.remaining input.old)
+        (I.failures input.new ≡ after_failure (I.failures input.old)) out.old out.new) }
 {
     let alloc = rt.alloc();
     let bytes = read_all(alloc, input, LONGEST_TRACE)?;

@@ -14,6 +14,3 @@ mod worker_count;
 
 pub use fault::ToolFault;
 pub use program::{serve, stop};
-
-#[cfg(test)]
-mod tests;

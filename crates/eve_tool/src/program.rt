@@ -1,42 +1,34 @@
 //! The program over any streams.
 
-ghost use Rattle.std.specs.Prelude.{◌≡◌, ◌≢◌, ◌≤◌, ◌<◌, ◌⊎◌, ℕ, List, [], ◌∷◌, codes, map};
-ghost use Rattle.std.specs.Prelude.{IfOk, IfErr, IfSome, OnOk, OnErr};
+ghost use Rattle.std.specs.Prelude.{◌≡◌, ◌≢◌, ◌≤◌, ◌<◌, List, ℕ, [], ◌∷◌, codes, map};
+ghost use Rattle.std.specs.Prelude.{IfOk, IfErr, IfSome, OnOk};
 ghost use Rattle.eve_audit.specs.Verdict.{SpellsAudited};
 ghost use Rattle.eve_streams.specs.Failures.{after_failure};
-ghost use Rattle.eve_tool.specs.Audit.{Audits};
+ghost use Rattle.eve_tool.specs.Calls.{Calls, Leaves, Stops, Tells, says};
 ghost use Rattle.eve_tool.specs.Fault.{status_of};
-ghost use Rattle.eve_tool.specs.Run.{Runs, RefusesRun};
-ghost use Rattle.eve_tool.specs.Show.{Shows};
-ghost use Rattle.eve_tool.specs.Words.{AsksForHelp, CallsAudit, CallsNothing, CallsRun, CallsShow, CallsSome, IsRefused};
+ghost use Rattle.eve_tool.specs.Words.{AsksForHelp, Audit, CallsNothing, CallsSome, IsRefused, Run, Show, Subcommand};
 ghost use Rattle.eve_workload.specs.declared.mixer.Mixer.{Mixer};
-ghost use Rattle.eve_tool.specs.Writes.{WritesAllOf, WritesFrontOf};
+ghost use Rattle.eve_tool.specs.Writes.{WritesAllOf};
 
 use crate::audit::audit;
 use crate::fault::ToolFault;
 use crate::run::run;
 use crate::show::show;
 use crate::words::{Asked, Call, read_words};
-use arrayvec::ArrayString;
 use eve_streams::{Sink, Source, send_all};
 use std::convert::AsStr;
-use std::fmt::Write;
 use std::random::RandomSource;
 use std::sync::Wait;
 use std::thread::Threads;
 
-// How many bytes the line of a fault has at most.
-const LONGEST_FAULT: usize = 64;
-
 /// Says on `err` why the program ends without an answer, and answers the exit status. What can't be
 /// said is lost.
 pub fn stop<E: Sink>(fault: ToolFault, err: &mut E) -> u8
-    ensures { result ≡ status_of fault }
+    ensures status { result ≡ status_of fault }
+    ensures told { Tells E.written E.failures err.old err.new fault }
 {
-    let mut line = ArrayString::<LONGEST_FAULT>::new();
-    if writeln!(line, "{fault}").is_ok() {
-        let _ = send_all(err, line.as_str().as_bytes());
-    }
+    let line = fault.line();
+    let _ = send_all(err, line.as_str().as_bytes());
     fault.status()
 }
 
@@ -48,46 +40,24 @@ fn answer<
     O: Sink,
     E: Sink,
 >(rt: &R, words: &[S], input: &mut I, out: &mut O, err: &mut E) -> Result<u8, ToolFault>
-    ensures shown { CallsShow (map S.text words.now)
-        → IfOk result (WritesAllOf Shows (I.remaining input.old) (O.written out.old)
-        (O.written out.new)) }
-    ensures audited { CallsAudit (map S.text words.now)
-        → IfOk result (WritesAllOf Audits (I.remaining input.old) (O.written out.old)
-        (O.written out.new)) }
-    ensures ran { (mixer : Mixer) → CallsRun mixer (map S.text words.now)
-        → IfOk result (WritesAllOf (Runs mixer) (I.remaining input.old) (O.written out.old)
-        (O.written out.new)) }
+    ensures said { (call : Subcommand) → Calls call (map S.text words.now)
+        → IfOk result (λ status. (status < 2) × WritesAllOf (says call) (I.remaining input.old)
+        (O.written out.old) (O.written out.new) status) }
+    ensures status { CallsSome (map S.text words.now) → IfOk result (λ status. status < 2) }
     ensures fine { CallsSome (map S.text words.now)
         → OnOk result ((I.failures input.new ≡ I.failures input.old)
         × (O.failures out.new ≡ O.failures out.old)) }
-    ensures status { CallsSome (map S.text words.now) → IfOk result (λ status. status < 2) }
+    ensures left { (call : Subcommand) → Calls call (map S.text words.now)
+        → IfErr result (Leaves O.written O.failures call (I.remaining input.old)
+        (I.failures input.new ≡ after_failure (I.failures input.old)) out.old out.new) }
     ensures quiet { CallsSome (map S.text words.now) → err.new ≡ err.old }
-    ensures front_shown { CallsShow (map S.text words.now)
-        → OnErr result ((out.new ≡ out.old)
-        ⊎ WritesFrontOf Shows (I.remaining input.old) (O.written out.old) (O.written out.new)) }
-    ensures front_audited { CallsAudit (map S.text words.now)
-        → OnErr result ((out.new ≡ out.old)
-        ⊎ WritesFrontOf Audits (I.remaining input.old) (O.written out.old) (O.written out.new)) }
-    ensures front_ran { (mixer : Mixer) → CallsRun mixer (map S.text words.now)
-        → OnErr result ((out.new ≡ out.old)
-        ⊎ WritesFrontOf (Runs mixer) (I.remaining input.old) (O.written out.old) (O.written out.new)) }
-    ensures refused_run { (mixer : Mixer) → CallsRun mixer (map S.text words.now)
-        → IfErr result (λ e. status_of e ≡ 2 → (out.new ≡ out.old)
-        × ((I.failures input.new ≡ after_failure (I.failures input.old))
-        ⊎ IfSome (I.remaining input.old) (RefusesRun mixer))) }
-    ensures refused_shown { CallsShow (map S.text words.now) → IfErr result (λ e. status_of e ≡ 2
-        → I.failures input.new ≡ after_failure (I.failures input.old)) }
-    ensures refused_audited { CallsAudit (map S.text words.now) → IfErr result (λ e. status_of e ≡ 2
-        → I.failures input.new ≡ after_failure (I.failures input.old)) }
-    ensures silent { IfErr result (λ e. status_of e ≡ 2 → out.new ≡ out.old) }
-    ensures nothing { CallsNothing (map S.text words.now) → IfErr result (λ e. status_of e ≡ 3) }
-    ensures write { IfErr result (λ e. e ≡ ToolFault.Write
-        → O.failures out.new ≡ after_failure (O.failures out.old)) }
     ensures unread { CallsNothing (map S.text words.now) → input.new ≡ input.old }
     ensures help { CallsNothing (map S.text words.now) → IfOk result (λ status. status ≡ 0
         → AsksForHelp (map S.text words.now)) }
     ensures wrong { CallsNothing (map S.text words.now) → IfOk result (λ status. status ≢ 0
         → (status ≡ 2) × IsRefused (map S.text words.now) × (out.new ≡ out.old)) }
+    ensures nothing { CallsNothing (map S.text words.now) → IfErr result (λ e. status_of e ≡ 3) }
+    ensures silent { IfErr result (λ e. status_of e ≡ 2 → out.new ≡ out.old) }
 {
     match read_words(rt.alloc(), words)? {
         Asked::Call(Call::Audit(workers)) => audit(rt, workers, input, out),
@@ -118,50 +88,31 @@ pub fn serve<
 >(rt: &R, words: &[S], input: &mut I, out: &mut O, err: &mut E) -> u8
     // `audit`, `run` and `show` are calls, and `--help` asks for help.
     ensures audit { (name : List ℕ) → map S.text words.now ≡ name ∷ codes "audit" ∷ []
-        → CallsAudit (map S.text words.now) }
+        → Calls Audit (map S.text words.now) }
     ensures show { (name : List ℕ) → map S.text words.now ≡ name ∷ codes "show" ∷ []
-        → CallsShow (map S.text words.now) }
+        → Calls Show (map S.text words.now) }
     ensures run { (name : List ℕ) → map S.text words.now ≡ name ∷ codes "run" ∷ []
-        → CallsRun Mixer.First (map S.text words.now) }
+        → Calls (Run Mixer.First) (map S.text words.now) }
     ensures run_whole { (name : List ℕ) → map S.text words.now
         ≡ name ∷ codes "run" ∷ codes "--mixer" ∷ codes "whole" ∷ []
-        → CallsRun Mixer.Whole (map S.text words.now) }
+        → Calls (Run Mixer.Whole) (map S.text words.now) }
     ensures help { (name : List ℕ) → map S.text words.now ≡ name ∷ codes "--help" ∷ []
         → CallsNothing (map S.text words.now) × AsksForHelp (map S.text words.now) }
 
-    // All is said, on `out`.
-    ensures audited { CallsAudit (map S.text words.now) → result < 2
-        → WritesAllOf Audits (I.remaining input.old) (O.written out.old) (O.written out.new) result }
-    // A yes of `audit` is said of bytes alone that spell a trace that is audited.
-    ensures yes { CallsAudit (map S.text words.now) → result ≡ 0
-        → IfSome (I.remaining input.old) SpellsAudited }
-    ensures shown { CallsShow (map S.text words.now) → result < 2
-        → WritesAllOf Shows (I.remaining input.old) (O.written out.old) (O.written out.new) result }
-    ensures ran { (mixer : Mixer) → CallsRun mixer (map S.text words.now) → result < 2
-        → WritesAllOf (Runs mixer) (I.remaining input.old) (O.written out.old) (O.written out.new) result }
+    // A call that ends well: all is said, on `out`, and nothing failed. A yes of `audit` is said of bytes alone that
+    // spell a trace that is audited.
+    ensures said { (call : Subcommand) → Calls call (map S.text words.now) → result < 2
+        → WritesAllOf (says call) (I.remaining input.old) (O.written out.old) (O.written out.new) result }
     ensures fine { CallsSome (map S.text words.now) → result < 2
         → (I.failures input.new ≡ I.failures input.old)
         × (O.failures out.new ≡ O.failures out.old) × (err.new ≡ err.old) }
+    ensures yes { Calls Audit (map S.text words.now) → result ≡ 0
+        → IfSome (I.remaining input.old) SpellsAudited }
 
-    // The input failed, or is a workload with a bad line or too long; or no random words were given, memory ran out,
-    // the run broke, or `out` failed.
-    ensures read_audited { CallsAudit (map S.text words.now) → result ≡ 2
-        → (I.failures input.new ≡ after_failure (I.failures input.old)) }
-    ensures read_shown { CallsShow (map S.text words.now) → result ≡ 2
-        → (I.failures input.new ≡ after_failure (I.failures input.old)) }
-    ensures front_audited { CallsAudit (map S.text words.now) → result ≡ 3
-        → (out.new ≡ out.old)
-        ⊎ WritesFrontOf Audits (I.remaining input.old) (O.written out.old) (O.written out.new) }
-    ensures front_shown { CallsShow (map S.text words.now) → result ≡ 3
-        → (out.new ≡ out.old)
-        ⊎ WritesFrontOf Shows (I.remaining input.old) (O.written out.old) (O.written out.new) }
-
-    ensures refused_run { (mixer : Mixer) → CallsRun mixer (map S.text words.now) → result ≡ 2
-        → (I.failures input.new ≡ after_failure (I.failures input.old))
-        ⊎ IfSome (I.remaining input.old) (RefusesRun mixer) }
-    ensures front_ran { (mixer : Mixer) → CallsRun mixer (map S.text words.now) → result ≡ 3
-        → (out.new ≡ out.old)
-        ⊎ WritesFrontOf (Runs mixer) (I.remaining input.old) (O.written out.old) (O.written out.new) }
+    // A call that ends by a fault: which one, what was left, and its line on `err`.
+    ensures stopped { (call : Subcommand) → Calls call (map S.text words.now) → 2 ≤ result
+        → Stops E.written E.failures O.written O.failures call (I.remaining input.old)
+        (I.failures input.new ≡ after_failure (I.failures input.old)) err.old err.new out.old out.new result }
 
     // The words are no call.
     ensures unread { CallsNothing (map S.text words.now) → input.new ≡ input.old }

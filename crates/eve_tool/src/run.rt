@@ -1,24 +1,22 @@
 //! The call `run`: a deployment serves a workload, and the trace of the run is written.
 
-ghost use Rattle.std.specs.Prelude.{◌≡◌, ◌≢◌, ◌≤◌, ◌<◌, ◌^◌, ◌⊎◌, length, Err};
-ghost use Rattle.std.specs.Prelude.{IfOk, IfErr, IfSome, OnOk, OnErr};
+ghost use Rattle.std.specs.Prelude.{◌≡◌, ◌≤◌, ◌<◌, ◌^◌, ◌⊎◌, Some, Err};
+ghost use Rattle.std.specs.Prelude.{IfOk, IfErr, OnOk};
 ghost use Rattle.eve_grammar.specs.Spelling.{length_of, spelling};
 ghost use Rattle.eve_streams.specs.Failures.{after_failure};
 ghost use Rattle.eve_write.specs.Data.{trace};
 ghost use Rattle.eve_write.specs.Writable.{HasSpelling};
 ghost use Rattle.eve_write.specs.Writing.{Wrote, Stopped};
-ghost use Rattle.eve_workload.specs.Workload.{IsWorkload};
-ghost use Rattle.eve_workload.specs.Lines.{workload_text};
-ghost use Rattle.eve_tool.specs.Fault.{status_of};
-ghost use Rattle.eve_tool.specs.Run.{Runs, IsRunOfText, HasBadLine, RefusesRun};
-ghost use Rattle.eve_tool.specs.Writes.{WritesAll, WritesAllOf, WritesFront, WritesFrontOf};
+ghost use Rattle.eve_tool.specs.Calls.{Leaves};
+ghost use Rattle.eve_tool.specs.Run.{Runs, IsRunOfText, StopsRun};
+ghost use Rattle.eve_tool.specs.Words.{Run};
+ghost use Rattle.eve_tool.specs.Writes.{WritesAll, WritesAllOf};
 
 use crate::fault::ToolFault;
 use crate::random::random_words;
 use crate::show::LONGEST_TRACE;
 use eve_recorder::OpenGate;
-use eve_replica::RunFault;
-use eve_replica::eve_workload::{Mixer, Workload, WorkloadFault};
+use eve_replica::eve_workload::{Mixer, Workload};
 use eve_streams::{Sink, Source, read_all};
 use eve_write::{GatherFault, Parts, gather};
 use std::alloc::Global;
@@ -48,20 +46,6 @@ fn send_trace<O: Sink>(parts: &Parts, out: &mut O) -> Result<(), ToolFault>
     }
 }
 
-// The workload of which these bytes are the text.
-fn workload_of(alloc: Global, bytes: &[u8]) -> Result<Workload, ToolFault>
-    ensures read { IfOk result (λ w. bytes.now ≡ workload_text w) }
-    ensures right { IfOk result IsWorkload }
-    ensures line { IfErr result (λ e. status_of e ≡ 2 → HasBadLine bytes.now) }
-    ensures why { IfErr result (λ e. e ≢ ToolFault.Write) }
-{
-    match Workload::read(alloc, bytes) {
-        Ok(workload) => Ok(workload),
-        Err(WorkloadFault::Line(line)) => Err(ToolFault::Line(line)),
-        Err(WorkloadFault::Memory) => Err(ToolFault::Memory),
-    }
-}
-
 // Runs the workload of these bytes, and answers the parts of its trace.
 fn parts_of<R: RandomSource + Threads + Wait + Sync>(
     rt: &R,
@@ -70,16 +54,11 @@ fn parts_of<R: RandomSource + Threads + Wait + Sync>(
     mixer: Mixer,
 ) -> Result<Parts, ToolFault>
     ensures run { IfOk result (IsRunOfText mixer bytes.now) }
-    ensures line { IfErr result (λ e. status_of e ≡ 2 → HasBadLine bytes.now) }
-    ensures why { IfErr result (λ e. e ≢ ToolFault.Write) }
+    ensures stopped { IfErr result (StopsRun bytes.now) }
 {
-    let workload = workload_of(alloc, bytes)?;
+    let workload = Workload::read(alloc, bytes)?;
     let random = random_words(rt)?;
-    match eve_replica::run(rt, alloc, &workload, mixer, random, &OpenGate) {
-        Ok(parts) => Ok(parts),
-        Err(RunFault::Memory) => Err(ToolFault::Memory),
-        Err(RunFault::Broken) => Err(ToolFault::Broken),
-    }
+    Ok(eve_replica::run(rt, alloc, &workload, mixer, random, &OpenGate)?)
 }
 
 // Runs the workload of these bytes and sends the trace, and answers the exit status.
@@ -94,12 +73,7 @@ fn run_bytes<R: RandomSource + Threads + Wait + Sync, O: Sink>(
         (O.written out.new)) }
     ensures status { IfOk result (λ status. status ≡ 0) }
     ensures fine { OnOk result (O.failures out.new ≡ O.failures out.old) }
-    ensures front { OnErr result ((out.new ≡ out.old)
-        ⊎ WritesFront (Runs mixer) bytes.now (O.written out.old) (O.written out.new)) }
-    ensures refused { IfErr result (λ e. status_of e ≡ 2
-        → (out.new ≡ out.old) × RefusesRun mixer bytes.now) }
-    ensures write { IfErr result (λ e. e ≡ ToolFault.Write
-        → O.failures out.new ≡ after_failure (O.failures out.old)) }
+    ensures left { IfErr result (Leaves O.written O.failures (Run mixer) (Some bytes.now) ⊥ out.old out.new) }
 {
     let parts = parts_of(rt, alloc, bytes, mixer)?;
     send_trace(&parts, out)?;
@@ -122,13 +96,8 @@ pub(crate) fn run<R: AllocGlobal + RandomSource + Threads + Wait + Sync, I: Sour
     ensures status { IfOk result (λ status. status ≡ 0) }
     ensures fine { OnOk result ((I.failures input.new ≡ I.failures input.old)
         × (O.failures out.new ≡ O.failures out.old)) }
-    ensures front { OnErr result ((out.new ≡ out.old)
-        ⊎ WritesFrontOf (Runs mixer) (I.remaining input.old) (O.written out.old) (O.written out.new)) }
-    ensures refused { IfErr result (λ e. status_of e ≡ 2 → (out.new ≡ out.old)
-        × ((I.failures input.new ≡ after_failure (I.failures input.old))
-        ⊎ IfSome (I.remaining input.old) (RefusesRun mixer))) }
-    ensures write { IfErr result (λ e. e ≡ ToolFault.Write
-        → O.failures out.new ≡ after_failure (O.failures out.old)) }
+    ensures left { IfErr result (Leaves O.written O.failures (Run mixer) (I.remaining input.old)
+        (I.failures input.new ≡ after_failure (I.failures input.old)) out.old out.new) }
 {
     let alloc = rt.alloc();
     let bytes = read_all(alloc, input, LONGEST_WORKLOAD)?;

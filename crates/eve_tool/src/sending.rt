@@ -4,9 +4,8 @@ ghost use Rattle.std.specs.Prelude.{◌≡◌, []};
 ghost use Rattle.std.specs.Prelude.{IfErr, OnOk, OnErr};
 ghost use Rattle.std.specs.String.{string_bytes};
 ghost use Rattle.std.specs.Io.KnownBytes.{Appends};
-ghost use Rattle.eve_streams.specs.Failures.{after_failure};
 ghost use Rattle.eve_streams.specs.Front.{AppendsFront};
-ghost use Rattle.eve_tool.specs.Fault.{status_of};
+ghost use Rattle.eve_tool.specs.Calls.{StopsSending};
 ghost use Rattle.eve_tool.specs.Lines.{fault_line};
 
 use crate::fault::ToolFault;
@@ -23,8 +22,8 @@ pub(crate) fn send_text<O: Sink>(text: &mut String, out: &mut O) -> Result<(), T
     ensures fine { OnOk result (O.failures out.new ≡ O.failures out.old) }
     ensures front { OnErr result (AppendsFront (O.written out.old) (O.written out.new)
         (string_bytes text.old)) }
-    ensures why { IfErr result (λ e. e ≡ ToolFault.Write) }
-    ensures counted { OnErr result (O.failures out.new ≡ after_failure (O.failures out.old)) }
+    ensures stopped { IfErr result (StopsSending O.written O.failures out.old out.new
+        (string_bytes text.old)) }
 {
     send_all(out, text.as_str().as_bytes())?;
     text.clear();
@@ -40,13 +39,8 @@ pub(crate) fn send_fault<O: Sink>(
     ensures sent { OnOk result (Appends (O.written out.old) (O.written out.new)
         (fault_line fault.now)) }
     ensures fine { OnOk result (O.failures out.new ≡ O.failures out.old) }
-    ensures front { OnErr result (AppendsFront (O.written out.old) (O.written out.new)
+    ensures stopped { IfErr result (StopsSending O.written O.failures out.old out.new
         (fault_line fault.now)) }
-    ensures why { IfErr result (λ e. status_of e ≡ 3) }
-    ensures write { IfErr result (λ e. e ≡ ToolFault.Write
-        → O.failures out.new ≡ after_failure (O.failures out.old)) }
-    ensures memory { IfErr result (λ e. e ≡ ToolFault.Memory
-        → O.failures out.new ≡ O.failures out.old) }
 {
     let mut text = String::new(alloc);
     push_fault_line(&mut text, fault)?;

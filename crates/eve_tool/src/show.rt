@@ -1,16 +1,16 @@
 //! The call `show`: the frames of a trace, a line for each.
 
-ghost use Rattle.std.specs.Prelude.{◌≡◌, ◌<◌, ◌⊎◌, ℕ, ◌++◌, [], length, slice_get, Some};
-ghost use Rattle.std.specs.Prelude.{IfOk, IfErr, OnOk, OnErr};
+ghost use Rattle.std.specs.Prelude.{◌≡◌, ◌<◌, ℕ, ◌++◌, [], length, slice_get, Some};
+ghost use Rattle.std.specs.Prelude.{IfOk, IfErr, OnOk};
 ghost use Rattle.std.specs.String.{string_bytes};
 ghost use Rattle.std.specs.Io.KnownBytes.{Appends};
 ghost use Rattle.eve_grammar.specs.Frames.{Frame};
 ghost use Rattle.eve_grammar.specs.Spelling.{frame_text, located};
 ghost use Rattle.eve_streams.specs.Failures.{after_failure};
-ghost use Rattle.eve_streams.specs.Front.{AppendsFront};
-ghost use Rattle.eve_tool.specs.Fault.{status_of};
+ghost use Rattle.eve_tool.specs.Calls.{Leaves, StopsInParts};
 ghost use Rattle.eve_tool.specs.Show.{Shows, line_of, trace_lines};
-ghost use Rattle.eve_tool.specs.Writes.{WritesAll, WritesAllOf, WritesFront, WritesFrontOf};
+ghost use Rattle.eve_tool.specs.Words.{Show};
+ghost use Rattle.eve_tool.specs.Writes.{WritesAll, WritesAllOf};
 
 use crate::fault::ToolFault;
 use crate::lines::push_frame_line;
@@ -42,13 +42,8 @@ fn send_frames<O: Sink>(alloc: Global, trace: &Trace<'_>, out: &mut O) -> Result
     ensures sent { OnOk result (Appends (O.written out.old) (O.written out.new)
         (trace_lines trace.now.frames)) }
     ensures fine { OnOk result (O.failures out.new ≡ O.failures out.old) }
-    ensures front { OnErr result (AppendsFront (O.written out.old) (O.written out.new)
+    ensures stopped { IfErr result (StopsInParts O.written O.failures out.old out.new
         (trace_lines trace.now.frames)) }
-    ensures why { IfErr result (λ e. status_of e ≡ 3) }
-    ensures write { IfErr result (λ e. e ≡ ToolFault.Write
-        → O.failures out.new ≡ after_failure (O.failures out.old)) }
-    ensures memory { IfErr result (λ e. e ≡ ToolFault.Memory
-        → O.failures out.new ≡ O.failures out.old) }
 {
     let mut text = String::with_capacity(alloc, ROOM)?;
     push_frame_line(&mut text, 0, "Header", 32)?;
@@ -65,11 +60,7 @@ fn send_frames<O: Sink>(alloc: Global, trace: &Trace<'_>, out: &mut O) -> Result
 fn show_bytes<O: Sink>(alloc: Global, bytes: &[u8], out: &mut O) -> Result<u8, ToolFault>
     ensures all { IfOk result (WritesAll Shows bytes.now (O.written out.old) (O.written out.new)) }
     ensures fine { OnOk result (O.failures out.new ≡ O.failures out.old) }
-    ensures front { OnErr result ((out.new ≡ out.old)
-        ⊎ WritesFront Shows bytes.now (O.written out.old) (O.written out.new)) }
-    ensures why { IfErr result (λ e. status_of e ≡ 3) }
-    ensures write { IfErr result (λ e. e ≡ ToolFault.Write
-        → O.failures out.new ≡ after_failure (O.failures out.old)) }
+    ensures left { IfErr result (Leaves O.written O.failures Show (Some bytes.now) ⊥ out.old out.new) }
 {
     match Trace::read(alloc, bytes) {
         Ok(trace) => {
@@ -96,12 +87,8 @@ pub(crate) fn show<I: Source, O: Sink>(
     ensures status { IfOk result (λ status. status < 2) }
     ensures fine { OnOk result ((I.failures input.new ≡ I.failures input.old)
         × (O.failures out.new ≡ O.failures out.old)) }
-    ensures front { OnErr result ((out.new ≡ out.old)
-        ⊎ WritesFrontOf Shows (I.remaining input.old) (O.written out.old) (O.written out.new)) }
-    ensures refused { IfErr result (λ e. status_of e ≡ 2
-        → (I.failures input.new ≡ after_failure (I.failures input.old)) × (out.new ≡ out.old)) }
-    ensures write { IfErr result (λ e. e ≡ ToolFault.Write
-        → O.failures out.new ≡ after_failure (O.failures out.old)) }
+    ensures left { IfErr result (Leaves O.written O.failures Show (I.remaining input.old)
+        (I.failures input.new ≡ after_failure (I.failures input.old)) out.old out.new) }
 {
     let bytes = read_all(alloc, input, LONGEST_TRACE)?;
     show_bytes(alloc, bytes.as_slice(), out)

@@ -10,7 +10,7 @@ use Rattle.std.proofs.lemmas.List.Concat.{flat_map-append}
 use Rattle.std.proofs.KnownBytes.{Appends-trans}
 use Rattle.eve_streams.specs.Failures.{after_failure}
 use Rattle.eve_streams.proofs.Joining.{AppendsFront-after, AppendsFront-more}
-use Rattle.eve_write.specs.Writing.{Wrote, Stopped, Writes, joined}
+use Rattle.eve_write.specs.Writing.{Puts, Wrote, Stopped, Writes, joined}
 
 -- xs, and then ys
 pub Wrote-then : {S : Type 0} {written : S → Option (List ℕ)} {failures : S → ℕ} {a b c : S} {xs ys : List ℕ}
@@ -93,14 +93,18 @@ pub all_fit : {X : Type 0} (xs : List X) → list_all (λ _. true) xs ≡ true
 all_fit [] = refl
 all_fit (x ∷ xs) = all_fit xs
 
+-- the items before a place, and the one there
+flat_map-more : {X : Type 0} (f : X → List ℕ) (xs : List X) (i : ℕ) (x : X)
+    → i < length xs → x ≡ get_or xs i x → flat_map f (take i xs) ++ f x ≡ flat_map f (take (i + 1) xs)
+flat_map-more f xs i x within is =
+    let more : take (i + 1) xs ≡ take i xs ++ x ∷ [] = take_more xs i x within ∙ ap (λ y. take i xs ++ y ∷ []) (sym is) in
+    ap (λ t. flat_map f (take i xs) ++ t) (sym (append-nil (f x))) ∙ sym (flat_map-append f (take i xs) (x ∷ [])) ∙ ap (flat_map f) (sym more)
+
 -- one item more is written
 pub Wrote-more : {S X : Type 0} {written : S → Option (List ℕ)} {failures : S → ℕ} {a b c : S} (f : X → List ℕ) (xs : List X) (i : ℕ) (x : X)
     → i < length xs → x ≡ get_or xs i x → Wrote written failures a b (flat_map f (take i xs)) → Wrote written failures b c (f x) → Wrote written failures a c (flat_map f (take (i + 1) xs))
 Wrote-more {written = written} {failures = failures} {a = a} {c = c} f xs i x within is one two =
-    let more : take (i + 1) xs ≡ take i xs ++ x ∷ [] = take_more xs i x within ∙ ap (λ y. take i xs ++ y ∷ []) (sym is) in
-    let joins : flat_map f (take i xs) ++ f x ≡ flat_map f (take (i + 1) xs) =
-    ap (λ t. flat_map f (take i xs) ++ t) (sym (append-nil (f x))) ∙ sym (flat_map-append f (take i xs) (x ∷ [])) ∙ ap (flat_map f) (sym more) in
-    subst (Wrote written failures a c) joins (Wrote-then one two)
+    subst (Wrote written failures a c) (flat_map-more f xs i x within is) (Wrote-then one two)
 
 -- what stands at a place, by the list
 pub at_place : {X : Type 0} (xs : List X) (i : ℕ) (x : X) → slice_get xs i ≡ Some x → x ≡ get_or xs i x
@@ -116,3 +120,20 @@ pub flat_map-flat_map : {X Y : Type 0} (f : Y → List ℕ) (g : X → List Y) (
 flat_map-flat_map f g [] = refl
 flat_map-flat_map f g (x ∷ xs) =
     flat_map-append f (g x) (flat_map g xs) ∙ ap (λ t. flat_map f (g x) ++ t) (flat_map-flat_map f g xs)
+
+-- ---- pieces of a frame, one behind the other
+
+-- x was appended, and then y
+pub Puts-then : {r s t x y : List ℕ} → Puts r s x → Puts s t y → Puts r t (x ++ y)
+Puts-then {r = r} {x = x} {y = y} first second = record {
+  items = second.items ∙ ap (λ l. l ++ y) first.items ∙ append_assoc r x y;
+}
+
+-- all pieces before a place were appended, and then the one there
+pub Puts-more : {X : Type 0} {r s t : List ℕ} (f : X → List ℕ) (xs : List X) (i : ℕ) (x : X)
+    → i < length xs → x ≡ get_or xs i x → Puts r s (flat_map f (take i xs)) → Puts s t (f x) → Puts r t (flat_map f (take (i + 1) xs))
+Puts-more {r = r} {t = t} f xs i x within is so_far next = subst (Puts r t) (flat_map-more f xs i x within is) (Puts-then so_far next)
+
+-- what was appended to nothing is all
+pub Puts-whole : {r s text : List ℕ} → r ≡ [] → Puts r s text → s ≡ text
+Puts-whole {text = text} none puts = puts.items ∙ ap (λ l. l ++ text) none

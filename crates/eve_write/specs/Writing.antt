@@ -20,6 +20,10 @@ abbrev pub Writes : {S A E : Type 0} → (S → Option (List ℕ)) → (S → �
 Writes written failures old new (Ok _) text = Wrote written failures old new text
 Writes written failures old new (Err _) text = Stopped written failures old new text
 
+-- a text was appended to the bytes of a frame
+pub record Puts (old new text : List ℕ) : Type 0 where
+  pub items : new ≡ old ++ text
+
 -- texts one after the other
 abbrev pub joined : List (Bor (List ℕ)) → List ℕ
 joined [] = []

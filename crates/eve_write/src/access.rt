@@ -1,19 +1,22 @@
 //! Accesses and their frames.
 
-ghost use Rattle.std.specs.Prelude.{◌≡◌, ◌∷◌, ◌++◌, true, length};
+ghost use Rattle.std.specs.Prelude.{◌≡◌, ◌+◌, ◌≤◌, ◌∷◌, ◌++◌, true, length};
 ghost use Rattle.std.specs.List.{list_all};
+ghost use Rattle.arrayvec.specs.ArrayVec.{array_vec_len};
 ghost use Rattle.byteorder.specs.Endian.{big_bytes};
 ghost use Rattle.eve_grammar.specs.Frames.{OfAccess};
 ghost use Rattle.eve_grammar.specs.Spelling.{body_text, frame_text};
 ghost use Rattle.eve_grammar.specs.Limits.{row_count, is_entry, is_access};
 ghost use Rattle.eve_grammar.specs.Bodies.{limits};
 ghost use Rattle.eve_write.specs.Data.{access as plain};
-ghost use Rattle.eve_write.specs.Writing.{Writes};
+ghost use Rattle.eve_write.specs.Writing.{Puts, Writes};
 
-use crate::fields::{byte, write_entries};
+use crate::fields::{byte, put_entries};
 use crate::judge::Judge;
 use crate::measure::Measure;
-use crate::spell::{Spell, send_texts};
+use crate::pieces::{put, send};
+use crate::spell::Spell;
+use arrayvec::ArrayVec;
 use eve_grammar::Head;
 use eve_smallbank::{Entry, UpToThree};
 use eve_streams::{SendFault, Sink};
@@ -31,6 +34,9 @@ pub struct AccessData {
     pub entries: UpToThree<Entry>,
 }
 
+// How many bytes an Access frame has at most.
+const LONGEST_ACCESS: usize = 11 + 3 * 29;
+
 impl AccessData {
     // How long the body of its frame is.
     pub(crate) fn body_len(&self) -> u32
@@ -39,19 +45,21 @@ impl AccessData {
         6 + 29 * self.entries.len() as u32
     }
 
-    // Writes what stands before the entries.
-    fn write_front<W: Sink>(&self, out: &mut W) -> Result<(), SendFault>
-        ensures { Writes W.written W.failures out.old out.new result
+    // Appends what stands before the entries.
+    fn put_front<const N: usize>(&self, frame: &mut ArrayVec<u8, N>)
+        requires { array_vec_len frame.old + 11 ≤ N }
+        ensures puts { Puts frame.old.items frame.new.items
             (18 ∷ (big_bytes 4 (length (body_text (OfAccess (plain self.now))))
             ++ (big_bytes 1 self.now.worker ++ (big_bytes 2 self.now.place
             ++ (big_bytes 2 self.now.index ++ big_bytes 1 (length self.now.entries)))))) }
+        ensures len { array_vec_len frame.new ≡ array_vec_len frame.old + 11 }
     {
-        let body_len = self.body_len().to_be_bytes();
-        let worker = byte(self.worker);
-        let place = self.place.to_be_bytes();
-        let index = self.index.to_be_bytes();
-        let count = byte(self.entries.len() as u8);
-        send_texts(out, &[&[18], &body_len, &worker, &place, &index, &count])
+        put(frame, &byte(18));
+        put(frame, &self.body_len().to_be_bytes());
+        put(frame, &byte(self.worker));
+        put(frame, &self.place.to_be_bytes());
+        put(frame, &self.index.to_be_bytes());
+        put(frame, &byte(self.entries.len() as u8));
     }
 }
 
@@ -61,8 +69,11 @@ impl AccessData {
 pub fn write_access<W: Sink>(out: &mut W, access: &AccessData) -> Result<(), SendFault>
     ensures { Writes W.written W.failures out.old out.new result (frame_text (OfAccess (plain access.now))) }
 {
-    access.write_front(out)?;
-    write_entries(out, &access.entries)
+    let mut frame = ArrayVec::<u8, LONGEST_ACCESS>::new();
+    prove!(access.entries.len() <= 3);
+    access.put_front(&mut frame);
+    put_entries(&mut frame, &access.entries);
+    send(out, frame.as_slice())
 }
 
 impl Spell for AccessData {

@@ -1,7 +1,8 @@
 //! Attempts and their frames.
 
-ghost use Rattle.std.specs.Prelude.{◌≡◌, ◌-◌, ◌^◌, ◌==◌, ◌&&◌, ◌∷◌, ◌++◌, if◌then◌else◌, min, IsTrue, length};
+ghost use Rattle.std.specs.Prelude.{◌≡◌, ◌+◌, ◌-◌, ◌≤◌, ◌^◌, ◌==◌, ◌&&◌, ◌*◌, ◌∷◌, ◌++◌, if◌then◌else◌, min, IsTrue, length};
 ghost use Rattle.std.specs.List.{flat_map, list_all};
+ghost use Rattle.arrayvec.specs.ArrayVec.{array_vec_len};
 ghost use Rattle.byteorder.specs.Endian.{big_bytes};
 ghost use Rattle.eve_smallbank.specs.Spelling.{reply_text};
 ghost use Rattle.eve_grammar.specs.Frames.{attempt_frames, OfAttempt};
@@ -9,13 +10,15 @@ ghost use Rattle.eve_grammar.specs.Spelling.{frames_text, body_text, frame_text}
 ghost use Rattle.eve_grammar.specs.Limits.{row_count, is_access, is_whole_attempt, is_attempt};
 ghost use Rattle.eve_grammar.specs.Bodies.{limits};
 ghost use Rattle.eve_write.specs.Data.{attempt as plain};
-ghost use Rattle.eve_write.specs.Writing.{Writes};
+ghost use Rattle.eve_write.specs.Writing.{Puts, Writes};
 
 use crate::access::AccessData;
-use crate::fields::{byte, indices_fit, token_fits};
+use crate::fields::{byte, indices_fit, put_indices, put_replies, token_fits};
 use crate::judge::{Judge, all_right};
 use crate::measure::len_of_each;
-use crate::spell::{send_texts, write_each};
+use crate::pieces::{put, send};
+use crate::spell::write_each;
+use arrayvec::ArrayVec;
 use eve_grammar::Head;
 use eve_smallbank::Reply;
 use eve_streams::{SendFault, Sink};
@@ -54,32 +57,41 @@ impl AttemptData {
         43 + 11 * self.certificate.len() as u32
     }
 
-    // Writes what stands before the certificate.
-    fn write_front<W: Sink>(&self, out: &mut W) -> Result<(), SendFault>
-        requires { IsTrue (is_attempt (plain self.now)) }
-        ensures { Writes W.written W.failures out.old out.new result
+    // Appends what stands before the certificate.
+    fn put_front<const N: usize>(&self, frame: &mut ArrayVec<u8, N>)
+        requires right { IsTrue (is_attempt (plain self.now)) }
+        requires room { array_vec_len frame.old + 16 ≤ N }
+        ensures puts { Puts frame.old.items frame.new.items
             (17 ∷ (big_bytes 4 (length (body_text (OfAttempt (plain self.now))))
             ++ (big_bytes 4 self.now.seq ++ (big_bytes 4 self.now.view
             ++ (big_bytes 1 (if self.now.serial then 1 else 0)
             ++ big_bytes 2 (length self.now.certificate.items)))))) }
+        ensures len { array_vec_len frame.new ≡ array_vec_len frame.old + 16 }
     {
-        let body_len = self.body_len().to_be_bytes();
-        let seq = self.seq.to_be_bytes();
-        let view = self.view.to_be_bytes();
-        let mode = mode_byte(self.serial);
-        let count = (self.certificate.len() as u16).to_be_bytes();
-        send_texts(out, &[&[17], &body_len, &seq, &view, &mode, &count])
+        put(frame, &byte(17));
+        put(frame, &self.body_len().to_be_bytes());
+        put(frame, &self.seq.to_be_bytes());
+        put(frame, &self.view.to_be_bytes());
+        put(frame, &mode_byte(self.serial));
+        put(frame, &(self.certificate.len() as u16).to_be_bytes());
+    }
+
+    // Appends the certificate, the replies and the token.
+    fn put_results<const N: usize>(&self, frame: &mut ArrayVec<u8, N>)
+        requires right { IsTrue (is_attempt (plain self.now)) }
+        requires room { array_vec_len frame.old + 32 + 11 * length self.now.certificate.items ≤ N }
+        ensures { Puts frame.old.items frame.new.items
+            (flat_map (big_bytes 2) self.now.certificate.items
+            ++ (flat_map reply_text self.now.replies.items ++ self.now.token)) }
+    {
+        put_indices(frame, self.certificate.as_slice());
+        put_replies(frame, self.replies.as_slice());
+        put(frame, &self.token);
     }
 }
 
-// Writes replies, and a token behind them.
-fn write_results<W: Sink>(out: &mut W, replies: &[Reply], token: &[u8]) -> Result<(), SendFault>
-    ensures { Writes W.written W.failures out.old out.new result
-        (flat_map reply_text replies.now ++ token.now) }
-{
-    write_each(out, replies)?;
-    send_texts(out, &[token])
-}
+// How many bytes an Attempt frame has at most.
+const LONGEST_ATTEMPT: usize = 48 + 11 * 256;
 
 /// Writes an Attempt frame, without the frames of its accesses.
 ///
@@ -88,9 +100,10 @@ pub fn write_attempt<W: Sink>(out: &mut W, attempt: &AttemptData) -> Result<(), 
     requires { IsTrue (is_attempt (plain attempt.now)) }
     ensures { Writes W.written W.failures out.old out.new result (frame_text (OfAttempt (plain attempt.now))) }
 {
-    attempt.write_front(out)?;
-    write_each(out, attempt.certificate.as_slice())?;
-    write_results(out, attempt.replies.as_slice(), &attempt.token)
+    let mut frame = ArrayVec::<u8, LONGEST_ATTEMPT>::new();
+    attempt.put_front(&mut frame);
+    attempt.put_results(&mut frame);
+    send(out, frame.as_slice())
 }
 
 impl AttemptData {

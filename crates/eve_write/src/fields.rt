@@ -2,17 +2,20 @@
 //!
 //! docs/TRACE.md, "Parts".
 
-ghost use Rattle.std.specs.Prelude.{◌≡◌, ◌≤◌, ◌∷◌, ◌++◌, true, length, IsTrue};
+ghost use Rattle.std.specs.Prelude.{◌≡◌, ◌+◌, ◌*◌, ◌≤◌, ◌∷◌, ◌++◌, true, length, IsTrue};
 ghost use Rattle.std.specs.List.{flat_map, list_all};
+ghost use Rattle.arrayvec.specs.ArrayVec.{array_vec_len};
 ghost use Rattle.byteorder.specs.Endian.{big_bytes};
 ghost use Rattle.eve_smallbank.specs.Spelling.{money_text, reply_text};
 ghost use Rattle.eve_smallbank.specs.SmallBank.{plain};
 ghost use Rattle.eve_grammar.specs.Spelling.{name_text, request_text, kind_code, entry_text, restore_text};
 ghost use Rattle.eve_grammar.specs.Limits.{is_number, is_token, is_request};
 ghost use Rattle.eve_grammar.specs.Bodies.{restore};
-ghost use Rattle.eve_write.specs.Writing.{Writes};
+ghost use Rattle.eve_write.specs.Writing.{Puts, Writes};
 
+use crate::pieces::put;
 use crate::spell::{Spell, send_texts};
+use arrayvec::ArrayVec;
 use eve_accounts::{Amount, Cents, Row};
 use eve_grammar::Restore;
 use eve_smallbank::{Abort, Entry, Kind, Reply, Request, UpToThree};
@@ -99,37 +102,57 @@ impl Spell for u16 {
     }
 }
 
-impl Spell for Reply {
-    ghost text = { reply_text };
-
-    ghost fits = { λ _. true };
-
-    fn write<W: Sink>(&self, out: &mut W) -> Result<(), SendFault> {
-        let (code, value) = match *self {
-            Reply::Done => (0, 0),
-            Reply::Total(total) => (1, total),
-            Reply::Aborted(Abort::NoSuchName) => (2, 0),
-            Reply::Aborted(Abort::BadAmount) => (3, 0),
-            Reply::Aborted(Abort::Insufficient) => (4, 0),
-            Reply::Aborted(Abort::OutOfRange) => (5, 0),
-        };
-        send_texts(out, &[&[code], &value.to_be_bytes()])
+/// Appends indices one after the other.
+pub(crate) fn put_indices<const N: usize>(frame: &mut ArrayVec<u8, N>, indices: &[u16])
+    requires { array_vec_len frame.old + 2 * length indices.now ≤ N }
+    ensures puts { Puts frame.old.items frame.new.items (flat_map (big_bytes 2) indices.now) }
+    ensures len { array_vec_len frame.new ≡ array_vec_len frame.old + 2 * length indices.now }
+{
+    for index in indices {
+        put(frame, &index.to_be_bytes());
     }
 }
 
-impl Spell for Entry {
-    ghost text = { entry_text };
+/// Appends a reply.
+pub(crate) fn put_reply<const N: usize>(frame: &mut ArrayVec<u8, N>, reply: Reply)
+    requires { array_vec_len frame.old + 9 ≤ N }
+    ensures puts { Puts frame.old.items frame.new.items (reply_text reply) }
+    ensures len { array_vec_len frame.new ≡ array_vec_len frame.old + 9 }
+{
+    let (code, value) = match reply {
+        Reply::Done => (0, 0),
+        Reply::Total(total) => (1, total),
+        Reply::Aborted(Abort::NoSuchName) => (2, 0),
+        Reply::Aborted(Abort::BadAmount) => (3, 0),
+        Reply::Aborted(Abort::Insufficient) => (4, 0),
+        Reply::Aborted(Abort::OutOfRange) => (5, 0),
+    };
+    put(frame, &[code]);
+    put(frame, &value.to_be_bytes());
+}
 
-    ghost fits = { λ _. true };
-
-    fn write<W: Sink>(&self, out: &mut W) -> Result<(), SendFault> {
-        let row = row_bytes(self.row);
-        let kind = kind_byte(self.kind);
-        let version = self.version.to_be_bytes();
-        let seen = cents_bytes(self.seen);
-        let after = cents_bytes(self.after);
-        send_texts(out, &[&row, &kind, &version, &seen, &after])
+/// Appends replies one after the other.
+pub(crate) fn put_replies<const N: usize>(frame: &mut ArrayVec<u8, N>, replies: &[Reply])
+    requires { array_vec_len frame.old + 9 * length replies.now ≤ N }
+    ensures puts { Puts frame.old.items frame.new.items (flat_map reply_text replies.now) }
+    ensures len { array_vec_len frame.new ≡ array_vec_len frame.old + 9 * length replies.now }
+{
+    for reply in replies {
+        put_reply(frame, *reply);
     }
+}
+
+/// Appends an entry.
+fn put_entry<const N: usize>(frame: &mut ArrayVec<u8, N>, entry: Entry)
+    requires { array_vec_len frame.old + 29 ≤ N }
+    ensures puts { Puts frame.old.items frame.new.items (entry_text entry) }
+    ensures len { array_vec_len frame.new ≡ array_vec_len frame.old + 29 }
+{
+    put(frame, &row_bytes(entry.row));
+    put(frame, &kind_byte(entry.kind));
+    put(frame, &entry.version.to_be_bytes());
+    put(frame, &cents_bytes(entry.seen));
+    put(frame, &cents_bytes(entry.after));
 }
 
 impl Spell for Restore {
@@ -145,47 +168,63 @@ impl Spell for Restore {
     }
 }
 
-/// Writes entries one after the other.
-pub(crate) fn write_entries<W: Sink>(
-    out: &mut W,
-    entries: &UpToThree<Entry>,
-) -> Result<(), SendFault>
-    ensures { Writes W.written W.failures out.old out.new result (flat_map entry_text entries.now) }
+/// Appends entries one after the other.
+pub(crate) fn put_entries<const N: usize>(frame: &mut ArrayVec<u8, N>, entries: &UpToThree<Entry>)
+    requires { array_vec_len frame.old + 29 * length entries.now ≤ N }
+    ensures { Puts frame.old.items frame.new.items (flat_map entry_text entries.now) }
 {
     for i in 0..entries.len() {
-        let entry = entries.at(i);
-        entry.write(out)?;
+        put_entry(frame, entries.at(i));
     }
-    Ok(())
 }
 
-fn send_move<W: Sink>(out: &mut W, code: u8, name: &[u8], amount: Amount) -> Result<(), SendFault>
-    requires { length name.now ≤ 24 }
-    ensures { Writes W.written W.failures out.old out.new result
-        (code ∷ (name_text name.now ++ money_text amount)) }
+// Appends a name behind its length.
+fn put_name<const N: usize>(frame: &mut ArrayVec<u8, N>, name: &[u8])
+    requires short { length name.now ≤ 24 }
+    requires room { array_vec_len frame.old + 1 + length name.now ≤ N }
+    ensures puts { Puts frame.old.items frame.new.items (name_text name.now) }
+    ensures len { array_vec_len frame.new ≡ array_vec_len frame.old + 1 + length name.now }
 {
-    let len = name_len(name);
-    let amount = amount_bytes(amount);
-    send_texts(out, &[&[code, len], name, &amount])
+    put(frame, &byte(name_len(name)));
+    put(frame, name);
 }
 
-/// Writes a request behind its client and number.
-pub(crate) fn send_request<W: Sink>(out: &mut W, request: Request<'_>) -> Result<(), SendFault>
-    requires { IsTrue (is_request (plain request)) }
-    ensures { Writes W.written W.failures out.old out.new result (request_text (plain request.entry)) }
+// Appends a code, a name and an amount.
+fn put_move<const N: usize>(frame: &mut ArrayVec<u8, N>, code: u8, name: &[u8], amount: Amount)
+    requires short { length name.now ≤ 24 }
+    requires room { array_vec_len frame.old + 34 ≤ N }
+    ensures { Puts frame.old.items frame.new.items (code ∷ (name_text name.now ++ money_text amount)) }
+{
+    put(frame, &byte(code));
+    put_name(frame, name);
+    put(frame, &amount_bytes(amount));
+}
+
+// Appends a code and two names.
+fn put_pair<const N: usize>(frame: &mut ArrayVec<u8, N>, code: u8, from: &[u8], to: &[u8])
+    requires short { (length from.now ≤ 24) × (length to.now ≤ 24) }
+    requires room { array_vec_len frame.old + 51 ≤ N }
+    ensures { Puts frame.old.items frame.new.items (code ∷ (name_text from.now ++ name_text to.now)) }
+{
+    put(frame, &byte(code));
+    put_name(frame, from);
+    put_name(frame, to);
+}
+
+/// Appends a request behind its client and number, of at most 51 bytes.
+pub(crate) fn put_request<const N: usize>(frame: &mut ArrayVec<u8, N>, request: Request<'_>)
+    requires right { IsTrue (is_request (plain request)) }
+    requires room { array_vec_len frame.old + 51 ≤ N }
+    ensures { Puts frame.old.items frame.new.items (request_text (plain request.entry)) }
 {
     match request {
         Request::Balance(name) => {
-            let len = name_len(name);
-            send_texts(out, &[&[1, len], name])
+            put(frame, &byte(1));
+            put_name(frame, name);
         }
-        Request::DepositChecking(name, amount) => send_move(out, 2, name, amount),
-        Request::TransactSaving(name, amount) => send_move(out, 3, name, amount),
-        Request::Amalgamate(from, to) => {
-            let from_len = name_len(from);
-            let to_len = name_len(to);
-            send_texts(out, &[&[4, from_len], from, &[to_len], to])
-        }
-        Request::WriteCheck(name, amount) => send_move(out, 5, name, amount),
+        Request::DepositChecking(name, amount) => put_move(frame, 2, name, amount),
+        Request::TransactSaving(name, amount) => put_move(frame, 3, name, amount),
+        Request::Amalgamate(from, to) => put_pair(frame, 4, from, to),
+        Request::WriteCheck(name, amount) => put_move(frame, 5, name, amount),
     }
 }

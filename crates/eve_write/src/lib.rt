@@ -14,6 +14,7 @@ pub mod laws;
 mod marks;
 mod measure;
 mod parts;
+mod pieces;
 mod request;
 mod rollback;
 mod sections;
@@ -36,6 +37,3 @@ pub use rollback::{RollbackData, write_rollback};
 pub use sent::{SentData, write_sent};
 pub use step::Step;
 pub use vote::{ChoiceData, VoteData, write_vote};
-
-#[cfg(test)]
-mod tests;

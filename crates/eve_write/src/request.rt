@@ -7,9 +7,11 @@ ghost use Rattle.eve_grammar.specs.Spelling.{asked_text};
 ghost use Rattle.eve_grammar.specs.Limits.{is_asked};
 ghost use Rattle.eve_write.specs.Data.{transaction, asked};
 
-use crate::fields::send_request;
+use crate::fields::put_request;
 use crate::judge::Judge;
-use crate::spell::{Spell, send_texts};
+use crate::pieces::{put, send};
+use crate::spell::Spell;
+use arrayvec::ArrayVec;
 use eve_accounts::{Amount, is_name};
 use eve_grammar::Head;
 use eve_smallbank::Request;
@@ -66,16 +68,20 @@ impl RequestData {
     }
 }
 
+// How many bytes a request has at most, its client and number included.
+const LONGEST_REQUEST: usize = 12 + 51;
+
 impl Spell for RequestData {
     ghost text = { λ r. asked_text (asked r) };
 
     ghost fits = { λ r. is_asked (asked r) };
 
     fn write<W: Sink>(&self, out: &mut W) -> Result<(), SendFault> {
-        let client = self.client.to_be_bytes();
-        let number = self.number.to_be_bytes();
-        send_texts(out, &[&client, &number])?;
-        send_request(out, self.request())
+        let mut frame = ArrayVec::<u8, LONGEST_REQUEST>::new();
+        put(&mut frame, &self.client.to_be_bytes());
+        put(&mut frame, &self.number.to_be_bytes());
+        put_request(&mut frame, self.request());
+        send(out, frame.as_slice())
     }
 }
 

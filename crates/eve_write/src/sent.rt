@@ -1,17 +1,18 @@
 //! Replies sent and their frames.
 
-ghost use Rattle.std.specs.Prelude.{◌∷◌, ◌++◌, true, length};
-ghost use Rattle.byteorder.specs.Endian.{big_bytes};
+ghost use Rattle.std.specs.Prelude.{true, length};
 ghost use Rattle.eve_grammar.specs.Frames.{OfSent};
-ghost use Rattle.eve_grammar.specs.Spelling.{body_text, frame_text};
+ghost use Rattle.eve_grammar.specs.Spelling.{frame_text};
 ghost use Rattle.eve_grammar.specs.Limits.{is_sent};
 ghost use Rattle.eve_write.specs.Data.{sent as plain};
 ghost use Rattle.eve_write.specs.Writing.{Writes};
 
-use crate::fields::byte;
+use crate::fields::{byte, put_reply};
 use crate::judge::Judge;
 use crate::measure::Measure;
-use crate::spell::{Spell, send_texts};
+use crate::pieces::{put, send};
+use crate::spell::Spell;
+use arrayvec::ArrayVec;
 use eve_grammar::Head;
 use eve_smallbank::Reply;
 use eve_streams::{SendFault, Sink};
@@ -31,20 +32,8 @@ pub struct SentData {
     pub reply: Reply,
 }
 
-impl SentData {
-    // Writes what stands before the reply.
-    fn write_front<W: Sink>(&self, out: &mut W) -> Result<(), SendFault>
-        ensures { Writes W.written W.failures out.old out.new result
-            (48 ∷ (big_bytes 4 (length (body_text (OfSent (plain self.now)))) ++ (big_bytes 4 self.now.client ++ (big_bytes 8 self.now.number
-            ++ (big_bytes 1 self.now.replica ++ big_bytes 4 self.now.seq))))) }
-    {
-        let client = self.client.to_be_bytes();
-        let number = self.number.to_be_bytes();
-        let replica = byte(self.replica);
-        let seq = self.seq.to_be_bytes();
-        send_texts(out, &[&[48, 0, 0, 0, 26], &client, &number, &replica, &seq])
-    }
-}
+// How many bytes a Sent frame has.
+const LEN_OF_SENT: usize = 31;
 
 /// Writes a Sent frame.
 ///
@@ -52,8 +41,14 @@ impl SentData {
 pub fn write_sent<W: Sink>(out: &mut W, sent: &SentData) -> Result<(), SendFault>
     ensures { Writes W.written W.failures out.old out.new result (frame_text (OfSent (plain sent.now))) }
 {
-    sent.write_front(out)?;
-    sent.reply.write(out)
+    let mut frame = ArrayVec::<u8, LEN_OF_SENT>::new();
+    put(&mut frame, &[48, 0, 0, 0, 26]);
+    put(&mut frame, &sent.client.to_be_bytes());
+    put(&mut frame, &sent.number.to_be_bytes());
+    put(&mut frame, &byte(sent.replica));
+    put(&mut frame, &sent.seq.to_be_bytes());
+    put_reply(&mut frame, sent.reply);
+    send(out, frame.as_slice())
 }
 
 impl Spell for SentData {
@@ -72,7 +67,7 @@ impl Measure for SentData {
     ghost sound = { λ _. true };
 
     fn text_len(&self) -> u64 {
-        31
+        LEN_OF_SENT as u64
     }
 }
 

@@ -1,7 +1,8 @@
-use Rattle.std.proofs.Common.{◌^◌, inl, inr, lit≤}
-use Rattle.std.proofs.lemmas.Result.{IfOk-weaker, on_err_weaker}
+use Rattle.std.proofs.Common.{◌^◌, lit≤}
+use Rattle.std.proofs.lemmas.Result.{IfErr-weaker, IfOk-weaker}
 use Rattle.eve_tool.specs.Audit.{Audits}
-use Rattle.eve_tool.proofs.Cutting.{Audits-cut, WritesAllOf-cut, WritesFrontOf-cut}
+use Rattle.eve_tool.proofs.Cutting.{Audits-cut, WritesAllOf-cut, WritesFrontOf-cut, audit_left, random_left}
+use Rattle.eve_tool.proofs.Leaving.{at_err}
 use Rattle.eve_tool.proofs.audit.audit.Goals as goal
 
 pub returns-clause-all : goal.returns-clause-all
@@ -12,13 +13,17 @@ returns-clause-all g c =
     IfOk-weaker c.audit_bytes.result _ _ (λ status all. WritesAllOf-cut Audits (2 ^ 30) known _ _ old new status (λ bytes text s. Audits-cut (2 ^ 30) bytes text s (lit≤ tt)) c.as_slice.ensures.value c.in_ok-bytes.ensures.bytes all)
     c.audit_bytes.ensures.all
 
-pub returns-clause-front : goal.returns-clause-front
-returns-clause-front g c =
+pub returns-clause-left : goal.returns-clause-left
+returns-clause-left g c =
     let known = g.I.Source.remaining c.args.input.now in
     let old = g.O.Sink.written c.args.out.now in
     let new = g.O.Sink.written c.audit_bytes.new.out in
-    on_err_weaker c.audit_bytes.result (λ stopped. elim stopped [
-      | inl same ↦ inl same
-      | inr front ↦ inr (WritesFrontOf-cut Audits (2 ^ 30) known _ _ old new (λ bytes text s. Audits-cut (2 ^ 30) bytes text s (lit≤ tt)) c.as_slice.ensures.value c.in_ok-bytes.ensures.bytes front)
-    ])
-    c.audit_bytes.ensures.front
+    IfErr-weaker c.audit_bytes.result _ _ (λ why. audit_left g.O.Sink.written g.O.Sink.failures known _ c.as_slice.result.now c.args.out.now c.audit_bytes.new.out why
+    (λ front. WritesFrontOf-cut Audits (2 ^ 30) known _ _ old new (λ bytes text s. Audits-cut (2 ^ 30) bytes text s (lit≤ tt)) c.as_slice.ensures.value c.in_ok-bytes.ensures.bytes front))
+    c.audit_bytes.ensures.left
+
+pub returns-in_err-random-clause-left : goal.returns-in_err-random-clause-left
+returns-in_err-random-clause-left g c =
+    let why = c.in_err-random.field-0.0 in
+    at_err c.from_residual-in_err-random.result _ why c.from_residual-in_err-random.ensures.1
+    (random_left g.O.Sink.written g.O.Sink.failures (g.I.Source.remaining c.args.input.now) _ c.args.out.now why c.in_err-random.ensures)

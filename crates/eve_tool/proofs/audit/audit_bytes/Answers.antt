@@ -1,14 +1,14 @@
-use Rattle.std.proofs.Common.{inr, refl}
-use Rattle.std.proofs.lemmas.Result.{on_err_weaker}
+use Rattle.std.proofs.Common.{refl}
+use Rattle.std.proofs.lemmas.Result.{IfErr-weaker}
 use Rattle.eve_tool.specs.Lines.{status_of_verdict, verdict_line}
+use Rattle.eve_tool.specs.Words.{Audit}
+use Rattle.eve_tool.proofs.Leaving.{sent_left}
 use Rattle.eve_tool.proofs.audit.audit_bytes.Goals as goal
 
-pub returns-clause-front : goal.returns-clause-front
-returns-clause-front g c =
+pub returns-clause-left : goal.returns-clause-left
+returns-clause-left g c =
     let verdict = c.in_ok-verdict.verdict in
-    on_err_weaker c.send_verdict.result (λ front. inr (record {
-      text = verdict_line verdict;
-      status = status_of_verdict verdict;
-      said = record { verdict = verdict; is = c.in_ok-verdict.ensures.verdict; yes = c.in_ok-verdict.ensures.yes; line = refl; ends = refl };
-      written = front;
-    })) c.send_verdict.ensures.front
+    IfErr-weaker c.send_verdict.result _ _
+    (sent_left g.O.Sink.written g.O.Sink.failures Audit c.args.bytes.now (verdict_line verdict) (status_of_verdict verdict) c.args.out.now c.send_verdict.new.out
+    (record { verdict = verdict; is = c.in_ok-verdict.ensures.verdict; yes = c.in_ok-verdict.ensures.yes; line = refl; ends = refl }))
+    c.send_verdict.ensures.stopped

@@ -1,35 +1,43 @@
 use Rattle.std.proofs.Common.{◌≡◌, ◌<◌, ◌≤◌, ◌+◌, ◌++◌, ◌∙◌, ap, refl, length, arith}
 use Rattle.std.specs.String.{string_bytes}
 use Rattle.std.proofs.lemmas.Result.{on_err_weaker, on_ok_weaker}
-use Rattle.eve_tool.proofs.SentLines.{AppendsFront-none, OnErr-holds, all_is_sent, front_of_held, front_so_far, header_is_held, held_is_sent, next_is_held, trace_lines-some}
+use Rattle.eve_tool.proofs.SentLines.{AppendsFront-none, all_is_sent, front_of_held, front_so_far, header_is_held, held_is_sent, next_is_held, trace_lines-some}
 use Rattle.eve_tool.specs.Show.{header_line}
+use Rattle.eve_tool.specs.declared.fault.ToolFault.TheVariants.{Memory}
+use Rattle.eve_tool.proofs.Leaving.{at_err, last_part_left, part_left}
 use Rattle.eve_tool.proofs.show.send_frames.Goals.{then-len+in_ok-send_text, else-len}
 use Rattle.eve_tool.proofs.show.send_frames.Goals as goal
 
-pub returns-in_err-text-clause-front : goal.returns-in_err-text-clause-front
-returns-in_err-text-clause-front g c =
-    OnErr-holds c.from_residual.result (AppendsFront-none (g.O.Sink.written c.args.out.now) _ (trace_lines-some c.args.trace.now.frames))
+pub returns-in_err-text-clause-stopped : goal.returns-in_err-text-clause-stopped
+returns-in_err-text-clause-stopped g c =
+    at_err c.from_residual.result _ Memory c.from_residual.ensures.1
+    (AppendsFront-none (g.O.Sink.written c.args.out.now) _ (trace_lines-some c.args.trace.now.frames))
 
-pub returns-in_err-push_frame_line-clause-front : goal.returns-in_err-push_frame_line-clause-front
-returns-in_err-push_frame_line-clause-front g c =
-    OnErr-holds c.from_residual-in_err-push_frame_line.result (AppendsFront-none (g.O.Sink.written c.args.out.now) _ (trace_lines-some c.args.trace.now.frames))
+pub returns-in_err-push_frame_line-clause-stopped : goal.returns-in_err-push_frame_line-clause-stopped
+returns-in_err-push_frame_line-clause-stopped g c =
+    at_err c.from_residual-in_err-push_frame_line.result _ Memory c.from_residual-in_err-push_frame_line.ensures.1
+    (AppendsFront-none (g.O.Sink.written c.args.out.now) _ (trace_lines-some c.args.trace.now.frames))
 
 pub frames-init : goal.frames-init
 frames-init g c =
     let held : string_bytes c.push_frame_line.new.text ≡ header_line = c.in_ok-push_frame_line.ensures ∙ ap (λ l. l ++ header_line) c.in_ok-text.ensures.bytes in
     (header_is_held _ _ c.args.trace.now.frames held, refl)
 
-pub returns-in_err-push_frame-clause-front : goal.returns-in_err-push_frame-clause-front
-returns-in_err-push_frame-clause-front g c =
+pub returns-in_err-push_frame-clause-stopped : goal.returns-in_err-push_frame-clause-stopped
+returns-in_err-push_frame-clause-stopped g c =
     let within : c.frames.i < length c.args.trace.now.frames = omega arith in
-    OnErr-holds c.from_residual-in_err-push_frame.result (front_so_far _ _ _ c.args.trace.now.frames c.frames.i within c.frames.invariant.0)
+    at_err c.from_residual-in_err-push_frame.result _ Memory c.from_residual-in_err-push_frame.ensures.1
+    (front_so_far _ _ _ c.args.trace.now.frames c.frames.i within c.frames.invariant.0)
 
-pub returns-in_err-send_text-clause-front : goal.returns-in_err-send_text-clause-front
-returns-in_err-send_text-clause-front g c =
+pub returns-in_err-send_text-clause-stopped : goal.returns-in_err-send_text-clause-stopped
+returns-in_err-send_text-clause-stopped g c =
     let frames = c.args.trace.now.frames in
     let within : c.frames.i < length frames = omega arith in
     let far = next_is_held _ _ _ (string_bytes c.push_frame.new.text) frames c.frames.i within c.in_ok-push_frame.ensures c.frames.invariant.0 in
-    OnErr-holds c.from_residual-in_err-send_text.result (front_of_held _ _ _ _ frames (c.frames.i + 1) far c.in_err-send_text.ensures.front)
+    let why = c.in_err-send_text.field-0.0 in
+    at_err c.from_residual-in_err-send_text.result _ why c.from_residual-in_err-send_text.ensures.1
+    (part_left g.O.Sink.written g.O.Sink.failures c.args.out.now c.frames.out c.send_text.new.out _ _ why c.frames.invariant.1
+    (front_of_held _ _ _ _ frames (c.frames.i + 1) far c.in_err-send_text.ensures.front) c.in_err-send_text.ensures.stopped)
 
 pub frames-preserved : goal.frames-preserved
 frames-preserved g c =
@@ -48,6 +56,8 @@ returns-clause-sent g c =
     let past : length frames ≤ c.frames.i = omega arith in
     on_ok_weaker c.send_text-2.result (all_is_sent _ _ _ _ frames c.frames.i past c.frames.invariant.0) c.send_text-2.ensures.sent
 
-pub returns-clause-front : goal.returns-clause-front
-returns-clause-front g c =
-    on_err_weaker c.send_text-2.result (front_of_held _ _ _ _ c.args.trace.now.frames c.frames.i c.frames.invariant.0) c.send_text-2.ensures.front
+pub returns-clause-stopped : goal.returns-clause-stopped
+returns-clause-stopped g c =
+    last_part_left g.O.Sink.written g.O.Sink.failures c.args.out.now c.frames.out c.send_text-2.new.out _ _ c.send_text-2.result c.frames.invariant.1
+    (on_err_weaker c.send_text-2.result (front_of_held _ _ _ _ c.args.trace.now.frames c.frames.i c.frames.invariant.0) c.send_text-2.ensures.front)
+    c.send_text-2.ensures.stopped

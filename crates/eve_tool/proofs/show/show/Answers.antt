@@ -1,7 +1,7 @@
-use Rattle.std.proofs.Common.{◌^◌, inl, inr, lit≤}
-use Rattle.std.proofs.lemmas.Result.{IfOk-weaker, on_err_weaker}
+use Rattle.std.proofs.Common.{◌^◌, lit≤}
+use Rattle.std.proofs.lemmas.Result.{IfErr-weaker, IfOk-weaker}
 use Rattle.eve_tool.specs.Show.{Shows}
-use Rattle.eve_tool.proofs.Cutting.{Shows-cut, WritesAllOf-cut, WritesFrontOf-cut}
+use Rattle.eve_tool.proofs.Cutting.{Shows-cut, WritesAllOf-cut, WritesFrontOf-cut, show_left}
 use Rattle.eve_tool.proofs.show.show.Goals as goal
 
 pub returns-clause-all : goal.returns-clause-all
@@ -12,13 +12,11 @@ returns-clause-all g c =
     IfOk-weaker c.show_bytes.result _ _ (λ status all. WritesAllOf-cut Shows (2 ^ 30) known _ _ old new status (λ bytes text s. Shows-cut (2 ^ 30) bytes text s (lit≤ tt)) c.as_slice.ensures.value c.in_ok-bytes.ensures.bytes all)
     c.show_bytes.ensures.all
 
-pub returns-clause-front : goal.returns-clause-front
-returns-clause-front g c =
+pub returns-clause-left : goal.returns-clause-left
+returns-clause-left g c =
     let known = g.I.Source.remaining c.args.input.now in
     let old = g.O.Sink.written c.args.out.now in
     let new = g.O.Sink.written c.show_bytes.new.out in
-    on_err_weaker c.show_bytes.result (λ stopped. elim stopped [
-      | inl same ↦ inl same
-      | inr front ↦ inr (WritesFrontOf-cut Shows (2 ^ 30) known _ _ old new (λ bytes text s. Shows-cut (2 ^ 30) bytes text s (lit≤ tt)) c.as_slice.ensures.value c.in_ok-bytes.ensures.bytes front)
-    ])
-    c.show_bytes.ensures.front
+    IfErr-weaker c.show_bytes.result _ _ (λ why. show_left g.O.Sink.written g.O.Sink.failures known _ c.as_slice.result.now c.args.out.now c.show_bytes.new.out why
+    (λ front. WritesFrontOf-cut Shows (2 ^ 30) known _ _ old new (λ bytes text s. Shows-cut (2 ^ 30) bytes text s (lit≤ tt)) c.as_slice.ensures.value c.in_ok-bytes.ensures.bytes front))
+    c.show_bytes.ensures.left

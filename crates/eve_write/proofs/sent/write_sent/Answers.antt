@@ -1,11 +1,21 @@
+use Rattle.std.proofs.Common.{◌≡◌, ℕ, ◌∷◌, ◌++◌, length, subst, ap, ◌∙◌, arith}
+use Rattle.byteorder.specs.Endian.{big_bytes}
 use Rattle.eve_smallbank.specs.Spelling.{reply_text}
-use Rattle.eve_write.proofs.Joined.{Stopped-before, Writes-at_err, Writes-then}
+use Rattle.eve_grammar.specs.Frames.{OfSent}
+use Rattle.eve_grammar.specs.Spelling.{body_text}
+use Rattle.eve_write.specs.Data.{sent}
+use Rattle.eve_write.specs.Writing.{Writes}
+use Rattle.eve_write.proofs.Lengths.{length-reply}
+use Rattle.eve_write.proofs.Joined.{Puts-then, Puts-whole, app, led, onto}
 use Rattle.eve_write.proofs.sent.write_sent.Goals as goal
 
-pub returns-in_err-write_front : goal.returns-in_err-write_front
-returns-in_err-write_front g c =
-    Writes-at_err {S = g.row.W.Denot} g.W.Sink.written g.W.Sink.failures _ _ _ c.from_residual.result c.from_residual.ensures.0
-    (Stopped-before {S = g.row.W.Denot} (reply_text c.args.sent.now.reply) c.in_err-write_front.ensures)
-
 pub returns : goal.returns
-returns g c = Writes-then {S = g.row.W.Denot} g.W.Sink.written g.W.Sink.failures _ _ _ _ _ c.write.result c.in_ok-write_front.ensures c.write.ensures
+returns g c =
+    let s = c.args.sent.now in
+    let long : 26 ≡ length (body_text (OfSent (sent s))) = omega (arith, length-reply s.reply) in
+    let fields = app c.to_be_bytes.ensures (app c.to_be_bytes-2.ensures (app c.byte.ensures (onto (reply_text s.reply) c.to_be_bytes-3.ensures))) in
+    let spelled = led 48 (led 0 (led 0 (led 0 (led 26 fields))))
+    ∙ ap (λ (n : ℕ). 48 ∷ (big_bytes 4 n ++ (big_bytes 4 s.client ++ (big_bytes 8 s.number ++ (big_bytes 1 s.replica ++ (big_bytes 4 s.seq ++ reply_text s.reply)))))) long in
+    let frame = Puts-whole c.new-frame.ensures
+    (Puts-then c.put.ensures.puts (Puts-then c.put-2.ensures.puts (Puts-then c.put-3.ensures.puts (Puts-then c.put-4.ensures.puts (Puts-then c.put-5.ensures.puts c.put_reply.ensures.puts))))) in
+    subst (Writes g.W.Sink.written g.W.Sink.failures c.args.out.now c.send.new.out c.send.result) (c.as_slice.ensures.value ∙ frame ∙ spelled) c.send.ensures

@@ -1,0 +1,217 @@
+//! The parts of a trace that was read, copied.
+
+ghost use Rattle.std.specs.Prelude.{◌<◌, length};
+ghost use Rattle.eve_views.specs.Fronts.{whole};
+
+use eve_frames::{AccessView, AttemptView, BatchView, CommitView, RollbackView};
+use eve_grammar::Choice;
+use eve_smallbank::{Request, UpToThree};
+use eve_views::{Accesses, Step as Seen, Trace};
+use eve_write::{
+    AccessData, AttemptData, BatchData, ChoiceData, CommitData, CustomerData, Parts, RequestData,
+    RollbackData, SentData, Step, TransactionData, VoteData,
+};
+use std::alloc::{AllocError, Global};
+
+fn transaction_of(alloc: Global, request: Request<'_>) -> Result<TransactionData, AllocError> {
+    Ok(match request {
+        Request::Balance(name) => TransactionData::Balance(Vec::from_slice(alloc, name)?),
+        Request::DepositChecking(name, amount) => {
+            TransactionData::DepositChecking(Vec::from_slice(alloc, name)?, amount)
+        }
+        Request::TransactSaving(name, amount) => {
+            TransactionData::TransactSaving(Vec::from_slice(alloc, name)?, amount)
+        }
+        Request::Amalgamate(from, to) => {
+            let from = Vec::from_slice(alloc, from)?;
+            TransactionData::Amalgamate(from, Vec::from_slice(alloc, to)?)
+        }
+        Request::WriteCheck(name, amount) => {
+            TransactionData::WriteCheck(Vec::from_slice(alloc, name)?, amount)
+        }
+    })
+}
+
+fn batch_of(alloc: Global, batch: BatchView<'_>) -> Result<BatchData, AllocError> {
+    let mut sizes = Vec::new(alloc);
+    for group in 0..batch.groups() {
+        sizes.push(batch.group(group))?;
+    }
+    let mut requests = Vec::new(alloc);
+    for asked in batch.requests() {
+        let transaction = transaction_of(alloc, asked.request)?;
+        requests.push(RequestData {
+            client: asked.client,
+            number: asked.number,
+            transaction,
+        })?;
+    }
+    Ok(BatchData { sizes, requests })
+}
+
+fn token_of(bytes: &[u8]) -> [u8; 32] {
+    let mut token = [0; 32];
+    if bytes.len() == 32 {
+        token.copy_from_slice(bytes);
+    }
+    token
+}
+
+fn access_of(access: AccessView<'_>) -> AccessData {
+    let entries = match access.len() {
+        0 => UpToThree::new(),
+        1 => UpToThree::one(access.entry(0)),
+        2 => UpToThree::two(access.entry(0), access.entry(1)),
+        _ => UpToThree::three(access.entry(0), access.entry(1), access.entry(2)),
+    };
+    AccessData {
+        worker: access.worker(),
+        place: access.place(),
+        index: access.index(),
+        entries,
+    }
+}
+
+fn attempt_of(
+    alloc: Global,
+    attempt: AttemptView<'_>,
+    seen: &Accesses<'_, '_>,
+) -> Result<AttemptData, AllocError> {
+    let mut certificate = Vec::new(alloc);
+    for index in attempt.certificate() {
+        certificate.push(index)?;
+    }
+    let mut replies = Vec::new(alloc);
+    for reply in attempt.replies() {
+        replies.push(reply)?;
+    }
+    let mut accesses = Vec::new(alloc);
+    for place in 0..seen.len() {
+        accesses.push(access_of(seen.get(place)))?;
+    }
+    Ok(AttemptData {
+        seq: attempt.seq(),
+        view: attempt.view(),
+        serial: attempt.is_serial(),
+        certificate,
+        replies,
+        token: token_of(attempt.token()),
+        accesses,
+    })
+}
+
+fn rollback_of(alloc: Global, rollback: RollbackView<'_>) -> Result<RollbackData, AllocError> {
+    let mut restores = Vec::new(alloc);
+    for restore in rollback.restores() {
+        restores.push(restore)?;
+    }
+    Ok(RollbackData {
+        to: rollback.to(),
+        view: rollback.view(),
+        restores,
+    })
+}
+
+fn commit_of(commit: CommitView<'_>) -> CommitData {
+    CommitData {
+        seq: commit.seq(),
+        view: commit.view(),
+        token: token_of(commit.token()),
+    }
+}
+
+fn section_of(alloc: Global, trace: &Trace<'_>, replica: u8) -> Result<Vec<Step>, AllocError>
+    requires { replica < length (whole trace.now).sections }
+{
+    let mut seen = trace.section(replica);
+    let mut steps = Vec::new(alloc);
+    for _ in 0..trace.frame_count() {
+        match seen.next() {
+            Some(Seen::Attempt(attempt, accesses)) => {
+                steps.push(Step::Attempt(attempt_of(alloc, attempt, &accesses)?))?;
+            }
+            Some(Seen::Commit(commit)) => steps.push(Step::Commit(commit_of(commit)))?,
+            Some(Seen::Rollback(rollback)) => {
+                steps.push(Step::Rollback(rollback_of(alloc, rollback)?))?;
+            }
+            None => break,
+        }
+    }
+    Ok(steps)
+}
+
+fn votes_of(alloc: Global, trace: &Trace<'_>, verifier: u8) -> Result<Vec<VoteData>, AllocError>
+    requires { verifier < length (whole trace.now).verifiers }
+{
+    let seen = trace.votes(verifier);
+    let mut votes = Vec::new(alloc);
+    for place in 0..seen.len() {
+        let vote = seen.get(place);
+        let (choice, token) = match vote.choice() {
+            Choice::ForRollback => (ChoiceData::ForRollback, [0; 32]),
+            Choice::ForCommit(token) => (ChoiceData::ForCommit, token_of(token)),
+        };
+        votes.push(VoteData {
+            seq: vote.seq(),
+            view: vote.view(),
+            choice,
+            token,
+        })?;
+    }
+    Ok(votes)
+}
+
+fn customers_of(alloc: Global, trace: &Trace<'_>) -> Result<Vec<CustomerData>, AllocError> {
+    let mut customers = Vec::new(alloc);
+    for place in 0..trace.customer_count() {
+        let customer = trace.customer(place);
+        customers.push(CustomerData {
+            name: Vec::from_slice(alloc, customer.name())?,
+            saving: customer.saving(),
+            checking: customer.checking(),
+        })?;
+    }
+    Ok(customers)
+}
+
+fn sent_of(alloc: Global, trace: &Trace<'_>) -> Result<Vec<SentData>, AllocError> {
+    let mut all = Vec::new(alloc);
+    for place in 0..trace.sent_count() {
+        let sent = trace.sent(place);
+        all.push(SentData {
+            client: sent.client(),
+            number: sent.number(),
+            replica: sent.replica(),
+            seq: sent.seq(),
+            reply: sent.reply(),
+        })?;
+    }
+    Ok(all)
+}
+
+/// All parts of a trace.
+pub(crate) fn parts_of(alloc: Global, trace: &Trace<'_>) -> Result<Parts, AllocError> {
+    let head = trace.head();
+    let mut batches = Vec::new(alloc);
+    for batch in 0..trace.batch_count() {
+        batches.push(batch_of(alloc, trace.batch(batch + 1))?)?;
+    }
+    let mut sections = Vec::new(alloc);
+    for replica in 0..trace.section_count() {
+        sections.push(section_of(alloc, trace, replica)?)?;
+    }
+    let mut verifiers = Vec::new(alloc);
+    for verifier in 0..trace.verifier_count() {
+        verifiers.push(votes_of(alloc, trace, verifier)?)?;
+    }
+    Ok(Parts {
+        quorum: head.quorum,
+        window: head.window,
+        workers: head.workers,
+        customers: customers_of(alloc, trace)?,
+        batches,
+        sections,
+        verifiers,
+        sent: sent_of(alloc, trace)?,
+    })
+}

@@ -1,0 +1,108 @@
+//! Reads worked traces, and writes them again from parts of their own. A line of the input names the file of a trace;
+//! it is printed again, with the number of bytes and what came of the copy: whether `gather` writes the same bytes,
+//! refuses a limit one byte lower and parts that have no spelling, and stops where the sink fails at each byte.
+#![tactic(auto)]
+
+mod copy;
+
+use copy::parts_of;
+use eve_streams::failing::FailsAt;
+use eve_streams::one_byte::OneByte;
+use eve_streams::{Buffered, SinkOf};
+use eve_views::Trace;
+use eve_write::{ChoiceData, GatherFault, Parts, VoteData, gather};
+use std::alloc::Global;
+use std::io::{ErrorKind, Write};
+use std::{fs, io};
+
+// How many bytes a trace has at most.
+const LONGEST: u64 = 1 << 30;
+
+/// A sink in memory.
+fn memory(alloc: Global) -> SinkOf<Vec<u8>> {
+    SinkOf::new(Vec::new(alloc))
+}
+
+/// Whether the parts are written as these bytes, behind a buffer too, and only within the limit.
+fn is_written(alloc: Global, parts: &Parts, bytes: &[u8]) -> io::Result<bool> {
+    let mut out = memory(alloc);
+    let written = gather(parts, LONGEST, &mut out);
+    let mut buffered = Buffered::new(alloc, memory(alloc))?;
+    let held = gather(parts, LONGEST, &mut buffered);
+    let flushed = buffered.flush();
+    Ok(
+        written == Ok(bytes.len() as u64)
+            && held == written
+            && flushed.is_ok()
+            && out.writer().as_slice() == bytes
+            && buffered.sink().writer().as_slice() == bytes,
+    )
+}
+
+/// Whether the parts are written within this limit, and not within one that is a byte lower.
+fn is_limited(alloc: Global, parts: &Parts, limit: u64) -> bool {
+    let mut out = memory(alloc);
+    let within = gather(parts, limit.min(LONGEST), &mut memory(alloc));
+    let beyond = gather(parts, limit.saturating_sub(1).min(LONGEST), &mut out);
+    within == Ok(limit) && beyond == Err(GatherFault::TooLong) && out.writer().is_empty()
+}
+
+/// Whether a sink that fails at one byte has those before it, and no more.
+fn stops_at_each_byte(alloc: Global, parts: &Parts, bytes: &[u8]) -> bool {
+    for call in 1..=bytes.len() {
+        let mut out = FailsAt::new(OneByte::new(memory(alloc)), call as u64);
+        let stopped = gather(parts, LONGEST, &mut out);
+        let sent = out.stream().stream().writer().as_slice();
+        if stopped != Err(GatherFault::Write)
+            || sent.len() + 1 != call
+            || !bytes.starts_with(sent)
+        {
+            return false;
+        }
+    }
+    true
+}
+
+/// Whether the parts are refused, before a byte is written, once a vote for a rollback has a token.
+fn is_shaped(alloc: Global, mut parts: Parts) -> io::Result<bool> {
+    let mut votes = Vec::new(alloc);
+    votes.push(VoteData {
+        seq: 1,
+        view: 0,
+        choice: ChoiceData::ForRollback,
+        token: [1; 32],
+    })?;
+    parts.quorum = parts.verifiers.len().min(16) as u8 + 1;
+    parts.verifiers.push(votes)?;
+    let mut out = memory(alloc);
+    Ok(gather(&parts, 0, &mut out) == Err(GatherFault::Shape) && out.writer().is_empty())
+}
+
+/// What came of the copy of a trace.
+fn came_of(alloc: Global, bytes: &[u8]) -> io::Result<&'static str> {
+    let Ok(trace) = Trace::read(alloc, bytes) else {
+        return Ok("no trace");
+    };
+    let parts = parts_of(alloc, &trace)?;
+    if !is_written(alloc, &parts, bytes)? {
+        Ok("other bytes")
+    } else if !is_limited(alloc, &parts, bytes.len() as u64) {
+        Ok("another limit")
+    } else if !stops_at_each_byte(alloc, &parts, bytes) {
+        Ok("goes on where the sink failed")
+    } else if !is_shaped(alloc, parts)? {
+        Ok("a shape that has no spelling is written")
+    } else {
+        Ok("the same")
+    }
+}
+
+fn main(rt: HostRuntime) -> io::Result<()> {
+    for line in rt.lines(rt.alloc()) {
+        let line = line?;
+        let bytes = fs::read(&rt, line.as_str())?;
+        let (len, came) = (bytes.len(), came_of(rt.alloc(), bytes.as_slice())?);
+        println!(rt; "{line}: {len} bytes, {came}")?;
+    }
+    Ok(())
+}

@@ -1,0 +1,88 @@
+-- What each call says of bytes, and what it leaves where it ends without an answer.
+use Rattle.std.specs.Prelude.{◌≡◌, ℕ, ◌⊎◌, List, Option, Some, IfSome, ⊤}
+use Rattle.eve_streams.specs.Failures.{after_failure}
+use Rattle.eve_streams.specs.Front.{AppendsFront}
+use Rattle.eve_workload.specs.Steps.{IsBadLine}
+use Rattle.eve_write.specs.Writing.{Wrote, Stopped}
+use Rattle.eve_tool.specs.declared.fault.ToolFault.{ToolFault}
+use Rattle.eve_tool.specs.declared.fault.ToolFault.TheVariants as fault
+use Rattle.eve_tool.specs.Audit.{Audits}
+use Rattle.eve_tool.specs.Fault.{error_line, status_of}
+use Rattle.eve_tool.specs.Run.{Runs, IsTooLong, IsRunnable}
+use Rattle.eve_tool.specs.Show.{Shows}
+use Rattle.eve_tool.specs.Words.{Subcommand, Audit, Run, Show, call_of}
+use Rattle.eve_tool.specs.Writes.{WritesFrontOf}
+use Rattle.clap.specs.Words.{Text}
+
+-- the words are this call
+abbrev pub Calls : Subcommand → List Text → Type 0
+Calls call words = call_of words ≡ Some call
+
+-- the text is what the call says of the bytes, and the number is the exit status
+abbrev pub says : Subcommand → List ℕ → List ℕ → ℕ → Type 0
+says Audit = Audits
+says (Run mixer) = Runs mixer
+says Show = Shows
+
+-- the number is that of a bad line of the bytes, which `run` alone reads by lines
+abbrev pub has_bad_line : Subcommand → Option (List ℕ) → ℕ → Type 0
+has_bad_line (Run mixer) known number = IfSome known (λ bytes. IsBadLine bytes number)
+has_bad_line _ known number = ⊥
+
+-- the bytes are too long for `run`, or the trace of them is
+abbrev pub is_too_long : Subcommand → Option (List ℕ) → Type 0
+is_too_long (Run mixer) known = IfSome known (IsTooLong mixer)
+is_too_long _ known = ⊥
+
+-- the call runs the bytes
+abbrev pub runs : Subcommand → Option (List ℕ) → Type 0
+runs (Run mixer) known = IfSome known IsRunnable
+runs _ known = ⊥
+
+-- the call asks for random words, once the bytes are read
+abbrev pub asks_for_random : Subcommand → Option (List ℕ) → Type 0
+asks_for_random Audit known = ⊤
+asks_for_random (Run mixer) known = IfSome known IsRunnable
+asks_for_random Show known = ⊥
+
+-- the call sends in parts what it says
+abbrev pub sends_in_parts : Subcommand → Type 0
+sends_in_parts Show = ⊤
+sends_in_parts _ = ⊥
+
+-- What a call left that ended by a fault: what stands of the bytes that were in the input, where they are `known`, and
+-- of out, `old` before the call and `new` after it. `unread` says that the input failed.
+abbrev pub Leaves : {O : Type 0} → (O → Option (List ℕ)) → (O → ℕ) → Subcommand → Option (List ℕ) → Type 0 → O → O → ToolFault → Type 0
+Leaves written failures call known unread old new fault.Read = unread × (new ≡ old)
+Leaves written failures call known unread old new (fault.Line number) = has_bad_line call known number × (new ≡ old)
+Leaves written failures call known unread old new fault.TooLong = is_too_long call known × (new ≡ old)
+Leaves written failures call known unread old new fault.Broken = runs call known × (new ≡ old)
+Leaves written failures call known unread old new fault.Random = asks_for_random call known × (new ≡ old)
+Leaves written failures call known unread old new fault.Memory =
+    (new ≡ old) ⊎ (sends_in_parts call × WritesFrontOf (says call) known (written old) (written new))
+Leaves written failures call known unread old new fault.Write =
+    (failures new ≡ after_failure (failures old)) × WritesFrontOf (says call) known (written old) (written new)
+
+-- what was left of a text that was to be sent, by a fault: the text is held whole before any of it is sent
+abbrev pub StopsSending : {O : Type 0} → (O → Option (List ℕ)) → (O → ℕ) → O → O → List ℕ → ToolFault → Type 0
+StopsSending written failures old new text fault.Memory = new ≡ old
+StopsSending written failures old new text fault.Write = Stopped written failures old new text
+StopsSending written failures old new text _ = ⊥
+
+-- what was left of a text that was to be sent in parts
+abbrev pub StopsInParts : {O : Type 0} → (O → Option (List ℕ)) → (O → ℕ) → O → O → List ℕ → ToolFault → Type 0
+StopsInParts written failures old new text fault.Memory = AppendsFront (written old) (written new) text
+StopsInParts written failures old new text fault.Write = Stopped written failures old new text
+StopsInParts written failures old new text _ = ⊥
+
+-- the line of a fault was sent, or a front of it and then the stream failed
+abbrev pub Tells : {E : Type 0} → (E → Option (List ℕ)) → (E → ℕ) → E → E → ToolFault → Type 0
+Tells written failures old new why = Wrote written failures old new (error_line why) ⊎ Stopped written failures old new (error_line why)
+
+-- a call ended by a fault, of which the status is that and the line was told
+pub record Stops {E O : Type 0} (told : E → Option (List ℕ)) (untold : E → ℕ) (written : O → Option (List ℕ)) (failures : O → ℕ) (call : Subcommand)
+    (known : Option (List ℕ)) (unread : Type 0) (err_old err_new : E) (old new : O) (status : ℕ) : Type 0 where
+  pub why : ToolFault
+  pub ends : status_of why ≡ status
+  pub left : Leaves written failures call known unread old new why
+  pub line : Tells told untold err_old err_new why

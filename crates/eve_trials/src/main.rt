@@ -1,0 +1,275 @@
+//! Tries the program on streams that fail, and on words that are no call. A line of the input is a trial: what fails,
+//! the file that is read, and the words of the call. It is printed again, and below it what came of it: the number of
+//! the call or byte at which something failed, from the first to the last that came to the same, the exit status, what
+//! stood on out, and what was said on the error stream.
+//!
+//! - `nothing`: nothing fails, and all that is said stands below
+//! - `read`, `write`: the first read or write of a byte fails, or the second, and so on until none does
+//! - `word`: the first write to the error stream fails
+//! - `random`: there are no random words
+//! - `rest`: the file ends before its first byte, or before its second, and so on
+#![tactic(auto)]
+
+use eve_streams::failing::FailsAt;
+use eve_streams::one_byte::OneByte;
+use eve_streams::{SinkOf, SourceOf};
+use eve_tool::serve;
+use std::alloc::Global;
+use std::io::{ErrorKind, Write};
+use std::random::RandomSource;
+use std::sync::Wait;
+use std::thread::Threads;
+use std::{fs, io};
+
+/// A runtime that gives no random words.
+#[derive(Drop)]
+struct NoRandom<R> {
+    threads: R,
+    alloc: Global,
+}
+
+impl<R: Threads> Threads for NoRandom<R> {}
+
+impl<R: Wait> Wait for NoRandom<R> {}
+
+impl<R> Alloc for NoRandom<R> {
+    type A = Global;
+
+    fn alloc(&self) -> Global {
+        self.alloc
+    }
+}
+
+impl<R> RandomSource for NoRandom<R> {
+    fn fill_bytes(&self, _buf: &mut [u8]) -> io::Result<()> {
+        Err(io::Error::from(ErrorKind::Other))
+    }
+}
+
+/// Which call of each stream fails, counted from 1; 0 where none does.
+#[derive(Clone, Copy)]
+struct Failing {
+    read: u64,
+    write: u64,
+    word: u64,
+}
+
+const NOTHING: Failing = Failing {
+    read: 0,
+    write: 0,
+    word: 0,
+};
+
+/// What a call came to: its exit status, and the bytes on out and on the error stream.
+#[derive(PartialEq, Drop)]
+struct Answer {
+    status: u8,
+    out: Vec<u8>,
+    err: Vec<u8>,
+}
+
+/// What `eve` answers, by streams that move one byte a call.
+fn said<R: AllocGlobal + RandomSource + Threads + Wait + Sync>(
+    rt: &R,
+    words: &[&str],
+    bytes: &[u8],
+    failing: Failing,
+) -> io::Result<Answer> {
+    let alloc = rt.alloc();
+    let mut input = FailsAt::new(OneByte::new(SourceOf::new(bytes)), failing.read);
+    let memory = OneByte::new(SinkOf::new(Vec::new(alloc)));
+    let mut out = FailsAt::new(memory, failing.write);
+    let mut err = FailsAt::new(SinkOf::new(Vec::new(alloc)), failing.word);
+    let status = serve(rt, words, &mut input, &mut out, &mut err);
+    Ok(Answer {
+        status,
+        out: out.stream().stream().writer().clone()?,
+        err: err.stream().writer().clone()?,
+    })
+}
+
+/// What failures came to, from one number to another: the exit status, what stood on out, and what was said on the
+/// error stream.
+#[derive(Drop)]
+struct Outcome {
+    from: usize,
+    to: usize,
+    status: u8,
+    out: &'static str,
+    err: Vec<u8>,
+}
+
+/// What the failure of this number came to, where `whole` is what is said where nothing fails.
+fn outcome_of(at: usize, answer: Answer, whole: &[u8]) -> Outcome {
+    let Answer { status, out, err } = answer;
+    let bytes = out.as_slice();
+    let out = if bytes.is_empty() {
+        "nothing"
+    } else if bytes == whole {
+        "all"
+    } else if bytes.len() == at.saturating_sub(1) && whole.starts_with(bytes) {
+        "the bytes before"
+    } else {
+        "something else"
+    };
+    Outcome {
+        from: at,
+        to: at,
+        status,
+        out,
+        err,
+    }
+}
+
+impl Outcome {
+    /// Whether two failures came to the same.
+    fn is_like(&self, other: &Outcome) -> bool {
+        self.status == other.status
+            && self.out == other.out
+            && self.err.as_slice() == other.err.as_slice()
+    }
+}
+
+/// What fails in a trial.
+#[derive(Clone, Copy, PartialEq)]
+enum Failure {
+    Nothing,
+    Read,
+    Write,
+    Word,
+    Random,
+    Rest,
+}
+
+/// A trial: what fails, the file that is read, and the words of the call.
+#[derive(Drop)]
+struct Trial<'a> {
+    failure: Failure,
+    file: &'a str,
+    words: Vec<&'a str>,
+}
+
+/// The trial that a line asks for.
+fn trial_of(alloc: Global, line: &str) -> io::Result<Trial<'_>> {
+    let mut parts = line.split(' ');
+    let failure = match parts.next().unwrap_or("") {
+        "nothing" => Failure::Nothing,
+        "read" => Failure::Read,
+        "write" => Failure::Write,
+        "word" => Failure::Word,
+        "random" => Failure::Random,
+        "rest" => Failure::Rest,
+        _ => return Err(io::Error::from(ErrorKind::InvalidInput)),
+    };
+    let file = parts.next().unwrap_or("");
+    let mut words = Vec::new(alloc);
+    words.push("eve")?;
+    for word in parts {
+        words.push(word)?;
+    }
+    Ok(Trial {
+        failure,
+        file,
+        words,
+    })
+}
+
+/// What `eve` answers where number `at` fails, counted from 1.
+fn tried<R: AllocGlobal + RandomSource + Threads + Wait + Sync>(
+    rt: &R,
+    trial: &Trial<'_>,
+    bytes: &[u8],
+    at: usize,
+) -> io::Result<Answer> {
+    let words = trial.words.as_slice();
+    let mut failing = NOTHING;
+    match trial.failure {
+        Failure::Nothing => {}
+        Failure::Read => failing.read = at as u64,
+        Failure::Write => failing.write = at as u64,
+        Failure::Word => failing.word = at as u64,
+        Failure::Rest => {
+            let rest = bytes.get(..at.saturating_sub(1)).unwrap_or(bytes);
+            return said(rt, words, rest, NOTHING);
+        }
+        Failure::Random => {
+            let no_random = NoRandom {
+                threads: rt,
+                alloc: rt.alloc(),
+            };
+            return said(&no_random, words, bytes, NOTHING);
+        }
+    }
+    said(rt, words, bytes, failing)
+}
+
+// How many failures a trial tries at most.
+const MOST: usize = 10_000;
+
+/// Lets each number fail in turn, until the failure changes nothing.
+fn tried_in_turn<R: AllocGlobal + RandomSource + Threads + Wait + Sync>(
+    rt: &R,
+    trial: &Trial<'_>,
+    bytes: &[u8],
+) -> io::Result<Vec<Outcome>> {
+    let whole = said(rt, trial.words.as_slice(), bytes, NOTHING)?;
+    let mut outcomes: Vec<Outcome> = Vec::new(rt.alloc());
+    for at in 1..MOST {
+        let answer = tried(rt, trial, bytes, at)?;
+        let is_whole = answer == whole;
+        let next = outcome_of(at, answer, whole.out.as_slice());
+        match outcomes.last_mut() {
+            Some(last) if last.is_like(&next) => last.to = at,
+            _ => outcomes.push(next)?,
+        }
+        if is_whole {
+            break;
+        }
+    }
+    Ok(outcomes)
+}
+
+/// Prints what failures came to.
+fn print_outcome(rt: &HostRuntime, outcome: &Outcome) -> io::Result<()> {
+    let mut out = io::writer(rt);
+    let (from, to, status, said) = (outcome.from, outcome.to, outcome.status, outcome.out);
+    if from == to {
+        write!(out, "  {from}: {status}, {said}; ")?;
+    } else {
+        write!(out, "  {from} to {to}: {status}, {said}; ")?;
+    }
+    out.write_all(outcome.err.as_slice())?;
+    if outcome.err.is_empty() {
+        out.write_all(b"\n")?;
+    }
+    Ok(())
+}
+
+/// Prints all that is said.
+fn print_answer(rt: &HostRuntime, answer: &Answer) -> io::Result<()> {
+    let mut out = io::writer(rt);
+    let status = answer.status;
+    writeln!(out, "  {status}")?;
+    out.write_all(answer.out.as_slice())?;
+    out.write_all(answer.err.as_slice())
+}
+
+fn main(rt: HostRuntime) -> io::Result<()> {
+    for line in rt.lines(rt.alloc()) {
+        let line = line?;
+        rt.println(line.as_str())?;
+        let trial = trial_of(rt.alloc(), line.as_str())?;
+        let bytes = fs::read(&rt, trial.file)?;
+        match trial.failure {
+            Failure::Nothing | Failure::Word | Failure::Random => {
+                print_answer(&rt, &tried(&rt, &trial, bytes.as_slice(), 1)?)?;
+            }
+            Failure::Read | Failure::Write | Failure::Rest => {
+                for outcome in tried_in_turn(&rt, &trial, bytes.as_slice())?.iter() {
+                    print_outcome(&rt, outcome)?;
+                }
+            }
+        }
+    }
+    Ok(())
+}
