@@ -1,4 +1,4 @@
--- The least of the faults of agreement, batch after batch.
+-- Public: other crates cite these lemmas. The least of the faults of agreement, batch after batch.
 use Rattle.std.proofs.Common.{◌≡◌, ◌≢◌, ℕ, zero, suc, ◌+◌, ◌-◌, ◌<◌, ◌≤◌, ℤ, nat_le, Bool, true, false, cond, List, [], ◌∷◌, ◌++◌, length, take, drop, slice_get, get_or, set, Option, Some, None, IfSome, refl, sym, ap, subst, ◌∙◌, inl, inr, ◌⊎◌, arith, add-one, get_or-set_same, get_or-set_other}
 use Rattle.std.proofs.lemmas.Bool.{cases_lt, cases_eq, leb-true, leb-false}
 use Rattle.std.proofs.lemmas.List.{length-set, get_or-append_right, get_or_append_left, length-append}
@@ -8,7 +8,7 @@ use Rattle.eve_grammar.specs.Spelling.{length_of}
 use Rattle.eve_views.specs.declared.fault.Code.{Code}
 use Rattle.eve_views.specs.declared.fault.Code.TheVariants as code
 use Rattle.eve_views.specs.declared.fault.Fault.{Fault}
-use Rattle.eve_views.specs.Form.{IsUpTo, SomePlace}
+use Rattle.eve_views.specs.Form.{IsUpTo, SomePlace, IsLeast}
 use Rattle.eve_views.specs.Code.{number_of}
 use Rattle.eve_history.specs.Section.{Placed}
 use Rattle.eve_history.specs.Told.{Telling, telling, tellings, history, committed_at, IsRightSection}
@@ -17,7 +17,7 @@ use Rattle.eve_serial.specs.Committed.{balances_to}
 use Rattle.eve_serial.proofs.Linked.{last_committed, some_injective, none≢some}
 use Rattle.eve_banks.specs.Settling.{Settling}
 use Rattle.eve_tokens.proofs.Walking.{get_at_seam}
-use Rattle.eve_agree.specs.Faults.{first_to_commit, HaveSameOutcome, HasCommitted, ReplicasAgree, StandsInAgreement, IsOutcomeFault, IsLeastOutcomeFault}
+use Rattle.eve_agree.specs.Faults.{first_to_commit, HaveSameOutcome, HasCommitted, ReplicasAgree, StandsInAgreement, IsOutcomeFault}
 use Rattle.eve_agree.specs.Judging.{NoneBefore, Stand, IsUpToAt, Lowers, IsJudged, outcome_fault, lower}
 use Rattle.eve_agree.proofs.Outcomes.{IsOf, last_told, telling_at, committed_low, replica_there, first_there}
 
@@ -199,7 +199,7 @@ module _ (t : Trace) where
       by code.Outcome stands = up_to_each None is.replica f.offset right judged stands
       by c stands = absurd stands
 
-  pub is_least : (f : Fault) → ((e : ℕ) → IsRightSection t e) → ((e m : ℕ) → IsJudged t (Some f) e m) → Stand t (Some f) → IsLeastOutcomeFault t f
+  pub is_least : (f : Fault) → ((e : ℕ) → IsRightSection t e) → ((e m : ℕ) → IsJudged t (Some f) e m) → Stand t (Some f) → IsLeast (IsOutcomeFault t) f
   is_least f right judged stand = record { is = stand.1; least = λ g is. by g.code g.offset g.replica is.replica is.stands }
     where
       by : (c : Code) (at : ℕ) (r : Option ℕ) (e : ℕ) → StandsInAgreement c t e at → IsUpTo f (record { code = c; offset = at; replica = r })

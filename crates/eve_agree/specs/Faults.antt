@@ -38,8 +38,3 @@ pub record IsOutcomeFault (t : Trace) (f : Fault) : Type 0 where
   pub replica : ℕ
   pub stands : StandsInAgreement f.code t replica f.offset
   pub inside : f.replica ≡ Some replica
-
--- the first of the faults of agreement
-pub record IsLeastOutcomeFault (t : Trace) (f : Fault) : Type 0 where
-  pub is : IsOutcomeFault t f
-  pub least : (g : Fault) → IsOutcomeFault t g → IsUpTo f g

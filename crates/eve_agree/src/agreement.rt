@@ -2,14 +2,14 @@
 
 ghost use Rattle.std.specs.Prelude.{◌≡◌, ◌≤◌, ◌<◌, ◌-◌, ◌↔◌, ℕ, IsTrue, IfOk, IfErr, IfSome, IfNone, Some, length, slice_get};
 ghost use Rattle.eve_frames.specs.Views.{attempt_in};
-ghost use Rattle.eve_views.specs.Form.{IfFound};
+ghost use Rattle.eve_views.specs.Form.{IfFound, IsLeast, HasNone};
 ghost use Rattle.eve_views.specs.Fronts.{whole};
 ghost use Rattle.eve_views.specs.declared.fault.Fault.{Fault as FaultValue};
 ghost use Rattle.eve_grammar.specs.Trace.{Trace as TraceValue};
 ghost use Rattle.eve_history.specs.Told.{Ran, Telling, tellings, IsRightSection};
 ghost use Rattle.eve_banks.specs.Settling.{settling, settlings, values_in};
 ghost use Rattle.eve_serial.specs.Committed.{values_to};
-ghost use Rattle.eve_agree.specs.Faults.{first_to_commit, ReplicasAgree, IsOutcomeFault, IsLeastOutcomeFault};
+ghost use Rattle.eve_agree.specs.Faults.{first_to_commit, ReplicasAgree, IsOutcomeFault};
 ghost use Rattle.eve_agree.specs.Judging.{NoneBefore, IsAfter, AreAfter, Stand, Lowers, IsJudged, lower};
 
 use eve_accounts::Balances;
@@ -36,8 +36,8 @@ pub fn equal_balances(
     requires right { (e : ℕ) → IsRightSection (whole trace.now) e }
     requires settled { settled.now ≡ settlings (whole trace.now) }
     ensures agree { IfOk result (λ _. ReplicasAgree (whole trace.now)) }
-    ensures none { IfOk result (λ _. (f : FaultValue) → ¬ IsOutcomeFault (whole trace.now) f) }
-    ensures least { IfErr result (λ why. IfFound why (IsLeastOutcomeFault (whole trace.now))) }
+    ensures none { IfOk result (λ _. HasNone (IsOutcomeFault (whole trace.now))) }
+    ensures least { IfErr result (λ why. IfFound why (IsLeast (IsOutcomeFault (whole trace.now)))) }
 {
     trace.is_whole();
     settled_values_are_the_banks();

@@ -6,7 +6,8 @@ use Rattle.eve_views.specs.declared.fault.Code.TheVariants as code
 use Rattle.eve_history.specs.Faults.{StandsInOrders, IsOrderFault}
 use Rattle.eve_serial.specs.Committed.{batch_tickets, AreDistinct}
 use Rattle.eve_theorem.specs.Accepted.{IsAccepted}
-use Rattle.eve_audit.specs.Pieces.{HasNone, IsSoundReplica, IsSoundTogether}
+use Rattle.eve_views.specs.Form.{HasNone}
+use Rattle.eve_audit.specs.Pieces.{IsSoundReplica, IsSoundTogether}
 
 pub no_request_again : (t : Trace) → HasNone (IsOrderFault t) → (at : ℕ) → ¬ StandsInOrders code.SameRequest t at
 no_request_again t none at stands = none (record { code = code.SameRequest; offset = at; replica = None }) (record { stands = stands; outside = refl })

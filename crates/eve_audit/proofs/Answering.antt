@@ -3,7 +3,7 @@ use Rattle.std.proofs.Common.{◌≡◌, ◌≤◌, ℕ, List, length, arith}
 use Rattle.eve_grammar.specs.Trace.{Trace}
 use Rattle.eve_grammar.specs.Limits.{Spells}
 use Rattle.eve_grammar.specs.Spelling.{length_of}
-use Rattle.eve_views.specs.Form.{IsLeastFormFault, IfFound}
+use Rattle.eve_views.specs.Form.{IsFormFault, IfFound, IsLeast, HasNone}
 use Rattle.eve_views.specs.declared.fault.CheckFault.{CheckFault}
 use Rattle.eve_views.specs.declared.fault.CheckFault.TheVariants.{Found, Memory}
 use Rattle.eve_views.specs.declared.fault.Fault.{Fault}
@@ -11,8 +11,8 @@ use Rattle.eve_history.specs.Faults.{IsOrderFault}
 use Rattle.eve_theorem.specs.Audited.{IsAudited}
 use Rattle.eve_audit.specs.declared.verdict.Summary.{Summary}
 use Rattle.eve_audit.specs.declared.verdict.Verdict.TheVariants.{Yes, No}
-use Rattle.eve_audit.specs.Verdict.{IsSummary}
-use Rattle.eve_audit.specs.Pieces.{IsFirstOf, HasNone, IsTraceFault}
+use Rattle.eve_audit.specs.Verdict.{IsSummary, IsTraceFault}
+use Rattle.eve_audit.specs.Pieces.{IsFirstOf}
 use Rattle.eve_audit.specs.Answer.{IsAnswer, IsRead}
 use Rattle.eve_audit.proofs.Sections.{FatesAreAsItEnds}
 use Rattle.eve_audit.proofs.Verdicts.{faultless, found_in_form, trace_first}
@@ -37,7 +37,7 @@ module _ (bytes : List ℕ) (t : Trace) (read : IsRead bytes t) (once : (u : Tra
   }
 
 -- a fault of form
-pub form_for : (bytes : List ℕ) (why : CheckFault) → IfFound why (IsLeastFormFault bytes) → IfFound why (λ _. (t : Trace) → ¬ Spells bytes t) → IfFound why (λ f. f.offset ≤ length bytes)
+pub form_for : (bytes : List ℕ) (why : CheckFault) → IfFound why (IsLeast (IsFormFault bytes)) → IfFound why (λ _. (t : Trace) → ¬ Spells bytes t) → IfFound why (λ f. f.offset ≤ length bytes)
     → IfFound why (λ f. IsAnswer bytes (No f))
 form_for bytes Memory least none within = tt
 form_for bytes (Found f) least none within =

@@ -1,5 +1,5 @@
 -- A trace without a fault is accepted.
-use Rattle.std.proofs.Common.{◌≡◌, ℕ, ◌<◌, ◌≤◌, inl, inr, List, length}
+use Rattle.std.proofs.Common.{◌≡◌, ℕ, inl, inr, List, length}
 use Rattle.std.specs.List.{AllByRecursion}
 use Rattle.std.proofs.lemmas.Bool.{cases_lt}
 use Rattle.eve_smallbank.specs.SmallBank.{Request}
@@ -19,8 +19,9 @@ use Rattle.eve_theorem.specs.Accepted.{IsAccepted}
 use Rattle.eve_theorem.specs.Audited.{IsAudited}
 use Rattle.eve_audit.specs.declared.verdict.Summary.{Summary}
 use Rattle.eve_audit.specs.declared.verdict.Verdict.TheVariants.{Yes}
-use Rattle.eve_audit.specs.Verdict.{IsVerdict, IsFaultless, SpellsAudited, IsOwnFault, of_structure, of_records, of_chains, of_restores, of_tokens}
-use Rattle.eve_audit.specs.Pieces.{HasNone, IsSoundReplica, IsSoundTogether, IsTraceFault, in_orders, in_section, in_common, of_votes, of_majorities, of_agreement, of_replies}
+use Rattle.eve_audit.specs.Verdict.{IsVerdict, IsFaultless, SpellsAudited, IsOwnFault, of_structure, of_records, of_chains, of_restores, of_tokens, IsTraceFault, of_votes, of_majorities, of_agreement, of_replies, in_orders, in_section, in_common}
+use Rattle.eve_views.specs.Form.{HasNone}
+use Rattle.eve_audit.specs.Pieces.{IsSoundReplica, IsSoundTogether}
 use Rattle.eve_audit.proofs.Accepted.{no_request_again, accepted_of}
 use Rattle.eve_audit.proofs.Kept.{sound_beyond}
 use Rattle.eve_audit.proofs.Verdicts.{stands_in_bytes}

@@ -1,21 +1,21 @@
--- From the first fault of a phase to the first of several phases.
+-- Public: other crates cite these lemmas. From the first fault of a phase to the first of several phases.
 use Rattle.std.proofs.Common.{◌≡◌, ℕ, ◌<◌, ◌≤◌, inl, inr, length, sym, ◌∙◌, arith}
 use Rattle.eve_grammar.specs.Trace.{Trace}
 use Rattle.eve_views.specs.Code.{phase_of}
-use Rattle.eve_views.specs.Form.{IfFound}
+use Rattle.eve_views.specs.Form.{IfFound, IsLeast, HasNone}
 use Rattle.eve_views.specs.declared.fault.CheckFault.{CheckFault}
 use Rattle.eve_views.specs.declared.fault.CheckFault.TheVariants.{Found, Memory}
 use Rattle.eve_views.specs.declared.fault.Fault.{Fault}
-use Rattle.eve_history.specs.Faults.{IsOrderFault, IsLeastOrderFault, IsStructureFault, IsLeastStructureFault}
-use Rattle.eve_serial.specs.Faults.{IsRecordFault, IsLeastRecordFault, IsLeastChainFault, IsLeastFault, HasNoFault}
-use Rattle.eve_restores.specs.Faults.{IsRestoreFault, IsLeastRestoreFault}
-use Rattle.eve_tokens.specs.Faults.{IsTokenFault, IsLeastTokenFault}
-use Rattle.eve_votes.specs.Faults.{IsVoteFault, IsLeastVoteFault}
-use Rattle.eve_majorities.specs.Faults.{IsMajorityFault, IsLeastMajorityFault}
-use Rattle.eve_agree.specs.Faults.{IsOutcomeFault, IsLeastOutcomeFault}
-use Rattle.eve_replies.specs.Faults.{IsReplyFault, IsLeastReplyFault}
-use Rattle.eve_audit.specs.Verdict.{Precedes, IsOwnFault, of_structure, of_records, of_chains, of_restores, of_tokens}
-use Rattle.eve_audit.specs.Pieces.{IsFirstOf, HasNone, IsFaultBelow, IsCommonFault, of_votes, of_majorities, of_agreement, of_replies, IsTraceFault, in_orders, in_section, in_common}
+use Rattle.eve_history.specs.Faults.{IsOrderFault, IsStructureFault}
+use Rattle.eve_serial.specs.Faults.{IsRecordFault, IsChainFault, IsLeastFault, HasNoFault}
+use Rattle.eve_restores.specs.Faults.{IsRestoreFault}
+use Rattle.eve_tokens.specs.Faults.{IsTokenFault}
+use Rattle.eve_votes.specs.Faults.{IsVoteFault}
+use Rattle.eve_majorities.specs.Faults.{IsMajorityFault}
+use Rattle.eve_agree.specs.Faults.{IsOutcomeFault}
+use Rattle.eve_replies.specs.Faults.{IsReplyFault}
+use Rattle.eve_audit.specs.Verdict.{Precedes, IsOwnFault, of_structure, of_records, of_chains, of_restores, of_tokens, IsFaultBelow, IsCommonFault, IsTraceFault, of_votes, of_majorities, of_agreement, of_replies, in_orders, in_section, in_common}
+use Rattle.eve_audit.specs.Pieces.{IsFirstOf}
 use Rattle.eve_audit.proofs.Phases.{order_phase, structure_phase, record_phase, chain_phase, restore_phase, token_phase, vote_phase, majority_phase, outcome_phase, reply_phase}
 
 -- a fact about what was found, from another about it
@@ -37,7 +37,7 @@ module _ (t : Trace) (e : ℕ) where
   own_phase f (of_restores is) = let p = restore_phase t e f is in (omega arith, omega arith)
   own_phase f (of_tokens is) = let p = token_phase t e f is in (omega arith, omega arith)
 
-  pub structure_first : (f : Fault) → IsLeastStructureFault t e f → IsFirstOf (IsOwnFault t e) f
+  pub structure_first : (f : Fault) → IsLeast (IsStructureFault t e) f → IsFirstOf (IsOwnFault t e) f
   structure_first f least = record { is = of_structure least.is; first = by }
     where
       own : phase_of f.code ≡ 3
@@ -50,7 +50,7 @@ module _ (t : Trace) (e : ℕ) where
       by g (of_restores is) = lower f g 3 6 own (restore_phase t e g is) (omega arith)
       by g (of_tokens is) = lower f g 3 7 own (token_phase t e g is) (omega arith)
 
-  record_first : (f : Fault) → HasNone (IsStructureFault t e) → IsLeastRecordFault t e f → IsFirstOf (IsOwnFault t e) f
+  record_first : (f : Fault) → HasNone (IsStructureFault t e) → IsLeast (IsRecordFault t e) f → IsFirstOf (IsOwnFault t e) f
   record_first f structure least = record { is = of_records least.is; first = by }
     where
       own : phase_of f.code ≡ 4
@@ -63,7 +63,7 @@ module _ (t : Trace) (e : ℕ) where
       by g (of_restores is) = lower f g 4 6 own (restore_phase t e g is) (omega arith)
       by g (of_tokens is) = lower f g 4 7 own (token_phase t e g is) (omega arith)
 
-  chain_first : (f : Fault) → HasNone (IsStructureFault t e) → HasNone (IsRecordFault t e) → IsLeastChainFault t e f → IsFirstOf (IsOwnFault t e) f
+  chain_first : (f : Fault) → HasNone (IsStructureFault t e) → HasNone (IsRecordFault t e) → IsLeast (IsChainFault t e) f → IsFirstOf (IsOwnFault t e) f
   chain_first f structure records least = record { is = of_chains least.is; first = by }
     where
       own : phase_of f.code ≡ 5
@@ -81,7 +81,7 @@ module _ (t : Trace) (e : ℕ) where
   attempt_first f structure (inl least) = record_first f structure least
   attempt_first f structure (inr r) = chain_first f structure r.0 r.1
 
-  pub restore_first : (f : Fault) → HasNone (IsStructureFault t e) → HasNoFault t e → IsLeastRestoreFault t e f → IsFirstOf (IsOwnFault t e) f
+  pub restore_first : (f : Fault) → HasNone (IsStructureFault t e) → HasNoFault t e → IsLeast (IsRestoreFault t e) f → IsFirstOf (IsOwnFault t e) f
   restore_first f structure attempts least = record { is = of_restores least.is; first = by }
     where
       own : phase_of f.code ≡ 6
@@ -94,7 +94,7 @@ module _ (t : Trace) (e : ℕ) where
       by g (of_restores is) = inr (own ∙ sym (restore_phase t e g is), least.least g is)
       by g (of_tokens is) = lower f g 6 7 own (token_phase t e g is) (omega arith)
 
-  pub token_first : (f : Fault) → HasNone (IsStructureFault t e) → HasNoFault t e → HasNone (IsRestoreFault t e) → IsLeastTokenFault t e f → IsFirstOf (IsOwnFault t e) f
+  pub token_first : (f : Fault) → HasNone (IsStructureFault t e) → HasNoFault t e → HasNone (IsRestoreFault t e) → IsLeast (IsTokenFault t e) f → IsFirstOf (IsOwnFault t e) f
   token_first f structure attempts restores least = record { is = of_tokens least.is; first = by }
     where
       own : phase_of f.code ≡ 7
@@ -126,7 +126,7 @@ module _ (t : Trace) where
   common_phase f (of_agreement is) = let p = outcome_phase t f is in omega arith
   common_phase f (of_replies is) = let p = reply_phase t f is in omega arith
 
-  pub vote_first : (f : Fault) → IsLeastVoteFault t f → IsFirstOf (IsCommonFault t) f
+  pub vote_first : (f : Fault) → IsLeast (IsVoteFault t) f → IsFirstOf (IsCommonFault t) f
   vote_first f least = record { is = of_votes least.is; first = by }
     where
       own : phase_of f.code ≡ 8
@@ -138,7 +138,7 @@ module _ (t : Trace) where
       by g (of_agreement is) = lower f g 8 10 own (outcome_phase t g is) (omega arith)
       by g (of_replies is) = lower f g 8 11 own (reply_phase t g is) (omega arith)
 
-  pub majority_first : (f : Fault) → HasNone (IsVoteFault t) → IsLeastMajorityFault t f → IsFirstOf (IsCommonFault t) f
+  pub majority_first : (f : Fault) → HasNone (IsVoteFault t) → IsLeast (IsMajorityFault t) f → IsFirstOf (IsCommonFault t) f
   majority_first f votes least = record { is = of_majorities least.is; first = by }
     where
       own : phase_of f.code ≡ 9
@@ -150,7 +150,7 @@ module _ (t : Trace) where
       by g (of_agreement is) = lower f g 9 10 own (outcome_phase t g is) (omega arith)
       by g (of_replies is) = lower f g 9 11 own (reply_phase t g is) (omega arith)
 
-  pub outcome_first : (f : Fault) → HasNone (IsVoteFault t) → HasNone (IsMajorityFault t) → IsLeastOutcomeFault t f → IsFirstOf (IsCommonFault t) f
+  pub outcome_first : (f : Fault) → HasNone (IsVoteFault t) → HasNone (IsMajorityFault t) → IsLeast (IsOutcomeFault t) f → IsFirstOf (IsCommonFault t) f
   outcome_first f votes majorities least = record { is = of_agreement least.is; first = by }
     where
       own : phase_of f.code ≡ 10
@@ -162,7 +162,7 @@ module _ (t : Trace) where
       by g (of_agreement is) = inr (own ∙ sym (outcome_phase t g is), least.least g is)
       by g (of_replies is) = lower f g 10 11 own (reply_phase t g is) (omega arith)
 
-  pub reply_first : (f : Fault) → HasNone (IsVoteFault t) → HasNone (IsMajorityFault t) → HasNone (IsOutcomeFault t) → IsLeastReplyFault t f → IsFirstOf (IsCommonFault t) f
+  pub reply_first : (f : Fault) → HasNone (IsVoteFault t) → HasNone (IsMajorityFault t) → HasNone (IsOutcomeFault t) → IsLeast (IsReplyFault t) f → IsFirstOf (IsCommonFault t) f
   reply_first f votes majorities agreement least = record { is = of_replies least.is; first = by }
     where
       by : (g : Fault) → IsCommonFault t g → Precedes f g
@@ -185,7 +185,12 @@ module _ (t : Trace) where
   below_phase : (n : ℕ) (f : Fault) → IsFaultBelow t n f → (3 ≤ phase_of f.code) × (phase_of f.code ≤ 7)
   below_phase n f below = own_phase t below.0 f below.2
 
-  pub order_first : (f : Fault) → IsLeastOrderFault t f → IsFirstOf (IsTraceFault t) f
+  pub trace_phase : (f : Fault) → IsTraceFault t f → 2 ≤ phase_of f.code
+  trace_phase f (in_orders is) = omega (arith, order_phase t f is)
+  trace_phase f (in_section below) = omega (arith, (below_phase (length t.sections) f below).0)
+  trace_phase f (in_common is) = omega (arith, common_phase f is)
+
+  pub order_first : (f : Fault) → IsLeast (IsOrderFault t) f → IsFirstOf (IsTraceFault t) f
   order_first f least = record { is = in_orders least.is; first = by }
     where
       by : (g : Fault) → IsTraceFault t g → Precedes f g

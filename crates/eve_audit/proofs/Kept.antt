@@ -13,8 +13,9 @@ use Rattle.eve_serial.specs.Sound.{IsSoundAlong}
 use Rattle.eve_restores.specs.Tables.{all_restore_rightly}
 use Rattle.eve_tokens.specs.Faults.{due_token}
 use Rattle.eve_views.specs.declared.fault.Fault.{Fault}
-use Rattle.eve_audit.specs.Verdict.{IsOwnFault}
-use Rattle.eve_audit.specs.Pieces.{IsFirstOf, HasNone, IsSoundReplica, IsFaultBelow, AreKept, IsJudgedBelow}
+use Rattle.eve_audit.specs.Verdict.{IsOwnFault, IsFaultBelow}
+use Rattle.eve_views.specs.Form.{HasNone}
+use Rattle.eve_audit.specs.Pieces.{IsFirstOf, IsSoundReplica, AreKept, IsJudgedBelow}
 use Rattle.eve_audit.proofs.Piecewise.{below_more, none_more, least_more}
 
 -- ---- lists over the numbered sections
@@ -97,6 +98,11 @@ module _ (t : Trace) (tells : List Telling) (settles : List Settling) (kept : Ar
   pub all_sound : (e : ℕ) → IsSoundReplica t e
   all_sound e = elim (cases_lt e (length t.sections)) [ inl lt ↦ kept.sound e lt | inr le ↦ sound_beyond t e le ]
 
+-- the last committed number that a section tells is the one at which it ends
+last_told : (t : Trace) (e : ℕ) → (telling t e).committed ≡ (history t e).last
+unfolding telling history
+last_told t e = refl
+
 -- ---- with what was found
 
 -- the next replica has no fault of its own
@@ -107,7 +113,7 @@ pub sound_more : (t : Trace) (e : ℕ) (first : Option Fault) (tells more_tells 
 sound_more t e first tells more_tells settles more_settles c m told wrote judged lt told_is wrote_is sound none tells_is settles_is least small = record {
   found = none_more t e first judged.found none;
   kept = λ is. kept_more t e tells more_tells settles more_settles told wrote lt (judged.kept is) tells_is settles_is told_is wrote_is sound;
-  least = λ is. least_more t e c told.committed m (judged.least is) (ap (λ (x : Telling). x.committed) told_is) small least;
+  least = λ is. least_more t e c told.committed m (judged.least is) (ap (λ (x : Telling). x.committed) told_is ∙ last_told t e) small least;
 }
 
 -- it has one

@@ -19,3 +19,8 @@ pub mod UnfaultedTogether
 pub mod Faultless
 pub mod Outside
 pub mod Naming
+pub mod FormDecided
+pub mod StandingDecided
+pub mod FirstOfAll
+pub mod Existing
+pub mod Alone

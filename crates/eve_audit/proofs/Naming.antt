@@ -1,6 +1,6 @@
 -- A fault names the replica in whose section it lies.
-use Rattle.std.proofs.Common.{◌≡◌, ℕ, ◌+◌, ◌<◌, ◌≤◌, nat_le, nat_lt, List, Option, Some, None, sym, ap, subst, ◌∙◌, leb, ltb}
-use Rattle.std.specs.Prelude.{◌↔◌, IsTrue, ◌&&◌}
+use Rattle.std.proofs.Common.{◌≡◌, ℕ, ◌+◌, nat_le, nat_lt, List, Option, Some, None, sym, ap, subst, ◌∙◌}
+use Rattle.std.specs.Prelude.{◌↔◌, IsTrue}
 use Rattle.std.proofs.lemmas.Bool.{and_parts, and_from, le-leb, lt-ltb, leb-true, ltb-true}
 use Rattle.eve_grammar.specs.Trace.{Trace}
 use Rattle.eve_grammar.specs.Limits.{Spells}
@@ -12,10 +12,9 @@ use Rattle.eve_views.specs.declared.fault.Fault.{Fault}
 use Rattle.eve_views.proofs.HeaderLaws.{header_again_of}
 use Rattle.eve_views.proofs.FormLaws.{refused_behind}
 use Rattle.eve_views.proofs.WholeTraces.{no_trace}
-use Rattle.eve_audit.specs.Verdict.{Stands, in_form, in_orders, in_section, in_votes, in_majorities, in_agreement, in_replies, IsOwnFault, of_structure, of_records, of_chains, of_restores, of_tokens}
+use Rattle.eve_audit.specs.Verdict.{Stands, in_form, in_trace, IsOwnFault, of_structure, of_records, of_chains, of_restores, of_tokens, IsCommonFault, IsTraceFault}
 use Rattle.eve_audit.specs.Where.{NamesItsSection}
-use Rattle.eve_audit.specs.Pieces as of
-use Rattle.eve_audit.specs.Pieces.{IsTraceFault, IsCommonFault}
+use Rattle.eve_audit.specs.Verdict as of
 use Rattle.eve_audit.proofs.Sections.{LiesIn, FatesAreAsItEnds}
 use Rattle.eve_audit.proofs.Where.{one_section}
 use Rattle.eve_audit.proofs.Placed.{structure_lies, record_lies, chain_lies, restore_lies, token_lies, majority_lies, outcome_lies}
@@ -93,9 +92,4 @@ module _ (fates : (t : Trace) (e : ℕ) → FatesAreAsItEnds t e) (once : (bytes
 
   pub standing_named : IsBytes bytes → Stands bytes f → NamesItsSection bytes f
   standing_named fits (in_form is) = named_in_none bytes f is (form_alone bytes f fits is)
-  standing_named fits (in_orders t spells is) = of_trace t spells (of.in_orders is)
-  standing_named fits (in_section t e spells lt is) = of_trace t spells (of.in_section (e, lt, is))
-  standing_named fits (in_votes t spells is) = of_trace t spells (of.in_common (of.of_votes is))
-  standing_named fits (in_majorities t spells is) = of_trace t spells (of.in_common (of.of_majorities is))
-  standing_named fits (in_agreement t spells is) = of_trace t spells (of.in_common (of.of_agreement is))
-  standing_named fits (in_replies t spells is) = of_trace t spells (of.in_common (of.of_replies is))
+  standing_named fits (in_trace t spells is) = of_trace t spells is

@@ -1,9 +1,9 @@
 -- What stands before the sections, or behind them, lies in none.
-use Rattle.std.proofs.Common.{◌≡◌, ℕ, ◌+◌, ◌<◌, ◌≤◌, List, ◌∷◌, ◌++◌, length, take, ap, subst, arith}
+use Rattle.std.proofs.Common.{◌≡◌, ℕ, ◌+◌, ◌<◌, ◌≤◌, List, ◌∷◌, ◌++◌, length, subst, arith}
 use Rattle.std.specs.List.{flat_map}
 use Rattle.eve_grammar.specs.Trace.{Customer, Batch, Vote, Sent, Trace}
-use Rattle.eve_grammar.specs.Frames.{OfCustomer, OfBatch, OfVerifier, OfVote, OfSent, batches_of, sections_of, verifiers_of}
-use Rattle.eve_grammar.specs.Spelling.{frame_text, located, customer_text, batch_text, section_text, votes_text, batches_start, sections_start, section_start, verifiers_start, verifier_start, sent_start, customers_at, batches_at, votes_of, votes_at, sent_at}
+use Rattle.eve_grammar.specs.Frames.{OfCustomer, OfBatch, OfVerifier, OfVote, OfSent, batches_of, sections_of}
+use Rattle.eve_grammar.specs.Spelling.{frame_text, located, customer_text, batch_text, section_text, batches_start, sections_start, section_start, verifiers_start, verifier_start, sent_start, customers_at, batches_at, votes_of, votes_at, sent_at}
 use Rattle.eve_views.specs.declared.fault.Code.{Code}
 use Rattle.eve_views.specs.declared.fault.Code.TheVariants as code
 use Rattle.eve_history.specs.Faults.{StandsInOrders}

@@ -20,7 +20,7 @@ use Rattle.eve_restores.specs.Faults.{StandsInRestores}
 use Rattle.eve_tokens.specs.Faults.{StandsInTokens}
 use Rattle.eve_majorities.specs.Faults.{StandsInMajorities}
 use Rattle.eve_agree.specs.Faults.{StandsInAgreement}
-use Rattle.eve_audit.specs.Verdict.{Stands, in_form, in_orders, in_section, in_votes, in_majorities, in_agreement, in_replies, IsOwnFault, of_structure, of_records, of_chains, of_restores, of_tokens}
+use Rattle.eve_audit.specs.Verdict.{Stands, in_form, in_trace, IsTraceFault, in_orders, in_section, in_common, of_votes, of_majorities, of_agreement, of_replies, IsOwnFault, of_structure, of_records, of_chains, of_restores, of_tokens}
 use Rattle.eve_audit.proofs.Sections.{LiesIn, FatesAreAsItEnds}
 use Rattle.eve_audit.proofs.Phases.{form_phase, order_phase, structure_phase, record_phase, chain_phase, restore_phase, token_phase, vote_phase, majority_phase, outcome_phase, reply_phase}
 use Rattle.eve_audit.proofs.Where.{StepIn, at_place, steps_in, starts_in, step_in, access_in, committed_in, settled_in}
@@ -107,11 +107,14 @@ module _ (laws : (t : Trace) (e : ℕ) → FatesAreAsItEnds t e) (bytes : List �
   own_placed t e spells (of_restores is) = inside t e spells is.inside (restore_lies t e f.code f.offset is.stands) (ap is_inside (restore_phase t e f is))
   own_placed t e spells (of_tokens is) = inside t e spells is.inside (token_lies t e (laws t e) f.code f.offset is.stands) (ap is_inside (token_phase t e f is))
 
+  trace_placed : (t : Trace) → Spells bytes t → IsTraceFault t f → IsPlaced bytes f
+  trace_placed t spells (in_orders is) = outside is.outside (ap is_inside (order_phase t f is))
+  trace_placed t spells (in_section below) = own_placed t below.0 spells below.2
+  trace_placed t spells (in_common (of_votes is)) = outside is.outside (ap is_inside (vote_phase t f is))
+  trace_placed t spells (in_common (of_majorities is)) = inside t is.replica spells is.inside (majority_lies t is.replica f.code f.offset is.stands) (ap is_inside (majority_phase t f is))
+  trace_placed t spells (in_common (of_agreement is)) = inside t is.replica spells is.inside (outcome_lies t is.replica (laws t is.replica) f.code f.offset is.stands) (ap is_inside (outcome_phase t f is))
+  trace_placed t spells (in_common (of_replies is)) = outside is.outside (ap is_inside (reply_phase t f is))
+
   pub placed : Stands bytes f → IsPlaced bytes f
   placed (in_form is) = outside is.outside (ap is_inside (form_phase bytes f is))
-  placed (in_orders t spells is) = outside is.outside (ap is_inside (order_phase t f is))
-  placed (in_section t e spells lt is) = own_placed t e spells is
-  placed (in_votes t spells is) = outside is.outside (ap is_inside (vote_phase t f is))
-  placed (in_majorities t spells is) = inside t is.replica spells is.inside (majority_lies t is.replica f.code f.offset is.stands) (ap is_inside (majority_phase t f is))
-  placed (in_agreement t spells is) = inside t is.replica spells is.inside (outcome_lies t is.replica (laws t is.replica) f.code f.offset is.stands) (ap is_inside (outcome_phase t f is))
-  placed (in_replies t spells is) = outside is.outside (ap is_inside (reply_phase t f is))
+  placed (in_trace t spells is) = trace_placed t spells is

@@ -1,16 +1,15 @@
 -- Where no phase finds a fault, all is as it must be, replica by replica.
-use Rattle.std.proofs.Common.{◌≡◌, ℕ, ◌+◌, true, false, List, [], ◌∷◌, ◌++◌, Option, Some, None, inl, inr, refl, sym, ap, subst, ◌∙◌, append_assoc}
+use Rattle.std.proofs.Common.{◌≡◌, ℕ, List, [], ◌∷◌, ◌++◌, Option, Some, None, inl, inr, refl, sym, ap, subst, ◌∙◌, append_assoc}
 use Rattle.std.specs.List.{AllByRecursion}
-use Rattle.std.specs.Prelude.{IsTrue, ◌&&◌}
+use Rattle.std.specs.Prelude.{IsTrue}
 use Rattle.std.proofs.lemmas.Bool.{cases_Bool, and_from}
 use Rattle.eve_smallbank.specs.Access.{Executed, Fits}
 use Rattle.eve_grammar.specs.Trace.{Access, Step, Attempts, Commits, RollsBack, Trace}
 use Rattle.eve_grammar.specs.Spelling.{steps_at}
 use Rattle.eve_views.specs.declared.fault.Code.TheVariants as code
-use Rattle.eve_views.specs.declared.fault.Fault.{Fault}
 use Rattle.eve_history.specs.declared.wrong.Wrong.{Wrong}
 use Rattle.eve_history.specs.FirstWrong.{first_wrong, fault_of}
-use Rattle.eve_history.specs.Section.{Placed, SectionState, start, next, state_after, settled, are_right}
+use Rattle.eve_history.specs.Section.{Placed, SectionState, start, next, state_after, settled}
 use Rattle.eve_history.specs.Told.{history, names_of, IsRightSection}
 use Rattle.eve_history.specs.Faults.{IsStructureFault}
 use Rattle.eve_history.proofs.Structure.{state_after-append, right_steps, found_is_least}
@@ -19,7 +18,7 @@ use Rattle.eve_serial.specs.Sound.{OfSettledAccesses, RecordsFit}
 use Rattle.eve_restores.specs.Tables.{are_right_restores, all_restore_rightly, RestoresAreRight}
 use Rattle.eve_restores.specs.Faults.{IsRestoreFault}
 use Rattle.eve_tokens.specs.Faults.{due_token, TokensAreDue, IsTokenFault}
-use Rattle.eve_audit.specs.Pieces.{HasNone}
+use Rattle.eve_views.specs.Form.{HasNone}
 use Rattle.eve_audit.proofs.Deciding.{Decided, stable, all_or_place, numbers, lists}
 
 module _ (t : Trace) (e : ℕ) where

@@ -1,10 +1,10 @@
 -- Where no phase finds a fault, all is as it must be, of all replicas together.
-use Rattle.std.proofs.Common.{◌≡◌, ◌≢◌, ℕ, suc, ◌+◌, ◌-◌, ◌*◌, ◌<◌, ◌≤◌, inl, inr, List, [], ◌∷◌, length, Option, Some, None, IfSome, slice_get, get_or, refl, sym, ap, subst, ◌∙◌, arith}
+use Rattle.std.proofs.Common.{◌≡◌, ℕ, suc, ◌+◌, ◌-◌, ◌<◌, ◌≤◌, inl, inr, List, [], ◌∷◌, length, Option, Some, None, IfSome, slice_get, get_or, refl, sym, ap, subst, ◌∙◌, arith}
 use Rattle.std.specs.List.{AllByRecursion, All, list_all, enumerate_from}
 use Rattle.std.specs.Prelude.{IsTrue}
 use Rattle.std.proofs.lemmas.Bool.{cases_lt, cases_eq}
 use Rattle.std.proofs.lemmas.Option.{slice_get-get_or, slice_get_within}
-use Rattle.eve_grammar.specs.Trace.{ForRollback, ForCommit, Asked, Sent, Batch, Vote, Step, Attempts, Commits, RollsBack, Trace}
+use Rattle.eve_grammar.specs.Trace.{ForRollback, ForCommit, Asked, Sent, Batch, Step, Attempts, Commits, RollsBack, Trace}
 use Rattle.eve_grammar.specs.Frames.{OfSent, batches_of}
 use Rattle.eve_grammar.specs.Spelling.{frame_text, located, batch_text, batches_start, batches_at, sent_start, sent_at, steps_at, votes_of}
 use Rattle.eve_grammar.specs.Limits.{HasLimits, is_vote}
@@ -26,13 +26,13 @@ use Rattle.eve_majorities.proofs.Backing.{fault_from}
 use Rattle.eve_agree.specs.Faults.{first_to_commit, HaveSameOutcome, ReplicasAgree, IsOutcomeFault}
 use Rattle.eve_agree.proofs.Agreeing.{differs, they_agree}
 use Rattle.eve_replies.specs.Faults.{IsReplied, AllReplied, IsReplyFault}
-use Rattle.eve_audit.specs.Pieces.{HasNone}
-use Rattle.eve_audit.proofs.Deciding.{Decided, decided_both, decided_as, all_or_place, some_if, below_or_none, numbers, integers, lists, options, replies}
+use Rattle.eve_views.specs.Form.{HasNone}
+use Rattle.eve_audit.proofs.Deciding.{Decided, decided_both, decided_as, all_or_place, below_or_none, numbers, integers, lists, options, replies}
 
 -- ---- votes
 
 -- a quorum is one verifier or more
-some_quorum : (t : Trace) → HasLimits t → 1 ≤ t.quorum
+pub some_quorum : (t : Trace) → HasLimits t → 1 ≤ t.quorum
 some_quorum t limits = let quorum = quorum_limits t limits in omega (arith, quorum.1)
 
 votes_right : (t : Trace) → HasLimits t → (v : ℕ) → v + t.quorum ≤ length t.verifiers → All (IsRight (length t.batches)) (votes_of t v)
@@ -42,7 +42,7 @@ votes_right t limits v early k d lt =
     let own : IsTrue (list_all (is_vote (length t.batches)) (votes_of t v)) = all_at (list_all (is_vote (length t.batches))) t.verifiers v (votes_of t v) limits.votes (slice_get-get_or t.verifiers v [] there) in
     right_vote (length t.batches) (get_or (votes_of t v) k d) (all_at (is_vote (length t.batches)) (votes_of t v) k (get_or (votes_of t v) k d) own (slice_get-get_or (votes_of t v) k d lt))
 
-length-enumerated : {A : Type 0} (n : ℕ) (xs : List A) → length (enumerate_from n xs) ≡ length xs
+pub length-enumerated : {A : Type 0} (n : ℕ) (xs : List A) → length (enumerate_from n xs) ≡ length xs
 length-enumerated n [] = refl
 length-enumerated n (x ∷ xs) = ap suc (length-enumerated (n + 1) xs)
 
@@ -77,7 +77,7 @@ module _ (t : Trace) (limits : HasLimits t) where
 
 -- ---- majorities
 
-enough : (quorum votes : ℕ) → Decided (quorum ≤ votes)
+pub enough : (quorum votes : ℕ) → Decided (quorum ≤ votes)
 enough quorum votes = elim (cases_lt votes quorum) [ inl few ↦ inr (λ le. absurd (omega (arith, few, le))) | inr le ↦ inl le ]
 
 module _ (t : Trace) where

@@ -23,7 +23,7 @@ abbrev summary : ℕ → ℕ → ℕ → Summary
 summary replicas batches committed = record { replicas = replicas; batches = batches; committed = committed }
 
 -- the code with this number
-code_with : ℕ → Code
+pub code_with : ℕ → Code
 code_with n =
     if n == 1 then code.Length
     else if n == 2 then code.Magic
@@ -50,7 +50,7 @@ code_with n =
     else if n == 80 then code.Outcome
     else code.Reply
 
-with_its_number : (c : Code) → code_with (number_of c) ≡ c
+pub with_its_number : (c : Code) → code_with (number_of c) ≡ c
 unfolding code_with
 with_its_number code.Length = refl
 with_its_number c = refl

@@ -5,14 +5,13 @@ use Rattle.std.proofs.lemmas.Bool.{and_parts}
 use Rattle.eve_grammar.specs.Trace.{Trace, Head}
 use Rattle.eve_grammar.specs.Limits.{Spells, is_head}
 use Rattle.eve_views.specs.Code.{phase_of}
-use Rattle.eve_views.specs.Form.{IsFormFault, IsLeastFormFault, IfFound}
+use Rattle.eve_views.specs.Form.{IsFormFault, IfFound, IsLeast, HasNone}
 use Rattle.eve_views.specs.declared.fault.CheckFault.{CheckFault}
 use Rattle.eve_views.specs.declared.fault.CheckFault.TheVariants.{Found, Memory}
 use Rattle.eve_views.specs.declared.fault.Fault.{Fault}
 use Rattle.eve_audit.specs.declared.verdict.Summary.{Summary}
-use Rattle.eve_audit.specs.Verdict.{Stands, in_form, in_orders, in_section, in_votes, in_majorities, in_agreement, in_replies, Precedes, IsFirst, IsSummary, IsFaultless}
-use Rattle.eve_audit.specs.Pieces.{IsFirstOf, HasNone, IsFaultBelow, IsCommonFault, IsTraceFault, of_votes, of_majorities, of_agreement, of_replies, IsLeastBelow}
-use Rattle.eve_audit.specs.Pieces as of_trace
+use Rattle.eve_audit.specs.Verdict.{Stands, in_form, in_trace, IsTraceFault, Precedes, IsFirst, IsSummary, IsFaultless}
+use Rattle.eve_audit.specs.Pieces.{IsFirstOf, IsLeastBelow}
 use Rattle.eve_audit.proofs.Phases.{form_phase}
 
 -- what precedes all that stands is judged, and the first
@@ -28,19 +27,14 @@ first_of_all bytes f stands first = record {
 
 -- ---- bytes that are no trace
 
-form_first : (bytes : List ℕ) (f : Fault) → IsLeastFormFault bytes f → ((t : Trace) → ¬ Spells bytes t) → IsFirst bytes f
+form_first : (bytes : List ℕ) (f : Fault) → IsLeast (IsFormFault bytes) f → ((t : Trace) → ¬ Spells bytes t) → IsFirst bytes f
 form_first bytes f least none = first_of_all bytes f (in_form least.is) by
   where
     by : (g : Fault) → Stands bytes g → Precedes f g
     by g (in_form is) = inr (form_phase bytes f least.is ∙ sym (form_phase bytes g is), least.least g is)
-    by g (in_orders t spells is) = absurd (none t spells)
-    by g (in_section t e spells lt is) = absurd (none t spells)
-    by g (in_votes t spells is) = absurd (none t spells)
-    by g (in_majorities t spells is) = absurd (none t spells)
-    by g (in_agreement t spells is) = absurd (none t spells)
-    by g (in_replies t spells is) = absurd (none t spells)
+    by g (in_trace t spells is) = absurd (none t spells)
 
-pub found_in_form : (bytes : List ℕ) (why : CheckFault) → IfFound why (IsLeastFormFault bytes) → IfFound why (λ _. (t : Trace) → ¬ Spells bytes t) → IfFound why (IsFirst bytes)
+pub found_in_form : (bytes : List ℕ) (why : CheckFault) → IfFound why (IsLeast (IsFormFault bytes)) → IfFound why (λ _. (t : Trace) → ¬ Spells bytes t) → IfFound why (IsFirst bytes)
 found_in_form bytes Memory least none = tt
 found_in_form bytes (Found f) least none = form_first bytes f least none
 
@@ -49,25 +43,12 @@ found_in_form bytes (Found f) least none = form_first bytes f least none
 module _ (bytes : List ℕ) (t : Trace) (spells : Spells bytes t) (once : (u : Trace) → Spells bytes u → u ≡ t) where
   -- what stands in the trace stands in its bytes
   pub stands_in_bytes : (f : Fault) → IsTraceFault t f → Stands bytes f
-  stands_in_bytes f (of_trace.in_orders is) = in_orders t spells is
-  stands_in_bytes f (of_trace.in_section below) = in_section t below.0 spells below.1 below.2
-  stands_in_bytes f (of_trace.in_common (of_votes is)) = in_votes t spells is
-  stands_in_bytes f (of_trace.in_common (of_majorities is)) = in_majorities t spells is
-  stands_in_bytes f (of_trace.in_common (of_agreement is)) = in_agreement t spells is
-  stands_in_bytes f (of_trace.in_common (of_replies is)) = in_replies t spells is
-
-  moved : (u : Trace) → Spells bytes u → (P : Trace → Type 0) → P u → P t
-  moved u other P is = subst P (once u other) is
+  stands_in_bytes f is = in_trace t spells is
 
   -- and all that stands in them, where none of form does
   stands_in_trace : (f : Fault) → HasNone (IsFormFault bytes) → Stands bytes f → IsTraceFault t f
   stands_in_trace f formed (in_form is) = absurd (formed f is)
-  stands_in_trace f formed (in_orders u other is) = moved u other (λ x. IsTraceFault x f) (of_trace.in_orders is)
-  stands_in_trace f formed (in_section u e other lt is) = moved u other (λ x. IsTraceFault x f) (of_trace.in_section (e, lt, is))
-  stands_in_trace f formed (in_votes u other is) = moved u other (λ x. IsTraceFault x f) (of_trace.in_common (of_votes is))
-  stands_in_trace f formed (in_majorities u other is) = moved u other (λ x. IsTraceFault x f) (of_trace.in_common (of_majorities is))
-  stands_in_trace f formed (in_agreement u other is) = moved u other (λ x. IsTraceFault x f) (of_trace.in_common (of_agreement is))
-  stands_in_trace f formed (in_replies u other is) = moved u other (λ x. IsTraceFault x f) (of_trace.in_common (of_replies is))
+  stands_in_trace f formed (in_trace u other is) = subst (λ x. IsTraceFault x f) (once u other) is
 
   pub trace_first : (f : Fault) → HasNone (IsFormFault bytes) → IsFirstOf (IsTraceFault t) f → IsFirst bytes f
   trace_first f formed found = first_of_all bytes f (stands_in_bytes f found.is) (λ g stands. found.first g (stands_in_trace g formed stands))

@@ -16,9 +16,7 @@ use Rattle.eve_history.specs.Faults.{IsOrderFault}
 use Rattle.eve_votes.specs.Faults.{StandsInVotes}
 use Rattle.eve_replies.specs.Faults.{StandsInReplies}
 use Rattle.eve_views.specs.Form.{StandsInForm}
-use Rattle.eve_audit.specs.Verdict as stand
-use Rattle.eve_audit.specs.Verdict.{Stands, IsOwnFault, of_structure, of_records, of_chains, of_restores, of_tokens}
-use Rattle.eve_audit.specs.Pieces.{IsTraceFault, in_orders, in_section, in_common, of_votes, of_majorities, of_agreement, of_replies}
+use Rattle.eve_audit.specs.Verdict.{Stands, in_form, in_trace, IsOwnFault, of_structure, of_records, of_chains, of_restores, of_tokens, IsTraceFault, of_votes, of_majorities, of_agreement, of_replies, in_orders, in_section, in_common}
 use Rattle.eve_audit.proofs.Sections.{LiesIn, FatesAreAsItEnds}
 use Rattle.eve_audit.proofs.Where.{Between, at_place, all_located, mapped, front_more}
 use Rattle.eve_audit.proofs.Kept.{none_beyond}
@@ -146,10 +144,5 @@ module _ (orders : (t : Trace) (f : Fault) → IsOrderFault t f → f.offset ≤
 
   -- a fault of any phase
   pub stands_within : (bytes : List ℕ) (f : Fault) → Stands bytes f → f.offset ≤ length bytes
-  stands_within bytes f (stand.in_form is) = form_within bytes f.code f.offset is.stands
-  stands_within bytes f (stand.in_orders t spells is) = of_trace bytes f t spells (in_orders is)
-  stands_within bytes f (stand.in_section t e spells lt is) = of_trace bytes f t spells (in_section (e, lt, is))
-  stands_within bytes f (stand.in_votes t spells is) = of_trace bytes f t spells (in_common (of_votes is))
-  stands_within bytes f (stand.in_majorities t spells is) = of_trace bytes f t spells (in_common (of_majorities is))
-  stands_within bytes f (stand.in_agreement t spells is) = of_trace bytes f t spells (in_common (of_agreement is))
-  stands_within bytes f (stand.in_replies t spells is) = of_trace bytes f t spells (in_common (of_replies is))
+  stands_within bytes f (in_form is) = form_within bytes f.code f.offset is.stands
+  stands_within bytes f (in_trace t spells is) = of_trace bytes f t spells is

@@ -2,10 +2,9 @@
 use Rattle.std.specs.Prelude.{ℕ, List}
 use Rattle.eve_grammar.specs.Trace.{Trace}
 use Rattle.eve_grammar.specs.Limits.{Spells}
-use Rattle.eve_views.specs.Form.{IsFormFault}
+use Rattle.eve_views.specs.Form.{IsFormFault, HasNone}
 use Rattle.eve_audit.specs.declared.verdict.Verdict.{Verdict}
 use Rattle.eve_audit.specs.Verdict.{IsVerdict, IsYesOfAudited, LiesWithin, NamesReplica}
-use Rattle.eve_audit.specs.Pieces.{HasNone}
 
 -- the bytes spell this trace, and have no fault of form
 pub record IsRead (bytes : List ℕ) (t : Trace) : Type 0 where

@@ -8,7 +8,8 @@ use Rattle.eve_audit.specs.declared.replica.Piece.{Piece}
 use Rattle.eve_audit.specs.declared.slots.Finding.{Finding}
 use Rattle.eve_audit.specs.declared.slots.Slot.{Slot}
 use Rattle.eve_audit.specs.Verdict.{IsOwnFault}
-use Rattle.eve_audit.specs.Pieces.{IsFirstOf, HasNone, IsSoundReplica}
+use Rattle.eve_views.specs.Form.{HasNone}
+use Rattle.eve_audit.specs.Pieces.{IsFirstOf, IsSoundReplica}
 
 -- a replica without a fault of its own, what it tells and what it committed
 pub record IsPieceOf (t : Trace) (e : ℕ) (piece : Piece) : Type 0 where

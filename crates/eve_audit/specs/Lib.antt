@@ -3,3 +3,4 @@ pub mod Pieces
 pub mod Findings
 pub mod Answer
 pub mod Where
+pub mod Alone

@@ -3,6 +3,7 @@ use Rattle.std.specs.Prelude.{◌≡◌, ℕ, ◌<◌, ◌≤◌, ◌-◌, ◌^�
 use Rattle.eve_grammar.specs.Trace.{Trace}
 use Rattle.eve_grammar.specs.Frames.{sections_of}
 use Rattle.eve_views.specs.declared.fault.Fault.{Fault}
+use Rattle.eve_views.specs.Form.{HasNone}
 use Rattle.eve_history.specs.Faults.{IsOrderFault}
 use Rattle.eve_history.specs.Told.{Telling, telling, IsRightSection}
 use Rattle.eve_serial.specs.Sound.{SettledAreSound}
@@ -13,15 +14,12 @@ use Rattle.eve_votes.specs.Faults.{IsVoteFault, AreVotesSound}
 use Rattle.eve_majorities.specs.Faults.{AllAreBacked, IsMajorityFault}
 use Rattle.eve_agree.specs.Faults.{ReplicasAgree, IsOutcomeFault}
 use Rattle.eve_replies.specs.Faults.{AllReplied, IsReplyFault}
-use Rattle.eve_audit.specs.Verdict.{IsOwnFault, Precedes, last_of}
+use Rattle.eve_audit.specs.Verdict.{IsOwnFault, IsFaultBelow, Precedes, last_of}
 
 -- of some faults the one that precedes every other
 pub record IsFirstOf (S : Fault → Type 0) (f : Fault) : Type 0 where
   pub is : S f
   pub first : (g : Fault) → S g → Precedes f g
-
-abbrev pub HasNone : (Fault → Type 0) → Type 0
-HasNone S = (f : Fault) → ¬ S f
 
 -- ---- replica by replica
 
@@ -32,11 +30,7 @@ pub record IsSoundReplica (t : Trace) (e : ℕ) : Type 0 where
   pub restores : RestoresAreRight t e
   pub tokens : TokensAreDue t e
 
--- a fault that a replica below n has of its own
-abbrev pub IsFaultBelow : Trace → ℕ → Fault → Type 0
-IsFaultBelow t n f = (e : ℕ) × (e < n) × IsOwnFault t e f
-
--- the first of those, if there is one
+-- the first of the faults that the replicas below n have of their own, if there is one
 abbrev pub IsFoundBelow : Trace → ℕ → Option Fault → Type 0
 IsFoundBelow t n (Some f) = IsFirstOf (IsFaultBelow t n) f
 IsFoundBelow t n None = HasNone (IsFaultBelow t n)
@@ -60,24 +54,9 @@ pub record IsJudgedBelow (t : Trace) (n : ℕ) (first : Option Fault) (told : Li
 
 -- ---- all replicas together
 
--- a fault that is judged only where no replica has one of its own
-pub data IsCommonFault (t : Trace) (f : Fault) : Type 0 where
-  of_votes : IsVoteFault t f → IsCommonFault t f
-  of_majorities : IsMajorityFault t f → IsCommonFault t f
-  of_agreement : IsOutcomeFault t f → IsCommonFault t f
-  of_replies : IsReplyFault t f → IsCommonFault t f
-
--- what holds where there is none
+-- what holds where no fault of theirs stands
 pub record IsSoundTogether (t : Trace) : Type 0 where
   pub votes : AreVotesSound t
   pub backed : AllAreBacked t
   pub agree : ReplicasAgree t
   pub replied : AllReplied t
-
--- ---- the trace
-
--- a fault of any phase but that of form
-pub data IsTraceFault (t : Trace) (f : Fault) : Type 0 where
-  in_orders : IsOrderFault t f → IsTraceFault t f
-  in_section : IsFaultBelow t (length t.sections) f → IsTraceFault t f
-  in_common : IsCommonFault t f → IsTraceFault t f

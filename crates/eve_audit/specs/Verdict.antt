@@ -3,10 +3,10 @@ use Rattle.std.specs.Prelude.{◌≡◌, ℕ, ◌<◌, ◌≤◌, List, length, 
 use Rattle.eve_grammar.specs.Trace.{Trace}
 use Rattle.eve_grammar.specs.Limits.{Spells}
 use Rattle.eve_views.specs.Code.{phase_of}
-use Rattle.eve_views.specs.Form.{IsFormFault, IsUpTo}
+use Rattle.eve_views.specs.Form.{IsFormFault, IsUpTo, HasNone}
 use Rattle.eve_views.specs.declared.fault.Fault.{Fault}
 use Rattle.eve_history.specs.Faults.{IsOrderFault, IsStructureFault}
-use Rattle.eve_history.specs.Told.{telling}
+use Rattle.eve_history.specs.Told.{history}
 use Rattle.eve_serial.specs.Faults.{IsRecordFault, IsChainFault}
 use Rattle.eve_restores.specs.Faults.{IsRestoreFault}
 use Rattle.eve_tokens.specs.Faults.{IsTokenFault}
@@ -28,25 +28,36 @@ pub data IsOwnFault (t : Trace) (e : ℕ) (f : Fault) : Type 0 where
   of_restores : IsRestoreFault t e f → IsOwnFault t e f
   of_tokens : IsTokenFault t e f → IsOwnFault t e f
 
+-- a fault that a replica below n has of its own
+abbrev pub IsFaultBelow : Trace → ℕ → Fault → Type 0
+IsFaultBelow t n f = (e : ℕ) × (e < n) × IsOwnFault t e f
+
+-- a fault that is judged only where no replica has one of its own
+pub data IsCommonFault (t : Trace) (f : Fault) : Type 0 where
+  of_votes : IsVoteFault t f → IsCommonFault t f
+  of_majorities : IsMajorityFault t f → IsCommonFault t f
+  of_agreement : IsOutcomeFault t f → IsCommonFault t f
+  of_replies : IsReplyFault t f → IsCommonFault t f
+
+-- a fault of any phase but that of form
+pub data IsTraceFault (t : Trace) (f : Fault) : Type 0 where
+  in_orders : IsOrderFault t f → IsTraceFault t f
+  in_section : IsFaultBelow t (length t.sections) f → IsTraceFault t f
+  in_common : IsCommonFault t f → IsTraceFault t f
+
 -- a fault stands: one of form in the bytes, any other in the trace that they spell
 pub data Stands (bytes : List ℕ) (f : Fault) : Type 0 where
   in_form : IsFormFault bytes f → Stands bytes f
-  in_orders : (t : Trace) → Spells bytes t → IsOrderFault t f → Stands bytes f
-  in_section : (t : Trace) (e : ℕ) → Spells bytes t → e < length t.sections → IsOwnFault t e f → Stands bytes f
-  in_votes : (t : Trace) → Spells bytes t → IsVoteFault t f → Stands bytes f
-  in_majorities : (t : Trace) → Spells bytes t → IsMajorityFault t f → Stands bytes f
-  in_agreement : (t : Trace) → Spells bytes t → IsOutcomeFault t f → Stands bytes f
-  in_replies : (t : Trace) → Spells bytes t → IsReplyFault t f → Stands bytes f
+  in_trace : (t : Trace) → Spells bytes t → IsTraceFault t f → Stands bytes f
 
 -- by phase, then offset, then number
 abbrev pub Precedes : Fault → Fault → Type 0
 Precedes f g = (phase_of f.code < phase_of g.code) ⊎ ((phase_of f.code ≡ phase_of g.code) × IsUpTo f g)
 
--- A fault of an earlier phase keeps another from being judged. In phases 3 to 7 a replica is judged by itself: there
--- only a fault of the phases before, or one of its own, does.
+-- A fault of an earlier phase keeps another from being judged. In phases 3 to 7 a replica is judged by itself: where
+-- both are of these, only a fault of the same replica does.
 abbrev pub Hinders : Fault → Fault → Type 0
-Hinders g f =
-    (phase_of g.code < phase_of f.code) × ((phase_of f.code < 3) ⊎ ((7 < phase_of f.code) ⊎ ((phase_of g.code < 3) ⊎ (g.replica ≡ f.replica))))
+Hinders g f = (phase_of g.code < phase_of f.code) × (3 ≤ phase_of g.code → phase_of f.code ≤ 7 → g.replica ≡ f.replica)
 
 pub record IsJudged (bytes : List ℕ) (f : Fault) : Type 0 where
   pub stands : Stands bytes f
@@ -59,7 +70,7 @@ pub record IsFirst (bytes : List ℕ) (f : Fault) : Type 0 where
 
 -- replica e's last committed number
 abbrev pub last_of : Trace → ℕ → ℕ
-last_of t e = (telling t e).committed
+last_of t e = (history t e).last
 
 -- how many replicas and batches there are, and the least last committed number over the replicas
 pub record IsSummary (t : Trace) (s : Summary) : Type 0 where
@@ -71,7 +82,7 @@ pub record IsSummary (t : Trace) (s : Summary) : Type 0 where
 -- the bytes are a trace in which no fault stands
 pub record IsFaultless (bytes : List ℕ) (t : Trace) : Type 0 where
   pub spells : Spells bytes t
-  pub none : (f : Fault) → ¬ Stands bytes f
+  pub none : HasNone (Stands bytes)
 
 -- the first fault, or yes where there is none
 abbrev pub IsVerdict : List ℕ → Verdict → Type 0

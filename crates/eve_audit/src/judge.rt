@@ -1,15 +1,15 @@
 //! The verdict on a trace, from what its phases find.
 
 ghost use Rattle.std.specs.Prelude.{◌≡◌, ◌≤◌, ℕ, List, IfOk, IfErr, All, length};
-ghost use Rattle.eve_views.specs.Form.{IfFound};
+ghost use Rattle.eve_views.specs.Form.{IfFound, HasNone};
 ghost use Rattle.eve_views.specs.Fronts.{whole};
 ghost use Rattle.eve_history.specs.Faults.{IsOrderFault};
 ghost use Rattle.eve_history.specs.Told.{names_of};
 ghost use Rattle.eve_theorem.specs.Accepted.{IsAccepted};
 ghost use Rattle.eve_audit.specs.Answer.{IsAnswer, IsRead};
 ghost use Rattle.eve_audit.specs.Findings.{AreTrue};
-ghost use Rattle.eve_audit.specs.Verdict.{IsSummary, IsVerdict, IsYesOfAudited, LiesWithin, NamesReplica};
-ghost use Rattle.eve_audit.specs.Pieces.{IsFirstOf, HasNone, IsTraceFault};
+ghost use Rattle.eve_audit.specs.Verdict.{IsSummary, IsVerdict, IsYesOfAudited, LiesWithin, NamesReplica, IsTraceFault};
+ghost use Rattle.eve_audit.specs.Pieces.{IsFirstOf};
 ghost use Rattle.eve_audit.specs.declared.verdict.Verdict.TheVariants.{No};
 
 use crate::replicas::judge_replicas;

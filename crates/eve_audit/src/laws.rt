@@ -8,7 +8,8 @@ ghost use Rattle.eve_theorem.specs.Audited.{IsAudited};
 ghost use Rattle.eve_audit.specs.declared.verdict.Summary.{Summary};
 ghost use Rattle.eve_audit.specs.declared.verdict.Verdict.{Verdict};
 ghost use Rattle.eve_audit.specs.declared.verdict.Verdict.TheVariants.{Yes};
-ghost use Rattle.eve_audit.specs.Verdict.{Stands, IsVerdict, SpellsAudited};
+ghost use Rattle.eve_audit.specs.Verdict.{Stands, IsOwnFault, IsVerdict, SpellsAudited};
+ghost use Rattle.eve_audit.specs.Alone.{AgreeFor};
 ghost use Rattle.eve_audit.specs.Where.{NamesItsSection};
 
 /// Bytes have one verdict at most.
@@ -19,6 +20,19 @@ pub fn verdicts_are_unique()
 {
     eve_grammar::laws::bytes_spell_one_trace();
     eve_history::laws::fates_are_as_the_section_ends();
+}
+
+/// Every list of bytes has a verdict: so the verdict on bytes is one, and always there. What is below 2^8 is a byte.
+///
+/// docs/MODEL.md, "Verdict".
+pub fn bytes_have_a_verdict()
+    ensures { (bytes : List ℕ) → ((i : ℕ) → slice_index_or bytes i 0 < 2 ^ 8) → (v : Verdict) × IsVerdict bytes v }
+{
+    eve_grammar::laws::bytes_spell_one_trace();
+    eve_history::laws::faults_lie_within();
+    eve_history::laws::fates_are_as_the_section_ends();
+    eve_smallbank::laws::requests_fit();
+    eve_smallbank::laws::fitting_records_are_unique();
 }
 
 /// Each fault that stands lies within the bytes, or at their end: so does each fault that a phase names.
@@ -42,6 +56,14 @@ pub fn standing_faults_name_their_section()
     eve_grammar::laws::bytes_spell_one_trace();
     eve_history::laws::fates_are_as_the_section_ends();
 }
+
+/// Each replica is judged by itself: two traces that agree in the header, the customers, the batches and a replica's section
+/// have the same faults of that replica's own, whatever the other replicas did, was voted and was sent.
+///
+/// docs/MODEL.md, "Faults".
+pub fn replicas_are_judged_by_themselves()
+    ensures { (t u : Trace) (e : ℕ) (f : Fault) → AgreeFor t u e → IsOwnFault t e f → IsOwnFault u e f }
+{}
 
 /// Where the verdict on bytes is yes, they spell a trace, and the trace that they spell is audited: whatever call found
 /// the verdict. Each fault can be decided, so where none stands all is as `IsAudited` says.

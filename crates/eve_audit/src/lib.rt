@@ -8,8 +8,6 @@ mod replica;
 mod replicas;
 mod share;
 mod slots;
-#[cfg(test)]
-mod tests;
 mod together;
 mod verdict;
 mod workers;

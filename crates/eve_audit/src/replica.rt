@@ -1,14 +1,14 @@
 //! The audit of one replica by itself.
 
 ghost use Rattle.std.specs.Prelude.{◌≡◌, ◌<◌, IfOk, IfErr, length};
-ghost use Rattle.eve_views.specs.Form.{IfFound};
+ghost use Rattle.eve_views.specs.Form.{IfFound, HasNone};
 ghost use Rattle.eve_views.specs.Fronts.{whole};
 ghost use Rattle.eve_history.specs.Faults.{IsStructureFault};
 ghost use Rattle.eve_history.specs.Told.{telling, names_of, IsRightSection};
 ghost use Rattle.eve_banks.specs.Settling.{settling};
 ghost use Rattle.eve_audit.specs.Findings.{IsPieceOf};
 ghost use Rattle.eve_audit.specs.Verdict.{IsOwnFault};
-ghost use Rattle.eve_audit.specs.Pieces.{IsFirstOf, HasNone, IsSoundReplica};
+ghost use Rattle.eve_audit.specs.Pieces.{IsFirstOf, IsSoundReplica};
 
 use eve_accounts::Names;
 use eve_banks::Settled;

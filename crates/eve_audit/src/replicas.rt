@@ -1,13 +1,13 @@
 //! The audit of each replica by itself.
 
 ghost use Rattle.std.specs.Prelude.{◌≡◌, ◌++◌, ◌∷◌, [], ℕ, IfOk, IfErr, IfSome, OnOk, ◌<◌, ◌^◌, length, min, All};
-ghost use Rattle.eve_views.specs.Form.{IfFound};
+ghost use Rattle.eve_views.specs.Form.{IfFound, HasNone};
 ghost use Rattle.eve_views.specs.Fronts.{whole};
 ghost use Rattle.eve_history.specs.Told.{names_of, tellings};
 ghost use Rattle.eve_banks.specs.Settling.{settlings};
 ghost use Rattle.eve_audit.specs.Findings.{AreTrue, IsAnswerOf, IsPieceOf};
-ghost use Rattle.eve_audit.specs.Verdict.{IsOwnFault};
-ghost use Rattle.eve_audit.specs.Pieces.{IsFirstOf, HasNone, IsSoundReplica, IsFaultBelow, IsLeastBelow};
+ghost use Rattle.eve_audit.specs.Verdict.{IsOwnFault, IsFaultBelow};
+ghost use Rattle.eve_audit.specs.Pieces.{IsFirstOf, IsSoundReplica, IsLeastBelow};
 
 use crate::precedence::first_of;
 use crate::replica::{Piece, judge_replica};

@@ -1,11 +1,12 @@
 //! The audit of all replicas together.
 
 ghost use Rattle.std.specs.Prelude.{◌≡◌, ℕ, IfOk, IfErr};
-ghost use Rattle.eve_views.specs.Form.{IfFound};
+ghost use Rattle.eve_views.specs.Form.{IfFound, HasNone};
 ghost use Rattle.eve_views.specs.Fronts.{whole};
 ghost use Rattle.eve_history.specs.Told.{tellings, IsRightSection};
 ghost use Rattle.eve_banks.specs.Settling.{settlings};
-ghost use Rattle.eve_audit.specs.Pieces.{IsFirstOf, HasNone, IsCommonFault, IsSoundTogether};
+ghost use Rattle.eve_audit.specs.Verdict.{IsCommonFault};
+ghost use Rattle.eve_audit.specs.Pieces.{IsFirstOf, IsSoundTogether};
 
 use eve_agree::equal_balances;
 use eve_banks::Settled;

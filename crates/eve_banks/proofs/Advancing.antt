@@ -3,20 +3,20 @@ use Rattle.std.proofs.Common.{◌≡◌, ℕ, ℤ, zero, suc, ◌-◌, ◌≤◌
 use Rattle.std.specs.List.{flat_map}
 use Rattle.std.proofs.lemmas.Grind.{flat_map-append}
 use Rattle.eve_smallbank.specs.declared.entry.Entry.{Entry}
-use Rattle.eve_smallbank.specs.Access.{balance_at, values_after}
+use Rattle.eve_smallbank.specs.Access.{balance_at, bank_of, values_after}
 use Rattle.eve_frames.specs.declared.access.AccessView.{AccessView}
 use Rattle.eve_grammar.specs.Trace.{Access, Trace}
 use Rattle.eve_grammar.specs.Limits.{HasLimits}
 use Rattle.eve_history.specs.Section.{Placed}
-use Rattle.eve_history.specs.Told.{ordered, history, IsRightSection}
+use Rattle.eve_history.specs.Told.{ordered, history, names_of, IsRightSection}
 use Rattle.eve_serial.specs.Visible.{opening_of, opening_rows, executions}
-use Rattle.eve_serial.specs.Committed.{values_after_all, attempts_of, values_to}
+use Rattle.eve_serial.specs.Committed.{values_after_all, attempts_of, values_to, bank_after}
 use Rattle.eve_serial.specs.Along.{all_said, entries_along, AreWithin}
 use Rattle.eve_serial.proofs.Linked.{some_injective, none≢some}
 use Rattle.eve_serial.proofs.AlongLaws.{values_after-append}
 use Rattle.eve_serial.proofs.SerialSections.{take_one_more}
 use Rattle.eve_serial.proofs.Advancing.{advance_along}
-use Rattle.eve_banks.specs.Settling.{Settling, settling, values_in}
+use Rattle.eve_banks.specs.Settling.{Settling, settling, values_in, AreBankAfter}
 use Rattle.eve_banks.specs.Parts.{parts}
 use Rattle.eve_banks.proofs.Parts.{part_within, length-parts}
 
@@ -109,3 +109,9 @@ settled_are t e (suc n) limits right = one_settled t e n limits right (settled_a
 pub settled_values : (t : Trace) (e n : ℕ) → HasLimits t → IsRightSection t e → values_in (settling t e) n ≡ values_to t e n
 unfolding values_in settling
 settled_values t e n limits right = settled_are t e n limits right
+
+-- balances with those values are the bank after batch n
+pub banks_are : (s : Settling) (n : ℕ) (balances : List ℤ) → balance_at balances ≡ values_in s n → AreBankAfter s n balances
+unfolding bank_after
+banks_are s n balances values = λ t e limits right is.
+    ap (bank_of (names_of t)) (values ∙ ap (λ (v : Settling). values_in v n) is ∙ settled_values t e n limits right)

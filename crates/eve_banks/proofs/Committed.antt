@@ -208,8 +208,3 @@ pub is_there : {A : Type 0} (xs : List A) (i : ℕ) → i < length xs → There 
 is_there [] i lt = absurd (omega arith)
 is_there (x ∷ xs) zero lt = record { item = x; at = refl }
 is_there (x ∷ xs) (suc i) lt = let rest = is_there xs i (omega arith) in record { item = rest.item; at = rest.at }
-
--- a history is its own replica's
-pub own_replica : (t : Trace) (e : ℕ) (v : Telling) → v ≡ telling t e → v.replica ≡ e
-unfolding telling
-own_replica t e v is = ap (λ (w : Telling). w.replica) is

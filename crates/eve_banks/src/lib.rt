@@ -4,7 +4,5 @@
 pub mod laws;
 mod opening;
 mod settled;
-#[cfg(test)]
-mod tests;
 
 pub use settled::Settled;

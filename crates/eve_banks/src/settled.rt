@@ -5,7 +5,7 @@ ghost use Rattle.eve_smallbank.specs.Access.{balance_at};
 ghost use Rattle.eve_views.specs.Fronts.{whole};
 ghost use Rattle.eve_history.specs.Told.{Ran, telling, IsRightSection};
 ghost use Rattle.eve_serial.specs.Along.{all_said};
-ghost use Rattle.eve_banks.specs.Settling.{settling, values_in};
+ghost use Rattle.eve_banks.specs.Settling.{settling, values_in, AreBankAfter};
 ghost use Rattle.eve_banks.specs.Parts.{begin, parts, DoRise};
 
 use crate::opening::opening_balances;
@@ -78,11 +78,15 @@ impl<'a> Settled<'a> {
         self.ends.len() as u32
     }
 
-    /// The balances after the first n batches, in cents: the work is what those batches wrote.
+    /// The balances after the first n batches, in cents, which are the bank after batch n: the work is what those batches
+    /// wrote.
+    ///
+    /// docs/MODEL.md, "Bank and replies after a committed batch".
     pub fn balances_after(&self, alloc: Global, n: u32) -> Result<Balances, AllocError>
         requires { n ≤ length self.now.batches }
         ensures rows { IfOk result (λ balances. length balances ≡ length self.now.opening) }
         ensures values { IfOk result (λ balances. balance_at balances ≡ values_in self.now n) }
+        ensures bank { IfOk result (AreBankAfter self.now n) }
     {
         let mut balances = self.opening.copy(alloc)?;
         for before in 0..n {
@@ -91,7 +95,10 @@ impl<'a> Settled<'a> {
         Ok(balances)
     }
 
-    /// Goes from the balances after the batch before to those after batch n, of the batches from 1 on.
+    /// Goes from the balances after the batch before to those after batch n, of the batches from 1 on, which are the bank
+    /// after it.
+    ///
+    /// docs/MODEL.md, "Bank and replies after a committed batch".
     pub fn advance(&self, n: u32, balances: &mut Balances)
         requires one { 1 ≤ n }
         requires there { n ≤ length self.now.batches }
@@ -99,6 +106,7 @@ impl<'a> Settled<'a> {
         requires before { balance_at balances.old ≡ values_in self.now (n - 1) }
         ensures rows { length balances.new ≡ length balances.old }
         ensures values { balance_at balances.new ≡ values_in self.now n }
+        ensures bank { AreBankAfter self.now n balances.new }
     {
         let records = part(&self.records, &self.ends, n as usize - 1);
         write_values_along(balances, records);

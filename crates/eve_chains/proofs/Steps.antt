@@ -1,4 +1,5 @@
 -- The walk, step by step.
+use Rattle.eve_views.specs.Form.{IsLeast}
 use Rattle.std.proofs.Common.{◌≡◌, ℕ, suc, ◌+◌, ◌-◌, ◌*◌, ◌<◌, ◌≤◌, ◌==◌, List, [], ◌∷◌, ◌++◌, map, length, length-append, Some, None, refl, sym, subst, ap, ◌∙◌, inl, inr, append_assoc, append-nil, arith, IsTrue}
 use mathlib.Core.Path.{fun_ext}
 use Rattle.std.specs.List.{AllByRecursion}
@@ -27,7 +28,7 @@ use Rattle.eve_serial.specs.Visible.{opening_table, executed_at, execution, exec
 use Rattle.eve_serial.specs.Committed.{attempts_of}
 use Rattle.eve_serial.specs.Tables.{table_of, taken_back}
 use Rattle.eve_serial.specs.Along.{entries_along, AreWithin, IsFirstAlong, AllSettledSee}
-use Rattle.eve_serial.specs.Faults.{IsLeastChainFault}
+use Rattle.eve_serial.specs.Faults.{IsChainFault}
 use Rattle.eve_serial.proofs.Distinct.{in_split, in_left, in_right}
 use Rattle.eve_serial.proofs.AlongLaws.{table_after-append, undone}
 use Rattle.eve_serial.proofs.Walking.{record_at, same_entries, right_one, complete_one, chain_fault_along, chain_fault_somewhere}
@@ -435,7 +436,7 @@ module _ (t : Trace) (h : Telling) (limits : HasLimits t) (tells : h ≡ telling
   pub walked_right : (w : Walk) → HasWalked t e [] w → w.first ≡ None → AllSettledSee t e
   walked_right w known none = subst (IsFirstIn t e (settled (history t e))) none (ended w known)
 
-  pub walked_wrong : (w : Walk) (f : Fault) → IsRightSection t e → HasWalked t e [] w → w.first ≡ Some f → IsLeastChainFault t e f
+  pub walked_wrong : (w : Walk) (f : Fault) → IsRightSection t e → HasWalked t e [] w → w.first ≡ Some f → IsLeast (IsChainFault t e) f
   walked_wrong w f right known some =
       let first = subst (IsFirstIn t e (settled (history t e))) some (ended w known) in
       record { is = chain_fault_along t e f limits right first.0; least = λ g fault. first.1 g (chain_fault_somewhere t e g limits right fault) }

@@ -3,8 +3,6 @@
 
 mod judge;
 pub mod laws;
-#[cfg(test)]
-mod tests;
 mod walk;
 
 pub use eve_banks::Settled;

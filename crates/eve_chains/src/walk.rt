@@ -4,11 +4,11 @@ ghost use Rattle.std.specs.Prelude.{◌≡◌, ℕ, List, ◌≤◌, ◌<◌, �
 ghost use Rattle.std.specs.List.{AllByRecursion};
 ghost use Rattle.eve_grammar.specs.Trace.{Step as StepValue};
 ghost use Rattle.eve_grammar.specs.Spelling.{steps_at};
-ghost use Rattle.eve_views.specs.Form.{IfFound};
+ghost use Rattle.eve_views.specs.Form.{IfFound, IsLeast};
 ghost use Rattle.eve_views.specs.Fronts.{whole};
 ghost use Rattle.eve_views.specs.StepKinds.{IsStep};
 ghost use Rattle.eve_history.specs.Told.{telling, IsRightSection};
-ghost use Rattle.eve_serial.specs.Faults.{IsLeastChainFault};
+ghost use Rattle.eve_serial.specs.Faults.{IsChainFault};
 ghost use Rattle.eve_serial.specs.Along.{all_said, AreWithin, AllSettledSee};
 ghost use Rattle.eve_chains.specs.Walking.{records_of, records_from, IsCommitted, AreTried, AreTakenBack, HasWalked};
 
@@ -138,7 +138,7 @@ pub fn chains<'a>(alloc: Global, history: &History<'a>, trace: &Trace<'a>) -> Re
     requires history { history.now ≡ telling (whole trace.now) history.now.replica }
     requires right { IsRightSection (whole trace.now) history.now.replica }
     ensures see { IfOk result (λ _. AllSettledSee (whole trace.now) history.now.replica) }
-    ensures least { IfErr result (λ why. IfFound why (IsLeastChainFault (whole trace.now) history.now.replica)) }
+    ensures least { IfErr result (λ why. IfFound why (IsLeast (IsChainFault (whole trace.now) history.now.replica))) }
 {
     trace.is_whole();
     if history.replica() >= trace.section_count() {

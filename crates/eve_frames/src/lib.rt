@@ -15,8 +15,6 @@ mod requests;
 mod restores;
 mod rollback;
 mod sent;
-#[cfg(test)]
-mod tests;
 mod vote;
 
 pub use access::AccessView;

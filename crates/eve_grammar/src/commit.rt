@@ -34,28 +34,3 @@ impl<'a> CommitBody<'a> {
         Some(CommitBody { seq, view, token })
     }
 }
-
-#[cfg(test)]
-mod tests {
-    use super::*;
-
-    // a commit of batch 1 in view 2, and one byte too many
-    const LONG: [u8; 41] = [
-        0, 0, 0, 1, 0, 0, 0, 2, 1, 2, 3, 4, 5, 6, 7, 8, 9, 10, 11, 12, 13, 14, 15, 16, 17, 18, 19,
-        20, 21, 22, 23, 24, 25, 26, 27, 28, 29, 30, 31, 32, 0,
-    ];
-
-    #[test]
-    fn commits(rt: HostRuntime) {
-        let right = &LONG[..40];
-        let Some(commit) = CommitBody::read(right) else {
-            panic!(rt; "a commit");
-        };
-        assert_eq!(rt; (commit.seq, commit.view), (1, 2));
-        assert_eq!(rt; commit.token, &right[8..]);
-        for len in 0..=LONG.len() {
-            let read = CommitBody::read(&LONG[..len]);
-            assert_eq!(rt; read.is_some(), len == right.len(), "length {len}");
-        }
-    }
-}

@@ -1,4 +1,5 @@
--- The steps of a section, one after another.
+-- Public: other crates cite these lemmas. The steps of a section, one after another.
+use Rattle.eve_views.specs.Form.{IsLeast}
 use Rattle.std.proofs.Common.{◌≡◌, ℕ, zero, suc, ◌+◌, ◌-◌, ◌<◌, ◌≤◌, ◌==◌, Bool, true, false, List, [], ◌∷◌, ◌++◌, map, length, take, drop, replicate, Option, Some, None, IsTrue, refl, sym, ap, subst, ◌∙◌, append_assoc, arith}
 use Rattle.std.specs.Prelude.{slice_index_or}
 use Rattle.std.specs.List.{AllByRecursion, list_all}
@@ -15,7 +16,7 @@ use Rattle.eve_history.specs.declared.wrong.Wrong.{Wrong}
 use Rattle.eve_history.specs.Section.{Placed, SectionState, start, next, committing, state_after, path_of, commits_first, is_right_commit, are_right}
 use Rattle.eve_history.specs.Fates.{fate_in, fates_from}
 use Rattle.eve_history.specs.Told.{Ran, ran, placed_at, ordered, attempts_among, rollbacks_among, access_with, telling}
-use Rattle.eve_history.specs.Faults.{IsStructureFault, IsLeastStructureFault}
+use Rattle.eve_history.specs.Faults.{IsStructureFault}
 use Rattle.eve_history.specs.FirstWrong.{wrong_step, first_wrong, first_of, fault_of}
 use Rattle.eve_history.specs.Coming.{KeptAttempt, Kept, open_count, kept_ran, rans, ran_at, telling_of, StandsAt, AreSettled, open_fates, HasCome}
 use Rattle.eve_history.proofs.Structure.{state_after-append, are_right-push, right_step, steps_on, found_is_least, none_stands}
@@ -73,7 +74,7 @@ state_of come = state_after start come.front
 
 -- a step at which something is wrong
 pub come_wrong : (t : Trace) (e : ℕ) (step : ℕ × Step) (rest : List (ℕ × Step)) (k : Kept) (w : Wrong) (come : HasCome t e (step ∷ rest) k)
-    → wrong_step t (state_after start come.front) step ≡ Some w → IsLeastStructureFault t e (fault_of e w)
+    → wrong_step t (state_after start come.front) step ≡ Some w → IsLeast (IsStructureFault t e) (fault_of e w)
 come_wrong t e step rest k w come wrong =
     found_is_least t e w
     (ap (first_wrong t start) come.split ∙ steps_on t start come.front (step ∷ rest) come.right

@@ -1,4 +1,4 @@
--- The attempts that a section has committed or discarded in the end are those with that fate.
+-- Public: other crates cite these lemmas. The attempts that a section has committed or discarded in the end are those with that fate.
 use Rattle.std.proofs.Common.{◌≡◌, ℕ, suc, ◌+◌, ◌-◌, Bool, true, false, cond, List, [], ◌∷◌, ◌++◌, map, length, replicate, refl, sym, ap, ◌∙◌, append_assoc, add-one, arith}
 use Rattle.std.proofs.lemmas.List.{append-nil, map-append, length-append}
 use Rattle.eve_grammar.specs.Trace.{Attempt, Commit, Step, Attempts, Commits, RollsBack, Trace}

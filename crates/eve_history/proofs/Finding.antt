@@ -1,4 +1,4 @@
--- Batches and access records, where they are looked up.
+-- Public: other crates cite these lemmas. Batches and access records, where they are looked up.
 use Rattle.std.proofs.Common.{◌≡◌, ℕ, zero, suc, ◌+◌, ◌-◌, ◌<◌, ◌≤◌, ◌==◌, Bool, true, false, ◌&&◌, List, [], ◌∷◌, map, length, get_or, take, drop, slice_get, Some, None, refl, sym, ap, subst, ◌∙◌, inl, inr, arith}
 use Rattle.std.specs.Prelude.{slice_index_or}
 use Rattle.std.specs.List.{AllByRecursion, list_any, enumerate_from}

@@ -12,3 +12,4 @@ pub mod Structure
 pub mod Tickets
 pub mod FrameTexts
 pub mod Standing
+pub mod Lent

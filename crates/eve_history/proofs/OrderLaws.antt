@@ -1,6 +1,6 @@
--- Customers and batches, one after another: the first that is there again.
-use Rattle.std.proofs.Common.{◌≡◌, ℕ, zero, suc, ◌+◌, ◌<◌, ◌≤◌, Bool, true, List, [], ◌∷◌, ◌++◌, map, length, take, drop, slice_get, Contains, Some, None, refl, sym, ap, subst, ◌∙◌, inl, inr, add-one, arith}
-use Rattle.std.specs.List.{flat_map, list_all}
+-- Public: other crates cite these lemmas. Customers and batches, one after another: the first that is there again.
+use Rattle.std.proofs.Common.{◌≡◌, ℕ, zero, suc, ◌+◌, ◌<◌, ◌≤◌, true, List, [], ◌∷◌, ◌++◌, map, length, take, drop, slice_get, Contains, Some, None, refl, sym, ap, subst, ◌∙◌, inl, inr, add-one, arith}
+use Rattle.std.specs.List.{flat_map}
 use Rattle.std.proofs.lemmas.Bool.{and_parts, cases_lt}
 use Rattle.std.proofs.lemmas.List.{append-nil, map-append, take_all, length-map, length-take-le}
 use Rattle.std.proofs.lemmas.List.Concat.{flat_map-append}
@@ -14,9 +14,9 @@ use Rattle.eve_views.specs.declared.fault.Code.{Code}
 use Rattle.eve_views.specs.declared.fault.Code.TheVariants as code
 use Rattle.eve_views.specs.declared.fault.Fault.{Fault}
 use Rattle.eve_views.specs.Code.{number_of}
-use Rattle.eve_views.specs.Form.{IsUpTo, SomePlace}
+use Rattle.eve_views.specs.Form.{IsUpTo, SomePlace, IsLeast}
 use Rattle.eve_history.specs.Told.{names_of}
-use Rattle.eve_history.specs.Faults.{name_at, Ticket, tickets_at, IsNamedAgain, IsAskedAgain, StandsInOrders, IsOrderFault, IsLeastOrderFault}
+use Rattle.eve_history.specs.Faults.{name_at, Ticket, tickets_at, IsNamedAgain, IsAskedAgain, StandsInOrders, IsOrderFault}
 use Rattle.eve_history.specs.Notes.{IsRepeated, AreNoted, HasDistinctNames, HasDistinctRequests}
 use Rattle.eve_grammar.proofs.Grouping.{all_at}
 use Rattle.eve_history.proofs.Places.{no_place, place_push, cut_at, Rising, located_rising, first_place, from_low, located_within, weaker_place}
@@ -128,7 +128,7 @@ abbrev pub fault : Code → ℕ → Fault
 fault c at = record { code = c; offset = at; replica = None }
 
 pub named_again : (t : Trace) (i : ℕ) (names : NameList) (c : ℕ × Customer) → Naming t i names → slice_get (customers_at t) i ≡ Some c → Contains names.items (name_at c)
-    → IsLeastOrderFault t (fault code.SameName c.0)
+    → IsLeast (IsOrderFault t) (fault code.SameName c.0)
 named_again t i names c naming at again = record {
   is = record { stands = here; outside = refl };
   least = λ g other. by g.code g refl other.stands;
@@ -189,7 +189,7 @@ asking_apart t i noted asking le = λ at again.
     asking.apart (subst (λ xs. SomePlace xs IsAskedAgain) (sym all) (weaker_place _ IsAskedAgain (batches_at t) (λ b c h. h.1) again))
 
 pub asked_again : (t : Trace) (i : ℕ) (noted : List Ticket) (b : ℕ × (ℕ × Batch)) → HasDistinctNames t → Asking t i noted → slice_get (batches_at t) i ≡ Some b → IsRepeated noted (tickets_at b)
-    → IsLeastOrderFault t (fault code.SameRequest b.0)
+    → IsLeast (IsOrderFault t) (fault code.SameRequest b.0)
 asked_again t i noted b distinct asking at again = record {
   is = record {
     stands = record {

@@ -76,7 +76,7 @@ pub record IsLocated {A : Type 0} (text : A → List ℕ) (at : ℕ) (xs : List 
   pub stands : StandsIn (flat_map text xs) place (text item.1)
   pub offset : item.0 ≡ at + place
 
-located_stands : {A : Type 0} (text : A → List ℕ) (at : ℕ) (xs : List A) (before : List (ℕ × A)) (item : ℕ × A) (rest : List (ℕ × A)) → located text at xs ≡ before ++ item ∷ rest → IsLocated text at xs item
+pub located_stands : {A : Type 0} (text : A → List ℕ) (at : ℕ) (xs : List A) (before : List (ℕ × A)) (item : ℕ × A) (rest : List (ℕ × A)) → located text at xs ≡ before ++ item ∷ rest → IsLocated text at xs item
 located_stands text at [] before item rest e = no_item before item rest e
 located_stands {A = A} text at (x ∷ xs) [] item rest e =
     subst (λ (y : ℕ × A). IsLocated text at (x ∷ xs) y) (first_item (at, x) item (located text (at + length (text x)) xs) rest e)
@@ -97,7 +97,7 @@ located_stands text at (x ∷ xs) (z ∷ before) item rest e =
     }
 
 -- where what was found at a place stands
-split_at : {A : Type 0} (xs : List A) (i : ℕ) (x : A) → slice_get xs i ≡ Some x → (before : List A) × (rest : List A) × (xs ≡ before ++ x ∷ rest)
+pub split_at : {A : Type 0} (xs : List A) (i : ℕ) (x : A) → slice_get xs i ≡ Some x → (before : List A) × (rest : List A) × (xs ≡ before ++ x ∷ rest)
 split_at [] i x e = absurd (cc)
 split_at {A = A} (y ∷ xs) zero x e = ([], xs, ap (λ (z : A). z ∷ xs) (same y x e))
   where
@@ -179,8 +179,14 @@ attempt_there bytes t e rest k at b spelled come =
     let fits = (and_parts (is_step (row_count (head_of t)) (Attempts b)) _ come.fit).0 in
     let stands = first_stands (OfAttempt b) (map OfAccess b.accesses) (next_stands bytes t e rest k at (Attempts b) spelled come) in
     let framed = framed_there (OfAttempt b) (spelled_short bytes t spelled) stands in
-    let says = attempt_again b (and_parts (is_attempt b) _ fits).0 in
-    (ap attempt_in framed.0 ∙ says.1, record { framed = framed.1; attempt = subst (λ (c : List ℕ). IsTrue (is_attempt_frame c)) (sym framed.0) says.0 })
+    let says = attempt_again b (and_parts (is_attempt b) _ fits).0 in (
+      ap attempt_in framed.0 ∙ says.1,
+      record {
+        framed = framed.1;
+        attempt = subst (λ (c : List ℕ). IsTrue (is_attempt_frame c)) (sym framed.0) says.0;
+        text = framed.0 ∙ ap (λ (a : Attempt). frame_text (OfAttempt a)) (sym (ap attempt_in framed.0 ∙ says.1));
+      },
+    )
 
 -- and a rollback by that of its own
 pub rollback_there : (bytes : List ℕ) (t : Trace) (e : ℕ) (rest : List (ℕ × Step)) (k : Kept) (at : ℕ) (r : Rollback) → Spells bytes t → HasCome t e ((at, RollsBack r) ∷ rest) k
@@ -189,8 +195,14 @@ rollback_there bytes t e rest k at r spelled come =
     let fits = (and_parts (is_step (row_count (head_of t)) (RollsBack r)) _ come.fit).0 in
     let stands = first_stands (OfRollback r) [] (next_stands bytes t e rest k at (RollsBack r) spelled come) in
     let framed = framed_there (OfRollback r) (spelled_short bytes t spelled) stands in
-    let says = rollback_again (row_count (head_of t)) r fits (few_rows bytes t spelled) in
-    (ap rollback_in framed.0 ∙ says.1, record { framed = framed.1; rollback = subst (λ (c : List ℕ). IsTrue (is_rollback_frame c)) (sym framed.0) says.0 })
+    let says = rollback_again (row_count (head_of t)) r fits (few_rows bytes t spelled) in (
+      ap rollback_in framed.0 ∙ says.1,
+      record {
+        framed = framed.1;
+        rollback = subst (λ (c : List ℕ). IsTrue (is_rollback_frame c)) (sym framed.0) says.0;
+        text = framed.0 ∙ ap (λ (q : Rollback). frame_text (OfRollback q)) (sym (ap rollback_in framed.0 ∙ says.1));
+      },
+    )
 
 -- ---- the access records of an attempt that comes next
 
@@ -209,7 +221,11 @@ seen_again bytes rows (at, x) short few fits stands =
     let says = access_again rows x fits few in
     record {
       again = ap (λ (y : Access). (at, y)) (ap access_in framed.0 ∙ says.1);
-      there = record { framed = framed.1; access = subst (λ (b : List ℕ). IsTrue (is_access_frame b)) (sym framed.0) says.0 };
+      there = record {
+        framed = framed.1;
+        access = subst (λ (b : List ℕ). IsTrue (is_access_frame b)) (sym framed.0) says.0;
+        text = framed.0 ∙ ap (λ (y : Access). frame_text (OfAccess y)) (sym (ap access_in framed.0 ∙ says.1));
+      };
     }
 
 pub all_seen : (bytes : List ℕ) (t : Trace) (e : ℕ) (rest : List (ℕ × Step)) (b : Attempt) (k : Kept) (at : ℕ) (said : Attempt) (xs : List (ℕ × Access)) → Spells bytes t → ComesNext t e rest b k at said xs

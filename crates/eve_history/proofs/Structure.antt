@@ -1,4 +1,4 @@
--- The first wrong frame of a section is where the first fault of structure stands.
+-- Public: other crates cite these lemmas. The first wrong frame of a section is where the first fault of structure stands.
 use Rattle.std.proofs.Common.{◌≡◌, ℕ, ◌+◌, ◌≤◌, Bool, true, false, ◌&&◌, cond, List, [], ◌∷◌, ◌++◌, length, Option, Some, None, refl, sym, ap, subst, ◌∙◌, append_assoc, inl, inr, IsTrue, arith}
 use Rattle.std.specs.Prelude.{IsFalse}
 use Rattle.std.proofs.lemmas.Bool.{cases_Bool, and_parts, and_from}
@@ -12,8 +12,8 @@ use Rattle.eve_views.specs.declared.fault.Fault.{Fault}
 use Rattle.eve_views.specs.Code.{number_of}
 use Rattle.eve_grammar.specs.Accesses.{is_right_place}
 use Rattle.eve_history.specs.Section.{SectionState, start, next, state_after, is_right_attempt, is_right_certificate, is_right_access, is_right_commit, is_right_rollback, are_right_accesses, is_right, are_right}
-use Rattle.eve_views.specs.Form.{SomePlace}
-use Rattle.eve_history.specs.Faults.{OfAttempt, OfCommit, OfRollback, accesses_of, AtStep, AtAccess, StandsInStructure, IsStructureFault, IsLeastStructureFault}
+use Rattle.eve_views.specs.Form.{SomePlace, IsLeast}
+use Rattle.eve_history.specs.Faults.{OfAttempt, OfCommit, OfRollback, accesses_of, AtStep, AtAccess, StandsInStructure, IsStructureFault}
 use Rattle.eve_history.specs.declared.wrong.Wrong.{Wrong}
 use Rattle.eve_history.specs.FirstWrong.{found_or, first_of, wrong_record, wrong_records, wrong_attempt, wrong_commit, wrong_rollback, wrong_step, first_wrong, fault_of}
 
@@ -299,7 +299,7 @@ stands_behind t e front (step ∷ back) w is rights h =
 -- ---- the first fault
 
 -- what is found is the least
-pub found_is_least : (t : Trace) (e : ℕ) (w : Wrong) → first_wrong t start (steps_at t e) ≡ Some w → IsLeastStructureFault t e (fault_of e w)
+pub found_is_least : (t : Trace) (e : ℕ) (w : Wrong) → first_wrong t start (steps_at t e) ≡ Some w → IsLeast (IsStructureFault t e) (fault_of e w)
 found_is_least t e w h = record {
   is = record { stands = stands_behind t e [] (steps_at t e) w refl refl h; inside = refl };
   least = λ g other.

@@ -6,7 +6,7 @@ use Rattle.eve_grammar.specs.Spelling.{customers_at, batches_at, steps_at, acces
 use Rattle.eve_views.specs.declared.fault.Code.{Code}
 use Rattle.eve_views.specs.declared.fault.Code.TheVariants as code
 use Rattle.eve_views.specs.declared.fault.Fault.{Fault}
-use Rattle.eve_views.specs.Form.{IsUpTo, SomePlace}
+use Rattle.eve_views.specs.Form.{SomePlace}
 use Rattle.eve_grammar.specs.Accesses.{is_right_place}
 use Rattle.eve_history.specs.Section.{SectionState, start, state_after, is_right_attempt, is_right_certificate, is_right_access, is_right_commit, is_right_rollback, are_right_accesses, are_right}
 
@@ -44,11 +44,6 @@ StandsInOrders _ t at = ⊥
 pub record IsOrderFault (t : Trace) (f : Fault) : Type 0 where
   pub stands : StandsInOrders f.code t f.offset
   pub outside : f.replica ≡ None
-
--- the first of the faults of orders
-pub record IsLeastOrderFault (t : Trace) (f : Fault) : Type 0 where
-  pub is : IsOrderFault t f
-  pub least : (g : Fault) → IsOrderFault t g → IsUpTo f g
 
 -- ---- structure
 
@@ -93,8 +88,3 @@ StandsInStructure _ t e at = ⊥
 pub record IsStructureFault (t : Trace) (e : ℕ) (f : Fault) : Type 0 where
   pub stands : StandsInStructure f.code t e f.offset
   pub inside : f.replica ≡ Some e
-
--- the first of the faults of structure in replica e's section
-pub record IsLeastStructureFault (t : Trace) (e : ℕ) (f : Fault) : Type 0 where
-  pub is : IsStructureFault t e f
-  pub least : (g : Fault) → IsStructureFault t e g → IsUpTo f g

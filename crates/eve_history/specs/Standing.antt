@@ -1,7 +1,9 @@
 -- Frames by the bytes at which they begin.
-use Rattle.std.specs.Prelude.{ℕ, ◌+◌, ◌^◌, ◌<◌, ◌≤◌, IsTrue, List, length, take, drop}
+use Rattle.std.specs.Prelude.{◌≡◌, ℕ, ◌+◌, ◌^◌, ◌<◌, ◌≤◌, IsTrue, List, length, take, drop}
 use Rattle.byteorder.specs.Endian.{big_number}
-use Rattle.eve_frames.specs.Views.{is_attempt_frame, is_access_frame, is_rollback_frame}
+use Rattle.eve_grammar.specs.Frames.{OfAttempt, OfAccess, OfRollback}
+use Rattle.eve_grammar.specs.Spelling.{frame_text}
+use Rattle.eve_frames.specs.Views.{is_attempt_frame, is_access_frame, is_rollback_frame, attempt_in, access_in, rollback_in}
 
 -- how long the frame is that begins at this byte
 abbrev pub frame_length : List ℕ → ℕ → ℕ
@@ -16,17 +18,20 @@ pub record IsFramed (bytes : List ℕ) (at : ℕ) : Type 0 where
   pub within : at + frame_length bytes at ≤ length bytes
   pub small : at < 2 ^ 32
 
--- and it is an Attempt frame
+-- and it is an Attempt frame, whole and no more
 pub record IsAttemptAt (bytes : List ℕ) (at : ℕ) : Type 0 where
   pub framed : IsFramed bytes at
   pub attempt : IsTrue (is_attempt_frame (frame_in bytes at))
+  pub text : frame_in bytes at ≡ frame_text (OfAttempt (attempt_in (frame_in bytes at)))
 
--- and it is an Access frame
+-- and it is an Access frame, whole and no more
 pub record IsAccessAt (bytes : List ℕ) (at : ℕ) : Type 0 where
   pub framed : IsFramed bytes at
   pub access : IsTrue (is_access_frame (frame_in bytes at))
+  pub text : frame_in bytes at ≡ frame_text (OfAccess (access_in (frame_in bytes at)))
 
--- and it is a Rollback frame
+-- and it is a Rollback frame, whole and no more
 pub record IsRollbackAt (bytes : List ℕ) (at : ℕ) : Type 0 where
   pub framed : IsFramed bytes at
   pub rollback : IsTrue (is_rollback_frame (frame_in bytes at))
+  pub text : frame_in bytes at ≡ frame_text (OfRollback (rollback_in (frame_in bytes at)))

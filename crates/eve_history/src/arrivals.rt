@@ -3,12 +3,12 @@
 ghost use Rattle.std.specs.Prelude.{◌≡◌, ◌≤◌, ◌++◌, ◌∷◌, [], Contains, IfOk, IfErr, MatchBool, IsTrue, map, length};
 ghost use Rattle.eve_grammar.specs.Limits.{is_batch};
 ghost use Rattle.eve_frames.specs.Views.{batch_in};
-ghost use Rattle.eve_views.specs.Form.{IfFound};
+ghost use Rattle.eve_views.specs.Form.{IfFound, IsLeast, HasNone};
 ghost use Rattle.eve_views.specs.Fronts.{whole};
 ghost use Rattle.eve_views.specs.declared.fault.Fault.{Fault};
 ghost use Rattle.eve_views.specs.declared.fault.CheckFault.TheVariants.{Found, Memory};
 ghost use Rattle.eve_history.specs.Told.{names_of};
-ghost use Rattle.eve_history.specs.Faults.{IsOrderFault, IsLeastOrderFault, ticket};
+ghost use Rattle.eve_history.specs.Faults.{IsOrderFault, ticket};
 ghost use Rattle.eve_history.specs.Notes.{AreNoted, IsRepeated, requests_said, HasDistinctNames, HasDistinctRequests};
 
 use eve_accounts::{NameFault, Names};
@@ -69,7 +69,7 @@ fn names_in_order<'a>(
 ) -> Result<Names<'a>, CheckFault>
     ensures names { IfOk result (λ names. names.items ≡ names_of (whole trace.now)) }
     ensures apart { IfOk result (λ _. HasDistinctNames (whole trace.now)) }
-    ensures fault { IfErr result (λ e. IfFound e (IsLeastOrderFault (whole trace.now))) }
+    ensures fault { IfErr result (λ e. IfFound e (IsLeast (IsOrderFault (whole trace.now)))) }
 {
     trace.is_whole();
     let count = trace.head().customers;
@@ -93,7 +93,7 @@ fn names_in_order<'a>(
 fn requests_apart(alloc: Global, trace: &Trace<'_>, random: RandomState) -> Result<(), CheckFault>
     requires { HasDistinctNames (whole trace.now) }
     ensures apart { IfOk result (λ _. HasDistinctRequests (whole trace.now)) }
-    ensures fault { IfErr result (λ e. IfFound e (IsLeastOrderFault (whole trace.now))) }
+    ensures fault { IfErr result (λ e. IfFound e (IsLeast (IsOrderFault (whole trace.now)))) }
 {
     trace.is_whole();
     let mut noted = IndexSet::with_hasher(alloc, random);
@@ -116,8 +116,8 @@ pub fn orders<'a>(
     random: RandomState,
 ) -> Result<Names<'a>, CheckFault>
     ensures names { IfOk result (λ names. names.items ≡ names_of (whole trace.now)) }
-    ensures none { IfOk result (λ _. (f : Fault) → ¬ IsOrderFault (whole trace.now) f) }
-    ensures least { IfErr result (λ e. IfFound e (IsLeastOrderFault (whole trace.now))) }
+    ensures none { IfOk result (λ _. HasNone (IsOrderFault (whole trace.now))) }
+    ensures least { IfErr result (λ e. IfFound e (IsLeast (IsOrderFault (whole trace.now)))) }
 {
     let names = names_in_order(alloc, trace, random)?;
     requests_apart(alloc, trace, random)?;

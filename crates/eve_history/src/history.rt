@@ -1,14 +1,17 @@
 //! What a replica did.
 
 ghost use Rattle.std.specs.Prelude.{◌≡◌, ◌≤◌, ◌<◌, ◌-◌, ◌∷◌, ℕ, List, Some, IfOk, IfErr, OnOk, length, slice_get};
-ghost use Rattle.eve_grammar.specs.Trace.{Step as StepValue};
+ghost use Rattle.eve_grammar.specs.Trace.{Step as StepValue, Trace as TraceValue};
+ghost use Rattle.eve_grammar.specs.Frames.{OfAttempt, OfAccess, OfRollback};
+ghost use Rattle.eve_grammar.specs.Spelling.{frame_text};
 ghost use Rattle.eve_frames.specs.Views.{attempt_in, access_in, rollback_in};
-ghost use Rattle.eve_views.specs.Form.{IfFound};
+ghost use Rattle.eve_views.specs.Form.{IfFound, IsLeast, HasNone};
 ghost use Rattle.eve_views.specs.Fronts.{whole};
+ghost use Rattle.eve_views.specs.Lent.{HasBytesAt};
 ghost use Rattle.eve_views.specs.StepKinds.{IsStep};
 ghost use Rattle.eve_views.specs.declared.fault.Fault.{Fault};
 ghost use Rattle.eve_history.specs.Told.{Ran, telling, IsRightSection};
-ghost use Rattle.eve_history.specs.Faults.{IsStructureFault, IsLeastStructureFault};
+ghost use Rattle.eve_history.specs.Faults.{IsStructureFault};
 ghost use Rattle.eve_history.specs.Coming.{kept, HasCome, IsNoted};
 
 use crate::fate::Fate;
@@ -54,7 +57,7 @@ fn take<'a>(
         → HasCome (whole trace.now) e rest (kept notes.new)) }
     ensures noted { OnOk result (IsNoted (whole trace.now) notes.new) }
     ensures wrong { IfErr result (λ x. IfFound x (λ f. (rest : List (ℕ × StepValue)) (next : ℕ × StepValue) → HasCome (whole trace.now) e (next ∷ rest) (kept notes.old) → IsStep step.entry next
-        → IsLeastStructureFault (whole trace.now) e f)) }
+        → IsLeast (IsStructureFault (whole trace.now) e) f)) }
 {
     trace.is_whole();
     match step {
@@ -75,8 +78,8 @@ impl<'a> History<'a> {
         ensures telling { IfOk result (λ history. history ≡ telling (whole trace.now) e) }
         ensures replica { IfOk result (λ history. history.replica ≡ e) }
         ensures right { IfOk result (λ _. IsRightSection (whole trace.now) e) }
-        ensures none { IfOk result (λ _. (f : Fault) → ¬ IsStructureFault (whole trace.now) e f) }
-        ensures least { IfErr result (λ x. IfFound x (IsLeastStructureFault (whole trace.now) e)) }
+        ensures none { IfOk result (λ _. HasNone (IsStructureFault (whole trace.now) e)) }
+        ensures least { IfErr result (λ x. IfFound x (IsLeast (IsStructureFault (whole trace.now) e))) }
     {
         trace.is_whole();
         let mut notes = Notes::new(alloc, trace.bytes());
@@ -122,7 +125,9 @@ impl<'a> History<'a> {
     /// An attempt. Its access records have frames of their own.
     pub fn attempt(&self, i: usize) -> AttemptView<'a>
         requires { i < length self.now.attempts }
-        ensures { (r : Ran) × (slice_get self.now.attempts i ≡ Some r) × (result.offset ≡ r.offset) × (attempt_in result.bytes.now ≡ r.attempt) × (length r.ordered ≡ length r.attempt.certificate) }
+        ensures says { (r : Ran) × (slice_get self.now.attempts i ≡ Some r) × (result.offset ≡ r.offset) × (attempt_in result.bytes.now ≡ r.attempt) × (length r.ordered ≡ length r.attempt.certificate) }
+        ensures text { result.bytes.now ≡ frame_text (OfAttempt (attempt_in result.bytes.now)) }
+        ensures stands { (t : TraceValue) (e : ℕ) → self.now ≡ telling t e → HasBytesAt t result.offset result.bytes.now }
     {
         attempt_at(self.notes.bytes, self.notes.attempts[i].at)
     }
@@ -143,7 +148,8 @@ impl<'a> History<'a> {
     pub fn ordered(&self, i: usize, place: usize) -> AccessView<'a>
         requires attempt { i < length self.now.attempts }
         requires place { (r : Ran) → slice_get self.now.attempts i ≡ Some r → place < length r.ordered }
-        ensures { (r : Ran) × (slice_get self.now.attempts i ≡ Some r) × (slice_get r.ordered place ≡ Some (result.offset, access_in result.bytes.now)) }
+        ensures says { (r : Ran) × (slice_get self.now.attempts i ≡ Some r) × (slice_get r.ordered place ≡ Some (result.offset, access_in result.bytes.now)) }
+        ensures text { result.bytes.now ≡ frame_text (OfAccess (access_in result.bytes.now)) }
     {
         let from = self.notes.attempts[i].from;
         let at = self.notes.records[from + place];
@@ -160,7 +166,9 @@ impl<'a> History<'a> {
     /// A rollback.
     pub fn rollback(&self, i: usize) -> RollbackView<'a>
         requires { i < length self.now.rollbacks }
-        ensures { slice_get self.now.rollbacks i ≡ Some (result.offset, rollback_in result.bytes.now) }
+        ensures says { slice_get self.now.rollbacks i ≡ Some (result.offset, rollback_in result.bytes.now) }
+        ensures text { result.bytes.now ≡ frame_text (OfRollback (rollback_in result.bytes.now)) }
+        ensures stands { (t : TraceValue) (e : ℕ) → self.now ≡ telling t e → HasBytesAt t result.offset result.bytes.now }
     {
         rollback_at(self.notes.bytes, self.notes.rollbacks[i])
     }

@@ -1,9 +1,11 @@
 //! Laws about the definitions. Each body is empty: the contract is the law.
 
 ghost use Rattle.std.specs.Prelude.{◌≡◌, ◌≤◌, ℕ, suc, Some, map, length, slice_get};
-ghost use Rattle.eve_grammar.specs.Trace.{Trace};
+ghost use Rattle.eve_grammar.specs.Trace.{Step, Access, Attempt, Attempts, Vote, Trace};
+ghost use Rattle.eve_grammar.specs.Frames.{OfAccess, OfVote};
 ghost use Rattle.eve_history.specs.Told.{ran, telling, IsRightSection, history, placed_at, picked, is_committed, is_discarded, attempts_among};
-ghost use Rattle.eve_grammar.specs.Spelling.{length_of, steps_at};
+ghost use Rattle.eve_grammar.specs.Spelling.{length_of, frame_text, step_text, steps_at, accesses_at, votes_at};
+ghost use Rattle.eve_views.specs.Lent.{HasBytesAt};
 ghost use Rattle.eve_views.specs.declared.fault.Fault.{Fault};
 ghost use Rattle.eve_history.specs.Section.{Placed};
 ghost use Rattle.eve_history.specs.Faults.{IsOrderFault, IsStructureFault};
@@ -28,4 +30,17 @@ pub fn committed_attempts_are_the_sections()
 pub fn faults_lie_within()
     ensures orders { (t : Trace) (f : Fault) → IsOrderFault t f → f.offset ≤ length_of t }
     ensures structure { (t : Trace) (e : ℕ) (f : Fault) → IsStructureFault t e f → f.offset ≤ length_of t }
+{}
+
+/// Each step of a section stands in the trace's bytes at its offset, its frames one behind another; and so does each
+/// access frame of an attempt, and each vote, at its own.
+///
+/// docs/TRACE.md, "Frames".
+pub fn frames_stand_where_they_are_said_to()
+    ensures steps { (t : Trace) (e k : ℕ) (step : ℕ × Step) → slice_get (steps_at t e) k ≡ Some step
+        → HasBytesAt t step.0 (step_text step.1) }
+    ensures accesses { (t : Trace) (e k i at : ℕ) (a : Attempt) (x : ℕ × Access) → slice_get (steps_at t e) k ≡ Some (at, Attempts a)
+        → slice_get (accesses_at at a) i ≡ Some x → HasBytesAt t x.0 (frame_text (OfAccess x.1)) }
+    ensures votes { (t : Trace) (v k : ℕ) (w : ℕ × Vote) → slice_get (votes_at t v) k ≡ Some w
+        → HasBytesAt t w.0 (frame_text (OfVote w.1)) }
 {}

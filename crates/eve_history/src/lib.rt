@@ -10,8 +10,6 @@ mod history;
 pub mod laws;
 mod marks;
 mod notes;
-#[cfg(test)]
-mod tests;
 mod wrong;
 
 pub use arrivals::orders;

@@ -8,13 +8,13 @@ ghost use Rattle.eve_grammar.specs.Limits.{is_attempt};
 ghost use Rattle.eve_grammar.specs.Bodies.{limits};
 ghost use Rattle.eve_grammar.specs.Spelling.{accesses_at};
 ghost use Rattle.eve_frames.specs.Views.{attempt_in, access_in, commit_in, rollback_in};
-ghost use Rattle.eve_views.specs.Form.{IfFound};
+ghost use Rattle.eve_views.specs.Form.{IfFound, IsLeast};
 ghost use Rattle.eve_views.specs.Fronts.{whole};
 ghost use Rattle.eve_views.specs.StepKinds.{IsStep};
 ghost use Rattle.eve_views.specs.declared.fault.CheckFault.TheVariants.{Found, Memory};
 ghost use Rattle.eve_history.specs.Section.{SectionState, is_due, is_right_commit, is_right_rollback, same_bytes};
 ghost use Rattle.eve_history.specs.Told.{access_with};
-ghost use Rattle.eve_history.specs.Faults.{accesses_of, IsLeastStructureFault};
+ghost use Rattle.eve_history.specs.Faults.{accesses_of, IsStructureFault};
 ghost use Rattle.eve_history.specs.FirstWrong.{wrong_attempt, wrong_step, fault_of};
 ghost use Rattle.eve_history.specs.Marking.{AreMarked};
 ghost use Rattle.eve_history.specs.Coming.{kept, StandsAt, HasCome, ComesNext, AreFramed, IsNoted};
@@ -236,7 +236,7 @@ impl<'a> Notes<'a> {
             → HasCome (whole trace.now) e rest (kept self.new)) }
         ensures noted { OnOk result (IsNoted (whole trace.now) self.new) }
         ensures wrong { IfErr result (λ x. IfFound x (λ f. (rest : List (ℕ × StepValue)) (b : Attempt) → ComesNext (whole trace.now) e rest b (kept self.old) attempt.now.offset (attempt_in attempt.now.bytes.now) accesses.now
-            → IsLeastStructureFault (whole trace.now) e f)) }
+            → IsLeast (IsStructureFault (whole trace.now) e) f)) }
     {
         let mut indexes = [0; 256];
         read_order(attempt, &mut indexes);
@@ -262,7 +262,7 @@ impl<'a> Notes<'a> {
             → HasCome t e rest (kept self.new)) }
         ensures noted { OnOk result ((t : TraceValue) → IsNoted t self.old → IsNoted t self.new) }
         ensures wrong { IfErr result (λ x. IfFound x (λ f. (t : TraceValue) (rest : List (ℕ × StepValue)) → HasCome t e ((commit.now.offset, Commits (commit_in commit.now.bytes.now)) ∷ rest) (kept self.old)
-            → IsLeastStructureFault t e f)) }
+            → IsLeast (IsStructureFault t e) f)) }
     {
         if !self.commits_first(commit) {
             return Err(fault_in(
@@ -294,7 +294,7 @@ impl<'a> Notes<'a> {
             → HasCome (whole trace.now) e rest (kept self.new)) }
         ensures noted { OnOk result (IsNoted (whole trace.now) self.new) }
         ensures wrong { IfErr result (λ x. IfFound x (λ f. (rest : List (ℕ × StepValue)) → HasCome (whole trace.now) e ((rollback.now.offset, RollsBack (rollback_in rollback.now.bytes.now)) ∷ rest) (kept self.old)
-            → IsLeastStructureFault (whole trace.now) e f)) }
+            → IsLeast (IsStructureFault (whole trace.now) e) f)) }
     {
         trace.is_whole();
         if !self.rolls_back(&trace.head(), rollback) {

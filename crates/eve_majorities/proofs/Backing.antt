@@ -1,4 +1,4 @@
--- Which commits and rollbacks no majority voted for, and which is the first.
+-- Public: other crates cite these lemmas. Which commits and rollbacks no majority voted for, and which is the first.
 use Rattle.std.proofs.Common.{◌≡◌, ℕ, suc, ◌+◌, ◌-◌, ◌*◌, ◌^◌, ◌<◌, ◌≤◌, ◌==◌, nat_lt, nat_le, List, [], ◌∷◌, ◌++◌, length, Option, Some, None, refl, sym, subst, ap, ◌∙◌, ◌⊎◌, inl, inr, IsTrue, arith}
 use Rattle.std.specs.Prelude.{Bool, true, false, ◌↔◌}
 use Rattle.std.specs.Cmp.Lexicographic.{pointwise, same_text, other_text}
@@ -16,7 +16,7 @@ use Rattle.eve_views.specs.StepKinds.{IsStep}
 use Rattle.eve_views.specs.declared.steps.Step as met
 use Rattle.eve_views.specs.declared.steps.Step.TheVariants as of
 use Rattle.eve_views.specs.Code.{number_of}
-use Rattle.eve_views.specs.Form.{IsUpTo, SomePlace}
+use Rattle.eve_views.specs.Form.{IsUpTo, SomePlace, IsLeast}
 use Rattle.eve_views.specs.declared.fault.Code.{Code}
 use Rattle.eve_views.specs.declared.fault.Code.TheVariants as code
 use Rattle.eve_views.specs.declared.fault.Fault.{Fault}
@@ -25,7 +25,7 @@ use Rattle.eve_history.specs.Told.{IsRightSection}
 use Rattle.eve_history.specs.Faults.{OfCommit, OfRollback}
 use Rattle.eve_votes.specs.Votes.{IsDecided, IsRolledBack}
 use Rattle.eve_history.proofs.Places.{place_here, place_later, no_place, place_cases, located_rising, from_low}
-use Rattle.eve_majorities.specs.Faults.{IsBacked, IsBackedSection, AllAreBacked, StandsInMajorities, IsMajorityFault, IsLeastMajorityFault}
+use Rattle.eve_majorities.specs.Faults.{IsBacked, IsBackedSection, AllAreBacked, StandsInMajorities, IsMajorityFault}
 use Rattle.eve_majorities.specs.Unbacked.{HasRoom, lacks, IsUnbacked, IsUnbackedIn, IsFirstIn, IsFirstBelow, IsFoundBelow}
 
 -- ---- faults of majorities are steps that lack a majority
@@ -272,7 +272,7 @@ all_backed t n many found e = elim (cases_lt e n) [
 pub no_fault : (t : Trace) → AllAreBacked t → (f : Fault) → IsMajorityFault t f → ⊥
 no_fault t backed f fault = none_unbacked t fault.replica f (steps_at t fault.replica) (backed fault.replica) (unbacked_from t f fault)
 
-pub least_fault : (t : Trace) (n : ℕ) (f : Fault) → length t.sections ≤ n → IsFirstBelow t n f → IsLeastMajorityFault t f
+pub least_fault : (t : Trace) (n : ℕ) (f : Fault) → length t.sections ≤ n → IsFirstBelow t n f → IsLeast (IsMajorityFault t) f
 least_fault t n f many found = record {
   is = fault_from t found.replica f found.is;
   least = λ g fault. by g fault (cases_lt fault.replica n);

@@ -1,10 +1,8 @@
 -- The histories stand in the order of the replicas.
-use Rattle.std.proofs.Common.{◌≡◌, ℕ, zero, suc, ◌+◌, ◌<◌, List, [], ◌∷◌, map, length, get_or, sym, subst, ap, ◌∙◌, refl, zero-add, IsTrue, arith}
+use Rattle.std.proofs.Common.{◌≡◌, ℕ, zero, suc, ◌+◌, ◌<◌, List, [], ◌∷◌, map, length, get_or, ap, ◌∙◌, refl, zero-add, arith}
 use Rattle.std.specs.List.{enumerate_from}
 use Rattle.eve_grammar.specs.Trace.{Step, Trace}
-use Rattle.eve_history.specs.Told.{Telling, telling, tellings, IsRightSection}
-use Rattle.eve_history.specs.Section.{start, are_right}
-use Rattle.eve_majorities.proofs.Backing.{no_steps}
+use Rattle.eve_history.specs.Told.{Telling, telling, tellings}
 
 abbrev told_from : Trace → ℕ → List (List Step) → List Telling
 told_from t n sections = map (λ (s : ℕ × List Step). telling t s.0) (enumerate_from n sections)
@@ -30,18 +28,3 @@ pub replica_at : (t : Trace) (xs : List Telling) (k : ℕ) (x : Telling) → xs 
 unfolding tellings
 replica_at t xs k x is lt read =
     ap (λ (y : Telling). y.replica) read ∙ ap (λ (ys : List Telling). (get_or ys k x).replica) is ∙ replica_from t 0 k t.sections x lt ∙ zero-add k
-
--- ---- of one replica
-
-alone : (t : Trace) (sections : List (List Step)) → length sections ≡ 1 → told_from t 0 sections ≡ telling t 0 ∷ []
-alone t [] one = absurd (omega arith)
-alone t (s ∷ []) one = refl
-alone t (s ∷ r ∷ sections) one = absurd (omega arith)
-
-pub one_telling : (t : Trace) → length t.sections ≡ 1 → telling t 0 ∷ [] ≡ tellings t
-unfolding tellings
-one_telling t one = sym (alone t t.sections one)
-
-pub one_right : (t : Trace) → length t.sections ≡ 1 → IsRightSection t 0 → (e : ℕ) → IsRightSection t e
-one_right t one right zero = right
-one_right t one right (suc e) = subst (λ (steps : List (ℕ × Step)). IsTrue (are_right t start steps)) (sym (no_steps t (suc e) (omega arith))) refl

@@ -38,8 +38,3 @@ pub record IsMajorityFault (t : Trace) (f : Fault) : Type 0 where
   pub replica : ℕ
   pub stands : StandsInMajorities f.code t replica f.offset
   pub inside : f.replica ≡ Some replica
-
--- the first of the faults of majorities
-pub record IsLeastMajorityFault (t : Trace) (f : Fault) : Type 0 where
-  pub is : IsMajorityFault t f
-  pub least : (g : Fault) → IsMajorityFault t g → IsUpTo f g

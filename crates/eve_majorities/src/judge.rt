@@ -4,14 +4,14 @@ ghost use Rattle.std.specs.Prelude.{◌≡◌, ◌≢◌, ◌<◌, ◌≤◌, �
 ghost use Rattle.std.specs.Prelude.{IfSome, IfNone, IfOk, IfErr};
 ghost use Rattle.eve_grammar.specs.Trace.{Step as StepValue};
 ghost use Rattle.eve_frames.specs.Views.{commit_in, rollback_in};
-ghost use Rattle.eve_views.specs.Form.{IsUpTo, IfFound};
+ghost use Rattle.eve_views.specs.Form.{IsUpTo, IfFound, IsLeast, HasNone};
 ghost use Rattle.eve_views.specs.Fronts.{whole};
 ghost use Rattle.eve_views.specs.StepKinds.{IsStep};
 ghost use Rattle.eve_views.specs.declared.fault.CheckFault.TheVariants.{Memory};
 ghost use Rattle.eve_views.specs.declared.fault.Fault.{Fault as FaultValue};
 ghost use Rattle.eve_history.specs.Told.{tellings, IsRightSection};
 ghost use Rattle.eve_votes.specs.Votes.{IsDecided, IsRolledBack};
-ghost use Rattle.eve_majorities.specs.Faults.{IsBacked, IsBackedSection, AllAreBacked, IsMajorityFault, IsLeastMajorityFault};
+ghost use Rattle.eve_majorities.specs.Faults.{IsBacked, IsBackedSection, AllAreBacked, IsMajorityFault};
 ghost use Rattle.eve_majorities.specs.Unbacked.{HasRoom, IsUnbacked, IsFirstIn};
 
 use eve_frames::{CommitView, RollbackView};
@@ -120,8 +120,8 @@ pub fn majorities(
     requires right { (e : ℕ) → IsRightSection (whole trace.now) e }
     requires tally { tally.now ≡ whole trace.now }
     ensures backed { IfOk result (λ _. AllAreBacked (whole trace.now)) }
-    ensures none { IfOk result (λ _. (f : FaultValue) → ¬ IsMajorityFault (whole trace.now) f) }
-    ensures least { IfErr result (λ why. IfFound why (IsLeastMajorityFault (whole trace.now))) }
+    ensures none { IfOk result (λ _. HasNone (IsMajorityFault (whole trace.now))) }
+    ensures least { IfErr result (λ why. IfFound why (IsLeast (IsMajorityFault (whole trace.now)))) }
     ensures found { IfErr result (λ why. why ≢ Memory) }
 {
     let mut first: Option<Fault> = None;

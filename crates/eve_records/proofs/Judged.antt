@@ -15,7 +15,7 @@ use Rattle.eve_grammar.specs.Frames.{OfAttempt, without_accesses}
 use Rattle.eve_grammar.specs.Limits.{HasLimits}
 use Rattle.eve_grammar.specs.Spelling.{frame_text, batches_at, steps_at, accesses_at}
 use Rattle.eve_views.specs.Code.{number_of}
-use Rattle.eve_views.specs.Form.{IsUpTo, SomePlace}
+use Rattle.eve_views.specs.Form.{IsUpTo, SomePlace, IsLeast}
 use Rattle.eve_views.specs.declared.fault.Code.{Code}
 use Rattle.eve_views.specs.declared.fault.Code.TheVariants as code
 use Rattle.eve_views.specs.declared.fault.Fault.{Fault}
@@ -28,7 +28,7 @@ use Rattle.eve_history.proofs.Finding.{batch_is}
 use Rattle.eve_serial.specs.Records.{recorded}
 use Rattle.eve_serial.specs.Visible.{executed_by}
 use Rattle.eve_serial.specs.Sound.{RecordsFit}
-use Rattle.eve_serial.specs.Faults.{StandsInRecords, IsRecordFault, IsLeastRecordFault}
+use Rattle.eve_serial.specs.Faults.{StandsInRecords, IsRecordFault}
 use Rattle.eve_serial.proofs.Distinct.{in_map, in_source, in_cons, in_left, in_right, in_split}
 use Rattle.eve_serial.proofs.Walking.{right_one, complete_one}
 use Rattle.eve_serial.proofs.Faultless.{in_place, place_of}
@@ -275,7 +275,7 @@ module _ (t : Trace) (e : ℕ) (limits : HasLimits t) (right : IsRightSection t 
       let u = unfit_at f is in
       u.unfit (all_in (λ (z : ℕ × Executed). Fits (names_of t) z.1) all u.there_is)
 
-  pub least_fault : (at : ℕ) → IsLeastUnfit (names_of t) (judged_of t e) (Some at) → IsLeastRecordFault t e (record_fault e at)
+  pub least_fault : (at : ℕ) → IsLeastUnfit (names_of t) (judged_of t e) (Some at) → IsLeast (IsRecordFault t e) (record_fault e at)
   least_fault at least = record {
     is = fault_there at least.0;
     least = λ g is.

@@ -3,13 +3,13 @@
 ghost use Rattle.std.specs.Prelude.{◌≡◌, ◌<◌, ◌∷◌, [], None, Ok, Some, OnOk, IfOk, IfErr, length, map, slice_get};
 ghost use Rattle.eve_smallbank.specs.SmallBank.{plain};
 ghost use Rattle.eve_frames.specs.Views.{batch_in, access_in};
-ghost use Rattle.eve_views.specs.Form.{IfFound};
+ghost use Rattle.eve_views.specs.Form.{IfFound, IsLeast, HasNone};
 ghost use Rattle.eve_views.specs.Fronts.{whole};
 ghost use Rattle.eve_views.specs.declared.fault.Fault.{Fault as FaultValue};
 ghost use Rattle.eve_history.specs.Told.{Ran, telling, names_of, IsRightSection};
 ghost use Rattle.eve_serial.specs.Records.{recorded};
 ghost use Rattle.eve_serial.specs.Sound.{RecordsFit};
-ghost use Rattle.eve_serial.specs.Faults.{IsRecordFault, IsLeastRecordFault};
+ghost use Rattle.eve_serial.specs.Faults.{IsRecordFault};
 ghost use Rattle.eve_records.specs.Unfit.{is_settled, recorded_of, all_records, HasRequests, IsLeastUnfit, CanBeJudged, IsLeastOfAttempt, lesser, IsLesser};
 
 use eve_accounts::Names;
@@ -41,8 +41,8 @@ pub fn records<R: Threads + Sync>(
     requires right { IsRightSection (whole trace.now) history.now.replica }
     requires names { names.now.items ≡ names_of (whole trace.now) }
     ensures fit { IfOk result (λ _. RecordsFit (whole trace.now) history.now.replica) }
-    ensures none { IfOk result (λ _. (f : FaultValue) → ¬ IsRecordFault (whole trace.now) history.now.replica f) }
-    ensures least { IfErr result (λ why. IfFound why (IsLeastRecordFault (whole trace.now) history.now.replica)) }
+    ensures none { IfOk result (λ _. HasNone (IsRecordFault (whole trace.now) history.now.replica)) }
+    ensures least { IfErr result (λ why. IfFound why (IsLeast (IsRecordFault (whole trace.now) history.now.replica))) }
 {
     trace.is_whole();
     match first_unfit(rt, alloc, history, trace, names)? {

@@ -2,7 +2,5 @@
 #![tactic(auto)]
 
 mod judge;
-#[cfg(test)]
-mod tests;
 
 pub use judge::records;

@@ -13,11 +13,11 @@ use Rattle.eve_views.specs.Code.{number_of}
 use Rattle.eve_views.specs.declared.fault.Code.{Code}
 use Rattle.eve_views.specs.declared.fault.Code.TheVariants as code
 use Rattle.eve_views.specs.declared.fault.Fault.{Fault}
-use Rattle.eve_views.specs.Form.{SomePlace}
+use Rattle.eve_views.specs.Form.{SomePlace, IsLeast}
 use Rattle.eve_history.specs.Told.{Telling, telling, tellings}
 use Rattle.eve_history.proofs.Places.{no_place, place_cases, cut_at, Rising, located_rising, At, first_place, located_within, weaker_place}
 use Rattle.eve_serial.proofs.Linked.{some_injective, none≢some}
-use Rattle.eve_replies.specs.Faults.{IsReplied, AllReplied, StandsInReplies, IsReplyFault, IsLeastReplyFault}
+use Rattle.eve_replies.specs.Faults.{IsReplied, AllReplied, StandsInReplies, IsReplyFault}
 
 -- a reply that no committed attempt gave
 abbrev pub IsUnreplied : Trace → List (ℕ × Sent) → ℕ × Sent → Type 0
@@ -64,9 +64,9 @@ no_fault t all f is = by f.code is.stands
     by _ stands = stands
 
 pub first_fault : (t : Trace) (i o : ℕ) (s : Sent) (f : Fault) → AllByRecursion (IsReplied t) (take i t.sent) → slice_get (sent_at t) i ≡ Some (o, s) → ¬ IsReplied t s → f ≡ record { code = code.Reply; offset = o; replica = None }
-    → IsLeastReplyFault t f
+    → IsLeast (IsReplyFault t) f
 unfolding sent_at
-first_fault t i o s f all at not is = subst (IsLeastReplyFault t) (sym is) (record {
+first_fault t i o s f all at not is = subst (IsLeast (IsReplyFault t)) (sym is) (record {
   is = record { stands = record { before = take i (sent_at t); item = (o, s); rest = drop (suc i) (sent_at t); is = cut_at (sent_at t) i (o, s) at; holds = (refl, not) }; outside = refl };
   least = λ g stands. by g.offset g.code stands.stands;
 })

@@ -34,8 +34,3 @@ StandsInReplies _ t at = ⊥
 pub record IsReplyFault (t : Trace) (f : Fault) : Type 0 where
   pub stands : StandsInReplies f.code t f.offset
   pub outside : f.replica ≡ None
-
--- the first of the faults of replies
-pub record IsLeastReplyFault (t : Trace) (f : Fault) : Type 0 where
-  pub is : IsReplyFault t f
-  pub least : (g : Fault) → IsReplyFault t g → IsUpTo f g

@@ -3,13 +3,13 @@
 ghost use Rattle.std.specs.Prelude.{◌≡◌, ◌≢◌, ◌≤◌, ◌↔◌, ◌-◌, ℕ, IsTrue, None, Some, length, slice_get};
 ghost use Rattle.std.specs.Prelude.{IfSome, IfNone, IfOk, IfErr};
 ghost use Rattle.eve_frames.specs.Views.{attempt_in, sent_in};
-ghost use Rattle.eve_views.specs.Form.{IfFound};
+ghost use Rattle.eve_views.specs.Form.{IfFound, IsLeast, HasNone};
 ghost use Rattle.eve_views.specs.Fronts.{whole};
 ghost use Rattle.eve_views.specs.declared.fault.CheckFault.TheVariants.{Memory};
 ghost use Rattle.eve_views.specs.declared.fault.Code.TheVariants as code;
 ghost use Rattle.eve_views.specs.declared.fault.Fault.{Fault as FaultValue};
 ghost use Rattle.eve_history.specs.Told.{Ran, telling, tellings};
-ghost use Rattle.eve_replies.specs.Faults.{IsReplied, AllReplied, IsReplyFault, IsLeastReplyFault};
+ghost use Rattle.eve_replies.specs.Faults.{IsReplied, AllReplied, IsReplyFault};
 ghost use Rattle.eve_replies.specs.Keeping.{AreOf};
 
 use crate::tickets::Tickets;
@@ -25,8 +25,8 @@ use eve_views::{CheckFault, Code, Fault, Trace};
 pub fn replies(trace: &Trace<'_>, histories: &[History<'_>]) -> Result<(), CheckFault>
     requires histories { histories.now ≡ tellings (whole trace.now) }
     ensures replied { IfOk result (λ _. AllReplied (whole trace.now)) }
-    ensures none { IfOk result (λ _. (f : FaultValue) → ¬ IsReplyFault (whole trace.now) f) }
-    ensures least { IfErr result (λ why. IfFound why (IsLeastReplyFault (whole trace.now))) }
+    ensures none { IfOk result (λ _. HasNone (IsReplyFault (whole trace.now))) }
+    ensures least { IfErr result (λ why. IfFound why (IsLeast (IsReplyFault (whole trace.now)))) }
     ensures found { IfErr result (λ why. why ≢ Memory) }
 {
     trace.is_whole();

@@ -17,7 +17,7 @@ use Rattle.eve_views.specs.StepKinds.{IsStep}
 use Rattle.eve_views.specs.declared.steps.Step as met
 use Rattle.eve_views.specs.declared.steps.Step.TheVariants as of
 use Rattle.eve_views.specs.Code.{number_of}
-use Rattle.eve_views.specs.Form.{IsUpTo, SomePlace}
+use Rattle.eve_views.specs.Form.{IsUpTo, SomePlace, IsLeast}
 use Rattle.eve_views.specs.declared.fault.Code.{Code}
 use Rattle.eve_views.specs.declared.fault.Code.TheVariants as code
 use Rattle.eve_views.specs.declared.fault.Fault.{Fault}
@@ -32,7 +32,7 @@ use Rattle.eve_serial.specs.Sound.{SettledAreSound}
 use Rattle.eve_serial.specs.Visible.{executions}
 use Rattle.eve_serial.specs.Committed.{attempts_of}
 use Rattle.eve_restores.specs.Tables.{committed_rows, open_entries, are_right_restores, restores_rightly, all_restore_rightly, RestoresAreRight}
-use Rattle.eve_restores.specs.Faults.{StandsInRestores, IsRestoreFault, IsLeastRestoreFault}
+use Rattle.eve_restores.specs.Faults.{StandsInRestores, IsRestoreFault}
 use Rattle.eve_restores.specs.Marking.{unmarked, marked, noted_between, written_in, are_written_in}
 use Rattle.eve_restores.proofs.Marking.{first_writes}
 use Rattle.eve_restores.proofs.Discarding.{follows_committed, open_noted}
@@ -281,7 +281,7 @@ unfolding steps_at
 steps_rising t e = located_rising step_text (section_start t e + length (frame_text (OfReplica e))) (steps_of t e)
 
 pub wrong_is_least : (t : Trace) (e at : ℕ) (r : Rollback) (rest : List (ℕ × Step)) (first end : ℕ) (judged : HasJudged t e ((at, RollsBack r) ∷ rest) first end)
-    → SettledAreSound t e → are_right_restores t (state_after start judged.front) r.restores ≡ false → IsLeastRestoreFault t e (record { code = code.Restore; offset = at; replica = Some e })
+    → SettledAreSound t e → are_right_restores t (state_after start judged.front) r.restores ≡ false → IsLeast (IsRestoreFault t e) (record { code = code.Restore; offset = at; replica = Some e })
 wrong_is_least t e at r rest first end judged sound wrong = record {
   is = record { stands = record { before = judged.front; item = (at, RollsBack r); rest = rest; is = judged.split; holds = (refl, wrong) }; inside = refl };
   least = λ g other. by g g.code refl other.stands;

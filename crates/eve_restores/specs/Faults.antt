@@ -20,8 +20,3 @@ StandsInRestores _ t e at = ⊥
 pub record IsRestoreFault (t : Trace) (e : ℕ) (f : Fault) : Type 0 where
   pub stands : StandsInRestores f.code t e f.offset
   pub inside : f.replica ≡ Some e
-
--- the first of the faults of restores in replica e's section
-pub record IsLeastRestoreFault (t : Trace) (e : ℕ) (f : Fault) : Type 0 where
-  pub is : IsRestoreFault t e f
-  pub least : (g : Fault) → IsRestoreFault t e g → IsUpTo f g

@@ -1,5 +1,5 @@
 -- What all rows have along a section: as the replica works, and as it is committed; and what a rollback must restore.
--- docs/MODEL.md, "Working and committed table".
+-- docs/MODEL.md, "Working table, committed table".
 use Rattle.std.specs.Prelude.{◌≡◌, ℕ, suc, ◌==◌, Bool, true, not, ◌&&◌, ◌||◌, IsTrue, if◌then◌else◌, List, [], ◌∷◌, take, slice_get, Some}
 use Rattle.std.specs.List.{list_all, list_any, flat_map}
 use Rattle.std.specs.Ordering.{int_eq}

@@ -6,7 +6,7 @@ ghost use Rattle.eve_smallbank.specs.Chain.{Table};
 ghost use Rattle.eve_smallbank.specs.declared.entry.Entry as noted;
 ghost use Rattle.eve_grammar.specs.Limits.{is_restore, is_rising};
 ghost use Rattle.eve_frames.specs.Views.{rollback_in};
-ghost use Rattle.eve_views.specs.Form.{IfFound};
+ghost use Rattle.eve_views.specs.Form.{IfFound, IsLeast, HasNone};
 ghost use Rattle.eve_views.specs.Fronts.{whole};
 ghost use Rattle.eve_views.specs.declared.fault.Fault.{Fault as FaultValue};
 ghost use Rattle.eve_views.specs.declared.fault.CheckFault.TheVariants.{Found};
@@ -15,7 +15,7 @@ ghost use Rattle.eve_history.specs.Told.{Ran, telling, IsRightSection};
 ghost use Rattle.eve_serial.specs.Along.{entries_along, AreWithin};
 ghost use Rattle.eve_serial.specs.Sound.{SettledAreSound};
 ghost use Rattle.eve_restores.specs.Tables.{RestoresAreRight};
-ghost use Rattle.eve_restores.specs.Faults.{IsRestoreFault, IsLeastRestoreFault};
+ghost use Rattle.eve_restores.specs.Faults.{IsRestoreFault};
 ghost use Rattle.eve_restores.specs.Marking.{marking_of, unmarked, marked, noted_between, written_in, are_written_in};
 
 use crate::marks::Marks;
@@ -84,7 +84,7 @@ pub(crate) fn judge(
     requires history { history.now ≡ telling (whole trace.now) history.now.replica }
     requires right { IsRightSection (whole trace.now) history.now.replica }
     ensures right { SettledAreSound (whole trace.now) history.now.replica → IfOk result (λ _. RestoresAreRight (whole trace.now) history.now.replica) }
-    ensures least { SettledAreSound (whole trace.now) history.now.replica → IfErr result (λ why. IfFound why (IsLeastRestoreFault (whole trace.now) history.now.replica)) }
+    ensures least { SettledAreSound (whole trace.now) history.now.replica → IfErr result (λ why. IfFound why (IsLeast (IsRestoreFault (whole trace.now) history.now.replica))) }
 {
     trace.is_whole();
     if history.rollbacks() == 0 {
@@ -115,7 +115,8 @@ pub(crate) fn judge(
 /// Judges a replica's rollbacks: each restores exactly the rows that the attempts which it discards wrote, with version
 /// and value as they are committed; else the first that does not.
 ///
-/// docs/MODEL.md, "Faults". The replica's attempts were judged before (`check`), which `settled` shows. The time is linear
+/// docs/MODEL.md, "Faults". The replica's attempts were judged before: `right` is what `History::of` ensures where it
+/// gives the history, and `sound` what `check` ensures, under the same name, where it gives `settled`. The time is linear
 /// in what discarded attempts wrote; the memory is a mark for each row, and none where there is no rollback. Want of
 /// memory decides nothing.
 pub fn rollbacks(
@@ -128,8 +129,8 @@ pub fn rollbacks(
     requires right { IsRightSection (whole trace.now) history.now.replica }
     requires sound { SettledAreSound (whole trace.now) history.now.replica }
     ensures right { IfOk result (λ _. RestoresAreRight (whole trace.now) history.now.replica) }
-    ensures none { IfOk result (λ _. (f : FaultValue) → ¬ IsRestoreFault (whole trace.now) history.now.replica f) }
-    ensures least { IfErr result (λ why. IfFound why (IsLeastRestoreFault (whole trace.now) history.now.replica)) }
+    ensures none { IfOk result (λ _. HasNone (IsRestoreFault (whole trace.now) history.now.replica)) }
+    ensures least { IfErr result (λ why. IfFound why (IsLeast (IsRestoreFault (whole trace.now) history.now.replica))) }
 {
     judge(alloc, trace, history)
 }

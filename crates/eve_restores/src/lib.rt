@@ -4,7 +4,5 @@
 mod judge;
 pub mod laws;
 mod marks;
-#[cfg(test)]
-mod tests;
 
 pub use judge::rollbacks;

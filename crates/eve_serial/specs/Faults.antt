@@ -6,7 +6,7 @@ use Rattle.eve_grammar.specs.Spelling.{accesses_at}
 use Rattle.eve_views.specs.declared.fault.Code.{Code}
 use Rattle.eve_views.specs.declared.fault.Code.TheVariants as code
 use Rattle.eve_views.specs.declared.fault.Fault.{Fault}
-use Rattle.eve_views.specs.Form.{IsUpTo, SomePlace}
+use Rattle.eve_views.specs.Form.{IsUpTo, SomePlace, IsLeast, HasNone}
 use Rattle.eve_history.specs.Section.{Placed, settled}
 use Rattle.eve_history.specs.Told.{history, names_of}
 use Rattle.eve_serial.specs.Visible.{executed_by, visible_to}
@@ -28,11 +28,6 @@ pub record IsRecordFault (t : Trace) (e : ℕ) (f : Fault) : Type 0 where
   pub stands : StandsInRecords f.code t e f.offset
   pub inside : f.replica ≡ Some e
 
--- the first of the faults of records in replica e's section
-pub record IsLeastRecordFault (t : Trace) (e : ℕ) (f : Fault) : Type 0 where
-  pub is : IsRecordFault t e f
-  pub least : (g : Fault) → IsRecordFault t e g → IsUpTo f g
-
 -- ---- chains
 
 -- A fault of chains stands at this offset in replica e's section: an entry sees another version, or another
@@ -49,18 +44,13 @@ pub record IsChainFault (t : Trace) (e : ℕ) (f : Fault) : Type 0 where
   pub stands : StandsInChains f.code t e f.offset
   pub inside : f.replica ≡ Some e
 
--- the first of the faults of chains in replica e's section
-pub record IsLeastChainFault (t : Trace) (e : ℕ) (f : Fault) : Type 0 where
-  pub is : IsChainFault t e f
-  pub least : (g : Fault) → IsChainFault t e g → IsUpTo f g
-
 -- ---- both phases
 
 -- the first of the faults of records, or of those of chains where there are none of records
 abbrev pub IsLeastFault : Trace → ℕ → Fault → Type 0
-IsLeastFault t e f = IsLeastRecordFault t e f ⊎ (((g : Fault) → ¬ IsRecordFault t e g) × IsLeastChainFault t e f)
+IsLeastFault t e f = IsLeast (IsRecordFault t e) f ⊎ (((g : Fault) → ¬ IsRecordFault t e g) × IsLeast (IsChainFault t e) f)
 
 -- no fault of records, and none of chains
 pub record HasNoFault (t : Trace) (e : ℕ) : Type 0 where
-  pub records : (f : Fault) → ¬ IsRecordFault t e f
-  pub chains : (f : Fault) → ¬ IsChainFault t e f
+  pub records : HasNone (IsRecordFault t e)
+  pub chains : HasNone (IsChainFault t e)

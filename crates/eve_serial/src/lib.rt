@@ -6,8 +6,6 @@ mod along;
 mod fitting;
 pub mod laws;
 mod table;
-#[cfg(test)]
-mod tests;
 mod versioned;
 mod written;
 

@@ -1,4 +1,4 @@
--- Chains as steps of one table, and what a run of SmallBank gives along a chain.
+-- Public: other crates cite these lemmas. Chains as steps of one table, and what a run of SmallBank gives along a chain.
 use Rattle.std.proofs.Common.{◌≡◌, ℕ, ℤ, Bool, true, false, cond, List, [], ◌∷◌, ◌++◌, map, refl, sym, subst, ap, ◌∙◌}
 use mathlib.Core.Path.{fun_ext}
 use Rattle.std.specs.Prelude.{⊤}

@@ -20,6 +20,3 @@ pub use fit::fits;
 pub use request::{Abort, Reply, Request};
 pub use rows::Touched;
 pub use touch::touched;
-
-#[cfg(test)]
-mod tests;

@@ -1,4 +1,4 @@
--- Bytes and the numbers that they spell.
+-- Public: other crates cite these lemmas. Bytes and the numbers that they spell.
 use Rattle.std.proofs.Common.{◌≡◌, ℕ, ◌+◌, ◌^◌, ◌<◌, ◌≤◌, List, ◌++◌, length, take, drop, sym, ap, subst, ◌∙◌, arith}
 use Rattle.std.proofs.lemmas.Nat.{be_bytes_4}
 use Rattle.std.proofs.lemmas.List.{drop_at, length-take, get_or-append-add}

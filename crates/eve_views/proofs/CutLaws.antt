@@ -1,4 +1,4 @@
--- Sections and verifiers' parts, cut out of a trace's frames, and the steps of a section.
+-- Public: other crates cite these lemmas. Sections and verifiers' parts, cut out of a trace's frames, and the steps of a section.
 use Rattle.std.proofs.Common.{◌≡◌, ℕ, zero, suc, ◌+◌, ◌-◌, ◌<◌, ◌≤◌, Bool, true, false, List, [], ◌∷◌, ◌++◌, map, length, get_or, take, drop, refl, sym, ap, ◌∙◌, append_assoc, append-nil, arith}
 use Rattle.std.specs.Prelude.{IsTrue, ◌&&◌}
 use Rattle.std.specs.List.{flat_map, list_all, enumerate_from}

@@ -1,4 +1,4 @@
--- The first fault of form.
+-- Public: other crates cite these lemmas. The first fault of form.
 use Rattle.std.proofs.Common.{◌≡◌, ℕ, suc, ◌<◌, ◌≤◌, true, List, length, drop, Option, Some, None, Ok, Err, refl, sym, ap, subst, ◌∙◌, arith, inl, inr, ◌⊎◌}
 use Rattle.std.proofs.lemmas.List.{length-drop}
 use Rattle.eve_grammar.specs.Trace.{Head}
@@ -10,7 +10,7 @@ use Rattle.eve_views.specs.declared.fault.Code.TheVariants as code
 use Rattle.eve_views.specs.declared.fault.Fault.{Fault}
 use Rattle.eve_views.specs.Code.{number_of}
 use Rattle.eve_views.specs.Sequence.{Sequence, SpellsFrames}
-use Rattle.eve_views.specs.Form.{is_sized, has_magic, said_by, IsReached, place_at, StandsInForm, IsFormFault, IsLeastFormFault}
+use Rattle.eve_views.specs.Form.{is_sized, has_magic, said_by, IsReached, place_at, StandsInForm, IsFormFault, IsLeast}
 use Rattle.eve_views.specs.Header.{IsHeader, StopsAtHeader}
 use Rattle.eve_views.specs.Walk.{Walked, walk}
 use Rattle.eve_grammar.proofs.Codec.{IsBytes, IsBytes-drop}
@@ -140,7 +140,7 @@ none_behind c bytes at h t is fits s spells =
 
 -- the fault is the first, nothing is spelled, and it lies within the bytes
 pub record IsRefused (bytes : List ℕ) (f : Fault) : Type 0 where
-  pub least : IsLeastFormFault bytes f
+  pub least : IsLeast (IsFormFault bytes) f
   pub none : (t : Sequence) → SpellsFrames bytes t → ⊥
   pub within : f.offset ≤ length bytes
 

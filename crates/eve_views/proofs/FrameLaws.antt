@@ -1,4 +1,4 @@
--- Frames are read as they are spelled.
+-- Public: other crates cite these lemmas. Frames are read as they are spelled.
 use Rattle.std.proofs.Common.{◌≡◌, ℕ, ◌+◌, ◌^◌, ◌<◌, ◌≤◌, Bool, true, false, ◌&&◌, cond, leb, List, [], ◌∷◌, ◌++◌, length, take, drop, Option, Some, None, Result, Ok, Err, refl, sym, ap, subst, ◌∙◌, append_assoc, arith}
 use Rattle.std.specs.Prelude.{IsTrue, slice_index}
 use Rattle.std.proofs.lemmas.Bool.{le-leb, leb-true, and_parts, and_from}

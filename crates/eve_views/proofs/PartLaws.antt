@@ -6,13 +6,14 @@ use Rattle.std.proofs.lemmas.List.{length-append, length-map, length-take-le, ta
 use Rattle.std.proofs.lemmas.List.FromFn.{length-enumerate_from}
 use Rattle.eve_grammar.specs.Trace.{Batch, Access, Vote, Sent, Trace, head_of}
 use Rattle.eve_grammar.specs.Frames.{Frame, OfCustomer, OfBatch, OfAccess, OfVote, OfSent, End, section_frames, verifier_frames, batches_of, sections_of, verifiers_of, frames_of}
-use Rattle.eve_grammar.specs.Spelling.{frame_text, frames_text, located, customers_at, batches_at, sent_at, sent_start, batches_start}
+use Rattle.eve_grammar.specs.Spelling.{frame_text, frames_text, spelling, located, customers_at, batches_at, sent_at, sent_start, batches_start}
 use Rattle.eve_grammar.specs.Limits.{HasLimits, is_customer, is_batch, is_sent, is_vote, is_access}
 use Rattle.eve_grammar.specs.Gathering.{Gathered, nothing, gathered}
 use Rattle.eve_grammar.proofs.Gatherings.{gathered-votes, gathered-accesses, with_votes, with_accesses}
 use Rattle.eve_frames.specs.Views.{is_batch_frame, is_sent_frame, batch_in, sent_in, Says}
 use Rattle.eve_frames.proofs.Rereading.{batch_again, sent_again}
 use Rattle.eve_grammar.proofs.FrameLaws.{small_head}
+use Rattle.eve_views.specs.Lent.{HasBytesAt}
 use Rattle.eve_views.specs.Fronts.{before_batches, before_sections, before_sent}
 use Rattle.eve_views.specs.Parts.{byte_of, frames_between, accesses_between, votes_between, AreAccesses, AreVotes}
 use Rattle.eve_views.proofs.Fronting.{frames_from_sections, frames_from_sent}
@@ -63,6 +64,17 @@ pub returned : {A : Type 0} (read : List ℕ → A) (list : List (ℕ × A)) (i 
     → slice_get list i ≡ Some (at, read own)
 returned read list i offset at x bytes own there says same text =
     there ∙ ap (λ z. Some (offset, z)) (sym says ∙ sym (ap read text)) ∙ ap (λ (k : ℕ). Some (k, read own)) (sym same)
+
+-- and its bytes are the frame's text
+pub lent_text : {A : Type 0} (frame : A → Frame) (read : List ℕ → A) (bytes own : List ℕ) (f : Frame) (x : A) → bytes ≡ frame_text f → f ≡ frame x → read bytes ≡ x → own ≡ bytes → own ≡ frame_text (frame (read own))
+lent_text frame read bytes own f x text is says same = same ∙ text ∙ ap frame_text is ∙ ap (λ y. frame_text (frame y)) (sym says ∙ sym (ap read same))
+
+-- which stands where the frame does
+pub lent_there : (t : Trace) (at offset : ℕ) (bytes own : List ℕ) → HasBytesAt t at bytes → offset ≡ at → own ≡ bytes → HasBytesAt t offset own
+lent_there t at offset bytes own stands there same = record {
+  behind = stands.behind;
+  is = ap (λ (o : ℕ). drop o (spelling t)) there ∙ stands.is ∙ ap (λ (b : List ℕ). b ++ stands.behind) (sym same);
+}
 
 -- ---- customers, batches, replies sent
 
@@ -205,19 +217,20 @@ few_replicas : (t : Trace) → HasLimits t → length t.sections ≤ 8
 few_replicas t limits = (small_head (head_of t) limits.head).replicas
 
 pub batch_said : (t : Trace) (fs : List Frame) (n k offset : ℕ) (f : Frame) (bytes : List ℕ) → HasLimits t → frames_of t ≡ fs → k < length t.batches → n ≡ length t.customers + k → slice_get fs n ≡ Some f
-    → offset ≡ byte_of fs n → bytes ≡ frame_text f → (b : ℕ × Batch) × Says is_batch_frame batch_in bytes b × (slice_get (batches_at t) k ≡ Some (offset, b))
+    → offset ≡ byte_of fs n → bytes ≡ frame_text f → (b : ℕ × Batch) × Says is_batch_frame batch_in bytes b × (slice_get (batches_at t) k ≡ Some (offset, b)) × (f ≡ OfBatch b.0 b.1)
 batch_said t fs n k offset f bytes limits same lt number got stands text =
     let met = batch_met t fs n k offset f limits same lt number got stands in
     let few = few_batches t limits in
     let small : met.item.0 < 2 ^ 32 = omega (arith, few, lt, batch_number t k offset met.item met.there) in
-    (met.item, says_met is_batch_frame batch_in bytes f (OfBatch met.item.0 met.item.1) met.item text met.is (batch_again met.item.0 met.item.1 small met.right), met.there)
+    (met.item, says_met is_batch_frame batch_in bytes f (OfBatch met.item.0 met.item.1) met.item text met.is (batch_again met.item.0 met.item.1 small met.right), met.there, met.is)
 
 pub sent_said : (t : Trace) (fs : List Frame) (n i offset : ℕ) (f : Frame) (bytes : List ℕ) → HasLimits t → frames_of t ≡ fs → i < length t.sent → n ≡ length (before_sent t) + i → slice_get fs n ≡ Some f
-    → offset ≡ byte_of fs n → bytes ≡ frame_text f → (s : Sent) × Says is_sent_frame sent_in bytes s × (slice_get (sent_at t) i ≡ Some (offset, s))
+    → offset ≡ byte_of fs n → bytes ≡ frame_text f → (s : Sent) × Says is_sent_frame sent_in bytes s × (slice_get (sent_at t) i ≡ Some (offset, s)) × (f ≡ OfSent s)
 sent_said t fs n i offset f bytes limits same lt number got stands text =
     let met = sent_met t fs n i offset f limits same lt number got stands in (
       met.item,
       says_met is_sent_frame sent_in bytes f (OfSent met.item) met.item text met.is
           (sent_again (length t.sections) (length t.batches) met.item met.right (few_replicas t limits) (few_batches t limits)),
       met.there,
+      met.is,
     )

@@ -1,4 +1,4 @@
--- The walk over the frames of a trace.
+-- Public: other crates cite these lemmas. The walk over the frames of a trace.
 use Rattle.std.proofs.Common.{◌≡◌, ℕ, suc, ◌+◌, ◌-◌, ◌<◌, ◌≤◌, true, List, [], ◌∷◌, ◌++◌, length, take, drop, Result, Ok, Err, refl, sym, ap, subst, ◌∙◌, append_assoc, add-zero, arith}
 use Rattle.std.specs.Prelude.{IsTrue, slice_index}
 use Rattle.std.proofs.lemmas.List.{length-append, length-drop, length-take, append-nil, drop_at, take_at, take-append-drop, take_rest, nil_from_length}

@@ -146,6 +146,7 @@ none_left fs at to are e = by are.steps refl
 pub record IsAttemptMet (fs : List Frame) (at to : ℕ) (bytes : List ℕ) : Type 0 where
   pub attempt : Attempt
   pub says : Says is_attempt_frame attempt_in bytes (without_accesses attempt)
+  pub frame : bytes ≡ frame_text (OfAttempt (without_accesses attempt))
   pub accesses : (to_accesses : ℕ) → to_accesses ≡ at + 1 + length attempt.certificate → AreAccesses fs (at + 1) to_accesses
   pub list : (to_accesses : ℕ) → to_accesses ≡ at + 1 + length attempt.certificate → accesses_between fs (at + 1) (to_accesses - (at + 1)) ≡ accesses_at (byte_of fs at) attempt
   pub rest : (next : ℕ) → next ≡ at + 1 + length attempt.certificate → AreSteps fs next to
@@ -183,6 +184,7 @@ attempt_met fs at to f bytes met kind text = by met.step met.is met.begins
         record {
           attempt = a;
           says = says_met is_attempt_frame attempt_in bytes f (OfAttempt (without_accesses a)) (without_accesses a) text begins (attempt_again (without_accesses a) parts.0);
+          frame = text ∙ ap frame_text begins;
           accesses = λ n e. subst (λ (n : ℕ). AreAccesses fs (at + 1) n) (sym e) are;
           list = λ n e. ap (λ (n : ℕ). accesses_between fs (at + 1) (n - (at + 1))) e ∙ accesses_are fs (at + 1) (at + 1 + length a.certificate) are
               ∙ ap (λ (n : ℕ). located (λ x. frame_text (OfAccess x)) n a.accesses) byte;
@@ -194,6 +196,7 @@ attempt_met fs at to f bytes met kind text = by met.step met.is met.begins
 pub record IsCommitMet (fs : List Frame) (at to : ℕ) (bytes : List ℕ) : Type 0 where
   pub commit : Commit
   pub says : Says is_commit_frame commit_in bytes commit
+  pub frame : bytes ≡ frame_text (OfCommit commit)
   pub rest : AreSteps fs (at + 1) to
   pub value : steps_between fs at (to - at) ≡ (byte_of fs at, Commits commit) ∷ steps_between fs (at + 1) (to - (at + 1))
 
@@ -203,12 +206,13 @@ commit_met fs at to f bytes met kind text = by met.step met.is met.begins
     by : (s : Step) → IsNext fs at to met.rows s → f ≡ first s → IsCommitMet fs at to bytes
     by (Attempts a) next begins = absurd (omega (arith, kind, ap kind_of begins))
     by (RollsBack r) next begins = absurd (omega (arith, kind, ap kind_of begins))
-    by (Commits c) next begins = record { commit = c; says = says_met is_commit_frame commit_in bytes f (OfCommit c) c text begins (commit_again c next.right); rest = next.rest; value = next.value }
+    by (Commits c) next begins = record { commit = c; says = says_met is_commit_frame commit_in bytes f (OfCommit c) c text begins (commit_again c next.right); frame = text ∙ ap frame_text begins; rest = next.rest; value = next.value }
 
 -- a rollback is met
 pub record IsRollbackMet (fs : List Frame) (at to : ℕ) (bytes : List ℕ) : Type 0 where
   pub rollback : Rollback
   pub says : Says is_rollback_frame rollback_in bytes rollback
+  pub frame : bytes ≡ frame_text (OfRollback rollback)
   pub rest : AreSteps fs (at + 1) to
   pub value : steps_between fs at (to - at) ≡ (byte_of fs at, RollsBack rollback) ∷ steps_between fs (at + 1) (to - (at + 1))
 
@@ -221,6 +225,7 @@ rollback_met fs at to f bytes met other another text = by met.step met.is met.be
     by (RollsBack r) next begins = record {
       rollback = r;
       says = says_met is_rollback_frame rollback_in bytes f (OfRollback r) r text begins (rollback_again met.rows r next.right met.few);
+      frame = text ∙ ap frame_text begins;
       rest = next.rest;
       value = next.value;
     }

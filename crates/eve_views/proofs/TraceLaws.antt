@@ -9,7 +9,7 @@ use Rattle.eve_views.specs.declared.fault.CheckFault.{CheckFault}
 use Rattle.eve_views.specs.declared.fault.CheckFault.TheVariants.{Found, Memory}
 use Rattle.eve_views.specs.declared.walk.Index.{Index}
 use Rattle.eve_views.specs.Sequence.{Sequence, SpellsFrames, offsets_of}
-use Rattle.eve_views.specs.Form.{IsFormFault, IsLeastFormFault, IfFound}
+use Rattle.eve_views.specs.Form.{IsFormFault, IfFound, IsLeast}
 use Rattle.eve_views.specs.Header.{IsHeader}
 use Rattle.eve_views.specs.Walk.{frames_in}
 use Rattle.eve_views.specs.Indexing.{AreStarts, IsIndex}
@@ -47,7 +47,7 @@ held_of bytes h i fits is found =
 
 -- ---- a fault
 
-pub found_least : (bytes : List ℕ) (h : Head) (e : CheckFault) → IsBytes bytes → IsHeader bytes h → IfFound e (IsFormFault bytes) → IfFound e (IsLeastFormFault bytes)
+pub found_least : (bytes : List ℕ) (h : Head) (e : CheckFault) → IsBytes bytes → IsHeader bytes h → IfFound e (IsFormFault bytes) → IfFound e (IsLeast (IsFormFault bytes))
 found_least bytes h Memory fits is s = tt
 found_least bytes h (Found f) fits is s = (refused_behind bytes h f is fits s).least
 
@@ -101,6 +101,8 @@ pub record IsPart (bytes : List ℕ) (fs : List Frame) (i from to : ℕ) : Type 
   pub inside : to ≤ length bytes
   pub got : slice_get fs i ≡ Some frame
   pub text : take (to - from) (drop from bytes) ≡ frame_text frame
+  pub behind : List ℕ
+  pub cut : drop from bytes ≡ frame_text frame ++ behind
   pub long : 5 ≤ to - from
 
 pub part_is : (bytes : List ℕ) (t : Sequence) (i from to : ℕ) → SpellsFrames bytes t → i < length t.frames
@@ -122,5 +124,7 @@ part_is bytes t i from to s lt at_from at_to =
       inside = omega (arith, next, long);
       got = a.got;
       text = ap (take (to - from)) cut ∙ take_at (frame_text r.0) r.1.0 (to - from) wide;
+      behind = r.1.0;
+      cut = cut;
       long = omega (arith, wide, length-frame_text r.0);
     }

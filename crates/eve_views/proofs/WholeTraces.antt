@@ -1,4 +1,4 @@
--- Heads with frames, and the traces that they make up.
+-- Public: other crates cite these lemmas. Heads with frames, and the traces that they make up.
 use Rattle.std.proofs.Common.{◌≡◌, ℕ, ◌+◌, ◌^◌, ◌≤◌, List, ◌++◌, length, refl, sym, ap, ◌∙◌, arith, length-append}
 use Rattle.eve_grammar.specs.Trace.{Trace, Head, head_of}
 use Rattle.eve_grammar.specs.Frames.{Frame, frames_of}

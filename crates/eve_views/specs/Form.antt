@@ -91,10 +91,14 @@ pub record SomePlace {A : Type 0} (xs : List A) (P : List A → A → Type 0) : 
 abbrev pub IsUpTo : Fault → Fault → Type 0
 IsUpTo f g = (f.offset < g.offset) ⊎ ((f.offset ≡ g.offset) × (number_of f.code ≤ number_of g.code))
 
--- the first of the faults of form
-pub record IsLeastFormFault (bytes : List ℕ) (f : Fault) : Type 0 where
-  pub is : IsFormFault bytes f
-  pub least : (g : Fault) → IsFormFault bytes g → IsUpTo f g
+-- of some faults the first
+pub record IsLeast (S : Fault → Type 0) (f : Fault) : Type 0 where
+  pub is : S f
+  pub least : (g : Fault) → S g → IsUpTo f g
+
+-- none of them stands
+abbrev pub HasNone : (Fault → Type 0) → Type 0
+HasNone S = (f : Fault) → ¬ S f
 
 -- a fact about the fault, if one was found
 abbrev pub IfFound : CheckFault → (Fault → Type 0) → Type 0

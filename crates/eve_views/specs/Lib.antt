@@ -10,3 +10,4 @@ pub mod Held
 pub mod Fronts
 pub mod Parts
 pub mod StepKinds
+pub mod Lent

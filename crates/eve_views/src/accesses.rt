@@ -1,6 +1,8 @@
 //! The access frames of an attempt.
 
 ghost use Rattle.std.specs.Prelude.{◌≡◌, ◌<◌, ◌-◌, length, slice_get, Some};
+ghost use Rattle.eve_grammar.specs.Frames.{OfAccess};
+ghost use Rattle.eve_grammar.specs.Spelling.{frame_text};
 ghost use Rattle.eve_frames.specs.Views.{access_in};
 ghost use Rattle.eve_views.specs.Parts.{accesses_between, AreAccesses};
 
@@ -49,7 +51,8 @@ impl<'t, 'a> Accesses<'t, 'a> {
     /// An access frame, by its place from 0.
     pub fn get(&self, i: usize) -> AccessView<'a>
         requires { i < length self.now }
-        ensures { slice_get self.now i ≡ Some (result.offset, access_in result.bytes.now) }
+        ensures says { slice_get self.now i ≡ Some (result.offset, access_in result.bytes.now) }
+        ensures text { result.bytes.now ≡ frame_text (OfAccess (access_in result.bytes.now)) }
     {
         prove!(self.from <= self.to);
         let frame = self.trace.frame(self.from + i);

@@ -9,8 +9,6 @@ mod header;
 mod place;
 mod starts;
 mod steps;
-#[cfg(test)]
-mod tests;
 mod trace;
 mod votes;
 mod walk;

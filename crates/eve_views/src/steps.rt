@@ -4,6 +4,7 @@ ghost use Rattle.std.specs.Prelude.{◌≡◌, ℕ, ◌-◌, [], ◌∷◌, IfSo
 ghost use Rattle.eve_grammar.specs.Trace.{Step as StepValue};
 ghost use Rattle.eve_views.specs.Parts.{steps_between, AreSteps};
 ghost use Rattle.eve_views.specs.StepKinds.{IsStep};
+ghost use Rattle.eve_views.specs.Lent.{LendsFrame};
 
 use crate::accesses::Accesses;
 use crate::trace::Trace;
@@ -57,6 +58,7 @@ impl<'t, 'a> Steps<'t, 'a> {
     pub fn next(&mut self) -> Option<Step<'t, 'a>>
         ensures none { IfNone result (self.old ≡ []) }
         ensures some { IfSome result (λ s. (step : ℕ × StepValue) × (self.old ≡ step ∷ self.new) × IsStep s step) }
+        ensures text { IfSome result LendsFrame }
     {
         if self.at == self.to {
             return None;

@@ -1,7 +1,7 @@
 //! A trace that was read.
 
 ghost use Rattle.std.specs.Prelude.{◌≡◌, ℕ, ◌≤◌, IsTrue, IsFalse, ◌<◌, ◌+◌, ◌-◌, Some, IfSome, IfNone, length, take, drop, slice_get, IfOk, IfErr};
-ghost use Rattle.eve_grammar.specs.Frames.{Frame, frames_of};
+ghost use Rattle.eve_grammar.specs.Frames.{Frame, OfCustomer, OfBatch, OfSent, frames_of};
 ghost use Rattle.eve_grammar.specs.Spelling.{frame_text, frames_text, frames_at, section_start, customers_at, batches_at, steps_at, votes_at, sent_at};
 ghost use Rattle.eve_grammar.specs.Trace.{Trace as TraceValue, head_of};
 ghost use Rattle.eve_grammar.specs.Limits.{HasLimits, Spells};
@@ -9,10 +9,11 @@ ghost use Rattle.eve_frames.specs.Views.{customer_in, batch_in, sent_in};
 ghost use Rattle.eve_grammar.specs.Gathering.{trace_of};
 ghost use Rattle.eve_grammar.specs.Bodies.{limits};
 ghost use Rattle.eve_views.specs.Sequence.{Sequence, SpellsFrames};
-ghost use Rattle.eve_views.specs.Form.{IsFormFault, IsLeastFormFault, IfFound};
+ghost use Rattle.eve_views.specs.Form.{IsFormFault, IfFound, IsLeast, HasNone};
 ghost use Rattle.eve_views.specs.declared.fault.Fault.{Fault as FaultValue};
 ghost use Rattle.eve_views.specs.Fronts.{whole, before_section, before_verifier, before_sent};
 ghost use Rattle.eve_views.specs.Parts.{is_in_section};
+ghost use Rattle.eve_views.specs.Lent.{HasBytesAt};
 
 use crate::fault::{CheckFault, Fault};
 use crate::frames::Frames;
@@ -57,8 +58,8 @@ impl<'a> Trace<'a> {
     pub fn read(alloc: Global, bytes: &'a [u8]) -> Result<Trace<'a>, CheckFault>
         ensures spelled { IfOk result (SpellsFrames bytes.now) }
         ensures trace { IfOk result (λ t. Spells bytes.now (trace_of t.head t.frames)) }
-        ensures faultless { IfOk result (λ _. (f : FaultValue) → ¬ IsFormFault bytes.now f) }
-        ensures least { IfErr result (λ e. IfFound e (IsLeastFormFault bytes.now)) }
+        ensures faultless { IfOk result (λ _. HasNone (IsFormFault bytes.now)) }
+        ensures least { IfErr result (λ e. IfFound e (IsLeast (IsFormFault bytes.now))) }
         ensures none { IfErr result (λ e. IfFound e (λ _. (t : Sequence) → ¬ SpellsFrames bytes.now t)) }
         ensures no_trace { IfErr result (λ e. IfFound e (λ _. (t : TraceValue) → ¬ Spells bytes.now t)) }
         ensures within { IfErr result (λ e. IfFound e (λ f. f.offset ≤ length bytes.now)) }
@@ -111,6 +112,7 @@ impl<'a> Trace<'a> {
         requires { i < length self.now.frames }
         ensures frame { (f : Frame) × (slice_get self.now.frames i ≡ Some f) × (result.bytes.now ≡ frame_text f) }
         ensures offset { result.offset ≡ 32 + length (frames_text (take i self.now.frames)) }
+        ensures stands { HasBytesAt (whole self.now) result.offset result.bytes.now }
     {
         let bytes = self.bytes;
         let from = self.start_of(i);
@@ -180,7 +182,9 @@ impl<'a> Trace<'a> {
     /// A customer, by number from 0.
     pub fn customer(&self, i: u32) -> CustomerView<'a>
         requires { i < length (whole self.now).customers }
-        ensures { slice_get (customers_at (whole self.now)) i ≡ Some (result.offset, customer_in result.bytes.now) }
+        ensures says { slice_get (customers_at (whole self.now)) i ≡ Some (result.offset, customer_in result.bytes.now) }
+        ensures text { result.bytes.now ≡ frame_text (OfCustomer (customer_in result.bytes.now)) }
+        ensures stands { HasBytesAt (whole self.now) result.offset result.bytes.now }
     {
         self.is_whole();
         let frame = self.frame(i as usize);
@@ -191,7 +195,9 @@ impl<'a> Trace<'a> {
     pub fn batch(&self, n: u32) -> BatchView<'a>
         requires from_one { 1 ≤ n }
         requires there { n ≤ length (whole self.now).batches }
-        ensures { slice_get (batches_at (whole self.now)) (n - 1) ≡ Some (result.offset, batch_in result.bytes.now) }
+        ensures says { slice_get (batches_at (whole self.now)) (n - 1) ≡ Some (result.offset, batch_in result.bytes.now) }
+        ensures text { result.bytes.now ≡ frame_text (OfBatch (batch_in result.bytes.now).0 (batch_in result.bytes.now).1) }
+        ensures stands { HasBytesAt (whole self.now) result.offset result.bytes.now }
     {
         self.is_whole();
         let frame = self.frame(self.head.customers as usize + n as usize - 1);
@@ -291,7 +297,9 @@ impl<'a> Trace<'a> {
     /// A reply sent, by its place from 0.
     pub fn sent(&self, i: usize) -> SentView<'a>
         requires { i < length (whole self.now).sent }
-        ensures { slice_get (sent_at (whole self.now)) i ≡ Some (result.offset, sent_in result.bytes.now) }
+        ensures says { slice_get (sent_at (whole self.now)) i ≡ Some (result.offset, sent_in result.bytes.now) }
+        ensures text { result.bytes.now ≡ frame_text (OfSent (sent_in result.bytes.now)) }
+        ensures stands { HasBytesAt (whole self.now) result.offset result.bytes.now }
     {
         self.is_whole();
         let first = self.frame_count() - 1 - self.sent_count();

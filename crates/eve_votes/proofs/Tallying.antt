@@ -1,4 +1,5 @@
 -- From what was found to the tally.
+use Rattle.eve_views.specs.Form.{IsLeast}
 use Rattle.std.proofs.Common.{◌≡◌, ℕ, ◌+◌, ◌<◌, ◌≤◌, Bool, true, false, cond, List, [], ◌∷◌, ◌++◌, length, get_or, filter, Option, Some, None, IfSome, refl, sym, ap, subst, ◌∙◌, append_assoc, arith, ◌⊎◌, inl, inr}
 use Rattle.std.specs.Prelude.{◌==◌, ◌||◌, nat_lt, ◌↔◌, IsTrue}
 use Rattle.std.specs.List.{list_any}
@@ -17,7 +18,7 @@ use Rattle.eve_views.specs.declared.fault.Code.{Code}
 use Rattle.eve_views.specs.declared.fault.Code.TheVariants as code
 use Rattle.eve_views.specs.declared.fault.Fault.{Fault}
 use Rattle.eve_votes.specs.Votes.{is_vote_on, IsDecided}
-use Rattle.eve_votes.specs.Faults.{IsFurther, IsFurtherAt, StandsInVotes, IsVoteFault, IsLeastVoteFault, AreVotesSound}
+use Rattle.eve_votes.specs.Faults.{IsFurther, IsFurtherAt, StandsInVotes, IsVoteFault, AreVotesSound}
 use Rattle.eve_votes.specs.Least.{IsBelow, IsBelowAll}
 use Rattle.eve_votes.specs.First.{first_fault, outside}
 use Rattle.eve_votes.specs.Ballots.{Ballots, ballot_cmp, kept_in}
@@ -54,14 +55,14 @@ two_decisions_first t at votes decisions code.TwoVotes b s = inl (votes b s)
 two_decisions_first t at votes decisions code.TwoDecisions b s = after at b 71 71 (decisions b s) (omega arith)
 two_decisions_first t at votes decisions _ b s = absurd s
 
-least_votes : (t : Trace) (at : ℕ) → StandsInVotes code.TwoVotes t at → ((b : ℕ) → StandsInVotes code.TwoVotes t b → at ≤ b) → ((b : ℕ) → StandsInVotes code.TwoDecisions t b → at ≤ b) → IsLeastVoteFault t (outside code.TwoVotes at)
+least_votes : (t : Trace) (at : ℕ) → StandsInVotes code.TwoVotes t at → ((b : ℕ) → StandsInVotes code.TwoVotes t b → at ≤ b) → ((b : ℕ) → StandsInVotes code.TwoDecisions t b → at ≤ b) → IsLeast (IsVoteFault t) (outside code.TwoVotes at)
 least_votes t at stands votes decisions = record {
   is = record { stands = stands; outside = refl };
   least = λ g fault. two_votes_first t at votes decisions g.code g.offset fault.stands;
 }
 
 least_decisions : (t : Trace) (at : ℕ) → StandsInVotes code.TwoDecisions t at → ((b : ℕ) → StandsInVotes code.TwoVotes t b → at < b) → ((b : ℕ) → StandsInVotes code.TwoDecisions t b → at ≤ b)
-    → IsLeastVoteFault t (outside code.TwoDecisions at)
+    → IsLeast (IsVoteFault t) (outside code.TwoDecisions at)
 least_decisions t at stands votes decisions = record {
   is = record { stands = stands; outside = refl };
   least = λ g fault. two_decisions_first t at votes decisions g.code g.offset fault.stands;
@@ -74,13 +75,13 @@ pub record Found (t : Trace) (again apart : Option ℕ) : Type 0 where
   pub apart_stands : IfSome apart (StandsInVotes code.TwoDecisions t)
   pub apart_least : IsBelowAll (StandsInVotes code.TwoDecisions t) apart
 
-pub first_is_least : (t : Trace) (again apart : Option ℕ) → Found t again apart → IfSome (first_fault again apart) (IsLeastVoteFault t)
+pub first_is_least : (t : Trace) (again apart : Option ℕ) → Found t again apart → IfSome (first_fault again apart) (IsLeast (IsVoteFault t))
 first_is_least t None None found = tt
 first_is_least t (Some a) None found = least_votes t a found.again_stands found.again_least (λ b s. absurd (found.apart_least b s))
 first_is_least t None (Some d) found = least_decisions t d found.apart_stands (λ b s. absurd (found.again_least b s)) found.apart_least
 first_is_least t (Some a) (Some d) found = by_test (nat_lt d a) refl
   where
-    by_test : (x : Bool) → nat_lt d a ≡ x → IfSome (cond x (Some (outside code.TwoDecisions d)) (Some (outside code.TwoVotes a))) (IsLeastVoteFault t)
+    by_test : (x : Bool) → nat_lt d a ≡ x → IfSome (cond x (Some (outside code.TwoDecisions d)) (Some (outside code.TwoVotes a))) (IsLeast (IsVoteFault t))
     by_test true e = least_decisions t d found.apart_stands (λ b s. omega (arith, ltb-true d a e, found.again_least b s)) found.apart_least
     by_test false e = least_votes t a found.again_stands found.again_least (λ b s. omega (arith, ltb-false d a e, found.apart_least b s))
 

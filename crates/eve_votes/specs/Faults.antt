@@ -1,12 +1,12 @@
 -- The faults of votes, and where they stand. docs/MODEL.md, "Faults".
-use Rattle.std.specs.Prelude.{◌≡◌, ◌≢◌, ℕ, ◌≤◌, IsTrue, List, ◌∷◌, ◌++◌, length, filter, None}
+use Rattle.std.specs.Prelude.{◌≡◌, ◌≢◌, ℕ, ◌≤◌, IsTrue, List, length, filter, None}
 use Rattle.std.specs.List.{list_any}
 use Rattle.eve_grammar.specs.Trace.{Vote, Trace}
 use Rattle.eve_grammar.specs.Spelling.{batches_at, votes_at, votes_of}
 use Rattle.eve_views.specs.declared.fault.Code.{Code}
 use Rattle.eve_views.specs.declared.fault.Code.TheVariants as code
 use Rattle.eve_views.specs.declared.fault.Fault.{Fault}
-use Rattle.eve_views.specs.Form.{IsUpTo, SomePlace}
+use Rattle.eve_views.specs.Form.{SomePlace}
 use Rattle.eve_votes.specs.Votes.{is_vote_on, IsDecided}
 
 -- two views of the batch are decided as commit
@@ -37,11 +37,6 @@ StandsInVotes _ t at = ⊥
 pub record IsVoteFault (t : Trace) (f : Fault) : Type 0 where
   pub stands : StandsInVotes f.code t f.offset
   pub outside : f.replica ≡ None
-
--- the first of the faults of votes
-pub record IsLeastVoteFault (t : Trace) (f : Fault) : Type 0 where
-  pub is : IsVoteFault t f
-  pub least : (g : Fault) → IsVoteFault t g → IsUpTo f g
 
 -- what holds where no fault of votes stands: each verifier votes once on a batch in a view, and a batch
 -- is decided as commit in one view, with one token

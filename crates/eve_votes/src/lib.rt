@@ -5,8 +5,6 @@ mod ballots;
 mod decisions;
 mod least;
 mod tally;
-#[cfg(test)]
-mod tests;
 mod voting;
 
 pub use tally::Tally;

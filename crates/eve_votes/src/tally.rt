@@ -4,10 +4,10 @@ ghost use Rattle.std.specs.Prelude.{◌≡◌, ◌+◌, ℕ, List, None, Some, l
 ghost use Rattle.std.specs.List.{All};
 ghost use Rattle.eve_grammar.specs.Trace.{ForCommit};
 ghost use Rattle.eve_views.specs.Fronts.{whole};
-ghost use Rattle.eve_views.specs.Form.{IfFound};
+ghost use Rattle.eve_views.specs.Form.{IfFound, IsLeast, HasNone};
 ghost use Rattle.eve_views.specs.declared.fault.Fault.{Fault as FaultValue};
 ghost use Rattle.eve_votes.specs.Votes.{backers, IsDecided, IsRolledBack};
-ghost use Rattle.eve_votes.specs.Faults.{IsVoteFault, IsLeastVoteFault, AreVotesSound};
+ghost use Rattle.eve_votes.specs.Faults.{IsVoteFault, AreVotesSound};
 ghost use Rattle.eve_votes.specs.First.{first_fault, outside};
 
 use crate::ballots::{Ballots, backers};
@@ -99,8 +99,8 @@ impl<'t, 'a> Tally<'t, 'a> {
     pub fn of(alloc: Global, trace: &'t Trace<'a>) -> Result<Tally<'t, 'a>, CheckFault>
         ensures trace { IfOk result (λ tally. tally ≡ whole trace.now) }
         ensures sound { IfOk result (λ _. AreVotesSound (whole trace.now)) }
-        ensures none { IfOk result (λ _. (f : FaultValue) → ¬ IsVoteFault (whole trace.now) f) }
-        ensures least { IfErr result (λ e. IfFound e (IsLeastVoteFault (whole trace.now))) }
+        ensures none { IfOk result (λ _. HasNone (IsVoteFault (whole trace.now))) }
+        ensures least { IfErr result (λ e. IfFound e (IsLeast (IsVoteFault (whole trace.now)))) }
     {
         let mut ballots = BTreeMap::new(alloc);
         trace.is_whole();

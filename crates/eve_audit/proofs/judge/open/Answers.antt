@@ -1,5 +1,6 @@
+use Rattle.eve_views.specs.Form.{IsLeast}
 use Rattle.eve_views.specs.Fronts.{whole}
-use Rattle.eve_history.specs.Faults.{IsLeastOrderFault}
+use Rattle.eve_history.specs.Faults.{IsOrderFault}
 use Rattle.eve_audit.specs.declared.verdict.Verdict.TheVariants.{No}
 use Rattle.eve_audit.specs.Answer.{IsAnswer}
 use Rattle.eve_audit.proofs.Answering.{form_for, no_for}
@@ -10,7 +11,7 @@ pub returns-clause-fault : goal.returns-clause-fault
 returns-clause-fault c =
     let bytes = c.args.bytes.now in
     let t = whole c.in-Ok.trace in
-    found_weaker (IsLeastOrderFault t) (λ f. IsAnswer bytes (No f)) c.in-Err-orders.why
+    found_weaker (IsLeast (IsOrderFault t)) (λ f. IsAnswer bytes (No f)) c.in-Err-orders.why
     (λ f least. no_for bytes t (record { spells = c.in-Ok.ensures.trace; none = c.in-Ok.ensures.faultless }) (λ u other. c.bytes_spell_one_trace.ensures bytes u t other c.in-Ok.ensures.trace)
     (c.faults_lie_within.ensures.orders t) (λ e. (c.fates_are_as_the_section_ends.ensures.committed t e, c.fates_are_as_the_section_ends.ensures.discarded t e)) f (order_first t f least))
     c.in-Err-orders.ensures.least

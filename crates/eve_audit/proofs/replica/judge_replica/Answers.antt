@@ -1,11 +1,11 @@
 use Rattle.std.proofs.Common.{ℕ, subst, sym, ◌∙◌, ap}
-use Rattle.eve_views.specs.Form.{IfFound}
+use Rattle.eve_views.specs.Form.{IfFound, HasNone}
 use Rattle.eve_views.specs.Fronts.{whole}
 use Rattle.eve_history.specs.Faults.{IsStructureFault}
 use Rattle.eve_history.specs.Told.{IsRightSection}
 use Rattle.eve_banks.specs.Settling.{settling}
 use Rattle.eve_audit.specs.Verdict.{IsOwnFault}
-use Rattle.eve_audit.specs.Pieces.{IsFirstOf, HasNone, IsSoundReplica}
+use Rattle.eve_audit.specs.Pieces.{IsFirstOf, IsSoundReplica}
 use Rattle.eve_audit.proofs.Told.{told_of, told_by_its_own}
 use Rattle.eve_audit.proofs.replica.judge_replica.Goals as goal
 

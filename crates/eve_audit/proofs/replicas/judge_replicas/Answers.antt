@@ -1,7 +1,9 @@
 use Rattle.std.proofs.Common.{◌≡◌, ℕ, ◌+◌, ◌<◌, length, ap, Option, sym, subst, ◌∙◌, rules}
 use Rattle.eve_views.specs.Fronts.{whole}
 use Rattle.eve_views.specs.declared.fault.Fault.{Fault}
-use Rattle.eve_audit.specs.Pieces.{IsFirstOf, HasNone, IsFaultBelow, IsFoundBelow, AreKept, IsJudgedBelow}
+use Rattle.eve_views.specs.Form.{HasNone}
+use Rattle.eve_audit.specs.Verdict.{IsFaultBelow}
+use Rattle.eve_audit.specs.Pieces.{IsFirstOf, IsFoundBelow, AreKept, IsJudgedBelow}
 use Rattle.eve_audit.proofs.Piecewise.{first_more, both_more}
 use Rattle.eve_audit.proofs.Kept.{sound_more, fault_more, all_told, all_settled, all_sound}
 use Rattle.eve_audit.proofs.replicas.judge_replicas.Goals.{in-Ok+in_ok-keep-in-Ok, in-Err-Found+in-Some, in-Err-Found+in-None}

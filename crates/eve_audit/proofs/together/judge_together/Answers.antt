@@ -1,8 +1,9 @@
-use Rattle.eve_views.specs.Form.{IfFound}
+use Rattle.eve_views.specs.Form.{IfFound, IsLeast, HasNone}
 use Rattle.eve_views.specs.Fronts.{whole}
-use Rattle.eve_agree.specs.Faults.{IsLeastOutcomeFault}
-use Rattle.eve_replies.specs.Faults.{IsReplyFault, IsLeastReplyFault}
-use Rattle.eve_audit.specs.Pieces.{IsFirstOf, HasNone, IsCommonFault}
+use Rattle.eve_agree.specs.Faults.{IsOutcomeFault}
+use Rattle.eve_replies.specs.Faults.{IsReplyFault}
+use Rattle.eve_audit.specs.Verdict.{IsCommonFault}
+use Rattle.eve_audit.specs.Pieces.{IsFirstOf}
 use Rattle.std.proofs.lemmas.Result.{IfOk-weaker, IfErr-weaker}
 use Rattle.eve_audit.proofs.Firsts.{found_weaker, outcome_first, reply_first, none_common}
 use Rattle.eve_audit.proofs.together.judge_together.Goals as goal
@@ -10,7 +11,7 @@ use Rattle.eve_audit.proofs.together.judge_together.Goals as goal
 pub returns-in-Err-equal_balances-clause-first : goal.returns-in-Err-equal_balances-clause-first
 returns-in-Err-equal_balances-clause-first c =
     let t = whole c.args.trace.now in
-    found_weaker (IsLeastOutcomeFault t) (IsFirstOf (IsCommonFault t)) c.in-Err-equal_balances.why (λ f least. outcome_first t f c.in-Ok.ensures.none c.in-Ok-majorities.ensures.none least) c.in-Err-equal_balances.ensures.least
+    found_weaker (IsLeast (IsOutcomeFault t)) (IsFirstOf (IsCommonFault t)) c.in-Err-equal_balances.why (λ f least. outcome_first t f c.in-Ok.ensures.none c.in-Ok-majorities.ensures.none least) c.in-Err-equal_balances.ensures.least
 
 pub returns-clause-none : goal.returns-clause-none
 returns-clause-none c =
@@ -21,5 +22,5 @@ returns-clause-none c =
 pub returns-clause-first : goal.returns-clause-first
 returns-clause-first c =
     let t = whole c.args.trace.now in
-    IfErr-weaker c.replies.result (λ why. IfFound why (IsLeastReplyFault t)) (λ why. IfFound why (IsFirstOf (IsCommonFault t)))
-    (λ why found. found_weaker (IsLeastReplyFault t) (IsFirstOf (IsCommonFault t)) why (λ f least. reply_first t f c.in-Ok.ensures.none c.in-Ok-majorities.ensures.none c.in-Ok-equal_balances.ensures.none least) found) c.replies.ensures.least
+    IfErr-weaker c.replies.result (λ why. IfFound why (IsLeast (IsReplyFault t))) (λ why. IfFound why (IsFirstOf (IsCommonFault t)))
+    (λ why found. found_weaker (IsLeast (IsReplyFault t)) (IsFirstOf (IsCommonFault t)) why (λ f least. reply_first t f c.in-Ok.ensures.none c.in-Ok-majorities.ensures.none c.in-Ok-equal_balances.ensures.none least) found) c.replies.ensures.least

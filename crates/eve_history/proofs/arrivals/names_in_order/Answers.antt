@@ -6,9 +6,9 @@ use Rattle.eve_frames.specs.Views.{customer_in}
 use Rattle.eve_views.specs.declared.fault.Code.TheVariants as code
 use Rattle.eve_views.specs.declared.fault.CheckFault.{CheckFault}
 use Rattle.eve_views.specs.declared.fault.CheckFault.TheVariants.{Found}
-use Rattle.eve_views.specs.Form.{IfFound}
+use Rattle.eve_views.specs.Form.{IfFound, IsLeast}
 use Rattle.eve_views.specs.Fronts.{whole}
-use Rattle.eve_history.specs.Faults.{name_at, IsLeastOrderFault}
+use Rattle.eve_history.specs.Faults.{name_at, IsOrderFault}
 use Rattle.eve_history.proofs.OrderLaws.{naming_start, naming_more, naming_room, is_named, naming_end, naming_apart, fault, named_again}
 use Rattle.eve_history.proofs.arrivals.names_in_order.Goals as goal
 
@@ -26,15 +26,15 @@ returns-in-Err-SameName-clause-fault c =
     let said : ℕ × Customer = (c.customer-customer.result.offset, customer_in c.customer-customer.result.bytes.now) in
     let there : Contains c.loop-i.names.items c.name.result.now = (c.in-Err-SameName.ensures.same_name.0 (ap Err c.in-Err-SameName.field-0-is)).1 in
     let again : Contains c.loop-i.names.items (name_at said) = subst (λ (n : List ℕ). Contains c.loop-i.names.items n) c.name.ensures there in
-    subst (λ (e : CheckFault). IfFound e (IsLeastOrderFault t)) (sym (c.outside.ensures ∙ ap (λ (o : ℕ). Found (fault code.SameName o)) c.offset.ensures))
-    (named_again t c.loop-i.i c.loop-i.names said c.loop-i.invariant c.customer-customer.ensures again)
+    subst (λ (e : CheckFault). IfFound e (IsLeast (IsOrderFault t))) (sym (c.outside.ensures ∙ ap (λ (o : ℕ). Found (fault code.SameName o)) c.offset.ensures))
+    (named_again t c.loop-i.i c.loop-i.names said c.loop-i.invariant c.customer-customer.ensures.says again)
 
 pub unreachable-requires : goal.unreachable-requires
 unreachable-requires c =
     let t = whole c.args.trace.now in
     let said : ℕ × Customer = (c.customer-customer.result.offset, customer_in c.customer-customer.result.bytes.now) in
     let bad : is_name c.name.result.now ≡ false = c.in-Err-BadName.ensures.bad_name.0 (ap Err c.in-Err-BadName.field-0-is) in
-    let named : is_name c.name.result.now ≡ true = ap is_name c.name.ensures ∙ is_named t c.loop-i.i said c.is_whole.ensures.limits c.customer-customer.ensures in
+    let named : is_name c.name.result.now ≡ true = ap is_name c.name.ensures ∙ is_named t c.loop-i.i said c.is_whole.ensures.limits c.customer-customer.ensures.says in
     both_ways (is_name c.name.result.now) bad named
 
 pub unreachable-requires-in-Err-Full : goal.unreachable-requires-in-Err-Full
@@ -52,7 +52,7 @@ loop-i-preserved c =
     let new : ¬ Contains c.loop-i.names.items (name_at said) = subst (λ (n : List ℕ). ¬ Contains c.loop-i.names.items n) c.name.ensures c.in-Ok.ensures.taken.new in
     let added : c.add.new.self ≡ record c.loop-i.names { items = c.loop-i.names.items ++ name_at said ∷ [] } =
     c.in-Ok.ensures.added ∙ ap (λ (n : List ℕ). with_name c.loop-i.names n) c.name.ensures in
-    naming_more t c.loop-i.i c.loop-i.names c.add.new.self said c.loop-i.invariant c.customer-customer.ensures new added
+    naming_more t c.loop-i.i c.loop-i.names c.add.new.self said c.loop-i.invariant c.customer-customer.ensures.says new added
 
 pub returns-clause-names : goal.returns-clause-names
 returns-clause-names c =

@@ -6,9 +6,9 @@ use Rattle.eve_frames.specs.Views.{batch_in}
 use Rattle.eve_views.specs.declared.fault.Code.TheVariants as code
 use Rattle.eve_views.specs.declared.fault.CheckFault.{CheckFault}
 use Rattle.eve_views.specs.declared.fault.CheckFault.TheVariants.{Found}
-use Rattle.eve_views.specs.Form.{IfFound}
+use Rattle.eve_views.specs.Form.{IfFound, IsLeast}
 use Rattle.eve_views.specs.Fronts.{whole}
-use Rattle.eve_history.specs.Faults.{IsLeastOrderFault}
+use Rattle.eve_history.specs.Faults.{IsOrderFault}
 use Rattle.eve_history.proofs.OrderLaws.{Asking, asking_start, asking_more, asking_apart, asked_again, fault}
 use Rattle.eve_history.proofs.arrivals.requests_apart.Goals as goal
 
@@ -25,15 +25,15 @@ pub returns-then-not-branch-clause-fault : goal.returns-then-not-branch-clause-f
 returns-then-not-branch-clause-fault c =
     let t = whole c.args.trace.now in
     let said : ℕ × (ℕ × Batch) = (c.batch-batch.result.offset, batch_in c.batch-batch.result.bytes.now) in
-    subst (λ (e : CheckFault). IfFound e (IsLeastOrderFault t)) (sym (c.outside.ensures ∙ ap (λ (o : ℕ). Found (fault code.SameRequest o)) c.offset.ensures))
-    (asked_again t c.loop-i.i c.loop-i.noted.keys said c.requires c.loop-i.invariant (batch_there (batches_at t) c.loop-i.i said c.batch-batch.ensures)
+    subst (λ (e : CheckFault). IfFound e (IsLeast (IsOrderFault t))) (sym (c.outside.ensures ∙ ap (λ (o : ℕ). Found (fault code.SameRequest o)) c.offset.ensures))
+    (asked_again t c.loop-i.i c.loop-i.noted.keys said c.requires c.loop-i.invariant (batch_there (batches_at t) c.loop-i.i said c.batch-batch.ensures.says)
     (MatchBool-at_false _ _ c.if-not-branch.true c.in_ok-are_new.ensures.new))
 
 pub loop-i-preserved : goal.loop-i-preserved
 loop-i-preserved c =
     let t = whole c.args.trace.now in
     let said : ℕ × (ℕ × Batch) = (c.batch-batch.result.offset, batch_in c.batch-batch.result.bytes.now) in
-    asking_more t c.loop-i.i c.loop-i.noted.keys c.are_new.new.noted.keys said c.loop-i.invariant (batch_there (batches_at t) c.loop-i.i said c.batch-batch.ensures)
+    asking_more t c.loop-i.i c.loop-i.noted.keys c.are_new.new.noted.keys said c.loop-i.invariant (batch_there (batches_at t) c.loop-i.i said c.batch-batch.ensures.says)
     (MatchBool-at_true _ _ c.if-not-branch.false c.in_ok-are_new.ensures.new)
 
 pub returns-clause-apart : goal.returns-clause-apart

@@ -28,7 +28,7 @@ get-access-requires c =
 pub overflow_cast-offset : goal.overflow_cast-offset
 overflow_cast-offset c =
     let small : c.get-access.result.offset < 2 ^ 32 =
-    rec_at _ c.args.accesses.now c.number-number.result (c.get-access.result.offset, access_in c.get-access.result.bytes.now) c.requires.small c.get-access.ensures in
+    rec_at _ c.args.accesses.now c.number-number.result (c.get-access.result.offset, access_in c.get-access.result.bytes.now) c.requires.small c.get-access.ensures.says in
     record { fits = omega (arith, small, c.offset.ensures) }
 
 pub loop-index-preserved : goal.loop-index-preserved
@@ -42,7 +42,7 @@ loop-index-preserved c =
     let found = found_number xs c.args.marks.now index c.requires.marked there in
     let at : slice_get xs c.number-number.result ≡ Some (access_with xs index) = ap (slice_get xs) (c.number-number.ensures ∙ found.1) ∙ found.2 in
     let met : ℕ × Access = (c.get-access.result.offset, access_in c.get-access.result.bytes.now) in
-    let one : c.offset.result ≡ (access_with xs index).0 = c.offset.ensures ∙ ap (λ (y : ℕ × Access). y.0) (same_access met (access_with xs index) (sym c.get-access.ensures ∙ at)) in
+    let one : c.offset.result ≡ (access_with xs index).0 = c.offset.ensures ∙ ap (λ (y : ℕ × Access). y.0) (same_access met (access_with xs index) (sym c.get-access.ensures.says ∙ at)) in
     let within : i < length order = omega arith in
     let place : ℕ → ℕ = λ j. (access_with xs j).0 in
     c.in_ok-push.ensures.items ∙ ap (λ (ys : List ℕ). ys ++ c.offset.result ∷ []) c.loop-index.invariant

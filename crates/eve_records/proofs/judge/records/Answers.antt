@@ -1,6 +1,7 @@
+use Rattle.eve_views.specs.Form.{IsLeast}
 use Rattle.std.proofs.Common.{ℕ, sym, subst}
 use Rattle.eve_views.specs.Fronts.{whole}
-use Rattle.eve_serial.specs.Faults.{IsLeastRecordFault}
+use Rattle.eve_serial.specs.Faults.{IsRecordFault}
 use Rattle.eve_records.specs.Unfit.{IsLeastUnfit}
 use Rattle.eve_records.proofs.Judged.{judged_of, record_fault, all_fit, no_fault, least_fault, as_told}
 use Rattle.eve_records.proofs.judge.records.Goals as goal
@@ -25,4 +26,4 @@ returns-in-Some-clause-least g c =
     let h = c.args.history.now in
     let found = as_told t c.args.names.now.items h c.in_ok-first_unfit.field-0 c.requires.names c.requires.history c.in_ok-first_unfit.ensures in
     let least = least_fault t h.replica c.is_whole.ensures.limits c.requires.right c.in-Some.offset (subst (IsLeastUnfit _ (judged_of t h.replica)) c.in-Some.is found) in
-    subst (λ (e : ℕ). IsLeastRecordFault t h.replica (record_fault e c.in-Some.offset)) (sym c.replica.ensures) least
+    subst (λ (e : ℕ). IsLeast (IsRecordFault t h.replica) (record_fault e c.in-Some.offset)) (sym c.replica.ensures) least

@@ -5,12 +5,12 @@ use Rattle.eve_grammar.specs.Trace.{Step}
 use Rattle.eve_grammar.specs.Spelling.{steps_at}
 use Rattle.eve_grammar.specs.Limits.{is_restore}
 use Rattle.eve_frames.specs.Views.{rollback_in}
-use Rattle.eve_views.specs.Form.{IfFound}
+use Rattle.eve_views.specs.Form.{IfFound, IsLeast}
 use Rattle.eve_views.specs.Fronts.{whole}
 use Rattle.eve_views.specs.declared.fault.CheckFault.{CheckFault}
 use Rattle.eve_views.specs.declared.fault.CheckFault.TheVariants.{Found}
 use Rattle.eve_views.specs.declared.fault.Code.TheVariants as code
-use Rattle.eve_restores.specs.Faults.{IsLeastRestoreFault}
+use Rattle.eve_restores.specs.Faults.{IsRestoreFault}
 use Rattle.eve_restores.specs.Marking.{marking_of}
 use Rattle.eve_restores.proofs.Marking.{none_marked}
 use Rattle.eve_restores.proofs.Walking.{HasJudged, judged_start, on_attempt, on_commit, on_rollback, judged_rollback, restores_fit, wrong_is_least, judged_end, right_told, section_told, within_told, attempt_told, there_told, found_told}
@@ -92,7 +92,7 @@ returns-then-not-is_right-clause-least c = λ sound.
     let least = wrong_is_least t h.replica o r c.next.new.self c.loop-step.first c.loop-step.end here sound (sym found ∙ no) in
     let same : c.wrong.result ≡ Found (record { code = code.Restore; offset = o; replica = Some h.replica }) =
     c.wrong.ensures ∙ (λ i. Found (record { code = code.Restore; offset = c.offset.ensures i; replica = Some (c.replica-then-not-is_right.ensures i) })) in
-    subst (λ (x : CheckFault). IfFound x (IsLeastRestoreFault t h.replica)) (sym same) least
+    subst (λ (x : CheckFault). IfFound x (IsLeast (IsRestoreFault t h.replica))) (sym same) least
 
 pub loop-step-preserved : goal.loop-step-preserved
 loop-step-preserved c =

@@ -27,7 +27,7 @@ returns-then-is_backed-clause-judging c =
     (sym c.choice.ensures ∙ ap choice c.in-ForCommit.is) c.index.ensures in
     subst (Judging t ds) (sym (c.lower.ensures ∙ ap (lower c.args.least) c.offset.ensures))
     (clash_judging t ds c.args.least w c.seq-seq.result c.view-view.result c.batch.result.offset _ c.in-ForCommit.token.now c.index.result.now c.in-Some.known judged c.in-Some.is c.if-known-view.false
-    (sym c.is_backed.ensures ∙ c.if-is_backed.true) (let low = right.low in let same = c.seq-seq.ensures in omega arith) c.batch.ensures c.requires.judging)
+    (sym c.is_backed.ensures ∙ c.if-is_backed.true) (let low = right.low in let same = c.seq-seq.ensures in omega arith) c.batch.ensures.says c.requires.judging)
 
 pub returns-then-is_backed-clause-agrees : goal.returns-then-is_backed-clause-agrees
 returns-then-is_backed-clause-agrees c =
@@ -39,7 +39,7 @@ returns-then-is_backed-clause-agrees c =
     (sym c.choice.ensures ∙ ap choice c.in-ForCommit.is) c.index.ensures in
     subst (λ (o : Option ℕ). Agrees t ds o w) (sym (c.lower.ensures ∙ ap (lower c.args.least) c.offset.ensures))
     (agrees_clash t ds c.args.least w c.seq-seq.result c.view-view.result c.batch.result.offset _ c.in-ForCommit.token.now c.index.result.now c.in-Some.known judged c.in-Some.is
-    (let low = right.low in let same = c.seq-seq.ensures in omega arith) c.batch.ensures)
+    (let low = right.low in let same = c.seq-seq.ensures in omega arith) c.batch.ensures.says)
 
 pub returns-in-Some-clause-agrees : goal.returns-in-Some-clause-agrees
 returns-in-Some-clause-agrees c =

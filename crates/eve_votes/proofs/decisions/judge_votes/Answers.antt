@@ -14,7 +14,7 @@ pub judge-least-requires-clause-right : goal.judge-least-requires-clause-right
 judge-least-requires-clause-right c =
     let t = whole c.args.trace.now in
     let got : slice_get (votes_at t c.args.verifier) c.loop-i.i ≡ Some (c.get.result.offset, vote_in c.get.result.bytes.now) =
-    ap (λ (xs : List (ℕ × Vote)). slice_get xs c.loop-i.i) (sym c.votes-votes.ensures) ∙ c.get.ensures in
+    ap (λ (xs : List (ℕ × Vote)). slice_get xs c.loop-i.i) (sym c.votes-votes.ensures) ∙ c.get.ensures.says in
     vote_right t c.args.verifier c.loop-i.i c.get.result.offset (vote_in c.get.result.bytes.now) c.is_whole.ensures.limits c.requires.there got
 
 pub loop-i-preserved : goal.loop-i-preserved
@@ -22,7 +22,7 @@ loop-i-preserved c =
     let t = whole c.args.trace.now in
     let w = vote_in c.get.result.bytes.now in
     let got : slice_get (votes_at t c.args.verifier) c.loop-i.i ≡ Some (c.get.result.offset, w) =
-    ap (λ (xs : List (ℕ × Vote)). slice_get xs c.loop-i.i) (sym c.votes-votes.ensures) ∙ c.get.ensures in
+    ap (λ (xs : List (ℕ × Vote)). slice_get xs c.loop-i.i) (sym c.votes-votes.ensures) ∙ c.get.ensures.says in
     let mine = vote_got t c.args.verifier c.loop-i.i c.get.result.offset w got in
     record {
       judging = c.judge-least.ensures.judging;

@@ -19,7 +19,7 @@ loop-i-preserved c =
     let v = c.args.verifier in
     let o = c.get-vote.result.offset in
     let w = vote_in c.get-vote.result.bytes.now in
-    let got : slice_get (votes_at t v) c.loop-i.i ≡ Some (o, w) = ap (λ (xs : List (ℕ × Vote)). slice_get xs c.loop-i.i) (sym c.votes-votes.ensures) ∙ c.get-vote.ensures in
+    let got : slice_get (votes_at t v) c.loop-i.i ≡ Some (o, w) = ap (λ (xs : List (ℕ × Vote)). slice_get xs c.loop-i.i) (sym c.votes-votes.ensures) ∙ c.get-vote.ensures.says in
     let read : IsRead w c.seq.result c.view.result (choice c.choice.result) = record { seq_is = c.seq.ensures; view_is = c.view.ensures; choice_is = c.choice.ensures } in
     let again = again_is c.loop-i.ballots c.args.ballots.now v c.seq.result c.view.result (choice c.choice.result) c.in_ok-note.field-0 (take c.loop-i.i (votes_at t v)) w read c.loop-i.invariant.cast c.in_ok-note.ensures.again in
     let step : IsStep c.in_ok-note.field-0 c.loop-i.least o c.if-branch.least =

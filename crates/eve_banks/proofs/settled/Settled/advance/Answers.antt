@@ -1,7 +1,7 @@
 use Rattle.std.proofs.Common.{◌-◌, length, ap, arith}
 use Rattle.eve_smallbank.specs.Access.{balance_at}
 use Rattle.eve_serial.specs.Along.{all_said}
-use Rattle.eve_banks.proofs.Advancing.{values_then, batch_kept, count_kept, batch_within, batch_read}
+use Rattle.eve_banks.proofs.Advancing.{values_then, batch_kept, count_kept, batch_within, batch_read, banks_are}
 use Rattle.eve_banks.proofs.settled.Settled.advance.Goals as goal
 
 pub part-records-requires-clause-there : goal.part-records-requires-clause-there
@@ -28,3 +28,6 @@ returns-clause-values c =
     (batch_kept c.args.self.now s.opening (all_said s.records.items) ys s.ends.items (c.args.n - 1) c.self.view_is
     (batch_read s.records.items c.deref.result.now s.ends.items c.deref-2.result.now (c.args.n - 1) ys c.deref.ensures.value c.deref-2.ensures.value c.part-records.ensures))
     c.requires.before c.write_values_along.ensures.values
+
+pub returns-clause-bank : goal.returns-clause-bank
+returns-clause-bank c = banks_are c.args.self.now c.args.n c.write_values_along.new.balances (returns-clause-values c)

@@ -1,7 +1,7 @@
-use Rattle.std.proofs.Common.{◌≡◌, length, ap, ◌∙◌}
+use Rattle.std.proofs.Common.{◌≡◌, length, ap, ◌∙◌, rules}
 use Rattle.eve_smallbank.specs.Access.{balance_at}
-use Rattle.eve_banks.specs.Settling.{Settling}
-use Rattle.eve_banks.proofs.Advancing.{values_opening}
+use Rattle.eve_banks.specs.Settling.{Settling, values_in}
+use Rattle.eve_banks.proofs.Advancing.{values_opening, banks_are}
 use Rattle.eve_banks.proofs.settled.Settled.balances_after.Goals as goal
 
 pub loop-before-init : goal.loop-before-init
@@ -11,3 +11,8 @@ loop-before-init c =
       rows = ap length same;
       values = ap balance_at same ∙ values_opening c.args.self.now;
     }
+
+pub returns-clause-bank : goal.returns-clause-bank
+returns-clause-bank c =
+    let last : c.loop-before.before ≡ c.args.n = search rules in
+    banks_are c.args.self.now c.args.n c.loop-before.balances (c.loop-before.invariant.values ∙ ap (values_in c.args.self.now) last)

@@ -1,3 +1,4 @@
+use Rattle.eve_views.specs.Form.{IsLeast}
 use Rattle.std.proofs.Common.{◌≡◌, ℕ, List, [], ◌∷◌, sym, subst, rules}
 use Rattle.std.proofs.lemmas.Result.{err_from_is_err_and}
 use Rattle.std.specs.List.{AllByRecursion}
@@ -8,7 +9,7 @@ use Rattle.eve_grammar.specs.Spelling.{steps_at}
 use Rattle.eve_views.specs.Fronts.{whole}
 use Rattle.eve_views.specs.StepKinds.{IsStep}
 use Rattle.eve_views.specs.declared.fault.Fault.{Fault}
-use Rattle.eve_history.specs.Faults.{IsLeastStructureFault}
+use Rattle.eve_history.specs.Faults.{IsStructureFault}
 use Rattle.eve_history.specs.Coming.{Kept, kept, HasCome}
 use Rattle.eve_history.proofs.Coming.{come_start, come_told, come_faultless}
 use Rattle.eve_history.proofs.Taking.{weaker_found}
@@ -46,8 +47,8 @@ returns-in_err-take-clause-least c =
     let some = c.in-Some.ensures.some in
     let come = subst (λ (xs : List (ℕ × Step)). HasCome t e xs (kept c.loop-step.notes)) some.1 c.loop-step.invariant.0 in
     let P : Fault → Type 0 =
-    λ f. (rest : List (ℕ × Step)) (next : ℕ × Step) → HasCome t e (next ∷ rest) (kept c.loop-step.notes) → IsStep c.in-Some.step next → IsLeastStructureFault t e f in
-    let least = weaker_found c.in_err-take.field-0.0 P (IsLeastStructureFault t e) (λ f wrong. wrong c.next.new.self some.0 come some.2) c.in_err-take.ensures.wrong in
+    λ f. (rest : List (ℕ × Step)) (next : ℕ × Step) → HasCome t e (next ∷ rest) (kept c.loop-step.notes) → IsStep c.in-Some.step next → IsLeast (IsStructureFault t e) f in
+    let least = weaker_found c.in_err-take.field-0.0 P (IsLeast (IsStructureFault t e)) (λ f wrong. wrong c.next.new.self some.0 come some.2) c.in_err-take.ensures.wrong in
     let p = err_from_is_err_and c.from_residual.result c.from_residual.ensures.1 in
     rw (p.1, p.2) least
 

@@ -3,6 +3,8 @@ use Rattle.std.proofs.lemmas.List.{length-map, length-take}
 use Rattle.eve_history.specs.declared.notes.Notes.{Notes}
 use Rattle.eve_history.specs.declared.notes.Attempted.{Attempted}
 use Rattle.std.specs.List.{AllByRecursion}
+use Rattle.eve_grammar.specs.Frames.{OfAccess}
+use Rattle.eve_grammar.specs.Spelling.{frame_text}
 use Rattle.eve_frames.specs.Views.{access_in}
 use Rattle.eve_history.specs.Standing.{IsAccessAt}
 use Rattle.eve_history.specs.Told.{Ran, Telling}
@@ -66,8 +68,8 @@ access_at-requires c =
     let within = h.within in
     (found_there n (x.from + c.args.place) c.index-at.result.now (omega arith) c.index-at.ensures c.self.invariant.framed.records).1
 
-pub returns : goal.returns
-returns c =
+pub returns-clause-says : goal.returns-clause-says
+returns-clause-says c =
     let n = c.self.inside.notes in
     let x = c.index.result.now in
     let at = c.index-at.result.now in
@@ -83,3 +85,13 @@ returns c =
       get_in_part (kept n).records x.from (length a.attempt.certificate) c.args.place (seen n.bytes.now at) h.short (get_mapped (seen n.bytes.now) n.records.items (x.from + c.args.place) at found.0)
           ∙ ap Some is,
     )
+
+pub returns-clause-text : goal.returns-clause-text
+returns-clause-text c =
+    let n = c.self.inside.notes in
+    let x = c.index.result.now in
+    let h = here c.self.inside.replica n c.args.self.now c.args.i c.args.place x c.self.view_is c.self.invariant.kept c.requires.attempt c.requires.place c.index.ensures in
+    let short = h.short in
+    let within = h.within in
+    let found = found_there n (x.from + c.args.place) c.index-at.result.now (omega arith) c.index-at.ensures c.self.invariant.framed.records in
+    c.access_at.ensures.bytes ∙ found.1.text ∙ ap (λ b. frame_text (OfAccess (access_in b))) (sym c.access_at.ensures.bytes)

@@ -1,10 +1,13 @@
 use Rattle.std.proofs.Common.{◌≡◌, ℕ, ◌<◌, length, get_or, slice_get, Some, ap, sym, ◌∙◌, arith}
 use Rattle.std.proofs.lemmas.List.{length-map}
+use Rattle.eve_grammar.specs.Frames.{OfRollback}
+use Rattle.eve_grammar.specs.Spelling.{frame_text}
 use Rattle.eve_frames.specs.Views.{rollback_in}
 use Rattle.eve_history.specs.declared.notes.Notes.{Notes}
 use Rattle.eve_history.specs.Standing.{IsRollbackAt}
 use Rattle.eve_history.specs.Told.{Telling}
 use Rattle.eve_history.specs.Coming.{kept, rolled, telling_of}
+use Rattle.eve_history.proofs.Lent.{lent_rollback}
 use Rattle.eve_history.proofs.Finding.{get_mapped, get_is, rec_at}
 use Rattle.eve_history.proofs.history.History.rollback.Goals as goal
 
@@ -20,10 +23,21 @@ rollback_at-requires c =
     rec_at (IsRollbackAt n.bytes.now) n.rollbacks.items c.args.i c.index.result.now c.self.invariant.framed.rollbacks
     (found c.self.inside.replica n c.args.self.now c.args.i c.index.result.now c.self.view_is c.requires c.index.ensures)
 
-pub returns : goal.returns
-returns c =
+pub returns-clause-says : goal.returns-clause-says
+returns-clause-says c =
     let n = c.self.inside.notes in
     let at = c.index.result.now in
     ap (λ (v : Telling). slice_get v.rollbacks c.args.i) (sym c.self.view_is)
     ∙ get_mapped (rolled n.bytes.now) n.rollbacks.items c.args.i at (found c.self.inside.replica n c.args.self.now c.args.i at c.self.view_is c.requires c.index.ensures)
     ∙ (λ i. Some (sym c.rollback_at.ensures.offset i, rollback_in (sym c.rollback_at.ensures.bytes i)))
+
+pub returns-clause-text : goal.returns-clause-text
+returns-clause-text c =
+    let n = c.self.inside.notes in
+    let there = rec_at (IsRollbackAt n.bytes.now) n.rollbacks.items c.args.i c.index.result.now c.self.invariant.framed.rollbacks
+    (found c.self.inside.replica n c.args.self.now c.args.i c.index.result.now c.self.view_is c.requires c.index.ensures) in
+    c.rollback_at.ensures.bytes ∙ there.text ∙ ap (λ b. frame_text (OfRollback (rollback_in b))) (sym c.rollback_at.ensures.bytes)
+
+pub returns-clause-stands : goal.returns-clause-stands
+returns-clause-stands c =
+    λ t e is. lent_rollback t e c.args.i c.rollback_at.result.offset c.args.self.now c.rollback_at.result.bytes.now is (returns-clause-says c) (returns-clause-text c)

@@ -5,9 +5,9 @@ use Rattle.eve_views.specs.declared.fault.Code.TheVariants as code
 use Rattle.eve_views.specs.declared.fault.Fault.{Fault}
 use Rattle.eve_views.specs.declared.fault.CheckFault.{CheckFault}
 use Rattle.eve_views.specs.declared.fault.CheckFault.TheVariants.{Found}
-use Rattle.eve_views.specs.Form.{IfFound}
+use Rattle.eve_views.specs.Form.{IfFound, IsLeast}
 use Rattle.eve_history.specs.Section.{start, state_after}
-use Rattle.eve_history.specs.Faults.{IsLeastStructureFault}
+use Rattle.eve_history.specs.Faults.{IsStructureFault}
 use Rattle.eve_history.specs.FirstWrong.{fault_of}
 use Rattle.eve_history.specs.Coming.{kept, HasCome}
 use Rattle.eve_history.proofs.Coming.{come_wrong, come_commit, with_commit}
@@ -20,7 +20,7 @@ returns-then-not-commits_first-clause-wrong c =
     let k = kept c.args.self.now in
     let at = c.args.commit.now.offset in
     let said = commit_in c.args.commit.now.bytes.now in
-    let P : Fault → Type 0 = λ f. (t : Trace) (rest : List (ℕ × Step)) → HasCome t e ((at, Commits said) ∷ rest) k → IsLeastStructureFault t e f in
+    let P : Fault → Type 0 = λ f. (t : Trace) (rest : List (ℕ × Step)) → HasCome t e ((at, Commits said) ∷ rest) k → IsLeast (IsStructureFault t e) f in
     subst (λ (x : CheckFault). IfFound x P) (sym (c.fault_in.ensures ∙ ap (λ (o : ℕ). Found (fault_of e (record { code = code.Commit; offset = o }))) c.offset.ensures))
     (λ t rest come.
     come_wrong t e (at, Commits said) rest k (record { code = code.Commit; offset = at }) come

@@ -13,7 +13,7 @@ returns-then-order-len c = λ s stands.
     let t = whole c.args.trace.now in
     let a = attempt_in c.args.attempt.now.bytes.now in
     let b : ℕ × (ℕ × Batch) = (c.batch-batch.result.offset, batch_in c.batch-batch.result.bytes.now) in
-    let at : slice_get (batches_at t) (a.seq - 1) ≡ Some b = ap (λ (n : ℕ). slice_get (batches_at t) (n - 1)) (sym c.seq.ensures) ∙ c.batch-batch.ensures in
+    let at : slice_get (batches_at t) (a.seq - 1) ≡ Some b = ap (λ (n : ℕ). slice_get (batches_at t) (n - 1)) (sym c.seq.ensures) ∙ c.batch-batch.ensures.says in
     let due : is_due t s a ≡ true = sym (c.is_due.ensures.due t s stands (c.head.ensures ∙ sym c.is_whole.ensures.head)) ∙ c.if-not-is_due.false in
     wrong_count t s a b.1.1 (batch_is t a.seq b at) due (λ e. c.if-order-len.true (ap length c.requires.order ∙ e ∙ sym c.len.ensures))
 
@@ -21,14 +21,14 @@ pub is_certificate-requires-clause-whole : goal.is_certificate-requires-clause-w
 is_certificate-requires-clause-whole c =
     let t = whole c.args.trace.now in
     let b : ℕ × (ℕ × Batch) = (c.batch-batch.result.offset, batch_in c.batch-batch.result.bytes.now) in
-    batch_fits t c.seq.result b c.is_whole.ensures.limits c.batch-batch.ensures
+    batch_fits t c.seq.result b c.is_whole.ensures.limits c.batch-batch.ensures.says
 
 pub returns-then-not-is_certificate : goal.returns-then-not-is_certificate
 returns-then-not-is_certificate c = λ s stands.
     let t = whole c.args.trace.now in
     let a = attempt_in c.args.attempt.now.bytes.now in
     let b : ℕ × (ℕ × Batch) = (c.batch-batch.result.offset, batch_in c.batch-batch.result.bytes.now) in
-    let at : slice_get (batches_at t) (a.seq - 1) ≡ Some b = ap (λ (n : ℕ). slice_get (batches_at t) (n - 1)) (sym c.seq.ensures) ∙ c.batch-batch.ensures in
+    let at : slice_get (batches_at t) (a.seq - 1) ≡ Some b = ap (λ (n : ℕ). slice_get (batches_at t) (n - 1)) (sym c.seq.ensures) ∙ c.batch-batch.ensures.says in
     let due : is_due t s a ≡ true = sym (c.is_due.ensures.due t s stands (c.head.ensures ∙ sym c.is_whole.ensures.head)) ∙ c.if-not-is_due.false in
     let count : length a.certificate ≡ length b.1.1.requests = sym (ap length c.requires.order) ∙ c.if-order-len.false ∙ c.len.ensures in
     let wrong : is_certificate b.1.1.sizes (length b.1.1.requests) a.serial a.certificate ≡ false =
@@ -40,7 +40,7 @@ returns c = λ s stands.
     let t = whole c.args.trace.now in
     let a = attempt_in c.args.attempt.now.bytes.now in
     let b : ℕ × (ℕ × Batch) = (c.batch-batch.result.offset, batch_in c.batch-batch.result.bytes.now) in
-    let at : slice_get (batches_at t) (a.seq - 1) ≡ Some b = ap (λ (n : ℕ). slice_get (batches_at t) (n - 1)) (sym c.seq.ensures) ∙ c.batch-batch.ensures in
+    let at : slice_get (batches_at t) (a.seq - 1) ≡ Some b = ap (λ (n : ℕ). slice_get (batches_at t) (n - 1)) (sym c.seq.ensures) ∙ c.batch-batch.ensures.says in
     let due : is_due t s a ≡ true = sym (c.is_due.ensures.due t s stands (c.head.ensures ∙ sym c.is_whole.ensures.head)) ∙ c.if-not-is_due.false in
     let count : length a.certificate ≡ length b.1.1.requests = sym (ap length c.requires.order) ∙ c.if-order-len.false ∙ c.len.ensures in
     let right : is_certificate b.1.1.sizes (length b.1.1.requests) a.serial a.certificate ≡ true =

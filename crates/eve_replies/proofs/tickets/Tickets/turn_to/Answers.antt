@@ -9,12 +9,12 @@ use Rattle.eve_replies.proofs.tickets.Tickets.turn_to.Goals as goal
 pub read-self-requires : goal.read-self-requires
 read-self-requires c =
     let b : ℕ × (ℕ × Batch) = (c.batch.result.offset, batch_in c.batch.result.bytes.now) in
-    batch_fits (whole c.args.trace.now) c.args.batch b c.is_whole.ensures.limits c.batch.ensures
+    batch_fits (whole c.args.trace.now) c.args.batch b c.is_whole.ensures.limits c.batch.ensures.says
 
 pub returns-then-self-batch-clause-new : goal.returns-then-self-batch-clause-new
 returns-then-self-batch-clause-new c =
     let b : ℕ × (ℕ × Batch) = (c.batch.result.offset, batch_in c.batch.result.bytes.now) in
     record {
       few = c.read-self.ensures.few;
-      tickets = λ one. c.read-self.ensures.kept ∙ ap (λ (x : Batch). map ticket x.requests) (sym (batch_is (whole c.args.trace.now) c.args.batch b c.batch.ensures));
+      tickets = λ one. c.read-self.ensures.kept ∙ ap (λ (x : Batch). map ticket x.requests) (sym (batch_is (whole c.args.trace.now) c.args.batch b c.batch.ensures.says));
     }

@@ -13,7 +13,7 @@ pub loop-i-preserved : goal.loop-i-preserved
 loop-i-preserved c =
     let customer : Customer = customer_in c.customer-customer.result.bytes.now in
     opened_more (whole c.args.trace.now).customers c.loop-i.i customer c.loop-i.rows.items c.push.new.self.items c.push-in-loop-i.new.self.items
-    (customer_there (whole c.args.trace.now) c.loop-i.i c.customer-customer.result.offset customer c.customer-customer.ensures) c.loop-i.invariant
+    (customer_there (whole c.args.trace.now) c.loop-i.i c.customer-customer.result.offset customer c.customer-customer.ensures.says) c.loop-i.invariant
     (c.in_ok-push.ensures.items ∙ ap (λ (v : Versioned). c.loop-i.rows.items ++ v ∷ []) (c.new.ensures ∙ ap at_opening c.saving.ensures))
     (c.in_ok-push-2.ensures.items ∙ ap (λ (v : Versioned). c.push.new.self.items ++ v ∷ []) (c.new-in-loop-i.ensures ∙ ap at_opening c.checking.ensures))
 

@@ -5,7 +5,7 @@ use Rattle.eve_grammar.specs.Frames.{OfAccess}
 use Rattle.eve_frames.specs.Views.{is_access_frame, access_in}
 use Rattle.eve_frames.proofs.Rereading.{access_again}
 use Rattle.eve_views.specs.Parts.{accesses_between}
-use Rattle.eve_views.proofs.PartLaws.{access_met, length-accesses, says_met, returned}
+use Rattle.eve_views.proofs.PartLaws.{access_met, length-accesses, says_met, returned, lent_text}
 use Rattle.eve_views.proofs.accesses.Accesses.get.Goals as goal
 
 pub overflow_add-self-inside : goal.overflow_add-self-inside
@@ -27,8 +27,8 @@ new-requires c =
     let met = access_met c.self.inside.trace.now.frames c.self.inside.from c.self.inside.to c.args.i c.frame-frame.result.offset f.0 c.self.invariant (omega (arith, many, c.requires)) f.1 c.frame-frame.ensures.offset in
     (says_met is_access_frame access_in c.frame-frame.result.bytes.now f.0 (OfAccess met.item) met.item f.2 met.is (access_again c.self.invariant.rows met.item met.right c.self.invariant.few)).0
 
-pub returns : goal.returns
-returns c =
+pub returns-clause-says : goal.returns-clause-says
+returns-clause-says c =
     let many : length c.args.self.now ≡ c.self.inside.to - c.self.inside.from = sym (ap length c.self.view_is) ∙ length-accesses c.self.inside.trace.now.frames c.self.inside.from c.self.inside.to c.self.invariant in
     let f = c.frame-frame.ensures.frame in
     let met = access_met c.self.inside.trace.now.frames c.self.inside.from c.self.inside.to c.args.i c.frame-frame.result.offset f.0 c.self.invariant (omega (arith, many, c.requires)) f.1 c.frame-frame.ensures.offset in
@@ -36,3 +36,11 @@ returns c =
     let list : accesses_between c.self.inside.trace.now.frames c.self.inside.from (c.self.inside.to - c.self.inside.from) ≡ c.args.self.now = c.self.view_is in
     ap (λ (xs : List (ℕ × Access)). slice_get xs c.args.i) (sym list)
     ∙ returned access_in (accesses_between c.self.inside.trace.now.frames c.self.inside.from (c.self.inside.to - c.self.inside.from)) c.args.i c.frame-frame.result.offset c.new.result.offset met.item c.frame-frame.result.bytes.now c.new.result.bytes.now met.there says.1 c.new.ensures.offset c.new.ensures.bytes
+
+pub returns-clause-text : goal.returns-clause-text
+returns-clause-text c =
+    let many : length c.args.self.now ≡ c.self.inside.to - c.self.inside.from = sym (ap length c.self.view_is) ∙ length-accesses c.self.inside.trace.now.frames c.self.inside.from c.self.inside.to c.self.invariant in
+    let f = c.frame-frame.ensures.frame in
+    let met = access_met c.self.inside.trace.now.frames c.self.inside.from c.self.inside.to c.args.i c.frame-frame.result.offset f.0 c.self.invariant (omega (arith, many, c.requires)) f.1 c.frame-frame.ensures.offset in
+    let says = says_met is_access_frame access_in c.frame-frame.result.bytes.now f.0 (OfAccess met.item) met.item f.2 met.is (access_again c.self.invariant.rows met.item met.right c.self.invariant.few) in
+    lent_text OfAccess access_in c.frame-frame.result.bytes.now c.new.result.bytes.now f.0 met.item f.2 met.is says.1 c.new.ensures.bytes

@@ -1,6 +1,8 @@
 use Rattle.std.proofs.Common.{◌≡◌, ◌≢◌, ◌<◌, ◌+◌, ◌^◌, ℕ, List, length, sym, ap, ◌∙◌, arith, rules}
 use Rattle.std.specs.Prelude.{slice_index}
 use Rattle.eve_grammar.specs.Trace.{Attempt, Attempts, Commits, RollsBack}
+use Rattle.eve_grammar.specs.Frames.{OfAttempt, OfCommit, OfRollback}
+use Rattle.eve_grammar.specs.Spelling.{frame_text}
 use Rattle.eve_frames.specs.Views.{attempt_in, commit_in, rollback_in}
 use Rattle.eve_views.specs.Parts.{byte_of}
 use Rattle.eve_views.proofs.StepLaws.{met_of, none_left, attempt_met, commit_met, rollback_met}
@@ -72,6 +74,14 @@ returns-in-17-clause-some c =
       ),
     )
 
+pub returns-in-17-clause-text : goal.returns-in-17-clause-text
+returns-in-17-clause-text c =
+    let fs = c.self.inside.trace.now.frames in
+    let f = c.frame-frame.ensures.frame in
+    let is = met_of fs c.self.inside.at c.self.inside.to f.0 c.self.invariant c.if-self.false f.1 in
+    let met = attempt_met fs c.self.inside.at c.self.inside.to f.0 c.frame-frame.result.bytes.now is (sym (ap (λ (b : List ℕ). slice_index b 0) f.2) ∙ c.in-17.is) f.2 in
+    c.new-attempt.ensures.bytes ∙ met.frame ∙ ap (λ x. frame_text (OfAttempt x)) (sym (ap attempt_in c.new-attempt.ensures.bytes ∙ met.says.1))
+
 -- ---- a commit
 
 pub new-requires : goal.new-requires
@@ -100,6 +110,14 @@ returns-in-19-clause-some c =
       sym c.self.view_is ∙ met.value,
       (c.new.ensures.offset ∙ c.frame-frame.ensures.offset, ap commit_in c.new.ensures.bytes ∙ met.says.1),
     )
+
+pub returns-in-19-clause-text : goal.returns-in-19-clause-text
+returns-in-19-clause-text c =
+    let fs = c.self.inside.trace.now.frames in
+    let f = c.frame-frame.ensures.frame in
+    let is = met_of fs c.self.inside.at c.self.inside.to f.0 c.self.invariant c.if-self.false f.1 in
+    let met = commit_met fs c.self.inside.at c.self.inside.to f.0 c.frame-frame.result.bytes.now is (sym (ap (λ (b : List ℕ). slice_index b 0) f.2) ∙ c.in-19.is) f.2 in
+    c.new.ensures.bytes ∙ met.frame ∙ ap (λ x. frame_text (OfCommit x)) (sym (ap commit_in c.new.ensures.bytes ∙ met.says.1))
 
 -- ---- a rollback
 
@@ -135,3 +153,13 @@ returns-in_default-clause-some c =
       sym c.self.view_is ∙ met.value,
       (c.new-in_default.ensures.offset ∙ c.frame-frame.ensures.offset, ap rollback_in c.new-in_default.ensures.bytes ∙ met.says.1),
     )
+
+pub returns-in_default-clause-text : goal.returns-in_default-clause-text
+returns-in_default-clause-text c =
+    let fs = c.self.inside.trace.now.frames in
+    let f = c.frame-frame.ensures.frame in
+    let is = met_of fs c.self.inside.at c.self.inside.to f.0 c.self.invariant c.if-self.false f.1 in
+    let not_17 : slice_index c.frame-frame.result.bytes.now 0 ≢ 17 = search rules in
+    let not_19 : slice_index c.frame-frame.result.bytes.now 0 ≢ 19 = search rules in
+    let met = rollback_met fs c.self.inside.at c.self.inside.to f.0 c.frame-frame.result.bytes.now is (λ e. not_17 (ap (λ (b : List ℕ). slice_index b 0) f.2 ∙ e)) (λ e. not_19 (ap (λ (b : List ℕ). slice_index b 0) f.2 ∙ e)) f.2 in
+    c.new-in_default.ensures.bytes ∙ met.frame ∙ ap (λ x. frame_text (OfRollback x)) (sym (ap rollback_in c.new-in_default.ensures.bytes ∙ met.says.1))

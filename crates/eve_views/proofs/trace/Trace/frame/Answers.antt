@@ -1,10 +1,12 @@
-use Rattle.std.proofs.Common.{◌≡◌, ◌<◌, ◌^◌, length, vec_len, ap, subst, ◌∙◌, rules, arith}
+use Rattle.std.proofs.Common.{◌≡◌, ◌<◌, ◌^◌, ℕ, List, ◌++◌, length, vec_len, sym, ap, subst, ◌∙◌, rules, arith}
+use Rattle.std.specs.Prelude.{drop}
 use Rattle.eve_views.specs.Sequence.{SpellsFrames}
 use Rattle.eve_views.specs.Held.{sequence_of}
 use Rattle.eve_views.proofs.Reaching.{length-offsets_of}
 use Rattle.eve_grammar.specs.Spelling.{frame_text}
 use Rattle.eve_views.proofs.FrameLaws.{length-frame_text}
 use Rattle.eve_views.proofs.TraceLaws.{part_is}
+use Rattle.eve_views.proofs.WholeTraces.{spells_trace}
 use Rattle.eve_views.proofs.trace.Trace.frame.Goals as goal
 
 pub overflow_add-i : goal.overflow_add-i
@@ -35,3 +37,13 @@ invariant_of-result c =
     let p = part_is c.self.inside.bytes.now c.args.self.now c.args.i c.start_of-from.result c.start_of-to.result spells c.requires c.start_of-from.ensures c.start_of-to.ensures in
     let size : length c.part.result.now ≡ length (frame_text p.frame) = ap length (c.part.ensures ∙ p.text) in
     record { whole = omega (arith, size, length-frame_text p.frame) }
+
+pub returns-clause-stands : goal.returns-clause-stands
+returns-clause-stands c =
+    let spells = subst (SpellsFrames c.self.inside.bytes.now) c.self.view_is c.self.invariant.spells in
+    let p = part_is c.self.inside.bytes.now c.args.self.now c.args.i c.start_of-from.result c.start_of-to.result spells c.requires c.start_of-from.ensures c.start_of-to.ensures in
+    let whole = spells_trace c.self.inside.bytes.now c.args.self.now spells in
+    record {
+      behind = p.behind;
+      is = ap (drop c.start_of-from.result) (sym whole.spelled) ∙ p.cut ∙ ap (λ (b : List ℕ). b ++ p.behind) (sym (c.part.ensures ∙ p.text));
+    }

@@ -1,4 +1,4 @@
-use Rattle.std.proofs.Common.{◌≡◌, sym, ap, ◌∙◌}
+use Rattle.std.proofs.Common.{sym, ap, ◌∙◌}
 use Rattle.eve_grammar.specs.Trace.{Head}
 use Rattle.eve_views.proofs.trace.Trace.verifier_count.Goals as goal
 

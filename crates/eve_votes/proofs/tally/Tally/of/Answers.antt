@@ -1,7 +1,8 @@
+use Rattle.eve_views.specs.Form.{IsLeast}
 use Rattle.std.proofs.Common.{◌≡◌, Option, Some, None, IfSome, IfNone, sym, ◌∙◌, subst}
 use Rattle.eve_views.specs.Fronts.{whole}
 use Rattle.eve_views.specs.declared.fault.Fault.{Fault}
-use Rattle.eve_votes.specs.Faults.{IsLeastVoteFault}
+use Rattle.eve_votes.specs.Faults.{IsVoteFault}
 use Rattle.eve_votes.specs.Decisions.{AreDecisions}
 use Rattle.eve_votes.proofs.Tallying.{nothing_kept, Found, first_is_least, none_found, none_stands, votes_sound}
 use Rattle.eve_votes.proofs.tally.Tally.of.Goals as goal
@@ -22,7 +23,7 @@ returns-in-Some-clause-least c =
       apart_stands = c.decide-apart.ensures.stands;
       apart_least = c.decide-apart.ensures.all;
     } in
-    subst (λ (o : Option Fault). IfSome o (IsLeastVoteFault t)) (sym c.first_fault.ensures ∙ c.in-Some.is) (first_is_least t c.in_ok-again.again c.decide-apart.result found)
+    subst (λ (o : Option Fault). IfSome o (IsLeast (IsVoteFault t))) (sym c.first_fault.ensures ∙ c.in-Some.is) (first_is_least t c.in_ok-again.again c.decide-apart.result found)
 
 pub returns-clause-sound : goal.returns-clause-sound
 returns-clause-sound c =

@@ -1,0 +1,60 @@
+//! Changes of a trace's bytes.
+
+use anyhow::{Context, Result};
+use std::alloc::Global;
+
+/// A change: the bytes from one place up to another become these.
+#[derive(Drop)]
+struct Change {
+    from: usize,
+    to: usize,
+    bytes: Vec<u8>,
+}
+
+/// The change of a word. `AT=HEX` puts its bytes in place of as many at AT; `FROM..TO=HEX` puts its bytes, of any
+/// number, in place of those from FROM up to TO. Places are those of the file, from 0.
+fn change_of(alloc: Global, word: &str) -> Result<Change> {
+    let (place, hex) = word.split_once('=').context("a change has =")?;
+    let bytes = hex::decode(alloc, hex)?;
+    match place.split_once("..") {
+        Some((from, to)) => Ok(Change {
+            from: from.parse()?,
+            to: to.parse()?,
+            bytes,
+        }),
+        None => {
+            let from: usize = place.parse()?;
+            let to = from.saturating_add(bytes.len());
+            Ok(Change { from, to, bytes })
+        }
+    }
+}
+
+/// Sets the total of a trace, of fewer than 65,536 bytes, to the number of its bytes.
+pub fn set_total(bytes: &mut [u8]) {
+    let total = bytes.len();
+    if 32 <= total && total < 65_536 {
+        bytes[24..32].copy_from_slice(&(total as u64).to_be_bytes());
+    }
+}
+
+/// The bytes with all changes, which come in the order of their places. Where their number is another than before, the
+/// header gets it as its total.
+pub fn changed(alloc: Global, bytes: &[u8], words: &[&str]) -> Result<Vec<u8>> {
+    let mut out = Vec::new(alloc);
+    let mut done = 0;
+    for word in words {
+        let change = change_of(alloc, word)?;
+        let kept = bytes
+            .get(done..change.from)
+            .context("changes in their order")?;
+        out.extend_from_slice(kept)?;
+        out.extend_from_slice(change.bytes.as_slice())?;
+        done = change.to;
+    }
+    out.extend_from_slice(bytes.get(done..).context("a change within the trace")?)?;
+    if out.len() != bytes.len() {
+        set_total(out.as_mut_slice());
+    }
+    Ok(out)
+}

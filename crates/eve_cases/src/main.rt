@@ -1,0 +1,76 @@
+//! Worked traces, as they are and with bytes of theirs changed, and what `eve audit` says of each.
+//!
+//! A line of the input says what is asked, of which file of `data`, and what is changed in it first (`change.rt`). The
+//! line is printed again in front of the answer:
+//!
+//! - `audit FILE CHANGE..`: the status and the line of `eve audit`, by every number of workers.
+//! - `fronts FILE`: what it says of each front of the file, as it is and with its own total.
+//! - `lengths FILE AT`: what it says where the frame at byte AT claims another length of its body.
+//! - `bytes FILE`: with which values of each byte it says yes.
+//! - `meet FILE`: the audit by two workers, each held at its replica until the other has come to its own.
+//! - `agree FILE`: what is found of two replicas together, whatever was voted.
+//! - `tell FILE CHANGE..`: its frames, the parts that are lent, what is found of its replicas and votes, and what
+//!   SmallBank on one thread makes of its batches.
+//!
+//! The wanted output follows from docs/TRACE.md and docs/MODEL.md, and was written by their rules, not by this program.
+#![tactic(auto)]
+
+mod audits;
+mod change;
+mod findings;
+mod histories;
+mod meeting;
+mod one_thread;
+mod parts;
+mod ranges;
+mod sweeps;
+mod texts;
+
+use anyhow::{Context, Result, bail};
+use std::fs;
+use std::random::RandomSource;
+use std::sync::Wait;
+use std::thread::Threads;
+
+/// The bytes of a trace of `data`.
+fn bytes_of(rt: &HostRuntime, file: &str) -> Result<Vec<u8>> {
+    let mut path = file.to_string(rt.alloc())?;
+    path.push_str(".trace")?;
+    Ok(fs::read(rt, path.as_str())?)
+}
+
+/// What is said of a trace.
+fn answer_of<R: AllocGlobal + RandomSource + Threads + Wait + Sync>(
+    rt: &R,
+    call: &str,
+    bytes: &[u8],
+    more: &[&str],
+) -> Result<String> {
+    match call {
+        "audit" => audits::by_all(rt, change::changed(rt.alloc(), bytes, more)?.as_slice()),
+        "fronts" => sweeps::fronts(rt, bytes),
+        "lengths" => sweeps::lengths(rt, bytes, more.first().context("a place")?.parse()?),
+        "bytes" => sweeps::bytes(rt, bytes),
+        "agree" => findings::agreed(rt, bytes),
+        "meet" => meeting::meet(rt, bytes),
+        "tell" => findings::told(rt, change::changed(rt.alloc(), bytes, more)?.as_slice()),
+        _ => bail!("no such call"),
+    }
+}
+
+fn main(rt: HostRuntime) -> Result<()> {
+    for line in rt.lines(rt.alloc()) {
+        let line = line?;
+        let mut words = Vec::new(rt.alloc());
+        for word in line.as_str().split(' ') {
+            words.push(word)?;
+        }
+        let [call, file, more @ ..] = words.as_slice() else {
+            bail!("a call and a file");
+        };
+        let bytes = bytes_of(&rt, file)?;
+        let answer = answer_of(&rt, call, bytes.as_slice(), more)?;
+        println!(rt; "{line}: {answer}")?;
+    }
+    Ok(())
+}

@@ -1,0 +1,52 @@
+//! Two workers that are at their replicas at the same time.
+
+use anyhow::Result;
+use eve_audit::{Verdict, audit};
+use eve_recorder::Gate;
+use std::hash::RandomState;
+use std::random::RandomSource;
+use std::sync::Wait;
+use std::sync::atomic::{AtomicU64, Ordering};
+use std::thread;
+use std::thread::Threads;
+
+/// How often a piece looks whether the others have come, at most.
+const TURNS: u32 = 10_000_000;
+
+/// Holds each piece until as many have entered as are wanted, or its turns are over.
+#[derive(Drop)]
+struct Meeting {
+    wanted: u64,
+    entered: AtomicU64,
+    met: AtomicU64,
+}
+
+impl Gate for Meeting {
+    fn enter<R: Wait>(&self, _rt: &R, _piece: u32) {
+        self.entered.fetch_add(1, Ordering::SeqCst);
+        for _ in 0..TURNS {
+            if self.entered.load(Ordering::SeqCst) >= self.wanted {
+                self.met.fetch_add(1, Ordering::SeqCst);
+                return;
+            }
+            thread::yield_now();
+        }
+    }
+}
+
+/// An audit by two workers, each held at its replica until the other has come to its own.
+pub fn meet<R: AllocGlobal + RandomSource + Threads + Wait + Sync>(
+    rt: &R,
+    bytes: &[u8],
+) -> Result<String> {
+    let gate = Meeting {
+        wanted: 2,
+        entered: AtomicU64::new(0),
+        met: AtomicU64::new(0),
+    };
+    let verdict = audit(rt, rt.alloc(), bytes, 2, RandomState::new(rt)?, &gate);
+    let entered = gate.entered.load(Ordering::SeqCst);
+    let met = gate.met.load(Ordering::SeqCst);
+    let is_yes = matches!(verdict, Ok(Verdict::Yes(_)));
+    Ok(format!(in rt.alloc(); "{entered} entered, {met} met, yes {is_yes}")?)
+}

@@ -1,0 +1,7 @@
+-- What is told of the replicas so far.
+use Rattle.eve_views.specs.Fronts.{whole}
+use Rattle.eve_limits.specs.Telling.{AreTold}
+use Rattle.eve_limits.proofs.together.read_replicas.Given as goal
+
+abbrev pub invariant-replicas : goal.invariant-replicas
+invariant-replicas l = AreTold (whole l.trace) l.e l.histories.items l.settled.items

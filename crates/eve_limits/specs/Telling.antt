@@ -1,0 +1,12 @@
+-- What the replicas below some number tell, and what they committed.
+use Rattle.std.specs.Prelude.{◌≡◌, ℕ, ◌<◌, List, map, take}
+use Rattle.eve_grammar.specs.Trace.{Trace}
+use Rattle.eve_grammar.specs.Frames.{sections_of}
+use Rattle.eve_history.specs.Told.{Telling, telling, IsRightSection}
+use Rattle.eve_banks.specs.Settling.{Settling, settling}
+
+-- in their order, and their sections are right
+pub record AreTold (t : Trace) (n : ℕ) (told : List Telling) (wrote : List Settling) : Type 0 where
+  pub histories : told ≡ map (λ s. telling t s.0) (take n (sections_of t))
+  pub settled : wrote ≡ map (λ s. settling t s.0) (take n (sections_of t))
+  pub right : (e : ℕ) → e < n → IsRightSection t e

@@ -1,0 +1,38 @@
+//! Calls of the program.
+
+use eve_streams::{SinkOf, SourceOf};
+use eve_tool::serve;
+use std::io;
+use std::random::RandomSource;
+use std::sync::Wait;
+use std::thread::Threads;
+
+/// What `eve` writes for these words and this input.
+fn said<R: AllocGlobal + RandomSource + Threads + Wait + Sync>(
+    rt: &R,
+    words: &[&str],
+    bytes: &[u8],
+) -> io::Result<Vec<u8>> {
+    let mut input = SourceOf::new(bytes);
+    let mut out = SinkOf::new(Vec::new(rt.alloc()));
+    let mut err = SinkOf::new(Vec::new(rt.alloc()));
+    serve(rt, words, &mut input, &mut out, &mut err);
+    Ok(out.writer().clone()?)
+}
+
+/// The trace of a run of the workload.
+pub fn ran<R: AllocGlobal + RandomSource + Threads + Wait + Sync>(
+    rt: &R,
+    workload: &[u8],
+) -> io::Result<Vec<u8>> {
+    said(rt, &["eve", "run", "--mixer", "whole"], workload)
+}
+
+/// The line of an audit by so many workers.
+pub fn audited<R: AllocGlobal + RandomSource + Threads + Wait + Sync>(
+    rt: &R,
+    trace: &[u8],
+    workers: &str,
+) -> io::Result<Vec<u8>> {
+    said(rt, &["eve", "audit", "--workers", workers], trace)
+}

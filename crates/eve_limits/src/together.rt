@@ -1,0 +1,51 @@
+//! The calls that judge all replicas together, by themselves: also where an audit would stop before them.
+
+ghost use Rattle.std.specs.Prelude.{◌≡◌, ℕ, IfOk};
+ghost use Rattle.eve_views.specs.Fronts.{whole};
+ghost use Rattle.eve_history.specs.Told.{tellings, IsRightSection};
+ghost use Rattle.eve_banks.specs.Settling.{settlings};
+
+use eve_agree::{equal_balances, replies};
+use eve_banks::Settled;
+use eve_history::History;
+use eve_views::{CheckFault, Trace};
+use std::alloc::Global;
+
+/// What all replicas did and committed.
+#[derive(Drop)]
+struct Replicas<'a> {
+    histories: Vec<History<'a>>,
+    settled: Vec<Settled<'a>>,
+}
+
+/// Reads what each replica did, one after another.
+fn read_replicas<'a>(alloc: Global, trace: &Trace<'a>) -> Result<Replicas<'a>, CheckFault>
+    ensures histories { IfOk result (λ told. told.histories.items ≡ tellings (whole trace.now)) }
+    ensures settled { IfOk result (λ told. told.settled.items ≡ settlings (whole trace.now)) }
+    ensures right { IfOk result (λ _. (e : ℕ) → IsRightSection (whole trace.now) e) }
+{
+    trace.is_whole();
+    let mut histories = Vec::new(alloc);
+    let mut settled = Vec::new(alloc);
+    'replicas: for e in 0..trace.section_count() {
+        let history = History::of(alloc, trace, e)?;
+        let wrote = Settled::of(alloc, &history, trace)?;
+        histories.push(history)?;
+        settled.push(wrote)?;
+    }
+    Ok(Replicas { histories, settled })
+}
+
+/// Whether the replicas agree.
+pub fn judge_outcomes(alloc: Global, bytes: &[u8]) -> Result<(), CheckFault> {
+    let trace = Trace::read(alloc, bytes)?;
+    let told = read_replicas(alloc, &trace)?;
+    equal_balances(alloc, &trace, &told.histories, &told.settled)
+}
+
+/// Whether the replies that were sent are those that were committed.
+pub fn judge_replies(alloc: Global, bytes: &[u8]) -> Result<(), CheckFault> {
+    let trace = Trace::read(alloc, bytes)?;
+    let told = read_replicas(alloc, &trace)?;
+    replies(&trace, &told.histories)
+}

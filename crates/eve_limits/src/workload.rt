@@ -1,0 +1,73 @@
+//! Workloads as large as is wanted, in which no two requests of a batch conflict: so every replica does the same, however
+//! its threads run.
+
+use std::alloc::Global;
+use std::io;
+use std::io::Write;
+
+/// How large a workload is.
+#[derive(Clone, Copy)]
+pub struct Size {
+    /// The replicas.
+    pub replicas: u8,
+    /// The verifiers.
+    pub verifiers: u8,
+    /// How many of them decide.
+    pub quorum: u8,
+    /// How many batches are attempted before the first is decided.
+    pub window: u8,
+    /// The workers of a replica.
+    pub workers: u8,
+    /// The customers: as many as a batch has requests, or more.
+    pub customers: u32,
+    /// The batches.
+    pub batches: u32,
+    /// The requests of each batch.
+    pub requests: u32,
+}
+
+/// The text of a workload: each request is of the customer behind the one before, and the kinds take turns.
+pub fn workload(alloc: Global, size: &Size) -> io::Result<Vec<u8>> {
+    let mut text = Vec::new(alloc);
+    let Size {
+        replicas,
+        verifiers,
+        quorum,
+        window,
+        workers,
+        ..
+    } = *size;
+    write!(
+        text,
+        "eve {replicas} {verifiers} {quorum} {window} {workers}\n"
+    )?;
+    for customer in 0..size.customers {
+        write!(
+            text,
+            "customer c{customer} {customer} -{}\n",
+            u64::from(customer) + 1
+        )?;
+    }
+    let mut customer = 0;
+    for batch in 0..size.batches {
+        text.write_all(b"batch\n")?;
+        for request in 0..size.requests {
+            write_request(&mut text, batch, request, customer)?;
+            customer = customer.saturating_add(1);
+            if customer >= size.customers {
+                customer = 0;
+            }
+        }
+    }
+    Ok(text)
+}
+
+/// Writes a request of a customer.
+fn write_request(text: &mut Vec<u8>, client: u32, number: u32, customer: u32) -> io::Result<()> {
+    match number % 4 {
+        0 => write!(text, "deposit {client} {number} c{customer} 5\n"),
+        1 => write!(text, "transact {client} {number} c{customer} 7\n"),
+        2 => write!(text, "check {client} {number} c{customer} 3\n"),
+        _ => write!(text, "balance {client} {number} c{customer}\n"),
+    }
+}

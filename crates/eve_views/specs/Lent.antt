@@ -1,0 +1,19 @@
+-- Where the bytes that a view lends stand. docs/TRACE.md, "Frames".
+use Rattle.std.specs.Prelude.{◌≡◌, ℕ, List, ◌++◌, drop}
+use Rattle.eve_grammar.specs.Trace.{Trace}
+use Rattle.eve_grammar.specs.Frames.{OfAttempt, OfCommit, OfRollback}
+use Rattle.eve_grammar.specs.Spelling.{frame_text, spelling}
+use Rattle.eve_frames.specs.Views.{attempt_in, commit_in, rollback_in}
+use Rattle.eve_views.specs.declared.steps.Step as met
+use Rattle.eve_views.specs.declared.steps.Step.TheVariants as of
+
+-- the trace's bytes from this offset on begin with these
+pub record HasBytesAt (t : Trace) (offset : ℕ) (bytes : List ℕ) : Type 0 where
+  pub behind : List ℕ
+  pub is : drop offset (spelling t) ≡ bytes ++ behind
+
+-- the view of the step's own frame lends the frame's whole text and no more
+abbrev pub LendsFrame : met.Step → Type 0
+LendsFrame (of.Attempt a accesses) = a.bytes.now ≡ frame_text (OfAttempt (attempt_in a.bytes.now))
+LendsFrame (of.Commit c) = c.bytes.now ≡ frame_text (OfCommit (commit_in c.bytes.now))
+LendsFrame (of.Rollback r) = r.bytes.now ≡ frame_text (OfRollback (rollback_in r.bytes.now))
