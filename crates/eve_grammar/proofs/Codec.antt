@@ -1,4 +1,4 @@
--- A codec: what is read is spelled so, and what is spelled is read again.
+-- Public: other crates cite these lemmas. A codec: what is read is spelled so, and what is spelled is read again.
 use Rattle.std.proofs.Common.{◌≡◌, ℕ, zero, suc, ◌+◌, ◌<◌, Bool, true, false, ◌&&◌, cond, eqb, List, [], ◌∷◌, ◌++◌, length, get_or, take, drop, Option, Some, None, refl, sym, ap, subst, ◌∙◌, append_assoc, arith, inl, inr}
 use Rattle.std.specs.Prelude.{IsTrue}
 use Rattle.std.specs.List.{flat_map, list_all}
