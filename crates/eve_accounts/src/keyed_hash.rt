@@ -1,17 +1,17 @@
-//! A hash of names that nobody can foresee.
+//! A cheap hash that nobody can foresee.
 
 use std::hash::{BuildHasher, FoldHasher, Hasher, RandomState};
 
-/// Makes hashers that begin with one secret word. Names are short and looked up for each request, so the hash is a
-/// cheap one; and they are chosen by strangers, so its beginning is drawn at random and never fixed.
+/// Makes hashers that begin with one secret word. Names and clients are short and looked up for each request, so the
+/// hash is a cheap one; and they are chosen by strangers, so its beginning is drawn at random and never fixed.
 #[derive(Clone, Copy)]
-pub(crate) struct KeyedHash {
+pub struct KeyedHash {
     first: FoldHasher,
 }
 
 impl KeyedHash {
     /// It begins with a word that these random ones give.
-    pub(crate) fn new(random: &RandomState) -> KeyedHash {
+    pub fn new(random: &RandomState) -> KeyedHash {
         let mut first = FoldHasher::default();
         first.write_u64(random.hash_one(0u64));
         KeyedHash { first }

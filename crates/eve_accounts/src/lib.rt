@@ -9,6 +9,7 @@ mod row;
 mod set_row;
 
 pub use balances::Balances;
+pub use keyed_hash::KeyedHash;
 pub use money::{Amount, Cents};
 pub use names::{NameFault, Names, is_name};
 pub use row::Row;

@@ -1,25 +1,22 @@
 -- Public: other crates cite these lemmas. The least of the faults of agreement, batch after batch.
-use Rattle.std.proofs.Common.{◌≡◌, ◌≢◌, ℕ, zero, suc, ◌+◌, ◌-◌, ◌<◌, ◌≤◌, ℤ, nat_le, Bool, true, false, cond, List, [], ◌∷◌, ◌++◌, length, take, drop, slice_get, get_or, set, Option, Some, None, IfSome, refl, sym, ap, subst, ◌∙◌, inl, inr, ◌⊎◌, arith, add-one, get_or-set_same, get_or-set_other}
-use Rattle.std.proofs.lemmas.Bool.{cases_lt, cases_eq, leb-true, leb-false}
-use Rattle.std.proofs.lemmas.List.{length-set, get_or-append_right, get_or_append_left, length-append}
+use Rattle.std.proofs.Common.{◌≡◌, ℕ, zero, suc, ◌+◌, ◌<◌, ◌≤◌, nat_le, Bool, true, false, cond, List, [], ◌∷◌, map, length, take, drop, slice_get, Option, Some, None, IfSome, refl, sym, ap, subst, ◌∙◌, inl, inr, arith, add-one}
+use Rattle.std.specs.List.{enumerate_from, find}
+use Rattle.std.proofs.lemmas.Bool.{cases_lt, leb-true, leb-false}
 use Rattle.eve_smallbank.specs.declared.request.Reply.{Reply}
 use Rattle.eve_grammar.specs.Trace.{Trace}
-use Rattle.eve_grammar.specs.Spelling.{length_of}
 use Rattle.eve_views.specs.declared.fault.Code.{Code}
 use Rattle.eve_views.specs.declared.fault.Code.TheVariants as code
 use Rattle.eve_views.specs.declared.fault.Fault.{Fault}
-use Rattle.eve_views.specs.Form.{IsUpTo, SomePlace, IsLeast}
+use Rattle.eve_views.specs.Form.{IsUpTo, IsLeast}
 use Rattle.eve_views.specs.Code.{number_of}
 use Rattle.eve_history.specs.Section.{Placed}
 use Rattle.eve_history.specs.Told.{Telling, telling, tellings, history, committed_at, IsRightSection}
 use Rattle.eve_history.proofs.Places.{cut_at}
-use Rattle.eve_serial.specs.Committed.{balances_to}
-use Rattle.eve_serial.proofs.Linked.{last_committed, some_injective, none≢some}
-use Rattle.eve_banks.specs.Settling.{Settling}
-use Rattle.eve_tokens.proofs.Walking.{get_at_seam}
-use Rattle.eve_agree.specs.Faults.{first_to_commit, HaveSameOutcome, HasCommitted, ReplicasAgree, StandsInAgreement, IsOutcomeFault}
+use Rattle.eve_chains.proofs.Linked.{last_committed, some_injective, none≢some}
+use Rattle.eve_agree.proofs.TokensInOrder.{get_at_seam}
+use Rattle.eve_agree.specs.Agreement.{first_to_commit, HaveSameOutcome, ReplicasAgree, StandsInAgreement, IsOutcomeFault}
 use Rattle.eve_agree.specs.Judging.{NoneBefore, Stand, IsUpToAt, Lowers, IsJudged, outcome_fault, lower}
-use Rattle.eve_agree.proofs.Outcomes.{IsOf, last_told, telling_at, committed_low, replica_there, first_there}
+use Rattle.eve_agree.proofs.Outcomes.{IsOf, last_told, telling_at, committed_low, replica_there, first_there, tellings_count}
 
 -- ---- the lesser of two
 
@@ -208,3 +205,29 @@ module _ (t : Trace) where
           let number : number_of f.code ≡ number_of code.Outcome = ap number_of stand.0 in
           elim (cases_lt f.offset at) [ inl lt ↦ inl lt | inr ge ↦ inr (omega arith, omega arith) ]
       by c at r e stands = absurd stands
+
+-- ---- one replica alone
+
+only_first : {A : Type 0} (test : ℕ → Bool) (xs : List A) (f : ℕ) → length xs < 2 → find test (map (λ s. s.0) (enumerate_from 0 xs)) ≡ Some f → f ≡ 0
+only_first test [] f few is = none≢some f is
+only_first test (x ∷ []) f few is = by (test 0) is
+  where
+    by : (b : Bool) → cond b (Some 0) None ≡ Some f → f ≡ 0
+    by true e = sym (some_injective 0 f e)
+    by false e = none≢some f e
+only_first test (x ∷ y ∷ ys) f few is = absurd (omega arith)
+
+-- it is the first that committed what it committed
+pub alone_judged : (t : Trace) (hs : List Telling) → hs ≡ tellings t → length hs < 2 → (e n : ℕ) → IsJudged t None e n
+alone_judged t hs told few e n p at = inl (by (first_to_commit t n) refl)
+  where
+    sections : length t.sections < 2
+    sections = let count : length hs ≡ length t.sections = ap length told ∙ tellings_count t in omega arith
+
+    by : (o : Option ℕ) → first_to_commit t n ≡ o → IfSome o (λ f. HaveSameOutcome t e f n)
+    by None is = tt
+    by (Some f) is =
+        let there = replica_there t e n p at in
+        let zeroth = only_first (λ i. nat_le n (history t i).last) t.sections f sections is in
+        let same : e ≡ f = let few_sections = sections in omega arith in
+        subst (λ (k : ℕ). HaveSameOutcome t e k n) same (record { balances = refl; replies = refl })

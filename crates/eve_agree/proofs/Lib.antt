@@ -1,3 +1,14 @@
 pub mod Outcomes
 pub mod Reaching
 pub mod Agreeing
+pub mod Marking
+pub mod Noting
+pub mod Discarding
+pub mod RestoresInOrder
+pub mod Restoring
+pub mod TokensInOrder
+pub mod Backing
+pub mod Replicas
+mod Answering
+mod Reading
+mod Sending

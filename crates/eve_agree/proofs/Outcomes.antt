@@ -1,23 +1,22 @@
 -- What a batch came to in a replica, and which replica was the first to commit it.
-use Rattle.std.proofs.Common.{◌≡◌, ◌≢◌, ℕ, zero, suc, ◌+◌, ◌-◌, ◌*◌, ◌<◌, ◌≤◌, ℤ, nat_le, Bool, true, false, cond, List, [], ◌∷◌, ◌++◌, map, length, take, drop, slice_get, get_or, set, Option, Some, None, IfSome, refl, sym, ap, subst, ◌∙◌, inl, inr, ◌⊎◌, arith, take_all, get_or-set_same, get_or-set_other}
-use Rattle.std.specs.List.{flat_map, enumerate_from, find}
+use Rattle.std.proofs.Common.{◌≡◌, ◌≢◌, ℕ, zero, suc, ◌+◌, ◌-◌, ◌<◌, ◌≤◌, ℤ, nat_le, Bool, true, false, List, [], ◌∷◌, ◌++◌, map, length, take, slice_get, get_or, Option, Some, None, refl, sym, ap, subst, ◌∙◌, inl, inr, arith, take_all}
+use Rattle.std.specs.List.{enumerate_from, find}
 use Rattle.std.specs.Option.{option_map}
 use Rattle.std.specs.Prelude.{slice_index_or}
-use Rattle.std.proofs.lemmas.Bool.{cases_lt, cases_eq, leb-true, leb-false, le-leb, lt-leb}
-use Rattle.std.proofs.lemmas.List.{length-map, length-set, get_or_append_left}
-use Rattle.eve_smallbank.specs.Access.{balance_at}
+use Rattle.std.proofs.lemmas.Bool.{cases_lt, leb-false, le-leb, lt-leb}
+use Rattle.std.proofs.lemmas.List.{length-map}
 use Rattle.eve_smallbank.specs.declared.request.Reply.{Reply}
 use Rattle.eve_grammar.specs.Trace.{Attempt, Step, Trace}
-use Rattle.eve_grammar.specs.Frames.{OfReplica, without_accesses, sections_of}
-use Rattle.eve_grammar.specs.Spelling.{frame_text, located, step_text, section_start, steps_of, steps_at}
-use Rattle.eve_history.specs.Section.{Placed, SectionState, start, state_after}
+use Rattle.eve_grammar.specs.Frames.{OfReplica}
+use Rattle.eve_grammar.specs.Spelling.{frame_text, located, step_text, section_start, steps_at}
+use Rattle.eve_history.specs.Section.{Placed, start, state_after}
 use Rattle.eve_history.specs.Told.{Ran, ran, Telling, telling, tellings, placed_at, history, committed_at, IsRightSection}
-use Rattle.eve_serial.specs.Committed.{first_rows, values_to, balances_to}
-use Rattle.eve_serial.proofs.Linked.{last_committed, some_injective, none≢some}
-use Rattle.eve_banks.specs.Settling.{Settling, settling, settlings, values_in}
+use Rattle.eve_chains.specs.Committed.{first_rows, values_to, balances_to}
+use Rattle.eve_chains.proofs.Linked.{last_committed, some_injective, none≢some}
+use Rattle.eve_chains.specs.Settling.{Settling, settling, settlings, values_in}
 use Rattle.eve_history.proofs.OrderLaws.{take_one_more}
-use Rattle.eve_tokens.proofs.Walking.{rows_are, rows_told}
-use Rattle.eve_agree.specs.Faults.{first_to_commit, HaveSameOutcome}
+use Rattle.eve_agree.proofs.TokensInOrder.{rows_are, rows_told}
+use Rattle.eve_agree.specs.Agreement.{first_to_commit, HaveSameOutcome}
 use Rattle.eve_agree.specs.Judging.{NoneBefore, IsAfter, AreAfter}
 
 -- ---- of each replica

@@ -6,8 +6,8 @@ use Rattle.eve_views.specs.declared.fault.Code.TheVariants as code
 use Rattle.eve_views.specs.declared.fault.Fault.{Fault}
 use Rattle.eve_history.specs.Section.{Placed}
 use Rattle.eve_history.specs.Told.{Telling, committed_at}
-use Rattle.eve_banks.specs.Settling.{Settling, values_in}
-use Rattle.eve_agree.specs.Faults.{first_to_commit, HaveSameOutcome, IsOutcomeFault}
+use Rattle.eve_chains.specs.Settling.{Settling, values_in}
+use Rattle.eve_agree.specs.Agreement.{first_to_commit, HaveSameOutcome, IsOutcomeFault}
 
 -- the balances are those after the first n batches of the replica, or after all where it has fewer
 pub record IsAfter (s : Settling) (n : ℕ) (balances : List ℤ) : Type 0 where

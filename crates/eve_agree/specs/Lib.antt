@@ -1,2 +1,10 @@
-pub mod Faults
+pub mod Agreement
 pub mod Judging
+pub mod Tables
+pub mod Restores
+pub mod Marking
+pub mod DueTokens
+pub mod Majority
+pub mod Unbacked
+pub mod SentReplies
+pub mod Keeping

@@ -7,16 +7,16 @@ ghost use Rattle.eve_views.specs.Fronts.{whole};
 ghost use Rattle.eve_views.specs.declared.fault.Fault.{Fault as FaultValue};
 ghost use Rattle.eve_grammar.specs.Trace.{Trace as TraceValue};
 ghost use Rattle.eve_history.specs.Told.{Ran, Telling, tellings, IsRightSection};
-ghost use Rattle.eve_banks.specs.Settling.{settling, settlings, values_in};
-ghost use Rattle.eve_serial.specs.Committed.{values_to};
-ghost use Rattle.eve_agree.specs.Faults.{first_to_commit, ReplicasAgree, IsOutcomeFault};
+ghost use Rattle.eve_chains.specs.Settling.{settling, settlings, values_in};
+ghost use Rattle.eve_chains.specs.Committed.{values_to};
+ghost use Rattle.eve_agree.specs.Agreement.{first_to_commit, ReplicasAgree, IsOutcomeFault};
 ghost use Rattle.eve_agree.specs.Judging.{NoneBefore, IsAfter, AreAfter, Stand, Lowers, IsJudged, lower};
 
 use eve_accounts::Balances;
-use eve_banks::Settled;
-use eve_banks::laws::settled_values_are_the_banks;
+use eve_chains::Settled;
+use eve_chains::laws::settled_values_are_the_banks;
 use eve_frames::AttemptView;
-use eve_history::History;
+use eve_history::{History, are_right};
 use eve_smallbank::Reply;
 use eve_views::{CheckFault, Code, Fault, Trace};
 use std::alloc::{AllocError, Global};
@@ -25,7 +25,7 @@ use std::alloc::{AllocError, Global};
 /// lowest-numbered replica that committed it; else the first attempt where it differs.
 ///
 /// docs/MODEL.md, "Faults". Balances and replies are compared themselves. It keeps the balances of each replica once, and goes
-/// with all of them from batch to batch. Want of memory decides nothing.
+/// with all of them from batch to batch; of one replica alone nothing is asked. Want of memory decides nothing.
 pub fn equal_balances(
     alloc: Global,
     trace: &Trace<'_>,
@@ -33,12 +33,15 @@ pub fn equal_balances(
     settled: &[Settled<'_>],
 ) -> Result<(), CheckFault>
     requires histories { histories.now ≡ tellings (whole trace.now) }
-    requires right { (e : ℕ) → IsRightSection (whole trace.now) e }
     requires settled { settled.now ≡ settlings (whole trace.now) }
     ensures agree { IfOk result (λ _. ReplicasAgree (whole trace.now)) }
     ensures none { IfOk result (λ _. HasNone (IsOutcomeFault (whole trace.now))) }
     ensures least { IfErr result (λ why. IfFound why (IsLeast (IsOutcomeFault (whole trace.now)))) }
 {
+    are_right(histories);
+    if histories.len() < 2 {
+        return Ok(());
+    }
     trace.is_whole();
     settled_values_are_the_banks();
     let mut all = opening_of_each(alloc, settled)?;

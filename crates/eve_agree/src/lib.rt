@@ -2,9 +2,16 @@
 #![tactic(auto)]
 
 mod agreement;
+mod due_tokens;
+pub mod laws;
+mod majority;
+mod marks;
+mod request_ids;
+mod restores;
+mod sent_replies;
 
 pub use agreement::equal_balances;
-pub use eve_majorities::majorities;
-pub use eve_replies::replies;
-pub use eve_restores::rollbacks;
-pub use eve_tokens::tokens;
+pub use due_tokens::tokens;
+pub use majority::majorities;
+pub use restores::rollbacks;
+pub use sent_replies::replies;

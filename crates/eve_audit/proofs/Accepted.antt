@@ -4,15 +4,15 @@ use Rattle.eve_grammar.specs.Trace.{Trace}
 use Rattle.eve_grammar.specs.Limits.{HasLimits}
 use Rattle.eve_views.specs.declared.fault.Code.TheVariants as code
 use Rattle.eve_history.specs.Faults.{StandsInOrders, IsOrderFault}
-use Rattle.eve_serial.specs.Committed.{batch_tickets, AreDistinct}
-use Rattle.eve_theorem.specs.Accepted.{IsAccepted}
+use Rattle.eve_chains.specs.Committed.{batch_request_ids, AreDistinct}
+use Rattle.eve_audit.specs.Accepted.{IsAccepted}
 use Rattle.eve_views.specs.Form.{HasNone}
 use Rattle.eve_audit.specs.Pieces.{IsSoundReplica, IsSoundTogether}
 
 pub no_request_again : (t : Trace) → HasNone (IsOrderFault t) → (at : ℕ) → ¬ StandsInOrders code.SameRequest t at
 no_request_again t none at stands = none (record { code = code.SameRequest; offset = at; replica = None }) (record { stands = stands; outside = refl })
 
-pub accepted_of : (t : Trace) → HasLimits t → AreDistinct (batch_tickets t) → ((e : ℕ) → IsSoundReplica t e) → IsSoundTogether t → IsAccepted t
+pub accepted_of : (t : Trace) → HasLimits t → AreDistinct (batch_request_ids t) → ((e : ℕ) → IsSoundReplica t e) → IsSoundTogether t → IsAccepted t
 accepted_of t limits apart replicas together = record {
   limits = limits;
   apart = apart;

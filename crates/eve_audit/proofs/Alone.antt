@@ -13,14 +13,15 @@ use Rattle.eve_views.specs.Form.{SomePlace}
 use Rattle.eve_history.specs.Section.{Placed, SectionState, start, state_after, settled, are_right, is_right_attempt, is_right_certificate, is_right_access, is_right_commit, is_right_rollback, are_right_accesses}
 use Rattle.eve_history.specs.Told.{history, names_of}
 use Rattle.eve_history.specs.Faults.{StandsInStructure, OfAttempt, OfCommit, OfRollback, accesses_of}
-use Rattle.eve_serial.specs.Visible.{executed_by, executions, opening_of, visible_to}
-use Rattle.eve_serial.specs.Committed.{attempts_of, first_rows, values_after_all}
-use Rattle.eve_serial.specs.Faults.{StandsInRecords, StandsInChains}
-use Rattle.eve_restores.specs.Tables.{are_right_restores}
-use Rattle.eve_restores.specs.Faults.{StandsInRestores}
-use Rattle.eve_tokens.specs.Faults.{StandsInTokens}
+use Rattle.eve_chains.specs.Visible.{executed_by, visible_to, rows_after}
+use Rattle.eve_chains.specs.Committed.{attempts_of, first_rows}
+use Rattle.eve_chains.specs.Faults.{StandsInRecords, StandsInChains}
+use Rattle.eve_agree.specs.Tables.{are_right_restores}
+use Rattle.eve_agree.specs.Restores.{StandsInRestores}
+use Rattle.eve_agree.specs.DueTokens.{StandsInTokens}
 use Rattle.eve_audit.specs.Verdict.{IsOwnFault, of_structure, of_records, of_chains, of_restores, of_tokens}
 use Rattle.eve_audit.specs.Alone.{AgreeFor}
+use Rattle.eve_token.specs.Token.{flat_token}
 
 -- the trace, had the others done, voted and sent something else
 abbrev besides : Trace → List (List Step) → List (List Vote) → List Sent → Trace
@@ -81,7 +82,11 @@ module _ (t : Trace) (sections : List (List Step)) (verifiers : List (List Vote)
   same_history = ap (state_after start) same
 
   tokens_alone : (c : Code) (at : ℕ) → StandsInTokens c t e at → StandsInTokens c (besides t sections verifiers sent) e at
-  tokens_alone code.Token at stands = rw (sym same_history) stands
+  tokens_alone code.Token at stands =
+      let P : SectionState → Type 0 =
+      λ s. SomePlace s.committed (λ _ p. (p.offset ≡ at)
+      × (p.attempt.token ≢ flat_token p.attempt.seq (first_rows (2 * length t.customers) (λ row. (rows_after t (attempts_of (take p.attempt.seq s.committed)) row).value)) p.attempt.replies)) in
+      subst P same_history stands
   tokens_alone c at stands = absurd stands
 
   own_alone : (f : Fault) → IsOwnFault t e f → IsOwnFault (besides t sections verifiers sent) e f

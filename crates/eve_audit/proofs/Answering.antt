@@ -8,7 +8,7 @@ use Rattle.eve_views.specs.declared.fault.CheckFault.{CheckFault}
 use Rattle.eve_views.specs.declared.fault.CheckFault.TheVariants.{Found, Memory}
 use Rattle.eve_views.specs.declared.fault.Fault.{Fault}
 use Rattle.eve_history.specs.Faults.{IsOrderFault}
-use Rattle.eve_theorem.specs.Audited.{IsAudited}
+use Rattle.eve_audit.specs.Audited.{IsAudited}
 use Rattle.eve_audit.specs.declared.verdict.Summary.{Summary}
 use Rattle.eve_audit.specs.declared.verdict.Verdict.TheVariants.{Yes, No}
 use Rattle.eve_audit.specs.Verdict.{IsSummary, IsTraceFault}
@@ -30,7 +30,7 @@ module _ (bytes : List ℕ) (t : Trace) (read : IsRead bytes t) (once : (u : Tra
 
   pub yes_for : (s : Summary) → IsSummary t s → HasNone (IsTraceFault t) → IsAudited t → IsAnswer bytes (Yes s)
   yes_for s summary none audited = record {
-    verdict = (t, faultless bytes t read.spells once read.none none, summary);
+    verdict = (t, read.spells, faultless bytes t read.spells once read.none none, summary);
     yes = record { trace = t; spells = read.spells; audited = audited };
     within = tt;
     replica = tt;

@@ -5,19 +5,19 @@ use Rattle.eve_smallbank.specs.Access.{Executed, Fits}
 use Rattle.eve_grammar.specs.Trace.{Trace, head_of}
 use Rattle.eve_grammar.specs.Limits.{Spells}
 use Rattle.eve_grammar.specs.Spelling.{length_of}
-use Rattle.eve_grammar.proofs.Codec.{IsBytes}
+use Rattle.eve_views.specs.Form.{IsFormFault, IsLeast}
 use Rattle.eve_views.specs.declared.fault.CheckFault.TheVariants.{Found}
 use Rattle.eve_views.specs.declared.fault.Fault.{Fault}
 use Rattle.eve_history.specs.Faults.{IsOrderFault}
 use Rattle.eve_audit.specs.declared.verdict.Summary.{Summary}
 use Rattle.eve_audit.specs.declared.verdict.Verdict.{Verdict}
 use Rattle.eve_audit.specs.declared.verdict.Verdict.TheVariants.{Yes, No}
-use Rattle.eve_audit.specs.Verdict.{last_of, IsSummary, IsVerdict}
+use Rattle.eve_audit.specs.Verdict.{IsSummary, IsVerdict}
+use Rattle.eve_audit.specs.Pieces.{last_of}
 use Rattle.eve_audit.specs.Answer.{IsRead}
 use Rattle.eve_audit.proofs.Sections.{FatesAreAsItEnds}
 use Rattle.eve_audit.proofs.Deciding.{Decided}
 use Rattle.eve_audit.proofs.Verdicts.{found_in_form, trace_first, faultless, some_replica}
-use Rattle.eve_audit.proofs.FormDecided.{found_form, refused_alone}
 use Rattle.eve_audit.proofs.FirstOfAll.{first_in_trace}
 
 -- ---- the summary
@@ -78,11 +78,11 @@ module _ (fits : (names : List (List ℕ)) (x : Executed) → Decided (Fits name
     | inl found ↦ (No found.0, trace_first bytes t read.spells (λ u other. once bytes u t other read.spells) found.0 read.none found.1)
     | inr none ↦
         let summary = summary_of t (some_replica (head_of t) read.spells.limits.head) in
-        (Yes summary.0, (t, faultless bytes t read.spells (λ u other. once bytes u t other read.spells) read.none none, summary.1))
+        (Yes summary.0, (t, read.spells, faultless bytes t read.spells (λ u other. once bytes u t other read.spells) read.none none, summary.1))
   ]
 
-  pub some_verdict : (bytes : List ℕ) → IsBytes bytes → (v : Verdict) × IsVerdict bytes v
-  some_verdict bytes all_bytes = elim (found_form bytes all_bytes) [
-    | inl refused ↦ (No refused.0, found_in_form bytes (Found refused.0) refused.1.least (refused_alone bytes refused.0 refused.1))
-    | inr read ↦ of_trace bytes read.0 read.1
-  ]
+  -- with what is found of form
+  pub some_verdict : (bytes : List ℕ) → ((f : Fault) × IsLeast (IsFormFault bytes) f) ⊎ ((t : Trace) × Spells bytes t) → ((f : Fault) (t : Trace) → IsFormFault bytes f → ¬ Spells bytes t)
+      → (v : Verdict) × IsVerdict bytes v
+  some_verdict bytes (inl found) apart = (No found.0, found_in_form bytes (Found found.0) found.1 (λ t. apart found.0 t found.1.is))
+  some_verdict bytes (inr read) apart = of_trace bytes read.0 (record { spells = read.1; none = λ f is. apart f read.0 is read.1 })

@@ -11,15 +11,15 @@ use Rattle.eve_grammar.specs.Limits.{Spells, HasLimits}
 use Rattle.eve_views.specs.declared.fault.Code.TheVariants as code
 use Rattle.eve_history.specs.Told.{names_of, IsRightSection}
 use Rattle.eve_history.specs.Faults.{StandsInOrders}
-use Rattle.eve_serial.specs.Visible.{executed_by}
-use Rattle.eve_serial.specs.Committed.{batch_tickets, AreDistinct}
-use Rattle.eve_serial.specs.Sound.{OfSettledAccesses, RecordsFit, EntriesSee, SettledAreSound}
-use Rattle.eve_serial.specs.Faults.{HasNoFault}
-use Rattle.eve_theorem.specs.Accepted.{IsAccepted}
-use Rattle.eve_theorem.specs.Audited.{IsAudited}
+use Rattle.eve_chains.specs.Visible.{executed_by}
+use Rattle.eve_chains.specs.Committed.{batch_request_ids, AreDistinct}
+use Rattle.eve_chains.specs.Sound.{OfSettledAccesses, RecordsFit, EntriesSee, SettledAreSound}
+use Rattle.eve_chains.specs.Faults.{HasNoFault}
+use Rattle.eve_audit.specs.Accepted.{IsAccepted}
+use Rattle.eve_audit.specs.Audited.{IsAudited}
 use Rattle.eve_audit.specs.declared.verdict.Summary.{Summary}
 use Rattle.eve_audit.specs.declared.verdict.Verdict.TheVariants.{Yes}
-use Rattle.eve_audit.specs.Verdict.{IsVerdict, IsFaultless, SpellsAudited, IsOwnFault, of_structure, of_records, of_chains, of_restores, of_tokens, IsTraceFault, of_votes, of_majorities, of_agreement, of_replies, in_orders, in_section, in_common}
+use Rattle.eve_audit.specs.Verdict.{Stands, IsVerdict, SpellsAudited, IsOwnFault, of_structure, of_records, of_chains, of_restores, of_tokens, IsTraceFault, of_votes, of_majorities, of_agreement, of_replies, in_orders, in_section, in_common}
 use Rattle.eve_views.specs.Form.{HasNone}
 use Rattle.eve_audit.specs.Pieces.{IsSoundReplica, IsSoundTogether}
 use Rattle.eve_audit.proofs.Accepted.{no_request_again, accepted_of}
@@ -33,7 +33,7 @@ use Rattle.eve_audit.proofs.UnfaultedTogether.{sound_votes, all_backed, all_agre
 pub record Laws : Type 0 where
   pub fit : (names : List (List ℕ)) (table : Table) (request : Request) → Fits names (executed_on names table request)
   pub only : (names : List (List ℕ)) (table : Table) (x : Executed) → Fits names x → AllByRecursion (Sees table) x.entries → x ≡ executed_on names table x.request
-  pub apart : (t : Trace) → ((at : ℕ) → ¬ StandsInOrders code.SameRequest t at) → AreDistinct (batch_tickets t)
+  pub apart : (t : Trace) → ((at : ℕ) → ¬ StandsInOrders code.SameRequest t at) → AreDistinct (batch_request_ids t)
   pub see : (t : Trace) (e : ℕ) → HasNoFault t e → EntriesSee t e
   pub refuted : (t : Trace) (e : ℕ) → HasNoFault t e → OfSettledAccesses t e (λ p x. ¬ ¬ Fits (names_of t) (executed_by t p.attempt x))
   pub sound : (t : Trace) (e : ℕ) → HasLimits t → IsRightSection t e → RecordsFit t e → EntriesSee t e → SettledAreSound t e
@@ -70,16 +70,16 @@ module _ (laws : Laws) (t : Trace) (limits : HasLimits t) where
     unfaulted_accepted = accepted_of t limits (laws.apart t (no_request_again t (λ f is. none f (in_orders is)))) all_sound together
 
 -- where nothing stands in the bytes, nothing does in the trace
-pub faultless_trace : (bytes : List ℕ) (t : Trace) → ((u : Trace) → Spells bytes u → u ≡ t) → IsFaultless bytes t → HasNone (IsTraceFault t)
-faultless_trace bytes t once faultless f is = faultless.none f (stands_in_bytes bytes t faultless.spells once f is)
+pub faultless_trace : (bytes : List ℕ) (t : Trace) → ((u : Trace) → Spells bytes u → u ≡ t) → Spells bytes t → HasNone (Stands bytes) → HasNone (IsTraceFault t)
+faultless_trace bytes t once spells none f is = none f (stands_in_bytes bytes t spells once f is)
 
 -- a yes is said of such bytes alone
 pub yes_audited : Laws → ((t : Trace) → IsAccepted t → IsAudited t) → ((bytes : List ℕ) (t u : Trace) → Spells bytes t → Spells bytes u → t ≡ u) → (bytes : List ℕ) (s : Summary) → IsVerdict bytes (Yes s) → SpellsAudited bytes
 yes_audited laws audited once bytes s is =
     let t : Trace = is.0 in
-    let spells : Spells bytes t = is.1.spells in
+    let spells : Spells bytes t = is.1 in
     record {
       trace = t;
       spells = spells;
-      audited = audited t (unfaulted_accepted laws t spells.limits (faultless_trace bytes t (λ u other. once bytes u t other spells) is.1));
+      audited = audited t (unfaulted_accepted laws t spells.limits (faultless_trace bytes t (λ u other. once bytes u t other spells) spells is.2));
     }

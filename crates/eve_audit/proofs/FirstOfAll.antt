@@ -12,15 +12,15 @@ use Rattle.eve_views.specs.declared.fault.Code.{Code}
 use Rattle.eve_views.specs.declared.fault.Code.TheVariants as code
 use Rattle.eve_views.specs.declared.fault.Fault.{Fault}
 use Rattle.eve_history.specs.Faults.{StandsInOrders, IsOrderFault, StandsInStructure}
-use Rattle.eve_serial.specs.Faults.{StandsInRecords, StandsInChains}
-use Rattle.eve_restores.specs.Faults.{StandsInRestores}
-use Rattle.eve_tokens.specs.Faults.{StandsInTokens}
+use Rattle.eve_chains.specs.Faults.{StandsInRecords, StandsInChains}
+use Rattle.eve_agree.specs.Restores.{StandsInRestores}
+use Rattle.eve_agree.specs.DueTokens.{StandsInTokens}
 use Rattle.eve_votes.specs.Faults.{StandsInVotes}
-use Rattle.eve_majorities.specs.Faults.{StandsInMajorities}
-use Rattle.eve_agree.specs.Faults.{StandsInAgreement}
-use Rattle.eve_replies.specs.Faults.{StandsInReplies}
-use Rattle.eve_audit.specs.Verdict.{Precedes, IsOwnFault, of_structure, of_records, of_chains, of_restores, of_tokens, IsTraceFault, of_votes, of_majorities, of_agreement, of_replies, in_orders, in_section, in_common}
-use Rattle.eve_views.specs.Form.{HasNone}
+use Rattle.eve_agree.specs.Majority.{StandsInMajorities}
+use Rattle.eve_agree.specs.Agreement.{StandsInAgreement}
+use Rattle.eve_agree.specs.SentReplies.{StandsInReplies}
+use Rattle.eve_audit.specs.Verdict.{IsOwnFault, of_structure, of_records, of_chains, of_restores, of_tokens, IsTraceFault, of_votes, of_majorities, of_agreement, of_replies, in_orders, in_section, in_common}
+use Rattle.eve_views.specs.Form.{HasNone, Precedes}
 use Rattle.eve_audit.specs.Pieces.{IsFirstOf}
 use Rattle.eve_audit.proofs.Sections.{LiesIn, FatesAreAsItEnds}
 use Rattle.eve_audit.proofs.Unique.{code_with, with_its_number}

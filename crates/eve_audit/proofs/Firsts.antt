@@ -2,19 +2,19 @@
 use Rattle.std.proofs.Common.{◌≡◌, ℕ, ◌<◌, ◌≤◌, inl, inr, length, sym, ◌∙◌, arith}
 use Rattle.eve_grammar.specs.Trace.{Trace}
 use Rattle.eve_views.specs.Code.{phase_of}
-use Rattle.eve_views.specs.Form.{IfFound, IsLeast, HasNone}
+use Rattle.eve_views.specs.Form.{IfFound, IsLeast, HasNone, Precedes}
 use Rattle.eve_views.specs.declared.fault.CheckFault.{CheckFault}
 use Rattle.eve_views.specs.declared.fault.CheckFault.TheVariants.{Found, Memory}
 use Rattle.eve_views.specs.declared.fault.Fault.{Fault}
 use Rattle.eve_history.specs.Faults.{IsOrderFault, IsStructureFault}
-use Rattle.eve_serial.specs.Faults.{IsRecordFault, IsChainFault, IsLeastFault, HasNoFault}
-use Rattle.eve_restores.specs.Faults.{IsRestoreFault}
-use Rattle.eve_tokens.specs.Faults.{IsTokenFault}
+use Rattle.eve_chains.specs.Faults.{IsRecordFault, IsChainFault, IsLeastFault, HasNoFault}
+use Rattle.eve_agree.specs.Restores.{IsRestoreFault}
+use Rattle.eve_agree.specs.DueTokens.{IsTokenFault}
 use Rattle.eve_votes.specs.Faults.{IsVoteFault}
-use Rattle.eve_majorities.specs.Faults.{IsMajorityFault}
-use Rattle.eve_agree.specs.Faults.{IsOutcomeFault}
-use Rattle.eve_replies.specs.Faults.{IsReplyFault}
-use Rattle.eve_audit.specs.Verdict.{Precedes, IsOwnFault, of_structure, of_records, of_chains, of_restores, of_tokens, IsFaultBelow, IsCommonFault, IsTraceFault, of_votes, of_majorities, of_agreement, of_replies, in_orders, in_section, in_common}
+use Rattle.eve_agree.specs.Majority.{IsMajorityFault}
+use Rattle.eve_agree.specs.Agreement.{IsOutcomeFault}
+use Rattle.eve_agree.specs.SentReplies.{IsReplyFault}
+use Rattle.eve_audit.specs.Verdict.{IsOwnFault, of_structure, of_records, of_chains, of_restores, of_tokens, IsFaultBelow, IsCommonFault, IsTraceFault, of_votes, of_majorities, of_agreement, of_replies, in_orders, in_section, in_common}
 use Rattle.eve_audit.specs.Pieces.{IsFirstOf}
 use Rattle.eve_audit.proofs.Phases.{order_phase, structure_phase, record_phase, chain_phase, restore_phase, token_phase, vote_phase, majority_phase, outcome_phase, reply_phase}
 

@@ -4,19 +4,21 @@ use Rattle.std.specs.Prelude.{slice_index_or, IsTrue}
 use Rattle.std.specs.List.{enumerate_from, AllByRecursion}
 use Rattle.std.proofs.lemmas.Bool.{cases_lt}
 use Rattle.eve_grammar.specs.Trace.{Step, Trace}
-use Rattle.eve_grammar.specs.Frames.{OfReplica, sections_of}
-use Rattle.eve_grammar.specs.Spelling.{frame_text, step_text, located, section_start, steps_at}
+use Rattle.eve_grammar.specs.Frames.{sections_of}
 use Rattle.eve_history.specs.Section.{SectionState, start, state_after, settled, are_right}
 use Rattle.eve_history.specs.Told.{Telling, telling, tellings, history}
-use Rattle.eve_banks.specs.Settling.{Settling, settling, settlings}
-use Rattle.eve_serial.specs.Sound.{IsSoundAlong}
-use Rattle.eve_restores.specs.Tables.{all_restore_rightly}
-use Rattle.eve_tokens.specs.Faults.{due_token}
+use Rattle.eve_chains.specs.Settling.{Settling, settling, settlings}
+use Rattle.eve_chains.specs.Sound.{IsSoundAlong}
+use Rattle.eve_agree.specs.Tables.{all_restore_rightly}
+use Rattle.eve_agree.specs.DueTokens.{due_token}
 use Rattle.eve_views.specs.declared.fault.Fault.{Fault}
 use Rattle.eve_audit.specs.Verdict.{IsOwnFault, IsFaultBelow}
 use Rattle.eve_views.specs.Form.{HasNone}
-use Rattle.eve_audit.specs.Pieces.{IsFirstOf, IsSoundReplica, AreKept, IsJudgedBelow}
-use Rattle.eve_audit.proofs.Piecewise.{below_more, none_more, least_more}
+use Rattle.eve_audit.specs.Pieces.{IsFirstOf, IsSoundReplica, AreKept, IsJudgedBelow, IsFoundBelow}
+use Rattle.eve_audit.proofs.Piecewise.{below_more, none_more, least_more, first_more, both_more}
+use Rattle.eve_views.specs.First.{first_of}
+use Rattle.eve_views.proofs.Firsts.{first_of_two}
+use Rattle.eve_history.proofs.Rights.{none_at}
 
 -- ---- lists over the numbered sections
 
@@ -43,10 +45,6 @@ pub none_beyond : {A : Type 0} (place : ℕ) (xs : List (List A)) → length xs 
 none_beyond place [] le = refl
 none_beyond zero (x ∷ xs) le = absurd (omega (arith, le))
 none_beyond (suc place) (x ∷ xs) le = none_beyond place xs (omega (arith, le))
-
-pub none_at : (t : Trace) (e : ℕ) → length t.sections ≤ e → steps_at t e ≡ []
-unfolding steps_at
-none_at t e le = ap (located step_text (section_start t e + length (frame_text (OfReplica e)))) (none_beyond e t.sections le)
 
 state_of_none : (t : Trace) (e : ℕ) → length t.sections ≤ e → history t e ≡ start
 unfolding history
@@ -122,3 +120,12 @@ fault_more t e f told wrote c found = record { found = found; kept = λ none. ab
   where
     some_none : Some f ≡ None → ⊥
     some_none e = cc
+
+-- beside what was found before
+pub judged_more : (t : Trace) (e : ℕ) (first : Option Fault) (f : Fault) (told : List Telling) (wrote : List Settling) (c : ℕ) → IsFoundBelow t e first → IsFirstOf (IsOwnFault t e) f
+    → IsJudgedBelow t (e + 1) (first_of first (Some f)) told wrote c
+judged_more t e None f told wrote c found first = fault_more t e f told wrote c (first_more t e f found first)
+judged_more t e (Some g) f told wrote c found first =
+    let two = first_of_two g f in
+    subst (λ (o : Option Fault). IsJudgedBelow t (e + 1) o told wrote c) (sym two.1)
+    (fault_more t e two.0 told wrote c (both_more t e f g two.0 found first two.2.one two.2.before two.2.and_before))

@@ -19,8 +19,11 @@ pub mod UnfaultedTogether
 pub mod Faultless
 pub mod Outside
 pub mod Naming
-pub mod FormDecided
 pub mod StandingDecided
 pub mod FirstOfAll
 pub mod Existing
 pub mod Alone
+pub mod SameBanks
+pub mod Outcomes
+pub mod Decisions
+pub mod Sentences

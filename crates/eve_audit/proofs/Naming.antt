@@ -5,13 +5,9 @@ use Rattle.std.proofs.lemmas.Bool.{and_parts, and_from, le-leb, lt-ltb, leb-true
 use Rattle.eve_grammar.specs.Trace.{Trace}
 use Rattle.eve_grammar.specs.Limits.{Spells}
 use Rattle.eve_grammar.specs.Spelling.{section_start}
-use Rattle.eve_grammar.proofs.Codec.{IsBytes}
 use Rattle.eve_views.specs.Form.{IsFormFault}
 use Rattle.eve_views.specs.Parts.{is_in_section}
 use Rattle.eve_views.specs.declared.fault.Fault.{Fault}
-use Rattle.eve_views.proofs.HeaderLaws.{header_again_of}
-use Rattle.eve_views.proofs.FormLaws.{refused_behind}
-use Rattle.eve_views.proofs.WholeTraces.{no_trace}
 use Rattle.eve_audit.specs.Verdict.{Stands, in_form, in_trace, IsOwnFault, of_structure, of_records, of_chains, of_restores, of_tokens, IsCommonFault, IsTraceFault}
 use Rattle.eve_audit.specs.Where.{NamesItsSection}
 use Rattle.eve_audit.specs.Verdict as of
@@ -83,13 +79,10 @@ named_in bytes t spells once fates f is = record {
 pub named_in_none : (bytes : List ℕ) (f : Fault) → IsFormFault bytes f → ((t : Trace) → ¬ Spells bytes t) → NamesItsSection bytes f
 named_in_none bytes f is none = record { names = λ t spells. absurd (none t spells); outside = λ _. is.outside }
 
-form_alone : (bytes : List ℕ) (f : Fault) → IsBytes bytes → IsFormFault bytes f → (t : Trace) → ¬ Spells bytes t
-form_alone bytes f fits is = no_trace bytes (λ s spelled. (refused_behind bytes s.head f (header_again_of bytes s spelled).0 fits is).none s spelled)
-
 module _ (fates : (t : Trace) (e : ℕ) → FatesAreAsItEnds t e) (once : (bytes : List ℕ) (t u : Trace) → Spells bytes t → Spells bytes u → t ≡ u) (bytes : List ℕ) (f : Fault) where
   of_trace : (t : Trace) → Spells bytes t → IsTraceFault t f → NamesItsSection bytes f
   of_trace t spells is = named_in bytes t spells (λ u other. once bytes u t other spells) (fates t) f is
 
-  pub standing_named : IsBytes bytes → Stands bytes f → NamesItsSection bytes f
-  standing_named fits (in_form is) = named_in_none bytes f is (form_alone bytes f fits is)
-  standing_named fits (in_trace t spells is) = of_trace t spells is
+  pub standing_named : ((g : Fault) (t : Trace) → IsFormFault bytes g → ¬ Spells bytes t) → Stands bytes f → NamesItsSection bytes f
+  standing_named apart (in_form is) = named_in_none bytes f is (λ t. apart f t is)
+  standing_named apart (in_trace t spells is) = of_trace t spells is

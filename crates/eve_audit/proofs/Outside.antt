@@ -8,7 +8,7 @@ use Rattle.eve_views.specs.declared.fault.Code.{Code}
 use Rattle.eve_views.specs.declared.fault.Code.TheVariants as code
 use Rattle.eve_history.specs.Faults.{StandsInOrders}
 use Rattle.eve_votes.specs.Faults.{StandsInVotes}
-use Rattle.eve_replies.specs.Faults.{StandsInReplies}
+use Rattle.eve_agree.specs.SentReplies.{StandsInReplies}
 use Rattle.eve_audit.proofs.Sections.{LiesIn}
 use Rattle.eve_audit.proofs.Where.{Between, at_place, all_located, frame_has_text}
 use Rattle.eve_audit.proofs.Within.{fewer}

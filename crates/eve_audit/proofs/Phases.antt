@@ -7,13 +7,13 @@ use Rattle.eve_views.specs.declared.fault.Code.{Code}
 use Rattle.eve_views.specs.declared.fault.Code.TheVariants as code
 use Rattle.eve_views.specs.declared.fault.Fault.{Fault}
 use Rattle.eve_history.specs.Faults.{StandsInOrders, IsOrderFault, StandsInStructure, IsStructureFault}
-use Rattle.eve_serial.specs.Faults.{StandsInRecords, IsRecordFault, StandsInChains, IsChainFault}
-use Rattle.eve_restores.specs.Faults.{StandsInRestores, IsRestoreFault}
-use Rattle.eve_tokens.specs.Faults.{StandsInTokens, IsTokenFault}
+use Rattle.eve_chains.specs.Faults.{StandsInRecords, IsRecordFault, StandsInChains, IsChainFault}
+use Rattle.eve_agree.specs.Restores.{StandsInRestores, IsRestoreFault}
+use Rattle.eve_agree.specs.DueTokens.{StandsInTokens, IsTokenFault}
 use Rattle.eve_votes.specs.Faults.{StandsInVotes, IsVoteFault}
-use Rattle.eve_majorities.specs.Faults.{StandsInMajorities, IsMajorityFault}
-use Rattle.eve_agree.specs.Faults.{StandsInAgreement, IsOutcomeFault}
-use Rattle.eve_replies.specs.Faults.{StandsInReplies, IsReplyFault}
+use Rattle.eve_agree.specs.Majority.{StandsInMajorities, IsMajorityFault}
+use Rattle.eve_agree.specs.Agreement.{StandsInAgreement, IsOutcomeFault}
+use Rattle.eve_agree.specs.SentReplies.{StandsInReplies, IsReplyFault}
 
 pub form_phase : (bytes : List ℕ) (f : Fault) → IsFormFault bytes f → phase_of f.code ≡ 1
 form_phase bytes f is = by f.code is.stands

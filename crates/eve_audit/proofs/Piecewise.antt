@@ -2,10 +2,10 @@
 use Rattle.std.proofs.Common.{◌≡◌, ℕ, ◌+◌, ◌-◌, ◌^◌, ◌<◌, ◌≤◌, ◌⊎◌, inl, inr, Option, Some, None, sym, ap, arith, min, subst}
 use Rattle.std.proofs.lemmas.Bool.{cases_lt}
 use Rattle.eve_grammar.specs.Trace.{Trace}
-use Rattle.eve_views.specs.Form.{IsUpTo, HasNone}
+use Rattle.eve_views.specs.Form.{IsUpTo, HasNone, Precedes}
 use Rattle.eve_views.specs.declared.fault.Fault.{Fault}
-use Rattle.eve_audit.specs.Verdict.{Precedes, IsOwnFault, last_of, IsFaultBelow}
-use Rattle.eve_audit.specs.Pieces.{IsFirstOf, IsFoundBelow, IsLeastBelow}
+use Rattle.eve_audit.specs.Verdict.{IsOwnFault, IsFaultBelow}
+use Rattle.eve_audit.specs.Pieces.{IsFirstOf, IsFoundBelow, IsLeastBelow, last_of}
 
 -- ---- the order of faults
 

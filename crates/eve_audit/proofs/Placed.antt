@@ -14,12 +14,12 @@ use Rattle.eve_history.specs.Section.{Placed, SectionState, start, state_after, 
 use Rattle.eve_history.specs.Told.{history, names_of}
 use Rattle.eve_views.specs.Form.{SomePlace}
 use Rattle.eve_history.specs.Faults.{accesses_of, OfAttempt, OfCommit, OfRollback, AtStep, AtAccess, StandsInStructure}
-use Rattle.eve_serial.specs.Visible.{executed_by, visible_to}
-use Rattle.eve_serial.specs.Faults.{AtSettledAccess, StandsInRecords, StandsInChains}
-use Rattle.eve_restores.specs.Faults.{StandsInRestores}
-use Rattle.eve_tokens.specs.Faults.{StandsInTokens}
-use Rattle.eve_majorities.specs.Faults.{StandsInMajorities}
-use Rattle.eve_agree.specs.Faults.{StandsInAgreement}
+use Rattle.eve_chains.specs.Visible.{executed_by, visible_to}
+use Rattle.eve_chains.specs.Faults.{AtSettledAccess, StandsInRecords, StandsInChains}
+use Rattle.eve_agree.specs.Restores.{StandsInRestores}
+use Rattle.eve_agree.specs.DueTokens.{StandsInTokens}
+use Rattle.eve_agree.specs.Majority.{StandsInMajorities}
+use Rattle.eve_agree.specs.Agreement.{StandsInAgreement}
 use Rattle.eve_audit.specs.Verdict.{Stands, in_form, in_trace, IsTraceFault, in_orders, in_section, in_common, of_votes, of_majorities, of_agreement, of_replies, IsOwnFault, of_structure, of_records, of_chains, of_restores, of_tokens}
 use Rattle.eve_audit.proofs.Sections.{LiesIn, FatesAreAsItEnds}
 use Rattle.eve_audit.proofs.Phases.{form_phase, order_phase, structure_phase, record_phase, chain_phase, restore_phase, token_phase, vote_phase, majority_phase, outcome_phase, reply_phase}

@@ -13,20 +13,20 @@ use Rattle.eve_views.specs.declared.fault.Code.{Code}
 use Rattle.eve_views.specs.declared.fault.Code.TheVariants as code
 use Rattle.eve_history.specs.Section.{Placed, SectionState, start, state_after, settled, is_right_attempt, is_right_certificate, is_right_access, is_right_commit, is_right_rollback, are_right_accesses, are_right}
 use Rattle.eve_history.specs.Told.{history, names_of}
-use Rattle.eve_history.specs.Faults.{tickets_at, accesses_of, OfAttempt, OfCommit, OfRollback, StandsInOrders, StandsInStructure}
+use Rattle.eve_history.specs.Faults.{request_ids_at, accesses_of, OfAttempt, OfCommit, OfRollback, StandsInOrders, StandsInStructure}
 use Rattle.eve_history.proofs.Places.{place_here, place_later, place_cases, no_place}
-use Rattle.eve_serial.specs.Visible.{executed_by, visible_to}
-use Rattle.eve_serial.specs.Faults.{AtSettledAccess, StandsInRecords, StandsInChains}
-use Rattle.eve_restores.specs.Tables.{are_right_restores}
-use Rattle.eve_restores.specs.Faults.{StandsInRestores}
-use Rattle.eve_tokens.specs.Faults.{due_token, StandsInTokens}
+use Rattle.eve_chains.specs.Visible.{executed_by, visible_to}
+use Rattle.eve_chains.specs.Faults.{AtSettledAccess, StandsInRecords, StandsInChains}
+use Rattle.eve_agree.specs.Tables.{are_right_restores}
+use Rattle.eve_agree.specs.Restores.{StandsInRestores}
+use Rattle.eve_agree.specs.DueTokens.{due_token, StandsInTokens}
 use Rattle.eve_votes.specs.Votes.{is_vote_on, IsDecided, backers}
 use Rattle.eve_votes.specs.Faults.{HasTwoDecisions, IsFurtherAt, StandsInVotes}
 use Rattle.eve_votes.proofs.Casting.{none_behind}
 use Rattle.eve_votes.proofs.Counting.{decided_backs}
-use Rattle.eve_majorities.specs.Faults.{StandsInMajorities}
-use Rattle.eve_agree.specs.Faults.{first_to_commit, StandsInAgreement}
-use Rattle.eve_replies.specs.Faults.{StandsInReplies}
+use Rattle.eve_agree.specs.Majority.{StandsInMajorities}
+use Rattle.eve_agree.specs.Agreement.{first_to_commit, StandsInAgreement}
+use Rattle.eve_agree.specs.SentReplies.{StandsInReplies}
 use Rattle.eve_audit.proofs.Deciding.{Decided, HasEquality, decided_both, decided_not, decided_as, some_if, below_or_none, numbers, integers, lists, pairs}
 use Rattle.eve_audit.proofs.UnfaultedTogether.{some_quorum, enough, same_outcome, replied}
 
@@ -173,7 +173,7 @@ module _ (t : Trace) (at : ℕ) where
   pub orders_decided : (c : Code) → Decided (StandsInOrders c t at)
   orders_decided code.SameName = place_decided _ (λ before c. decided_both (numbers c.0 at) (contains_decided (lists numbers) _ _)) (customers_at t)
   orders_decided code.SameRequest =
-      place_decided _ (λ before b. decided_both (numbers b.0 at) (place_decided _ (λ earlier own. contains_decided (pairs numbers numbers) _ _) (tickets_at b))) (batches_at t)
+      place_decided _ (λ before b. decided_both (numbers b.0 at) (place_decided _ (λ earlier own. contains_decided (pairs numbers numbers) _ _) (request_ids_at b))) (batches_at t)
   orders_decided c = inr (λ stands. absurd stands)
 
   pub votes_decided : HasLimits t → (c : Code) → Decided (StandsInVotes c t at)

@@ -13,11 +13,11 @@ use Rattle.eve_history.specs.Section.{Placed, SectionState, start, next, state_a
 use Rattle.eve_history.specs.Told.{history, names_of, IsRightSection}
 use Rattle.eve_history.specs.Faults.{IsStructureFault}
 use Rattle.eve_history.proofs.Structure.{state_after-append, right_steps, found_is_least}
-use Rattle.eve_serial.specs.Visible.{executed_by}
-use Rattle.eve_serial.specs.Sound.{OfSettledAccesses, RecordsFit}
-use Rattle.eve_restores.specs.Tables.{are_right_restores, all_restore_rightly, RestoresAreRight}
-use Rattle.eve_restores.specs.Faults.{IsRestoreFault}
-use Rattle.eve_tokens.specs.Faults.{due_token, TokensAreDue, IsTokenFault}
+use Rattle.eve_chains.specs.Visible.{executed_by}
+use Rattle.eve_chains.specs.Sound.{OfSettledAccesses, RecordsFit}
+use Rattle.eve_agree.specs.Tables.{are_right_restores, all_restore_rightly, RestoresAreRight}
+use Rattle.eve_agree.specs.Restores.{IsRestoreFault}
+use Rattle.eve_agree.specs.DueTokens.{due_token, TokensAreDue, IsTokenFault}
 use Rattle.eve_views.specs.Form.{HasNone}
 use Rattle.eve_audit.proofs.Deciding.{Decided, stable, all_or_place, numbers, lists}
 

@@ -12,20 +12,20 @@ use Rattle.eve_views.specs.declared.fault.Code.TheVariants as code
 use Rattle.eve_views.specs.declared.fault.Fault.{Fault}
 use Rattle.eve_history.specs.Section.{Placed, no_batch, batch_at}
 use Rattle.eve_history.specs.Told.{committed_at, IsRightSection}
-use Rattle.eve_serial.specs.Committed.{balances_to}
-use Rattle.eve_serial.proofs.Linked.{some_injective, none≢some}
+use Rattle.eve_chains.specs.Committed.{balances_to}
+use Rattle.eve_chains.proofs.Linked.{some_injective, none≢some}
 use Rattle.eve_votes.specs.Votes.{IsDecided, backers}
 use Rattle.eve_votes.specs.Faults.{HasTwoDecisions, IsVoteFault, AreVotesSound}
 use Rattle.eve_votes.proofs.Places.{all_at, length_located}
 use Rattle.eve_votes.proofs.Counting.{decided_backs, one_token}
 use Rattle.eve_votes.proofs.Deciding.{IsRight, right_vote, quorum_limits, decisions_stand}
 use Rattle.eve_votes.proofs.Tallying.{votes_once}
-use Rattle.eve_majorities.specs.Faults.{IsBacked, AllAreBacked, IsMajorityFault}
-use Rattle.eve_majorities.specs.Unbacked.{IsUnbacked}
-use Rattle.eve_majorities.proofs.Backing.{fault_from}
-use Rattle.eve_agree.specs.Faults.{first_to_commit, HaveSameOutcome, ReplicasAgree, IsOutcomeFault}
+use Rattle.eve_agree.specs.Majority.{IsBacked, AllAreBacked, IsMajorityFault}
+use Rattle.eve_agree.specs.Unbacked.{IsUnbacked}
+use Rattle.eve_agree.proofs.Backing.{fault_from}
+use Rattle.eve_agree.specs.Agreement.{first_to_commit, HaveSameOutcome, ReplicasAgree, IsOutcomeFault}
 use Rattle.eve_agree.proofs.Agreeing.{differs, they_agree}
-use Rattle.eve_replies.specs.Faults.{IsReplied, AllReplied, IsReplyFault}
+use Rattle.eve_agree.specs.SentReplies.{IsReplied, AllReplied, IsReplyFault}
 use Rattle.eve_views.specs.Form.{HasNone}
 use Rattle.eve_audit.proofs.Deciding.{Decided, decided_both, decided_as, all_or_place, below_or_none, numbers, integers, lists, options, replies}
 

@@ -4,14 +4,14 @@ use Rattle.std.specs.Prelude.{if◌then◌else◌, ◌==◌, Option, true, false
 use Rattle.eve_grammar.specs.Trace.{Trace}
 use Rattle.eve_grammar.specs.Limits.{Spells}
 use Rattle.eve_views.specs.Code.{number_of, phase_of}
-use Rattle.eve_views.specs.Form.{IsUpTo}
+use Rattle.eve_views.specs.Form.{IsUpTo, Precedes}
 use Rattle.eve_views.specs.declared.fault.Code.{Code}
 use Rattle.eve_views.specs.declared.fault.Code.TheVariants as code
 use Rattle.eve_views.specs.declared.fault.Fault.{Fault}
 use Rattle.eve_audit.specs.declared.verdict.Summary.{Summary}
 use Rattle.eve_audit.specs.declared.verdict.Verdict.{Verdict}
 use Rattle.eve_audit.specs.declared.verdict.Verdict.TheVariants.{Yes, No}
-use Rattle.eve_audit.specs.Verdict.{Precedes, IsFirst, IsSummary, IsVerdict}
+use Rattle.eve_audit.specs.Verdict.{IsFirst, IsSummary, IsVerdict}
 use Rattle.eve_audit.proofs.Sections.{LiesIn, FatesAreAsItEnds}
 use Rattle.eve_audit.proofs.Where.{one_section}
 use Rattle.eve_audit.proofs.Placed.{is_inside, IsPlaced, outside, inside, placed}
@@ -105,7 +105,7 @@ module _ (laws : (t : Trace) (e : ℕ) → FatesAreAsItEnds t e) (spelled_once :
       joined s r a b c = ap (λ (x : ℕ). summary x s.batches s.committed) a ∙ ap (λ (x : ℕ). summary r.replicas x s.committed) b ∙ ap (summary r.replicas r.batches) c
 
   pub one_verdict : (v w : Verdict) → IsVerdict bytes v → IsVerdict bytes w → v ≡ w
-  one_verdict (Yes s) (Yes r) one other = ap Yes (one_summary one.0 s r one.2 (subst (λ (t : Trace). IsSummary t r) (spelled_once bytes other.0 one.0 other.1.spells one.1.spells) other.2))
-  one_verdict (Yes s) (No g) one other = absurd (one.1.none g other.judged.stands)
-  one_verdict (No f) (Yes r) one other = absurd (other.1.none f one.judged.stands)
+  one_verdict (Yes s) (Yes r) one other = ap Yes (one_summary one.0 s r one.3 (subst (λ (t : Trace). IsSummary t r) (spelled_once bytes other.0 one.0 other.1 one.1) other.3))
+  one_verdict (Yes s) (No g) one other = absurd (one.2 g other.judged.stands)
+  one_verdict (No f) (Yes r) one other = absurd (other.2 f one.judged.stands)
   one_verdict (No f) (No g) one other = ap No (one_fault f g one other)

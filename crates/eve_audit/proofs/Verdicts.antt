@@ -5,12 +5,12 @@ use Rattle.std.proofs.lemmas.Bool.{and_parts}
 use Rattle.eve_grammar.specs.Trace.{Trace, Head}
 use Rattle.eve_grammar.specs.Limits.{Spells, is_head}
 use Rattle.eve_views.specs.Code.{phase_of}
-use Rattle.eve_views.specs.Form.{IsFormFault, IfFound, IsLeast, HasNone}
+use Rattle.eve_views.specs.Form.{IsFormFault, Precedes, IfFound, IsLeast, HasNone}
 use Rattle.eve_views.specs.declared.fault.CheckFault.{CheckFault}
 use Rattle.eve_views.specs.declared.fault.CheckFault.TheVariants.{Found, Memory}
 use Rattle.eve_views.specs.declared.fault.Fault.{Fault}
 use Rattle.eve_audit.specs.declared.verdict.Summary.{Summary}
-use Rattle.eve_audit.specs.Verdict.{Stands, in_form, in_trace, IsTraceFault, Precedes, IsFirst, IsSummary, IsFaultless}
+use Rattle.eve_audit.specs.Verdict.{Stands, in_form, in_trace, IsTraceFault, IsFirst, IsSummary}
 use Rattle.eve_audit.specs.Pieces.{IsFirstOf, IsLeastBelow}
 use Rattle.eve_audit.proofs.Phases.{form_phase}
 
@@ -53,8 +53,8 @@ module _ (bytes : List ℕ) (t : Trace) (spells : Spells bytes t) (once : (u : T
   pub trace_first : (f : Fault) → HasNone (IsFormFault bytes) → IsFirstOf (IsTraceFault t) f → IsFirst bytes f
   trace_first f formed found = first_of_all bytes f (stands_in_bytes f found.is) (λ g stands. found.first g (stands_in_trace g formed stands))
 
-  pub faultless : HasNone (IsFormFault bytes) → HasNone (IsTraceFault t) → IsFaultless bytes t
-  faultless formed none = record { spells = spells; none = λ f stands. none f (stands_in_trace f formed stands) }
+  pub faultless : HasNone (IsFormFault bytes) → HasNone (IsTraceFault t) → HasNone (Stands bytes)
+  faultless formed none = λ f stands. none f (stands_in_trace f formed stands)
 
 -- ---- the summary
 

@@ -14,7 +14,7 @@ use Rattle.eve_history.specs.Section.{settled}
 use Rattle.eve_history.specs.Told.{attempts_among, picked, placed_at, is_committed, is_discarded, history}
 use Rattle.eve_history.specs.Fates.{fates_from}
 use Rattle.eve_audit.proofs.Sections.{LiesIn, FatesAreAsItEnds}
-use Rattle.eve_audit.proofs.Kept.{none_at}
+use Rattle.eve_history.proofs.Rights.{none_at}
 
 -- ---- what holds of all holds at some place
 

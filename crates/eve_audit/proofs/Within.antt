@@ -14,7 +14,7 @@ use Rattle.eve_views.specs.declared.fault.Code.TheVariants as code
 use Rattle.eve_views.specs.declared.fault.Fault.{Fault}
 use Rattle.eve_history.specs.Faults.{IsOrderFault}
 use Rattle.eve_votes.specs.Faults.{StandsInVotes}
-use Rattle.eve_replies.specs.Faults.{StandsInReplies}
+use Rattle.eve_agree.specs.SentReplies.{StandsInReplies}
 use Rattle.eve_views.specs.Form.{StandsInForm}
 use Rattle.eve_audit.specs.Verdict.{Stands, in_form, in_trace, IsOwnFault, of_structure, of_records, of_chains, of_restores, of_tokens, IsTraceFault, of_votes, of_majorities, of_agreement, of_replies, in_orders, in_section, in_common}
 use Rattle.eve_audit.proofs.Sections.{LiesIn, FatesAreAsItEnds}

@@ -3,7 +3,7 @@ use Rattle.std.specs.Prelude.{◌≡◌, ℕ, Result, MatchResult, All}
 use Rattle.eve_grammar.specs.Trace.{Trace}
 use Rattle.eve_views.specs.declared.fault.Fault.{Fault}
 use Rattle.eve_history.specs.Told.{telling}
-use Rattle.eve_banks.specs.Settling.{settling}
+use Rattle.eve_chains.specs.Settling.{settling}
 use Rattle.eve_audit.specs.declared.replica.Piece.{Piece}
 use Rattle.eve_audit.specs.declared.slots.Finding.{Finding}
 use Rattle.eve_audit.specs.declared.slots.Slot.{Slot}

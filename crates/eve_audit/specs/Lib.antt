@@ -4,3 +4,5 @@ pub mod Findings
 pub mod Answer
 pub mod Where
 pub mod Alone
+pub mod Accepted
+pub mod Audited

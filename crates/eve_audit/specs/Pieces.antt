@@ -1,20 +1,19 @@
 -- What is found replica by replica, and of all replicas together.
-use Rattle.std.specs.Prelude.{◌≡◌, ℕ, ◌<◌, ◌≤◌, ◌-◌, ◌^◌, ◌⊎◌, List, length, map, take, Option, Some, None}
+use Rattle.std.specs.Prelude.{◌≡◌, ℕ, ◌<◌, ◌≤◌, ◌-◌, ◌^◌, ◌⊎◌, List, map, take, Option, Some, None}
 use Rattle.eve_grammar.specs.Trace.{Trace}
 use Rattle.eve_grammar.specs.Frames.{sections_of}
 use Rattle.eve_views.specs.declared.fault.Fault.{Fault}
-use Rattle.eve_views.specs.Form.{HasNone}
-use Rattle.eve_history.specs.Faults.{IsOrderFault}
-use Rattle.eve_history.specs.Told.{Telling, telling, IsRightSection}
-use Rattle.eve_serial.specs.Sound.{SettledAreSound}
-use Rattle.eve_banks.specs.Settling.{Settling, settling}
-use Rattle.eve_restores.specs.Tables.{RestoresAreRight}
-use Rattle.eve_tokens.specs.Faults.{TokensAreDue}
-use Rattle.eve_votes.specs.Faults.{IsVoteFault, AreVotesSound}
-use Rattle.eve_majorities.specs.Faults.{AllAreBacked, IsMajorityFault}
-use Rattle.eve_agree.specs.Faults.{ReplicasAgree, IsOutcomeFault}
-use Rattle.eve_replies.specs.Faults.{AllReplied, IsReplyFault}
-use Rattle.eve_audit.specs.Verdict.{IsOwnFault, IsFaultBelow, Precedes, last_of}
+use Rattle.eve_views.specs.Form.{Precedes, HasNone}
+use Rattle.eve_history.specs.Told.{Telling, telling, history, IsRightSection}
+use Rattle.eve_chains.specs.Sound.{SettledAreSound}
+use Rattle.eve_chains.specs.Settling.{Settling, settling}
+use Rattle.eve_agree.specs.Tables.{RestoresAreRight}
+use Rattle.eve_agree.specs.DueTokens.{TokensAreDue}
+use Rattle.eve_votes.specs.Faults.{AreVotesSound}
+use Rattle.eve_agree.specs.Majority.{AllAreBacked}
+use Rattle.eve_agree.specs.Agreement.{ReplicasAgree}
+use Rattle.eve_agree.specs.SentReplies.{AllReplied}
+use Rattle.eve_audit.specs.Verdict.{IsFaultBelow}
 
 -- of some faults the one that precedes every other
 pub record IsFirstOf (S : Fault → Type 0) (f : Fault) : Type 0 where
@@ -40,6 +39,10 @@ pub record AreKept (t : Trace) (n : ℕ) (told : List Telling) (wrote : List Set
   pub histories : told ≡ map (λ s. telling t s.0) (take n (sections_of t))
   pub settled : wrote ≡ map (λ s. settling t s.0) (take n (sections_of t))
   pub sound : (e : ℕ) → e < n → IsSoundReplica t e
+
+-- replica e's last committed number
+abbrev pub last_of : Trace → ℕ → ℕ
+last_of t e = (history t e).last
 
 -- the least last committed number of the replicas below n, and the greatest of 32 bits where there is none
 pub record IsLeastBelow (t : Trace) (n c : ℕ) : Type 0 where

@@ -1,21 +1,20 @@
 -- The verdict on bytes. docs/MODEL.md, "Verdict".
-use Rattle.std.specs.Prelude.{◌≡◌, ℕ, ◌<◌, ◌≤◌, List, length, ◌⊎◌, ⊤}
+use Rattle.std.specs.Prelude.{◌≡◌, ℕ, ◌<◌, ◌≤◌, List, length, ⊤}
 use Rattle.eve_grammar.specs.Trace.{Trace}
 use Rattle.eve_grammar.specs.Limits.{Spells}
 use Rattle.eve_views.specs.Code.{phase_of}
-use Rattle.eve_views.specs.Form.{IsFormFault, IsUpTo, HasNone}
+use Rattle.eve_views.specs.Form.{IsFormFault, Precedes, HasNone}
 use Rattle.eve_views.specs.declared.fault.Fault.{Fault}
 use Rattle.eve_history.specs.Faults.{IsOrderFault, IsStructureFault}
 use Rattle.eve_history.specs.Told.{history}
-use Rattle.eve_serial.specs.Faults.{IsRecordFault, IsChainFault}
-use Rattle.eve_restores.specs.Faults.{IsRestoreFault}
-use Rattle.eve_tokens.specs.Faults.{IsTokenFault}
+use Rattle.eve_chains.specs.Faults.{IsRecordFault, IsChainFault}
+use Rattle.eve_agree.specs.Restores.{IsRestoreFault}
+use Rattle.eve_agree.specs.DueTokens.{IsTokenFault}
 use Rattle.eve_votes.specs.Faults.{IsVoteFault}
-use Rattle.eve_majorities.specs.Faults.{IsMajorityFault}
-use Rattle.eve_agree.specs.Faults.{IsOutcomeFault}
-use Rattle.eve_replies.specs.Faults.{IsReplyFault}
-use Rattle.eve_theorem.specs.Audited.{IsAudited}
-use Rattle.eve_audit.specs.Where.{NamesItsSection}
+use Rattle.eve_agree.specs.Majority.{IsMajorityFault}
+use Rattle.eve_agree.specs.Agreement.{IsOutcomeFault}
+use Rattle.eve_agree.specs.SentReplies.{IsReplyFault}
+use Rattle.eve_audit.specs.Audited.{IsAudited}
 use Rattle.eve_audit.specs.declared.verdict.Summary.{Summary}
 use Rattle.eve_audit.specs.declared.verdict.Verdict.{Verdict}
 use Rattle.eve_audit.specs.declared.verdict.Verdict.TheVariants.{Yes, No}
@@ -50,10 +49,6 @@ pub data Stands (bytes : List ℕ) (f : Fault) : Type 0 where
   in_form : IsFormFault bytes f → Stands bytes f
   in_trace : (t : Trace) → Spells bytes t → IsTraceFault t f → Stands bytes f
 
--- by phase, then offset, then number
-abbrev pub Precedes : Fault → Fault → Type 0
-Precedes f g = (phase_of f.code < phase_of g.code) ⊎ ((phase_of f.code ≡ phase_of g.code) × IsUpTo f g)
-
 -- A fault of an earlier phase keeps another from being judged. In phases 3 to 7 a replica is judged by itself: where
 -- both are of these, only a fault of the same replica does.
 abbrev pub Hinders : Fault → Fault → Type 0
@@ -68,25 +63,16 @@ pub record IsFirst (bytes : List ℕ) (f : Fault) : Type 0 where
   pub judged : IsJudged bytes f
   pub first : (g : Fault) → IsJudged bytes g → Precedes f g
 
--- replica e's last committed number
-abbrev pub last_of : Trace → ℕ → ℕ
-last_of t e = (history t e).last
-
 -- how many replicas and batches there are, and the least last committed number over the replicas
 pub record IsSummary (t : Trace) (s : Summary) : Type 0 where
   pub replicas : s.replicas ≡ length t.sections
   pub batches : s.batches ≡ length t.batches
-  pub least : (e : ℕ) → e < length t.sections → s.committed ≤ last_of t e
-  pub reached : (e : ℕ) × (e < length t.sections) × (last_of t e ≡ s.committed)
+  pub least : (e : ℕ) → e < length t.sections → s.committed ≤ (history t e).last
+  pub reached : (e : ℕ) × (e < length t.sections) × ((history t e).last ≡ s.committed)
 
--- the bytes are a trace in which no fault stands
-pub record IsFaultless (bytes : List ℕ) (t : Trace) : Type 0 where
-  pub spells : Spells bytes t
-  pub none : HasNone (Stands bytes)
-
--- the first fault, or yes where there is none
+-- the first fault, or yes where the bytes are a trace and no fault stands
 abbrev pub IsVerdict : List ℕ → Verdict → Type 0
-IsVerdict bytes (Yes s) = (t : Trace) × IsFaultless bytes t × IsSummary t s
+IsVerdict bytes (Yes s) = (t : Trace) × Spells bytes t × HasNone (Stands bytes) × IsSummary t s
 IsVerdict bytes (No f) = IsFirst bytes f
 
 -- the bytes are a trace that is audited
@@ -100,12 +86,7 @@ abbrev pub IsYesOfAudited : List ℕ → Verdict → Type 0
 IsYesOfAudited bytes (Yes s) = SpellsAudited bytes
 IsYesOfAudited bytes (No f) = ⊤
 
--- a no names a byte of these, or the one behind them
-abbrev pub LiesWithin : List ℕ → Verdict → Type 0
-LiesWithin bytes (Yes s) = ⊤
-LiesWithin bytes (No f) = f.offset ≤ length bytes
-
--- a no names the replica in whose section it lies, and none where it lies in none
-abbrev pub NamesReplica : List ℕ → Verdict → Type 0
-NamesReplica bytes (Yes s) = ⊤
-NamesReplica bytes (No f) = NamesItsSection bytes f
+-- a fact about the fault that a no names
+abbrev pub IfNo : Verdict → (Fault → Type 0) → Type 0
+IfNo (Yes s) P = ⊤
+IfNo (No f) P = P f

@@ -5,25 +5,26 @@ ghost use Rattle.eve_views.specs.Form.{IfFound, HasNone};
 ghost use Rattle.eve_views.specs.Fronts.{whole};
 ghost use Rattle.eve_history.specs.Faults.{IsOrderFault};
 ghost use Rattle.eve_history.specs.Told.{names_of};
-ghost use Rattle.eve_theorem.specs.Accepted.{IsAccepted};
+ghost use Rattle.eve_audit.specs.Accepted.{IsAccepted};
 ghost use Rattle.eve_audit.specs.Answer.{IsAnswer, IsRead};
 ghost use Rattle.eve_audit.specs.Findings.{AreTrue};
-ghost use Rattle.eve_audit.specs.Verdict.{IsSummary, IsVerdict, IsYesOfAudited, LiesWithin, NamesReplica, IsTraceFault};
+ghost use Rattle.eve_audit.specs.Verdict.{IsSummary, IsVerdict, IsYesOfAudited, IfNo, IsTraceFault};
+ghost use Rattle.eve_audit.specs.Where.{NamesItsSection};
 ghost use Rattle.eve_audit.specs.Pieces.{IsFirstOf};
 ghost use Rattle.eve_audit.specs.declared.verdict.Verdict.TheVariants.{No};
 
+use crate::laws::accepted_traces_are_audited;
 use crate::replicas::judge_replicas;
 use crate::slots::Slot;
 use crate::together::judge_together;
 use crate::verdict::{AuditFault, Summary, Verdict};
 use crate::workers::judge_side_by_side;
 use eve_accounts::Names;
+use eve_chains::laws::requests_take_effect_once;
 use eve_grammar::laws::bytes_spell_one_trace;
 use eve_history::laws::{fates_are_as_the_section_ends, faults_lie_within};
 use eve_history::orders;
 use eve_recorder::Gate;
-use eve_serial::laws::requests_take_effect_once;
-use eve_theorem::accepted_traces_are_audited;
 use eve_views::{CheckFault, Trace};
 use std::alloc::{AllocError, Global};
 use std::hash::RandomState;
@@ -129,8 +130,8 @@ pub fn audit_one<R: Threads + Sync>(
 ) -> Result<Verdict, AuditFault>
     ensures verdict { IfOk result (IsVerdict bytes.now) }
     ensures yes { IfOk result (IsYesOfAudited bytes.now) }
-    ensures within { IfOk result (LiesWithin bytes.now) }
-    ensures replica { IfOk result (NamesReplica bytes.now) }
+    ensures within { IfOk result (λ v. IfNo v (λ f. f.offset ≤ length bytes.now)) }
+    ensures replica { IfOk result (λ v. IfNo v (NamesItsSection bytes.now)) }
 {
     match open(alloc, bytes, random) {
         Ok(opened) => verdict_on(rt, alloc, &opened.trace, &opened.names, &mut []),
@@ -157,8 +158,8 @@ pub fn audit<R: Threads + Wait + Sync, G: Gate>(
     requires { (1 ≤ workers) × (workers ≤ 16) }
     ensures verdict { IfOk result (IsVerdict bytes.now) }
     ensures yes { IfOk result (IsYesOfAudited bytes.now) }
-    ensures within { IfOk result (LiesWithin bytes.now) }
-    ensures replica { IfOk result (NamesReplica bytes.now) }
+    ensures within { IfOk result (λ v. IfNo v (λ f. f.offset ≤ length bytes.now)) }
+    ensures replica { IfOk result (λ v. IfNo v (NamesItsSection bytes.now)) }
 {
     let opened = match open(alloc, bytes, random) {
         Ok(opened) => opened,

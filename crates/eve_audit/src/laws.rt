@@ -4,13 +4,19 @@ ghost use Rattle.std.specs.Prelude.{◌≡◌, ◌≤◌, ◌<◌, ◌^◌, ℕ,
 ghost use Rattle.eve_grammar.specs.Trace.{Trace};
 ghost use Rattle.eve_grammar.specs.Limits.{Spells};
 ghost use Rattle.eve_views.specs.declared.fault.Fault.{Fault};
-ghost use Rattle.eve_theorem.specs.Audited.{IsAudited};
+ghost use Rattle.eve_audit.specs.Audited.{IsAudited};
 ghost use Rattle.eve_audit.specs.declared.verdict.Summary.{Summary};
 ghost use Rattle.eve_audit.specs.declared.verdict.Verdict.{Verdict};
 ghost use Rattle.eve_audit.specs.declared.verdict.Verdict.TheVariants.{Yes};
 ghost use Rattle.eve_audit.specs.Verdict.{Stands, IsOwnFault, IsVerdict, SpellsAudited};
 ghost use Rattle.eve_audit.specs.Alone.{AgreeFor};
 ghost use Rattle.eve_audit.specs.Where.{NamesItsSection};
+ghost use Rattle.eve_audit.specs.Accepted.{IsAccepted};
+
+use eve_agree::laws::rollbacks_restore_what_is_committed;
+use eve_chains::laws::{
+    committed_orders_keep_the_groups, requests_take_effect_once, serial_order_of_a_section,
+};
 
 /// Bytes have one verdict at most.
 ///
@@ -29,6 +35,7 @@ pub fn bytes_have_a_verdict()
     ensures { (bytes : List ℕ) → ((i : ℕ) → slice_index_or bytes i 0 < 2 ^ 8) → (v : Verdict) × IsVerdict bytes v }
 {
     eve_grammar::laws::bytes_spell_one_trace();
+    eve_views::laws::form_is_decided();
     eve_history::laws::faults_lie_within();
     eve_history::laws::fates_are_as_the_section_ends();
     eve_smallbank::laws::requests_fit();
@@ -54,6 +61,7 @@ pub fn standing_faults_name_their_section()
         → NamesItsSection bytes f }
 {
     eve_grammar::laws::bytes_spell_one_trace();
+    eve_views::laws::form_is_decided();
     eve_history::laws::fates_are_as_the_section_ends();
 }
 
@@ -77,8 +85,21 @@ pub fn a_yes_is_audited()
     eve_grammar::laws::bytes_spell_one_trace();
     eve_smallbank::laws::requests_fit();
     eve_smallbank::laws::fitting_records_are_unique();
-    eve_serial::laws::requests_take_effect_once();
-    eve_serial::laws::faults_tell_what_is_wrong();
-    eve_serial::laws::sound_attempts_fit_and_see();
-    eve_theorem::accepted_traces_are_audited();
+    eve_chains::laws::requests_take_effect_once();
+    eve_chains::laws::faults_tell_what_is_wrong();
+    eve_chains::laws::sound_attempts_fit_and_see();
+    crate::laws::accepted_traces_are_audited();
+}
+
+/// A trace in which no phase finds a fault is one-thread SmallBank, batch by batch, and all else that a yes says. The body
+/// only names the laws that it follows from: the contract is the law.
+///
+/// docs/MODEL.md, "The audit theorem".
+pub fn accepted_traces_are_audited()
+    ensures { (t : Trace) → IsAccepted t → IsAudited t }
+{
+    serial_order_of_a_section();
+    committed_orders_keep_the_groups();
+    requests_take_effect_once();
+    rollbacks_restore_what_is_committed();
 }

@@ -3,7 +3,6 @@
 
 mod judge;
 pub mod laws;
-mod precedence;
 mod replica;
 mod replicas;
 mod share;

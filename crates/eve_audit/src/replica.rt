@@ -4,18 +4,16 @@ ghost use Rattle.std.specs.Prelude.{◌≡◌, ◌<◌, IfOk, IfErr, length};
 ghost use Rattle.eve_views.specs.Form.{IfFound, HasNone};
 ghost use Rattle.eve_views.specs.Fronts.{whole};
 ghost use Rattle.eve_history.specs.Faults.{IsStructureFault};
-ghost use Rattle.eve_history.specs.Told.{telling, names_of, IsRightSection};
-ghost use Rattle.eve_banks.specs.Settling.{settling};
+ghost use Rattle.eve_history.specs.Told.{telling, names_of};
+ghost use Rattle.eve_chains.specs.Settling.{settling};
 ghost use Rattle.eve_audit.specs.Findings.{IsPieceOf};
 ghost use Rattle.eve_audit.specs.Verdict.{IsOwnFault};
 ghost use Rattle.eve_audit.specs.Pieces.{IsFirstOf, IsSoundReplica};
 
 use eve_accounts::Names;
-use eve_banks::Settled;
-use eve_chains::check;
+use eve_agree::{rollbacks, tokens};
+use eve_chains::{Settled, check};
 use eve_history::History;
-use eve_restores::rollbacks;
-use eve_tokens::tokens;
 use eve_views::{CheckFault, Trace};
 use std::alloc::Global;
 use std::thread::Threads;
@@ -38,7 +36,6 @@ fn settle<'a, R: Threads + Sync>(
     history: &History<'a>,
 ) -> Result<Settled<'a>, CheckFault>
     requires history { history.now ≡ telling (whole trace.now) history.now.replica }
-    requires right { IsRightSection (whole trace.now) history.now.replica }
     requires none { HasNone (IsStructureFault (whole trace.now) history.now.replica) }
     requires names { names.now.items ≡ names_of (whole trace.now) }
     ensures settled { IfOk result (λ settled. settled ≡ settling (whole trace.now) history.now.replica) }
@@ -46,6 +43,7 @@ fn settle<'a, R: Threads + Sync>(
     ensures none { IfOk result (λ _. HasNone (IsOwnFault (whole trace.now) history.now.replica)) }
     ensures first { IfErr result (λ why. IfFound why (IsFirstOf (IsOwnFault (whole trace.now) history.now.replica))) }
 {
+    history.is_right();
     let settled = match check(rt, alloc, history, trace, names) {
         Ok(settled) => settled,
         Err(why) => return Err(why),

@@ -4,18 +4,17 @@ ghost use Rattle.std.specs.Prelude.{◌≡◌, ◌++◌, ◌∷◌, [], ℕ, IfO
 ghost use Rattle.eve_views.specs.Form.{IfFound, HasNone};
 ghost use Rattle.eve_views.specs.Fronts.{whole};
 ghost use Rattle.eve_history.specs.Told.{names_of, tellings};
-ghost use Rattle.eve_banks.specs.Settling.{settlings};
+ghost use Rattle.eve_chains.specs.Settling.{settlings};
 ghost use Rattle.eve_audit.specs.Findings.{AreTrue, IsAnswerOf, IsPieceOf};
 ghost use Rattle.eve_audit.specs.Verdict.{IsOwnFault, IsFaultBelow};
 ghost use Rattle.eve_audit.specs.Pieces.{IsFirstOf, IsSoundReplica, IsLeastBelow};
 
-use crate::precedence::first_of;
 use crate::replica::{Piece, judge_replica};
 use crate::slots::Slot;
 use eve_accounts::Names;
-use eve_banks::Settled;
+use eve_chains::Settled;
 use eve_history::History;
-use eve_views::{CheckFault, Fault, Trace};
+use eve_views::{CheckFault, Fault, Trace, first_of};
 use std::alloc::{AllocError, Global};
 use std::thread::Threads;
 
@@ -112,10 +111,7 @@ pub fn judge_replicas<'a, R: Threads + Sync>(
         match judge_missing(rt, alloc, trace, names, slots, e) {
             Ok(piece) => keep(&mut kept, piece)?,
             Err(CheckFault::Found(fault)) => {
-                first = Some(match first {
-                    Some(earlier) => first_of(earlier, fault),
-                    None => fault,
-                });
+                first = first_of(first, Some(fault));
             }
             Err(CheckFault::Memory) => return Err(CheckFault::Memory),
         }

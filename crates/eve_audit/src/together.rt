@@ -3,16 +3,14 @@
 ghost use Rattle.std.specs.Prelude.{◌≡◌, ℕ, IfOk, IfErr};
 ghost use Rattle.eve_views.specs.Form.{IfFound, HasNone};
 ghost use Rattle.eve_views.specs.Fronts.{whole};
-ghost use Rattle.eve_history.specs.Told.{tellings, IsRightSection};
-ghost use Rattle.eve_banks.specs.Settling.{settlings};
+ghost use Rattle.eve_history.specs.Told.{tellings};
+ghost use Rattle.eve_chains.specs.Settling.{settlings};
 ghost use Rattle.eve_audit.specs.Verdict.{IsCommonFault};
 ghost use Rattle.eve_audit.specs.Pieces.{IsFirstOf, IsSoundTogether};
 
-use eve_agree::equal_balances;
-use eve_banks::Settled;
+use eve_agree::{equal_balances, majorities, replies};
+use eve_chains::Settled;
 use eve_history::History;
-use eve_majorities::majorities;
-use eve_replies::replies;
 use eve_views::{CheckFault, Trace};
 use eve_votes::Tally;
 use std::alloc::Global;
@@ -27,7 +25,6 @@ pub fn judge_together(
 ) -> Result<(), CheckFault>
     requires histories { histories.now ≡ tellings (whole trace.now) }
     requires settled { settled.now ≡ settlings (whole trace.now) }
-    requires right { (e : ℕ) → IsRightSection (whole trace.now) e }
     ensures sound { IfOk result (λ _. IsSoundTogether (whole trace.now)) }
     ensures none { IfOk result (λ _. HasNone (IsCommonFault (whole trace.now))) }
     ensures first { IfErr result (λ why. IfFound why (IsFirstOf (IsCommonFault (whole trace.now)))) }

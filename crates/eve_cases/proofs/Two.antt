@@ -7,7 +7,7 @@ use Rattle.eve_grammar.specs.Frames.{OfReplica}
 use Rattle.eve_grammar.specs.Spelling.{frame_text, step_text, located, section_start, steps_at}
 use Rattle.eve_history.specs.Section.{start, are_right}
 use Rattle.eve_history.specs.Told.{Telling, telling, tellings, IsRightSection}
-use Rattle.eve_banks.specs.Settling.{Settling, settling, settlings}
+use Rattle.eve_chains.specs.Settling.{Settling, settling, settlings}
 
 both : {A B : Type 0} (h : ℕ → B) (xs : List A) → length xs ≡ 2 → map (λ s. h s.0) (enumerate_from 0 xs) ≡ h 0 ∷ h 1 ∷ []
 both h [] two = absurd (omega arith)

@@ -3,7 +3,7 @@
 use crate::texts::push_hex;
 use eve_accounts::Balances;
 use eve_agree::equal_balances;
-use eve_banks::Settled;
+use eve_chains::Settled;
 use eve_frames::VoteView;
 use eve_grammar::Choice;
 use eve_history::History;

@@ -7,6 +7,7 @@
 //! - `fronts FILE`: what it says of each front of the file, as it is and with its own total.
 //! - `lengths FILE AT`: what it says where the frame at byte AT claims another length of its body.
 //! - `bytes FILE`: with which values of each byte it says yes.
+//! - `each-one-higher FILE`: the verdict with each byte one higher, modulo 256, if two workers come to the same.
 //! - `meet FILE`: the audit by two workers, each held at its replica until the other has come to its own.
 //! - `agree FILE`: what is found of two replicas together, whatever was voted.
 //! - `tell FILE CHANGE..`: its frames, the parts that are lent, what is found of its replicas and votes, and what
@@ -51,6 +52,7 @@ fn answer_of<R: AllocGlobal + RandomSource + Threads + Wait + Sync>(
         "fronts" => sweeps::fronts(rt, bytes),
         "lengths" => sweeps::lengths(rt, bytes, more.first().context("a place")?.parse()?),
         "bytes" => sweeps::bytes(rt, bytes),
+        "each-one-higher" => sweeps::each_one_higher(rt, bytes),
         "agree" => findings::agreed(rt, bytes),
         "meet" => meeting::meet(rt, bytes),
         "tell" => findings::told(rt, change::changed(rt.alloc(), bytes, more)?.as_slice()),

@@ -3,8 +3,9 @@
 use crate::audits::by_one;
 use crate::change::set_total;
 use crate::ranges::{Said, ranges};
-use anyhow::{Context, Result};
-use eve_audit::{Verdict, audit_one};
+use anyhow::{Context, Result, bail};
+use eve_audit::{Verdict, audit, audit_one};
+use eve_recorder::OpenGate;
 use std::hash::RandomState;
 use std::random::RandomSource;
 use std::sync::Wait;
@@ -60,7 +61,8 @@ pub fn lengths<R: AllocGlobal + RandomSource + Threads + Wait + Sync>(
     Ok(text)
 }
 
-/// With how many values of a byte the verdict is yes, and the first and the last of them.
+/// With how many values of a byte the verdict is yes, and the first and the last of them. With the others it is no, at a
+/// place within the bytes or at their end.
 fn accepted_values<R: AllocGlobal + RandomSource + Threads + Wait + Sync>(
     rt: &R,
     copy: &mut Vec<u8>,
@@ -71,8 +73,10 @@ fn accepted_values<R: AllocGlobal + RandomSource + Threads + Wait + Sync>(
         let byte = copy.get_mut(place).context("a byte")?;
         *byte = value;
         let random = RandomState::new(rt)?;
-        if let Ok(Verdict::Yes(_)) = audit_one(rt, rt.alloc(), copy.as_slice(), random) {
-            right.push(value)?;
+        match audit_one(rt, rt.alloc(), copy.as_slice(), random) {
+            Ok(Verdict::Yes(_)) => right.push(value)?,
+            Ok(Verdict::No(fault)) if fault.offset <= copy.len() as u64 => {}
+            _ => bail!("no verdict within the bytes"),
         }
     }
     let count = right.len();
@@ -94,6 +98,39 @@ pub fn bytes<R: AllocGlobal + RandomSource + Threads + Wait + Sync>(
     for number in 0..bytes.len() {
         let mut copy = bytes.to_vec(rt.alloc())?;
         let line = accepted_values(rt, &mut copy, number)?;
+        all.push(Said { number, line })?;
+    }
+    ranges(&mut text, all.as_slice())?;
+    Ok(text)
+}
+
+/// The verdict of one thread, where two workers come to the same.
+fn by_one_and_two<R: AllocGlobal + RandomSource + Threads + Wait + Sync>(
+    rt: &R,
+    bytes: &[u8],
+) -> Result<&'static str> {
+    let alloc = rt.alloc();
+    let one = audit_one(rt, alloc, bytes, RandomState::new(rt)?);
+    let two = audit(rt, alloc, bytes, 2, RandomState::new(rt)?, &OpenGate);
+    match (one, two) {
+        (Ok(one), Ok(two)) if one != two => Ok("two workers say something else"),
+        (Ok(Verdict::Yes(_)), Ok(_)) => Ok("yes"),
+        (Ok(Verdict::No(_)), Ok(_)) => Ok("no"),
+        _ => bail!("out of memory"),
+    }
+}
+
+/// What is said where a byte is one higher, modulo 256, the others left as they are.
+pub fn each_one_higher<R: AllocGlobal + RandomSource + Threads + Wait + Sync>(
+    rt: &R,
+    bytes: &[u8],
+) -> Result<String> {
+    let mut text = "each byte one higher".to_string(rt.alloc())?;
+    let mut all = Vec::new(rt.alloc());
+    for number in 0..bytes.len() {
+        let mut copy = bytes.to_vec(rt.alloc())?;
+        copy[number] = copy[number].wrapping_add(1);
+        let line = by_one_and_two(rt, copy.as_slice())?.to_string(rt.alloc())?;
         all.push(Said { number, line })?;
     }
     ranges(&mut text, all.as_slice())?;

@@ -1,23 +1,23 @@
 -- What is found in settled attempts, one after another.
-use Rattle.std.proofs.Common.{◌≡◌, ℕ, ◌<◌, ◌≤◌, ◌==◌, nat_lt, Bool, true, false, cond, ◌||◌, ◌&&◌, List, [], ◌∷◌, ◌++◌, map, Option, Some, None, refl, sym, subst, ap, ◌∙◌, inl, inr, ◌⊎◌, append_assoc, append-nil, arith}
+use Rattle.std.proofs.Common.{◌≡◌, ℕ, ◌≤◌, Bool, true, false, cond, List, [], ◌∷◌, ◌++◌, map, Option, Some, None, refl, sym, subst, ap, ◌∙◌, inl, inr, ◌⊎◌, append_assoc, append-nil, arith}
 use Rattle.std.specs.List.{AllByRecursion}
-use Rattle.std.proofs.lemmas.Bool.{cases_lt, and_parts, and_from, or_parts, eqb-true, eq-eqb, ltb-true, lt-ltb, false≢true}
 use Rattle.eve_smallbank.specs.declared.entry.Entry.{Entry}
 use Rattle.eve_smallbank.specs.Chain.{Table, Sees as SeesEntry, table_after}
 use Rattle.eve_smallbank.proofs.Members.{all_in, in_middle, in_around, in_cases}
 use Rattle.eve_grammar.specs.Trace.{Access, Attempt, Trace}
-use Rattle.eve_views.specs.Code.{number_of}
+use Rattle.eve_views.specs.Code.{number_of, phase_of}
 use Rattle.eve_views.specs.Form.{IsUpTo, SomePlace}
 use Rattle.eve_views.specs.declared.fault.Code.{Code}
 use Rattle.eve_views.specs.declared.fault.Code.TheVariants as code
 use Rattle.eve_views.specs.declared.fault.Fault.{Fault}
 use Rattle.eve_history.specs.Section.{Placed}
-use Rattle.eve_serial.specs.Visible.{table_along}
-use Rattle.eve_serial.specs.Along.{entries_along, SeesOther, IsWrongAlong, AllSee, IsFirstAlong, is_before, first_of}
-use Rattle.eve_serial.proofs.AlongLaws.{table_after-append}
-use Rattle.eve_serial.proofs.Faultless.{in_place, place_of}
+use Rattle.eve_chains.specs.Visible.{table_along}
+use Rattle.eve_chains.specs.Along.{entries_along, SeesOther, IsWrongAlong, AllSee, IsFirstAlong}
+use Rattle.eve_chains.proofs.AlongLaws.{table_after-append, wrong_phase, before_up, not_before_up}
+use Rattle.eve_chains.proofs.Faultless.{in_place, place_of}
 use Rattle.eve_chains.specs.Walking.{entries_of, AreJudged, Sees, IsWrongIn, IsFirstIn, ArePlaced}
 use Rattle.eve_chains.proofs.Loading.{own}
+use Rattle.eve_views.specs.First.{is_before, first_of}
 
 -- ---- what sees what it must is not wrong
 
@@ -38,37 +38,6 @@ nothing_wrong e table xs g all wrong =
     (sees_at table wrong.stands.before wrong.stands.item wrong.stands.rest (subst (AllSee table) wrong.stands.is all)) wrong.stands.holds.1
 
 -- ---- the order of faults
-
-before_up : (f g : Fault) → is_before f g ≡ true → IsUpTo f g
-before_up f g h = by_offset (nat_lt f.offset g.offset) refl h
-  where
-    by_offset : (b : Bool) → nat_lt f.offset g.offset ≡ b → (b || ((f.offset == g.offset) && nat_lt (number_of f.code) (number_of g.code))) ≡ true → IsUpTo f g
-    by_offset true less h = inl (ltb-true f.offset g.offset less)
-    by_offset false more h =
-        let parts = and_parts (f.offset == g.offset) (nat_lt (number_of f.code) (number_of g.code)) h in
-        let number : number_of f.code < number_of g.code = ltb-true (number_of f.code) (number_of g.code) parts.1 in
-        inr (eqb-true f.offset g.offset parts.0, omega arith)
-
-not_before_up : (f g : Fault) → is_before f g ≡ false → IsUpTo g f
-not_before_up f g h =
-    let parts = or_parts (nat_lt f.offset g.offset) ((f.offset == g.offset) && nat_lt (number_of f.code) (number_of g.code)) h in
-    elim (cases_lt g.offset f.offset) [
-      | inl less ↦ inl less
-      | inr more ↦ elim (cases_lt f.offset g.offset) [
-        | inl less ↦ absurd (false≢true (sym parts.0 ∙ lt-ltb f.offset g.offset less))
-        | inr up ↦ same parts.1 (both more up)
-      ]
-    ]
-  where
-    both : f.offset ≤ g.offset → g.offset ≤ f.offset → g.offset ≡ f.offset
-    both m n = omega arith
-
-    same : ((f.offset == g.offset) && nat_lt (number_of f.code) (number_of g.code)) ≡ false → g.offset ≡ f.offset → IsUpTo g f
-    same none e =
-        elim (cases_lt (number_of f.code) (number_of g.code)) [
-          | inl less ↦ absurd (false≢true (sym none ∙ and_from (f.offset == g.offset) (nat_lt (number_of f.code) (number_of g.code)) (eq-eqb f.offset g.offset (sym e)) (lt-ltb (number_of f.code) (number_of g.code) less)))
-          | inr up ↦ inr (e, up)
-        ]
 
 up_through : (f g h : Fault) → IsUpTo f g → IsUpTo g h → IsUpTo f h
 up_through f g h (inl a) (inl b) = inl (omega arith)
@@ -102,18 +71,24 @@ module _ (t : Trace) (e : ℕ) (ps : List Placed) (p : Placed) (qs : List Placed
   nowhere : (g : Fault) → AllByRecursion (Sees t) (ps ++ qs) → Somewhere (ps ++ qs) g → ⊥
   nowhere g all place = nothing_wrong e (table_along t place.item.path) (own place.item) g (all_in (Sees t) all (in_place (ps ++ qs) place)) place.holds
 
+  found_phase : (g : Fault) → IsFirstAlong e (table_along t p.path) (own p) (Some g) → phase_of g.code ≡ 5
+  found_phase g found = wrong_phase e (table_along t p.path) (own p) g found.0
+
+  first_phase : (f : Fault) → IsFirstIn t e (ps ++ qs) (Some f) → phase_of f.code ≡ 5
+  first_phase f first = let place = first.0 in wrong_phase e (table_along t place.item.path) (own place.item) f place.holds
+
   choose : (f g : Fault) → IsFirstIn t e (ps ++ qs) (Some f) → IsFirstAlong e (table_along t p.path) (own p) (Some g) → (b : Bool) → is_before g f ≡ b → IsFirstIn t e (ps ++ p ∷ qs) (cond b (Some g) (Some f))
   choose f g first found true before = (
     middle g found.0,
     λ k place. elim (which k place) [
       | inl wrong ↦ found.1 k wrong
-      | inr other ↦ up_through g f k (before_up g f before) (first.1 k other)
+      | inr other ↦ up_through g f k (before_up g f (found_phase g found) (first_phase f first) before) (first.1 k other)
     ],
   )
   choose f g first found false behind = (
     around f first.0,
     λ k place. elim (which k place) [
-      | inl wrong ↦ up_through f g k (not_before_up g f behind) (found.1 k wrong)
+      | inl wrong ↦ up_through f g k (not_before_up g f (found_phase g found) (first_phase f first) behind) (found.1 k wrong)
       | inr other ↦ first.1 k other
     ],
   )

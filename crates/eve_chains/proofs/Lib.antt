@@ -7,3 +7,28 @@ mod RowWalks
 mod Meeting
 mod Cuts
 mod RowFaults
+pub mod Permutations
+pub mod Distinct
+pub mod Linked
+pub mod SerialSections
+pub mod SettledAttempts
+pub mod Soundness
+pub mod Faultless
+pub mod Once
+pub mod Arrivals
+pub mod Entries
+pub mod TableLaws
+pub mod AlongLaws
+pub mod Walks
+pub mod Advancing
+mod WorkedCases
+pub mod Nearest
+pub mod Least
+pub mod Attempts
+pub mod Judged
+pub mod Pieces
+mod PartsInOrder
+mod Committed
+mod Copying
+mod AdvancingBanks
+mod OpeningRows

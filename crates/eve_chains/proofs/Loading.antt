@@ -12,8 +12,8 @@ use Rattle.eve_grammar.specs.Limits.{is_number, is_entry, is_access, is_attempt,
 use Rattle.eve_frames.specs.declared.access.AccessView.{AccessView}
 use Rattle.eve_history.specs.Section.{Placed}
 use Rattle.eve_history.specs.Told.{Ran, ran, Telling, access_with, ordered, attempts_among, placed_at}
-use Rattle.eve_serial.specs.Along.{said, all_said, AreWithin}
-use Rattle.eve_serial.proofs.Linked.{some_injective, none≢some}
+use Rattle.eve_chains.specs.Along.{said, all_said, AreWithin}
+use Rattle.eve_chains.proofs.Linked.{some_injective, none≢some}
 use Rattle.eve_chains.specs.Walking.{records_of, records_from}
 
 -- ---- one attempt's records

@@ -14,11 +14,11 @@ use Rattle.eve_history.specs.declared.fate.Fate.{Fate}
 use Rattle.eve_history.specs.declared.fate.Fate.TheVariants.{Committed, Discarded, Open}
 use Rattle.eve_history.specs.Section.{Placed, settled}
 use Rattle.eve_history.specs.Told.{history, IsRightSection, is_committed, is_discarded}
-use Rattle.eve_serial.specs.Visible.{opening_table, table_along}
-use Rattle.eve_serial.specs.Along.{entries_along}
-use Rattle.eve_serial.proofs.AlongLaws.{table_after-append}
-use Rattle.eve_serial.proofs.Distinct.{in_map, in_cons, in_left, in_right}
-use Rattle.eve_serial.proofs.Settled.{all-append}
+use Rattle.eve_chains.specs.Visible.{opening_table, table_along}
+use Rattle.eve_chains.specs.Along.{entries_along}
+use Rattle.eve_chains.proofs.AlongLaws.{table_after-append}
+use Rattle.eve_chains.proofs.Distinct.{in_map, in_cons, in_left, in_right}
+use Rattle.eve_chains.proofs.SettledAttempts.{all-append}
 use Rattle.eve_chains.specs.Rows.{Fated, told_of, counts_in, counting, settles, Noted, noted_by, noted_in, all_noted, of_row, met_by, pair_after}
 use Rattle.eve_chains.proofs.Loading.{own}
 use Rattle.eve_chains.proofs.Judging.{Advances}

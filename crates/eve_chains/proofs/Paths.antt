@@ -12,7 +12,7 @@ use Rattle.eve_history.specs.declared.fate.Fate.TheVariants.{Committed}
 use Rattle.eve_history.specs.Section.{Placed, SectionState, start, path_of, committing, next, state_after, is_right, are_right, is_due, is_right_attempt, is_right_certificate, are_right_accesses, request_count, commits_first, is_right_rollback}
 use Rattle.eve_history.specs.Fates.{fate_in}
 use Rattle.eve_history.specs.Told.{is_committed, is_discarded, history, IsRightSection}
-use Rattle.eve_serial.proofs.Settled.{all-append}
+use Rattle.eve_chains.proofs.SettledAttempts.{all-append}
 use Rattle.eve_chains.specs.Rows.{Fated, to_come, counts_in, counting, settles, told_of}
 
 abbrev pub all_placed : List Fated → List Placed

@@ -8,13 +8,14 @@ use Rattle.eve_smallbank.specs.Chain.{Table, table_after}
 use Rattle.eve_grammar.specs.Trace.{Access}
 use Rattle.eve_views.specs.declared.fault.Fault.{Fault}
 use Rattle.eve_history.specs.Told.{Telling}
-use Rattle.eve_serial.specs.Tables.{table_of, taken_back}
-use Rattle.eve_serial.specs.Along.{entries_along, AreWithin, IsFirstAlong, first_of}
-use Rattle.eve_serial.proofs.AlongLaws.{table_after-append, taken_back-append}
+use Rattle.eve_chains.specs.Tables.{table_of, taken_back}
+use Rattle.eve_chains.specs.Along.{entries_along, AreWithin, IsFirstAlong}
+use Rattle.eve_chains.proofs.AlongLaws.{table_after-append, taken_back-append}
 use Rattle.eve_chains.specs.declared.walk.Walk.{Walk}
 use Rattle.eve_chains.specs.Walking.{records_of, records_from, entries_of, AreJudged, AreTried, AreTakenBack}
 use Rattle.eve_chains.proofs.Loading.{from_more}
 use Rattle.eve_chains.proofs.Judging.{judged_more}
+use Rattle.eve_views.specs.First.{first_of}
 
 -- ---- within the limits
 

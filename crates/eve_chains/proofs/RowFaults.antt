@@ -21,14 +21,14 @@ use Rattle.eve_history.specs.declared.fate.Fate.{Fate}
 use Rattle.eve_history.specs.declared.fate.Fate.TheVariants.{Committed, Discarded, Open}
 use Rattle.eve_grammar.specs.Frames.{OfAccess, OfAttempt}
 use Rattle.eve_grammar.specs.Spelling.{frame_text}
-use Rattle.eve_serial.specs.Visible.{opening_table, table_along, executed_by}
-use Rattle.eve_serial.specs.Sound.{RecordsFit}
-use Rattle.eve_serial.specs.Along.{entries_along, SeesOther, IsWrongAlong, IsWrongSomewhere, AllSee, AllSettledSee}
-use Rattle.eve_serial.proofs.AlongLaws.{table_after-append}
-use Rattle.eve_serial.proofs.Distinct.{in_map, in_source, in_split}
-use Rattle.eve_serial.proofs.Faultless.{place_of, in_place, standing, in_located}
-use Rattle.eve_serial.proofs.Walking.{right_one, complete_one}
-use Rattle.eve_records.proofs.Attempts.{from_ordered}
+use Rattle.eve_chains.specs.Visible.{opening_table, table_along, executed_by}
+use Rattle.eve_chains.specs.Sound.{RecordsFit}
+use Rattle.eve_chains.specs.Along.{entries_along, SeesOther, IsWrongAlong, IsWrongSomewhere, AllSee, AllSettledSee}
+use Rattle.eve_chains.proofs.AlongLaws.{table_after-append}
+use Rattle.eve_chains.proofs.Distinct.{in_map, in_source, in_split}
+use Rattle.eve_chains.proofs.Faultless.{place_of, in_place, standing, in_located}
+use Rattle.eve_chains.proofs.Walks.{right_one, complete_one}
+use Rattle.eve_chains.proofs.Attempts.{from_ordered}
 use Rattle.eve_chains.specs.Rows.{Fated, told_of, settles, Noted, noted_by, noted_in, all_noted, of_row, met_by, pair_after, SeesAnother, IsWrongOnRow, EachSees}
 use Rattle.eve_chains.proofs.Loading.{own}
 use Rattle.eve_chains.proofs.Paths.{all_placed, view_of, committed_told, discarded_told}

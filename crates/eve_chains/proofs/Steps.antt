@@ -24,14 +24,14 @@ use Rattle.eve_views.specs.declared.steps.Step.TheVariants as of
 use Rattle.eve_views.specs.StepKinds.{IsStep}
 use Rattle.eve_history.specs.Section.{Placed, SectionState, start, path_of, committing, next, state_after, settled, is_right, are_right, commits_first, is_right_commit}
 use Rattle.eve_history.specs.Told.{Telling, ran, telling, access_with, history, attempts_among, placed_at, IsRightSection}
-use Rattle.eve_serial.specs.Visible.{opening_table, executed_at, execution, executions, entries_before, table_along}
-use Rattle.eve_serial.specs.Committed.{attempts_of}
-use Rattle.eve_serial.specs.Tables.{table_of, taken_back}
-use Rattle.eve_serial.specs.Along.{entries_along, AreWithin, IsFirstAlong, AllSettledSee}
-use Rattle.eve_serial.specs.Faults.{IsChainFault}
-use Rattle.eve_serial.proofs.Distinct.{in_split, in_left, in_right}
-use Rattle.eve_serial.proofs.AlongLaws.{table_after-append, undone}
-use Rattle.eve_serial.proofs.Walking.{record_at, same_entries, right_one, complete_one, chain_fault_along, chain_fault_somewhere}
+use Rattle.eve_chains.specs.Visible.{opening_table, executed_at, execution, executions, entries_before, table_along}
+use Rattle.eve_chains.specs.Committed.{attempts_of}
+use Rattle.eve_chains.specs.Tables.{table_of, taken_back}
+use Rattle.eve_chains.specs.Along.{entries_along, AreWithin, IsFirstAlong, AllSettledSee}
+use Rattle.eve_chains.specs.Faults.{IsChainFault}
+use Rattle.eve_chains.proofs.Distinct.{in_split, in_left, in_right}
+use Rattle.eve_chains.proofs.AlongLaws.{table_after-append, undone}
+use Rattle.eve_chains.proofs.Walks.{record_at, same_entries, right_one, complete_one, chain_fault_along, chain_fault_somewhere}
 use Rattle.eve_chains.specs.declared.walk.Walk.{Walk}
 use Rattle.eve_chains.specs.Walking.{records_of, records_from, entries_of, AreJudged, Sees, IsFirstIn, IsCommitted, AreTried, AreTakenBack, ArePlaced, HasWalked}
 use Rattle.eve_chains.proofs.Loading.{own, IsWithin, records_first, records_behind, within_section, within_behind, within_own}

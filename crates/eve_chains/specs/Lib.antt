@@ -1,2 +1,12 @@
 pub mod Walking
 pub mod Rows
+pub mod Visible
+pub mod Committed
+pub mod Sound
+pub mod Faults
+pub mod Tables
+pub mod Records
+pub mod Along
+pub mod Unfit
+pub mod Settling
+pub mod Parts

@@ -10,11 +10,12 @@ use Rattle.eve_views.specs.Form.{IsUpTo, SomePlace}
 use Rattle.eve_views.specs.declared.fault.Fault.{Fault}
 use Rattle.eve_history.specs.Section.{Placed, SectionState, state_after, settled, are_right}
 use Rattle.eve_history.specs.Told.{Telling, ordered, history, attempts_among, placed_at}
-use Rattle.eve_serial.specs.Visible.{table_along}
-use Rattle.eve_serial.specs.Committed.{attempts_of}
-use Rattle.eve_serial.specs.Tables.{table_of, taken_back}
-use Rattle.eve_serial.specs.Along.{entries_along, IsWrongAlong, AllSee, IsFirstAlong, first_of}
+use Rattle.eve_chains.specs.Visible.{table_along}
+use Rattle.eve_chains.specs.Committed.{attempts_of}
+use Rattle.eve_chains.specs.Tables.{table_of, taken_back}
+use Rattle.eve_chains.specs.Along.{entries_along, IsWrongAlong, AllSee, IsFirstAlong}
 use Rattle.eve_chains.specs.declared.walk.Walk.{Walk}
+use Rattle.eve_views.specs.First.{first_of}
 
 -- ---- the records of attempts
 

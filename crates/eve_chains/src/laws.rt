@@ -1,16 +1,26 @@
 //! Laws about the definitions. The bodies call lower laws at most: the contract is the law.
 
-ghost use Rattle.std.specs.Prelude.{ℕ};
-ghost use Rattle.eve_grammar.specs.Trace.{Trace};
+ghost use Rattle.std.specs.Prelude.{ℕ, ◌≡◌, ◌-◌, suc, List, IsTrue, length, Some};
+ghost use Rattle.eve_grammar.specs.Trace.{Trace, Attempt};
 ghost use Rattle.eve_grammar.specs.Limits.{HasLimits};
 ghost use Rattle.eve_views.specs.declared.fault.Fault.{Fault};
-ghost use Rattle.eve_history.specs.Told.{IsRightSection};
-ghost use Rattle.eve_serial.specs.Visible.{opening_table};
-ghost use Rattle.eve_serial.specs.Sound.{SettledAreSound, RecordsFit};
-ghost use Rattle.eve_serial.specs.Faults.{IsChainFault};
+ghost use Rattle.eve_history.specs.Told.{IsRightSection, ordered, committed_at, names_of};
+ghost use Rattle.eve_chains.specs.Visible.{opening_table, executed_by, executed_in, execution, executions, rows_after, before_index, visible_to, entries_before, table_along};
+ghost use Rattle.eve_chains.specs.Sound.{SettledAreSound, RecordsFit, OfSettledAccesses, EntriesSee};
+ghost use Rattle.eve_chains.specs.Faults.{IsChainFault, HasNoFault};
 ghost use Rattle.eve_chains.specs.Rows.{told_of, all_noted, of_row, IsWrongOnRow, EachSees};
-
-use eve_serial::laws::chains_are_judged_along_the_records;
+ghost use Rattle.eve_smallbank.specs.Access.{Fits, values_after};
+ghost use Rattle.eve_smallbank.specs.declared.entry.Entry.{Entry};
+ghost use Rattle.eve_smallbank.specs.Chain.{Table, table_after, visible_at, before_rest};
+ghost use Rattle.eve_smallbank.specs.Conflict.{IsReordering};
+ghost use Rattle.eve_grammar.specs.Certificate.{KeepsGroups, is_permutation};
+ghost use Rattle.eve_history.specs.Section.{Placed, batch_at, request_count};
+ghost use Rattle.eve_views.specs.declared.fault.Code.TheVariants as code;
+ghost use Rattle.eve_history.specs.Faults.{StandsInOrders};
+ghost use Rattle.eve_chains.specs.Committed.{committed_to, values_to, opening_bank, bank_after, Leads, IsSerialBetween, committed_request_ids, batch_request_ids, AreDistinct};
+ghost use Rattle.eve_chains.specs.Tables.{taken_back};
+ghost use Rattle.eve_chains.specs.Along.{entries_along, IsWrongSomewhere, AllSettledSee};
+ghost use Rattle.eve_chains.specs.Settling.{settling, values_in};
 
 /// Rows can be judged each by itself: in a right section whose settled records fit, the faults of chains are exactly
 /// those that the walks of single rows meet, each along the row's own entries and with no other row in sight; and where
@@ -27,3 +37,93 @@ pub fn rows_are_judged_by_themselves()
 {
     chains_are_judged_along_the_records();
 }
+
+/// A replica whose section is right, and whose settled attempts fit and are chained row by row, committed
+/// what SmallBank on one thread gives: batch after batch, and from the opening balances on.
+///
+/// docs/MODEL.md, "The audit theorem".
+pub fn serial_order_of_a_section()
+    ensures each { (t : Trace) (e : ℕ) → IsRightSection t e → SettledAreSound t e
+        → (n : ℕ) (p : Placed) → committed_at t e n ≡ Some p
+        → IsSerialBetween (bank_after t e (n - 1)) (bank_after t e n) (execution t p.attempt) }
+    ensures all { (t : Trace) (e : ℕ) → IsRightSection t e → SettledAreSound t e
+        → (n : ℕ) → Leads (opening_bank t) (executions t (committed_to t e n)) (bank_after t e n) }
+{}
+
+/// In whatever order the indexes of a committed batch are listed, the requests with these indexes are those that were
+/// executed, in another order: so each such order is one of those that `IsSerialBetween` speaks of.
+pub fn each_order_of_the_indexes_is_a_reordering()
+    ensures { (t : Trace) (e n : ℕ) (p : Placed) (order : List ℕ) → IsRightSection t e → committed_at t e n ≡ Some p
+        → IsTrue (is_permutation (request_count t p.attempt) order)
+        → IsReordering (executed_in t p.attempt order) (execution t p.attempt) }
+{}
+
+/// The order in which a replica committed a batch keeps the batch's parallelBatches.
+pub fn committed_orders_keep_the_groups()
+    ensures { (t : Trace) (e n : ℕ) (p : Placed) → IsRightSection t e → committed_at t e n ≡ Some p
+        → KeepsGroups (batch_at t n).sizes (length (batch_at t n).requests) p.attempt.certificate }
+{}
+
+/// No request takes effect twice in a replica, where no two requests of the batches have one client and number:
+/// that is so where no fault of orders stands.
+pub fn requests_take_effect_once()
+    ensures once { (t : Trace) (e : ℕ) → IsRightSection t e → AreDistinct (batch_request_ids t)
+        → AreDistinct (committed_request_ids t e) }
+    ensures apart { (t : Trace) → ((at : ℕ) → ¬ StandsInOrders code.SameRequest t at)
+        → AreDistinct (batch_request_ids t) }
+{}
+
+/// In a right section the settled attempts are sound exactly where each record fits its request and each entry
+/// sees what it must. That each request has its record follows from the limits of a trace.
+pub fn sound_attempts_fit_and_see()
+    ensures fit { (t : Trace) (e : ℕ) → IsRightSection t e → SettledAreSound t e → RecordsFit t e }
+    ensures see { (t : Trace) (e : ℕ) → IsRightSection t e → SettledAreSound t e → EntriesSee t e }
+    ensures sound { (t : Trace) (e : ℕ) → HasLimits t → IsRightSection t e → RecordsFit t e → EntriesSee t e → SettledAreSound t e }
+{}
+
+/// Where each record fits and each entry sees what it must, no fault of records or chains stands. Where none
+/// stands each entry sees what it must, and no record misses its request.
+pub fn faults_tell_what_is_wrong()
+    ensures none { (t : Trace) (e : ℕ) → RecordsFit t e → EntriesSee t e → HasNoFault t e }
+    ensures see { (t : Trace) (e : ℕ) → HasNoFault t e → EntriesSee t e }
+    ensures fit { (t : Trace) (e : ℕ) → HasNoFault t e → OfSettledAccesses t e (λ p x. ¬ ¬ Fits (names_of t) (executed_by t p.attempt x)) }
+{}
+
+/// In a right section whose settled attempts are sound no fault of records or chains stands.
+pub fn sound_sections_have_no_fault()
+    ensures { (t : Trace) (e : ℕ) → IsRightSection t e → SettledAreSound t e → HasNoFault t e }
+{}
+
+/// What is found along the records of the settled attempts, each in its certificate's order and from what its path
+/// left, is exactly the faults of chains; where nothing is found, and the records fit, the attempts are sound.
+pub fn chains_are_judged_along_the_records()
+    ensures stands { (t : Trace) (e : ℕ) (f : Fault) → HasLimits t → IsRightSection t e → IsWrongSomewhere t e f → IsChainFault t e f }
+    ensures found { (t : Trace) (e : ℕ) (f : Fault) → HasLimits t → IsRightSection t e → IsChainFault t e f → IsWrongSomewhere t e f }
+    ensures sound { (t : Trace) (e : ℕ) → HasLimits t → IsRightSection t e → RecordsFit t e → AllSettledSee t e → SettledAreSound t e }
+{}
+
+/// The balances after a committed batch are those before it with what its records wrote, in their order.
+pub fn balances_advance_along_the_records()
+    ensures { (t : Trace) (e n : ℕ) (p : Placed) → HasLimits t → IsRightSection t e → committed_at t e (suc n) ≡ Some p
+        → values_to t e (suc n) ≡ values_after (values_to t e n) (entries_along (ordered p.offset p.attempt)) }
+{}
+
+/// What the rows have after the attempts on a path is what the nearest write of each left, or else the opening balance;
+/// and so is what each entry must see.
+///
+/// docs/MODEL.md, "What an entry must see".
+pub fn rows_have_what_the_nearest_writes_left()
+    ensures rows { (t : Trace) (path : List Attempt) → rows_after t path ≡ table_along t path }
+    ensures seen { (t : Trace) (p : Placed) (index : ℕ) → visible_to t p index ≡ visible_at (opening_table t)
+        (before_rest (entries_before t p.path) (executed_in t p.attempt (before_index index p.attempt.certificate))) }
+{}
+
+/// Where the rows that were written are taken back from the table before the writes, it is that table again.
+pub fn taking_back_undoes_writes()
+    ensures { (table : Table) (es : List Entry) → taken_back table (table_after table es) es ≡ table }
+{}
+
+/// What is kept of a right section gives the balances of the committed batches.
+pub fn settled_values_are_the_banks()
+    ensures { (t : Trace) (e n : ℕ) → HasLimits t → IsRightSection t e → values_in (settling t e) n ≡ values_to t e n }
+{}

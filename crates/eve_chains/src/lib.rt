@@ -1,9 +1,23 @@
 //! Records and chains judged: what a replica's settled attempts amount to.
 #![tactic(auto)]
 
-mod judge;
+mod along;
+mod checking;
+mod fitting;
 pub mod laws;
+mod opening;
+mod settled;
+mod table;
+mod unfit;
+mod versioned;
 mod walk;
+mod written;
 
-pub use eve_banks::Settled;
-pub use judge::check;
+pub use along::{judge_along, take_back_along, write_along, write_values_along};
+pub use checking::check;
+pub use fitting::fits;
+pub use settled::Settled;
+pub use table::Table;
+pub use unfit::records;
+pub use versioned::Versioned;
+pub use written::write_values;

@@ -8,14 +8,14 @@ ghost use Rattle.eve_views.specs.Form.{IfFound, IsLeast};
 ghost use Rattle.eve_views.specs.Fronts.{whole};
 ghost use Rattle.eve_views.specs.StepKinds.{IsStep};
 ghost use Rattle.eve_history.specs.Told.{telling, IsRightSection};
-ghost use Rattle.eve_serial.specs.Faults.{IsChainFault};
-ghost use Rattle.eve_serial.specs.Along.{all_said, AreWithin, AllSettledSee};
+ghost use Rattle.eve_chains.specs.Faults.{IsChainFault};
+ghost use Rattle.eve_chains.specs.Along.{all_said, AreWithin, AllSettledSee};
 ghost use Rattle.eve_chains.specs.Walking.{records_of, records_from, IsCommitted, AreTried, AreTakenBack, HasWalked};
 
+use crate::{Table, judge_along, take_back_along, write_along};
 use eve_frames::AccessView;
 use eve_history::History;
-use eve_serial::{Table, first_of, judge_along, take_back_along, write_along};
-use eve_views::{CheckFault, Fault, Step, Trace};
+use eve_views::{CheckFault, Fault, Step, Trace, first_of};
 use std::alloc::{AllocError, Global};
 
 /// Where a walk has come to.

@@ -5,7 +5,7 @@ use Rattle.eve_smallbank.specs.Touch.{touched_of}
 use Rattle.eve_stamps.specs.declared.fault.StampFault.{StampFault}
 use Rattle.eve_stamps.specs.declared.fault.StampFault.TheVariants as stamp
 use Rattle.eve_stamps.specs.Applied.{Applied}
-use Rattle.eve_tickets.specs.Shown.{Drawer}
+use Rattle.eve_recorder.specs.Drawing.{Drawer}
 use Rattle.eve_floor.specs.declared.applying.Task.{Task}
 use Rattle.eve_floor.specs.declared.fault.ExecFault.{ExecFault}
 use Rattle.eve_floor.specs.declared.fault.ExecFault.TheVariants as fault

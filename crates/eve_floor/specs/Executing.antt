@@ -4,7 +4,7 @@ use Rattle.eve_smallbank.specs.SmallBank.{Request, Balance}
 use Rattle.eve_smallbank.specs.Access.{Fits}
 use Rattle.eve_grammar.specs.Trace.{Batch}
 use Rattle.eve_stamps.specs.Applied.{Applied, executed_by}
-use Rattle.eve_tickets.specs.Shown.{Source, Drawer}
+use Rattle.eve_recorder.specs.Drawing.{Source, Drawer}
 use Rattle.eve_recorder.specs.Seen.{Desk, Noter, WasFull}
 use Rattle.eve_floor.specs.declared.fault.ExecFault.{ExecFault}
 use Rattle.eve_floor.specs.declared.fault.ExecFault.TheVariants as fault
@@ -77,7 +77,7 @@ abbrev pub Executes : {A : Type 0} → Desk → List (List ℕ) → Request → 
 Executes recorder names request index old new (Ok _) = (old.waiting ≡ None) × Gains noting names request index old new
 Executes recorder names request index old new (Err fault.Full) =
     (IsSome old.waiting × (new ≡ old))
-    ⊎ ((old.waiting ≡ None) × WasFull recorder.room old.seat.worker old.seat.noted
+    ⊎ ((old.waiting ≡ None) × WasFull recorder old.seat
     × Gains holding names request index old new)
 Executes recorder names request index old new (Err fault.Spent) =
     (old.waiting ≡ None) × (new ≡ old) × IsSpent old.tickets
@@ -97,7 +97,7 @@ with_waiting_noted (Some r) w = noting r w
 abbrev pub Flushes : {A : Type 0} → Desk → Executor → Executor → Result A ExecFault → Type 0
 Flushes recorder old new (Ok _) = new ≡ with_waiting_noted old.waiting old
 Flushes recorder old new (Err fault.Full) =
-    IsSome old.waiting × (new ≡ old) × WasFull recorder.room old.seat.worker old.seat.noted
+    IsSome old.waiting × (new ≡ old) × WasFull recorder old.seat
 Flushes recorder old new (Err fault.Spent) = ⊥
 Flushes recorder old new (Err fault.NoRow) = ⊥
 Flushes recorder old new (Err fault.TickOrder) = ⊥

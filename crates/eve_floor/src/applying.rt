@@ -7,10 +7,9 @@ ghost use Rattle.eve_floor.specs.Executing.{with_drawn};
 ghost use Rattle.eve_floor.specs.Applying.{IsLookedUp, Applies, Refuses};
 
 use crate::{ExecFault, Floor};
-use eve_recorder::Gate;
+use eve_recorder::{Gate, TicketSeat, Tickets};
 use eve_smallbank::{Request, Touched, laws};
 use eve_stamps::{AccessRecord, Stripe, apply, apply_two, span_of, untouched};
-use eve_tickets::{TicketSeat, Tickets};
 use std::sync::{Mutex, Wait};
 
 /// What is to be executed, and what its record says of who does it.

@@ -8,9 +8,8 @@ ghost use Rattle.eve_floor.specs.Executing.{IsAt, KeepsSeats, Executes, Flushes,
 
 use crate::applying::{Task, applied};
 use crate::{ExecFault, Floor, Worker};
-use eve_recorder::{Gate, NoteFault, Recorder};
+use eve_recorder::{Gate, NoteFault, Recorder, Tickets};
 use eve_smallbank::{Request, Touched, touched};
-use eve_tickets::Tickets;
 use eve_write::BatchData;
 use std::sync::Wait;
 
@@ -85,7 +84,8 @@ pub fn execute_touched<R: Wait, G: Gate>(
     flush(rt, recorder, worker)
 }
 
-fn request_at(batch: &BatchData, index: u16) -> Request<'_>
+/// The request with this index in the batch.
+pub fn request_at(batch: &BatchData, index: u16) -> Request<'_>
     requires { index < length batch.now.requests.items }
     ensures { plain result ≡ request_at (plain_batch batch.now) index }
 {

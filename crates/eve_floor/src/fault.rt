@@ -2,8 +2,10 @@
 
 ghost use Rattle.std.specs.Prelude.{◌≡◌};
 ghost use Rattle.eve_floor.specs.Applying.{told};
+ghost use Rattle.eve_floor.specs.declared.fault.ExecFault.TheVariants as fault;
 
 use eve_stamps::StampFault;
+use std::alloc::AllocError;
 
 /// Why an execution notes no record, or `flush` none.
 #[derive(Clone, Copy, Debug, PartialEq, Eq)]
@@ -32,5 +34,13 @@ impl From<StampFault> for ExecFault {
             StampFault::Worn => ExecFault::Worn,
             StampFault::Memory => ExecFault::Memory,
         }
+    }
+}
+
+impl From<AllocError> for ExecFault {
+    ghost from_gives = { λ _ e. e ≡ fault.Memory };
+
+    fn from(_e: AllocError) -> ExecFault {
+        ExecFault::Memory
     }
 }

@@ -3,9 +3,8 @@
 ghost use Rattle.std.specs.Prelude.{◌≡◌, IfOk, IfErr, IsSome, None, length};
 ghost use Rattle.eve_floor.specs.Executing.{Executor};
 
-use eve_recorder::WorkerSeat;
+use eve_recorder::{TicketSeat, WorkerSeat};
 use eve_stamps::AccessRecord;
-use eve_tickets::TicketSeat;
 use std::marker::Model;
 
 /// One worker of a floor: its seat at a recorder, its seat at the tickets that give ticks, and the record that waits

@@ -1,13 +1,19 @@
 -- Where an Attempt frame's fields stand.
-use Rattle.std.proofs.Common.{◌≡◌, ℕ, ◌+◌, ◌-◌, ◌*◌, ◌≤◌, Bool, true, false, cond, leb, eqb, List, length, get_or, take, drop, Some, None, refl, sym, ap, subst, ◌∙◌, arith}
+use Rattle.std.proofs.Common.{◌≡◌, ℕ, ◌+◌, ◌-◌, ◌*◌, ◌≤◌, Bool, true, false, cond, leb, eqb, List, ◌++◌, length, get_or, take, drop, Some, None, refl, sym, ap, subst, ◌∙◌, arith}
 use Rattle.std.specs.Prelude.{IsTrue}
+use Rattle.std.specs.List.{flat_map}
+use Rattle.std.proofs.Math.Seq.{take-append_seam}
 use Rattle.std.proofs.lemmas.Bool.{eqb-true, leb-true, and_parts}
 use Rattle.std.proofs.lemmas.List.{length-drop, drop-drop}
 use Rattle.byteorder.specs.Endian.{big_number}
 use Rattle.eve_grammar.specs.Trace.{Attempt}
 use Rattle.eve_grammar.specs.Limits.{is_between}
 use Rattle.eve_grammar.specs.Reading.{number_at, both, made, made_if, only, many_at, reply_at, serial_from, attempt_from, certified_at, token_at, attempt_of}
-use Rattle.eve_grammar.proofs.Scans.{many_length}
+use Rattle.eve_smallbank.specs.Spelling.{reply_text}
+use Rattle.eve_grammar.specs.Limits.{is_reply}
+use Rattle.eve_grammar.proofs.Codec.{IsBytes, IsBytes-drop, Codec-many}
+use Rattle.eve_grammar.proofs.PartCodecs.{reply_length, Codec-reply}
+use Rattle.eve_grammar.proofs.Scans.{many_length, text_length}
 use Rattle.eve_frames.specs.Views.{is_attempt_frame, attempt_in}
 use Rattle.eve_frames.proofs.Places.{found, number_from, some_is, number_some, bytes_some, made_some, made_if_some, only_some, whole_some, both_some, both_any, led_some, Takes-number, Takes-only, Takes-made_if, byte_at}
 use Rattle.eve_frames.proofs.Lists.{Takes-many, Stand}
@@ -113,5 +119,16 @@ attempt_even bytes there = (attempt_placed bytes there).replies.count
 
 pub attempt_token : (bytes : List ℕ) → IsTrue (is_attempt_frame bytes) → (attempt_in bytes).token ≡ take 32 (drop (16 + 11 * requests_of bytes) bytes)
 attempt_token bytes there = (attempt_placed bytes there).token
+
+-- the replies' spelling
+pub attempt_replies : (bytes : List ℕ) → IsTrue (is_attempt_frame bytes) → IsBytes bytes → take (9 * requests_of bytes) (drop (16 + 2 * requests_of bytes) bytes) ≡ flat_map reply_text (attempt_in bytes).replies
+attempt_replies bytes there fits =
+    let n = requests_of bytes in
+    let replies = (attempt_in bytes).replies in
+    let at : ℕ = 16 + 2 * n in
+    let stand = (attempt_placed bytes there).replies in
+    let taken = (Codec-many reply_text is_reply reply_at Codec-reply n).takes (drop at bytes) (replies, stand.rest) (IsBytes-drop at bytes fits) stand.read in
+    let long : 9 * n ≡ length (flat_map reply_text replies) = ap (λ (k : ℕ). 9 * k) (sym stand.count) ∙ sym (text_length 9 reply_text reply_length replies) in
+    ap (take (9 * n)) taken.0.parts ∙ ap (λ (k : ℕ). take k (flat_map reply_text replies ++ stand.rest)) long ∙ take-append_seam (flat_map reply_text replies) stand.rest
 
 pub ruleset attempt_laws = (attempt_read, attempt_long, attempt_few, attempt_seq, attempt_view, attempt_serial, attempt_count, attempt_even, attempt_token)

@@ -139,6 +139,13 @@ pub there_some : {A : Type 0} (one : Reader A) (n : ℕ) (bytes : List ℕ) → 
 there_some one zero bytes some there e = some refl
 there_some one (suc n) bytes some there e = let m = there_more one n bytes None e there in absurd (let f = m.1 in cc)
 
+pub there_first : {A : Type 0} (one : Reader A) (n : ℕ) (bytes : List ℕ) → (n ≡ 0 → ⊥) → IsTrue (are_there one n bytes) → IsTrue (is_some (one bytes))
+there_first {A = A} one n bytes some there = by (one bytes) refl
+  where
+    by : (m : Option (A × List ℕ)) → one bytes ≡ m → IsTrue (is_some m)
+    by None e = absurd (there_some one n bytes some there e)
+    by (Some x) e = refl
+
 pub there_steps : {A : Type 0} (one : Reader A) (n : ℕ) (bytes : List ℕ) → (n ≡ 0 → ⊥) → IsTrue (are_there one n bytes) → (x : A) (rest : List ℕ) → one bytes ≡ Some (x, rest) → Steps one n bytes x rest
 there_steps one zero bytes some there x rest e = absurd (some refl)
 there_steps {A = A} one (suc n) bytes some there x rest e =

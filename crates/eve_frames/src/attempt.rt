@@ -1,6 +1,8 @@
 //! A view of an Attempt frame.
 
 ghost use Rattle.std.specs.Prelude.{◌≡◌, ◌<◌, IsTrue, Some, length, slice_get};
+ghost use Rattle.std.specs.List.{flat_map};
+ghost use Rattle.eve_smallbank.specs.Spelling.{reply_text};
 ghost use Rattle.eve_grammar.specs.Reading.{attempt_of};
 ghost use Rattle.eve_frames.specs.Views.{body_in, is_attempt_frame, attempt_in};
 
@@ -9,6 +11,17 @@ use crate::replies::Replies;
 use byteorder::{BigEndian, ByteOrder};
 use eve_grammar::reply_at;
 use eve_smallbank::Reply;
+
+/// The replies of an Attempt frame of so many requests, as they stand.
+#[tactic(auto, using(crate::proofs::AttemptPlaces::attempt_laws))]
+fn replies_of(frame: &[u8], count: usize) -> &[u8]
+    requires frame { IsTrue (is_attempt_frame frame.now) }
+    requires count { count ≡ length (attempt_in frame.now).certificate }
+    ensures { result.now ≡ flat_map reply_text (attempt_in frame.now).replies }
+{
+    let at = 16 + 2 * count;
+    &frame[at..at + 9 * count]
+}
 
 /// An Attempt frame, where it stands. Its accesses have frames of their own behind it.
 ///
@@ -122,6 +135,15 @@ impl<'a> AttemptView<'a> {
         let count = self.len();
         let bytes = self.bytes;
         Replies::new(count, &bytes[16 + 2 * count..])
+    }
+
+    /// The replies as they stand: nine bytes each, by request index, which is how a token spells them.
+    #[tactic(auto, using(crate::proofs::AttemptPlaces::attempt_laws))]
+    pub fn reply_bytes(&self) -> &'a [u8]
+        ensures { result.now ≡ flat_map reply_text (attempt_in self.now.bytes.now).replies }
+    {
+        let frame = self.bytes;
+        replies_of(frame, self.len())
     }
 
     /// The token, of 32 bytes.

@@ -2,6 +2,7 @@
 #![tactic(auto)]
 
 mod access;
+mod again;
 mod attempt;
 mod batch;
 mod certificate;

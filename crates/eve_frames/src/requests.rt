@@ -7,7 +7,8 @@ ghost use Rattle.eve_grammar.specs.Reading.{asked_at};
 ghost use Rattle.eve_grammar.specs.Bodies.{list_in, asked};
 ghost use Rattle.eve_frames.specs.Items.{are_there};
 
-use eve_grammar::{Asked, asked_at};
+use crate::again::asked_again;
+use eve_grammar::Asked;
 use std::marker::Model;
 
 /// The requests of a batch that are still to come.
@@ -49,9 +50,7 @@ impl<'a> Iterator for Requests<'a> {
         if count == 0 {
             return None;
         }
-        let Some((found, rest)) = asked_at(self.bytes) else {
-            unreachable!();
-        };
+        let (found, rest) = asked_again(self.bytes);
         self.count = count - 1;
         self.bytes = rest;
         Some(found)

@@ -3,12 +3,11 @@
 //! Each reader gives the value and the bytes behind it, or `None` where no such value stands in front.
 
 ghost use Rattle.std.specs.Prelude.{◌≡◌};
-ghost use Rattle.std.specs.List.{list_all};
-ghost use Rattle.eve_accounts.specs.Names.{is_name, is_printable};
+ghost use Rattle.eve_accounts.specs.Names.{is_name};
 ghost use Rattle.eve_grammar.specs.Reading.{Gives, number_at, name_at, balance_at, saving_at, amount_at, move_at, token_at, number_of};
 
 use byteorder::{BigEndian, ByteOrder};
-use eve_accounts::{Amount, Cents};
+use eve_accounts::{Amount, Cents, is_name};
 
 /// One byte.
 pub fn u8_at(bytes: &[u8]) -> Option<(u8, &[u8])>
@@ -63,18 +62,6 @@ pub fn number_of(body: &[u8]) -> Option<u8>
     }
 }
 
-fn all_printable(name: &[u8]) -> bool
-    ensures { result ≡ list_all is_printable name.now }
-{
-    name.iter().all(|byte| 33 <= *byte && *byte <= 126)
-}
-
-fn is_name_text(name: &[u8]) -> bool
-    ensures { result ≡ is_name name.now }
-{
-    1 <= name.len() && name.len() <= 24 && all_printable(name)
-}
-
 /// A length of one byte and a name of 1 to 24 bytes, each in 0x21..=0x7E.
 #[tactic(auto, unfolding(crate::specs::Reading::name_at))]
 pub fn name_at(bytes: &[u8]) -> Option<(&[u8], &[u8])>
@@ -86,7 +73,7 @@ pub fn name_at(bytes: &[u8]) -> Option<(&[u8], &[u8])>
         return None;
     }
     let (name, rest) = rest.split_at(len);
-    if is_name_text(name) {
+    if is_name(name) {
         Some((name, rest))
     } else {
         None

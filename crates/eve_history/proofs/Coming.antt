@@ -423,6 +423,7 @@ module _ (t : Trace) (e : ℕ) (k : Kept) (come : HasCome t e [] k) where
       ap (λ (fs : List Fate). k.fates ++ fs) (sym (append-nil (replicate (open_count k) Open)) ∙ ap (λ (fs : List Fate). fs ++ []) (sym (open_end 0 (open_count k)))) ∙ sym come.fates in
       λ i. record {
         replica = e;
+        right = sym come_right i;
         committed = (come.stands.last ∙ ap (λ (xs : List (ℕ × Step)). (state_after start xs).last) (sym all_came)) i;
         attempts = (come.attempts ∙ ap (λ (xs : List (ℕ × Step)). map ran (attempts_among xs)) (sym all_came)) i;
         fates = fates i;

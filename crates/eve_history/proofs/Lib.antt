@@ -9,7 +9,9 @@ pub mod Taking
 pub mod FateLaws
 pub mod Positions
 pub mod Structure
-pub mod Tickets
+pub mod RequestIds
+pub mod Rising
 pub mod FrameTexts
 pub mod Standing
 pub mod Lent
+pub mod Rights

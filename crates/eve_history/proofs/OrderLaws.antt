@@ -1,5 +1,5 @@
 -- Public: other crates cite these lemmas. Customers and batches, one after another: the first that is there again.
-use Rattle.std.proofs.Common.{◌≡◌, ℕ, zero, suc, ◌+◌, ◌<◌, ◌≤◌, true, List, [], ◌∷◌, ◌++◌, map, length, take, drop, slice_get, Contains, Some, None, refl, sym, ap, subst, ◌∙◌, inl, inr, add-one, arith}
+use Rattle.std.proofs.Common.{◌≡◌, ℕ, zero, suc, ◌+◌, ◌-◌, ◌<◌, ◌≤◌, true, List, [], ◌∷◌, ◌++◌, map, length, take, drop, slice_get, Contains, Some, None, refl, sym, ap, subst, ◌∙◌, inl, inr, add-one, arith}
 use Rattle.std.specs.List.{flat_map}
 use Rattle.std.proofs.lemmas.Bool.{and_parts, cases_lt}
 use Rattle.std.proofs.lemmas.List.{append-nil, map-append, take_all, length-map, length-take-le}
@@ -16,7 +16,7 @@ use Rattle.eve_views.specs.declared.fault.Fault.{Fault}
 use Rattle.eve_views.specs.Code.{number_of}
 use Rattle.eve_views.specs.Form.{IsUpTo, SomePlace, IsLeast}
 use Rattle.eve_history.specs.Told.{names_of}
-use Rattle.eve_history.specs.Faults.{name_at, Ticket, tickets_at, IsNamedAgain, IsAskedAgain, StandsInOrders, IsOrderFault}
+use Rattle.eve_history.specs.Faults.{name_at, RequestId, request_ids_at, IsNamedAgain, IsAskedAgain, StandsInOrders, IsOrderFault}
 use Rattle.eve_history.specs.Notes.{IsRepeated, AreNoted, HasDistinctNames, HasDistinctRequests}
 use Rattle.eve_grammar.proofs.Grouping.{all_at}
 use Rattle.eve_history.proofs.Places.{no_place, place_push, cut_at, Rising, located_rising, first_place, from_low, located_within, weaker_place}
@@ -158,37 +158,41 @@ named_again t i names c naming at again = record {
 -- ---- requests
 
 -- the requests of so many batches have come, and none twice
-pub record Asking (t : Trace) (i : ℕ) (noted : List Ticket) : Type 0 where
-  pub items : noted ≡ flat_map tickets_at (take i (batches_at t))
+pub record Asking (t : Trace) (i : ℕ) (noted : List RequestId) : Type 0 where
+  pub items : noted ≡ flat_map request_ids_at (take i (batches_at t))
   pub apart : ¬ SomePlace (take i (batches_at t)) IsAskedAgain
 
 pub asking_start : (t : Trace) → Asking t 0 []
 asking_start t = record { items = refl; apart = no_place IsAskedAgain }
 
-pub asking_more : (t : Trace) (i : ℕ) (noted after : List Ticket) (b : ℕ × (ℕ × Batch)) → Asking t i noted → slice_get (batches_at t) i ≡ Some b → AreNoted noted (tickets_at b) after
+pub asking_more : (t : Trace) (i : ℕ) (noted after : List RequestId) (b : ℕ × (ℕ × Batch)) → Asking t i noted → slice_get (batches_at t) i ≡ Some b → AreNoted noted (request_ids_at b) after
     → Asking t (i + 1) after
 asking_more t i noted after b asking at more =
     let one = take_one_more (batches_at t) i b at in
     record {
-      items = more.noted ∙ ap (λ (ts : List Ticket). ts ++ tickets_at b) asking.items
-          ∙ ap (λ (ts : List Ticket). flat_map tickets_at (take i (batches_at t)) ++ ts) (sym (append-nil (tickets_at b)))
-          ∙ sym (flat_map-append tickets_at (take i (batches_at t)) (b ∷ [])) ∙ ap (flat_map tickets_at) (sym one);
+      items = more.noted ∙ ap (λ (ts : List RequestId). ts ++ request_ids_at b) asking.items
+          ∙ ap (λ (ts : List RequestId). flat_map request_ids_at (take i (batches_at t)) ++ ts) (sym (append-nil (request_ids_at b)))
+          ∙ sym (flat_map-append request_ids_at (take i (batches_at t)) (b ∷ [])) ∙ ap (flat_map request_ids_at) (sym one);
       apart = λ again. elim (place_push IsAskedAgain (take i (batches_at t)) b (subst (λ xs. SomePlace xs IsAskedAgain) one again)) [
         | inl front ↦ asking.apart front
-        | inr here ↦ more.new (subst (λ (ts : List Ticket). IsRepeated ts (tickets_at b)) (sym asking.items) here)
+        | inr here ↦ more.new (subst (λ (ts : List RequestId). IsRepeated ts (request_ids_at b)) (sym asking.items) here)
       ];
     }
+
+-- a batch, by its number from 1
+pub batch_there : (t : List (ℕ × (ℕ × Batch))) (i : ℕ) (b : ℕ × (ℕ × Batch)) → slice_get t (i + 1 - 1) ≡ Some b → slice_get t i ≡ Some b
+batch_there t i b e = let same : i + 1 - 1 ≡ i = omega arith in subst (λ (k : ℕ). slice_get t k ≡ Some b) same e
 
 batch_count : (t : Trace) → length (batches_at t) ≡ length t.batches
 unfolding batches_at
 batch_count t = length-located batch_text (batches_start t) (batches_of t) ∙ length-enumerate_from 1 t.batches
 
-pub asking_apart : (t : Trace) (i : ℕ) (noted : List Ticket) → Asking t i noted → length t.batches ≤ i → HasDistinctRequests t
+pub asking_apart : (t : Trace) (i : ℕ) (noted : List RequestId) → Asking t i noted → length t.batches ≤ i → HasDistinctRequests t
 asking_apart t i noted asking le = λ at again.
     let all : take i (batches_at t) ≡ batches_at t = take_all i (batches_at t) (omega (arith, batch_count t)) in
     asking.apart (subst (λ xs. SomePlace xs IsAskedAgain) (sym all) (weaker_place _ IsAskedAgain (batches_at t) (λ b c h. h.1) again))
 
-pub asked_again : (t : Trace) (i : ℕ) (noted : List Ticket) (b : ℕ × (ℕ × Batch)) → HasDistinctNames t → Asking t i noted → slice_get (batches_at t) i ≡ Some b → IsRepeated noted (tickets_at b)
+pub asked_again : (t : Trace) (i : ℕ) (noted : List RequestId) (b : ℕ × (ℕ × Batch)) → HasDistinctNames t → Asking t i noted → slice_get (batches_at t) i ≡ Some b → IsRepeated noted (request_ids_at b)
     → IsLeast (IsOrderFault t) (fault code.SameRequest b.0)
 asked_again t i noted b distinct asking at again = record {
   is = record {
@@ -197,7 +201,7 @@ asked_again t i noted b distinct asking at again = record {
       item = b;
       rest = drop (suc i) (batches_at t);
       is = cut_at (batches_at t) i b at;
-      holds = (refl, subst (λ (ts : List Ticket). IsRepeated ts (tickets_at b)) asking.items again);
+      holds = (refl, subst (λ (ts : List RequestId). IsRepeated ts (request_ids_at b)) asking.items again);
     };
     outside = refl;
   };

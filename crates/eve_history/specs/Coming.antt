@@ -85,6 +85,7 @@ ran_at rs place = slice_index_or rs place no_ran
 abbrev pub telling_of : ℕ → Kept → Telling
 telling_of e k = record {
   replica = e;
+  right = true;
   committed = k.last;
   attempts = rans k;
   fates = k.fates ++ replicate (open_count k) Open;

@@ -16,15 +16,15 @@ abbrev pub name_at : ℕ × Customer → List ℕ
 name_at c = c.1.name
 
 -- a request's client, and the client's number for it
-abbrev pub Ticket : Type 0
-Ticket = ℕ × ℕ
+abbrev pub RequestId : Type 0
+RequestId = ℕ × ℕ
 
-abbrev pub ticket : Asked → Ticket
-ticket a = (a.client, a.number)
+abbrev pub request_id : Asked → RequestId
+request_id a = (a.client, a.number)
 
 -- those of a batch's requests
-abbrev pub tickets_at : ℕ × (ℕ × Batch) → List Ticket
-tickets_at b = map ticket b.1.1.requests
+abbrev pub request_ids_at : ℕ × (ℕ × Batch) → List RequestId
+request_ids_at b = map request_id b.1.1.requests
 
 -- an earlier customer has the name
 abbrev pub IsNamedAgain : List (ℕ × Customer) → ℕ × Customer → Type 0
@@ -32,7 +32,7 @@ IsNamedAgain before c = Contains (map name_at before) (name_at c)
 
 -- one of the batch's requests occurs earlier, in the batch or before it
 abbrev pub IsAskedAgain : List (ℕ × (ℕ × Batch)) → ℕ × (ℕ × Batch) → Type 0
-IsAskedAgain before b = SomePlace (tickets_at b) (λ earlier own. Contains (flat_map tickets_at before ++ earlier) own)
+IsAskedAgain before b = SomePlace (request_ids_at b) (λ earlier own. Contains (flat_map request_ids_at before ++ earlier) own)
 
 -- a fault of orders stands at this offset
 abbrev pub StandsInOrders : Code → Trace → ℕ → Type 0

@@ -7,3 +7,4 @@ pub mod Notes
 pub mod Marking
 pub mod Standing
 pub mod Coming
+pub mod Rising

@@ -4,18 +4,18 @@ use Rattle.eve_grammar.specs.Trace.{Asked, Trace}
 use Rattle.eve_frames.specs.Views.{batch_in}
 use Rattle.eve_views.specs.declared.fault.Code.TheVariants as code
 use Rattle.eve_views.specs.Form.{SomePlace}
-use Rattle.eve_history.specs.Faults.{Ticket, StandsInOrders}
+use Rattle.eve_history.specs.Faults.{RequestId, StandsInOrders}
 
 -- the requests that a batch's frame says
 abbrev pub requests_said : List ℕ → List Asked
 requests_said bytes = (batch_in bytes).1.requests
 
 -- one of these occurs earlier, among them or among what was noted
-abbrev pub IsRepeated : List Ticket → List Ticket → Type 0
+abbrev pub IsRepeated : List RequestId → List RequestId → Type 0
 IsRepeated noted own = SomePlace own (λ earlier t. Contains (noted ++ earlier) t)
 
 -- none does, and they are noted behind the others
-pub record AreNoted (before own after : List Ticket) : Type 0 where
+pub record AreNoted (before own after : List RequestId) : Type 0 where
   pub new : ¬ IsRepeated before own
   pub noted : after ≡ before ++ own
 

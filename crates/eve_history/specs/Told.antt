@@ -1,7 +1,7 @@
 -- What a replica's section tells: its attempts, what became of each, and in which order each ran.
 -- docs/MODEL.md, "Section state, fate" and "Certificate order, keeps the groups".
-use Rattle.std.specs.Prelude.{ℕ, zero, suc, ◌==◌, IsTrue, if◌then◌else◌, List, [], ◌∷◌, map, Option, Some, None, slice_get, slice_index_or, Bool, true, false}
-use Rattle.eve_smallbank.specs.SmallBank.{Request, Balance}
+use Rattle.std.specs.Prelude.{ℕ, zero, suc, ◌==◌, IsTrue, if◌then◌else◌, List, [], ◌∷◌, map, Option, None, slice_get, slice_index_or, Bool, true, false}
+use Rattle.eve_smallbank.specs.SmallBank.{Balance}
 use Rattle.eve_grammar.specs.Trace.{Asked, Access, Attempt, Rollback, Step, Attempts, Commits, RollsBack, Trace}
 use Rattle.eve_grammar.specs.Frames.{without_accesses, sections_of}
 use Rattle.eve_grammar.specs.Spelling.{accesses_at, steps_at}
@@ -49,19 +49,21 @@ ran (at, a) = record { offset = at; attempt = without_accesses a; ordered = orde
 abbrev pub placed_at : Placed → ℕ × Attempt
 placed_at p = (p.offset, p.attempt)
 
--- Whose section it is; its last committed number; its attempts in the order of their frames, and what became of
--- each; its committed attempts, by number; its rollbacks with the offsets of their frames.
+-- Whose section it is, and whether each of its steps is right; its last committed number; its attempts in the order of
+-- their frames, and what became of each; its committed attempts, by number; its rollbacks with the offsets of their frames.
 pub record Telling : Type 0 where
   pub replica : ℕ
+  pub right : Bool
   pub committed : ℕ
   pub attempts : List Ran
   pub fates : List Fate
   pub commits : List Ran
   pub rollbacks : List (ℕ × Rollback)
 
-abbrev pub told_by : ℕ → List (ℕ × Step) → Telling
-told_by e steps = record {
+abbrev pub told_by : Trace → ℕ → List (ℕ × Step) → Telling
+told_by t e steps = record {
   replica = e;
+  right = are_right t start steps;
   committed = (state_after start steps).last;
   attempts = map ran (attempts_among steps);
   fates = fates_from 0 steps;
@@ -71,7 +73,7 @@ told_by e steps = record {
 
 -- what replica e's section tells
 unfoldable pub telling : Trace → ℕ → Telling
-telling t e = told_by e (steps_at t e)
+telling t e = told_by t e (steps_at t e)
 
 -- what each replica's section tells, in the order of the replicas
 unfoldable pub tellings : Trace → List Telling
@@ -99,17 +101,9 @@ committed_at t e (suc n) = slice_get (history t e).committed n
 abbrev pub no_request : Asked
 no_request = record { client = 0; number = 0; request = Balance [] }
 
--- the requests of the attempt's batch in its certificate's order
-abbrev pub requests_in_order : Trace → Attempt → List Request
-requests_in_order t a = map (λ index. (slice_index_or (batch_at t a.seq).requests index no_request).request) a.certificate
-
-abbrev pub requests_by : Trace → Option Placed → List Request
-requests_by t None = []
-requests_by t (Some p) = requests_in_order t p.attempt
-
--- batch n's requests as the certificate of replica e's committed attempt lists them
-unfoldable pub order_of : Trace → ℕ → ℕ → List Request
-order_of t e n = requests_by t (committed_at t e n)
+-- the request with this index of the attempt's batch
+abbrev pub asked_at : Trace → Attempt → ℕ → Asked
+asked_at t a index = slice_index_or (batch_at t a.seq).requests index no_request
 
 -- ---- attempts by their fates
 

@@ -1,6 +1,7 @@
 //! Customers and requests, in the order in which they came.
 
-ghost use Rattle.std.specs.Prelude.{◌≡◌, ◌≤◌, ◌++◌, ◌∷◌, [], Contains, IfOk, IfErr, MatchBool, IsTrue, map, length};
+ghost use Rattle.std.specs.Prelude.{◌≡◌, ◌≤◌, ◌++◌, ◌∷◌, [], List, Contains, IfOk, IfErr, MatchBool, IsTrue, map, length, nat_eq};
+ghost use Rattle.indexmap.specs.IndexMap.{get};
 ghost use Rattle.eve_grammar.specs.Limits.{is_batch};
 ghost use Rattle.eve_frames.specs.Views.{batch_in};
 ghost use Rattle.eve_views.specs.Form.{IfFound, IsLeast, HasNone};
@@ -8,13 +9,14 @@ ghost use Rattle.eve_views.specs.Fronts.{whole};
 ghost use Rattle.eve_views.specs.declared.fault.Fault.{Fault};
 ghost use Rattle.eve_views.specs.declared.fault.CheckFault.TheVariants.{Found, Memory};
 ghost use Rattle.eve_history.specs.Told.{names_of};
-ghost use Rattle.eve_history.specs.Faults.{IsOrderFault, ticket};
+ghost use Rattle.eve_history.specs.Faults.{IsOrderFault, RequestId, request_id};
+ghost use Rattle.eve_history.specs.Rising.{AreReached, HaveRisen};
 ghost use Rattle.eve_history.specs.Notes.{AreNoted, IsRepeated, requests_said, HasDistinctNames, HasDistinctRequests};
 
-use eve_accounts::{NameFault, Names};
+use eve_accounts::{KeyedHash, NameFault, Names};
 use eve_frames::BatchView;
 use eve_views::{CheckFault, Code, Fault, Trace};
-use indexmap::IndexSet;
+use indexmap::{IndexMap, IndexSet};
 use std::alloc::Global;
 use std::hash::RandomState;
 
@@ -32,14 +34,14 @@ fn outside(code: Code, offset: u64) -> CheckFault
 /// Notes a request's client and the client's number for it: whether they are new.
 fn is_new(
     noted: &mut IndexSet<(u32, u64), RandomState>,
-    ticket: (u32, u64),
+    request_id: (u32, u64),
 ) -> Result<bool, CheckFault>
     ensures new { IfOk result (λ new. MatchBool new
-        ((¬ Contains noted.old.keys ticket) × (noted.new.keys ≡ noted.old.keys ++ ticket ∷ []))
-        (Contains noted.old.keys ticket)) }
+        ((¬ Contains noted.old.keys request_id) × (noted.new.keys ≡ noted.old.keys ++ request_id ∷ []))
+        (Contains noted.old.keys request_id)) }
     ensures memory { IfErr result (λ e. e ≡ Memory) }
 {
-    let is_new = noted.insert(ticket)?;
+    let is_new = noted.insert(request_id)?;
     Ok(is_new)
 }
 
@@ -49,8 +51,8 @@ fn are_new(
     batch: &BatchView<'_>,
 ) -> Result<bool, CheckFault>
     ensures new { IfOk result (λ new. MatchBool new
-        (AreNoted noted.old.keys (map ticket (requests_said batch.now.bytes.now)) noted.new.keys)
-        (IsRepeated noted.old.keys (map ticket (requests_said batch.now.bytes.now)))) }
+        (AreNoted noted.old.keys (map request_id (requests_said batch.now.bytes.now)) noted.new.keys)
+        (IsRepeated noted.old.keys (map request_id (requests_said batch.now.bytes.now)))) }
     ensures memory { IfErr result (λ e. e ≡ Memory) }
 {
     for asked in batch.requests() {
@@ -89,12 +91,70 @@ fn names_in_order<'a>(
     Ok(names)
 }
 
+/// How many clients at most have their greatest numbers kept.
+const MOST_CLIENTS: usize = 4096;
+
+/// Notes a request's number as the greatest of its client: whether it is above all numbers that the client had.
+fn is_above(
+    greatest: &mut IndexMap<u32, u64, KeyedHash>,
+    client: u32,
+    number: u64,
+) -> Result<bool, CheckFault>
+    ensures above { IfOk result (λ above. IsTrue above → (noted : List RequestId) → AreReached (get nat_eq greatest.old) noted
+        → (¬ Contains noted (client, number)) × AreReached (get nat_eq greatest.new) (noted ++ (client, number) ∷ [])) }
+    ensures memory { IfErr result (λ e. e ≡ Memory) }
+{
+    match greatest.insert(client, number) {
+        Ok(Some(before)) => Ok(before < number),
+        Ok(None) => Ok(true),
+        Err(_) => Err(CheckFault::Memory),
+    }
+}
+
+/// Notes the numbers of a batch's requests: whether each is above all that its client had.
+fn are_above(
+    greatest: &mut IndexMap<u32, u64, KeyedHash>,
+    batch: &BatchView<'_>,
+) -> Result<bool, CheckFault>
+    ensures above { IfOk result (λ above. IsTrue above → (noted : List RequestId) → AreReached (get nat_eq greatest.old) noted
+        → HaveRisen noted (map request_id (requests_said batch.now.bytes.now)) (get nat_eq greatest.new)) }
+    ensures memory { IfErr result (λ e. e ≡ Memory) }
+{
+    for asked in batch.requests() {
+        if !is_above(greatest, asked.client, asked.number)? {
+            return Ok(false);
+        }
+    }
+    Ok(true)
+}
+
+/// Whether the numbers of each client rise from request to request, of few clients: then no request occurs twice.
+///
+/// Where it says no, nothing is known. It keeps one number a client.
+fn numbers_rise(alloc: Global, trace: &Trace<'_>, random: RandomState) -> Result<bool, CheckFault>
+    ensures apart { IfOk result (λ rise. IsTrue rise → HasDistinctRequests (whole trace.now)) }
+    ensures memory { IfErr result (λ e. e ≡ Memory) }
+{
+    trace.is_whole();
+    let mut greatest = IndexMap::with_hasher(alloc, KeyedHash::new(&random));
+    for n in 0..trace.head().batches {
+        let batch = trace.batch(n + 1);
+        if !are_above(&mut greatest, &batch)? || greatest.len() > MOST_CLIENTS {
+            return Ok(false);
+        }
+    }
+    Ok(true)
+}
+
 /// Whether all requests differ in client or number, or the first batch with one that an earlier request has.
 fn requests_apart(alloc: Global, trace: &Trace<'_>, random: RandomState) -> Result<(), CheckFault>
     requires { HasDistinctNames (whole trace.now) }
     ensures apart { IfOk result (λ _. HasDistinctRequests (whole trace.now)) }
     ensures fault { IfErr result (λ e. IfFound e (IsLeast (IsOrderFault (whole trace.now)))) }
 {
+    if numbers_rise(alloc, trace, random)? {
+        return Ok(());
+    }
     trace.is_whole();
     let mut noted = IndexSet::with_hasher(alloc, random);
     for i in 0..trace.head().batches {
@@ -109,7 +169,8 @@ fn requests_apart(alloc: Global, trace: &Trace<'_>, random: RandomState) -> Resu
 /// The customers' names, in order, where no two customers share a name and no two requests share client and
 /// number; else the first fault of orders.
 ///
-/// docs/MODEL.md, "Faults". One look-up for each customer and each request. Want of memory decides nothing.
+/// docs/MODEL.md, "Faults". One look-up for each customer and each request, and one more for each request where some
+/// client's numbers don't rise. Want of memory decides nothing.
 pub fn orders<'a>(
     alloc: Global,
     trace: &Trace<'a>,

@@ -1,6 +1,6 @@
 //! What a replica did.
 
-ghost use Rattle.std.specs.Prelude.{◌≡◌, ◌≤◌, ◌<◌, ◌-◌, ◌∷◌, ℕ, List, Some, IfOk, IfErr, OnOk, length, slice_get};
+ghost use Rattle.std.specs.Prelude.{◌≡◌, ◌≤◌, ◌<◌, ◌-◌, ◌∷◌, ℕ, List, Some, IfOk, IfErr, OnOk, IsTrue, length, slice_get};
 ghost use Rattle.eve_grammar.specs.Trace.{Step as StepValue, Trace as TraceValue};
 ghost use Rattle.eve_grammar.specs.Frames.{OfAttempt, OfAccess, OfRollback};
 ghost use Rattle.eve_grammar.specs.Spelling.{frame_text};
@@ -10,7 +10,7 @@ ghost use Rattle.eve_views.specs.Fronts.{whole};
 ghost use Rattle.eve_views.specs.Lent.{HasBytesAt};
 ghost use Rattle.eve_views.specs.StepKinds.{IsStep};
 ghost use Rattle.eve_views.specs.declared.fault.Fault.{Fault};
-ghost use Rattle.eve_history.specs.Told.{Ran, telling, IsRightSection};
+ghost use Rattle.eve_history.specs.Told.{Ran, telling, tellings, IsRightSection};
 ghost use Rattle.eve_history.specs.Faults.{IsStructureFault};
 ghost use Rattle.eve_history.specs.Coming.{kept, HasCome, IsNoted};
 
@@ -42,6 +42,17 @@ impl<'a> Model for History<'a> {
     ghost view = { λ h. telling_of h.replica (kept h.notes) };
 
     ghost invariant = { λ h. IsWhole h.notes };
+}
+
+/// Says of the histories of all replicas that each step of each section is right. It does nothing else.
+///
+/// docs/MODEL.md, "Section state, fate".
+pub fn are_right(histories: &[History<'_>])
+    ensures { (t : TraceValue) → histories.now ≡ tellings t → (e : ℕ) → IsRightSection t e }
+{
+    for history in histories {
+        history.is_right();
+    }
 }
 
 /// Takes the next step of a replica's section, or says what is wrong with it.
@@ -88,6 +99,16 @@ impl<'a> History<'a> {
             take(&mut notes, trace, e, step)?;
         }
         Ok(History { replica: e, notes })
+    }
+
+    /// Says that each step of the replica's section is right: there is no history of any other. It does nothing else.
+    ///
+    /// docs/MODEL.md, "Section state, fate".
+    pub fn is_right(&self)
+        ensures right { IsTrue self.now.right }
+        ensures section { (t : TraceValue) (e : ℕ) → self.now ≡ telling t e → IsRightSection t e }
+    {
+        let _replica = self.replica;
     }
 
     /// The replica's number, from 0.

@@ -14,4 +14,4 @@ mod wrong;
 
 pub use arrivals::orders;
 pub use fate::Fate;
-pub use history::History;
+pub use history::{History, are_right};

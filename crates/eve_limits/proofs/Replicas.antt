@@ -8,7 +8,7 @@ use Rattle.eve_grammar.specs.Frames.{OfReplica, sections_of}
 use Rattle.eve_grammar.specs.Spelling.{frame_text, step_text, located, section_start, steps_at}
 use Rattle.eve_history.specs.Section.{start, are_right}
 use Rattle.eve_history.specs.Told.{Telling, telling, tellings, IsRightSection}
-use Rattle.eve_banks.specs.Settling.{Settling, settling, settlings}
+use Rattle.eve_chains.specs.Settling.{Settling, settling, settlings}
 use Rattle.eve_limits.specs.Telling.{AreTold}
 
 -- ---- lists over the numbered sections

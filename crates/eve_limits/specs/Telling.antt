@@ -3,7 +3,7 @@ use Rattle.std.specs.Prelude.{◌≡◌, ℕ, ◌<◌, List, map, take}
 use Rattle.eve_grammar.specs.Trace.{Trace}
 use Rattle.eve_grammar.specs.Frames.{sections_of}
 use Rattle.eve_history.specs.Told.{Telling, telling, IsRightSection}
-use Rattle.eve_banks.specs.Settling.{Settling, settling}
+use Rattle.eve_chains.specs.Settling.{Settling, settling}
 
 -- in their order, and their sections are right
 pub record AreTold (t : Trace) (n : ℕ) (told : List Telling) (wrote : List Settling) : Type 0 where

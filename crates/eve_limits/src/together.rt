@@ -3,10 +3,10 @@
 ghost use Rattle.std.specs.Prelude.{◌≡◌, ℕ, IfOk};
 ghost use Rattle.eve_views.specs.Fronts.{whole};
 ghost use Rattle.eve_history.specs.Told.{tellings, IsRightSection};
-ghost use Rattle.eve_banks.specs.Settling.{settlings};
+ghost use Rattle.eve_chains.specs.Settling.{settlings};
 
 use eve_agree::{equal_balances, replies};
-use eve_banks::Settled;
+use eve_chains::Settled;
 use eve_history::History;
 use eve_views::{CheckFault, Trace};
 use std::alloc::Global;

@@ -1,84 +1,108 @@
 -- The rule of the queue, and what its steps make of the ledgers. docs/MODEL.md, "Recorder lists, drawn numbers".
-use Rattle.std.specs.Prelude.{◌≡◌, ℕ, suc, ◌≤◌, ◌<◌, Bool, true, false, List, [], ◌∷◌, ◌++◌, length}
+use Rattle.std.specs.Prelude.{◌≡◌, ℕ, suc, ◌-◌, ◌≤◌, ◌<◌, ◌⊎◌, Bool, true, false, List, [], ◌∷◌, ◌++◌, length}
 use mathlib.Core.List.{IsPrefix}
 use mathlib.Core.Option.{some}
 use lib.ListN.{get_elem?}
-use Rattle.eve_recorder.specs.Noted.{of_worker, AllOf, IsOrderly}
+use Rattle.eve_recorder.specs.Noted.{of_worker, AllOf, IsOrderly, ComeFrom}
 use Rattle.eve_recorder.specs.declared.ledger.Ledger.{Ledger}
 use Rattle.eve_stamps.specs.Applied.{Applied}
 
-abbrev pub ledger : Bool → List Applied → ℕ → ℕ → List Applied → Ledger
-ledger takes taken from below noted = record { takes = takes; taken = taken; from = from; below = below; noted = noted }
+abbrev pub ledger : Bool → List Applied → ℕ → ℕ → ℕ → List Applied → Ledger
+ledger takes taken workers from below noted =
+    record { takes = takes; taken = taken; workers = workers; from = from; below = below; noted = noted }
 
 -- the pass stands for the worker w
 abbrev pub StandsFor : Ledger → ℕ → Type 0
 StandsFor v w = (v.from ≤ w) × (w < v.below)
 
 -- A pass that takes is the one taker's, and has all that was taken. A pass that stands for a worker is that worker's
--- one pass, and what it noted is all that there is of the worker. Of others it noted nothing.
-abbrev pub Fits : ℕ → (ℕ → ℕ) → List Applied → List Applied → ℕ → Ledger → Type 0
-Fits taker seat taken all pass v =
-    (v.takes ≡ true → (pass ≡ taker) × (v.taken ≡ taken))
-    × ((w : ℕ) → StandsFor v w → (pass ≡ seat w) × (of_worker w v.noted ≡ of_worker w all))
+-- one pass, and what it noted is all that there is of the worker. Either knows how many workers there are, and a worker
+-- for whom a pass stands is one of them. Of others a pass noted nothing.
+abbrev pub Fits : ℕ → ℕ → (ℕ → ℕ) → List Applied → List Applied → ℕ → Ledger → Type 0
+Fits workers taker seat taken all pass v =
+    (v.takes ≡ true → (pass ≡ taker) × (v.taken ≡ taken) × (v.workers ≡ workers))
+    × ((w : ℕ) → StandsFor v w
+    → (pass ≡ seat w) × (of_worker w v.noted ≡ of_worker w all) × (v.workers ≡ workers) × (w < workers))
     × ((w : ℕ) → ¬ (StandsFor v w) → of_worker w v.noted ≡ [])
 
--- At every moment one pass takes and each worker has one pass, and all that there is, what was taken and then what is
--- queued, has each worker's records in their places and fits each pass.
-abbrev pub Kept : List Applied → List Ledger → Type 0
-Kept queued ledgers =
-    (taker : ℕ) × (seat : ℕ → ℕ) × (taken : List Applied) × IsOrderly (taken ++ queued)
-    × ((pass : ℕ) (v : Ledger) → get_elem? ledgers pass ≡ some v → Fits taker seat taken (taken ++ queued) pass v)
+-- At every moment there are so many workers, one pass takes and each worker has one pass; and all that there is, what
+-- was taken and then what is queued, is of these workers, has each worker's records in their places, and fits each
+-- pass.
+pub record Kept (queued : List Applied) (ledgers : List Ledger) : Type 0 where
+  pub workers : ℕ
+  pub taker : ℕ
+  pub seat : ℕ → ℕ
+  pub taken : List Applied
+  pub orderly : IsOrderly (taken ++ queued)
+  pub whose : ComeFrom workers (taken ++ queued)
+  pub fits : (pass : ℕ) (v : Ledger) → get_elem? ledgers pass ≡ some v
+      → Fits workers taker seat taken (taken ++ queued) pass v
 
 -- a worker's pass stands for that worker alone, and has noted so many records, all of that worker
 abbrev pub IsWorkers : ℕ → ℕ → Ledger → Type 0
-IsWorkers worker count v = (v ≡ ledger false [] worker (suc worker) v.noted) × (count ≡ length v.noted) × AllOf worker v.noted
+IsWorkers worker count v =
+    (v ≡ ledger false [] v.workers worker (suc worker) v.noted) × (worker < v.workers) × (v.workers ≤ 8)
+    × (count ≡ length v.noted) × AllOf worker v.noted
 
 -- what is noted is added to what was noted
 abbrev pub noting : Ledger → Applied → Ledger
-noting v x = ledger v.takes v.taken v.from v.below (v.noted ++ x ∷ [])
+noting v x = ledger v.takes v.taken v.workers v.from v.below (v.noted ++ x ∷ [])
 
 -- what is taken is added to what was taken
 abbrev pub taking : Ledger → Applied → Ledger
-taking v x = ledger v.takes (v.taken ++ x ∷ []) v.from v.below v.noted
+taking v x = ledger v.takes (v.taken ++ x ∷ []) v.workers v.from v.below v.noted
 
 -- the first pass stands for eight workers, and takes
 abbrev pub newcomer : Ledger
-newcomer = ledger true [] 0 8 []
+newcomer = ledger true [] 8 0 8 []
 
--- a pass that was joined to another
+-- a pass that was joined to another, or that stands for nobody
 abbrev pub nobody : Ledger
-nobody = ledger false [] 0 0 []
+nobody = ledger false [] 0 0 0 []
 
--- the least worker is cut off
+-- the last worker is none: there is one less
+abbrev pub one_less : Ledger → Ledger
+one_less v = ledger v.takes v.taken (v.workers - 1) v.from (v.below - 1) v.noted
+
+-- the last worker is cut off
 abbrev pub rest_of : Ledger → Ledger
-rest_of v = ledger v.takes v.taken (suc v.from) v.below v.noted
+rest_of v = ledger v.takes v.taken v.workers v.from (v.below - 1) v.noted
 
-abbrev pub worker_of : Ledger → Ledger
-worker_of v = ledger false [] v.from (suc v.from) []
+abbrev pub last_of : Ledger → Ledger
+last_of v = ledger false [] v.workers (v.below - 1) v.below []
 
 -- and put back
-abbrev pub with_worker : Ledger → Ledger → Ledger
-with_worker v u = ledger v.takes v.taken u.from v.below (v.noted ++ u.noted)
+abbrev pub with_last : Ledger → Ledger → Ledger
+with_last v u = ledger v.takes v.taken v.workers v.from u.below (v.noted ++ u.noted)
 
 -- the taker is cut off
 abbrev pub no_taker : Ledger → Ledger
-no_taker v = ledger false [] v.from v.below v.noted
+no_taker v = ledger false [] v.workers v.from v.below v.noted
 
 abbrev pub taker_of : Ledger → Ledger
-taker_of v = ledger true v.taken 0 0 []
+taker_of v = ledger true v.taken v.workers 0 0 []
 
 -- and put back
 abbrev pub with_taker : Ledger → Ledger → Ledger
-with_taker v u = ledger true u.taken v.from v.below v.noted
+with_taker v u = ledger true u.taken v.workers v.from v.below v.noted
 
--- of each worker that the pass stands for, what was taken is the beginning of what was noted
+-- the pass stands for the worker, or that worker isn't there
+abbrev pub KnowsOf : Ledger → ℕ → Type 0
+KnowsOf v w = StandsFor v w ⊎ (v.workers ≤ w)
+
+-- of each worker that the pass knows of, what was taken is the beginning of what was noted
 abbrev pub TakesFront : Ledger → Type 0
-TakesFront v = (w : ℕ) → StandsFor v w → IsPrefix (of_worker w v.taken) (of_worker w v.noted)
+TakesFront v = (w : ℕ) → KnowsOf v w → IsPrefix (of_worker w v.taken) (of_worker w v.noted)
 
--- what a worker sees of a full queue: behind some taken records it holds what the worker noted
+-- What a worker sees of a full queue: behind some taken records it holds what the worker noted, and all these are of
+-- workers that are there.
 abbrev pub SeesSome : Ledger → List Applied → Type 0
-SeesSome v queued = (taken : List Applied) × ((w : ℕ) → StandsFor v w → of_worker w v.noted ≡ of_worker w (taken ++ queued))
+SeesSome v queued =
+    (taken : List Applied) × IsOrderly (taken ++ queued)
+    × ((w : ℕ) → StandsFor v w
+    → (of_worker w v.noted ≡ of_worker w (taken ++ queued)) × ComeFrom v.workers (taken ++ queued))
 
 -- what the taker sees of an empty queue: behind what it took the queue holds what was noted
 abbrev pub SeesAll : Ledger → List Applied → Type 0
-SeesAll v queued = IsOrderly (v.taken ++ queued) × ((w : ℕ) → StandsFor v w → of_worker w v.noted ≡ of_worker w (v.taken ++ queued))
+SeesAll v queued =
+    IsOrderly (v.taken ++ queued) × ((w : ℕ) → KnowsOf v w → of_worker w v.noted ≡ of_worker w (v.taken ++ queued))

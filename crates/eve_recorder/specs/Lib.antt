@@ -1,4 +1,6 @@
 pub mod Noted
 pub mod Kept
 pub mod Seen
+pub mod Dealt
+pub mod Drawing
 pub mod Rows

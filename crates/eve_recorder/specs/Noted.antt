@@ -1,5 +1,5 @@
 -- Lists of records, worker by worker. docs/MODEL.md, "Recorder lists, drawn numbers".
-use Rattle.std.specs.Prelude.{◌≡◌, ℕ, suc, eqb, cond, List, [], ◌∷◌}
+use Rattle.std.specs.Prelude.{◌≡◌, ℕ, suc, ◌≤◌, eqb, cond, List, [], ◌∷◌}
 use Rattle.eve_stamps.specs.Applied.{Applied}
 
 -- the records of one worker, in order
@@ -20,3 +20,7 @@ IsPlaced n (r ∷ rs) = (r.place ≡ n) × IsPlaced (suc n) rs
 -- each worker's records have the places 0, 1, 2, .., each once
 abbrev pub IsOrderly : List Applied → Type 0
 IsOrderly rs = (w : ℕ) → IsPlaced 0 (of_worker w rs)
+
+-- they are of the first so many workers alone
+abbrev pub ComeFrom : ℕ → List Applied → Type 0
+ComeFrom workers rs = (w : ℕ) → workers ≤ w → of_worker w rs ≡ []

@@ -1,29 +1,37 @@
 -- What contracts see of a recorder and its seats. docs/MODEL.md, "Recorder lists, drawn numbers".
-use Rattle.std.specs.Prelude.{◌≡◌, ℕ, ◌<◌, ltb, cond, slice_index_or, IsSome, List, [], ◌∷◌, ◌++◌, length, Option, Some, None, slice_get}
+use Rattle.std.specs.Prelude.{◌≡◌, ℕ, ◌<◌, if◌then◌else◌, nat_lt, IsSome, List, [], ◌++◌, length, Option, Some, None, flat_map}
 use Rattle.atomic_table.specs.Seated.{TableId}
 use Rattle.eve_stamps.specs.Applied.{Applied}
-use Rattle.eve_recorder.specs.Noted.{of_worker, AllOf, IsOrderly}
+use Rattle.eve_recorder.specs.Noted.{of_worker, AllOf, IsOrderly, ComeFrom}
+use Rattle.eve_recorder.specs.Rows.{row_by, HasBelow, AreSeated}
+
+-- which recorder it is, by a table that no others share, and how many workers it has
+pub record RecorderId : Type 0 where
+  pub table : TableId
+  pub workers : ℕ
+
+abbrev pub recorder_id : TableId → ℕ → RecorderId
+recorder_id table workers = record { table = table; workers = workers }
 
 -- which recorder it is, and for how many records it has room
 pub record Desk : Type 0 where
-  pub recorder : TableId
+  pub recorder : RecorderId
   pub room : ℕ
 
 -- a worker's seat: of which recorder, of which worker, and what was noted on it
 pub record Noter : Type 0 where
-  pub recorder : TableId
+  pub recorder : RecorderId
   pub worker : ℕ
   pub noted : List Applied
 
 -- the taker's seat: of which recorder, and what was taken on it
 pub record Taker : Type 0 where
-  pub recorder : TableId
+  pub recorder : RecorderId
   pub taken : List Applied
 
 -- the seats that are there, each worker's at its number
 pub record Places : Type 0 where
-  pub recorder : TableId
-  pub workers : ℕ
+  pub recorder : RecorderId
   pub seats : List (Option Noter)
   pub taker : Option Taker
 
@@ -32,12 +40,16 @@ pub record Gathered : Type 0 where
   pub noted : List Applied
   pub taken : List Applied
 
--- each seat lies at its worker's number, and what was noted on it is of its worker
-abbrev pub IsSeated : TableId → ℕ → List (Option Noter) → Type 0
-IsSeated recorder workers seats = (w : ℕ) (x : Noter) → slice_get seats w ≡ Some (Some x) → (x.recorder ≡ recorder) × (x.worker ≡ w) × (w < workers) × AllOf w x.noted
+-- a seat of this recorder and of this worker, on which that worker's records alone were noted
+abbrev pub IsNoterOf : RecorderId → ℕ → Noter → Type 0
+IsNoterOf recorder w x = (x.recorder ≡ recorder) × (x.worker ≡ w) × (w < recorder.workers) × AllOf w x.noted
+
+-- each seat lies at its worker's number
+abbrev pub IsSeated : RecorderId → List (Option Noter) → Type 0
+IsSeated recorder seats = AreSeated (IsNoterOf recorder) seats
 
 -- the taker's seat, where it is there, is of this recorder
-abbrev pub IsAt : TableId → Option Taker → Type 0
+abbrev pub IsAt : RecorderId → Option Taker → Type 0
 IsAt recorder None = Unit {0}
 IsAt recorder (Some t) = t.recorder ≡ recorder
 
@@ -46,35 +58,34 @@ abbrev pub noted_on : Option Noter → List Applied
 noted_on None = []
 noted_on (Some x) = x.noted
 
--- all that was noted, the last worker's first
+-- all that was noted, worker after worker
 abbrev pub all_noted : List (Option Noter) → List Applied
-all_noted [] = []
-all_noted (s ∷ ss) = all_noted ss ++ noted_on s
-
--- the first n seats are there
-abbrev pub HasBelow : ℕ → List (Option Noter) → Type 0
-HasBelow n seats = (w : ℕ) → w < n → IsSome (slice_index_or seats w None)
+all_noted seats = flat_map noted_on seats
 
 -- each worker's seat is there, and the taker's
 abbrev pub IsWhole : Places → Type 0
-IsWhole p = IsSome p.taker × HasBelow p.workers p.seats
+IsWhole p = IsSome p.taker × HasBelow p.recorder.workers p.seats
 
--- the seat of worker w among so many, with nothing noted
-abbrev pub fresh : TableId → ℕ → ℕ → Option Noter
-fresh recorder workers w = cond (ltb w workers) (Some record { recorder = recorder; worker = w; noted = [] }) None
+-- the seat of worker w, where there is that worker, with nothing noted
+abbrev pub fresh_noter : RecorderId → ℕ → Option Noter
+fresh_noter recorder w =
+    if nat_lt w recorder.workers then Some record { recorder = recorder; worker = w; noted = [] } else None
 
-abbrev pub fresh_row : TableId → ℕ → List (Option Noter)
-fresh_row recorder n =
-    fresh recorder n 0 ∷ fresh recorder n 1 ∷ fresh recorder n 2 ∷ fresh recorder n 3
-    ∷ fresh recorder n 4 ∷ fresh recorder n 5 ∷ fresh recorder n 6 ∷ fresh recorder n 7 ∷ []
+-- the seats of all workers and the taker, with nothing noted and nothing taken
+abbrev pub fresh_places : RecorderId → Places
+fresh_places recorder = record {
+  recorder = recorder;
+  seats = row_by (fresh_noter recorder);
+  taker = Some record { recorder = recorder; taken = [] };
+}
 
--- the seats of so many workers and the taker, with nothing noted and nothing taken
-abbrev pub fresh_places : TableId → ℕ → Places
-fresh_places recorder n = record { recorder = recorder; workers = n; seats = fresh_row recorder n; taker = Some record { recorder = recorder; taken = [] } }
-
--- at one moment so many records were queued, and behind some taken ones they were what the worker had noted
-abbrev pub WasFull : ℕ → ℕ → List Applied → Type 0
-WasFull room worker noted = (taken : List Applied) × (queued : List Applied) × (length queued ≡ room) × (of_worker worker (taken ++ queued) ≡ of_worker worker noted)
+-- At one moment the queue was full, of records of workers that are there; and behind some taken records, each worker's
+-- in their places, it held what was noted on this seat.
+abbrev pub WasFull : Desk → Noter → Type 0
+WasFull desk seat =
+    (taken : List Applied) × (queued : List Applied) × (length queued ≡ desk.room)
+    × IsOrderly (taken ++ queued) × ComeFrom desk.recorder.workers (taken ++ queued)
+    × (of_worker seat.worker (taken ++ queued) ≡ seat.noted)
 
 -- at one moment nothing was queued, and what was taken so far was all that was noted
 abbrev pub WasEmpty : List Applied → Type 0

@@ -5,11 +5,12 @@ use crossbeam_queue::{Pass, RuledArrayQueue};
 use eve_stamps::AccessRecord;
 use std::collections::LinkedList;
 
-/// Whether a pass takes, what it took, the workers that it stands for, and what these noted. It is spoken of in proofs
-/// alone: no value of it is made.
+/// Whether a pass takes, what it took, how many workers there are, for which of them it stands, and what these noted.
+/// It is spoken of in proofs alone: no value of it is made.
 pub struct Ledger {
     pub takes: bool,
     pub taken: LinkedList<AccessRecord>,
+    pub workers: u8,
     pub from: u8,
     pub below: u8,
     pub noted: LinkedList<AccessRecord>,
@@ -32,21 +33,32 @@ pub type Queue = RuledArrayQueue<AccessRecord, Ledger, EachOnce>;
 /// A pass of it.
 pub type QueuePass = Pass<AccessRecord, Ledger>;
 
-/// A worker's part is cut off a pass, and joined to it.
+/// The last worker that a pass stands for is none: what is cut off stands for nobody.
+pub struct AbsentCut;
+
+impl Split<Ledger> for AbsentCut {
+    ghost use Rattle.eve_recorder.specs.Kept.{one_less, nobody};
+
+    ghost left = { one_less };
+
+    ghost right = { λ _. nobody };
+}
+
+/// The last worker's part is cut off a pass, and joined to it.
 pub struct WorkerCut;
 
 impl Split<Ledger> for WorkerCut {
-    ghost use Rattle.eve_recorder.specs.Kept.{rest_of, worker_of};
+    ghost use Rattle.eve_recorder.specs.Kept.{rest_of, last_of};
 
     ghost left = { rest_of };
 
-    ghost right = { worker_of };
+    ghost right = { last_of };
 }
 
 impl Join<Ledger> for WorkerCut {
-    ghost use Rattle.eve_recorder.specs.Kept.{with_worker, nobody};
+    ghost use Rattle.eve_recorder.specs.Kept.{with_last, nobody};
 
-    ghost both = { with_worker };
+    ghost both = { with_last };
 
     ghost spent = { nobody };
 }
@@ -90,11 +102,11 @@ impl Lesson<AccessRecord, Ledger> for Notes {
 pub struct Takes;
 
 impl Outcome<AccessRecord, Ledger> for Takes {
-    ghost use Rattle.std.specs.Prelude.{◌≡◌};
+    ghost use Rattle.std.specs.Prelude.{◌≡◌, ◌<◌};
     ghost use Rattle.eve_recorder.specs.Kept.{taking, TakesFront};
     ghost use Rattle.eve_recorder.specs.Noted.{IsOrderly};
 
-    ghost then = { λ v x w. (w ≡ taking v x) × IsOrderly w.taken × TakesFront w };
+    ghost then = { λ v x w. (w ≡ taking v x) × IsOrderly w.taken × TakesFront w × (x.worker < v.workers) };
 }
 
 impl Lesson<AccessRecord, Ledger> for Takes {

@@ -1,7 +1,8 @@
 //! How running threads note and gather what they did: a queue of records with a seat per worker and one for the taker,
-//! and the gate that tests hold threads at.
+//! the tickets from which they draw numbers, and the gate that tests hold threads at.
 #![tactic(auto)]
 
+mod drawn;
 mod gate;
 mod ledger;
 mod recorder;
@@ -9,8 +10,9 @@ mod row;
 mod seats;
 mod taken;
 mod taker_seat;
-#[cfg(test)]
-mod tests;
+mod ticket_seat;
+mod ticket_seats;
+mod tickets;
 mod worker_seat;
 
 pub use gate::{Gate, OpenGate};
@@ -18,4 +20,7 @@ pub use recorder::{NoteFault, Recorder};
 pub use seats::Seats;
 pub use taken::Taken;
 pub use taker_seat::TakerSeat;
+pub use ticket_seat::TicketSeat;
+pub use ticket_seats::TicketSeats;
+pub use tickets::Tickets;
 pub use worker_seat::WorkerSeat;

@@ -1,12 +1,12 @@
 //! The recorder: how it is made, its two steps, and how it is ended.
 
-ghost use Rattle.std.specs.Prelude.{◌≡◌, ◌<◌, ◌≤◌, ◌+◌, false, [], ◌++◌, ◌∷◌, ℕ, min, length, IfOk, OnOk, IfErr, IfSome, IsSome, IfNone, Some, slice_get};
+ghost use Rattle.std.specs.Prelude.{◌≡◌, ◌<◌, ◌≤◌, ◌+◌, true, false, [], ◌++◌, ◌∷◌, ℕ, min, max, length, IfOk, OnOk, IfErr, IfSome, IsSome, IfNone, Some, slice_get};
 ghost use Rattle.crossbeam_queue.specs.Passes.{view, IsPassOf, IsSamePass};
 ghost use Rattle.eve_recorder.specs.Noted.{of_worker, IsOrderly};
 ghost use Rattle.eve_recorder.specs.Kept.{ledger};
-ghost use Rattle.eve_recorder.specs.Seen.{Desk, Noter, Taker, Places, Gathered, fresh, fresh_places, noted_on, IsWhole, WasFull, WasEmpty};
+ghost use Rattle.eve_recorder.specs.Seen.{Desk, Noter, Taker, Places, Gathered, recorder_id, fresh_noter, fresh_places, noted_on, IsNoterOf, IsWhole, WasFull, WasEmpty};
 
-use crate::ledger::{Notes, Queue, QueuePass, TakerCut, Takes, WorkerCut};
+use crate::ledger::{AbsentCut, Notes, Queue, QueuePass, TakerCut, Takes, WorkerCut};
 use crate::row::Row;
 use crate::seats::Seats;
 use crate::taken::Taken;
@@ -24,22 +24,26 @@ pub enum NoteFault {
     Full(AccessRecord),
 }
 
-/// A bounded queue of records, which workers note and one taker takes. Contracts see which recorder it is and its room
-/// (`Desk`); the lists stand in the seats.
+/// A bounded queue of records, which workers note and one taker takes. Contracts see which recorder it is, with how
+/// many workers, and its room (`Desk`); the lists stand in the seats.
 ///
 /// docs/MODEL.md, "Recorder lists, drawn numbers".
 #[derive(Drop)]
 pub struct Recorder {
     pub(crate) queue: Queue,
+    pub(crate) workers: u8,
 }
 
 impl Model for Recorder {
     ghost use Rattle.crossbeam_queue.specs.Passes.{ruled_capacity};
-    ghost use Rattle.eve_recorder.specs.Seen.{Desk};
+    ghost use Rattle.eve_recorder.specs.Seen.{Desk, recorder_id};
 
     ghost Value = { Desk };
 
-    ghost view = { λ r. record { recorder = r.queue.table.shared.table_id; room = ruled_capacity r.queue } };
+    ghost view = { λ r. record {
+      recorder = recorder_id r.queue.table.shared.table_id r.workers;
+      room = ruled_capacity r.queue;
+    } };
 }
 
 impl Recorder {
@@ -47,19 +51,20 @@ impl Recorder {
     pub fn new(alloc: Global, workers: u8, room: usize) -> Result<(Recorder, Seats), AllocError>
         requires workers { (1 ≤ workers) × (workers ≤ 8) }
         requires room { (1 ≤ room) × (room ≤ 256) }
+        ensures workers { IfOk result (λ r. r.0.recorder.workers ≡ workers) }
         ensures room { IfOk result (λ r. r.0.room ≡ room) }
-        ensures seats { IfOk result (λ r. r.1 ≡ fresh_places r.0.recorder workers) }
+        ensures seats { IfOk result (λ r. r.1 ≡ fresh_places r.0.recorder) }
     {
         let (queue, mut main) = Queue::ruled(alloc, room)?;
-        let taker = queue.another::<TakerCut>(&mut main);
-        let s0 = cut(&queue, &mut main, 0, workers);
-        let s1 = cut(&queue, &mut main, 1, workers);
-        let s2 = cut(&queue, &mut main, 2, workers);
-        let s3 = cut(&queue, &mut main, 3, workers);
-        let s4 = cut(&queue, &mut main, 4, workers);
-        let s5 = cut(&queue, &mut main, 5, workers);
-        let s6 = cut(&queue, &mut main, 6, workers);
         let s7 = cut(&queue, &mut main, 7, workers);
+        let s6 = cut(&queue, &mut main, 6, workers);
+        let s5 = cut(&queue, &mut main, 5, workers);
+        let s4 = cut(&queue, &mut main, 4, workers);
+        let s3 = cut(&queue, &mut main, 3, workers);
+        let s2 = cut(&queue, &mut main, 2, workers);
+        let s1 = cut(&queue, &mut main, 1, workers);
+        let s0 = cut(&queue, &mut main, 0, workers);
+        let taker = queue.another::<TakerCut>(&mut main);
         let seats = Seats {
             main,
             workers,
@@ -75,11 +80,12 @@ impl Recorder {
             },
             taker: Some(TakerSeat { pass: taker }),
         };
-        Ok((Recorder { queue }, seats))
+        Ok((Recorder { queue, workers }, seats))
     }
 
     /// Appends the record to its worker's list. The record names the worker and the next place of the seat, and the
-    /// seat is of this recorder.
+    /// seat is of this recorder. Full where the queue was full at one moment: of a recorder of one worker, only once
+    /// that worker has noted as many records as there is room for.
     pub fn note<R: Wait>(
         &self,
         rt: &R,
@@ -91,7 +97,8 @@ impl Recorder {
         ensures ok { OnOk result (seat.new ≡ record seat.old { noted = seat.old.noted ++ made ∷ [] }) }
         ensures same { IfErr result (λ e. (e ≡ NoteFault.Full made) × (seat.new ≡ seat.old)) }
         ensures own { (seat.new.recorder ≡ seat.old.recorder) × (seat.new.worker ≡ seat.old.worker) }
-        ensures full { IfErr result (λ _. WasFull self.now.room seat.old.worker seat.old.noted) }
+        ensures full { IfErr result (λ _. WasFull self.now seat.old) }
+        ensures alone { IfErr result (λ _. self.now.recorder.workers ≡ 1 → self.now.room ≤ length seat.old.noted) }
     {
         match self.queue.push_as::<Notes, R>(rt, &mut seat.pass, made) {
             Ok(()) => {
@@ -103,10 +110,12 @@ impl Recorder {
     }
 
     /// Takes the oldest record that is queued, None where the queue was empty at one moment. The seat is of this
-    /// recorder. What was taken of each worker has the places 0, 1, 2, .., each once.
+    /// recorder. What is taken is of a worker that is there, and what was taken of each has the places 0, 1, 2, ..,
+    /// each once.
     pub fn take<R: Wait>(&self, rt: &R, seat: &mut TakerSeat) -> Option<AccessRecord>
         requires { seat.old.recorder ≡ self.now.recorder }
         ensures some { IfSome result (λ x. seat.new ≡ record seat.old { taken = seat.old.taken ++ x ∷ [] }) }
+        ensures whose { IfSome result (λ x. x.worker < self.now.recorder.workers) }
         ensures none { IfNone result (seat.new ≡ seat.old) }
         ensures own { seat.new.recorder ≡ seat.old.recorder }
         ensures empty { IfNone result (WasEmpty seat.old.taken) }
@@ -119,11 +128,12 @@ impl Recorder {
     pub fn finish(self, seats: Seats) -> Taken
         requires own { seats.recorder ≡ self.recorder }
         requires whole { IsWhole seats }
-        ensures noted { (w : ℕ) (x : Noter) → slice_get seats.seats w ≡ Some (Some x) → of_worker w result.noted ≡ x.noted }
-        ensures others { (w : ℕ) → seats.workers ≤ w → of_worker w result.noted ≡ [] }
+        ensures noted { (w : ℕ) (x : Noter) → slice_get seats.seats w ≡ Some (Some x)
+            → of_worker w result.noted ≡ x.noted }
+        ensures others { (w : ℕ) → seats.recorder.workers ≤ w → of_worker w result.noted ≡ [] }
         ensures taken { IfSome seats.taker (λ t. result.taken ≡ t.taken) }
     {
-        let Recorder { queue } = self;
+        let Recorder { queue, .. } = self;
         let Seats {
             mut main,
             workers,
@@ -140,14 +150,14 @@ impl Recorder {
             s6,
             s7,
         } = row;
-        put_back(&queue, &mut main, s7, 7, workers);
-        put_back(&queue, &mut main, s6, 6, workers);
-        put_back(&queue, &mut main, s5, 5, workers);
-        put_back(&queue, &mut main, s4, 4, workers);
-        put_back(&queue, &mut main, s3, 3, workers);
-        put_back(&queue, &mut main, s2, 2, workers);
-        put_back(&queue, &mut main, s1, 1, workers);
         put_back(&queue, &mut main, s0, 0, workers);
+        put_back(&queue, &mut main, s1, 1, workers);
+        put_back(&queue, &mut main, s2, 2, workers);
+        put_back(&queue, &mut main, s3, 3, workers);
+        put_back(&queue, &mut main, s4, 4, workers);
+        put_back(&queue, &mut main, s5, 5, workers);
+        put_back(&queue, &mut main, s6, 6, workers);
+        put_back(&queue, &mut main, s7, 7, workers);
         let Some(taker) = taker else { unreachable!() };
         let TakerSeat { pass } = taker;
         queue.absorb::<TakerCut>(&mut main, pass);
@@ -155,16 +165,17 @@ impl Recorder {
     }
 }
 
-// Cuts the seat of worker `w` off, if there is to be one.
+// Cuts the last of the workers 0 to w off: its seat, if it is to be there, and else it is no worker.
 fn cut(queue: &Queue, main: &mut QueuePass, w: u8, workers: u8) -> Option<WorkerSeat>
     requires queue { IsPassOf queue.now main.old }
-    requires main { view main.old ≡ ledger false [] (min workers w) 8 [] }
+    requires main { view main.old ≡ ledger true [] (max workers (w + 1)) 0 (w + 1) [] }
     requires few { (workers ≤ 8) × (w < 8) }
     ensures queue { IsSamePass main.old main.new }
-    ensures main { view main.new ≡ ledger false [] (min workers (w + 1)) 8 [] }
-    ensures seat { result ≡ fresh queue.now.table.shared.table_id workers w }
+    ensures main { view main.new ≡ ledger true [] (max workers w) 0 w [] }
+    ensures seat { result ≡ fresh_noter (recorder_id queue.now.table.shared.table_id workers) w }
 {
     if w >= workers {
+        queue.another::<AbsentCut>(main);
         return None;
     }
     let pass = queue.another::<WorkerCut>(main);
@@ -175,15 +186,15 @@ fn cut(queue: &Queue, main: &mut QueuePass, w: u8, workers: u8) -> Option<Worker
     })
 }
 
-// Joins the seat of worker `w`, if there is one.
+// Joins the seat of worker `w`, if there is one, behind those of the workers before it.
 fn put_back(queue: &Queue, main: &mut QueuePass, seat: Option<WorkerSeat>, w: u8, workers: u8)
     requires queue { IsPassOf queue.now main.old }
-    requires main { view main.old ≡ ledger false [] (min workers (w + 1)) 8 (view main.old).noted }
-    requires few { (workers ≤ 8) × (w < 8) }
+    requires main { view main.old ≡ ledger false [] workers 0 (min workers w) (view main.old).noted }
     requires there { w < workers → IsSome seat }
-    requires own { IfSome seat (λ s. (s.recorder ≡ queue.now.table.shared.table_id) × (s.worker ≡ w) × (w < workers)) }
+    requires own { IfSome seat (IsNoterOf (recorder_id queue.now.table.shared.table_id workers) w) }
     ensures queue { IsSamePass main.old main.new }
-    ensures main { view main.new ≡ ledger false [] (min workers w) 8 ((view main.old).noted ++ noted_on seat) }
+    ensures main { view main.new
+        ≡ ledger false [] workers 0 (min workers (w + 1)) ((view main.old).noted ++ noted_on seat) }
 {
     if let Some(seat) = seat {
         let WorkerSeat { pass, .. } = seat;

@@ -1,29 +1,28 @@
 //! Eight places for seats, each with a name.
+
 ghost use Rattle.std.specs.Prelude.{◌≡◌, ◌<◌, ◌↔◌, IsTrue, IsSome, None, Some, slice_set, slice_index_or};
-ghost use Rattle.eve_recorder.specs.Rows.{row_of};
-ghost use Rattle.eve_recorder.specs.Seen.{HasBelow};
+ghost use Rattle.eve_recorder.specs.Rows.{row_of, HasBelow};
 
-use crate::worker_seat::WorkerSeat;
-
+/// What lies at each place, from 0.
 #[derive(Drop)]
-pub struct Row {
-    pub s0: Option<WorkerSeat>,
-    pub s1: Option<WorkerSeat>,
-    pub s2: Option<WorkerSeat>,
-    pub s3: Option<WorkerSeat>,
-    pub s4: Option<WorkerSeat>,
-    pub s5: Option<WorkerSeat>,
-    pub s6: Option<WorkerSeat>,
-    pub s7: Option<WorkerSeat>,
+pub struct Row<T> {
+    pub s0: Option<T>,
+    pub s1: Option<T>,
+    pub s2: Option<T>,
+    pub s3: Option<T>,
+    pub s4: Option<T>,
+    pub s5: Option<T>,
+    pub s6: Option<T>,
+    pub s7: Option<T>,
 }
 
-impl Row {
-    /// What lies at a place.
-    pub fn take(&mut self, w: u8) -> Option<WorkerSeat>
-        ensures out { result ≡ slice_index_or (row_of self.old) w None }
-        ensures rest { row_of self.new ≡ slice_set (row_of self.old) w None }
+impl<T: Drop> Row<T> {
+    /// Takes out what lies at the place.
+    pub fn take(&mut self, place: u8) -> Option<T>
+        ensures out { result ≡ slice_index_or (row_of self.old) place None }
+        ensures rest { row_of self.new ≡ slice_set (row_of self.old) place None }
     {
-        match w {
+        match place {
             0 => self.s0.take(),
             1 => self.s1.take(),
             2 => self.s2.take(),
@@ -36,11 +35,12 @@ impl Row {
         }
     }
 
-    pub fn put(&mut self, w: u8, seat: WorkerSeat)
-        requires { w < 8 }
-        ensures { row_of self.new ≡ slice_set (row_of self.old) w (Some seat) }
+    /// Puts a seat at the place.
+    pub fn put(&mut self, place: u8, seat: T)
+        requires { place < 8 }
+        ensures { row_of self.new ≡ slice_set (row_of self.old) place (Some seat) }
     {
-        match w {
+        match place {
             0 => self.s0 = Some(seat),
             1 => self.s1 = Some(seat),
             2 => self.s2 = Some(seat),
@@ -53,10 +53,22 @@ impl Row {
         }
     }
 
-    pub fn has(&self, w: u8) -> bool
-        ensures { IsTrue result ↔ IsSome (slice_index_or (row_of self.now) w None) }
+    /// Whether a seat lies at each of the first so many places.
+    pub fn has_below(&self, count: u8) -> bool
+        ensures { IsTrue result ↔ HasBelow count (row_of self.now) }
     {
-        match w {
+        for place in 0..count {
+            if !self.has(place) {
+                return false;
+            }
+        }
+        true
+    }
+
+    fn has(&self, place: u8) -> bool
+        ensures { IsTrue result ↔ IsSome (slice_index_or (row_of self.now) place None) }
+    {
+        match place {
             0 => self.s0.is_some(),
             1 => self.s1.is_some(),
             2 => self.s2.is_some(),
@@ -67,16 +79,5 @@ impl Row {
             7 => self.s7.is_some(),
             _ => false,
         }
-    }
-
-    pub fn has_below(&self, n: u8) -> bool
-        ensures { IsTrue result ↔ HasBelow n (row_of self.now) }
-    {
-        for w in 0..n {
-            if !self.has(w) {
-                return false;
-            }
-        }
-        true
     }
 }

@@ -16,22 +16,28 @@ use std::marker::Model;
 pub struct Seats {
     pub(crate) main: QueuePass,
     pub(crate) workers: u8,
-    pub(crate) row: Row,
+    pub(crate) row: Row<WorkerSeat>,
     pub(crate) taker: Option<TakerSeat>,
 }
 
 impl Model for Seats {
     ghost use Rattle.std.specs.Prelude.{◌≡◌, ◌≤◌, false, []};
     ghost use Rattle.crossbeam_queue.specs.Passes.{view as view_of};
-    ghost use Rattle.eve_recorder.specs.Seen.{Places, IsSeated, IsAt};
+    ghost use Rattle.eve_recorder.specs.Seen.{Places, recorder_id, IsSeated, IsAt};
     ghost use Rattle.eve_recorder.specs.Rows.{row_of};
     ghost use Rattle.eve_recorder.specs.Kept.{ledger};
 
     ghost Value = { Places };
 
-    ghost view = { λ s. record { recorder = s.main.table_id; workers = s.workers; seats = row_of s.row; taker = s.taker } };
+    ghost view = { λ s. record {
+      recorder = recorder_id s.main.table_id s.workers;
+      seats = row_of s.row;
+      taker = s.taker;
+    } };
 
-    ghost invariant = { λ s. (s.main.me.1 ≡ []) × (view_of s.main ≡ ledger false [] s.workers 8 []) × (s.workers ≤ 8) × IsSeated s.main.table_id s.workers (row_of s.row) × IsAt s.main.table_id s.taker };
+    ghost invariant = { λ s. let recorder = recorder_id s.main.table_id s.workers in
+        (s.main.me.1 ≡ []) × (view_of s.main ≡ ledger false [] s.workers 0 0 []) × (s.workers ≤ 8)
+        × IsSeated recorder (row_of s.row) × IsAt recorder s.taker };
 }
 
 impl Seats {
@@ -39,7 +45,8 @@ impl Seats {
     pub fn worker(&mut self, w: u8) -> Option<WorkerSeat>
         ensures out { result ≡ slice_index_or self.old.seats w None }
         ensures rest { self.new ≡ record self.old { seats = slice_set self.old.seats w None } }
-        ensures own { IfSome result (λ s. (s.recorder ≡ self.old.recorder) × (s.worker ≡ w) × (w < self.old.workers)) }
+        ensures own { IfSome result (λ s.
+            (s.recorder ≡ self.old.recorder) × (s.worker ≡ w) × (w < self.old.recorder.workers)) }
     {
         self.row.take(w)
     }
@@ -53,17 +60,16 @@ impl Seats {
         self.taker.take()
     }
 
-    /// Puts a worker's seat back.
+    /// Puts a worker's seat of this recorder back.
     pub fn give_back(&mut self, seat: WorkerSeat)
-        requires own { seat.recorder ≡ self.old.recorder }
-        requires there { seat.worker < self.old.workers }
+        requires { seat.recorder ≡ self.old.recorder }
         ensures { self.new ≡ record self.old { seats = slice_set self.old.seats seat.worker (Some seat) } }
     {
         let w = seat.worker;
         self.row.put(w, seat);
     }
 
-    /// Puts the taker's seat back.
+    /// Puts the taker's seat of this recorder back.
     pub fn give_taker(&mut self, seat: TakerSeat)
         requires { seat.recorder ≡ self.old.recorder }
         ensures { self.new ≡ record self.old { taker = Some seat } }

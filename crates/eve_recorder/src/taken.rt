@@ -1,6 +1,6 @@
 //! What is left of a recorder that was ended.
 
-ghost use Rattle.std.specs.Prelude.{◌≡◌, ◌<◌, [], ◌++◌, ◌∷◌, ℕ, IfSome, IfNone};
+ghost use Rattle.std.specs.Prelude.{◌≡◌, [], ◌++◌, ◌∷◌, ℕ, IfSome, IfNone};
 ghost use mathlib.Core.List.{IsPrefix};
 ghost use Rattle.eve_recorder.specs.Seen.{Gathered};
 ghost use Rattle.eve_recorder.specs.Noted.{of_worker, IsOrderly};
@@ -30,7 +30,8 @@ impl Model for Taken {
 
     ghost view = { λ s. record { noted = (view_of s.pass).noted; taken = (view_of s.pass).taken } };
 
-    ghost invariant = { λ s. IsPassOf s.queue s.pass × (view_of s.pass ≡ ledger true (view_of s.pass).taken 0 8 (view_of s.pass).noted) × IsOrderly (view_of s.pass).taken };
+    ghost invariant = { λ s. let v = view_of s.pass in
+        IsPassOf s.queue s.pass × (v ≡ ledger true v.taken v.workers 0 v.workers v.noted) × IsOrderly v.taken };
 }
 
 impl Taken {
@@ -39,8 +40,9 @@ impl Taken {
     pub fn next<R: Wait>(&mut self, rt: &R) -> Option<AccessRecord>
         ensures some { IfSome result (λ x. self.new ≡ record self.old { taken = self.old.taken ++ x ∷ [] }) }
         ensures none { IfNone result (self.new ≡ self.old) }
-        ensures all { IfNone result ((w : ℕ) → w < 8 → of_worker w self.old.noted ≡ of_worker w self.old.taken) }
-        ensures front { IfSome result (λ _. (w : ℕ) → w < 8 → IsPrefix (of_worker w self.new.taken) (of_worker w self.new.noted)) }
+        ensures all { IfNone result ((w : ℕ) → of_worker w self.old.noted ≡ of_worker w self.old.taken) }
+        ensures front { IfSome result (λ _.
+            (w : ℕ) → IsPrefix (of_worker w self.new.taken) (of_worker w self.new.noted)) }
         ensures orderly { IsOrderly self.new.taken }
     {
         self.queue.pop_as::<Takes, R>(rt, &mut self.pass)

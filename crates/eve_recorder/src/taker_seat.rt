@@ -14,13 +14,17 @@ pub struct TakerSeat {
 impl Model for TakerSeat {
     ghost use Rattle.std.specs.Prelude.{◌≡◌, true, []};
     ghost use Rattle.crossbeam_queue.specs.Passes.{view as view_of};
-    ghost use Rattle.eve_recorder.specs.Seen.{Taker};
+    ghost use Rattle.eve_recorder.specs.Seen.{Taker, recorder_id};
     ghost use Rattle.eve_recorder.specs.Noted.{IsOrderly};
     ghost use Rattle.eve_recorder.specs.Kept.{ledger};
 
     ghost Value = { Taker };
 
-    ghost view = { λ s. record { recorder = s.pass.table_id; taken = (view_of s.pass).taken } };
+    ghost view = { λ s. record {
+      recorder = recorder_id s.pass.table_id (view_of s.pass).workers;
+      taken = (view_of s.pass).taken;
+    } };
 
-    ghost invariant = { λ s. (s.pass.me.1 ≡ []) × (view_of s.pass ≡ ledger true (view_of s.pass).taken 0 0 []) × IsOrderly (view_of s.pass).taken };
+    ghost invariant = { λ s. let v = view_of s.pass in
+        (s.pass.me.1 ≡ []) × (v ≡ ledger true v.taken v.workers 0 0 []) × IsOrderly v.taken };
 }

@@ -19,12 +19,16 @@ pub struct WorkerSeat {
 impl Model for WorkerSeat {
     ghost use Rattle.std.specs.Prelude.{◌≡◌, []};
     ghost use Rattle.crossbeam_queue.specs.Passes.{view as view_of};
-    ghost use Rattle.eve_recorder.specs.Seen.{Noter};
+    ghost use Rattle.eve_recorder.specs.Seen.{Noter, recorder_id};
     ghost use Rattle.eve_recorder.specs.Kept.{IsWorkers};
 
     ghost Value = { Noter };
 
-    ghost view = { λ s. record { recorder = s.pass.table_id; worker = s.worker; noted = (view_of s.pass).noted } };
+    ghost view = { λ s. record {
+      recorder = recorder_id s.pass.table_id (view_of s.pass).workers;
+      worker = s.worker;
+      noted = (view_of s.pass).noted;
+    } };
 
     ghost invariant = { λ s. (s.pass.me.1 ≡ []) × IsWorkers s.worker s.place (view_of s.pass) };
 }

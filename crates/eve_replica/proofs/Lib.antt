@@ -1,4 +1,3 @@
 pub mod Cuts
-pub mod Batches
 mod Bytes
 mod Parts

@@ -1,4 +1,4 @@
 pub mod Run
+pub mod RunFaults
 pub mod Replicas
-pub mod Crews
 pub mod Serving

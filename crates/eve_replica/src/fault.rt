@@ -2,7 +2,9 @@
 
 ghost use Rattle.std.specs.Prelude.{◌≡◌};
 ghost use Rattle.eve_replica.specs.Replicas.{IsFresh};
+ghost use Rattle.eve_replica.specs.RunFaults.{fault_of_run};
 ghost use Rattle.eve_replica.specs.declared.fault.AttemptFault.TheVariants as attempt;
+ghost use Rattle.eve_replica.specs.declared.fault.RunFault.TheVariants as run;
 
 use eve_floor::ExecFault;
 use std::alloc::{AllocError, AllocFailed};
@@ -77,18 +79,24 @@ impl<T: Drop> From<AllocFailed<T>> for AttemptFault {
 }
 
 impl From<AllocError> for RunFault {
+    ghost from_gives = { λ _ e. e ≡ run.Memory };
+
     fn from(_e: AllocError) -> RunFault {
         RunFault::Memory
     }
 }
 
 impl<T: Drop> From<AllocFailed<T>> for RunFault {
+    ghost from_gives = { λ _ e. e ≡ run.Memory };
+
     fn from(_e: AllocFailed<T>) -> RunFault {
         RunFault::Memory
     }
 }
 
 impl From<AttemptFault> for RunFault {
+    ghost from_gives = { λ why e. e ≡ fault_of_run why };
+
     fn from(why: AttemptFault) -> RunFault {
         match why {
             AttemptFault::Memory => RunFault::Memory,
@@ -98,6 +106,8 @@ impl From<AttemptFault> for RunFault {
 }
 
 impl From<CommitFault> for RunFault {
+    ghost from_gives = { λ _ e. e ≡ run.Broken };
+
     fn from(_why: CommitFault) -> RunFault {
         RunFault::Broken
     }

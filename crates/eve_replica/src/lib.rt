@@ -1,20 +1,15 @@
 //! Attempts by running threads, and the run of a whole deployment.
 #![tactic(auto)]
 
-mod batch;
-mod crew;
 mod deployment;
 mod fault;
 mod fits;
 mod opening;
-mod progress;
 mod replica;
 mod running;
 mod sending;
 mod server;
-mod stage;
 mod votes;
-mod work;
 
 pub use eve_attempts;
 pub use eve_floor;

@@ -8,21 +8,19 @@ ghost use Rattle.eve_write.specs.Data.{batch as plain, attempt, commit, rollback
 ghost use Rattle.eve_attempts.specs.Ledgers.{opening};
 ghost use Rattle.eve_attempts.specs.Closing.{touched_by, AreMismatched};
 ghost use Rattle.eve_attempts.specs.Discarding.{RollsBack};
-ghost use Rattle.eve_tickets.specs.Shown.{fresh_seats};
+ghost use Rattle.eve_recorder.specs.Drawing.{fresh_seats};
 ghost use Rattle.eve_replica.specs.Replicas.{Attempts, FailsAttempt, IsFresh, ClosesThese, ClosesSome, ClosesOwn};
 ghost use Rattle.eve_replica.specs.Replicas.{IsFirstOpen, CommitsFirst};
-ghost use Rattle.eve_replica.specs.Crews.{AreTickets};
+ghost use Rattle.eve_replica_crew.specs.Crews.{AreTickets};
 
-use crate::batch::run_batch;
-use crate::crew::crew_size;
-use crate::fault::{AttemptFault, CloseFault, CommitFault};
+use crate::fault::{AttemptFault, CloseFault, CommitFault, fault_of};
 use eve_accounts::{Balances, Names};
 use eve_attempts::{AttemptFront, CloseFault as Unclosed, Ledger};
 use eve_floor::Floor;
-use eve_recorder::Gate;
+use eve_recorder::{Gate, TicketSeat, TicketSeats, Tickets};
+use eve_replica_crew::{crew_size, run_batch};
 use eve_smallbank::{Touched, touched};
 use eve_stamps::AccessRecord;
-use eve_tickets::{TicketSeat, TicketSeats, Tickets};
 use eve_write::{AttemptData, BatchData, CommitData, RollbackData};
 use std::alloc::{AllocError, Global};
 use std::marker::Model;
@@ -54,7 +52,7 @@ pub struct Replica<'n> {
 impl<'n> Model for Replica<'n> {
     ghost use Rattle.std.specs.Prelude.{◌≡◌, ◌*◌, ◌≤◌, length, vec_len};
     ghost use Rattle.eve_attempts.specs.Ledgers.{row_count};
-    ghost use Rattle.eve_replica.specs.Crews.{AreTickets};
+    ghost use Rattle.eve_replica_crew.specs.Crews.{AreTickets};
     ghost use Rattle.eve_replica.specs.Replicas as model;
 
     ghost Value = { model.Replica };
@@ -343,7 +341,7 @@ impl<'n> Replica<'n> {
         ensures fault { IfErr result IsFresh }
     {
         let crew = crew_size(batch.sizes.as_slice(), self.seats.len() as u8, front.serial);
-        let records = run_batch(
+        let noted = run_batch(
             rt,
             alloc,
             &self.floor,
@@ -353,7 +351,11 @@ impl<'n> Replica<'n> {
             touched,
             crew,
             gate,
-        )?;
+        );
+        let records = match noted {
+            Ok(records) => records,
+            Err(why) => return Err(fault_of(why)),
+        };
         let tick = greatest_tick(records.as_slice());
         match self.close(alloc, front, batch, touched, records.as_slice(), tick) {
             Ok(attempt) => Ok(attempt),

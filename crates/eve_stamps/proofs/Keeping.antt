@@ -1,7 +1,7 @@
 -- What is held stays a stripe: when it is made, noted in, settled and undone.
 use Rattle.std.proofs.Common.{◌≡◌, ℕ, ◌<◌, ◌≤◌, nat_le, nat_lt, Bool, true, false, cond, ◌||◌, not, IsTrue, List, [], ◌∷◌, ◌++◌, filter, slice_get, get_or, Option, Some, None, refl, sym, subst, ap, ◌∙◌, arith}
 use Rattle.std.specs.List.{AllByRecursion}
-use Rattle.std.proofs.lemmas.Bool.{ltb-true, leb-true, le-leb, false≢true, not-true}
+use Rattle.std.proofs.lemmas.Bool.{ltb-true, leb-true, le-leb, le-ltb, false≢true, not-true}
 use Rattle.std.proofs.lemmas.Option.{get_or_from_slice_get}
 use Rattle.eve_smallbank.specs.declared.entry.Entry.{Entry}
 use Rattle.eve_smallbank.specs.Chain.{Table, Sees, table_after}
@@ -54,6 +54,16 @@ below_all greatest tick [] above within = tt
 below_all None tick (j ∷ js) above within = absurd (false≢true within.0)
 below_all (Some greatest) tick (j ∷ js) above within =
     (let less : greatest < tick = ltb-true greatest tick above in let up : j.tick ≤ greatest = leb-true j.tick greatest within.0 in omega arith, below_all (Some greatest) tick js above within.1)
+
+-- where the greatest tick isn't past this one, no tick of the journal is
+pub all_up_to : (greatest tick : ℕ) (js : List Journaled) → greatest ≤ tick → AllByRecursion (λ j. IsTrue (is_within (Some greatest) j.tick)) js
+    → (filter (up_to tick) js ≡ js) × (filter (behind tick) js ≡ [])
+all_up_to greatest tick [] le within = (refl, refl)
+all_up_to greatest tick (j ∷ js) le within =
+    let up : j.tick ≤ greatest = leb-true j.tick greatest within.0 in let fits : j.tick ≤ tick = omega arith in let rest = all_up_to greatest tick js le within.1 in (
+      ap (λ b. cond b (j ∷ filter (up_to tick) js) (filter (up_to tick) js)) (le-leb j.tick tick fits) ∙ ap (λ (ks : List Journaled). j ∷ ks) rest.0,
+      ap (λ b. cond b (j ∷ filter (behind tick) js) (filter (behind tick) js)) (le-ltb tick j.tick fits) ∙ rest.1,
+    )
 
 rises_on : (js : List Journaled) (k : Journaled) → JournalRises js → AllByRecursion (λ j. j.tick < k.tick) js → JournalRises (js ++ k ∷ [])
 rises_on [] k rise below = (tt, tt)

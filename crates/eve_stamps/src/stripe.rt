@@ -1,6 +1,6 @@
 //! Rows with a committed base and a journal of what was read and written since.
 
-ghost use Rattle.std.specs.Prelude.{◌≡◌, ◌<◌, ◌+◌, ◌↔◌, ◌++◌, IsTrue, IsErr, IfOk, OnOk, OnErr, if◌then◌else◌, [], length, vec_len, vec_capacity};
+ghost use Rattle.std.specs.Prelude.{◌≡◌, ◌<◌, ◌+◌, ◌↔◌, ◌++◌, nat_le, nat_lt, filter, IsTrue, IsErr, IfOk, OnOk, OnErr, if◌then◌else◌, [], length, vec_len, vec_capacity};
 ghost use Rattle.eve_stamps.specs.Stripes.{RowsRise, AreWithinLimit, IsStripe, has_row, row_in, rows_now, is_above, settled_to, undone, restores_of};
 
 use crate::journal::Journaled;
@@ -79,6 +79,12 @@ impl Stripe {
     pub fn settle(&mut self, tick: u64)
         ensures { self.new ≡ settled_to tick self.old }
     {
+        if self.is_all_up_to(tick) && self.rows.len() / 8 <= self.journal.len() {
+            // So few rows are copied sooner than written entry by entry.
+            self.base.copy_from_slice(&self.rows);
+            self.journal.clear();
+            return;
+        }
         write_up_to(&mut self.base, &self.journal, tick);
         self.journal.retain(|journaled| tick < journaled.tick);
     }
@@ -110,6 +116,17 @@ impl Stripe {
         match place_of(&self.base, row) {
             Some(place) => Some(self.rows[place]),
             None => None,
+        }
+    }
+
+    /// Whether it has had no tick past this one. Then the journal is all up to it.
+    fn is_all_up_to(&self, tick: u64) -> bool
+        ensures journal { IsTrue result → filter (λ j. nat_le j.tick tick) self.now.journal ≡ self.now.journal }
+        ensures rest { IsTrue result → filter (λ j. nat_lt tick j.tick) self.now.journal ≡ [] }
+    {
+        match self.greatest {
+            Some(greatest) => greatest <= tick,
+            None => false,
         }
     }
 

@@ -1,7 +1,7 @@
 //! Customers and batches, in few words.
 
 use eve_accounts::{Amount, Balances, Cents, Names, Row};
-use eve_schedule::Schedule;
+use eve_stamps_schedule::Schedule;
 use eve_write::{BatchData, RequestData, TransactionData};
 use std::alloc::{AllocError, Global};
 use std::hash::RandomState;

@@ -2,8 +2,8 @@
 
 use crate::parts::{Ask, cents};
 use eve_accounts::Row;
-use eve_schedule::Event;
 use eve_smallbank::{Abort, Entry, Kind, Reply, UpToThree};
+use eve_stamps_schedule::Event;
 use std::alloc::{AllocError, Global};
 use std::test::Fail;
 
@@ -138,74 +138,84 @@ impl<'a> Plain<'a> {
     fn does(&self, ask: Ask) -> Done {
         let there = |customer: u8| customer < CUSTOMERS;
         match ask {
-            Ask::Balance(c) if there(c) => {
-                let (saving, checking) = (saving(c), checking(c));
-                Done {
-                    reply: Reply::Total(self.value(saving).wrapping_add(self.value(checking))),
-                    rows: [Some((saving, None)), Some((checking, None)), None],
-                }
-            }
-            Ask::Deposit(c, amount) if there(c) => {
-                if amount < 0 {
-                    return refused(Abort::BadAmount);
-                }
-                one(checking(c), self.value(checking(c)).wrapping_add(amount))
-            }
-            Ask::Saving(c, amount) if there(c) => {
-                let after = self.value(saving(c)).wrapping_add(amount);
-                if after < 0 {
-                    return Done {
-                        reply: Reply::Aborted(Abort::Insufficient),
-                        rows: [Some((saving(c), None)), None, None],
-                    };
-                }
-                one(saving(c), after)
-            }
-            Ask::Amalgamate(from, to) if there(from) && there(to) => {
-                let sum = self
-                    .value(saving(from))
-                    .wrapping_add(self.value(checking(from)));
-                if from == to {
-                    return Done {
-                        reply: Reply::Done,
-                        rows: [
-                            Some((saving(from), Some(0))),
-                            Some((checking(from), Some(sum))),
-                            None,
-                        ],
-                    };
-                }
-                let after = self.value(checking(to)).wrapping_add(sum);
-                Done {
-                    reply: Reply::Done,
-                    rows: [
-                        Some((saving(from), Some(0))),
-                        Some((checking(from), Some(0))),
-                        Some((checking(to), Some(after))),
-                    ],
-                }
-            }
-            Ask::Check(c, amount) if there(c) => {
-                if amount < 0 {
-                    return refused(Abort::BadAmount);
-                }
-                let held = self.value(checking(c));
-                let penalty = if self.value(saving(c)).wrapping_add(held) < amount {
-                    100
-                } else {
-                    0
-                };
-                let left = held.wrapping_sub(amount).wrapping_sub(penalty);
-                Done {
-                    reply: Reply::Done,
-                    rows: [
-                        Some((saving(c), None)),
-                        Some((checking(c), Some(left))),
-                        None,
-                    ],
-                }
-            }
+            Ask::Balance(c) if there(c) => self.balance(c),
+            Ask::Deposit(c, amount) if there(c) => self.deposit(c, amount),
+            Ask::Saving(c, amount) if there(c) => self.save(c, amount),
+            Ask::Amalgamate(from, to) if there(from) && there(to) => self.amalgamate(from, to),
+            Ask::Check(c, amount) if there(c) => self.check(c, amount),
             _ => refused(Abort::NoSuchName),
+        }
+    }
+
+    fn balance(&self, c: u8) -> Done {
+        let (saving, checking) = (saving(c), checking(c));
+        Done {
+            reply: Reply::Total(self.value(saving).wrapping_add(self.value(checking))),
+            rows: [Some((saving, None)), Some((checking, None)), None],
+        }
+    }
+
+    fn deposit(&self, c: u8, amount: i64) -> Done {
+        if amount < 0 {
+            return refused(Abort::BadAmount);
+        }
+        one(checking(c), self.value(checking(c)).wrapping_add(amount))
+    }
+
+    fn save(&self, c: u8, amount: i64) -> Done {
+        let after = self.value(saving(c)).wrapping_add(amount);
+        if after < 0 {
+            return Done {
+                reply: Reply::Aborted(Abort::Insufficient),
+                rows: [Some((saving(c), None)), None, None],
+            };
+        }
+        one(saving(c), after)
+    }
+
+    fn amalgamate(&self, from: u8, to: u8) -> Done {
+        let sum = self
+            .value(saving(from))
+            .wrapping_add(self.value(checking(from)));
+        if from == to {
+            return Done {
+                reply: Reply::Done,
+                rows: [
+                    Some((saving(from), Some(0))),
+                    Some((checking(from), Some(sum))),
+                    None,
+                ],
+            };
+        }
+        let after = self.value(checking(to)).wrapping_add(sum);
+        Done {
+            reply: Reply::Done,
+            rows: [
+                Some((saving(from), Some(0))),
+                Some((checking(from), Some(0))),
+                Some((checking(to), Some(after))),
+            ],
+        }
+    }
+
+    fn check(&self, c: u8, amount: i64) -> Done {
+        if amount < 0 {
+            return refused(Abort::BadAmount);
+        }
+        let held = self.value(checking(c));
+        let penalty = if self.value(saving(c)).wrapping_add(held) < amount {
+            100
+        } else {
+            0
+        };
+        let left = held.wrapping_sub(amount).wrapping_sub(penalty);
+        Done {
+            reply: Reply::Done,
+            rows: [
+                Some((saving(c), None)),
+                Some((checking(c), Some(left))),
+                None,
+            ],
         }
     }
 
@@ -300,64 +310,73 @@ impl<'a> Plain<'a> {
             return Ok(false);
         };
         let next = match (event, stage) {
-            (Event::Claim(_), At::Idle) => {
-                let index = self.claimed;
-                if self.asks.len() <= index as usize
-                    || self.group_of(index as usize) != self.group_of(self.noted_count())
-                {
-                    return Ok(false);
-                }
-                self.claimed = index.wrapping_add(1);
-                At::Claimed(index)
-            }
-            (Event::LockStripe(_), At::Claimed(index)) => {
-                let Some(stripe) = self.next_stripe(worker, index) else {
-                    return Ok(false);
-                };
-                if self.owner(stripe).is_some() {
-                    return Ok(false);
-                }
-                if let Some(owner) = self.owners.get_mut(stripe) {
-                    *owner = Some(worker);
-                }
-                stage
-            }
-            (Event::Tick(_), At::Claimed(index)) => {
-                if self.next_stripe(worker, index).is_some() {
-                    return Ok(false);
-                }
-                let tick = self.counter;
-                self.counter = tick.wrapping_add(1);
-                At::Ticked(index, tick)
-            }
+            (Event::Claim(_), At::Idle) => self.claim(),
+            (Event::LockStripe(_), At::Claimed(index)) => self.lock(worker, index),
+            (Event::Tick(_), At::Claimed(index)) => self.tick(worker, index),
             (Event::Apply(_), At::Ticked(index, tick)) => {
                 self.applied.push((tick, index))?;
-                At::Applied(self.made(worker, index, tick)?)
+                Some(At::Applied(self.made(worker, index, tick)?))
             }
-            (Event::Unlock(_), At::Applied(_)) => {
-                let Some(stripe) = self.last_stripe(worker) else {
-                    return Ok(false);
-                };
-                if let Some(owner) = self.owners.get_mut(stripe) {
-                    *owner = None;
-                }
-                stage
-            }
-            (Event::Note(_), At::Applied(made)) => {
-                if self.last_stripe(worker).is_some() {
-                    return Ok(false);
-                }
-                if let Some(noted) = self.noted.get_mut(worker as usize) {
-                    noted.push(made)?;
-                }
-                At::Idle
-            }
-            _ => return Ok(false),
+            (Event::Unlock(_), At::Applied(made)) => self.unlock(worker, made),
+            (Event::Note(_), At::Applied(made)) => self.note(worker, made)?,
+            _ => None,
+        };
+        let Some(next) = next else {
+            return Ok(false);
         };
         if let Some(stage) = self.stages.get_mut(worker as usize) {
             *stage = next;
         }
         Ok(true)
+    }
+
+    fn claim(&mut self) -> Option<At> {
+        let index = self.claimed;
+        if self.asks.len() <= index as usize
+            || self.group_of(index as usize) != self.group_of(self.noted_count())
+        {
+            return None;
+        }
+        self.claimed = index.wrapping_add(1);
+        Some(At::Claimed(index))
+    }
+
+    fn lock(&mut self, worker: u8, index: u16) -> Option<At> {
+        let stripe = self.next_stripe(worker, index)?;
+        if self.owner(stripe).is_some() {
+            return None;
+        }
+        if let Some(owner) = self.owners.get_mut(stripe) {
+            *owner = Some(worker);
+        }
+        Some(At::Claimed(index))
+    }
+
+    fn tick(&mut self, worker: u8, index: u16) -> Option<At> {
+        if self.next_stripe(worker, index).is_some() {
+            return None;
+        }
+        let tick = self.counter;
+        self.counter = tick.wrapping_add(1);
+        Some(At::Ticked(index, tick))
+    }
+
+    fn unlock(&mut self, worker: u8, made: Made) -> Option<At> {
+        let stripe = self.last_stripe(worker)?;
+        if let Some(owner) = self.owners.get_mut(stripe) {
+            *owner = None;
+        }
+        Some(At::Applied(made))
+    }
+
+    fn note(&mut self, worker: u8, made: Made) -> Result<Option<At>, AllocError> {
+        if self.last_stripe(worker).is_some() {
+            return Ok(None);
+        }
+        if let Some(noted) = self.noted.get_mut(worker as usize) {
+            noted.push(made)?;
+        }
+        Ok(Some(At::Idle))
     }
 
     /// Whether every request is noted.

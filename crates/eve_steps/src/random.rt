@@ -4,8 +4,8 @@ ghost use Rattle.std.specs.Prelude.{◌<◌};
 
 use crate::parts::{Ask, Plan, balances, batch, names, opened};
 use crate::plain::{CUSTOMERS, Made, Plain};
-use eve_schedule::{Event, Schedule, StepFault};
 use eve_stamps::AccessRecord;
+use eve_stamps_schedule::{Event, Schedule, StepFault};
 use rand_core::Rng;
 use rand_pcg::Pcg32;
 use std::alloc::{AllocError, Global};

@@ -1,9 +1,9 @@
 //! Worked schedules.
 
 use crate::parts::{Ask, Plan, balances, batch, names, opened};
-use eve_schedule::{Event, Schedule, StepFault};
 use eve_smallbank::{Abort, Reply};
 use eve_stamps::AccessRecord;
+use eve_stamps_schedule::{Event, Schedule, StepFault};
 use std::hash::RandomState;
 use std::test::Fail;
 

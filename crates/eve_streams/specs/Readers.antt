@@ -6,6 +6,10 @@ use Rattle.eve_streams.specs.declared.source_of.SourceOf.{SourceOf}
 abbrev pub reader_of : {R : Type 0} → SourceOf R → R
 reader_of s = s.reader
 
+-- how often the reader may still be read
+abbrev pub reads_left_of : {R : Type 0} → SourceOf R → ℕ
+reads_left_of s = s.reads_left
+
 -- how many fetches have failed
 abbrev pub failures_of : {R : Type 0} → SourceOf R → ℕ
 failures_of s = s.failures

@@ -1,6 +1,8 @@
 //! Sinks over the standard library's writers.
 
-ghost use Rattle.std.specs.Prelude.{◌≡◌};
+ghost use Rattle.std.specs.Prelude.{◌≡◌, ◌≤◌, ◌<◌, length, take, IfOk, OnOk, OnErr};
+ghost use Rattle.std.specs.Io.KnownBytes.{Appends, Keeps};
+ghost use Rattle.eve_streams.specs.Failures.{after_failure};
 ghost use Rattle.eve_streams.specs.Writers.{writer_of, failures_of};
 
 use crate::{SendFault, Sink};
@@ -37,6 +39,28 @@ impl<W: Write + Drop> SinkOf<W> {
         &self.writer
     }
 
+    // Sends as `send` does, and tries a write that is interrupted so often at most.
+    pub(crate) fn send_within(&mut self, bytes: &[u8], tries: u32) -> Result<usize, SendFault>
+        ensures within { IfOk result (λ n. n ≤ length bytes.now) }
+        ensures some { IfOk result (λ n. 0 < length bytes.now → 0 < n) }
+        ensures takes { IfOk result
+            (λ n. Appends (W.contents (writer_of self.old)) (W.contents (writer_of self.new)) (take n bytes.now)) }
+        ensures nothing { OnErr result (Keeps (W.contents (writer_of self.old)) (W.contents (writer_of self.new))) }
+        ensures fine { OnOk result (failures_of self.new ≡ failures_of self.old) }
+        ensures counted { OnErr result (failures_of self.new ≡ after_failure (failures_of self.old)) }
+    {
+        'tries: for _ in 0..tries {
+            match self.writer.write(bytes) {
+                Ok(0) if !bytes.is_empty() => break,
+                Ok(n) => return Ok(n),
+                Err(e) if e.kind() == ErrorKind::Interrupted => {}
+                Err(_) => break,
+            }
+        }
+        self.failures = self.failures.wrapping_add(1);
+        Err(SendFault)
+    }
+
     /// How many sends have failed, in 64 bits that wrap.
     pub fn failures(&self) -> u64
         ensures { result ≡ failures_of self.now }
@@ -51,15 +75,6 @@ impl<W: Write + Drop> Sink for SinkOf<W> {
     ghost failures = { λ s. s.failures };
 
     fn send(&mut self, bytes: &[u8]) -> Result<usize, SendFault> {
-        'tries: for _ in 0..MOST_TRIES {
-            match self.writer.write(bytes) {
-                Ok(0) if !bytes.is_empty() => break,
-                Ok(n) => return Ok(n),
-                Err(e) if e.kind() == ErrorKind::Interrupted => {}
-                Err(_) => break,
-            }
-        }
-        self.failures = self.failures.wrapping_add(1);
-        Err(SendFault)
+        self.send_within(bytes, MOST_TRIES)
     }
 }

@@ -1,7 +1,10 @@
 //! Sources over the standard library's readers.
 
-ghost use Rattle.std.specs.Prelude.{◌≡◌};
-ghost use Rattle.eve_streams.specs.Readers.{reader_of, failures_of};
+ghost use Rattle.std.specs.Prelude.{◌≡◌, ◌≤◌, ◌<◌, length, take, IsErr, IfOk, OnOk, OnErr};
+ghost use Rattle.std.specs.Io.KnownBytes.{Consumes, IsAtEnd, Keeps};
+ghost use Rattle.eve_streams.specs.Failures.{after_failure};
+ghost use Rattle.eve_streams.specs.Readers.{reader_of, reads_left_of, failures_of};
+ghost use Rattle.eve_streams.specs.declared.source_of.TheConstants.{MOST_READS};
 
 use crate::{FetchFault, Source};
 use std::io::{ErrorKind, Read};
@@ -24,10 +27,20 @@ impl<R: Read + Drop> SourceOf<R> {
     pub fn new(reader: R) -> SourceOf<R>
         ensures reader { reader_of result ≡ reader }
         ensures fine { failures_of result ≡ 0 }
+        ensures reads { reads_left_of result ≡ MOST_READS }
+    {
+        SourceOf::within(reader, MOST_READS)
+    }
+
+    // The same, of a reader that is read so often.
+    pub(crate) fn within(reader: R, reads: u32) -> SourceOf<R>
+        ensures reader { reader_of result ≡ reader }
+        ensures fine { failures_of result ≡ 0 }
+        ensures reads { reads_left_of result ≡ reads }
     {
         SourceOf {
             reader,
-            reads_left: MOST_READS,
+            reads_left: reads,
             failures: 0,
         }
     }
@@ -52,7 +65,20 @@ impl<R: Read + Drop> Source for SourceOf<R> {
 
     ghost failures = { λ s. s.failures };
 
-    fn fetch(&mut self, buffer: &mut [u8]) -> Result<usize, FetchFault> {
+    // The clauses of every source, and that it fails once its reads are used up, of which each answer takes one or more.
+    fn fetch(&mut self, buffer: &mut [u8]) -> Result<usize, FetchFault>
+        ensures within { IfOk result (λ n. n ≤ length buffer.new) }
+        ensures gives { IfOk result
+            (λ n. Consumes (R.remaining (reader_of self.old)) (R.remaining (reader_of self.new)) (take n buffer.new)) }
+        ensures end { IfOk result
+            (λ n. n ≡ 0 → 0 < length buffer.new → IsAtEnd (R.remaining (reader_of self.new))) }
+        ensures nothing { OnErr result (Keeps (R.remaining (reader_of self.old)) (R.remaining (reader_of self.new))) }
+        ensures fine { OnOk result (failures_of self.new ≡ failures_of self.old) }
+        ensures counted { OnErr result (failures_of self.new ≡ after_failure (failures_of self.old)) }
+        ensures spent { reads_left_of self.old ≡ 0 → IsErr result }
+        ensures spends { OnOk result (reads_left_of self.new < reads_left_of self.old) }
+        ensures reads { reads_left_of self.new ≤ reads_left_of self.old }
+    {
         'reads: while self.reads_left > 0 {
             self.reads_left -= 1;
             match self.reader.read(buffer) {

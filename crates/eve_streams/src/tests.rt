@@ -160,6 +160,41 @@ fn interruptions_are_no_failures(rt: HostRuntime) {
     }
 }
 
+// A device that gives a byte at each read, or is interrupted, and never comes to an end.
+#[test]
+fn reads_come_to_an_end(rt: HostRuntime) {
+    let turns = [
+        Turn::Moves(1),
+        Turn::Interrupted,
+        Turn::Moves(1),
+        Turn::Moves(1),
+    ];
+    let turns = turns.as_slice();
+    for (reads, moved) in [(0, 0), (1, 1), (2, 1), (3, 2), (4, 3)] {
+        let mut source = SourceOf::within(Told { turns, moved: 0 }, reads);
+        let all = read_all(rt.alloc(), &mut source, 9).err();
+        assert_eq!(rt; all, Some(ReadFault::Read), "{reads} reads");
+        assert_eq!(rt; source.failures(), 1);
+        assert_eq!(rt; source.reader().moved, moved, "{reads} reads");
+        assert!(rt; source.fetch(&mut [0; 1]).is_err());
+    }
+    let mut source = SourceOf::within(Told { turns, moved: 0 }, 5);
+    let all = read_all(rt.alloc(), &mut source, 9).map(|bytes| bytes.len());
+    assert_eq!(rt; all, Ok(3));
+}
+
+// A device that is interrupted at each write.
+#[test]
+fn tries_come_to_an_end(rt: HostRuntime) {
+    let turns = [Turn::Interrupted, Turn::Interrupted, Turn::Moves(1)];
+    let turns = turns.as_slice();
+    for (tries, sent) in [(0, Err(SendFault)), (2, Err(SendFault)), (3, Ok(1))] {
+        let mut sink = SinkOf::new(Told { turns, moved: 0 });
+        assert_eq!(rt; sink.send_within(b"ab", tries), sent, "{tries} tries");
+        assert_eq!(rt; sink.failures() == 0, sent.is_ok());
+    }
+}
+
 #[test]
 fn a_buffer_sends_in_order(rt: HostRuntime) -> Result<(), Fail> {
     let mut lines = Vec::new(rt.alloc());

@@ -91,7 +91,7 @@ fn is_as_defined(
     let mut names = Names::new(alloc, RandomState::new(rt)?, 64);
     for name in listed.iter().take(customers as usize) {
         if names.add(name.as_slice()).is_err() {
-            return Ok(false);
+            return Err(AllocError.into());
         }
     }
     let mut asked = Vec::new(alloc);

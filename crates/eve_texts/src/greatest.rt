@@ -1,10 +1,8 @@
 //! Texts with as many customers, requests and batches as there may be.
 
-use crate::texts::told;
-use eve_accounts::Names;
+use crate::texts::{names_of, told};
 use eve_workload::{Mixer, Workload, mix};
 use std::alloc::{AllocError, Global};
-use std::hash::RandomState;
 use std::io;
 use std::io::Write;
 
@@ -67,14 +65,9 @@ fn with_batches(alloc: Global, count: u32) -> Result<String, AllocError> {
 fn parallel_batches(rt: &HostRuntime, text: &[u8]) -> io::Result<usize> {
     let alloc = rt.alloc();
     let Ok(workload) = Workload::read(alloc, text) else {
-        return Ok(0);
+        return Err(AllocError.into());
     };
-    let mut names = Names::new(alloc, RandomState::new(rt)?, 4096);
-    for customer in workload.customers() {
-        if names.add(customer.name.as_slice()).is_err() {
-            return Ok(0);
-        }
-    }
+    let names = names_of(rt, workload.customers())?;
     if workload.batches() == 0 {
         return Ok(0);
     }

@@ -2,7 +2,7 @@
 
 use eve_accounts::Names;
 use eve_workload::{Mixer, Workload, WorkloadFault, mix};
-use eve_write::BatchData;
+use eve_write::{BatchData, CustomerData};
 use std::alloc::{AllocError, Global};
 use std::hash::RandomState;
 use std::io;
@@ -68,18 +68,26 @@ pub fn cut<W: Write>(alloc: Global, out: &mut W, name: &str, text: &[u8]) -> io:
     writeln!(out, "{name}, {from} to {} bytes: {said}", text.len())
 }
 
+/// The customers' names. Those of a workload differ, so want of memory alone keeps one out.
+pub fn names_of<'a>(rt: &HostRuntime, customers: &'a [CustomerData]) -> io::Result<Names<'a>> {
+    let mut names = Names::new(rt.alloc(), RandomState::new(rt)?, 4096);
+    for customer in customers {
+        if names.add(customer.name.as_slice()).is_err() {
+            return Err(AllocError.into());
+        }
+    }
+    Ok(names)
+}
+
 /// Cuts each batch of the text by both mixers.
 pub fn mixed<W: Write>(rt: &HostRuntime, out: &mut W, name: &str, text: &[u8]) -> io::Result<()> {
     let alloc = rt.alloc();
-    let Ok(workload) = Workload::read(alloc, text) else {
-        return writeln!(out, "{name}: not right");
+    let workload = match Workload::read(alloc, text) {
+        Ok(workload) => workload,
+        Err(WorkloadFault::Line(_)) => return writeln!(out, "{name}: not right"),
+        Err(WorkloadFault::Memory) => return Err(AllocError.into()),
     };
-    let mut names = Names::new(alloc, RandomState::new(rt)?, 4096);
-    for customer in workload.customers() {
-        if names.add(customer.name.as_slice()).is_err() {
-            return writeln!(out, "{name}: no names");
-        }
-    }
+    let names = names_of(rt, workload.customers())?;
     write!(out, "{name}:")?;
     for n in 0..workload.batches() {
         if n > 0 {

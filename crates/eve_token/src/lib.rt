@@ -1,9 +1,12 @@
 //! Tokens: the hash by which replicas compare what they made of a batch.
 #![tactic(auto)]
 
-ghost use Rattle.std.specs.Prelude.{◌≡◌, ◌≤◌, ◌<◌, ◌*◌, ◌++◌, ◌⊎◌, ℕ, List, length, take};
+ghost use Rattle.std.specs.Prelude.{◌≡◌, ◌≤◌, ◌<◌, ◌*◌, ◌++◌, ◌⊎◌, ℕ, List, length, take, codes};
 ghost use Rattle.std.specs.List.{flat_map};
+ghost use Rattle.byteorder.specs.Endian.{big_bytes};
 ghost use Rattle.sha2.specs.Hashers.{Holds256};
+ghost use Rattle.eve_smallbank.specs.declared.request.Reply.{Reply as ReplyValue};
+ghost use Rattle.eve_smallbank.specs.Spelling.{money_text, reply_text};
 ghost use Rattle.eve_token.specs.Token.{flat_token, token_of};
 
 pub mod laws;
@@ -39,16 +42,35 @@ pub fn token(version: u16, seq: u32, balances: &Balances, replies: &[Reply]) -> 
     }
 }
 
+/// The token of version 1, where the replies stand spelled: nine bytes each, in request order.
+///
+/// docs/TRACE.md, "Token". It allocates nothing.
+pub fn token_of_spelled(seq: u32, balances: &Balances, spelled: &[u8]) -> [u8; 32]
+    ensures { (replies : List ReplyValue) → spelled.now ≡ flat_map reply_text replies → result ≡ token_of 1 seq balances.now replies }
+{
+    let mut hasher = hash_balances(seq, balances);
+    hasher.update(spelled);
+    hasher.finalize()
+}
+
 // The token of version 1.
 fn hash_flat(seq: u32, balances: &Balances, replies: &[Reply]) -> [u8; 32]
     ensures { result ≡ flat_token seq balances.now replies.now }
+{
+    let mut hasher = hash_balances(seq, balances);
+    hash_all(&mut hasher, replies);
+    hasher.finalize()
+}
+
+// A hasher that holds what a token of version 1 says before its replies.
+fn hash_balances(seq: u32, balances: &Balances) -> Sha256
+    ensures { Holds256 result (codes "EVESB1" ++ (big_bytes 4 seq ++ flat_map money_text balances.now)) }
 {
     let mut hasher = Sha256::new();
     hasher.update(b"EVESB1");
     hasher.update(seq.to_be_bytes());
     hash_all(&mut hasher, balances.as_slice());
-    hash_all(&mut hasher, replies);
-    hasher.finalize()
+    hasher
 }
 
 // The message that the hasher holds grows by the bytes of all items.

@@ -4,11 +4,11 @@ use Rattle.std.specs.Prelude.{IfSome, IsFalse, Option, nat_le}
 use Rattle.std.proofs.lemmas.Bool.{cases_lt, lt-leb}
 use Rattle.std.proofs.lemmas.List.{length-take, take_all}
 use Rattle.eve_audit.proofs.Firsts.{trace_phase}
-use Rattle.eve_audit.specs.Verdict.{IsFirst, IsJudged, IsVerdict, IsYesOfAudited, Precedes, SpellsAudited, Stands, in_form, in_trace}
+use Rattle.eve_audit.specs.Verdict.{IsFirst, IsJudged, IsVerdict, IsYesOfAudited, SpellsAudited, Stands, in_form, in_trace}
 use Rattle.eve_audit.specs.declared.verdict.Verdict.{Verdict}
 use Rattle.eve_audit.specs.declared.verdict.Verdict.TheVariants.{No, Yes}
 use Rattle.eve_views.specs.Code.{number_of, phase_of}
-use Rattle.eve_views.specs.Form.{IsFormFault, IsUpTo, StandsInForm, is_sized, IsLeast}
+use Rattle.eve_views.specs.Form.{IsFormFault, IsUpTo, StandsInForm, is_sized, IsLeast, Precedes}
 use Rattle.eve_views.specs.declared.fault.Code.{Code}
 use Rattle.eve_views.specs.declared.fault.Code.TheVariants as code
 use Rattle.eve_views.specs.declared.fault.Fault.{Fault}
@@ -129,12 +129,12 @@ same_first xs ys f long longer first =
     }
 
 same_verdict : (xs ys : List ℕ) (v : Verdict) → 2 ^ 30 < length xs → 2 ^ 30 < length ys → IsVerdict xs v → IsVerdict ys v
-same_verdict xs ys (Yes s) long longer is = absurd (is.1.none length_fault (in_form (length_stands xs long)))
+same_verdict xs ys (Yes s) long longer is = absurd (is.2 length_fault (in_form (length_stands xs long)))
 same_verdict xs ys (No f) long longer is = same_first xs ys f long longer is
 
 -- of which no verdict is yes
 no_yes : (xs ys : List ℕ) (v : Verdict) → 2 ^ 30 < length xs → IsVerdict xs v → IsYesOfAudited ys v
-no_yes xs ys (Yes s) long is = absurd (is.1.none length_fault (in_form (length_stands xs long)))
+no_yes xs ys (Yes s) long is = absurd (is.2 length_fault (in_form (length_stands xs long)))
 no_yes xs ys (No f) long is = tt
 
 -- the verdict on a number of bytes that no trace has is the verdict on all of them

@@ -86,3 +86,16 @@ pub record Stops {E O : Type 0} (told : E → Option (List ℕ)) (untold : E →
   pub ends : status_of why ≡ status
   pub left : Leaves written failures call known unread old new why
   pub line : Tells told untold err_old err_new why
+
+-- what was left where help was asked for, by a fault: memory ran out before any of it was sent, or a send failed
+abbrev pub LeavesHelp : {O : Type 0} → (O → ℕ) → O → O → ToolFault → Type 0
+LeavesHelp failures old new fault.Memory = new ≡ old
+LeavesHelp failures old new fault.Write = failures new ≡ after_failure (failures old)
+LeavesHelp failures old new _ = ⊥
+
+-- help could not be given, by a fault of which the status is that and the line was told
+pub record StopsHelp {E O : Type 0} (told : E → Option (List ℕ)) (untold : E → ℕ) (failures : O → ℕ) (err_old err_new : E) (old new : O) (status : ℕ) : Type 0 where
+  pub why : ToolFault
+  pub ends : status_of why ≡ status
+  pub left : LeavesHelp failures old new why
+  pub line : Tells told untold err_old err_new why

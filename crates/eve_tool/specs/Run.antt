@@ -1,5 +1,5 @@
 -- What `run` says of bytes.
-use Rattle.std.specs.Prelude.{◌≡◌, ℕ, ◌^◌, ◌<◌, List, length, ◌⊎◌, ⊤}
+use Rattle.std.specs.Prelude.{◌≡◌, ℕ, ◌^◌, ◌<◌, ◌≤◌, List, length, ◌⊎◌, ⊤}
 use Rattle.eve_grammar.specs.Trace.{Trace, head_of}
 use Rattle.eve_grammar.specs.Spelling.{length_of}
 use Rattle.eve_grammar.specs.Limits.{HasLimits, Spells}
@@ -34,8 +34,9 @@ pub record IsRunOfText (mixer : Mixer) (bytes : List ℕ) (parts : Parts) : Type
   pub typed : IsText bytes workload
   pub run : IsRunOf workload mixer parts
 
--- the bytes are a workload, and the text spells a trace of it; the exit status is 0
+-- the bytes, 2^30 at most, are a workload, and the text spells a trace of it; the exit status is 0
 pub record Runs (mixer : Mixer) (bytes text : List ℕ) (status : ℕ) : Type 0 where
+  pub short : length bytes ≤ 2 ^ 30
   pub workload : Workload
   pub typed : IsText bytes workload
   pub trace : Trace

@@ -1,8 +1,8 @@
 -- What the words of a command line ask for.
-use Rattle.std.specs.Prelude.{◌≡◌, ◌≢◌, ◌⊎◌, pos, true, if◌then◌else◌, List, [], ◌∷◌, Option, Some, None, codes, find, slice_get, option_and_then, option_map}
+use Rattle.std.specs.Prelude.{◌≡◌, ◌≢◌, ◌⊎◌, ⊤, ℕ, pos, max, min, true, if◌then◌else◌, List, [], ◌∷◌, Option, Some, None, codes, find, slice_get, option_and_then, option_map}
 use Rattle.std.specs.Str.{bytes_eq}
 use Rattle.clap.specs.Words.{App, Rule, Shape, Text, IsAmong, Kinds, fault_of, new_app, new_rule, subcommand_of, with_rule, with_subcommand}
-use Rattle.clap.specs.Walk.{Row}
+use Rattle.clap.specs.Walk.{Row, byte_or_zero}
 use Rattle.clap.specs.declared.builder.value_parser.ValueParser.TheVariants as vp
 use Rattle.clap.specs.declared.error.kind.ErrorKind.TheVariants as kind
 use Rattle.clap.specs.declared.error.kind.ErrorKind.{ErrorKind}
@@ -63,6 +63,15 @@ mixer_named name = if bytes_eq name (codes "first") then Some First else (if byt
 abbrev pub mixer_in : List Row → Option Mixer
 mixer_in rows = option_and_then mixer_named (value_in (codes "mixer") rows)
 
+-- the number that is named by what is a value, 0 where there is none
+abbrev pub number_named : Option Text → ℕ
+number_named (Some text) = byte_or_zero text
+number_named None = 0
+
+-- how many workers are named among what was found: 1 to 16, since clap lets no other number pass
+abbrev pub workers_in : List Row → ℕ
+workers_in rows = max 1 (min (number_named (value_in (codes "workers") rows)) 16)
+
 abbrev pub subcommand_named : Text × List Row → Option Subcommand
 subcommand_named found =
     if bytes_eq found.0 (codes "audit") then Some Audit
@@ -85,6 +94,19 @@ call_unless (k ∷ ks) call = None
 -- the call that the words are
 unfoldable pub call_of : List Text → Option Subcommand
 call_of words = call_unless (faults_of words) (option_and_then subcommand_named (subcommand_of eve words))
+
+-- how many workers are named behind the subcommand that was met
+abbrev pub workers_behind : Option (Text × List Row) → Option ℕ
+workers_behind found = option_map (λ f. workers_in f.1) found
+
+-- how many workers the words ask for
+unfoldable pub workers_of : List Text → Option ℕ
+workers_of words = workers_behind (subcommand_of eve words)
+
+-- the call has so many workers, if it is one that has any
+abbrev pub HasWorkers : Option ℕ → Call → Type 0
+HasWorkers asked_for (call.Audit found) = asked_for ≡ Some found.count
+HasWorkers _ _ = ⊤
 
 -- what is answered to words in which clap finds this wrong
 abbrev pub SaysOf : ErrorKind → Asked → Type 0
@@ -132,8 +154,8 @@ pub record NamesNoMixer (words : List Text) : Type 0 where
 abbrev pub IsRefused : List Text → Type 0
 IsRefused words = IsWrong words ⊎ NamesNoMixer words
 
--- the answer is the call that the words are, help where they ask for it, or a refusal where they are wrong
+-- the answer is the call that the words are, by as many workers as they ask for, help where they ask for it, or a refusal where they are wrong
 abbrev pub Answers : List Text → Asked → Type 0
-Answers words (asked.Call call) = call_of words ≡ Some (subcommand_of_call call)
+Answers words (asked.Call call) = (call_of words ≡ Some (subcommand_of_call call)) × HasWorkers (workers_of words) call
 Answers words (asked.Help text) = CallsNothing words × AsksForHelp words
 Answers words (asked.Refused text) = CallsNothing words × IsRefused words

@@ -1,12 +1,12 @@
 //! The program over any streams.
 
 ghost use Rattle.std.specs.Prelude.{◌≡◌, ◌≢◌, ◌≤◌, ◌<◌, List, ℕ, [], ◌∷◌, codes, map};
-ghost use Rattle.std.specs.Prelude.{IfOk, IfErr, IfSome, OnOk};
+ghost use Rattle.std.specs.Prelude.{IfOk, IfErr, IfSome, OnOk, OnErr, Some, decimal};
 ghost use Rattle.eve_audit.specs.Verdict.{SpellsAudited};
 ghost use Rattle.eve_streams.specs.Failures.{after_failure};
-ghost use Rattle.eve_tool.specs.Calls.{Calls, Leaves, Stops, Tells, says};
+ghost use Rattle.eve_tool.specs.Calls.{Calls, Leaves, LeavesHelp, Stops, StopsHelp, Tells, says};
 ghost use Rattle.eve_tool.specs.Fault.{status_of};
-ghost use Rattle.eve_tool.specs.Words.{AsksForHelp, Audit, CallsNothing, CallsSome, IsRefused, Run, Show, Subcommand};
+ghost use Rattle.eve_tool.specs.Words.{AsksForHelp, Audit, CallsNothing, CallsSome, IsRefused, Run, Show, Subcommand, workers_of};
 ghost use Rattle.eve_workload.specs.declared.mixer.Mixer.{Mixer};
 ghost use Rattle.eve_tool.specs.Writes.{WritesAllOf};
 
@@ -56,7 +56,8 @@ fn answer<
         → AsksForHelp (map S.text words.now)) }
     ensures wrong { CallsNothing (map S.text words.now) → IfOk result (λ status. status ≢ 0
         → (status ≡ 2) × IsRefused (map S.text words.now) × (out.new ≡ out.old)) }
-    ensures nothing { CallsNothing (map S.text words.now) → IfErr result (λ e. status_of e ≡ 3) }
+    ensures nothing { CallsNothing (map S.text words.now) → IfErr result (LeavesHelp O.failures out.old out.new) }
+    ensures unheard { OnErr result (err.new ≡ err.old) }
     ensures silent { IfErr result (λ e. status_of e ≡ 2 → out.new ≡ out.old) }
 {
     match read_words(rt.alloc(), words)? {
@@ -78,7 +79,7 @@ fn answer<
 /// program's name, and answers the exit status. Memory, the random words and the threads of `audit`
 /// come from `rt`; the words are asked for once the input is read. How many workers audit changes
 /// nothing of what is said. It returns where the threads that it started do.
-#[tactic(auto, using(crate::proofs::CommandLine::called_audit, crate::proofs::CommandLine::called_show, crate::proofs::CommandLine::called_run, crate::proofs::CommandLine::called_run_whole, crate::proofs::CommandLine::asked_help, crate::proofs::Cutting::audited_of))]
+#[tactic(auto, using(crate::proofs::CommandLine::called_audit, crate::proofs::CommandLine::called_with_workers, crate::proofs::CommandLine::one_worker_alone, crate::proofs::CommandLine::called_show, crate::proofs::CommandLine::called_run, crate::proofs::CommandLine::called_run_whole, crate::proofs::CommandLine::asked_help, crate::proofs::Cutting::audited_of))]
 pub fn serve<
     R: AllocGlobal + RandomSource + Threads + Wait + Sync,
     S: AsStr,
@@ -96,6 +97,12 @@ pub fn serve<
     ensures run_whole { (name : List ℕ) → map S.text words.now
         ≡ name ∷ codes "run" ∷ codes "--mixer" ∷ codes "whole" ∷ []
         → Calls (Run Mixer.Whole) (map S.text words.now) }
+    // How many workers the words of `audit` ask for: 1 where they name no number.
+    ensures one_worker { (name : List ℕ) → map S.text words.now ≡ name ∷ codes "audit" ∷ []
+        → workers_of (map S.text words.now) ≡ Some 1 }
+    ensures workers { (name : List ℕ) (n : ℕ) → 1 ≤ n → n ≤ 16
+        → map S.text words.now ≡ name ∷ codes "audit" ∷ codes "--workers" ∷ decimal n ∷ []
+        → Calls Audit (map S.text words.now) × (workers_of (map S.text words.now) ≡ Some n) }
     ensures help { (name : List ℕ) → map S.text words.now ≡ name ∷ codes "--help" ∷ []
         → CallsNothing (map S.text words.now) × AsksForHelp (map S.text words.now) }
 
@@ -121,6 +128,8 @@ pub fn serve<
     ensures refused { CallsNothing (map S.text words.now) → result ≢ 1 }
     ensures wrong { CallsNothing (map S.text words.now) → result ≡ 2
         → IsRefused (map S.text words.now) }
+    ensures unhelped { CallsNothing (map S.text words.now) → result ≡ 3
+        → StopsHelp E.written E.failures O.failures err.old err.new out.old out.new result }
 
     ensures status { result ≤ 3 }
     ensures silent { result ≡ 2 → out.new ≡ out.old }

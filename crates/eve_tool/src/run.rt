@@ -1,6 +1,6 @@
 //! The call `run`: a deployment serves a workload, and the trace of the run is written.
 
-ghost use Rattle.std.specs.Prelude.{◌≡◌, ◌≤◌, ◌<◌, ◌^◌, ◌⊎◌, Some, Err};
+ghost use Rattle.std.specs.Prelude.{◌≡◌, ◌≤◌, ◌<◌, ◌^◌, ◌⊎◌, Some, Err, length};
 ghost use Rattle.std.specs.Prelude.{IfOk, IfErr, OnOk};
 ghost use Rattle.eve_grammar.specs.Spelling.{length_of, spelling};
 ghost use Rattle.eve_streams.specs.Failures.{after_failure};
@@ -69,6 +69,7 @@ fn run_bytes<R: RandomSource + Threads + Wait + Sync, O: Sink>(
     mixer: Mixer,
     out: &mut O,
 ) -> Result<u8, ToolFault>
+    requires short { length bytes.now ≤ 2 ^ 30 }
     ensures all { IfOk result (WritesAll (Runs mixer) bytes.now (O.written out.old)
         (O.written out.new)) }
     ensures status { IfOk result (λ status. status ≡ 0) }

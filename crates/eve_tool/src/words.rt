@@ -1,9 +1,9 @@
 //! What the words of a command line ask for.
 
-ghost use Rattle.std.specs.Prelude.{◌≡◌, false, IfOk, map, option_and_then, option_map};
+ghost use Rattle.std.specs.Prelude.{◌≡◌, false, IfOk, IfSome, map, option_and_then, option_map};
 ghost use Rattle.clap.specs.Words.{app_of, found_of, kind_of, rule_of, subcommand_rows_of};
 ghost use Rattle.clap.specs.Walk.{rows_of};
-ghost use Rattle.eve_tool.specs.Words.{Answers, SaysOf, eve, mixer, mixer_in, mixer_named, subcommand_named, subcommand_of_call, workers};
+ghost use Rattle.eve_tool.specs.Words.{Answers, HasWorkers, SaysOf, eve, mixer, mixer_in, mixer_named, subcommand_named, subcommand_of_call, workers, workers_behind, workers_in};
 
 use crate::worker_count::WorkerCount;
 use clap::error::ErrorKind;
@@ -96,13 +96,15 @@ fn command<'a>(alloc: Global) -> Result<Command<'a>, AllocError>
         .subcommand(show)
 }
 
-// How many workers the words ask for.
-fn workers_in(matches: &ArgMatches<'_>) -> WorkerCount {
-    let given = match matches.subcommand_matches("audit") {
-        Some(audit) => audit.get_one::<u8>("workers"),
-        None => None,
+// How many workers were named.
+fn workers_of(found: &ArgMatches<'_>) -> WorkerCount
+    ensures { result.count ≡ workers_in (rows_of (found_of found.now)) }
+{
+    let named = match found.get_str("workers") {
+        Some(text) => text.parse::<u8>().unwrap_or(0),
+        None => 0,
     };
-    WorkerCount::nearest(given.unwrap_or(1))
+    WorkerCount::nearest(named)
 }
 
 // The mixer of that name.
@@ -130,10 +132,14 @@ fn mixer_of(found: &ArgMatches<'_>) -> Option<Mixer>
 
 // The call of the subcommand that was met.
 fn call_in(matches: &ArgMatches<'_>) -> Option<Call>
-    ensures { option_map subcommand_of_call result ≡ option_and_then subcommand_named (subcommand_rows_of matches.now) }
+    ensures call { option_map subcommand_of_call result ≡ option_and_then subcommand_named (subcommand_rows_of matches.now) }
+    ensures workers { IfSome result (HasWorkers (workers_behind (subcommand_rows_of matches.now))) }
 {
     match matches.subcommand_name() {
-        Some("audit") => Some(Call::Audit(workers_in(matches))),
+        Some("audit") => {
+            let workers = workers_of(matches.subcommand_matches("audit")?);
+            Some(Call::Audit(workers))
+        }
         Some("run") => Some(Call::Run(mixer_of(matches.subcommand_matches("run")?)?)),
         Some("show") => Some(Call::Show),
         _ => None,

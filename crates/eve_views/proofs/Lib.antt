@@ -14,3 +14,5 @@ pub mod PartLaws
 pub mod CutLaws
 pub mod StartsAt
 pub mod StepLaws
+pub mod Firsts
+pub mod FormDecided

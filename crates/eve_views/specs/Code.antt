@@ -1,5 +1,5 @@
 -- What is printed for the codes of faults, and the phases in which they are judged.
-use Rattle.std.specs.Prelude.{ℕ, List, codes}
+use Rattle.std.specs.Prelude.{ℕ, ◌+◌, ◌/◌, nat_lt, if◌then◌else◌, List, codes}
 use Rattle.eve_views.specs.declared.fault.Code.{Code}
 use Rattle.eve_views.specs.declared.fault.Code.TheVariants as code
 
@@ -57,29 +57,7 @@ number_of code.RollbackNoMajority = 73
 number_of code.Outcome = 80
 number_of code.Reply = 90
 
--- the phase in which it is judged
+-- The phase in which it is judged. Each phase has ten numbers of its own, but for votes and majorities, which share the
+-- seventies: those of majorities begin at 72.
 abbrev pub phase_of : Code → ℕ
-phase_of code.Length = 1
-phase_of code.Magic = 1
-phase_of code.Head = 1
-phase_of code.Frame = 1
-phase_of code.Body = 1
-phase_of code.SameName = 2
-phase_of code.SameRequest = 2
-phase_of code.Attempt = 3
-phase_of code.Certificate = 3
-phase_of code.Access = 3
-phase_of code.WorkerOrder = 3
-phase_of code.Commit = 3
-phase_of code.Rollback = 3
-phase_of code.Record = 4
-phase_of code.Version = 5
-phase_of code.Value = 5
-phase_of code.Restore = 6
-phase_of code.Token = 7
-phase_of code.TwoVotes = 8
-phase_of code.TwoDecisions = 8
-phase_of code.NoMajority = 9
-phase_of code.RollbackNoMajority = 9
-phase_of code.Outcome = 10
-phase_of code.Reply = 11
+phase_of c = number_of c / 10 + (if nat_lt (number_of c) 72 then 1 else 2)

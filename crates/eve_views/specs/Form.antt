@@ -6,7 +6,7 @@ use Rattle.eve_grammar.specs.Trace.{Head}
 use Rattle.eve_grammar.specs.Frames.{Frame, Place, start, is_allowed}
 use Rattle.eve_grammar.specs.Spelling.{frame_text, frames_text, head_text}
 use Rattle.eve_grammar.specs.Limits.{is_head, FitsAt}
-use Rattle.eve_views.specs.Code.{number_of}
+use Rattle.eve_views.specs.Code.{number_of, phase_of}
 use Rattle.eve_grammar.specs.Following.{Follow, after}
 use Rattle.eve_views.specs.declared.fault.Code.{Code}
 use Rattle.eve_views.specs.declared.fault.Code.TheVariants as code
@@ -90,6 +90,10 @@ pub record SomePlace {A : Type 0} (xs : List A) (P : List A → A → Type 0) : 
 -- by offset, then by number
 abbrev pub IsUpTo : Fault → Fault → Type 0
 IsUpTo f g = (f.offset < g.offset) ⊎ ((f.offset ≡ g.offset) × (number_of f.code ≤ number_of g.code))
+
+-- by phase, then offset, then number
+abbrev pub Precedes : Fault → Fault → Type 0
+Precedes f g = (phase_of f.code < phase_of g.code) ⊎ ((phase_of f.code ≡ phase_of g.code) × IsUpTo f g)
 
 -- of some faults the first
 pub record IsLeast (S : Fault → Type 0) (f : Fault) : Type 0 where

@@ -1,5 +1,6 @@
 pub mod Code
 pub mod Form
+pub mod First
 pub mod Header
 pub mod Sequence
 pub mod Walk

@@ -4,8 +4,10 @@
 mod accesses;
 mod body;
 mod fault;
+mod first;
 mod frames;
 mod header;
+pub mod laws;
 mod place;
 mod starts;
 mod steps;
@@ -15,6 +17,7 @@ mod walk;
 
 pub use accesses::Accesses;
 pub use fault::{CheckFault, Code, Fault};
+pub use first::first_of;
 pub use frames::Frames;
 pub use steps::{Step, Steps};
 pub use trace::Trace;

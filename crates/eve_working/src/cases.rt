@@ -1,6 +1,4 @@
-//! A case: a floor and a batch, two workers, and what is told of it.
-
-ghost use Rattle.std.specs.Prelude.{◌≤◌, ◌^◌};
+//! A case: a floor and a batch, two workers, what is done with them, and what is told of it.
 
 use crate::crew::{Crew, crew_of};
 use crate::opening::{Ask, batch_of, floor_of};
@@ -21,53 +19,99 @@ pub struct Case<'n> {
     pub text: Text,
 }
 
-/// A case that begins with these words: a batch of these requests, a queue with so much room, and so many numbers for
-/// each worker.
+/// What is done in a case.
+#[derive(Clone, Copy)]
+pub enum Act {
+    /// The worker at hand executes the request with this index.
+    Run(u16),
+    /// The other worker comes to hand.
+    Turn,
+    /// What waits in the worker at hand is noted.
+    Flush,
+    /// What was noted first, and not yet taken.
+    Take,
+    /// What was done up to this tick is committed.
+    Settle(u64),
+    /// All stripes are undone, with room for so many rows.
+    Undo(usize),
+}
+
+/// A case of which nothing is done yet: the words with which it begins, the requests of its batch, how much room the
+/// queue has, and how many numbers there are for each worker.
+#[derive(Clone, Copy)]
+pub struct Plan<'p> {
+    pub begin: &'p str,
+    pub asks: &'p [Ask<'p>],
+    pub room: usize,
+    pub limit: u64,
+}
+
+/// The case of a plan.
 pub fn case_of<'n>(
     alloc: Global,
     names: &'n Names<'n>,
-    begin: &str,
-    asks: &[Ask],
-    room: usize,
-    limit: u64,
-) -> Result<Case<'n>, AllocError>
-    requires room { (1 ≤ room) × (room ≤ 256) }
-    requires limit { limit ≤ 2 ^ 40 }
-{
-    let batch = batch_of(alloc, asks)?;
-    let crew = crew_of(alloc, room, limit)?;
+    plan: &Plan,
+) -> Result<Case<'n>, AllocError> {
     Ok(Case {
         floor: floor_of(alloc, names)?,
-        batch,
-        crew,
-        text: Text::new(alloc, begin),
+        batch: batch_of(alloc, plan.asks)?,
+        crew: crew_of(alloc, plan.room, plan.limit)?,
+        text: Text::new(alloc, plan.begin),
     })
 }
 
+/// What is told of the case when these things are done, one after another.
+pub fn told<R: Wait>(
+    rt: &R,
+    alloc: Global,
+    names: &Names,
+    plan: &Plan,
+    acts: &[Act],
+) -> Result<Text, AllocError> {
+    let mut case = case_of(alloc, names, plan)?;
+    case.play(rt, alloc, acts)?;
+    Ok(case.text)
+}
+
 impl<'n> Case<'n> {
-    /// The worker at hand executes a request.
-    pub fn run<R: Wait>(&mut self, rt: &R, index: u16) {
+    /// Does these things, one after another.
+    pub fn play<R: Wait>(&mut self, rt: &R, alloc: Global, acts: &[Act]) -> Result<(), AllocError> {
+        for act in acts {
+            match *act {
+                Act::Run(index) => self.run(rt, index),
+                Act::Turn => self.crew.turn(),
+                Act::Flush => self.flush(rt),
+                Act::Take => self.take(rt),
+                Act::Settle(tick) => self.floor.settle(tick),
+                Act::Undo(room) => self.undo(Vec::with_capacity(alloc, room)?),
+            }
+        }
+        Ok(())
+    }
+
+    // The worker at hand executes a request.
+    fn run<R: Wait>(&mut self, rt: &R, index: u16) {
         let answer = self.crew.execute(rt, &self.floor, &self.batch, index);
         self.text.say_answer(answer);
     }
 
-    /// What waits in the worker at hand is noted.
-    pub fn flush<R: Wait>(&mut self, rt: &R) {
+    // What waits in the worker at hand is noted.
+    fn flush<R: Wait>(&mut self, rt: &R) {
         self.text.say(", flush");
         let answer = self.crew.flush(rt);
         self.text.say_answer(answer);
     }
 
-    /// What was noted first, and not yet taken.
-    pub fn take<R: Wait>(&mut self, rt: &R) {
+    // What was noted first, and not yet taken.
+    fn take<R: Wait>(&mut self, rt: &R) {
         let record = self.crew.take(rt);
         self.text.say_record(record);
     }
 
-    /// All stripes are undone.
-    pub fn undo(&mut self, restores: &mut Vec<Restore>) {
+    // All stripes are undone.
+    fn undo(&mut self, mut restores: Vec<Restore>) {
         self.text.say(", undo");
-        let is_undone = self.floor.undo(restores).is_ok();
+        let is_undone = self.floor.undo(&mut restores).is_ok();
         self.text.say_whether(is_undone);
         self.text.say_restores(restores.as_slice());
     }

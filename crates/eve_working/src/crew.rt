@@ -1,12 +1,11 @@
 //! Two workers, with what their seats are of.
 
-ghost use Rattle.std.specs.Prelude.{◌≡◌, ◌≤◌, ◌<◌, ◌^◌, IsTrue, length};
+ghost use Rattle.std.specs.Prelude.{◌≡◌, ◌<◌, IsTrue, length};
 ghost use Rattle.eve_floor.specs.Executing.{IsAt};
 
 use eve_floor::{ExecFault, Floor, Worker, execute, flush};
-use eve_recorder::{OpenGate, Recorder, TakerSeat};
+use eve_recorder::{OpenGate, Recorder, TakerSeat, Tickets};
 use eve_stamps::AccessRecord;
-use eve_tickets::Tickets;
 use eve_write::BatchData;
 use std::alloc::{AllocError, Global};
 use std::mem;
@@ -25,11 +24,12 @@ pub struct Crew {
     pub ghost taker_at: { taker.recorder ≡ recorder.recorder },
 }
 
-/// Workers 0 and 1, the first of them at hand: a queue with so much room, and so many numbers for each.
-pub fn crew_of(alloc: Global, room: usize, limit: u64) -> Result<Crew, AllocError>
-    requires room { (1 ≤ room) × (room ≤ 256) }
-    requires limit { limit ≤ 2 ^ 40 }
-{
+/// Workers 0 and 1, the first of them at hand: a queue with so much room, from 1 to 256, and so many numbers for each,
+/// at most 256.
+pub fn crew_of(alloc: Global, room: usize, limit: u64) -> Result<Crew, AllocError> {
+    if room < 1 || 256 < room || 256 < limit {
+        return Err(AllocError);
+    }
     let (recorder, mut seats) = Recorder::new(alloc, 2, room)?;
     let (tickets, mut drawers) = Tickets::new(alloc, 2, limit)?;
     let first = seats.worker(0).ok_or(AllocError)?;

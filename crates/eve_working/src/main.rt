@@ -9,12 +9,13 @@ mod opening;
 mod pair;
 mod telling;
 
-use crate::cases::{Case, case_of};
-use crate::gates::{HeldGate, LoneGate};
+use crate::cases::{Act, Case, Plan, case_of, told};
+use crate::gates::{HeldGate, LoneGate, Watched};
 use crate::opening::{Ask, customers};
 use crate::pair::{Met, at_once};
 use crate::telling::Text;
 use eve_accounts::Names;
+use eve_floor::Worker;
 use eve_recorder::OpenGate;
 use std::alloc::{AllocError, Global};
 use std::hash::RandomState;
@@ -24,100 +25,134 @@ use std::thread::Threads;
 
 /// Two deposits to one customer, the second by another worker.
 fn attempt_and_close<R: Wait>(rt: &R, alloc: Global, names: &Names) -> Result<Text, AllocError> {
-    let asks = [Ask::Deposit(b"a"), Ask::Deposit(b"a")];
-    let mut case = case_of(alloc, names, "replica-attempt-and-close:", &asks, 2, 8)?;
-    case.run(rt, 0);
-    case.crew.turn();
-    case.run(rt, 1);
-    case.take(rt);
-    case.take(rt);
-    case.take(rt);
-    Ok(case.text)
+    let plan = Plan {
+        begin: "replica-attempt-and-close:",
+        asks: &[Ask::Deposit(b"a"), Ask::Deposit(b"a")],
+        room: 2,
+        limit: 8,
+    };
+    let acts = [
+        Act::Run(0),
+        Act::Turn,
+        Act::Run(1),
+        Act::Take,
+        Act::Take,
+        Act::Take,
+    ];
+    told(rt, alloc, names, &plan, &acts)
 }
 
 /// A queue with room for one record: the second waits, and its worker does nothing until it is noted.
 fn full_and_drained<R: Wait>(rt: &R, alloc: Global, names: &Names) -> Result<Text, AllocError> {
-    let asks = [Ask::Deposit(b"a"), Ask::Deposit(b"a")];
-    let mut case = case_of(alloc, names, "queue-full-and-drained:", &asks, 1, 8)?;
-    case.run(rt, 0);
-    case.run(rt, 1);
-    case.run(rt, 0);
-    case.flush(rt);
-    case.take(rt);
-    case.flush(rt);
-    case.flush(rt);
-    case.take(rt);
-    Ok(case.text)
+    let plan = Plan {
+        begin: "queue-full-and-drained:",
+        asks: &[Ask::Deposit(b"a"), Ask::Deposit(b"a")],
+        room: 1,
+        limit: 8,
+    };
+    let acts = [
+        Act::Run(0),
+        Act::Run(1),
+        Act::Run(0),
+        Act::Flush,
+        Act::Take,
+        Act::Flush,
+        Act::Flush,
+        Act::Take,
+    ];
+    told(rt, alloc, names, &plan, &acts)
 }
 
-/// One number may be drawn, or none.
-fn spent<R: Wait>(
-    rt: &R,
-    alloc: Global,
-    names: &Names,
-    may_draw: bool,
-) -> Result<Text, AllocError> {
-    let asks = [Ask::Deposit(b"a")];
-    let limit = if may_draw { 1 } else { 0 };
-    let mut case = case_of(alloc, names, "tickets-two-seats:", &asks, 2, limit)?;
-    case.run(rt, 0);
-    case.run(rt, 0);
-    case.take(rt);
-    Ok(case.text)
+/// So many numbers may be drawn.
+fn spent<R: Wait>(rt: &R, alloc: Global, names: &Names, limit: u64) -> Result<Text, AllocError> {
+    let plan = Plan {
+        begin: "tickets-two-seats:",
+        asks: &[Ask::Deposit(b"a")],
+        room: 2,
+        limit,
+    };
+    let acts = [Act::Run(0), Act::Run(0), Act::Take];
+    told(rt, alloc, names, &plan, &acts)
 }
 
 /// Customers 0 and 16 share a stripe, 0 and 1 don't, and `z` is none.
 fn one_lock_or_two<R: Wait>(rt: &R, alloc: Global, names: &Names) -> Result<Text, AllocError> {
-    let asks = [
-        Ask::Deposit(b"a"),
-        Ask::Move(b"a", b"q"),
-        Ask::Move(b"q", b"b"),
-        Ask::Move(b"b", b"a"),
-        Ask::Move(b"a", b"a"),
-        Ask::Move(b"a", b"z"),
+    let plan = Plan {
+        begin: "one-lock-or-two:",
+        asks: &[
+            Ask::Deposit(b"a"),
+            Ask::Move(b"a", b"q"),
+            Ask::Move(b"q", b"b"),
+            Ask::Move(b"b", b"a"),
+            Ask::Move(b"a", b"a"),
+            Ask::Move(b"a", b"z"),
+        ],
+        room: 8,
+        limit: 8,
+    };
+    let acts = [
+        Act::Run(0),
+        Act::Take,
+        Act::Run(1),
+        Act::Take,
+        Act::Run(2),
+        Act::Take,
+        Act::Run(3),
+        Act::Take,
+        Act::Run(4),
+        Act::Take,
+        Act::Run(5),
+        Act::Take,
     ];
-    let mut case = case_of(alloc, names, "one-lock-or-two:", &asks, 8, 8)?;
-    for index in 0..6 {
-        case.run(rt, index);
-        case.take(rt);
-    }
-    Ok(case.text)
+    told(rt, alloc, names, &plan, &acts)
 }
 
 /// Two deposits for each of two customers, of which the first two are settled. A vector without room is tried first.
 fn settled_and_undone<R: Wait>(rt: &R, alloc: Global, names: &Names) -> Result<Text, AllocError> {
-    let asks = [Ask::Deposit(b"a"), Ask::Deposit(b"b")];
-    let mut restores = Vec::new(alloc);
-    let mut room = Vec::with_capacity(alloc, 64)?;
-    let mut case = case_of(alloc, names, "settled-and-undone:", &asks, 4, 8)?;
-    case.run(rt, 0);
-    case.run(rt, 1);
-    case.floor.settle(1);
-    case.crew.turn();
-    case.run(rt, 0);
-    case.run(rt, 1);
-    case.undo(&mut restores);
-    case.undo(&mut room);
-    room.clear();
-    case.undo(&mut room);
-    Ok(case.text)
+    let plan = Plan {
+        begin: "settled-and-undone:",
+        asks: &[Ask::Deposit(b"a"), Ask::Deposit(b"b")],
+        room: 4,
+        limit: 8,
+    };
+    let acts = [
+        Act::Run(0),
+        Act::Run(1),
+        Act::Settle(1),
+        Act::Turn,
+        Act::Run(0),
+        Act::Run(1),
+        Act::Undo(0),
+        Act::Undo(64),
+        Act::Undo(64),
+    ];
+    told(rt, alloc, names, &plan, &acts)
 }
 
 /// A worker in which a record waits keeps its seats, until the record is taken out.
 fn waiting_worker<R: Wait>(rt: &R, alloc: Global, names: &Names) -> Result<Text, AllocError> {
-    let asks = [Ask::Deposit(b"a"), Ask::Deposit(b"a")];
-    let mut case = case_of(alloc, names, "waiting-worker:", &asks, 1, 8)?;
-    case.run(rt, 0);
-    case.run(rt, 1);
+    let plan = Plan {
+        begin: "waiting-worker:",
+        asks: &[Ask::Deposit(b"a"), Ask::Deposit(b"a")],
+        room: 1,
+        limit: 8,
+    };
+    let mut case = case_of(alloc, names, &plan)?;
+    case.play(rt, alloc, &[Act::Run(0), Act::Run(1)])?;
     let Case { crew, mut text, .. } = case;
-    match crew.into_hand().into_seats() {
+    take_apart(crew.into_hand(), &mut text);
+    Ok(text)
+}
+
+// Tells whether the worker gives its seats, and what waits in it otherwise.
+fn take_apart(worker: Worker, text: &mut Text) {
+    match worker.into_seats() {
         Ok(_) => text.say(", its seats"),
         Err(mut worker) => {
             text.say_record(worker.take_waiting());
             text.say_whether(worker.into_seats().is_ok());
         }
     }
-    Ok(text)
 }
 
 /// Two deposits to one customer in two threads, with room for one record: one of the two waits, and its worker does
@@ -127,8 +162,13 @@ fn waiting_record<R: Threads + Wait + Sync>(
     alloc: Global,
     names: &Names,
 ) -> Result<Text, AllocError> {
-    let asks = [Ask::Deposit(b"a"), Ask::Deposit(b"a"), Ask::Deposit(b"a")];
-    let case = case_of(alloc, names, "waiting-record: one waits", &asks, 1, 8)?;
+    let plan = Plan {
+        begin: "waiting-record: one waits",
+        asks: &[Ask::Deposit(b"a"), Ask::Deposit(b"a"), Ask::Deposit(b"a")],
+        room: 1,
+        limit: 8,
+    };
+    let case = case_of(alloc, names, &plan)?;
     let Met {
         mut case,
         first,
@@ -138,16 +178,26 @@ fn waiting_record<R: Threads + Wait + Sync>(
     if first.is_ok() {
         case.crew.turn();
     }
-    case.run(rt, 2);
+    case.play(rt, alloc, &[Act::Run(2)])?;
     let first = case.crew.take(rt).is_some();
-    case.flush(rt);
+    case.play(rt, alloc, &[Act::Flush])?;
     let second = case.crew.take(rt).is_some();
     case.text.say_whether(first && second);
-    case.run(rt, 2);
+    case.play(rt, alloc, &[Act::Run(2)])?;
     if let Some(record) = case.crew.take(rt) {
         case.text.say_entries(&record);
     }
     Ok(case.text)
+}
+
+// Two requests that are to be run at once.
+fn pair_of<'p>(asks: &'p [Ask<'p>]) -> Plan<'p> {
+    Plan {
+        begin: "",
+        asks,
+        room: 2,
+        limit: 8,
+    }
 }
 
 /// Request 0 is held in its gate until request 1 is noted by another thread. Whether that came in time.
@@ -158,8 +208,8 @@ fn held<R: Threads + Wait + Sync>(
     asks: &[Ask],
 ) -> Result<bool, AllocError> {
     let gate = HeldGate::new();
-    let met = at_once(rt, alloc, case_of(alloc, names, "", asks, 2, 8)?, &gate)?;
-    Ok(met.first.is_ok() && met.second.is_ok() && gate.came())
+    let (first, second) = answers(rt, alloc, names, asks, &gate)?;
+    Ok(first && second && gate.came())
 }
 
 /// Two requests in two threads, each of which stays in its gate for a while. Whether both were in there at one moment.
@@ -170,8 +220,41 @@ fn meet<R: Threads + Wait + Sync>(
     asks: &[Ask],
 ) -> Result<bool, AllocError> {
     let gate = LoneGate::new();
-    let met = at_once(rt, alloc, case_of(alloc, names, "", asks, 2, 8)?, &gate)?;
-    Ok(met.first.is_err() || met.second.is_err() || gate.met())
+    let (first, second) = answers(rt, alloc, names, asks, &gate)?;
+    Ok(!first || !second || gate.met())
+}
+
+// Whether each of two requests was executed, where both are run at once.
+fn answers<R: Threads + Wait + Sync, G: Watched>(
+    rt: &R,
+    alloc: Global,
+    names: &Names,
+    asks: &[Ask],
+    gate: &G,
+) -> Result<(bool, bool), AllocError> {
+    let case = case_of(alloc, names, &pair_of(asks))?;
+    let met = at_once(rt, alloc, case, gate)?;
+    Ok((met.first.is_ok(), met.second.is_ok()))
+}
+
+// Whether each of the pairs of requests comes to what is asked of it.
+fn say_each<R: Threads + Wait + Sync>(
+    rt: &R,
+    alloc: Global,
+    names: &Names,
+    text: &mut Text,
+    pairs: &[[Ask; 2]],
+    is_meeting: bool,
+) -> Result<(), AllocError> {
+    for asks in pairs {
+        let is_so = if is_meeting {
+            meet(rt, alloc, names, asks)?
+        } else {
+            held(rt, alloc, names, asks)?
+        };
+        text.say_whether(is_so);
+    }
+    Ok(())
 }
 
 /// Requests of different stripes don't wait for one another, and those that share a stripe do.
@@ -180,39 +263,46 @@ fn gates_held<R: Threads + Wait + Sync>(
     alloc: Global,
     names: &Names,
 ) -> Result<Text, AllocError> {
-    let mut text = Text::new(alloc, "gates-held:");
-    for asks in [
+    let apart = [
         [Ask::Deposit(b"a"), Ask::Deposit(b"b")],
         [Ask::Move(b"a", b"q"), Ask::Deposit(b"b")],
         [Ask::Move(b"a", b"b"), Ask::Deposit(b"c")],
         [Ask::Move(b"a", b"z"), Ask::Deposit(b"a")],
         [Ask::Deposit(b"a"), Ask::Move(b"a", b"z")],
-    ] {
-        text.say_whether(held(rt, alloc, names, &asks)?);
-    }
-    text.say("; meet:");
-    for asks in [
+    ];
+    let shared = [
         [Ask::Deposit(b"a"), Ask::Deposit(b"a")],
         [Ask::Deposit(b"a"), Ask::Deposit(b"q")],
         [Ask::Move(b"a", b"b"), Ask::Deposit(b"a")],
         [Ask::Move(b"a", b"b"), Ask::Deposit(b"b")],
         [Ask::Move(b"a", b"b"), Ask::Move(b"b", b"a")],
-    ] {
-        text.say_whether(meet(rt, alloc, names, &asks)?);
-    }
+    ];
+    let mut text = Text::new(alloc, "gates-held:");
+    say_each(rt, alloc, names, &mut text, &apart, false)?;
+    text.say("; meet:");
+    say_each(rt, alloc, names, &mut text, &shared, true)?;
     Ok(text)
+}
+
+// Prints what is told of a case.
+fn tell<R: Print>(rt: &R, told: Result<Text, AllocError>) -> io::Result<()> {
+    told?.print(rt)
+}
+
+// Prints the cases of one thread.
+fn tell_one_by_one<R: Print + Wait>(rt: &R, alloc: Global, names: &Names) -> io::Result<()> {
+    tell(rt, attempt_and_close(rt, alloc, names))?;
+    tell(rt, full_and_drained(rt, alloc, names))?;
+    tell(rt, spent(rt, alloc, names, 0))?;
+    tell(rt, spent(rt, alloc, names, 1))?;
+    tell(rt, one_lock_or_two(rt, alloc, names))?;
+    tell(rt, settled_and_undone(rt, alloc, names))?;
+    tell(rt, waiting_worker(rt, alloc, names))
 }
 
 fn main(rt: HostRuntime) -> io::Result<()> {
     let names = customers(rt.alloc(), RandomState::new(&rt)?)?;
-    attempt_and_close(&rt, rt.alloc(), &names)?.print(&rt)?;
-    full_and_drained(&rt, rt.alloc(), &names)?.print(&rt)?;
-    for may_draw in [false, true] {
-        spent(&rt, rt.alloc(), &names, may_draw)?.print(&rt)?;
-    }
-    one_lock_or_two(&rt, rt.alloc(), &names)?.print(&rt)?;
-    settled_and_undone(&rt, rt.alloc(), &names)?.print(&rt)?;
-    waiting_worker(&rt, rt.alloc(), &names)?.print(&rt)?;
-    waiting_record(&rt, rt.alloc(), &names)?.print(&rt)?;
-    gates_held(&rt, rt.alloc(), &names)?.print(&rt)
+    tell_one_by_one(&rt, rt.alloc(), &names)?;
+    tell(&rt, waiting_record(&rt, rt.alloc(), &names))?;
+    tell(&rt, gates_held(&rt, rt.alloc(), &names))
 }

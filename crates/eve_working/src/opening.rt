@@ -9,12 +9,8 @@ use std::hash::RandomState;
 /// Seventeen customers, `a` to `q`: the first and the last of them lie in one stripe.
 pub fn customers(alloc: Global, random: RandomState) -> Result<Names<'static>, AllocError> {
     let mut names = Names::new(alloc, random, 32);
-    let texts: [&[u8]; 17] = [
-        b"a", b"b", b"c", b"d", b"e", b"f", b"g", b"h", b"i", b"j", b"k", b"l", b"m", b"n", b"o",
-        b"p", b"q",
-    ];
-    for text in texts {
-        if names.add(text).is_err() {
+    for name in b"abcdefghijklmnopq".chunks(1) {
+        if names.add(name).is_err() {
             return Err(AllocError);
         }
     }
@@ -38,15 +34,19 @@ pub enum Ask<'a> {
 pub fn batch_of(alloc: Global, asks: &[Ask]) -> Result<BatchData, AllocError> {
     let mut requests = Vec::with_capacity(alloc, asks.len())?;
     for ask in asks {
-        requests.push(RequestData {
-            client: 7,
-            number: 1,
-            transaction: transaction_of(alloc, *ask)?,
-        })?;
+        requests.push(request_of(alloc, *ask)?)?;
     }
     Ok(BatchData {
         sizes: Vec::new(alloc),
         requests,
+    })
+}
+
+fn request_of(alloc: Global, ask: Ask) -> Result<RequestData, AllocError> {
+    Ok(RequestData {
+        client: 7,
+        number: 1,
+        transaction: transaction_of(alloc, ask)?,
     })
 }
 

@@ -1,5 +1,5 @@
 -- Batches in one list of requests.
-use Rattle.std.proofs.Common.{◌≢◌, AllPairs, Bool, ◌&&◌, IsTrue, nat_le, nat_lt, ◌*◌, map, ◌≡◌, ℕ, zero, suc, ◌+◌, ◌-◌, ◌<◌, ◌≤◌, List, [], ◌∷◌, ◌++◌, length, take, drop, get_or, Some, refl, sym, ap, subst, ◌∙◌, arith, length-append, add-one, leb-true}
+use Rattle.std.proofs.Common.{◌≢◌, AllPairs, Bool, IsTrue, nat_le, map, ◌≡◌, ℕ, zero, suc, ◌+◌, ◌-◌, ◌<◌, ◌≤◌, List, [], ◌∷◌, ◌++◌, length, take, drop, get_or, Some, refl, sym, ap, subst, ◌∙◌, arith, length-append, add-one, leb-true}
 use Rattle.std.specs.List.{flat_map, list_all, slice_get}
 use Rattle.std.proofs.lemmas.List.{append_assoc, length-map, take-map, drop-map}
 use Rattle.std.proofs.lemmas.Bool.{and_parts}
@@ -11,6 +11,7 @@ use Rattle.eve_write.specs.declared.request.RequestData.{RequestData}
 use Rattle.eve_workload.specs.declared.workload.Workload.TheInside.{Inside}
 use Rattle.eve_workload.specs.Workload.{Workload, IsWorkload, head_of, names_of, is_listed}
 use Rattle.eve_workload.specs.Held.{starts_from, workload_of, IsHeld}
+use Rattle.eve_workload.proofs.Deployments.{few_batches, some_customers}
 
 length-starts_from : {A : Type 0} (behind : ℕ) (parts : List (List A)) → length (starts_from behind parts) ≡ length parts
 length-starts_from behind [] = refl
@@ -66,32 +67,6 @@ all_get p (y ∷ ys) zero x all at =
     subst (λ z. IsTrue (p z)) same (and_parts (p y) (list_all p ys) all).0
 all_get p (y ∷ ys) (suc i) x all at = all_get p ys i x (and_parts (p y) (list_all p ys) all).1 at
 
--- the counts of a right head
-head_parts : (w : Workload) → IsTrue (is_head (head_of w)) → IsTrue (is_between 1 4096 (length w.customers) && nat_le (length w.batches) 65535)
-head_parts w right =
-    let d = w.deployment in
-    let more = is_between 1 4096 (length w.customers) && nat_le (length w.batches) 65535 in
-    let workers = is_between 1 8 d.workers && more in
-    let window = is_between 1 8 d.window && workers in
-    let majority = nat_lt d.verifiers (2 * d.quorum) && window in
-    let quorum = nat_le d.quorum d.verifiers && majority in
-    let verifiers = is_between 1 16 d.verifiers && quorum in
-    (and_parts (is_between 1 8 d.workers) more
-    (and_parts (is_between 1 8 d.window) workers
-    (and_parts (nat_lt d.verifiers (2 * d.quorum)) window
-    (and_parts (nat_le d.quorum d.verifiers) majority
-    (and_parts (is_between 1 16 d.verifiers) quorum
-    (and_parts (is_between 1 8 d.replicas) verifiers right).1).1).1).1).1).1
-
-head_batches : (w : Workload) → IsTrue (is_head (head_of w)) → length w.batches ≤ 65535
-head_batches w right = leb-true _ _ (and_parts (is_between 1 4096 (length w.customers)) (nat_le (length w.batches) 65535) (head_parts w right)).1
-
-head_customers : (w : Workload) → IsTrue (is_head (head_of w)) → (1 ≤ length w.customers) × (length w.customers ≤ 4096)
-head_customers w right =
-    let both = (and_parts (is_between 1 4096 (length w.customers)) (nat_le (length w.batches) 65535) (head_parts w right)).0 in
-    let two = and_parts (nat_le 1 (length w.customers)) (nat_le (length w.customers) 4096) both in
-    (leb-true _ _ two.0, leb-true _ _ two.1)
-
 -- how many there are, and within which limits
 module _ (w : Inside) (value : Workload) (held : IsHeld w) (is : workload_of w ≡ value) where
   pub starts_count : (starts : List ℕ) → starts ≡ w.starts.items → length starts ≡ length value.batches
@@ -106,13 +81,13 @@ module _ (w : Inside) (value : Workload) (held : IsHeld w) (is : workload_of w �
   is_workload = subst IsWorkload is held.workload
 
   pub batches_few : length value.batches ≤ 65535
-  batches_few = head_batches value is_workload.head
+  batches_few = few_batches value.deployment (length value.customers) (length value.batches) is_workload.head
 
   pub customers_some : 1 ≤ length value.customers
-  customers_some = (head_customers value is_workload.head).0
+  customers_some = (some_customers value.deployment (length value.customers) (length value.batches) is_workload.head).0
 
   pub customers_few : length value.customers ≤ 4096
-  customers_few = (head_customers value is_workload.head).1
+  customers_few = (some_customers value.deployment (length value.customers) (length value.batches) is_workload.head).1
 
   -- its customers, as the code reads them
   customers_are : (customers : List CustomerData) → customers ≡ w.customers.items → value.customers ≡ map customer customers

@@ -1,5 +1,5 @@
 -- A line is spelled once, and its words have no space and no line feed in them.
-use Rattle.std.proofs.Common.{◌≡◌, ◌≢◌, ℕ, ℤ, pos, negsuc, suc, ◌^◌, ◌<◌, ◌≤◌, ◌==◌, true, false, not, ◌&&◌, IsTrue, nat_le, List, [], ◌∷◌, ◌++◌, length, drop, get_or, refl, sym, ap, ◌∙◌, arith, leb-true, append_assoc}
+use Rattle.std.proofs.Common.{◌≡◌, ◌≢◌, ℕ, ℤ, pos, negsuc, suc, ◌^◌, ◌<◌, ◌≤◌, ◌==◌, true, false, not, ◌&&◌, IsTrue, nat_le, List, [], ◌∷◌, ◌++◌, length, drop, get_or, refl, sym, ap, ◌∙◌, arith, leb-true, append_assoc, zero, take, length-append}
 use Rattle.std.specs.List.{list_all, join_with_byte}
 use Rattle.std.specs.Fmt.{decimal, signed_decimal}
 use Rattle.std.specs.Int.RustNames.{int_le}
@@ -266,3 +266,8 @@ no_line_here text words len first none line behind is right = none line right (w
 pub line_here : (text : List ℕ) (words : List (List ℕ)) (len : ℕ) (l : Line) → IsFirstLine text words len → line_words l ≡ words → IsTrue (is_line l) → (line : Line) (behind : List ℕ) → text ≡ line_text line ++ behind → IsTrue (is_line line) → line ≡ l
 line_here text words len l first said right_l line behind is right =
     same_line line l right right_l (words_here text words len line behind first is right ∙ sym said)
+
+-- a line has some bytes
+pub some_bytes : (len : ℕ) (text : List ℕ) (line : Line) → take len text ≡ line_text line → 0 < len
+some_bytes zero text line is = absurd (omega (arith, ap length is, length-append (join_with_byte 32 (line_words line)) (10 ∷ [])))
+some_bytes (suc len) text line is = omega arith

@@ -15,12 +15,13 @@ use Rattle.eve_smallbank.specs.declared.rows.Touched.{Touched}
 use Rattle.eve_smallbank.specs.declared.rows.Touched.TheVariants.{Refused}
 use Rattle.eve_smallbank.specs.SmallBank.{DepositChecking}
 use Rattle.eve_smallbank.specs.Access.{is_write, Rows}
-use Rattle.eve_smallbank.specs.Touch.{touched_of, rows_in, knows_names}
+use Rattle.eve_smallbank.specs.Touch.{rows_in, knows_names}
 use Rattle.eve_grammar.specs.Trace.{Asked}
 use Rattle.eve_grammar.specs.Limits.{is_asked, is_batch}
 use Rattle.eve_workload.specs.declared.mixer.Mixer.{Mixer}
 use Rattle.eve_workload.specs.declared.mixer.Mixer.TheVariants.{First, Whole}
 use Rattle.eve_workload.specs.Mixing.{collide, share, rows_touched, conflict, first_fit, cut, batch_of, AreApart}
+use Rattle.eve_workload.specs.Mixed.{touched_by}
 use Rattle.eve_workload.specs.Groups.{rows_at, share_at, refused_request, listed, AreGroups}
 use Rattle.eve_workload.proofs.Cuts.{first_fit_keeps, all_first_fit, first_fit_same, groups_same, sum_of_lengths}
 
@@ -74,10 +75,6 @@ at_index f [] i d = refl
 at_index f (x ∷ xs) zero d = refl
 at_index f (x ∷ xs) (suc i) d = at_index f xs i d
 
--- what a request touches
-abbrev touched_by : List (List ℕ) → Asked → Touched
-touched_by names a = touched_of names a.request
-
 no_rows : (names : List (List ℕ)) → rows_touched names refused_request ≡ []
 no_rows names =
     elim (knows_names names (DepositChecking [] (negsuc 0)))
@@ -107,20 +104,11 @@ module _ (names : List (List ℕ)) (rs : List Asked) where
       (first_fit_same by_index clash (conflict names) same [] (range_with_len 0 n) ∙ ap (first_fit (conflict names) []) (all_indexes n (sym (length-map rs (touched_by names)))))
       (groups_same by_index sizes order (first_fit clash [] (range_with_len 0 n)) are)
 
-  whole_cut_of : (n : ℕ) (sizes order : List ℕ) → length rs ≡ n → AreGroups sizes order (range_with_len 0 n ∷ []) → AreGroups sizes (listed rs order) (cut names Whole rs)
-  unfolding by_index
-  whole_cut_of n sizes order count are =
-      subst (AreGroups sizes (listed rs order)) (ap (λ group. group ∷ []) (all_indexes n count))
-      (groups_same by_index sizes order (range_with_len 0 n ∷ []) are)
-
   module _ (touched : List Touched) (is : touched ≡ map (touched_by names) rs) (sizes order : List ℕ) where
     pub first_cut : AreGroups sizes order (first_fit (share_at (rows_at touched)) [] (range_with_len 0 (length touched))) → AreGroups sizes (listed rs order) (cut names First rs)
     first_cut are =
         first_cut_of sizes order
         (subst (λ ts. AreGroups sizes order (first_fit (share_at (rows_at ts)) [] (range_with_len 0 (length ts)))) is are)
-
-    pub whole_cut : AreGroups sizes order (range_with_len 0 (length touched) ∷ []) → AreGroups sizes (listed rs order) (cut names Whole rs)
-    whole_cut = whole_cut_of (length touched) sizes order (sym (ap length is ∙ length-map rs (touched_by names)))
 
 -- what the listed requests touch
 pub touched_listed : (f : Asked → Touched) (rs : List Asked) (order : List ℕ) → map (λ i. slice_index_or (map f rs) i (f refused_request)) order ≡ map f (listed rs order)
@@ -129,6 +117,10 @@ touched_listed f rs (i ∷ order) = λ k. sym (at_index f rs i refused_request) 
 
 pub batch_is : (sizes : List ℕ) (requests order : List Asked) (groups : List (List Asked)) → requests ≡ order → AreGroups sizes order groups → record { sizes = sizes; requests = requests } ≡ batch_of groups
 batch_is sizes requests order groups same are = λ i. record { sizes = are.sizes_are i; requests = (same ∙ are.order_is) i }
+
+-- one parallelBatch of all requests
+pub whole_is : (n : ℕ) (requests : List Asked) → n ≡ length requests → record { sizes = n ∷ []; requests = requests } ≡ batch_of (requests ∷ [])
+whole_is n requests count = λ i. record { sizes = count i ∷ []; requests = sym (append-nil requests) i }
 
 -- ---- a batch within the limits
 

@@ -1,14 +1,14 @@
 -- The lines of a workload are right one behind another, and its text has no bad line.
-use Rattle.std.proofs.Common.{◌≡◌, ◌≢◌, ℕ, ◌+◌, ◌*◌, ◌≤◌, true, ◌&&◌, nat_le, nat_lt, List, [], ◌∷◌, ◌++◌, map, length, AllPairs, Contains, inl, inr, refl, sym, ap, subst, ◌∙◌, arith, length-append, append_assoc}
+use Rattle.std.proofs.Common.{◌≡◌, ◌≢◌, IsTrue, ℕ, ◌+◌, ◌≤◌, true, nat_le, List, [], ◌∷◌, ◌++◌, map, length, AllPairs, Contains, inl, inr, refl, sym, ap, subst, ◌∙◌, arith, length-append, append_assoc}
 use Rattle.std.specs.List.{list_all, flat_map, join_with_byte}
-use Rattle.std.proofs.lemmas.Bool.{and_parts, and_from, leb-true, lt-ltb, false≢true, cases_order}
+use Rattle.std.proofs.lemmas.Bool.{and_parts, leb-true, lt-ltb, false≢true, cases_order}
 use Rattle.std.proofs.lemmas.List.{append-nil, map-append, get_or_append_left, get_or_at}
 use Rattle.eve_grammar.specs.Trace.{Customer, Asked}
 use Rattle.eve_grammar.specs.Limits.{is_between, is_customer, is_asked}
-use Rattle.eve_workload.specs.declared.deployment.Deployment.{Deployment}
 use Rattle.eve_workload.specs.Workload.{Workload, IsWorkload, is_listed, names_of, pair_of, requests_of}
 use Rattle.eve_workload.specs.Lines.{Line, HeadLine, CustomerLine, BatchLine, RequestLine, line_words, line_text, batch_lines, lines_of, workload_text}
 use Rattle.eve_workload.specs.Steps.{customers_in, requests_in, batches_in, last_requests, may_follow, may_end, is_deployment, IsRightBehind, AreRight, text_before, IsBadLine}
+use Rattle.eve_workload.proofs.Deployments.{other_counts, few_batches, some_customers}
 use Rattle.eve_workload.proofs.OneAnswer.{same_lines, follows_fewer}
 
 -- lines with more lines behind them; the nearest first
@@ -127,32 +127,8 @@ module _ (w : Workload) (is : IsWorkload w) where
   abbrev pub lines_back : List Line
   lines_back = onto [] (lines_of w)
 
-  deployment_right : (is_deployment w.deployment ≡ true) × (nat_le 1 (length w.customers) ≡ true) × (nat_le (length w.customers) 4096 ≡ true) × (nat_le (length w.batches) 65535 ≡ true)
-  deployment_right =
-      let d : Deployment = w.deployment in
-      let counts = is_between 1 4096 (length w.customers) && nat_le (length w.batches) 65535 in
-      let six = is_between 1 8 d.workers && counts in
-      let five = is_between 1 8 d.window && six in
-      let four = nat_lt d.verifiers (2 * d.quorum) && five in
-      let three = nat_le d.quorum d.verifiers && four in
-      let two = is_between 1 16 d.verifiers && three in
-      let first = and_parts (is_between 1 8 d.replicas) two is.head in
-      let second = and_parts (is_between 1 16 d.verifiers) three first.1 in
-      let third = and_parts (nat_le d.quorum d.verifiers) four second.1 in
-      let fourth = and_parts (nat_lt d.verifiers (2 * d.quorum)) five third.1 in
-      let fifth = and_parts (is_between 1 8 d.window) six fourth.1 in
-      let sixth = and_parts (is_between 1 8 d.workers) counts fifth.1 in
-      let counted = and_parts (is_between 1 4096 (length w.customers)) (nat_le (length w.batches) 65535) sixth.1 in
-      let customers = and_parts (nat_le 1 (length w.customers)) (nat_le (length w.customers) 4096) counted.0 in (
-        and_from (is_between 1 8 d.replicas) (is_between 1 16 d.verifiers && (nat_le d.quorum d.verifiers && (nat_lt d.verifiers (2 * d.quorum) && (is_between 1 8 d.window && is_between 1 8 d.workers)))) first.0
-            (and_from (is_between 1 16 d.verifiers) (nat_le d.quorum d.verifiers && (nat_lt d.verifiers (2 * d.quorum) && (is_between 1 8 d.window && is_between 1 8 d.workers))) second.0
-            (and_from (nat_le d.quorum d.verifiers) (nat_lt d.verifiers (2 * d.quorum) && (is_between 1 8 d.window && is_between 1 8 d.workers)) third.0
-            (and_from (nat_lt d.verifiers (2 * d.quorum)) (is_between 1 8 d.window && is_between 1 8 d.workers) fourth.0
-            (and_from (is_between 1 8 d.window) (is_between 1 8 d.workers) fifth.0 sixth.0)))),
-        customers.0,
-        customers.1,
-        counted.1,
-      )
+  deployment_right : IsTrue (is_deployment w.deployment)
+  deployment_right = other_counts w.deployment (length w.customers) (length w.batches) is.head 1 0 refl
 
   some_customers_closed : (before : List Line) (cs : List Customer) → 1 ≤ length cs → IsClosed (onto before (map CustomerLine cs))
   some_customers_closed before [] some = absurd (omega arith)
@@ -161,12 +137,12 @@ module _ (w : Workload) (is : IsWorkload w) where
   pub back_right : AreRight lines_back × IsClosed lines_back
   back_right =
       let head : List Line = HeadLine w.deployment ∷ [] in
-      let head_right : AreRight head = (record { follows = refl; ranges = deployment_right.0; room = refl; new = tt }, tt) in
-      let most = leb-true (length w.customers) 4096 deployment_right.2 in
+      let head_right : AreRight head = (record { follows = refl; ranges = deployment_right; room = refl; new = tt }, tt) in
+      let counted = some_customers w.deployment (length w.customers) (length w.batches) is.head in
       let inside : List Line = onto head (map CustomerLine w.customers) in
       let right : AreRight inside = customers_right head w.customers head_right (λ c. refl) is.customers (omega arith) is.names in
-      let closed : IsClosed inside = some_customers_closed head w.customers (leb-true 1 (length w.customers) deployment_right.1) in
-      let few = leb-true (length w.batches) 65535 deployment_right.3 in
+      let closed : IsClosed inside = some_customers_closed head w.customers counted.0 in
+      let few = few_batches w.deployment (length w.customers) (length w.batches) is.head in
       let all = batches_right inside w.batches right closed is.batches (omega (arith, customers_no_batches head w.customers))
       (subst (λ xs. AllPairs (λ p q. p ≢ q) (map pair_of (xs ++ requests_of w.batches))) (sym (customers_no_requests head w.customers)) is.pairs) in
       subst (λ lines. AreRight lines × IsClosed lines) (sym (onto-append head (map CustomerLine w.customers) (flat_map batch_lines w.batches))) all

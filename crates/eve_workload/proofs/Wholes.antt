@@ -1,5 +1,5 @@
 -- The lines of a text that may end make up a workload.
-use Rattle.std.proofs.Common.{◌≡◌, ◌≢◌, ℕ, suc, ◌+◌, ◌*◌, ◌<◌, ◌≤◌, Bool, true, false, ◌&&◌, IsTrue, nat_le, nat_lt, List, [], ◌∷◌, ◌++◌, map, length, drop, Option, Some, None, IfSome, AllPairs, Contains, refl, sym, ap, subst, ◌∙◌, arith, length-append, append_assoc}
+use Rattle.std.proofs.Common.{◌≡◌, ◌≢◌, ℕ, suc, ◌+◌, ◌<◌, ◌≤◌, Bool, true, false, ◌&&◌, IsTrue, nat_le, List, [], ◌∷◌, ◌++◌, map, length, drop, Option, Some, None, IfSome, AllPairs, Contains, refl, sym, ap, subst, ◌∙◌, arith, length-append, append_assoc}
 use Rattle.std.specs.List.{list_all, flat_map}
 use Rattle.std.proofs.lemmas.Bool.{false≢true, and_parts, and_from, le-leb, ltb-true}
 use Rattle.std.proofs.lemmas.List.{append-nil, map_push, get_or_default}
@@ -17,6 +17,7 @@ use Rattle.eve_workload.specs.declared.workload.Workload.TheInside.{Inside}
 use Rattle.eve_workload.specs.declared.draft.Draft.{Draft}
 use Rattle.eve_workload.specs.Drafts.{starts_in, deployment_in, Keeps}
 use Rattle.eve_workload.proofs.Reading.{in_batch, request_in_batch, customers_few, batches_few}
+use Rattle.eve_workload.proofs.Deployments.{other_counts}
 use Rattle.eve_workload.proofs.Holding.{taken, drop_front}
 
 -- a request at the end of the last batch
@@ -388,27 +389,11 @@ head_right : (d : Deployment) (before : List Line) → AreRight before → may_e
 head_right d before right ends ranges =
     let customers = length (customers_in before) in
     let batches = length (batches_of before) in
-    let counts = is_between 1 4096 customers && nat_le batches 65535 in
-    let workers = is_between 1 8 d.workers in
-    let window = is_between 1 8 d.window && workers in
-    let majority = nat_lt d.verifiers (2 * d.quorum) && window in
-    let quorum = nat_le d.quorum d.verifiers && majority in
-    let verifiers = is_between 1 16 d.verifiers && quorum in
-    let first = and_parts (is_between 1 8 d.replicas) verifiers ranges in
-    let second = and_parts (is_between 1 16 d.verifiers) quorum first.1 in
-    let third = and_parts (nat_le d.quorum d.verifiers) majority second.1 in
-    let fourth = and_parts (nat_lt d.verifiers (2 * d.quorum)) window third.1 in
-    let fifth = and_parts (is_between 1 8 d.window) workers fourth.1 in
     let some = le-leb 1 customers (customers_some before right ends) in
     let few = le-leb customers 4096 (customers_few before right) in
     let batch_few = le-leb batches 65535 (omega (arith, batches_counted before right, batches_few before right)) in
-    let counted = and_from (is_between 1 4096 customers) (nat_le batches 65535) (and_from (nat_le 1 customers) (nat_le customers 4096) some few) batch_few in
-    and_from (is_between 1 8 d.replicas) (is_between 1 16 d.verifiers && (nat_le d.quorum d.verifiers && (nat_lt d.verifiers (2 * d.quorum) && (is_between 1 8 d.window && (is_between 1 8 d.workers && counts))))) first.0
-    (and_from (is_between 1 16 d.verifiers) (nat_le d.quorum d.verifiers && (nat_lt d.verifiers (2 * d.quorum) && (is_between 1 8 d.window && (is_between 1 8 d.workers && counts)))) second.0
-    (and_from (nat_le d.quorum d.verifiers) (nat_lt d.verifiers (2 * d.quorum) && (is_between 1 8 d.window && (is_between 1 8 d.workers && counts))) third.0
-    (and_from (nat_lt d.verifiers (2 * d.quorum)) (is_between 1 8 d.window && (is_between 1 8 d.workers && counts)) fourth.0
-    (and_from (is_between 1 8 d.window) (is_between 1 8 d.workers && counts) fifth.0
-    (and_from (is_between 1 8 d.workers) counts fifth.1 counted)))))
+    other_counts d 1 0 ranges customers batches
+    (and_from (is_between 1 4096 customers) (nat_le batches 65535) (and_from (nat_le 1 customers) (nat_le customers 4096) some few) batch_few)
 
 workload_right : (d : Deployment) (before : List Line) → AreRight before → may_end before ≡ true → IsTrue (is_deployment d) → IsWorkload (workload_in d before)
 workload_right d before right ends ranges = record {

@@ -11,3 +11,4 @@ pub mod Held
 pub mod Words
 pub mod Said
 pub mod Drafts
+pub mod Mixed

@@ -1,9 +1,9 @@
 -- Which line may stand behind which, and the first that may not. Of the lines before, the nearest stands first.
-use Rattle.std.specs.Prelude.{◌≡◌, ℕ, ◌+◌, ◌*◌, nat_le, nat_lt, Bool, true, false, ◌&&◌, IsTrue, List, [], ◌∷◌, ◌++◌, ⊤, map, length, Contains}
+use Rattle.std.specs.Prelude.{◌≡◌, ℕ, ◌+◌, nat_lt, Bool, true, false, IsTrue, List, [], ◌∷◌, ◌++◌, ⊤, map, length, Contains}
 use Rattle.eve_grammar.specs.Trace.{Customer, Asked}
-use Rattle.eve_grammar.specs.Limits.{is_between, is_customer, is_asked}
+use Rattle.eve_grammar.specs.Limits.{is_customer, is_asked, is_head}
 use Rattle.eve_workload.specs.declared.deployment.Deployment.{Deployment}
-use Rattle.eve_workload.specs.Workload.{names_of, pair_of}
+use Rattle.eve_workload.specs.Workload.{head_with, names_of, pair_of}
 use Rattle.eve_workload.specs.Lines.{Line, HeadLine, CustomerLine, BatchLine, RequestLine, line_text}
 
 -- the customers of lines, as they are listed
@@ -69,11 +69,9 @@ may_end (CustomerLine c ∷ before) = true
 may_end (BatchLine ∷ before) = false
 may_end (RequestLine a ∷ before) = true
 
--- the ranges of the numbers of line 1
+-- the numbers of line 1 lie in the ranges that they have in a header, as that of a trace of one customer and no batch
 abbrev pub is_deployment : Deployment → Bool
-is_deployment d =
-    is_between 1 8 d.replicas && (is_between 1 16 d.verifiers && (nat_le d.quorum d.verifiers && (nat_lt d.verifiers (2 * d.quorum)
-    && (is_between 1 8 d.window && is_between 1 8 d.workers))))
+is_deployment d = is_head (head_with d 1 0)
 
 -- whether what the line says lies in its ranges
 abbrev pub is_line : Line → Bool

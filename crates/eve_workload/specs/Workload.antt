@@ -11,17 +11,21 @@ pub record Workload : Type 0 where
   pub customers : List Customer
   pub batches : List (List Asked)
 
+-- the numbers in the header of a trace of the deployment, with so many customers and batches
+abbrev pub head_with : Deployment → ℕ → ℕ → Head
+head_with d customers batches = record {
+  replicas = d.replicas;
+  verifiers = d.verifiers;
+  quorum = d.quorum;
+  window = d.window;
+  workers = d.workers;
+  customers = customers;
+  batches = batches;
+}
+
 -- the numbers in the header of its trace
 abbrev pub head_of : Workload → Head
-head_of w = record {
-  replicas = w.deployment.replicas;
-  verifiers = w.deployment.verifiers;
-  quorum = w.deployment.quorum;
-  window = w.deployment.window;
-  workers = w.deployment.workers;
-  customers = length w.customers;
-  batches = length w.batches;
-}
+head_of w = head_with w.deployment (length w.customers) (length w.batches)
 
 -- the customers' names, in their order
 abbrev pub names_of : List Customer → List (List ℕ)

@@ -1,7 +1,11 @@
 //! The numbers of a deployment.
 
 ghost use Rattle.std.specs.Prelude.{◌≡◌};
+ghost use Rattle.eve_grammar.specs.Bodies.{limits};
+ghost use Rattle.eve_workload.specs.Workload.{head_with};
 ghost use Rattle.eve_workload.specs.Steps.{is_deployment};
+
+use eve_grammar::Head;
 
 /// The numbers of a workload's first line.
 ///
@@ -21,19 +25,25 @@ pub struct Deployment {
 }
 
 impl Deployment {
+    // The numbers in the header of a trace with so many customers and batches.
+    pub(crate) fn head(&self, customers: u32, batches: u32) -> Head
+        ensures { limits result ≡ head_with self.now customers batches }
+    {
+        Head {
+            replicas: self.replicas,
+            verifiers: self.verifiers,
+            quorum: self.quorum,
+            window: self.window,
+            workers: self.workers,
+            customers,
+            batches,
+        }
+    }
+
     // Whether the numbers lie in their ranges.
     pub(crate) fn is_right(&self) -> bool
         ensures { result ≡ is_deployment self.now }
     {
-        1 <= self.replicas
-            && self.replicas <= 8
-            && 1 <= self.verifiers
-            && self.verifiers <= 16
-            && self.quorum <= self.verifiers
-            && (self.verifiers as u32) < 2 * self.quorum as u32
-            && 1 <= self.window
-            && self.window <= 8
-            && 1 <= self.workers
-            && self.workers <= 8
+        self.head(1, 0).is_right()
     }
 }

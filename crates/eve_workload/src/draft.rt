@@ -148,7 +148,7 @@ impl<'a> Draft<'a> {
             return Ok(false);
         }
         self.customers.push(CustomerData {
-            name: name.to_vec(alloc)?,
+            name: Vec::from_slice(alloc, name)?,
             saving: customer.saving,
             checking: customer.checking,
         })?;

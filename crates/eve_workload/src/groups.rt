@@ -1,6 +1,6 @@
 //! Requests in groups, by their indexes.
 
-ghost use Rattle.std.specs.Prelude.{◌≡◌, ◌<◌, ◌≤◌, [], ◌∷◌, All, IfOk, length};
+ghost use Rattle.std.specs.Prelude.{◌≡◌, ◌<◌, ◌≤◌, [], All, IfOk, length};
 ghost use Rattle.std.specs.List.{range_with_len};
 ghost use Rattle.eve_workload.specs.Mixing.{first_fit};
 ghost use Rattle.eve_workload.specs.Groups.{rows_at, share_at, AreGroups};
@@ -33,18 +33,4 @@ pub(crate) fn first_fit(alloc: Global, touched: &[Touched]) -> Result<Groups, Al
         sizes: cut.sizes,
         order,
     })
-}
-
-/// All requests in one group.
-pub(crate) fn whole(alloc: Global, count: u16) -> Result<Groups, AllocError>
-    ensures groups { IfOk result (λ g. AreGroups g.sizes.items g.order.items (range_with_len 0 count ∷ [])) }
-    ensures within { IfOk result (λ g. All (λ i. i < count) g.order.items) }
-{
-    let mut sizes = Vec::with_capacity(alloc, 1)?;
-    sizes.push(count)?;
-    let mut order = Vec::with_capacity(alloc, count as usize)?;
-    for index in 0..count {
-        order.push(index)?;
-    }
-    Ok(Groups { sizes, order })
 }

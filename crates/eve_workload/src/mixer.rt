@@ -1,17 +1,17 @@
 //! Which requests of a batch may run in parallel.
 
-ghost use Rattle.std.specs.Prelude.{◌≡◌, ◌<◌, ◌≤◌, ℕ, List, All, IfOk, IsTrue, IsPermutation, length, map};
+ghost use Rattle.std.specs.Prelude.{◌≡◌, ◌≤◌, ℕ, List, [], ◌∷◌, IfOk, IsTrue, IsPermutation, length, map};
 ghost use Rattle.std.specs.List.{list_all};
 ghost use Rattle.eve_smallbank.specs.Touch.{touched_of};
-ghost use Rattle.eve_grammar.specs.Trace.{Asked};
 ghost use Rattle.eve_grammar.specs.Limits.{is_asked, is_batch};
 ghost use Rattle.eve_write.specs.Data.{asked, batch};
+ghost use Rattle.eve_workload.specs.declared.mixer.Mixer.TheVariants.{First};
 ghost use Rattle.eve_workload.specs.Mixing.{cut, batch_of};
-ghost use Rattle.eve_workload.specs.Groups.{AreGroups, listed};
+ghost use Rattle.eve_workload.specs.Mixed.{touched_by, IsMixed};
 
-use crate::groups::{Groups, first_fit, whole};
+use crate::groups::first_fit;
 use crate::lookups::{look_up, pick};
-use crate::requests::copy_listed;
+use crate::requests::{copy_all, copy_listed};
 use eve_accounts::Names;
 use eve_smallbank::Touched;
 use eve_write::{BatchData, RequestData};
@@ -76,9 +76,43 @@ pub fn mix_touched(
     ensures right { IfOk result (λ m.
         IsTrue (list_all is_asked (map asked requests.now)) → IsTrue (is_batch (batch m.batch))) }
 {
-    let found = look_up(alloc, requests, names)?;
-    let groups = groups_by(alloc, found.as_slice(), mixer)?;
-    let touched = pick(alloc, found.as_slice(), groups.order.as_slice())?;
+    let touched = look_up(alloc, requests, names)?;
+    cut_by(alloc, requests, touched, mixer)
+}
+
+// The batch of these requests, which touch this.
+fn cut_by(
+    alloc: Global,
+    requests: &[RequestData],
+    touched: Vec<Touched>,
+    mixer: Mixer,
+) -> Result<MixedBatch, AllocError>
+    requires few { length requests.now ≤ 256 }
+    requires each { length touched.items ≡ length requests.now }
+    ensures { IfOk result (λ m. (names : List (List ℕ)) →
+        touched.items ≡ map (touched_by names) (map asked requests.now) →
+        IsMixed names (cut names mixer (map asked requests.now)) m) }
+{
+    match mixer {
+        Mixer::First => cut_first(alloc, requests, touched.as_slice()),
+        Mixer::Whole => cut_whole(alloc, requests, touched),
+    }
+}
+
+// Each request in the first group that holds none in conflict with it, or in a new one at the end.
+fn cut_first(
+    alloc: Global,
+    requests: &[RequestData],
+    touched: &[Touched],
+) -> Result<MixedBatch, AllocError>
+    requires few { length touched.now ≤ 256 }
+    requires each { length touched.now ≡ length requests.now }
+    ensures { IfOk result (λ m. (names : List (List ℕ)) →
+        touched.now ≡ map (touched_by names) (map asked requests.now) →
+        IsMixed names (cut names First (map asked requests.now)) m) }
+{
+    let groups = first_fit(alloc, touched)?;
+    let touched = pick(alloc, touched, groups.order.as_slice())?;
     let requests = copy_listed(alloc, requests, groups.order.as_slice())?;
     Ok(MixedBatch {
         batch: BatchData {
@@ -89,16 +123,22 @@ pub fn mix_touched(
     })
 }
 
-// The groups of requests that touch this.
-fn groups_by(alloc: Global, touched: &[Touched], mixer: Mixer) -> Result<Groups, AllocError>
-    requires few { length touched.now ≤ 256 }
-    ensures groups { IfOk result (λ g. (names : List (List ℕ)) → (requests : List Asked) →
-        touched.now ≡ map (λ a. touched_of names a.request) requests →
-        AreGroups g.sizes.items (listed requests g.order.items) (cut names mixer requests)) }
-    ensures within { IfOk result (λ g. All (λ i. i < length touched.now) g.order.items) }
+// All requests in one group.
+fn cut_whole(
+    alloc: Global,
+    requests: &[RequestData],
+    touched: Vec<Touched>,
+) -> Result<MixedBatch, AllocError>
+    requires few { length requests.now ≤ 256 }
+    ensures { IfOk result (λ m. (names : List (List ℕ)) →
+        touched.items ≡ map (touched_by names) (map asked requests.now) →
+        IsMixed names (map asked requests.now ∷ []) m) }
 {
-    match mixer {
-        Mixer::First => first_fit(alloc, touched),
-        Mixer::Whole => whole(alloc, touched.len() as u16),
-    }
+    let mut sizes = Vec::with_capacity(alloc, 1)?;
+    sizes.push(requests.len() as u16)?;
+    let requests = copy_all(alloc, requests)?;
+    Ok(MixedBatch {
+        batch: BatchData { sizes, requests },
+        touched,
+    })
 }

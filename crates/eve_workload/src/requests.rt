@@ -11,6 +11,20 @@ use eve_smallbank::Request;
 use eve_write::{RequestData, TransactionData};
 use std::alloc::{AllocError, Global};
 
+/// The requests, as they are listed.
+pub(crate) fn copy_all(
+    alloc: Global,
+    requests: &[RequestData],
+) -> Result<Vec<RequestData>, AllocError>
+    ensures { IfOk result (λ rs. map asked rs.items ≡ map asked requests.now) }
+{
+    let mut copies = Vec::with_capacity(alloc, requests.len())?;
+    for request in requests {
+        copies.push(copy_request(alloc, request)?)?;
+    }
+    Ok(copies)
+}
+
 /// The requests with these indexes, in the order of the indexes.
 pub(crate) fn copy_listed(
     alloc: Global,
@@ -53,18 +67,19 @@ fn owned_transaction(alloc: Global, request: &Request<'_>) -> Result<Transaction
     ensures { IfOk result (λ t. transaction t ≡ plain request.now) }
 {
     Ok(match request {
-        Request::Balance(name) => TransactionData::Balance(name.to_vec(alloc)?),
+        Request::Balance(name) => TransactionData::Balance(Vec::from_slice(alloc, name)?),
         Request::DepositChecking(name, amount) => {
-            TransactionData::DepositChecking(name.to_vec(alloc)?, *amount)
+            TransactionData::DepositChecking(Vec::from_slice(alloc, name)?, *amount)
         }
         Request::TransactSaving(name, amount) => {
-            TransactionData::TransactSaving(name.to_vec(alloc)?, *amount)
+            TransactionData::TransactSaving(Vec::from_slice(alloc, name)?, *amount)
         }
-        Request::Amalgamate(from, to) => {
-            TransactionData::Amalgamate(from.to_vec(alloc)?, to.to_vec(alloc)?)
-        }
+        Request::Amalgamate(from, to) => TransactionData::Amalgamate(
+            Vec::from_slice(alloc, from)?,
+            Vec::from_slice(alloc, to)?,
+        ),
         Request::WriteCheck(name, amount) => {
-            TransactionData::WriteCheck(name.to_vec(alloc)?, *amount)
+            TransactionData::WriteCheck(Vec::from_slice(alloc, name)?, *amount)
         }
     })
 }

@@ -75,15 +75,9 @@ impl Workload {
         ensures right { IsTrue (is_head (limits result)) }
         ensures workload { IsWorkload self.now }
     {
-        Head {
-            replicas: self.deployment.replicas,
-            verifiers: self.deployment.verifiers,
-            quorum: self.deployment.quorum,
-            window: self.deployment.window,
-            workers: self.deployment.workers,
-            customers: self.customers.len() as u32,
-            batches: self.starts.len() as u32,
-        }
+        let customers = self.customers.len() as u32;
+        let batches = self.starts.len() as u32;
+        self.deployment.head(customers, batches)
     }
 
     /// The customers, 1 to 4,096, each with a name of its own.

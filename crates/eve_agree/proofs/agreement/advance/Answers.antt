@@ -1,4 +1,4 @@
-use Rattle.std.proofs.Common.{sym, ◌∙◌, arith, length, ◌<◌}
+use Rattle.std.proofs.Common.{◌∙◌, arith, length, ◌<◌}
 use Rattle.eve_agree.proofs.Outcomes.{values_past}
 use Rattle.eve_agree.proofs.agreement.advance.Goals as goal
 

@@ -1,7 +1,5 @@
-use Rattle.std.proofs.Common.{◌≡◌, ◌<◌, Some, slice_get, length, refl, sym, ap, arith}
+use Rattle.std.proofs.Common.{◌<◌, length, refl, arith}
 use Rattle.std.proofs.lemmas.Option.{slice_get_read}
-use Rattle.eve_banks.specs.Settling.{Settling}
-use Rattle.eve_agree.specs.Judging.{IsAfter}
 use Rattle.eve_agree.proofs.Reaching.{reached_start, reached_here, reached_more, reached_all}
 use Rattle.eve_agree.proofs.agreement.advance_all.Goals as goal
 

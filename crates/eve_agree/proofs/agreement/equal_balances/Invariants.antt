@@ -1,5 +1,5 @@
 use Rattle.eve_views.specs.Fronts.{whole}
-use Rattle.eve_banks.specs.Settling.{settlings}
+use Rattle.eve_chains.specs.Settling.{settlings}
 use Rattle.eve_agree.specs.Judging.{AreAfter}
 use Rattle.eve_agree.proofs.Agreeing.{Judged}
 use Rattle.eve_agree.proofs.agreement.equal_balances.Given as goal

@@ -1,4 +1,4 @@
-use Rattle.std.proofs.Common.{◌≡◌, ◌≤◌, ◌<◌, length, Some, slice_get, sym, ◌∙◌, arith, refl, rules}
+use Rattle.std.proofs.Common.{◌≤◌, ◌<◌, length, sym, arith, refl}
 use Rattle.std.proofs.lemmas.Option.{slice_get_read}
 use Rattle.eve_agree.proofs.Outcomes.{none_more, first_is, first_none}
 use Rattle.eve_agree.proofs.agreement.first_to_commit.Goals as goal

@@ -1,4 +1,4 @@
-use Rattle.std.proofs.Common.{◌≡◌, rules}
+use Rattle.std.proofs.Common.{rules}
 use Rattle.std.specs.Prelude.{IsTrue}
 use Rattle.eve_frames.specs.Views.{attempt_in}
 use Rattle.eve_agree.proofs.Outcomes.{agree_more}

@@ -1,11 +1,10 @@
-use Rattle.std.proofs.Common.{◌≡◌, ◌≤◌, ◌<◌, ℕ, List, length, get_or, Some, slice_get, subst, sym, ap, ◌∙◌, ◌+◌, arith, refl, rules}
+use Rattle.std.proofs.Common.{◌≡◌, ◌<◌, length, subst, sym, ap, ◌∙◌, ◌+◌, arith, refl, rules}
 use Rattle.std.specs.Prelude.{IsTrue}
 use Rattle.std.proofs.lemmas.Option.{slice_get_read, slice_get_within}
 use Rattle.eve_frames.specs.Views.{attempt_in}
 use Rattle.eve_views.specs.Fronts.{whole}
-use Rattle.eve_history.specs.Told.{Telling, telling}
-use Rattle.eve_agree.specs.Faults.{HaveSameOutcome}
-use Rattle.eve_agree.specs.Judging.{Lowers, lower}
+use Rattle.eve_agree.specs.Agreement.{HaveSameOutcome}
+use Rattle.eve_agree.specs.Judging.{lower}
 use Rattle.eve_agree.proofs.Outcomes.{telling_is, tellings_count, settlings_count, last_told, outcome_of, replica_told, all_balances, same_outcome, outcome_same}
 use Rattle.eve_agree.proofs.Agreeing.{InBatch, batch_start, batch_more, batch_end, judged_none, judged_same, judged_apart, differs, lower_lowers, lower_stands}
 use Rattle.eve_agree.proofs.agreement.judge_batch.Goals as goal

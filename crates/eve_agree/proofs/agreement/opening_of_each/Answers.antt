@@ -1,4 +1,4 @@
-use Rattle.std.proofs.Common.{◌≡◌, length, refl, arith, rules, ◌++◌, ◌∷◌, []}
+use Rattle.std.proofs.Common.{length, refl, arith}
 use Rattle.std.proofs.lemmas.Option.{slice_get_read}
 use Rattle.eve_agree.proofs.Reaching.{opened_more, opened_all}
 use Rattle.eve_agree.proofs.agreement.opening_of_each.Goals as goal

@@ -1,5 +1,5 @@
 use Rattle.std.proofs.Common.{subst}
-use Rattle.eve_theorem.specs.Audited.{IsAudited}
+use Rattle.eve_audit.specs.Audited.{IsAudited}
 use Rattle.eve_audit.specs.Verdict.{SpellsAudited}
 use Rattle.eve_audit.proofs.Faultless.{Laws, yes_audited}
 use Rattle.eve_audit.proofs.laws.a_yes_is_audited.Goals as goal

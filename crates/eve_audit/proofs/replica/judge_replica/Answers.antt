@@ -2,8 +2,7 @@ use Rattle.std.proofs.Common.{ℕ, subst, sym, ◌∙◌, ap}
 use Rattle.eve_views.specs.Form.{IfFound, HasNone}
 use Rattle.eve_views.specs.Fronts.{whole}
 use Rattle.eve_history.specs.Faults.{IsStructureFault}
-use Rattle.eve_history.specs.Told.{IsRightSection}
-use Rattle.eve_banks.specs.Settling.{settling}
+use Rattle.eve_chains.specs.Settling.{settling}
 use Rattle.eve_audit.specs.Verdict.{IsOwnFault}
 use Rattle.eve_audit.specs.Pieces.{IsFirstOf, IsSoundReplica}
 use Rattle.eve_audit.proofs.Told.{told_of, told_by_its_own}
@@ -11,10 +10,6 @@ use Rattle.eve_audit.proofs.replica.judge_replica.Goals as goal
 
 pub settle-requires-clause-history : goal.settle-requires-clause-history
 settle-requires-clause-history g c κs within = told_by_its_own (whole c.args.trace.now) c.args.e c.in-Ok.history c.in-Ok.ensures.telling
-
-pub settle-requires-clause-right : goal.settle-requires-clause-right
-settle-requires-clause-right g c κs within =
-    subst (IsRightSection (whole c.args.trace.now)) (sym (told_of (whole c.args.trace.now) c.args.e c.in-Ok.history c.in-Ok.ensures.telling)) c.in-Ok.ensures.right
 
 pub settle-requires-clause-none : goal.settle-requires-clause-none
 settle-requires-clause-none g c κs within =

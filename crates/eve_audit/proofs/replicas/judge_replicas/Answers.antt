@@ -4,9 +4,8 @@ use Rattle.eve_views.specs.declared.fault.Fault.{Fault}
 use Rattle.eve_views.specs.Form.{HasNone}
 use Rattle.eve_audit.specs.Verdict.{IsFaultBelow}
 use Rattle.eve_audit.specs.Pieces.{IsFirstOf, IsFoundBelow, AreKept, IsJudgedBelow}
-use Rattle.eve_audit.proofs.Piecewise.{first_more, both_more}
-use Rattle.eve_audit.proofs.Kept.{sound_more, fault_more, all_told, all_settled, all_sound}
-use Rattle.eve_audit.proofs.replicas.judge_replicas.Goals.{in-Ok+in_ok-keep-in-Ok, in-Err-Found+in-Some, in-Err-Found+in-None}
+use Rattle.eve_audit.proofs.Kept.{sound_more, judged_more, all_told, all_settled, all_sound}
+use Rattle.eve_audit.proofs.replicas.judge_replicas.Goals.{in-Ok+in_ok-keep-in-Ok, in-Err-Found}
 use Rattle.eve_audit.proofs.replicas.judge_replicas.Goals as goal
 
 pub replicas-preserved : goal.replicas-preserved
@@ -23,52 +22,45 @@ replicas-preserved g c =
             (ap (λ p. p.histories.items) w.kept-is ∙ w.in_ok-keep-in-Ok.ensures.histories) (ap (λ p. p.settled.items) w.kept-is ∙ w.in_ok-keep-in-Ok.ensures.settled)
             (ap (λ p. p.committed) w.kept-is ∙ w.in_ok-keep-in-Ok.ensures.committed) w.in_ok-keep-in-Ok.ensures.small
             )
-        | in-Err-Found+in-Some w ↦ (
+        | in-Err-Found w ↦ (
             let first = rw w.in-Err-Found.field-0-is at w.in-Err-Found.ensures.first in
-            let found = subst (IsFoundBelow t e) w.in-Some.is c.replicas.invariant.0.found in
-            subst (λ (f : Option Fault). IsJudgedBelow t (e + 1) f c.match-judge_missing.kept.histories.items c.match-judge_missing.kept.settled.items c.match-judge_missing.kept.committed) (sym w.first-is)
-            (fault_more t e w.first_of.result c.match-judge_missing.kept.histories.items c.match-judge_missing.kept.settled.items c.match-judge_missing.kept.committed
-            (both_more t e w.in-Err-Found.fault w.in-Some.earlier w.first_of.result found first w.first_of.ensures.one w.first_of.ensures.before w.first_of.ensures.and_before))
-            )
-        | in-Err-Found+in-None w ↦ (
-            let first = rw w.in-Err-Found.field-0-is at w.in-Err-Found.ensures.first in
-            let found = subst (IsFoundBelow t e) w.in-None.is c.replicas.invariant.0.found in
-            subst (λ (f : Option Fault). IsJudgedBelow t (e + 1) f c.match-judge_missing.kept.histories.items c.match-judge_missing.kept.settled.items c.match-judge_missing.kept.committed) (sym w.first-is)
-            (fault_more t e w.in-Err-Found.fault c.match-judge_missing.kept.histories.items c.match-judge_missing.kept.settled.items c.match-judge_missing.kept.committed (first_more t e w.in-Err-Found.fault found first))
+            subst (λ (f : Option Fault). IsJudgedBelow t (e + 1) f c.match-judge_missing.kept.histories.items c.match-judge_missing.kept.settled.items c.match-judge_missing.kept.committed) (sym (w.first-is ∙ w.first_of-first.ensures))
+            (judged_more t e c.replicas.first w.in-Err-Found.fault c.match-judge_missing.kept.histories.items c.match-judge_missing.kept.settled.items c.match-judge_missing.kept.committed
+            c.replicas.invariant.0.found first)
             )
       ],
       c.judge_missing.ensures.left,
     )
 
-pub returns-in-Some-first-clause-first : goal.returns-in-Some-first-clause-first
-returns-in-Some-first-clause-first g c =
+pub returns-in-Some-clause-first : goal.returns-in-Some-clause-first
+returns-in-Some-clause-first g c =
     let t = whole c.args.trace.now in
     let last : c.replicas.e ≡ length t.sections = search rules in
-    subst (λ (n : ℕ). IsFirstOf (IsFaultBelow t n) c.in-Some-first.fault) last (subst (IsFoundBelow t c.replicas.e) c.in-Some-first.is c.replicas.invariant.0.found)
+    subst (λ (n : ℕ). IsFirstOf (IsFaultBelow t n) c.in-Some.fault) last (subst (IsFoundBelow t c.replicas.e) c.in-Some.is c.replicas.invariant.0.found)
 
 pub returns-clause-histories : goal.returns-clause-histories
 returns-clause-histories g c =
     let t = whole c.args.trace.now in
     let last : c.replicas.e ≡ length t.sections = search rules in
-    let kept = subst (λ (n : ℕ). AreKept t n c.replicas.kept.histories.items c.replicas.kept.settled.items) last (c.replicas.invariant.0.kept c.in-None-first.is) in
+    let kept = subst (λ (n : ℕ). AreKept t n c.replicas.kept.histories.items c.replicas.kept.settled.items) last (c.replicas.invariant.0.kept c.in-None.is) in
     all_told t c.replicas.kept.histories.items c.replicas.kept.settled.items kept
 
 pub returns-clause-settled : goal.returns-clause-settled
 returns-clause-settled g c =
     let t = whole c.args.trace.now in
     let last : c.replicas.e ≡ length t.sections = search rules in
-    let kept = subst (λ (n : ℕ). AreKept t n c.replicas.kept.histories.items c.replicas.kept.settled.items) last (c.replicas.invariant.0.kept c.in-None-first.is) in
+    let kept = subst (λ (n : ℕ). AreKept t n c.replicas.kept.histories.items c.replicas.kept.settled.items) last (c.replicas.invariant.0.kept c.in-None.is) in
     all_settled t c.replicas.kept.histories.items c.replicas.kept.settled.items kept
 
 pub returns-clause-sound : goal.returns-clause-sound
 returns-clause-sound g c =
     let t = whole c.args.trace.now in
     let last : c.replicas.e ≡ length t.sections = search rules in
-    let kept = subst (λ (n : ℕ). AreKept t n c.replicas.kept.histories.items c.replicas.kept.settled.items) last (c.replicas.invariant.0.kept c.in-None-first.is) in
+    let kept = subst (λ (n : ℕ). AreKept t n c.replicas.kept.histories.items c.replicas.kept.settled.items) last (c.replicas.invariant.0.kept c.in-None.is) in
     all_sound t c.replicas.kept.histories.items c.replicas.kept.settled.items kept
 
 pub returns-clause-none : goal.returns-clause-none
 returns-clause-none g c =
     let t = whole c.args.trace.now in
     let last : c.replicas.e ≡ length t.sections = search rules in
-    subst (λ (n : ℕ). HasNone (IsFaultBelow t n)) last (subst (IsFoundBelow t c.replicas.e) c.in-None-first.is c.replicas.invariant.0.found)
+    subst (λ (n : ℕ). HasNone (IsFaultBelow t n)) last (subst (IsFoundBelow t c.replicas.e) c.in-None.is c.replicas.invariant.0.found)

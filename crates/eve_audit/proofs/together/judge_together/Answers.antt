@@ -1,7 +1,7 @@
 use Rattle.eve_views.specs.Form.{IfFound, IsLeast, HasNone}
 use Rattle.eve_views.specs.Fronts.{whole}
-use Rattle.eve_agree.specs.Faults.{IsOutcomeFault}
-use Rattle.eve_replies.specs.Faults.{IsReplyFault}
+use Rattle.eve_agree.specs.Agreement.{IsOutcomeFault}
+use Rattle.eve_agree.specs.SentReplies.{IsReplyFault}
 use Rattle.eve_audit.specs.Verdict.{IsCommonFault}
 use Rattle.eve_audit.specs.Pieces.{IsFirstOf}
 use Rattle.std.proofs.lemmas.Result.{IfOk-weaker, IfErr-weaker}

@@ -1,17 +1,12 @@
 use Rattle.std.proofs.Common.{◌≡◌, length, arith}
 use Rattle.eve_views.specs.Fronts.{whole}
-use Rattle.eve_cases.proofs.Two.{both_told, both_settled, both_right}
+use Rattle.eve_cases.proofs.Two.{both_told, both_settled}
 use Rattle.eve_cases.proofs.histories.agreement.Goals as goal
 
 pub equal_balances-requires-clause-histories : goal.equal_balances-requires-clause-histories
 equal_balances-requires-clause-histories c =
     let two : length (whole c.in_ok-trace.trace).sections ≡ 2 = omega (arith, c.section_count.ensures, c.if-section_count-ne2.false) in
     both_told (whole c.in_ok-trace.trace) c.in_ok-first.first c.in_ok-second.second two c.in_ok-first.ensures.telling c.in_ok-second.ensures.telling
-
-pub equal_balances-requires-clause-right : goal.equal_balances-requires-clause-right
-equal_balances-requires-clause-right c =
-    let two : length (whole c.in_ok-trace.trace).sections ≡ 2 = omega (arith, c.section_count.ensures, c.if-section_count-ne2.false) in
-    both_right (whole c.in_ok-trace.trace) two c.in_ok-first.ensures.right c.in_ok-second.ensures.right
 
 pub equal_balances-requires-clause-settled : goal.equal_balances-requires-clause-settled
 equal_balances-requires-clause-settled c =

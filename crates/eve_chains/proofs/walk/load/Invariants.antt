@@ -1,5 +1,5 @@
 use Rattle.std.proofs.Common.{◌≡◌, take}
-use Rattle.eve_serial.specs.Along.{all_said}
+use Rattle.eve_chains.specs.Along.{all_said}
 use Rattle.eve_chains.specs.Walking.{records_of}
 use Rattle.eve_chains.proofs.walk.load.Given as goal
 

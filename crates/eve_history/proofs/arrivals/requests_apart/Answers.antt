@@ -9,12 +9,8 @@ use Rattle.eve_views.specs.declared.fault.CheckFault.TheVariants.{Found}
 use Rattle.eve_views.specs.Form.{IfFound, IsLeast}
 use Rattle.eve_views.specs.Fronts.{whole}
 use Rattle.eve_history.specs.Faults.{IsOrderFault}
-use Rattle.eve_history.proofs.OrderLaws.{Asking, asking_start, asking_more, asking_apart, asked_again, fault}
+use Rattle.eve_history.proofs.OrderLaws.{Asking, asking_start, asking_more, asking_apart, asked_again, batch_there, fault}
 use Rattle.eve_history.proofs.arrivals.requests_apart.Goals as goal
-
--- a batch, by its number from 1
-batch_there : (t : List (ℕ × (ℕ × Batch))) (i : ℕ) (b : ℕ × (ℕ × Batch)) → slice_get t (i + 1 - 1) ≡ Some b → slice_get t i ≡ Some b
-batch_there t i b e = let same : i + 1 - 1 ≡ i = omega arith in subst (λ (k : ℕ). slice_get t k ≡ Some b) same e
 
 pub loop-i-init : goal.loop-i-init
 loop-i-init c =
@@ -41,3 +37,6 @@ returns-clause-apart c =
     let t = whole c.args.trace.now in
     let count : c.head-i-end.result.batches ≡ length t.batches = ap (λ (h : Head). h.batches) (c.head-i-end.ensures ∙ sym c.is_whole.ensures.head) in
     asking_apart t c.loop-i.i c.loop-i.noted.keys c.loop-i.invariant (omega arith)
+
+pub returns-then-branch-clause-apart : goal.returns-then-branch-clause-apart
+returns-then-branch-clause-apart c = c.in_ok-numbers_rise.ensures.apart c.if-branch.true

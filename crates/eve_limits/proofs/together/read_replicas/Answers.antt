@@ -1,7 +1,7 @@
 use Rattle.std.proofs.Common.{◌≡◌, ℕ, ◌<◌, List, [], length, sym, ap, subst, ◌∙◌, rules}
 use Rattle.eve_views.specs.Fronts.{whole}
 use Rattle.eve_history.specs.Told.{Telling}
-use Rattle.eve_banks.specs.Settling.{settling}
+use Rattle.eve_chains.specs.Settling.{settling}
 use Rattle.eve_limits.specs.Telling.{AreTold}
 use Rattle.eve_limits.proofs.Replicas.{none_told, told_more, all_told, all_settled, all_right}
 use Rattle.eve_limits.proofs.together.read_replicas.Goals as goal

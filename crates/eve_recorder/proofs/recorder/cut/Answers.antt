@@ -1,12 +1,16 @@
-use Rattle.std.proofs.Common.{◌≡◌, min, ap, arith}
-use Rattle.crossbeam_queue.specs.Passes.{view}
+use Rattle.std.proofs.Common.{ap, arith}
 use Rattle.eve_recorder.specs.declared.ledger.Ledger.{Ledger}
-use Rattle.eve_recorder.proofs.Keeps.{forks}
+use Rattle.eve_recorder.proofs.Keeps.{forks, forks_absent}
 use Rattle.eve_recorder.proofs.recorder.cut.Goals as goal
+
+pub another-requires-clause-rule : goal.another-requires-clause-rule
+another-requires-clause-rule c =
+    let m = c.requires.main in
+    let from = ap (λ (h : Ledger). h.from) m in let below = ap (λ (h : Ledger). h.below) m in let many = ap (λ (h : Ledger). h.workers) m in
+    forks_absent _ _ (ap (λ (h : Ledger). h.takes) m) from (omega arith) (omega arith) (ap (λ (h : Ledger). h.noted) m)
 
 pub another-pass-requires-clause-rule : goal.another-pass-requires-clause-rule
 another-pass-requires-clause-rule c =
     let m = c.requires.main in
-    let from : (view c.args.main.now).from ≡ min c.args.workers c.args.w = ap (λ (h : Ledger). h.from) m in
-    let below : (view c.args.main.now).below ≡ 8 = ap (λ (h : Ledger). h.below) m in
-    forks _ _ (omega (arith, c.requires.few, c.if-w-workers.false)) (ap (λ (h : Ledger). h.noted) m)
+    let from = ap (λ (h : Ledger). h.from) m in let below = ap (λ (h : Ledger). h.below) m in
+    forks _ _ (omega arith) (ap (λ (h : Ledger). h.noted) m)

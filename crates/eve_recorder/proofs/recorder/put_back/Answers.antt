@@ -1,15 +1,16 @@
-use Rattle.std.proofs.Common.{◌≡◌, ◌<◌, ◌+◌, suc, false, [], min, ap, ◌∙◌, subst, arith, Option, IfSome}
+use Rattle.std.proofs.Common.{◌≡◌, false, [], min, ap, ◌∙◌, subst, arith, Option, IfSome}
 use Rattle.crossbeam_queue.specs.Passes.{view}
 use Rattle.eve_recorder.specs.Kept.{ledger, IsWorkers}
-use Rattle.eve_recorder.specs.Seen.{Noter}
+use Rattle.eve_recorder.specs.Seen.{RecorderId, recorder_id, Noter, IsNoterOf}
 use Rattle.eve_recorder.proofs.Ending.{put_step}
 use Rattle.eve_recorder.proofs.recorder.put_back.Goals as goal
 
 pub absorb-requires-clause-rule : goal.absorb-requires-clause-rule
 absorb-requires-clause-rule c =
-    let id = c.args.queue.now.table.shared.table_id in
-    let own = subst (λ (s : Option Noter). IfSome s (λ s. (s.recorder ≡ id) × (s.worker ≡ c.args.w) × (c.args.w < c.args.workers))) c.in-Some.is c.requires.own in
+    let here : RecorderId = recorder_id c.args.queue.now.table.shared.table_id c.args.workers in
+    let own = subst (λ (s : Option Noter). IfSome s (IsNoterOf here c.args.w)) c.in-Some.is c.requires.own in
     let is : c.seat.inside.worker ≡ c.args.w = ap (λ (s : Noter). s.worker) c.seat.view_is ∙ own.1 in
-    let at : min c.args.workers (c.args.w + 1) ≡ suc c.args.w = omega (arith, own.2) in
-    put_step _ _ c.args.w c.seat.inside.place _ _ (c.requires.main ∙ ap (λ n. ledger false [] n 8 (view c.args.main.now).noted) at) c.requires.few.1
-    (subst (λ w. IsWorkers w c.seat.inside.place (view c.seat.inside.pass)) is c.seat.invariant.1)
+    let many : (view c.seat.inside.pass).workers ≡ c.args.workers = ap (λ (s : Noter). s.recorder.workers) c.seat.view_is ∙ ap (λ (r : RecorderId). r.workers) own.0 in
+    let at : min c.args.workers c.args.w ≡ c.args.w = let lt = own.2 in omega arith in
+    put_step _ _ c.args.workers c.args.w c.seat.inside.place _ _ (c.requires.main ∙ ap (λ n. ledger false [] c.args.workers 0 n (view c.args.main.now).noted) at)
+    (subst (λ w. IsWorkers w c.seat.inside.place (view c.seat.inside.pass)) is c.seat.invariant.1) many

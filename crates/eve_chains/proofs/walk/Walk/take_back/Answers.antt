@@ -1,5 +1,5 @@
 use Rattle.std.proofs.Common.{length, refl, subst, ap, ◌∙◌, ◌-◌, ℕ, arith}
-use Rattle.eve_serial.specs.Along.{all_said}
+use Rattle.eve_chains.specs.Along.{all_said}
 use Rattle.eve_chains.specs.Walking.{AreTakenBack}
 use Rattle.eve_chains.proofs.Rolling.{open_within, taken_start, taken_more}
 use Rattle.eve_chains.proofs.walk.Walk.take_back.Goals as goal

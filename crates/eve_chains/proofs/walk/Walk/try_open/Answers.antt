@@ -1,6 +1,6 @@
 use Rattle.std.proofs.Common.{◌-◌, length, refl, subst, ap, ◌∙◌, ℕ, arith}
-use Rattle.eve_serial.specs.Tables.{table_of}
-use Rattle.eve_serial.specs.Along.{all_said, IsFirstAlong}
+use Rattle.eve_chains.specs.Tables.{table_of}
+use Rattle.eve_chains.specs.Along.{all_said, IsFirstAlong}
 use Rattle.eve_chains.specs.Walking.{AreTried}
 use Rattle.eve_chains.proofs.Rolling.{open_within, tried_start, tried_more}
 use Rattle.eve_chains.proofs.walk.Walk.try_open.Goals as goal

@@ -1,15 +1,18 @@
-use Rattle.std.proofs.Common.{◌≡◌, ◌<◌, ap, sym, ◌∙◌, subst, List, Option, Some, set}
+use Rattle.std.proofs.Common.{◌≡◌, refl, ap, sym, ◌∙◌, subst, List, Option, Some, set, arith}
 use Rattle.eve_recorder.specs.Noted.{AllOf}
-use Rattle.eve_recorder.specs.Seen.{Noter, Places, IsSeated}
+use Rattle.eve_recorder.specs.Seen.{RecorderId, recorder_id, Noter, Places, IsNoterOf, IsSeated}
 use Rattle.eve_recorder.specs.Rows.{row_of}
-use Rattle.eve_recorder.proofs.SeatRow.{seated_with}
+use Rattle.eve_recorder.proofs.SeatTable.{seated_with}
 use Rattle.eve_recorder.proofs.seats.Seats.give_back.Goals as goal
 
 pub invariant_of-self : goal.invariant_of-self
 invariant_of-self c = let i = c.self.invariant in let s = c.self.inside in let seat = c.args.seat in
-    let own = subst (λ (p : Places). (seat.recorder ≡ p.recorder) × (seat.worker < p.workers)) (sym c.self.view_is) (c.requires.own, c.requires.there) in
+    let here : RecorderId = recorder_id s.main.table_id s.workers in
+    let own : seat.recorder ≡ here = c.requires ∙ sym (ap (λ (p : Places). p.recorder) c.self.view_is) in
     let is : c.seat.inside.worker ≡ seat.worker = ap (λ (x : Noter). x.worker) c.seat.view_is in
-    let all = subst (λ (x : Noter). AllOf x.worker x.noted) c.seat.view_is c.seat.invariant.1.2 in
+    let all = subst (λ (x : Noter). AllOf x.worker x.noted) c.seat.view_is c.seat.invariant.1.4 in
+    let many = ap (λ (x : Noter). x.recorder.workers) c.seat.view_is ∙ ap (λ (r : RecorderId). r.workers) own in
+    let lt = c.seat.invariant.1.1 in
     let row : set (row_of s.row) seat.worker (Some seat) ≡ row_of c.put.new.self = sym (c.put.ensures ∙ ap (λ k. set (row_of s.row) k (Some seat)) is) in
-    let seated = seated_with s.main.table_id s.workers (row_of s.row) seat i.3 own.0 own.1 all in
-    (i.0, i.1, i.2, subst (λ (l : List (Option Noter)). IsSeated s.main.table_id s.workers l) row seated, i.4)
+    let seated = seated_with (IsNoterOf here) (row_of s.row) seat.worker seat i.3 (own, refl, omega arith, all) in
+    (i.0, i.1, i.2, subst (λ (l : List (Option Noter)). IsSeated here l) row seated, i.4)

@@ -1,7 +1,7 @@
-use Rattle.std.proofs.Common.{◌≡◌, Some, None, sym, subst, ◌∙◌, arith}
+use Rattle.std.proofs.Common.{◌≡◌, false, Some, None, sym, subst, ◌∙◌, arith, rules}
 use Rattle.std.proofs.lemmas.List.{take_rest}
 use Rattle.eve_workload.specs.Drafts.{TakesLine}
-use Rattle.eve_workload.proofs.Reading.{keeps_small, read_more, read_bad}
+use Rattle.eve_workload.proofs.Reading.{keeps_small, read_more, read_bad, read_early}
 use Rattle.eve_workload.proofs.workload.Workload.read.Goals as goal
 
 pub next_line-number-requires : goal.next_line-number-requires
@@ -26,3 +26,11 @@ returns-in-None-clause-bad c = λ number same.
     read_bad c.args.text.now c.loop-at.at number c.loop-at.draft c.take_line.new.self c.loop-at.invariant
     (sym is ∙ c.next_line-number.ensures c.loop-at.invariant.before c.loop-at.invariant.keeps) (omega arith)
     (subst (λ rest. TakesLine c.take_line.new.self c.loop-at.invariant.before rest None) (take_rest c.args.text.now c.loop-at.at) (rw c.in-None.is at taken))
+
+pub returns-then-not-may_end-clause-bad : goal.returns-then-not-may_end-clause-bad
+returns-then-not-may_end-clause-bad c = λ number same.
+    let is : c.next_line.result ≡ number = cc in
+    let read = c.loop-at.invariant in
+    let ends : c.may_end.result ≡ false = search rules in
+    read_early c.args.text.now c.loop-at.at number c.loop-at.draft read (sym is ∙ c.next_line.ensures read.before read.keeps) (omega arith)
+    (sym (c.may_end.ensures read.before read.keeps.last) ∙ ends)

@@ -1,0 +1,135 @@
+-- The replies that were sent, one after another.
+use Rattle.std.proofs.Common.{◌≡◌, ℕ, zero, suc, ◌+◌, ◌<◌, ◌≤◌, List, [], ◌∷◌, ◌++◌, map, take, drop, length, slice_get, slice_index_or, Some, None, refl, sym, subst, ap, ◌∙◌, inl, inr, ◌⊎◌, arith, IsTrue}
+use Rattle.std.specs.List.{AllByRecursion, list_all, enumerate_from}
+use Rattle.std.proofs.lemmas.Bool.{and_parts, cases_lt, ltb-true, leb-true}
+use Rattle.std.proofs.lemmas.Option.{get_or_from_slice_get}
+use Rattle.eve_grammar.specs.Trace.{Sent, Step, Trace}
+use Rattle.eve_grammar.specs.Frames.{OfSent}
+use Rattle.eve_grammar.specs.Spelling.{frame_text, located, sent_start, sent_at}
+use Rattle.eve_grammar.specs.Limits.{is_sent, HasLimits}
+use Rattle.eve_views.specs.Code.{number_of}
+use Rattle.eve_views.specs.declared.fault.Code.{Code}
+use Rattle.eve_views.specs.declared.fault.Code.TheVariants as code
+use Rattle.eve_views.specs.declared.fault.Fault.{Fault}
+use Rattle.eve_views.specs.Form.{SomePlace, IsLeast}
+use Rattle.eve_history.specs.Told.{Telling, telling, tellings}
+use Rattle.eve_history.proofs.Places.{no_place, place_cases, cut_at, Rising, located_rising, At, first_place, weaker_place}
+use Rattle.eve_chains.proofs.Linked.{some_injective, none≢some}
+use Rattle.eve_agree.specs.SentReplies.{IsReplied, AllReplied, StandsInReplies, IsReplyFault}
+
+-- a reply that no committed attempt gave
+abbrev pub IsUnreplied : Trace → List (ℕ × Sent) → ℕ × Sent → Type 0
+IsUnreplied t before s = ¬ IsReplied t s.1
+
+none_unreplied : (t : Trace) (text : Sent → List ℕ) (at : ℕ) (xs : List Sent) → AllByRecursion (IsReplied t) xs → SomePlace (located text at xs) (λ _ s. ¬ IsReplied t s.1) → ⊥
+none_unreplied t text at [] all place = no_place _ place
+none_unreplied t text at (x ∷ xs) all place = elim (place_cases (λ _ s. ¬ IsReplied t s.1) (at, x) (located text (at + length (text x)) xs) place) [
+  | inl here ↦ here all.0
+  | inr there ↦ none_unreplied t text (at + length (text x)) xs all.1 there
+]
+
+take_located : {A : Type 0} (text : A → List ℕ) (at i : ℕ) (xs : List A) → take i (located text at xs) ≡ located text at (take i xs)
+take_located text at zero xs = refl
+take_located text at (suc i) [] = refl
+take_located {A = A} text at (suc i) (x ∷ xs) = ap (λ (ys : List (ℕ × A)). (at, x) ∷ ys) (take_located text (at + length (text x)) i xs)
+
+of_located : {A : Type 0} (text : A → List ℕ) (at : ℕ) (xs : List A) (i o : ℕ) (x : A) → slice_get (located text at xs) i ≡ Some (o, x) → slice_get xs i ≡ Some x
+of_located text at [] i o x e = none≢some (o, x) e
+of_located {A} text at (y ∷ xs) zero o x e = ap (λ (p : ℕ × A). Some p.1) (some_injective (at, y) (o, x) e)
+of_located text at (y ∷ xs) (suc i) o x e = of_located text (at + length (text y)) xs i o x e
+
+pub sent_there : (t : Trace) (i o : ℕ) (s : Sent) → slice_get (sent_at t) i ≡ Some (o, s) → slice_get t.sent i ≡ Some s
+unfolding sent_at
+sent_there t i o s e = of_located (λ s. frame_text (OfSent s)) (sent_start t) t.sent i o s e
+
+-- ---- all of them
+
+pub replied_more : (t : Trace) (i : ℕ) (s : Sent) → AllByRecursion (IsReplied t) (take i t.sent) → slice_get t.sent i ≡ Some s → IsReplied t s → AllByRecursion (IsReplied t) (take (i + 1) t.sent)
+replied_more t i s all at one = let next : suc i ≡ i + 1 = omega arith in subst (λ n. AllByRecursion (IsReplied t) (take n t.sent)) next (more t.sent i all at)
+  where
+    more : (xs : List Sent) (k : ℕ) → AllByRecursion (IsReplied t) (take k xs) → slice_get xs k ≡ Some s → AllByRecursion (IsReplied t) (take (suc k) xs)
+    more [] k before there = none≢some s there
+    more (x ∷ xs) zero before there = (subst (IsReplied t) (sym (some_injective x s there)) one, tt)
+    more (x ∷ xs) (suc k) before there = (before.0, more xs k before.1 there)
+
+pub no_fault : (t : Trace) → AllReplied t → (f : Fault) → ¬ IsReplyFault t f
+unfolding sent_at
+no_fault t all f is = by f.code is.stands
+  where
+    by : (c : Code) → StandsInReplies c t f.offset → ⊥
+    by code.Reply stands =
+        none_unreplied t (λ s. frame_text (OfSent s)) (sent_start t) t.sent all (weaker_place (λ _ s. (s.0 ≡ f.offset) × ¬ IsReplied t s.1) (λ _ s. ¬ IsReplied t s.1) (sent_at t) (λ b y h. h.1) stands)
+    by _ stands = stands
+
+pub first_fault : (t : Trace) (i o : ℕ) (s : Sent) (f : Fault) → AllByRecursion (IsReplied t) (take i t.sent) → slice_get (sent_at t) i ≡ Some (o, s) → ¬ IsReplied t s → f ≡ record { code = code.Reply; offset = o; replica = None }
+    → IsLeast (IsReplyFault t) f
+unfolding sent_at
+first_fault t i o s f all at not is = subst (IsLeast (IsReplyFault t)) (sym is) (record {
+  is = record { stands = record { before = take i (sent_at t); item = (o, s); rest = drop (suc i) (sent_at t); is = cut_at (sent_at t) i (o, s) at; holds = (refl, not) }; outside = refl };
+  least = λ g stands. by g.offset g.code stands.stands;
+})
+  where
+    none_before : SomePlace (take i (sent_at t)) (IsUnreplied t) → ⊥
+    none_before place =
+        none_unreplied t (λ s. frame_text (OfSent s)) (sent_start t) (take i t.sent) all
+        (subst (λ (xs : List (ℕ × Sent)). SomePlace xs (IsUnreplied t)) (take_located (λ s. frame_text (OfSent s)) (sent_start t) i t.sent) place)
+
+    by : (to : ℕ) (c : Code) → StandsInReplies c t to → (o < to) ⊎ ((o ≡ to) × (90 ≤ number_of c))
+    by to code.Reply stands =
+        let cut : sent_at t ≡ take i (sent_at t) ++ (o, s) ∷ drop (suc i) (sent_at t) = cut_at (sent_at t) i (o, s) at in
+        let rises = subst (λ (xs : List (ℕ × Sent)). Rising (sent_start t) xs) cut (located_rising (λ s. frame_text (OfSent s)) (sent_start t) t.sent) in
+        up (first_place (IsUnreplied t) (sent_start t) to (take i (sent_at t)) (o, s) (drop (suc i) (sent_at t)) rises none_before (subst (λ (xs : List (ℕ × Sent)). SomePlace xs (At to (IsUnreplied t))) cut stands))
+      where
+        up : o ≤ to → (o < to) ⊎ ((o ≡ to) × (90 ≤ 90))
+        up le = elim (cases_lt o to) [ inl lt ↦ inl lt | inr ge ↦ inr (omega arith, omega arith) ]
+    by to _ stands = absurd stands
+
+-- ---- within the limits
+
+pub record IsPossible (t : Trace) (s : Sent) : Type 0 where
+  pub replica : s.replica < length t.sections
+  pub one : 1 ≤ s.seq
+  pub there : s.seq ≤ length t.batches
+
+pub is_possible : (t : Trace) (i : ℕ) (s : Sent) → HasLimits t → slice_get t.sent i ≡ Some s → IsPossible t s
+is_possible t i s limits at =
+    let own : IsTrue (is_sent (length t.sections) (length t.batches) s) = each t.sent i limits.sent at in
+    let a = and_parts _ _ own in
+    let b = and_parts _ _ a.1 in
+    let c = and_parts _ _ b.1 in
+    let d = and_parts _ _ c.1 in
+    let e = and_parts _ _ d.0 in
+    record {
+      replica = ltb-true s.replica (length t.sections) c.0;
+      one = leb-true 1 s.seq e.0;
+      there = leb-true s.seq (length t.batches) e.1;
+    }
+  where
+    each : (xs : List Sent) (k : ℕ) → IsTrue (list_all (is_sent (length t.sections) (length t.batches)) xs) → slice_get xs k ≡ Some s → IsTrue (is_sent (length t.sections) (length t.batches) s)
+    each [] k all there = none≢some s there
+    each (x ∷ xs) zero all there = subst (λ (y : Sent). IsTrue (is_sent (length t.sections) (length t.batches) y)) (some_injective x s there) (and_parts _ _ all).0
+    each (x ∷ xs) (suc k) all there = each xs k (and_parts (is_sent (length t.sections) (length t.batches) x) _ all).1 there
+
+-- what a replica's section tells, among all
+pub telling_there : (t : Trace) (e : ℕ) → e < length t.sections → slice_get (tellings t) e ≡ Some (telling t e)
+unfolding tellings
+telling_there t e lt = let same : 0 + e ≡ e = omega arith in told 0 t.sections e lt ∙ ap (λ n. Some (telling t n)) same
+  where
+    told : (from : ℕ) (xs : List (List Step)) (k : ℕ) → k < length xs → slice_get (map (λ s. telling t s.0) (enumerate_from from xs)) k ≡ Some (telling t (from + k))
+    told from [] k lt = absurd (omega arith)
+    told from (x ∷ xs) zero lt = let same : from ≡ from + 0 = omega arith in ap (λ n. Some (telling t n)) same
+    told from (x ∷ xs) (suc k) lt =
+        let same : from + 1 + k ≡ from + suc k = omega arith in
+        told (from + 1) xs k (omega arith) ∙ ap (λ n. Some (telling t n)) same
+
+pub told_as : (t : Trace) (vs : List Telling) (e k : ℕ) (v : Telling) → vs ≡ tellings t → e < length t.sections → k ≡ e → v ≡ slice_index_or vs k v → v ≡ telling t e
+told_as t vs e k v is lt same read =
+    read ∙ (λ i. slice_index_or (is i) (same i) v) ∙ get_or_from_slice_get (tellings t) e (telling t e) v (telling_there t e lt)
+
+pub length-tellings : (t : Trace) → length (tellings t) ≡ length t.sections
+unfolding tellings
+length-tellings t = long 0 t.sections
+  where
+    long : (from : ℕ) (xs : List (List Step)) → length (map (λ s. telling t s.0) (enumerate_from from xs)) ≡ length xs
+    long from [] = refl
+    long from (x ∷ xs) = ap suc (long (from + 1) xs)

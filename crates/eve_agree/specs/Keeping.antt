@@ -1,0 +1,28 @@
+-- The requests of one batch, as they are kept, and what a reply is to one of them.
+use Rattle.std.specs.Prelude.{◌≡◌, ℕ, ◌≤◌, List, map, take, Some, slice_get}
+use Rattle.eve_smallbank.specs.declared.request.Reply.{Reply}
+use Rattle.eve_grammar.specs.Trace.{Sent, Trace}
+use Rattle.eve_history.specs.Section.{batch_at}
+use Rattle.eve_history.specs.Faults.{RequestId, request_id}
+use Rattle.eve_agree.specs.declared.request_ids.RequestId.{RequestId as Item}
+use Rattle.eve_agree.specs.declared.request_ids.RequestIds.{RequestIds}
+
+abbrev pub request_id_of : Item → RequestId
+request_id_of x = (x.client, x.number)
+
+-- the clients and numbers of the first so many
+abbrev pub kept_in : List Item → ℕ → List RequestId
+kept_in items count = map request_id_of (take count items)
+
+abbrev pub kept : RequestIds → List RequestId
+kept k = kept_in k.items k.count
+
+-- at this index stands the request that is answered, and the reply that was sent
+pub record IsAnswer (request_ids : List RequestId) (replies : List Reply) (s : Sent) (index : ℕ) : Type 0 where
+  pub request_id : slice_get request_ids index ≡ Some (s.client, s.number)
+  pub reply : slice_get replies index ≡ Some s.reply
+
+-- what is kept is what the requests of the batch at hand say, if there is one
+pub record AreOf (t : Trace) (k : RequestIds) : Type 0 where
+  pub few : k.count ≤ 256
+  pub request_ids : 1 ≤ k.batch → kept k ≡ map request_id (batch_at t k.batch).requests

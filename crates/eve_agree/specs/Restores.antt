@@ -1,0 +1,22 @@
+-- The faults of restores, and where they stand. docs/MODEL.md, "Faults".
+use Rattle.std.specs.Prelude.{◌≡◌, ℕ, IsFalse, Some}
+use Rattle.eve_grammar.specs.Trace.{Trace}
+use Rattle.eve_grammar.specs.Spelling.{steps_at}
+use Rattle.eve_views.specs.declared.fault.Code.{Code}
+use Rattle.eve_views.specs.declared.fault.Code.TheVariants as code
+use Rattle.eve_views.specs.declared.fault.Fault.{Fault}
+use Rattle.eve_views.specs.Form.{SomePlace}
+use Rattle.eve_history.specs.Section.{start, state_after}
+use Rattle.eve_history.specs.Faults.{OfRollback}
+use Rattle.eve_agree.specs.Tables.{are_right_restores}
+
+-- a fault of restores stands at this offset in replica e's section
+abbrev pub StandsInRestores : Code → Trace → ℕ → ℕ → Type 0
+StandsInRestores code.Restore t e at =
+    SomePlace (steps_at t e) (λ before step. (step.0 ≡ at) × OfRollback step.1 (λ r. IsFalse (are_right_restores t (state_after start before) r.restores)))
+StandsInRestores _ t e at = ⊥
+
+-- the fault is one of restores in replica e's section
+pub record IsRestoreFault (t : Trace) (e : ℕ) (f : Fault) : Type 0 where
+  pub stands : StandsInRestores f.code t e f.offset
+  pub inside : f.replica ≡ Some e

@@ -1,0 +1,48 @@
+-- The commits and rollbacks that no majority voted for, section by section.
+use Rattle.std.specs.Prelude.{◌≡◌, ℕ, ◌+◌, ◌^◌, ◌<◌, ◌≤◌, ⊤, Option, Some, None}
+use Rattle.eve_grammar.specs.Trace.{Step, Attempts, Commits, RollsBack, Trace}
+use Rattle.eve_grammar.specs.Spelling.{steps_at}
+use Rattle.eve_views.specs.declared.fault.Code.{Code}
+use Rattle.eve_views.specs.declared.fault.Code.TheVariants as code
+use Rattle.eve_views.specs.declared.fault.Fault.{Fault}
+use Rattle.eve_views.specs.Form.{IsUpTo, SomePlace}
+use Rattle.eve_agree.specs.Majority.{IsBacked, IsBackedSection}
+
+-- a rollback's next number has room in 32 bits, and it has a view before its own
+abbrev pub HasRoom : Step → Type 0
+HasRoom (RollsBack r) = (r.to + 1 < 2 ^ 32) × (1 ≤ r.view)
+HasRoom _ = ⊤
+
+-- what is wrong with a step where no majority voted for it
+abbrev pub lacks : Step → Code → Type 0
+lacks (Attempts a) c = ⊥
+lacks (Commits d) c = c ≡ code.NoMajority
+lacks (RollsBack r) c = c ≡ code.RollbackNoMajority
+
+-- the fault is that no majority voted for this step of replica e
+pub record IsUnbacked (t : Trace) (e : ℕ) (step : ℕ × Step) (f : Fault) : Type 0 where
+  pub unbacked : ¬ IsBacked t step.1
+  pub lacking : lacks step.1 f.code
+  pub offset : step.0 ≡ f.offset
+  pub inside : f.replica ≡ Some e
+
+-- the fault is at some step of replica e
+abbrev pub IsUnbackedIn : Trace → ℕ → Fault → Type 0
+IsUnbackedIn t e f = SomePlace (steps_at t e) (λ _ step. IsUnbacked t e step f)
+
+-- it is the first in replica e's section
+pub record IsFirstIn (t : Trace) (e : ℕ) (f : Fault) : Type 0 where
+  pub is : IsUnbackedIn t e f
+  pub first : (g : Fault) → IsUnbackedIn t e g → IsUpTo f g
+
+-- it is the first in the sections of the replicas below n
+pub record IsFirstBelow (t : Trace) (n : ℕ) (f : Fault) : Type 0 where
+  pub replica : ℕ
+  pub below : replica < n
+  pub is : IsUnbackedIn t replica f
+  pub first : (e : ℕ) (g : Fault) → e < n → IsUnbackedIn t e g → IsUpTo f g
+
+-- what was found in those sections, if anything was
+abbrev pub IsFoundBelow : Trace → ℕ → Option Fault → Type 0
+IsFoundBelow t n (Some f) = IsFirstBelow t n f
+IsFoundBelow t n None = (e : ℕ) → e < n → IsBackedSection t e

@@ -1,0 +1,113 @@
+//! The faults of majorities.
+
+ghost use Rattle.std.specs.Prelude.{◌≡◌, ◌≢◌, ◌<◌, ◌≤◌, ◌+◌, ◌-◌, ◌^◌, ℕ, ◌⊎◌, ◌↔◌, IsTrue, IsFalse, length};
+ghost use Rattle.std.specs.Prelude.{IfSome, IfNone, IfOk, IfErr};
+ghost use Rattle.eve_grammar.specs.Trace.{Step as StepValue};
+ghost use Rattle.eve_frames.specs.Views.{commit_in, rollback_in};
+ghost use Rattle.eve_views.specs.Form.{IsUpTo, IfFound, IsLeast, HasNone};
+ghost use Rattle.eve_views.specs.Fronts.{whole};
+ghost use Rattle.eve_views.specs.StepKinds.{IsStep};
+ghost use Rattle.eve_views.specs.declared.fault.CheckFault.TheVariants.{Memory};
+ghost use Rattle.eve_views.specs.declared.fault.Fault.{Fault as FaultValue};
+ghost use Rattle.eve_history.specs.Told.{tellings, IsRightSection};
+ghost use Rattle.eve_votes.specs.Votes.{IsDecided, IsRolledBack};
+ghost use Rattle.eve_agree.specs.Majority.{IsBacked, IsBackedSection, AllAreBacked, IsMajorityFault};
+ghost use Rattle.eve_agree.specs.Unbacked.{HasRoom, IsUnbacked, IsFirstIn};
+
+use eve_frames::{CommitView, RollbackView};
+use eve_history::{History, are_right};
+use eve_views::{CheckFault, Code, Fault, Step, Trace, first_of};
+use eve_votes::Tally;
+
+/// Whether a majority decided what is committed: the batch, in that view, with that token.
+fn is_decided(tally: &Tally<'_, '_>, commit: &CommitView<'_>) -> bool
+    ensures { IsTrue result ↔ IsDecided tally.now (commit_in commit.now.bytes.now).seq (commit_in commit.now.bytes.now).view (commit_in commit.now.bytes.now).token }
+{
+    let decided = tally.decided(commit.seq());
+    match &decided {
+        Some(said) => said.0 == commit.view() && said.1.as_slice() == commit.token(),
+        None => false,
+    }
+}
+
+/// Whether a majority rolled back the batch behind the one that a rollback goes back to, in the view before.
+fn is_rolled_back(tally: &Tally<'_, '_>, rollback: &RollbackView<'_>) -> bool
+    requires next { (rollback_in rollback.now.bytes.now).to + 1 < 2 ^ 32 }
+    requires view { 1 ≤ (rollback_in rollback.now.bytes.now).view }
+    ensures { IsTrue result ↔ IsRolledBack tally.now ((rollback_in rollback.now.bytes.now).to + 1) ((rollback_in rollback.now.bytes.now).view - 1) }
+{
+    tally.rolled_back(rollback.to() + 1, rollback.view() - 1)
+}
+
+/// What is wrong with a step of a replica: no majority voted for it.
+fn unbacked(tally: &Tally<'_, '_>, e: u8, step: Step<'_, '_>) -> Option<Fault>
+    requires { (next : ℕ × StepValue) × IsStep step next × HasRoom next.1 }
+    ensures backed { IfNone result ((next : ℕ × StepValue) → IsStep step.entry next → IsBacked tally.now next.1) }
+    ensures unbacked { IfSome result (λ f. (next : ℕ × StepValue) → IsStep step.entry next → IsUnbacked tally.now e next f) }
+{
+    let (code, offset) = match step {
+        Step::Attempt(_, _) => return None,
+        Step::Commit(commit) => {
+            if is_decided(tally, &commit) {
+                return None;
+            }
+            (Code::NoMajority, commit.offset())
+        }
+        Step::Rollback(rollback) => {
+            if is_rolled_back(tally, &rollback) {
+                return None;
+            }
+            (Code::RollbackNoMajority, rollback.offset())
+        }
+    };
+    Some(Fault {
+        code,
+        offset,
+        replica: Some(e),
+    })
+}
+
+/// The first commit or rollback of a replica that no majority voted for.
+fn first_in(trace: &Trace<'_>, tally: &Tally<'_, '_>, e: u8) -> Option<Fault>
+    requires there { e < length (whole trace.now).sections }
+    requires right { IsRightSection (whole trace.now) e }
+    requires tally { tally.now ≡ whole trace.now }
+    ensures backed { IfNone result (IsBackedSection (whole trace.now) e) }
+    ensures first { IfSome result (IsFirstIn (whole trace.now) e) }
+{
+    trace.is_whole();
+    let mut steps = trace.section(e);
+    while let Some(step) = steps.next() {
+        if let Some(fault) = unbacked(tally, e, step) {
+            return Some(fault);
+        }
+    }
+    None
+}
+
+/// Judges the commits and rollbacks of all replicas: a majority of the verifiers voted for each; else the first without.
+///
+/// docs/MODEL.md, "Decided, rolled back" and "Faults". The votes are those of the trace. It takes no memory, and never answers want of it; it looks up one vote count for each
+/// commit and rollback.
+pub fn majorities(
+    trace: &Trace<'_>,
+    histories: &[History<'_>],
+    tally: &Tally<'_, '_>,
+) -> Result<(), CheckFault>
+    requires histories { histories.now ≡ tellings (whole trace.now) }
+    requires tally { tally.now ≡ whole trace.now }
+    ensures backed { IfOk result (λ _. AllAreBacked (whole trace.now)) }
+    ensures none { IfOk result (λ _. HasNone (IsMajorityFault (whole trace.now))) }
+    ensures least { IfErr result (λ why. IfFound why (IsLeast (IsMajorityFault (whole trace.now)))) }
+    ensures found { IfErr result (λ why. why ≢ Memory) }
+{
+    are_right(histories);
+    let mut first = None;
+    for history in histories {
+        first = first_of(first, first_in(trace, tally, history.replica()));
+    }
+    match first {
+        Some(fault) => Err(CheckFault::Found(fault)),
+        None => Ok(()),
+    }
+}

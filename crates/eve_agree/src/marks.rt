@@ -1,0 +1,129 @@
+//! What the discarded attempts first saw of the rows that they wrote.
+
+ghost use Rattle.std.specs.Prelude.{◌≡◌, ◌≢◌, ◌<◌, ℕ, IsTrue, IsFalse, IfOk, List, None, if◌then◌else◌, ◌==◌, length, replicate, [], ◌∷◌};
+ghost use Rattle.std.specs.List.{list_all};
+ghost use Rattle.eve_smallbank.specs.Chain as chain;
+ghost use Rattle.eve_smallbank.specs.declared.entry.Entry as noted;
+ghost use Rattle.eve_grammar.specs.Bodies.{restore};
+ghost use Rattle.eve_grammar.specs.Limits.{is_entry, is_restore, is_rising};
+ghost use Rattle.eve_agree.specs.Marking.{marking_of, unmarked, marked_once, marked, written_in, is_marked, taken, are_written_in};
+
+use eve_accounts::Row;
+use eve_chains::Versioned;
+use eve_frames::{Entries, Restores};
+use eve_grammar::Restore;
+use eve_smallbank::{Entry, Kind};
+use std::alloc::{AllocError, Global};
+use std::marker::Model;
+
+/// A mark for each row that was written, with the version and the value that the first write of it saw.
+///
+/// Contracts see the list of them by row.
+#[derive(Drop)]
+pub struct Marks {
+    rows: Vec<Option<Versioned>>,
+    // how many rows are marked
+    count: usize,
+}
+
+impl Model for Marks {
+    ghost use Rattle.std.specs.Prelude.{◌≡◌, List, Option};
+    ghost use Rattle.eve_smallbank.specs.Chain as chain;
+    ghost use Rattle.eve_agree.specs.Marking.{marked_count};
+
+    ghost Value = { List (Option chain.Versioned) };
+
+    ghost view = { λ m. m.rows.items };
+
+    ghost invariant = { λ m. m.count ≡ marked_count m.rows.items };
+}
+
+impl Marks {
+    /// No mark on this many rows.
+    pub fn new(alloc: Global, count: usize) -> Result<Marks, AllocError>
+        ensures { IfOk result (λ marks. marks ≡ replicate count None) }
+    {
+        let mut rows = Vec::new(alloc);
+        rows.resize(count, None)?;
+        Ok(Marks { rows, count: 0 })
+    }
+
+    /// Whether no row is marked.
+    pub fn is_empty(&self) -> bool
+        ensures none { IsTrue result → marking_of self.now ≡ unmarked }
+        ensures some { IsFalse result → (row : ℕ) × (marking_of self.now row ≢ None) }
+    {
+        self.count == 0
+    }
+
+    /// Marks a row, where no mark is on it.
+    fn mark(&mut self, row: Row, seen: Versioned)
+        requires { row < length self.old }
+        ensures as_many { length self.new ≡ length self.old }
+        ensures marks { (r : ℕ) → marking_of self.new r ≡ (if row == r then marked_once (marking_of self.old r) seen else marking_of self.old r) }
+    {
+        let row = row.number() as usize;
+        if self.rows[row].is_none() {
+            self.rows[row] = Some(seen);
+            self.count += 1;
+        }
+    }
+
+    /// Takes one entry.
+    fn note_one(&mut self, entry: &Entry)
+        requires { IsTrue (is_entry (length self.old) entry.now) }
+        ensures as_many { length self.new ≡ length self.old }
+        ensures marks { marking_of self.new ≡ marked (marking_of self.old) (entry.now ∷ []) }
+    {
+        match entry.kind {
+            Kind::Read => {}
+            Kind::Write => self.mark(entry.row, Versioned::new(entry.version, entry.seen)),
+        }
+    }
+
+    /// Marks the rows that the entries write, where no mark is on them, with what they saw.
+    pub fn note(&mut self, entries: Entries<'_>)
+        requires { IsTrue (list_all (is_entry (length self.old)) entries) }
+        ensures as_many { length self.new ≡ length self.old }
+        ensures marks { marking_of self.new ≡ marked (marking_of self.old) entries.entry }
+    {
+        for entry in entries {
+            self.note_one(&entry);
+        }
+    }
+
+    /// Takes away the mark on a restore's row, where it is of the version and the value that are restored.
+    fn take(&mut self, restored: &Restore) -> bool
+        requires { restored.now.row < length self.old }
+        ensures as_many { length self.new ≡ length self.old }
+        ensures right { result ≡ is_marked (marking_of self.old restored.now.row) (restore restored.now) }
+        ensures taken { IsTrue result → marking_of self.new ≡ taken (marking_of self.old) (restore restored.now ∷ []) }
+    {
+        let row = restored.row.number() as usize;
+        let Some(seen) = self.rows[row] else {
+            return false;
+        };
+        if seen.version() != restored.version || seen.value() != restored.value {
+            return false;
+        }
+        self.rows[row] = None;
+        self.count -= 1;
+        true
+    }
+
+    /// Whether these are exactly the rows that are marked, each as it is marked; then no mark is left.
+    pub fn take_all(&mut self, restores: Restores<'_>) -> bool
+        requires rows { IsTrue (list_all (is_restore (length self.old)) restores) }
+        requires rising { IsTrue (is_rising restores) }
+        ensures as_many { length self.new ≡ length self.old }
+        ensures right { (table : chain.Table) (es : List noted.Entry) → marking_of self.old ≡ written_in table es → result ≡ are_written_in table es restores.entry }
+        ensures none { IsTrue result → marking_of self.new ≡ unmarked }
+    {
+        for restored in restores {
+            if !self.take(&restored) {
+                return false;
+            }
+        }
+        self.is_empty()
+    }
+}

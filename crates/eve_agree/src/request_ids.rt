@@ -1,0 +1,134 @@
+//! The requests of the batch whose replies are judged.
+
+ghost use Rattle.std.specs.Prelude.{◌≡◌, ◌≤◌, ◌<◌, ◌↔◌, ℕ, IsTrue, IfSome, IfNone, length, map};
+ghost use Rattle.eve_grammar.specs.Limits.{is_batch};
+ghost use Rattle.eve_frames.specs.Views.{attempt_in, batch_in, sent_in};
+ghost use Rattle.eve_views.specs.Fronts.{whole};
+ghost use Rattle.eve_history.specs.Faults.{request_id};
+ghost use Rattle.eve_history.specs.Notes.{requests_said};
+ghost use Rattle.eve_agree.specs.Keeping.{kept, kept_in, IsAnswer, AreOf};
+
+use eve_frames::{AttemptView, BatchView, SentView};
+use eve_views::Trace;
+
+/// A request's client, and the client's number for it.
+#[derive(Clone, Copy)]
+pub struct RequestId {
+    client: u32,
+    number: u64,
+}
+
+/// The clients and numbers of one batch's requests by their indexes, so that the batch is read once for all its replies.
+#[derive(Drop)]
+pub struct RequestIds {
+    /// The batch, from 1; 0 before the first.
+    batch: u32,
+    /// How many requests it has.
+    count: usize,
+    /// The index behind the one that was found last.
+    next: usize,
+    /// By index; those from the count on are none of the batch.
+    items: [RequestId; 256],
+}
+
+impl RequestIds {
+    /// Of no batch.
+    pub fn new() -> RequestIds
+        ensures few { result.count ≤ 256 }
+        ensures none { result.batch ≡ 0 }
+    {
+        RequestIds {
+            batch: 0,
+            count: 0,
+            next: 0,
+            items: [RequestId {
+                client: 0,
+                number: 0,
+            }; 256],
+        }
+    }
+
+    /// Turns to a batch of the trace, by its number from 1: reads it, if it isn't the one at hand.
+    pub fn turn_to(&mut self, trace: &Trace<'_>, batch: u32)
+        requires one { 1 ≤ batch }
+        requires there { batch ≤ length (whole trace.now).batches }
+        requires old { AreOf (whole trace.now) self.old }
+        ensures new { AreOf (whole trace.now) self.new }
+        ensures batch { self.new.batch ≡ batch }
+    {
+        if self.batch != batch {
+            trace.is_whole();
+            self.count = read(&trace.batch(batch), &mut self.items);
+            self.batch = batch;
+            self.next = 0;
+        }
+    }
+
+    /// Whether an attempt's reply to the request that a sent reply answers is the one that was sent. The request is
+    /// looked for first behind the one that was found last.
+    pub fn find(&mut self, attempt: &AttemptView<'_>, sent: &SentView<'_>) -> bool
+        requires { self.old.count ≤ 256 }
+        ensures answer { IsTrue result ↔ ((i : ℕ) × IsAnswer (kept self.old) (attempt_in attempt.now.bytes.now).replies (sent_in sent.now.bytes.now) i) }
+        ensures batch { self.new.batch ≡ self.old.batch }
+        ensures count { self.new.count ≡ self.old.count }
+        ensures kept { kept self.new ≡ kept self.old }
+    {
+        match self.index_of(attempt, sent) {
+            Some(i) => {
+                self.next = i + 1;
+                true
+            }
+            None => false,
+        }
+    }
+
+    /// The index at which an attempt's reply is the sent one, to the request that it answers.
+    fn index_of(&self, attempt: &AttemptView<'_>, sent: &SentView<'_>) -> Option<usize>
+        requires { self.now.count ≤ 256 }
+        ensures below { IfSome result (λ i. i < 256) }
+        ensures found { IfSome result (λ i. IsAnswer (kept self.now) (attempt_in attempt.now.bytes.now).replies (sent_in sent.now.bytes.now) i) }
+        ensures none { IfNone result ((i : ℕ) → ¬ IsAnswer (kept self.now) (attempt_in attempt.now.bytes.now).replies (sent_in sent.now.bytes.now) i) }
+    {
+        if self.is_answer(attempt, sent, self.next) {
+            return Some(self.next);
+        }
+        for i in 0..self.count {
+            if self.is_answer(attempt, sent, i) {
+                return Some(i);
+            }
+        }
+        None
+    }
+
+    /// Whether an attempt's reply at an index is the sent one, to the request that it answers.
+    fn is_answer(&self, attempt: &AttemptView<'_>, sent: &SentView<'_>, i: usize) -> bool
+        requires { self.now.count ≤ 256 }
+        ensures below { IsTrue result → i < 256 }
+        ensures answer { IsTrue result ↔ IsAnswer (kept self.now) (attempt_in attempt.now.bytes.now).replies (sent_in sent.now.bytes.now) i }
+    {
+        if i >= self.count || i >= attempt.len() {
+            return false;
+        }
+        let request_id = self.items[i];
+        request_id.client == sent.client()
+            && request_id.number == sent.number()
+            && attempt.reply(i) == sent.reply()
+    }
+}
+
+/// Reads the client and the number of each request of a batch: how many there are.
+fn read(batch: &BatchView<'_>, items: &mut [RequestId; 256]) -> usize
+    requires { IsTrue (is_batch (batch_in batch.now.bytes.now).1) }
+    ensures few { result ≤ 256 }
+    ensures kept { kept_in items.new result ≡ map request_id (requests_said batch.now.bytes.now) }
+{
+    let mut count = 0;
+    for asked in batch.requests() {
+        items[count] = RequestId {
+            client: asked.client,
+            number: asked.number,
+        };
+        count += 1;
+    }
+    count
+}

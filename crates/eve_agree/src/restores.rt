@@ -1,0 +1,146 @@
+//! The faults of restores.
+
+ghost use Rattle.std.specs.Prelude.{◌≡◌, ◌≤◌, ◌<◌, IfOk, IfErr, IsTrue, Some, List, length, slice_get};
+ghost use Rattle.std.specs.List.{list_all, AllByRecursion};
+ghost use Rattle.eve_smallbank.specs.Chain.{Table};
+ghost use Rattle.eve_smallbank.specs.declared.entry.Entry as noted;
+ghost use Rattle.eve_grammar.specs.Limits.{is_restore, is_rising};
+ghost use Rattle.eve_frames.specs.Views.{rollback_in};
+ghost use Rattle.eve_views.specs.Form.{IfFound, IsLeast, HasNone};
+ghost use Rattle.eve_views.specs.Fronts.{whole};
+ghost use Rattle.eve_views.specs.declared.fault.Fault.{Fault as FaultValue};
+ghost use Rattle.eve_views.specs.declared.fault.CheckFault.TheVariants.{Found};
+ghost use Rattle.eve_views.specs.declared.fault.Code.TheVariants as code;
+ghost use Rattle.eve_history.specs.Told.{Ran, telling, IsRightSection};
+ghost use Rattle.eve_chains.specs.Along.{entries_along, AreWithin};
+ghost use Rattle.eve_chains.specs.Sound.{SettledAreSound};
+ghost use Rattle.eve_agree.specs.Tables.{RestoresAreRight};
+ghost use Rattle.eve_agree.specs.Restores.{IsRestoreFault};
+ghost use Rattle.eve_agree.specs.Marking.{marking_of, unmarked, marked, noted_between, written_in, are_written_in};
+
+use crate::marks::Marks;
+use eve_chains::Settled;
+use eve_frames::RollbackView;
+use eve_history::History;
+use eve_views::{CheckFault, Code, Fault, Step, Trace};
+use std::alloc::Global;
+
+/// Marks the rows that an attempt wrote, in its certificate's order.
+fn note_attempt(marks: &mut Marks, history: &History<'_>, i: usize)
+    requires there { i < length history.now.attempts }
+    requires within { AllByRecursion (λ r. AreWithin (length marks.old) r.ordered) history.now.attempts }
+    ensures as_many { length marks.new ≡ length marks.old }
+    ensures marks { (r : Ran) → slice_get history.now.attempts i ≡ Some r → marking_of marks.new ≡ marked (marking_of marks.old) (entries_along r.ordered) }
+{
+    for place in 0..history.attempt(i).len() {
+        marks.note(history.ordered(i, place).entries());
+    }
+}
+
+/// Marks the rows that the attempts from one number up to another wrote, one after another.
+fn note_attempts(marks: &mut Marks, history: &History<'_>, first: usize, end: usize)
+    requires rising { first ≤ end }
+    requires there { end ≤ length history.now.attempts }
+    requires within { AllByRecursion (λ r. AreWithin (length marks.old) r.ordered) history.now.attempts }
+    ensures as_many { length marks.new ≡ length marks.old }
+    ensures marks { marking_of marks.new ≡ marked (marking_of marks.old) (noted_between history.now.attempts first end) }
+{
+    for i in first..end {
+        note_attempt(marks, history, i);
+    }
+}
+
+/// Whether a rollback that discards these attempts restores exactly the rows that they wrote, as the first write of each
+/// saw it.
+fn is_right(
+    marks: &mut Marks,
+    history: &History<'_>,
+    first: usize,
+    end: usize,
+    rollback: &RollbackView<'_>,
+) -> bool
+    requires rising { first ≤ end }
+    requires there { end ≤ length history.now.attempts }
+    requires within { AllByRecursion (λ r. AreWithin (length marks.old) r.ordered) history.now.attempts }
+    requires rows { IsTrue (list_all (is_restore (length marks.old)) (rollback_in rollback.now.bytes.now).restores) }
+    requires restores { IsTrue (is_rising (rollback_in rollback.now.bytes.now).restores) }
+    requires none { marking_of marks.old ≡ unmarked }
+    ensures as_many { length marks.new ≡ length marks.old }
+    ensures right { (table : Table) → marked unmarked (noted_between history.now.attempts first end) ≡ written_in table (noted_between history.now.attempts first end)
+        → result ≡ are_written_in table (noted_between history.now.attempts first end) (rollback_in rollback.now.bytes.now).restores }
+    ensures none { IsTrue result → marking_of marks.new ≡ unmarked }
+{
+    note_attempts(marks, history, first, end);
+    marks.take_all(rollback.restores())
+}
+
+/// Judges a replica's rollbacks, by what the first write of each row in the discarded attempts saw. That is what is
+/// committed, where the settled attempts are sound.
+pub(crate) fn judge(
+    alloc: Global,
+    trace: &Trace<'_>,
+    history: &History<'_>,
+) -> Result<(), CheckFault>
+    requires history { history.now ≡ telling (whole trace.now) history.now.replica }
+    requires right { IsRightSection (whole trace.now) history.now.replica }
+    ensures right { SettledAreSound (whole trace.now) history.now.replica → IfOk result (λ _. RestoresAreRight (whole trace.now) history.now.replica) }
+    ensures least { SettledAreSound (whole trace.now) history.now.replica → IfErr result (λ why. IfFound why (IsLeast (IsRestoreFault (whole trace.now) history.now.replica))) }
+{
+    trace.is_whole();
+    if history.rollbacks() == 0 {
+        return Ok(());
+    }
+    let mut marks = Marks::new(alloc, 2 * trace.customer_count() as usize)?;
+    let mut first = 0;
+    let mut end = 0;
+    let mut steps = trace.section(history.replica());
+    while let Some(step) = steps.next() {
+        match step {
+            Step::Attempt(_, _) => {
+                prove!(end < history.attempts());
+                end += 1;
+            }
+            Step::Commit(_) => first += 1,
+            Step::Rollback(rollback) => {
+                if !is_right(&mut marks, history, first, end, &rollback) {
+                    return Err(wrong(history.replica(), rollback.offset()));
+                }
+                first = end;
+            }
+        }
+    }
+    Ok(())
+}
+
+/// Judges a replica's rollbacks: each restores exactly the rows that the attempts which it discards wrote, with version
+/// and value as they are committed; else the first that does not.
+///
+/// docs/MODEL.md, "Faults". The replica's attempts were judged before: `sound` is what `check` ensures, under the same
+/// name, where it gives `settled`. The time is linear in what discarded attempts wrote; the memory is a mark for each row,
+/// and none where there is no rollback. Want of memory decides nothing.
+pub fn rollbacks(
+    alloc: Global,
+    trace: &Trace<'_>,
+    history: &History<'_>,
+    _settled: &Settled<'_>,
+) -> Result<(), CheckFault>
+    requires history { history.now ≡ telling (whole trace.now) history.now.replica }
+    requires sound { SettledAreSound (whole trace.now) history.now.replica }
+    ensures right { IfOk result (λ _. RestoresAreRight (whole trace.now) history.now.replica) }
+    ensures none { IfOk result (λ _. HasNone (IsRestoreFault (whole trace.now) history.now.replica)) }
+    ensures least { IfErr result (λ why. IfFound why (IsLeast (IsRestoreFault (whole trace.now) history.now.replica))) }
+{
+    history.is_right();
+    judge(alloc, trace, history)
+}
+
+/// The fault of a rollback that stands there.
+fn wrong(replica: u8, offset: u64) -> CheckFault
+    ensures { result ≡ Found (record { code = code.Restore; offset = offset; replica = Some replica }) }
+{
+    CheckFault::Found(Fault {
+        code: Code::Restore,
+        offset,
+        replica: Some(replica),
+    })
+}

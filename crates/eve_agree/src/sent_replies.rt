@@ -1,0 +1,88 @@
+//! The faults of replies.
+
+ghost use Rattle.std.specs.Prelude.{◌≡◌, ◌≢◌, ◌≤◌, ◌↔◌, ◌-◌, ℕ, IsTrue, None, Some, length, slice_get};
+ghost use Rattle.std.specs.Prelude.{IfSome, IfNone, IfOk, IfErr};
+ghost use Rattle.eve_frames.specs.Views.{attempt_in, sent_in};
+ghost use Rattle.eve_views.specs.Form.{IfFound, IsLeast, HasNone};
+ghost use Rattle.eve_views.specs.Fronts.{whole};
+ghost use Rattle.eve_views.specs.declared.fault.CheckFault.TheVariants.{Memory};
+ghost use Rattle.eve_views.specs.declared.fault.Code.TheVariants as code;
+ghost use Rattle.eve_views.specs.declared.fault.Fault.{Fault as FaultValue};
+ghost use Rattle.eve_history.specs.Told.{Ran, telling, tellings};
+ghost use Rattle.eve_agree.specs.SentReplies.{IsReplied, AllReplied, IsReplyFault};
+ghost use Rattle.eve_agree.specs.Keeping.{AreOf};
+
+use crate::request_ids::RequestIds;
+use eve_frames::{AttemptView, SentView};
+use eve_history::History;
+use eve_views::{CheckFault, Code, Fault, Trace};
+
+/// Judges the replies that were sent: the replica committed the batch, which has a request of that client under that
+/// number, and its reply is the one that was sent; else the first that is not so.
+///
+/// docs/MODEL.md, "Faults". It takes no memory, and never answers want of it. Where replies are sent batch by batch,
+/// each batch is read once.
+pub fn replies(trace: &Trace<'_>, histories: &[History<'_>]) -> Result<(), CheckFault>
+    requires histories { histories.now ≡ tellings (whole trace.now) }
+    ensures replied { IfOk result (λ _. AllReplied (whole trace.now)) }
+    ensures none { IfOk result (λ _. HasNone (IsReplyFault (whole trace.now))) }
+    ensures least { IfErr result (λ why. IfFound why (IsLeast (IsReplyFault (whole trace.now)))) }
+    ensures found { IfErr result (λ why. why ≢ Memory) }
+{
+    trace.is_whole();
+    let mut request_ids = RequestIds::new();
+    for i in 0..trace.sent_count() {
+        let sent = trace.sent(i);
+        let history = &histories[sent.replica() as usize];
+        if !is_replied(trace, history, &mut request_ids, &sent) {
+            return Err(CheckFault::Found(fault_at(sent.offset())));
+        }
+    }
+    Ok(())
+}
+
+/// The fault of a reply sent.
+fn fault_at(offset: u64) -> Fault
+    ensures { result ≡ record { code = code.Reply; offset = offset; replica = None } }
+{
+    Fault {
+        code: Code::Reply,
+        offset,
+        replica: None,
+    }
+}
+
+/// Whether the replica that sent a reply committed it, by what the replica did.
+fn is_replied(
+    trace: &Trace<'_>,
+    history: &History<'_>,
+    request_ids: &mut RequestIds,
+    sent: &SentView<'_>,
+) -> bool
+    requires history { history.now ≡ telling (whole trace.now) (sent_in sent.now.bytes.now).replica }
+    requires one { 1 ≤ (sent_in sent.now.bytes.now).seq }
+    requires there { (sent_in sent.now.bytes.now).seq ≤ length (whole trace.now).batches }
+    requires old { AreOf (whole trace.now) request_ids.old }
+    ensures new { AreOf (whole trace.now) request_ids.new }
+    ensures replied { IsTrue result ↔ IsReplied (whole trace.now) (sent_in sent.now.bytes.now) }
+{
+    match committed(history, sent.seq()) {
+        Some(attempt) => {
+            request_ids.turn_to(trace, sent.seq());
+            request_ids.find(&attempt, sent)
+        }
+        None => false,
+    }
+}
+
+/// The attempt by which the replica committed a batch, by the batch's number from 1.
+fn committed<'a>(history: &History<'a>, batch: u32) -> Option<AttemptView<'a>>
+    requires { 1 ≤ batch }
+    ensures some { IfSome result (λ a. (r : Ran) × (slice_get history.now.commits (batch - 1) ≡ Some r) × (attempt_in a.bytes.now ≡ r.attempt)) }
+    ensures none { IfNone result (slice_get history.now.commits (batch - 1) ≡ None) }
+{
+    if batch > history.committed() {
+        return None;
+    }
+    Some(history.attempt(history.committed_attempt(batch)))
+}

@@ -1,5 +1,0 @@
-mod Parts
-mod Committed
-mod Copying
-mod Advancing
-mod OpeningRows

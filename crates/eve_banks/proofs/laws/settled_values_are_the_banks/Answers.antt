@@ -1,5 +1,0 @@
-use Rattle.eve_banks.proofs.Advancing.{settled_values}
-use Rattle.eve_banks.proofs.laws.settled_values_are_the_banks.Goals as goal
-
-pub returns : goal.returns
-returns c = λ t e n limits right. settled_values t e n limits right

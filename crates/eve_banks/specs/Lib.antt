@@ -1,2 +1,0 @@
-pub mod Settling
-pub mod Parts

@@ -1,0 +1,73 @@
+-- What a replica committed: the bank and the replies after each batch.
+-- docs/MODEL.md, "Bank and replies after a committed batch".
+use Rattle.std.specs.Prelude.{◌≡◌, ◌≢◌, ℕ, ℤ, zero, suc, List, [], ◌∷◌, ◌++◌, map, take, length, ◌*◌, AllPairs}
+use Rattle.std.specs.List.{flat_map}
+use Rattle.eve_smallbank.specs.SmallBank.{Bank, run}
+use Rattle.eve_smallbank.specs.Access.{Executed, bank_of}
+use Rattle.eve_smallbank.specs.Conflict.{AgreesWithConflicts, IsReordering}
+use Rattle.eve_grammar.specs.Trace.{Attempt, Trace}
+use Rattle.eve_history.specs.Section.{Placed}
+use Rattle.eve_history.specs.Told.{asked_at, history, names_of}
+use Rattle.eve_history.specs.Faults.{RequestId, request_id}
+use Rattle.eve_chains.specs.Visible.{opening_of, rows_after}
+
+-- ---- banks
+
+abbrev pub attempts_of : List Placed → List Attempt
+attempts_of ps = map (λ p. p.attempt) ps
+
+-- replica e's committed attempts of the batches 1 to n
+abbrev pub committed_to : Trace → ℕ → ℕ → List Attempt
+committed_to t e n = attempts_of (take n (history t e).committed)
+
+-- the opening balances with the writes of replica e's committed attempts 1 to n, by row
+abbrev pub values_to : Trace → ℕ → ℕ → ℕ → ℤ
+values_to t e n row = (rows_after t (committed_to t e n) row).value
+
+-- the same as a bank
+unfoldable pub bank_after : Trace → ℕ → ℕ → Bank
+bank_after t e n = bank_of (names_of t) (values_to t e n)
+
+-- the values of the rows below this number, in order
+abbrev pub first_rows : ℕ → (ℕ → ℤ) → List ℤ
+first_rows zero values = []
+first_rows (suc n) values = first_rows n values ++ values n ∷ []
+
+-- the balances of all customers after batch n, row by row
+abbrev pub balances_to : Trace → ℕ → ℕ → List ℤ
+balances_to t e n = first_rows (2 * length t.customers) (values_to t e n)
+
+-- the bank of the opening balances
+unfoldable pub opening_bank : Trace → Bank
+opening_bank t = bank_of (names_of t) (opening_of t)
+
+-- ---- one-thread SmallBank
+
+-- run one after another from the first bank, the requests lead to the last bank, with the replies that they have
+abbrev pub Leads : Bank → List Executed → Bank → Type 0
+Leads first xs last = run first (map (λ x. x.request) xs) ≡ (last, map (λ x. x.reply) xs)
+
+-- What was executed between two banks is SmallBank on one thread in this order, which agrees with the conflict order, and in
+-- every order of the same requests that agrees with it.
+pub record IsSerialBetween (first last : Bank) (xs : List Executed) : Type 0 where
+  pub serial : Leads first xs last
+  pub agrees : AgreesWithConflicts xs
+  pub any_order : (ys : List Executed) → IsReordering ys xs → AgreesWithConflicts ys → Leads first ys last
+
+-- ---- which requests took effect
+
+-- the requests of an attempt in its certificate's order, by client and number
+abbrev pub request_ids_in : Trace → Attempt → List RequestId
+request_ids_in t a = map (λ index. request_id (asked_at t a index)) a.certificate
+
+-- of all that replica e committed, in order
+unfoldable pub committed_request_ids : Trace → ℕ → List RequestId
+committed_request_ids t e = flat_map (request_ids_in t) (attempts_of (history t e).committed)
+
+-- those of all batches
+unfoldable pub batch_request_ids : Trace → List RequestId
+batch_request_ids t = flat_map (λ b. map request_id b.requests) t.batches
+
+-- no two are the same
+abbrev pub AreDistinct : List RequestId → Type 0
+AreDistinct request_ids = AllPairs (λ a b. a ≢ b) request_ids

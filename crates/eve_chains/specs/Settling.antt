@@ -1,0 +1,38 @@
+-- What a replica's committed batches wrote, and the balances after each. docs/MODEL.md, "Bank and replies after a
+-- committed batch".
+use Rattle.std.specs.Prelude.{◌≡◌, ℕ, ℤ, List, map, take}
+use Rattle.std.specs.List.{flat_map}
+use Rattle.eve_smallbank.specs.Access.{balance_at, bank_of, values_after}
+use Rattle.eve_grammar.specs.Trace.{Access, Trace}
+use Rattle.eve_grammar.specs.Frames.{sections_of}
+use Rattle.eve_grammar.specs.Limits.{HasLimits}
+use Rattle.eve_history.specs.Told.{history, ordered, names_of, IsRightSection}
+use Rattle.eve_chains.specs.Visible.{opening_rows}
+use Rattle.eve_chains.specs.Along.{entries_along}
+use Rattle.eve_chains.specs.Committed.{bank_after}
+
+-- the opening balances by row, and the access records of each committed batch, with their offsets, in the order of its
+-- certificate
+pub record Settling : Type 0 where
+  pub opening : List ℤ
+  pub batches : List (List (ℕ × Access))
+
+-- what replica e committed
+unfoldable pub settling : Trace → ℕ → Settling
+settling t e = record {
+  opening = opening_rows t.customers;
+  batches = map (λ p. ordered p.offset p.attempt) (history t e).committed;
+}
+
+-- what each replica committed, in the order of the replicas
+unfoldable pub settlings : Trace → List Settling
+settlings t = map (λ s. settling t s.0) (sections_of t)
+
+-- the balances after the first n batches, by row: the opening balances with what those batches wrote
+unfoldable pub values_in : Settling → ℕ → ℕ → ℤ
+values_in s n = values_after (balance_at s.opening) (flat_map entries_along (take n s.batches))
+
+-- the balances are the bank after batch n of each replica with a right section whose batches these are
+abbrev pub AreBankAfter : Settling → ℕ → List ℤ → Type 0
+AreBankAfter s n balances =
+    (t : Trace) (e : ℕ) → HasLimits t → IsRightSection t e → s ≡ settling t e → bank_of (names_of t) (balance_at balances) ≡ bank_after t e n

@@ -1,0 +1,77 @@
+-- The records of settled attempts, one after another, and the first that doesn't fit its request.
+-- docs/MODEL.md, "A record fits its request".
+use Rattle.std.specs.Prelude.{◌≡◌, ℕ, ◌<◌, ◌≤◌, nat_lt, Bool, true, false, if◌then◌else◌, List, [], ◌∷◌, ◌++◌, map, length, Option, Some, None, Result, Ok, Err, slice_get, slice_index_or}
+use Rattle.std.specs.List.{AllByRecursion}
+use Rattle.eve_smallbank.specs.declared.request.Reply.{Reply}
+use Rattle.eve_smallbank.specs.declared.request.Reply.TheVariants.{Done}
+use Rattle.eve_smallbank.specs.SmallBank.{Request, Balance}
+use Rattle.eve_smallbank.specs.Access.{Executed, Fits}
+use Rattle.eve_grammar.specs.Trace.{Access, Trace}
+use Rattle.eve_history.specs.declared.fate.Fate.{Fate}
+use Rattle.eve_history.specs.declared.fate.Fate.TheVariants.{Committed, Discarded, Open}
+use Rattle.eve_history.specs.Told.{Ran, Telling, telling, IsRightSection}
+use Rattle.eve_views.specs.Form.{SomePlace}
+use Rattle.eve_chains.specs.Visible.{executed_by}
+use Rattle.eve_chains.specs.Records.{recorded}
+
+-- ---- the records, each with the offset of its frame
+
+-- of these requests with these replies
+abbrev pub recorded_of : List Request → List Reply → ℕ × Access → ℕ × Executed
+recorded_of requests replies x =
+    (x.0, recorded (slice_index_or requests x.1.index (Balance [])) (slice_index_or replies x.1.index Done) x.1.entries)
+
+-- of an attempt, in its certificate's order
+abbrev pub records_in : Trace → Ran → List (ℕ × Executed)
+records_in t r = map (λ x. (x.0, executed_by t r.attempt x.1)) r.ordered
+
+-- as many requests as its certificate lists, and one for each record's index
+pub record HasRequests (count : ℕ) (r : Ran) : Type 0 where
+  pub as_many : length r.attempt.certificate ≡ count
+  pub there : AllByRecursion (λ x. x.1.index < count) r.ordered
+
+abbrev pub is_settled : Fate → Bool
+is_settled Committed = true
+is_settled Discarded = true
+is_settled Open = false
+
+-- of an attempt that is settled
+abbrev pub records_of : Trace → Ran → Fate → List (ℕ × Executed)
+records_of t r fate = if is_settled fate then records_in t r else []
+
+-- of the settled ones among attempts with these fates
+abbrev pub all_records : Trace → List Ran → List Fate → List (ℕ × Executed)
+all_records t [] fates = []
+all_records t (r ∷ rs) [] = []
+all_records t (r ∷ rs) (fate ∷ fates) = records_of t r fate ++ all_records t rs fates
+
+-- ---- the first that doesn't fit
+
+-- each fits its request, or this is the least offset of those that don't
+abbrev pub IsLeastUnfit : List (List ℕ) → List (ℕ × Executed) → Option ℕ → Type 0
+IsLeastUnfit names xs None = AllByRecursion (λ x. Fits names x.1) xs
+IsLeastUnfit names xs (Some at) =
+    SomePlace xs (λ _ x. (x.0 ≡ at) × ¬ Fits names x.1) × AllByRecursion (λ x. ¬ Fits names x.1 → at ≤ x.0) xs
+
+-- the attempt at this place is one of those that a right section tells
+pub record CanBeJudged (t : Trace) (h : Telling) (i : ℕ) : Type 0 where
+  pub told : h ≡ telling t h.replica
+  pub right : IsRightSection t h.replica
+  pub attempt : i < length h.attempts
+  pub fate : i < length h.fates
+
+-- the same of the records of the attempt at this place
+abbrev pub IsLeastOfAttempt : List (List ℕ) → Trace → Telling → ℕ → Option ℕ → Type 0
+IsLeastOfAttempt names t h i least =
+    (r : Ran) (fate : Fate) → slice_get h.attempts i ≡ Some r → slice_get h.fates i ≡ Some fate → IsLeastUnfit names (records_of t r fate) least
+
+abbrev pub lesser : Option ℕ → Option ℕ → Option ℕ
+lesser None other = other
+lesser (Some m) None = Some m
+lesser (Some m) (Some n) = if nat_lt n m then Some n else Some m
+
+-- the last is the lesser of two that were found
+abbrev pub IsLesser : {E : Type 0} → Result (Option ℕ) E → Result (Option ℕ) E → Option ℕ → Type 0
+IsLesser (Ok first) (Ok other) least = least ≡ lesser first other
+IsLesser (Ok first) (Err why) least = ⊥
+IsLesser (Err why) other least = ⊥

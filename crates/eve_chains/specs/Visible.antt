@@ -1,0 +1,85 @@
+-- What an attempt executed, and what its entries must see. docs/MODEL.md, "What an entry must see".
+use Rattle.std.specs.Prelude.{ℕ, ℤ, pos, ◌==◌, if◌then◌else◌, List, [], ◌∷◌, map, slice_index_or}
+use Rattle.std.specs.List.{flat_map}
+use Rattle.eve_smallbank.specs.declared.request.Reply.TheVariants.{Done}
+use Rattle.eve_smallbank.specs.declared.entry.Entry.{Entry}
+use Rattle.eve_smallbank.specs.Access.{Executed}
+use Rattle.eve_smallbank.specs.Chain.{Table, visible_at, before_rest, table_after_all}
+use Rattle.eve_grammar.specs.Trace.{Customer, Access, Attempt, Trace}
+use Rattle.eve_history.specs.Section.{Placed}
+use Rattle.eve_history.specs.Told.{asked_at}
+
+-- ---- the opening
+
+-- the opening balances, row by row
+abbrev pub opening_rows : List Customer → List ℤ
+opening_rows customers = flat_map (λ c. c.saving ∷ c.checking ∷ []) customers
+
+-- the opening balance of a row
+abbrev pub opening_of : Trace → ℕ → ℤ
+opening_of t row = slice_index_or (opening_rows t.customers) row (pos 0)
+
+-- every row at version 0, with its opening balance
+abbrev pub opening_table : Trace → Table
+opening_table t row = record { version = 0; value = opening_of t row }
+
+-- ---- what an attempt executed
+
+-- what was noted of the request with this index
+abbrev pub entries_at : List Access → ℕ → List Entry
+entries_at [] index = []
+entries_at (x ∷ xs) index = if x.index == index then x.entries else entries_at xs index
+
+-- the request with this index, with its reply and these entries
+abbrev pub executed_with : Trace → Attempt → ℕ → List Entry → Executed
+executed_with t a index entries = record {
+  request = (asked_at t a index).request;
+  reply = slice_index_or a.replies index Done;
+  entries = entries;
+}
+
+-- the request with this index, as the attempt executed it
+abbrev pub executed_at : Trace → Attempt → ℕ → Executed
+executed_at t a index = executed_with t a index (entries_at a.accesses index)
+
+-- the request that an access record is of
+abbrev pub executed_by : Trace → Attempt → Access → Executed
+executed_by t a x = executed_with t a x.index x.entries
+
+-- the requests with these indexes
+abbrev pub executed_in : Trace → Attempt → List ℕ → List Executed
+executed_in t a order = map (executed_at t a) order
+
+-- the attempt's requests in its certificate's order
+abbrev pub execution : Trace → Attempt → List Executed
+execution t a = executed_in t a a.certificate
+
+-- those of one attempt after another
+abbrev pub executions : Trace → List Attempt → List Executed
+executions t attempts = flat_map (execution t) attempts
+
+-- ---- what an entry must see
+
+-- what the rows have after the attempts on a path
+abbrev pub rows_after : Trace → List Attempt → Table
+rows_after t path = table_after_all (opening_table t) (executions t path)
+
+-- the indexes that stand before this one
+abbrev pub before_index : ℕ → List ℕ → List ℕ
+before_index index [] = []
+before_index index (j ∷ order) = if j == index then [] else j ∷ before_index index order
+
+-- What the request with this index must see: the rows as the attempts on the path leave them, and in the
+-- attempt itself the requests that stand before this index in the certificate.
+abbrev pub visible_to : Trace → Placed → ℕ → Table
+visible_to t p index = table_after_all (rows_after t p.path) (executed_in t p.attempt (before_index index p.attempt.certificate))
+
+-- ---- the same by the nearest write
+
+-- the entries along a path, the nearest first
+abbrev pub entries_before : Trace → List Attempt → List Entry
+entries_before t path = before_rest [] (executions t path)
+
+-- what is visible after the attempts on the path
+abbrev pub table_along : Trace → List Attempt → Table
+table_along t path = visible_at (opening_table t) (entries_before t path)

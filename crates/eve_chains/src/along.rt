@@ -1,0 +1,79 @@
+//! What an attempt's records see and leave, one after another in its certificate's order.
+
+ghost use Rattle.std.specs.Prelude.{◌≡◌, length};
+ghost use Rattle.eve_smallbank.specs.Access.{balance_at, values_after};
+ghost use Rattle.eve_smallbank.specs.Chain.{table_after};
+ghost use Rattle.eve_chains.specs.Tables.{table_of, taken_back};
+ghost use Rattle.eve_chains.specs.Along.{all_said, entries_along, AreWithin, IsFirstAlong, fault_of};
+
+use crate::table::Table;
+use crate::written::write_values;
+use eve_accounts::Balances;
+use eve_frames::AccessView;
+use eve_views::{Code, Fault, first_of};
+
+/// Judges each record by what those before it leave in the table, and takes its writes: the first fault of
+/// chains, by offset and then by number. A wrong record's writes count on.
+///
+/// docs/MODEL.md, "What an entry must see".
+pub fn judge_along(table: &mut Table, replica: u8, ordered: &[AccessView<'_>]) -> Option<Fault>
+    requires { AreWithin (length table.old) (all_said ordered.now) }
+    ensures as_many { length table.new ≡ length table.old }
+    ensures table { table_of table.new ≡ table_after (table_of table.old) (entries_along (all_said ordered.now)) }
+    ensures first { IsFirstAlong replica (table_of table.old) (all_said ordered.now) result }
+{
+    let mut first = None;
+    for access in ordered {
+        let wrong = table.wrong_in(access.entries());
+        table.write(access.entries());
+        first = first_of(first, fault_of(replica, access.offset(), wrong));
+    }
+    first
+}
+
+/// Takes the writes of the records.
+pub fn write_along(table: &mut Table, ordered: &[AccessView<'_>])
+    requires { AreWithin (length table.old) (all_said ordered.now) }
+    ensures as_many { length table.new ≡ length table.old }
+    ensures table { table_of table.new ≡ table_after (table_of table.old) (entries_along (all_said ordered.now)) }
+{
+    for access in ordered {
+        table.write(access.entries());
+    }
+}
+
+/// Gives the rows that the records write what they have in another table: the work is what was written.
+pub fn take_back_along(table: &mut Table, ordered: &[AccessView<'_>], from: &Table)
+    requires within { AreWithin (length table.old) (all_said ordered.now) }
+    requires from { length from.now ≡ length table.old }
+    ensures as_many { length table.new ≡ length table.old }
+    ensures table { table_of table.new ≡ taken_back (table_of from.now) (table_of table.old) (entries_along (all_said ordered.now)) }
+{
+    for access in ordered {
+        table.take_back(access.entries(), from);
+    }
+}
+
+/// Changes the balances of the rows that the records write.
+pub fn write_values_along(balances: &mut Balances, ordered: &[AccessView<'_>])
+    requires { AreWithin (length balances.old) (all_said ordered.now) }
+    ensures as_many { length balances.new ≡ length balances.old }
+    ensures values { balance_at balances.new ≡ values_after (balance_at balances.old) (entries_along (all_said ordered.now)) }
+{
+    for access in ordered {
+        write_values(balances, access.entries());
+    }
+}
+
+fn fault_of(replica: u8, offset: u64, wrong: Option<Code>) -> Option<Fault>
+    ensures { result ≡ fault_of replica offset wrong }
+{
+    match wrong {
+        Some(code) => Some(Fault {
+            code,
+            offset,
+            replica: Some(replica),
+        }),
+        None => None,
+    }
+}

@@ -1,0 +1,24 @@
+//! The balances before the first batch.
+
+ghost use Rattle.std.specs.Prelude.{◌≡◌, IfOk};
+ghost use Rattle.eve_views.specs.Fronts.{whole};
+ghost use Rattle.eve_chains.specs.Visible.{opening_rows};
+
+use eve_accounts::{Balances, Row};
+use eve_views::Trace;
+use std::alloc::{AllocError, Global};
+
+/// The opening balances of all customers, in row order.
+pub fn opening_balances(alloc: Global, trace: &Trace<'_>) -> Result<Balances, AllocError>
+    ensures { IfOk result (λ balances. balances ≡ opening_rows (whole trace.now).customers) }
+{
+    trace.is_whole();
+    let count = trace.customer_count();
+    let mut balances = Balances::new(alloc, 2 * count as usize)?;
+    for i in 0..count {
+        let customer = trace.customer(i);
+        balances.set(Row::saving(i), customer.saving());
+        balances.set(Row::checking(i), customer.checking());
+    }
+    Ok(balances)
+}

@@ -1,0 +1,130 @@
+//! Version and value of all rows.
+
+ghost use Rattle.std.specs.Prelude.{◌≡◌, ◌<◌, ◌*◌, IsTrue, IfOk, length, [], ◌∷◌};
+ghost use Rattle.std.specs.List.{list_all, AllByRecursion};
+ghost use Rattle.eve_smallbank.specs.Chain.{table_after};
+ghost use Rattle.eve_grammar.specs.Limits.{is_entry};
+ghost use Rattle.eve_views.specs.Fronts.{whole};
+ghost use Rattle.eve_chains.specs.Visible.{opening_table};
+ghost use Rattle.eve_chains.specs.Tables.{table_of, taken_back, IsWrongIn};
+
+use crate::versioned::Versioned;
+use eve_accounts::{Cents, Row};
+use eve_frames::Entries;
+use eve_smallbank::{Entry, Kind};
+use eve_views::{Code, Trace};
+use std::alloc::{AllocError, Global};
+use std::marker::Model;
+
+/// What each row has, by its number.
+///
+/// docs/MODEL.md, "Visible version, chained". Contracts see it as the list of what the rows have, and as the
+/// table of it (`table_of`).
+#[derive(Drop)]
+pub struct Table {
+    rows: Vec<Versioned>,
+}
+
+impl Model for Table {
+    ghost use Rattle.std.specs.Prelude.{List};
+    ghost use Rattle.eve_smallbank.specs.Chain as chain;
+
+    ghost Value = { List chain.Versioned };
+
+    ghost view = { λ t. t.rows.items };
+}
+
+impl Table {
+    /// Each customer's rows at version 0, with the opening balances.
+    pub fn opening(alloc: Global, trace: &Trace<'_>) -> Result<Table, AllocError>
+        ensures rows { IfOk result (λ table. length table ≡ 2 * length (whole trace.now).customers) }
+        ensures table { IfOk result (λ table. table_of table ≡ opening_table (whole trace.now)) }
+    {
+        trace.is_whole();
+        let mut rows = Vec::new(alloc);
+        for i in 0..trace.head().customers {
+            let customer = trace.customer(i);
+            rows.push(Versioned::new(0, customer.saving()))?;
+            rows.push(Versioned::new(0, customer.checking()))?;
+        }
+        Ok(Table { rows })
+    }
+
+    /// What a row has.
+    pub fn see(&self, row: Row) -> Versioned
+        requires there { row < length self.now }
+        ensures { result ≡ table_of self.now row }
+    {
+        self.rows[row.number() as usize]
+    }
+
+    /// What is wrong with what a request's entries see: `Version` where one sees another version than its row
+    /// has, else `Value` where one sees another value.
+    pub fn wrong_in(&self, entries: Entries<'_>) -> Option<Code>
+        requires { IsTrue (list_all (is_entry (length self.now)) entries) }
+        ensures { IsWrongIn (table_of self.now) entries.entry result }
+    {
+        let mut wrong = None;
+        for entry in entries {
+            let row = self.see(entry.row);
+            if entry.version != row.version() {
+                return Some(Code::Version);
+            }
+            if entry.seen != row.value() {
+                wrong = Some(Code::Value);
+            }
+        }
+        wrong
+    }
+
+    /// Takes the writes among the entries: each raises the version that it saw by one.
+    pub fn write(&mut self, entries: Entries<'_>)
+        requires { IsTrue (list_all (is_entry (length self.old)) entries) }
+        ensures as_many { length self.new ≡ length self.old }
+        ensures table { table_of self.new ≡ table_after (table_of self.old) entries.entry }
+    {
+        for entry in entries {
+            self.write_one(&entry);
+        }
+    }
+
+    fn write_one(&mut self, entry: &Entry)
+        requires { IsTrue (is_entry (length self.old) entry.now) }
+        ensures as_many { length self.new ≡ length self.old }
+        ensures table { table_of self.new ≡ table_after (table_of self.old) (entry.now ∷ []) }
+    {
+        match entry.kind {
+            Kind::Read => {}
+            Kind::Write => {
+                self.rows[entry.row.number() as usize] = Versioned::new(
+                    entry.version + 1,
+                    entry.after,
+                );
+            }
+        }
+    }
+
+    /// Gives the rows that the entries write what they have in another table.
+    pub fn take_back(&mut self, entries: Entries<'_>, from: &Table)
+        requires entries { IsTrue (list_all (is_entry (length self.old)) entries) }
+        requires from { length from.now ≡ length self.old }
+        ensures as_many { length self.new ≡ length self.old }
+        ensures table { table_of self.new ≡ taken_back (table_of from.now) (table_of self.old) entries.entry }
+    {
+        for entry in entries {
+            self.take_back_one(&entry, from);
+        }
+    }
+
+    fn take_back_one(&mut self, entry: &Entry, from: &Table)
+        requires entry { IsTrue (is_entry (length self.old) entry.now) }
+        requires from { length from.now ≡ length self.old }
+        ensures as_many { length self.new ≡ length self.old }
+        ensures table { table_of self.new ≡ taken_back (table_of from.now) (table_of self.old) (entry.now ∷ []) }
+    {
+        match entry.kind {
+            Kind::Read => {}
+            Kind::Write => self.rows[entry.row.number() as usize] = from.see(entry.row),
+        }
+    }
+}

@@ -1,0 +1,52 @@
+//! What a seat knows of the counter, and the rule over the counter and all seats.
+
+use atomic_table::{Join, Play, Seat, Split, Table, TableRule};
+use std::alloc::Global;
+use std::collections::LinkedList;
+
+// A seat's parts of the right to know all numbers, and the numbers that it drew. No value of it is made.
+pub struct Drawn {
+    pub parts: u64,
+    pub numbers: LinkedList<u64>,
+}
+
+pub struct EachNumberOnce;
+
+impl TableRule<u8, Drawn, ()> for EachNumberOnce {
+    ghost use Rattle.std.specs.Prelude.{[]};
+    ghost use Rattle.eve_recorder.specs.Dealt.{IsDealt, all_parts, drawn};
+
+    ghost holds = { λ _ s. IsDealt s };
+
+    ghost first = { λ _. drawn all_parts [] };
+}
+
+pub struct Draw;
+
+impl Play<u8, Drawn> for Draw {
+    ghost use Rattle.eve_recorder.specs.Dealt.{Draws};
+
+    ghost then = { Draws };
+}
+
+pub struct OnePart;
+
+impl Split<Drawn> for OnePart {
+    ghost use Rattle.eve_recorder.specs.Dealt.{fewer, one_part};
+
+    ghost left = { fewer };
+
+    ghost right = { one_part };
+}
+
+impl Join<Drawn> for OnePart {
+    ghost use Rattle.eve_recorder.specs.Dealt.{joined, spent};
+
+    ghost both = { joined };
+
+    ghost spent = { spent };
+}
+
+pub type Counter = Table<u8, Drawn, (), EachNumberOnce, Global>;
+
+pub type Place = Seat<u8, Drawn>;

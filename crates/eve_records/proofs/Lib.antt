@@ -1,4 +1,0 @@
-pub mod Least
-pub mod Attempts
-pub mod Judged
-pub mod Pieces

@@ -1,3 +1,0 @@
-mod Answering
-mod Reading
-mod Sending

@@ -1,7 +1,0 @@
-use Rattle.std.proofs.Common.{ℕ, ◌<◌}
-use Rattle.eve_frames.specs.Views.{attempt_in, sent_in}
-use Rattle.eve_replies.specs.Keeping.{kept, IsAnswer}
-use Rattle.eve_replies.proofs.tickets.Tickets.index_of.Given as goal
-
-abbrev pub invariant-loop-i : goal.invariant-loop-i
-invariant-loop-i l = (j : ℕ) → j < l.i → ¬ IsAnswer (kept l.self) (attempt_in l.attempt.bytes.now).replies (sent_in l.sent.bytes.now) j

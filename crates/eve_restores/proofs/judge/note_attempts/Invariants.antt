@@ -1,9 +1,0 @@
-use Rattle.std.proofs.Common.{◌≡◌, length}
-use Rattle.eve_restores.specs.Marking.{marking_of, marked, noted_between}
-use Rattle.eve_restores.proofs.judge.note_attempts.Given as goal
-
-abbrev pub invariant-loop-i : goal.invariant-loop-i
-invariant-loop-i l = record {
-  as_many : length l.marks ≡ length l.fn.marks;
-  marks : marking_of l.marks ≡ marked (marking_of l.fn.marks) (noted_between l.history.attempts l.first l.i);
-}

@@ -1,5 +1,0 @@
-use Rattle.eve_serial.proofs.Once.{certificate_keeps_groups}
-use Rattle.eve_serial.proofs.laws.committed_orders_keep_the_groups.Goals as goal
-
-pub returns : goal.returns
-returns c = certificate_keeps_groups

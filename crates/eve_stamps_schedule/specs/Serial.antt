@@ -1,0 +1,49 @@
+-- What holds after every list of events. docs/MODEL.md, "Schedule".
+use Rattle.std.specs.Prelude.{⊤, ◌+◌, ◌∷◌, ◌≡◌, ℕ, ◌<◌, ◌==◌, Bool, IsTrue, IsPermutation, List, [], map, length}
+use Rattle.std.specs.List.{AllByRecursion}
+use Rattle.eve_smallbank.specs.SmallBank.{run}
+use Rattle.eve_smallbank.specs.Access.{Executed, bank_of, Fits}
+use Rattle.eve_smallbank.specs.Chain.{values_of, IsChained}
+use Rattle.eve_grammar.specs.Certificate.{KeepsGroups}
+use Rattle.eve_stamps.specs.Applied.{Applied}
+use Rattle.eve_stamps_schedule.specs.declared.event.Event.{Event}
+use Rattle.eve_stamps_schedule.specs.Before.{EachBefore}
+use Rattle.eve_stamps_schedule.specs.World.{Plan, World, begin, executed_at, noted_count, records_of}
+use Rattle.eve_stamps_schedule.specs.Events.{are_allowed, world_after}
+
+-- the world comes of events of which each was allowed
+pub record IsReached (p : Plan) (w : World) : Type 0 where
+  pub events : List Event
+  pub allowed : IsTrue (are_allowed p (begin p) events)
+  pub world : w ≡ world_after p (begin p) events
+
+-- the applied requests, in the order of their ticks
+abbrev pub executed_in : Plan → World → List Executed
+executed_in p w = map (executed_at p) w.applied
+
+-- The ticks of the applied records rise. In their order the records fit and are chained from what the rows had at
+-- first, and SmallBank on one thread gives their replies and what the rows have now.
+pub record IsSerial (p : Plan) (w : World) : Type 0 where
+  pub rises : EachBefore (λ x y. x.tick < y.tick) w.applied
+  pub fits : AllByRecursion (Fits p.names) (executed_in p w)
+  pub chained : IsChained p.base [] (executed_in p w)
+  pub runs : run (bank_of p.names (values_of p.base)) (map (λ x. x.request) (executed_in p w))
+      ≡ (bank_of p.names (values_of w.table), map (λ x. x.reply) (executed_in p w))
+
+-- these are records of this worker, with the places from this one on
+abbrev pub AreNotedBy : ℕ → ℕ → List Applied → Type 0
+AreNotedBy worker place [] = ⊤
+AreNotedBy worker place (x ∷ xs) = (x.worker ≡ worker) × (x.place ≡ place) × AreNotedBy worker (place + 1) xs
+
+-- the indexes of the applied records, by rising tick
+abbrev pub order_of : World → List ℕ
+order_of w = map (λ x. x.index) w.applied
+
+-- every request is noted
+abbrev pub is_done : Plan → World → Bool
+is_done p w = noted_count w.noted p.workers == length p.requests
+
+-- Every request is noted: the noted records are the applied ones, and the order keeps the parallelBatches.
+pub record IsComplete (p : Plan) (w : World) : Type 0 where
+  pub noted : IsPermutation (records_of w p.workers) w.applied
+  pub groups : KeepsGroups p.sizes (length p.requests) (order_of w)

@@ -1,0 +1,60 @@
+-- Workers that execute one batch, as they stand between two events. docs/MODEL.md, "Schedule".
+use Rattle.std.specs.Prelude.{ℕ, zero, suc, ◌+◌, List, [], ◌++◌, ◌∷◌, length, Option, None, slice_index_or}
+use Rattle.eve_smallbank.specs.SmallBank.{Request, Balance}
+use Rattle.eve_smallbank.specs.Access.{Executed}
+use Rattle.eve_smallbank.specs.Chain.{Table}
+use Rattle.eve_stamps.specs.Applied.{Applied, executed_by}
+use Rattle.eve_stamps_schedule.specs.declared.stage.Stage.{Stage}
+use Rattle.eve_stamps_schedule.specs.declared.stage.Stage.TheVariants as at
+
+-- what is executed: a batch of these customers, from what the rows have at first, by so many workers
+pub record Plan : Type 0 where
+  pub names : List (List ℕ)
+  pub base : Table
+  pub sizes : List ℕ
+  pub requests : List Request
+  pub workers : ℕ
+
+-- What the rows have, who owns each stripe, how many indexes are claimed, the counter of ticks, what each worker is at
+-- and what it has noted. The records of all requests that are applied stand in the order of their ticks.
+pub record World : Type 0 where
+  pub table : Table
+  pub owners : ℕ → Option ℕ
+  pub claimed : ℕ
+  pub counter : ℕ
+  pub stages : ℕ → Stage
+  pub noted : ℕ → List Applied
+  pub applied : List Applied
+
+-- the world at first
+abbrev pub begin : Plan → World
+begin p = record { table = p.base; owners = λ _. None; claimed = 0; counter = 0; stages = λ _. at.Idle; noted = λ _. []; applied = [] }
+
+-- the request of an index
+abbrev pub request_at : Plan → ℕ → Request
+request_at p index = slice_index_or p.requests index (Balance [])
+
+-- a record with its request
+abbrev pub executed_at : Plan → Applied → Executed
+executed_at p x = executed_by (request_at p x.index) x
+
+-- how many records the workers below this number have noted
+abbrev pub noted_count : (ℕ → List Applied) → ℕ → ℕ
+noted_count noted zero = 0
+noted_count noted (suc n) = noted_count noted n + length (noted n)
+
+-- the record that a worker has applied and not noted
+abbrev pub pending : Stage → List Applied
+pending at.Idle = []
+pending (at.Claimed index) = []
+pending (at.Ticked index tick) = []
+pending (at.Applied x) = x ∷ []
+
+-- the records of a worker, noted or not yet
+abbrev pub records_at : World → ℕ → List Applied
+records_at w v = w.noted v ++ pending (w.stages v)
+
+-- the records of the workers below this number
+abbrev pub records_of : World → ℕ → List Applied
+records_of w zero = []
+records_of w (suc n) = records_of w n ++ records_at w n

@@ -1,0 +1,59 @@
+//! Who owns which stripe, and which one is next.
+
+ghost use Rattle.std.specs.Prelude.{◌≡◌, ◌<◌, ℕ, List, Bool, ◌&&◌, not, length, slice_index_or, Some, None};
+ghost use Rattle.eve_smallbank.specs.SmallBank.{Request};
+ghost use Rattle.eve_smallbank.specs.Touch.{touched_of, rows_in};
+ghost use Rattle.eve_stamps.specs.Opening.{stripe_count, touches};
+ghost use Rattle.eve_stamps_schedule.specs.Stripes.{least_from, greatest_below};
+ghost use Rattle.eve_stamps_schedule.specs.Events.{is_owner};
+
+use eve_accounts::Row;
+use eve_smallbank::{Kind, UpToThree};
+use eve_stamps::span_of;
+
+/// The least stripe that the rows lie in and that the worker doesn't own.
+pub fn next_stripe(
+    owners: &[Option<u8>],
+    rows: &UpToThree<(Row, Kind)>,
+    worker: u8,
+) -> Option<usize>
+    requires owners { length owners.now ≡ stripe_count }
+    ensures { (names : List (List ℕ)) (request : Request) → rows.now ≡ rows_in (touched_of names request)
+        → result ≡ least_from 0 stripe_count
+        (λ s. touches rows.now s && not (is_owner worker (slice_index_or owners.now s None))) }
+{
+    if rows.is_empty() {
+        return None;
+    }
+    let span = span_of(rows);
+    if !is_owner(owners, span.first, worker) {
+        return Some(span.first);
+    }
+    if !is_owner(owners, span.last, worker) {
+        return Some(span.last);
+    }
+    None
+}
+
+/// The greatest stripe that the worker owns.
+pub fn last_stripe(owners: &[Option<u8>], worker: u8) -> Option<usize>
+    requires owners { length owners.now ≡ stripe_count }
+    ensures { result ≡ greatest_below stripe_count (λ s. is_owner worker (slice_index_or owners.now s None)) }
+{
+    for stripe in (0..owners.len()).rev() {
+        if is_owner(owners, stripe, worker) {
+            return Some(stripe);
+        }
+    }
+    None
+}
+
+fn is_owner(owners: &[Option<u8>], stripe: usize, worker: u8) -> bool
+    requires there { stripe < length owners.now }
+    ensures { result ≡ is_owner worker (slice_index_or owners.now stripe None) }
+{
+    match owners[stripe] {
+        Some(owner) => owner == worker,
+        None => false,
+    }
+}

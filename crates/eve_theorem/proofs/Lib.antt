@@ -1,4 +1,0 @@
-pub mod SameBanks
-pub mod Outcomes
-pub mod Decisions
-pub mod Sentences

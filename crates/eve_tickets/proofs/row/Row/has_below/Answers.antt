@@ -1,5 +1,0 @@
-use Rattle.std.proofs.Common.{subst, sym, true≢false, IsTrue}
-use Rattle.eve_tickets.proofs.row.Row.has_below.Goals as goal
-
-pub returns-then-not-has : goal.returns-then-not-has
-returns-then-not-has c = ((λ t. absurd (true≢false (sym t))), λ all. subst IsTrue c.if-not-has.true (c.has.ensures.1 (all c.loop-k.k c.loop-k-test.true)))

@@ -1,3 +1,0 @@
-pub mod Dealt
-pub mod Rows
-pub mod Shown
