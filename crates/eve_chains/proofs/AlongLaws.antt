@@ -1,4 +1,4 @@
--- Records one after another: the tables between them, and the first thing that is wrong.
+-- Public: other crates cite these lemmas. Records one after another: the tables between them, and the first thing that is wrong.
 use Rattle.std.proofs.Common.{◌≡◌, ℕ, ℤ, zero, suc, ◌+◌, ◌≤◌, Bool, true, false, cond, ◌||◌, List, [], ◌∷◌, ◌++◌, take, drop, length, get_or, slice_get, Option, Some, None, refl, sym, subst, ap, ◌∙◌, inl, inr, ◌⊎◌, append_assoc, append-nil, arith, IsTrue}
 use mathlib.Core.Path.{fun_ext}
 use Rattle.std.specs.List.{AllByRecursion, list_any, list_all}

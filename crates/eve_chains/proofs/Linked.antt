@@ -1,4 +1,4 @@
--- What a section committed is linked by its paths: each committed attempt stands on the path of those before it.
+-- Public: other crates cite these lemmas. What a section committed is linked by its paths: each committed attempt stands on the path of those before it.
 use Rattle.std.proofs.Common.{◌≡◌, ℕ, zero, suc, ◌+◌, ◌≤◌, ◌==◌, nat_le, length, length-append, arith, ◌&&◌, List, [], ◌∷◌, ◌++◌, take, slice_get, Option, Some, None, refl, sym, subst, ap, ◌∙◌, append_assoc, append-nil, IsTrue}
 use Rattle.std.proofs.lemmas.Bool.{and_parts, eqb-true, leb-true}
 use Rattle.std.proofs.lemmas.List.{length-map}

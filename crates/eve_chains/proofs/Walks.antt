@@ -1,4 +1,4 @@
--- What is found along an attempt's records, in its certificate's order, is what is said of chains.
+-- Public: other crates cite these lemmas. What is found along an attempt's records, in its certificate's order, is what is said of chains.
 use Rattle.std.proofs.Common.{◌≡◌, ◌≢◌, ℕ, ◌+◌, ◌==◌, Some, List, [], ◌∷◌, ◌++◌, map, length, refl, sym, subst, ap, ◌∙◌}
 use Rattle.std.specs.List.{AllByRecursion}
 use Rattle.std.proofs.lemmas.List.{map-append}
