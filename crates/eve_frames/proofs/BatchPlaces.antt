@@ -1,5 +1,6 @@
 -- Where a Batch frame's fields stand.
-use Rattle.std.proofs.Common.{◌≡◌, ℕ, ◌+◌, ◌-◌, ◌*◌, ◌<◌, ◌≤◌, ◌&&◌, leb, List, length, take, drop, sum, Some, sym, ap, subst, ◌∙◌, arith}
+use Rattle.std.proofs.Common.{◌≡◌, ℕ, ◌+◌, ◌-◌, ◌*◌, ◌<◌, ◌≤◌, ◌&&◌, leb, List, length, take, drop, sum, Some, sym, ap}
+use Rattle.std.proofs.Common.{subst, ◌∙◌, arith}
 use Rattle.std.specs.Prelude.{IsTrue, slice_get}
 use Rattle.std.proofs.lemmas.Option.{get_or_from_slice_get}
 use Rattle.std.proofs.lemmas.List.Sums.{sum_by_more, sum_by_more_le}
@@ -8,10 +9,12 @@ use Rattle.std.proofs.lemmas.Bool.{leb-true, and_parts}
 use Rattle.std.proofs.lemmas.List.{length-drop, drop-drop}
 use Rattle.byteorder.specs.Endian.{big_number}
 use Rattle.eve_grammar.specs.Trace.{Batch}
-use Rattle.eve_grammar.specs.Reading.{number_at, both, both_by, led_by, made, only, many_at, asked_at, are_sizes, sizes_at, batch_from, batch_of}
+use Rattle.eve_grammar.specs.Reading.{number_at, both, both_by, led_by, made, only, many_at, asked_at, are_sizes}
+use Rattle.eve_grammar.specs.Reading.{sizes_at, batch_from, batch_of}
 use Rattle.eve_grammar.proofs.Scans.{many_length}
 use Rattle.eve_frames.specs.Views.{is_batch_frame, batch_in}
-use Rattle.eve_frames.proofs.Places.{found, number_from, number_some, made_some, only_some, whole_some, both_some, by_some, led_some, Takes-number}
+use Rattle.eve_frames.proofs.Places.{found, number_from, number_some, made_some, only_some, whole_some, both_some}
+use Rattle.eve_frames.proofs.Places.{by_some, led_some, Takes-number}
 use Rattle.eve_frames.proofs.Lists.{Takes-many, Stand}
 
 -- with this many sizes
@@ -24,7 +27,8 @@ pub record BatchAt (bytes : List ℕ) (groups : ℕ) (b : ℕ × Batch) : Type 0
   pub rest : List ℕ
   pub requests : many_at asked_at (sum b.1.sizes) (drop (11 + 2 * groups) bytes) ≡ Some (b.1.requests, rest)
 
-sizes_stand : (bytes : List ℕ) (groups : ℕ) (sizes rest : List ℕ) → 2 ≤ length (drop 9 bytes) → many_at (number_at 2) groups (drop 11 bytes) ≡ Some (sizes, rest) → Stand 2 groups 11 (number_at 2) bytes sizes
+sizes_stand : (bytes : List ℕ) (groups : ℕ) (sizes rest : List ℕ) → 2 ≤ length (drop 9 bytes)
+    → many_at (number_at 2) groups (drop 11 bytes) ≡ Some (sizes, rest) → Stand 2 groups 11 (number_at 2) bytes sizes
 sizes_stand bytes groups sizes rest before e =
     let twos = (Takes-many 2 (number_at 2) (Takes-number 2) groups).by (drop 11 bytes) (sizes, rest) e in
     let room = twos.0 in
@@ -36,12 +40,14 @@ sizes_stand bytes groups sizes rest before e =
       read = e;
     }
 
-sizes_behind : (bytes : List ℕ) (groups : ℕ) (sizes rest : List ℕ) → many_at (number_at 2) groups (drop 11 bytes) ≡ Some (sizes, rest) → rest ≡ drop (11 + 2 * groups) bytes
+sizes_behind : (bytes : List ℕ) (groups : ℕ) (sizes rest : List ℕ) → many_at (number_at 2) groups (drop 11 bytes)
+    ≡ Some (sizes, rest) → rest ≡ drop (11 + 2 * groups) bytes
 sizes_behind bytes groups sizes rest e =
     let twos = (Takes-many 2 (number_at 2) (Takes-number 2) groups).by (drop 11 bytes) (sizes, rest) e in
     twos.1 ∙ drop-drop (2 * groups) 11 bytes
 
-pub batch_at : (bytes : List ℕ) (b : ℕ × Batch) → batch_of (drop 5 bytes) ≡ Some b → (groups : ℕ) × BatchAt bytes groups b
+pub batch_at : (bytes : List ℕ) (b : ℕ × Batch) → batch_of (drop 5 bytes) ≡ Some b → (groups : ℕ)
+    × BatchAt bytes groups b
 unfolding batch_of sizes_at
 batch_at bytes b e =
     let list_at = led_by (number_at 2) (many_at (number_at 2)) in
@@ -59,7 +65,8 @@ batch_at bytes b e =
     let behind : q.0 ≡ drop (11 + 2 * groups) bytes = sizes_behind bytes groups m.0.0 q.0 t.2 in
     let small = and_parts (leb 1 (length m.0.0)) (list_all (leb 1) m.0.0 && leb (sum m.0.0) 256) o.1 in
     let total = leb-true (sum m.0.0) 256 (and_parts (list_all (leb 1) m.0.0) (leb (sum m.0.0) 256) small.1).1 in
-    let requests : many_at asked_at (sum m.0.0) (drop (11 + 2 * groups) bytes) ≡ Some (m.0.1, w.0) = ap (many_at asked_at (sum m.0.0)) (sym behind) ∙ q.2 in (
+    let requests : many_at asked_at (sum m.0.0) (drop (11 + 2 * groups) bytes) ≡ Some (m.0.1, w.0) =
+    ap (many_at asked_at (sum m.0.0)) (sym behind) ∙ q.2 in (
       groups,
       subst (λ (x : Batch). BatchAt bytes groups (b.0, x)) (sym m.2) (record {
         seq = seq.1;
@@ -91,22 +98,28 @@ batch_long bytes there = (batch_placed bytes there).sizes.long
 pub batch_few : (bytes : List ℕ) → IsTrue (is_batch_frame bytes) → sum (batch_in bytes).1.sizes ≤ 256
 batch_few bytes there = (batch_placed bytes there).few
 
-pub batch_total : (bytes : List ℕ) → IsTrue (is_batch_frame bytes) → length (batch_in bytes).1.requests ≡ sum (batch_in bytes).1.sizes
+pub batch_total : (bytes : List ℕ) → IsTrue (is_batch_frame bytes) → length (batch_in bytes).1.requests
+    ≡ sum (batch_in bytes).1.sizes
 batch_total bytes there = (batch_placed bytes there).total
 
-pub batch_seq : (bytes : List ℕ) → IsTrue (is_batch_frame bytes) → (batch_in bytes).0 ≡ big_number 4 (take (length bytes - 5) (drop 5 bytes))
+pub batch_seq : (bytes : List ℕ) → IsTrue (is_batch_frame bytes) → (batch_in bytes).0
+    ≡ big_number 4 (take (length bytes - 5) (drop 5 bytes))
 batch_seq bytes there = (batch_placed bytes there).seq ∙ number_from 4 5 bytes
 
-pub batch_count : (bytes : List ℕ) → IsTrue (is_batch_frame bytes) → groups_of bytes ≡ big_number 2 (take (length bytes - 9) (drop 9 bytes))
+pub batch_count : (bytes : List ℕ) → IsTrue (is_batch_frame bytes) → groups_of bytes
+    ≡ big_number 2 (take (length bytes - 9) (drop 9 bytes))
 batch_count bytes there = (batch_placed bytes there).count ∙ number_from 2 9 bytes
 
 pub ruleset batch_laws = (batch_read, batch_long, batch_few, batch_total, batch_seq, batch_count)
 
 -- the sum of the sizes up to one, and of that one
-pub sum_more : (sizes : List ℕ) (i size : ℕ) → i < length sizes → slice_get sizes i ≡ Some size → sum (take i sizes) + size ≡ sum (take (i + 1) sizes)
-sum_more sizes i size lt e = ap (λ (k : ℕ). sum (take i sizes) + k) (sym (get_or_from_slice_get sizes i size 0 e)) ∙ sym (sum_by_more (λ (x : ℕ). x) sizes i 0 lt)
+pub sum_more : (sizes : List ℕ) (i size : ℕ) → i < length sizes → slice_get sizes i ≡ Some size
+    → sum (take i sizes) + size ≡ sum (take (i + 1) sizes)
+sum_more sizes i size lt e = ap (λ (k : ℕ). sum (take i sizes) + k) (sym (get_or_from_slice_get sizes i size 0 e))
+    ∙ sym (sum_by_more (λ (x : ℕ). x) sizes i 0 lt)
 
-pub sum_more_le : (sizes : List ℕ) (i size : ℕ) → i < length sizes → slice_get sizes i ≡ Some size → sum (take i sizes) + size ≤ sum sizes
+pub sum_more_le : (sizes : List ℕ) (i size : ℕ) → i < length sizes → slice_get sizes i ≡ Some size
+    → sum (take i sizes) + size ≤ sum sizes
 sum_more_le sizes i size lt e =
     let h = sum_by_more_le (λ (x : ℕ). x) sizes i 0 lt in
     omega (arith, h, get_or_from_slice_get sizes i size 0 e)

@@ -42,7 +42,8 @@ commit_long bytes there = (commit_at bytes (commit_in bytes) (commit_read bytes 
 pub commit_seq : (bytes : List ℕ) → IsTrue (is_commit_frame bytes) → (commit_in bytes).seq ≡ big_number 4 (drop 5 bytes)
 commit_seq bytes there = (commit_at bytes (commit_in bytes) (commit_read bytes there)).seq
 
-pub commit_view : (bytes : List ℕ) → IsTrue (is_commit_frame bytes) → (commit_in bytes).view ≡ big_number 4 (drop 9 bytes)
+pub commit_view : (bytes : List ℕ) → IsTrue (is_commit_frame bytes) → (commit_in bytes).view
+    ≡ big_number 4 (drop 9 bytes)
 commit_view bytes there = (commit_at bytes (commit_in bytes) (commit_read bytes there)).view
 
 pub commit_token : (bytes : List ℕ) → IsTrue (is_commit_frame bytes) → (commit_in bytes).token ≡ take 32 (drop 13 bytes)

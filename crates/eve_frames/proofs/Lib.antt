@@ -1,3 +1,4 @@
+mod KindNames
 mod Places
 mod Lists
 mod CustomerPlaces

@@ -8,11 +8,13 @@ use Rattle.eve_grammar.specs.Trace.{Sent}
 use Rattle.eve_grammar.specs.Limits.{is_between}
 use Rattle.eve_grammar.specs.Reading.{number_at, signed_at, both, made, only, reply_from, reply_at, sent_from, sent_of}
 use Rattle.eve_frames.specs.Views.{most_replicas, most_batches, is_sent_frame, sent_in}
-use Rattle.eve_frames.proofs.Places.{Takes, found, number_some, made_some, only_some, whole_some, both_some, Takes-number, Takes-signed, Takes-only, Takes-both, Takes-made_if, byte_at}
+use Rattle.eve_frames.proofs.Places.{Takes, found, number_some, made_some, only_some, whole_some, both_some}
+use Rattle.eve_frames.proofs.Places.{Takes-number, Takes-signed, Takes-only, Takes-both, Takes-made_if, byte_at}
 
 pub Takes-reply : Takes 9 reply_at
 unfolding reply_at
-Takes-reply = Takes-made_if 9 reply_from (both (number_at 1) signed_at) (Takes-both 1 8 (number_at 1) signed_at (Takes-number 1) Takes-signed)
+Takes-reply = Takes-made_if 9 reply_from (both (number_at 1) signed_at)
+    (Takes-both 1 8 (number_at 1) signed_at (Takes-number 1) Takes-signed)
 
 pub record SentAt (bytes : List ℕ) (s : Sent) : Type 0 where
   pub long : length bytes ≡ 31
@@ -30,14 +32,22 @@ sent_at bytes s e =
     let fields = both (number_at 4) (both (number_at 8) (both replica_at (both seq_at reply_at))) in
     let w = whole_some (made sent_from fields) (drop 5 bytes) s e in
     let m = made_some sent_from fields (drop 5 bytes) (s, w.0) w.1 in
-    let a = both_some 4 5 (number_at 4) (both (number_at 8) (both replica_at (both seq_at reply_at))) (Takes-number 4) bytes (m.0, w.0) m.1 in
-    let b = both_some 8 9 (number_at 8) (both replica_at (both seq_at reply_at)) (Takes-number 8) bytes (m.0.1, w.0) a.1 in
-    let c = both_some 1 17 replica_at (both seq_at reply_at) (Takes-only 1 (λ replica. nat_lt replica most_replicas) (number_at 1) (Takes-number 1)) bytes (m.0.1.1, w.0) b.1 in
-    let d = both_some 4 18 seq_at reply_at (Takes-only 4 (is_between 1 most_batches) (number_at 4) (Takes-number 4)) bytes (m.0.1.1.1, w.0) c.1 in
+    let a = both_some 4 5 (number_at 4) (both (number_at 8) (both replica_at (both seq_at reply_at)))
+    (Takes-number 4) bytes (m.0, w.0) m.1 in
+    let b = both_some 8 9 (number_at 8) (both replica_at (both seq_at reply_at)) (Takes-number 8) bytes
+    (m.0.1, w.0) a.1 in
+    let c = both_some 1 17 replica_at (both seq_at reply_at)
+    (Takes-only 1 (λ replica. nat_lt replica most_replicas) (number_at 1) (Takes-number 1)) bytes
+    (m.0.1.1, w.0) b.1 in
+    let d = both_some 4 18 seq_at reply_at (Takes-only 4 (is_between 1 most_batches) (number_at 4) (Takes-number 4))
+    bytes (m.0.1.1.1, w.0) c.1 in
     let client = number_some 4 (drop 5 bytes) (m.0.0, drop 9 bytes) a.0 in
     let number = number_some 8 (drop 9 bytes) (m.0.1.0, drop 17 bytes) b.0 in
-    let replica = number_some 1 (drop 17 bytes) (m.0.1.1.0, drop 18 bytes) (only_some (λ replica. nat_lt replica most_replicas) (number_at 1) (drop 17 bytes) (m.0.1.1.0, drop 18 bytes) c.0).0 in
-    let seq = number_some 4 (drop 18 bytes) (m.0.1.1.1.0, drop 22 bytes) (only_some (is_between 1 most_batches) (number_at 4) (drop 18 bytes) (m.0.1.1.1.0, drop 22 bytes) d.0).0 in
+    let replica = number_some 1 (drop 17 bytes) (m.0.1.1.0, drop 18 bytes)
+    (only_some (λ replica. nat_lt replica most_replicas) (number_at 1) (drop 17 bytes) (m.0.1.1.0, drop 18 bytes)
+    c.0).0 in
+    let seq = number_some 4 (drop 18 bytes) (m.0.1.1.1.0, drop 22 bytes)
+    (only_some (is_between 1 most_batches) (number_at 4) (drop 18 bytes) (m.0.1.1.1.0, drop 22 bytes) d.0).0 in
     let reply = Takes-reply.by (drop 22 bytes) (m.0.1.1.1.1, w.0) d.1 in
     let more = reply.0 in
     let behind : w.0 ≡ drop 31 bytes = reply.1 ∙ drop-drop 9 22 bytes in
@@ -47,13 +57,15 @@ sent_at bytes s e =
       number = ap (λ (x : Sent). x.number) m.2 ∙ number.1;
       replica = ap (λ (x : Sent). x.replica) m.2 ∙ replica.1 ∙ byte_at 17 bytes;
       seq = ap (λ (x : Sent). x.seq) m.2 ∙ seq.1;
-      reply = d.1 ∙ ap (λ (r : Reply). some_reply r w.0) (ap (λ (x : Sent). x.reply) (sym m.2)) ∙ ap (some_reply s.reply) behind;
+      reply = d.1 ∙ ap (λ (r : Reply). some_reply r w.0) (ap (λ (x : Sent). x.reply) (sym m.2))
+          ∙ ap (some_reply s.reply) behind;
     }
   where
     some_reply : Reply → List ℕ → Option (Reply × List ℕ)
     some_reply r rest = Some (r, rest)
 
-pub sent_read : (bytes : List ℕ) → IsTrue (is_sent_frame bytes) → sent_of most_replicas most_batches (drop 5 bytes) ≡ Some (sent_in bytes)
+pub sent_read : (bytes : List ℕ) → IsTrue (is_sent_frame bytes) → sent_of most_replicas most_batches (drop 5 bytes)
+    ≡ Some (sent_in bytes)
 unfolding sent_in
 sent_read bytes there = found (sent_of most_replicas most_batches (drop 5 bytes)) _ there
 
@@ -76,7 +88,8 @@ pub sent_seq : (bytes : List ℕ) → IsTrue (is_sent_frame bytes) → (sent_in 
 sent_seq bytes there = (placed bytes there).seq
 
 -- the reply is read from byte 22 on
-pub sent_reply : (bytes : List ℕ) → IsTrue (is_sent_frame bytes) → reply_at (take (length bytes - 22) (drop 22 bytes)) ≡ Some ((sent_in bytes).reply, drop 31 bytes)
+pub sent_reply : (bytes : List ℕ) → IsTrue (is_sent_frame bytes) → reply_at (take (length bytes - 22) (drop 22 bytes))
+    ≡ Some ((sent_in bytes).reply, drop 31 bytes)
 sent_reply bytes there = ap reply_at (take_rest bytes 22) ∙ (placed bytes there).reply
 
 pub ruleset sent_laws = (sent_read, sent_long, sent_client, sent_number, sent_replica, sent_seq, sent_reply)

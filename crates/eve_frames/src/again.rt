@@ -11,6 +11,7 @@ use eve_grammar::{Asked, u8_at, u32_at, u64_at};
 use eve_smallbank::Request;
 
 /// The name that stands in front, and the bytes behind it.
+#[inline(always)]
 #[tactic(auto, unfolding(eve_grammar::specs::Reading::name_at))]
 fn name_again(bytes: &[u8]) -> (&[u8], &[u8])
     requires { IsTrue (is_some (name_at bytes.now)) }
@@ -23,6 +24,7 @@ fn name_again(bytes: &[u8]) -> (&[u8], &[u8])
 }
 
 /// The name and the amount that stand in front, and the bytes behind them.
+#[inline(always)]
 #[tactic(auto, unfolding(eve_grammar::specs::Reading::move_at, eve_grammar::specs::Reading::amount_at))]
 fn move_again(bytes: &[u8]) -> ((&[u8], Amount), &[u8])
     requires { IsTrue (is_some (move_at bytes.now)) }
@@ -36,6 +38,7 @@ fn move_again(bytes: &[u8]) -> ((&[u8], Amount), &[u8])
 }
 
 /// What stands behind the code of a request.
+#[inline(always)]
 #[tactic(auto, unfolding(eve_grammar::specs::Reading::coded_at))]
 fn coded_again(code: u8, bytes: &[u8]) -> (Request<'_>, &[u8])
     requires { IsTrue (is_some (coded_at code bytes.now)) }
@@ -68,6 +71,7 @@ fn coded_again(code: u8, bytes: &[u8]) -> (Request<'_>, &[u8])
 }
 
 /// The request that stands in front, with who sent it, and the bytes behind it.
+#[inline(always)]
 #[tactic(auto, unfolding(eve_grammar::specs::Reading::asked_at, eve_grammar::specs::Reading::request_at))]
 pub(crate) fn asked_again(bytes: &[u8]) -> (Asked<'_>, &[u8])
     requires { IsTrue (is_some (asked_at bytes.now)) }

@@ -101,7 +101,8 @@ impl<'a> BatchView<'a> {
     #[tactic(auto, using(crate::proofs::BatchPlaces::batch_laws))]
     pub fn request(&self, i: usize) -> Request<'a>
         requires { i < length (batch_in self.now.bytes.now).1.requests }
-        ensures { option_map (λ a. a.request) (slice_get (batch_in self.now.bytes.now).1.requests i) ≡ Some (plain result) }
+        ensures { option_map (λ a. a.request) (slice_get (batch_in self.now.bytes.now).1.requests i)
+            ≡ Some (plain result) }
     {
         match self.requests().nth(i) {
             Some(asked) => asked.request,

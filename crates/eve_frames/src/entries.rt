@@ -8,7 +8,7 @@ ghost use Rattle.eve_grammar.specs.Bodies.{list_in};
 ghost use Rattle.eve_frames.specs.Items.{are_there};
 ghost use Rattle.eve_frames.specs.Views.{most_rows};
 
-use eve_grammar::entry_at;
+use eve_grammar::{MOST_ROWS, entry_at};
 use eve_smallbank::Entry;
 use std::marker::Model;
 
@@ -51,7 +51,7 @@ impl<'a> Iterator for Entries<'a> {
         if count == 0 {
             return None;
         }
-        let Some((entry, rest)) = entry_at(8192, self.bytes) else {
+        let Some((entry, rest)) = entry_at(MOST_ROWS, self.bytes) else {
             unreachable!();
         };
         self.count = count - 1;

@@ -1,7 +1,10 @@
 //! A frame of any kind.
 
 ghost use Rattle.std.specs.Prelude.{◌≡◌, ◌-◌, ◌≤◌, length, slice_index};
+ghost use Rattle.eve_grammar.specs.Kinds.{kind_byte};
 ghost use Rattle.eve_frames.specs.Kinds.{kind_name};
+
+use eve_grammar::FrameKind;
 
 /// A frame of any kind, where it stands.
 #[derive(Clone, Copy, Debug)]
@@ -35,18 +38,9 @@ impl<'a> FrameView<'a> {
     pub fn kind_name(&self) -> &'static str
         ensures { result.now ≡ kind_name (slice_index self.now.bytes.now 0) }
     {
-        match self.bytes[0] {
-            1 => "Customer",
-            2 => "Batch",
-            16 => "Replica",
-            17 => "Attempt",
-            18 => "Access",
-            19 => "Commit",
-            20 => "Rollback",
-            32 => "Verifier",
-            33 => "Vote",
-            48 => "Sent",
-            _ => "End",
+        match FrameKind::of(self.bytes[0]) {
+            Some(kind) => name_of(kind),
+            None => "End",
         }
     }
 
@@ -55,5 +49,23 @@ impl<'a> FrameView<'a> {
         ensures { result ≡ length self.now.bytes.now - 5 }
     {
         self.bytes.len() - 5
+    }
+}
+
+fn name_of(kind: FrameKind) -> &'static str
+    ensures { result.now ≡ kind_name (kind_byte kind) }
+{
+    match kind {
+        FrameKind::Customer => "Customer",
+        FrameKind::Batch => "Batch",
+        FrameKind::Replica => "Replica",
+        FrameKind::Attempt => "Attempt",
+        FrameKind::Access => "Access",
+        FrameKind::Commit => "Commit",
+        FrameKind::Rollback => "Rollback",
+        FrameKind::Verifier => "Verifier",
+        FrameKind::Vote => "Vote",
+        FrameKind::Sent => "Sent",
+        FrameKind::End => "End",
     }
 }

@@ -45,6 +45,7 @@ impl<'a> Iterator for Requests<'a> {
 
     ghost remaining = { item_count (λ rest. rest) };
 
+    #[inline(always)]
     fn next(&mut self) -> Option<Asked<'a>> {
         let count = self.count;
         if count == 0 {

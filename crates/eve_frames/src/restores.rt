@@ -8,7 +8,7 @@ ghost use Rattle.eve_grammar.specs.Bodies.{list_in, restore};
 ghost use Rattle.eve_frames.specs.Items.{are_there};
 ghost use Rattle.eve_frames.specs.Views.{most_rows};
 
-use eve_grammar::{Restore, restore_at};
+use eve_grammar::{MOST_ROWS, Restore, restore_at};
 use std::marker::Model;
 
 /// The restores of a rollback that are still to come.
@@ -50,7 +50,7 @@ impl<'a> Iterator for Restores<'a> {
         if count == 0 {
             return None;
         }
-        let Some((found, rest)) = restore_at(8192, self.bytes) else {
+        let Some((found, rest)) = restore_at(MOST_ROWS, self.bytes) else {
             unreachable!();
         };
         self.count = count - 1;

@@ -7,7 +7,7 @@ ghost use Rattle.eve_frames.specs.Views.{body_in, most_rows, is_rollback_frame, 
 
 use crate::restores::Restores;
 use byteorder::{BigEndian, ByteOrder};
-use eve_grammar::{Restore, restore_at};
+use eve_grammar::{MOST_ROWS, Restore, restore_at};
 
 /// A Rollback frame, where it stands.
 ///
@@ -79,7 +79,7 @@ impl<'a> RollbackView<'a> {
         ensures { slice_get (rollback_in self.now.bytes.now).restores i ≡ Some (restore result) }
     {
         let at = 17 + 20 * i;
-        match restore_at(8192, &self.bytes[at..]) {
+        match restore_at(MOST_ROWS, &self.bytes[at..]) {
             Some((found, _)) => found,
             None => unreachable!(),
         }

@@ -17,3 +17,4 @@ pub mod HeaderParts
 pub mod OneTrace
 pub mod Counting
 pub mod Grouping
+pub mod KindBytes

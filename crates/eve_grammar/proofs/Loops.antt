@@ -1,5 +1,6 @@
 -- Loops that read and keep no values.
-use Rattle.std.proofs.Common.{◌≡◌, ℕ, suc, ◌-◌, ◌+◌, ◌≤◌, ◌<◌, true, leb, List, Option, Some, None, refl, sym, ap, ◌∙◌, arith}
+use Rattle.std.proofs.Common.{◌≡◌, ℕ, suc, ◌-◌, ◌+◌, ◌≤◌, ◌<◌, true, leb, List, Option, Some, None, refl, sym, ap, ◌∙◌}
+use Rattle.std.proofs.Common.{arith}
 use Rattle.std.proofs.lemmas.Bool.{le-leb}
 use Rattle.eve_grammar.specs.Trace.{Restore}
 use Rattle.eve_grammar.specs.Reading.{◌>>=◌, Reader, number_at, restore_at}
@@ -13,13 +14,15 @@ plus-plus : (k n : ℕ) (r : Option (ℕ × List ℕ)) → plus k (r >>= λ y. S
 plus-plus k n (Some x) = ap (λ (m : ℕ). Some (m, x.1)) (omega arith)
 plus-plus k n None = refl
 
-pub total_more : (count i k n : ℕ) (bytes more : List ℕ) (all : Option (ℕ × List ℕ)) → i < count → number_at 2 bytes ≡ Some (n, more) → 1 ≤ n
+pub total_more : (count i k n : ℕ) (bytes more : List ℕ) (all : Option (ℕ × List ℕ)) → i < count → number_at 2 bytes
+    ≡ Some (n, more) → 1 ≤ n
     → plus k (total_at (count - i) bytes) ≡ all → plus (k + n) (total_at (count - (i + 1)) more) ≡ all
 unfolding total_at
 total_more count i k n bytes more all lt read big so_far =
     let left : count - i ≡ suc (count - (i + 1)) = omega arith in
     let test : leb 1 n ≡ true = le-leb 1 n big in
-    let one : plus k (total_at (count - i) bytes) ≡ plus (k + n) (total_at (count - (i + 1)) more) = rw (left, read, test) (plus-plus k n (total_at (count - (i + 1)) more)) in
+    let one : plus k (total_at (count - i) bytes) ≡ plus (k + n) (total_at (count - (i + 1)) more) =
+    rw (left, read, test) (plus-plus k n (total_at (count - (i + 1)) more)) in
     sym one ∙ so_far
 
 pub total_short : (count i k : ℕ) (bytes : List ℕ) (all : Option (ℕ × List ℕ)) → i < count → number_at 2 bytes ≡ None
@@ -30,7 +33,8 @@ total_short count i k bytes all lt read so_far =
     let one : plus k (total_at (count - i) bytes) ≡ None = rw (left, read) refl in
     sym so_far ∙ one
 
-pub rest_more : {A : Type 0} (one : Reader A) (count i : ℕ) (bytes more : List ℕ) (a : A) (all : Option (List ℕ)) → i < count → one bytes ≡ Some (a, more)
+pub rest_more : {A : Type 0} (one : Reader A) (count i : ℕ) (bytes more : List ℕ) (a : A) (all : Option (List ℕ))
+    → i < count → one bytes ≡ Some (a, more)
     → rest_at one (count - i) bytes ≡ all → rest_at one (count - (i + 1)) more ≡ all
 unfolding rest_at
 rest_more one count i bytes more a all lt read so_far =
@@ -38,7 +42,8 @@ rest_more one count i bytes more a all lt read so_far =
     let step : rest_at one (count - i) bytes ≡ rest_at one (count - (i + 1)) more = rw (left, read) refl in
     sym step ∙ so_far
 
-pub rest_short : {A : Type 0} (one : Reader A) (count i : ℕ) (bytes : List ℕ) (all : Option (List ℕ)) → i < count → one bytes ≡ None
+pub rest_short : {A : Type 0} (one : Reader A) (count i : ℕ) (bytes : List ℕ) (all : Option (List ℕ)) → i < count
+    → one bytes ≡ None
     → rest_at one (count - i) bytes ≡ all → all ≡ None
 unfolding rest_at
 rest_short one count i bytes all lt read so_far =
@@ -46,11 +51,13 @@ rest_short one count i bytes all lt read so_far =
     let step : rest_at one (count - i) bytes ≡ None = rw (left, read) refl in
     sym so_far ∙ step
 
-pub rising_more : (rows least count i : ℕ) (bytes more : List ℕ) (r : Restore) (all : Option (List ℕ)) → i < count → restore_at rows bytes ≡ Some (r, more) → least ≤ r.row
+pub rising_more : (rows least count i : ℕ) (bytes more : List ℕ) (r : Restore) (all : Option (List ℕ)) → i < count
+    → restore_at rows bytes ≡ Some (r, more) → least ≤ r.row
     → rising_at rows least (count - i) bytes ≡ all → rising_at rows (r.row + 1) (count - (i + 1)) more ≡ all
 unfolding rising_at
 rising_more rows least count i bytes more r all lt read above so_far =
     let left : count - i ≡ suc (count - (i + 1)) = omega arith in
     let test : leb least r.row ≡ true = le-leb least r.row above in
-    let step : rising_at rows least (count - i) bytes ≡ rising_at rows (r.row + 1) (count - (i + 1)) more = rw (left, read, test) refl in
+    let step : rising_at rows least (count - i) bytes ≡ rising_at rows (r.row + 1) (count - (i + 1)) more =
+    rw (left, read, test) refl in
     sym step ∙ so_far

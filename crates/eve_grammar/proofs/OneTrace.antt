@@ -1,5 +1,6 @@
 -- Bytes are the spelling of one trace at most.
-use Rattle.std.proofs.Common.{◌≡◌, ℕ, ◌^◌, ◌<◌, Bool, true, false, List, [], ◌∷◌, ◌++◌, length, take, drop, Some, refl, sym, ap, subst, ◌∙◌, append_assoc, arith}
+use Rattle.std.proofs.Common.{◌≡◌, ℕ, ◌^◌, ◌<◌, Bool, true, false, List, [], ◌∷◌, ◌++◌, length, take, drop, Some, refl}
+use Rattle.std.proofs.Common.{sym, ap, subst, ◌∙◌, append_assoc, arith}
 use Rattle.std.specs.Prelude.{IsTrue, slice_index}
 use Rattle.std.proofs.lemmas.Bool.{lt-ltb}
 use Rattle.std.proofs.lemmas.List.{take_at, drop_at}
@@ -26,10 +27,13 @@ pub record SamePart (a x b y : List ℕ) : Type 0 where
   pub part : a ≡ b
   pub rest : x ≡ y
 
-same_part : (a x b y : List ℕ) → length a < 2 ^ 32 → length b < 2 ^ 32 → big_bytes 4 (length a) ++ (a ++ x) ≡ big_bytes 4 (length b) ++ (b ++ y) → SamePart a x b y
+same_part : (a x b y : List ℕ) → length a < 2 ^ 32 → length b < 2 ^ 32 → big_bytes 4 (length a) ++ (a ++ x)
+    ≡ big_bytes 4 (length b) ++ (b ++ y) → SamePart a x b y
 same_part a x b y a_short b_short e =
-    let first : number_at 4 (big_bytes 4 (length a) ++ (a ++ x)) ≡ Some (length a, a ++ x) = Codec-number4.again (length a) (a ++ x) (lt-ltb (length a) (256 ^ 4) (omega arith)) in
-    let second : number_at 4 (big_bytes 4 (length b) ++ (b ++ y)) ≡ Some (length b, b ++ y) = Codec-number4.again (length b) (b ++ y) (lt-ltb (length b) (256 ^ 4) (omega arith)) in
+    let first : number_at 4 (big_bytes 4 (length a) ++ (a ++ x)) ≡ Some (length a, a ++ x) =
+    Codec-number4.again (length a) (a ++ x) (lt-ltb (length a) (256 ^ 4) (omega arith)) in
+    let second : number_at 4 (big_bytes 4 (length b) ++ (b ++ y)) ≡ Some (length b, b ++ y) =
+    Codec-number4.again (length b) (b ++ y) (lt-ltb (length b) (256 ^ 4) (omega arith)) in
     let one : ℕ × List ℕ = (length a, a ++ x) in
     let other : ℕ × List ℕ = (length b, b ++ y) in
     let same : one ≡ other = some_is one other (sym first ∙ ap (number_at 4) e ∙ second) in
@@ -40,7 +44,8 @@ same_part a x b y a_short b_short e =
       rest = sym (drop_at a x (length a) refl) ∙ ap (drop (length a)) text ∙ drop_at b y (length a) (sym long);
     }
 
-front : (f : Frame) (rest : List ℕ) → frame_text f ++ rest ≡ kind_of f ∷ (big_bytes 4 (length (body_text f)) ++ (body_text f ++ rest))
+front : (f : Frame) (rest : List ℕ) → frame_text f ++ rest
+    ≡ kind_of f ∷ (big_bytes 4 (length (body_text f)) ++ (body_text f ++ rest))
 front f rest = ap (λ (r : List ℕ). kind_of f ∷ r) (append_assoc (big_bytes 4 (length (body_text f))) (body_text f) rest)
 
 pub record SameFrame (f g : Frame) (rest more : List ℕ) : Type 0 where
@@ -48,7 +53,8 @@ pub record SameFrame (f g : Frame) (rest more : List ℕ) : Type 0 where
   pub behind : rest ≡ more
 
 -- two frames that fit at one place, at the front of the same bytes
-same_frame : (h : Head) (p : Place) (f g : Frame) (rest more : List ℕ) → IsTrue (is_head h) → FitsAt h p f → FitsAt h p g → frame_text f ++ rest ≡ frame_text g ++ more → SameFrame f g rest more
+same_frame : (h : Head) (p : Place) (f g : Frame) (rest more : List ℕ) → IsTrue (is_head h) → FitsAt h p f
+    → FitsAt h p g → frame_text f ++ rest ≡ frame_text g ++ more → SameFrame f g rest more
 same_frame h p f g rest more right f_fits g_fits e =
     let both = sym (front f rest) ∙ e ∙ front g more in
     let kind : kind_of f ≡ kind_of g = ap (λ (r : List ℕ). slice_index r 0) both in
@@ -56,7 +62,8 @@ same_frame h p f g rest more right f_fits g_fits e =
     let one : body_of h p (kind_of f) (body_text f) ≡ Some f = body_of-again h p f right f_fits in
     let other : body_of h p (kind_of g) (body_text g) ≡ Some g = body_of-again h p g right g_fits in
     record {
-      frame = some_is f g (sym one ∙ ap (λ (k : ℕ). body_of h p k (body_text f)) kind ∙ ap (body_of h p (kind_of g)) tail.part ∙ other);
+      frame = some_is f g (sym one ∙ ap (λ (k : ℕ). body_of h p k (body_text f)) kind
+          ∙ ap (body_of h p (kind_of g)) tail.part ∙ other);
       behind = tail.rest;
     }
 
@@ -70,23 +77,27 @@ none_behind_end h p f ended fits = absurd (apart p.ended ended (not_ended h p (k
     apart true t e = cc
     apart false t e = absurd cc
 
-same_frames : (h : Head) (p : Place) (fs gs : List Frame) → IsTrue (is_head h) → Follow h p fs → Follow h p gs → IsTrue (after p fs).ended → IsTrue (after p gs).ended → frames_text fs ≡ frames_text gs → fs ≡ gs
+same_frames : (h : Head) (p : Place) (fs gs : List Frame) → IsTrue (is_head h) → Follow h p fs → Follow h p gs
+    → IsTrue (after p fs).ended → IsTrue (after p gs).ended → frames_text fs ≡ frames_text gs → fs ≡ gs
 same_frames h p [] [] right one other one_ends other_ends e = refl
 same_frames h p [] (g ∷ gs) right one other one_ends other_ends e = none_behind_end h p g one_ends other.0
 same_frames h p (f ∷ fs) [] right one other one_ends other_ends e = none_behind_end h p f other_ends one.0
 same_frames h p (f ∷ fs) (g ∷ gs) right one other one_ends other_ends e =
     let here = same_frame h p f g (frames_text fs) (frames_text gs) right one.0 other.0 e in
     let moved : next p g ≡ next p f = ap (next p) (sym here.frame) in
-    let rest = same_frames h (next p f) fs gs right one.1 (subst (λ (q : Place). Follow h q gs) moved other.1) one_ends (subst (λ (q : Place). IsTrue (after q gs).ended) moved other_ends) here.behind in
+    let rest = same_frames h (next p f) fs gs right one.1 (subst (λ (q : Place). Follow h q gs) moved other.1) one_ends
+    (subst (λ (q : Place). IsTrue (after q gs).ended) moved other_ends) here.behind in
     ap (λ (x : Frame). x ∷ fs) here.frame ∙ ap (λ (xs : List Frame). g ∷ xs) rest
 
 -- ---- the header
 
 -- a header in three parts, and what stands behind it
-same_head : (h k : Head) (n m : ℕ) (rest more : List ℕ) → IsTrue (is_head h) → IsTrue (is_head k) → in_parts h n rest ≡ in_parts k m more → h ≡ k
+same_head : (h k : Head) (n m : ℕ) (rest more : List ℕ) → IsTrue (is_head h) → IsTrue (is_head k) → in_parts h n rest
+    ≡ in_parts k m more → h ≡ k
 same_head h k n m rest more h_right k_right e =
     let texts : limits_text h ≡ limits_text k =
-    sym (take_at (limits_text h) (big_bytes 8 n ++ rest) 18 (length-limits_text h)) ∙ ap (take 18) (sym (behind_magic h n rest) ∙ ap (drop 6) e ∙ behind_magic k m more)
+    sym (take_at (limits_text h) (big_bytes 8 n ++ rest) 18 (length-limits_text h))
+    ∙ ap (take 18) (sym (behind_magic h n rest) ∙ ap (drop 6) e ∙ behind_magic k m more)
     ∙ take_at (limits_text k) (big_bytes 8 m ++ more) 18 (length-limits_text k) in
     some_is h k (sym (Exact-header.again h h_right) ∙ ap header_of texts ∙ Exact-header.again k k_right)
 
@@ -99,10 +110,15 @@ spelled_parts t = header_parts (head_of t) (length_of t) (frames_text (frames_of
 pub one_trace : (bytes : List ℕ) (t u : Trace) → Spells bytes t → Spells bytes u → t ≡ u
 one_trace bytes t u one other =
     let e = sym (spelled_parts t) ∙ sym one.spelled ∙ other.spelled ∙ spelled_parts u in
-    let heads : head_of t ≡ head_of u = same_head (head_of t) (head_of u) (length_of t) (length_of u) (frames_text (frames_of t)) (frames_text (frames_of u)) one.limits.head other.limits.head e in
+    let heads : head_of t ≡ head_of u = same_head (head_of t) (head_of u) (length_of t) (length_of u)
+    (frames_text (frames_of t)) (frames_text (frames_of u)) one.limits.head other.limits.head e in
     let texts : frames_text (frames_of t) ≡ frames_text (frames_of u) =
-    sym (behind_total (head_of t) (length_of t) (frames_text (frames_of t))) ∙ ap (drop 32) e ∙ behind_total (head_of u) (length_of u) (frames_text (frames_of u)) in
+    sym (behind_total (head_of t) (length_of t) (frames_text (frames_of t))) ∙ ap (drop 32) e
+    ∙ behind_total (head_of u) (length_of u) (frames_text (frames_of u)) in
     let first : IsRun (head_of t) (frames_of t) = run_of_trace t one.limits one.short in
-    let second : IsRun (head_of t) (frames_of u) = subst (λ (h : Head). IsRun h (frames_of u)) (sym heads) (run_of_trace u other.limits other.short) in
-    let frames : frames_of t ≡ frames_of u = same_frames (head_of t) start (frames_of t) (frames_of u) one.limits.head first.follow second.follow first.ended second.ended texts in
-    sym (trace_of-frames_of t) ∙ ap (λ (h : Head). trace_of h (frames_of t)) heads ∙ ap (trace_of (head_of u)) frames ∙ trace_of-frames_of u
+    let second : IsRun (head_of t) (frames_of u) = subst (λ (h : Head). IsRun h (frames_of u)) (sym heads)
+    (run_of_trace u other.limits other.short) in
+    let frames : frames_of t ≡ frames_of u = same_frames (head_of t) start (frames_of t) (frames_of u) one.limits.head
+    first.follow second.follow first.ended second.ended texts in
+    sym (trace_of-frames_of t) ∙ ap (λ (h : Head). trace_of h (frames_of t)) heads ∙ ap (trace_of (head_of u)) frames
+    ∙ trace_of-frames_of u

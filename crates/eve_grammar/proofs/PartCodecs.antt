@@ -1,5 +1,6 @@
 -- Requests, replies, entries and restores are codecs.
-use Rattle.std.proofs.Common.{◌≡◌, ℕ, ℤ, pos, ◌^◌, ◌≤◌, Bool, true, false, ◌&&◌, cond, ltb, leb, eqb, ◌⊎◌, List, ◌++◌, length, Some, refl, sym, ap, subst, ◌∙◌, arith, inl, inr}
+use Rattle.std.proofs.Common.{◌≡◌, ℕ, ℤ, pos, ◌^◌, ◌≤◌, Bool, true, false, ◌&&◌, cond, ltb, leb, eqb, ◌⊎◌, List, ◌++◌}
+use Rattle.std.proofs.Common.{length, Some, refl, sym, ap, subst, ◌∙◌, arith, inl, inr}
 use Rattle.std.specs.Prelude.{IsTrue}
 use Rattle.std.specs.Ordering.{int_eq}
 use Rattle.std.proofs.lemmas.Bool.Decides.{Decides-int_eq}
@@ -18,9 +19,14 @@ use Rattle.eve_smallbank.specs.declared.entry.Entry.{Entry}
 use Rattle.eve_grammar.specs.Trace.{Asked, Restore}
 use Rattle.eve_grammar.specs.Limits.{is_number, is_request, is_asked, is_reply, version_limit, is_entry, is_restore}
 use Rattle.eve_grammar.specs.Spelling.{name_text, request_text, asked_text, kind_code, entry_text, restore_text}
-use Rattle.eve_grammar.specs.Reading.{Reader, number_at, signed_at, both, made, made_if, only, name_at, move_at, coded_at, request_at, asked_from, asked_at, plain_reply, reply_from, reply_at, kind_from, entry_from, entry_fields_at, entry_at, restore_from, restore_fields_at, restore_at}
-use Rattle.eve_grammar.proofs.Codec.{IsBytes, bind_some, guard_some, some_is, Takes, Codec, Codec-as, Codec-made, Codec-made_if, Codec-led_by, Codec-both, Codec-only}
-use Rattle.eve_grammar.proofs.FieldCodecs.{Codec-number1, Codec-number4, Codec-number8, is_signed, Codec-signed, balance_signed, Codec-name, move_text, is_move, Codec-move}
+use Rattle.eve_grammar.specs.Reading.{Reader, number_at, signed_at, both, made, made_if, only, name_at, move_at}
+use Rattle.eve_grammar.specs.Reading.{coded_at, request_at, asked_from, asked_at, plain_reply, reply_from, reply_at}
+use Rattle.eve_grammar.specs.Reading.{kind_from, entry_from, entry_fields_at, entry_at, restore_from, restore_fields_at}
+use Rattle.eve_grammar.specs.Reading.{restore_at}
+use Rattle.eve_grammar.proofs.Codec.{IsBytes, bind_some, guard_some, some_is, Takes, Codec, Codec-as, Codec-made}
+use Rattle.eve_grammar.proofs.Codec.{Codec-made_if, Codec-led_by, Codec-both, Codec-only}
+use Rattle.eve_grammar.proofs.FieldCodecs.{Codec-number1, Codec-number4, Codec-number8, is_signed, Codec-signed}
+use Rattle.eve_grammar.proofs.FieldCodecs.{balance_signed, Codec-name, move_text, is_move, Codec-move}
 
 pub chosen : {A : Type 0} (b : Bool) (x y z : A) → cond b x y ≡ z → ((b ≡ true) × (x ≡ z)) ⊎ ((b ≡ false) × (y ≡ z))
 chosen true x y z e = inl (refl, e)
@@ -63,35 +69,48 @@ record IsRequestOf {A : Type 0} (code : ℕ) (to : A → Request) (ta : A → Li
 abbrev Coded : ℕ → List ℕ → Request × List ℕ → Type 0
 Coded code bytes x = Takes bytes (coded_text x.0) x.1 × IsTrue (is_coded code x.0)
 
-alternative : {A : Type 0} (ta : A → List ℕ) (fa : A → Bool) (ra : Reader A) → Codec ta fa ra → (code n : ℕ) → eqb code n ≡ true → (to : A → Request) → IsRequestOf n to ta fa
+alternative : {A : Type 0} (ta : A → List ℕ) (fa : A → Bool) (ra : Reader A) → Codec ta fa ra → (code n : ℕ)
+    → eqb code n ≡ true → (to : A → Request) → IsRequestOf n to ta fa
     → (bytes : List ℕ) (x : Request × List ℕ) → IsBytes bytes → made to ra bytes ≡ Some x → Coded code bytes x
 alternative {A = A} ta fa ra one code n known to is bytes x fits e =
     let a = bind_some (ra bytes) (λ a. Some (to a.0, a.1)) x e in
     let t = one.takes bytes a.0 fits a.1 in
     let there : Request × List ℕ = (to a.0.0, a.0.1) in
-    let text : Takes bytes (coded_text (to a.0.0)) a.0.1 = subst (λ (w : List ℕ). Takes bytes w a.0.1) (sym (is.is_text a.0.0)) t.0 in
+    let text : Takes bytes (coded_text (to a.0.0)) a.0.1 = subst (λ (w : List ℕ). Takes bytes w a.0.1)
+    (sym (is.is_text a.0.0)) t.0 in
     let right : IsTrue (is_request (to a.0.0)) = is.is_fit a.0.0 ∙ t.1 in
-    let code_is : IsTrue (eqb (code_of (to a.0.0)) code) = eq-eqb _ _ (is.is_code a.0.0 ∙ sym (eqb-true code n known)) in
-    subst (λ (y : Request × List ℕ). Coded code bytes y) (some_is there x a.2) (text, and_from (eqb (code_of (to a.0.0)) code) (is_request (to a.0.0)) code_is right)
+    let code_is : IsTrue (eqb (code_of (to a.0.0)) code) = eq-eqb _ _ (is.is_code a.0.0 ∙ sym (eqb-true code n known))
+    in
+    subst (λ (y : Request × List ℕ). Coded code bytes y) (some_is there x a.2)
+    (text, and_from (eqb (code_of (to a.0.0)) code) (is_request (to a.0.0)) code_is right)
 
-coded_takes : (code : ℕ) (bytes : List ℕ) (x : Request × List ℕ) → IsBytes bytes → coded_at code bytes ≡ Some x → Coded code bytes x
+coded_takes : (code : ℕ) (bytes : List ℕ) (x : Request × List ℕ) → IsBytes bytes → coded_at code bytes ≡ Some x
+    → Coded code bytes x
 unfolding coded_at
 coded_takes code bytes x fits e =
     elim (chosen (eqb code 1) _ _ (Some x) e) [
-      | inl p ↦ alternative name_text is_name name_at Codec-name code 1 p.0 Balance (record { is_code = λ a. refl; is_text = λ a. refl; is_fit = λ a. refl }) bytes x fits p.1
+      | inl p ↦ alternative name_text is_name name_at Codec-name code 1 p.0 Balance
+          (record { is_code = λ a. refl; is_text = λ a. refl; is_fit = λ a. refl }) bytes x fits p.1
       | inr p ↦ elim (chosen (eqb code 2) _ _ (Some x) p.1) [
-        | inl p ↦ alternative move_text is_move move_at Codec-move code 2 p.0 (λ m. DepositChecking m.0 m.1) (record { is_code = λ a. refl; is_text = λ a. refl; is_fit = λ a. refl }) bytes x fits p.1
+        | inl p ↦ alternative move_text is_move move_at Codec-move code 2 p.0 (λ m. DepositChecking m.0 m.1)
+            (record { is_code = λ a. refl; is_text = λ a. refl; is_fit = λ a. refl }) bytes x fits p.1
         | inr p ↦ elim (chosen (eqb code 3) _ _ (Some x) p.1) [
-          | inl p ↦ alternative move_text is_move move_at Codec-move code 3 p.0 (λ m. TransactSaving m.0 m.1) (record { is_code = λ a. refl; is_text = λ a. refl; is_fit = λ a. refl }) bytes x fits p.1
+          | inl p ↦ alternative move_text is_move move_at Codec-move code 3 p.0 (λ m. TransactSaving m.0 m.1)
+              (record { is_code = λ a. refl; is_text = λ a. refl; is_fit = λ a. refl }) bytes x fits p.1
           | inr p ↦ elim (chosen (eqb code 4) _ _ (Some x) p.1) [
-            | inl p ↦ alternative names_text are_names (both name_at name_at) Codec-names code 4 p.0 (λ m. Amalgamate m.0 m.1) (record { is_code = λ a. refl; is_text = λ a. refl; is_fit = λ a. refl }) bytes x fits p.1
-            | inr p ↦ let g = guard_some (eqb code 5) _ x p.1 in alternative move_text is_move move_at Codec-move code 5 g.0 (λ m. WriteCheck m.0 m.1) (record { is_code = λ a. refl; is_text = λ a. refl; is_fit = λ a. refl }) bytes x fits g.1
+            | inl p ↦ alternative names_text are_names (both name_at name_at) Codec-names code 4 p.0
+                (λ m. Amalgamate m.0 m.1) (record { is_code = λ a. refl; is_text = λ a. refl; is_fit = λ a. refl })
+                bytes x fits p.1
+            | inr p ↦ let g = guard_some (eqb code 5) _ x p.1 in alternative move_text is_move move_at Codec-move code 5
+                g.0 (λ m. WriteCheck m.0 m.1) (record { is_code = λ a. refl; is_text = λ a. refl; is_fit = λ a. refl })
+                bytes x fits g.1
           ]
         ]
       ]
     ]
 
-coded_again : (r : Request) (rest : List ℕ) → IsTrue (is_request r) → coded_at (code_of r) (coded_text r ++ rest) ≡ Some (r, rest)
+coded_again : (r : Request) (rest : List ℕ) → IsTrue (is_request r) → coded_at (code_of r) (coded_text r ++ rest)
+    ≡ Some (r, rest)
 unfolding coded_at
 coded_again (Balance n) rest fits = rw (Codec-name.again n rest fits) refl
 coded_again (DepositChecking n v) rest fits = rw (Codec-move.again (n, v) rest fits) refl
@@ -104,7 +123,8 @@ Codec-coded code = record {
   takes = coded_takes code;
   again = λ r rest fits.
       let p = and_parts (eqb (code_of r) code) (is_request r) fits in
-      subst (λ (k : ℕ). coded_at k (coded_text r ++ rest) ≡ Some (r, rest)) (eqb-true (code_of r) code p.0) (coded_again r rest p.1);
+      subst (λ (k : ℕ). coded_at k (coded_text r ++ rest) ≡ Some (r, rest)) (eqb-true (code_of r) code p.0)
+      (coded_again r rest p.1);
 }
 
 request_parts : (r : Request) → big_bytes 1 (code_of r) ++ coded_text r ≡ request_text r
@@ -124,11 +144,16 @@ code_below (WriteCheck n v) = refl
 Codec-request : Codec request_text is_request request_at
 unfolding request_at
 Codec-request =
-    Codec-as (λ r. big_bytes 1 (code_of r) ++ coded_text r) request_text (λ r. is_number 1 (code_of r) && is_coded (code_of r) r) is_request request_at
+    Codec-as (λ r. big_bytes 1 (code_of r) ++ coded_text r) request_text
+    (λ r. is_number 1 (code_of r) && is_coded (code_of r) r) is_request request_at
     (λ r fits. request_parts r)
-    (λ r fits. (and_parts (eqb (code_of r) (code_of r)) (is_request r) (and_parts (is_number 1 (code_of r)) (is_coded (code_of r) r) fits).1).1)
-    (λ r fits. and_from (is_number 1 (code_of r)) (is_coded (code_of r) r) (code_below r) (and_from (eqb (code_of r) (code_of r)) (is_request r) (eq-eqb (code_of r) (code_of r) refl) fits))
-    (Codec-led_by (big_bytes 1) (is_number 1) (number_at 1) coded_text is_coded coded_at code_of (λ code r fits. eqb-true (code_of r) code (and_parts (eqb (code_of r) code) (is_request r) fits).0) Codec-number1 Codec-coded)
+    (λ r fits. (and_parts (eqb (code_of r) (code_of r)) (is_request r)
+    (and_parts (is_number 1 (code_of r)) (is_coded (code_of r) r) fits).1).1)
+    (λ r fits. and_from (is_number 1 (code_of r)) (is_coded (code_of r) r) (code_below r)
+    (and_from (eqb (code_of r) (code_of r)) (is_request r) (eq-eqb (code_of r) (code_of r) refl) fits))
+    (Codec-led_by (big_bytes 1) (is_number 1) (number_at 1) coded_text is_coded coded_at code_of
+    (λ code r fits. eqb-true (code_of r) code (and_parts (eqb (code_of r) code) (is_request r) fits).0)
+    Codec-number1 Codec-coded)
 
 abbrev asked_parts : Asked → ℕ × (ℕ × Request)
 asked_parts a = (a.client, (a.number, a.request))
@@ -136,10 +161,14 @@ asked_parts a = (a.client, (a.number, a.request))
 pub Codec-asked : Codec asked_text is_asked asked_at
 unfolding asked_at
 Codec-asked =
-    Codec-made (λ p. big_bytes 4 p.0 ++ (big_bytes 8 p.1.0 ++ request_text p.1.1)) (λ p. is_number 4 p.0 && (is_number 8 p.1.0 && is_request p.1.1)) (both (number_at 4) (both (number_at 8) request_at)) asked_from asked_parts is_asked
+    Codec-made (λ p. big_bytes 4 p.0 ++ (big_bytes 8 p.1.0 ++ request_text p.1.1))
+    (λ p. is_number 4 p.0 && (is_number 8 p.1.0 && is_request p.1.1))
+    (both (number_at 4) (both (number_at 8) request_at)) asked_from asked_parts is_asked
     (λ p fits. (refl, fits)) (λ a fits. (refl, fits))
-    (Codec-both (big_bytes 4) (is_number 4) (number_at 4) (λ p. big_bytes 8 p.0 ++ request_text p.1) (λ p. is_number 8 p.0 && is_request p.1) (both (number_at 8) request_at) Codec-number4
-    (Codec-both (big_bytes 8) (is_number 8) (number_at 8) request_text is_request request_at Codec-number8 Codec-request))
+    (Codec-both (big_bytes 4) (is_number 4) (number_at 4) (λ p. big_bytes 8 p.0 ++ request_text p.1)
+    (λ p. is_number 8 p.0 && is_request p.1) (both (number_at 8) request_at) Codec-number4
+    (Codec-both (big_bytes 8) (is_number 8) (number_at 8) request_text is_request request_at Codec-number8
+    Codec-request))
 
 -- ---- replies
 
@@ -151,19 +180,25 @@ reply_parts (Aborted why) = (abort_code why, pos 0)
 abbrev coded_reply : ℕ → ℤ → Reply → Type 0
 coded_reply code value r = (reply_parts r ≡ (code, value)) × IsTrue (is_reply r)
 
-plain_back : (code n : ℕ) (value : ℤ) (s r : Reply) → eqb code n ≡ true → value ≡ pos 0 → reply_parts s ≡ (n, pos 0) → IsTrue (is_reply s) → Some s ≡ Some r → coded_reply code value r
+plain_back : (code n : ℕ) (value : ℤ) (s r : Reply) → eqb code n ≡ true → value ≡ pos 0 → reply_parts s ≡ (n, pos 0)
+    → IsTrue (is_reply s) → Some s ≡ Some r → coded_reply code value r
 plain_back code n value s r known zero_is parts fits e =
-    subst (λ (r : Reply). coded_reply code value r) (some_is s r e) (parts ∙ ap (λ (p : ℕ). (p, pos 0)) (sym (eqb-true code n known)) ∙ ap (λ (v : ℤ). (code, v)) (sym zero_is), fits)
+    subst (λ (r : Reply). coded_reply code value r) (some_is s r e) (
+      parts ∙ ap (λ (p : ℕ). (p, pos 0)) (sym (eqb-true code n known)) ∙ ap (λ (v : ℤ). (code, v)) (sym zero_is),
+      fits,
+    )
 
 int_eq-true : (x y : ℤ) → int_eq x y ≡ true → x ≡ y
 int_eq-true x y e = (Decides-int_eq x y).0 e
 
-reply_back : (p : ℕ × ℤ) (r : Reply) → IsTrue (is_number 1 p.0 && is_signed p.1) → reply_from p ≡ Some r → (reply_parts r ≡ p) × IsTrue (is_reply r)
+reply_back : (p : ℕ × ℤ) (r : Reply) → IsTrue (is_number 1 p.0 && is_signed p.1) → reply_from p ≡ Some r
+    → (reply_parts r ≡ p) × IsTrue (is_reply r)
 reply_back p r fits e =
     elim (chosen (eqb p.0 1) _ _ (Some r) e) [
       | inl q ↦
           let signed = (and_parts (is_number 1 p.0) (is_signed p.1) fits).1 in
-          subst (λ (r : Reply). coded_reply p.0 p.1 r) (some_is (Total p.1) r q.1) (ap (λ (k : ℕ). (k, p.1)) (sym (eqb-true p.0 1 q.0)), signed)
+          subst (λ (r : Reply). coded_reply p.0 p.1 r) (some_is (Total p.1) r q.1)
+          (ap (λ (k : ℕ). (k, p.1)) (sym (eqb-true p.0 1 q.0)), signed)
       | inr q ↦
           let g = guard_some (int_eq p.1 (pos 0)) (plain_reply p.0) r q.1 in
           let nothing = int_eq-true p.1 (pos 0) g.0 in
@@ -175,14 +210,16 @@ reply_back p r fits e =
                 | inl q ↦ plain_back p.0 3 p.1 (Aborted BadAmount) r q.0 nothing refl refl q.1
                 | inr q ↦ elim (chosen (eqb p.0 4) _ _ (Some r) q.1) [
                   | inl q ↦ plain_back p.0 4 p.1 (Aborted Insufficient) r q.0 nothing refl refl q.1
-                  | inr q ↦ let h = guard_some (eqb p.0 5) _ r q.1 in plain_back p.0 5 p.1 (Aborted OutOfRange) r h.0 nothing refl refl h.1
+                  | inr q ↦ let h = guard_some (eqb p.0 5) _ r q.1 in plain_back p.0 5 p.1 (Aborted OutOfRange) r h.0
+                      nothing refl refl h.1
                 ]
               ]
             ]
           ]
     ]
 
-reply_forth : (r : Reply) → IsTrue (is_reply r) → (reply_from (reply_parts r) ≡ Some r) × IsTrue (is_number 1 (reply_parts r).0 && is_signed (reply_parts r).1)
+reply_forth : (r : Reply) → IsTrue (is_reply r) → (reply_from (reply_parts r) ≡ Some r)
+    × IsTrue (is_number 1 (reply_parts r).0 && is_signed (reply_parts r).1)
 reply_forth Done fits = (refl, refl)
 reply_forth (Total sum) fits = (refl, fits)
 reply_forth (Aborted NoSuchName) fits = (refl, refl)
@@ -209,17 +246,21 @@ reply_length (Aborted OutOfRange) = refl
 pub Codec-reply : Codec reply_text is_reply reply_at
 unfolding reply_at
 Codec-reply =
-    Codec-as (λ r. big_bytes 1 (reply_parts r).0 ++ money_text (reply_parts r).1) reply_text is_reply is_reply reply_at (λ r fits. reply_same r) (λ r fits. fits) (λ r fits. fits)
-    (Codec-made_if (λ p. big_bytes 1 p.0 ++ money_text p.1) (λ p. is_number 1 p.0 && is_signed p.1) (both (number_at 1) signed_at) reply_from reply_parts is_reply reply_back reply_forth
+    Codec-as (λ r. big_bytes 1 (reply_parts r).0 ++ money_text (reply_parts r).1) reply_text is_reply is_reply reply_at
+    (λ r fits. reply_same r) (λ r fits. fits) (λ r fits. fits)
+    (Codec-made_if (λ p. big_bytes 1 p.0 ++ money_text p.1) (λ p. is_number 1 p.0 && is_signed p.1)
+    (both (number_at 1) signed_at) reply_from reply_parts is_reply reply_back reply_forth
     (Codec-both (big_bytes 1) (is_number 1) (number_at 1) money_text is_signed signed_at Codec-number1 Codec-signed))
 
 -- ---- entries
 
-kind_back : (code : ℕ) (k : Kind) → IsTrue (is_number 1 code) → kind_from code ≡ Some k → (kind_code k ≡ code) × IsTrue true
+kind_back : (code : ℕ) (k : Kind) → IsTrue (is_number 1 code) → kind_from code ≡ Some k → (kind_code k ≡ code)
+    × IsTrue true
 kind_back code k fits e =
     elim (chosen (eqb code 0) _ _ (Some k) e) [
       | inl p ↦ (ap kind_code (sym (some_is Read k p.1)) ∙ sym (eqb-true code 0 p.0), refl)
-      | inr p ↦ let g = guard_some (eqb code 1) _ k p.1 in (ap kind_code (sym (some_is Write k g.1)) ∙ sym (eqb-true code 1 g.0), refl)
+      | inr p ↦ let g = guard_some (eqb code 1) _ k p.1 in
+          (ap kind_code (sym (some_is Write k g.1)) ∙ sym (eqb-true code 1 g.0), refl)
     ]
 
 kind_forth : (k : Kind) → IsTrue true → (kind_from (kind_code k) ≡ Some k) × IsTrue (is_number 1 (kind_code k))
@@ -227,7 +268,8 @@ kind_forth Read fits = (refl, refl)
 kind_forth Write fits = (refl, refl)
 
 Codec-kind : Codec (λ k. big_bytes 1 (kind_code k)) (λ k. true) (made_if kind_from (number_at 1))
-Codec-kind = Codec-made_if (big_bytes 1) (is_number 1) (number_at 1) kind_from kind_code (λ k. true) kind_back kind_forth Codec-number1
+Codec-kind = Codec-made_if (big_bytes 1) (is_number 1) (number_at 1) kind_from kind_code
+    (λ k. true) kind_back kind_forth Codec-number1
 
 abbrev entry_parts : Entry → ℕ × (Kind × (ℕ × (ℤ × ℤ)))
 entry_parts e = (e.row, (e.kind, (e.version, (e.seen, e.after))))
@@ -245,12 +287,21 @@ entry_length e = refl
 pub Codec-entry_fields : Codec entry_text is_written entry_fields_at
 unfolding entry_fields_at
 Codec-entry_fields =
-    Codec-made (λ p. big_bytes 4 p.0 ++ (big_bytes 1 (kind_code p.1.0) ++ (big_bytes 8 p.1.1.0 ++ (money_text p.1.1.1.0 ++ money_text p.1.1.1.1)))) (λ p. is_number 4 p.0 && (true && (is_number 8 p.1.1.0 && are_values p.1.1.1)))
-    (both (number_at 4) (both (made_if kind_from (number_at 1)) (both (number_at 8) (both signed_at signed_at)))) entry_from entry_parts is_written
+    Codec-made (λ p. big_bytes 4 p.0 ++
+    (big_bytes 1 (kind_code p.1.0) ++ (big_bytes 8 p.1.1.0 ++ (money_text p.1.1.1.0 ++ money_text p.1.1.1.1))))
+    (λ p. is_number 4 p.0 && (true && (is_number 8 p.1.1.0 && are_values p.1.1.1)))
+    (both (number_at 4) (both (made_if kind_from (number_at 1)) (both (number_at 8) (both signed_at signed_at))))
+    entry_from entry_parts is_written
     (λ p fits. (refl, fits)) (λ e fits. (refl, fits))
-    (Codec-both (big_bytes 4) (is_number 4) (number_at 4) (λ p. big_bytes 1 (kind_code p.0) ++ (big_bytes 8 p.1.0 ++ (money_text p.1.1.0 ++ money_text p.1.1.1))) (λ p. true && (is_number 8 p.1.0 && are_values p.1.1)) (both (made_if kind_from (number_at 1)) (both (number_at 8) (both signed_at signed_at))) Codec-number4
-    (Codec-both (λ k. big_bytes 1 (kind_code k)) (λ k. true) (made_if kind_from (number_at 1)) (λ p. big_bytes 8 p.0 ++ (money_text p.1.0 ++ money_text p.1.1)) (λ p. is_number 8 p.0 && are_values p.1) (both (number_at 8) (both signed_at signed_at)) Codec-kind
-    (Codec-both (big_bytes 8) (is_number 8) (number_at 8) (λ p. money_text p.0 ++ money_text p.1) are_values (both signed_at signed_at) Codec-number8
+    (Codec-both (big_bytes 4) (is_number 4) (number_at 4)
+    (λ p. big_bytes 1 (kind_code p.0) ++ (big_bytes 8 p.1.0 ++ (money_text p.1.1.0 ++ money_text p.1.1.1)))
+    (λ p. true && (is_number 8 p.1.0 && are_values p.1.1))
+    (both (made_if kind_from (number_at 1)) (both (number_at 8) (both signed_at signed_at))) Codec-number4
+    (Codec-both (λ k. big_bytes 1 (kind_code k)) (λ k. true) (made_if kind_from (number_at 1))
+    (λ p. big_bytes 8 p.0 ++ (money_text p.1.0 ++ money_text p.1.1)) (λ p. is_number 8 p.0 && are_values p.1)
+    (both (number_at 8) (both signed_at signed_at)) Codec-kind
+    (Codec-both (big_bytes 8) (is_number 8) (number_at 8) (λ p. money_text p.0 ++ money_text p.1) are_values
+    (both signed_at signed_at) Codec-number8
     (Codec-both money_text is_signed signed_at money_text is_signed signed_at Codec-signed Codec-signed))))
 
 -- the versions that may be written have eight bytes
@@ -266,14 +317,19 @@ entry_written rows few e fits =
     let b = and_parts (leb e.version version_limit) _ a.1 in
     let c = and_parts (is_balance e.seen) _ b.1 in
     let d = and_parts (is_balance e.after) _ c.1 in
-    and_from (is_number 4 e.row) (true && (is_number 8 e.version && are_values (e.seen, e.after))) (row_below rows e.row few a.0)
-    (and_from (is_number 8 e.version) (are_values (e.seen, e.after)) (version_below e.version b.0) (and_from (is_signed e.seen) (is_signed e.after) (balance_signed e.seen c.0) (balance_signed e.after d.0)))
+    and_from (is_number 4 e.row) (true && (is_number 8 e.version && are_values (e.seen, e.after)))
+    (row_below rows e.row few a.0)
+    (and_from (is_number 8 e.version) (are_values (e.seen, e.after)) (version_below e.version b.0)
+    (and_from (is_signed e.seen) (is_signed e.after) (balance_signed e.seen c.0) (balance_signed e.after d.0)))
 
 pub Codec-entry : (rows : ℕ) → rows ≤ 2 ^ 32 → Codec entry_text (is_entry rows) (entry_at rows)
 unfolding entry_at
 Codec-entry rows few =
-    Codec-as entry_text entry_text (λ e. is_entry rows e && is_written e) (is_entry rows) (only (is_entry rows) entry_fields_at) (λ e fits. refl) (λ e fits. (and_parts (is_entry rows e) (is_written e) fits).0)
-    (λ e fits. and_from (is_entry rows e) (is_written e) fits (entry_written rows few e fits)) (Codec-only entry_text is_written entry_fields_at (is_entry rows) Codec-entry_fields)
+    Codec-as entry_text entry_text (λ e. is_entry rows e && is_written e) (is_entry rows)
+    (only (is_entry rows) entry_fields_at) (λ e fits. refl)
+    (λ e fits. (and_parts (is_entry rows e) (is_written e) fits).0)
+    (λ e fits. and_from (is_entry rows e) (is_written e) fits (entry_written rows few e fits))
+    (Codec-only entry_text is_written entry_fields_at (is_entry rows) Codec-entry_fields)
 
 -- ---- restores
 
@@ -289,19 +345,27 @@ restore_length r = refl
 pub Codec-restore_fields : Codec restore_text is_restored restore_fields_at
 unfolding restore_fields_at
 Codec-restore_fields =
-    Codec-made (λ p. big_bytes 4 p.0 ++ (big_bytes 8 p.1.0 ++ money_text p.1.1)) (λ p. is_number 4 p.0 && (is_number 8 p.1.0 && is_signed p.1.1)) (both (number_at 4) (both (number_at 8) signed_at)) restore_from restore_parts is_restored
+    Codec-made (λ p. big_bytes 4 p.0 ++ (big_bytes 8 p.1.0 ++ money_text p.1.1))
+    (λ p. is_number 4 p.0 && (is_number 8 p.1.0 && is_signed p.1.1))
+    (both (number_at 4) (both (number_at 8) signed_at)) restore_from restore_parts is_restored
     (λ p fits. (refl, fits)) (λ r fits. (refl, fits))
-    (Codec-both (big_bytes 4) (is_number 4) (number_at 4) (λ p. big_bytes 8 p.0 ++ money_text p.1) (λ p. is_number 8 p.0 && is_signed p.1) (both (number_at 8) signed_at) Codec-number4
+    (Codec-both (big_bytes 4) (is_number 4) (number_at 4) (λ p. big_bytes 8 p.0 ++ money_text p.1)
+    (λ p. is_number 8 p.0 && is_signed p.1) (both (number_at 8) signed_at) Codec-number4
     (Codec-both (big_bytes 8) (is_number 8) (number_at 8) money_text is_signed signed_at Codec-number8 Codec-signed))
 
 restore_written : (rows : ℕ) → rows ≤ 2 ^ 32 → (r : Restore) → IsTrue (is_restore rows r) → IsTrue (is_restored r)
 restore_written rows few r fits =
     let a = and_parts (ltb r.row rows) _ fits in
     let b = and_parts (leb r.version version_limit) _ a.1 in
-    and_from (is_number 4 r.row) (is_number 8 r.version && is_signed r.value) (row_below rows r.row few a.0) (and_from (is_number 8 r.version) (is_signed r.value) (version_below r.version b.0) (balance_signed r.value b.1))
+    and_from (is_number 4 r.row) (is_number 8 r.version && is_signed r.value) (row_below rows r.row few a.0)
+    (and_from (is_number 8 r.version) (is_signed r.value) (version_below r.version b.0)
+    (balance_signed r.value b.1))
 
 pub Codec-restore : (rows : ℕ) → rows ≤ 2 ^ 32 → Codec restore_text (is_restore rows) (restore_at rows)
 unfolding restore_at
 Codec-restore rows few =
-    Codec-as restore_text restore_text (λ r. is_restore rows r && is_restored r) (is_restore rows) (only (is_restore rows) restore_fields_at) (λ r fits. refl) (λ r fits. (and_parts (is_restore rows r) (is_restored r) fits).0)
-    (λ r fits. and_from (is_restore rows r) (is_restored r) fits (restore_written rows few r fits)) (Codec-only restore_text is_restored restore_fields_at (is_restore rows) Codec-restore_fields)
+    Codec-as restore_text restore_text (λ r. is_restore rows r && is_restored r) (is_restore rows)
+    (only (is_restore rows) restore_fields_at) (λ r fits. refl)
+    (λ r fits. (and_parts (is_restore rows r) (is_restored r) fits).0)
+    (λ r fits. and_from (is_restore rows r) (is_restored r) fits (restore_written rows few r fits))
+    (Codec-only restore_text is_restored restore_fields_at (is_restore rows) Codec-restore_fields)

@@ -11,7 +11,8 @@ use Rattle.eve_grammar.specs.Following.{Follow, after, IsRun}
 use Rattle.eve_grammar.specs.Gathering.{Gathered, gather, gathered, trace_of}
 use Rattle.eve_grammar.proofs.Standing.{of_end, not_ended}
 use Rattle.eve_grammar.proofs.Runs.{some_verifier}
-use Rattle.eve_grammar.proofs.RestParts.{IsCounted, counted_more, HasAllReplicas, all_replicas_more, IsOwned, owned_more, IsWithin, within_more}
+use Rattle.eve_grammar.proofs.RestParts.{IsCounted, counted_more, HasAllReplicas, all_replicas_more, IsOwned}
+use Rattle.eve_grammar.proofs.RestParts.{owned_more, IsWithin, within_more}
 use Rattle.eve_grammar.proofs.RestFrames.{frames_from, frames_more}
 
 -- ---- from a place to the end
@@ -23,7 +24,8 @@ record IsRest (h : Head) (p : Place) (fs : List Frame) (g : Gathered) : Type 0 w
   within : IsWithin h g
   owned : IsOwned p g
 
-rest_more : (f : Frame) (h : Head) (p : Place) (fs : List Frame) (g : Gathered) → 0 < h.verifiers → (next p f).ended ≡ false → HasAllReplicas h p → FitsAt h p f
+rest_more : (f : Frame) (h : Head) (p : Place) (fs : List Frame) (g : Gathered) → 0 < h.verifiers → (next p f).ended
+    ≡ false → HasAllReplicas h p → FitsAt h p f
     → IsRest h (next p f) fs g → IsRest h p (f ∷ fs) (gather f g)
 rest_more f h p fs g some on all fits r = record {
   frames = frames_more f h p g fs some fits.allowed fits.body on all r.counted r.owned r.frames;
@@ -33,7 +35,8 @@ rest_more f h p fs g some on all fits r = record {
 }
 
 -- no frame follows the end
-rest_end : (h : Head) (p : Place) (fs : List Frame) → HasAllReplicas h p → IsTrue (is_allowed h p 127) → Follow h (next p End) fs → IsRest h p (End ∷ fs) (gathered (End ∷ fs))
+rest_end : (h : Head) (p : Place) (fs : List Frame) → HasAllReplicas h p → IsTrue (is_allowed h p 127)
+    → Follow h (next p End) fs → IsRest h p (End ∷ fs) (gathered (End ∷ fs))
 rest_end h p [] all t follow =
     let at = of_end h p t in
     let replicas = all at.0.votes in
@@ -43,25 +46,30 @@ rest_end h p [] all t follow =
       within = (refl, refl, refl, refl, refl, refl, refl, refl);
       owned = (λ e. refl, λ e. refl, λ e. refl, λ e. refl);
     }
-rest_end h p (f ∷ fs) all t follow = absurd (both_ways true (not_ended h (next p End) (kind_of f) follow.0.allowed) refl)
+rest_end h p (f ∷ fs) all t follow =
+    absurd (both_ways true (not_ended h (next p End) (kind_of f) follow.0.allowed) refl)
 
 goes_on : (f : Frame) (p : Place) → p.ended ≡ false → (f ≡ End) ⊎ ((next p f).ended ≡ false)
 goes_on End p e = inl refl
 goes_on _ p e = inr e
 
-rest_of : (fs : List Frame) (h : Head) (p : Place) → 0 < h.verifiers → p.ended ≡ false → HasAllReplicas h p → Follow h p fs → IsTrue (after p fs).ended → IsRest h p fs (gathered fs)
+rest_of : (fs : List Frame) (h : Head) (p : Place) → 0 < h.verifiers → p.ended ≡ false → HasAllReplicas h p
+    → Follow h p fs → IsTrue (after p fs).ended → IsRest h p fs (gathered fs)
 rest_of [] h p some e all follow ended = absurd (both_ways p.ended e ended)
 rest_of (f ∷ fs) h p some e all follow ended =
     let t = follow.0.allowed in
     elim (goes_on f p e) [
-      | inl last ↦ subst (λ (f : Frame). IsTrue (is_allowed h p (kind_of f)) → Follow h (next p f) fs → IsRest h p (f ∷ fs) (gather f (gathered fs))) (sym last) (rest_end h p fs all) t follow.1
-      | inr more ↦ rest_more f h p fs (gathered fs) some more all follow.0 (rest_of fs h (next p f) some more (all_replicas_more f h p some t all) follow.1 ended)
+      | inl last ↦ subst (λ (f : Frame). IsTrue (is_allowed h p (kind_of f)) → Follow h (next p f) fs
+          → IsRest h p (f ∷ fs) (gather f (gathered fs))) (sym last) (rest_end h p fs all) t follow.1
+      | inr more ↦ rest_more f h p fs (gathered fs) some more all follow.0
+          (rest_of fs h (next p f) some more (all_replicas_more f h p some t all) follow.1 ended)
     ]
 
 -- ---- the whole
 
 rest_of_run : (h : Head) (fs : List Frame) → IsTrue (is_head h) → IsRun h fs → IsRest h start fs (gathered fs)
-rest_of_run h fs head run = rest_of fs h start (some_verifier h head) refl (λ v. absurd (omega arith)) run.follow run.ended
+rest_of_run h fs head run = rest_of fs h start (some_verifier h head) refl (λ v. absurd (omega arith)) run.follow
+    run.ended
 
 -- frames that run are those of the trace that they make up
 pub frames_of-trace_of : (h : Head) (fs : List Frame) → IsTrue (is_head h) → IsRun h fs → frames_of (trace_of h fs) ≡ fs
@@ -72,9 +80,11 @@ frames_of-trace_of h fs head run =
     rw (accesses, r.owned.0 refl, r.owned.2 refl) at r.frames
 
 abbrev counting : Head → ℕ → ℕ → ℕ → ℕ → Head
-counting h replicas verifiers customers batches = record h { replicas = replicas; verifiers = verifiers; customers = customers; batches = batches }
+counting h replicas verifiers customers batches =
+    record h { replicas = replicas; verifiers = verifiers; customers = customers; batches = batches }
 
-same_head : (h : Head) (replicas verifiers customers batches : ℕ) → replicas ≡ h.replicas → verifiers ≡ h.verifiers → customers ≡ h.customers → batches ≡ h.batches
+same_head : (h : Head) (replicas verifiers customers batches : ℕ) → replicas ≡ h.replicas → verifiers ≡ h.verifiers
+    → customers ≡ h.customers → batches ≡ h.batches
     → counting h replicas verifiers customers batches ≡ h
 same_head h replicas verifiers customers batches r v c b = rw (r, v, c, b) refl
 
@@ -83,7 +93,8 @@ unfolding trace_of
 head_of-trace_of h fs head run =
     let g = gathered fs in
     let n = (rest_of_run h fs head run).counted in
-    same_head h (length g.sections) (length g.verifiers) (length g.customers) (length g.batches) (omega arith) (omega arith) (omega arith) (omega arith)
+    same_head h (length g.sections) (length g.verifiers) (length g.customers) (length g.batches) (omega arith)
+    (omega arith) (omega arith) (omega arith)
 
 pub limits_of-trace_of : (h : Head) (fs : List Frame) → IsTrue (is_head h) → IsRun h fs → HasLimits (trace_of h fs)
 unfolding trace_of

@@ -5,7 +5,8 @@ use Rattle.eve_grammar.specs.Trace.{Access}
 
 -- the worker is one of so many, and the index one of so many that no access before it has
 abbrev pub is_new_access : ℕ → ℕ → List Access → Access → Bool
-is_new_access workers count before x = nat_lt x.worker workers && (nat_lt x.index count && not (list_any (λ y. y.index == x.index) before))
+is_new_access workers count before x =
+    nat_lt x.worker workers && (nat_lt x.index count && not (list_any (λ y. y.index == x.index) before))
 
 -- a worker's places count from 0
 abbrev pub is_right_place : List Access → Access → Bool

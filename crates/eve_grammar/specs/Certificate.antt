@@ -1,5 +1,6 @@
 -- The order in which an attempt executed its batch. docs/MODEL.md, "Certificate order, keeps the groups".
-use Rattle.std.specs.Prelude.{ℕ, zero, suc, ◌-◌, nat_lt, nat_le, ◌==◌, Bool, true, ◌&&◌, IsTrue, if◌then◌else◌, List, [], ◌∷◌}
+use Rattle.std.specs.Prelude.{ℕ, zero, suc, ◌-◌, nat_lt, nat_le, ◌==◌, Bool, true, ◌&&◌, IsTrue, if◌then◌else◌, List}
+use Rattle.std.specs.Prelude.{[], ◌∷◌}
 use Rattle.std.specs.List.{list_all}
 
 -- how often the number stands in the order
@@ -24,12 +25,14 @@ group_of (size ∷ sizes) index = if nat_lt index size then 0 else suc (group_of
 -- no index stands behind one of a later parallelBatch
 abbrev pub is_grouped : List ℕ → List ℕ → Bool
 is_grouped sizes [] = true
-is_grouped sizes (i ∷ order) = list_all (λ j. nat_le (group_of sizes i) (group_of sizes j)) order && is_grouped sizes order
+is_grouped sizes (i ∷ order) =
+    list_all (λ j. nat_le (group_of sizes i) (group_of sizes j)) order && is_grouped sizes order
 
 -- every index below r once, parallelBatch after parallelBatch
 abbrev pub keeps_groups : List ℕ → ℕ → List ℕ → Bool
 keeps_groups sizes r order = is_permutation r order && is_grouped sizes order
 
+-- the same as a statement
 abbrev pub KeepsGroups : List ℕ → ℕ → List ℕ → Type 0
 KeepsGroups sizes r order = IsTrue (keeps_groups sizes r order)
 

@@ -1,7 +1,9 @@
 -- The frames of a trace, in their order.
-use Rattle.std.specs.Prelude.{ℕ, ◌+◌, ◌-◌, nat_lt, ◌==◌, Bool, true, false, not, ◌&&◌, ◌||◌, if◌then◌else◌, List, [], ◌∷◌, ◌++◌, map, length}
+use Rattle.std.specs.Prelude.{ℕ, ◌+◌, ◌-◌, nat_lt, ◌==◌, Bool, true, false, not, ◌&&◌, ◌||◌, if◌then◌else◌, List, []}
+use Rattle.std.specs.Prelude.{◌∷◌, ◌++◌, map, length}
 use Rattle.std.specs.List.{flat_map, enumerate_from}
-use Rattle.eve_grammar.specs.Trace.{Customer, Batch, Access, Attempt, Commit, Rollback, Step, Attempts, Commits, RollsBack, Vote, Sent, Trace, Head}
+use Rattle.eve_grammar.specs.Trace.{Customer, Batch, Access, Attempt, Commit, Rollback, Step, Attempts, Commits}
+use Rattle.eve_grammar.specs.Trace.{RollsBack, Vote, Sent, Trace, Head}
 
 -- A frame with what it says. Batches, replicas and verifiers say their own number; an attempt's frame
 -- says nothing of its accesses, which have frames of their own behind it.
@@ -20,12 +22,13 @@ pub data Frame : Type 0 where
 
 -- the attempt as its own frame says it
 abbrev pub without_accesses : Attempt → Attempt
-without_accesses a =
-    record { seq = a.seq; view = a.view; serial = a.serial; certificate = a.certificate; replies = a.replies; token = a.token; accesses = [] }
+without_accesses a = record a { accesses = [] }
 
+-- an attempt's own frame, then those of its accesses
 abbrev pub attempt_frames : Attempt → List Frame
 attempt_frames a = OfAttempt (without_accesses a) ∷ map OfAccess a.accesses
 
+-- the frames of a step: one, but for an attempt
 abbrev pub step_frames : Step → List Frame
 step_frames (Attempts a) = attempt_frames a
 step_frames (Commits c) = OfCommit c ∷ []
@@ -43,9 +46,11 @@ verifier_frames v = OfVerifier v.0 ∷ map OfVote v.1
 abbrev pub batches_of : Trace → List (ℕ × Batch)
 batches_of t = enumerate_from 1 t.batches
 
+-- each replica's number with its steps
 abbrev pub sections_of : Trace → List (ℕ × List Step)
 sections_of t = enumerate_from 0 t.sections
 
+-- each verifier's number with its votes
 abbrev pub verifiers_of : Trace → List (ℕ × List Vote)
 verifiers_of t = enumerate_from 0 t.verifiers
 
@@ -82,28 +87,28 @@ pub record Place : Type 0 where
   pub sending : Bool
   pub ended : Bool
 
+-- before the first frame
 abbrev pub start : Place
 start = record { customers = 0; batches = 0; replicas = 0; accesses = 0; verifiers = 0; sending = false; ended = false }
 
--- behind a frame
+-- behind a frame; commits, rollbacks and votes count nothing
 abbrev pub next : Place → Frame → Place
 next p (OfCustomer c) = record p { customers = p.customers + 1 }
 next p (OfBatch n b) = record p { batches = p.batches + 1 }
 next p (OfReplica n) = record p { replicas = p.replicas + 1 }
 next p (OfAttempt a) = record p { accesses = length a.certificate }
 next p (OfAccess x) = record p { accesses = p.accesses - 1 }
-next p (OfCommit c) = p
-next p (OfRollback r) = p
 next p (OfVerifier n) = record p { verifiers = p.verifiers + 1 }
-next p (OfVote v) = p
 next p (OfSent s) = record p { sending = true }
 next p End = record p { ended = true }
+next p _ = p
 
 -- in the sections: the next replica, a step of this one, or behind the last replica the first verifier
 abbrev pub is_allowed_in_sections : Head → Place → ℕ → Bool
 is_allowed_in_sections h p kind =
     ((kind == 16) && nat_lt p.replicas h.replicas)
-    || ((nat_lt 0 p.replicas && ((kind == 17) || ((kind == 19) || (kind == 20)))) || ((kind == 32) && (p.replicas == h.replicas)))
+    || ((nat_lt 0 p.replicas && ((kind == 17) || ((kind == 19) || (kind == 20))))
+    || ((kind == 32) && (p.replicas == h.replicas)))
 
 -- behind them: the next verifier, a vote of this one, or behind the last verifier a reply sent or the end
 abbrev pub is_allowed_behind_sections : Head → Place → ℕ → Bool

@@ -1,7 +1,9 @@
 -- The trace that frames make up.
 use Rattle.std.specs.Prelude.{◌≡◌, List, [], ◌∷◌}
-use Rattle.eve_grammar.specs.Trace.{Customer, Batch, Access, Step, Attempts, Commits, RollsBack, Vote, Sent, Trace, Head, head_of}
-use Rattle.eve_grammar.specs.Frames.{Frame, OfCustomer, OfBatch, OfReplica, OfAttempt, OfAccess, OfCommit, OfRollback, OfVerifier, OfVote, OfSent, End, frames_of}
+use Rattle.eve_grammar.specs.Trace.{Customer, Batch, Access, Step, Attempts, Commits, RollsBack, Vote, Sent, Trace}
+use Rattle.eve_grammar.specs.Trace.{Head, head_of}
+use Rattle.eve_grammar.specs.Frames.{Frame, OfCustomer, OfBatch, OfReplica, OfAttempt, OfAccess, OfCommit, OfRollback}
+use Rattle.eve_grammar.specs.Frames.{OfVerifier, OfVote, OfSent, End, frames_of}
 
 -- What frames say: whole parts of a trace, and what belongs to a frame that stands before them,
 -- accesses to an attempt, steps to a replica, votes to a verifier.
@@ -15,8 +17,18 @@ pub record Gathered : Type 0 where
   pub verifiers : List (List Vote)
   pub sent : List Sent
 
+-- of no frames
 abbrev pub nothing : Gathered
-nothing = record { customers = []; batches = []; accesses = []; steps = []; sections = []; votes = []; verifiers = []; sent = [] }
+nothing = record {
+  customers = [];
+  batches = [];
+  accesses = [];
+  steps = [];
+  sections = [];
+  votes = [];
+  verifiers = [];
+  sent = [];
+}
 
 -- with one more frame, which stands before them
 abbrev pub gather : Frame → Gathered → Gathered

@@ -1,5 +1,6 @@
 pub mod Trace
 pub mod Frames
+pub mod Kinds
 pub mod Spelling
 pub mod Limits
 pub mod Following

@@ -1,5 +1,6 @@
 -- Which traces there are: the limits of the format and the conditions of its fields.
-use Rattle.std.specs.Prelude.{◌≡◌, ℕ, pos, negsuc, ◌+◌, ◌-◌, ◌*◌, ◌^◌, ◌≤◌, ◌<◌, nat_le, nat_lt, ◌==◌, Bool, true, ◌&&◌, ◌||◌, IsTrue, List, [], ◌∷◌, length, sum}
+use Rattle.std.specs.Prelude.{◌≡◌, ℕ, pos, negsuc, ◌+◌, ◌-◌, ◌*◌, ◌^◌, ◌≤◌, ◌<◌, nat_le, nat_lt, ◌==◌, Bool, true, ◌&&◌}
+use Rattle.std.specs.Prelude.{◌||◌, IsTrue, List, [], ◌∷◌, length, sum}
 use Rattle.std.specs.List.{list_all}
 use Rattle.std.specs.Ordering.{int_eq}
 use Rattle.std.specs.Int.RustNames.{int_le}
@@ -8,12 +9,19 @@ use Rattle.eve_accounts.specs.Names.{is_name}
 use Rattle.eve_smallbank.specs.SmallBank.{Request, Balance, DepositChecking, TransactSaving, Amalgamate, WriteCheck}
 use Rattle.eve_smallbank.specs.Access.{is_write}
 use Rattle.eve_smallbank.specs.declared.request.Reply.{Reply}
-use Rattle.eve_smallbank.specs.declared.request.Reply.TheVariants.{Done, Total, Aborted}
+use Rattle.eve_smallbank.specs.declared.request.Reply.TheVariants.{Total}
 use Rattle.eve_smallbank.specs.declared.entry.Entry.{Entry}
-use Rattle.eve_grammar.specs.Trace.{Customer, Asked, Batch, Access, Attempt, Commit, Restore, Rollback, Step, Attempts, Commits, RollsBack, Choice, ForRollback, ForCommit, Vote, Sent, Trace, Head, head_of}
-use Rattle.eve_grammar.specs.Frames.{Frame, OfCustomer, OfBatch, OfReplica, OfAttempt, OfAccess, OfCommit, OfRollback, OfVerifier, OfVote, OfSent, End, kind_of, Place, is_allowed}
+use Rattle.eve_grammar.specs.declared.limits.TheConstants.{MOST_REPLICAS, MOST_VERIFIERS, MOST_WINDOW, MOST_WORKERS}
+use Rattle.eve_grammar.specs.declared.limits.TheConstants.{MOST_CUSTOMERS, MOST_BATCHES, MOST_REQUESTS, MOST_ENTRIES}
+use Rattle.eve_grammar.specs.declared.limits.TheConstants.{MOST_VERSIONS, MOST_BYTES}
+use Rattle.eve_grammar.specs.Trace.{Customer, Asked, Batch, Access, Attempt, Commit, Restore, Rollback, Step, Attempts}
+use Rattle.eve_grammar.specs.Trace.{Commits, RollsBack, Choice, ForRollback, ForCommit, Vote, Sent, Trace, Head}
+use Rattle.eve_grammar.specs.Trace.{head_of}
+use Rattle.eve_grammar.specs.Frames.{Frame, OfCustomer, OfBatch, OfReplica, OfAttempt, OfAccess, OfCommit, OfRollback}
+use Rattle.eve_grammar.specs.Frames.{OfVerifier, OfVote, OfSent, End, kind_of, Place, is_allowed}
 use Rattle.eve_grammar.specs.Spelling.{body_text, length_of, spelling}
 
+-- from the one to the other, both with them
 abbrev pub is_between : ℕ → ℕ → ℕ → Bool
 is_between low high n = nat_le low n && nat_le n high
 
@@ -21,11 +29,13 @@ is_between low high n = nat_le low n && nat_le n high
 abbrev pub is_number : ℕ → ℕ → Bool
 is_number bytes n = nat_lt n (256 ^ bytes)
 
+-- 32 bytes
 abbrev pub is_token : List ℕ → Bool
 is_token token = (length token == 32) && list_all (is_number 1) token
 
 -- ---- requests and replies
 
+-- names and amounts within their limits
 abbrev pub is_request : Request → Bool
 is_request (Balance name) = is_name name
 is_request (DepositChecking name amount) = is_name name && is_amount amount
@@ -33,51 +43,60 @@ is_request (TransactSaving name amount) = is_name name && is_amount amount
 is_request (Amalgamate from to) = is_name from && is_name to
 is_request (WriteCheck name amount) = is_name name && is_amount amount
 
+-- a client of four bytes and a number of eight
 abbrev pub is_asked : Asked → Bool
 is_asked a = is_number 4 a.client && (is_number 8 a.number && is_request a.request)
 
 -- a total fits 64 bits
 abbrev pub is_reply : Reply → Bool
-is_reply Done = true
 is_reply (Total sum) = int_le (negsuc (2 ^ 63 - 1)) sum && int_le sum (pos (2 ^ 63 - 1))
-is_reply (Aborted why) = true
+is_reply _ = true
 
 -- ---- bodies of frames
 
+-- a name, and balances of which the saving isn't below 0
 abbrev pub is_customer : Customer → Bool
 is_customer c = is_name c.name && (is_saving c.saving && is_balance c.checking)
 
--- one parallelBatch or more, none empty, and 256 requests at most
+-- one parallelBatch or more, none empty, and no more requests than a batch may have
 abbrev pub is_batch : Batch → Bool
 is_batch b =
-    nat_le 1 (length b.sizes) && (list_all (nat_le 1) b.sizes && (nat_le (sum b.sizes) 256
+    nat_le 1 (length b.sizes) && (list_all (nat_le 1) b.sizes && (nat_le (sum b.sizes) MOST_REQUESTS
     && ((length b.requests == sum b.sizes) && list_all is_asked b.requests)))
 
+-- the greatest version of a row
 abbrev pub version_limit : ℕ
-version_limit = 2 ^ 40
+version_limit = MOST_VERSIONS
 
 -- an entry of one of this many rows; a read leaves what it saw
 abbrev pub is_entry : ℕ → Entry → Bool
 is_entry rows e =
-    nat_lt e.row rows && (nat_le e.version version_limit && (is_balance e.seen && (is_balance e.after && (is_write e.kind || int_eq e.after e.seen))))
+    nat_lt e.row rows && (nat_le e.version version_limit
+    && (is_balance e.seen && (is_balance e.after && (is_write e.kind || int_eq e.after e.seen))))
 
+-- numbers of one and two bytes, and no more entries than a request may have
 abbrev pub is_access : ℕ → Access → Bool
 is_access rows x =
-    is_number 1 x.worker && (is_number 2 x.place && (is_number 2 x.index && (nat_le (length x.entries) 3 && list_all (is_entry rows) x.entries)))
+    is_number 1 x.worker && (is_number 2 x.place && (is_number 2 x.index
+    && (nat_le (length x.entries) MOST_ENTRIES && list_all (is_entry rows) x.entries)))
 
 -- an attempt as its own frame says it: one reply for each index of the certificate
 abbrev pub is_attempt : Attempt → Bool
 is_attempt a =
-    is_number 4 a.seq && (is_number 4 a.view && (is_between 1 256 (length a.certificate) && (list_all (is_number 2) a.certificate
+    is_number 4 a.seq && (is_number 4 a.view
+    && (is_between 1 MOST_REQUESTS (length a.certificate) && (list_all (is_number 2) a.certificate
     && ((length a.replies == length a.certificate) && (list_all is_reply a.replies && is_token a.token)))))
 
 -- and with its accesses: as many of them
 abbrev pub is_whole_attempt : ℕ → Attempt → Bool
-is_whole_attempt rows a = is_attempt a && ((length a.accesses == length a.certificate) && list_all (is_access rows) a.accesses)
+is_whole_attempt rows a =
+    is_attempt a && ((length a.accesses == length a.certificate) && list_all (is_access rows) a.accesses)
 
+-- numbers of four bytes, and a token
 abbrev pub is_commit : Commit → Bool
 is_commit c = is_number 4 c.seq && (is_number 4 c.view && is_token c.token)
 
+-- one of this many rows, within the limits
 abbrev pub is_restore : ℕ → Restore → Bool
 is_restore rows r = nat_lt r.row rows && (nat_le r.version version_limit && is_balance r.value)
 
@@ -86,14 +105,18 @@ abbrev pub is_rising : List Restore → Bool
 is_rising [] = true
 is_rising (r ∷ rs) = list_all (λ q. nat_lt r.row q.row) rs && is_rising rs
 
+-- numbers of four bytes, and restores of rising rows
 abbrev pub is_rollback : ℕ → Rollback → Bool
-is_rollback rows r = is_number 4 r.to && (is_number 4 r.view && (is_rising r.restores && list_all (is_restore rows) r.restores))
+is_rollback rows r =
+    is_number 4 r.to && (is_number 4 r.view && (is_rising r.restores && list_all (is_restore rows) r.restores))
 
+-- each kind by its own test
 abbrev pub is_step : ℕ → Step → Bool
 is_step rows (Attempts a) = is_whole_attempt rows a
 is_step rows (Commits c) = is_commit c
 is_step rows (RollsBack r) = is_rollback rows r
 
+-- a token where there is one
 abbrev pub is_choice : Choice → Bool
 is_choice ForRollback = true
 is_choice (ForCommit token) = is_token token
@@ -105,14 +128,18 @@ is_vote batches v = is_between 1 batches v.seq && (is_number 4 v.view && is_choi
 -- a reply of one of this many replicas, in one of this many batches
 abbrev pub is_sent : ℕ → ℕ → Sent → Bool
 is_sent replicas batches s =
-    is_number 4 s.client && (is_number 8 s.number && (nat_lt s.replica replicas && (is_between 1 batches s.seq && is_reply s.reply)))
+    is_number 4 s.client && (is_number 8 s.number
+    && (nat_lt s.replica replicas && (is_between 1 batches s.seq && is_reply s.reply)))
 
 -- ---- the header
 
+-- each number within its limit, and more than half of the verifiers decide
 abbrev pub is_head : Head → Bool
 is_head h =
-    is_between 1 8 h.replicas && (is_between 1 16 h.verifiers && (nat_le h.quorum h.verifiers && (nat_lt h.verifiers (2 * h.quorum)
-    && (is_between 1 8 h.window && (is_between 1 8 h.workers && (is_between 1 4096 h.customers && nat_le h.batches 65535))))))
+    is_between 1 MOST_REPLICAS h.replicas && (is_between 1 MOST_VERIFIERS h.verifiers
+    && (nat_le h.quorum h.verifiers && (nat_lt h.verifiers (2 * h.quorum)
+    && (is_between 1 MOST_WINDOW h.window && (is_between 1 MOST_WORKERS h.workers
+    && (is_between 1 MOST_CUSTOMERS h.customers && nat_le h.batches MOST_BATCHES))))))
 
 -- two rows for each customer
 abbrev pub row_count : Head → ℕ
@@ -132,7 +159,7 @@ pub record HasLimits (t : Trace) : Type 0 where
 -- the bytes are the trace, within the limits
 pub record Spells (bytes : List ℕ) (t : Trace) : Type 0 where
   pub limits : HasLimits t
-  pub short : length_of t ≤ 2 ^ 30
+  pub short : length_of t ≤ MOST_BYTES
   pub spelled : bytes ≡ spelling t
 
 -- ---- frame by frame

@@ -1,5 +1,6 @@
 -- Reading from left to right. A field is a value and the bytes behind it.
-use Rattle.std.specs.Prelude.{◌≡◌, ℕ, ℤ, pos, zero, suc, ◌+◌, Bool, true, false, ◌&&◌, nat_le, nat_lt, ◌==◌, if◌then◌else◌, List, [], ◌∷◌, length, take, drop, sum, Option, Some, None}
+use Rattle.std.specs.Prelude.{◌≡◌, ℕ, ℤ, pos, zero, suc, ◌+◌, Bool, true, false, ◌&&◌, nat_le, nat_lt, ◌==◌}
+use Rattle.std.specs.Prelude.{if◌then◌else◌, List, [], ◌∷◌, length, take, drop, sum, Option, Some, None}
 use Rattle.std.specs.Int.{w64, cast_signed}
 use Rattle.std.specs.List.{list_all}
 use Rattle.std.specs.Ordering.{int_eq}
@@ -13,8 +14,11 @@ use Rattle.eve_smallbank.specs.declared.request.Reply.TheVariants.{Done, Total, 
 use Rattle.eve_smallbank.specs.declared.entry.Kind.{Kind}
 use Rattle.eve_smallbank.specs.declared.entry.Kind.TheVariants.{Read, Write}
 use Rattle.eve_smallbank.specs.declared.entry.Entry.{Entry}
-use Rattle.eve_grammar.specs.Trace.{Customer, Asked, Batch, Access, Attempt, Commit, Restore, Rollback, Choice, ForRollback, ForCommit, Vote, Sent, Head}
-use Rattle.eve_grammar.specs.Frames.{Frame, OfCustomer, OfBatch, OfReplica, OfAttempt, OfAccess, OfCommit, OfRollback, OfVerifier, OfVote, OfSent, End, Place}
+use Rattle.eve_grammar.specs.Trace.{Customer, Asked, Batch, Access, Attempt, Commit, Restore, Rollback, Choice}
+use Rattle.eve_grammar.specs.Trace.{ForRollback, ForCommit, Vote, Sent, Head}
+use Rattle.eve_grammar.specs.Frames.{Frame, OfCustomer, OfBatch, OfReplica, OfAttempt, OfAccess, OfCommit, OfRollback}
+use Rattle.eve_grammar.specs.Frames.{OfVerifier, OfVote, OfSent, End, Place}
+use Rattle.eve_grammar.specs.declared.limits.TheConstants.{MOST_REQUESTS, MOST_ENTRIES}
 use Rattle.eve_grammar.specs.Limits.{is_between, is_entry, is_restore, is_rising, is_head, row_count}
 
 -- ---- how readers are put together
@@ -89,15 +93,19 @@ name_at = only is_name (led_by (number_at 1) bytes_at)
 abbrev pub signed_at : Reader ℤ
 signed_at = made (cast_signed w64) (number_at 8)
 
+-- a balance within its range
 unfoldable pub balance_at : Reader ℤ
 balance_at = only is_balance signed_at
 
+-- a balance that savings may open with
 unfoldable pub saving_at : Reader ℤ
 saving_at = only is_saving signed_at
 
+-- an amount within its range
 unfoldable pub amount_at : Reader ℤ
 amount_at = only is_amount signed_at
 
+-- 32 bytes as they are
 unfoldable pub token_at : Reader (List ℕ)
 token_at = bytes_at 32
 
@@ -117,12 +125,15 @@ coded_at code bytes =
     else if code == 5 then made (λ m. WriteCheck m.0 m.1) move_at bytes
     else None
 
+-- a code, and what stands behind it
 unfoldable pub request_at : Reader Request
 request_at = led_by (number_at 1) coded_at
 
+-- the fields of a request with its client and number
 abbrev pub asked_from : ℕ × (ℕ × Request) → Asked
 asked_from p = record { client = p.0; number = p.1.0; request = p.1.1 }
 
+-- a client, a number, a request
 unfoldable pub asked_at : Reader Asked
 asked_at = made asked_from (both (number_at 4) (both (number_at 8) request_at))
 
@@ -142,25 +153,30 @@ plain_reply code =
 abbrev pub reply_from : ℕ × ℤ → Option Reply
 reply_from p = if p.0 == 1 then Some (Total p.1) else if int_eq p.1 (pos 0) then plain_reply p.0 else None
 
+-- a reply in nine bytes
 unfoldable pub reply_at : Reader Reply
 reply_at = made_if reply_from (both (number_at 1) signed_at)
 
 -- ---- entries and restores
 
+-- the kind of a code
 abbrev pub kind_from : ℕ → Option Kind
 kind_from code = if code == 0 then Some Read else if code == 1 then Some Write else None
 
+-- an entry's fields
 abbrev pub entry_from : ℕ × (Kind × (ℕ × (ℤ × ℤ))) → Entry
 entry_from p = record { row = p.0; kind = p.1.0; version = p.1.1.0; seen = p.1.1.1.0; after = p.1.1.1.1 }
 
 -- an entry's fields, within limits or not
 unfoldable pub entry_fields_at : Reader Entry
-entry_fields_at = made entry_from (both (number_at 4) (both (made_if kind_from (number_at 1)) (both (number_at 8) (both signed_at signed_at))))
+entry_fields_at = made entry_from
+    (both (number_at 4) (both (made_if kind_from (number_at 1)) (both (number_at 8) (both signed_at signed_at))))
 
 -- an entry of one of this many rows
 unfoldable pub entry_at : ℕ → Reader Entry
 entry_at rows = only (is_entry rows) entry_fields_at
 
+-- a restore's fields
 abbrev pub restore_from : ℕ × (ℕ × ℤ) → Restore
 restore_from p = record { row = p.0; version = p.1.0; value = p.1.1 }
 
@@ -174,20 +190,23 @@ restore_at rows = only (is_restore rows) restore_fields_at
 
 -- ---- bodies of frames
 
+-- a customer's fields
 abbrev pub customer_from : List ℕ × (ℤ × ℤ) → Customer
 customer_from p = record { name = p.0; saving = p.1.0; checking = p.1.1 }
 
+-- a name and two balances
 unfoldable pub customer_of : List ℕ → Option Customer
 customer_of = whole (made customer_from (both name_at (both saving_at balance_at)))
 
--- one size or more, none 0, of 256 requests at most
+-- one size or more, none 0, and no more requests than a batch may have
 abbrev pub are_sizes : List ℕ → Bool
-are_sizes sizes = nat_le 1 (length sizes) && (list_all (nat_le 1) sizes && nat_le (sum sizes) 256)
+are_sizes sizes = nat_le 1 (length sizes) && (list_all (nat_le 1) sizes && nat_le (sum sizes) MOST_REQUESTS)
 
 -- the sizes of parallelBatches, behind their count
 unfoldable pub sizes_at : Reader (List ℕ)
 sizes_at = only are_sizes (led_by (number_at 2) (many_at (number_at 2)))
 
+-- a batch's sizes and requests
 abbrev pub batch_from : List ℕ × List Asked → Batch
 batch_from p = record { sizes = p.0; requests = p.1 }
 
@@ -199,34 +218,51 @@ batch_of = whole (both (number_at 4) (made batch_from (both_by sizes_at (λ size
 unfoldable pub number_of : List ℕ → Option ℕ
 number_of = whole (number_at 1)
 
+-- whether a mode is the serial one
 abbrev pub serial_from : ℕ → Option Bool
 serial_from mode = if mode == 0 then Some false else if mode == 1 then Some true else None
 
 -- the certificate and as many replies, behind their count
 unfoldable pub certified_at : Reader (List ℕ × List Reply)
-certified_at = led_by (only (is_between 1 256) (number_at 2)) (λ count. both (many_at (number_at 2) count) (many_at reply_at count))
+certified_at = led_by (only (is_between 1 MOST_REQUESTS) (number_at 2))
+    (λ count. both (many_at (number_at 2) count) (many_at reply_at count))
 
+-- an attempt's fields
 abbrev pub attempt_from : ℕ × (ℕ × (Bool × ((List ℕ × List Reply) × List ℕ))) → Attempt
 attempt_from p =
-    record { seq = p.0; view = p.1.0; serial = p.1.1.0; certificate = p.1.1.1.0.0; replies = p.1.1.1.0.1; token = p.1.1.1.1; accesses = [] }
+    record {
+      seq = p.0;
+      view = p.1.0;
+      serial = p.1.1.0;
+      certificate = p.1.1.1.0.0;
+      replies = p.1.1.1.0.1;
+      token = p.1.1.1.1;
+      accesses = [];
+    }
 
 -- an attempt as its own frame says it, without accesses
 unfoldable pub attempt_of : List ℕ → Option Attempt
-attempt_of = whole (made attempt_from (both (number_at 4) (both (number_at 4) (both (made_if serial_from (number_at 1)) (both certified_at token_at)))))
+attempt_of = whole (made attempt_from
+    (both (number_at 4) (both (number_at 4) (both (made_if serial_from (number_at 1)) (both certified_at token_at)))))
 
+-- an access record's fields
 abbrev pub access_from : ℕ × (ℕ × (ℕ × List Entry)) → Access
 access_from p = record { worker = p.0; place = p.1.0; index = p.1.1.0; entries = p.1.1.1 }
 
 -- three entries at most, behind their count
 unfoldable pub entries_at : ℕ → Reader (List Entry)
-entries_at rows = led_by (only (λ count. nat_le count 3) (number_at 1)) (many_at (entry_at rows))
+entries_at rows = led_by (only (λ count. nat_le count MOST_ENTRIES) (number_at 1)) (many_at (entry_at rows))
 
+-- a worker, a place, an index, the entries
 unfoldable pub access_of : ℕ → List ℕ → Option Access
-access_of rows = whole (made access_from (both (number_at 1) (both (number_at 2) (both (number_at 2) (entries_at rows)))))
+access_of rows = whole (made access_from
+    (both (number_at 1) (both (number_at 2) (both (number_at 2) (entries_at rows)))))
 
+-- a commit's fields
 abbrev pub commit_from : ℕ × (ℕ × List ℕ) → Commit
 commit_from p = record { seq = p.0; view = p.1.0; token = p.1.1 }
 
+-- a number, a view, a token
 unfoldable pub commit_of : List ℕ → Option Commit
 commit_of = whole (made commit_from (both (number_at 4) (both (number_at 4) token_at)))
 
@@ -234,9 +270,11 @@ commit_of = whole (made commit_from (both (number_at 4) (both (number_at 4) toke
 unfoldable pub restores_at : ℕ → Reader (List Restore)
 restores_at rows = only is_rising (led_by (number_at 4) (many_at (restore_at rows)))
 
+-- a rollback's fields
 abbrev pub rollback_from : ℕ × (ℕ × List Restore) → Rollback
 rollback_from p = record { to = p.0; view = p.1.0; restores = p.1.1 }
 
+-- a number, a view, the restores
 unfoldable pub rollback_of : ℕ → List ℕ → Option Rollback
 rollback_of rows = whole (made rollback_from (both (number_at 4) (both (number_at 4) (restores_at rows))))
 
@@ -247,13 +285,17 @@ choice_from p =
     else if p.0 == 0 then (if list_all (λ byte. byte == 0) p.1 then Some ForRollback else None)
     else None
 
+-- a vote's fields
 abbrev pub vote_from : ℕ × (ℕ × Choice) → Vote
 vote_from p = record { seq = p.0; view = p.1.0; choice = p.1.1 }
 
 -- a vote on one of this many batches
 unfoldable pub vote_of : ℕ → List ℕ → Option Vote
-vote_of batches = whole (made vote_from (both (only (is_between 1 batches) (number_at 4)) (both (number_at 4) (made_if choice_from (both (number_at 1) token_at)))))
+vote_of batches = whole (made vote_from
+    (both (only (is_between 1 batches) (number_at 4))
+    (both (number_at 4) (made_if choice_from (both (number_at 1) token_at)))))
 
+-- the fields of a reply sent
 abbrev pub sent_from : ℕ × (ℕ × (ℕ × (ℕ × Reply))) → Sent
 sent_from p = record { client = p.0; number = p.1.0; replica = p.1.1.0; seq = p.1.1.1.0; reply = p.1.1.1.1 }
 
@@ -261,7 +303,8 @@ sent_from p = record { client = p.0; number = p.1.0; replica = p.1.1.0; seq = p.
 unfoldable pub sent_of : ℕ → ℕ → List ℕ → Option Sent
 sent_of replicas batches =
     whole (made sent_from (both (number_at 4) (both (number_at 8)
-    (both (only (λ replica. nat_lt replica replicas) (number_at 1)) (both (only (is_between 1 batches) (number_at 4)) reply_at)))))
+    (both (only (λ replica. nat_lt replica replicas) (number_at 1))
+    (both (only (is_between 1 batches) (number_at 4)) reply_at)))))
 
 -- the body of a kind that may stand at this place, as the frame that it makes
 unfoldable pub body_of : Head → Place → ℕ → List ℕ → Option Frame
@@ -281,12 +324,23 @@ body_of h p kind body =
 
 -- ---- the header
 
+-- a header's numbers
 abbrev pub head_from : ℕ × (ℕ × (ℕ × (ℕ × (ℕ × (ℕ × ℕ))))) → Head
 head_from p =
-    record { replicas = p.0; verifiers = p.1.0; quorum = p.1.1.0; window = p.1.1.1.0; workers = p.1.1.1.1.0; customers = p.1.1.1.1.1.0; batches = p.1.1.1.1.1.1 }
+    record {
+      replicas = p.0;
+      verifiers = p.1.0;
+      quorum = p.1.1.0;
+      window = p.1.1.1.0;
+      workers = p.1.1.1.1.0;
+      customers = p.1.1.1.1.1.0;
+      batches = p.1.1.1.1.1.1;
+    }
 
 -- the header between its first six bytes and the length: the version, the limits around three zero bytes
 unfoldable pub header_of : List ℕ → Option Head
 header_of =
-    whole (behind 2 1 (only is_head (made head_from (both (number_at 1) (both (number_at 1) (both (number_at 1) (both (number_at 1) (both (number_at 1)
+    whole (behind 2 1 (only is_head
+    (made head_from (both (number_at 1)
+    (both (number_at 1) (both (number_at 1) (both (number_at 1) (both (number_at 1)
     (behind 3 0 (both (number_at 4) (number_at 4)))))))))))

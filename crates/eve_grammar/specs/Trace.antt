@@ -39,6 +39,7 @@ pub record Attempt : Type 0 where
   pub token : List ℕ
   pub accesses : List Access
 
+-- the first open attempt is committed
 pub record Commit : Type 0 where
   pub seq : ℕ
   pub view : ℕ
@@ -62,6 +63,7 @@ pub data Step : Type 0 where
   Commits : Commit → Step
   RollsBack : Rollback → Step
 
+-- what a vote is for
 pub data Choice : Type 0 where
   ForRollback : Choice
   ForCommit : (token : List ℕ) → Choice
@@ -101,6 +103,7 @@ pub record Head : Type 0 where
   pub customers : ℕ
   pub batches : ℕ
 
+-- a trace's header
 abbrev pub head_of : Trace → Head
 head_of t = record {
   replicas = length t.sections;

@@ -7,6 +7,7 @@ ghost use Rattle.eve_grammar.specs.Bodies.{entries_in, access};
 
 use crate::entry::entry_at;
 use crate::fields::{u8_at, u16_at};
+use crate::limits::{MOST_ENTRIES, MOST_NAMED_ROWS};
 
 /// What a worker noted of a request.
 #[derive(Clone, Copy, Debug, PartialEq, Eq)]
@@ -17,14 +18,14 @@ pub struct AccessBody<'a> {
     pub place: u16,
     /// The request's index, from 0.
     pub index: u16,
-    /// Three entries of 29 bytes at most.
+    /// `MOST_ENTRIES` entries of 29 bytes at most.
     pub entries: &'a [u8],
 }
 
 /// What stands behind this many entries.
 #[tactic(auto, unfolding(crate::specs::Scanning::rest_at))]
 fn behind_entries(rows: u32, count: u8, bytes: &[u8]) -> Option<&[u8]>
-    requires { rows ≤ 131072 }
+    requires { rows ≤ MOST_NAMED_ROWS }
     ensures { Gives (λ x. x.now) result (rest_at (entry_at rows) count bytes.now) }
 {
     let mut rest = bytes;
@@ -37,16 +38,16 @@ fn behind_entries(rows: u32, count: u8, bytes: &[u8]) -> Option<&[u8]>
     Some(rest)
 }
 
-/// A count of three at most and as many entries: their bytes, and what stands behind them.
+/// A count of `MOST_ENTRIES` at most and as many entries: their bytes, and what stands behind them.
 #[tactic(auto, unfolding(crate::specs::Reading::entries_at))]
 fn entries_at(rows: u32, bytes: &[u8]) -> Option<(&[u8], &[u8])>
-    requires { rows ≤ 131072 }
+    requires { rows ≤ MOST_NAMED_ROWS }
     ensures { Gives (λ x. (entries_in x.0.now, x.1.now)) result (entries_at rows bytes.now) }
 {
     let Some((count, entries)) = u8_at(bytes) else {
         return None;
     };
-    if count > 3 {
+    if count > MOST_ENTRIES {
         return None;
     }
     let Some(behind) = behind_entries(rows, count, entries) else {
@@ -61,7 +62,7 @@ impl<'a> AccessBody<'a> {
     /// docs/TRACE.md, "Frames".
     #[tactic(auto, unfolding(crate::specs::Reading::access_of))]
     pub fn read(rows: u32, body: &'a [u8]) -> Option<AccessBody<'a>>
-        requires { rows ≤ 131072 }
+        requires { rows ≤ MOST_NAMED_ROWS }
         ensures { Gives access result (access_of rows body.now) }
     {
         let (worker, rest) = u8_at(body)?;

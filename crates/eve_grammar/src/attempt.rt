@@ -6,6 +6,7 @@ ghost use Rattle.eve_grammar.specs.Scanning.{rest_at};
 ghost use Rattle.eve_grammar.specs.Bodies.{certified, attempt};
 
 use crate::fields::{token_at, u8_at, u16_at, u32_at};
+use crate::limits::MOST_REQUESTS;
 use crate::reply::reply_at;
 
 /// An execution of a batch, without its access frames.
@@ -17,7 +18,7 @@ pub struct AttemptBody<'a> {
     pub view: u32,
     /// Whether the batch was executed by one worker, in index order.
     pub serial: bool,
-    /// 1 to 256 request indices of two bytes, in the order of execution.
+    /// 1 to `MOST_REQUESTS` request indices of two bytes, in the order of execution.
     pub certificate: &'a [u8],
     /// As many replies of nine bytes, by request index.
     pub replies: &'a [u8],
@@ -55,7 +56,7 @@ fn behind_replies(count: u16, bytes: &[u8]) -> Option<&[u8]>
     Some(rest)
 }
 
-/// A count of 1 to 256, a certificate of as many indices, and as many replies.
+/// A count of 1 to `MOST_REQUESTS`, a certificate of as many indices, and as many replies.
 #[tactic(auto, unfolding(crate::specs::Reading::certified_at))]
 fn certified_at(bytes: &[u8]) -> Option<(Certified<'_>, &[u8])>
     ensures { Gives (λ x. (certified x.0, x.1.now)) result (certified_at bytes.now) }
@@ -63,7 +64,7 @@ fn certified_at(bytes: &[u8]) -> Option<(Certified<'_>, &[u8])>
     let Some((count, rest)) = u16_at(bytes) else {
         return None;
     };
-    if count == 0 || count > 256 || rest.len() < 2 * count as usize {
+    if count == 0 || count as usize > MOST_REQUESTS || rest.len() < 2 * count as usize {
         return None;
     }
     let (certificate, replies) = rest.split_at(2 * count as usize);

@@ -6,6 +6,7 @@ ghost use Rattle.eve_grammar.specs.Scanning.{total_at, rest_at};
 ghost use Rattle.eve_grammar.specs.Bodies.{numbers_in, requests_in, batch};
 
 use crate::fields::{u16_at, u32_at};
+use crate::limits::MOST_REQUESTS;
 use crate::request::asked_at;
 
 /// A batch of requests, in parallelBatches.
@@ -13,7 +14,7 @@ use crate::request::asked_at;
 pub struct BatchBody<'a> {
     /// The batch's number, from 1.
     pub number: u32,
-    /// How many requests each parallelBatch has: numbers of two bytes, none 0, of sum 256 at most.
+    /// How many requests each parallelBatch has: numbers of two bytes, none 0, of sum `MOST_REQUESTS` at most.
     pub sizes: &'a [u8],
     /// The requests of one parallelBatch after another.
     pub requests: &'a [u8],
@@ -59,7 +60,7 @@ fn behind_requests(count: u32, bytes: &[u8]) -> Option<&[u8]>
     Some(rest)
 }
 
-/// A count and as many sizes, none 0 and 256 requests at most.
+/// A count and as many sizes, none 0 and `MOST_REQUESTS` requests at most.
 #[tactic(auto, unfolding(crate::specs::Reading::sizes_at))]
 fn sizes_at(bytes: &[u8]) -> Option<(Sizes<'_>, &[u8])>
     ensures sizes { Gives (λ x. (numbers_in x.0.sizes.now, x.1.now)) result (sizes_at bytes.now) }
@@ -71,7 +72,7 @@ fn sizes_at(bytes: &[u8]) -> Option<(Sizes<'_>, &[u8])>
     let Some((total, behind)) = total_at(count, rest) else {
         return None;
     };
-    if count == 0 || total > 256 {
+    if count == 0 || total as usize > MOST_REQUESTS {
         return None;
     }
     let sizes = &rest[..2 * count as usize];

@@ -5,12 +5,14 @@ ghost use Rattle.std.specs.List.{AllByRecursion};
 ghost use Rattle.eve_grammar.specs.Certificate.{is_permutation, group_of, is_grouped, counts_from, is_certificate};
 ghost use Rattle.eve_grammar.specs.Groups.{AreGroups};
 
+use crate::limits::MOST_REQUESTS;
+
 /// Whether each number below their count stands in the order once.
 pub fn is_permutation(order: &[u16]) -> bool
-    requires { length order.now ≤ 256 }
+    requires { length order.now ≤ MOST_REQUESTS }
     ensures { result ≡ is_permutation (length order.now) order.now }
 {
-    let mut seen = [false; 256];
+    let mut seen = [false; MOST_REQUESTS];
     for index in order {
         let index = *index as usize;
         if index >= order.len() || seen[index] {
@@ -22,8 +24,8 @@ pub fn is_permutation(order: &[u16]) -> bool
 }
 
 /// Whether no index stands behind one of a later parallelBatch, where those are the indexes' parallelBatches.
-fn is_grouped(groups: &[u8; 256], order: &[u16]) -> bool
-    requires { AllByRecursion (λ i. i < 256) order.now }
+fn is_grouped(groups: &[u8; MOST_REQUESTS], order: &[u16]) -> bool
+    requires { AllByRecursion (λ i. i < MOST_REQUESTS) order.now }
     ensures { (sizes : List ℕ) → AreGroups sizes order.now groups.now → result ≡ is_grouped sizes order.now }
 {
     let mut last = 0;
@@ -53,8 +55,8 @@ fn is_listed(order: &[u16]) -> bool
 /// parallelBatch of each index, from 0.
 ///
 /// docs/MODEL.md, "Certificate order, keeps the groups".
-pub fn is_certificate(groups: &[u8; 256], serial: bool, order: &[u16]) -> bool
-    requires { length order.now ≤ 256 }
+pub fn is_certificate(groups: &[u8; MOST_REQUESTS], serial: bool, order: &[u16]) -> bool
+    requires { length order.now ≤ MOST_REQUESTS }
     ensures { (sizes : List ℕ) → ((i : ℕ) → i < length order.now → slice_index groups.now i ≡ group_of sizes i)
         → result ≡ is_certificate sizes (length order.now) serial order.now }
 {

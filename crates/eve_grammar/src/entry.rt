@@ -5,13 +5,14 @@ ghost use Rattle.std.specs.Ordering.{int_eq};
 ghost use Rattle.eve_smallbank.specs.Access.{is_write};
 ghost use Rattle.eve_grammar.specs.Reading.{Gives, kind_from, entry_at};
 
+use crate::limits::{MOST_NAMED_ROWS, MOST_VERSIONS};
 use crate::places::{bytes_from, i64_in, u32_in, u64_in};
 use eve_accounts::{Cents, Row};
 use eve_smallbank::{Entry, Kind};
 
 /// The row of this number.
 pub fn row_of(number: u32) -> Row
-    requires { number < 131072 }
+    requires { number < MOST_NAMED_ROWS }
     ensures { result ≡ number }
 {
     if number % 2 == 0 {
@@ -43,9 +44,9 @@ fn agree(kind: Kind, seen: Cents, after: Cents) -> bool
 
 /// An entry in 29 bytes, of one of this many rows.
 ///
-/// docs/TRACE.md, "Parts": a version of at most 2^40, and a read leaves what it saw.
+/// docs/TRACE.md, "Parts": a version of at most `MOST_VERSIONS`, and a read leaves what it saw.
 pub fn entry_at(rows: u32, bytes: &[u8]) -> Option<(Entry, &[u8])>
-    requires { rows ≤ 131072 }
+    requires { rows ≤ MOST_NAMED_ROWS }
     ensures { Gives (λ x. (x.0, x.1.now)) result (entry_at rows bytes.now) }
 {
     if bytes.len() < 29 {
@@ -62,7 +63,7 @@ pub fn entry_at(rows: u32, bytes: &[u8]) -> Option<(Entry, &[u8])>
     };
     let number = u32_in(bytes, 0);
     let version = u64_in(bytes, 5);
-    if number >= rows || version > 1_099_511_627_776 || !agree(kind, seen, after) {
+    if number >= rows || version > MOST_VERSIONS || !agree(kind, seen, after) {
         return None;
     }
     let row = row_of(number);

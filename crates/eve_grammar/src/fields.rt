@@ -4,7 +4,8 @@
 
 ghost use Rattle.std.specs.Prelude.{◌≡◌};
 ghost use Rattle.eve_accounts.specs.Names.{is_name};
-ghost use Rattle.eve_grammar.specs.Reading.{Gives, number_at, name_at, balance_at, saving_at, amount_at, move_at, token_at, number_of};
+ghost use Rattle.eve_grammar.specs.Reading.{Gives, number_at, name_at, balance_at, saving_at, amount_at, move_at};
+ghost use Rattle.eve_grammar.specs.Reading.{token_at, number_of};
 
 use byteorder::{BigEndian, ByteOrder};
 use eve_accounts::{Amount, Cents, is_name};

@@ -5,6 +5,9 @@ ghost use Rattle.eve_grammar.specs.Limits.{is_head};
 ghost use Rattle.eve_grammar.specs.Reading.{Gives, header_of};
 ghost use Rattle.eve_grammar.specs.Bodies.{limits};
 
+use crate::limits::{
+    MOST_BATCHES, MOST_CUSTOMERS, MOST_REPLICAS, MOST_VERIFIERS, MOST_WINDOW, MOST_WORKERS,
+};
 use crate::places::{u16_in, u24_in, u32_in};
 
 /// How many there are of what a trace speaks of.
@@ -12,19 +15,19 @@ use crate::places::{u16_in, u24_in, u32_in};
 /// docs/TRACE.md, "Header".
 #[derive(Clone, Copy, Debug, PartialEq, Eq)]
 pub struct Head {
-    /// Replicas, 1 to 8.
+    /// Replicas, 1 to `MOST_REPLICAS`.
     pub replicas: u8,
-    /// Verifiers, 1 to 16.
+    /// Verifiers, 1 to `MOST_VERIFIERS`.
     pub verifiers: u8,
     /// How many votes decide: more than half of the verifiers, at most all.
     pub quorum: u8,
-    /// How many batches are attempted before the first is decided, 1 to 8.
+    /// How many batches are attempted before the first is decided, 1 to `MOST_WINDOW`.
     pub window: u8,
-    /// Workers of a replica, 1 to 8.
+    /// Workers of a replica, 1 to `MOST_WORKERS`.
     pub workers: u8,
-    /// Customers, 1 to 4096.
+    /// Customers, 1 to `MOST_CUSTOMERS`.
     pub customers: u32,
-    /// Batches, at most 65,535.
+    /// Batches, `MOST_BATCHES` at most.
     pub batches: u32,
 }
 
@@ -34,18 +37,18 @@ impl Head {
         ensures { result ≡ is_head (limits self.now) }
     {
         1 <= self.replicas
-            && self.replicas <= 8
+            && self.replicas <= MOST_REPLICAS
             && 1 <= self.verifiers
-            && self.verifiers <= 16
+            && self.verifiers <= MOST_VERIFIERS
             && self.quorum <= self.verifiers
             && (self.verifiers as u32) < 2 * self.quorum as u32
             && 1 <= self.window
-            && self.window <= 8
+            && self.window <= MOST_WINDOW
             && 1 <= self.workers
-            && self.workers <= 8
+            && self.workers <= MOST_WORKERS
             && 1 <= self.customers
-            && self.customers <= 4096
-            && self.batches <= 65535
+            && self.customers <= MOST_CUSTOMERS
+            && self.batches <= MOST_BATCHES
     }
 
     /// The limits in the 18 bytes of a header from the version to the batches; `None` where they aren't

@@ -1,6 +1,6 @@
 //! Laws about the definitions. Each body is empty: the contract is the law.
 
-ghost use Rattle.std.specs.Prelude.{◌≡◌, ◌≤◌, ◌^◌, ℕ, IsTrue, List};
+ghost use Rattle.std.specs.Prelude.{◌≡◌, ◌≤◌, ℕ, IsTrue, List};
 ghost use Rattle.eve_grammar.specs.Trace.{Trace, Head, head_of};
 ghost use Rattle.eve_grammar.specs.Frames.{Frame, frames_of};
 ghost use Rattle.eve_grammar.specs.Spelling.{length_of};
@@ -8,6 +8,8 @@ ghost use Rattle.eve_grammar.specs.Limits.{HasLimits, is_head, Spells};
 ghost use Rattle.eve_grammar.specs.Following.{IsRun};
 ghost use Rattle.eve_grammar.specs.Gathering.{trace_of, IsTraceOf};
 ghost use Rattle.eve_grammar.specs.Cases.{empty_run, empty_run_bytes, deposit_committed, deposit_committed_bytes};
+
+use crate::limits::MOST_BYTES;
 
 /// A trace has one spelling at most.
 pub fn traces_have_one_spelling()
@@ -38,7 +40,7 @@ pub fn each_run_is_one_trace()
     ensures only { (h : Head) (fs : List Frame) (t : Trace) → IsTraceOf h fs t → t ≡ trace_of h fs }
 {}
 
-/// The frames of a trace within its limits, of at most 2^30 bytes, run from the first to the end.
+/// The frames of a trace within its limits, of at most `MOST_BYTES` bytes, run from the first to the end.
 pub fn each_trace_runs()
-    ensures { (t : Trace) → HasLimits t → length_of t ≤ 2 ^ 30 → IsRun (head_of t) (frames_of t) }
+    ensures { (t : Trace) → HasLimits t → length_of t ≤ MOST_BYTES → IsRun (head_of t) (frames_of t) }
 {}

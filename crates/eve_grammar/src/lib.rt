@@ -9,8 +9,10 @@ mod commit;
 mod customer;
 mod entry;
 mod fields;
+mod frame_kind;
 mod head;
 pub mod laws;
+mod limits;
 mod places;
 mod reply;
 mod request;
@@ -27,7 +29,13 @@ pub use commit::CommitBody;
 pub use customer::CustomerBody;
 pub use entry::{entry_at, row_of};
 pub use fields::{number_of, u8_at, u16_at, u32_at, u64_at};
+pub use frame_kind::FrameKind;
 pub use head::Head;
+pub use limits::{
+    MOST_BATCHES, MOST_BYTES, MOST_CUSTOMERS, MOST_ENTRIES, MOST_NAMED_ROWS, MOST_NAMES,
+    MOST_REPLICAS, MOST_REQUESTS, MOST_ROWS, MOST_VERIFIERS, MOST_VERSIONS, MOST_WINDOW,
+    MOST_WORKERS,
+};
 pub use reply::reply_at;
 pub use request::{Asked, asked_at};
 pub use restore::{Restore, restore_at};

@@ -5,6 +5,7 @@ ghost use Rattle.eve_grammar.specs.Reading.{Gives, restore_at};
 ghost use Rattle.eve_grammar.specs.Bodies.{restore};
 
 use crate::entry::row_of;
+use crate::limits::{MOST_NAMED_ROWS, MOST_VERSIONS};
 use crate::places::{bytes_from, i64_in, u32_in, u64_in};
 use eve_accounts::{Cents, Row};
 
@@ -21,9 +22,9 @@ pub struct Restore {
 
 /// A restore in 20 bytes, of one of this many rows.
 ///
-/// docs/TRACE.md, "Parts": a version of at most 2^40.
+/// docs/TRACE.md, "Parts": a version of at most `MOST_VERSIONS`.
 pub fn restore_at(rows: u32, bytes: &[u8]) -> Option<(Restore, &[u8])>
-    requires { rows ≤ 131072 }
+    requires { rows ≤ MOST_NAMED_ROWS }
     ensures { Gives (λ x. (restore x.0, x.1.now)) result (restore_at rows bytes.now) }
 {
     if bytes.len() < 20 {
@@ -34,7 +35,7 @@ pub fn restore_at(rows: u32, bytes: &[u8]) -> Option<(Restore, &[u8])>
     };
     let number = u32_in(bytes, 0);
     let version = u64_in(bytes, 4);
-    if number >= rows || version > 1_099_511_627_776 {
+    if number >= rows || version > MOST_VERSIONS {
         return None;
     }
     let row = row_of(number);

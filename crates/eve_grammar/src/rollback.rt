@@ -6,6 +6,7 @@ ghost use Rattle.eve_grammar.specs.Scanning.{rising_at};
 ghost use Rattle.eve_grammar.specs.Bodies.{restores_in, rollback};
 
 use crate::fields::u32_at;
+use crate::limits::MOST_NAMED_ROWS;
 use crate::restore::restore_at;
 
 /// A replica's return to its last committed batch, and on into the next view.
@@ -22,7 +23,7 @@ pub struct RollbackBody<'a> {
 /// What stands behind this many restores of rising rows.
 #[tactic(auto, unfolding(crate::specs::Scanning::rising_at))]
 fn behind_restores(rows: u32, count: u32, bytes: &[u8]) -> Option<&[u8]>
-    requires { rows ≤ 131072 }
+    requires { rows ≤ MOST_NAMED_ROWS }
     ensures { Gives (λ x. x.now) result (rising_at rows 0 count bytes.now) }
 {
     let mut least: u32 = 0;
@@ -44,7 +45,7 @@ fn behind_restores(rows: u32, count: u32, bytes: &[u8]) -> Option<&[u8]>
 /// A count and as many restores of rising rows: their bytes, and what stands behind them.
 #[tactic(auto, unfolding(crate::specs::Reading::restores_at))]
 fn restores_at(rows: u32, bytes: &[u8]) -> Option<(&[u8], &[u8])>
-    requires { rows ≤ 131072 }
+    requires { rows ≤ MOST_NAMED_ROWS }
     ensures { Gives (λ x. (restores_in x.0.now, x.1.now)) result (restores_at rows bytes.now) }
 {
     let Some((count, restores)) = u32_at(bytes) else {
@@ -62,7 +63,7 @@ impl<'a> RollbackBody<'a> {
     /// docs/TRACE.md, "Frames".
     #[tactic(auto, unfolding(crate::specs::Reading::rollback_of))]
     pub fn read(rows: u32, body: &'a [u8]) -> Option<RollbackBody<'a>>
-        requires { rows ≤ 131072 }
+        requires { rows ≤ MOST_NAMED_ROWS }
         ensures { Gives rollback result (rollback_of rows body.now) }
     {
         let (to, rest) = u32_at(body)?;

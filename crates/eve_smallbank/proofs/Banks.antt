@@ -1,12 +1,14 @@
 -- A bank as the values of its rows.
-use Rattle.std.proofs.Common.{◌≡◌, ℕ, ℤ, ◌+◌, ◌≤◌, ◌==◌, ◌⊎◌, Bool, true, false, cond, List, [], ◌∷◌, Option, Some, None, option_map, refl, sym, ap, ◌∙◌, inl, inr, arith}
+use Rattle.std.proofs.Common.{◌≡◌, ℕ, ℤ, ◌+◌, ◌≤◌, ◌==◌, ◌⊎◌, Bool, true, false, cond, List, [], ◌∷◌, Option, Some}
+use Rattle.std.proofs.Common.{None, option_map, refl, sym, ap, ◌∙◌, inl, inr, arith}
 use Rattle.std.proofs.lemmas.Bool.{cases_Bool, eq-eqb, ne_eqb, cond-true, cond-false, false≢true}
 use Rattle.std.specs.declared.cmp.Ordering.{Ordering}
 use Rattle.std.specs.declared.cmp.Ordering.TheVariants.{Less, Equal, Greater}
 use Rattle.std.specs.Ordering.{is_eq}
 use Rattle.std.specs.Cmp.{eq_by_cmp_equiv}
 use Rattle.std.specs.Cmp.Lexicographic.{nat_list_cmp_total}
-use Rattle.std.specs.FinMap.{get, insert, get-empty, get-insert, same_map, IsAntisymmetric, nat_cmp-IsAntisymmetric, slice_cmp-IsAntisymmetric}
+use Rattle.std.specs.FinMap.{get, insert, get-empty, get-insert, same_map, IsAntisymmetric, nat_cmp-IsAntisymmetric}
+use Rattle.std.specs.FinMap.{slice_cmp-IsAntisymmetric}
 use Rattle.eve_accounts.specs.Names.{name_cmp, same_name, customer_from, customer_of}
 use Rattle.eve_accounts.specs.Rows.{saving_row, checking_row}
 use Rattle.eve_smallbank.specs.SmallBank.{Account}
@@ -25,13 +27,15 @@ get-bank_from customer (first ∷ names) values name =
     get-insert nat_list_cmp_total (bank_from (customer + 1) names values) first (account_at values customer) name
     ∙ by (same_name name first) (get-bank_from (customer + 1) names values name)
   where
-    by : (b : Bool) → get (bank_from (customer + 1) names values) name ≡ option_map (account_at values) (customer_from (customer + 1) names name)
+    by : (b : Bool) → get (bank_from (customer + 1) names values) name
+        ≡ option_map (account_at values) (customer_from (customer + 1) names name)
         → cond b (Some (account_at values customer)) (get (bank_from (customer + 1) names values) name)
         ≡ option_map (account_at values) (cond b (Some customer) (customer_from (customer + 1) names name))
     by true rest = refl
     by false rest = rest
 
-pub get-bank_of : (names : List (List ℕ)) (values : ℕ → ℤ) (name : List ℕ) → get (bank_of names values) name ≡ option_map (account_at values) (customer_of names name)
+pub get-bank_of : (names : List (List ℕ)) (values : ℕ → ℤ) (name : List ℕ) → get (bank_of names values) name
+    ≡ option_map (account_at values) (customer_of names name)
 unfolding bank_of customer_of
 get-bank_of names values name = get-bank_from 0 names values name
 
@@ -39,31 +43,39 @@ get-bank_of names values name = get-bank_from 0 names values name
 
 -- values with another account for a customer
 abbrev pub put_account : (ℕ → ℤ) → ℕ → Account → ℕ → ℤ
-put_account values customer a row = cond (row == saving_row customer) a.saving (cond (row == checking_row customer) a.checking (values row))
+put_account values customer a row = cond (row == saving_row customer) a.saving
+    (cond (row == checking_row customer) a.checking (values row))
 
 same_account : (a b : Account) → a.saving ≡ b.saving → a.checking ≡ b.checking → a ≡ b
 same_account a b e f = λ i. record { saving = e i; checking = f i }
 
-pub put_account-own : (values : ℕ → ℤ) (customer : ℕ) (a : Account) → account_at (put_account values customer a) customer ≡ a
+pub put_account-own : (values : ℕ → ℤ) (customer : ℕ) (a : Account)
+    → account_at (put_account values customer a) customer ≡ a
 put_account-own values customer a =
     same_account (account_at (put_account values customer a) customer) a
-    (cond-true (saving_row customer == saving_row customer) a.saving _ (eq-eqb (saving_row customer) (saving_row customer) refl))
-    (cond-false (checking_row customer == saving_row customer) a.saving _ (ne_eqb (checking_row customer) (saving_row customer) (λ e. omega arith))
-    ∙ cond-true (checking_row customer == checking_row customer) a.checking _ (eq-eqb (checking_row customer) (checking_row customer) refl))
+    (cond-true (saving_row customer == saving_row customer) a.saving _
+    (eq-eqb (saving_row customer) (saving_row customer) refl))
+    (cond-false (checking_row customer == saving_row customer) a.saving _
+    (ne_eqb (checking_row customer) (saving_row customer) (λ e. omega arith))
+    ∙ cond-true (checking_row customer == checking_row customer) a.checking _
+    (eq-eqb (checking_row customer) (checking_row customer) refl))
 
-pub put_account-row : (values : ℕ → ℤ) (customer : ℕ) (a : Account) (row : ℕ) → ¬ (row ≡ saving_row customer) → ¬ (row ≡ checking_row customer) → put_account values customer a row ≡ values row
+pub put_account-row : (values : ℕ → ℤ) (customer : ℕ) (a : Account) (row : ℕ) → ¬ (row ≡ saving_row customer)
+    → ¬ (row ≡ checking_row customer) → put_account values customer a row ≡ values row
 put_account-row values customer a row n m =
     cond-false (row == saving_row customer) a.saving _ (ne_eqb row (saving_row customer) n)
     ∙ cond-false (row == checking_row customer) a.checking (values row) (ne_eqb row (checking_row customer) m)
 
-pub put_account-other : (values : ℕ → ℤ) (customer other : ℕ) (a : Account) → ¬ (other ≡ customer) → account_at (put_account values customer a) other ≡ account_at values other
+pub put_account-other : (values : ℕ → ℤ) (customer other : ℕ) (a : Account) → ¬ (other ≡ customer)
+    → account_at (put_account values customer a) other ≡ account_at values other
 put_account-other values customer other a apart =
     same_account (account_at (put_account values customer a) other) (account_at values other)
     (put_account-row values customer a (saving_row other) (λ e. apart (omega arith)) (λ e. omega arith))
     (put_account-row values customer a (checking_row other) (λ e. omega arith) (λ e. apart (omega arith)))
 
 -- what a choice between two options gave
-pub chosen : (b : Bool) (m n : ℕ) (o : Option ℕ) → cond b (Some m) o ≡ Some n → ((b ≡ true) × (m ≡ n)) ⊎ ((b ≡ false) × (o ≡ Some n))
+pub chosen : (b : Bool) (m n : ℕ) (o : Option ℕ) → cond b (Some m) o ≡ Some n → ((b ≡ true) × (m ≡ n))
+    ⊎ ((b ≡ false) × (o ≡ Some n))
 chosen true m n o e = inl (refl, same m n e)
   where
     same : (a b : ℕ) → Some a ≡ Some b → a ≡ b
@@ -99,7 +111,8 @@ same_name-refl : (a : List ℕ) → same_name a a ≡ true
 same_name-refl a = (eq_by_cmp_equiv nat_list_cmp_total).refl a
 
 -- a number belongs to one name
-one_name : (c n : ℕ) (names : List (List ℕ)) (a b : List ℕ) → customer_from c names a ≡ Some n → customer_from c names b ≡ Some n → a ≡ b
+one_name : (c n : ℕ) (names : List (List ℕ)) (a b : List ℕ) → customer_from c names a ≡ Some n → customer_from c names b
+    ≡ Some n → a ≡ b
 one_name c n [] a b h k = absurd (none n h)
   where
     none : (n : ℕ) → ◌≡◌ {A = Option ℕ} None (Some n) → ⊥
@@ -120,11 +133,13 @@ one_name c n (first ∷ names) a b h k =
     above e l = omega arith
 
 -- to change an account in a bank is to change its rows
-pub insert-bank_of : (names : List (List ℕ)) (values : ℕ → ℤ) (name : List ℕ) (customer : ℕ) (a : Account) → customer_of names name ≡ Some customer
+pub insert-bank_of : (names : List (List ℕ)) (values : ℕ → ℤ) (name : List ℕ) (customer : ℕ) (a : Account)
+    → customer_of names name ≡ Some customer
     → insert (bank_of names values) name a ≡ bank_of names (put_account values customer a)
 unfolding customer_of
 insert-bank_of names values name customer a is =
-    same_map nat_list_cmp_total names_exact (insert (bank_of names values) name a) (bank_of names (put_account values customer a)) (λ q.
+    same_map nat_list_cmp_total names_exact (insert (bank_of names values) name a)
+    (bank_of names (put_account values customer a)) (λ q.
     get-insert nat_list_cmp_total (bank_of names values) name a q
     ∙ ap (cond (same_name q name) (Some a)) (get-bank_of names values q)
     ∙ at q
@@ -134,13 +149,16 @@ insert-bank_of names values name customer a is =
         → option_map (account_at values) o ≡ option_map (account_at (put_account values customer a)) o
     other q None e n = refl
     other q (Some d) e n = ap Some (sym (put_account-other values customer d a (λ h.
-        absurd (false≢true (sym n ∙ ap (λ r. same_name r name) (one_name 0 customer names q name (e ∙ ap Some h) is) ∙ same_name-refl name)))))
+        absurd (false≢true (sym n ∙ ap (λ r. same_name r name) (one_name 0 customer names q name (e ∙ ap Some h) is)
+        ∙ same_name-refl name)))))
 
     at : (q : List ℕ) → cond (same_name q name) (Some a) (option_map (account_at values) (customer_of names q))
         ≡ option_map (account_at (put_account values customer a)) (customer_of names q)
     at q = elim (cases_Bool (same_name q name)) [
       | inl e ↦ cond-true (same_name q name) (Some a) (option_map (account_at values) (customer_of names q)) e
           ∙ ap Some (sym (put_account-own values customer a))
-          ∙ ap (option_map (account_at (put_account values customer a))) (sym (ap (customer_of names) (same_name-true q name e) ∙ is))
-      | inr n ↦ cond-false (same_name q name) (Some a) (option_map (account_at values) (customer_of names q)) n ∙ other q (customer_of names q) refl n
+          ∙ ap (option_map (account_at (put_account values customer a)))
+          (sym (ap (customer_of names) (same_name-true q name e) ∙ is))
+      | inr n ↦ cond-false (same_name q name) (Some a) (option_map (account_at values) (customer_of names q)) n
+          ∙ other q (customer_of names q) refl n
     ]

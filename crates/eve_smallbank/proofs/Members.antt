@@ -17,7 +17,8 @@ all_from_in P [] h = tt
 all_from_in P (x ∷ xs) h = (h x here, all_from_in P xs (λ y i. h y (there i)))
 
 -- no member passes
-pub list_any-none : {A : Type 0} (p : A → Bool) (xs : List A) → ((x : A) → In x xs → p x ≡ false) → list_any p xs ≡ false
+pub list_any-none : {A : Type 0} (p : A → Bool) (xs : List A) → ((x : A) → In x xs → p x ≡ false) → list_any p xs
+    ≡ false
 list_any-none p [] h = refl
 list_any-none p (x ∷ xs) h = or_from (p x) (list_any p xs) (h x here) (list_any-none p xs (λ y i. h y (there i)))
 
@@ -45,7 +46,8 @@ in_after [] ys r i = elim i [ ]
 in_after {A} {z} (x ∷ xs) ys r here = subst (In z) (sym r.2) (in_middle z r.0 r.1)
 in_after {A} {z} (x ∷ xs) ys r (there i) = subst (In z) (sym r.2) (in_around x r.0 r.1 (in_after xs (r.0 ++ r.1) r.3 i))
 
-pub in_cases : {A : Type 0} {z : A} (x : A) (front back : List A) → In z (front ++ x ∷ back) → (z ≡ x) ⊎ In z (front ++ back)
+pub in_cases : {A : Type 0} {z : A} (x : A) (front back : List A) → In z (front ++ x ∷ back) → (z ≡ x)
+    ⊎ In z (front ++ back)
 in_cases x [] back here = inl refl
 in_cases x [] back (there i) = inr i
 in_cases x (y ∷ front) back here = inr here

@@ -1,16 +1,18 @@
 -- What a request reads and writes, row by row, and what fits it.
-use Rattle.std.specs.Prelude.{◌≡◌, ℕ, ℤ, pos, ◌+◌, ◌==◌, Bool, true, false, ◌&&◌, if◌then◌else◌, List, [], ◌∷◌, map, filter, slice_index_or, Option, Some, None}
+use Rattle.std.specs.Prelude.{◌≡◌, ℕ, ℤ, pos, ◌+◌, ◌==◌, Bool, true, false, ◌&&◌, if◌then◌else◌, List, [], ◌∷◌, map}
+use Rattle.std.specs.Prelude.{filter, slice_index_or, Option, Some, None}
 use Rattle.std.specs.List.{AllByRecursion}
 use Rattle.std.specs.FinMap.{empty, insert}
 use Rattle.eve_accounts.specs.Names.{customer_of}
 use Rattle.eve_accounts.specs.Rows.{saving_row, checking_row}
-use Rattle.eve_smallbank.specs.declared.request.Abort.TheVariants.{NoSuchName, BadAmount, Insufficient, OutOfRange}
+use Rattle.eve_smallbank.specs.declared.request.Abort.TheVariants.{Insufficient, OutOfRange}
 use Rattle.eve_smallbank.specs.declared.request.Reply.{Reply}
-use Rattle.eve_smallbank.specs.declared.request.Reply.TheVariants.{Done, Total, Aborted}
+use Rattle.eve_smallbank.specs.declared.request.Reply.TheVariants.{Aborted}
 use Rattle.eve_smallbank.specs.declared.entry.Kind.{Kind}
 use Rattle.eve_smallbank.specs.declared.entry.Kind.TheVariants.{Read, Write}
 use Rattle.eve_smallbank.specs.declared.entry.Entry.{Entry}
-use Rattle.eve_smallbank.specs.SmallBank.{Account, Bank, Request, Balance, DepositChecking, TransactSaving, Amalgamate, WriteCheck, does}
+use Rattle.eve_smallbank.specs.SmallBank.{Account, Bank, Request, Balance, DepositChecking, TransactSaving, Amalgamate}
+use Rattle.eve_smallbank.specs.SmallBank.{WriteCheck, does}
 
 -- whether the row gets a new version
 abbrev pub is_write : Kind → Bool
@@ -36,7 +38,8 @@ account_at values customer = record { saving = values (saving_row customer); che
 -- the bank of the names from this number on, with these values in its rows
 abbrev pub bank_from : ℕ → List (List ℕ) → (ℕ → ℤ) → Bank
 bank_from customer [] values = empty
-bank_from customer (name ∷ names) values = insert (bank_from (customer + 1) names values) name (account_at values customer)
+bank_from customer (name ∷ names) values =
+    insert (bank_from (customer + 1) names values) name (account_at values customer)
 
 -- the bank of the customers with these names, with these values in its rows
 unfoldable pub bank_of : List (List ℕ) → (ℕ → ℤ) → Bank
@@ -61,11 +64,14 @@ amalgamated_rows from to =
 
 -- the rows that a request touches where it isn't aborted
 abbrev pub rows_of : List (List ℕ) → Request → Rows
-rows_of names (Balance name) = for_customer (customer_of names name) (λ c. (saving_row c, Read) ∷ (checking_row c, Read) ∷ [])
+rows_of names (Balance name) =
+    for_customer (customer_of names name) (λ c. (saving_row c, Read) ∷ (checking_row c, Read) ∷ [])
 rows_of names (DepositChecking name amount) = for_customer (customer_of names name) (λ c. (checking_row c, Write) ∷ [])
 rows_of names (TransactSaving name amount) = for_customer (customer_of names name) (λ c. (saving_row c, Write) ∷ [])
-rows_of names (Amalgamate from to) = for_customer (customer_of names from) (λ c. for_customer (customer_of names to) (amalgamated_rows c))
-rows_of names (WriteCheck name amount) = for_customer (customer_of names name) (λ c. (saving_row c, Read) ∷ (checking_row c, Write) ∷ [])
+rows_of names (Amalgamate from to) =
+    for_customer (customer_of names from) (λ c. for_customer (customer_of names to) (amalgamated_rows c))
+rows_of names (WriteCheck name amount) =
+    for_customer (customer_of names name) (λ c. (saving_row c, Read) ∷ (checking_row c, Write) ∷ [])
 
 -- the same rows, all as reads
 abbrev pub as_reads : Rows → Rows
@@ -73,12 +79,10 @@ as_reads rows = map (λ r. (r.0, Read)) rows
 
 -- an abort for want of cover or range has read its rows, any other abort none
 abbrev pub noted_rows : Reply → Rows → Rows
-noted_rows Done rows = rows
-noted_rows (Total sum) rows = rows
-noted_rows (Aborted NoSuchName) rows = []
-noted_rows (Aborted BadAmount) rows = []
 noted_rows (Aborted Insufficient) rows = as_reads rows
 noted_rows (Aborted OutOfRange) rows = as_reads rows
+noted_rows (Aborted _) rows = []
+noted_rows _ rows = rows
 
 -- ---- what fits
 
@@ -100,7 +104,8 @@ IsKeptIfRead e = e.kind ≡ Read → e.after ≡ e.seen
 pub record Fits (names : List (List ℕ)) (x : Executed) : Type 0 where
   pub rows : map (λ e. (e.row, e.kind)) x.entries ≡ noted_rows x.reply (rows_of names x.request)
   pub reads : AllByRecursion IsKeptIfRead x.entries
-  pub effect : (values : ℕ → ℤ) → AreSeen values x.entries → does (bank_of names values) x.request ≡ (bank_of names (values_after values x.entries), x.reply)
+  pub effect : (values : ℕ → ℤ) → AreSeen values x.entries
+      → does (bank_of names values) x.request ≡ (bank_of names (values_after values x.entries), x.reply)
 
 -- ---- the balances of all customers as a list
 

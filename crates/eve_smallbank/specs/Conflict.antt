@@ -23,4 +23,5 @@ AgreesWithConflicts (x ∷ xs) = AllByRecursion (λ y. IsFalse (precedes y x)) x
 -- the second list has the elements of the first, each as often, in some order
 abbrev pub IsReordering : {A : Type 0} → List A → List A → Type 0
 IsReordering [] ys = ys ≡ []
-IsReordering {A} (x ∷ xs) ys = (front : List A) × (back : List A) × (ys ≡ front ++ x ∷ back) × IsReordering xs (front ++ back)
+IsReordering {A} (x ∷ xs) ys =
+    (front : List A) × (back : List A) × (ys ≡ front ++ x ∷ back) × IsReordering xs (front ++ back)

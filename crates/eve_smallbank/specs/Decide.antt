@@ -19,7 +19,8 @@ decision_in x = record { reply = x.reply; effects = map effect_in x.entries }
 -- the entries of these rows with the versions and values seen, one of each for each row
 abbrev pub entries_from : Rows → List ℕ → List ℤ → List Effect → List Entry
 entries_from (r ∷ rows) (version ∷ versions) (seen ∷ values) (effect ∷ effects) =
-    record { row = r.0; kind = effect.kind; version = version; seen = seen; after = effect.after } ∷ entries_from rows versions values effects
+    record { row = r.0; kind = effect.kind; version = version; seen = seen; after = effect.after }
+    ∷ entries_from rows versions values effects
 entries_from rows versions values effects = []
 
 -- the executed request
@@ -30,4 +31,5 @@ executed_from request rows versions values decision =
 -- The decision is what the request does to every table of these customers that has the values in the rows.
 abbrev pub IsExact : List (List ℕ) → Request → Rows → List ℤ → Decision → Type 0
 IsExact names request rows values decision =
-    (table : Table) → values ≡ map (λ r. (table r.0).value) rows → decision ≡ decision_in (executed_on names table request)
+    (table : Table) → values ≡ map (λ r. (table r.0).value) rows
+    → decision ≡ decision_in (executed_on names table request)

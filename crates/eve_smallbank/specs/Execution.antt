@@ -1,5 +1,6 @@
 -- What a request does where it meets a table.
-use Rattle.std.specs.Prelude.{ℕ, ℤ, pos, ◌/◌, ◌%◌, ◌==◌, Bool, if◌then◌else◌, List, [], map, Option, Some, None, slice_index_or}
+use Rattle.std.specs.Prelude.{ℕ, ℤ, pos, ◌/◌, ◌%◌, ◌==◌, Bool, if◌then◌else◌, List, [], map, Option, Some, None}
+use Rattle.std.specs.Prelude.{slice_index_or}
 use Rattle.std.specs.FinMap.{get}
 use Rattle.eve_smallbank.specs.declared.request.Reply.{Reply}
 use Rattle.eve_smallbank.specs.declared.entry.Kind.{Kind}
@@ -26,10 +27,20 @@ value_left names table bank row Write = value_in names bank row
 -- the entry of a row, which the bank after has with a new value
 abbrev pub entry_on : List (List ℕ) → Table → Bank → ℕ × Kind → Entry
 entry_on names table bank r =
-    record { row = r.0; kind = r.1; version = (table r.0).version; seen = (table r.0).value; after = value_left names table bank r.0 r.1 }
+    record {
+      row = r.0;
+      kind = r.1;
+      version = (table r.0).version;
+      seen = (table r.0).value;
+      after = value_left names table bank r.0 r.1;
+    }
 
 -- the request, executed on what the rows have
 abbrev pub executed_on : List (List ℕ) → Table → Request → Executed
 executed_on names table request =
     let outcome : Bank × Reply = does (bank_of names (values_of table)) request in
-    record { request = request; reply = outcome.1; entries = map (entry_on names table outcome.0) (noted_rows outcome.1 (rows_of names request)) }
+    record {
+      request = request;
+      reply = outcome.1;
+      entries = map (entry_on names table outcome.0) (noted_rows outcome.1 (rows_of names request));
+    }

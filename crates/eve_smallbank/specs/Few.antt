@@ -17,6 +17,7 @@ places_of (x ∷ []) = One x
 places_of (x ∷ y ∷ []) = Two x y
 places_of (x ∷ y ∷ z ∷ rest) = Three x y z
 
+-- both ways, the same places
 pub places_of-items_in : {A : Type 0} (places : Places A) → places_of (items_in places) ≡ places
 places_of-items_in Zero = refl
 places_of-items_in (One x) = refl

@@ -1,5 +1,6 @@
 -- What comes of a request that isn't refused, worked out from the values in its rows alone, with no bank.
-use Rattle.std.specs.Prelude.{ℤ, ◌+ℤ◌, ◌-ℤ◌, pos, int_lt, if◌then◌else◌, List, [], ◌∷◌, map, slice_set, Option, Some, None}
+use Rattle.std.specs.Prelude.{ℤ, ◌+ℤ◌, ◌-ℤ◌, pos, int_lt, if◌then◌else◌, List, [], ◌∷◌, map, slice_set, Option, Some}
+use Rattle.std.specs.Prelude.{None}
 use Rattle.eve_accounts.specs.Money.{is_balance}
 use Rattle.eve_smallbank.specs.declared.request.Abort.{Abort}
 use Rattle.eve_smallbank.specs.declared.request.Abort.TheVariants.{Insufficient, OutOfRange}
@@ -7,7 +8,8 @@ use Rattle.eve_smallbank.specs.declared.request.Reply.TheVariants.{Done, Total, 
 use Rattle.eve_smallbank.specs.declared.entry.Kind.TheVariants.{Read, Write}
 use Rattle.eve_smallbank.specs.declared.decision.Effect.{Effect}
 use Rattle.eve_smallbank.specs.declared.decision.Decision.{Decision}
-use Rattle.eve_smallbank.specs.SmallBank.{Request, Balance, DepositChecking, TransactSaving, Amalgamate, WriteCheck, check_cost}
+use Rattle.eve_smallbank.specs.SmallBank.{Request, Balance, DepositChecking, TransactSaving, Amalgamate, WriteCheck}
+use Rattle.eve_smallbank.specs.SmallBank.{check_cost}
 use Rattle.eve_smallbank.specs.Access.{Rows, is_write}
 
 -- a row that is only read
@@ -30,19 +32,22 @@ done_within seen balance effects =
 -- What is decided of a request that isn't refused, from the values seen in its rows: none where there
 -- aren't as many values as rows.
 abbrev pub decided_from : Request → List ℤ → Option Decision
-decided_from (Balance name) (saving ∷ checking ∷ []) = Some (record { reply = Total (saving +ℤ checking); effects = kept saving ∷ kept checking ∷ [] })
+decided_from (Balance name) (saving ∷ checking ∷ []) =
+    Some (record { reply = Total (saving +ℤ checking); effects = kept saving ∷ kept checking ∷ [] })
 decided_from (DepositChecking name amount) (checking ∷ []) =
     let after : ℤ = checking +ℤ amount in
     Some (done_within (checking ∷ []) after (written after ∷ []))
 decided_from (TransactSaving name amount) (saving ∷ []) =
     let after : ℤ = saving +ℤ amount in
-    Some (if int_lt after (pos 0) then abort_after Insufficient (saving ∷ []) else done_within (saving ∷ []) after (written after ∷ []))
+    Some (if int_lt after (pos 0) then abort_after Insufficient (saving ∷ [])
+    else done_within (saving ∷ []) after (written after ∷ []))
 decided_from (Amalgamate from to) (saving ∷ checking ∷ []) =
     let after : ℤ = pos 0 +ℤ (saving +ℤ checking) in
     Some (done_within (saving ∷ checking ∷ []) after (written (pos 0) ∷ written after ∷ []))
 decided_from (Amalgamate from to) (saving ∷ checking ∷ receiver ∷ []) =
     let after : ℤ = receiver +ℤ (saving +ℤ checking) in
-    Some (done_within (saving ∷ checking ∷ receiver ∷ []) after (written (pos 0) ∷ written (pos 0) ∷ written after ∷ []))
+    Some (done_within (saving ∷ checking ∷ receiver ∷ []) after
+    (written (pos 0) ∷ written (pos 0) ∷ written after ∷ []))
 decided_from (WriteCheck name amount) (saving ∷ checking ∷ []) =
     let after : ℤ = checking -ℤ check_cost (record { saving = saving; checking = checking }) amount in
     Some (done_within (saving ∷ checking ∷ []) after (kept saving ∷ written after ∷ []))

@@ -7,6 +7,7 @@ use Rattle.eve_smallbank.specs.declared.request.Abort.{Abort}
 use Rattle.eve_smallbank.specs.declared.request.Abort.TheVariants.{NoSuchName, BadAmount, Insufficient, OutOfRange}
 use Rattle.eve_smallbank.specs.declared.request.Reply.{Reply}
 use Rattle.eve_smallbank.specs.declared.request.Reply.TheVariants.{Done, Total, Aborted}
+use Rattle.eve_smallbank.specs.declared.limits.TheConstants.{PENALTY}
 use Rattle.eve_smallbank.specs.declared.request.Request as code
 use Rattle.eve_smallbank.specs.declared.request.Request.TheVariants as of
 
@@ -39,10 +40,9 @@ plain (of.WriteCheck name amount) = WriteCheck name.now amount
 abbrev pub aborted : Bank → Abort → Bank × Reply
 aborted bank why = (bank, Aborted why)
 
--- the bank with this account, unless the new balance lies outside the range
-abbrev pub updated : Bank → List ℕ → Account → ℤ → Bank × Reply
-updated bank name account balance =
-    if is_balance balance then (insert bank name account, Done) else aborted bank OutOfRange
+-- the bank after, unless the new balance lies outside the range
+abbrev pub updated : Bank → Bank → ℤ → Bank × Reply
+updated bank after balance = if is_balance balance then (after, Done) else aborted bank OutOfRange
 
 -- what is done with an account, if it is there
 abbrev pub with_account : Bank → Option Account → (Account → Bank × Reply) → Bank × Reply
@@ -54,14 +54,14 @@ abbrev pub deposit_checking : Bank → List ℕ → ℤ → Account → Bank × 
 deposit_checking bank name amount a =
     let checking : ℤ = a.checking +ℤ amount in
     if int_lt amount (pos 0) then aborted bank BadAmount
-    else updated bank name (record a { checking = checking }) checking
+    else updated bank (insert bank name (record a { checking = checking })) checking
 
 -- the amount comes to the saving balance, which stays at 0 or more
 abbrev pub transact_saving : Bank → List ℕ → ℤ → Account → Bank × Reply
 transact_saving bank name amount a =
     let saving : ℤ = a.saving +ℤ amount in
     if int_lt saving (pos 0) then aborted bank Insufficient
-    else updated bank name (record a { saving = saving }) saving
+    else updated bank (insert bank name (record a { saving = saving })) saving
 
 -- an account with nothing in it
 abbrev pub empty_account : Account
@@ -71,8 +71,7 @@ empty_account = record { saving = pos 0; checking = pos 0 }
 abbrev pub moved : Bank → Bank → List ℕ → ℤ → Account → Bank × Reply
 moved bank emptied to sum a =
     let checking : ℤ = a.checking +ℤ sum in
-    if is_balance checking then (insert emptied to (record a { checking = checking }), Done)
-    else aborted bank OutOfRange
+    updated bank (insert emptied to (record a { checking = checking })) checking
 
 -- all of this account goes to the checking balance of the other, which may be the same
 abbrev pub amalgamate : Bank → List ℕ → List ℕ → Account → Bank × Reply
@@ -80,16 +79,16 @@ amalgamate bank from to a =
     let emptied : Bank = insert bank from empty_account in
     with_account bank (get emptied to) (moved bank emptied to (a.saving +ℤ a.checking))
 
--- the amount, and 100 more where the account has less than the amount
+-- the amount, and the penalty where the account has less than the amount
 abbrev pub check_cost : Account → ℤ → ℤ
-check_cost a amount = if int_lt (a.saving +ℤ a.checking) amount then amount +ℤ pos 100 else amount
+check_cost a amount = if int_lt (a.saving +ℤ a.checking) amount then amount +ℤ PENALTY else amount
 
 -- the check is paid from the checking balance
 abbrev pub write_check : Bank → List ℕ → ℤ → Account → Bank × Reply
 write_check bank name amount a =
     let checking : ℤ = a.checking -ℤ check_cost a amount in
     if int_lt amount (pos 0) then aborted bank BadAmount
-    else updated bank name (record a { checking = checking }) checking
+    else updated bank (insert bank name (record a { checking = checking })) checking
 
 -- the bank after a request, and its reply
 unfoldable pub does : Bank → Request → Bank × Reply
@@ -103,6 +102,5 @@ does bank (WriteCheck name amount) = with_account bank (get bank name) (write_ch
 abbrev pub run : Bank → List Request → Bank × List Reply
 run bank [] = (bank, [])
 run bank (request ∷ requests) =
-    let first : Bank × Reply = does bank request in
-    let others : Bank × List Reply = run first.0 requests in
-    (others.0, first.1 ∷ others.1)
+    let first = does bank request in
+    let others = run first.0 requests in (others.0, first.1 ∷ others.1)

@@ -31,7 +31,8 @@ has_bad_amount (WriteCheck name amount) = int_lt amount (pos 0)
 -- what a request touches, where the customers have these names
 abbrev pub touched_of : List (List ℕ) → Request → Touched
 touched_of names request =
-    if knows_names names request then (if has_bad_amount request then touched.Refused BadAmount else touched.Rows (rows_of names request))
+    if knows_names names request
+    then (if has_bad_amount request then touched.Refused BadAmount else touched.Rows (rows_of names request))
     else touched.Refused NoSuchName
 
 -- the rows that are touched

@@ -1,17 +1,15 @@
 //! What a request does to the rows that it touches.
 
-ghost use Rattle.std.specs.Prelude.{ℕ, List, length, map, ◌≡◌, ◌+ℤ◌, ◌-ℤ◌, ◌≤ℤ◌, pos, negsuc, int_lt, [], ◌∷◌, IsSome, if◌then◌else◌};
+ghost use Rattle.std.specs.Prelude.{ℕ, List, length, map, ◌≡◌, ◌+ℤ◌, ◌-ℤ◌, ◌≤ℤ◌, pos, negsuc, int_lt, [], ◌∷◌, IsSome};
+ghost use Rattle.std.specs.Prelude.{if◌then◌else◌};
 ghost use Rattle.eve_smallbank.specs.SmallBank.{check_cost, plain};
 ghost use Rattle.eve_smallbank.specs.Access.{Executed, Fits};
 ghost use Rattle.eve_smallbank.specs.Touch.{touched_of, rows_in};
 ghost use Rattle.eve_smallbank.specs.Decide.{IsExact, executed_from};
 ghost use Rattle.eve_smallbank.specs.FromValues.{kept, written, abort_after, done_within, decided_from};
 
-use crate::{Abort, Kind, Reply, Request, Touched, UpToThree};
+use crate::{Abort, Kind, PENALTY, Reply, Request, Touched, UpToThree};
 use eve_accounts::{Amount, Cents};
-
-/// What a check costs beyond its amount where the account has less than the amount, in cents.
-const PENALTY: i64 = 100;
 
 /// What becomes of one row.
 #[derive(Clone, Copy, Debug, PartialEq, Eq)]
@@ -35,6 +33,7 @@ pub struct Decision {
 ///
 /// docs/MODEL.md, "Transactions". `touched` is the answer of `touched` for this request, and `seen` has one
 /// value for each of its rows, in their order: none where the request is refused.
+#[inline(always)]
 pub fn decide(request: &Request, touched: &Touched, seen: &[Cents]) -> Decision
     // The rows are those that `touched` gave for this request and the customers.
     requires touched { (names : List (List ℕ)) × (touched.now ≡ touched_of names (plain request.now)) }
@@ -59,6 +58,7 @@ pub fn decide(request: &Request, touched: &Touched, seen: &[Cents]) -> Decision
 }
 
 /// Of a request that is not refused.
+#[inline(always)]
 fn decide_rows(request: &Request, seen: &[Cents]) -> Decision
     requires { IsSome (decided_from (plain request.now) seen.now) }
     ensures { decided_from (plain request.now) seen.now ≡ Some result }
@@ -127,7 +127,8 @@ fn amalgamate_itself(saving: Cents, checking: Cents) -> Decision
 
 fn amalgamate(saving: Cents, checking: Cents, receiver: Cents) -> Decision
     ensures { let after = receiver +ℤ (saving +ℤ checking) in
-        result ≡ done_within (saving ∷ checking ∷ receiver ∷ []) after (written (pos 0) ∷ written (pos 0) ∷ written after ∷ []) }
+        result ≡ done_within (saving ∷ checking ∷ receiver ∷ []) after
+        (written (pos 0) ∷ written (pos 0) ∷ written after ∷ []) }
 {
     match Cents::new(sum_of_three(receiver, saving, checking)) {
         Some(after) => done(UpToThree::three(write(Cents::ZERO), write(Cents::ZERO), write(after))),
@@ -232,7 +233,7 @@ fn lowered(balance: Cents, amount: Amount) -> i64
 }
 
 fn lowered_with_penalty(balance: Cents, amount: Amount) -> i64
-    ensures { result ≡ balance -ℤ (amount +ℤ pos 100) }
+    ensures { result ≡ balance -ℤ (amount +ℤ PENALTY) }
 {
     balance.get() - (amount.get() + PENALTY)
 }

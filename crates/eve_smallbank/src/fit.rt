@@ -35,6 +35,7 @@ fn is_same(reply: Reply, other: Reply) -> bool
 }
 
 /// The values that the entries saw, first in an array.
+#[inline(always)]
 fn values_seen(entries: &UpToThree<Entry>) -> [Cents; 3]
     ensures { take (length entries.now) result ≡ map (λ e. e.seen) entries.now }
 {
@@ -46,6 +47,7 @@ fn values_seen(entries: &UpToThree<Entry>) -> [Cents; 3]
 }
 
 /// Whether the entries are of these rows with these effects, one for each.
+#[inline(always)]
 fn are_noted(
     entries: &UpToThree<Entry>,
     rows: &UpToThree<(Row, Kind)>,
@@ -63,6 +65,7 @@ fn are_noted(
     true
 }
 
+#[inline(always)]
 fn is_noted(entry: &Entry, row: Row, effect: &Effect) -> bool
     ensures { Decides result (IsNoted row entry.now effect.now) }
 {

@@ -15,7 +15,8 @@ ghost use Rattle.eve_smallbank.specs.SerialOrder.{IsSound, IsSerial};
 
 /// What a request makes of the rows that it meets fits it.
 pub fn requests_fit()
-    ensures { (names : List (List ℕ)) (table : Table) (request : Request) → Fits names (executed_on names table request) }
+    ensures { (names : List (List ℕ)) (table : Table) (request : Request)
+        → Fits names (executed_on names table request) }
 {}
 
 /// A request that is refused before it touches a row fits with that answer and no entries.

@@ -5,7 +5,7 @@ ghost use Rattle.eve_smallbank.specs.SmallBank.{plain};
 ghost use Rattle.eve_smallbank.specs.Access.{amalgamated_rows};
 ghost use Rattle.eve_smallbank.specs.Touch.{touched_of};
 
-use crate::{Abort, Kind, Request, Touched, UpToThree};
+use crate::{Abort, Kind, MOST_NAMES, Request, Touched, UpToThree};
 use eve_accounts::{Names, Row};
 
 /// The rows that the request touches, or why it is refused whatever the balances are.
@@ -47,8 +47,8 @@ pub fn touched(request: &Request, names: &Names) -> Touched
 }
 
 fn amalgamated(from: u32, to: u32) -> UpToThree<(Row, Kind)>
-    requires from_small { from < 65536 }
-    requires to_small { to < 65536 }
+    requires from_small { from < MOST_NAMES }
+    requires to_small { to < MOST_NAMES }
     ensures { result ≡ amalgamated_rows from to }
 {
     let saving = (Row::saving(from), Kind::Write);

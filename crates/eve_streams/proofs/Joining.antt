@@ -1,5 +1,6 @@
 -- What several sends write together.
-use Rattle.std.proofs.Common.{◌≡◌, ℕ, ◌+◌, ◌-◌, ◌≤◌, ◌<◌, List, ◌++◌, Option, Some, None, length, take, drop, ap, sym, subst, ◌∙◌, arith, append_assoc, length-append}
+use Rattle.std.proofs.Common.{◌≡◌, ℕ, ◌+◌, ◌-◌, ◌≤◌, ◌<◌, List, ◌++◌, Option, Some, None, length, take, drop, ap, sym}
+use Rattle.std.proofs.Common.{subst, ◌∙◌, arith, append_assoc, length-append}
 use Rattle.std.proofs.Math.Seq.{take-add, take-append-add, take-append-le, take-take}
 use Rattle.std.specs.Io.KnownBytes.{Appends, append_known}
 use Rattle.std.proofs.KnownBytes.{Appends-trans}
@@ -7,18 +8,21 @@ use Rattle.eve_streams.specs.Front.{AppendsFront}
 
 -- a front, and then a front of the rest
 pub Appends-further : (a b c : Option (List ℕ)) (at n : ℕ) (bytes : List ℕ) → n ≤ length bytes - at
-    → Appends a b (take at bytes) → Appends b c (take n (take (length bytes - at) (drop at bytes))) → Appends a c (take (at + n) bytes)
+    → Appends a b (take at bytes) → Appends b c (take n (take (length bytes - at) (drop at bytes)))
+    → Appends a c (take (at + n) bytes)
 Appends-further a b c at n bytes fits first second =
     let joined : take at bytes ++ take n (take (length bytes - at) (drop at bytes)) ≡ take (at + n) bytes =
     ap (λ l. take at bytes ++ l) (take-take n (length bytes - at) (drop at bytes) fits) ∙ sym (take-add at n bytes) in
     subst (Appends a c) joined (Appends-trans a b c _ _ first second)
 
 -- all of xs, and then a front of ys
-pub AppendsFront-after : (a b c : Option (List ℕ)) (xs ys : List ℕ) → Appends a b xs → AppendsFront b c ys → AppendsFront a c (xs ++ ys)
+pub AppendsFront-after : (a b c : Option (List ℕ)) (xs ys : List ℕ) → Appends a b xs → AppendsFront b c ys
+    → AppendsFront a c (xs ++ ys)
 AppendsFront-after a b c xs ys first second = record {
   count = length xs + second.count;
   proper = let few : second.count < length ys = second.proper in omega (arith, length-append xs ys);
-  appended = let joined : xs ++ take second.count ys ≡ take (length xs + second.count) (xs ++ ys) = sym (take-append-add xs ys second.count) in
+  appended = let joined : xs ++ take second.count ys ≡ take (length xs + second.count) (xs ++ ys) =
+      sym (take-append-add xs ys second.count) in
       subst (Appends a c) joined (Appends-trans a b c _ _ first second.appended);
 }
 
@@ -28,12 +32,14 @@ AppendsFront-more a b xs ys front = record {
   count = front.count;
   proper = let few : front.count < length xs = front.proper in omega (arith, length-append xs ys);
   appended = let few : front.count < length xs = front.proper in
-      let cut : take front.count xs ≡ take front.count (xs ++ ys) = sym (take-append-le front.count xs ys (omega arith)) in
+      let cut : take front.count xs ≡ take front.count (xs ++ ys) =
+      sym (take-append-le front.count xs ys (omega arith)) in
       subst (Appends a b) cut front.appended;
 }
 
 -- a buffer that held old takes bytes, and what it then holds is sent on
-pub Appends-flushed : (a b c : Option (List ℕ)) (old held bytes : List ℕ) → Appends (append_known a old) (append_known b held) bytes → Appends b c held → Appends a c (old ++ bytes)
+pub Appends-flushed : (a b c : Option (List ℕ)) (old held bytes : List ℕ)
+    → Appends (append_known a old) (append_known b held) bytes → Appends b c held → Appends a c (old ++ bytes)
 Appends-flushed None b c old held bytes taken sent = tt
 Appends-flushed (Some x) None c old held bytes taken sent = absurd taken
 Appends-flushed (Some x) (Some y) None old held bytes taken sent = absurd sent

@@ -65,7 +65,8 @@ impl<R: Read + Drop> Source for SourceOf<R> {
 
     ghost failures = { λ s. s.failures };
 
-    // The clauses of every source, and that it fails once its reads are used up, of which each answer takes one or more.
+    // The clauses of every source, and that it fails once its reads are used up, of which each answer takes one or
+    // more.
     fn fetch(&mut self, buffer: &mut [u8]) -> Result<usize, FetchFault>
         ensures within { IfOk result (λ n. n ≤ length buffer.new) }
         ensures gives { IfOk result

@@ -13,7 +13,8 @@ IsBytes-behind xs ys h i = subst (λ (b : ℕ). b < 256) (get_or-append-add xs y
 pub number_back : (bytes : List ℕ) → IsBytes bytes → 4 ≤ length bytes → big_bytes 4 (big_number 4 bytes) ≡ take 4 bytes
 number_back bytes fits long =
     let same : big_number 4 (take 4 bytes) ≡ big_number 4 bytes = big_from-take 0 4 4 bytes (omega arith) in
-    ap (big_bytes 4) (sym same) ∙ be_bytes_4 (take 4 bytes) _ (omega (arith, length-take 4 bytes)) (IsBytes-take 4 bytes fits) (omega arith)
+    ap (big_bytes 4) (sym same) ∙ be_bytes_4 (take 4 bytes) _ (omega (arith, length-take 4 bytes))
+    (IsBytes-take 4 bytes fits) (omega arith)
 
 pub number_short : (bytes : List ℕ) → IsBytes bytes → big_number 4 bytes < 2 ^ 32
 number_short bytes fits = big_from-lt 0 4 bytes fits

@@ -1,6 +1,8 @@
 -- Public: other crates cite these lemmas. The first of two faults precedes both.
-use Rattle.std.proofs.Common.{◌≡◌, ℕ, ◌<◌, ◌≤◌, nat_lt, ◌==◌, Bool, true, false, ◌&&◌, ◌||◌, if◌then◌else◌, Some, refl, sym, ◌∙◌, ◌⊎◌, inl, inr, arith}
-use Rattle.std.proofs.lemmas.Bool.{cases_Bool, cases_lt, and_parts, and_from, or_parts, eqb-true, eq-eqb, ltb-true, lt-ltb, false≢true}
+use Rattle.std.proofs.Common.{◌≡◌, ℕ, ◌<◌, ◌≤◌, nat_lt, ◌==◌, Bool, true, false, ◌&&◌, ◌||◌, if◌then◌else◌, Some, refl}
+use Rattle.std.proofs.Common.{sym, ◌∙◌, ◌⊎◌, inl, inr, arith}
+use Rattle.std.proofs.lemmas.Bool.{cases_Bool, cases_lt, and_parts, and_from, or_parts, eqb-true, eq-eqb, ltb-true}
+use Rattle.std.proofs.lemmas.Bool.{lt-ltb, false≢true}
 use Rattle.eve_views.specs.Code.{number_of, phase_of}
 use Rattle.eve_views.specs.Form.{IsUpTo, Precedes}
 use Rattle.eve_views.specs.First.{is_before_in_phase, is_before, first_of}
@@ -43,7 +45,11 @@ before_precedes f g h =
         same.0,
         elim (less_or f.offset g.offset (nat_lt (number_of f.code) (number_of g.code)) same.1) [
           | inl less ↦ inl less
-          | inr here ↦ inr (here.0, up (number_of f.code) (number_of g.code) (ltb-true (number_of f.code) (number_of g.code) here.1))
+          | inr here ↦ inr (
+            here.0,
+            up (number_of f.code) (number_of g.code)
+                (ltb-true (number_of f.code) (number_of g.code) here.1),
+          )
         ],
       )
     ]

@@ -1,5 +1,6 @@
 -- Bytes have a first fault of form, or they spell a trace.
-use Rattle.std.proofs.Common.{◌≡◌, ℕ, zero, suc, true, false, ◌+◌, ◌^◌, ◌<◌, ◌≤◌, ◌⊎◌, inl, inr, Result, Ok, Err, Option, Some, None, List, [], ◌∷◌, ◌++◌, length, drop, refl, sym, ap, subst, ◌∙◌, arith}
+use Rattle.std.proofs.Common.{◌≡◌, ℕ, zero, suc, true, false, ◌+◌, ◌^◌, ◌<◌, ◌≤◌, ◌⊎◌, inl, inr, Result, Ok, Err}
+use Rattle.std.proofs.Common.{Option, Some, None, List, [], ◌∷◌, ◌++◌, length, drop, refl, sym, ap, subst, ◌∙◌, arith}
 use Rattle.std.specs.Prelude.{IsTrue}
 use Rattle.std.proofs.lemmas.Bool.{cases_Bool, false≢true}
 use Rattle.std.proofs.lemmas.List.{append-nil, length-append}
@@ -40,26 +41,31 @@ record IsStopped (bytes : List ℕ) : Type 0 where
 
 module _ (h : Head) (bytes : List ℕ) (says : SaysHead bytes h) (fits : IsBytes bytes) where
   -- no frame is left
-  ended : (at : ℕ) (p : Place) (offsets : List ℕ) → Reached h bytes at p offsets → IsTrue p.ended → drop at bytes ≡ [] → IsEnded h bytes
+  ended : (at : ℕ) (p : Place) (offsets : List ℕ) → Reached h bytes at p offsets → IsTrue p.ended → drop at bytes ≡ []
+      → IsEnded h bytes
   ended at p offsets r end none = record {
     frames = r.front;
     run = record { follow = r.right; ended = subst (λ (q : Place). IsTrue q.ended) (sym r.place_is) end };
-    text = split_at at bytes (frames_text r.front) r.at_is r.within r.before ∙ ap (λ (b : List ℕ). frames_text r.front ++ b) none ∙ append-nil (frames_text r.front);
+    text = split_at at bytes (frames_text r.front) r.at_is r.within r.before
+        ∙ ap (λ (b : List ℕ). frames_text r.front ++ b) none ∙ append-nil (frames_text r.front);
   }
 
   some_byte : (b : ℕ) (bs : List ℕ) → ◌≡◌ {A = List ℕ} (b ∷ bs) [] → ⊥
   some_byte b bs e = cc
 
   -- whether no frame is left, and none is due
-  open_or_ended : (at : ℕ) (p : Place) → ((IsTrue p.ended) × (drop at bytes ≡ [])) ⊎ (IsTrue p.ended → drop at bytes ≡ [] → ⊥)
+  open_or_ended : (at : ℕ) (p : Place) → ((IsTrue p.ended) × (drop at bytes ≡ []))
+      ⊎ (IsTrue p.ended → drop at bytes ≡ [] → ⊥)
   open_or_ended at p = by (drop at bytes) refl (cases_Bool p.ended)
     where
-      by : (rest : List ℕ) → drop at bytes ≡ rest → (p.ended ≡ true) ⊎ (p.ended ≡ false) → ((IsTrue p.ended) × (drop at bytes ≡ [])) ⊎ (IsTrue p.ended → drop at bytes ≡ [] → ⊥)
+      by : (rest : List ℕ) → drop at bytes ≡ rest → (p.ended ≡ true) ⊎ (p.ended ≡ false)
+          → ((IsTrue p.ended) × (drop at bytes ≡ [])) ⊎ (IsTrue p.ended → drop at bytes ≡ [] → ⊥)
       by [] is (inl end) = inl (end, is)
       by [] is (inr more) = inr (λ end _. false≢true (sym more ∙ end))
       by (b ∷ bs) is ends = inr (λ _ none. some_byte b bs (sym is ∙ none))
 
-  walked : (fuel at : ℕ) (p : Place) (offsets : List ℕ) → length bytes < fuel + at → Reached h bytes at p offsets → IsEnded h bytes ⊎ IsStopped bytes
+  walked : (fuel at : ℕ) (p : Place) (offsets : List ℕ) → length bytes < fuel + at → Reached h bytes at p offsets
+      → IsEnded h bytes ⊎ IsStopped bytes
   walked zero at p offsets lt r = absurd (let within = r.within in omega (arith, lt, within))
   walked (suc fuel) at p offsets lt r = elim (open_or_ended at p) [
     | inl end ↦ inl (ended at p offsets r end.0 end.1)
@@ -68,8 +74,12 @@ module _ (h : Head) (bytes : List ℕ) (says : SaysHead bytes h) (fits : IsBytes
         let step = step_of h p bytes at k says.limits fits r.within is in
         let some = front_short (step.frame ∷ []) in
         let one = length-append (frame_text step.frame) [] in
-        walked fuel (at + k.len) _ _ (omega (arith, lt, step.len, some, one)) (reached_more h bytes at p offsets k r step))
-        (λ c is. inr (record { fault = record { code = c; offset = at; replica = None }; stands = record { stands = reached_fault h bytes at p offsets c says r is more; outside = refl } }))
+        walked fuel (at + k.len) _ _ (omega (arith, lt, step.len, some, one))
+        (reached_more h bytes at p offsets k r step))
+        (λ c is. inr (record {
+          fault = record { code = c; offset = at; replica = None };
+          stands = record { stands = reached_fault h bytes at p offsets c says r is more; outside = refl };
+        }))
   ]
 
 -- the first fault of form, or the trace that is spelled
@@ -81,13 +91,21 @@ module _ (bytes : List ℕ) (fits : IsBytes bytes) where
   with_header h is =
       let says = says_head bytes h fits is.said in
       let sized = Sized-from bytes is.sized in
-      by says sized.short (walked h bytes says fits (suc (length bytes)) 32 start [] (omega arith) (reached_start h bytes sized.long))
+      by says sized.short (walked h bytes says fits (suc (length bytes)) 32 start [] (omega arith)
+      (reached_start h bytes sized.long))
     where
       by : SaysHead bytes h → length bytes ≤ 2 ^ 30 → IsEnded h bytes ⊎ IsStopped bytes → Found bytes
-      by says short (inr stopped) = inl (stopped.fault, (refused_behind bytes h stopped.fault is fits stopped.stands).least)
+      by says short (inr stopped) =
+          inl (stopped.fault, (refused_behind bytes h stopped.fault is fits stopped.stands).least)
       by says short (inl found) =
           let spelled : SpellsFrames bytes (record { head = h; frames = found.frames }) =
-          record { limits = says.limits; run = found.run; short = short; spelled = header_spelled bytes h (frames_text found.frames) fits is found.text } in
+          record {
+            limits = says.limits;
+            run = found.run;
+            short = short;
+            spelled = header_spelled bytes h
+                (frames_text found.frames) fits is found.text;
+          } in
           inr (_, spells_trace bytes (record { head = h; frames = found.frames }) spelled)
 
   pub form_found : Found bytes
@@ -99,10 +117,14 @@ module _ (bytes : List ℕ) (fits : IsBytes bytes) where
     ]
   ]
     where
-      by : IsTrue (is_sized bytes) → IsTrue (has_magic bytes) → (o : Option Head) → header_of (said_by bytes) ≡ o → Found bytes
+      by : IsTrue (is_sized bytes) → IsTrue (has_magic bytes) → (o : Option Head) → header_of (said_by bytes) ≡ o
+          → Found bytes
       by sized magic None is = inl (_, (refused_at_header code.Head bytes (sized, magic, is)).least)
       by sized magic (Some h) is = with_header h (record { sized = sized; magic = magic; said = is })
 
 -- where a fault of form stands nothing is spelled
-pub nothing_spelled : (bytes : List ℕ) (f : Fault) → IsBytes bytes → IsFormFault bytes f → (t : Trace) → ¬ Spells bytes t
-nothing_spelled bytes f fits is = no_trace bytes (λ s spelled. (refused_behind bytes s.head f (header_again_of bytes s spelled).0 fits is).none s spelled)
+pub nothing_spelled : (bytes : List ℕ) (f : Fault) → IsBytes bytes → IsFormFault bytes f → (t : Trace)
+    → ¬ Spells bytes t
+nothing_spelled bytes f fits is =
+    no_trace bytes (λ s spelled. (refused_behind bytes s.head f (header_again_of bytes s spelled).0 fits is).none s
+    spelled)

@@ -1,5 +1,6 @@
 -- Public: other crates cite these lemmas. The first fault of form.
-use Rattle.std.proofs.Common.{◌≡◌, ℕ, suc, ◌<◌, ◌≤◌, true, List, length, drop, Option, Some, None, Ok, Err, refl, sym, ap, subst, ◌∙◌, arith, inl, inr, ◌⊎◌}
+use Rattle.std.proofs.Common.{◌≡◌, ℕ, suc, ◌<◌, ◌≤◌, true, List, length, drop, Option, Some, None, Ok, Err, refl, sym}
+use Rattle.std.proofs.Common.{ap, subst, ◌∙◌, arith, inl, inr, ◌⊎◌}
 use Rattle.std.proofs.lemmas.List.{length-drop}
 use Rattle.eve_grammar.specs.Trace.{Head}
 use Rattle.eve_grammar.specs.Frames.{Frame, start}
@@ -33,7 +34,8 @@ same_some None x y e f = absurd cc
 pub stands_at_header : (c : Code) (bytes : List ℕ) → StopsAtHeader bytes c → StandsInForm c bytes 0
 stands_at_header code.Length bytes s = (refl, s)
 stands_at_header code.Magic bytes s = (refl, s.1)
-stands_at_header code.Head bytes s = (refl, λ h says. some_none (header_of (said_by bytes)) h (head_said bytes h says) s.2)
+stands_at_header code.Head bytes s =
+    (refl, λ h says. some_none (header_of (said_by bytes)) h (head_said bytes h says) s.2)
 stands_at_header c bytes s = absurd s
 
 abbrev IsNotBefore : Code → ℕ → Code → Type 0
@@ -47,7 +49,8 @@ first_at_length code.Magic bytes at t = inr (sym t.0, omega arith)
 first_at_length code.Head bytes at t = inr (sym t.0, omega arith)
 first_at_length d bytes at t = absurd t
 
-first_at_magic : (d : Code) (bytes : List ℕ) (at : ℕ) → is_sized bytes ≡ true → StandsInForm d bytes at → IsNotBefore d at code.Magic
+first_at_magic : (d : Code) (bytes : List ℕ) (at : ℕ) → is_sized bytes ≡ true → StandsInForm d bytes at
+    → IsNotBefore d at code.Magic
 first_at_magic code.Frame bytes at sized t = let place = t.0.at_is in inl (omega arith)
 first_at_magic code.Body bytes at sized t = let place = t.0.at_is in inl (omega arith)
 first_at_magic code.Length bytes at sized t = absurd (true_false (is_sized bytes) sized t.1)
@@ -55,7 +58,8 @@ first_at_magic code.Magic bytes at sized t = inr (sym t.0, omega arith)
 first_at_magic code.Head bytes at sized t = inr (sym t.0, omega arith)
 first_at_magic d bytes at sized t = absurd t
 
-first_at_head : (d : Code) (bytes : List ℕ) (at : ℕ) → is_sized bytes ≡ true → has_magic bytes ≡ true → StandsInForm d bytes at → IsNotBefore d at code.Head
+first_at_head : (d : Code) (bytes : List ℕ) (at : ℕ) → is_sized bytes ≡ true → has_magic bytes ≡ true
+    → StandsInForm d bytes at → IsNotBefore d at code.Head
 first_at_head code.Frame bytes at sized magic t = let place = t.0.at_is in inl (omega arith)
 first_at_head code.Body bytes at sized magic t = let place = t.0.at_is in inl (omega arith)
 first_at_head code.Length bytes at sized magic t = absurd (true_false (is_sized bytes) sized t.1)
@@ -64,7 +68,8 @@ first_at_head code.Head bytes at sized magic t = inr (sym t.0, omega arith)
 first_at_head d bytes at sized magic t = absurd t
 
 -- and nothing stands before it
-first_at_header : (c d : Code) (bytes : List ℕ) (at : ℕ) → StopsAtHeader bytes c → StandsInForm d bytes at → IsNotBefore d at c
+first_at_header : (c d : Code) (bytes : List ℕ) (at : ℕ) → StopsAtHeader bytes c → StandsInForm d bytes at
+    → IsNotBefore d at c
 first_at_header code.Length d bytes at s t = first_at_length d bytes at t
 first_at_header code.Magic d bytes at s t = first_at_magic d bytes at s.0 t
 first_at_header code.Head d bytes at s t = first_at_head d bytes at s.0 s.1 t
@@ -73,26 +78,37 @@ first_at_header c d bytes at s t = absurd s
 none_at_header : (c : Code) (bytes : List ℕ) (t : Sequence) → StopsAtHeader bytes c → SpellsFrames bytes t → ⊥
 none_at_header code.Length bytes t s spells = true_false (is_sized bytes) (header_again_of bytes t spells).0.sized s
 none_at_header code.Magic bytes t s spells = true_false (has_magic bytes) (header_again_of bytes t spells).0.magic s.1
-none_at_header code.Head bytes t s spells = some_none (header_of (said_by bytes)) t.head (header_again_of bytes t spells).0.said s.2
+none_at_header code.Head bytes t s spells = some_none (header_of (said_by bytes)) t.head
+    (header_again_of bytes t spells).0.said s.2
 none_at_header c bytes t s spells = s
 
 -- ---- a fault of the frames
 
-behind_frames : (c : Code) (bytes : List ℕ) (at : ℕ) (h : Head) (r : IsReached bytes at) → r.head ≡ h → StandsHere c r.head (place_at r) (drop at bytes)
+behind_frames : (c : Code) (bytes : List ℕ) (at : ℕ) (h : Head) (r : IsReached bytes at) → r.head ≡ h
+    → StandsHere c r.head (place_at r) (drop at bytes)
     → StandsBehind c h (drop 32 bytes) (drop at bytes) × (at ≤ length bytes)
 behind_frames c bytes at h r same s = (
   subst (λ (g : Head). StandsBehind c g (drop 32 bytes) (drop at bytes)) same
-      (record { front = r.front; right = r.right; before = split_at at bytes (frames_text r.front) r.at_is r.within r.before; here = s }),
+      (record {
+        front = r.front;
+        right = r.right;
+        before = split_at at bytes (frames_text r.front) r.at_is r.within
+            r.before;
+        here = s;
+      }),
   r.within,
 )
 
 -- where the header is right a fault stands behind frames that are right
-behind_of : (c : Code) (bytes : List ℕ) (at : ℕ) (h : Head) → StandsInForm c bytes at → IsHeader bytes h → IsBytes bytes → StandsBehind c h (drop 32 bytes) (drop at bytes) × (at ≤ length bytes)
+behind_of : (c : Code) (bytes : List ℕ) (at : ℕ) (h : Head) → StandsInForm c bytes at → IsHeader bytes h → IsBytes bytes
+    → StandsBehind c h (drop 32 bytes) (drop at bytes) × (at ≤ length bytes)
 behind_of code.Length bytes at h s is fits = absurd (true_false (is_sized bytes) is.sized s.1)
 behind_of code.Magic bytes at h s is fits = absurd (true_false (has_magic bytes) is.magic s.1)
 behind_of code.Head bytes at h s is fits = absurd (s.1 h (says_head bytes h fits is.said))
-behind_of code.Frame bytes at h s is fits = behind_frames code.Frame bytes at h s.0 (same_some (header_of (said_by bytes)) s.0.head h (head_said bytes s.0.head s.0.says) is.said) s.1
-behind_of code.Body bytes at h s is fits = behind_frames code.Body bytes at h s.0 (same_some (header_of (said_by bytes)) s.0.head h (head_said bytes s.0.head s.0.says) is.said) s.1
+behind_of code.Frame bytes at h s is fits = behind_frames code.Frame bytes at h s.0
+    (same_some (header_of (said_by bytes)) s.0.head h (head_said bytes s.0.head s.0.says) is.said) s.1
+behind_of code.Body bytes at h s is fits = behind_frames code.Body bytes at h s.0
+    (same_some (header_of (said_by bytes)) s.0.head h (head_said bytes s.0.head s.0.says) is.said) s.1
 behind_of c bytes at h s is fits = absurd s
 
 going : List Frame → Walked
@@ -114,26 +130,33 @@ stop_ok c r (Ok gs) fs e f = cc
 stop_ok c r (Err d) fs e f = cc
 
 -- the walk stops there
-stops_at : (c : Code) (bytes : List ℕ) (at : ℕ) (h : Head) → StandsInForm c bytes at → IsHeader bytes h → IsBytes bytes → walk (suc (length (drop 32 bytes))) h start (drop 32 bytes) ≡ stopped c (drop at bytes)
+stops_at : (c : Code) (bytes : List ℕ) (at : ℕ) (h : Head) → StandsInForm c bytes at → IsHeader bytes h → IsBytes bytes
+    → walk (suc (length (drop 32 bytes))) h start (drop 32 bytes) ≡ stopped c (drop at bytes)
 stops_at c bytes at h s is fits =
     let b = behind_of c bytes at h s is fits in
-    walk_fault c (suc (length (drop 32 bytes))) h (drop 32 bytes) (drop at bytes) (says_head bytes h fits is.said).limits (IsBytes-drop 32 bytes fits) (omega arith) b.0
+    walk_fault c (suc (length (drop 32 bytes))) h (drop 32 bytes) (drop at bytes)
+    (says_head bytes h fits is.said).limits (IsBytes-drop 32 bytes fits) (omega arith) b.0
 
-one_place : (c d : Code) (bytes : List ℕ) (at to : ℕ) (h : Head) → IsHeader bytes h → IsBytes bytes → StandsInForm c bytes at → StandsInForm d bytes to → (c ≡ d) × (at ≡ to)
+one_place : (c d : Code) (bytes : List ℕ) (at to : ℕ) (h : Head) → IsHeader bytes h → IsBytes bytes
+    → StandsInForm c bytes at → StandsInForm d bytes to → (c ≡ d) × (at ≡ to)
 one_place c d bytes at to h is fits s t =
-    let same = same_stop c d (drop at bytes) (drop to bytes) (sym (stops_at c bytes at h s is fits) ∙ stops_at d bytes to h t is fits) in
+    let same = same_stop c d (drop at bytes) (drop to bytes) (sym (stops_at c bytes at h s is fits)
+    ∙ stops_at d bytes to h t is fits) in
     let one = (behind_of c bytes at h s is fits).1 in
     let two = (behind_of d bytes to h t is fits).1 in
     (same.0, omega (arith, ap length same.1, length-drop at bytes, length-drop to bytes, one, two))
 
-none_behind : (c : Code) (bytes : List ℕ) (at : ℕ) (h : Head) (t : Sequence) → IsHeader bytes h → IsBytes bytes → StandsInForm c bytes at → SpellsFrames bytes t → ⊥
+none_behind : (c : Code) (bytes : List ℕ) (at : ℕ) (h : Head) (t : Sequence) → IsHeader bytes h → IsBytes bytes
+    → StandsInForm c bytes at → SpellsFrames bytes t → ⊥
 none_behind c bytes at h t is fits s spells =
     let a = header_again_of bytes t spells in
     let same : t.head ≡ h = same_some (header_of (said_by bytes)) t.head h a.0.said is.said in
     let again : walk (suc (length (drop 32 bytes))) t.head start (drop 32 bytes) ≡ Ok t.frames =
     ap (λ (b : List ℕ). walk (suc (length b)) t.head start b) a.1
-    ∙ walk_again t.frames (suc (length (frames_text t.frames))) t.head start spells.limits spells.run.follow spells.run.ended (omega (arith, front_short t.frames)) in
-    stop_ok c (drop at bytes) (walk (suc (length (drop 32 bytes))) h start (drop 32 bytes)) t.frames (stops_at c bytes at h s is fits)
+    ∙ walk_again t.frames (suc (length (frames_text t.frames))) t.head start spells.limits spells.run.follow
+    spells.run.ended (omega (arith, front_short t.frames)) in
+    stop_ok c (drop at bytes) (walk (suc (length (drop 32 bytes))) h start (drop 32 bytes)) t.frames
+    (stops_at c bytes at h s is fits)
     (ap (λ (g : Head). walk (suc (length (drop 32 bytes))) g start (drop 32 bytes)) (sym same) ∙ again)
 
 -- ---- the first fault
@@ -157,7 +180,8 @@ refused_at_header c bytes s = record {
   within = omega arith;
 }
 
-pub refused_behind : (bytes : List ℕ) (h : Head) (f : Fault) → IsHeader bytes h → IsBytes bytes → IsFormFault bytes f → IsRefused bytes f
+pub refused_behind : (bytes : List ℕ) (h : Head) (f : Fault) → IsHeader bytes h → IsBytes bytes → IsFormFault bytes f
+    → IsRefused bytes f
 refused_behind bytes h f is fits s = record {
   least = record {
     is = s;

@@ -1,10 +1,12 @@
 -- Public: other crates cite these lemmas. The header, byte by byte.
-use Rattle.std.proofs.Common.{◌≡◌, ℕ, ◌^◌, ◌≤◌, true, leb, eqb, List, [], ◌∷◌, ◌++◌, length, take, drop, Some, refl, sym, ap, ◌∙◌, arith}
+use Rattle.std.proofs.Common.{◌≡◌, ℕ, ◌^◌, ◌≤◌, true, leb, eqb, List, [], ◌∷◌, ◌++◌, length, take, drop, Some, refl}
+use Rattle.std.proofs.Common.{sym, ap, ◌∙◌, arith}
 use Rattle.std.specs.Prelude.{codes, nat_eq}
 use Rattle.std.specs.Cmp.Lexicographic.{pointwise}
 use Rattle.std.proofs.lemmas.Bool.{le-leb, leb-true, eq-eqb, eqb-true, and_parts, and_from}
 use Rattle.std.proofs.lemmas.Nat.{be_bytes_8}
-use Rattle.std.proofs.lemmas.List.{take_at, take-append-drop, append-nil, length-append, length-take, length-drop, drop-drop}
+use Rattle.std.proofs.lemmas.List.{take_at, take-append-drop, append-nil, length-append, length-take, length-drop}
+use Rattle.std.proofs.lemmas.List.{drop-drop}
 use Rattle.byteorder.specs.Endian.{big_bytes, big_number}
 use Rattle.byteorder.specs.Numbers.{big_number-reads_back, big_from-take}
 use Rattle.eve_grammar.specs.Trace.{Head}
@@ -15,12 +17,14 @@ use Rattle.eve_views.specs.Form.{is_sized, has_magic, said_by, SaysHead}
 use Rattle.eve_views.specs.Header.{IsHeader}
 use Rattle.eve_grammar.proofs.Codec.{IsBytes, IsBytes-drop, IsBytes-take}
 use Rattle.eve_grammar.proofs.FrameLaws.{limits_text, Exact-header}
-use Rattle.eve_grammar.proofs.HeaderParts.{in_parts, header_parts, length-limits_text, length-head_text, behind_magic, behind_limits, behind_total}
+use Rattle.eve_grammar.proofs.HeaderParts.{in_parts, header_parts, length-limits_text, length-head_text, behind_magic}
+use Rattle.eve_grammar.proofs.HeaderParts.{behind_limits, behind_total}
 
 -- ---- its parts
 
 said_in_parts : (h : Head) (total : ℕ) (rest : List ℕ) → said_by (in_parts h total rest) ≡ limits_text h
-said_in_parts h total rest = ap (take 18) (behind_magic h total rest) ∙ take_at (limits_text h) (big_bytes 8 total ++ rest) 18 (length-limits_text h)
+said_in_parts h total rest = ap (take 18) (behind_magic h total rest)
+    ∙ take_at (limits_text h) (big_bytes 8 total ++ rest) 18 (length-limits_text h)
 
 said_by_text : (h : Head) → said_by (head_text h 0) ≡ limits_text h
 said_by_text h =
@@ -50,7 +54,8 @@ magic_of bytes e = sym (same_bytes (codes "EVESBK") (take 6 bytes) e)
 total_back : (bytes : List ℕ) → IsBytes bytes → 8 ≤ length bytes → big_bytes 8 (big_number 8 bytes) ≡ take 8 bytes
 total_back bytes fits long =
     let same : big_number 8 (take 8 bytes) ≡ big_number 8 bytes = big_from-take 0 8 8 bytes (omega arith) in
-    ap (big_bytes 8) (sym same) ∙ be_bytes_8 (take 8 bytes) _ (omega (arith, length-take 8 bytes)) (IsBytes-take 8 bytes fits) (omega arith)
+    ap (big_bytes 8) (sym same) ∙ be_bytes_8 (take 8 bytes) _ (omega (arith, length-take 8 bytes))
+    (IsBytes-take 8 bytes fits) (omega arith)
 
 pub record Sized (bytes : List ℕ) : Type 0 where
   pub long : 32 ≤ length bytes
@@ -61,23 +66,34 @@ pub Sized-from : (bytes : List ℕ) → is_sized bytes ≡ true → Sized bytes
 Sized-from bytes e =
     let a = and_parts (leb 32 (length bytes)) _ e in
     let b = and_parts (leb (length bytes) (2 ^ 30)) (eqb (big_number 8 (drop 24 bytes)) (length bytes)) a.1 in
-    record { long = leb-true 32 (length bytes) a.0; short = leb-true (length bytes) (2 ^ 30) b.0; total = eqb-true _ _ b.1 }
+    record {
+      long = leb-true 32 (length bytes) a.0;
+      short = leb-true (length bytes) (2 ^ 30) b.0;
+      total = eqb-true _ _ b.1;
+    }
 
 -- the header is spelled so
-pub header_spelled : (bytes : List ℕ) (h : Head) (rest : List ℕ) → IsBytes bytes → IsHeader bytes h → drop 32 bytes ≡ rest → bytes ≡ head_text h (length bytes) ++ rest
+pub header_spelled : (bytes : List ℕ) (h : Head) (rest : List ℕ) → IsBytes bytes → IsHeader bytes h → drop 32 bytes
+    ≡ rest → bytes ≡ head_text h (length bytes) ++ rest
 header_spelled bytes h rest fits is e =
     let sized = Sized-from bytes is.sized in
-    let said = (Exact-header.takes (said_by bytes) h (IsBytes-take 18 (drop 6 bytes) (IsBytes-drop 6 bytes fits)) is.said).0 in
+    let said = (Exact-header.takes (said_by bytes) h (IsBytes-take 18 (drop 6 bytes) (IsBytes-drop 6 bytes fits))
+    is.said).0 in
     let eight : take 8 (drop 24 bytes) ≡ big_bytes 8 (length bytes) =
-    sym (total_back (drop 24 bytes) (IsBytes-drop 24 bytes fits) (let l = sized.long in omega (arith, length-drop 24 bytes))) ∙ ap (big_bytes 8) sized.total in
+    sym (total_back (drop 24 bytes) (IsBytes-drop 24 bytes fits)
+    (let l = sized.long in omega (arith, length-drop 24 bytes))) ∙ ap (big_bytes 8) sized.total in
     let last : drop 24 bytes ≡ big_bytes 8 (length bytes) ++ rest =
-    sym (take-append-drop 8 (drop 24 bytes)) ∙ ap (λ (b : List ℕ). b ++ drop 8 (drop 24 bytes)) eight ∙ ap (λ (b : List ℕ). big_bytes 8 (length bytes) ++ b) (drop-drop 8 24 bytes ∙ e) in
+    sym (take-append-drop 8 (drop 24 bytes)) ∙ ap (λ (b : List ℕ). b ++ drop 8 (drop 24 bytes)) eight
+    ∙ ap (λ (b : List ℕ). big_bytes 8 (length bytes) ++ b) (drop-drop 8 24 bytes ∙ e) in
     let middle : drop 6 bytes ≡ limits_text h ++ (big_bytes 8 (length bytes) ++ rest) =
-    sym (take-append-drop 18 (drop 6 bytes)) ∙ ap (λ (b : List ℕ). b ++ drop 18 (drop 6 bytes)) said ∙ ap (λ (b : List ℕ). limits_text h ++ b) (drop-drop 18 6 bytes ∙ last) in
-    sym (take-append-drop 6 bytes) ∙ ap (λ (b : List ℕ). b ++ drop 6 bytes) (magic_of bytes is.magic) ∙ ap (λ (b : List ℕ). codes "EVESBK" ++ b) middle ∙ sym (header_parts h (length bytes) rest)
+    sym (take-append-drop 18 (drop 6 bytes)) ∙ ap (λ (b : List ℕ). b ++ drop 18 (drop 6 bytes)) said
+    ∙ ap (λ (b : List ℕ). limits_text h ++ b) (drop-drop 18 6 bytes ∙ last) in
+    sym (take-append-drop 6 bytes) ∙ ap (λ (b : List ℕ). b ++ drop 6 bytes) (magic_of bytes is.magic)
+    ∙ ap (λ (b : List ℕ). codes "EVESBK" ++ b) middle ∙ sym (header_parts h (length bytes) rest)
 
 -- what is spelled has that header
-pub header_again_of : (bytes : List ℕ) (t : Sequence) → SpellsFrames bytes t → IsHeader bytes t.head × (drop 32 bytes ≡ frames_text t.frames)
+pub header_again_of : (bytes : List ℕ) (t : Sequence) → SpellsFrames bytes t → IsHeader bytes t.head
+    × (drop 32 bytes ≡ frames_text t.frames)
 header_again_of bytes t s =
     let h = t.head in
     let n = length bytes in
@@ -85,11 +101,13 @@ header_again_of bytes t s =
     let is : bytes ≡ in_parts h n fs = s.spelled ∙ header_parts h n fs in
     let short : n ≤ 2 ^ 30 = s.short in
     let long : 32 ≤ n = omega (arith, ap length s.spelled, length-append (head_text h n) fs, length-head_text h n) in
-    let total : big_number 8 (drop 24 bytes) ≡ n = ap (λ (b : List ℕ). big_number 8 (drop 24 b)) is ∙ ap (big_number 8) (behind_limits h n fs) ∙ big_number-reads_back 8 n fs (omega arith) in (
+    let total : big_number 8 (drop 24 bytes) ≡ n = ap (λ (b : List ℕ). big_number 8 (drop 24 b)) is
+    ∙ ap (big_number 8) (behind_limits h n fs) ∙ big_number-reads_back 8 n fs (omega arith) in (
       record {
         sized = and_from _ _ (le-leb 32 n long) (and_from _ _ (le-leb n (2 ^ 30) short) (eq-eqb _ _ total));
         magic = ap has_magic is;
-        said = ap (λ (b : List ℕ). header_of (said_by b)) is ∙ ap header_of (said_in_parts h n fs) ∙ Exact-header.again h s.limits;
+        said = ap (λ (b : List ℕ). header_of (said_by b)) is ∙ ap header_of (said_in_parts h n fs)
+            ∙ Exact-header.again h s.limits;
       },
       ap (drop 32) is ∙ behind_total h n fs,
     )

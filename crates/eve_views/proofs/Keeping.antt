@@ -1,12 +1,14 @@
 -- What the walk keeps of a frame.
-use Rattle.std.proofs.Common.{◌≡◌, ℕ, zero, suc, ◌+◌, ◌*◌, ◌/◌, ◌<◌, ◌≤◌, Bool, true, false, ◌&&◌, cond, leb, ltb, List, [], ◌∷◌, length, take, drop, Option, Some, None, Ok, Err, refl, sym, ap, ◌∙◌, arith}
+use Rattle.std.proofs.Common.{◌≡◌, ℕ, zero, suc, ◌+◌, ◌*◌, ◌/◌, ◌<◌, ◌≤◌, Bool, true, false, ◌&&◌, cond, leb, ltb, List}
+use Rattle.std.proofs.Common.{[], ◌∷◌, length, take, drop, Option, Some, None, Ok, Err, refl, sym, ap, ◌∙◌, arith}
 use Rattle.std.specs.Prelude.{slice_index}
 use Rattle.std.specs.Option.{option_map}
 use Rattle.std.proofs.lemmas.Bool.{le-leb, le-ltb, ltb-false, ltb-true, and_from}
 use Rattle.std.proofs.lemmas.List.{length-drop}
 use Rattle.byteorder.specs.Endian.{big_number}
 use Rattle.eve_grammar.specs.Trace.{Head}
-use Rattle.eve_grammar.specs.Frames.{Frame, OfCustomer, OfBatch, OfReplica, OfAttempt, OfAccess, OfCommit, OfRollback, OfVerifier, OfVote, OfSent, End, Place, next, kind_of, is_allowed}
+use Rattle.eve_grammar.specs.Frames.{Frame, OfCustomer, OfBatch, OfReplica, OfAttempt, OfAccess, OfCommit, OfRollback}
+use Rattle.eve_grammar.specs.Frames.{OfVerifier, OfVote, OfSent, End, Place, next, kind_of, is_allowed}
 use Rattle.eve_grammar.specs.Reading.{number_at, many_at, body_of}
 use Rattle.eve_grammar.specs.Bodies.{numbers_in}
 use Rattle.eve_views.specs.declared.fault.Code.TheVariants as code
@@ -17,7 +19,8 @@ use Rattle.eve_views.specs.Indexing.{kept}
 
 -- ---- numbers of two bytes
 
-many_numbers : (n : ℕ) (bytes : List ℕ) → 2 * n ≤ length bytes → (x : List ℕ × List ℕ) × (many_at (number_at 2) n bytes ≡ Some x) × (length x.0 ≡ n)
+many_numbers : (n : ℕ) (bytes : List ℕ) → 2 * n ≤ length bytes → (x : List ℕ × List ℕ)
+    × (many_at (number_at 2) n bytes ≡ Some x) × (length x.0 ≡ n)
 unfolding many_at
 many_numbers zero bytes le = (([], bytes), refl, refl)
 many_numbers (suc n) bytes le =
@@ -38,10 +41,13 @@ pub record FrontOf (bytes : List ℕ) (kind len : ℕ) (rest : List ℕ) : Type 
   pub rest_is : drop 5 bytes ≡ rest
   pub size : length bytes ≡ 5 + length rest
 
-taken : (n : ℕ) (bytes : List ℕ) (x : ℕ) (rest : List ℕ) → number_at n bytes ≡ Some (x, rest) → (n ≤ length bytes) × (big_number n bytes ≡ x) × (drop n bytes ≡ rest)
+taken : (n : ℕ) (bytes : List ℕ) (x : ℕ) (rest : List ℕ) → number_at n bytes ≡ Some (x, rest) → (n ≤ length bytes)
+    × (big_number n bytes ≡ x) × (drop n bytes ≡ rest)
 taken n bytes x rest e = by (ltb (length bytes) n) refl e
   where
-    by : (b : Bool) → ltb (length bytes) n ≡ b → cond {A = Option (ℕ × List ℕ)} b None (Some (big_number n bytes, drop n bytes)) ≡ Some (x, rest) → (n ≤ length bytes) × (big_number n bytes ≡ x) × (drop n bytes ≡ rest)
+    by : (b : Bool) → ltb (length bytes) n ≡ b
+        → cond {A = Option (ℕ × List ℕ)} b None (Some (big_number n bytes, drop n bytes)) ≡ Some (x, rest)
+        → (n ≤ length bytes) × (big_number n bytes ≡ x) × (drop n bytes ≡ rest)
     by true t e = absurd cc
     by false t e =
         let one : ℕ × List ℕ = (big_number n bytes, drop n bytes) in
@@ -49,18 +55,25 @@ taken n bytes x rest e = by (ltb (length bytes) n) refl e
         let same : one ≡ two = cc in
         (ltb-false _ _ t, ap (λ (y : ℕ × List ℕ). y.0) same, ap (λ (y : ℕ × List ℕ). y.1) same)
 
-pub front_of : (bytes : List ℕ) (kind len : ℕ) (rest more : List ℕ) → number_at 1 bytes ≡ Some (kind, rest) → number_at 4 rest ≡ Some (len, more) → FrontOf bytes kind len more
+pub front_of : (bytes : List ℕ) (kind len : ℕ) (rest more : List ℕ) → number_at 1 bytes ≡ Some (kind, rest)
+    → number_at 4 rest ≡ Some (len, more) → FrontOf bytes kind len more
 front_of [] kind len rest more one two = let t = taken 1 [] kind rest one in let l : 1 ≤ 0 = t.0 in absurd (omega arith)
 front_of (b ∷ bytes) kind len rest more one two =
     let t = taken 1 (b ∷ bytes) kind rest one in
     let here : bytes ≡ rest = t.2 in
     let u = taken 4 bytes len more (ap (number_at 4) here ∙ two) in
     let first : big_number 1 (b ∷ bytes) ≡ b = omega arith in
-    record { kind_is = sym first ∙ t.1; len_is = u.1; rest_is = u.2; size = omega (arith, length-drop 4 bytes, ap length u.2, u.0) }
+    record {
+      kind_is = sym first ∙ t.1;
+      len_is = u.1;
+      rest_is = u.2;
+      size = omega (arith, length-drop 4 bytes, ap length u.2, u.0);
+    }
 
 -- ---- what is kept
 
-pub kept_unframed : (h : Head) (p : Place) (bytes : List ℕ) → is_framed h p bytes ≡ false → kept bytes (frame_at h p bytes) ≡ Err code.Frame
+pub kept_unframed : (h : Head) (p : Place) (bytes : List ℕ) → is_framed h p bytes ≡ false
+    → kept bytes (frame_at h p bytes) ≡ Err code.Frame
 unfolding frame_at
 kept_unframed h p bytes e = rw e refl
 
@@ -73,7 +86,8 @@ and_second true c e = e
 and_second false c e = refl
 
 -- fewer than five bytes
-pub kept_short : (h : Head) (p : Place) (bytes : List ℕ) → length bytes < 5 → kept bytes (frame_at h p bytes) ≡ Err code.Frame
+pub kept_short : (h : Head) (p : Place) (bytes : List ℕ) → length bytes < 5 → kept bytes (frame_at h p bytes)
+    ≡ Err code.Frame
 kept_short h p bytes lt = kept_unframed h p bytes (and_first _ _ (not_long lt))
   where
     not_long : length bytes < 5 → leb 5 (length bytes) ≡ false
@@ -82,45 +96,62 @@ kept_short h p bytes lt = kept_unframed h p bytes (and_first _ _ (not_long lt))
 pub none_short : (n : ℕ) (bytes : List ℕ) → number_at n bytes ≡ None → length bytes < n
 none_short n bytes e = by (ltb (length bytes) n) refl e
   where
-    by : (b : Bool) → ltb (length bytes) n ≡ b → cond {A = Option (ℕ × List ℕ)} b None (Some (big_number n bytes, drop n bytes)) ≡ None → length bytes < n
+    by : (b : Bool) → ltb (length bytes) n ≡ b
+        → cond {A = Option (ℕ × List ℕ)} b None (Some (big_number n bytes, drop n bytes)) ≡ None → length bytes < n
     by true t e = ltb-true _ _ t
     by false t e = absurd cc
 
-pub kept_not_allowed : (h : Head) (p : Place) (bytes : List ℕ) (kind len : ℕ) (rest : List ℕ) → FrontOf bytes kind len rest → is_allowed h p kind ≡ false → kept bytes (frame_at h p bytes) ≡ Err code.Frame
+pub kept_not_allowed : (h : Head) (p : Place) (bytes : List ℕ) (kind len : ℕ) (rest : List ℕ)
+    → FrontOf bytes kind len rest → is_allowed h p kind ≡ false → kept bytes (frame_at h p bytes) ≡ Err code.Frame
 kept_not_allowed h p bytes kind len rest front banned =
     kept_unframed h p bytes (and_second _ _ (and_first _ _ (ap (is_allowed h p) front.kind_is ∙ banned)))
 
-pub kept_past : (h : Head) (p : Place) (bytes : List ℕ) (kind len : ℕ) (rest : List ℕ) → FrontOf bytes kind len rest → length rest < len → kept bytes (frame_at h p bytes) ≡ Err code.Frame
-kept_past h p bytes kind len rest front lt = kept_unframed h p bytes (and_second _ _ (and_second _ _ (past front.len_is front.size)))
+pub kept_past : (h : Head) (p : Place) (bytes : List ℕ) (kind len : ℕ) (rest : List ℕ) → FrontOf bytes kind len rest
+    → length rest < len → kept bytes (frame_at h p bytes) ≡ Err code.Frame
+kept_past h p bytes kind len rest front lt =
+    kept_unframed h p bytes (and_second _ _ (and_second _ _ (past front.len_is front.size)))
   where
-    past : big_number 4 (drop 1 bytes) ≡ len → length bytes ≡ 5 + length rest → leb (5 + big_number 4 (drop 1 bytes)) (length bytes) ≡ false
+    past : big_number 4 (drop 1 bytes) ≡ len → length bytes ≡ 5 + length rest
+        → leb (5 + big_number 4 (drop 1 bytes)) (length bytes) ≡ false
     past e s = grind arith
 
-framed_from : (h : Head) (p : Place) (bytes : List ℕ) (kind len : ℕ) (rest : List ℕ) → FrontOf bytes kind len rest → is_allowed h p kind ≡ true → len ≤ length rest → is_framed h p bytes ≡ true
+framed_from : (h : Head) (p : Place) (bytes : List ℕ) (kind len : ℕ) (rest : List ℕ) → FrontOf bytes kind len rest
+    → is_allowed h p kind ≡ true → len ≤ length rest → is_framed h p bytes ≡ true
 framed_from h p bytes kind len rest front allowed le =
-    and_from _ _ (le-leb 5 (length bytes) (omega (arith, front.size))) (and_from _ _ (ap (is_allowed h p) front.kind_is ∙ allowed) (le-leb _ _ (omega (arith, front.size, front.len_is))))
+    and_from _ _ (le-leb 5 (length bytes) (omega (arith, front.size)))
+    (and_from _ _ (ap (is_allowed h p) front.kind_is ∙ allowed)
+    (le-leb _ _ (omega (arith, front.size, front.len_is))))
 
 body_is : (h : Head) (p : Place) (bytes : List ℕ) (kind len : ℕ) (rest : List ℕ) → FrontOf bytes kind len rest
-    → body_of h p (slice_index bytes 0) (take (big_number 4 (drop 1 bytes)) (drop 5 bytes)) ≡ body_of h p kind (take len rest)
+    → body_of h p (slice_index bytes 0) (take (big_number 4 (drop 1 bytes)) (drop 5 bytes))
+    ≡ body_of h p kind (take len rest)
 body_is h p bytes kind len rest front = rw (front.kind_is, front.len_is, front.rest_is) refl
 
-pub kept_wrong : (h : Head) (p : Place) (bytes : List ℕ) (kind len : ℕ) (rest : List ℕ) → FrontOf bytes kind len rest → is_allowed h p kind ≡ true → len ≤ length rest
+pub kept_wrong : (h : Head) (p : Place) (bytes : List ℕ) (kind len : ℕ) (rest : List ℕ) → FrontOf bytes kind len rest
+    → is_allowed h p kind ≡ true → len ≤ length rest
     → None ≡ option_map accesses_in (body_of h p kind (take len rest)) → kept bytes (frame_at h p bytes) ≡ Err code.Body
 unfolding frame_at
 kept_wrong h p bytes kind len rest front allowed le e =
-    rw (framed_from h p bytes kind len rest front allowed le, body_is h p bytes kind len rest front) (by (body_of h p kind (take len rest)) e)
+    rw (framed_from h p bytes kind len rest front allowed le, body_is h p bytes kind len rest front)
+    (by (body_of h p kind (take len rest)) e)
   where
-    by : (o : Option Frame) → None ≡ option_map accesses_in o → kept bytes (with_rest (drop (big_number 4 (drop 1 bytes)) (drop 5 bytes)) o) ≡ Err code.Body
+    by : (o : Option Frame) → None ≡ option_map accesses_in o
+        → kept bytes (with_rest (drop (big_number 4 (drop 1 bytes)) (drop 5 bytes)) o) ≡ Err code.Body
     by (Some f) e = absurd cc
     by None e = refl
 
-pub kept_right : (h : Head) (p : Place) (bytes : List ℕ) (kind len accesses : ℕ) (rest : List ℕ) → FrontOf bytes kind len rest → is_allowed h p kind ≡ true → len ≤ length rest
-    → Some accesses ≡ option_map accesses_in (body_of h p kind (take len rest)) → kept bytes (frame_at h p bytes) ≡ Ok (record { kind = kind; len = 5 + len; accesses = accesses })
+pub kept_right : (h : Head) (p : Place) (bytes : List ℕ) (kind len accesses : ℕ) (rest : List ℕ)
+    → FrontOf bytes kind len rest → is_allowed h p kind ≡ true → len ≤ length rest
+    → Some accesses ≡ option_map accesses_in (body_of h p kind (take len rest)) → kept bytes (frame_at h p bytes)
+    ≡ Ok (record { kind = kind; len = 5 + len; accesses = accesses })
 unfolding frame_at
 kept_right h p bytes kind len accesses rest front allowed le e =
-    rw (framed_from h p bytes kind len rest front allowed le, body_is h p bytes kind len rest front) (by (body_of h p kind (take len rest)) e)
+    rw (framed_from h p bytes kind len rest front allowed le, body_is h p bytes kind len rest front)
+    (by (body_of h p kind (take len rest)) e)
   where
-    by : (o : Option Frame) → Some accesses ≡ option_map accesses_in o → kept bytes (with_rest (drop (big_number 4 (drop 1 bytes)) (drop 5 bytes)) o) ≡ Ok (record { kind = kind; len = 5 + len; accesses = accesses })
+    by : (o : Option Frame) → Some accesses ≡ option_map accesses_in o
+        → kept bytes (with_rest (drop (big_number 4 (drop 1 bytes)) (drop 5 bytes)) o)
+        ≡ Ok (record { kind = kind; len = 5 + len; accesses = accesses })
     by (Some f) e =
         let same : accesses_in f ≡ accesses = cc in
         rw (front.kind_is, front.len_is, same) refl

@@ -1,12 +1,15 @@
 -- The parts of a trace that was read: what stands in them, and where.
-use Rattle.std.proofs.Common.{◌≡◌, ℕ, zero, suc, ◌+◌, ◌-◌, ◌<◌, ◌≤◌, ◌^◌, Bool, true, false, List, [], ◌∷◌, ◌++◌, map, length, take, drop, Some, refl, sym, ap, subst, ◌∙◌, append-nil, arith}
+use Rattle.std.proofs.Common.{◌≡◌, ℕ, zero, suc, ◌+◌, ◌-◌, ◌<◌, ◌≤◌, ◌^◌, Bool, true, false, List, [], ◌∷◌, ◌++◌, map}
+use Rattle.std.proofs.Common.{length, take, drop, Some, refl, sym, ap, subst, ◌∙◌, append-nil, arith}
 use Rattle.std.specs.Prelude.{slice_get, IsTrue, ◌&&◌}
 use Rattle.std.specs.List.{flat_map, list_all, enumerate_from}
 use Rattle.std.proofs.lemmas.List.{length-append, length-map, length-take-le, take-append-drop}
 use Rattle.std.proofs.lemmas.List.FromFn.{length-enumerate_from}
 use Rattle.eve_grammar.specs.Trace.{Batch, Access, Vote, Sent, Trace, head_of}
-use Rattle.eve_grammar.specs.Frames.{Frame, OfCustomer, OfBatch, OfAccess, OfVote, OfSent, End, section_frames, verifier_frames, batches_of, sections_of, verifiers_of, frames_of}
-use Rattle.eve_grammar.specs.Spelling.{frame_text, frames_text, spelling, located, customers_at, batches_at, sent_at, sent_start, batches_start}
+use Rattle.eve_grammar.specs.Frames.{Frame, OfCustomer, OfBatch, OfAccess, OfVote, OfSent, End, section_frames}
+use Rattle.eve_grammar.specs.Frames.{verifier_frames, batches_of, sections_of, verifiers_of, frames_of}
+use Rattle.eve_grammar.specs.Spelling.{frame_text, frames_text, spelling, located, customers_at, batches_at, sent_at}
+use Rattle.eve_grammar.specs.Spelling.{sent_start, batches_start}
 use Rattle.eve_grammar.specs.Limits.{HasLimits, is_customer, is_batch, is_sent, is_vote, is_access}
 use Rattle.eve_grammar.specs.Gathering.{Gathered, nothing, gathered}
 use Rattle.eve_grammar.proofs.Gatherings.{gathered-votes, gathered-accesses, with_votes, with_accesses}
@@ -21,9 +24,11 @@ use Rattle.eve_views.proofs.Locating.{IsPlaced, placed, length-located, batches_
 
 -- ---- single items
 
-pub all_at : {A : Type 0} (test : A → Bool) (xs : List A) (i : ℕ) (x : A) → IsTrue (list_all test xs) → slice_get xs i ≡ Some x → IsTrue (test x)
+pub all_at : {A : Type 0} (test : A → Bool) (xs : List A) (i : ℕ) (x : A) → IsTrue (list_all test xs) → slice_get xs i
+    ≡ Some x → IsTrue (test x)
 all_at test [] i x all e = cc
-all_at test (y ∷ xs) zero x all e = (let same : y ≡ x = cc in subst (λ z. IsTrue (test z)) same (and_first (test y) (list_all test xs) all))
+all_at test (y ∷ xs) zero x all e =
+    (let same : y ≡ x = cc in subst (λ z. IsTrue (test z)) same (and_first (test y) (list_all test xs) all))
   where
     and_first : (a b : Bool) → IsTrue (a && b) → IsTrue a
     and_first true b t = refl
@@ -35,42 +40,53 @@ all_at test (y ∷ xs) (suc i) x all e = all_at test xs i x (and_second (test y)
     and_second false b t = absurd cc
 
 -- an item of a part, met at its frame
-pub record Met {A : Type 0} (frame : A → Frame) (test : A → Bool) (list : List (ℕ × A)) (i offset : ℕ) (f : Frame) : Type 0 where
+pub record Met {A : Type 0} (frame : A → Frame) (test : A → Bool) (list : List (ℕ × A)) (i offset : ℕ)
+    (f : Frame) : Type 0 where
   pub item : A
   pub is : f ≡ frame item
   pub right : IsTrue (test item)
   pub there : slice_get list i ≡ Some (offset, item)
 
 -- the same where the frames are the front, the part and what is behind it
-placed_in : {A : Type 0} (frame : A → Frame) (before : List Frame) (xs : List A) (rest fs : List Frame) (n i at offset : ℕ) (f : Frame) → i < length xs → at ≡ 32 + length (frames_text before)
-    → fs ≡ before ++ (map frame xs ++ rest) → n ≡ length before + i → slice_get fs n ≡ Some f → offset ≡ byte_of fs n → IsPlaced frame xs i at offset f
+placed_in : {A : Type 0} (frame : A → Frame) (before : List Frame) (xs : List A) (rest fs : List Frame)
+    (n i at offset : ℕ) (f : Frame) → i < length xs → at ≡ 32 + length (frames_text before)
+    → fs ≡ before ++ (map frame xs ++ rest) → n ≡ length before + i → slice_get fs n ≡ Some f → offset ≡ byte_of fs n
+    → IsPlaced frame xs i at offset f
 placed_in frame before xs rest fs n i at offset f lt begins cut number got stands =
     placed frame before xs rest i at offset f lt begins
     (ap (λ (gs : List Frame). slice_get gs (length before + i)) (sym cut) ∙ ap (slice_get fs) (sym number) ∙ got)
     (stands ∙ ap (byte_of fs) number ∙ ap (λ (gs : List Frame). byte_of gs (length before + i)) cut)
 
-pub met_in : {A : Type 0} (frame : A → Frame) (test : A → Bool) (before : List Frame) (xs : List A) (rest fs : List Frame) (n i at offset : ℕ) (f : Frame) → IsTrue (list_all test xs) → i < length xs
-    → at ≡ 32 + length (frames_text before) → fs ≡ before ++ (map frame xs ++ rest) → n ≡ length before + i → slice_get fs n ≡ Some f → offset ≡ byte_of fs n
+pub met_in : {A : Type 0} (frame : A → Frame) (test : A → Bool) (before : List Frame) (xs : List A)
+    (rest fs : List Frame) (n i at offset : ℕ) (f : Frame) → IsTrue (list_all test xs) → i < length xs
+    → at ≡ 32 + length (frames_text before) → fs ≡ before ++ (map frame xs ++ rest) → n ≡ length before + i
+    → slice_get fs n ≡ Some f → offset ≡ byte_of fs n
     → Met frame test (located (λ x. frame_text (frame x)) at xs) i offset f
 met_in frame test before xs rest fs n i at offset f all lt begins cut number got stands =
     let p = placed_in frame before xs rest fs n i at offset f lt begins cut number got stands in
     record { item = p.item; is = p.is; right = all_at test xs i p.item all p.got; there = p.located_at }
 
 -- what is read of a frame's bytes is what the frame says
-pub says_met : {A : Type 0} (is_frame : List ℕ → Bool) (read : List ℕ → A) (bytes : List ℕ) (f g : Frame) (x : A) → bytes ≡ frame_text f → f ≡ g → Says is_frame read (frame_text g) x → Says is_frame read bytes x
-says_met is_frame read bytes f g x text same says = subst (λ (b : List ℕ). Says is_frame read b x) (sym (text ∙ ap frame_text same)) says
+pub says_met : {A : Type 0} (is_frame : List ℕ → Bool) (read : List ℕ → A) (bytes : List ℕ) (f g : Frame) (x : A)
+    → bytes ≡ frame_text f → f ≡ g → Says is_frame read (frame_text g) x → Says is_frame read bytes x
+says_met is_frame read bytes f g x text same says = subst (λ (b : List ℕ). Says is_frame read b x)
+    (sym (text ∙ ap frame_text same)) says
 
-pub returned : {A : Type 0} (read : List ℕ → A) (list : List (ℕ × A)) (i offset at : ℕ) (x : A) (bytes own : List ℕ) → slice_get list i ≡ Some (offset, x) → read bytes ≡ x → at ≡ offset → own ≡ bytes
+pub returned : {A : Type 0} (read : List ℕ → A) (list : List (ℕ × A)) (i offset at : ℕ) (x : A) (bytes own : List ℕ)
+    → slice_get list i ≡ Some (offset, x) → read bytes ≡ x → at ≡ offset → own ≡ bytes
     → slice_get list i ≡ Some (at, read own)
 returned read list i offset at x bytes own there says same text =
     there ∙ ap (λ z. Some (offset, z)) (sym says ∙ sym (ap read text)) ∙ ap (λ (k : ℕ). Some (k, read own)) (sym same)
 
 -- and its bytes are the frame's text
-pub lent_text : {A : Type 0} (frame : A → Frame) (read : List ℕ → A) (bytes own : List ℕ) (f : Frame) (x : A) → bytes ≡ frame_text f → f ≡ frame x → read bytes ≡ x → own ≡ bytes → own ≡ frame_text (frame (read own))
-lent_text frame read bytes own f x text is says same = same ∙ text ∙ ap frame_text is ∙ ap (λ y. frame_text (frame y)) (sym says ∙ sym (ap read same))
+pub lent_text : {A : Type 0} (frame : A → Frame) (read : List ℕ → A) (bytes own : List ℕ) (f : Frame) (x : A)
+    → bytes ≡ frame_text f → f ≡ frame x → read bytes ≡ x → own ≡ bytes → own ≡ frame_text (frame (read own))
+lent_text frame read bytes own f x text is says same = same ∙ text ∙ ap frame_text is
+    ∙ ap (λ y. frame_text (frame y)) (sym says ∙ sym (ap read same))
 
 -- which stands where the frame does
-pub lent_there : (t : Trace) (at offset : ℕ) (bytes own : List ℕ) → HasBytesAt t at bytes → offset ≡ at → own ≡ bytes → HasBytesAt t offset own
+pub lent_there : (t : Trace) (at offset : ℕ) (bytes own : List ℕ) → HasBytesAt t at bytes → offset ≡ at → own ≡ bytes
+    → HasBytesAt t offset own
 lent_there t at offset bytes own stands there same = record {
   behind = stands.behind;
   is = ap (λ (o : ℕ). drop o (spelling t)) there ∙ stands.is ∙ ap (λ (b : List ℕ). b ++ stands.behind) (sym same);
@@ -78,16 +94,20 @@ lent_there t at offset bytes own stands there same = record {
 
 -- ---- customers, batches, replies sent
 
-pub customer_met : (t : Trace) (fs : List Frame) (i offset : ℕ) (f : Frame) → HasLimits t → frames_of t ≡ fs → i < length t.customers → slice_get fs i ≡ Some f → offset ≡ byte_of fs i
+pub customer_met : (t : Trace) (fs : List Frame) (i offset : ℕ) (f : Frame) → HasLimits t → frames_of t ≡ fs
+    → i < length t.customers → slice_get fs i ≡ Some f → offset ≡ byte_of fs i
     → Met OfCustomer is_customer (customers_at t) i offset f
 unfolding frames_of customers_at
-customer_met t fs i offset f limits same lt got stands = met_in OfCustomer is_customer [] t.customers _ fs i i 32 offset f limits.customers lt refl (sym same) (omega arith) got stands
+customer_met t fs i offset f limits same lt got stands = met_in OfCustomer is_customer [] t.customers _ fs i i 32 offset
+    f limits.customers lt refl (sym same) (omega arith) got stands
 
-enumerated : {A : Type 0} (test : A → Bool) (n : ℕ) (xs : List A) → IsTrue (list_all test xs) → IsTrue (list_all (λ (x : ℕ × A). test x.1) (enumerate_from n xs))
+enumerated : {A : Type 0} (test : A → Bool) (n : ℕ) (xs : List A) → IsTrue (list_all test xs)
+    → IsTrue (list_all (λ (x : ℕ × A). test x.1) (enumerate_from n xs))
 enumerated test n [] all = refl
 enumerated {A = A} test n (x ∷ xs) all = by (test x) (λ rest. enumerated test (n + 1) xs rest) all
   where
-    by : (b : Bool) → (IsTrue (list_all test xs) → IsTrue (list_all (λ (y : ℕ × A). test y.1) (enumerate_from (n + 1) xs))) → IsTrue (b && list_all test xs)
+    by : (b : Bool) → (IsTrue (list_all test xs)
+        → IsTrue (list_all (λ (y : ℕ × A). test y.1) (enumerate_from (n + 1) xs))) → IsTrue (b && list_all test xs)
         → IsTrue (b && list_all (λ (y : ℕ × A). test y.1) (enumerate_from (n + 1) xs))
     by true more rest = more rest
     by false more rest = absurd cc
@@ -98,20 +118,26 @@ of_batch b = OfBatch b.0 b.1
 abbrev pub is_batch_of : ℕ × Batch → Bool
 is_batch_of b = is_batch b.1
 
-pub batch_met : (t : Trace) (fs : List Frame) (n k offset : ℕ) (f : Frame) → HasLimits t → frames_of t ≡ fs → k < length t.batches → n ≡ length t.customers + k → slice_get fs n ≡ Some f → offset ≡ byte_of fs n
+pub batch_met : (t : Trace) (fs : List Frame) (n k offset : ℕ) (f : Frame) → HasLimits t → frames_of t ≡ fs
+    → k < length t.batches → n ≡ length t.customers + k → slice_get fs n ≡ Some f → offset ≡ byte_of fs n
     → Met of_batch is_batch_of (batches_at t) k offset f
 unfolding frames_of batches_at
 batch_met t fs n k offset f limits same lt number got stands =
     let many : length (before_batches t) ≡ length t.customers = length-map t.customers OfCustomer in
-    met_in of_batch is_batch_of (before_batches t) (batches_of t) _ fs n k (batches_start t) offset f (enumerated is_batch 1 t.batches limits.batches)
-    (omega (arith, lt, length-enumerate_from 1 t.batches)) (sym (batches_begin t)) (sym same) (omega (arith, number, many)) got stands
+    met_in of_batch is_batch_of (before_batches t) (batches_of t) _ fs n k (batches_start t) offset f
+    (enumerated is_batch 1 t.batches limits.batches)
+    (omega (arith, lt, length-enumerate_from 1 t.batches)) (sym (batches_begin t)) (sym same)
+    (omega (arith, number, many)) got stands
 
 -- a batch has its place from 1 as its number
-pub batch_number : (t : Trace) (k offset : ℕ) (b : ℕ × Batch) → slice_get (batches_at t) k ≡ Some (offset, b) → b.0 ≡ 1 + k
+pub batch_number : (t : Trace) (k offset : ℕ) (b : ℕ × Batch) → slice_get (batches_at t) k ≡ Some (offset, b)
+    → b.0 ≡ 1 + k
 unfolding batches_at
 batch_number t k offset b e = counted t.batches 1 (batches_start t) k e
   where
-    counted : (bs : List Batch) (n at k : ℕ) → slice_get (located (λ (x : ℕ × Batch). frame_text (OfBatch x.0 x.1)) at (enumerate_from n bs)) k ≡ Some (offset, b) → b.0 ≡ n + k
+    counted : (bs : List Batch) (n at k : ℕ)
+        → slice_get (located (λ (x : ℕ × Batch). frame_text (OfBatch x.0 x.1)) at (enumerate_from n bs)) k
+        ≡ Some (offset, b) → b.0 ≡ n + k
     counted [] n at k e = cc
     counted (c ∷ bs) n at zero e =
         let here : ℕ × (ℕ × Batch) = (at, (n, c)) in
@@ -121,66 +147,89 @@ batch_number t k offset b e = counted t.batches 1 (batches_start t) k e
         omega (arith, number)
     counted (c ∷ bs) n at (suc k) e = omega (arith, counted bs (n + 1) (at + length (frame_text (OfBatch n c))) k e)
 
-pub sent_met : (t : Trace) (fs : List Frame) (n i offset : ℕ) (f : Frame) → HasLimits t → frames_of t ≡ fs → i < length t.sent → n ≡ length (before_sent t) + i → slice_get fs n ≡ Some f → offset ≡ byte_of fs n
+pub sent_met : (t : Trace) (fs : List Frame) (n i offset : ℕ) (f : Frame) → HasLimits t → frames_of t ≡ fs
+    → i < length t.sent → n ≡ length (before_sent t) + i → slice_get fs n ≡ Some f → offset ≡ byte_of fs n
     → Met OfSent (is_sent (length t.sections) (length t.batches)) (sent_at t) i offset f
 unfolding sent_at
 sent_met t fs n i offset f limits same lt number got stands =
-    met_in OfSent (is_sent (length t.sections) (length t.batches)) (before_sent t) t.sent (End ∷ []) fs n i (sent_start t) offset f limits.sent lt (sym (sent_begin t)) (sym same ∙ frames_from_sent t) number got stands
+    met_in OfSent (is_sent (length t.sections) (length t.batches)) (before_sent t) t.sent (End ∷ []) fs n i
+    (sent_start t) offset f limits.sent lt (sym (sent_begin t)) (sym same ∙ frames_from_sent t) number got stands
 
 -- how many frames there are
 pub frames_many : (t : Trace) → length (frames_of t) ≡ length (before_sent t) + (length t.sent + 1)
-frames_many t = ap length (frames_from_sent t) ∙ length-append (before_sent t) (map OfSent t.sent ++ End ∷ []) ∙ omega (arith, length-append (map OfSent t.sent) (End ∷ []), length-map t.sent OfSent)
+frames_many t = ap length (frames_from_sent t) ∙ length-append (before_sent t) (map OfSent t.sent ++ End ∷ [])
+    ∙ omega (arith, length-append (map OfSent t.sent) (End ∷ []), length-map t.sent OfSent)
 
 -- ---- frames between two numbers
 
-cut_at : (fs : List Frame) (from count : ℕ) → fs ≡ take from fs ++ (frames_between fs from count ++ drop count (drop from fs))
-cut_at fs from count = sym (take-append-drop from fs) ∙ ap (λ (gs : List Frame). take from fs ++ gs) (sym (take-append-drop count (drop from fs)))
+cut_at : (fs : List Frame) (from count : ℕ)
+    → fs ≡ take from fs ++ (frames_between fs from count ++ drop count (drop from fs))
+cut_at fs from count = sym (take-append-drop from fs)
+    ∙ ap (λ (gs : List Frame). take from fs ++ gs) (sym (take-append-drop count (drop from fs)))
 
-pub votes_are : (fs : List Frame) (from to : ℕ) (are : AreVotes fs from to) → votes_between fs from (to - from) ≡ located (λ v. frame_text (OfVote v)) (byte_of fs from) are.votes
+pub votes_are : (fs : List Frame) (from to : ℕ) (are : AreVotes fs from to) → votes_between fs from (to - from)
+    ≡ located (λ v. frame_text (OfVote v)) (byte_of fs from) are.votes
 unfolding votes_between
 votes_are fs from to are =
-    let own : gathered (map OfVote are.votes ++ []) ≡ with_votes nothing (are.votes ++ []) = gathered-votes are.votes [] nothing refl in
+    let own : gathered (map OfVote are.votes ++ []) ≡ with_votes nothing (are.votes ++ []) =
+    gathered-votes are.votes [] nothing refl in
     let all : (gathered (frames_between fs from (to - from))).votes ≡ are.votes =
-    ap (λ (gs : List Frame). (gathered gs).votes) (are.there ∙ sym (append-nil (map OfVote are.votes))) ∙ ap (λ (g : Gathered). g.votes) own ∙ append-nil are.votes in
+    ap (λ (gs : List Frame). (gathered gs).votes) (are.there ∙ sym (append-nil (map OfVote are.votes)))
+    ∙ ap (λ (g : Gathered). g.votes) own ∙ append-nil are.votes in
     ap (located (λ v. frame_text (OfVote v)) (byte_of fs from)) all
 
-pub vote_met : (fs : List Frame) (from to i offset : ℕ) (f : Frame) (are : AreVotes fs from to) → i < to - from → slice_get fs (from + i) ≡ Some f → offset ≡ byte_of fs (from + i)
+pub vote_met : (fs : List Frame) (from to i offset : ℕ) (f : Frame) (are : AreVotes fs from to) → i < to - from
+    → slice_get fs (from + i) ≡ Some f → offset ≡ byte_of fs (from + i)
     → Met OfVote (is_vote are.batches) (votes_between fs from (to - from)) i offset f
 vote_met fs from to i offset f are lt got stands =
     let up = are.up in
     let inside = are.within in
     let long = length-take-le from fs (omega (arith, inside, up)) in
     let cut : fs ≡ take from fs ++ (map OfVote are.votes ++ drop (to - from) (drop from fs)) =
-    cut_at fs from (to - from) ∙ ap (λ (gs : List Frame). take from fs ++ (gs ++ drop (to - from) (drop from fs))) are.there in
+    cut_at fs from (to - from) ∙ ap (λ (gs : List Frame). take from fs ++ (gs ++ drop (to - from) (drop from fs)))
+    are.there in
     let many = are.many in
-    subst (λ (list : List (ℕ × Vote)). Met OfVote (is_vote are.batches) list i offset f) (sym (votes_are fs from to are))
-    (met_in OfVote (is_vote are.batches) (take from fs) are.votes (drop (to - from) (drop from fs)) fs (from + i) i (byte_of fs from) offset f are.right (omega (arith, lt, many)) refl cut (omega (arith, long)) got stands)
+    subst (λ (list : List (ℕ × Vote)). Met OfVote (is_vote are.batches) list i offset f)
+    (sym (votes_are fs from to are))
+    (met_in OfVote (is_vote are.batches) (take from fs) are.votes (drop (to - from) (drop from fs)) fs (from + i) i
+    (byte_of fs from) offset f are.right (omega (arith, lt, many)) refl cut (omega (arith, long)) got stands)
 
-pub accesses_are : (fs : List Frame) (from to : ℕ) (are : AreAccesses fs from to) → accesses_between fs from (to - from) ≡ located (λ x. frame_text (OfAccess x)) (byte_of fs from) are.accesses
+pub accesses_are : (fs : List Frame) (from to : ℕ) (are : AreAccesses fs from to) → accesses_between fs from (to - from)
+    ≡ located (λ x. frame_text (OfAccess x)) (byte_of fs from) are.accesses
 unfolding accesses_between
 accesses_are fs from to are =
-    let own : gathered (map OfAccess are.accesses ++ []) ≡ with_accesses nothing (are.accesses ++ []) = gathered-accesses are.accesses [] nothing refl in
+    let own : gathered (map OfAccess are.accesses ++ []) ≡ with_accesses nothing (are.accesses ++ []) =
+    gathered-accesses are.accesses [] nothing refl in
     let all : (gathered (frames_between fs from (to - from))).accesses ≡ are.accesses =
-    ap (λ (gs : List Frame). (gathered gs).accesses) (are.there ∙ sym (append-nil (map OfAccess are.accesses))) ∙ ap (λ (g : Gathered). g.accesses) own ∙ append-nil are.accesses in
+    ap (λ (gs : List Frame). (gathered gs).accesses) (are.there ∙ sym (append-nil (map OfAccess are.accesses)))
+    ∙ ap (λ (g : Gathered). g.accesses) own ∙ append-nil are.accesses in
     ap (located (λ x. frame_text (OfAccess x)) (byte_of fs from)) all
 
-pub access_met : (fs : List Frame) (from to i offset : ℕ) (f : Frame) (are : AreAccesses fs from to) → i < to - from → slice_get fs (from + i) ≡ Some f → offset ≡ byte_of fs (from + i)
+pub access_met : (fs : List Frame) (from to i offset : ℕ) (f : Frame) (are : AreAccesses fs from to) → i < to - from
+    → slice_get fs (from + i) ≡ Some f → offset ≡ byte_of fs (from + i)
     → Met OfAccess (is_access are.rows) (accesses_between fs from (to - from)) i offset f
 access_met fs from to i offset f are lt got stands =
     let up = are.up in
     let inside = are.within in
     let long = length-take-le from fs (omega (arith, inside, up)) in
     let cut : fs ≡ take from fs ++ (map OfAccess are.accesses ++ drop (to - from) (drop from fs)) =
-    cut_at fs from (to - from) ∙ ap (λ (gs : List Frame). take from fs ++ (gs ++ drop (to - from) (drop from fs))) are.there in
+    cut_at fs from (to - from) ∙ ap (λ (gs : List Frame). take from fs ++ (gs ++ drop (to - from) (drop from fs)))
+    are.there in
     let many = are.many in
-    subst (λ (list : List (ℕ × Access)). Met OfAccess (is_access are.rows) list i offset f) (sym (accesses_are fs from to are))
-    (met_in OfAccess (is_access are.rows) (take from fs) are.accesses (drop (to - from) (drop from fs)) fs (from + i) i (byte_of fs from) offset f are.right (omega (arith, lt, many)) refl cut (omega (arith, long)) got stands)
+    subst (λ (list : List (ℕ × Access)). Met OfAccess (is_access are.rows) list i offset f)
+    (sym (accesses_are fs from to are))
+    (met_in OfAccess (is_access are.rows) (take from fs) are.accesses (drop (to - from) (drop from fs)) fs (from + i) i
+    (byte_of fs from) offset f are.right (omega (arith, lt, many)) refl cut (omega (arith, long)) got stands)
 
-pub length-votes : (fs : List Frame) (from to : ℕ) (are : AreVotes fs from to) → length (votes_between fs from (to - from)) ≡ to - from
-length-votes fs from to are = ap length (votes_are fs from to are) ∙ length-located (λ v. frame_text (OfVote v)) (byte_of fs from) are.votes ∙ are.many
+pub length-votes : (fs : List Frame) (from to : ℕ) (are : AreVotes fs from to)
+    → length (votes_between fs from (to - from)) ≡ to - from
+length-votes fs from to are = ap length (votes_are fs from to are)
+    ∙ length-located (λ v. frame_text (OfVote v)) (byte_of fs from) are.votes ∙ are.many
 
-pub length-accesses : (fs : List Frame) (from to : ℕ) (are : AreAccesses fs from to) → length (accesses_between fs from (to - from)) ≡ to - from
-length-accesses fs from to are = ap length (accesses_are fs from to are) ∙ length-located (λ x. frame_text (OfAccess x)) (byte_of fs from) are.accesses ∙ are.many
+pub length-accesses : (fs : List Frame) (from to : ℕ) (are : AreAccesses fs from to)
+    → length (accesses_between fs from (to - from)) ≡ to - from
+length-accesses fs from to are = ap length (accesses_are fs from to are) ∙ length-located (λ x. frame_text (OfAccess x))
+    (byte_of fs from) are.accesses ∙ are.many
 
 -- ---- frames of customers, batches and replies sent, as they are read
 
@@ -192,10 +241,13 @@ customers_within t fs i same lt =
       length-map t.customers OfCustomer,
       length-append (map OfCustomer t.customers) (map (λ b. OfBatch b.0 b.1) (batches_of t)),
       ap length (sym same ∙ frames_from_sections t),
-      length-append (before_sections t) (flat_map section_frames (sections_of t) ++ (flat_map verifier_frames (verifiers_of t) ++ (map OfSent t.sent ++ End ∷ []))),
+      length-append (before_sections t)
+          (flat_map section_frames (sections_of t) ++
+          (flat_map verifier_frames (verifiers_of t) ++ (map OfSent t.sent ++ End ∷ []))),
     )
 
-pub batches_within : (t : Trace) (fs : List Frame) (n k : ℕ) → frames_of t ≡ fs → k < length t.batches → n ≡ length t.customers + k → n < length fs
+pub batches_within : (t : Trace) (fs : List Frame) (n k : ℕ) → frames_of t ≡ fs → k < length t.batches
+    → n ≡ length t.customers + k → n < length fs
 batches_within t fs n k same lt number =
     let own = length-append (map OfCustomer t.customers) (map (λ b. OfBatch b.0 b.1) (batches_of t)) in
     omega (
@@ -207,7 +259,9 @@ batches_within t fs n k same lt number =
       length-enumerate_from 1 t.batches,
       own,
       ap length (sym same ∙ frames_from_sections t),
-      length-append (before_sections t) (flat_map section_frames (sections_of t) ++ (flat_map verifier_frames (verifiers_of t) ++ (map OfSent t.sent ++ End ∷ []))),
+      length-append (before_sections t)
+          (flat_map section_frames (sections_of t) ++
+          (flat_map verifier_frames (verifiers_of t) ++ (map OfSent t.sent ++ End ∷ []))),
     )
 
 few_batches : (t : Trace) → HasLimits t → length t.batches ≤ 65535
@@ -216,21 +270,31 @@ few_batches t limits = (small_head (head_of t) limits.head).batches
 few_replicas : (t : Trace) → HasLimits t → length t.sections ≤ 8
 few_replicas t limits = (small_head (head_of t) limits.head).replicas
 
-pub batch_said : (t : Trace) (fs : List Frame) (n k offset : ℕ) (f : Frame) (bytes : List ℕ) → HasLimits t → frames_of t ≡ fs → k < length t.batches → n ≡ length t.customers + k → slice_get fs n ≡ Some f
-    → offset ≡ byte_of fs n → bytes ≡ frame_text f → (b : ℕ × Batch) × Says is_batch_frame batch_in bytes b × (slice_get (batches_at t) k ≡ Some (offset, b)) × (f ≡ OfBatch b.0 b.1)
+pub batch_said : (t : Trace) (fs : List Frame) (n k offset : ℕ) (f : Frame) (bytes : List ℕ) → HasLimits t → frames_of t
+    ≡ fs → k < length t.batches → n ≡ length t.customers + k → slice_get fs n ≡ Some f
+    → offset ≡ byte_of fs n → bytes ≡ frame_text f → (b : ℕ × Batch) × Says is_batch_frame batch_in bytes b
+    × (slice_get (batches_at t) k ≡ Some (offset, b)) × (f ≡ OfBatch b.0 b.1)
 batch_said t fs n k offset f bytes limits same lt number got stands text =
     let met = batch_met t fs n k offset f limits same lt number got stands in
     let few = few_batches t limits in
-    let small : met.item.0 < 2 ^ 32 = omega (arith, few, lt, batch_number t k offset met.item met.there) in
-    (met.item, says_met is_batch_frame batch_in bytes f (OfBatch met.item.0 met.item.1) met.item text met.is (batch_again met.item.0 met.item.1 small met.right), met.there, met.is)
+    let small : met.item.0 < 2 ^ 32 = omega (arith, few, lt, batch_number t k offset met.item met.there) in (
+      met.item,
+      says_met is_batch_frame batch_in bytes f (OfBatch met.item.0 met.item.1) met.item text met.is
+          (batch_again met.item.0 met.item.1 small met.right),
+      met.there,
+      met.is,
+    )
 
-pub sent_said : (t : Trace) (fs : List Frame) (n i offset : ℕ) (f : Frame) (bytes : List ℕ) → HasLimits t → frames_of t ≡ fs → i < length t.sent → n ≡ length (before_sent t) + i → slice_get fs n ≡ Some f
-    → offset ≡ byte_of fs n → bytes ≡ frame_text f → (s : Sent) × Says is_sent_frame sent_in bytes s × (slice_get (sent_at t) i ≡ Some (offset, s)) × (f ≡ OfSent s)
+pub sent_said : (t : Trace) (fs : List Frame) (n i offset : ℕ) (f : Frame) (bytes : List ℕ) → HasLimits t → frames_of t
+    ≡ fs → i < length t.sent → n ≡ length (before_sent t) + i → slice_get fs n ≡ Some f
+    → offset ≡ byte_of fs n → bytes ≡ frame_text f → (s : Sent) × Says is_sent_frame sent_in bytes s
+    × (slice_get (sent_at t) i ≡ Some (offset, s)) × (f ≡ OfSent s)
 sent_said t fs n i offset f bytes limits same lt number got stands text =
     let met = sent_met t fs n i offset f limits same lt number got stands in (
       met.item,
       says_met is_sent_frame sent_in bytes f (OfSent met.item) met.item text met.is
-          (sent_again (length t.sections) (length t.batches) met.item met.right (few_replicas t limits) (few_batches t limits)),
+          (sent_again (length t.sections) (length t.batches) met.item met.right (few_replicas t limits)
+          (few_batches t limits)),
       met.there,
       met.is,
     )

@@ -1,15 +1,19 @@
 -- The next step of a section: its frames, and those behind them.
-use Rattle.std.proofs.Common.{◌≡◌, ◌≢◌, ℕ, ◌+◌, ◌-◌, ◌≤◌, List, [], ◌∷◌, ◌++◌, map, length, take, drop, Some, refl, sym, ap, subst, ◌∙◌, append_assoc, arith}
+use Rattle.std.proofs.Common.{◌≡◌, ◌≢◌, ℕ, ◌+◌, ◌-◌, ◌≤◌, List, [], ◌∷◌, ◌++◌, map, length, take, drop, Some, refl, sym}
+use Rattle.std.proofs.Common.{ap, subst, ◌∙◌, append_assoc, arith}
 use Rattle.std.specs.Prelude.{slice_get, IsTrue, ◌&&◌, ◌==◌}
 use Rattle.std.specs.List.{flat_map, list_all}
 use Rattle.std.proofs.lemmas.Bool.{eqb-true, and_parts}
-use Rattle.std.proofs.lemmas.List.{length-append, length-take-le, length-drop, take-append-drop, length-map, take_at, drop_at, drop-drop}
+use Rattle.std.proofs.lemmas.List.{length-append, length-take-le, length-drop, take-append-drop, length-map, take_at}
+use Rattle.std.proofs.lemmas.List.{drop_at, drop-drop}
 use Rattle.std.proofs.Math.Seq.{take-append-add}
 use Rattle.eve_grammar.specs.Trace.{Attempt, Commit, Rollback, Step, Attempts, Commits, RollsBack}
-use Rattle.eve_grammar.specs.Frames.{Frame, OfAttempt, OfAccess, OfCommit, OfRollback, kind_of, without_accesses, step_frames}
+use Rattle.eve_grammar.specs.Frames.{Frame, OfAttempt, OfAccess, OfCommit, OfRollback, kind_of, without_accesses}
+use Rattle.eve_grammar.specs.Frames.{step_frames}
 use Rattle.eve_grammar.specs.Spelling.{frame_text, frames_text, located, accesses_at, step_text}
 use Rattle.eve_grammar.specs.Limits.{is_step, is_access, is_attempt}
-use Rattle.eve_frames.specs.Views.{most_rows, is_attempt_frame, is_commit_frame, is_rollback_frame, attempt_in, commit_in, rollback_in, Says}
+use Rattle.eve_frames.specs.Views.{most_rows, is_attempt_frame, is_commit_frame, is_rollback_frame, attempt_in}
+use Rattle.eve_frames.specs.Views.{commit_in, rollback_in, Says}
 use Rattle.eve_frames.proofs.Rereading.{attempt_again, commit_again, rollback_again}
 use Rattle.eve_views.specs.Parts.{byte_of, frames_between, accesses_between, steps_between, AreAccesses, AreSteps}
 use Rattle.eve_views.proofs.Locating.{length-frames_text}
@@ -29,17 +33,25 @@ is_at : (fs part behind : List Frame) (at : ℕ) → at ≤ length fs → drop a
 is_at fs part behind at le cut =
     let wide : length (take at fs) ≡ at = length-take-le at fs le in
     let all : fs ≡ take at fs ++ drop at fs = sym (take-append-drop at fs) in
-    let here : take (length part) (drop at fs) ≡ part = ap (take (length part)) cut ∙ take_at part behind (length part) refl in
+    let here : take (length part) (drop at fs) ≡ part = ap (take (length part)) cut
+    ∙ take_at part behind (length part) refl in
     let front : take (at + length part) fs ≡ take at fs ++ part =
-    ap (take (at + length part)) all ∙ (let same : at + length part ≡ length (take at fs) + length part = omega (arith, wide) in ap (λ (n : ℕ). take n (take at fs ++ drop at fs)) same)
+    ap (take (at + length part)) all
+    ∙ (let same : at + length part ≡ length (take at fs) + length part = omega (arith, wide) in
+    ap (λ (n : ℕ). take n (take at fs ++ drop at fs)) same)
     ∙ take-append-add (take at fs) (drop at fs) (length part) ∙ ap (λ (gs : List Frame). take at fs ++ gs) here in
     record {
       there = here;
       first = λ f others e.
           let same : at ≡ length (take at fs) + 0 = omega (arith, wide) in
-          ap (λ (gs : List Frame). slice_get gs at) all ∙ ap (slice_get (take at fs ++ drop at fs)) same ∙ slice_get-behind (take at fs) (drop at fs) 0
+          ap (λ (gs : List Frame). slice_get gs at) all ∙ ap (slice_get (take at fs ++ drop at fs)) same
+          ∙ slice_get-behind (take at fs) (drop at fs) 0
           ∙ ap (λ (gs : List Frame). slice_get gs 0) (cut ∙ ap (λ (gs : List Frame). gs ++ behind) e);
-      byte = omega (arith, ap (λ (gs : List Frame). length (frames_text gs)) front, length-frames_text (take at fs) part);
+      byte = omega (
+        arith,
+        ap (λ (gs : List Frame). length (frames_text gs)) front,
+        length-frames_text (take at fs) part,
+      );
     }
 
 -- ---- the first of the steps
@@ -51,9 +63,11 @@ record IsNext (fs : List Frame) (at to rows : ℕ) (s : Step) : Type 0 where
   cut : (behind : List Frame) × (drop at fs ≡ step_frames s ++ behind)
   within : at + length (step_frames s) ≤ length fs
   rest : AreSteps fs (at + length (step_frames s)) to
-  value : steps_between fs at (to - at) ≡ (byte_of fs at, s) ∷ steps_between fs (at + length (step_frames s)) (to - (at + length (step_frames s)))
+  value : steps_between fs at (to - at) ≡ (byte_of fs at, s) ∷ steps_between fs (at + length (step_frames s))
+      (to - (at + length (step_frames s)))
 
-next_of : (fs : List Frame) (at to : ℕ) (are : AreSteps fs at to) (s : Step) (ss : List Step) → are.steps ≡ s ∷ ss → IsNext fs at to are.rows s
+next_of : (fs : List Frame) (at to : ℕ) (are : AreSteps fs at to) (s : Step) (ss : List Step) → are.steps ≡ s ∷ ss
+    → IsNext fs at to are.rows s
 next_of fs at to are s ss e =
     let up = are.up in
     let within = are.within in
@@ -63,12 +77,16 @@ next_of fs at to are s ss e =
     let long : length (drop at fs) ≡ length fs - at = length-drop at fs in
     let here : take (to - at) (drop at fs) ≡ part ++ later = are.there ∙ ap (flat_map step_frames) e in
     let many : to - at ≡ length part + length later =
-    sym (length-take-le (to - at) (drop at fs) (omega (arith, up, within, long))) ∙ ap length here ∙ length-append part later in
+    sym (length-take-le (to - at) (drop at fs) (omega (arith, up, within, long))) ∙ ap length here
+    ∙ length-append part later in
     let cut : drop at fs ≡ part ++ (later ++ others) =
-    sym (take-append-drop (to - at) (drop at fs)) ∙ ap (λ (gs : List Frame). gs ++ others) here ∙ append_assoc part later others in
-    let behind : drop (at + length part) fs ≡ later ++ others = sym (drop-drop (length part) at fs) ∙ ap (drop (length part)) cut ∙ drop_at part (later ++ others) (length part) refl in
+    sym (take-append-drop (to - at) (drop at fs)) ∙ ap (λ (gs : List Frame). gs ++ others) here
+    ∙ append_assoc part later others in
+    let behind : drop (at + length part) fs ≡ later ++ others = sym (drop-drop (length part) at fs)
+    ∙ ap (drop (length part)) cut ∙ drop_at part (later ++ others) (length part) refl in
     let left : to - (at + length part) ≡ length later = omega (arith, up, many) in
-    let all : IsTrue (is_step are.rows s && list_all (is_step are.rows) ss) = subst (λ (xs : List Step). IsTrue (list_all (is_step are.rows) xs)) e are.right in
+    let all : IsTrue (is_step are.rows s && list_all (is_step are.rows) ss) =
+    subst (λ (xs : List Step). IsTrue (list_all (is_step are.rows) xs)) e are.right in
     let both = and_parts (is_step are.rows s) (list_all (is_step are.rows) ss) all in
     let is : IsAt fs part at = is_at fs part (later ++ others) at (omega (arith, up, within)) cut in
     let rest : AreSteps fs (at + length part) to = record {
@@ -87,7 +105,8 @@ next_of fs at to are s ss e =
       within = omega (arith, up, within, many);
       rest = rest;
       value = steps_are fs at to are ∙ ap (located step_text (byte_of fs at)) e
-          ∙ ap (λ (xs : List (ℕ × Step)). (byte_of fs at, s) ∷ xs) (ap (λ (n : ℕ). located step_text n ss) (sym is.byte) ∙ sym (steps_are fs (at + length part) to rest));
+          ∙ ap (λ (xs : List (ℕ × Step)). (byte_of fs at, s) ∷ xs) (ap (λ (n : ℕ). located step_text n ss) (sym is.byte)
+          ∙ sym (steps_are fs (at + length part) to rest));
     }
 
 -- the frame that a step begins with
@@ -112,7 +131,8 @@ pub record IsMet (fs : List Frame) (at to : ℕ) (f : Frame) : Type 0 where
   is : IsNext fs at to rows step
   pub begins : f ≡ first step
 
-pub met_of : (fs : List Frame) (at to : ℕ) (f : Frame) (are : AreSteps fs at to) → at ≢ to → slice_get fs at ≡ Some f → IsMet fs at to f
+pub met_of : (fs : List Frame) (at to : ℕ) (f : Frame) (are : AreSteps fs at to) → at ≢ to → slice_get fs at ≡ Some f
+    → IsMet fs at to f
 met_of fs at to f are more got = by are.steps refl
   where
     by : (steps : List Step) → are.steps ≡ steps → IsMet fs at to f
@@ -121,12 +141,20 @@ met_of fs at to f are more got = by are.steps refl
         let within = are.within in
         let none : take (to - at) (drop at fs) ≡ [] = are.there ∙ ap (flat_map step_frames) e in
         let long = length-drop at fs in
-        let empty : to - at ≡ 0 = sym (length-take-le (to - at) (drop at fs) (omega (arith, up, within, long))) ∙ ap length none in
+        let empty : to - at ≡ 0 = sym (length-take-le (to - at) (drop at fs) (omega (arith, up, within, long)))
+        ∙ ap length none in
         absurd (more (omega (arith, up, empty)))
     by (s ∷ ss) e =
         let next = next_of fs at to are s ss e in
         let o = others_of s in
-        record { rows = are.rows; few = are.few; step = s; is = next; begins = some_frame f (first s) (sym got ∙ next.is.first (first s) o.0 o.1) }
+        record {
+          rows = are.rows;
+          few = are.few;
+          step = s;
+          is = next;
+          begins = some_frame f (first s)
+              (sym got ∙ next.is.first (first s) o.0 o.1);
+        }
 
 -- no frame is left, and so no step
 pub none_left : (fs : List Frame) (at to : ℕ) (are : AreSteps fs at to) → at ≡ to → steps_between fs at (to - at) ≡ []
@@ -147,12 +175,16 @@ pub record IsAttemptMet (fs : List Frame) (at to : ℕ) (bytes : List ℕ) : Typ
   pub attempt : Attempt
   pub says : Says is_attempt_frame attempt_in bytes (without_accesses attempt)
   pub frame : bytes ≡ frame_text (OfAttempt (without_accesses attempt))
-  pub accesses : (to_accesses : ℕ) → to_accesses ≡ at + 1 + length attempt.certificate → AreAccesses fs (at + 1) to_accesses
-  pub list : (to_accesses : ℕ) → to_accesses ≡ at + 1 + length attempt.certificate → accesses_between fs (at + 1) (to_accesses - (at + 1)) ≡ accesses_at (byte_of fs at) attempt
+  pub accesses : (to_accesses : ℕ) → to_accesses ≡ at + 1 + length attempt.certificate
+      → AreAccesses fs (at + 1) to_accesses
+  pub list : (to_accesses : ℕ) → to_accesses ≡ at + 1 + length attempt.certificate
+      → accesses_between fs (at + 1) (to_accesses - (at + 1)) ≡ accesses_at (byte_of fs at) attempt
   pub rest : (next : ℕ) → next ≡ at + 1 + length attempt.certificate → AreSteps fs next to
-  pub value : (next : ℕ) → next ≡ at + 1 + length attempt.certificate → steps_between fs at (to - at) ≡ (byte_of fs at, Attempts attempt) ∷ steps_between fs next (to - next)
+  pub value : (next : ℕ) → next ≡ at + 1 + length attempt.certificate → steps_between fs at (to - at)
+      ≡ (byte_of fs at, Attempts attempt) ∷ steps_between fs next (to - next)
 
-pub attempt_met : (fs : List Frame) (at to : ℕ) (f : Frame) (bytes : List ℕ) → IsMet fs at to f → kind_of f ≡ 17 → bytes ≡ frame_text f → IsAttemptMet fs at to bytes
+pub attempt_met : (fs : List Frame) (at to : ℕ) (f : Frame) (bytes : List ℕ) → IsMet fs at to f → kind_of f ≡ 17
+    → bytes ≡ frame_text f → IsAttemptMet fs at to bytes
 attempt_met fs at to f bytes met kind text = by met.step met.is met.begins
   where
     by : (s : Step) → IsNext fs at to met.rows s → f ≡ first s → IsAttemptMet fs at to bytes
@@ -160,15 +192,20 @@ attempt_met fs at to f bytes met kind text = by met.step met.is met.begins
     by (RollsBack r) next begins = absurd (omega (arith, kind, ap kind_of begins))
     by (Attempts a) next begins =
         let few = met.few in
-        let parts = and_parts (is_attempt a) ((length a.accesses == length a.certificate) && list_all (is_access met.rows) a.accesses) next.right in
-        let more = and_parts (length a.accesses == length a.certificate) (list_all (is_access met.rows) a.accesses) parts.1 in
-        let many : length a.accesses ≡ length a.certificate = eqb-true (length a.accesses) (length a.certificate) more.0 in
-        let wide : length (step_frames (Attempts a)) ≡ 1 + length a.certificate = omega (arith, many, length-map a.accesses OfAccess) in
+        let parts = and_parts (is_attempt a)
+        ((length a.accesses == length a.certificate) && list_all (is_access met.rows) a.accesses) next.right in
+        let more = and_parts (length a.accesses == length a.certificate) (list_all (is_access met.rows) a.accesses)
+        parts.1 in
+        let many : length a.accesses ≡ length a.certificate =
+        eqb-true (length a.accesses) (length a.certificate) more.0 in
+        let wide : length (step_frames (Attempts a)) ≡ 1 + length a.certificate =
+        omega (arith, many, length-map a.accesses OfAccess) in
         let own : List Frame = map OfAccess a.accesses in
         let behind : drop (at + 1) fs ≡ own ++ next.cut.0 = sym (drop-drop 1 at fs) ∙ ap (drop 1) next.cut.1 in
         let inside = next.within in
         let is : IsAt fs own (at + 1) = is_at fs own next.cut.0 (at + 1) (omega (arith, wide, inside)) behind in
-        let head : IsAt fs (first (Attempts a) ∷ []) at = is_at fs (first (Attempts a) ∷ []) (own ++ next.cut.0) at (omega (arith, wide, inside)) next.cut.1 in
+        let head : IsAt fs (first (Attempts a) ∷ []) at = is_at fs (first (Attempts a) ∷ []) (own ++ next.cut.0) at
+        (omega (arith, wide, inside)) next.cut.1 in
         let are : AreAccesses fs (at + 1) (at + 1 + length a.certificate) = record {
           accesses = a.accesses;
           rows = met.rows;
@@ -177,19 +214,25 @@ attempt_met fs at to f bytes met kind text = by met.step met.is met.begins
           many = omega (arith, many);
           up = omega arith;
           within = omega (arith, wide, inside);
-          there = (let same : at + 1 + length a.certificate - (at + 1) ≡ length own = omega (arith, many, length-map a.accesses OfAccess) in ap (frames_between fs (at + 1)) same ∙ is.there);
+          there = (let same : at + 1 + length a.certificate - (at + 1)
+              ≡ length own = omega (arith, many, length-map a.accesses OfAccess) in ap (frames_between fs (at + 1)) same
+              ∙ is.there);
         } in
-        let byte : byte_of fs (at + 1) ≡ byte_of fs at + length (frame_text (OfAttempt a)) = head.byte ∙ omega (arith, length-append (frame_text (OfAttempt a)) []) in
+        let byte : byte_of fs (at + 1) ≡ byte_of fs at + length (frame_text (OfAttempt a)) = head.byte
+        ∙ omega (arith, length-append (frame_text (OfAttempt a)) []) in
         let step : at + length (step_frames (Attempts a)) ≡ at + 1 + length a.certificate = omega (arith, wide) in
         record {
           attempt = a;
-          says = says_met is_attempt_frame attempt_in bytes f (OfAttempt (without_accesses a)) (without_accesses a) text begins (attempt_again (without_accesses a) parts.0);
+          says = says_met is_attempt_frame attempt_in bytes f (OfAttempt (without_accesses a)) (without_accesses a) text
+              begins (attempt_again (without_accesses a) parts.0);
           frame = text ∙ ap frame_text begins;
           accesses = λ n e. subst (λ (n : ℕ). AreAccesses fs (at + 1) n) (sym e) are;
-          list = λ n e. ap (λ (n : ℕ). accesses_between fs (at + 1) (n - (at + 1))) e ∙ accesses_are fs (at + 1) (at + 1 + length a.certificate) are
+          list = λ n e. ap (λ (n : ℕ). accesses_between fs (at + 1) (n - (at + 1))) e
+              ∙ accesses_are fs (at + 1) (at + 1 + length a.certificate) are
               ∙ ap (λ (n : ℕ). located (λ x. frame_text (OfAccess x)) n a.accesses) byte;
           rest = λ n e. subst (λ (n : ℕ). AreSteps fs n to) (step ∙ sym e) next.rest;
-          value = λ n e. next.value ∙ ap (λ (n : ℕ). (byte_of fs at, Attempts a) ∷ steps_between fs n (to - n)) (step ∙ sym e);
+          value = λ n e. next.value ∙ ap (λ (n : ℕ). (byte_of fs at, Attempts a) ∷ steps_between fs n (to - n))
+              (step ∙ sym e);
         }
 
 -- a commit is met
@@ -198,15 +241,25 @@ pub record IsCommitMet (fs : List Frame) (at to : ℕ) (bytes : List ℕ) : Type
   pub says : Says is_commit_frame commit_in bytes commit
   pub frame : bytes ≡ frame_text (OfCommit commit)
   pub rest : AreSteps fs (at + 1) to
-  pub value : steps_between fs at (to - at) ≡ (byte_of fs at, Commits commit) ∷ steps_between fs (at + 1) (to - (at + 1))
+  pub value : steps_between fs at (to - at) ≡ (byte_of fs at, Commits commit) ∷ steps_between fs (at + 1)
+      (to - (at + 1))
 
-pub commit_met : (fs : List Frame) (at to : ℕ) (f : Frame) (bytes : List ℕ) → IsMet fs at to f → kind_of f ≡ 19 → bytes ≡ frame_text f → IsCommitMet fs at to bytes
+pub commit_met : (fs : List Frame) (at to : ℕ) (f : Frame) (bytes : List ℕ) → IsMet fs at to f → kind_of f ≡ 19
+    → bytes ≡ frame_text f → IsCommitMet fs at to bytes
 commit_met fs at to f bytes met kind text = by met.step met.is met.begins
   where
     by : (s : Step) → IsNext fs at to met.rows s → f ≡ first s → IsCommitMet fs at to bytes
     by (Attempts a) next begins = absurd (omega (arith, kind, ap kind_of begins))
     by (RollsBack r) next begins = absurd (omega (arith, kind, ap kind_of begins))
-    by (Commits c) next begins = record { commit = c; says = says_met is_commit_frame commit_in bytes f (OfCommit c) c text begins (commit_again c next.right); frame = text ∙ ap frame_text begins; rest = next.rest; value = next.value }
+    by (Commits c) next begins =
+        record {
+          commit = c;
+          says = says_met is_commit_frame commit_in bytes f (OfCommit c) c text begins
+              (commit_again c next.right);
+          frame = text ∙ ap frame_text begins;
+          rest = next.rest;
+          value = next.value;
+        }
 
 -- a rollback is met
 pub record IsRollbackMet (fs : List Frame) (at to : ℕ) (bytes : List ℕ) : Type 0 where
@@ -214,9 +267,11 @@ pub record IsRollbackMet (fs : List Frame) (at to : ℕ) (bytes : List ℕ) : Ty
   pub says : Says is_rollback_frame rollback_in bytes rollback
   pub frame : bytes ≡ frame_text (OfRollback rollback)
   pub rest : AreSteps fs (at + 1) to
-  pub value : steps_between fs at (to - at) ≡ (byte_of fs at, RollsBack rollback) ∷ steps_between fs (at + 1) (to - (at + 1))
+  pub value : steps_between fs at (to - at) ≡ (byte_of fs at, RollsBack rollback) ∷ steps_between fs (at + 1)
+      (to - (at + 1))
 
-pub rollback_met : (fs : List Frame) (at to : ℕ) (f : Frame) (bytes : List ℕ) → IsMet fs at to f → kind_of f ≢ 17 → kind_of f ≢ 19 → bytes ≡ frame_text f → IsRollbackMet fs at to bytes
+pub rollback_met : (fs : List Frame) (at to : ℕ) (f : Frame) (bytes : List ℕ) → IsMet fs at to f → kind_of f ≢ 17
+    → kind_of f ≢ 19 → bytes ≡ frame_text f → IsRollbackMet fs at to bytes
 rollback_met fs at to f bytes met other another text = by met.step met.is met.begins
   where
     by : (s : Step) → IsNext fs at to met.rows s → f ≡ first s → IsRollbackMet fs at to bytes
@@ -224,7 +279,8 @@ rollback_met fs at to f bytes met other another text = by met.step met.is met.be
     by (Commits c) next begins = absurd (another (ap kind_of begins))
     by (RollsBack r) next begins = record {
       rollback = r;
-      says = says_met is_rollback_frame rollback_in bytes f (OfRollback r) r text begins (rollback_again met.rows r next.right met.few);
+      says = says_met is_rollback_frame rollback_in bytes f (OfRollback r) r text begins
+          (rollback_again met.rows r next.right met.few);
       frame = text ∙ ap frame_text begins;
       rest = next.rest;
       value = next.value;

@@ -1,5 +1,6 @@
 -- A trace that was read.
-use Rattle.std.proofs.Common.{◌≡◌, ℕ, zero, suc, ◌+◌, ◌-◌, ◌<◌, ◌≤◌, List, [], ◌∷◌, ◌++◌, length, get_or, take, drop, Some, refl, sym, ap, subst, ◌∙◌, append_assoc, add-one, arith}
+use Rattle.std.proofs.Common.{◌≡◌, ℕ, zero, suc, ◌+◌, ◌-◌, ◌<◌, ◌≤◌, List, [], ◌∷◌, ◌++◌, length, get_or, take, drop}
+use Rattle.std.proofs.Common.{Some, refl, sym, ap, subst, ◌∙◌, append_assoc, add-one, arith}
 use Rattle.std.specs.Prelude.{slice_get}
 use Rattle.std.proofs.lemmas.List.{length-append, take_all, take_at, drop_at}
 use Rattle.eve_grammar.specs.Trace.{Head}
@@ -29,10 +30,12 @@ pub record IsHeld (bytes : List ℕ) (h : Head) (i : Index) : Type 0 where
   pub offsets : i.offsets.items ≡ offsets_of 32 (read_of h bytes).frames
   pub starts : AreStarts h (read_of h bytes).frames i.starts
 
-pub held_of : (bytes : List ℕ) (h : Head) (i : Index) → IsBytes bytes → IsHeader bytes h → IsIndex h bytes i → IsHeld bytes h i
+pub held_of : (bytes : List ℕ) (h : Head) (i : Index) → IsBytes bytes → IsHeader bytes h → IsIndex h bytes i
+    → IsHeld bytes h i
 held_of bytes h i fits is found =
     let says = says_head bytes h fits is.said in
-    let same : frames_in h (drop 32 bytes) ≡ found.frames = ap (frames_in h) found.text ∙ run_read h found.frames says.limits found.run in
+    let same : frames_in h (drop 32 bytes) ≡ found.frames = ap (frames_in h) found.text
+    ∙ run_read h found.frames says.limits found.run in
     let spells : SpellsFrames bytes (record { head = h; frames = found.frames }) = record {
       limits = says.limits;
       run = found.run;
@@ -47,15 +50,18 @@ held_of bytes h i fits is found =
 
 -- ---- a fault
 
-pub found_least : (bytes : List ℕ) (h : Head) (e : CheckFault) → IsBytes bytes → IsHeader bytes h → IfFound e (IsFormFault bytes) → IfFound e (IsLeast (IsFormFault bytes))
+pub found_least : (bytes : List ℕ) (h : Head) (e : CheckFault) → IsBytes bytes → IsHeader bytes h
+    → IfFound e (IsFormFault bytes) → IfFound e (IsLeast (IsFormFault bytes))
 found_least bytes h Memory fits is s = tt
 found_least bytes h (Found f) fits is s = (refused_behind bytes h f is fits s).least
 
-pub found_none : (bytes : List ℕ) (h : Head) (e : CheckFault) → IsBytes bytes → IsHeader bytes h → IfFound e (IsFormFault bytes) → IfFound e (λ _. (t : Sequence) → ¬ SpellsFrames bytes t)
+pub found_none : (bytes : List ℕ) (h : Head) (e : CheckFault) → IsBytes bytes → IsHeader bytes h
+    → IfFound e (IsFormFault bytes) → IfFound e (λ _. (t : Sequence) → ¬ SpellsFrames bytes t)
 found_none bytes h Memory fits is s = tt
 found_none bytes h (Found f) fits is s = (refused_behind bytes h f is fits s).none
 
-pub found_within : (bytes : List ℕ) (h : Head) (e : CheckFault) → IsBytes bytes → IsHeader bytes h → IfFound e (IsFormFault bytes) → IfFound e (λ f. f.offset ≤ length bytes)
+pub found_within : (bytes : List ℕ) (h : Head) (e : CheckFault) → IsBytes bytes → IsHeader bytes h
+    → IfFound e (IsFormFault bytes) → IfFound e (λ f. f.offset ≤ length bytes)
 found_within bytes h Memory fits is s = tt
 found_within bytes h (Found f) fits is s = (refused_behind bytes h f is fits s).within
 
@@ -68,7 +74,8 @@ pub record IsAt (fs : List Frame) (i : ℕ) (f : Frame) (rest : List ℕ) : Type
 
 pub frame_of : (fs : List Frame) (i : ℕ) → i < length fs → (f : Frame) × ((rest : List ℕ) × IsAt fs i f rest)
 frame_of [] i lt = absurd (omega arith)
-frame_of (f ∷ fs) zero lt = (f, (frames_text fs, record { got = refl; before = refl; next = omega (arith, length-append (frame_text f) []) }))
+frame_of (f ∷ fs) zero lt =
+    (f, (frames_text fs, record { got = refl; before = refl; next = omega (arith, length-append (frame_text f) []) }))
 frame_of (f ∷ fs) (suc i) lt =
     let r = frame_of fs i (omega arith) in
     let a = r.1.1 in (
@@ -77,22 +84,37 @@ frame_of (f ∷ fs) (suc i) lt =
         r.1.0,
         record {
           got = a.got;
-          before = ap (λ (b : List ℕ). frame_text f ++ b) a.before ∙ sym (append_assoc (frame_text f) (frames_text (take i fs)) (frame_text r.0 ++ r.1.0));
-          next = omega (arith, a.next, length-append (frame_text f) (frames_text (take (suc i) fs)), length-append (frame_text f) (frames_text (take i fs)));
+          before = ap (λ (b : List ℕ). frame_text f ++ b) a.before
+              ∙ sym (append_assoc (frame_text f) (frames_text (take i fs)) (frame_text r.0 ++ r.1.0));
+          next = omega (
+            arith,
+            a.next,
+            length-append (frame_text f) (frames_text (take (suc i) fs)),
+            length-append (frame_text f) (frames_text (take i fs)),
+          );
         },
       ),
     )
 
-pub offsets_at : (fs : List Frame) (at i : ℕ) → i < length fs → get_or (offsets_of at fs) i 0 ≡ at + length (frames_text (take i fs))
+pub offsets_at : (fs : List Frame) (at i : ℕ) → i < length fs → get_or (offsets_of at fs) i 0
+    ≡ at + length (frames_text (take i fs))
 offsets_at [] at i lt = absurd (omega arith)
 offsets_at (f ∷ fs) at zero lt = omega arith
-offsets_at (f ∷ fs) at (suc i) lt = offsets_at fs (at + length (frame_text f)) i (omega arith) ∙ omega (arith, length-append (frame_text f) (frames_text (take i fs)))
+offsets_at (f ∷ fs) at (suc i) lt = offsets_at fs (at + length (frame_text f)) i (omega arith)
+    ∙ omega (arith, length-append (frame_text f) (frames_text (take i fs)))
 
 -- the end, behind the last frame
-pub end_at : (bytes : List ℕ) (t : Sequence) (i : ℕ) → SpellsFrames bytes t → length t.frames ≤ i → length bytes ≡ 32 + length (frames_text (take i t.frames))
+pub end_at : (bytes : List ℕ) (t : Sequence) (i : ℕ) → SpellsFrames bytes t → length t.frames ≤ i → length bytes
+    ≡ 32 + length (frames_text (take i t.frames))
 end_at bytes t i s le =
     let all : take i t.frames ≡ t.frames = take_all i t.frames le in
-    omega (arith, ap length s.spelled, length-append (head_text t.head (length bytes)) (frames_text t.frames), length-head_text t.head (length bytes), ap (λ (fs : List Frame). length (frames_text fs)) all)
+    omega (
+      arith,
+      ap length s.spelled,
+      length-append (head_text t.head (length bytes)) (frames_text t.frames),
+      length-head_text t.head (length bytes),
+      ap (λ (fs : List Frame). length (frames_text fs)) all,
+    )
 
 -- a frame between two places
 pub record IsPart (bytes : List ℕ) (fs : List Frame) (i from to : ℕ) : Type 0 where
@@ -106,17 +128,29 @@ pub record IsPart (bytes : List ℕ) (fs : List Frame) (i from to : ℕ) : Type 
   pub long : 5 ≤ to - from
 
 pub part_is : (bytes : List ℕ) (t : Sequence) (i from to : ℕ) → SpellsFrames bytes t → i < length t.frames
-    → from ≡ 32 + length (frames_text (take i t.frames)) → to ≡ 32 + length (frames_text (take (i + 1) t.frames)) → IsPart bytes t.frames i from to
+    → from ≡ 32 + length (frames_text (take i t.frames)) → to ≡ 32 + length (frames_text (take (i + 1) t.frames))
+    → IsPart bytes t.frames i from to
 part_is bytes t i from to s lt at_from at_to =
     let r = frame_of t.frames i lt in
     let a = r.1.1 in
     let head = head_text t.head (length bytes) in
     let front = frames_text (take i t.frames) in
-    let next : to ≡ from + length (frame_text r.0) = at_to ∙ ap (λ (k : ℕ). 32 + length (frames_text (take k t.frames))) (add-one i) ∙ omega (arith, a.next, at_from) in
-    let whole : bytes ≡ (head ++ front) ++ (frame_text r.0 ++ r.1.0) = s.spelled ∙ ap (λ (b : List ℕ). head ++ b) a.before ∙ sym (append_assoc head front (frame_text r.0 ++ r.1.0)) in
-    let before : length (head ++ front) ≡ from = omega (arith, length-append head front, length-head_text t.head (length bytes), at_from) in
-    let long : length bytes ≡ from + (length (frame_text r.0) + length r.1.0) = omega (arith, ap length whole, before, length-append (head ++ front) (frame_text r.0 ++ r.1.0), length-append (frame_text r.0) r.1.0) in
-    let cut : drop from bytes ≡ frame_text r.0 ++ r.1.0 = ap (drop from) whole ∙ drop_at (head ++ front) (frame_text r.0 ++ r.1.0) from before in
+    let next : to ≡ from + length (frame_text r.0) = at_to ∙ ap (λ (k : ℕ). 32 + length (frames_text (take k t.frames)))
+    (add-one i) ∙ omega (arith, a.next, at_from) in
+    let whole : bytes ≡ (head ++ front) ++ (frame_text r.0 ++ r.1.0) = s.spelled
+    ∙ ap (λ (b : List ℕ). head ++ b) a.before ∙ sym (append_assoc head front (frame_text r.0 ++ r.1.0)) in
+    let before : length (head ++ front) ≡ from =
+    omega (arith, length-append head front, length-head_text t.head (length bytes), at_from) in
+    let long : length bytes ≡ from + (length (frame_text r.0) + length r.1.0) =
+    omega (
+      arith,
+      ap length whole,
+      before,
+      length-append (head ++ front) (frame_text r.0 ++ r.1.0),
+      length-append (frame_text r.0) r.1.0,
+    ) in
+    let cut : drop from bytes ≡ frame_text r.0 ++ r.1.0 = ap (drop from) whole
+    ∙ drop_at (head ++ front) (frame_text r.0 ++ r.1.0) from before in
     let wide : length (frame_text r.0) ≡ to - from = omega (arith, next) in
     record {
       frame = r.0;

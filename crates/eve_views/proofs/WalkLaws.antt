@@ -1,5 +1,6 @@
 -- Frames, one after the other.
-use Rattle.std.proofs.Common.{◌≡◌, ℕ, suc, ◌+◌, ◌-◌, ◌<◌, ◌≤◌, Bool, true, false, ◌&&◌, cond, eqb, List, [], ◌∷◌, ◌++◌, length, Ok, Err, refl, sym, ap, subst, ◌∙◌, append_assoc, zero-add, arith}
+use Rattle.std.proofs.Common.{◌≡◌, ℕ, suc, ◌+◌, ◌-◌, ◌<◌, ◌≤◌, Bool, true, false, ◌&&◌, cond, eqb, List, [], ◌∷◌, ◌++◌}
+use Rattle.std.proofs.Common.{length, Ok, Err, refl, sym, ap, subst, ◌∙◌, append_assoc, zero-add, arith}
 use Rattle.std.specs.Prelude.{IsTrue, slice_index}
 use Rattle.std.proofs.lemmas.Bool.{eqb-true}
 use Rattle.std.proofs.lemmas.List.{length-append, append-nil, nil_from_length}
@@ -28,22 +29,29 @@ ended_or false c e = refl
 pub allowed_open : (h : Head) (p : Place) (kind : ℕ) → is_allowed h p kind ≡ true → p.ended ≡ false
 allowed_open h p kind e = ended_or p.ended _ e
 
-walk_step : (n : ℕ) (h : Head) (p : Place) (bytes : List ℕ) → p.ended ≡ false → walk (suc n) h p bytes ≡ step bytes (frame_at h p bytes) (λ f rest. walk n h (next p f) rest)
+walk_step : (n : ℕ) (h : Head) (p : Place) (bytes : List ℕ) → p.ended ≡ false → walk (suc n) h p bytes
+    ≡ step bytes (frame_at h p bytes) (λ f rest. walk n h (next p f) rest)
 unfolding walk
 walk_step n h p bytes is_open = rw is_open refl
 
-pub walk_front : (front : List Frame) (n : ℕ) (h : Head) (p : Place) (rest : List ℕ) → IsTrue (is_head h) → Follow h p front
+pub walk_front : (front : List Frame) (n : ℕ) (h : Head) (p : Place) (rest : List ℕ) → IsTrue (is_head h)
+    → Follow h p front
     → walk (length front + n) h p (frames_text front ++ rest) ≡ with_front front (walk n h (after p front) rest)
 walk_front [] n h p rest right follow = ap (λ (m : ℕ). walk m h p rest) (zero-add n)
 walk_front (f ∷ fs) n h p rest right follow =
     let fuel : suc (length fs) + n ≡ suc (length fs + n) = omega arith in
-    let regrouped : frames_text (f ∷ fs) ++ rest ≡ frame_text f ++ (frames_text fs ++ rest) = append_assoc (frame_text f) (frames_text fs) rest in
+    let regrouped : frames_text (f ∷ fs) ++ rest ≡ frame_text f ++ (frames_text fs ++ rest) =
+    append_assoc (frame_text f) (frames_text fs) rest in
     let is_open = allowed_open h p (kind_of f) follow.0.allowed in
     let one = walk_step (length fs + n) h p (frame_text f ++ (frames_text fs ++ rest)) is_open in
     let read = frame_again h p f (frames_text fs ++ rest) right follow.0 in
-    let stepped : step (frame_text f ++ (frames_text fs ++ rest)) (frame_at h p (frame_text f ++ (frames_text fs ++ rest))) (λ f rest. walk (length fs + n) h (next p f) rest) ≡ behind f (walk (length fs + n) h (next p f) (frames_text fs ++ rest)) =
-    ap (λ r. step (frame_text f ++ (frames_text fs ++ rest)) r (λ f rest. walk (length fs + n) h (next p f) rest)) read in
-    ap (λ (m : ℕ). walk m h p (frames_text (f ∷ fs) ++ rest)) fuel ∙ ap (walk (suc (length fs + n)) h p) regrouped ∙ one ∙ stepped ∙ ap (behind f) (walk_front fs n h (next p f) rest right follow.1)
+    let stepped : step (frame_text f ++ (frames_text fs ++ rest))
+    (frame_at h p (frame_text f ++ (frames_text fs ++ rest))) (λ f rest. walk (length fs + n) h (next p f) rest)
+    ≡ behind f (walk (length fs + n) h (next p f) (frames_text fs ++ rest)) =
+    ap (λ r. step (frame_text f ++ (frames_text fs ++ rest)) r (λ f rest. walk (length fs + n) h (next p f) rest)) read
+    in
+    ap (λ (m : ℕ). walk m h p (frames_text (f ∷ fs) ++ rest)) fuel ∙ ap (walk (suc (length fs + n)) h p) regrouped ∙ one
+    ∙ stepped ∙ ap (behind f) (walk_front fs n h (next p f) rest right follow.1)
 
 front_ok : (front : List Frame) → with_front front (Ok []) ≡ Ok front
 front_ok [] = refl
@@ -61,7 +69,8 @@ unfolding walk
 walk_end n h p ended = let e : p.ended ≡ true = ended in rw e refl
 
 -- what is spelled is read
-pub walk_again : (fs : List Frame) (n : ℕ) (h : Head) (p : Place) → IsTrue (is_head h) → Follow h p fs → IsTrue (after p fs).ended → length fs < n → walk n h p (frames_text fs) ≡ Ok fs
+pub walk_again : (fs : List Frame) (n : ℕ) (h : Head) (p : Place) → IsTrue (is_head h) → Follow h p fs
+    → IsTrue (after p fs).ended → length fs < n → walk n h p (frames_text fs) ≡ Ok fs
 walk_again fs n h p right follow ended lt =
     let fuel : n ≡ length fs + suc (n - suc (length fs)) = omega arith in
     ap (λ (m : ℕ). walk m h p (frames_text fs)) fuel
@@ -79,7 +88,9 @@ front_short (f ∷ fs) = omega (arith, front_short fs, length-append (frame_text
 pub run_read : (h : Head) (fs : List Frame) → IsTrue (is_head h) → IsRun h fs → frames_in h (frames_text fs) ≡ fs
 unfolding frames_in
 run_read h fs right run =
-    let e : walk (suc (length (frames_text fs))) h start (frames_text fs) ≡ Ok fs = walk_again fs (suc (length (frames_text fs))) h start right run.follow run.ended (omega (arith, front_short fs)) in
+    let e : walk (suc (length (frames_text fs))) h start (frames_text fs) ≡ Ok fs =
+    walk_again fs (suc (length (frames_text fs))) h start right run.follow run.ended (omega (arith, front_short fs))
+    in
     rw e refl
 
 -- ---- faults
@@ -89,15 +100,18 @@ not_over true true h = absurd (h refl refl)
 not_over true false h = refl
 not_over false c h = refl
 
-goes_on : (c : Code) (h : Head) (p : Place) (rest : List ℕ) → StandsHere c h p rest → (p.ended && eqb (length rest) 0) ≡ false
-goes_on code.Frame h p rest s = not_over p.ended (eqb (length rest) 0) (λ ended nothing. s.more ended (nil_from_length rest (eqb-true _ _ nothing)))
+goes_on : (c : Code) (h : Head) (p : Place) (rest : List ℕ) → StandsHere c h p rest → (p.ended && eqb (length rest) 0)
+    ≡ false
+goes_on code.Frame h p rest s = not_over p.ended (eqb (length rest) 0)
+    (λ ended nothing. s.more ended (nil_from_length rest (eqb-true _ _ nothing)))
 goes_on code.Body h p rest s =
     let f = Framed-from h p rest s.framed in
     let is_open = allowed_open h p (slice_index rest 0) f.allowed in
     not_over p.ended (eqb (length rest) 0) (λ ended nothing. true_false p.ended ended is_open)
 goes_on c h p rest s = absurd s
 
-walk_stop : (n : ℕ) (c : Code) (h : Head) (p : Place) (rest : List ℕ) → (p.ended && eqb (length rest) 0) ≡ false → frame_at h p rest ≡ Err c → walk (suc n) h p rest ≡ stopped c rest
+walk_stop : (n : ℕ) (c : Code) (h : Head) (p : Place) (rest : List ℕ) → (p.ended && eqb (length rest) 0) ≡ false
+    → frame_at h p rest ≡ Err c → walk (suc n) h p rest ≡ stopped c rest
 unfolding walk
 walk_stop n c h p rest on e = rw (on, e) refl
 
@@ -109,22 +123,26 @@ pub record StandsBehind (c : Code) (h : Head) (bytes rest : List ℕ) : Type 0 w
   pub here : StandsHere c h (after start front) rest
 
 -- a fault that stands is found
-pub walk_fault : (c : Code) (n : ℕ) (h : Head) (bytes rest : List ℕ) → IsTrue (is_head h) → IsBytes bytes → length bytes < n → StandsBehind c h bytes rest → walk n h start bytes ≡ stopped c rest
+pub walk_fault : (c : Code) (n : ℕ) (h : Head) (bytes rest : List ℕ) → IsTrue (is_head h) → IsBytes bytes
+    → length bytes < n → StandsBehind c h bytes rest → walk n h start bytes ≡ stopped c rest
 walk_fault c n h bytes rest right fits lt s =
     let m = n - suc (length s.front) in
-    let short : length s.front < n = omega (arith, front_short s.front, ap length s.before, length-append (frames_text s.front) rest) in
+    let short : length s.front < n =
+    omega (arith, front_short s.front, ap length s.before, length-append (frames_text s.front) rest) in
     let fuel : n ≡ length s.front + suc m = omega arith in
     let rest_fits : IsBytes rest = IsBytes-behind (frames_text s.front) rest (subst IsBytes s.before fits) in
     let here = frame_stands c h (after start s.front) rest right rest_fits s.here in
     ap (λ (k : ℕ). walk k h start bytes) fuel
     ∙ ap (walk (length s.front + suc m) h start) s.before
     ∙ walk_front s.front (suc m) h start rest right s.right
-    ∙ ap (with_front s.front) (walk_stop m c h (after start s.front) rest (goes_on c h (after start s.front) rest s.here) here)
+    ∙ ap (with_front s.front)
+    (walk_stop m c h (after start s.front) rest (goes_on c h (after start s.front) rest s.here) here)
     ∙ front_err s.front c rest
 
 -- ---- one more frame
 
-pub follow_more : (fs : List Frame) (h : Head) (p : Place) (f : Frame) → Follow h p fs → FitsAt h (after p fs) f → Follow h p (fs ++ f ∷ [])
+pub follow_more : (fs : List Frame) (h : Head) (p : Place) (f : Frame) → Follow h p fs → FitsAt h (after p fs) f
+    → Follow h p (fs ++ f ∷ [])
 follow_more [] h p f follow fits = (fits, tt)
 follow_more (g ∷ fs) h p f follow fits = (follow.0, follow_more fs h (next p g) f follow.1 fits)
 
@@ -133,4 +151,5 @@ after_more [] p f = refl
 after_more (g ∷ fs) p f = after_more fs (next p g) f
 
 pub text_more : (fs : List Frame) (f : Frame) → frames_text (fs ++ f ∷ []) ≡ frames_text fs ++ frame_text f
-text_more fs f = flat_map-append frame_text fs (f ∷ []) ∙ ap (λ (b : List ℕ). frames_text fs ++ b) (append-nil (frame_text f))
+text_more fs f = flat_map-append frame_text fs (f ∷ [])
+    ∙ ap (λ (b : List ℕ). frames_text fs ++ b) (append-nil (frame_text f))

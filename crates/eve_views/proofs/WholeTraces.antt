@@ -34,13 +34,16 @@ spells_trace bytes s is =
     let t : Trace = trace_of s.head s.frames in
     let head : head_of t ≡ s.head = head_of-trace_of s.head s.frames is.limits is.run in
     let frames : frames_of t ≡ s.frames = frames_of-trace_of s.head s.frames is.limits is.run in
-    let long : length bytes ≡ 32 + length (frames_text s.frames) = ap length is.spelled ∙ length-text_of s.head s.frames (length bytes) in
-    let total : length_of t ≡ length bytes = length_of-frames t ∙ ap (λ (fs : List Frame). 32 + length (frames_text fs)) frames ∙ sym long in
+    let long : length bytes ≡ 32 + length (frames_text s.frames) = ap length is.spelled
+    ∙ length-text_of s.head s.frames (length bytes) in
+    let total : length_of t ≡ length bytes = length_of-frames t
+    ∙ ap (λ (fs : List Frame). 32 + length (frames_text fs)) frames ∙ sym long in
     let short : length_of t ≤ 2 ^ 30 = (let few = is.short in omega (arith, total, few)) in
     record {
       limits = limits_of-trace_of s.head s.frames is.limits is.run;
       short = short;
-      spelled = is.spelled ∙ ap (text_of s.head s.frames) (sym total) ∙ ap (λ (fs : List Frame). text_of s.head fs (length_of t)) (sym frames)
+      spelled = is.spelled ∙ ap (text_of s.head s.frames) (sym total)
+          ∙ ap (λ (fs : List Frame). text_of s.head fs (length_of t)) (sym frames)
           ∙ ap (λ (h : Head). text_of h (frames_of t) (length_of t)) (sym head) ∙ sym (spelling_of t);
     }
 
@@ -52,7 +55,8 @@ sequence t = record { head = head_of t; frames = frames_of t }
 spells_frames : (bytes : List ℕ) (t : Trace) → Spells bytes t → SpellsFrames bytes (sequence t)
 spells_frames bytes t is =
     let text : bytes ≡ text_of (head_of t) (frames_of t) (length_of t) = is.spelled ∙ spelling_of t in
-    let long : length bytes ≡ length_of t = ap length text ∙ length-text_of (head_of t) (frames_of t) (length_of t) ∙ sym (length_of-frames t) in
+    let long : length bytes ≡ length_of t = ap length text ∙ length-text_of (head_of t) (frames_of t) (length_of t)
+    ∙ sym (length_of-frames t) in
     let short : length bytes ≤ 2 ^ 30 = (let few = is.short in omega (arith, long, few)) in
     record {
       limits = is.limits.head;
@@ -64,6 +68,7 @@ spells_frames bytes t is =
 pub no_trace : (bytes : List ℕ) → ((s : Sequence) → ¬ SpellsFrames bytes s) → (t : Trace) → ¬ Spells bytes t
 no_trace bytes none t is = none (sequence t) (spells_frames bytes t is)
 
-pub found_no_trace : (bytes : List ℕ) (e : CheckFault) → IfFound e (λ _. (s : Sequence) → ¬ SpellsFrames bytes s) → IfFound e (λ _. (t : Trace) → ¬ Spells bytes t)
+pub found_no_trace : (bytes : List ℕ) (e : CheckFault) → IfFound e (λ _. (s : Sequence) → ¬ SpellsFrames bytes s)
+    → IfFound e (λ _. (t : Trace) → ¬ Spells bytes t)
 found_no_trace bytes Memory none = tt
 found_no_trace bytes (Found f) none = no_trace bytes none

@@ -5,14 +5,15 @@ use Rattle.eve_views.specs.declared.fault.Fault.{Fault}
 
 -- by offset, then number
 abbrev pub is_before_in_phase : Fault → Fault → Bool
-is_before_in_phase f g = nat_lt f.offset g.offset || ((f.offset == g.offset) && nat_lt (number_of f.code) (number_of g.code))
+is_before_in_phase f g =
+    nat_lt f.offset g.offset || ((f.offset == g.offset) && nat_lt (number_of f.code) (number_of g.code))
 
 -- by phase, then offset, then number
 abbrev pub is_before : Fault → Fault → Bool
 is_before f g =
     nat_lt (phase_of f.code) (phase_of g.code) || ((phase_of f.code == phase_of g.code) && is_before_in_phase f g)
 
--- Of two faults, where there are two, the one that comes first; of two that are told with the same right, the first given.
+-- Of two faults, where there are two, the one that comes first; of two told with the same right, the first given.
 abbrev pub first_of : Option Fault → Option Fault → Option Fault
 first_of None other = other
 first_of (Some f) None = Some f

@@ -1,10 +1,12 @@
 -- The faults of form: what is wrong with bytes that are no trace, and where it stands.
-use Rattle.std.specs.Prelude.{◌≡◌, ◌≢◌, ℕ, ◌+◌, ◌^◌, ◌≤◌, ◌<◌, nat_le, Bool, ◌&&◌, IsTrue, IsFalse, ◌==◌, nat_eq, List, [], ◌∷◌, ◌++◌, length, take, drop, slice_index, None, codes, ◌⊎◌}
+use Rattle.std.specs.Prelude.{◌≡◌, ◌≢◌, ℕ, ◌+◌, ◌≤◌, ◌<◌, nat_le, Bool, ◌&&◌, IsTrue, IsFalse, ◌==◌, nat_eq, List}
+use Rattle.std.specs.Prelude.{[], ◌∷◌, ◌++◌, length, take, drop, slice_index, None, codes, ◌⊎◌}
 use Rattle.std.specs.List.{starts_with}
 use Rattle.byteorder.specs.Endian.{big_number}
 use Rattle.eve_grammar.specs.Trace.{Head}
 use Rattle.eve_grammar.specs.Frames.{Frame, Place, start, is_allowed}
 use Rattle.eve_grammar.specs.Spelling.{frame_text, frames_text, head_text}
+use Rattle.eve_grammar.specs.declared.limits.TheConstants.{MOST_BYTES}
 use Rattle.eve_grammar.specs.Limits.{is_head, FitsAt}
 use Rattle.eve_views.specs.Code.{number_of, phase_of}
 use Rattle.eve_grammar.specs.Following.{Follow, after}
@@ -16,9 +18,10 @@ use Rattle.eve_views.specs.declared.fault.CheckFault.TheVariants.{Found, Memory}
 
 -- ---- the header
 
--- 32 bytes or more, 2^30 at most, and as many as the header says
+-- 32 bytes or more, no more than a trace may have, and as many as the header says
 abbrev pub is_sized : List ℕ → Bool
-is_sized bytes = nat_le 32 (length bytes) && (nat_le (length bytes) (2 ^ 30) && (big_number 8 (drop 24 bytes) == length bytes))
+is_sized bytes =
+    nat_le 32 (length bytes) && (nat_le (length bytes) MOST_BYTES && (big_number 8 (drop 24 bytes) == length bytes))
 
 -- the first six bytes are those of a trace
 abbrev pub has_magic : List ℕ → Bool
@@ -46,19 +49,23 @@ pub record IsReached (bytes : List ℕ) (at : ℕ) : Type 0 where
   pub within : at ≤ length bytes
   pub before : take at bytes ≡ take 32 bytes ++ frames_text front
 
+-- how far the frames before have come
 abbrev pub place_at : {bytes : List ℕ} {at : ℕ} → IsReached bytes at → Place
 place_at r = after start r.front
 
 -- a frame of a kind that may stand there lies at the front of the bytes as a whole
 abbrev pub is_framed : Head → Place → List ℕ → Bool
-is_framed h p bytes = nat_le 5 (length bytes) && (is_allowed h p (slice_index bytes 0) && nat_le (5 + big_number 4 (drop 1 bytes)) (length bytes))
+is_framed h p bytes =
+    nat_le 5 (length bytes)
+    && (is_allowed h p (slice_index bytes 0) && nat_le (5 + big_number 4 (drop 1 bytes)) (length bytes))
 
 -- where a frame is due none of a kind that may stand there lies in the bytes as a whole, or a byte follows the end
 pub record HasNoFrame (h : Head) (p : Place) (bytes : List ℕ) : Type 0 where
   pub unframed : IsFalse (is_framed h p bytes)
   pub more : IsTrue p.ended → bytes ≢ []
 
--- a frame of a kind that may stand there lies in the bytes as a whole, and its body differs from all that such a frame can say
+-- a frame of a kind that may stand there lies in the bytes as a whole, and its body differs from all that such a frame
+-- can say
 pub record HasWrongBody (h : Head) (p : Place) (bytes : List ℕ) : Type 0 where
   pub framed : IsTrue (is_framed h p bytes)
   pub none : (f : Frame) (rest : List ℕ) → FitsAt h p f → bytes ≢ frame_text f ++ rest

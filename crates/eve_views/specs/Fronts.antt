@@ -2,7 +2,8 @@
 use Rattle.std.specs.Prelude.{ℕ, List, ◌++◌, map, take}
 use Rattle.std.specs.List.{flat_map}
 use Rattle.eve_grammar.specs.Trace.{Trace}
-use Rattle.eve_grammar.specs.Frames.{Frame, OfCustomer, OfBatch, section_frames, verifier_frames, batches_of, sections_of, verifiers_of}
+use Rattle.eve_grammar.specs.Frames.{Frame, OfCustomer, OfBatch, section_frames, verifier_frames, batches_of}
+use Rattle.eve_grammar.specs.Frames.{sections_of, verifiers_of}
 use Rattle.eve_grammar.specs.Gathering.{trace_of}
 use Rattle.eve_views.specs.Sequence.{Sequence}
 

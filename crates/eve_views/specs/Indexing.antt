@@ -1,8 +1,10 @@
 -- What the walk finds.
-use Rattle.std.specs.Prelude.{◌≡◌, ◌<◌, ℕ, ◌+◌, Bool, ◌||◌, ◌==◌, if◌then◌else◌, List, [], ◌∷◌, drop, slice_index, slice_get, Some, Result, Ok, Err}
+use Rattle.std.specs.Prelude.{◌≡◌, ◌<◌, ℕ, ◌+◌, Bool, ◌||◌, ◌==◌, if◌then◌else◌, List, [], ◌∷◌, drop, slice_index}
+use Rattle.std.specs.Prelude.{slice_get, Some, Result, Ok, Err}
 use Rattle.byteorder.specs.Endian.{big_number}
 use Rattle.eve_grammar.specs.Trace.{Head}
 use Rattle.eve_grammar.specs.Frames.{Frame, OfReplica, OfVerifier, kind_of}
+use Rattle.eve_grammar.specs.Kinds.{kind_byte}
 use Rattle.eve_grammar.specs.Spelling.{frames_text}
 use Rattle.eve_grammar.specs.Following.{IsRun}
 use Rattle.eve_views.specs.Places.{accesses_in}
@@ -12,9 +14,25 @@ use Rattle.eve_views.specs.declared.starts.Starts.{Starts}
 use Rattle.eve_views.specs.declared.walk.Framed.{Framed}
 use Rattle.eve_views.specs.declared.walk.Index.{Index}
 
+-- a frame at the front of bytes: its first byte, its length, and how many access frames have to follow
+pub record Kept : Type 0 where
+  pub kind : ℕ
+  pub len : ℕ
+  pub accesses : ℕ
+
+-- what the code kept of it
+abbrev pub kept_in : Framed → Kept
+kept_in f = record { kind = kind_byte f.kind; len = f.len; accesses = f.accesses }
+
+-- the same, or what is wrong
+abbrev pub answer_in : Result Framed Code → Result Kept Code
+answer_in (Ok f) = Ok (kept_in f)
+answer_in (Err c) = Err c
+
 -- what is kept of a frame that was taken from the front of these bytes
-abbrev pub kept : List ℕ → Result (Frame × List ℕ) Code → Result Framed Code
-kept bytes (Ok x) = Ok (record { kind = slice_index bytes 0; len = 5 + big_number 4 (drop 1 bytes); accesses = accesses_in x.0 })
+abbrev pub kept : List ℕ → Result (Frame × List ℕ) Code → Result Kept Code
+kept bytes (Ok x) =
+    Ok (record { kind = slice_index bytes 0; len = 5 + big_number 4 (drop 1 bytes); accesses = accesses_in x.0 })
 kept bytes (Err c) = Err c
 
 -- a reply sent, or the end

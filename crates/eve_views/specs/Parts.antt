@@ -18,17 +18,23 @@ frames_between fs from count = take count (drop from fs)
 
 -- ---- what they say, each with its byte offset
 
+-- access records
 unfoldable pub accesses_between : List Frame → ℕ → ℕ → List (ℕ × Access)
-accesses_between fs from count = located (λ x. frame_text (OfAccess x)) (byte_of fs from) (gathered (frames_between fs from count)).accesses
+accesses_between fs from count =
+    located (λ x. frame_text (OfAccess x)) (byte_of fs from) (gathered (frames_between fs from count)).accesses
 
+-- votes
 unfoldable pub votes_between : List Frame → ℕ → ℕ → List (ℕ × Vote)
-votes_between fs from count = located (λ v. frame_text (OfVote v)) (byte_of fs from) (gathered (frames_between fs from count)).votes
+votes_between fs from count =
+    located (λ v. frame_text (OfVote v)) (byte_of fs from) (gathered (frames_between fs from count)).votes
 
+-- steps; an attempt has its accesses
 unfoldable pub steps_between : List Frame → ℕ → ℕ → List (ℕ × Step)
 steps_between fs from count = located step_text (byte_of fs from) (gathered (frames_between fs from count)).steps
 
 -- ---- and that they are of one kind
 
+-- access frames, and no others
 pub record AreAccesses (fs : List Frame) (from to : ℕ) : Type 0 where
   pub accesses : List Access
   pub rows : ℕ
@@ -39,6 +45,7 @@ pub record AreAccesses (fs : List Frame) (from to : ℕ) : Type 0 where
   pub within : to ≤ length fs
   pub there : frames_between fs from (to - from) ≡ map OfAccess accesses
 
+-- votes, and no others
 pub record AreVotes (fs : List Frame) (from to : ℕ) : Type 0 where
   pub votes : List Vote
   pub batches : ℕ
@@ -49,6 +56,7 @@ pub record AreVotes (fs : List Frame) (from to : ℕ) : Type 0 where
   pub within : to ≤ length fs
   pub there : frames_between fs from (to - from) ≡ map OfVote votes
 
+-- steps with all their frames
 pub record AreSteps (fs : List Frame) (from to : ℕ) : Type 0 where
   pub steps : List Step
   pub rows : ℕ

@@ -6,7 +6,15 @@ use Rattle.eve_views.specs.declared.place.Place as code
 -- the place that the counters say
 abbrev pub place : code.Place → Place
 place p =
-    record { customers = p.customers; batches = p.batches; replicas = p.replicas; accesses = p.accesses; verifiers = p.verifiers; sending = p.sending; ended = p.ended }
+    record {
+      customers = p.customers;
+      batches = p.batches;
+      replicas = p.replicas;
+      accesses = p.accesses;
+      verifiers = p.verifiers;
+      sending = p.sending;
+      ended = p.ended;
+    }
 
 -- how many access frames have to follow the frame
 abbrev pub accesses_in : Frame → ℕ

@@ -1,12 +1,13 @@
 -- Which frames begin the parts of a trace.
 use Rattle.std.specs.Prelude.{ℕ, ◌==◌, ◌||◌, ◌&&◌, not, if◌then◌else◌, replicate}
 use Rattle.std.proofs.Math.ListN.{set}
+use Rattle.eve_grammar.specs.declared.limits.TheConstants.{MOST_REPLICAS, MOST_VERIFIERS}
 use Rattle.eve_grammar.specs.Frames.{Place}
 use Rattle.eve_views.specs.declared.starts.Starts.{Starts}
 
 -- before any frame
 abbrev pub no_starts : Starts
-no_starts = record { sections = replicate 8 0; verifiers = replicate 16 0; sent = 0 }
+no_starts = record { sections = replicate MOST_REPLICAS 0; verifiers = replicate MOST_VERIFIERS 0; sent = 0 }
 
 -- the starts with a frame of the kind at the place, which is the frame of that number
 abbrev pub noted : Starts → Place → ℕ → ℕ → Starts

@@ -9,7 +9,8 @@ use Rattle.eve_views.specs.declared.steps.Step.TheVariants as of
 
 -- its frame stands at this byte offset, and an attempt's access frames behind it
 abbrev pub IsStep : met.Step → ℕ × Step → Type 0
-IsStep (of.Attempt a accesses) (at, Attempts b) = (a.offset ≡ at) × (attempt_in a.bytes.now ≡ without_accesses b) × (accesses ≡ accesses_at at b)
+IsStep (of.Attempt a accesses) (at, Attempts b) = (a.offset ≡ at) × (attempt_in a.bytes.now ≡ without_accesses b)
+    × (accesses ≡ accesses_at at b)
 IsStep (of.Commit c) (at, Commits d) = (c.offset ≡ at) × (commit_in c.bytes.now ≡ d)
 IsStep (of.Rollback r) (at, RollsBack q) = (r.offset ≡ at) × (rollback_in r.bytes.now ≡ q)
 IsStep _ _ = ⊥

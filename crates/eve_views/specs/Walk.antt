@@ -1,6 +1,7 @@
 -- Which frames lie in bytes, by taking one after another. A device: it names the frames of a trace that was
 -- read. What a trace is, and what is wrong with other bytes, is said without it.
-use Rattle.std.specs.Prelude.{ℕ, zero, suc, ◌==◌, ◌&&◌, if◌then◌else◌, List, [], ◌∷◌, length, take, drop, slice_index, Option, Some, None, Result, Ok, Err}
+use Rattle.std.specs.Prelude.{ℕ, zero, suc, ◌==◌, ◌&&◌, if◌then◌else◌, List, [], ◌∷◌, length, take, drop, slice_index}
+use Rattle.std.specs.Prelude.{Option, Some, None, Result, Ok, Err}
 use Rattle.byteorder.specs.Endian.{big_number}
 use Rattle.eve_grammar.specs.Trace.{Head}
 use Rattle.eve_grammar.specs.Frames.{Frame, Place, start, next}
@@ -28,10 +29,12 @@ frame_at h p bytes = if is_framed h p bytes then inside h p bytes else Err code.
 abbrev pub Walked : Type 0
 Walked = Result (List Frame) (Code × List ℕ)
 
+-- a frame before what was found
 abbrev pub behind : Frame → Walked → Walked
 behind f (Ok fs) = Ok (f ∷ fs)
 behind f (Err e) = Err e
 
+-- goes on behind a frame, and stops at what is wrong
 abbrev pub step : List ℕ → Result (Frame × List ℕ) Code → (Frame → List ℕ → Walked) → Walked
 step bytes (Ok x) go = behind x.0 (go x.0 x.1)
 step bytes (Err c) go = Err (c, bytes)
@@ -40,8 +43,10 @@ step bytes (Err c) go = Err (c, bytes)
 unfoldable pub walk : ℕ → Head → Place → List ℕ → Walked
 walk zero h p bytes = Err (code.Frame, bytes)
 walk (suc n) h p bytes =
-    if p.ended && (length bytes == 0) then Ok [] else step bytes (frame_at h p bytes) (λ f rest. walk n h (next p f) rest)
+    if p.ended && (length bytes == 0) then Ok []
+    else step bytes (frame_at h p bytes) (λ f rest. walk n h (next p f) rest)
 
+-- the frames that were found, none where something is wrong
 abbrev found_in : Walked → List Frame
 found_in (Ok fs) = fs
 found_in (Err e) = []

@@ -9,6 +9,7 @@ use crate::fault::Fault;
 /// are told with the same right it is the first given.
 ///
 /// docs/MODEL.md, "Verdict".
+#[inline(always)]
 pub fn first_of(first: Option<Fault>, other: Option<Fault>) -> Option<Fault>
     ensures { result ≡ first_of first other }
 {

@@ -42,7 +42,8 @@ impl<'t, 'a> Frames<'t, 'a> {
     /// The next frame.
     pub fn next(&mut self) -> Option<FrameView<'a>>
         ensures none { IfNone result (self.old ≡ []) }
-        ensures some { IfSome result (λ v. (f : Frame) × (self.old ≡ (v.offset, f) ∷ self.new) × (v.bytes.now ≡ frame_text f)) }
+        ensures some { IfSome result (λ v. (f : Frame) × (self.old ≡ (v.offset, f) ∷ self.new)
+            × (v.bytes.now ≡ frame_text f)) }
     {
         if self.at == self.trace.frame_count() {
             return None;

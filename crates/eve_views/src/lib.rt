@@ -16,6 +16,11 @@ mod votes;
 mod walk;
 
 pub use accesses::Accesses;
+pub use eve_frames::{
+    AccessView, AttemptView, BatchView, Certificate, CommitView, CustomerView, Entries, FrameView,
+    Replies, Requests, Restores, RollbackView, SentView, VoteView,
+};
+pub use eve_streams::{Sink, SinkOf, Source, SourceOf};
 pub use fault::{CheckFault, Code, Fault};
 pub use first::first_of;
 pub use frames::Frames;

@@ -2,10 +2,11 @@
 
 ghost use Rattle.std.specs.Prelude.{◌≡◌, IsTrue};
 ghost use Rattle.eve_grammar.specs.Bodies.{limits};
+ghost use Rattle.eve_grammar.specs.Kinds.{kind_byte};
 ghost use Rattle.eve_grammar.specs.Frames.{start, is_allowed, is_allowed_in_sections, is_allowed_behind_sections};
 ghost use Rattle.eve_views.specs.Places.{place, moved};
 
-use eve_grammar::Head;
+use eve_grammar::{FrameKind, Head};
 
 /// How many frames of each kind have come in a trace with this head.
 #[derive(Clone, Copy, Debug, PartialEq, Eq)]
@@ -47,25 +48,25 @@ impl Place {
     }
 
     /// Whether a frame of the kind may stand here, behind customers and batches, and before the first verifier.
-    fn allows_in_sections(&self, kind: u8) -> bool
-        ensures { result ≡ is_allowed_in_sections (limits self.now.head) (place self.now) kind }
+    fn allows_in_sections(&self, kind: FrameKind) -> bool
+        ensures { result ≡ is_allowed_in_sections (limits self.now.head) (place self.now) (kind_byte kind) }
     {
         match kind {
-            16 => self.replicas < self.head.replicas,
-            17 | 19 | 20 => 0 < self.replicas,
-            32 => self.replicas == self.head.replicas,
+            FrameKind::Replica => self.replicas < self.head.replicas,
+            FrameKind::Attempt | FrameKind::Commit | FrameKind::Rollback => 0 < self.replicas,
+            FrameKind::Verifier => self.replicas == self.head.replicas,
             _ => false,
         }
     }
 
     /// Whether a frame of the kind may stand here, behind the first verifier.
-    fn allows_behind_sections(&self, kind: u8) -> bool
-        ensures { result ≡ is_allowed_behind_sections (limits self.now.head) (place self.now) kind }
+    fn allows_behind_sections(&self, kind: FrameKind) -> bool
+        ensures { result ≡ is_allowed_behind_sections (limits self.now.head) (place self.now) (kind_byte kind) }
     {
         match kind {
-            32 => !self.sending && self.verifiers < self.head.verifiers,
-            33 => !self.sending,
-            48 | 127 => self.verifiers == self.head.verifiers,
+            FrameKind::Verifier => !self.sending && self.verifiers < self.head.verifiers,
+            FrameKind::Vote => !self.sending,
+            FrameKind::Sent | FrameKind::End => self.verifiers == self.head.verifiers,
             _ => false,
         }
     }
@@ -73,17 +74,17 @@ impl Place {
     /// Whether a frame of the kind may stand here.
     ///
     /// docs/TRACE.md, "Order of frames".
-    pub fn allows(&self, kind: u8) -> bool
-        ensures { result ≡ is_allowed (limits self.now.head) (place self.now) kind }
+    pub fn allows(&self, kind: FrameKind) -> bool
+        ensures { result ≡ is_allowed (limits self.now.head) (place self.now) (kind_byte kind) }
     {
         if self.ended {
             false
         } else if self.customers < self.head.customers {
-            kind == 1
+            kind == FrameKind::Customer
         } else if self.batches < self.head.batches {
-            kind == 2
+            kind == FrameKind::Batch
         } else if 0 < self.accesses {
-            kind == 18
+            kind == FrameKind::Access
         } else if self.verifiers == 0 {
             self.allows_in_sections(kind)
         } else {
@@ -92,21 +93,21 @@ impl Place {
     }
 
     /// Goes on behind a frame of a kind that may stand here; an attempt has to have that many access frames.
-    pub fn pass(&mut self, kind: u8, accesses: usize)
-        requires { IsTrue (is_allowed (limits self.old.head) (place self.old) kind) }
+    pub fn pass(&mut self, kind: FrameKind, accesses: usize)
+        requires { IsTrue (is_allowed (limits self.old.head) (place self.old) (kind_byte kind)) }
         ensures head { self.new.head ≡ self.old.head }
-        ensures place { place self.new ≡ moved (place self.old) kind accesses }
+        ensures place { place self.new ≡ moved (place self.old) (kind_byte kind) accesses }
     {
         match kind {
-            1 => self.customers += 1,
-            2 => self.batches += 1,
-            16 => self.replicas += 1,
-            17 => self.accesses = accesses,
-            18 => self.accesses -= 1,
-            32 => self.verifiers += 1,
-            48 => self.sending = true,
-            127 => self.ended = true,
-            _ => {}
+            FrameKind::Customer => self.customers += 1,
+            FrameKind::Batch => self.batches += 1,
+            FrameKind::Replica => self.replicas += 1,
+            FrameKind::Attempt => self.accesses = accesses,
+            FrameKind::Access => self.accesses -= 1,
+            FrameKind::Commit | FrameKind::Rollback | FrameKind::Vote => {}
+            FrameKind::Verifier => self.verifiers += 1,
+            FrameKind::Sent => self.sending = true,
+            FrameKind::End => self.ended = true,
         }
     }
 }

@@ -9,6 +9,7 @@ ghost use Rattle.eve_views.specs.Lent.{LendsFrame};
 use crate::accesses::Accesses;
 use crate::trace::Trace;
 use eve_frames::{AttemptView, CommitView, RollbackView};
+use eve_grammar::FrameKind;
 use std::marker::Model;
 
 /// A step of a replica, where it stands.
@@ -65,23 +66,20 @@ impl<'t, 'a> Steps<'t, 'a> {
         }
         let trace = self.trace;
         let frame = trace.frame(self.at);
-        match frame.bytes[0] {
-            17 => {
-                let attempt = AttemptView::new(frame.offset, frame.bytes);
-                let count = attempt.len();
-                let from = self.at + 1;
-                self.at = from + count;
-                let accesses = Accesses::new(trace, from, self.at);
-                Some(Step::Attempt(attempt, accesses))
-            }
-            19 => {
-                self.at += 1;
-                Some(Step::Commit(CommitView::new(frame.offset, frame.bytes)))
-            }
-            _ => {
-                self.at += 1;
-                Some(Step::Rollback(RollbackView::new(frame.offset, frame.bytes)))
-            }
+        let first = frame.bytes[0];
+        if first == FrameKind::Attempt.byte() {
+            let attempt = AttemptView::new(frame.offset, frame.bytes);
+            let count = attempt.len();
+            let from = self.at + 1;
+            self.at = from + count;
+            let accesses = Accesses::new(trace, from, self.at);
+            Some(Step::Attempt(attempt, accesses))
+        } else if first == FrameKind::Commit.byte() {
+            self.at += 1;
+            Some(Step::Commit(CommitView::new(frame.offset, frame.bytes)))
+        } else {
+            self.at += 1;
+            Some(Step::Rollback(RollbackView::new(frame.offset, frame.bytes)))
         }
     }
 }

@@ -1,8 +1,10 @@
 //! A trace that was read.
 
-ghost use Rattle.std.specs.Prelude.{◌≡◌, ℕ, ◌≤◌, IsTrue, IsFalse, ◌<◌, ◌+◌, ◌-◌, Some, IfSome, IfNone, length, take, drop, slice_get, IfOk, IfErr};
+ghost use Rattle.std.specs.Prelude.{◌≡◌, ℕ, ◌≤◌, IsTrue, IsFalse, ◌<◌, ◌+◌, ◌-◌, Some, IfSome, IfNone, length, take};
+ghost use Rattle.std.specs.Prelude.{drop, slice_get, IfOk, IfErr};
 ghost use Rattle.eve_grammar.specs.Frames.{Frame, OfCustomer, OfBatch, OfSent, frames_of};
-ghost use Rattle.eve_grammar.specs.Spelling.{frame_text, frames_text, frames_at, section_start, customers_at, batches_at, steps_at, votes_at, sent_at};
+ghost use Rattle.eve_grammar.specs.Spelling.{frame_text, frames_text, frames_at, section_start, customers_at};
+ghost use Rattle.eve_grammar.specs.Spelling.{batches_at, steps_at, votes_at, sent_at};
 ghost use Rattle.eve_grammar.specs.Trace.{Trace as TraceValue, head_of};
 ghost use Rattle.eve_grammar.specs.Limits.{HasLimits, Spells};
 ghost use Rattle.eve_frames.specs.Views.{customer_in, batch_in, sent_in};
@@ -182,7 +184,8 @@ impl<'a> Trace<'a> {
     /// A customer, by number from 0.
     pub fn customer(&self, i: u32) -> CustomerView<'a>
         requires { i < length (whole self.now).customers }
-        ensures says { slice_get (customers_at (whole self.now)) i ≡ Some (result.offset, customer_in result.bytes.now) }
+        ensures says { slice_get (customers_at (whole self.now)) i
+            ≡ Some (result.offset, customer_in result.bytes.now) }
         ensures text { result.bytes.now ≡ frame_text (OfCustomer (customer_in result.bytes.now)) }
         ensures stands { HasBytesAt (whole self.now) result.offset result.bytes.now }
     {
@@ -195,8 +198,10 @@ impl<'a> Trace<'a> {
     pub fn batch(&self, n: u32) -> BatchView<'a>
         requires from_one { 1 ≤ n }
         requires there { n ≤ length (whole self.now).batches }
-        ensures says { slice_get (batches_at (whole self.now)) (n - 1) ≡ Some (result.offset, batch_in result.bytes.now) }
-        ensures text { result.bytes.now ≡ frame_text (OfBatch (batch_in result.bytes.now).0 (batch_in result.bytes.now).1) }
+        ensures says { slice_get (batches_at (whole self.now)) (n - 1)
+            ≡ Some (result.offset, batch_in result.bytes.now) }
+        ensures text { result.bytes.now
+            ≡ frame_text (OfBatch (batch_in result.bytes.now).0 (batch_in result.bytes.now).1) }
         ensures stands { HasBytesAt (whole self.now) result.offset result.bytes.now }
     {
         self.is_whole();
@@ -262,8 +267,10 @@ impl<'a> Trace<'a> {
     ///
     /// `None` for the header, customers, batches, votes, replies sent, the end, and what lies behind it.
     pub fn section_of(&self, offset: u64) -> Option<u8>
-        ensures inside { IfSome result (λ e. (e < length (whole self.now).sections) × IsTrue (is_in_section (whole self.now) e offset)) }
-        ensures outside { IfNone result ((e : ℕ) → e < length (whole self.now).sections → IsFalse (is_in_section (whole self.now) e offset)) }
+        ensures inside { IfSome result (λ e. (e < length (whole self.now).sections)
+            × IsTrue (is_in_section (whole self.now) e offset)) }
+        ensures outside { IfNone result ((e : ℕ) → e < length (whole self.now).sections
+            → IsFalse (is_in_section (whole self.now) e offset)) }
     {
         self.is_whole();
         let replicas = self.head.replicas;

@@ -1,23 +1,23 @@
 //! The walk over a trace, frame by frame.
 
-ghost use Rattle.std.specs.Prelude.{◌≡◌, ◌≤◌, ◌^◌, length, IfOk, IfErr};
+ghost use Rattle.std.specs.Prelude.{◌≡◌, ◌≤◌, length, IfOk, IfErr};
 ghost use Rattle.eve_grammar.specs.Bodies.{limits};
 ghost use Rattle.eve_views.specs.Form.{SaysHead, IsFormFault, IfFound};
 ghost use Rattle.eve_views.specs.Places.{place};
 ghost use Rattle.eve_views.specs.Walk.{frame_at};
-ghost use Rattle.eve_views.specs.Indexing.{kept, IsIndex};
+ghost use Rattle.eve_views.specs.Indexing.{answer_in, kept, IsIndex};
 
 use crate::body::accesses_behind;
 use crate::fault::{CheckFault, Code, Fault};
 use crate::place::Place;
 use crate::starts::Starts;
-use eve_grammar::{Head, u8_at, u32_at};
+use eve_grammar::{FrameKind, Head, MOST_BYTES, MOST_NAMES, u8_at, u32_at};
 use std::alloc::Global;
 
 /// A whole frame at the front of bytes: its kind, its length in bytes, and how many access frames have to follow.
 #[derive(Clone, Copy)]
 struct Framed {
-    kind: u8,
+    kind: FrameKind,
     len: usize,
     accesses: usize,
 }
@@ -25,13 +25,16 @@ struct Framed {
 /// The frame at the front of the bytes, or what is wrong there.
 #[tactic(auto, unfolding(crate::specs::Walk::frame_at))]
 fn frame_in_front(at: &Place, bytes: &[u8]) -> Result<Framed, Code>
-    requires { at.now.head.customers ≤ 65536 }
-    ensures { result ≡ kept bytes.now (frame_at (limits at.now.head) (place at.now) bytes.now) }
+    requires { at.now.head.customers ≤ MOST_NAMES }
+    ensures { answer_in result ≡ kept bytes.now (frame_at (limits at.now.head) (place at.now) bytes.now) }
 {
-    let Some((kind, rest)) = u8_at(bytes) else {
+    let Some((first, rest)) = u8_at(bytes) else {
         return Err(Code::Frame);
     };
     let Some((len, rest)) = u32_at(rest) else {
+        return Err(Code::Frame);
+    };
+    let Some(kind) = FrameKind::of(first) else {
         return Err(Code::Frame);
     };
     let len = len as usize;
@@ -61,7 +64,7 @@ pub struct Index {
 pub fn index_of(alloc: Global, head: Head, bytes: &[u8]) -> Result<Index, CheckFault>
     requires says { SaysHead bytes.now (limits head) }
     requires header { 32 ≤ length bytes.now }
-    requires length { length bytes.now ≤ 2 ^ 30 }
+    requires length { length bytes.now ≤ MOST_BYTES }
     ensures found { IfOk result (IsIndex (limits head) bytes.now) }
     ensures fault { IfErr result (λ e. IfFound e (IsFormFault bytes.now)) }
 {

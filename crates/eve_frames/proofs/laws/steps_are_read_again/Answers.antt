@@ -2,4 +2,9 @@ use Rattle.eve_frames.proofs.Rereading.{attempt_again, access_again, commit_agai
 use Rattle.eve_frames.proofs.laws.steps_are_read_again.Goals as goal
 
 pub returns : goal.returns
-returns c = record { attempts = attempt_again; accesses = access_again; commits = commit_again; rollbacks = rollback_again }
+returns c = record {
+  attempts = attempt_again;
+  accesses = access_again;
+  commits = commit_again;
+  rollbacks = rollback_again;
+}

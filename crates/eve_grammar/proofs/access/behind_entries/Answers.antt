@@ -5,4 +5,6 @@ use Rattle.eve_grammar.proofs.access.behind_entries.Goals as goal
 
 pub loop-preserved : goal.loop-preserved
 loop-preserved c =
-    rest_more (entry_at c.args.rows) c.args.count c.loop.counter c.loop.rest.now c.in-Some.more.now (c.in-Some._entry) (rest_at (entry_at c.args.rows) c.args.count c.args.bytes.now) c.loop-test.true c.in-Some.ensures c.loop.invariant
+    rest_more (entry_at c.args.rows) c.args.count c.loop.counter c.loop.rest.now c.in-Some.more.now (c.in-Some._entry)
+    (rest_at (entry_at c.args.rows) c.args.count c.args.bytes.now) c.loop-test.true c.in-Some.ensures
+    c.loop.invariant

@@ -8,7 +8,10 @@ pub returns-in_default : goal.returns-in_default
 returns-in_default c = rest_none asked_at c.args.count c.args.bytes.now c.in_default.ensures
 
 pub slice_bounds-result-count : goal.slice_bounds-result-count
-slice_bounds-result-count c = (requests_are c.args.count c.args.bytes.now c.in-Some.behind.now (λ i. omega (arith, c.type_inv.bytes i)) c.in-Some.ensures).0
+slice_bounds-result-count c =
+    (requests_are c.args.count c.args.bytes.now c.in-Some.behind.now (λ i. omega (arith, c.type_inv.bytes i))
+    c.in-Some.ensures).0
 
 pub returns : goal.returns
-returns c = (requests_are c.args.count c.args.bytes.now c.in-Some.behind.now (λ i. omega (arith, c.type_inv.bytes i)) c.in-Some.ensures).1
+returns c = (requests_are c.args.count c.args.bytes.now c.in-Some.behind.now (λ i. omega (arith, c.type_inv.bytes i))
+    c.in-Some.ensures).1

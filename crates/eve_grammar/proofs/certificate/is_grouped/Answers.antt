@@ -9,13 +9,17 @@ pub returns-then-group-last : goal.returns-then-group-last
 returns-then-group-last c = λ sizes are.
     let xs = c.args.order.now in
     let k = c.loop-index.index-index in
-    sym (falls_back sizes xs c.args.groups.now k c.loop-index.last are (omega arith) (search rules) (c.loop-index.invariant sizes are))
+    sym (falls_back sizes xs c.args.groups.now k c.loop-index.last are (omega arith) (search rules)
+    (c.loop-index.invariant sizes are))
 
 pub loop-index-preserved : goal.loop-index-preserved
 loop-index-preserved c = λ sizes are.
     let xs = c.args.order.now in
     let k = c.loop-index.index-index in
-    goes_on_more sizes xs c.args.groups.now k c.loop-index.last are (omega arith) (search rules) (c.loop-index.invariant sizes are)
+    goes_on_more sizes xs c.args.groups.now k c.loop-index.last are (omega arith) (search rules)
+    (c.loop-index.invariant sizes are)
 
 pub returns : goal.returns
-returns c = λ sizes are. sym (goes_to_end sizes c.args.order.now c.loop-index.index-index c.loop-index.last (omega arith) (c.loop-index.invariant sizes are))
+returns c = λ sizes are. sym
+    (goes_to_end sizes c.args.order.now c.loop-index.index-index c.loop-index.last (omega arith)
+    (c.loop-index.invariant sizes are))

@@ -6,4 +6,5 @@ use Rattle.eve_grammar.proofs.certificate.is_grouped.Given as goal
 
 abbrev pub invariant-loop-index : goal.invariant-loop-index
 invariant-loop-index l =
-    (sizes : List ℕ) → AreGroups sizes l.order l.groups → goes_on sizes l.last (drop l.index-index l.order) ≡ is_grouped sizes l.order
+    (sizes : List ℕ) → AreGroups sizes l.order l.groups → goes_on sizes l.last (drop l.index-index l.order)
+    ≡ is_grouped sizes l.order

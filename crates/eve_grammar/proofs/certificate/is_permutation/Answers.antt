@@ -1,7 +1,8 @@
 use Rattle.std.proofs.Common.{◌≡◌, ◌≤◌, ◌<◌, true, false, get_or, length, sym, arith, rules}
 use Rattle.eve_grammar.proofs.Counting.{marked_start, marked_more, marked_twice, marked_all, too_large}
 use Rattle.eve_grammar.proofs.certificate.is_permutation.Goals as goal
-use Rattle.eve_grammar.proofs.certificate.is_permutation.Goals.{then-index-order-via-then-index-order, then-index-order-via-else-index-order+then-seen-index}
+use Rattle.eve_grammar.proofs.certificate.is_permutation.Goals.{then-index-order-via-then-index-order}
+use Rattle.eve_grammar.proofs.certificate.is_permutation.Goals.{then-index-order-via-else-index-order+then-seen-index}
 
 pub loop-index-init : goal.loop-index-init
 loop-index-init c = marked_start (length c.args.order.now)
@@ -31,4 +32,5 @@ loop-index-preserved c =
     marked_more xs k c.loop-index.seen c.loop-index.invariant c.requires within below new
 
 pub returns : goal.returns
-returns c = sym (marked_all c.args.order.now c.loop-index.index-index c.loop-index.seen c.loop-index.invariant c.requires (omega arith))
+returns c = sym (marked_all c.args.order.now c.loop-index.index-index c.loop-index.seen c.loop-index.invariant
+    c.requires (omega arith))

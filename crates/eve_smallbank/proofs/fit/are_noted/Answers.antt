@@ -8,7 +8,8 @@ returns-then-not-is_noted c = (
   λ e. absurd (false≢true e),
   λ all. absurd (false≢true (sym c.if-not-is_noted.true ∙ c.is_noted.ensures.1
       (noted_at c.args.rows.now c.args.entries.now c.args.effects.now c.loop-place.place c.at-in-loop-place.result
-      c.at.result c.at-in-loop-place-2.result c.at-in-loop-place.ensures c.at.ensures c.at-in-loop-place-2.ensures all))),
+      c.at.result c.at-in-loop-place-2.result c.at-in-loop-place.ensures c.at.ensures c.at-in-loop-place-2.ensures
+      all))),
 )
 
 pub returns : goal.returns

@@ -8,5 +8,8 @@ rest-preserved g c =
     let sent = c.rest.sent in
     let n = c.in-Ok.n in
     let most = length-take (length bytes - sent) (drop sent bytes) in
-    let within = c.in-Ok.ensures.within in
-    (omega arith, Appends-further _ _ _ sent n bytes (omega arith) c.rest.invariant.1 c.in-Ok.ensures.takes, c.in-Ok.ensures.fine ∙ c.rest.invariant.2)
+    let within = c.in-Ok.ensures.within in (
+      omega arith,
+      Appends-further _ _ _ sent n bytes (omega arith) c.rest.invariant.1 c.in-Ok.ensures.takes,
+      c.in-Ok.ensures.fine ∙ c.rest.invariant.2,
+    )

@@ -5,4 +5,5 @@ use Rattle.eve_views.proofs.body.accesses_behind.Goals as goal
 
 pub returns-in-Some : goal.returns-in-Some
 unfolding body_of
-returns-in-Some c = rw (c.if-kind-eq17.true, c.in-Some.ensures) (ap Some (sym (length-numbers_in c.in-Some.attempt.certificate.now)))
+returns-in-Some c = rw (c.in-Attempt.is, c.in-Some.ensures)
+    (ap Some (sym (length-numbers_in c.in-Some.attempt.certificate.now)))

@@ -8,9 +8,11 @@ use Rattle.eve_frames.proofs.access.AccessView.entries.Goals as goal
 pub new-requires : goal.new-requires
 new-requires c =
     let bytes = c.args.self.now.bytes.now in
-    (stand_passes 29 (entries_of bytes) 11 (entry_at most_rows) bytes (access_in bytes).entries (access_placed bytes c.args.self.now.whole).entries c.len-count.result 11 c.len-count.ensures.len refl).there
+    (stand_passes 29 (entries_of bytes) 11 (entry_at most_rows) bytes (access_in bytes).entries
+    (access_placed bytes c.args.self.now.whole).entries c.len-count.result 11 c.len-count.ensures.len refl).there
 
 pub returns : goal.returns
 returns c =
     let bytes = c.args.self.now.bytes.now in
-    c.new.ensures ∙ (stand_passes 29 (entries_of bytes) 11 (entry_at most_rows) bytes (access_in bytes).entries (access_placed bytes c.args.self.now.whole).entries c.len-count.result 11 c.len-count.ensures.len refl).list
+    c.new.ensures ∙ (stand_passes 29 (entries_of bytes) 11 (entry_at most_rows) bytes (access_in bytes).entries
+    (access_placed bytes c.args.self.now.whole).entries c.len-count.result 11 c.len-count.ensures.len refl).list

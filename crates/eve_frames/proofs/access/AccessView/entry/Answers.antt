@@ -8,10 +8,13 @@ use Rattle.eve_frames.proofs.access.AccessView.entry.Goals as goal
 pub unreachable-requires : goal.unreachable-requires
 unreachable-requires c =
     let bytes = c.args.self.now.bytes.now in
-    stand_some 29 (entries_of bytes) 11 (entry_at most_rows) bytes (access_in bytes).entries (access_placed bytes c.args.self.now.whole).entries c.args.i (11 + 29 * c.args.i) c.requires refl c.in-None.ensures
+    stand_some 29 (entries_of bytes) 11 (entry_at most_rows) bytes (access_in bytes).entries
+    (access_placed bytes c.args.self.now.whole).entries c.args.i (11 + 29 * c.args.i) c.requires refl
+    c.in-None.ensures
 
 pub returns : goal.returns
 returns c =
     let bytes = c.args.self.now.bytes.now in
-    stand_is 29 (entries_of bytes) 11 (entry_at most_rows) bytes (access_in bytes).entries (access_placed bytes c.args.self.now.whole).entries c.args.i (11 + 29 * c.args.i) c.requires refl
+    stand_is 29 (entries_of bytes) 11 (entry_at most_rows) bytes (access_in bytes).entries
+    (access_placed bytes c.args.self.now.whole).entries c.args.i (11 + 29 * c.args.i) c.requires refl
     c.in-Some.entry c.in-Some.field-0-1.now c.in-Some.ensures

@@ -10,4 +10,9 @@ pub slice_bounds-read_u16-start : goal.slice_bounds-read_u16-start
 slice_bounds-read_u16-start c = let long = batch_long c.args.self.now.bytes.now c.args.self.now.whole in omega (arith)
 
 pub read_u16-requires : goal.read_u16-requires
-read_u16-requires c = let long = batch_long c.args.self.now.bytes.now c.args.self.now.whole in omega (arith, length-take (length c.args.self.now.bytes.now - 9) (drop 9 c.args.self.now.bytes.now), length-drop 9 c.args.self.now.bytes.now)
+read_u16-requires c = let long = batch_long c.args.self.now.bytes.now c.args.self.now.whole in
+    omega (
+      arith,
+      length-take (length c.args.self.now.bytes.now - 9) (drop 9 c.args.self.now.bytes.now),
+      length-drop 9 c.args.self.now.bytes.now,
+    )

@@ -22,4 +22,5 @@ pub returns : goal.returns
 returns c =
     let bytes = c.args.self.now.bytes.now in
     let sizes = (batch_in bytes).1.sizes in
-    c.loop-i.invariant ∙ ap sum (take_all c.loop-i.i sizes (omega (arith, c.loop-i-test.false, c.groups-i-end.ensures))) ∙ sym (batch_total bytes c.args.self.now.whole)
+    c.loop-i.invariant ∙ ap sum (take_all c.loop-i.i sizes (omega (arith, c.loop-i-test.false, c.groups-i-end.ensures)))
+    ∙ sym (batch_total bytes c.args.self.now.whole)

@@ -9,4 +9,5 @@ use Rattle.eve_frames.proofs.batch.BatchView.request.Goals as goal
 pub returns : goal.returns
 returns c =
     ap (λ (l : List Asked). option_map (λ a. a.request) (slice_get l c.args.i)) (sym c.requests.ensures)
-    ∙ ap (option_map (λ (a : Asked). a.request)) (nth_is asked c.requests.result c.nth.new.self c.args.i c.in-Some.asked c.in-Some.ensures.ran)
+    ∙ ap (option_map (λ (a : Asked). a.request))
+    (nth_is asked c.requests.result c.nth.new.self c.args.i c.in-Some.asked c.in-Some.ensures.ran)

@@ -10,4 +10,9 @@ pub slice_bounds-read_u32-start : goal.slice_bounds-read_u32-start
 slice_bounds-read_u32-start c = let long = batch_long c.args.self.now.bytes.now c.args.self.now.whole in omega (arith)
 
 pub read_u32-requires : goal.read_u32-requires
-read_u32-requires c = let long = batch_long c.args.self.now.bytes.now c.args.self.now.whole in omega (arith, length-take (length c.args.self.now.bytes.now - 5) (drop 5 c.args.self.now.bytes.now), length-drop 5 c.args.self.now.bytes.now)
+read_u32-requires c = let long = batch_long c.args.self.now.bytes.now c.args.self.now.whole in
+    omega (
+      arith,
+      length-take (length c.args.self.now.bytes.now - 5) (drop 5 c.args.self.now.bytes.now),
+      length-drop 5 c.args.self.now.bytes.now,
+    )

@@ -9,10 +9,13 @@ use Rattle.eve_frames.proofs.rollback.RollbackView.restore.Goals as goal
 pub unreachable-requires : goal.unreachable-requires
 unreachable-requires c =
     let bytes = c.args.self.now.bytes.now in
-    stand_some 20 (restores_of bytes) 17 (restore_at most_rows) bytes (rollback_in bytes).restores (rollback_placed bytes c.args.self.now.whole).restores c.args.i (17 + 20 * c.args.i) c.requires refl c.in-None.ensures
+    stand_some 20 (restores_of bytes) 17 (restore_at most_rows) bytes (rollback_in bytes).restores
+    (rollback_placed bytes c.args.self.now.whole).restores c.args.i (17 + 20 * c.args.i) c.requires refl
+    c.in-None.ensures
 
 pub returns : goal.returns
 returns c =
     let bytes = c.args.self.now.bytes.now in
-    stand_is 20 (restores_of bytes) 17 (restore_at most_rows) bytes (rollback_in bytes).restores (rollback_placed bytes c.args.self.now.whole).restores c.args.i (17 + 20 * c.args.i) c.requires refl
+    stand_is 20 (restores_of bytes) 17 (restore_at most_rows) bytes (rollback_in bytes).restores
+    (rollback_placed bytes c.args.self.now.whole).restores c.args.i (17 + 20 * c.args.i) c.requires refl
     (restore c.in-Some.found) c.in-Some.field-0-1.now c.in-Some.ensures

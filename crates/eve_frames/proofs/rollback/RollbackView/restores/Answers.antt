@@ -8,9 +8,11 @@ use Rattle.eve_frames.proofs.rollback.RollbackView.restores.Goals as goal
 pub new-requires : goal.new-requires
 new-requires c =
     let bytes = c.args.self.now.bytes.now in
-    (stand_passes 20 (restores_of bytes) 17 (restore_at most_rows) bytes (rollback_in bytes).restores (rollback_placed bytes c.args.self.now.whole).restores c.len-count.result 17 c.len-count.ensures refl).there
+    (stand_passes 20 (restores_of bytes) 17 (restore_at most_rows) bytes (rollback_in bytes).restores
+    (rollback_placed bytes c.args.self.now.whole).restores c.len-count.result 17 c.len-count.ensures refl).there
 
 pub returns : goal.returns
 returns c =
     let bytes = c.args.self.now.bytes.now in
-    c.new.ensures ∙ (stand_passes 20 (restores_of bytes) 17 (restore_at most_rows) bytes (rollback_in bytes).restores (rollback_placed bytes c.args.self.now.whole).restores c.len-count.result 17 c.len-count.ensures refl).list
+    c.new.ensures ∙ (stand_passes 20 (restores_of bytes) 17 (restore_at most_rows) bytes (rollback_in bytes).restores
+    (rollback_placed bytes c.args.self.now.whole).restores c.len-count.result 17 c.len-count.ensures refl).list

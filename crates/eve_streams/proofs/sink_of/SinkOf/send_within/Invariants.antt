@@ -4,4 +4,5 @@ use Rattle.std.specs.Io.KnownBytes.{Keeps}
 use Rattle.eve_streams.proofs.sink_of.SinkOf.send_within.Given as goal
 
 abbrev pub invariant-tries : goal.invariant-tries
-invariant-tries g l = Keeps (g.W.Write.contents l.initial.self.writer) (g.W.Write.contents l.self.writer) × (l.self.failures ≡ l.initial.self.failures)
+invariant-tries g l = Keeps (g.W.Write.contents l.initial.self.writer) (g.W.Write.contents l.self.writer)
+    × (l.self.failures ≡ l.initial.self.failures)

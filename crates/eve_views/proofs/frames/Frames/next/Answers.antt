@@ -4,9 +4,14 @@ use Rattle.eve_views.proofs.frames.Frames.next.Goals as goal
 
 pub returns-then-self-frame_count-clause-none : goal.returns-then-self-frame_count-clause-none
 returns-then-self-frame_count-clause-none c =
-    sym c.self.view_is ∙ none_from c.self.inside.trace.now.frames c.self.inside.at (omega (arith, c.if-self-frame_count.true, c.frame_count.ensures))
+    sym c.self.view_is ∙ none_from c.self.inside.trace.now.frames c.self.inside.at
+    (omega (arith, c.if-self-frame_count.true, c.frame_count.ensures))
 
 pub returns-clause-some : goal.returns-clause-some
 returns-clause-some c =
-    let f = c.frame-frame.ensures.frame in
-    (f.0, sym c.self.view_is ∙ next_from c.self.inside.trace.now.frames c.self.inside.at f.0 c.frame-frame.result.offset f.1 c.frame-frame.ensures.offset, f.2)
+    let f = c.frame-frame.ensures.frame in (
+      f.0,
+      sym c.self.view_is ∙ next_from c.self.inside.trace.now.frames c.self.inside.at f.0 c.frame-frame.result.offset
+          f.1 c.frame-frame.ensures.offset,
+      f.2,
+    )

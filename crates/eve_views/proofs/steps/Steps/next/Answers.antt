@@ -9,7 +9,8 @@ use Rattle.eve_views.proofs.StepLaws.{met_of, none_left, attempt_met, commit_met
 use Rattle.eve_views.proofs.steps.Steps.next.Goals as goal
 
 pub returns-then-self-clause-none : goal.returns-then-self-clause-none
-returns-then-self-clause-none c = sym c.self.view_is ∙ none_left c.self.inside.trace.now.frames c.self.inside.at c.self.inside.to c.self.invariant c.if-self.true
+returns-then-self-clause-none c = sym c.self.view_is
+    ∙ none_left c.self.inside.trace.now.frames c.self.inside.at c.self.inside.to c.self.invariant c.if-self.true
 
 -- ---- an attempt
 
@@ -18,7 +19,8 @@ new-attempt-requires c =
     let fs = c.self.inside.trace.now.frames in
     let f = c.frame-frame.ensures.frame in
     let is = met_of fs c.self.inside.at c.self.inside.to f.0 c.self.invariant c.if-self.false f.1 in
-    let met = attempt_met fs c.self.inside.at c.self.inside.to f.0 c.frame-frame.result.bytes.now is (sym (ap (λ (b : List ℕ). slice_index b 0) f.2) ∙ c.in-17.is) f.2 in
+    let met = attempt_met fs c.self.inside.at c.self.inside.to f.0 c.frame-frame.result.bytes.now is
+    (sym (ap (λ (b : List ℕ). slice_index b 0) f.2) ∙ (c.if-first-byte.true ∙ c.byte.ensures)) f.2 in
     met.says.0
 
 pub overflow_add-self : goal.overflow_add-self
@@ -26,10 +28,13 @@ overflow_add-self c =
     let fs = c.self.inside.trace.now.frames in
     let f = c.frame-frame.ensures.frame in
     let is = met_of fs c.self.inside.at c.self.inside.to f.0 c.self.invariant c.if-self.false f.1 in
-    let met = attempt_met fs c.self.inside.at c.self.inside.to f.0 c.frame-frame.result.bytes.now is (sym (ap (λ (b : List ℕ). slice_index b 0) f.2) ∙ c.in-17.is) f.2 in
+    let met = attempt_met fs c.self.inside.at c.self.inside.to f.0 c.frame-frame.result.bytes.now is
+    (sym (ap (λ (b : List ℕ). slice_index b 0) f.2) ∙ (c.if-first-byte.true ∙ c.byte.ensures)) f.2 in
     let many : c.len-count.result ≡ length met.attempt.certificate =
-    c.len-count.ensures.certificate ∙ ap (λ (b : List ℕ). length (attempt_in b).certificate) c.new-attempt.ensures.bytes ∙ ap (λ (a : Attempt). length a.certificate) met.says.1 in
-    let next : c.self.inside.at + 1 + c.len-count.result ≡ c.self.inside.at + 1 + length met.attempt.certificate = ap (λ (n : ℕ). c.self.inside.at + 1 + n) many in
+    c.len-count.ensures.certificate ∙ ap (λ (b : List ℕ). length (attempt_in b).certificate) c.new-attempt.ensures.bytes
+    ∙ ap (λ (a : Attempt). length a.certificate) met.says.1 in
+    let next : c.self.inside.at + 1 + c.len-count.result ≡ c.self.inside.at + 1 + length met.attempt.certificate =
+    ap (λ (n : ℕ). c.self.inside.at + 1 + n) many in
     let up = (met.rest (c.self.inside.at + 1 + c.len-count.result) next).up in
     let small : c.self.inside.to < 2 ^ 64 = search rules in
     record { fits = omega (arith, up, small) }
@@ -39,10 +44,13 @@ new-accesses-requires c =
     let fs = c.self.inside.trace.now.frames in
     let f = c.frame-frame.ensures.frame in
     let is = met_of fs c.self.inside.at c.self.inside.to f.0 c.self.invariant c.if-self.false f.1 in
-    let met = attempt_met fs c.self.inside.at c.self.inside.to f.0 c.frame-frame.result.bytes.now is (sym (ap (λ (b : List ℕ). slice_index b 0) f.2) ∙ c.in-17.is) f.2 in
+    let met = attempt_met fs c.self.inside.at c.self.inside.to f.0 c.frame-frame.result.bytes.now is
+    (sym (ap (λ (b : List ℕ). slice_index b 0) f.2) ∙ (c.if-first-byte.true ∙ c.byte.ensures)) f.2 in
     let many : c.len-count.result ≡ length met.attempt.certificate =
-    c.len-count.ensures.certificate ∙ ap (λ (b : List ℕ). length (attempt_in b).certificate) c.new-attempt.ensures.bytes ∙ ap (λ (a : Attempt). length a.certificate) met.says.1 in
-    let next : c.self.inside.at + 1 + c.len-count.result ≡ c.self.inside.at + 1 + length met.attempt.certificate = ap (λ (n : ℕ). c.self.inside.at + 1 + n) many in
+    c.len-count.ensures.certificate ∙ ap (λ (b : List ℕ). length (attempt_in b).certificate) c.new-attempt.ensures.bytes
+    ∙ ap (λ (a : Attempt). length a.certificate) met.says.1 in
+    let next : c.self.inside.at + 1 + c.len-count.result ≡ c.self.inside.at + 1 + length met.attempt.certificate =
+    ap (λ (n : ℕ). c.self.inside.at + 1 + n) many in
     met.accesses (c.self.inside.at + 1 + c.len-count.result) next
 
 pub invariant_of-self : goal.invariant_of-self
@@ -50,21 +58,27 @@ invariant_of-self c =
     let fs = c.self.inside.trace.now.frames in
     let f = c.frame-frame.ensures.frame in
     let is = met_of fs c.self.inside.at c.self.inside.to f.0 c.self.invariant c.if-self.false f.1 in
-    let met = attempt_met fs c.self.inside.at c.self.inside.to f.0 c.frame-frame.result.bytes.now is (sym (ap (λ (b : List ℕ). slice_index b 0) f.2) ∙ c.in-17.is) f.2 in
+    let met = attempt_met fs c.self.inside.at c.self.inside.to f.0 c.frame-frame.result.bytes.now is
+    (sym (ap (λ (b : List ℕ). slice_index b 0) f.2) ∙ (c.if-first-byte.true ∙ c.byte.ensures)) f.2 in
     let many : c.len-count.result ≡ length met.attempt.certificate =
-    c.len-count.ensures.certificate ∙ ap (λ (b : List ℕ). length (attempt_in b).certificate) c.new-attempt.ensures.bytes ∙ ap (λ (a : Attempt). length a.certificate) met.says.1 in
-    let next : c.self.inside.at + 1 + c.len-count.result ≡ c.self.inside.at + 1 + length met.attempt.certificate = ap (λ (n : ℕ). c.self.inside.at + 1 + n) many in
+    c.len-count.ensures.certificate ∙ ap (λ (b : List ℕ). length (attempt_in b).certificate) c.new-attempt.ensures.bytes
+    ∙ ap (λ (a : Attempt). length a.certificate) met.says.1 in
+    let next : c.self.inside.at + 1 + c.len-count.result ≡ c.self.inside.at + 1 + length met.attempt.certificate =
+    ap (λ (n : ℕ). c.self.inside.at + 1 + n) many in
     met.rest (c.self.inside.at + 1 + c.len-count.result) next
 
-pub returns-in-17-clause-some : goal.returns-in-17-clause-some
-returns-in-17-clause-some c =
+pub returns-then-first-byte-clause-some : goal.returns-then-first-byte-clause-some
+returns-then-first-byte-clause-some c =
     let fs = c.self.inside.trace.now.frames in
     let f = c.frame-frame.ensures.frame in
     let is = met_of fs c.self.inside.at c.self.inside.to f.0 c.self.invariant c.if-self.false f.1 in
-    let met = attempt_met fs c.self.inside.at c.self.inside.to f.0 c.frame-frame.result.bytes.now is (sym (ap (λ (b : List ℕ). slice_index b 0) f.2) ∙ c.in-17.is) f.2 in
+    let met = attempt_met fs c.self.inside.at c.self.inside.to f.0 c.frame-frame.result.bytes.now is
+    (sym (ap (λ (b : List ℕ). slice_index b 0) f.2) ∙ (c.if-first-byte.true ∙ c.byte.ensures)) f.2 in
     let many : c.len-count.result ≡ length met.attempt.certificate =
-    c.len-count.ensures.certificate ∙ ap (λ (b : List ℕ). length (attempt_in b).certificate) c.new-attempt.ensures.bytes ∙ ap (λ (a : Attempt). length a.certificate) met.says.1 in
-    let next : c.self.inside.at + 1 + c.len-count.result ≡ c.self.inside.at + 1 + length met.attempt.certificate = ap (λ (n : ℕ). c.self.inside.at + 1 + n) many in (
+    c.len-count.ensures.certificate ∙ ap (λ (b : List ℕ). length (attempt_in b).certificate) c.new-attempt.ensures.bytes
+    ∙ ap (λ (a : Attempt). length a.certificate) met.says.1 in
+    let next : c.self.inside.at + 1 + c.len-count.result ≡ c.self.inside.at + 1 + length met.attempt.certificate =
+    ap (λ (n : ℕ). c.self.inside.at + 1 + n) many in (
       (byte_of fs c.self.inside.at, Attempts met.attempt),
       sym c.self.view_is ∙ met.value (c.self.inside.at + 1 + c.len-count.result) next,
       (
@@ -74,13 +88,15 @@ returns-in-17-clause-some c =
       ),
     )
 
-pub returns-in-17-clause-text : goal.returns-in-17-clause-text
-returns-in-17-clause-text c =
+pub returns-then-first-byte-clause-text : goal.returns-then-first-byte-clause-text
+returns-then-first-byte-clause-text c =
     let fs = c.self.inside.trace.now.frames in
     let f = c.frame-frame.ensures.frame in
     let is = met_of fs c.self.inside.at c.self.inside.to f.0 c.self.invariant c.if-self.false f.1 in
-    let met = attempt_met fs c.self.inside.at c.self.inside.to f.0 c.frame-frame.result.bytes.now is (sym (ap (λ (b : List ℕ). slice_index b 0) f.2) ∙ c.in-17.is) f.2 in
-    c.new-attempt.ensures.bytes ∙ met.frame ∙ ap (λ x. frame_text (OfAttempt x)) (sym (ap attempt_in c.new-attempt.ensures.bytes ∙ met.says.1))
+    let met = attempt_met fs c.self.inside.at c.self.inside.to f.0 c.frame-frame.result.bytes.now is
+    (sym (ap (λ (b : List ℕ). slice_index b 0) f.2) ∙ (c.if-first-byte.true ∙ c.byte.ensures)) f.2 in
+    c.new-attempt.ensures.bytes ∙ met.frame
+    ∙ ap (λ x. frame_text (OfAttempt x)) (sym (ap attempt_in c.new-attempt.ensures.bytes ∙ met.says.1))
 
 -- ---- a commit
 
@@ -89,77 +105,106 @@ new-requires c =
     let fs = c.self.inside.trace.now.frames in
     let f = c.frame-frame.ensures.frame in
     let is = met_of fs c.self.inside.at c.self.inside.to f.0 c.self.invariant c.if-self.false f.1 in
-    let met = commit_met fs c.self.inside.at c.self.inside.to f.0 c.frame-frame.result.bytes.now is (sym (ap (λ (b : List ℕ). slice_index b 0) f.2) ∙ c.in-19.is) f.2 in
+    let met = commit_met fs c.self.inside.at c.self.inside.to f.0 c.frame-frame.result.bytes.now is
+    (sym (ap (λ (b : List ℕ). slice_index b 0) f.2) ∙ (c.if-first-byte-2.true ∙ c.byte-else-first-byte.ensures)) f.2
+    in
     met.says.0
 
-pub invariant_of-self-in-19 : goal.invariant_of-self-in-19
-invariant_of-self-in-19 c =
+pub invariant_of-self-then-first-byte-2 : goal.invariant_of-self-then-first-byte-2
+invariant_of-self-then-first-byte-2 c =
     let fs = c.self.inside.trace.now.frames in
     let f = c.frame-frame.ensures.frame in
     let is = met_of fs c.self.inside.at c.self.inside.to f.0 c.self.invariant c.if-self.false f.1 in
-    let met = commit_met fs c.self.inside.at c.self.inside.to f.0 c.frame-frame.result.bytes.now is (sym (ap (λ (b : List ℕ). slice_index b 0) f.2) ∙ c.in-19.is) f.2 in
+    let met = commit_met fs c.self.inside.at c.self.inside.to f.0 c.frame-frame.result.bytes.now is
+    (sym (ap (λ (b : List ℕ). slice_index b 0) f.2) ∙ (c.if-first-byte-2.true ∙ c.byte-else-first-byte.ensures)) f.2
+    in
     met.rest
 
-pub returns-in-19-clause-some : goal.returns-in-19-clause-some
-returns-in-19-clause-some c =
+pub returns-then-first-byte-2-clause-some : goal.returns-then-first-byte-2-clause-some
+returns-then-first-byte-2-clause-some c =
     let fs = c.self.inside.trace.now.frames in
     let f = c.frame-frame.ensures.frame in
     let is = met_of fs c.self.inside.at c.self.inside.to f.0 c.self.invariant c.if-self.false f.1 in
-    let met = commit_met fs c.self.inside.at c.self.inside.to f.0 c.frame-frame.result.bytes.now is (sym (ap (λ (b : List ℕ). slice_index b 0) f.2) ∙ c.in-19.is) f.2 in (
+    let met = commit_met fs c.self.inside.at c.self.inside.to f.0 c.frame-frame.result.bytes.now is
+    (sym (ap (λ (b : List ℕ). slice_index b 0) f.2) ∙ (c.if-first-byte-2.true ∙ c.byte-else-first-byte.ensures)) f.2
+    in (
       (byte_of fs c.self.inside.at, Commits met.commit),
       sym c.self.view_is ∙ met.value,
       (c.new.ensures.offset ∙ c.frame-frame.ensures.offset, ap commit_in c.new.ensures.bytes ∙ met.says.1),
     )
 
-pub returns-in-19-clause-text : goal.returns-in-19-clause-text
-returns-in-19-clause-text c =
+pub returns-then-first-byte-2-clause-text : goal.returns-then-first-byte-2-clause-text
+returns-then-first-byte-2-clause-text c =
     let fs = c.self.inside.trace.now.frames in
     let f = c.frame-frame.ensures.frame in
     let is = met_of fs c.self.inside.at c.self.inside.to f.0 c.self.invariant c.if-self.false f.1 in
-    let met = commit_met fs c.self.inside.at c.self.inside.to f.0 c.frame-frame.result.bytes.now is (sym (ap (λ (b : List ℕ). slice_index b 0) f.2) ∙ c.in-19.is) f.2 in
-    c.new.ensures.bytes ∙ met.frame ∙ ap (λ x. frame_text (OfCommit x)) (sym (ap commit_in c.new.ensures.bytes ∙ met.says.1))
+    let met = commit_met fs c.self.inside.at c.self.inside.to f.0 c.frame-frame.result.bytes.now is
+    (sym (ap (λ (b : List ℕ). slice_index b 0) f.2) ∙ (c.if-first-byte-2.true ∙ c.byte-else-first-byte.ensures)) f.2
+    in
+    c.new.ensures.bytes ∙ met.frame
+    ∙ ap (λ x. frame_text (OfCommit x)) (sym (ap commit_in c.new.ensures.bytes ∙ met.says.1))
 
 -- ---- a rollback
 
-pub new-requires-in_default : goal.new-requires-in_default
-new-requires-in_default c =
+pub new-requires-else-first-byte-2 : goal.new-requires-else-first-byte-2
+new-requires-else-first-byte-2 c =
     let fs = c.self.inside.trace.now.frames in
     let f = c.frame-frame.ensures.frame in
     let is = met_of fs c.self.inside.at c.self.inside.to f.0 c.self.invariant c.if-self.false f.1 in
-    let not_17 : slice_index c.frame-frame.result.bytes.now 0 ≢ 17 = search rules in
-    let not_19 : slice_index c.frame-frame.result.bytes.now 0 ≢ 19 = search rules in
-    let met = rollback_met fs c.self.inside.at c.self.inside.to f.0 c.frame-frame.result.bytes.now is (λ e. not_17 (ap (λ (b : List ℕ). slice_index b 0) f.2 ∙ e)) (λ e. not_19 (ap (λ (b : List ℕ). slice_index b 0) f.2 ∙ e)) f.2 in
+    let not_17 : slice_index c.frame-frame.result.bytes.now 0 ≢ 17 =
+    λ e. c.if-first-byte.false (e ∙ sym c.byte.ensures) in
+    let not_19 : slice_index c.frame-frame.result.bytes.now 0 ≢ 19 =
+    λ e. c.if-first-byte-2.false (e ∙ sym c.byte-else-first-byte.ensures) in
+    let met = rollback_met fs c.self.inside.at c.self.inside.to f.0 c.frame-frame.result.bytes.now is
+    (λ e. not_17 (ap (λ (b : List ℕ). slice_index b 0) f.2 ∙ e))
+    (λ e. not_19 (ap (λ (b : List ℕ). slice_index b 0) f.2 ∙ e)) f.2 in
     met.says.0
 
-pub invariant_of-self-in_default : goal.invariant_of-self-in_default
-invariant_of-self-in_default c =
+pub invariant_of-self-else-first-byte-2 : goal.invariant_of-self-else-first-byte-2
+invariant_of-self-else-first-byte-2 c =
     let fs = c.self.inside.trace.now.frames in
     let f = c.frame-frame.ensures.frame in
     let is = met_of fs c.self.inside.at c.self.inside.to f.0 c.self.invariant c.if-self.false f.1 in
-    let not_17 : slice_index c.frame-frame.result.bytes.now 0 ≢ 17 = search rules in
-    let not_19 : slice_index c.frame-frame.result.bytes.now 0 ≢ 19 = search rules in
-    let met = rollback_met fs c.self.inside.at c.self.inside.to f.0 c.frame-frame.result.bytes.now is (λ e. not_17 (ap (λ (b : List ℕ). slice_index b 0) f.2 ∙ e)) (λ e. not_19 (ap (λ (b : List ℕ). slice_index b 0) f.2 ∙ e)) f.2 in
+    let not_17 : slice_index c.frame-frame.result.bytes.now 0 ≢ 17 =
+    λ e. c.if-first-byte.false (e ∙ sym c.byte.ensures) in
+    let not_19 : slice_index c.frame-frame.result.bytes.now 0 ≢ 19 =
+    λ e. c.if-first-byte-2.false (e ∙ sym c.byte-else-first-byte.ensures) in
+    let met = rollback_met fs c.self.inside.at c.self.inside.to f.0 c.frame-frame.result.bytes.now is
+    (λ e. not_17 (ap (λ (b : List ℕ). slice_index b 0) f.2 ∙ e))
+    (λ e. not_19 (ap (λ (b : List ℕ). slice_index b 0) f.2 ∙ e)) f.2 in
     met.rest
 
-pub returns-in_default-clause-some : goal.returns-in_default-clause-some
-returns-in_default-clause-some c =
+pub returns-else-first-byte-2-clause-some : goal.returns-else-first-byte-2-clause-some
+returns-else-first-byte-2-clause-some c =
     let fs = c.self.inside.trace.now.frames in
     let f = c.frame-frame.ensures.frame in
     let is = met_of fs c.self.inside.at c.self.inside.to f.0 c.self.invariant c.if-self.false f.1 in
-    let not_17 : slice_index c.frame-frame.result.bytes.now 0 ≢ 17 = search rules in
-    let not_19 : slice_index c.frame-frame.result.bytes.now 0 ≢ 19 = search rules in
-    let met = rollback_met fs c.self.inside.at c.self.inside.to f.0 c.frame-frame.result.bytes.now is (λ e. not_17 (ap (λ (b : List ℕ). slice_index b 0) f.2 ∙ e)) (λ e. not_19 (ap (λ (b : List ℕ). slice_index b 0) f.2 ∙ e)) f.2 in (
+    let not_17 : slice_index c.frame-frame.result.bytes.now 0 ≢ 17 =
+    λ e. c.if-first-byte.false (e ∙ sym c.byte.ensures) in
+    let not_19 : slice_index c.frame-frame.result.bytes.now 0 ≢ 19 =
+    λ e. c.if-first-byte-2.false (e ∙ sym c.byte-else-first-byte.ensures) in
+    let met = rollback_met fs c.self.inside.at c.self.inside.to f.0 c.frame-frame.result.bytes.now is
+    (λ e. not_17 (ap (λ (b : List ℕ). slice_index b 0) f.2 ∙ e))
+    (λ e. not_19 (ap (λ (b : List ℕ). slice_index b 0) f.2 ∙ e)) f.2 in (
       (byte_of fs c.self.inside.at, RollsBack met.rollback),
       sym c.self.view_is ∙ met.value,
-      (c.new-in_default.ensures.offset ∙ c.frame-frame.ensures.offset, ap rollback_in c.new-in_default.ensures.bytes ∙ met.says.1),
+      (
+        c.new-else-first-byte-2.ensures.offset ∙ c.frame-frame.ensures.offset,
+        ap rollback_in c.new-else-first-byte-2.ensures.bytes ∙ met.says.1,
+      ),
     )
 
-pub returns-in_default-clause-text : goal.returns-in_default-clause-text
-returns-in_default-clause-text c =
+pub returns-else-first-byte-2-clause-text : goal.returns-else-first-byte-2-clause-text
+returns-else-first-byte-2-clause-text c =
     let fs = c.self.inside.trace.now.frames in
     let f = c.frame-frame.ensures.frame in
     let is = met_of fs c.self.inside.at c.self.inside.to f.0 c.self.invariant c.if-self.false f.1 in
-    let not_17 : slice_index c.frame-frame.result.bytes.now 0 ≢ 17 = search rules in
-    let not_19 : slice_index c.frame-frame.result.bytes.now 0 ≢ 19 = search rules in
-    let met = rollback_met fs c.self.inside.at c.self.inside.to f.0 c.frame-frame.result.bytes.now is (λ e. not_17 (ap (λ (b : List ℕ). slice_index b 0) f.2 ∙ e)) (λ e. not_19 (ap (λ (b : List ℕ). slice_index b 0) f.2 ∙ e)) f.2 in
-    c.new-in_default.ensures.bytes ∙ met.frame ∙ ap (λ x. frame_text (OfRollback x)) (sym (ap rollback_in c.new-in_default.ensures.bytes ∙ met.says.1))
+    let not_17 : slice_index c.frame-frame.result.bytes.now 0 ≢ 17 =
+    λ e. c.if-first-byte.false (e ∙ sym c.byte.ensures) in
+    let not_19 : slice_index c.frame-frame.result.bytes.now 0 ≢ 19 =
+    λ e. c.if-first-byte-2.false (e ∙ sym c.byte-else-first-byte.ensures) in
+    let met = rollback_met fs c.self.inside.at c.self.inside.to f.0 c.frame-frame.result.bytes.now is
+    (λ e. not_17 (ap (λ (b : List ℕ). slice_index b 0) f.2 ∙ e))
+    (λ e. not_19 (ap (λ (b : List ℕ). slice_index b 0) f.2 ∙ e)) f.2 in
+    c.new-else-first-byte-2.ensures.bytes ∙ met.frame
+    ∙ ap (λ x. frame_text (OfRollback x)) (sym (ap rollback_in c.new-else-first-byte-2.ensures.bytes ∙ met.says.1))

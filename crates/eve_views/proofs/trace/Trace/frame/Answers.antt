@@ -22,28 +22,33 @@ overflow_add-i c =
 pub part-requires : goal.part-requires
 part-requires c =
     let spells = subst (SpellsFrames c.self.inside.bytes.now) c.self.view_is c.self.invariant.spells in
-    let p = part_is c.self.inside.bytes.now c.args.self.now c.args.i c.start_of-from.result c.start_of-to.result spells c.requires c.start_of-from.ensures c.start_of-to.ensures in
+    let p = part_is c.self.inside.bytes.now c.args.self.now c.args.i c.start_of-from.result c.start_of-to.result spells
+    c.requires c.start_of-from.ensures c.start_of-to.ensures in
     record { rising = p.rising; inside = p.inside }
 
 pub returns-clause-frame : goal.returns-clause-frame
 returns-clause-frame c =
     let spells = subst (SpellsFrames c.self.inside.bytes.now) c.self.view_is c.self.invariant.spells in
-    let p = part_is c.self.inside.bytes.now c.args.self.now c.args.i c.start_of-from.result c.start_of-to.result spells c.requires c.start_of-from.ensures c.start_of-to.ensures in
+    let p = part_is c.self.inside.bytes.now c.args.self.now c.args.i c.start_of-from.result c.start_of-to.result spells
+    c.requires c.start_of-from.ensures c.start_of-to.ensures in
     (p.frame, p.got, c.part.ensures ∙ p.text)
 
 pub invariant_of-result : goal.invariant_of-result
 invariant_of-result c =
     let spells = subst (SpellsFrames c.self.inside.bytes.now) c.self.view_is c.self.invariant.spells in
-    let p = part_is c.self.inside.bytes.now c.args.self.now c.args.i c.start_of-from.result c.start_of-to.result spells c.requires c.start_of-from.ensures c.start_of-to.ensures in
+    let p = part_is c.self.inside.bytes.now c.args.self.now c.args.i c.start_of-from.result c.start_of-to.result spells
+    c.requires c.start_of-from.ensures c.start_of-to.ensures in
     let size : length c.part.result.now ≡ length (frame_text p.frame) = ap length (c.part.ensures ∙ p.text) in
     record { whole = omega (arith, size, length-frame_text p.frame) }
 
 pub returns-clause-stands : goal.returns-clause-stands
 returns-clause-stands c =
     let spells = subst (SpellsFrames c.self.inside.bytes.now) c.self.view_is c.self.invariant.spells in
-    let p = part_is c.self.inside.bytes.now c.args.self.now c.args.i c.start_of-from.result c.start_of-to.result spells c.requires c.start_of-from.ensures c.start_of-to.ensures in
+    let p = part_is c.self.inside.bytes.now c.args.self.now c.args.i c.start_of-from.result c.start_of-to.result spells
+    c.requires c.start_of-from.ensures c.start_of-to.ensures in
     let whole = spells_trace c.self.inside.bytes.now c.args.self.now spells in
     record {
       behind = p.behind;
-      is = ap (drop c.start_of-from.result) (sym whole.spelled) ∙ p.cut ∙ ap (λ (b : List ℕ). b ++ p.behind) (sym (c.part.ensures ∙ p.text));
+      is = ap (drop c.start_of-from.result) (sym whole.spelled) ∙ p.cut
+          ∙ ap (λ (b : List ℕ). b ++ p.behind) (sym (c.part.ensures ∙ p.text));
     }

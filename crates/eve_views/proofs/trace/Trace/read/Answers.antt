@@ -18,29 +18,35 @@ index_of-requires-clause-says c =
 
 pub invariant_of-result : goal.invariant_of-result
 invariant_of-result c =
-    let held = held_of c.args.bytes.now (limits c.in-Ok.head) c.in-Ok-index_of.index (λ i. omega (arith, c.type_inv.bytes i)) c.in-Ok.ensures.head c.in-Ok-index_of.ensures.found in
+    let held = held_of c.args.bytes.now (limits c.in-Ok.head) c.in-Ok-index_of.index
+    (λ i. omega (arith, c.type_inv.bytes i)) c.in-Ok.ensures.head c.in-Ok-index_of.ensures.found in
     record { spells = held.spells; offsets = held.offsets; starts = held.starts }
 
 pub returns-in-Ok-index_of-clause-spelled : goal.returns-in-Ok-index_of-clause-spelled
 returns-in-Ok-index_of-clause-spelled c =
-    (held_of c.args.bytes.now (limits c.in-Ok.head) c.in-Ok-index_of.index (λ i. omega (arith, c.type_inv.bytes i)) c.in-Ok.ensures.head c.in-Ok-index_of.ensures.found).spells
+    (held_of c.args.bytes.now (limits c.in-Ok.head) c.in-Ok-index_of.index (λ i. omega (arith, c.type_inv.bytes i))
+    c.in-Ok.ensures.head c.in-Ok-index_of.ensures.found).spells
 
 pub returns-in-Err-index_of-clause-least : goal.returns-in-Err-index_of-clause-least
 returns-in-Err-index_of-clause-least c =
-    found_least c.args.bytes.now (limits c.in-Ok.head) c.in-Err-index_of.fault (λ i. omega (arith, c.type_inv.bytes i)) c.in-Ok.ensures.head c.in-Err-index_of.ensures.fault
+    found_least c.args.bytes.now (limits c.in-Ok.head) c.in-Err-index_of.fault (λ i. omega (arith, c.type_inv.bytes i))
+    c.in-Ok.ensures.head c.in-Err-index_of.ensures.fault
 
 pub returns-in-Err-index_of-clause-none : goal.returns-in-Err-index_of-clause-none
 returns-in-Err-index_of-clause-none c =
-    found_none c.args.bytes.now (limits c.in-Ok.head) c.in-Err-index_of.fault (λ i. omega (arith, c.type_inv.bytes i)) c.in-Ok.ensures.head c.in-Err-index_of.ensures.fault
+    found_none c.args.bytes.now (limits c.in-Ok.head) c.in-Err-index_of.fault (λ i. omega (arith, c.type_inv.bytes i))
+    c.in-Ok.ensures.head c.in-Err-index_of.ensures.fault
 
 pub returns-in-Err-index_of-clause-within : goal.returns-in-Err-index_of-clause-within
 returns-in-Err-index_of-clause-within c =
-    found_within c.args.bytes.now (limits c.in-Ok.head) c.in-Err-index_of.fault (λ i. omega (arith, c.type_inv.bytes i)) c.in-Ok.ensures.head c.in-Err-index_of.ensures.fault
+    found_within c.args.bytes.now (limits c.in-Ok.head) c.in-Err-index_of.fault (λ i. omega (arith, c.type_inv.bytes i))
+    c.in-Ok.ensures.head c.in-Err-index_of.ensures.fault
 
 pub returns-in-Ok-index_of-clause-trace : goal.returns-in-Ok-index_of-clause-trace
 returns-in-Ok-index_of-clause-trace c =
     spells_trace c.args.bytes.now _
-    (held_of c.args.bytes.now (limits c.in-Ok.head) c.in-Ok-index_of.index (λ i. omega (arith, c.type_inv.bytes i)) c.in-Ok.ensures.head c.in-Ok-index_of.ensures.found).spells
+    (held_of c.args.bytes.now (limits c.in-Ok.head) c.in-Ok-index_of.index (λ i. omega (arith, c.type_inv.bytes i))
+    c.in-Ok.ensures.head c.in-Ok-index_of.ensures.found).spells
 
 pub returns-in-Err-clause-no_trace : goal.returns-in-Err-clause-no_trace
 returns-in-Err-clause-no_trace c =
@@ -49,9 +55,12 @@ returns-in-Err-clause-no_trace c =
 pub returns-in-Err-index_of-clause-no_trace : goal.returns-in-Err-index_of-clause-no_trace
 returns-in-Err-index_of-clause-no_trace c =
     found_no_trace c.args.bytes.now c.in-Err-index_of.fault
-    (found_none c.args.bytes.now (limits c.in-Ok.head) c.in-Err-index_of.fault (λ i. omega (arith, c.type_inv.bytes i)) c.in-Ok.ensures.head c.in-Err-index_of.ensures.fault)
+    (found_none c.args.bytes.now (limits c.in-Ok.head) c.in-Err-index_of.fault (λ i. omega (arith, c.type_inv.bytes i))
+    c.in-Ok.ensures.head c.in-Err-index_of.ensures.fault)
 
 pub returns-in-Ok-index_of-clause-faultless : goal.returns-in-Ok-index_of-clause-faultless
 returns-in-Ok-index_of-clause-faultless c = λ f stands.
-    let held = held_of c.args.bytes.now (limits c.in-Ok.head) c.in-Ok-index_of.index (λ i. omega (arith, c.type_inv.bytes i)) c.in-Ok.ensures.head c.in-Ok-index_of.ensures.found in
-    (refused_behind c.args.bytes.now (limits c.in-Ok.head) f c.in-Ok.ensures.head (λ i. omega (arith, c.type_inv.bytes i)) stands).none _ held.spells
+    let held = held_of c.args.bytes.now (limits c.in-Ok.head) c.in-Ok-index_of.index
+    (λ i. omega (arith, c.type_inv.bytes i)) c.in-Ok.ensures.head c.in-Ok-index_of.ensures.found in
+    (refused_behind c.args.bytes.now (limits c.in-Ok.head) f c.in-Ok.ensures.head
+    (λ i. omega (arith, c.type_inv.bytes i)) stands).none _ held.spells

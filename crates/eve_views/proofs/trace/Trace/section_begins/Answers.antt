@@ -13,6 +13,7 @@ start_of-requires c =
 pub returns : goal.returns
 returns c =
     let front = section_front (whole c.args.self.now) c.args.e in
-    c.start_of.ensures ∙ ap (λ (fs : List Frame). 32 + length (frames_text (take c.section_from.result fs))) (sym c.is_whole.ensures.frames)
+    c.start_of.ensures ∙ ap (λ (fs : List Frame). 32 + length (frames_text (take c.section_from.result fs)))
+    (sym c.is_whole.ensures.frames)
     ∙ ap (λ (n : ℕ). 32 + length (frames_text (take n (frames_of (whole c.args.self.now))))) c.section_from.ensures
     ∙ ap (λ (fs : List Frame). 32 + length (frames_text fs)) front.1 ∙ section_begins (whole c.args.self.now) c.args.e

@@ -6,15 +6,18 @@ use Rattle.eve_views.proofs.trace.Trace.sent_count.Goals as goal
 
 pub overflow_sub-result : goal.overflow_sub-result
 overflow_sub-result c =
-    let all : length (frames_of (whole c.args.self.now)) ≡ length c.args.self.now.frames = ap length c.is_whole.ensures.frames in
+    let all : length (frames_of (whole c.args.self.now)) ≡ length c.args.self.now.frames =
+    ap length c.is_whole.ensures.frames in
     omega (arith, frames_many (whole c.args.self.now), all, c.frame_count.ensures)
 
 pub overflow_sub-result-2 : goal.overflow_sub-result-2
 overflow_sub-result-2 c =
-    let all : length (frames_of (whole c.args.self.now)) ≡ length c.args.self.now.frames = ap length c.is_whole.ensures.frames in
+    let all : length (frames_of (whole c.args.self.now)) ≡ length c.args.self.now.frames =
+    ap length c.is_whole.ensures.frames in
     omega (arith, frames_many (whole c.args.self.now), all, c.frame_count.ensures, c.sent_from.ensures)
 
 pub returns : goal.returns
 returns c =
-    let all : length (frames_of (whole c.args.self.now)) ≡ length c.args.self.now.frames = ap length c.is_whole.ensures.frames in
+    let all : length (frames_of (whole c.args.self.now)) ≡ length c.args.self.now.frames =
+    ap length c.is_whole.ensures.frames in
     omega (arith, frames_many (whole c.args.self.now), all, c.frame_count.ensures, c.sent_from.ensures)

@@ -9,6 +9,9 @@ use Rattle.eve_views.proofs.trace.Trace.sent_from.Goals as goal
 pub returns : goal.returns
 returns c =
     let seq = sequence_of c.self.inside in
-    let head : head_of (whole c.args.self.now) ≡ seq.head = c.is_whole.ensures.head ∙ sym (ap (λ s. s.head) c.self.view_is) in
-    let frames : frames_of (whole c.args.self.now) ≡ seq.frames = c.is_whole.ensures.frames ∙ sym (ap (λ s. s.frames) c.self.view_is) in
-    sent_starts (whole c.args.self.now) seq.head seq.frames c.self.inside.index.starts head frames c.self.invariant.starts
+    let head : head_of (whole c.args.self.now) ≡ seq.head = c.is_whole.ensures.head
+    ∙ sym (ap (λ s. s.head) c.self.view_is) in
+    let frames : frames_of (whole c.args.self.now) ≡ seq.frames = c.is_whole.ensures.frames
+    ∙ sym (ap (λ s. s.frames) c.self.view_is) in
+    sent_starts (whole c.args.self.now) seq.head seq.frames c.self.inside.index.starts head frames
+    c.self.invariant.starts

@@ -16,7 +16,9 @@ returns-then-i-len c =
     let within : c.args.i < length items = omega arith in
     let read = get_or_read items c.args.i c.index.result.now within c.index.ensures 0 in
     let frames : fs ≡ c.args.self.now.frames = ap (λ v. v.frames) c.self.view_is in
-    read ∙ ap (λ (xs : List ℕ). get_or xs c.args.i 0) c.self.invariant.offsets ∙ offsets_at fs 32 c.args.i (omega (arith, within, total)) ∙ ap (λ (xs : List Frame). 32 + length (frames_text (take c.args.i xs))) frames
+    read ∙ ap (λ (xs : List ℕ). get_or xs c.args.i 0) c.self.invariant.offsets
+    ∙ offsets_at fs 32 c.args.i (omega (arith, within, total))
+    ∙ ap (λ (xs : List Frame). 32 + length (frames_text (take c.args.i xs))) frames
 
 pub returns-else-i-len : goal.returns-else-i-len
 returns-else-i-len c =
@@ -25,4 +27,6 @@ returns-else-i-len c =
     let count : vec_len c.self.inside.index.offsets ≡ length items = search rules in
     let total : length items ≡ length fs = ap length c.self.invariant.offsets ∙ length-offsets_of fs 32 in
     let frames : fs ≡ c.args.self.now.frames = ap (λ v. v.frames) c.self.view_is in
-    end_at c.self.inside.bytes.now (sequence_of c.self.inside) c.args.i c.self.invariant.spells (omega (arith, total, count, c.if-i-len.false)) ∙ ap (λ (xs : List Frame). 32 + length (frames_text (take c.args.i xs))) frames
+    end_at c.self.inside.bytes.now (sequence_of c.self.inside) c.args.i c.self.invariant.spells
+    (omega (arith, total, count, c.if-i-len.false))
+    ∙ ap (λ (xs : List Frame). 32 + length (frames_text (take c.args.i xs))) frames

@@ -3,4 +3,5 @@ use Rattle.eve_views.proofs.PartLaws.{length-votes}
 use Rattle.eve_views.proofs.votes.Votes.len.Goals as goal
 
 pub returns : goal.returns
-returns c = sym (length-votes c.self.inside.trace.now.frames c.self.inside.from c.self.inside.to c.self.invariant) ∙ ap length c.self.view_is
+returns c = sym (length-votes c.self.inside.trace.now.frames c.self.inside.from c.self.inside.to c.self.invariant)
+    ∙ ap length c.self.view_is
