@@ -1,4 +1,5 @@
 pub mod Money
 pub mod Rows
 pub mod Names
+pub mod Name
 pub mod View

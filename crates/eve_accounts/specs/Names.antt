@@ -1,5 +1,6 @@
 -- Customers by name, in the order in which they came.
-use Rattle.std.specs.Prelude.{ℕ, ◌+◌, ◌<◌, ◌≤◌, ◌≢◌, Bool, ◌&&◌, IsTrue, nat_le, if◌then◌else◌, List, [], ◌∷◌, length, All, AllPairs, Contains, Option, Some, None}
+use Rattle.std.specs.Prelude.{ℕ, ◌+◌, ◌-◌, ◌<◌, ◌≤◌, ◌≢◌, Bool, ◌&&◌, IsTrue, nat_le, if◌then◌else◌, List, [], ◌∷◌}
+use Rattle.std.specs.Prelude.{◌++◌, length, replicate, All, AllPairs, Contains, Option, Some, None}
 use Rattle.std.specs.List.{list_all}
 use Rattle.std.specs.declared.cmp.Ordering.{Ordering}
 use Rattle.std.specs.Ordering.{nat_cmp, is_eq}
@@ -12,6 +13,10 @@ is_printable byte = nat_le 33 byte && nat_le byte 126
 -- 1 to 24 printable bytes
 abbrev pub is_name : List ℕ → Bool
 is_name name = nat_le 1 (length name) && (nat_le (length name) 24 && list_all is_printable name)
+
+-- the bytes of a name, and zeros behind them up to the 24 that a name may have
+abbrev pub padded : List ℕ → List ℕ
+padded name = name ++ replicate (24 - length name) 0
 
 -- the order of names, byte by byte
 abbrev pub name_cmp : List ℕ → List ℕ → Ordering

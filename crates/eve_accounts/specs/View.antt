@@ -5,4 +5,4 @@ use Rattle.eve_accounts.specs.Names.{NameList}
 
 -- the names that the set holds, in its order, and the limit
 abbrev pub name_list_of : Inside → NameList
-name_list_of names = record { items = map (λ name. name.now) names.set.keys; limit = names.limit }
+name_list_of names = record { items = map (λ key. key.bytes.now) names.set.keys; limit = names.limit }

@@ -1,6 +1,7 @@
 //! The balances of all customers.
 
-ghost use Rattle.std.specs.Prelude.{◌≡◌, ◌<◌, ◌↔◌, pos, length, replicate, slice_get, slice_set, All, Some, IsTrue, IfOk};
+ghost use Rattle.std.specs.Prelude.{◌≡◌, ◌<◌, ◌↔◌, pos, length, replicate, slice_get, slice_set, All, Some, IsTrue};
+ghost use Rattle.std.specs.Prelude.{IfOk};
 ghost use Rattle.eve_accounts.specs.Money.{is_balance};
 
 use crate::{Cents, Row};

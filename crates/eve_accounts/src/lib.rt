@@ -4,6 +4,8 @@
 mod balances;
 mod keyed_hash;
 mod money;
+mod name;
+mod name_key;
 mod names;
 mod row;
 mod set_row;
@@ -11,6 +13,7 @@ mod set_row;
 pub use balances::Balances;
 pub use keyed_hash::KeyedHash;
 pub use money::{Amount, Cents};
+pub use name::Name;
 pub use names::{NameFault, Names, is_name};
 pub use row::Row;
 pub use set_row::SetRow;

@@ -1,10 +1,12 @@
 //! Customers by name.
 
-ghost use Rattle.std.specs.Prelude.{◌≡◌, ◌≤◌, ◌<◌, ◌↔◌, ◌++◌, ◌∷◌, [], ℕ, length, slice_get, Contains, IsTrue, IfSome, IfNone, IfOk, OnOk, OnErr, Err, Some, false};
+ghost use Rattle.std.specs.Prelude.{◌≡◌, ◌≤◌, ◌<◌, ◌↔◌, ◌++◌, ◌∷◌, [], ℕ, length, slice_get, Contains, IsTrue, IfSome};
+ghost use Rattle.std.specs.Prelude.{IfNone, IfOk, OnOk, OnErr, Err, Some, false};
 ghost use Rattle.std.specs.List.{list_all};
 ghost use Rattle.eve_accounts.specs.Names.{NameList, IsNameList, CanTake, is_printable, is_name, customer_of};
 
 use crate::keyed_hash::KeyedHash;
+use crate::name_key::NameKey;
 use indexmap::IndexSet;
 use std::alloc::Global;
 use std::hash::RandomState;
@@ -46,7 +48,7 @@ pub enum NameFault {
 /// docs/MODEL.md, "Names". The names' bytes are borrowed. Contracts see the list with its limit.
 #[derive(Drop)]
 pub struct Names<'a> {
-    set: IndexSet<&'a [u8], KeyedHash>,
+    set: IndexSet<NameKey<'a>, KeyedHash>,
     limit: u32,
 }
 
@@ -76,18 +78,22 @@ impl<'a> Names<'a> {
 
     /// Adds a name, and returns its number.
     ///
-    /// Refused, in the order of the tests: what is no name, a name that is there already, a name past the limit, and where memory
-    /// runs out. A refused name changes nothing.
+    /// Refused, in the order of the tests: what is no name, a name that is there already, a name past the limit, and
+    /// where memory runs out. A refused name changes nothing.
     pub fn add(&mut self, name: &'a [u8]) -> Result<u32, NameFault>
         ensures added { OnOk result (self.new ≡ record self.old { items = self.old.items ++ name.now ∷ [] }) }
         ensures number { IfOk result (λ n. n ≡ length self.old.items) }
         ensures small { IfOk result (λ n. n < 65536) }
         ensures taken { OnOk result (CanTake self.old name.now) }
 
-        // Each fault comes exactly where it is due, but for the memory, which may run out only where no other fault is due.
+        // Each fault comes exactly where it is due, but for the memory, which may run out only where no other fault is
+        // due.
         ensures bad_name { (result ≡ Err NameFault.BadName) ↔ (is_name name.now ≡ false) }
-        ensures same_name { (result ≡ Err NameFault.SameName) ↔ (IsTrue (is_name name.now) × Contains self.old.items name.now) }
-        ensures full { (result ≡ Err NameFault.Full) ↔ (IsTrue (is_name name.now) × (¬ Contains self.old.items name.now) × (length self.old.items ≡ self.old.limit)) }
+        ensures same_name { (result ≡ Err NameFault.SameName)
+            ↔ (IsTrue (is_name name.now) × Contains self.old.items name.now) }
+        ensures full { (result ≡ Err NameFault.Full)
+            ↔ (IsTrue (is_name name.now) × (¬ Contains self.old.items name.now)
+            × (length self.old.items ≡ self.old.limit)) }
         ensures memory { result ≡ Err NameFault.Memory → CanTake self.old name.now }
         ensures refused { OnErr result (self.new ≡ self.old) }
     {
@@ -96,12 +102,12 @@ impl<'a> Names<'a> {
         }
         let number = self.set.len();
         if number == self.limit as usize {
-            if self.set.contains(name) {
+            if self.set.contains(&NameKey { bytes: name }) {
                 return Err(NameFault::SameName);
             }
             return Err(NameFault::Full);
         }
-        let Ok(is_new) = self.set.insert(name) else {
+        let Ok(is_new) = self.set.insert(NameKey { bytes: name }) else {
             return Err(NameFault::Memory);
         };
         if !is_new {
@@ -118,7 +124,9 @@ impl<'a> Names<'a> {
         ensures within { IfSome result (λ n. n < length self.now.items) }
         ensures small { IfSome result (λ n. n < 65536) }
     {
-        self.set.get_index_of(name).map(|place| place as u32)
+        self.set
+            .get_index_of(&NameKey { bytes: name })
+            .map(|place| place as u32)
     }
 
     /// How many names there are.

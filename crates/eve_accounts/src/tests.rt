@@ -37,11 +37,15 @@ fn bad_names(rt: HostRuntime) -> Result<(), Fail> {
         b"\xFF",
     ] {
         assert!(rt; !is_name(name));
+        assert!(rt; Name::new(name).is_none());
         assert_eq!(rt; names.add(name), Err(NameFault::BadName));
         assert_eq!(rt; names.number(name), None);
         assert_eq!(rt; names.len(), 2);
     }
     assert!(rt; is_name(b"abcdefghijklmnopqrstuvwx"));
+    let longest = Name::new(b"abcdefghijklmnopqrstuvwx").ok_or("a name")?;
+    assert_eq!(rt; longest.as_slice(), b"abcdefghijklmnopqrstuvwx".as_slice());
+    assert_eq!(rt; Name::of(b"~").as_slice(), b"~".as_slice());
     assert_eq!(rt; names.add(b"abcdefghijklmnopqrstuvwx"), Ok(2));
     assert_eq!(rt; names.add(b""), Err(NameFault::BadName));
     assert_eq!(rt; names.add(b"~"), Err(NameFault::SameName));

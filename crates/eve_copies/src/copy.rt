@@ -3,6 +3,7 @@
 ghost use Rattle.std.specs.Prelude.{◌<◌, length};
 ghost use Rattle.eve_views.specs.Fronts.{whole};
 
+use eve_accounts::Name;
 use eve_frames::{AccessView, AttemptView, BatchView, CommitView, RollbackView};
 use eve_grammar::Choice;
 use eve_smallbank::{Request, UpToThree};
@@ -13,22 +14,22 @@ use eve_write::{
 };
 use std::alloc::{AllocError, Global};
 
-fn transaction_of(alloc: Global, request: Request<'_>) -> Result<TransactionData, AllocError> {
+// A trace that was read has right names alone.
+fn name_of(bytes: &[u8]) -> Result<Name, AllocError> {
+    Name::new(bytes).ok_or(AllocError)
+}
+
+fn transaction_of(request: Request<'_>) -> Result<TransactionData, AllocError> {
     Ok(match request {
-        Request::Balance(name) => TransactionData::Balance(Vec::from_slice(alloc, name)?),
+        Request::Balance(name) => TransactionData::Balance(name_of(name)?),
         Request::DepositChecking(name, amount) => {
-            TransactionData::DepositChecking(Vec::from_slice(alloc, name)?, amount)
+            TransactionData::DepositChecking(name_of(name)?, amount)
         }
         Request::TransactSaving(name, amount) => {
-            TransactionData::TransactSaving(Vec::from_slice(alloc, name)?, amount)
+            TransactionData::TransactSaving(name_of(name)?, amount)
         }
-        Request::Amalgamate(from, to) => {
-            let from = Vec::from_slice(alloc, from)?;
-            TransactionData::Amalgamate(from, Vec::from_slice(alloc, to)?)
-        }
-        Request::WriteCheck(name, amount) => {
-            TransactionData::WriteCheck(Vec::from_slice(alloc, name)?, amount)
-        }
+        Request::Amalgamate(from, to) => TransactionData::Amalgamate(name_of(from)?, name_of(to)?),
+        Request::WriteCheck(name, amount) => TransactionData::WriteCheck(name_of(name)?, amount),
     })
 }
 
@@ -39,7 +40,7 @@ fn batch_of(alloc: Global, batch: BatchView<'_>) -> Result<BatchData, AllocError
     }
     let mut requests = Vec::new(alloc);
     for asked in batch.requests() {
-        let transaction = transaction_of(alloc, asked.request)?;
+        let transaction = transaction_of(asked.request)?;
         requests.push(RequestData {
             client: asked.client,
             number: asked.number,
@@ -166,7 +167,7 @@ fn customers_of(alloc: Global, trace: &Trace<'_>) -> Result<Vec<CustomerData>, A
     for place in 0..trace.customer_count() {
         let customer = trace.customer(place);
         customers.push(CustomerData {
-            name: Vec::from_slice(alloc, customer.name())?,
+            name: name_of(customer.name())?,
             saving: customer.saving(),
             checking: customer.checking(),
         })?;

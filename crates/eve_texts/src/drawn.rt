@@ -1,7 +1,7 @@
 //! Batches that are drawn, cut and compared with the definition.
 
 use crate::model::{Drawn, DrawnKind, Member, cut_of};
-use eve_accounts::{Amount, Names};
+use eve_accounts::{Amount, Name, Names};
 use eve_workload::{Mixer, mix};
 use eve_write::{BatchData, RequestData, TransactionData};
 use std::alloc::{AllocError, Global};
@@ -70,11 +70,11 @@ pub fn drawn<W: Write>(rt: &HostRuntime, out: &mut W, count: &str) -> io::Result
 }
 
 // The names of 64 customers, and of one who is none.
-fn names_of(alloc: Global) -> Result<Vec<Vec<u8>>, AllocError> {
+fn names_of(alloc: Global) -> Result<Vec<Name>, AllocError> {
     let mut names = Vec::new(alloc);
     for customer in 0..65u32 {
         let name = format!(in alloc; "c{customer}")?;
-        names.push(name.as_bytes().to_vec(alloc)?)?;
+        names.push(Name::new(name.as_bytes()).ok_or(AllocError)?)?;
     }
     Ok(names)
 }
@@ -83,7 +83,7 @@ fn names_of(alloc: Global) -> Result<Vec<Vec<u8>>, AllocError> {
 fn is_as_defined(
     rt: &HostRuntime,
     draws: &mut Draws,
-    listed: &[Vec<u8>],
+    listed: &[Name],
     customers: u32,
     count: u32,
 ) -> io::Result<bool> {
@@ -102,7 +102,7 @@ fn is_as_defined(
         requests.push(RequestData {
             client: 7,
             number: u64::from(number),
-            transaction: transaction_of(alloc, &request, listed)?,
+            transaction: transaction_of(&request, listed)?,
         })?;
     }
     if requests.is_empty() || requests.len() > 256 {
@@ -113,12 +113,8 @@ fn is_as_defined(
     Ok(are_same(&batch, groups.as_slice()))
 }
 
-fn transaction_of(
-    alloc: Global,
-    request: &Drawn,
-    listed: &[Vec<u8>],
-) -> Result<TransactionData, AllocError> {
-    let name = name_at(alloc, listed, request.customer)?;
+fn transaction_of(request: &Drawn, listed: &[Name]) -> Result<TransactionData, AllocError> {
+    let name = name_at(listed, request.customer)?;
     let Some(amount) = Amount::new(request.amount) else {
         return Ok(TransactionData::Balance(name));
     };
@@ -127,17 +123,14 @@ fn transaction_of(
         DrawnKind::DepositChecking => TransactionData::DepositChecking(name, amount),
         DrawnKind::TransactSaving => TransactionData::TransactSaving(name, amount),
         DrawnKind::Amalgamate => {
-            TransactionData::Amalgamate(name, name_at(alloc, listed, request.other)?)
+            TransactionData::Amalgamate(name, name_at(listed, request.other)?)
         }
         DrawnKind::WriteCheck => TransactionData::WriteCheck(name, amount),
     })
 }
 
-fn name_at(alloc: Global, listed: &[Vec<u8>], place: u32) -> Result<Vec<u8>, AllocError> {
-    match listed.get(place as usize) {
-        Some(name) => name.as_slice().to_vec(alloc),
-        None => Ok(Vec::new(alloc)),
-    }
+fn name_at(listed: &[Name], place: u32) -> Result<Name, AllocError> {
+    listed.get(place as usize).copied().ok_or(AllocError)
 }
 
 // Whether the batch lists the requests of these groups; a request's number is its index.

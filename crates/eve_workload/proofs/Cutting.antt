@@ -1,5 +1,6 @@
 -- One more request is put into a group.
-use Rattle.std.proofs.Common.{◌≡◌, ℕ, ◌<◌, ◌≤◌, true, false, List, [], ◌∷◌, ◌++◌, Vec, Global, length, sym, ap, subst, ◌∙◌, arith}
+use Rattle.std.proofs.Common.{◌≡◌, ℕ, ◌<◌, ◌≤◌, true, false, List, [], ◌∷◌, ◌++◌, Vec, Global, length, sym, ap, subst}
+use Rattle.std.proofs.Common.{◌∙◌, arith}
 use Rattle.std.specs.Prelude.{◌==◌, ◌&&◌, ◌||◌, slice_index_or}
 use Rattle.std.specs.List.{list_any}
 use Rattle.std.proofs.lemmas.List.{length-map, length_push}
@@ -11,22 +12,26 @@ use Rattle.eve_workload.specs.declared.seats.Seat.{Seat}
 use Rattle.eve_workload.specs.declared.cut.Cut.{Cut}
 use Rattle.eve_workload.specs.Mixing.{collide, share, placed}
 use Rattle.eve_workload.specs.GroupSets.{has}
-use Rattle.eve_workload.specs.Marks.{is_barred}
+use Rattle.eve_workload.specs.Marks.{is_barred, IsEven}
 use Rattle.eve_workload.specs.Seats.{group_at, IsSeating}
 use Rattle.eve_workload.specs.Groups.{share_at}
 use Rattle.eve_workload.specs.Cut.{one_more, IsCut}
-use Rattle.eve_workload.proofs.Placing.{put, put_count, placed_first, first_within, any_shared, bars_more, size_small, seated_more}
+use Rattle.eve_workload.proofs.Placing.{put, put_count, placed_first, first_within, any_shared, bars_more, size_small}
+use Rattle.eve_workload.proofs.Placing.{seated_more}
 
-module _ (cut : Cut) (touched : Rows) (rows : ℕ → Rows) (groups : List (List ℕ)) (next : rows (length cut.seats.items) ≡ touched) (is : IsCut cut rows groups) where
+module _ (cut : Cut) (touched : Rows) (rows : ℕ → Rows) (groups : List (List ℕ))
+    (next : rows (length cut.seats.items) ≡ touched) (is : IsCut cut rows groups) where
   -- the next request
   abbrev item : ℕ
   item = length cut.seats.items
 
-  module _ (barred : GroupSet) (barred_is : (g : ℕ) → has barred g ≡ list_any (λ row. is_barred cut.marks row g) touched) where
+  module _ (barred : GroupSet)
+      (barred_is : (g : ℕ) → has barred g ≡ list_any (λ row. is_barred cut.marks row g) touched) where
     -- the request is barred from the groups that hold one in conflict with it
     in_conflict : (g : ℕ) → list_any (share_at rows item) (group_at groups g) ≡ has barred g
     in_conflict g =
-        sym (barred_is g ∙ (λ i. list_any (λ row. is.bars row g i) touched) ∙ any_shared touched rows (group_at groups g)
+        sym (barred_is g ∙ (λ i. list_any (λ row. is.bars row g i) touched)
+        ∙ any_shared touched rows (group_at groups g)
         ∙ (λ i. list_any (λ j. share (sym next i) (rows j)) (group_at groups g)))
 
     module _ (g : ℕ) (absent : has barred g ≡ false) (before : (k : ℕ) → k < g → has barred k ≡ true) where
@@ -35,7 +40,8 @@ module _ (cut : Cut) (touched : Rows) (rows : ℕ → Rows) (groups : List (List
 
       pub within_sizes : g ≤ length cut.sizes.items
       within_sizes =
-          let same : length cut.sizes.items ≡ length groups = ap length is.seating.sizes_are ∙ length-map groups length in
+          let same : length cut.sizes.items ≡ length groups = ap length is.seating.sizes_are
+          ∙ length-map groups length in
           omega (arith, within, same)
 
       pub below_count : g ≤ length cut.seats.items
@@ -45,15 +51,23 @@ module _ (cut : Cut) (touched : Rows) (rows : ℕ → Rows) (groups : List (List
       small = size_small cut.sizes.items cut.seats.items groups is.seating g
 
       is_first : placed (share_at rows) groups item ≡ put groups g item
-      is_first = placed_first (share_at rows) groups item g (λ k below. in_conflict k ∙ before k below) (in_conflict g ∙ absent)
+      is_first = placed_first (share_at rows) groups item g (λ k below. in_conflict k ∙ before k below)
+          (in_conflict g ∙ absent)
 
-      pub cut_more : (marks : RowMarks) (sizes : Vec ℕ Global) (seats : Vec Seat Global) → ((row : ℕ × Kind) (other : ℕ) → is_barred marks row other ≡ (is_barred cut.marks row other || (list_any (collide row) touched && (other == g)))) → sizes.items ≡ one_more cut.sizes.items g → seats.items ≡ cut.seats.items ++ record { group = g; place = slice_index_or cut.sizes.items g 0 } ∷ [] → IsCut record { marks = marks; sizes = sizes; seats = seats } rows (placed (share_at rows) groups item)
-      cut_more marks sizes seats marked sizes_are seats_are =
+      pub cut_more : (marks : RowMarks) (sizes : Vec ℕ Global) (seats : Vec Seat Global) → IsEven marks
+          → ((row : ℕ × Kind) (other : ℕ) → is_barred marks row other
+          ≡ (is_barred cut.marks row other || (list_any (collide row) touched && (other == g)))) → sizes.items
+          ≡ one_more cut.sizes.items g → seats.items
+          ≡ cut.seats.items ++ record { group = g; place = slice_index_or cut.sizes.items g 0 } ∷ []
+          → IsCut record { marks = marks; sizes = sizes; seats = seats } rows (placed (share_at rows) groups item)
+      cut_more marks sizes seats even marked sizes_are seats_are =
           let seat : Seat = record { group = g; place = slice_index_or cut.sizes.items g 0 } in
           let seated : IsSeating (one_more cut.sizes.items g) (cut.seats.items ++ seat ∷ []) (put groups g item) =
           seated_more cut.sizes.items cut.seats.items groups is.seating (share_at rows) g within is_first in
           subst (λ gs. IsCut record { marks = marks; sizes = sizes; seats = seats } rows gs) (sym is_first) record {
-            bars = λ row k. marked row k ∙ (λ i. is.bars row k i || (list_any (collide row) (sym next i) && (k == g))) ∙ bars_more rows groups g item within row k;
+            even = even;
+            bars = λ row k. marked row k ∙ (λ i. is.bars row k i || (list_any (collide row) (sym next i) && (k == g)))
+                ∙ bars_more rows groups g item within row k;
             seating =
                 subst (λ ss. IsSeating ss seats.items (put groups g item)) (sym sizes_are)
                 (subst (λ ss. IsSeating (one_more cut.sizes.items g) ss (put groups g item)) (sym seats_are) seated);

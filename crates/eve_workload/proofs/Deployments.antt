@@ -1,5 +1,6 @@
 -- The numbers of a deployment, and the words of a line 1, which spell one deployment.
-use Rattle.std.proofs.Common.{◌≡◌, ℕ, ◌^◌, ◌<◌, ◌≤◌, ◌*◌, Bool, true, false, IsTrue, ◌&&◌, nat_le, nat_lt, List, [], ap, leb-true, get_or, arith}
+use Rattle.std.proofs.Common.{◌≡◌, ℕ, ◌^◌, ◌<◌, ◌≤◌, ◌*◌, Bool, true, false, IsTrue, ◌&&◌, nat_le, nat_lt, List, [], ap}
+use Rattle.std.proofs.Common.{leb-true, get_or, arith}
 use Rattle.std.specs.Fmt.{decimal}
 use Rattle.std.proofs.lemmas.Bool.{and_parts}
 use Rattle.std.proofs.lemmas.Fmt.{decimal_injective}
@@ -22,7 +23,8 @@ other_rest false b c both more = both
 
 module _ (d : Deployment) (customers batches : ℕ) (right : IsTrue (is_head (head_with d customers batches))) where
   -- a header is right with any counts in their ranges
-  pub other_counts : (others other_batches : ℕ) → IsTrue (are_counts others other_batches) → IsTrue (is_head (head_with d others other_batches))
+  pub other_counts : (others other_batches : ℕ) → IsTrue (are_counts others other_batches)
+      → IsTrue (is_head (head_with d others other_batches))
   other_counts others other_batches are =
       other_rest (is_between 1 8 d.replicas) _ _ right (λ r.
       other_rest (is_between 1 16 d.verifiers) _ _ r (λ r.
@@ -95,7 +97,8 @@ same_number m n low_m low_n same = decimal_injective m n (omega arith) (omega ar
 word_at : ℕ → List (List ℕ) → List ℕ
 word_at n words = get_or words n []
 
-pub same_deployment : (d e : Deployment) → IsSmall d → IsSmall e → line_words (HeadLine d) ≡ line_words (HeadLine e) → d ≡ e
+pub same_deployment : (d e : Deployment) → IsSmall d → IsSmall e → line_words (HeadLine d) ≡ line_words (HeadLine e)
+    → d ≡ e
 unfolding word_at
 same_deployment d e low_d low_e same =
     let replicas = same_number d.replicas e.replicas low_d.replicas low_e.replicas (ap (word_at 1) same) in
@@ -103,4 +106,10 @@ same_deployment d e low_d low_e same =
     let quorum = same_number d.quorum e.quorum low_d.quorum low_e.quorum (ap (word_at 3) same) in
     let window = same_number d.window e.window low_d.window low_e.window (ap (word_at 4) same) in
     let workers = same_number d.workers e.workers low_d.workers low_e.workers (ap (word_at 5) same) in
-    (λ k. record { replicas = replicas k; verifiers = verifiers k; quorum = quorum k; window = window k; workers = workers k })
+    (λ k. record {
+      replicas = replicas k;
+      verifiers = verifiers k;
+      quorum = quorum k;
+      window = window k;
+      workers = workers k;
+    })

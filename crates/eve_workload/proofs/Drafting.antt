@@ -1,5 +1,6 @@
 -- What a draft keeps, line by line.
-use Rattle.std.proofs.Common.{◌≡◌, ℕ, zero, suc, ◌+◌, ◌<◌, ◌≤◌, Bool, true, false, not, IsTrue, List, [], ◌∷◌, ◌++◌, map, length, Contains, Vec, inl, inr, refl, sym, ap, ◌∙◌, arith, length-append}
+use Rattle.std.proofs.Common.{◌≡◌, ℕ, zero, suc, ◌+◌, ◌<◌, ◌≤◌, Bool, true, false, not, IsTrue, List, [], ◌∷◌, ◌++◌}
+use Rattle.std.proofs.Common.{map, length, Contains, Vec, inl, inr, refl, sym, ap, ◌∙◌, arith, length-append}
 use Rattle.std.specs.Prelude.{◌||◌, if◌then◌else◌}
 use Rattle.std.specs.List.{list_any}
 use Rattle.std.specs.Borrow.{Bor}
@@ -23,7 +24,8 @@ use Rattle.eve_workload.specs.declared.draft.Pair.{Pair}
 use Rattle.eve_workload.specs.declared.draft.Draft.{Draft}
 use Rattle.eve_workload.specs.Workload.{names_of, pair_of}
 use Rattle.eve_workload.specs.Lines.{Line, HeadLine, CustomerLine, BatchLine, RequestLine}
-use Rattle.eve_workload.specs.Steps.{customers_in, requests_in, batches_in, last_requests, may_follow, is_deployment, IsRightBehind, AreRight}
+use Rattle.eve_workload.specs.Steps.{customers_in, requests_in, batches_in, last_requests, may_follow, is_deployment}
+use Rattle.eve_workload.specs.Steps.{IsRightBehind, AreRight}
 use Rattle.eve_workload.specs.Drafts.{starts_in, next_of, has_name, has_pair, same_pair, key_of, Keeps}
 
 -- ---- names and pairs that are known
@@ -32,7 +34,8 @@ same_name-true : (a b : List ℕ) → same_name a b ≡ true → a ≡ b
 same_name-true a b h = same_text a b (sym h ∙ is_eq-slice_cmp a b)
 
 same_name-itself : (a b : List ℕ) → a ≡ b → same_name a b ≡ true
-same_name-itself a b e = elim (cases_Bool (same_name a b)) [ inl h ↦ h | inr h ↦ absurd (other_text a b (sym h ∙ is_eq-slice_cmp a b) e) ]
+same_name-itself a b e =
+    elim (cases_Bool (same_name a b)) [ inl h ↦ h | inr h ↦ absurd (other_text a b (sym h ∙ is_eq-slice_cmp a b) e) ]
 
 either_left : (a b : Bool) → a ≡ true → (a || b) ≡ true
 either_left a b h = ap (λ x. x || b) h
@@ -43,7 +46,8 @@ either_right false b h = h
 
 known_name : (names : List (List ℕ)) (name : List ℕ) → Contains names name → list_any (same_name name) names ≡ true
 known_name [] name (k, there, is) = absurd (omega arith)
-known_name (first ∷ names) name (zero, there, is) = either_left (same_name name first) (list_any (same_name name) names) (same_name-itself name first (sym is))
+known_name (first ∷ names) name (zero, there, is) = either_left (same_name name first) (list_any (same_name name) names)
+    (same_name-itself name first (sym is))
 known_name (first ∷ names) name (suc k, there, is) =
     either_right (same_name name first) (list_any (same_name name) names) (known_name names name (k, omega arith, is))
 
@@ -61,15 +65,19 @@ same_pair-true p q h = (grind (arith, nat_tests), grind (arith, nat_tests))
 same_pair-itself : (p q : Pair) → p.client ≡ q.client → p.number ≡ q.number → same_pair p q ≡ true
 same_pair-itself p q e f = grind (arith, nat_tests)
 
-known_pair : (requests : List Asked) (a : Asked) → Contains (map pair_of requests) (pair_of a) → list_any (same_pair (key_of a)) (map key_of requests) ≡ true
+known_pair : (requests : List Asked) (a : Asked) → Contains (map pair_of requests) (pair_of a)
+    → list_any (same_pair (key_of a)) (map key_of requests) ≡ true
 known_pair [] a (k, there, is) = absurd (omega arith)
 known_pair (b ∷ requests) a (zero, there, is) =
-    let same = same_pair-itself (key_of a) (key_of b) (sym (ap (λ (p : ℕ × ℕ). p.0) is)) (sym (ap (λ (p : ℕ × ℕ). p.1) is)) in
+    let same = same_pair-itself (key_of a) (key_of b) (sym (ap (λ (p : ℕ × ℕ). p.0) is))
+    (sym (ap (λ (p : ℕ × ℕ). p.1) is)) in
     either_left (same_pair (key_of a) (key_of b)) (list_any (same_pair (key_of a)) (map key_of requests)) same
 known_pair (b ∷ requests) a (suc k, there, is) =
-    either_right (same_pair (key_of a) (key_of b)) (list_any (same_pair (key_of a)) (map key_of requests)) (known_pair requests a (k, omega arith, is))
+    either_right (same_pair (key_of a) (key_of b)) (list_any (same_pair (key_of a)) (map key_of requests))
+    (known_pair requests a (k, omega arith, is))
 
-pair_known : (requests : List Asked) (a : Asked) → list_any (same_pair (key_of a)) (map key_of requests) ≡ true → Contains (map pair_of requests) (pair_of a)
+pair_known : (requests : List Asked) (a : Asked) → list_any (same_pair (key_of a)) (map key_of requests) ≡ true
+    → Contains (map pair_of requests) (pair_of a)
 pair_known [] a any = cc
 pair_known (b ∷ requests) a any =
     elim (or_cases (same_pair (key_of a) (key_of b)) (list_any (same_pair (key_of a)) (map key_of requests)) any) [
@@ -85,12 +93,15 @@ pub batches_are : (before : List Line) → batches_in before ≡ length (starts_
 batches_are [] = refl
 batches_are (HeadLine d ∷ before) = batches_are before
 batches_are (CustomerLine c ∷ before) = batches_are before
-batches_are (BatchLine ∷ before) = omega (arith, batches_are before, length-append (starts_in before) (length (requests_in before) ∷ []))
+batches_are (BatchLine ∷ before) =
+    omega (arith, batches_are before, length-append (starts_in before) (length (requests_in before) ∷ []))
 batches_are (RequestLine a ∷ before) = batches_are before
 
 -- ---- lines taken
 
-pub head_taken : (d : Draft) (deployment : Deployment) (before : List Line) → IsTrue (is_deployment deployment) → IsTrue (may_follow before (HeadLine deployment)) → Keeps d before → Keeps (record d { last = last.Head; deployment = deployment }) (HeadLine deployment ∷ before)
+pub head_taken : (d : Draft) (deployment : Deployment) (before : List Line) → IsTrue (is_deployment deployment)
+    → IsTrue (may_follow before (HeadLine deployment)) → Keeps d before
+    → Keeps (record d { last = last.Head; deployment = deployment }) (HeadLine deployment ∷ before)
 head_taken d deployment [] ranges follows keeps = record {
   right = (record { follows = follows; ranges = ranges; room = refl; new = tt }, keeps.right);
   last = refl;
@@ -107,12 +118,19 @@ head_taken d deployment (CustomerLine c ∷ before) ranges follows keeps = cc
 head_taken d deployment (BatchLine ∷ before) ranges follows keeps = cc
 head_taken d deployment (RequestLine a ∷ before) ranges follows keeps = cc
 
-pub batch_taken : (d : Draft) (starts : Vec ℕ Global) (before : List Line) → starts.items ≡ d.starts.items ++ length d.requests.items ∷ [] → length d.starts.items < 65535 → IsTrue (may_follow before BatchLine) → Keeps d before → Keeps (record d { last = last.Batch; starts = starts; count = 0 }) (BatchLine ∷ before)
+pub batch_taken : (d : Draft) (starts : Vec ℕ Global) (before : List Line) → starts.items
+    ≡ d.starts.items ++ length d.requests.items ∷ [] → length d.starts.items < 65535
+    → IsTrue (may_follow before BatchLine) → Keeps d before
+    → Keeps (record d { last = last.Batch; starts = starts; count = 0 }) (BatchLine ∷ before)
 batch_taken d starts before pushed room follows keeps =
-    let count : length d.requests.items ≡ length (requests_in before) = sym (length-map d.requests.items asked) ∙ ap length keeps.requests in
+    let count : length d.requests.items ≡ length (requests_in before) = sym (length-map d.requests.items asked)
+    ∙ ap length keeps.requests in
     let few : batches_in before < 65535 = omega (arith, batches_are before, ap length keeps.starts) in
     record {
-      right = (record { follows = follows; ranges = refl; room = lt-ltb (batches_in before) 65535 few; new = tt }, keeps.right);
+      right = (
+        record { follows = follows; ranges = refl; room = lt-ltb (batches_in before) 65535 few; new = tt },
+        keeps.right,
+      );
       last = refl;
       deployment = keeps.deployment;
       customers = keeps.customers;
@@ -123,7 +141,8 @@ batch_taken d starts before pushed room follows keeps =
       pairs = keeps.pairs;
     }
 
-pub batch_refused : (d : Draft) (before : List Line) → 65535 ≤ length d.starts.items → Keeps d before → ¬ IsRightBehind before BatchLine
+pub batch_refused : (d : Draft) (before : List Line) → 65535 ≤ length d.starts.items → Keeps d before
+    → ¬ IsRightBehind before BatchLine
 batch_refused d before full keeps right =
     omega (arith, ltb-true (batches_in before) 65535 right.room, batches_are before, ap length keeps.starts)
 
@@ -145,7 +164,8 @@ same_pair_back p q =
       | inl same ↦ let parts = same_pair-true p q same in same ∙ sym (same_pair-itself q p (sym parts.0) (sym parts.1))
       | inr other ↦
           elim (cases_Bool (same_pair q p)) [
-            | inl back ↦ let parts = same_pair-true q p back in absurd (false≢true (sym other ∙ same_pair-itself p q (sym parts.0) (sym parts.1)))
+            | inl back ↦ let parts = same_pair-true q p back in
+                absurd (false≢true (sym other ∙ same_pair-itself p q (sym parts.0) (sym parts.1)))
             | inr also ↦ other ∙ sym also
           ]
     ]
@@ -156,57 +176,88 @@ last_or true false = refl
 last_or false true = refl
 last_or false false = refl
 
-more_names : (known : List (List ℕ)) (name other : List ℕ) (new old : Bool) → new ≡ (if same_name name other then true else old) → old ≡ list_any (same_name other) known → new ≡ list_any (same_name other) (known ++ name ∷ [])
+more_names : (known : List (List ℕ)) (name other : List ℕ) (new old : Bool)
+    → new ≡ (if same_name name other then true else old) → old ≡ list_any (same_name other) known
+    → new ≡ list_any (same_name other) (known ++ name ∷ [])
 more_names known name other new old is was =
     is ∙ (λ k. if same_name_back name other k then true else was k)
-    ∙ last_or (same_name other name) (list_any (same_name other) known) ∙ sym (list_any-append (same_name other) known (name ∷ []))
+    ∙ last_or (same_name other name) (list_any (same_name other) known)
+    ∙ sym (list_any-append (same_name other) known (name ∷ []))
 
-more_pairs : (known : List Pair) (pair other : Pair) (new old : Bool) → new ≡ (if same_pair pair other then true else old) → old ≡ list_any (same_pair other) known → new ≡ list_any (same_pair other) (known ++ pair ∷ [])
+more_pairs : (known : List Pair) (pair other : Pair) (new old : Bool)
+    → new ≡ (if same_pair pair other then true else old) → old ≡ list_any (same_pair other) known
+    → new ≡ list_any (same_pair other) (known ++ pair ∷ [])
 more_pairs known pair other new old is was =
     is ∙ (λ k. if same_pair_back pair other k then true else was k)
-    ∙ last_or (same_pair other pair) (list_any (same_pair other) known) ∙ sym (list_any-append (same_pair other) known (pair ∷ []))
+    ∙ last_or (same_pair other pair) (list_any (same_pair other) known)
+    ∙ sym (list_any-append (same_pair other) known (pair ∷ []))
 
-no_requests : (before : List Line) (c : Customer) → IsTrue (may_follow before (CustomerLine c)) → last_requests before ≡ 0
+no_requests : (before : List Line) (c : Customer) → IsTrue (may_follow before (CustomerLine c)) → last_requests before
+    ≡ 0
 no_requests [] c follows = cc
 no_requests (HeadLine d ∷ before) c follows = refl
 no_requests (CustomerLine e ∷ before) c follows = refl
 no_requests (BatchLine ∷ before) c follows = cc
 no_requests (RequestLine a ∷ before) c follows = cc
 
-pub customer_taken : (d : Draft) (customers : Vec CustomerData Global) (names : BTreeSet (Bor (List ℕ))) (added : CustomerData) (c : Customer) (before : List Line) → customers.items ≡ d.customers.items ++ added ∷ [] → customer added ≡ c → length d.customers.items < 4096 → IsTrue (is_customer c) → IsTrue (may_follow before (CustomerLine c)) → has_name d.names.keys c.name ≡ false → ((other : List ℕ) → has_name names.keys other ≡ (if same_name c.name other then true else has_name d.names.keys other)) → Keeps d before → Keeps (record d { last = last.Customer; customers = customers; names = names }) (CustomerLine c ∷ before)
+pub customer_taken : (d : Draft) (customers : Vec CustomerData Global) (names : BTreeSet (Bor (List ℕ)))
+    (added : CustomerData) (c : Customer) (before : List Line) → customers.items ≡ d.customers.items ++ added ∷ []
+    → customer added ≡ c → length d.customers.items < 4096 → IsTrue (is_customer c)
+    → IsTrue (may_follow before (CustomerLine c)) → has_name d.names.keys c.name ≡ false
+    → ((other : List ℕ) → has_name names.keys other
+    ≡ (if same_name c.name other then true else has_name d.names.keys other)) → Keeps d before
+    → Keeps (record d { last = last.Customer; customers = customers; names = names }) (CustomerLine c ∷ before)
 customer_taken d customers names added c before pushed same room ranges follows fresh kept keeps =
-    let count : length d.customers.items ≡ length (customers_in before) = sym (length-map d.customers.items customer) ∙ ap length keeps.customers in
+    let count : length d.customers.items ≡ length (customers_in before) = sym (length-map d.customers.items customer)
+    ∙ ap length keeps.customers in
     record {
       right = (
         record {
           follows = follows;
           ranges = ranges;
           room = lt-ltb (length (customers_in before)) 4096 (omega arith);
-          new = λ known. false≢true (sym fresh ∙ keeps.names c.name ∙ known_name (names_of (customers_in before)) c.name known);
+          new = λ known. false≢true
+              (sym fresh ∙ keeps.names c.name ∙ known_name (names_of (customers_in before)) c.name known);
         },
         keeps.right,
       );
       last = refl;
       deployment = keeps.deployment;
-      customers = ap (map customer) pushed ∙ map_push customer d.customers.items added ∙ (λ k. keeps.customers k ++ same k ∷ []);
+      customers = ap (map customer) pushed ∙ map_push customer d.customers.items added
+          ∙ (λ k. keeps.customers k ++ same k ∷ []);
       requests = keeps.requests;
       starts = keeps.starts;
       count = keeps.count ∙ no_requests before c follows;
-      names = λ other. more_names (names_of (customers_in before)) c.name other (has_name names.keys other) (has_name d.names.keys other) (kept other) (keeps.names other)
+      names = λ other. more_names (names_of (customers_in before)) c.name other (has_name names.keys other)
+          (has_name d.names.keys other) (kept other) (keeps.names other)
           ∙ ap (list_any (same_name other)) (sym (map_push (λ (e : Customer). e.name) (customers_in before) c));
       pairs = keeps.pairs;
     }
 
-pub customer_refused : (d : Draft) (c : Customer) (before : List Line) → 4096 ≤ length d.customers.items → Keeps d before → ¬ IsRightBehind before (CustomerLine c)
+pub customer_refused : (d : Draft) (c : Customer) (before : List Line) → 4096 ≤ length d.customers.items
+    → Keeps d before → ¬ IsRightBehind before (CustomerLine c)
 customer_refused d c before full keeps right =
-    omega (arith, ltb-true (length (customers_in before)) 4096 right.room, length-map d.customers.items customer, ap length keeps.customers)
+    omega (
+      arith,
+      ltb-true (length (customers_in before)) 4096 right.room,
+      length-map d.customers.items customer,
+      ap length keeps.customers,
+    )
 
-pub name_refused : (d : Draft) (c : Customer) (before : List Line) → has_name d.names.keys c.name ≡ true → Keeps d before → ¬ IsRightBehind before (CustomerLine c)
+pub name_refused : (d : Draft) (c : Customer) (before : List Line) → has_name d.names.keys c.name ≡ true
+    → Keeps d before → ¬ IsRightBehind before (CustomerLine c)
 name_refused d c before known keeps right =
     right.new (name_known (names_of (customers_in before)) c.name (sym (keeps.names c.name) ∙ known))
 
-pub request_taken : (d : Draft) (requests : Vec RequestData Global) (pairs : BTreeSet Pair) (added : RequestData) (count : ℕ) (a : Asked) (before : List Line) → requests.items ≡ d.requests.items ++ added ∷ [] → asked added ≡ a → count ≡ d.count + 1 → d.count < 256 → IsTrue (is_asked a) → IsTrue (may_follow before (RequestLine a)) → has_pair d.pairs.keys (key_of a) ≡ false → ((other : Pair) → has_pair pairs.keys other ≡ (if same_pair (key_of a) other then true else has_pair d.pairs.keys other)) → Keeps d before → Keeps (record d { last = last.Request; requests = requests; pairs = pairs; count = count }) (RequestLine a ∷ before)
-request_taken d requests pairs added count a before pushed same counted room ranges follows fresh kept keeps =
+pub request_taken : (d : Draft) (requests : Vec RequestData Global) (pairs : BTreeSet Pair) (count : ℕ) (a : Asked)
+    (before : List Line) → map asked requests.items ≡ map asked d.requests.items ++ a ∷ [] → count ≡ d.count + 1
+    → d.count < 256 → IsTrue (is_asked a) → IsTrue (may_follow before (RequestLine a))
+    → has_pair d.pairs.keys (key_of a) ≡ false
+    → ((other : Pair) → has_pair pairs.keys other
+    ≡ (if same_pair (key_of a) other then true else has_pair d.pairs.keys other)) → Keeps d before
+    → Keeps (record d { last = last.Request; requests = requests; pairs = pairs; count = count })
+    (RequestLine a ∷ before)
+request_taken d requests pairs count a before added counted room ranges follows fresh kept keeps =
     record {
       right = (
         record {
@@ -220,23 +271,27 @@ request_taken d requests pairs added count a before pushed same counted room ran
       last = refl;
       deployment = keeps.deployment;
       customers = keeps.customers;
-      requests = ap (map asked) pushed ∙ map_push asked d.requests.items added ∙ (λ k. keeps.requests k ++ same k ∷ []);
+      requests = added ∙ ap (λ rs. rs ++ a ∷ []) keeps.requests;
       starts = keeps.starts;
       count = counted ∙ ap (λ n. n + 1) keeps.count;
       names = keeps.names;
-      pairs = λ other. more_pairs (map key_of (requests_in before)) (key_of a) other (has_pair pairs.keys other) (has_pair d.pairs.keys other) (kept other) (keeps.pairs other)
+      pairs = λ other. more_pairs (map key_of (requests_in before)) (key_of a) other (has_pair pairs.keys other)
+          (has_pair d.pairs.keys other) (kept other) (keeps.pairs other)
           ∙ ap (list_any (same_pair other)) (sym (map_push key_of (requests_in before) a));
     }
 
-pub request_refused : (d : Draft) (a : Asked) (before : List Line) → 256 ≤ d.count → Keeps d before → ¬ IsRightBehind before (RequestLine a)
+pub request_refused : (d : Draft) (a : Asked) (before : List Line) → 256 ≤ d.count → Keeps d before
+    → ¬ IsRightBehind before (RequestLine a)
 request_refused d a before full keeps right = omega (arith, ltb-true (last_requests before) 256 right.room, keeps.count)
 
-pub pair_refused : (d : Draft) (a : Asked) (before : List Line) → has_pair d.pairs.keys (key_of a) ≡ true → Keeps d before → ¬ IsRightBehind before (RequestLine a)
+pub pair_refused : (d : Draft) (a : Asked) (before : List Line) → has_pair d.pairs.keys (key_of a) ≡ true
+    → Keeps d before → ¬ IsRightBehind before (RequestLine a)
 pair_refused d a before known keeps right =
     right.new (pair_known (requests_in before) a (sym (keeps.pairs (key_of a)) ∙ known))
 
 -- how many lines there are
-pub line_count : (before : List Line) → AreRight before → length before + 1 ≡ next_of before + (length (customers_in before) + length (starts_in before) + length (requests_in before))
+pub line_count : (before : List Line) → AreRight before → length before + 1
+    ≡ next_of before + (length (customers_in before) + length (starts_in before) + length (requests_in before))
 line_count [] right = refl
 line_count (HeadLine d ∷ []) right = refl
 line_count (HeadLine d ∷ (HeadLine e ∷ before)) right = let wrong = right.0.follows in cc
@@ -248,7 +303,12 @@ line_count (CustomerLine c ∷ (line ∷ before)) right =
     omega (arith, line_count (line ∷ before) right.1, length-append (customers_in (line ∷ before)) (c ∷ []))
 line_count (BatchLine ∷ []) right = let wrong = right.0.follows in cc
 line_count (BatchLine ∷ (line ∷ before)) right =
-    omega (arith, line_count (line ∷ before) right.1, length-append (starts_in (line ∷ before)) (length (requests_in (line ∷ before)) ∷ []))
+    omega (
+      arith,
+      line_count (line ∷ before) right.1,
+      length-append (starts_in (line ∷ before))
+          (length (requests_in (line ∷ before)) ∷ []),
+    )
 line_count (RequestLine a ∷ []) right = let wrong = right.0.follows in cc
 line_count (RequestLine a ∷ (line ∷ before)) right =
     omega (arith, line_count (line ∷ before) right.1, length-append (requests_in (line ∷ before)) (a ∷ []))

@@ -1,5 +1,6 @@
 -- Reads of lists by index.
-use Rattle.std.proofs.Common.{◌≡◌, ◌≢◌, ℕ, zero, suc, ◌+◌, ◌<◌, List, [], ◌∷◌, ◌++◌, length, Some, ◌⊎◌, inl, inr, refl, ap, arith}
+use Rattle.std.proofs.Common.{◌≡◌, ◌≢◌, ℕ, zero, suc, ◌+◌, ◌<◌, List, [], ◌∷◌, ◌++◌, length, Some, ◌⊎◌, inl, inr, refl}
+use Rattle.std.proofs.Common.{ap, arith}
 use Rattle.std.specs.Prelude.{slice_get, slice_set}
 
 module _ {A : Type 0} where
@@ -14,7 +15,8 @@ module _ {A : Type 0} where
   get_behind (x ∷ xs) ys (suc n) k is = get_behind xs ys n k (omega arith)
 
   -- an element stands in the front, or behind it
-  pub get_either : (xs ys : List A) (n : ℕ) (x : A) → slice_get (xs ++ ys) n ≡ Some x → (slice_get xs n ≡ Some x) ⊎ ((k : ℕ) × (n ≡ length xs + k) × (slice_get ys k ≡ Some x))
+  pub get_either : (xs ys : List A) (n : ℕ) (x : A) → slice_get (xs ++ ys) n ≡ Some x → (slice_get xs n ≡ Some x)
+      ⊎ ((k : ℕ) × (n ≡ length xs + k) × (slice_get ys k ≡ Some x))
   get_either [] ys n x at = inr (n, omega arith, at)
   get_either (y ∷ xs) ys zero x at = inl at
   get_either (y ∷ xs) ys (suc n) x at =

@@ -1,5 +1,7 @@
 -- Batches in one list of requests.
-use Rattle.std.proofs.Common.{◌≢◌, AllPairs, Bool, IsTrue, nat_le, map, ◌≡◌, ℕ, zero, suc, ◌+◌, ◌-◌, ◌<◌, ◌≤◌, List, [], ◌∷◌, ◌++◌, length, take, drop, get_or, Some, refl, sym, ap, subst, ◌∙◌, arith, length-append, add-one, leb-true}
+use Rattle.std.proofs.Common.{◌≢◌, AllPairs, Bool, IsTrue, nat_le, map, ◌≡◌, ℕ, zero, suc, ◌+◌, ◌-◌, ◌<◌, ◌≤◌, List, []}
+use Rattle.std.proofs.Common.{◌∷◌, ◌++◌, length, take, drop, get_or, Some, refl, sym, ap, subst, ◌∙◌, arith}
+use Rattle.std.proofs.Common.{length-append, add-one, leb-true}
 use Rattle.std.specs.List.{flat_map, list_all, slice_get}
 use Rattle.std.proofs.lemmas.List.{append_assoc, length-map, take-map, drop-map}
 use Rattle.std.proofs.lemmas.Bool.{and_parts}
@@ -13,7 +15,8 @@ use Rattle.eve_workload.specs.Workload.{Workload, IsWorkload, head_of, names_of,
 use Rattle.eve_workload.specs.Held.{starts_from, workload_of, IsHeld}
 use Rattle.eve_workload.proofs.Deployments.{few_batches, some_customers}
 
-length-starts_from : {A : Type 0} (behind : ℕ) (parts : List (List A)) → length (starts_from behind parts) ≡ length parts
+length-starts_from : {A : Type 0} (behind : ℕ) (parts : List (List A)) → length (starts_from behind parts)
+    ≡ length parts
 length-starts_from behind [] = refl
 length-starts_from behind (part ∷ parts) = ap suc (length-starts_from (behind + length part) parts)
 
@@ -21,10 +24,13 @@ length-starts_from behind (part ∷ parts) = ap suc (length-starts_from (behind 
 record IsPart {A : Type 0} (items : List A) (parts : List (List A)) (starts : List ℕ) (i : ℕ) : Type 0 where
   rising : get_or starts i 0 ≤ get_or (starts ++ length items ∷ []) (suc i) 0
   within : get_or (starts ++ length items ∷ []) (suc i) 0 ≤ length items
-  found : slice_get parts i ≡ Some (take (get_or (starts ++ length items ∷ []) (suc i) 0 - get_or starts i 0) (drop (get_or starts i 0) items))
+  found : slice_get parts i
+      ≡ Some (take (get_or (starts ++ length items ∷ []) (suc i) 0 - get_or starts i 0)
+      (drop (get_or starts i 0) items))
 
 -- the next part starts where this one ends
-next_start : {A : Type 0} (behind : ℕ) (parts : List (List A)) (len : ℕ) → len ≡ behind + length (flat_map (λ part. part) parts) → get_or (starts_from behind parts ++ len ∷ []) 0 0 ≡ behind
+next_start : {A : Type 0} (behind : ℕ) (parts : List (List A)) (len : ℕ)
+    → len ≡ behind + length (flat_map (λ part. part) parts) → get_or (starts_from behind parts ++ len ∷ []) 0 0 ≡ behind
 next_start behind [] len whole = omega arith
 next_start behind (part ∷ parts) len whole = refl
 
@@ -36,19 +42,24 @@ take_front : {A : Type 0} (front items : List A) → take (length front) (front 
 take_front [] items = refl
 take_front (x ∷ front) items = ap (λ xs. x ∷ xs) (take_front front items)
 
-pub taken : {A : Type 0} (front part rest items : List A) (from to : ℕ) → items ≡ front ++ (part ++ rest) → from ≡ length front → to ≡ from + length part → take (to - from) (drop from items) ≡ part
+pub taken : {A : Type 0} (front part rest items : List A) (from to : ℕ) → items ≡ front ++ (part ++ rest)
+    → from ≡ length front → to ≡ from + length part → take (to - from) (drop from items) ≡ part
 taken front part rest items from to are starts ends =
     let size : to - from ≡ length part = omega arith in
-    let behind : drop from items ≡ part ++ rest = ap (drop from) are ∙ ap (λ n. drop n (front ++ (part ++ rest))) starts ∙ drop_front front (part ++ rest) in
+    let behind : drop from items ≡ part ++ rest = ap (drop from) are ∙ ap (λ n. drop n (front ++ (part ++ rest))) starts
+    ∙ drop_front front (part ++ rest) in
     rw (size, behind) (take_front part rest)
 
-part_at : {A : Type 0} (front : List A) (parts : List (List A)) (behind : ℕ) (items : List A) (i : ℕ) → behind ≡ length front → items ≡ front ++ flat_map (λ part. part) parts → i < length parts → IsPart items parts (starts_from behind parts) i
+part_at : {A : Type 0} (front : List A) (parts : List (List A)) (behind : ℕ) (items : List A) (i : ℕ)
+    → behind ≡ length front → items ≡ front ++ flat_map (λ part. part) parts → i < length parts
+    → IsPart items parts (starts_from behind parts) i
 part_at front [] behind items i starts are there = absurd (omega arith)
 part_at {A = A} front (part ∷ parts) behind items zero starts are there =
     let rest = flat_map (λ (p : List A). p) parts in
     let whole : length items ≡ (behind + length part) + length rest =
     ap length are ∙ (omega (arith, length-append front (part ++ rest), length-append part rest)) in
-    let next : get_or (starts_from (behind + length part) parts ++ length items ∷ []) 0 0 ≡ behind + length part = next_start (behind + length part) parts (length items) whole in
+    let next : get_or (starts_from (behind + length part) parts ++ length items ∷ []) 0 0 ≡ behind + length part =
+    next_start (behind + length part) parts (length items) whole in
     record {
       rising = omega arith;
       within = omega arith;
@@ -56,11 +67,13 @@ part_at {A = A} front (part ∷ parts) behind items zero starts are there =
     }
 part_at {A = A} front (part ∷ parts) behind items (suc i) starts are there =
     let rest = flat_map (λ (p : List A). p) parts in
-    let later = part_at (front ++ part) parts (behind + length part) items i (omega (arith, length-append front part)) (are ∙ sym (append_assoc front part rest)) (omega arith) in
+    let later = part_at (front ++ part) parts (behind + length part) items i (omega (arith, length-append front part))
+    (are ∙ sym (append_assoc front part rest)) (omega arith) in
     record { rising = later.rising; within = later.within; found = later.found }
 
 -- what holds of each element of a list holds of the one at a place
-all_get : {A : Type 0} (p : A → Bool) (xs : List A) (i : ℕ) (x : A) → IsTrue (list_all p xs) → slice_get xs i ≡ Some x → IsTrue (p x)
+all_get : {A : Type 0} (p : A → Bool) (xs : List A) (i : ℕ) (x : A) → IsTrue (list_all p xs) → slice_get xs i ≡ Some x
+    → IsTrue (p x)
 all_get p [] i x all at = cc
 all_get p (y ∷ ys) zero x all at =
     let same : y ≡ x = cc in
@@ -71,9 +84,11 @@ all_get p (y ∷ ys) (suc i) x all at = all_get p ys i x (and_parts (p y) (list_
 module _ (w : Inside) (value : Workload) (held : IsHeld w) (is : workload_of w ≡ value) where
   pub starts_count : (starts : List ℕ) → starts ≡ w.starts.items → length starts ≡ length value.batches
   starts_count starts same =
-      ap length same ∙ ap length held.starts ∙ length-starts_from 0 (workload_of w).batches ∙ ap (λ (v : Workload). length v.batches) is
+      ap length same ∙ ap length held.starts ∙ length-starts_from 0 (workload_of w).batches
+      ∙ ap (λ (v : Workload). length v.batches) is
 
-  pub customer_count : (customers : List CustomerData) → customers ≡ w.customers.items → length customers ≡ length value.customers
+  pub customer_count : (customers : List CustomerData) → customers ≡ w.customers.items → length customers
+      ≡ length value.customers
   customer_count customers same =
       ap length same ∙ sym (length-map w.customers.items customer) ∙ ap (λ (v : Workload). length v.customers) is
 
@@ -90,17 +105,23 @@ module _ (w : Inside) (value : Workload) (held : IsHeld w) (is : workload_of w �
   customers_few = (some_customers value.deployment (length value.customers) (length value.batches) is_workload.head).1
 
   -- its customers, as the code reads them
-  customers_are : (customers : List CustomerData) → customers ≡ w.customers.items → value.customers ≡ map customer customers
+  customers_are : (customers : List CustomerData) → customers ≡ w.customers.items → value.customers
+      ≡ map customer customers
   customers_are customers same = ap (λ (v : Workload). v.customers) (sym is) ∙ ap (map customer) (sym same)
 
-  pub customers_right : (customers : List CustomerData) → customers ≡ w.customers.items → IsTrue (list_all is_customer (map customer customers))
-  customers_right customers same = subst (λ cs. IsTrue (list_all is_customer cs)) (customers_are customers same) is_workload.customers
+  pub customers_right : (customers : List CustomerData) → customers ≡ w.customers.items
+      → IsTrue (list_all is_customer (map customer customers))
+  customers_right customers same = subst (λ cs. IsTrue (list_all is_customer cs)) (customers_are customers same)
+      is_workload.customers
 
-  pub customers_differ : (customers : List CustomerData) → customers ≡ w.customers.items → AllPairs (λ a b. a ≢ b) (names_of (map customer customers))
-  customers_differ customers same = subst (λ cs. AllPairs (λ a b. a ≢ b) (names_of cs)) (customers_are customers same) is_workload.names
+  pub customers_differ : (customers : List CustomerData) → customers ≡ w.customers.items
+      → AllPairs (λ a b. a ≢ b) (names_of (map customer customers))
+  customers_differ customers same = subst (λ cs. AllPairs (λ a b. a ≢ b) (names_of cs)) (customers_are customers same)
+      is_workload.names
 
   -- the head with its counts, as the code reads them
-  module _ (customers batches : ℕ) (customers_read : customers ≡ length w.customers.items) (batches_read : batches ≡ length w.starts.items) where
+  module _ (customers batches : ℕ) (customers_read : customers ≡ length w.customers.items)
+      (batches_read : batches ≡ length w.starts.items) where
     abbrev pub head_read : Head
     head_read = record {
       replicas = w.deployment.replicas;
@@ -130,31 +151,39 @@ module _ (w : Inside) (value : Workload) (held : IsHeld w) (is : workload_of w �
     head_right = subst (λ h. IsTrue (is_head h)) (sym head_is) is_workload.head
 
 -- the batch at a place of a workload, of its fields as the code reads them
-module _ (w : Inside) (value : Workload) (starts : List ℕ) (requests : List RequestData) (held : IsHeld w) (is : workload_of w ≡ value) (same_starts : starts ≡ w.starts.items) (same_requests : requests ≡ w.requests.items) where
-  batch_part : (i : ℕ) → i < length value.batches → IsPart (map asked requests) value.batches starts i
-  batch_part i there =
-      let here : IsPart (map asked w.requests.items) (workload_of w).batches w.starts.items i =
-      subst (λ ss. IsPart (map asked w.requests.items) (workload_of w).batches ss i) (sym held.starts)
-      (part_at [] (workload_of w).batches 0 (map asked w.requests.items) i refl held.requests (omega (arith, there, ap (λ (v : Workload). length v.batches) is))) in
-      rw (same_starts, same_requests, ← is) here
+module _ (w : Inside) (value : Workload) (starts : List ℕ) (requests : List RequestData) (held : IsHeld w)
+    (is : workload_of w ≡ value) (same_starts : starts ≡ w.starts.items) (same_requests : requests ≡ w.requests.items)
+  where
+    batch_part : (i : ℕ) → i < length value.batches → IsPart (map asked requests) value.batches starts i
+    batch_part i there =
+        let here : IsPart (map asked w.requests.items) (workload_of w).batches w.starts.items i =
+        subst (λ ss. IsPart (map asked w.requests.items) (workload_of w).batches ss i) (sym held.starts)
+        (part_at [] (workload_of w).batches 0 (map asked w.requests.items) i refl held.requests
+        (omega (arith, there, ap (λ (v : Workload). length v.batches) is))) in
+        rw (same_starts, same_requests, ← is) here
 
-  module _ (i to : ℕ) (there : i < length value.batches) (ends : to ≡ get_or (starts ++ length requests ∷ []) (i + 1) 0) where
-    ends_so : to ≡ get_or (starts ++ length (map asked requests) ∷ []) (suc i) 0
-    ends_so = rw (length-map requests asked, ← add-one) ends
+    module _ (i to : ℕ) (there : i < length value.batches) (ends : to ≡ get_or (starts ++ length requests ∷ []) (i + 1) 0)
+      where
+        ends_so : to ≡ get_or (starts ++ length (map asked requests) ∷ []) (suc i) 0
+        ends_so = rw (length-map requests asked, ← add-one) ends
 
-    pub batch_rises : get_or starts i 0 ≤ to
-    batch_rises = rw ends_so (batch_part i there).rising
+        pub batch_rises : get_or starts i 0 ≤ to
+        batch_rises = rw ends_so (batch_part i there).rising
 
-    pub batch_within : to ≤ length requests
-    batch_within = omega (arith, ends_so, (batch_part i there).within, length-map requests asked)
+        pub batch_within : to ≤ length requests
+        batch_within = omega (arith, ends_so, (batch_part i there).within, length-map requests asked)
 
-    pub batch_found : (part : List RequestData) → part ≡ take (to - get_or starts i 0) (drop (get_or starts i 0) requests) → slice_get value.batches i ≡ Some (map asked part)
-    batch_found part are =
-        (batch_part i there).found
-        ∙ ap Some (rw (← ends_so, drop-map asked, take-map asked, are) refl)
+        pub batch_found : (part : List RequestData)
+            → part ≡ take (to - get_or starts i 0) (drop (get_or starts i 0) requests) → slice_get value.batches i
+            ≡ Some (map asked part)
+        batch_found part are =
+            (batch_part i there).found
+            ∙ ap Some (rw (← ends_so, drop-map asked, take-map asked, are) refl)
 
-    pub batch_listed : (part : List RequestData) → part ≡ take (to - get_or starts i 0) (drop (get_or starts i 0) requests) → IsTrue (is_listed (map asked part))
-    batch_listed part are = all_get is_listed value.batches i (map asked part) (rw (← is) held.workload.batches) (batch_found part are)
+        pub batch_listed : (part : List RequestData)
+            → part ≡ take (to - get_or starts i 0) (drop (get_or starts i 0) requests) → IsTrue (is_listed (map asked part))
+        batch_listed part are = all_get is_listed value.batches i (map asked part) (rw (← is) held.workload.batches)
+            (batch_found part are)
 
 module _ (part : List RequestData) (listed : IsTrue (is_listed (map asked part))) where
   sized : IsTrue (is_between 1 256 (length (map asked part)))
@@ -162,11 +191,19 @@ module _ (part : List RequestData) (listed : IsTrue (is_listed (map asked part))
 
   pub listed_some : 1 ≤ length part
   listed_some =
-      omega (arith, length-map part asked, leb-true _ _ (and_parts (nat_le 1 (length (map asked part))) (nat_le (length (map asked part)) 256) sized).0)
+      omega (
+        arith,
+        length-map part asked,
+        leb-true _ _ (and_parts (nat_le 1 (length (map asked part))) (nat_le (length (map asked part)) 256) sized).0,
+      )
 
   pub listed_few : length part ≤ 256
   listed_few =
-      omega (arith, length-map part asked, leb-true _ _ (and_parts (nat_le 1 (length (map asked part))) (nat_le (length (map asked part)) 256) sized).1)
+      omega (
+        arith,
+        length-map part asked,
+        leb-true _ _ (and_parts (nat_le 1 (length (map asked part))) (nat_le (length (map asked part)) 256) sized).1,
+      )
 
   pub listed_right : IsTrue (list_all is_asked (map asked part))
   listed_right = (and_parts (is_between 1 256 (length (map asked part))) (list_all is_asked (map asked part)) listed).1

@@ -8,6 +8,7 @@ mod Holding
 mod LineKinds
 mod LineLaws
 mod Listing
+mod Meeting
 mod Mixed
 mod OneAnswer
 mod OneWorkload

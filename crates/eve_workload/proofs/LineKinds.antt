@@ -12,20 +12,23 @@ short_request client number (TransactSaving name amount) six = omega (arith, six
 short_request client number (Amalgamate from to) six = omega (arith, six)
 short_request client number (WriteCheck name amount) six = omega (arith, six)
 
-pub with_five : (l : Line) (words : List (List ℕ)) → length words ≡ 5 → line_words l ≡ words → ((a : Asked) → l ≡ RequestLine a → ⊥) → ⊥
+pub with_five : (l : Line) (words : List (List ℕ)) → length words ≡ 5 → line_words l ≡ words
+    → ((a : Asked) → l ≡ RequestLine a → ⊥) → ⊥
 with_five (HeadLine d) words five is other = omega (arith, five, ap length is)
 with_five (CustomerLine c) words five is other = omega (arith, five, ap length is)
 with_five BatchLine words five is other = omega (arith, five, ap length is)
 with_five (RequestLine a) words five is other = other a refl
 
-pub with_six : (l : Line) (words : List (List ℕ)) → length words ≡ 6 → line_words l ≡ words → ((d : Deployment) → l ≡ HeadLine d → ⊥) → ⊥
+pub with_six : (l : Line) (words : List (List ℕ)) → length words ≡ 6 → line_words l ≡ words
+    → ((d : Deployment) → l ≡ HeadLine d → ⊥) → ⊥
 with_six (HeadLine d) words six is other = other d refl
 with_six (CustomerLine c) words six is other = omega (arith, six, ap length is)
 with_six BatchLine words six is other = omega (arith, six, ap length is)
 with_six (RequestLine a) words six is other = short_request _ _ a.request (ap length is ∙ six)
 
 -- the words of a request are four or five
-many_words : (client number : List ℕ) (r : Request) (n : ℕ) → length (request_words client number r) ≡ n → n ≢ 4 → n ≢ 5 → ⊥
+many_words : (client number : List ℕ) (r : Request) (n : ℕ) → length (request_words client number r) ≡ n → n ≢ 4 → n ≢ 5
+    → ⊥
 many_words client number (Balance name) n is four five = four (omega (arith, is))
 many_words client number (DepositChecking name amount) n is four five = five (omega (arith, is))
 many_words client number (TransactSaving name amount) n is four five = five (omega (arith, is))
@@ -33,8 +36,10 @@ many_words client number (Amalgamate from to) n is four five = five (omega (arit
 many_words client number (WriteCheck name amount) n is four five = five (omega (arith, is))
 
 -- no line has another number of words
-pub no_such_line : (l : Line) (words : List (List ℕ)) → length words ≢ 1 → length words ≢ 4 → length words ≢ 5 → length words ≢ 6 → line_words l ≢ words
+pub no_such_line : (l : Line) (words : List (List ℕ)) → length words ≢ 1 → length words ≢ 4 → length words ≢ 5
+    → length words ≢ 6 → line_words l ≢ words
 no_such_line (HeadLine d) words one four five six is = six (omega (arith, ap length is))
 no_such_line (CustomerLine c) words one four five six is = four (omega (arith, ap length is))
 no_such_line BatchLine words one four five six is = one (omega (arith, ap length is))
-no_such_line (RequestLine a) words one four five six is = many_words _ _ a.request (length words) (ap length is) four five
+no_such_line (RequestLine a) words one four five six is = many_words _ _ a.request (length words)
+    (ap length is) four five

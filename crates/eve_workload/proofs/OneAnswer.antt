@@ -1,5 +1,6 @@
 -- A text has at most one bad line.
-use Rattle.std.proofs.Common.{◌≡◌, ℕ, ◌+◌, ◌<◌, IsTrue, List, [], ◌∷◌, ◌++◌, length, inl, inr, refl, sym, ap, subst, ◌∙◌, arith, append_assoc}
+use Rattle.std.proofs.Common.{◌≡◌, ℕ, ◌+◌, ◌<◌, IsTrue, List, [], ◌∷◌, ◌++◌, length, inl, inr, refl, sym, ap, subst}
+use Rattle.std.proofs.Common.{◌∙◌, arith, append_assoc}
 use Rattle.std.proofs.lemmas.Bool.{cases_lt, cases_order}
 use Rattle.std.proofs.lemmas.List.{append_cancel_left}
 use Rattle.eve_workload.specs.Lines.{Line, line_words, line_text}
@@ -7,24 +8,30 @@ use Rattle.eve_workload.specs.Steps.{is_line, IsRightBehind, AreRight, text_befo
 use Rattle.eve_workload.proofs.LineLaws.{same_line, line_inside, line_some, unique_words}
 
 -- texts that begin with a line each, and are the same, begin with the same line
-first_line : (l m : Line) (s t : List ℕ) → IsTrue (is_line l) → IsTrue (is_line m) → line_text l ++ s ≡ line_text m ++ t → (l ≡ m) × (s ≡ t)
+first_line : (l m : Line) (s t : List ℕ) → IsTrue (is_line l) → IsTrue (is_line m) → line_text l ++ s ≡ line_text m ++ t
+    → (l ≡ m) × (s ≡ t)
 first_line l m s t right right' same =
-    let words = unique_words (line_words l) (line_words m) s t (line_some l) (line_some m) (line_inside l right) (line_inside m right') same in
+    let words = unique_words (line_words l) (line_words m) s t (line_some l) (line_some m) (line_inside l right)
+    (line_inside m right') same in
     let line = same_line l m right right' words in
     (line, append_cancel_left (line_text m) s t (ap (λ x. line_text x ++ s) (sym line) ∙ same))
 
 -- as many lines in front of the same text are the same lines
-pub same_lines : (b c : List Line) (s t : List ℕ) → AreRight b → AreRight c → length b ≡ length c → text_before b ++ s ≡ text_before c ++ t → (b ≡ c) × (s ≡ t)
+pub same_lines : (b c : List Line) (s t : List ℕ) → AreRight b → AreRight c → length b ≡ length c → text_before b ++ s
+    ≡ text_before c ++ t → (b ≡ c) × (s ≡ t)
 same_lines [] [] s t right right' count same = (refl, same)
 same_lines [] (m ∷ c) s t right right' count same = absurd (omega arith)
 same_lines (l ∷ b) [] s t right right' count same = absurd (omega arith)
 same_lines (l ∷ b) (m ∷ c) s t right right' count same =
-    let front = same_lines b c (line_text l ++ s) (line_text m ++ t) right.1 right'.1 (omega arith) (sym (append_assoc (text_before b) (line_text l) s) ∙ same ∙ append_assoc (text_before c) (line_text m) t) in
+    let front = same_lines b c (line_text l ++ s) (line_text m ++ t) right.1 right'.1 (omega arith)
+    (sym (append_assoc (text_before b) (line_text l) s) ∙ same ∙ append_assoc (text_before c) (line_text m) t) in
     let last = first_line l m s t right.0.ranges right'.0.ranges front.1 in
     ((λ i. last.0 i ∷ front.0 i), last.1)
 
 -- where more lines stand in front of the same text, a line that may stand there follows the fewer
-pub follows_fewer : (b c : List Line) (s t : List ℕ) → AreRight b → AreRight c → length b < length c → text_before b ++ s ≡ text_before c ++ t → (line : Line) × (behind : List ℕ) × (s ≡ line_text line ++ behind) × IsRightBehind b line
+pub follows_fewer : (b c : List Line) (s t : List ℕ) → AreRight b → AreRight c → length b < length c
+    → text_before b ++ s ≡ text_before c ++ t → (line : Line) × (behind : List ℕ) × (s ≡ line_text line ++ behind)
+    × IsRightBehind b line
 follows_fewer b [] s t right right' fewer same = absurd (omega arith)
 follows_fewer b (m ∷ c) s t right right' fewer same =
     let here = same ∙ append_assoc (text_before c) (line_text m) t in
@@ -42,10 +49,12 @@ one_bad_line text m n bad bad' =
       | inr apart ↦
           elim apart [
             | inl less ↦
-                let next = follows_fewer bad.before bad'.before bad.rest bad'.rest bad.right bad'.right less (sym bad.text ∙ bad'.text) in
+                let next = follows_fewer bad.before bad'.before bad.rest bad'.rest bad.right bad'.right less
+                (sym bad.text ∙ bad'.text) in
                 absurd (bad.wrong next.0 next.1 next.2 next.3)
             | inr more ↦
-                let next = follows_fewer bad'.before bad.before bad'.rest bad.rest bad'.right bad.right more (sym bad'.text ∙ bad.text) in
+                let next = follows_fewer bad'.before bad.before bad'.rest bad.rest bad'.right bad.right more
+                (sym bad'.text ∙ bad.text) in
                 absurd (bad'.wrong next.0 next.1 next.2 next.3)
           ]
     ]

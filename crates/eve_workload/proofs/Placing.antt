@@ -1,5 +1,6 @@
 -- Items put into groups.
-use Rattle.std.proofs.Common.{◌≡◌, ◌≢◌, ℕ, zero, suc, ◌+◌, ◌<◌, ◌≤◌, Bool, true, false, List, [], ◌∷◌, ◌++◌, map, length, sum, Some, inl, inr, refl, sym, ap, ◌∙◌, arith}
+use Rattle.std.proofs.Common.{◌≡◌, ◌≢◌, ℕ, zero, suc, ◌+◌, ◌<◌, ◌≤◌, Bool, true, false, List, [], ◌∷◌, ◌++◌, map}
+use Rattle.std.proofs.Common.{length, sum, Some, inl, inr, refl, sym, ap, ◌∙◌, arith}
 use Rattle.std.specs.Prelude.{◌==◌, ◌&&◌, ◌||◌, if◌then◌else◌, slice_get, slice_set, slice_index_or}
 use Rattle.std.specs.List.{list_any, flat_map}
 use Rattle.std.proofs.lemmas.Bool.{cases_eq, cases_lt, eq-eqb, ne_eqb, both_ways}
@@ -24,14 +25,16 @@ put [] g item = (item ∷ []) ∷ []
 put (group ∷ groups) zero item = (group ++ item ∷ []) ∷ groups
 put (group ∷ groups) (suc g) item = group ∷ put groups g item
 
-pub put_same : (groups : List (List ℕ)) (g item : ℕ) → g ≤ length groups → group_at (put groups g item) g ≡ group_at groups g ++ item ∷ []
+pub put_same : (groups : List (List ℕ)) (g item : ℕ) → g ≤ length groups → group_at (put groups g item) g
+    ≡ group_at groups g ++ item ∷ []
 unfolding put
 put_same [] zero item within = refl
 put_same [] (suc g) item within = absurd (omega arith)
 put_same (group ∷ groups) zero item within = refl
 put_same (group ∷ groups) (suc g) item within = put_same groups g item (omega arith)
 
-pub put_other : (groups : List (List ℕ)) (g item k : ℕ) → g ≤ length groups → k ≢ g → group_at (put groups g item) k ≡ group_at groups k
+pub put_other : (groups : List (List ℕ)) (g item k : ℕ) → g ≤ length groups → k ≢ g → group_at (put groups g item) k
+    ≡ group_at groups k
 unfolding put
 put_other [] zero item zero within apart = absurd (apart refl)
 put_other [] zero item (suc k) within apart = refl
@@ -39,7 +42,8 @@ put_other [] (suc g) item k within apart = absurd (omega arith)
 put_other (group ∷ groups) zero item zero within apart = absurd (apart refl)
 put_other (group ∷ groups) zero item (suc k) within apart = refl
 put_other (group ∷ groups) (suc g) item zero within apart = refl
-put_other (group ∷ groups) (suc g) item (suc k) within apart = put_other groups g item k (omega arith) (λ e. apart (ap suc e))
+put_other (group ∷ groups) (suc g) item (suc k) within apart = put_other groups g item k (omega arith)
+    (λ e. apart (ap suc e))
 
 pub put_sizes : (groups : List (List ℕ)) (g item : ℕ) → one_more (map length groups) g ≡ map length (put groups g item)
 unfolding put
@@ -53,10 +57,12 @@ one_more_behind [] g is = refl
 one_more_behind (size ∷ sizes) zero is = absurd (omega arith)
 one_more_behind (size ∷ sizes) (suc g) is = ap (λ ns. size ∷ ns) (one_more_behind sizes g (omega arith))
 
-pub one_more_inside : (sizes : List ℕ) (g had : ℕ) → had ≡ slice_index_or sizes g had → g < length sizes → slice_set sizes g (had + 1) ≡ one_more sizes g
+pub one_more_inside : (sizes : List ℕ) (g had : ℕ) → had ≡ slice_index_or sizes g had → g < length sizes
+    → slice_set sizes g (had + 1) ≡ one_more sizes g
 one_more_inside [] g had is there = absurd (omega arith)
 one_more_inside (size ∷ sizes) zero had is there = ap (λ n. (n + 1) ∷ sizes) is
-one_more_inside (size ∷ sizes) (suc g) had is there = ap (λ ns. size ∷ ns) (one_more_inside sizes g had is (omega arith))
+one_more_inside (size ∷ sizes) (suc g) had is there =
+    ap (λ ns. size ∷ ns) (one_more_inside sizes g had is (omega arith))
 
 pub put_count : (groups : List (List ℕ)) (g item : ℕ) → length (put groups g item) ≤ length groups + 1
 unfolding put
@@ -73,7 +79,9 @@ size_at (group ∷ groups) (suc g) = size_at groups g
 
 module _ (clash : ℕ → ℕ → Bool) where
   -- the first group that holds none in conflict takes the item
-  pub placed_first : (groups : List (List ℕ)) (item g : ℕ) → ((k : ℕ) → k < g → list_any (clash item) (group_at groups k) ≡ true) → list_any (clash item) (group_at groups g) ≡ false → placed clash groups item ≡ put groups g item
+  pub placed_first : (groups : List (List ℕ)) (item g : ℕ)
+      → ((k : ℕ) → k < g → list_any (clash item) (group_at groups k) ≡ true) → list_any (clash item) (group_at groups g)
+      ≡ false → placed clash groups item ≡ put groups g item
   unfolding put
   placed_first [] item g before free = refl
   placed_first (group ∷ groups) item zero before free =
@@ -83,32 +91,38 @@ module _ (clash : ℕ → ℕ → Bool) where
       ∙ ap (λ gs. group ∷ gs) (placed_first groups item g (λ k below. before (suc k) (omega arith)) free)
 
   -- it is one of the groups, or the next
-  pub first_within : (groups : List (List ℕ)) (item g : ℕ) → ((k : ℕ) → k < g → list_any (clash item) (group_at groups k) ≡ true) → g ≤ length groups
+  pub first_within : (groups : List (List ℕ)) (item g : ℕ)
+      → ((k : ℕ) → k < g → list_any (clash item) (group_at groups k) ≡ true) → g ≤ length groups
   first_within groups item g before =
       elim (cases_lt (length groups) g) [
         | inl past ↦
             absurd (both_ways (list_any (clash item) (group_at groups (length groups)))
-            (ap (list_any (clash item)) (get_or_past groups (length groups) [] (omega arith))) (before (length groups) past))
+            (ap (list_any (clash item)) (get_or_past groups (length groups) [] (omega arith)))
+            (before (length groups) past))
         | inr within ↦ within
       ]
 
 -- ---- rows in conflict
 
-any_either : {A : Type 0} (p q : A → Bool) (xs : List A) → list_any (λ x. p x || q x) xs ≡ (list_any p xs || list_any q xs)
+any_either : {A : Type 0} (p q : A → Bool) (xs : List A) → list_any (λ x. p x || q x) xs
+    ≡ (list_any p xs || list_any q xs)
 any_either p q [] = refl
-any_either p q (x ∷ xs) = ap (λ b. (p x || q x) || b) (any_either p q xs) ∙ swapped (p x) (q x) (list_any p xs) (list_any q xs) where
-  swapped : (a b c d : Bool) → ((a || b) || (c || d)) ≡ ((a || c) || (b || d))
-  swapped true b c d = refl
-  swapped false true true d = refl
-  swapped false true false d = refl
-  swapped false false c d = refl
+any_either p q (x ∷ xs) = ap (λ b. (p x || q x) || b) (any_either p q xs)
+    ∙ swapped (p x) (q x) (list_any p xs) (list_any q xs) where
+      swapped : (a b c d : Bool) → ((a || b) || (c || d)) ≡ ((a || c) || (b || d))
+      swapped true b c d = refl
+      swapped false true true d = refl
+      swapped false true false d = refl
+      swapped false false c d = refl
 
 none_any : {A : Type 0} (xs : List A) → list_any (λ x. false) xs ≡ false
 none_any [] = refl
 none_any (x ∷ xs) = none_any xs
 
 -- some row is in conflict with a row of the group where some request of it shares one
-pub any_shared : (touched : Rows) (rows : ℕ → Rows) (group : List ℕ) → list_any (λ row. list_any (collide row) (flat_map rows group)) touched ≡ list_any (λ j. share touched (rows j)) group
+pub any_shared : (touched : Rows) (rows : ℕ → Rows) (group : List ℕ)
+    → list_any (λ row. list_any (collide row) (flat_map rows group)) touched
+    ≡ list_any (λ j. share touched (rows j)) group
 any_shared touched rows [] = none_any touched
 any_shared touched rows (j ∷ group) =
     (λ i. list_any (λ row. list_any-append (collide row) (rows j) (flat_map rows group) i) touched)
@@ -117,7 +131,9 @@ any_shared touched rows (j ∷ group) =
 
 -- a row is in conflict in a group, once an item was put into one
 module _ (rows : ℕ → Rows) (groups : List (List ℕ)) (g item : ℕ) (within : g ≤ length groups) where
-  pub bars_more : (row : ℕ × Kind) (k : ℕ) → (list_any (collide row) (flat_map rows (group_at groups k)) || (list_any (collide row) (rows item) && (k == g))) ≡ list_any (collide row) (flat_map rows (group_at (put groups g item) k))
+  pub bars_more : (row : ℕ × Kind) (k : ℕ)
+      → (list_any (collide row) (flat_map rows (group_at groups k)) || (list_any (collide row) (rows item) && (k == g)))
+      ≡ list_any (collide row) (flat_map rows (group_at (put groups g item) k))
   bars_more row k =
       let before : Bool = list_any (collide row) (flat_map rows (group_at groups k)) in
       elim (cases_eq k g) [
@@ -150,7 +166,8 @@ module _ (sizes : List ℕ) (seats : List Seat) (groups : List (List ℕ)) (seat
   size_small g = let most = within_sum sizes g in
       let whole = ap sum seating.sizes_are ∙ sum_of_lengths groups ∙ seating.count in omega (arith, most, whole)
 
-  module _ (clash : ℕ → ℕ → Bool) (g : ℕ) (within : g ≤ length groups) (first : placed clash groups (length seats) ≡ put groups g (length seats)) where
+  module _ (clash : ℕ → ℕ → Bool) (g : ℕ) (within : g ≤ length groups)
+      (first : placed clash groups (length seats) ≡ put groups g (length seats)) where
     -- the next item
     abbrev item : ℕ
     item = length seats
@@ -165,45 +182,57 @@ module _ (sizes : List ℕ) (seats : List Seat) (groups : List (List ℕ)) (seat
     seated_more = record {
       sizes_are = ap (λ ss. one_more ss g) seating.sizes_are ∙ put_sizes groups g item;
       count =
-          (let kept = length_permutation (item ∷ flat_map (λ group. group) groups) (flat_map (λ group. group) (placed clash groups item)) (placed_keeps clash groups item) in
+          (let kept = length_permutation (item ∷ flat_map (λ group. group) groups)
+          (flat_map (λ group. group) (placed clash groups item)) (placed_keeps clash groups item) in
           let put_flat = ap (λ gs. length (flat_map (λ group. group) gs)) first in
           omega (arith, kept, put_flat, seating.count, length_push seats seat));
       sits = sits;
       alone = alone;
     } where
-      sits : (other : ℕ) (s : Seat) → slice_get (seats ++ seat ∷ []) other ≡ Some s → slice_get (group_at (put groups g item) s.group) s.place ≡ Some other
+      sits : (other : ℕ) (s : Seat) → slice_get (seats ++ seat ∷ []) other ≡ Some s
+          → slice_get (group_at (put groups g item) s.group) s.place ≡ Some other
       sits other s has =
           elim (get_either seats (seat ∷ []) other s has) [
             | inl old ↦
                 elim (cases_eq s.group g) [
                   | inl same ↦
-                      ap (λ n. slice_get (group_at (put groups g item) n) s.place) same ∙ ap (λ group. slice_get group s.place) (put_same groups g item within)
-                      ∙ get_front (group_at groups g) (item ∷ []) s.place other (ap (λ n. slice_get (group_at groups n) s.place) (sym same) ∙ seating.sits other s old)
-                  | inr apart ↦ ap (λ group. slice_get group s.place) (put_other groups g item s.group within apart) ∙ seating.sits other s old
+                      ap (λ n. slice_get (group_at (put groups g item) n) s.place) same
+                      ∙ ap (λ group. slice_get group s.place) (put_same groups g item within)
+                      ∙ get_front (group_at groups g) (item ∷ []) s.place other
+                      (ap (λ n. slice_get (group_at groups n) s.place) (sym same) ∙ seating.sits other s old)
+                  | inr apart ↦ ap (λ group. slice_get group s.place) (put_other groups g item s.group within apart)
+                      ∙ seating.sits other s old
                 ]
             | inr last ↦
                 let only = get_only seat s last.0 last.2 in
                 let other_is : other ≡ item = (let e = last.1 in let k = only.0 in omega arith) in
                 ap (λ (t : Seat). slice_get (group_at (put groups g item) t.group) t.place) (sym only.1)
                 ∙ ap (λ group. slice_get group (slice_index_or sizes g 0)) (put_same groups g item within)
-                ∙ get_behind (group_at groups g) (item ∷ []) (slice_index_or sizes g 0) 0 (omega (arith, place_is)) ∙ ap (λ n. Some n) (sym other_is)
+                ∙ get_behind (group_at groups g) (item ∷ []) (slice_index_or sizes g 0) 0 (omega (arith, place_is))
+                ∙ ap (λ n. Some n) (sym other_is)
           ]
 
-      alone : (other : ℕ) (s : Seat) → slice_get (group_at (put groups g item) s.group) s.place ≡ Some other → slice_get (seats ++ seat ∷ []) other ≡ Some s
+      alone : (other : ℕ) (s : Seat) → slice_get (group_at (put groups g item) s.group) s.place ≡ Some other
+          → slice_get (seats ++ seat ∷ []) other ≡ Some s
       alone other s at =
           elim (cases_eq s.group g) [
             | inl same ↦
                 let here : slice_get (group_at groups g ++ item ∷ []) s.place ≡ Some other =
-                ap (λ group. slice_get group s.place) (sym (put_same groups g item within)) ∙ ap (λ n. slice_get (group_at (put groups g item) n) s.place) (sym same) ∙ at in
+                ap (λ group. slice_get group s.place) (sym (put_same groups g item within))
+                ∙ ap (λ n. slice_get (group_at (put groups g item) n) s.place) (sym same) ∙ at in
                 elim (get_either (group_at groups g) (item ∷ []) s.place other here) [
                   | inl old ↦
-                      get_front seats (seat ∷ []) other s (seating.alone other s (ap (λ n. slice_get (group_at groups n) s.place) same ∙ old))
+                      get_front seats (seat ∷ []) other s
+                      (seating.alone other s (ap (λ n. slice_get (group_at groups n) s.place) same ∙ old))
                   | inr last ↦
                       let only = get_only item other last.0 last.2 in
-                      let place_same : s.place ≡ slice_index_or sizes g 0 = (let e = last.1 in let k = only.0 in omega (arith, place_is)) in
+                      let place_same : s.place ≡ slice_index_or sizes g 0 =
+                      (let e = last.1 in let k = only.0 in omega (arith, place_is)) in
                       let seat_same : seat ≡ s = (λ i. record { group = sym same i; place = sym place_same i }) in
                       get_behind seats (seat ∷ []) other 0 (let e = only.1 in omega arith) ∙ ap (λ t. Some t) seat_same
                 ]
             | inr apart ↦
-                get_front seats (seat ∷ []) other s (seating.alone other s (ap (λ group. slice_get group s.place) (sym (put_other groups g item s.group within apart)) ∙ at))
+                get_front seats (seat ∷ []) other s
+                (seating.alone other s (ap (λ group. slice_get group s.place)
+                (sym (put_other groups g item s.group within apart)) ∙ at))
           ]

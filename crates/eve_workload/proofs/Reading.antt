@@ -1,5 +1,6 @@
 -- A text that is read line by line.
-use Rattle.std.proofs.Common.{◌≡◌, ℕ, ◌+◌, ◌-◌, ◌*◌, ◌<◌, ◌≤◌, Bool, true, false, IsTrue, List, [], ◌∷◌, ◌++◌, length, take, drop, Some, None, refl, sym, ap, ◌∙◌, arith, length-append}
+use Rattle.std.proofs.Common.{◌≡◌, ℕ, ◌+◌, ◌-◌, ◌*◌, ◌<◌, ◌≤◌, Bool, true, false, IsTrue, List, [], ◌∷◌, ◌++◌, length}
+use Rattle.std.proofs.Common.{take, drop, Some, None, refl, sym, ap, ◌∙◌, arith, length-append}
 use Rattle.std.specs.List.{join_with_byte}
 use Rattle.std.proofs.lemmas.Bool.{ltb-true, false≢true}
 use Rattle.std.proofs.lemmas.List.{length-map, take-append-drop, length-drop, take_all, append-nil}
@@ -7,7 +8,8 @@ use Rattle.eve_grammar.specs.Trace.{Asked}
 use Rattle.eve_write.specs.Data.{customer, asked}
 use Rattle.eve_workload.specs.declared.draft.Draft.{Draft}
 use Rattle.eve_workload.specs.Lines.{Line, HeadLine, CustomerLine, BatchLine, RequestLine, line_words, line_text}
-use Rattle.eve_workload.specs.Steps.{customers_in, requests_in, batches_in, last_requests, may_follow, may_end, AreRight, text_before, IsBadLine}
+use Rattle.eve_workload.specs.Steps.{customers_in, requests_in, batches_in, last_requests, may_follow, may_end}
+use Rattle.eve_workload.specs.Steps.{AreRight, text_before, IsBadLine}
 use Rattle.eve_workload.specs.Drafts.{IsSmall, Keeps, TakesLine}
 use Rattle.eve_workload.proofs.Drafting.{batches_are}
 use Rattle.eve_workload.proofs.Splitting.{up_to}
@@ -27,7 +29,8 @@ record Room (before : List Line) : Type 0 where
   all : length (requests_in before) ≤ 256 * batches_in before
   here : in_batch before ≡ true → length (requests_in before) + 256 ≤ 256 * batches_in before + last_requests before
 
-pub request_in_batch : (before : List Line) (a : Asked) → IsTrue (may_follow before (RequestLine a)) → in_batch before ≡ true
+pub request_in_batch : (before : List Line) (a : Asked) → IsTrue (may_follow before (RequestLine a)) → in_batch before
+    ≡ true
 request_in_batch [] a follows = cc
 request_in_batch (HeadLine d ∷ before) a follows = cc
 request_in_batch (CustomerLine c ∷ before) a follows = cc
@@ -37,7 +40,8 @@ request_in_batch (RequestLine b ∷ before) a follows = refl
 room_of : (before : List Line) → AreRight before → Room before
 room_of [] right = record { all = omega arith; here = λ no. absurd (false≢true no) }
 room_of (HeadLine d ∷ before) right = record { all = (room_of before right.1).all; here = λ no. absurd (false≢true no) }
-room_of (CustomerLine c ∷ before) right = record { all = (room_of before right.1).all; here = λ no. absurd (false≢true no) }
+room_of (CustomerLine c ∷ before) right =
+    record { all = (room_of before right.1).all; here = λ no. absurd (false≢true no) }
 room_of (BatchLine ∷ before) right =
     let room = room_of before right.1 in
     record { all = omega (arith, room.all); here = λ yes_so. omega (arith, room.all) }
@@ -52,7 +56,12 @@ pub customers_few : (before : List Line) → AreRight before → length (custome
 customers_few [] right = omega arith
 customers_few (HeadLine d ∷ before) right = customers_few before right.1
 customers_few (CustomerLine c ∷ before) right =
-    omega (arith, ltb-true (length (customers_in before)) 4096 right.0.room, length-append (customers_in before) (c ∷ []))
+    omega (
+      arith,
+      ltb-true (length (customers_in before)) 4096 right.0.room,
+      length-append (customers_in before)
+          (c ∷ []),
+    )
 customers_few (BatchLine ∷ before) right = customers_few before right.1
 customers_few (RequestLine a ∷ before) right = customers_few before right.1
 
@@ -68,7 +77,12 @@ keeps_small d before keeps =
     let batches = batches_few before keeps.right in
     let room = (room_of before keeps.right).all in
     record {
-      customers = omega (arith, customers_few before keeps.right, length-map d.customers.items customer, ap length keeps.customers);
+      customers = omega (
+        arith,
+        customers_few before keeps.right,
+        length-map d.customers.items customer,
+        ap length keeps.customers,
+      );
       starts = omega (arith, batches, batches_are before, ap length keeps.starts);
       requests = omega (arith, batches, room, length-map d.requests.items asked, ap length keeps.requests);
     }
@@ -81,7 +95,8 @@ pub record IsRead (text : List ℕ) (at : ℕ) (d : Draft) : Type 0 where
   pub text_is : take at text ≡ text_before before
   pub keeps : Keeps d before
 
-pub read_more : (text : List ℕ) (at len : ℕ) (d next : Draft) → (read : IsRead text at d) → TakesLine next read.before (drop at text) (Some len) → IsRead text (at + len) next
+pub read_more : (text : List ℕ) (at len : ℕ) (d next : Draft) → (read : IsRead text at d)
+    → TakesLine next read.before (drop at text) (Some len) → IsRead text (at + len) next
 read_more text at len d next read (line, front, within, some, keeps) =
     record {
       before = line ∷ read.before;
@@ -95,7 +110,9 @@ read_more text at len d next read (line, front, within, some, keeps) =
         let size : (n + m) - n ≡ m = omega arith in
         up_to xs n (n + m) (omega arith) ∙ ap (λ k. take n xs ++ take k (drop n xs)) size
 
-pub read_bad : (text : List ℕ) (at number : ℕ) (d next : Draft) → (read : IsRead text at d) → number ≡ length read.before + 1 → at < length text → TakesLine next read.before (drop at text) None → IsBadLine text number
+pub read_bad : (text : List ℕ) (at number : ℕ) (d next : Draft) → (read : IsRead text at d)
+    → number ≡ length read.before + 1 → at < length text → TakesLine next read.before (drop at text) None
+    → IsBadLine text number
 read_bad text at number d next read count more none = record {
   before = read.before;
   rest = drop at text;
@@ -106,14 +123,16 @@ read_bad text at number d next read count more none = record {
   unended = λ empty. absurd (omega (arith, more, length-drop at text, ap length empty));
 }
 
-pub read_early : (text : List ℕ) (at number : ℕ) (d : Draft) → (read : IsRead text at d) → number ≡ length read.before + 1 → length text ≤ at → may_end read.before ≡ false → IsBadLine text number
+pub read_early : (text : List ℕ) (at number : ℕ) (d : Draft) → (read : IsRead text at d)
+    → number ≡ length read.before + 1 → length text ≤ at → may_end read.before ≡ false → IsBadLine text number
 read_early text at number d read count whole open_end = record {
   before = read.before;
   rest = [];
   text = sym (take_all at text whole) ∙ read.text_is ∙ sym (append-nil (text_before read.before));
   right = read.keeps.right;
   count = count;
-  wrong = λ line behind is right. absurd (omega (arith, ap length is, length-append (line_text line) behind, line_long line));
+  wrong = λ line behind is right. absurd
+      (omega (arith, ap length is, length-append (line_text line) behind, line_long line));
   unended = λ _. open_end;
 }
   where

@@ -1,8 +1,11 @@
 -- A line that is split into words.
-use Rattle.std.proofs.Common.{◌≡◌, ◌≢◌, ℕ, ◌+◌, ◌-◌, ◌<◌, ◌≤◌, ◌==◌, true, false, not, inl, inr, ◌&&◌, IsTrue, List, [], ◌∷◌, ◌++◌, length, take, drop, get_or, sym, ap, subst, ◌∙◌, refl, arith, append_assoc, length-append, below_more}
+use Rattle.std.proofs.Common.{◌≡◌, ◌≢◌, ℕ, ◌+◌, ◌-◌, ◌<◌, ◌≤◌, ◌==◌, true, false, not, inl, inr, ◌&&◌, IsTrue, List, []}
+use Rattle.std.proofs.Common.{◌∷◌, ◌++◌, length, take, drop, get_or, sym, ap, subst, ◌∙◌, refl, arith, append_assoc}
+use Rattle.std.proofs.Common.{length-append, below_more}
 use Rattle.std.specs.List.{list_all, flat_map, join_with_byte}
 use Rattle.std.proofs.lemmas.Bool.{and_from, and_parts, and_cases, eqb-true, eqb-false, not-true, not-false}
-use Rattle.std.proofs.lemmas.List.{take_more, take-append-drop, take-take, drop-take, get_or_at, append-nil, length-drop, get_or-drop}
+use Rattle.std.proofs.lemmas.List.{take_more, take-append-drop, take-take, drop-take, get_or_at, append-nil}
+use Rattle.std.proofs.lemmas.List.{length-drop, get_or-drop}
 use Rattle.std.proofs.lemmas.List.Folds.{list_all-append}
 use Rattle.std.proofs.lemmas.List.Concat.{flat_map-append}
 use Rattle.eve_workload.specs.Lines.{text_of_words}
@@ -21,56 +24,82 @@ pub record IsSplit (text : List ℕ) (words : List (List ℕ)) (from at : ℕ) :
   pub none : (k : ℕ) → k < at → get_or text k 0 ≢ 10
 
 pub split_new : (text : List ℕ) → IsSplit text [] 0 0
-split_new text = record { order = omega arith; text_is = refl; inside = refl; here = refl; none = λ k below. absurd (omega arith) }
+split_new text = record {
+  order = omega arith;
+  text_is = refl;
+  inside = refl;
+  here = refl;
+  none = λ k below. absurd
+      (omega arith);
+}
 
 -- the text up to here, and one more byte
-pub up_to : (text : List ℕ) (from at : ℕ) → from ≤ at → take at text ≡ take from text ++ take (at - from) (drop from text)
+pub up_to : (text : List ℕ) (from at : ℕ) → from ≤ at → take at text ≡ take from text ++ take (at - from)
+    (drop from text)
 up_to text from at order =
     let sum : from + (at - from) ≡ at = omega arith in
-    let behind : drop from (take at text) ≡ take (at - from) (drop from text) = ap (λ n. drop from (take n text)) (sym sum) ∙ drop-take from (at - from) text in
+    let behind : drop from (take at text) ≡ take (at - from) (drop from text) =
+    ap (λ n. drop from (take n text)) (sym sum) ∙ drop-take from (at - from) text in
     sym (take-append-drop from (take at text)) ∙ (λ k. take-take from at text order k ++ behind k)
 
 spaced-push : (words : List (List ℕ)) (word : List ℕ) → spaced (words ++ word ∷ []) ≡ spaced words ++ (word ++ 32 ∷ [])
 spaced-push words word =
-    flat_map-append (λ (w : List ℕ). w ++ 32 ∷ []) words (word ∷ []) ∙ ap (λ w. spaced words ++ w) (append-nil (word ++ 32 ∷ []))
+    flat_map-append (λ (w : List ℕ). w ++ 32 ∷ []) words (word ∷ [])
+    ∙ ap (λ w. spaced words ++ w) (append-nil (word ++ 32 ∷ []))
 
-text-push : (words : List (List ℕ)) (word : List ℕ) → text_of_words (words ++ word ∷ []) ≡ spaced words ++ (word ++ 10 ∷ [])
+text-push : (words : List (List ℕ)) (word : List ℕ) → text_of_words (words ++ word ∷ [])
+    ≡ spaced words ++ (word ++ 10 ∷ [])
 text-push [] word = refl
 text-push (w ∷ []) word =
-    append_assoc w (32 ∷ word) (10 ∷ []) ∙ sym (ap (λ t. t ++ (word ++ 10 ∷ [])) (append-nil (w ++ 32 ∷ [])) ∙ append_assoc w (32 ∷ []) (word ++ 10 ∷ []))
+    append_assoc w (32 ∷ word) (10 ∷ [])
+    ∙ sym (ap (λ t. t ++ (word ++ 10 ∷ [])) (append-nil (w ++ 32 ∷ []))
+    ∙ append_assoc w (32 ∷ []) (word ++ 10 ∷ []))
 text-push (w ∷ v ∷ words) word =
     append_assoc w (32 ∷ join_with_byte 32 (v ∷ (words ++ word ∷ []))) (10 ∷ [])
     ∙ ap (λ t. w ++ (32 ∷ t)) (text-push (v ∷ words) word)
-    ∙ sym (append_assoc (w ++ 32 ∷ []) (spaced (v ∷ words)) (word ++ 10 ∷ []) ∙ append_assoc w (32 ∷ []) (spaced (v ∷ words) ++ (word ++ 10 ∷ [])))
+    ∙ sym (append_assoc (w ++ 32 ∷ []) (spaced (v ∷ words)) (word ++ 10 ∷ [])
+    ∙ append_assoc w (32 ∷ []) (spaced (v ∷ words) ++ (word ++ 10 ∷ [])))
 
 -- a byte behind the last word
-with_byte : (text : List ℕ) (words : List (List ℕ)) (from at byte : ℕ) → IsSplit text words from at → at < length text → get_or text at 0 ≡ byte → take (at + 1) text ≡ spaced words ++ (take (at - from) (drop from text) ++ byte ∷ [])
+with_byte : (text : List ℕ) (words : List (List ℕ)) (from at byte : ℕ) → IsSplit text words from at → at < length text
+    → get_or text at 0 ≡ byte → take (at + 1) text ≡ spaced words ++ (take (at - from) (drop from text) ++ byte ∷ [])
 with_byte text words from at byte split there is =
-    take_more text at 0 there ∙ (λ k. (up_to text from at split.order ∙ ap (λ t. t ++ take (at - from) (drop from text)) split.text_is) k ++ is k ∷ [])
+    take_more text at 0 there
+    ∙ (λ k. (up_to text from at split.order ∙ ap (λ t. t ++ take (at - from) (drop from text)) split.text_is) k
+    ++ is k ∷ [])
     ∙ append_assoc (spaced words) (take (at - from) (drop from text)) (byte ∷ [])
 
-all_inside : (words : List (List ℕ)) (word : List ℕ) → IsTrue (list_all (list_all is_inside) words) → IsTrue (list_all is_inside word) → IsTrue (list_all (list_all is_inside) (words ++ word ∷ []))
+all_inside : (words : List (List ℕ)) (word : List ℕ) → IsTrue (list_all (list_all is_inside) words)
+    → IsTrue (list_all is_inside word) → IsTrue (list_all (list_all is_inside) (words ++ word ∷ []))
 all_inside words word all inside =
-    list_all-append (list_all is_inside) words (word ∷ []) ∙ and_from (list_all (list_all is_inside) words) (list_all is_inside word && true) all (and_from (list_all is_inside word) true inside refl)
+    list_all-append (list_all is_inside) words (word ∷ []) ∙ and_from (list_all (list_all is_inside) words)
+    (list_all is_inside word && true) all (and_from (list_all is_inside word) true inside refl)
 
-pub split_end : (text : List ℕ) (words : List (List ℕ)) (word : List ℕ) (from at : ℕ) → IsSplit text words from at → at < length text → get_or text at 0 ≡ 10 → word ≡ take (at - from) (drop from text) → IsFirstLine text (words ++ word ∷ []) (at + 1)
+pub split_end : (text : List ℕ) (words : List (List ℕ)) (word : List ℕ) (from at : ℕ) → IsSplit text words from at
+    → at < length text → get_or text at 0 ≡ 10 → word ≡ take (at - from) (drop from text)
+    → IsFirstLine text (words ++ word ∷ []) (at + 1)
 split_end text words word from at split there is word_is =
     record {
-      line = with_byte text words from at 10 split there is ∙ ap (λ w. spaced words ++ (w ++ 10 ∷ [])) (sym word_is) ∙ sym (text-push words word);
+      line = with_byte text words from at 10 split there is ∙ ap (λ w. spaced words ++ (w ++ 10 ∷ [])) (sym word_is)
+          ∙ sym (text-push words word);
       within = omega arith;
       some = omega (arith, length-append words (word ∷ []));
       inside = all_inside words word split.inside (subst (λ w. IsTrue (list_all is_inside w)) (sym word_is) split.here);
     }
 
-none_more : (text : List ℕ) (at : ℕ) → ((k : ℕ) → k < at → get_or text k 0 ≢ 10) → get_or text at 0 ≢ 10 → (k : ℕ) → k < at + 1 → get_or text k 0 ≢ 10
+none_more : (text : List ℕ) (at : ℕ) → ((k : ℕ) → k < at → get_or text k 0 ≢ 10) → get_or text at 0 ≢ 10 → (k : ℕ)
+    → k < at + 1 → get_or text k 0 ≢ 10
 none_more text at none here = below_more (λ k. get_or text k 0 ≢ 10) at none here
 
-pub split_space : (text : List ℕ) (words : List (List ℕ)) (word : List ℕ) (from at : ℕ) → IsSplit text words from at → at < length text → get_or text at 0 ≡ 32 → word ≡ take (at - from) (drop from text) → IsSplit text (words ++ word ∷ []) (at + 1) (at + 1)
+pub split_space : (text : List ℕ) (words : List (List ℕ)) (word : List ℕ) (from at : ℕ) → IsSplit text words from at
+    → at < length text → get_or text at 0 ≡ 32 → word ≡ take (at - from) (drop from text)
+    → IsSplit text (words ++ word ∷ []) (at + 1) (at + 1)
 split_space text words word from at split there is word_is =
     let zero_more : (at + 1) - (at + 1) ≡ 0 = omega arith in
     record {
       order = omega arith;
-      text_is = with_byte text words from at 32 split there is ∙ ap (λ w. spaced words ++ (w ++ 32 ∷ [])) (sym word_is) ∙ sym (spaced-push words word);
+      text_is = with_byte text words from at 32 split there is ∙ ap (λ w. spaced words ++ (w ++ 32 ∷ [])) (sym word_is)
+          ∙ sym (spaced-push words word);
       inside = all_inside words word split.inside (subst (λ w. IsTrue (list_all is_inside w)) (sym word_is) split.here);
       here = rw zero_more refl;
       none = none_more text at split.none (λ feed. omega (arith, feed, is));
@@ -84,27 +113,34 @@ space_here byte outside no_feed =
       | inr feed ↦ absurd (no_feed (eqb-true byte 10 (not-false (byte == 10) feed)))
     ]
 
-pub split_inside : (text : List ℕ) (words : List (List ℕ)) (from at : ℕ) → IsSplit text words from at → at < length text → is_inside (get_or text at 0) ≡ true → IsSplit text words from (at + 1)
+pub split_inside : (text : List ℕ) (words : List (List ℕ)) (from at : ℕ) → IsSplit text words from at → at < length text
+    → is_inside (get_or text at 0) ≡ true → IsSplit text words from (at + 1)
 split_inside text words from at split there inside =
     let order = split.order in
     let size : (at + 1) - from ≡ (at - from) + 1 = omega arith in
     let within : at - from < length (drop from text) = omega (arith, length-drop from text) in
     let byte = get_or text at 0 in
     let read : get_or (drop from text) (at - from) 0 ≡ byte =
-    get_or-drop from text (at - from) 0 ∙ (let sum : from + (at - from) ≡ at = omega arith in ap (λ n. get_or text n 0) sum) in
-    let no_feed : byte ≢ 10 = eqb-false byte 10 (not-true (byte == 10) (and_parts (not (byte == 32)) (not (byte == 10)) inside).1) in
+    get_or-drop from text (at - from) 0
+    ∙ (let sum : from + (at - from) ≡ at = omega arith in ap (λ n. get_or text n 0) sum) in
+    let no_feed : byte ≢ 10 =
+    eqb-false byte 10 (not-true (byte == 10) (and_parts (not (byte == 32)) (not (byte == 10)) inside).1) in
     let more : take ((at + 1) - from) (drop from text) ≡ take (at - from) (drop from text) ++ byte ∷ [] =
-    ap (λ n. take n (drop from text)) size ∙ take_more (drop from text) (at - from) 0 within ∙ ap (λ b. take (at - from) (drop from text) ++ b ∷ []) read in
+    ap (λ n. take n (drop from text)) size ∙ take_more (drop from text) (at - from) 0 within
+    ∙ ap (λ b. take (at - from) (drop from text) ++ b ∷ []) read in
     record {
       order = omega arith;
       text_is = split.text_is;
       inside = split.inside;
       here = ap (list_all is_inside) more ∙ list_all-append is_inside (take (at - from) (drop from text)) (byte ∷ [])
-          ∙ and_from (list_all is_inside (take (at - from) (drop from text))) (is_inside byte && true) split.here (and_from (is_inside byte) true inside refl);
+          ∙ and_from (list_all is_inside (take (at - from) (drop from text))) (is_inside byte && true) split.here
+          (and_from (is_inside byte) true inside refl);
       none = none_more text at split.none no_feed;
     }
 
-pub split_none : (text : List ℕ) (words : List (List ℕ)) (from at : ℕ) → IsSplit text words from at → length text ≤ at → (front behind : List ℕ) → text ≢ front ++ 10 ∷ behind
+pub split_none : (text : List ℕ) (words : List (List ℕ)) (from at : ℕ) → IsSplit text words from at → length text ≤ at
+    → (front behind : List ℕ) → text ≢ front ++ 10 ∷ behind
 split_none text words from at split whole front behind is =
     let long = ap length is ∙ length-append front (10 ∷ behind) in
-    split.none (length front) (omega arith) (ap (λ t. get_or t (length front) 0) is ∙ get_or_at front 10 behind 0 (length front) refl)
+    split.none (length front) (omega arith) (ap (λ t. get_or t (length front) 0) is
+    ∙ get_or_at front 10 behind 0 (length front) refl)

@@ -1,13 +1,16 @@
 -- The lines of a workload are right one behind another, and its text has no bad line.
-use Rattle.std.proofs.Common.{◌≡◌, ◌≢◌, IsTrue, ℕ, ◌+◌, ◌≤◌, true, nat_le, List, [], ◌∷◌, ◌++◌, map, length, AllPairs, Contains, inl, inr, refl, sym, ap, subst, ◌∙◌, arith, length-append, append_assoc}
+use Rattle.std.proofs.Common.{◌≡◌, ◌≢◌, IsTrue, ℕ, ◌+◌, ◌≤◌, true, nat_le, List, [], ◌∷◌, ◌++◌, map, length, AllPairs}
+use Rattle.std.proofs.Common.{Contains, inl, inr, refl, sym, ap, subst, ◌∙◌, arith, length-append, append_assoc}
 use Rattle.std.specs.List.{list_all, flat_map, join_with_byte}
 use Rattle.std.proofs.lemmas.Bool.{and_parts, leb-true, lt-ltb, false≢true, cases_order}
 use Rattle.std.proofs.lemmas.List.{append-nil, map-append, get_or_append_left, get_or_at}
 use Rattle.eve_grammar.specs.Trace.{Customer, Asked}
 use Rattle.eve_grammar.specs.Limits.{is_between, is_customer, is_asked}
 use Rattle.eve_workload.specs.Workload.{Workload, IsWorkload, is_listed, names_of, pair_of, requests_of}
-use Rattle.eve_workload.specs.Lines.{Line, HeadLine, CustomerLine, BatchLine, RequestLine, line_words, line_text, batch_lines, lines_of, workload_text}
-use Rattle.eve_workload.specs.Steps.{customers_in, requests_in, batches_in, last_requests, may_follow, may_end, is_deployment, IsRightBehind, AreRight, text_before, IsBadLine}
+use Rattle.eve_workload.specs.Lines.{Line, HeadLine, CustomerLine, BatchLine, RequestLine, line_words, line_text}
+use Rattle.eve_workload.specs.Lines.{batch_lines, lines_of, workload_text}
+use Rattle.eve_workload.specs.Steps.{customers_in, requests_in, batches_in, last_requests, may_follow, may_end}
+use Rattle.eve_workload.specs.Steps.{is_deployment, IsRightBehind, AreRight, text_before, IsBadLine}
 use Rattle.eve_workload.proofs.Deployments.{other_counts, few_batches, some_customers}
 use Rattle.eve_workload.proofs.OneAnswer.{same_lines, follows_fewer}
 
@@ -20,9 +23,11 @@ pub onto-append : (before lines more : List Line) → onto before (lines ++ more
 onto-append before [] more = refl
 onto-append before (line ∷ lines) more = onto-append (line ∷ before) lines more
 
-onto_text : (before lines : List Line) → text_before (onto before lines) ≡ text_before before ++ flat_map line_text lines
+onto_text : (before lines : List Line) → text_before (onto before lines)
+    ≡ text_before before ++ flat_map line_text lines
 onto_text before [] = sym (append-nil (text_before before))
-onto_text before (line ∷ lines) = onto_text (line ∷ before) lines ∙ append_assoc (text_before before) (line_text line) (flat_map line_text lines)
+onto_text before (line ∷ lines) = onto_text (line ∷ before) lines ∙ append_assoc (text_before before) (line_text line)
+    (flat_map line_text lines)
 
 -- ---- elements that differ
 
@@ -38,51 +43,68 @@ pub record IsClosed (before : List Line) : Type 0 where
 
 -- ---- customers
 
-customers_closed : (before : List Line) (cs : List Customer) → IsClosed before → IsClosed (onto before (map CustomerLine cs))
+customers_closed : (before : List Line) (cs : List Customer) → IsClosed before
+    → IsClosed (onto before (map CustomerLine cs))
 customers_closed before [] closed = closed
-customers_closed before (c ∷ cs) closed = customers_closed (CustomerLine c ∷ before) cs record { ends = refl; opens = refl }
+customers_closed before (c ∷ cs) closed = customers_closed (CustomerLine c ∷ before) cs record
+    { ends = refl; opens = refl }
 
-customers_no_batches : (before : List Line) (cs : List Customer) → batches_in (onto before (map CustomerLine cs)) ≡ batches_in before
+customers_no_batches : (before : List Line) (cs : List Customer) → batches_in (onto before (map CustomerLine cs))
+    ≡ batches_in before
 customers_no_batches before [] = refl
 customers_no_batches before (c ∷ cs) = customers_no_batches (CustomerLine c ∷ before) cs
 
-customers_no_requests : (before : List Line) (cs : List Customer) → requests_in (onto before (map CustomerLine cs)) ≡ requests_in before
+customers_no_requests : (before : List Line) (cs : List Customer) → requests_in (onto before (map CustomerLine cs))
+    ≡ requests_in before
 customers_no_requests before [] = refl
 customers_no_requests before (c ∷ cs) = customers_no_requests (CustomerLine c ∷ before) cs
 
-customers_right : (before : List Line) (cs : List Customer) → AreRight before → ((c : Customer) → may_follow before (CustomerLine c) ≡ true) → list_all is_customer cs ≡ true → length (customers_in before) + length cs ≤ 4096 → AllPairs (λ a b. a ≢ b) (names_of (customers_in before ++ cs)) → AreRight (onto before (map CustomerLine cs))
+customers_right : (before : List Line) (cs : List Customer) → AreRight before
+    → ((c : Customer) → may_follow before (CustomerLine c) ≡ true) → list_all is_customer cs ≡ true
+    → length (customers_in before) + length cs ≤ 4096 → AllPairs (λ a b. a ≢ b) (names_of (customers_in before ++ cs))
+    → AreRight (onto before (map CustomerLine cs))
 customers_right before [] right follows all few apart = right
 customers_right before (c ∷ cs) right follows all few apart =
     let parts = and_parts (is_customer c) (list_all is_customer cs) all in
-    let names = subst (AllPairs (λ a b. a ≢ b)) (map-append (λ (e : Customer). e.name) (customers_in before) (c ∷ cs)) apart in
+    let names = subst (AllPairs (λ a b. a ≢ b)) (map-append (λ (e : Customer). e.name) (customers_in before) (c ∷ cs))
+    apart in
     let here : IsRightBehind before (CustomerLine c) = record {
       follows = follows c;
       ranges = parts.0;
       room = lt-ltb (length (customers_in before)) 4096 (omega arith);
       new = fresh (names_of (customers_in before)) (names_of cs) c.name names;
     } in
-    customers_right (CustomerLine c ∷ before) cs (here, right) (λ e. refl) parts.1 (omega (arith, length-append (customers_in before) (c ∷ [])))
+    customers_right (CustomerLine c ∷ before) cs (here, right) (λ e. refl) parts.1
+    (omega (arith, length-append (customers_in before) (c ∷ [])))
     (subst (λ xs. AllPairs (λ a b. a ≢ b) (names_of xs)) (sym (append_assoc (customers_in before) (c ∷ []) cs)) apart)
 
 -- ---- requests
 
 requests_closed : (before : List Line) (rs : List Asked) → IsClosed before → IsClosed (onto before (map RequestLine rs))
 requests_closed before [] closed = closed
-requests_closed before (r ∷ rs) closed = requests_closed (RequestLine r ∷ before) rs record { ends = refl; opens = refl }
+requests_closed before (r ∷ rs) closed = requests_closed (RequestLine r ∷ before) rs record
+    { ends = refl; opens = refl }
 
 some_closed : (before : List Line) (rs : List Asked) → 1 ≤ length rs → IsClosed (onto before (map RequestLine rs))
 some_closed before [] some = absurd (omega arith)
 some_closed before (r ∷ rs) some = requests_closed (RequestLine r ∷ before) rs record { ends = refl; opens = refl }
 
-requests_no_batches : (before : List Line) (rs : List Asked) → batches_in (onto before (map RequestLine rs)) ≡ batches_in before
+requests_no_batches : (before : List Line) (rs : List Asked) → batches_in (onto before (map RequestLine rs))
+    ≡ batches_in before
 requests_no_batches before [] = refl
 requests_no_batches before (r ∷ rs) = requests_no_batches (RequestLine r ∷ before) rs
 
-requests_listed : (before : List Line) (rs : List Asked) → requests_in (onto before (map RequestLine rs)) ≡ requests_in before ++ rs
+requests_listed : (before : List Line) (rs : List Asked) → requests_in (onto before (map RequestLine rs))
+    ≡ requests_in before ++ rs
 requests_listed before [] = sym (append-nil (requests_in before))
-requests_listed before (r ∷ rs) = requests_listed (RequestLine r ∷ before) rs ∙ append_assoc (requests_in before) (r ∷ []) rs
+requests_listed before (r ∷ rs) = requests_listed (RequestLine r ∷ before) rs
+    ∙ append_assoc (requests_in before) (r ∷ []) rs
 
-requests_right : (before : List Line) (rs more : List Asked) → AreRight before → ((a : Asked) → may_follow before (RequestLine a) ≡ true) → list_all is_asked rs ≡ true → last_requests before + length rs ≤ 256 → AllPairs (λ p q. p ≢ q) (map pair_of (requests_in before ++ (rs ++ more))) → AreRight (onto before (map RequestLine rs))
+requests_right : (before : List Line) (rs more : List Asked) → AreRight before
+    → ((a : Asked) → may_follow before (RequestLine a) ≡ true) → list_all is_asked rs ≡ true
+    → last_requests before + length rs ≤ 256
+    → AllPairs (λ p q. p ≢ q) (map pair_of (requests_in before ++ (rs ++ more)))
+    → AreRight (onto before (map RequestLine rs))
 requests_right before [] more right follows all few apart = right
 requests_right before (r ∷ rs) more right follows all few apart =
     let parts = and_parts (is_asked r) (list_all is_asked rs) all in
@@ -94,11 +116,15 @@ requests_right before (r ∷ rs) more right follows all few apart =
       new = fresh (map pair_of (requests_in before)) (map pair_of (rs ++ more)) (pair_of r) pairs;
     } in
     requests_right (RequestLine r ∷ before) rs more (here, right) (λ a. refl) parts.1 (omega arith)
-    (subst (λ xs. AllPairs (λ p q. p ≢ q) (map pair_of xs)) (sym (append_assoc (requests_in before) (r ∷ []) (rs ++ more))) apart)
+    (subst (λ xs. AllPairs (λ p q. p ≢ q) (map pair_of xs))
+    (sym (append_assoc (requests_in before) (r ∷ []) (rs ++ more))) apart)
 
 -- ---- batches
 
-batches_right : (before : List Line) (parts : List (List Asked)) → AreRight before → IsClosed before → list_all is_listed parts ≡ true → batches_in before + length parts ≤ 65535 → AllPairs (λ p q. p ≢ q) (map pair_of (requests_in before ++ requests_of parts)) → AreRight (onto before (flat_map batch_lines parts)) × IsClosed (onto before (flat_map batch_lines parts))
+batches_right : (before : List Line) (parts : List (List Asked)) → AreRight before → IsClosed before
+    → list_all is_listed parts ≡ true → batches_in before + length parts ≤ 65535
+    → AllPairs (λ p q. p ≢ q) (map pair_of (requests_in before ++ requests_of parts))
+    → AreRight (onto before (flat_map batch_lines parts)) × IsClosed (onto before (flat_map batch_lines parts))
 batches_right before [] right closed all few apart = (right, closed)
 batches_right before (part ∷ parts) right closed all few apart =
     let both = and_parts (is_listed part) (list_all is_listed parts) all in
@@ -111,11 +137,16 @@ batches_right before (part ∷ parts) right closed all few apart =
       new = tt;
     } in
     let inside : List Line = onto (BatchLine ∷ before) (map RequestLine part) in
-    let inside_right = requests_right (BatchLine ∷ before) part (requests_of parts) (opened, right) (λ a. refl) listed.1 (let most = leb-true (length part) 256 count.1 in omega arith) apart in
+    let inside_right = requests_right (BatchLine ∷ before) part (requests_of parts) (opened, right) (λ a. refl) listed.1
+    (let most = leb-true (length part) 256 count.1 in omega arith) apart in
     let inside_closed = some_closed (BatchLine ∷ before) part (leb-true 1 (length part) count.0) in
-    let rest = batches_right inside parts inside_right inside_closed both.1 (omega (arith, requests_no_batches (BatchLine ∷ before) part))
-    (subst (λ xs. AllPairs (λ p q. p ≢ q) (map pair_of xs)) (sym (ap (λ xs. xs ++ requests_of parts) (requests_listed (BatchLine ∷ before) part) ∙ append_assoc (requests_in before) part (requests_of parts))) apart) in
-    subst (λ lines. AreRight lines × IsClosed lines) (sym (onto-append (BatchLine ∷ before) (map RequestLine part) (flat_map batch_lines parts))) rest
+    let rest = batches_right inside parts inside_right inside_closed both.1
+    (omega (arith, requests_no_batches (BatchLine ∷ before) part))
+    (subst (λ xs. AllPairs (λ p q. p ≢ q) (map pair_of xs))
+    (sym (ap (λ xs. xs ++ requests_of parts) (requests_listed (BatchLine ∷ before) part)
+    ∙ append_assoc (requests_in before) part (requests_of parts))) apart) in
+    subst (λ lines. AreRight lines × IsClosed lines)
+    (sym (onto-append (BatchLine ∷ before) (map RequestLine part) (flat_map batch_lines parts))) rest
 
 -- ---- all lines
 
@@ -130,22 +161,29 @@ module _ (w : Workload) (is : IsWorkload w) where
   deployment_right : IsTrue (is_deployment w.deployment)
   deployment_right = other_counts w.deployment (length w.customers) (length w.batches) is.head 1 0 refl
 
-  some_customers_closed : (before : List Line) (cs : List Customer) → 1 ≤ length cs → IsClosed (onto before (map CustomerLine cs))
+  some_customers_closed : (before : List Line) (cs : List Customer) → 1 ≤ length cs
+      → IsClosed (onto before (map CustomerLine cs))
   some_customers_closed before [] some = absurd (omega arith)
-  some_customers_closed before (c ∷ cs) some = customers_closed (CustomerLine c ∷ before) cs record { ends = refl; opens = refl }
+  some_customers_closed before (c ∷ cs) some = customers_closed (CustomerLine c ∷ before) cs record
+      { ends = refl; opens = refl }
 
   pub back_right : AreRight lines_back × IsClosed lines_back
   back_right =
       let head : List Line = HeadLine w.deployment ∷ [] in
-      let head_right : AreRight head = (record { follows = refl; ranges = deployment_right; room = refl; new = tt }, tt) in
+      let head_right : AreRight head = (record { follows = refl; ranges = deployment_right; room = refl; new = tt }, tt)
+      in
       let counted = some_customers w.deployment (length w.customers) (length w.batches) is.head in
       let inside : List Line = onto head (map CustomerLine w.customers) in
-      let right : AreRight inside = customers_right head w.customers head_right (λ c. refl) is.customers (omega arith) is.names in
+      let right : AreRight inside = customers_right head w.customers head_right (λ c. refl) is.customers
+      (omega arith) is.names in
       let closed : IsClosed inside = some_customers_closed head w.customers counted.0 in
       let few = few_batches w.deployment (length w.customers) (length w.batches) is.head in
-      let all = batches_right inside w.batches right closed is.batches (omega (arith, customers_no_batches head w.customers))
-      (subst (λ xs. AllPairs (λ p q. p ≢ q) (map pair_of (xs ++ requests_of w.batches))) (sym (customers_no_requests head w.customers)) is.pairs) in
-      subst (λ lines. AreRight lines × IsClosed lines) (sym (onto-append head (map CustomerLine w.customers) (flat_map batch_lines w.batches))) all
+      let all = batches_right inside w.batches right closed is.batches
+      (omega (arith, customers_no_batches head w.customers))
+      (subst (λ xs. AllPairs (λ p q. p ≢ q) (map pair_of (xs ++ requests_of w.batches)))
+      (sym (customers_no_requests head w.customers)) is.pairs) in
+      subst (λ lines. AreRight lines × IsClosed lines)
+      (sym (onto-append head (map CustomerLine w.customers) (flat_map batch_lines w.batches))) all
 
   pub back_text : workload_text w ≡ text_before lines_back ++ []
   back_text = sym (onto_text [] (lines_of w)) ∙ sym (append-nil (text_before lines_back))
@@ -154,15 +192,18 @@ module _ (w : Workload) (is : IsWorkload w) where
   no_bad_line n bad =
       elim (cases_order (length bad.before) (length lines_back)) [
         | inl equal ↦
-            let same = same_lines bad.before lines_back bad.rest [] bad.right back_right.0 equal (sym bad.text ∙ back_text) in
+            let same = same_lines bad.before lines_back bad.rest [] bad.right back_right.0 equal
+            (sym bad.text ∙ back_text) in
             false≢true (sym (bad.unended same.1) ∙ ap may_end same.0 ∙ back_right.1.ends)
         | inr apart ↦
             elim apart [
               | inl less ↦
-                  let next = follows_fewer bad.before lines_back bad.rest [] bad.right back_right.0 less (sym bad.text ∙ back_text) in
+                  let next = follows_fewer bad.before lines_back bad.rest [] bad.right back_right.0 less
+                  (sym bad.text ∙ back_text) in
                   bad.wrong next.0 next.1 next.2 next.3
               | inr more ↦
-                  let next = follows_fewer lines_back bad.before [] bad.rest back_right.0 bad.right more (sym back_text ∙ bad.text) in
+                  let next = follows_fewer lines_back bad.before [] bad.rest back_right.0 bad.right more
+                  (sym back_text ∙ bad.text) in
                   let long = ap length next.2 in
                   omega (arith, long, length-append (line_text next.0) next.1, line_long next.0)
             ]

@@ -1,5 +1,7 @@
 -- The lines of a text that may end make up a workload.
-use Rattle.std.proofs.Common.{◌≡◌, ◌≢◌, ℕ, suc, ◌+◌, ◌<◌, ◌≤◌, Bool, true, false, ◌&&◌, IsTrue, nat_le, List, [], ◌∷◌, ◌++◌, map, length, drop, Option, Some, None, IfSome, AllPairs, Contains, refl, sym, ap, subst, ◌∙◌, arith, length-append, append_assoc}
+use Rattle.std.proofs.Common.{◌≡◌, ◌≢◌, ℕ, suc, ◌+◌, ◌<◌, ◌≤◌, Bool, true, false, ◌&&◌, IsTrue, nat_le, List, [], ◌∷◌}
+use Rattle.std.proofs.Common.{◌++◌, map, length, drop, Option, Some, None, IfSome, AllPairs, Contains, refl, sym, ap}
+use Rattle.std.proofs.Common.{subst, ◌∙◌, arith, length-append, append_assoc}
 use Rattle.std.specs.List.{list_all, flat_map}
 use Rattle.std.proofs.lemmas.Bool.{false≢true, and_parts, and_from, le-leb, ltb-true}
 use Rattle.std.proofs.lemmas.List.{append-nil, map_push, get_or_default}
@@ -10,8 +12,10 @@ use Rattle.eve_grammar.specs.Trace.{Customer, Asked}
 use Rattle.eve_grammar.specs.Limits.{is_between, is_customer, is_asked, is_head}
 use Rattle.eve_workload.specs.declared.deployment.Deployment.{Deployment}
 use Rattle.eve_workload.specs.Workload.{Workload, IsWorkload, head_of, is_listed, names_of, pair_of, requests_of}
-use Rattle.eve_workload.specs.Lines.{Line, HeadLine, CustomerLine, BatchLine, RequestLine, line_text, batch_lines, workload_text}
-use Rattle.eve_workload.specs.Steps.{customers_in, requests_in, batches_in, last_requests, may_follow, may_end, is_deployment, AreRight, text_before}
+use Rattle.eve_workload.specs.Lines.{Line, HeadLine, CustomerLine, BatchLine, RequestLine, line_text, batch_lines}
+use Rattle.eve_workload.specs.Lines.{workload_text}
+use Rattle.eve_workload.specs.Steps.{customers_in, requests_in, batches_in, last_requests, may_follow, may_end}
+use Rattle.eve_workload.specs.Steps.{is_deployment, AreRight, text_before}
 use Rattle.eve_workload.specs.Held.{cut_at, starts_from, workload_of, IsHeld}
 use Rattle.eve_workload.specs.declared.workload.Workload.TheInside.{Inside}
 use Rattle.eve_workload.specs.declared.draft.Draft.{Draft}
@@ -38,13 +42,17 @@ flat-push_last : (parts : List (List Asked)) (a : Asked) → requests_of (push_l
 flat-push_last [] a = refl
 flat-push_last (part ∷ []) a = append-nil (part ++ a ∷ []) ∙ ap (λ p. p ++ a ∷ []) (sym (append-nil part))
 flat-push_last (part ∷ next ∷ parts) a =
-    ap (λ rest. part ++ rest) (flat-push_last (next ∷ parts) a) ∙ sym (append_assoc part (requests_of (next ∷ parts)) (a ∷ []))
+    ap (λ rest. part ++ rest) (flat-push_last (next ∷ parts) a)
+    ∙ sym (append_assoc part (requests_of (next ∷ parts)) (a ∷ []))
 
-starts-push_last : (behind : ℕ) (part : List Asked) (parts : List (List Asked)) (a : Asked) → starts_from behind (push_last (part ∷ parts) a) ≡ starts_from behind (part ∷ parts)
+starts-push_last : (behind : ℕ) (part : List Asked) (parts : List (List Asked)) (a : Asked)
+    → starts_from behind (push_last (part ∷ parts) a) ≡ starts_from behind (part ∷ parts)
 starts-push_last behind part [] a = refl
-starts-push_last behind part (next ∷ parts) a = ap (λ rest. behind ∷ rest) (starts-push_last (behind + length part) next parts a)
+starts-push_last behind part (next ∷ parts) a =
+    ap (λ rest. behind ∷ rest) (starts-push_last (behind + length part) next parts a)
 
-lines-push_last : (part : List Asked) (parts : List (List Asked)) (a : Asked) → flat_map batch_lines (push_last (part ∷ parts) a) ≡ flat_map batch_lines (part ∷ parts) ++ RequestLine a ∷ []
+lines-push_last : (part : List Asked) (parts : List (List Asked)) (a : Asked)
+    → flat_map batch_lines (push_last (part ∷ parts) a) ≡ flat_map batch_lines (part ∷ parts) ++ RequestLine a ∷ []
 lines-push_last part [] a =
     append-nil (batch_lines (part ++ a ∷ [])) ∙ ap (λ lines. BatchLine ∷ lines) (map_push RequestLine part a)
     ∙ ap (λ lines. lines ++ RequestLine a ∷ []) (sym (append-nil (batch_lines part)))
@@ -52,19 +60,24 @@ lines-push_last part (next ∷ parts) a =
     ap (λ rest. batch_lines part ++ rest) (lines-push_last next parts a)
     ∙ sym (append_assoc (batch_lines part) (flat_map batch_lines (next ∷ parts)) (RequestLine a ∷ []))
 
-starts-snoc : (behind : ℕ) (parts : List (List Asked)) (part : List Asked) → starts_from behind (parts ++ part ∷ []) ≡ starts_from behind parts ++ (behind + length (requests_of parts)) ∷ []
+starts-snoc : (behind : ℕ) (parts : List (List Asked)) (part : List Asked) → starts_from behind (parts ++ part ∷ [])
+    ≡ starts_from behind parts ++ (behind + length (requests_of parts)) ∷ []
 starts-snoc behind [] part = ap (λ n. n ∷ []) (omega arith)
 starts-snoc behind (first ∷ parts) part =
-    let sum : (behind + length first) + length (requests_of parts) ≡ behind + length (first ++ requests_of parts) = omega (arith, length-append first (requests_of parts)) in
-    ap (λ rest. behind ∷ rest) (starts-snoc (behind + length first) parts part ∙ ap (λ n. starts_from (behind + length first) parts ++ n ∷ []) sum)
+    let sum : (behind + length first) + length (requests_of parts) ≡ behind + length (first ++ requests_of parts) =
+    omega (arith, length-append first (requests_of parts)) in
+    ap (λ rest. behind ∷ rest) (starts-snoc (behind + length first) parts part
+    ∙ ap (λ n. starts_from (behind + length first) parts ++ n ∷ []) sum)
 
 pub batches_flat : (before : List Line) → requests_of (batches_of before) ≡ requests_in before
 batches_flat [] = refl
 batches_flat (HeadLine d ∷ before) = batches_flat before
 batches_flat (CustomerLine c ∷ before) = batches_flat before
 batches_flat (BatchLine ∷ before) =
-    flat_map-append (λ (b : List Asked). b) (batches_of before) ([] ∷ []) ∙ append-nil (requests_of (batches_of before)) ∙ batches_flat before
-batches_flat (RequestLine a ∷ before) = flat-push_last (batches_of before) a ∙ ap (λ rs. rs ++ a ∷ []) (batches_flat before)
+    flat_map-append (λ (b : List Asked). b) (batches_of before) ([] ∷ []) ∙ append-nil (requests_of (batches_of before))
+    ∙ batches_flat before
+batches_flat (RequestLine a ∷ before) = flat-push_last (batches_of before) a
+    ∙ ap (λ rs. rs ++ a ∷ []) (batches_flat before)
 
 push_last_some : (parts : List (List Asked)) (a : Asked) → 1 ≤ length (push_last parts a)
 push_last_some [] a = omega arith
@@ -76,14 +89,16 @@ push_last_count [] a some = absurd (omega arith)
 push_last_count (part ∷ []) a some = refl
 push_last_count (part ∷ next ∷ parts) a some = ap suc (push_last_count (next ∷ parts) a (omega arith))
 
-batch_there : (before : List Line) (a : Asked) → IsTrue (may_follow before (RequestLine a)) → 1 ≤ length (batches_of before)
+batch_there : (before : List Line) (a : Asked) → IsTrue (may_follow before (RequestLine a))
+    → 1 ≤ length (batches_of before)
 batch_there [] a follows = cc
 batch_there (HeadLine d ∷ before) a follows = cc
 batch_there (CustomerLine c ∷ before) a follows = cc
 batch_there (BatchLine ∷ before) a follows = omega (arith, length-append (batches_of before) ([] ∷ []))
 batch_there (RequestLine b ∷ before) a follows = push_last_some (batches_of before) b
 
-starts_push : (parts : List (List Asked)) (a : Asked) → 1 ≤ length parts → starts_from 0 (push_last parts a) ≡ starts_from 0 parts
+starts_push : (parts : List (List Asked)) (a : Asked) → 1 ≤ length parts → starts_from 0 (push_last parts a)
+    ≡ starts_from 0 parts
 starts_push [] a some = absurd (omega arith)
 starts_push (part ∷ parts) a some = starts-push_last 0 part parts a
 
@@ -92,33 +107,43 @@ starts_are [] right = refl
 starts_are (HeadLine d ∷ before) right = starts_are before right.1
 starts_are (CustomerLine c ∷ before) right = starts_are before right.1
 starts_are (BatchLine ∷ before) right =
-    let count : 0 + length (requests_of (batches_of before)) ≡ length (requests_in before) = omega (arith, ap length (batches_flat before)) in
+    let count : 0 + length (requests_of (batches_of before)) ≡ length (requests_in before) =
+    omega (arith, ap length (batches_flat before)) in
     starts-snoc 0 (batches_of before) [] ∙ (λ k. starts_are before right.1 k ++ count k ∷ [])
-starts_are (RequestLine a ∷ before) right = starts_push (batches_of before) a (batch_there before a right.0.follows) ∙ starts_are before right.1
+starts_are (RequestLine a ∷ before) right = starts_push (batches_of before) a (batch_there before a right.0.follows)
+    ∙ starts_are before right.1
 
 pub batches_counted : (before : List Line) → AreRight before → length (batches_of before) ≡ batches_in before
 batches_counted [] right = refl
 batches_counted (HeadLine d ∷ before) right = batches_counted before right.1
 batches_counted (CustomerLine c ∷ before) right = batches_counted before right.1
-batches_counted (BatchLine ∷ before) right = omega (arith, length-append (batches_of before) ([] ∷ []), batches_counted before right.1)
-batches_counted (RequestLine a ∷ before) right = push_last_count (batches_of before) a (batch_there before a right.0.follows) ∙ batches_counted before right.1
+batches_counted (BatchLine ∷ before) right =
+    omega (arith, length-append (batches_of before) ([] ∷ []), batches_counted before right.1)
+batches_counted (RequestLine a ∷ before) right = push_last_count (batches_of before) a
+    (batch_there before a right.0.follows) ∙ batches_counted before right.1
 
 -- the parts of a list are those that it was cut into
-cut_all : (front : List Asked) (parts : List (List Asked)) (behind : ℕ) (items : List Asked) → behind ≡ length front → items ≡ front ++ requests_of parts → cut_at items (starts_from behind parts) ≡ parts
+cut_all : (front : List Asked) (parts : List (List Asked)) (behind : ℕ) (items : List Asked) → behind ≡ length front
+    → items ≡ front ++ requests_of parts → cut_at items (starts_from behind parts) ≡ parts
 cut_all front [] behind items starts are = refl
 cut_all front (part ∷ []) behind items starts are =
-    ap (λ x. x ∷ []) (ap (drop behind) are ∙ ap (λ n. drop n (front ++ (part ++ []))) starts ∙ drop_front front (part ++ []) ∙ append-nil part)
+    ap (λ x. x ∷ []) (ap (drop behind) are ∙ ap (λ n. drop n (front ++ (part ++ []))) starts
+    ∙ drop_front front (part ++ []) ∙ append-nil part)
 cut_all front (part ∷ next ∷ parts) behind items starts are =
     let rest = requests_of (next ∷ parts) in
     let first = taken front part rest items behind (behind + length part) are starts refl in
-    let later = cut_all (front ++ part) (next ∷ parts) (behind + length part) items (omega (arith, length-append front part)) (are ∙ sym (append_assoc front part rest)) in
+    let later = cut_all (front ++ part) (next ∷ parts) (behind + length part) items
+    (omega (arith, length-append front part)) (are ∙ sym (append_assoc front part rest)) in
     (λ k. first k ∷ later k)
 
-pub cut_batches : (before : List Line) → AreRight before → cut_at (requests_in before) (starts_in before) ≡ batches_of before
+pub cut_batches : (before : List Line) → AreRight before → cut_at (requests_in before) (starts_in before)
+    ≡ batches_of before
 cut_batches before right =
-    (λ k. cut_at (sym (batches_flat before) k) (sym (starts_are before right) k)) ∙ cut_all [] (batches_of before) 0 (requests_of (batches_of before)) refl refl
+    (λ k. cut_at (sym (batches_flat before) k) (sym (starts_are before right) k))
+    ∙ cut_all [] (batches_of before) 0 (requests_of (batches_of before)) refl refl
 
-no_batches : (before : List Line) (c : Customer) → AreRight before → IsTrue (may_follow before (CustomerLine c)) → batches_of before ≡ []
+no_batches : (before : List Line) (c : Customer) → AreRight before → IsTrue (may_follow before (CustomerLine c))
+    → batches_of before ≡ []
 no_batches [] c right follows = cc
 no_batches (HeadLine d ∷ []) c right follows = refl
 no_batches (HeadLine d ∷ (HeadLine e ∷ before)) c right follows = let wrong = right.0.follows in cc
@@ -133,39 +158,50 @@ no_batches (RequestLine a ∷ before) c right follows = cc
 abbrev lines_so : Deployment → List Line → List Line
 lines_so d before = HeadLine d ∷ (map CustomerLine (customers_in before) ++ flat_map batch_lines (batches_of before))
 
-lines_push : (parts : List (List Asked)) (a : Asked) → 1 ≤ length parts → flat_map batch_lines (push_last parts a) ≡ flat_map batch_lines parts ++ RequestLine a ∷ []
+lines_push : (parts : List (List Asked)) (a : Asked) → 1 ≤ length parts → flat_map batch_lines (push_last parts a)
+    ≡ flat_map batch_lines parts ++ RequestLine a ∷ []
 lines_push [] a some = absurd (omega arith)
 lines_push (part ∷ parts) a some = lines-push_last part parts a
 
-customer_lines : (d : Deployment) (before : List Line) (c : Customer) → batches_of before ≡ [] → lines_so d (CustomerLine c ∷ before) ≡ lines_so d before ++ CustomerLine c ∷ []
+customer_lines : (d : Deployment) (before : List Line) (c : Customer) → batches_of before ≡ []
+    → lines_so d (CustomerLine c ∷ before) ≡ lines_so d before ++ CustomerLine c ∷ []
 customer_lines d before c none =
     let behind : flat_map batch_lines (batches_of before) ≡ [] = ap (flat_map batch_lines) none in
     ap (λ lines. HeadLine d ∷ lines)
-    ((λ k. map CustomerLine (customers_in before ++ c ∷ []) ++ behind k) ∙ append-nil (map CustomerLine (customers_in before ++ c ∷ []))
+    ((λ k. map CustomerLine (customers_in before ++ c ∷ []) ++ behind k)
+    ∙ append-nil (map CustomerLine (customers_in before ++ c ∷ []))
     ∙ map_push CustomerLine (customers_in before) c
-    ∙ (λ k. (sym (append-nil (map CustomerLine (customers_in before))) ∙ ap (λ t. map CustomerLine (customers_in before) ++ t) (sym behind)) k ++ CustomerLine c ∷ []))
+    ∙ (λ k. (sym (append-nil (map CustomerLine (customers_in before)))
+    ∙ ap (λ t. map CustomerLine (customers_in before) ++ t) (sym behind)) k ++ CustomerLine c ∷ []))
 
-batch_line_so : (d : Deployment) (before : List Line) → lines_so d (BatchLine ∷ before) ≡ lines_so d before ++ BatchLine ∷ []
+batch_line_so : (d : Deployment) (before : List Line) → lines_so d (BatchLine ∷ before)
+    ≡ lines_so d before ++ BatchLine ∷ []
 batch_line_so d before =
     let front = map CustomerLine (customers_in before) in
     ap (λ lines. HeadLine d ∷ (front ++ lines)) (flat_map-append batch_lines (batches_of before) ([] ∷ []))
-    ∙ ap (λ lines. HeadLine d ∷ lines) (sym (append_assoc front (flat_map batch_lines (batches_of before)) (BatchLine ∷ [])))
+    ∙ ap (λ lines. HeadLine d ∷ lines)
+    (sym (append_assoc front (flat_map batch_lines (batches_of before)) (BatchLine ∷ [])))
 
-request_line_so : (d : Deployment) (before : List Line) (a : Asked) → 1 ≤ length (batches_of before) → lines_so d (RequestLine a ∷ before) ≡ lines_so d before ++ RequestLine a ∷ []
+request_line_so : (d : Deployment) (before : List Line) (a : Asked) → 1 ≤ length (batches_of before)
+    → lines_so d (RequestLine a ∷ before) ≡ lines_so d before ++ RequestLine a ∷ []
 request_line_so d before a some =
     let front = map CustomerLine (customers_in before) in
     ap (λ lines. HeadLine d ∷ (front ++ lines)) (lines_push (batches_of before) a some)
-    ∙ ap (λ lines. HeadLine d ∷ lines) (sym (append_assoc front (flat_map batch_lines (batches_of before)) (RequestLine a ∷ [])))
+    ∙ ap (λ lines. HeadLine d ∷ lines)
+    (sym (append_assoc front (flat_map batch_lines (batches_of before)) (RequestLine a ∷ [])))
 
 some_map : {A : Type 0} (o : Option A) (P Q : A → Type 0) → ((x : A) → P x → Q x) → IfSome o P → IfSome o Q
 some_map None P Q f p = tt
 some_map (Some x) P Q f p = f x p
 
-text_more : (text : List ℕ) (lines more : List Line) (line : Line) → text ≡ flat_map line_text lines → more ≡ lines ++ line ∷ [] → text ++ line_text line ≡ flat_map line_text more
+text_more : (text : List ℕ) (lines more : List Line) (line : Line) → text ≡ flat_map line_text lines
+    → more ≡ lines ++ line ∷ [] → text ++ line_text line ≡ flat_map line_text more
 text_more text lines more line so_far are =
-    (λ k. so_far k ++ sym (append-nil (line_text line)) k) ∙ sym (flat_map-append line_text lines (line ∷ [])) ∙ ap (flat_map line_text) (sym are)
+    (λ k. so_far k ++ sym (append-nil (line_text line)) k) ∙ sym (flat_map-append line_text lines (line ∷ []))
+    ∙ ap (flat_map line_text) (sym are)
 
-pub text_so : (before : List Line) → AreRight before → IfSome (deployment_in before) (λ d. text_before before ≡ flat_map line_text (lines_so d before))
+pub text_so : (before : List Line) → AreRight before
+    → IfSome (deployment_in before) (λ d. text_before before ≡ flat_map line_text (lines_so d before))
 text_so [] right = tt
 text_so (HeadLine d ∷ []) right = sym (append-nil (line_text (HeadLine d)))
 text_so (HeadLine d ∷ (HeadLine e ∷ before)) right = let wrong = right.0.follows in absurd (false≢true wrong)
@@ -173,15 +209,22 @@ text_so (HeadLine d ∷ (CustomerLine c ∷ before)) right = let wrong = right.0
 text_so (HeadLine d ∷ (BatchLine ∷ before)) right = let wrong = right.0.follows in absurd (false≢true wrong)
 text_so (HeadLine d ∷ (RequestLine a ∷ before)) right = let wrong = right.0.follows in absurd (false≢true wrong)
 text_so (CustomerLine c ∷ before) right =
-    some_map (deployment_in before) _ _ (λ d so_far. text_more (text_before before) (lines_so d before) _ (CustomerLine c) so_far (customer_lines d before c (no_batches before c right.1 right.0.follows))) (text_so before right.1)
+    some_map (deployment_in before) _ _
+    (λ d so_far. text_more (text_before before) (lines_so d before) _ (CustomerLine c) so_far
+    (customer_lines d before c (no_batches before c right.1 right.0.follows))) (text_so before right.1)
 text_so (BatchLine ∷ before) right =
-    some_map (deployment_in before) _ _ (λ d so_far. text_more (text_before before) (lines_so d before) _ BatchLine so_far (batch_line_so d before)) (text_so before right.1)
+    some_map (deployment_in before) _ _
+    (λ d so_far. text_more (text_before before) (lines_so d before) _ BatchLine so_far (batch_line_so d before))
+    (text_so before right.1)
 text_so (RequestLine a ∷ before) right =
-    some_map (deployment_in before) _ _ (λ d so_far. text_more (text_before before) (lines_so d before) _ (RequestLine a) so_far (request_line_so d before a (batch_there before a right.0.follows))) (text_so before right.1)
+    some_map (deployment_in before) _ _
+    (λ d so_far. text_more (text_before before) (lines_so d before) _ (RequestLine a) so_far
+    (request_line_so d before a (batch_there before a right.0.follows))) (text_so before right.1)
 
 -- ---- limits
 
-pub deployment_there : (before : List Line) → AreRight before → 1 ≤ length before → (e : Deployment) × (deployment_in before ≡ Some e) × IsTrue (is_deployment e)
+pub deployment_there : (before : List Line) → AreRight before → 1 ≤ length before → (e : Deployment)
+    × (deployment_in before ≡ Some e) × IsTrue (is_deployment e)
 deployment_there [] right some = absurd (omega arith)
 deployment_there (HeadLine d ∷ before) right some = (d, refl, right.0.ranges)
 deployment_there (CustomerLine c ∷ []) right some = absurd (false≢true right.0.follows)
@@ -218,7 +261,8 @@ customers_there [] right past = absurd (false≢true past)
 customers_there (HeadLine d ∷ before) right past = absurd (false≢true past)
 customers_there (CustomerLine c ∷ before) right past = omega (arith, length-append (customers_in before) (c ∷ []))
 customers_there (BatchLine ∷ before) right past = customers_there before right.1 (past_batch before right.0.follows)
-customers_there (RequestLine a ∷ before) right past = customers_there before right.1 (past_request before a right.0.follows)
+customers_there (RequestLine a ∷ before) right past =
+    customers_there before right.1 (past_request before a right.0.follows)
 
 pub customers_some : (before : List Line) → AreRight before → may_end before ≡ true → 1 ≤ length (customers_in before)
 customers_some [] right ends = absurd (false≢true ends)
@@ -227,13 +271,16 @@ customers_some (CustomerLine c ∷ before) right ends = customers_there (Custome
 customers_some (BatchLine ∷ before) right ends = absurd (false≢true ends)
 customers_some (RequestLine a ∷ before) right ends = customers_there (RequestLine a ∷ before) right refl
 
-all_push : {A : Type 0} (p : A → Bool) (xs : List A) (x : A) → IsTrue (list_all p xs) → IsTrue (p x) → IsTrue (list_all p (xs ++ x ∷ []))
-all_push p xs x all here = list_all-append p xs (x ∷ []) ∙ and_from (list_all p xs) (p x && true) all (and_from (p x) true here refl)
+all_push : {A : Type 0} (p : A → Bool) (xs : List A) (x : A) → IsTrue (list_all p xs) → IsTrue (p x)
+    → IsTrue (list_all p (xs ++ x ∷ []))
+all_push p xs x all here = list_all-append p xs (x ∷ [])
+    ∙ and_from (list_all p xs) (p x && true) all (and_from (p x) true here refl)
 
 pub customers_right : (before : List Line) → AreRight before → IsTrue (list_all is_customer (customers_in before))
 customers_right [] right = refl
 customers_right (HeadLine d ∷ before) right = customers_right before right.1
-customers_right (CustomerLine c ∷ before) right = all_push is_customer (customers_in before) c (customers_right before right.1) right.0.ranges
+customers_right (CustomerLine c ∷ before) right = all_push is_customer (customers_in before) c
+    (customers_right before right.1) right.0.ranges
 customers_right (BatchLine ∷ before) right = customers_right before right.1
 customers_right (RequestLine a ∷ before) right = customers_right before right.1
 
@@ -242,16 +289,20 @@ requests_right [] right = refl
 requests_right (HeadLine d ∷ before) right = requests_right before right.1
 requests_right (CustomerLine c ∷ before) right = requests_right before right.1
 requests_right (BatchLine ∷ before) right = requests_right before right.1
-requests_right (RequestLine a ∷ before) right = all_push is_asked (requests_in before) a (requests_right before right.1) right.0.ranges
+requests_right (RequestLine a ∷ before) right = all_push is_asked (requests_in before) a (requests_right before right.1)
+    right.0.ranges
 
-apart_push : {A : Type 0} (xs : List A) (x : A) → AllPairs (λ a b. a ≢ b) xs → ¬ Contains xs x → AllPairs (λ a b. a ≢ b) (xs ++ x ∷ [])
-apart_push xs x apart new = all_pairs_push (λ a b. a ≢ b) xs x apart (λ k d there same. new (k, there, get_or_default xs k x d there ∙ same))
+apart_push : {A : Type 0} (xs : List A) (x : A) → AllPairs (λ a b. a ≢ b) xs → ¬ Contains xs x
+    → AllPairs (λ a b. a ≢ b) (xs ++ x ∷ [])
+apart_push xs x apart new = all_pairs_push (λ a b. a ≢ b) xs x apart
+    (λ k d there same. new (k, there, get_or_default xs k x d there ∙ same))
 
 pub names_apart : (before : List Line) → AreRight before → AllPairs (λ a b. a ≢ b) (names_of (customers_in before))
 names_apart [] right = λ i j d below there. absurd (omega arith)
 names_apart (HeadLine d ∷ before) right = names_apart before right.1
 names_apart (CustomerLine c ∷ before) right =
-    subst (AllPairs (λ a b. a ≢ b)) (sym (map_push (λ (e : Customer). e.name) (customers_in before) c)) (apart_push (names_of (customers_in before)) c.name (names_apart before right.1) right.0.new)
+    subst (AllPairs (λ a b. a ≢ b)) (sym (map_push (λ (e : Customer). e.name) (customers_in before) c))
+    (apart_push (names_of (customers_in before)) c.name (names_apart before right.1) right.0.new)
 names_apart (BatchLine ∷ before) right = names_apart before right.1
 names_apart (RequestLine a ∷ before) right = names_apart before right.1
 
@@ -261,7 +312,8 @@ pairs_apart (HeadLine d ∷ before) right = pairs_apart before right.1
 pairs_apart (CustomerLine c ∷ before) right = pairs_apart before right.1
 pairs_apart (BatchLine ∷ before) right = pairs_apart before right.1
 pairs_apart (RequestLine a ∷ before) right =
-    subst (AllPairs (λ p q. p ≢ q)) (sym (map_push pair_of (requests_in before) a)) (apart_push (map pair_of (requests_in before)) (pair_of a) (pairs_apart before right.1) right.0.new)
+    subst (AllPairs (λ p q. p ≢ q)) (sym (map_push pair_of (requests_in before) a))
+    (apart_push (map pair_of (requests_in before)) (pair_of a) (pairs_apart before right.1) right.0.new)
 
 -- ---- each batch
 
@@ -271,12 +323,15 @@ has_some part = nat_le 1 (length part)
 abbrev has_few : List Asked → Bool
 has_few part = nat_le (length part) 256
 
-push_has_some : (parts : List (List Asked)) (a : Asked) → IsTrue (list_all has_some parts) → IsTrue (list_all has_some (push_last parts a))
+push_has_some : (parts : List (List Asked)) (a : Asked) → IsTrue (list_all has_some parts)
+    → IsTrue (list_all has_some (push_last parts a))
 push_has_some [] a all = refl
-push_has_some (part ∷ []) a all = and_from (has_some (part ++ a ∷ [])) true (le-leb 1 (length (part ++ a ∷ [])) (omega (arith, length-append part (a ∷ [])))) refl
+push_has_some (part ∷ []) a all = and_from (has_some (part ++ a ∷ [])) true
+    (le-leb 1 (length (part ++ a ∷ [])) (omega (arith, length-append part (a ∷ [])))) refl
 push_has_some (part ∷ next ∷ parts) a all =
     let both = and_parts (has_some part) (list_all has_some (next ∷ parts)) all in
-    and_from (has_some part) (list_all has_some (push_last (next ∷ parts) a)) both.0 (push_has_some (next ∷ parts) a both.1)
+    and_from (has_some part) (list_all has_some (push_last (next ∷ parts) a)) both.0
+    (push_has_some (next ∷ parts) a both.1)
 
 push_behind_empty : (parts : List (List Asked)) (a : Asked) → push_last (parts ++ [] ∷ []) a ≡ parts ++ (a ∷ []) ∷ []
 push_behind_empty [] a = refl
@@ -290,14 +345,16 @@ record AreSome (before : List Line) : Type 0 where
 
 are_some : (before : List Line) → AreRight before → AreSome before
 are_some [] right = record { pushed = λ a. refl; closed = λ _. refl }
-are_some (HeadLine d ∷ before) right = record { pushed = λ a. (are_some before right.1).pushed a; closed = λ no. absurd (false≢true no) }
+are_some (HeadLine d ∷ before) right =
+    record { pushed = λ a. (are_some before right.1).pushed a; closed = λ no. absurd (false≢true no) }
 are_some (CustomerLine c ∷ before) right =
     let none = no_batches before c right.1 right.0.follows in
     record { pushed = λ a. (are_some before right.1).pushed a; closed = λ _. ap (list_all has_some) none }
 are_some (BatchLine ∷ before) right =
     let closed = (are_some before right.1).closed right.0.follows in
     record {
-      pushed = λ a. ap (list_all has_some) (push_behind_empty (batches_of before) a) ∙ all_push has_some (batches_of before) (a ∷ []) closed refl;
+      pushed = λ a. ap (list_all has_some) (push_behind_empty (batches_of before) a)
+          ∙ all_push has_some (batches_of before) (a ∷ []) closed refl;
       closed = λ no. absurd (false≢true no);
     }
 are_some (RequestLine b ∷ before) right =
@@ -309,7 +366,8 @@ last_len [] = 0
 last_len (part ∷ []) = length part
 last_len (part ∷ next ∷ parts) = last_len (next ∷ parts)
 
-last_len_cons : (part : List Asked) (parts : List (List Asked)) → 1 ≤ length parts → last_len (part ∷ parts) ≡ last_len parts
+last_len_cons : (part : List Asked) (parts : List (List Asked)) → 1 ≤ length parts → last_len (part ∷ parts)
+    ≡ last_len parts
 unfolding last_len
 last_len_cons part [] some = absurd (omega arith)
 last_len_cons part (next ∷ parts) some = refl
@@ -318,7 +376,8 @@ last_len_push : (parts : List (List Asked)) (a : Asked) → last_len (push_last 
 unfolding last_len
 last_len_push [] a = refl
 last_len_push (part ∷ []) a = length-append part (a ∷ [])
-last_len_push (part ∷ next ∷ parts) a = last_len_cons part (push_last (next ∷ parts) a) (push_last_some (next ∷ parts) a) ∙ last_len_push (next ∷ parts) a
+last_len_push (part ∷ next ∷ parts) a = last_len_cons part (push_last (next ∷ parts) a)
+    (push_last_some (next ∷ parts) a) ∙ last_len_push (next ∷ parts) a
 
 last_len_snoc : (parts : List (List Asked)) → last_len (parts ++ [] ∷ []) ≡ 0
 unfolding last_len
@@ -326,21 +385,26 @@ last_len_snoc [] = refl
 last_len_snoc (part ∷ []) = refl
 last_len_snoc (part ∷ next ∷ parts) = last_len_snoc (next ∷ parts)
 
-last_counts : (before : List Line) → AreRight before → in_batch before ≡ true → last_len (batches_of before) ≡ last_requests before
+last_counts : (before : List Line) → AreRight before → in_batch before ≡ true → last_len (batches_of before)
+    ≡ last_requests before
 last_counts [] right inside = absurd (false≢true inside)
 last_counts (HeadLine d ∷ before) right inside = absurd (false≢true inside)
 last_counts (CustomerLine c ∷ before) right inside = absurd (false≢true inside)
 last_counts (BatchLine ∷ before) right inside = last_len_snoc (batches_of before)
 last_counts (RequestLine a ∷ before) right inside =
-    last_len_push (batches_of before) a ∙ ap (λ n. n + 1) (last_counts before right.1 (request_in_batch before a right.0.follows))
+    last_len_push (batches_of before) a
+    ∙ ap (λ n. n + 1) (last_counts before right.1 (request_in_batch before a right.0.follows))
 
-push_has_few : (parts : List (List Asked)) (a : Asked) → IsTrue (list_all has_few parts) → last_len parts < 256 → IsTrue (list_all has_few (push_last parts a))
+push_has_few : (parts : List (List Asked)) (a : Asked) → IsTrue (list_all has_few parts) → last_len parts < 256
+    → IsTrue (list_all has_few (push_last parts a))
 unfolding last_len
 push_has_few [] a all low = refl
-push_has_few (part ∷ []) a all low = and_from (has_few (part ++ a ∷ [])) true (le-leb (length (part ++ a ∷ [])) 256 (omega (arith, length-append part (a ∷ [])))) refl
+push_has_few (part ∷ []) a all low = and_from (has_few (part ++ a ∷ [])) true
+    (le-leb (length (part ++ a ∷ [])) 256 (omega (arith, length-append part (a ∷ [])))) refl
 push_has_few (part ∷ next ∷ parts) a all low =
     let both = and_parts (has_few part) (list_all has_few (next ∷ parts)) all in
-    and_from (has_few part) (list_all has_few (push_last (next ∷ parts) a)) both.0 (push_has_few (next ∷ parts) a both.1 low)
+    and_from (has_few part) (list_all has_few (push_last (next ∷ parts) a)) both.0
+    (push_has_few (next ∷ parts) a both.1 low)
 
 are_few : (before : List Line) → AreRight before → IsTrue (list_all has_few (batches_of before))
 are_few [] right = refl
@@ -352,20 +416,24 @@ are_few (RequestLine a ∷ before) right =
     let low = ltb-true (last_requests before) 256 right.0.room in
     push_has_few (batches_of before) a (are_few before right.1) (omega arith)
 
-asked_parts : (parts : List (List Asked)) → IsTrue (list_all is_asked (requests_of parts)) → IsTrue (list_all (list_all is_asked) parts)
+asked_parts : (parts : List (List Asked)) → IsTrue (list_all is_asked (requests_of parts))
+    → IsTrue (list_all (list_all is_asked) parts)
 asked_parts [] all = refl
 asked_parts (part ∷ parts) all =
-    let both = and_parts (list_all is_asked part) (list_all is_asked (requests_of parts)) (sym (list_all-append is_asked part (requests_of parts)) ∙ all) in
+    let both = and_parts (list_all is_asked part) (list_all is_asked (requests_of parts))
+    (sym (list_all-append is_asked part (requests_of parts)) ∙ all) in
     and_from (list_all is_asked part) (list_all (list_all is_asked) parts) both.0 (asked_parts parts both.1)
 
-all_listed : (parts : List (List Asked)) → IsTrue (list_all has_some parts) → IsTrue (list_all has_few parts) → IsTrue (list_all (list_all is_asked) parts) → IsTrue (list_all is_listed parts)
+all_listed : (parts : List (List Asked)) → IsTrue (list_all has_some parts) → IsTrue (list_all has_few parts)
+    → IsTrue (list_all (list_all is_asked) parts) → IsTrue (list_all is_listed parts)
 all_listed [] some few asked_all = refl
 all_listed (part ∷ parts) some few asked_all =
     let some_parts = and_parts (has_some part) (list_all has_some parts) some in
     let few_parts = and_parts (has_few part) (list_all has_few parts) few in
     let asked_both = and_parts (list_all is_asked part) (list_all (list_all is_asked) parts) asked_all in
     and_from (is_listed part) (list_all is_listed parts)
-    (and_from (has_some part && has_few part) (list_all is_asked part) (and_from (has_some part) (has_few part) some_parts.0 few_parts.0) asked_both.0)
+    (and_from (has_some part && has_few part) (list_all is_asked part)
+    (and_from (has_some part) (has_few part) some_parts.0 few_parts.0) asked_both.0)
     (all_listed parts some_parts.1 few_parts.1 asked_both.1)
 
 ends_closed : (before : List Line) → may_end before ≡ true → IsTrue (may_follow before BatchLine)
@@ -375,7 +443,8 @@ ends_closed (CustomerLine c ∷ before) ends = refl
 ends_closed (BatchLine ∷ before) ends = absurd (false≢true ends)
 ends_closed (RequestLine a ∷ before) ends = refl
 
-batches_listed : (before : List Line) → AreRight before → may_end before ≡ true → IsTrue (list_all is_listed (batches_of before))
+batches_listed : (before : List Line) → AreRight before → may_end before ≡ true
+    → IsTrue (list_all is_listed (batches_of before))
 batches_listed before right ends =
     all_listed (batches_of before) ((are_some before right).closed (ends_closed before ends)) (are_few before right)
     (asked_parts (batches_of before) (ap (list_all is_asked) (batches_flat before) ∙ requests_right before right))
@@ -385,7 +454,8 @@ batches_listed before right ends =
 abbrev pub workload_in : Deployment → List Line → Workload
 workload_in d before = record { deployment = d; customers = customers_in before; batches = batches_of before }
 
-head_right : (d : Deployment) (before : List Line) → AreRight before → may_end before ≡ true → IsTrue (is_deployment d) → IsTrue (is_head (head_of (workload_in d before)))
+head_right : (d : Deployment) (before : List Line) → AreRight before → may_end before ≡ true → IsTrue (is_deployment d)
+    → IsTrue (is_head (head_of (workload_in d before)))
 head_right d before right ends ranges =
     let customers = length (customers_in before) in
     let batches = length (batches_of before) in
@@ -393,9 +463,11 @@ head_right d before right ends ranges =
     let few = le-leb customers 4096 (customers_few before right) in
     let batch_few = le-leb batches 65535 (omega (arith, batches_counted before right, batches_few before right)) in
     other_counts d 1 0 ranges customers batches
-    (and_from (is_between 1 4096 customers) (nat_le batches 65535) (and_from (nat_le 1 customers) (nat_le customers 4096) some few) batch_few)
+    (and_from (is_between 1 4096 customers) (nat_le batches 65535)
+    (and_from (nat_le 1 customers) (nat_le customers 4096) some few) batch_few)
 
-workload_right : (d : Deployment) (before : List Line) → AreRight before → may_end before ≡ true → IsTrue (is_deployment d) → IsWorkload (workload_in d before)
+workload_right : (d : Deployment) (before : List Line) → AreRight before → may_end before ≡ true
+    → IsTrue (is_deployment d) → IsWorkload (workload_in d before)
 workload_right d before right ends ranges = record {
   head = head_right d before right ends ranges;
   customers = customers_right before right;
@@ -428,7 +500,8 @@ module _ (d : Draft) (before : List Line) (keeps : Keeps d before) (ends : may_e
   pub whole_right : IsWorkload (workload_of inside_of)
   whole_right =
       subst IsWorkload (sym workload_is)
-      (workload_right d.deployment before keeps.right ends (subst (λ e. IsTrue (is_deployment e)) (sym same_head) the_head.2))
+      (workload_right d.deployment before keeps.right ends
+      (subst (λ e. IsTrue (is_deployment e)) (sym same_head) the_head.2))
 
   pub whole_held : IsHeld inside_of
   whole_held = record {
@@ -439,6 +512,7 @@ module _ (d : Draft) (before : List Line) (keeps : Keeps d before) (ends : may_e
 
   pub whole_text : text_before before ≡ workload_text (workload_of inside_of)
   whole_text =
-      subst (λ o. IfSome o (λ e. text_before before ≡ flat_map line_text (lines_so e before))) the_head.1 (text_so before keeps.right)
+      subst (λ o. IfSome o (λ e. text_before before ≡ flat_map line_text (lines_so e before))) the_head.1
+      (text_so before keeps.right)
       ∙ ap (λ e. workload_text (workload_in e before)) (sym same_head)
       ∙ ap workload_text (sym workload_is)

@@ -1,11 +1,13 @@
 -- Bits of a list of words of 64.
-use Rattle.std.proofs.Common.{◌≡◌, ◌≢◌, ℕ, suc, zero, ◌+◌, ◌*◌, ◌/◌, ◌%◌, ◌^◌, ◌-◌, ◌<◌, ◌≤◌, ◌==◌, true, false, List, length, inl, inr, refl, sym, ap, ◌∙◌, arith, bit_or, max}
+use Rattle.std.proofs.Common.{◌≡◌, ◌≢◌, ℕ, suc, zero, ◌+◌, ◌*◌, ◌/◌, ◌%◌, ◌^◌, ◌-◌, ◌<◌, ◌≤◌, ◌==◌, true, false, List}
+use Rattle.std.proofs.Common.{length, inl, inr, refl, sym, ap, ◌∙◌, arith, bit_or, max}
 use Rattle.std.specs.Prelude.{slice_index_or, ◌||◌, slice_set}
 use Rattle.std.specs.Int.{bit_at, w64, trailing_ones}
 use Rattle.std.proofs.lemmas.Bool.{eq-eqb, ne_eqb, cases_eq, cases_lt, or_right}
 use Rattle.std.proofs.Math.Bool.{or-false}
 use Rattle.std.proofs.lemmas.List.{get_or-set_same, get_or-set_other, get_or_past}
-use Rattle.std.proofs.lemmas.Nat.Bits.{bit_at_set_same, bit_at_set_other, bit_at_or, bit_at-zero, bit_at-lt, bit_at_ones, bit_at-trailing_ones}
+use Rattle.std.proofs.lemmas.Nat.Bits.{bit_at_set_same, bit_at_set_other, bit_at_or, bit_at-zero, bit_at-lt}
+use Rattle.std.proofs.lemmas.Nat.Bits.{bit_at_ones, bit_at-trailing_ones}
 
 -- the bit with this number
 abbrev pub bit_of : List ℕ → ℕ → ℕ
@@ -21,7 +23,9 @@ module _ (words : List ℕ) (g : ℕ) (there : g / 64 < length words) where
 
   same_bit : bit_of added g ≡ 1
   same_bit =
-      ap (λ w. bit_at w (g % 64)) (get_or-set_same words (g / 64) (bit_or (slice_index_or words (g / 64) 0) (1 * 2 ^ (g % 64) % 2 ^ 64)) 0 there)
+      ap (λ w. bit_at w (g % 64))
+      (get_or-set_same words (g / 64) (bit_or (slice_index_or words (g / 64) 0) (1 * 2 ^ (g % 64) % 2 ^ 64)) 0
+      there)
       ∙ bit_at_set_same w64 (slice_index_or words (g / 64) 0) (g % 64) (omega arith)
 
   other_bit : (other : ℕ) → other ≢ g → bit_of added other ≡ bit_of words other
@@ -31,7 +35,8 @@ module _ (words : List ℕ) (g : ℕ) (there : g / 64 < length words) where
         | inl high ↦
             ap (λ k. bit_at (slice_index_or added k 0) (other % 64)) high
             ∙ ap (λ w. bit_at w (other % 64)) (get_or-set_same words (g / 64) word 0 there)
-            ∙ bit_at_set_other w64 (slice_index_or words (g / 64) 0) (g % 64) (omega arith) (other % 64) (λ low. apart (same_parts other g high low))
+            ∙ bit_at_set_other w64 (slice_index_or words (g / 64) 0) (g % 64) (omega arith) (other % 64)
+            (λ low. apart (same_parts other g high low))
             ∙ ap (λ k. bit_at (slice_index_or words k 0) (other % 64)) (sym high)
         | inr high ↦ ap (λ w. bit_at w (other % 64)) (get_or-set_other words (g / 64) (other / 64) word 0 high)
       ]
@@ -58,7 +63,8 @@ either (suc (suc a)) b small small' = absurd (omega arith)
 
 -- a bit of two numbers
 pub bit_of_both : (m n i : ℕ) → (bit_at (bit_or m n) i == 1) ≡ ((bit_at m i == 1) || (bit_at n i == 1))
-bit_of_both m n i = ap (λ b. b == 1) (bit_at_or m n i) ∙ either (bit_at m i) (bit_at n i) (bit_at-lt m i) (bit_at-lt n i)
+bit_of_both m n i = ap (λ b. b == 1) (bit_at_or m n i) ∙ either (bit_at m i) (bit_at n i) (bit_at-lt m i)
+    (bit_at-lt n i)
 
 -- there are no bits past the words
 pub no_bit : (words : List ℕ) (at : ℕ) → length words ≤ at / 64 → bit_of words at ≡ 0
@@ -66,7 +72,8 @@ no_bit words at past = ap (λ w. bit_at w (at % 64)) (get_or_past words (at / 64
 
 -- ---- the first bit that isn't set
 
-module _ (words : List ℕ) (place from : ℕ) (from_is : from ≡ 64 * place) (set : (at : ℕ) → at < from → (bit_of words at == 1) ≡ true) where
+module _ (words : List ℕ) (place from : ℕ) (from_is : from ≡ 64 * place)
+    (set : (at : ℕ) → at < from → (bit_of words at == 1) ≡ true) where
   at_word : (at : ℕ) → from ≤ at → at < from + 64 → (at / 64 ≡ place) × (at % 64 ≡ at - from)
   at_word at low high = (omega (arith, from_is, low, high), omega (arith, from_is, low, high))
 
@@ -75,16 +82,19 @@ module _ (words : List ℕ) (place from : ℕ) (from_is : from ≡ 64 * place) (
 
   module _ (small : slice_index_or words place 0 < 2 ^ 64) (some : slice_index_or words place 0 ≢ 2 ^ 64 - 1) where
     lowest : let t = trailing_ones w64 (slice_index_or words place 0) in
-        (t < 64) × (bit_at (slice_index_or words place 0) t ≡ 0) × ((i : ℕ) → i < t → bit_at (slice_index_or words place 0) i ≡ 1)
+        (t < 64) × (bit_at (slice_index_or words place 0) t ≡ 0)
+        × ((i : ℕ) → i < t → bit_at (slice_index_or words place 0) i ≡ 1)
     lowest = bit_at-trailing_ones w64 (slice_index_or words place 0) (omega (arith, small, some))
 
     pub lowest_unset : (bit_of words (from + trailing_ones w64 (slice_index_or words place 0)) == 1) ≡ false
     lowest_unset =
         let t : ℕ = trailing_ones w64 (slice_index_or words place 0) in
         let below : t < 64 = lowest.0 in
-        ap (λ b. b == 1) (here (from + t) (omega arith) (omega arith) ∙ ap (bit_at (slice_index_or words place 0)) (let e : from + t - from ≡ t = omega arith in e) ∙ lowest.1)
+        ap (λ b. b == 1) (here (from + t) (omega arith) (omega arith)
+        ∙ ap (bit_at (slice_index_or words place 0)) (let e : from + t - from ≡ t = omega arith in e) ∙ lowest.1)
 
-    pub set_below : (at : ℕ) → at < from + trailing_ones w64 (slice_index_or words place 0) → (bit_of words at == 1) ≡ true
+    pub set_below : (at : ℕ) → at < from + trailing_ones w64 (slice_index_or words place 0) → (bit_of words at == 1)
+        ≡ true
     set_below at below =
         let t : ℕ = trailing_ones w64 (slice_index_or words place 0) in
         let most : t < 64 = lowest.0 in
@@ -98,5 +108,6 @@ module _ (words : List ℕ) (place from : ℕ) (from_is : from ≡ 64 * place) (
       elim (cases_lt at from) [
         | inl before ↦ set at before
         | inr low ↦
-            ap (λ b. b == 1) (here at low below ∙ ap (λ w. bit_at w (at - from)) all ∙ bit_at_ones 64 (at - from) (omega arith))
+            ap (λ b. b == 1) (here at low below ∙ ap (λ w. bit_at w (at - from)) all
+            ∙ bit_at_ones 64 (at - from) (omega arith))
       ]

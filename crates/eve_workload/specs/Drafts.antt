@@ -1,5 +1,6 @@
 -- What a draft keeps of the lines that it has taken. Of the lines before, the nearest stands first.
-use Rattle.std.specs.Prelude.{◌≡◌, ℕ, ◌*◌, ◌<◌, ◌≤◌, Bool, take, List, [], ◌∷◌, ◌++◌, map, length, Option, Some, None, IfSome, MatchBool}
+use Rattle.std.specs.Prelude.{◌≡◌, ℕ, ◌*◌, ◌<◌, ◌≤◌, Bool, take, List, [], ◌∷◌, ◌++◌, map, length, Option, Some, None}
+use Rattle.std.specs.Prelude.{IfSome, MatchBool}
 use Rattle.std.specs.List.{list_any}
 use Rattle.std.specs.Ordering.{nat_cmp, is_eq, ordering_then}
 use Rattle.std.specs.Borrow.{Bor}
@@ -86,4 +87,5 @@ Takes new before line taken = MatchBool taken (Keeps new (line ∷ before)) (¬ 
 abbrev pub TakesLine : Draft → List Line → List ℕ → Option ℕ → Type 0
 TakesLine new before text (Some len) =
     (line : Line) × (take len text ≡ line_text line) × (len ≤ length text) × (0 < len) × Keeps new (line ∷ before)
-TakesLine new before text None = (line : Line) (behind : List ℕ) → text ≡ line_text line ++ behind → ¬ IsRightBehind before line
+TakesLine new before text None = (line : Line) (behind : List ℕ) → text ≡ line_text line ++ behind
+    → ¬ IsRightBehind before line

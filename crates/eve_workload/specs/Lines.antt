@@ -28,7 +28,8 @@ request_words client number (WriteCheck name amount) =
 -- the words of a line; numbers are decimal without leading zeros
 abbrev pub line_words : Line → List (List ℕ)
 line_words (HeadLine d) =
-    codes "eve" ∷ decimal d.replicas ∷ decimal d.verifiers ∷ decimal d.quorum ∷ decimal d.window ∷ decimal d.workers ∷ []
+    codes "eve" ∷ decimal d.replicas ∷ decimal d.verifiers ∷ decimal d.quorum ∷ decimal d.window ∷ decimal d.workers ∷
+    []
 line_words (CustomerLine c) = codes "customer" ∷ c.name ∷ signed_decimal c.saving ∷ signed_decimal c.checking ∷ []
 line_words BatchLine = codes "batch" ∷ []
 line_words (RequestLine a) = request_words (decimal a.client) (decimal a.number) a.request

@@ -1,5 +1,6 @@
 -- Which line may stand behind which, and the first that may not. Of the lines before, the nearest stands first.
-use Rattle.std.specs.Prelude.{◌≡◌, ℕ, ◌+◌, nat_lt, Bool, true, false, IsTrue, List, [], ◌∷◌, ◌++◌, ⊤, map, length, Contains}
+use Rattle.std.specs.Prelude.{◌≡◌, ℕ, ◌+◌, nat_lt, Bool, true, false, IsTrue, List, [], ◌∷◌, ◌++◌, ⊤, map, length}
+use Rattle.std.specs.Prelude.{Contains}
 use Rattle.eve_grammar.specs.Trace.{Customer, Asked}
 use Rattle.eve_grammar.specs.Limits.{is_customer, is_asked, is_head}
 use Rattle.eve_workload.specs.declared.deployment.Deployment.{Deployment}

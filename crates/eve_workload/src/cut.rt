@@ -25,7 +25,6 @@ pub(crate) struct Cut {
 impl Cut {
     /// No requests, and room for so many.
     pub(crate) fn new(alloc: Global, requests: usize) -> Result<Cut, AllocError>
-        requires { requests < 65536 }
         ensures { IfOk result (λ c. (rows : ℕ → Rows) → IsCut c rows []) }
     {
         Ok(Cut {
@@ -46,9 +45,10 @@ impl Cut {
             rows (length self.old.seats.items) ≡ touched.now → IsCut self.old rows groups →
             IsCut self.new rows (placed (share_at rows) groups (length self.old.seats.items))) }
     {
-        let group = self.marks.barred(touched).first_absent();
+        let spots = self.marks.meet(touched)?;
+        let group = self.marks.barred(&spots).first_absent();
         let place = add_to(&mut self.sizes, group)?;
-        self.marks.mark(touched, group)?;
+        self.marks.mark(&spots, group);
         self.seats.push(Seat { group, place })?;
         Ok(())
     }

@@ -10,12 +10,14 @@ ghost use Rattle.eve_workload.specs.declared.draft.Pair.{Pair as PairValue};
 ghost use Rattle.eve_workload.specs.Lines.{Line as LineValue, HeadLine, CustomerLine, BatchLine, RequestLine};
 ghost use Rattle.eve_workload.specs.Steps.{may_follow, may_end, is_deployment, is_line};
 ghost use Rattle.eve_workload.specs.Said.{said};
-ghost use Rattle.eve_workload.specs.Drafts.{last_in, next_of, has_name, has_pair, same_pair, IsSmall, Keeps, Takes, TakesLine};
+ghost use Rattle.eve_workload.specs.Drafts.{last_in, next_of, has_name, has_pair, same_pair, IsSmall, Keeps, Takes};
+ghost use Rattle.eve_workload.specs.Drafts.{TakesLine};
 
 use crate::deployment::Deployment;
 use crate::line::{Line, line_of};
-use crate::requests::owned;
+use crate::requests::add_owned;
 use crate::words::split_line;
+use eve_accounts::Name;
 use eve_grammar::{Asked, CustomerBody};
 use eve_write::{CustomerData, RequestData};
 use std::alloc::{AllocError, Global};
@@ -86,12 +88,12 @@ impl<'a> Draft<'a> {
     /// Takes the first line of a text, and says how long it is; `None` where it is no line that may stand here.
     pub(crate) fn take_line(
         &mut self,
-        alloc: Global,
         text: &'a [u8],
         words: &mut Vec<&'a [u8]>,
     ) -> Result<Option<usize>, AllocError>
         requires { IsSmall self.old }
-        ensures { IfOk result (λ taken. (before : List LineValue) → Keeps self.old before → TakesLine self.new before text.entry.now taken) }
+        ensures { IfOk result (λ taken. (before : List LineValue) → Keeps self.old before
+            → TakesLine self.new before text.entry.now taken) }
     {
         let Some(len) = split_line(text, words)? else {
             return Ok(None);
@@ -99,27 +101,29 @@ impl<'a> Draft<'a> {
         let Some(line) = line_of(words.as_slice()) else {
             return Ok(None);
         };
-        let taken = self.take(alloc, &line)?;
+        let taken = self.take(&line)?;
         Ok(if taken { Some(len) } else { None })
     }
 
     // Takes a line, or says that it may not stand here.
-    fn take(&mut self, alloc: Global, line: &Line<'a>) -> Result<bool, AllocError>
+    fn take(&mut self, line: &Line<'a>) -> Result<bool, AllocError>
         requires small { IsSmall self.old }
         requires right { IsTrue (is_line (said line.now)) }
-        ensures { IfOk result (λ taken. (before : List LineValue) → Keeps self.old before → Takes self.new before (said line.now) taken) }
+        ensures { IfOk result (λ taken. (before : List LineValue) → Keeps self.old before
+            → Takes self.new before (said line.now) taken) }
     {
         match line {
             Line::Head(deployment) => Ok(self.take_head(*deployment)),
-            Line::Customer(customer) => self.take_customer(alloc, customer),
+            Line::Customer(customer) => self.take_customer(customer),
             Line::Batch => self.take_batch(),
-            Line::Request(asked) => self.take_request(alloc, asked),
+            Line::Request(asked) => self.take_request(asked),
         }
     }
 
     fn take_head(&mut self, deployment: Deployment) -> bool
         requires { IsTrue (is_deployment deployment) }
-        ensures { (before : List LineValue) → Keeps self.old before → Takes self.new before (HeadLine deployment) result }
+        ensures { (before : List LineValue) → Keeps self.old before
+            → Takes self.new before (HeadLine deployment) result }
     {
         if !self.last.takes_head() {
             return false;
@@ -129,13 +133,10 @@ impl<'a> Draft<'a> {
         true
     }
 
-    fn take_customer(
-        &mut self,
-        alloc: Global,
-        customer: &CustomerBody<'a>,
-    ) -> Result<bool, AllocError>
+    fn take_customer(&mut self, customer: &CustomerBody<'a>) -> Result<bool, AllocError>
         requires { IsTrue (is_customer (borrowed_customer customer.now)) }
-        ensures { IfOk result (λ taken. (before : List LineValue) → Keeps self.old before → Takes self.new before (CustomerLine (borrowed_customer customer.now)) taken) }
+        ensures { IfOk result (λ taken. (before : List LineValue) → Keeps self.old before
+            → Takes self.new before (CustomerLine (borrowed_customer customer.now)) taken) }
     {
         if !self.last.takes_customer() {
             return Ok(false);
@@ -148,7 +149,7 @@ impl<'a> Draft<'a> {
             return Ok(false);
         }
         self.customers.push(CustomerData {
-            name: Vec::from_slice(alloc, name)?,
+            name: Name::of(name),
             saving: customer.saving,
             checking: customer.checking,
         })?;
@@ -158,7 +159,8 @@ impl<'a> Draft<'a> {
 
     fn take_batch(&mut self) -> Result<bool, AllocError>
         requires { IsSmall self.old }
-        ensures { IfOk result (λ taken. (before : List LineValue) → Keeps self.old before → Takes self.new before BatchLine taken) }
+        ensures { IfOk result (λ taken. (before : List LineValue) → Keeps self.old before
+            → Takes self.new before BatchLine taken) }
     {
         if !self.last.takes_batch() {
             return Ok(false);
@@ -172,9 +174,10 @@ impl<'a> Draft<'a> {
         Ok(true)
     }
 
-    fn take_request(&mut self, alloc: Global, asked: &Asked<'a>) -> Result<bool, AllocError>
+    fn take_request(&mut self, asked: &Asked<'a>) -> Result<bool, AllocError>
         requires { IsTrue (is_asked (borrowed_asked asked.now)) }
-        ensures { IfOk result (λ taken. (before : List LineValue) → Keeps self.old before → Takes self.new before (RequestLine (borrowed_asked asked.now)) taken) }
+        ensures { IfOk result (λ taken. (before : List LineValue) → Keeps self.old before
+            → Takes self.new before (RequestLine (borrowed_asked asked.now)) taken) }
     {
         if !self.last.takes_request() {
             return Ok(false);
@@ -189,7 +192,7 @@ impl<'a> Draft<'a> {
         if !add_pair(&mut self.pairs, pair)? {
             return Ok(false);
         }
-        self.requests.push(owned(alloc, asked)?)?;
+        add_owned(&mut self.requests, asked)?;
         self.count += 1;
         self.last = Last::Request;
         Ok(true)
@@ -207,13 +210,15 @@ impl<'a> Draft<'a> {
 
 impl Last {
     fn takes_head(self) -> bool
-        ensures { (before : List LineValue) (d : DeploymentValue) → self ≡ last_in before → result ≡ may_follow before (HeadLine d) }
+        ensures { (before : List LineValue) (d : DeploymentValue) → self ≡ last_in before
+            → result ≡ may_follow before (HeadLine d) }
     {
         matches!(self, Last::Nothing)
     }
 
     fn takes_customer(self) -> bool
-        ensures { (before : List LineValue) (c : Customer) → self ≡ last_in before → result ≡ may_follow before (CustomerLine c) }
+        ensures { (before : List LineValue) (c : Customer) → self ≡ last_in before
+            → result ≡ may_follow before (CustomerLine c) }
     {
         matches!(self, Last::Head | Last::Customer)
     }
@@ -225,7 +230,8 @@ impl Last {
     }
 
     fn takes_request(self) -> bool
-        ensures { (before : List LineValue) (a : AskedValue) → self ≡ last_in before → result ≡ may_follow before (RequestLine a) }
+        ensures { (before : List LineValue) (a : AskedValue) → self ≡ last_in before
+            → result ≡ may_follow before (RequestLine a) }
     {
         matches!(self, Last::Batch | Last::Request)
     }

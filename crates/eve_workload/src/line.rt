@@ -5,7 +5,8 @@ ghost use Rattle.eve_smallbank.specs.SmallBank.{Request as RequestValue, plain};
 ghost use Rattle.eve_grammar.specs.Trace.{Customer, Asked as AskedValue};
 ghost use Rattle.eve_grammar.specs.Limits.{is_customer, is_asked, is_request};
 ghost use Rattle.eve_workload.specs.declared.deployment.Deployment.{Deployment as DeploymentValue};
-ghost use Rattle.eve_workload.specs.Lines.{Line as LineValue, HeadLine, CustomerLine, RequestLine, request_words, line_words};
+ghost use Rattle.eve_workload.specs.Lines.{Line as LineValue, HeadLine, CustomerLine, RequestLine, request_words};
+ghost use Rattle.eve_workload.specs.Lines.{line_words};
 ghost use Rattle.eve_workload.specs.Steps.{is_deployment, is_line};
 ghost use Rattle.eve_workload.specs.Words.{bytes_of};
 ghost use Rattle.eve_workload.specs.Said.{said};
@@ -49,7 +50,8 @@ pub(crate) fn line_of<'a>(words: &[&'a [u8]]) -> Option<Line<'a>>
 fn line_of_five<'a>(words: &[&'a [u8]]) -> Option<Line<'a>>
     requires { length words.now ≡ 5 }
     ensures some { IfSome result (λ l. (line_words (said l) ≡ bytes_of words.now) × IsTrue (is_line (said l))) }
-    ensures none { IfNone result ((a : AskedValue) → IsTrue (is_asked a) → line_words (RequestLine a) ≢ bytes_of words.now) }
+    ensures none { IfNone result ((a : AskedValue) → IsTrue (is_asked a)
+        → line_words (RequestLine a) ≢ bytes_of words.now) }
 {
     let five = five_of(words);
     long_line(five.kind, five.client, five.number, five.name, five.last)
@@ -67,7 +69,8 @@ struct Five<'a> {
 
 fn five_of<'a>(words: &[&'a [u8]]) -> Five<'a>
     requires { length words.now ≡ 5 }
-    ensures { bytes_of words.now ≡ result.kind.now ∷ result.client.now ∷ result.number.now ∷ result.name.now ∷ result.last.now ∷ [] }
+    ensures { bytes_of words.now ≡ result.kind.now ∷ result.client.now ∷ result.number.now ∷ result.name.now
+        ∷ result.last.now ∷ [] }
 {
     Five {
         kind: words[0],
@@ -81,7 +84,8 @@ fn five_of<'a>(words: &[&'a [u8]]) -> Five<'a>
 fn line_of_six<'a>(words: &[&'a [u8]]) -> Option<Line<'a>>
     requires { length words.now ≡ 6 }
     ensures some { IfSome result (λ l. (line_words (said l) ≡ bytes_of words.now) × IsTrue (is_line (said l))) }
-    ensures none { IfNone result ((d : DeploymentValue) → IsTrue (is_deployment d) → line_words (HeadLine d) ≢ bytes_of words.now) }
+    ensures none { IfNone result ((d : DeploymentValue) → IsTrue (is_deployment d)
+        → line_words (HeadLine d) ≢ bytes_of words.now) }
 {
     let six = six_of(words);
     head_line(
@@ -140,7 +144,8 @@ fn head_line<'a>(
     workers: &[u8],
 ) -> Option<Line<'a>>
     ensures some { IfSome result (λ l.
-        (line_words (said l) ≡ kind.now ∷ replicas.now ∷ verifiers.now ∷ quorum.now ∷ window.now ∷ workers.now ∷ []) × IsTrue (is_line (said l))) }
+        (line_words (said l) ≡ kind.now ∷ replicas.now ∷ verifiers.now ∷ quorum.now ∷ window.now ∷ workers.now ∷ [])
+        × IsTrue (is_line (said l))) }
     ensures none { IfNone result ((d : DeploymentValue) → IsTrue (is_deployment d) →
         line_words (HeadLine d) ≢ kind.now ∷ replicas.now ∷ verifiers.now ∷ quorum.now ∷ window.now ∷ workers.now ∷ []) }
 {
@@ -163,7 +168,8 @@ fn head_line<'a>(
 
 fn customer_line<'a>(name: &'a [u8], saved: &[u8], checked: &[u8]) -> Option<Line<'a>>
     ensures some { IfSome result (λ l.
-        (line_words (said l) ≡ codes "customer" ∷ name.entry.now ∷ saved.now ∷ checked.now ∷ []) × IsTrue (is_line (said l))) }
+        (line_words (said l) ≡ codes "customer" ∷ name.entry.now ∷ saved.now ∷ checked.now ∷ [])
+        × IsTrue (is_line (said l))) }
     ensures none { IfNone result ((c : Customer) → IsTrue (is_customer c) →
         line_words (CustomerLine c) ≢ codes "customer" ∷ name.entry.now ∷ saved.now ∷ checked.now ∷ []) }
 {
@@ -203,7 +209,8 @@ fn long_line<'a>(
     last: &'a [u8],
 ) -> Option<Line<'a>>
     ensures some { IfSome result (λ l.
-        (line_words (said l) ≡ kind.now ∷ client.now ∷ count.now ∷ name.entry.now ∷ last.entry.now ∷ []) × IsTrue (is_line (said l))) }
+        (line_words (said l) ≡ kind.now ∷ client.now ∷ count.now ∷ name.entry.now ∷ last.entry.now ∷ [])
+        × IsTrue (is_line (said l))) }
     ensures none { IfNone result ((a : AskedValue) → IsTrue (is_asked a) →
         line_words (RequestLine a) ≢ kind.now ∷ client.now ∷ count.now ∷ name.entry.now ∷ last.entry.now ∷ []) }
 {

@@ -11,7 +11,7 @@ ghost use Rattle.eve_workload.specs.Mixed.{touched_by, IsMixed};
 
 use crate::groups::first_fit;
 use crate::lookups::{look_up, pick};
-use crate::requests::{copy_all, copy_listed};
+use crate::requests::listed;
 use eve_accounts::Names;
 use eve_smallbank::Touched;
 use eve_write::{BatchData, RequestData};
@@ -113,7 +113,7 @@ fn cut_first(
 {
     let groups = first_fit(alloc, touched)?;
     let touched = pick(alloc, touched, groups.order.as_slice())?;
-    let requests = copy_listed(alloc, requests, groups.order.as_slice())?;
+    let requests = listed(alloc, requests, groups.order.as_slice())?;
     Ok(MixedBatch {
         batch: BatchData {
             sizes: groups.sizes,
@@ -136,7 +136,7 @@ fn cut_whole(
 {
     let mut sizes = Vec::with_capacity(alloc, 1)?;
     sizes.push(requests.len() as u16)?;
-    let requests = copy_all(alloc, requests)?;
+    let requests = requests.to_vec(alloc)?;
     Ok(MixedBatch {
         batch: BatchData { sizes, requests },
         touched,

@@ -1,6 +1,7 @@
 //! A workload that was read.
 
-ghost use Rattle.std.specs.Prelude.{◌≡◌, ◌≢◌, ℕ, List, ◌+◌, ◌-◌, ◌<◌, ◌≤◌, [], ◌∷◌, ◌++◌, take, drop, slice_index, IsTrue, IfOk, Err, AllPairs, length, map, slice_get, Some};
+ghost use Rattle.std.specs.Prelude.{◌≡◌, ◌≢◌, ℕ, List, ◌+◌, ◌-◌, ◌<◌, ◌≤◌, [], ◌∷◌, ◌++◌, take, drop, slice_index};
+ghost use Rattle.std.specs.Prelude.{IsTrue, IfOk, Err, AllPairs, length, map, slice_get, Some};
 ghost use Rattle.std.specs.List.{list_all};
 ghost use Rattle.eve_grammar.specs.Bodies.{limits};
 ghost use Rattle.eve_grammar.specs.Limits.{is_customer, is_asked, is_head};
@@ -58,7 +59,7 @@ impl Workload {
         let mut at = 0;
         while at < text.len() {
             let number = draft.next_line();
-            match draft.take_line(alloc, &text[at..], &mut words)? {
+            match draft.take_line(&text[at..], &mut words)? {
                 Some(len) => at += len,
                 None => return Err(WorkloadFault::Line(number)),
             }
@@ -120,7 +121,8 @@ impl Workload {
 // The workload of lines behind which the text may end.
 fn whole(draft: Draft<'_>) -> Workload
     requires { (before : List Line) × Keeps draft before × IsTrue (may_end before) }
-    ensures text { (before : List Line) → Keeps draft.entry before → IsTrue (may_end before) → text_before before ≡ workload_text result }
+    ensures text { (before : List Line) → Keeps draft.entry before → IsTrue (may_end before) → text_before before
+        ≡ workload_text result }
     ensures right { IsWorkload result }
 {
     Workload {

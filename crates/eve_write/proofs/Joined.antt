@@ -1,5 +1,7 @@
 -- What several writes do together.
-use Rattle.std.proofs.Common.{◌≡◌, ℕ, ◌+◌, ◌<◌, List, [], ◌∷◌, ◌++◌, Option, length, get_or, take, drop, refl, sym, subst, ◌∙◌, ap, append_assoc, append-nil, Result, Ok, Err, Some, true, slice_get, zero, suc, map}
+use Rattle.std.proofs.Common.{◌≡◌, ℕ, ◌+◌, ◌<◌, List, [], ◌∷◌, ◌++◌, Option, length, get_or, take, drop, refl, sym}
+use Rattle.std.proofs.Common.{subst, ◌∙◌, ap, append_assoc, append-nil, Result, Ok, Err, Some, true, slice_get, zero}
+use Rattle.std.proofs.Common.{suc, map}
 use Rattle.std.specs.Borrow.{Bor}
 use Rattle.std.specs.List.{flat_map, list_all}
 use Rattle.std.proofs.lemmas.List.{drop_more, take_more, take-append-drop}
@@ -29,7 +31,8 @@ Stopped-later {written = written} {a = a} {b = b} {c = c} {xs = xs} {ys = ys} on
 }
 
 -- a front of xs is one of xs and what follows
-pub Stopped-before : {S : Type 0} {written : S → Option (List ℕ)} {failures : S → ℕ} {a b : S} {xs : List ℕ} (ys : List ℕ)
+pub Stopped-before : {S : Type 0} {written : S → Option (List ℕ)} {failures : S → ℕ} {a b : S} {xs : List ℕ}
+    (ys : List ℕ)
     → Stopped written failures a b xs → Stopped written failures a b (xs ++ ys)
 Stopped-before {written = written} {a = a} {b = b} {xs = xs} ys one = record {
   front = AppendsFront-more (written a) (written b) xs ys one.front;
@@ -45,14 +48,19 @@ flat_map-split : {X : Type 0} (f : X → List ℕ) (xs : List X) (i : ℕ) (x : 
 flat_map-split f xs i x within is =
     let front = flat_map f (take i xs) in
     let rest : drop i xs ≡ x ∷ drop (i + 1) xs = drop_more xs i x within ∙ ap (λ y. y ∷ drop (i + 1) xs) (sym is) in
-    let parts : flat_map f (take i xs ++ drop i xs) ≡ front ++ flat_map f (drop i xs) = flat_map-append f (take i xs) (drop i xs) in
-    append_assoc front (f x) (flat_map f (drop (i + 1) xs)) ∙ ap (λ ys. front ++ flat_map f ys) (sym rest) ∙ sym parts ∙ ap (flat_map f) (take-append-drop i xs)
+    let parts : flat_map f (take i xs ++ drop i xs) ≡ front ++ flat_map f (drop i xs) =
+    flat_map-append f (take i xs) (drop i xs) in
+    append_assoc front (f x) (flat_map f (drop (i + 1) xs)) ∙ ap (λ ys. front ++ flat_map f ys) (sym rest) ∙ sym parts
+    ∙ ap (flat_map f) (take-append-drop i xs)
 
 -- all items before a place, and then a front of the one there
-pub Stopped-more : {S X : Type 0} {written : S → Option (List ℕ)} {failures : S → ℕ} {a b c : S} (f : X → List ℕ) (xs : List X) (i : ℕ) (x : X)
-    → i < length xs → x ≡ get_or xs i x → Wrote written failures a b (flat_map f (take i xs)) → Stopped written failures b c (f x) → Stopped written failures a c (flat_map f xs)
+pub Stopped-more : {S X : Type 0} {written : S → Option (List ℕ)} {failures : S → ℕ} {a b c : S} (f : X → List ℕ)
+    (xs : List X) (i : ℕ) (x : X)
+    → i < length xs → x ≡ get_or xs i x → Wrote written failures a b (flat_map f (take i xs))
+    → Stopped written failures b c (f x) → Stopped written failures a c (flat_map f xs)
 Stopped-more {written = written} {failures = failures} {a = a} {c = c} f xs i x within is one two =
-    subst (Stopped written failures a c) (flat_map-split f xs i x within is) (Stopped-before (flat_map f (drop (i + 1) xs)) (Stopped-later one two))
+    subst (Stopped written failures a c) (flat_map-split f xs i x within is)
+    (Stopped-before (flat_map f (drop (i + 1) xs)) (Stopped-later one two))
 
 -- the last text is not followed by nothing
 pub joined_is : (texts : List (Bor (List ℕ))) → joined texts ≡ flat_map (λ x. x.now) texts
@@ -61,14 +69,17 @@ joined_is (x ∷ []) = sym (append-nil x.now)
 joined_is (x ∷ y ∷ ys) = ap (λ l. x.now ++ l) (joined_is (y ∷ ys))
 
 -- what stopped answers a fault
-pub Writes-at_err : {S A E : Type 0} (written : S → Option (List ℕ)) (failures : S → ℕ) (old new : S) (text : List ℕ) (result : Result A E)
+pub Writes-at_err : {S A E : Type 0} (written : S → Option (List ℕ)) (failures : S → ℕ) (old new : S) (text : List ℕ)
+    (result : Result A E)
     → IsErr result → Stopped written failures old new text → Writes written failures old new result text
 Writes-at_err written failures old new text (Ok x) is_err stopped = absurd (false≢true is_err)
 Writes-at_err written failures old new text (Err e) is_err stopped = stopped
 
 -- xs, and then what the last call writes
-pub Writes-then : {S A E : Type 0} (written : S → Option (List ℕ)) (failures : S → ℕ) (a b c : S) (xs ys : List ℕ) (result : Result A E)
-    → Wrote written failures a b xs → Writes written failures b c result ys → Writes written failures a c result (xs ++ ys)
+pub Writes-then : {S A E : Type 0} (written : S → Option (List ℕ)) (failures : S → ℕ) (a b c : S) (xs ys : List ℕ)
+    (result : Result A E)
+    → Wrote written failures a b xs → Writes written failures b c result ys
+    → Writes written failures a c result (xs ++ ys)
 Writes-then written failures a b c xs ys (Ok x) one two = Wrote-then one two
 Writes-then written failures a b c xs ys (Err e) one two = Stopped-later one two
 
@@ -97,12 +108,16 @@ all_fit (x ∷ xs) = all_fit xs
 flat_map-more : {X : Type 0} (f : X → List ℕ) (xs : List X) (i : ℕ) (x : X)
     → i < length xs → x ≡ get_or xs i x → flat_map f (take i xs) ++ f x ≡ flat_map f (take (i + 1) xs)
 flat_map-more f xs i x within is =
-    let more : take (i + 1) xs ≡ take i xs ++ x ∷ [] = take_more xs i x within ∙ ap (λ y. take i xs ++ y ∷ []) (sym is) in
-    ap (λ t. flat_map f (take i xs) ++ t) (sym (append-nil (f x))) ∙ sym (flat_map-append f (take i xs) (x ∷ [])) ∙ ap (flat_map f) (sym more)
+    let more : take (i + 1) xs ≡ take i xs ++ x ∷ [] = take_more xs i x within
+    ∙ ap (λ y. take i xs ++ y ∷ []) (sym is) in
+    ap (λ t. flat_map f (take i xs) ++ t) (sym (append-nil (f x))) ∙ sym (flat_map-append f (take i xs) (x ∷ []))
+    ∙ ap (flat_map f) (sym more)
 
 -- one item more is written
-pub Wrote-more : {S X : Type 0} {written : S → Option (List ℕ)} {failures : S → ℕ} {a b c : S} (f : X → List ℕ) (xs : List X) (i : ℕ) (x : X)
-    → i < length xs → x ≡ get_or xs i x → Wrote written failures a b (flat_map f (take i xs)) → Wrote written failures b c (f x) → Wrote written failures a c (flat_map f (take (i + 1) xs))
+pub Wrote-more : {S X : Type 0} {written : S → Option (List ℕ)} {failures : S → ℕ} {a b c : S} (f : X → List ℕ)
+    (xs : List X) (i : ℕ) (x : X)
+    → i < length xs → x ≡ get_or xs i x → Wrote written failures a b (flat_map f (take i xs))
+    → Wrote written failures b c (f x) → Wrote written failures a c (flat_map f (take (i + 1) xs))
 Wrote-more {written = written} {failures = failures} {a = a} {c = c} f xs i x within is one two =
     subst (Wrote written failures a c) (flat_map-more f xs i x within is) (Wrote-then one two)
 
@@ -113,10 +128,12 @@ at_place (y ∷ ys) zero x found = cc
 at_place (y ∷ ys) (suc i) x found = at_place ys i x found
 
 -- items of the code as what they are
-pub each_as : {X Y : Type 0} (f : Y → List ℕ) (view : X → Y) (xs ys : List X) → xs ≡ ys → flat_map (λ x. f (view x)) xs ≡ flat_map f (map view ys)
+pub each_as : {X Y : Type 0} (f : Y → List ℕ) (view : X → Y) (xs ys : List X) → xs ≡ ys → flat_map (λ x. f (view x)) xs
+    ≡ flat_map f (map view ys)
 each_as f view xs ys same = ap (flat_map (λ x. f (view x))) same ∙ sym (flat_map-map f view ys)
 
-pub flat_map-flat_map : {X Y : Type 0} (f : Y → List ℕ) (g : X → List Y) (xs : List X) → flat_map f (flat_map g xs) ≡ flat_map (λ x. flat_map f (g x)) xs
+pub flat_map-flat_map : {X Y : Type 0} (f : Y → List ℕ) (g : X → List Y) (xs : List X) → flat_map f (flat_map g xs)
+    ≡ flat_map (λ x. flat_map f (g x)) xs
 flat_map-flat_map f g [] = refl
 flat_map-flat_map f g (x ∷ xs) =
     flat_map-append f (g x) (flat_map g xs) ∙ ap (λ t. flat_map f (g x) ++ t) (flat_map-flat_map f g xs)
@@ -131,8 +148,10 @@ Puts-then {r = r} {x = x} {y = y} first second = record {
 
 -- all pieces before a place were appended, and then the one there
 pub Puts-more : {X : Type 0} {r s t : List ℕ} (f : X → List ℕ) (xs : List X) (i : ℕ) (x : X)
-    → i < length xs → x ≡ get_or xs i x → Puts r s (flat_map f (take i xs)) → Puts s t (f x) → Puts r t (flat_map f (take (i + 1) xs))
-Puts-more {r = r} {t = t} f xs i x within is so_far next = subst (Puts r t) (flat_map-more f xs i x within is) (Puts-then so_far next)
+    → i < length xs → x ≡ get_or xs i x → Puts r s (flat_map f (take i xs)) → Puts s t (f x)
+    → Puts r t (flat_map f (take (i + 1) xs))
+Puts-more {r = r} {t = t} f xs i x within is so_far next = subst (Puts r t) (flat_map-more f xs i x within is)
+    (Puts-then so_far next)
 
 -- what was appended to nothing is all
 pub Puts-whole : {r s text : List ℕ} → r ≡ [] → Puts r s text → s ≡ text

@@ -1,5 +1,6 @@
 -- How long parts of frames are.
-use Rattle.std.proofs.Common.{◌≡◌, ℕ, ◌+◌, ◌*◌, ◌≤◌, ◌&&◌, IsTrue, List, [], ◌∷◌, ◌++◌, length, refl, arith, length-append, eqb, leb, eqb-true, leb-true, Bool, map, sum, ap, sym, ◌∙◌}
+use Rattle.std.proofs.Common.{◌≡◌, ℕ, ◌+◌, ◌*◌, ◌≤◌, ◌&&◌, IsTrue, List, [], ◌∷◌, ◌++◌, length, refl, arith}
+use Rattle.std.proofs.Common.{length-append, eqb, leb, eqb-true, leb-true, Bool, map, sum, ap, sym, ◌∙◌}
 use Rattle.std.specs.List.{flat_map, list_all}
 use Rattle.std.proofs.lemmas.Bool.{and_parts}
 use Rattle.byteorder.specs.Endian.{big_bytes}
@@ -13,7 +14,8 @@ use Rattle.eve_grammar.specs.Spelling.{asked_text}
 use Rattle.eve_grammar.specs.Limits.{is_number, is_between, is_reply, is_token, is_attempt, is_asked, is_batch}
 
 -- items of the same length
-pub length-flat_map-same : {X : Type 0} (f : X → List ℕ) (n : ℕ) → ((x : X) → length (f x) ≡ n) → (xs : List X) → length (flat_map f xs) ≡ n * length xs
+pub length-flat_map-same : {X : Type 0} (f : X → List ℕ) (n : ℕ) → ((x : X) → length (f x) ≡ n) → (xs : List X)
+    → length (flat_map f xs) ≡ n * length xs
 length-flat_map-same f n each [] = omega arith
 length-flat_map-same f n each (x ∷ xs) =
     omega (arith, length-append (f x) (flat_map f xs), each x, length-flat_map-same f n each xs)
@@ -31,11 +33,21 @@ pub record IsCounted (a : Attempt) : Type 0 where
 
 pub IsCounted-from_test : (a : Attempt) → IsTrue (is_attempt a) → IsCounted a
 IsCounted-from_test a right =
-    let p = and_parts (is_number 4 a.seq) (is_number 4 a.view && (is_between 1 256 (length a.certificate) && (list_all (is_number 2) a.certificate && (eqb (length a.replies) (length a.certificate) && (list_all is_reply a.replies && is_token a.token))))) right in
-    let q = and_parts (is_number 4 a.view) (is_between 1 256 (length a.certificate) && (list_all (is_number 2) a.certificate && (eqb (length a.replies) (length a.certificate) && (list_all is_reply a.replies && is_token a.token)))) p.1 in
-    let r = and_parts (is_between 1 256 (length a.certificate)) (list_all (is_number 2) a.certificate && (eqb (length a.replies) (length a.certificate) && (list_all is_reply a.replies && is_token a.token))) q.1 in
-    let s = and_parts (list_all (is_number 2) a.certificate) (eqb (length a.replies) (length a.certificate) && (list_all is_reply a.replies && is_token a.token)) r.1 in
-    let t = and_parts (eqb (length a.replies) (length a.certificate)) (list_all is_reply a.replies && is_token a.token) s.1 in
+    let p = and_parts (is_number 4 a.seq)
+    (is_number 4 a.view && (is_between 1 256 (length a.certificate) &&
+    (list_all (is_number 2) a.certificate &&
+    (eqb (length a.replies) (length a.certificate) && (list_all is_reply a.replies && is_token a.token))))) right in
+    let q = and_parts (is_number 4 a.view)
+    (is_between 1 256 (length a.certificate) &&
+    (list_all (is_number 2) a.certificate &&
+    (eqb (length a.replies) (length a.certificate) && (list_all is_reply a.replies && is_token a.token)))) p.1 in
+    let r = and_parts (is_between 1 256 (length a.certificate))
+    (list_all (is_number 2) a.certificate &&
+    (eqb (length a.replies) (length a.certificate) && (list_all is_reply a.replies && is_token a.token))) q.1 in
+    let s = and_parts (list_all (is_number 2) a.certificate)
+    (eqb (length a.replies) (length a.certificate) && (list_all is_reply a.replies && is_token a.token)) r.1 in
+    let t = and_parts (eqb (length a.replies) (length a.certificate)) (list_all is_reply a.replies && is_token a.token)
+    s.1 in
     let u = and_parts (list_all is_reply a.replies) (is_token a.token) t.1 in
     record {
       few = leb-true _ _ (and_parts (leb 1 (length a.certificate)) (leb (length a.certificate) 256) r.0).1;
@@ -44,8 +56,10 @@ IsCounted-from_test a right =
     }
 
 -- certificate, replies and token together
-pub length-results : (certificate : List ℕ) (replies : List Reply) (token : List ℕ) → length replies ≡ length certificate → length token ≡ 32
-    → length (flat_map (big_bytes 2) certificate ++ (flat_map reply_text replies ++ token)) ≡ 32 + 11 * length certificate
+pub length-results : (certificate : List ℕ) (replies : List Reply) (token : List ℕ) → length replies
+    ≡ length certificate → length token ≡ 32
+    → length (flat_map (big_bytes 2) certificate ++ (flat_map reply_text replies ++ token))
+    ≡ 32 + 11 * length certificate
 length-results certificate replies token same long =
     omega (
       arith,
@@ -75,9 +89,13 @@ pub record IsGrouped (b : Batch) : Type 0 where
 
 pub IsGrouped-from_test : (b : Batch) → IsTrue (is_batch b) → IsGrouped b
 IsGrouped-from_test b right =
-    let p = and_parts (leb 1 (length b.sizes)) (list_all (leb 1) b.sizes && (leb (sum b.sizes) 256 && (eqb (length b.requests) (sum b.sizes) && list_all is_asked b.requests))) right in
-    let q = and_parts (list_all (leb 1) b.sizes) (leb (sum b.sizes) 256 && (eqb (length b.requests) (sum b.sizes) && list_all is_asked b.requests)) p.1 in
-    let r = and_parts (leb (sum b.sizes) 256) (eqb (length b.requests) (sum b.sizes) && list_all is_asked b.requests) q.1 in
+    let p = and_parts (leb 1 (length b.sizes))
+    (list_all (leb 1) b.sizes &&
+    (leb (sum b.sizes) 256 && (eqb (length b.requests) (sum b.sizes) && list_all is_asked b.requests))) right in
+    let q = and_parts (list_all (leb 1) b.sizes)
+    (leb (sum b.sizes) 256 && (eqb (length b.requests) (sum b.sizes) && list_all is_asked b.requests)) p.1 in
+    let r = and_parts (leb (sum b.sizes) 256) (eqb (length b.requests) (sum b.sizes) && list_all is_asked b.requests)
+    q.1 in
     let s = and_parts (eqb (length b.requests) (sum b.sizes)) (list_all is_asked b.requests) r.1 in
     let total : sum b.sizes ≤ 256 = leb-true _ _ r.0 in
     let many : length b.requests ≡ sum b.sizes = eqb-true _ _ s.0 in
@@ -93,10 +111,16 @@ IsGrouped-from_test b right =
 
 -- sizes and requests together
 pub length-groups : (sizes : List ℕ) (requests : List Asked)
-    → length (flat_map (big_bytes 2) sizes ++ flat_map asked_text requests) ≡ 2 * length sizes + length (flat_map asked_text requests)
+    → length (flat_map (big_bytes 2) sizes ++ flat_map asked_text requests)
+    ≡ 2 * length sizes + length (flat_map asked_text requests)
 length-groups sizes requests =
-    omega (arith, length-append (flat_map (big_bytes 2) sizes) (flat_map asked_text requests), length-flat_map-same (big_bytes 2) 2 (λ n. refl) sizes)
+    omega (
+      arith,
+      length-append (flat_map (big_bytes 2) sizes) (flat_map asked_text requests),
+      length-flat_map-same (big_bytes 2) 2 (λ n. refl) sizes,
+    )
 
 -- all items of the code pass where all that they are do
-pub all_as : {X Y : Type 0} (p : Y → Bool) (view : X → Y) (xs ys : List X) → xs ≡ ys → IsTrue (list_all p (map view ys)) → IsTrue (list_all (λ x. p (view x)) xs)
+pub all_as : {X Y : Type 0} (p : Y → Bool) (view : X → Y) (xs ys : List X) → xs ≡ ys → IsTrue (list_all p (map view ys))
+    → IsTrue (list_all (λ x. p (view x)) xs)
 all_as p view xs ys same right = ap (list_all (λ x. p (view x))) same ∙ sym (list_all-map p view ys) ∙ right

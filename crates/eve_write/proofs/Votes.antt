@@ -1,5 +1,6 @@
 -- How a vote is spelled.
-use Rattle.std.proofs.Common.{◌≡◌, ℕ, ◌==◌, IsTrue, List, [], ◌∷◌, ◌++◌, length, replicate, eqb, eqb-true, refl, ap, ◌∙◌, suc, arith}
+use Rattle.std.proofs.Common.{◌≡◌, ℕ, ◌==◌, IsTrue, List, [], ◌∷◌, ◌++◌, length, replicate, eqb, eqb-true, refl, ap}
+use Rattle.std.proofs.Common.{◌∙◌, suc, arith}
 use Rattle.std.specs.List.{list_all}
 use Rattle.std.proofs.lemmas.Bool.{and_parts}
 use Rattle.byteorder.specs.Endian.{big_bytes}
@@ -17,7 +18,8 @@ zeros_are (x ∷ xs) zeros =
     ap (λ y. y ∷ xs) (eqb-true x 0 p.0) ∙ ap (λ ys. 0 ∷ ys) (zeros_are xs p.1)
 
 -- the byte of a choice and a token spell the choice
-choice_is : (c : ChoiceData) (token : List ℕ) → length token ≡ 32 → IsTrue (has_due_token c token) → choice_code c ∷ token ≡ choice_text (choice c token)
+choice_is : (c : ChoiceData) (token : List ℕ) → length token ≡ 32 → IsTrue (has_due_token c token)
+    → choice_code c ∷ token ≡ choice_text (choice c token)
 choice_is ForRollback token long due = ap (λ ys. 0 ∷ ys) (zeros_are token due ∙ ap (λ n. replicate n 0) long)
 choice_is ForCommit token long due = refl
 
@@ -30,6 +32,7 @@ pub vote_is : (seq view : ℕ) (c : ChoiceData) (token : List ℕ) → length to
     ≡ frame_text (OfVote (record { seq = seq; view = view; choice = choice c token }))
 vote_is seq view c token long due =
     let same = choice_is c token long due in
-    let count : 41 ≡ length (body_text (OfVote (record { seq = seq; view = view; choice = choice c token }))) = omega (arith, choice_long c token long) in
+    let count : 41 ≡ length (body_text (OfVote (record { seq = seq; view = view; choice = choice c token }))) =
+    omega (arith, choice_long c token long) in
     ap (λ t. 33 ∷ (big_bytes 4 41 ++ (big_bytes 4 seq ++ (big_bytes 4 view ++ t)))) same
     ∙ ap (λ n. 33 ∷ (big_bytes 4 n ++ (big_bytes 4 seq ++ (big_bytes 4 view ++ choice_text (choice c token))))) count

@@ -3,7 +3,8 @@ use Rattle.std.specs.Prelude.{ℕ, ◌==◌, Bool, true, List, Vec, map}
 use Rattle.std.specs.List.{list_all}
 use Rattle.std.specs.declared.alloc.Global.{Global}
 use Rattle.eve_smallbank.specs.SmallBank.{Request, Balance, DepositChecking, TransactSaving, Amalgamate, WriteCheck}
-use Rattle.eve_grammar.specs.Trace.{Customer, Asked, Batch, Access, Attempt, Commit, Rollback, Step, Attempts, Commits, RollsBack, Choice, ForRollback, ForCommit, Vote, Sent, Trace}
+use Rattle.eve_grammar.specs.Trace.{Customer, Asked, Batch, Access, Attempt, Commit, Rollback, Step, Attempts, Commits}
+use Rattle.eve_grammar.specs.Trace.{RollsBack, Choice, ForRollback, ForCommit, Vote, Sent, Trace}
 use Rattle.eve_grammar.specs.Bodies.{restore}
 use Rattle.eve_write.specs.declared.customer.CustomerData.{CustomerData}
 use Rattle.eve_write.specs.declared.request.TransactionData.{TransactionData}
@@ -23,14 +24,14 @@ use Rattle.eve_write.specs.declared.sent.SentData.{SentData}
 use Rattle.eve_write.specs.declared.parts.Parts.{Parts}
 
 abbrev pub customer : CustomerData → Customer
-customer c = record { name = c.name.items; saving = c.saving; checking = c.checking }
+customer c = record { name = c.name; saving = c.saving; checking = c.checking }
 
 abbrev pub transaction : TransactionData → Request
-transaction (of.Balance name) = Balance name.items
-transaction (of.DepositChecking name amount) = DepositChecking name.items amount
-transaction (of.TransactSaving name amount) = TransactSaving name.items amount
-transaction (of.Amalgamate from to) = Amalgamate from.items to.items
-transaction (of.WriteCheck name amount) = WriteCheck name.items amount
+transaction (of.Balance name) = Balance name
+transaction (of.DepositChecking name amount) = DepositChecking name amount
+transaction (of.TransactSaving name amount) = TransactSaving name amount
+transaction (of.Amalgamate from to) = Amalgamate from to
+transaction (of.WriteCheck name amount) = WriteCheck name amount
 
 abbrev pub asked : RequestData → Asked
 asked a = record { client = a.client; number = a.number; request = transaction a.transaction }
@@ -43,7 +44,15 @@ access x = record { worker = x.worker; place = x.place; index = x.index; entries
 
 abbrev pub attempt : AttemptData → Attempt
 attempt a =
-    record { seq = a.seq; view = a.view; serial = a.serial; certificate = a.certificate.items; replies = a.replies.items; token = a.token; accesses = map access a.accesses.items }
+    record {
+      seq = a.seq;
+      view = a.view;
+      serial = a.serial;
+      certificate = a.certificate.items;
+      replies = a.replies.items;
+      token = a.token;
+      accesses = map access a.accesses.items;
+    }
 
 abbrev pub commit : CommitData → Commit
 commit c = record { seq = c.seq; view = c.view; token = c.token }

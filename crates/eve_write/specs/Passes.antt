@@ -4,7 +4,8 @@ use Rattle.std.specs.Prelude.{ℕ, nat_le, Bool, true, ◌&&◌, List, ◌++◌,
 use Rattle.std.specs.List.{list_all, flat_map}
 use Rattle.eve_grammar.specs.Trace.{Head, head_of}
 use Rattle.eve_grammar.specs.Frames.{OfVote, OfSent, End, batches_of, sections_of, verifiers_of}
-use Rattle.eve_grammar.specs.Spelling.{frame_text, step_text, head_text, customer_text, batch_text, section_text, votes_text}
+use Rattle.eve_grammar.specs.Spelling.{frame_text, step_text, head_text, customer_text, batch_text, section_text}
+use Rattle.eve_grammar.specs.Spelling.{votes_text}
 use Rattle.eve_grammar.specs.Limits.{row_count, is_attempt, is_step, is_vote, is_customer, is_batch, is_sent}
 use Rattle.eve_write.specs.declared.step.Step.{Step}
 use Rattle.eve_write.specs.declared.step.Step.TheVariants.{Attempt, Commit, Rollback}
@@ -39,13 +40,15 @@ vote_size v = length (frame_text (OfVote (vote v)))
 abbrev pub are_right : Head → Parts → Bool
 are_right h p =
     list_all (λ c. is_customer (customer c)) p.customers.items && (list_all (λ b. is_batch (batch b)) p.batches.items
-    && (list_all (λ s. list_all (right_step h) s.items) p.sections.items && (list_all (λ v. list_all (right_vote h) v.items) p.verifiers.items
+    && (list_all (λ s. list_all (right_step h) s.items) p.sections.items &&
+    (list_all (λ v. list_all (right_vote h) v.items) p.verifiers.items
     && list_all (λ s. is_sent h.replicas h.batches (sent s)) p.sent.items)))
 
 -- the header with this length, customers and batches
 abbrev pub front_text : Parts → ℕ → List ℕ
 front_text p total =
-    head_text (head_of (trace p)) total ++ (flat_map customer_text (trace p).customers ++ flat_map batch_text (batches_of (trace p)))
+    head_text (head_of (trace p)) total ++
+    (flat_map customer_text (trace p).customers ++ flat_map batch_text (batches_of (trace p)))
 
 -- what stands behind them
 abbrev pub rest_text : Parts → List ℕ

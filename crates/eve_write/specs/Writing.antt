@@ -6,12 +6,14 @@ use Rattle.eve_streams.specs.Failures.{after_failure}
 use Rattle.eve_streams.specs.Front.{AppendsFront}
 
 -- all of a text was taken, and the sink did not fail
-pub record Wrote {S : Type 0} (written : S → Option (List ℕ)) (failures : S → ℕ) (old new : S) (text : List ℕ) : Type 0 where
-  pub sent : Appends (written old) (written new) text
-  pub fine : failures new ≡ failures old
+pub record Wrote {S : Type 0} (written : S → Option (List ℕ)) (failures : S → ℕ) (old new : S) (text : List ℕ) : Type 0
+  where
+    pub sent : Appends (written old) (written new) text
+    pub fine : failures new ≡ failures old
 
 -- a front of a text was taken, and not all of it, and then the sink failed once
-pub record Stopped {S : Type 0} (written : S → Option (List ℕ)) (failures : S → ℕ) (old new : S) (text : List ℕ) : Type 0 where
+pub record Stopped {S : Type 0} (written : S → Option (List ℕ)) (failures : S → ℕ) (old new : S)
+    (text : List ℕ) : Type 0 where
   pub front : AppendsFront (written old) (written new) text
   pub counted : failures new ≡ after_failure (failures old)
 

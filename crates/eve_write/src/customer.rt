@@ -11,15 +11,15 @@ use crate::fields::{cents_bytes, name_len};
 use crate::judge::Judge;
 use crate::measure::Measure;
 use crate::spell::{Spell, send_texts};
-use eve_accounts::{Cents, is_name};
+use eve_accounts::{Cents, Name};
 use eve_grammar::Head;
 use eve_streams::{SendFault, Sink};
 
 /// A customer's name and opening balances. Contracts see it by `customer`.
-#[derive(Drop)]
+#[derive(Clone, Copy)]
 pub struct CustomerData {
     /// The name.
-    pub name: Vec<u8>,
+    pub name: Name,
     /// The saving balance.
     pub saving: Cents,
     /// The checking balance.
@@ -32,7 +32,7 @@ impl CustomerData {
         requires { IsTrue (is_customer (plain self.now)) }
         ensures { result ≡ length (body_text (OfCustomer (plain self.now))) }
     {
-        17 + self.name.len() as u32
+        17 + self.name.as_slice().len() as u32
     }
 }
 
@@ -79,6 +79,7 @@ impl Judge for CustomerData {
 
     fn is_right(&self, _head: &Head) -> bool {
         let _checking = self.checking.get();
-        is_name(self.name.as_slice()) && self.saving.get() >= 0
+        self.name.as_slice();
+        self.saving.get() >= 0
     }
 }

@@ -4,7 +4,7 @@ ghost use Rattle.std.specs.Prelude.{◌≡◌, ◌≤◌, IsTrue, length};
 ghost use Rattle.std.specs.List.{flat_map, list_all};
 ghost use Rattle.eve_smallbank.specs.SmallBank.{plain};
 ghost use Rattle.eve_grammar.specs.Spelling.{asked_text};
-ghost use Rattle.eve_grammar.specs.Limits.{is_asked};
+ghost use Rattle.eve_grammar.specs.Limits.{is_asked, is_request};
 ghost use Rattle.eve_write.specs.Data.{transaction, asked};
 
 use crate::fields::put_request;
@@ -12,7 +12,7 @@ use crate::judge::Judge;
 use crate::pieces::{put, send};
 use crate::spell::Spell;
 use arrayvec::ArrayVec;
-use eve_accounts::{Amount, is_name};
+use eve_accounts::{Amount, Name};
 use eve_grammar::Head;
 use eve_smallbank::Request;
 use eve_streams::{SendFault, Sink};
@@ -20,22 +20,22 @@ use eve_streams::{SendFault, Sink};
 /// A transaction of SmallBank (Alomari et al., ICDE 2008) with names of its own.
 ///
 /// docs/MODEL.md, "Transactions", has the effect of each. Contracts see it by `transaction`.
-#[derive(Drop)]
+#[derive(Clone, Copy)]
 pub enum TransactionData {
     /// Both balances of the customer, added up.
-    Balance(Vec<u8>),
+    Balance(Name),
     /// The amount comes to the checking balance.
-    DepositChecking(Vec<u8>, Amount),
+    DepositChecking(Name, Amount),
     /// The amount, which may be below 0, comes to the saving balance.
-    TransactSaving(Vec<u8>, Amount),
+    TransactSaving(Name, Amount),
     /// All that the first customer has comes to the checking balance of the second.
-    Amalgamate(Vec<u8>, Vec<u8>),
+    Amalgamate(Name, Name),
     /// A check over the amount is paid from the checking balance.
-    WriteCheck(Vec<u8>, Amount),
+    WriteCheck(Name, Amount),
 }
 
 /// A request of a client. Contracts see it by `asked`.
-#[derive(Drop)]
+#[derive(Clone, Copy)]
 pub struct RequestData {
     /// The client.
     pub client: u32,
@@ -114,21 +114,34 @@ pub(crate) fn len_of_requests(requests: &[RequestData]) -> u32
     len
 }
 
+// A transaction lies within the limits as it stands.
+fn request_fits(asks: &TransactionData)
+    ensures { IsTrue (is_request (transaction asks.now)) }
+{
+    match asks {
+        TransactionData::Balance(name) => {
+            name.as_slice();
+        }
+        TransactionData::Amalgamate(from, to) => {
+            from.as_slice();
+            to.as_slice();
+        }
+        TransactionData::DepositChecking(name, amount)
+        | TransactionData::TransactSaving(name, amount)
+        | TransactionData::WriteCheck(name, amount) => {
+            name.as_slice();
+            amount.get();
+        }
+    }
+}
+
 impl Judge for RequestData {
     ghost right = { λ h r. is_asked (asked r) };
 
     fn is_right(&self, _head: &Head) -> bool {
         let _client = self.client;
         let _number = self.number;
-        match self.request() {
-            Request::Balance(name) => is_name(name),
-            Request::Amalgamate(from, to) => is_name(from) && is_name(to),
-            Request::DepositChecking(name, amount)
-            | Request::TransactSaving(name, amount)
-            | Request::WriteCheck(name, amount) => {
-                let _cents = amount.get();
-                is_name(name)
-            }
-        }
+        request_fits(&self.transaction);
+        true
     }
 }

@@ -8,4 +8,5 @@ returns-then-group-len-clause-sizes c =
     pushed ∙ one_more_behind c.args.sizes.now.items c.args.group (omega arith)
 
 pub returns-clause-sizes : goal.returns-clause-sizes
-returns-clause-sizes c = one_more_inside c.args.sizes.now.items c.args.group c.index-had.result.now c.index-had.ensures (omega arith)
+returns-clause-sizes c = one_more_inside c.args.sizes.now.items c.args.group c.index-had.result.now c.index-had.ensures
+    (omega arith)

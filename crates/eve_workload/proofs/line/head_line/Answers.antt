@@ -21,26 +21,33 @@ returns-else-is_right-clause-none c = λ d right words.
     } in
     let kind = c.says.ensures.0 cc in
     let same = same_deployment d _ (deployment_small d right) low
-    (words ∙ (λ k. kind k ∷ c.in_ok-byte_number.ensures.spelled k ∷ c.in_ok-byte_number-2.ensures.spelled k ∷ c.in_ok-byte_number-3.ensures.spelled k ∷ c.in_ok-byte_number-4.ensures.spelled k ∷ c.in_ok-byte_number-5.ensures.spelled k ∷ [])) in
+    (words ∙ (λ k. kind k ∷ c.in_ok-byte_number.ensures.spelled k ∷ c.in_ok-byte_number-2.ensures.spelled k
+    ∷ c.in_ok-byte_number-3.ensures.spelled k ∷ c.in_ok-byte_number-4.ensures.spelled k
+    ∷ c.in_ok-byte_number-5.ensures.spelled k ∷ [])) in
     let right_too = subst (λ e. IsTrue (is_deployment e)) same right in
     cc
 
 pub returns-in_err-byte_number-clause-none : goal.returns-in_err-byte_number-clause-none
 returns-in_err-byte_number-clause-none c = on_none c.from_residual.result _ (λ d right words.
-    c.in_err-byte_number.ensures.none d.replicas (deployment_small d right).replicas (ap (λ ws. get_or ws 1 []) (sym words)))
+    c.in_err-byte_number.ensures.none d.replicas (deployment_small d right).replicas
+    (ap (λ ws. get_or ws 1 []) (sym words)))
 
 pub returns-in_err-byte_number-2-clause-none : goal.returns-in_err-byte_number-2-clause-none
 returns-in_err-byte_number-2-clause-none c = on_none c.from_residual-in_err-byte_number-2.result _ (λ d right words.
-    c.in_err-byte_number-2.ensures.none d.verifiers (deployment_small d right).verifiers (ap (λ ws. get_or ws 2 []) (sym words)))
+    c.in_err-byte_number-2.ensures.none d.verifiers (deployment_small d right).verifiers
+    (ap (λ ws. get_or ws 2 []) (sym words)))
 
 pub returns-in_err-byte_number-3-clause-none : goal.returns-in_err-byte_number-3-clause-none
 returns-in_err-byte_number-3-clause-none c = on_none c.from_residual-in_err-byte_number-3.result _ (λ d right words.
-    c.in_err-byte_number-3.ensures.none d.quorum (deployment_small d right).quorum (ap (λ ws. get_or ws 3 []) (sym words)))
+    c.in_err-byte_number-3.ensures.none d.quorum (deployment_small d right).quorum
+    (ap (λ ws. get_or ws 3 []) (sym words)))
 
 pub returns-in_err-byte_number-4-clause-none : goal.returns-in_err-byte_number-4-clause-none
 returns-in_err-byte_number-4-clause-none c = on_none c.from_residual-in_err-byte_number-4.result _ (λ d right words.
-    c.in_err-byte_number-4.ensures.none d.window (deployment_small d right).window (ap (λ ws. get_or ws 4 []) (sym words)))
+    c.in_err-byte_number-4.ensures.none d.window (deployment_small d right).window
+    (ap (λ ws. get_or ws 4 []) (sym words)))
 
 pub returns-in_err-byte_number-5-clause-none : goal.returns-in_err-byte_number-5-clause-none
 returns-in_err-byte_number-5-clause-none c = on_none c.from_residual-in_err-byte_number-5.result _ (λ d right words.
-    c.in_err-byte_number-5.ensures.none d.workers (deployment_small d right).workers (ap (λ ws. get_or ws 5 []) (sym words)))
+    c.in_err-byte_number-5.ensures.none d.workers (deployment_small d right).workers
+    (ap (λ ws. get_or ws 5 []) (sym words)))

@@ -5,7 +5,8 @@ use Rattle.eve_workload.proofs.lookups.pick.Goals as goal
 
 pub loop-index-preserved : goal.loop-index-preserved
 loop-index-preserved c other =
-    let pushed : c.push.new.self.items ≡ c.loop-index.picked.items ++ c.index-touched-index.result ∷ [] = search rules in
+    let pushed : c.push.new.self.items ≡ c.loop-index.picked.items ++ c.index-touched-index.result ∷ [] =
+    search rules in
     let index : ℕ = slice_index_or c.args.order.now c.loop-index.index-index 0 in
     let there : c.loop-index.index-index < length c.args.order.now = omega arith in
     let bound : index < length c.args.touched.now = c.requires c.loop-index.index-index 0 there in
@@ -17,4 +18,5 @@ loop-index-preserved c other =
 pub returns : goal.returns
 returns c other =
     c.loop-index.invariant other
-    ∙ ap (map (λ i. slice_index_or c.args.touched.now i other)) (take_all c.loop-index.index-index c.args.order.now (omega arith))
+    ∙ ap (map (λ i. slice_index_or c.args.touched.now i other))
+    (take_all c.loop-index.index-index c.args.order.now (omega arith))

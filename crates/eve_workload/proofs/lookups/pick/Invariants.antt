@@ -4,4 +4,5 @@ use Rattle.eve_smallbank.specs.declared.rows.Touched.{Touched}
 use Rattle.eve_workload.proofs.lookups.pick.Given as goal
 
 abbrev pub invariant-loop-index : goal.invariant-loop-index
-invariant-loop-index l = (other : Touched) → l.picked.items ≡ map (λ i. slice_index_or l.touched i other) (take l.index-index l.order)
+invariant-loop-index l = (other : Touched) → l.picked.items ≡ map (λ i. slice_index_or l.touched i other)
+    (take l.index-index l.order)

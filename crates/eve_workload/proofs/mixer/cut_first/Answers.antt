@@ -14,7 +14,8 @@ returns c names is =
     let asks : List Asked = map asked c.args.requests.now in
     let sizes : List ℕ = c.in_ok-groups.groups.sizes.items in
     let order : List ℕ = c.in_ok-groups.groups.order.items in
-    let copied : map asked c.in_ok-requests.requests.items ≡ listed asks order = c.in_ok-requests.ensures ∙ ap (listed asks) c.as_slice-2.ensures.value in
+    let copied : map asked c.in_ok-requests.requests.items ≡ listed asks order = c.in_ok-requests.ensures
+    ∙ ap (listed asks) c.as_slice-2.ensures.value in
     record {
       batch_is =
           batch_is sizes (map asked c.in_ok-requests.requests.items) (listed asks order) (cut names First asks) copied

@@ -10,7 +10,8 @@ use Rattle.eve_workload.proofs.mixer.cut_whole.Goals as goal
 pub returns : goal.returns
 returns c names is =
     let asks : List Asked = map asked c.args.requests.now in
-    let copied : map asked c.in_ok-requests.requests.items ≡ asks = c.in_ok-requests.ensures in
+    let copied : map asked c.in_ok-requests.requests.items ≡ asks =
+    ap (map asked) (c.in_ok-requests.ensures.items_if_clones_equal (λ x y e. e)) in
     let count : length c.args.requests.now ≡ length (map asked c.in_ok-requests.requests.items) =
     sym (length-map c.args.requests.now asked) ∙ ap length (sym copied) in
     let sized : c.push.new.self.items ≡ length c.args.requests.now ∷ [] = search rules in

@@ -31,7 +31,8 @@ pub returns-clause-each_once : goal.returns-clause-each_once
 returns-clause-each_once c =
     let names : List (List ℕ) = c.args.names.now.items in
     let asks : List Asked = map asked c.args.requests.now in
-    IfOk-weaker c.cut_by.result (λ m. batch m.batch ≡ batch_of (cut names c.args.mixer asks)) (λ m. IsPermutation asks (batch m.batch).requests)
+    IfOk-weaker c.cut_by.result (λ m. batch m.batch ≡ batch_of (cut names c.args.mixer asks))
+    (λ m. IsPermutation asks (batch m.batch).requests)
     (λ m is. subst (IsPermutation asks) (ap (λ (b : Batch). b.requests) (sym is)) (cut_keeps names c.args.mixer asks))
     (returns-clause-batch c)
 
@@ -41,6 +42,8 @@ returns-clause-right c =
     let asks : List Asked = map asked c.args.requests.now in
     IfOk-weaker c.cut_by.result (λ m. batch m.batch ≡ batch_of (cut names c.args.mixer asks))
     (λ m. IsTrue (list_all is_asked asks) → IsTrue (is_batch (batch m.batch)))
-    (λ m is all. ap is_batch is ∙ cut_is_right names c.args.mixer asks (subst (λ n. 1 ≤ n) (sym (length-map c.args.requests.now asked)) c.requires.some)
+    (λ m is all. ap is_batch is
+    ∙ cut_is_right names c.args.mixer asks
+    (subst (λ n. 1 ≤ n) (sym (length-map c.args.requests.now asked)) c.requires.some)
     (subst (λ n. n ≤ 256) (sym (length-map c.args.requests.now asked)) c.requires.few) all)
     (returns-clause-batch c)

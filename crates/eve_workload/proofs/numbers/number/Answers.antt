@@ -11,16 +11,23 @@ returns-then-not-begins_as_number-clause-none c = λ n small spelled.
 
 pub returns-in_err-value-clause-none : goal.returns-in_err-value-clause-none
 returns-in_err-value-clause-none c =
-    on_none c.from_residual.result _ (λ n small. number_stops c.args.word.now c.loop-digit.digit-index c.loop-digit.value (get_or c.args.word.now c.loop-digit.digit-index 0) n (omega arith) refl c.loop-digit.invariant.0 c.in_err-value.ensures.none small)
+    on_none c.from_residual.result _
+    (λ n small. number_stops c.args.word.now c.loop-digit.digit-index c.loop-digit.value
+    (get_or c.args.word.now c.loop-digit.digit-index 0) n (omega arith) refl c.loop-digit.invariant.0
+    c.in_err-value.ensures.none small)
 
 pub loop-digit-preserved : goal.loop-digit-preserved
 loop-digit-preserved c =
     let more = c.in_ok-value.ensures.more in
-    let next = number_more c.args.word.now c.loop-digit.digit-index c.loop-digit.value (get_or c.args.word.now c.loop-digit.digit-index 0) c.in_ok-value.value (omega arith) refl c.loop-digit.invariant.0 c.loop-digit.invariant.1 more.0 more.1 more.2 in
+    let next = number_more c.args.word.now c.loop-digit.digit-index c.loop-digit.value
+    (get_or c.args.word.now c.loop-digit.digit-index 0) c.in_ok-value.value
+    (omega arith) refl c.loop-digit.invariant.0 c.loop-digit.invariant.1 more.0 more.1 more.2 in
     (next.0, next.1, more.3)
 
 pub returns-clause-spelled : goal.returns-clause-spelled
 returns-clause-spelled c =
-    let whole : take c.loop-digit.digit-index c.args.word.now ≡ c.args.word.now = take_all c.loop-digit.digit-index c.args.word.now (omega arith) in
+    let whole : take c.loop-digit.digit-index c.args.word.now ≡ c.args.word.now =
+    take_all c.loop-digit.digit-index c.args.word.now (omega arith) in
     number_whole c.args.word.now c.loop-digit.value (c.begins_as_number.ensures.0 cc)
-    (c.loop-digit.invariant.0 ∙ ap (digits_value 10) whole) (subst (AllDigits 10) whole c.loop-digit.invariant.1) c.loop-digit.invariant.2
+    (c.loop-digit.invariant.0 ∙ ap (digits_value 10) whole) (subst (AllDigits 10) whole c.loop-digit.invariant.1)
+    c.loop-digit.invariant.2

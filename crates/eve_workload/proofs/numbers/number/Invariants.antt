@@ -4,4 +4,5 @@ use Rattle.eve_workload.proofs.numbers.number.Given as goal
 
 abbrev pub invariant-loop-digit : goal.invariant-loop-digit
 invariant-loop-digit l =
-    (l.value ≡ digits_value 10 (take l.digit-index l.word)) × AllDigits 10 (take l.digit-index l.word) × (l.value < 2 ^ 64)
+    (l.value ≡ digits_value 10 (take l.digit-index l.word)) × AllDigits 10 (take l.digit-index l.word)
+    × (l.value < 2 ^ 64)

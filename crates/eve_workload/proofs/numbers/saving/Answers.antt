@@ -11,4 +11,5 @@ pub returns-then-get-lt-LEAST_SAVING-clause-none : goal.returns-then-get-lt-LEAS
 returns-then-get-lt-LEAST_SAVING-clause-none c =
     let fits : SFits w64 c.get.result = search rules in
     saving_outside c.args.word.now c.get.result
-    (ap (λ z. int_lt z (pos 0)) (sym (to_z-of_z w64 c.get.result fits)) ∙ c.if-get-lt-LEAST_SAVING.true) c.get.ensures.range (c.in_ok-cents.ensures.spelled ∙ ap signed_decimal (sym c.get.ensures.value))
+    (ap (λ z. int_lt z (pos 0)) (sym (to_z-of_z w64 c.get.result fits)) ∙ c.if-get-lt-LEAST_SAVING.true)
+    c.get.ensures.range (c.in_ok-cents.ensures.spelled ∙ ap signed_decimal (sym c.get.ensures.value))

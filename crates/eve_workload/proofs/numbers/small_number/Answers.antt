@@ -4,4 +4,5 @@ use Rattle.eve_workload.proofs.numbers.small_number.Goals as goal
 
 pub returns-then-value-clause-none : goal.returns-then-value-clause-none
 returns-then-value-clause-none c = λ n low spelled.
-    too_high c.args.word.now c.in_ok-value.value (2 ^ 32) n c.in_ok-value.ensures.spelled c.in_ok-value.ensures.small (omega arith) low spelled
+    too_high c.args.word.now c.in_ok-value.value (2 ^ 32) n c.in_ok-value.ensures.spelled c.in_ok-value.ensures.small
+    (omega arith) low spelled

@@ -11,7 +11,8 @@ returns-then-not-is_right c =
     let entries = c.args.entries.now in
     let test = is_entry (row_count (limits c.args.head.now)) in
     let is = at_place entries c.loop-i.i c.at.result c.at.ensures in
-    let wrong : test (get_or entries c.loop-i.i c.at.result) ≡ false = ap test (sym is) ∙ sym c.is_right.ensures ∙ c.if-not-is_right.true in
+    let wrong : test (get_or entries c.loop-i.i c.at.result) ≡ false = ap test (sym is) ∙ sym c.is_right.ensures
+    ∙ c.if-not-is_right.true in
     sym (list_all_at test entries c.loop-i.i c.at.result (omega (arith, c.len-i-end.ensures.len)) wrong)
 
 pub loop-i-preserved : goal.loop-i-preserved
@@ -19,5 +20,7 @@ loop-i-preserved c =
     let entries = c.args.entries.now in
     let test = is_entry (row_count (limits c.args.head.now)) in
     let is = at_place entries c.loop-i.i c.at.result c.at.ensures in
-    let right : test (get_or entries c.loop-i.i c.at.result) ≡ true = ap test (sym is) ∙ sym c.is_right.ensures ∙ c.if-not-is_right.false in
-    list_all_more test entries c.loop-i.i c.at.result (omega (arith, c.len-i-end.ensures.len)) ∙ and_from _ _ c.loop-i.invariant right
+    let right : test (get_or entries c.loop-i.i c.at.result) ≡ true = ap test (sym is) ∙ sym c.is_right.ensures
+    ∙ c.if-not-is_right.false in
+    list_all_more test entries c.loop-i.i c.at.result (omega (arith, c.len-i-end.ensures.len))
+    ∙ and_from _ _ c.loop-i.invariant right

@@ -5,5 +5,6 @@ use Rattle.eve_write.proofs.access.write_access.Goals as goal
 
 pub returns : goal.returns
 returns g c =
-    let frame = c.as_slice.ensures.value ∙ Puts-whole c.new-frame.ensures (Puts-then c.put_front.ensures.puts c.put_entries.ensures) in
+    let frame = c.as_slice.ensures.value
+    ∙ Puts-whole c.new-frame.ensures (Puts-then c.put_front.ensures.puts c.put_entries.ensures) in
     subst (Writes g.W.Sink.written g.W.Sink.failures c.args.out.now c.send.new.out c.send.result) frame c.send.ensures

@@ -5,5 +5,6 @@ use Rattle.eve_write.proofs.attempt.write_attempt.Goals as goal
 
 pub returns : goal.returns
 returns g c =
-    let frame = c.as_slice.ensures.value ∙ Puts-whole c.new-frame.ensures (Puts-then c.put_front.ensures.puts c.put_results.ensures) in
+    let frame = c.as_slice.ensures.value
+    ∙ Puts-whole c.new-frame.ensures (Puts-then c.put_front.ensures.puts c.put_results.ensures) in
     subst (Writes g.W.Sink.written g.W.Sink.failures c.args.out.now c.send.new.out c.send.result) frame c.send.ensures

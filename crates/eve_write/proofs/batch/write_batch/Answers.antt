@@ -12,8 +12,11 @@ use Rattle.eve_write.proofs.batch.write_batch.Goals as goal
 pub returns-in_err-write_front : goal.returns-in_err-write_front
 returns-in_err-write_front g c =
     let b = c.args.batch.now in
-    Writes-at_err {S = g.row.W.Denot} g.W.Sink.written g.W.Sink.failures _ _ _ c.from_residual.result c.from_residual.ensures.0
-    (Stopped-before {S = g.row.W.Denot} (flat_map (big_bytes 2) b.sizes.items ++ flat_map asked_text (map asked b.requests.items)) c.in_err-write_front.ensures)
+    Writes-at_err {S = g.row.W.Denot} g.W.Sink.written g.W.Sink.failures _ _ _ c.from_residual.result
+    c.from_residual.ensures.0
+    (Stopped-before {S = g.row.W.Denot}
+    (flat_map (big_bytes 2) b.sizes.items ++ flat_map asked_text (map asked b.requests.items))
+    c.in_err-write_front.ensures)
 
 pub write_each-requires : goal.write_each-requires
 write_each-requires g c = all_fit c.as_slice.result.now
@@ -21,18 +24,28 @@ write_each-requires g c = all_fit c.as_slice.result.now
 pub returns-in_err-write_each : goal.returns-in_err-write_each
 returns-in_err-write_each g c =
     let same = ap (flat_map (big_bytes 2)) c.as_slice.ensures.value in
-    let stopped = subst (Stopped {S = g.row.W.Denot} g.W.Sink.written g.W.Sink.failures c.write_front.new.out c.write_each.new.out) same c.in_err-write_each.ensures in
-    Writes-at_err {S = g.row.W.Denot} g.W.Sink.written g.W.Sink.failures _ _ _ c.from_residual-in_err-write_each.result c.from_residual-in_err-write_each.ensures.0
-    (Stopped-later {S = g.row.W.Denot} c.in_ok-write_front.ensures (Stopped-before {S = g.row.W.Denot} (flat_map asked_text (map asked c.args.batch.now.requests.items)) stopped))
+    let stopped = subst (Stopped {S = g.row.W.Denot} g.W.Sink.written g.W.Sink.failures c.write_front.new.out
+    c.write_each.new.out) same c.in_err-write_each.ensures in
+    Writes-at_err {S = g.row.W.Denot} g.W.Sink.written g.W.Sink.failures _ _ _ c.from_residual-in_err-write_each.result
+    c.from_residual-in_err-write_each.ensures.0
+    (Stopped-later {S = g.row.W.Denot} c.in_ok-write_front.ensures
+    (Stopped-before {S = g.row.W.Denot} (flat_map asked_text (map asked c.args.batch.now.requests.items)) stopped))
 
 pub write_each-requires-2 : goal.write_each-requires-2
 write_each-requires-2 g c =
-    all_as is_asked asked c.as_slice-2.result.now c.args.batch.now.requests.items c.as_slice-2.ensures.value (IsGrouped-from_test (batch c.args.batch.now) c.requires).right
+    all_as is_asked asked c.as_slice-2.result.now c.args.batch.now.requests.items c.as_slice-2.ensures.value
+    (IsGrouped-from_test (batch c.args.batch.now) c.requires).right
 
 pub returns : goal.returns
 returns g c =
     let same = ap (flat_map (big_bytes 2)) c.as_slice.ensures.value in
-    let sizes = subst (Wrote {S = g.row.W.Denot} g.W.Sink.written g.W.Sink.failures c.write_front.new.out c.write_each.new.out) same c.in_ok-write_each.ensures in
-    let asks = each_as asked_text asked c.as_slice-2.result.now c.args.batch.now.requests.items c.as_slice-2.ensures.value in
-    let requests = subst (Writes g.W.Sink.written g.W.Sink.failures c.write_each.new.out c.write_each-2.new.out c.write_each-2.result) asks c.write_each-2.ensures in
-    Writes-then {S = g.row.W.Denot} g.W.Sink.written g.W.Sink.failures _ _ _ _ _ c.write_each-2.result c.in_ok-write_front.ensures (Writes-then {S = g.row.W.Denot} g.W.Sink.written g.W.Sink.failures _ _ _ _ _ c.write_each-2.result sizes requests)
+    let sizes = subst (Wrote {S = g.row.W.Denot} g.W.Sink.written g.W.Sink.failures c.write_front.new.out
+    c.write_each.new.out) same c.in_ok-write_each.ensures in
+    let asks = each_as asked_text asked c.as_slice-2.result.now c.args.batch.now.requests.items
+    c.as_slice-2.ensures.value in
+    let requests = subst (Writes g.W.Sink.written g.W.Sink.failures c.write_each.new.out c.write_each-2.new.out
+    c.write_each-2.result) asks c.write_each-2.ensures in
+    Writes-then {S = g.row.W.Denot} g.W.Sink.written g.W.Sink.failures _ _ _ _ _ c.write_each-2.result
+    c.in_ok-write_front.ensures
+    (Writes-then {S = g.row.W.Denot} g.W.Sink.written g.W.Sink.failures _ _ _ _ _ c.write_each-2.result sizes
+    requests)

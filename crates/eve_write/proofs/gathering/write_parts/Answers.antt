@@ -9,12 +9,15 @@ pub returns-in_err-write_front : goal.returns-in_err-write_front
 returns-in_err-write_front g c =
     let p = c.args.parts.now in
     let same = ap (λ n. front_text p n ++ rest_text p) c.requires.total ∙ spelling_is p in
-    Writes-at_err {S = g.row.W.Denot} g.W.Sink.written g.W.Sink.failures _ _ _ c.from_residual.result c.from_residual.ensures.0
-    (subst (Stopped {S = g.row.W.Denot} g.W.Sink.written g.W.Sink.failures c.args.out.now c.write_front.new.out) same (Stopped-before {S = g.row.W.Denot} (rest_text p) c.in_err-write_front.ensures))
+    Writes-at_err {S = g.row.W.Denot} g.W.Sink.written g.W.Sink.failures _ _ _ c.from_residual.result
+    c.from_residual.ensures.0
+    (subst (Stopped {S = g.row.W.Denot} g.W.Sink.written g.W.Sink.failures c.args.out.now c.write_front.new.out) same
+    (Stopped-before {S = g.row.W.Denot} (rest_text p) c.in_err-write_front.ensures))
 
 pub returns : goal.returns
 returns g c =
     let p = c.args.parts.now in
     let same = ap (λ n. front_text p n ++ rest_text p) c.requires.total ∙ spelling_is p in
     subst (Writes g.W.Sink.written g.W.Sink.failures c.args.out.now c.write_rest.new.out c.write_rest.result) same
-    (Writes-then {S = g.row.W.Denot} g.W.Sink.written g.W.Sink.failures _ _ _ _ _ c.write_rest.result c.in_ok-write_front.ensures c.write_rest.ensures)
+    (Writes-then {S = g.row.W.Denot} g.W.Sink.written g.W.Sink.failures _ _ _ _ _ c.write_rest.result
+    c.in_ok-write_front.ensures c.write_rest.ensures)

@@ -11,25 +11,38 @@ use Rattle.eve_write.proofs.gathering.write_rest.Goals as goal
 
 pub write_sections-requires-clause-right : goal.write_sections-requires-clause-right
 write_sections-requires-clause-right g c =
-    ap (list_all (λ x. list_all fits_step x.items)) c.as_slice.ensures.value ∙ (AreWritable-from_spelling c.args.parts.now c.requires).sections
+    ap (list_all (λ x. list_all fits_step x.items)) c.as_slice.ensures.value
+    ∙ (AreWritable-from_spelling c.args.parts.now c.requires).sections
 
 pub returns-in_err-write_sections : goal.returns-in_err-write_sections
 returns-in_err-write_sections g c =
     let p = c.args.parts.now in
-    let sections = subst (Stopped {S = g.row.W.Denot} g.W.Sink.written g.W.Sink.failures c.args.out.now c.write_sections.new.out)
-    (ap (λ xs. flat_map section_text (enumerate_from 0 (map section xs))) c.as_slice.ensures.value) c.in_err-write_sections.ensures in
-    Writes-at_err {S = g.row.W.Denot} g.W.Sink.written g.W.Sink.failures _ _ _ c.from_residual.result c.from_residual.ensures.0
-    (Stopped-before {S = g.row.W.Denot} (flat_map votes_text (enumerate_from 0 (map votes p.verifiers.items)) ++ (flat_map (λ s. frame_text (OfSent s)) (map sent p.sent.items) ++ frame_text End)) sections)
+    let sections = subst (Stopped {S = g.row.W.Denot} g.W.Sink.written g.W.Sink.failures c.args.out.now
+    c.write_sections.new.out)
+    (ap (λ xs. flat_map section_text (enumerate_from 0 (map section xs))) c.as_slice.ensures.value)
+    c.in_err-write_sections.ensures in
+    Writes-at_err {S = g.row.W.Denot} g.W.Sink.written g.W.Sink.failures _ _ _ c.from_residual.result
+    c.from_residual.ensures.0
+    (Stopped-before {S = g.row.W.Denot}
+    (flat_map votes_text (enumerate_from 0 (map votes p.verifiers.items)) ++
+    (flat_map (λ s. frame_text (OfSent s)) (map sent p.sent.items) ++ frame_text End)) sections)
 
 pub returns-in_err-write_verifiers : goal.returns-in_err-write_verifiers
 returns-in_err-write_verifiers g c =
     let p = c.args.parts.now in
-    let sections = subst (Wrote {S = g.row.W.Denot} g.W.Sink.written g.W.Sink.failures c.args.out.now c.write_sections.new.out)
-    (ap (λ xs. flat_map section_text (enumerate_from 0 (map section xs))) c.as_slice.ensures.value) c.in_ok-write_sections.ensures in
-    let verifiers = subst (Stopped {S = g.row.W.Denot} g.W.Sink.written g.W.Sink.failures c.write_sections.new.out c.write_verifiers.new.out)
-    (ap (λ xs. flat_map votes_text (enumerate_from 0 (map votes xs))) c.as_slice-2.ensures.value) c.in_err-write_verifiers.ensures in
-    Writes-at_err {S = g.row.W.Denot} g.W.Sink.written g.W.Sink.failures _ _ _ c.from_residual-in_err-write_verifiers.result c.from_residual-in_err-write_verifiers.ensures.0
-    (Stopped-later {S = g.row.W.Denot} sections (Stopped-before {S = g.row.W.Denot} (flat_map (λ s. frame_text (OfSent s)) (map sent p.sent.items) ++ frame_text End) verifiers))
+    let sections = subst (Wrote {S = g.row.W.Denot} g.W.Sink.written g.W.Sink.failures c.args.out.now
+    c.write_sections.new.out)
+    (ap (λ xs. flat_map section_text (enumerate_from 0 (map section xs))) c.as_slice.ensures.value)
+    c.in_ok-write_sections.ensures in
+    let verifiers = subst (Stopped {S = g.row.W.Denot} g.W.Sink.written g.W.Sink.failures c.write_sections.new.out
+    c.write_verifiers.new.out)
+    (ap (λ xs. flat_map votes_text (enumerate_from 0 (map votes xs))) c.as_slice-2.ensures.value)
+    c.in_err-write_verifiers.ensures in
+    Writes-at_err {S = g.row.W.Denot} g.W.Sink.written g.W.Sink.failures _ _ _
+    c.from_residual-in_err-write_verifiers.result c.from_residual-in_err-write_verifiers.ensures.0
+    (Stopped-later {S = g.row.W.Denot} sections
+    (Stopped-before {S = g.row.W.Denot}
+    (flat_map (λ s. frame_text (OfSent s)) (map sent p.sent.items) ++ frame_text End) verifiers))
 
 pub write_each-requires : goal.write_each-requires
 write_each-requires g c = all_fit c.as_slice-3.result.now
@@ -37,22 +50,39 @@ write_each-requires g c = all_fit c.as_slice-3.result.now
 pub returns-in_err-write_each : goal.returns-in_err-write_each
 returns-in_err-write_each g c =
     let p = c.args.parts.now in
-    let sections = subst (Wrote {S = g.row.W.Denot} g.W.Sink.written g.W.Sink.failures c.args.out.now c.write_sections.new.out)
-    (ap (λ xs. flat_map section_text (enumerate_from 0 (map section xs))) c.as_slice.ensures.value) c.in_ok-write_sections.ensures in
-    let verifiers = subst (Wrote {S = g.row.W.Denot} g.W.Sink.written g.W.Sink.failures c.write_sections.new.out c.write_verifiers.new.out)
-    (ap (λ xs. flat_map votes_text (enumerate_from 0 (map votes xs))) c.as_slice-2.ensures.value) c.in_ok-write_verifiers.ensures in
-    let replies = subst (Stopped {S = g.row.W.Denot} g.W.Sink.written g.W.Sink.failures c.write_verifiers.new.out c.write_each.new.out)
-    (each_as (λ s. frame_text (OfSent s)) sent c.as_slice-3.result.now p.sent.items c.as_slice-3.ensures.value) c.in_err-write_each.ensures in
-    Writes-at_err {S = g.row.W.Denot} g.W.Sink.written g.W.Sink.failures _ _ _ c.from_residual-in_err-write_each.result c.from_residual-in_err-write_each.ensures.0
-    (Stopped-later {S = g.row.W.Denot} sections (Stopped-later {S = g.row.W.Denot} verifiers (Stopped-before {S = g.row.W.Denot} (frame_text End) replies)))
+    let sections = subst (Wrote {S = g.row.W.Denot} g.W.Sink.written g.W.Sink.failures c.args.out.now
+    c.write_sections.new.out)
+    (ap (λ xs. flat_map section_text (enumerate_from 0 (map section xs))) c.as_slice.ensures.value)
+    c.in_ok-write_sections.ensures in
+    let verifiers = subst (Wrote {S = g.row.W.Denot} g.W.Sink.written g.W.Sink.failures c.write_sections.new.out
+    c.write_verifiers.new.out)
+    (ap (λ xs. flat_map votes_text (enumerate_from 0 (map votes xs))) c.as_slice-2.ensures.value)
+    c.in_ok-write_verifiers.ensures in
+    let replies = subst (Stopped {S = g.row.W.Denot} g.W.Sink.written g.W.Sink.failures c.write_verifiers.new.out
+    c.write_each.new.out)
+    (each_as (λ s. frame_text (OfSent s)) sent c.as_slice-3.result.now p.sent.items c.as_slice-3.ensures.value)
+    c.in_err-write_each.ensures in
+    Writes-at_err {S = g.row.W.Denot} g.W.Sink.written g.W.Sink.failures _ _ _ c.from_residual-in_err-write_each.result
+    c.from_residual-in_err-write_each.ensures.0
+    (Stopped-later {S = g.row.W.Denot} sections
+    (Stopped-later {S = g.row.W.Denot} verifiers (Stopped-before {S = g.row.W.Denot} (frame_text End) replies)))
 
 pub returns : goal.returns
 returns g c =
     let p = c.args.parts.now in
-    let sections = subst (Wrote {S = g.row.W.Denot} g.W.Sink.written g.W.Sink.failures c.args.out.now c.write_sections.new.out)
-    (ap (λ xs. flat_map section_text (enumerate_from 0 (map section xs))) c.as_slice.ensures.value) c.in_ok-write_sections.ensures in
-    let verifiers = subst (Wrote {S = g.row.W.Denot} g.W.Sink.written g.W.Sink.failures c.write_sections.new.out c.write_verifiers.new.out)
-    (ap (λ xs. flat_map votes_text (enumerate_from 0 (map votes xs))) c.as_slice-2.ensures.value) c.in_ok-write_verifiers.ensures in
-    let replies = subst (Wrote {S = g.row.W.Denot} g.W.Sink.written g.W.Sink.failures c.write_verifiers.new.out c.write_each.new.out)
-    (each_as (λ s. frame_text (OfSent s)) sent c.as_slice-3.result.now p.sent.items c.as_slice-3.ensures.value) c.in_ok-write_each.ensures in
-    Writes-then {S = g.row.W.Denot} g.W.Sink.written g.W.Sink.failures _ _ _ _ _ c.write_end.result sections (Writes-then {S = g.row.W.Denot} g.W.Sink.written g.W.Sink.failures _ _ _ _ _ c.write_end.result verifiers (Writes-then {S = g.row.W.Denot} g.W.Sink.written g.W.Sink.failures _ _ _ _ _ c.write_end.result replies c.write_end.ensures))
+    let sections = subst (Wrote {S = g.row.W.Denot} g.W.Sink.written g.W.Sink.failures c.args.out.now
+    c.write_sections.new.out)
+    (ap (λ xs. flat_map section_text (enumerate_from 0 (map section xs))) c.as_slice.ensures.value)
+    c.in_ok-write_sections.ensures in
+    let verifiers = subst (Wrote {S = g.row.W.Denot} g.W.Sink.written g.W.Sink.failures c.write_sections.new.out
+    c.write_verifiers.new.out)
+    (ap (λ xs. flat_map votes_text (enumerate_from 0 (map votes xs))) c.as_slice-2.ensures.value)
+    c.in_ok-write_verifiers.ensures in
+    let replies = subst (Wrote {S = g.row.W.Denot} g.W.Sink.written g.W.Sink.failures c.write_verifiers.new.out
+    c.write_each.new.out)
+    (each_as (λ s. frame_text (OfSent s)) sent c.as_slice-3.result.now p.sent.items c.as_slice-3.ensures.value)
+    c.in_ok-write_each.ensures in
+    Writes-then {S = g.row.W.Denot} g.W.Sink.written g.W.Sink.failures _ _ _ _ _ c.write_end.result sections
+    (Writes-then {S = g.row.W.Denot} g.W.Sink.written g.W.Sink.failures _ _ _ _ _ c.write_end.result verifiers
+    (Writes-then {S = g.row.W.Denot} g.W.Sink.written g.W.Sink.failures _ _ _ _ _ c.write_end.result replies
+    c.write_end.ensures))

@@ -7,7 +7,10 @@ use Rattle.eve_write.proofs.laws.what_is_written_is_read_again.Goals as goal
 pub returns : goal.returns
 returns c = record {
   spelled = λ p spelled short. record { limits = spelled.limits; short = short; spelled = refl };
-  only = λ p t spelled short spells. c.bytes_spell_one_trace.ensures (spelling (trace p)) t (trace p) spells (record { limits = spelled.limits; short = short; spelled = refl });
-  frames = λ p t spelled short spells. ap frames_of (c.bytes_spell_one_trace.ensures (spelling (trace p)) t (trace p) spells (record { limits = spelled.limits; short = short; spelled = refl }));
+  only = λ p t spelled short spells. c.bytes_spell_one_trace.ensures (spelling (trace p)) t (trace p) spells
+      (record { limits = spelled.limits; short = short; spelled = refl });
+  frames = λ p t spelled short spells. ap frames_of
+      (c.bytes_spell_one_trace.ensures (spelling (trace p)) t (trace p) spells
+      (record { limits = spelled.limits; short = short; spelled = refl }));
   run = λ p spelled short. c.each_trace_runs.ensures (trace p) spelled.limits short;
 }

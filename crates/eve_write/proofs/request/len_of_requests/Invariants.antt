@@ -7,4 +7,5 @@ use Rattle.eve_write.proofs.request.len_of_requests.Given as goal
 
 abbrev pub invariant-loop-request : goal.invariant-loop-request
 invariant-loop-request l =
-    (l.len ≡ length (flat_map (λ r. asked_text (asked r)) (take l.request-index l.requests))) × (l.len ≤ 65 * l.request-index)
+    (l.len ≡ length (flat_map (λ r. asked_text (asked r)) (take l.request-index l.requests)))
+    × (l.len ≤ 65 * l.request-index)

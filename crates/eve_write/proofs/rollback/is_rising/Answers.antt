@@ -9,14 +9,20 @@ loop-restore-init c = rising_is (map restore c.args.restores.now)
 
 pub returns-then-row-least : goal.returns-then-row-least
 returns-then-row-least c =
-    rising_ends c.loop-restore.least c.loop-restore.restore-index c.args.restores.now c.restore-item.result _ c.loop-restore-test.true c.restore-item.is (omega (arith, c.number-row.ensures.number)) c.loop-restore.invariant
+    rising_ends c.loop-restore.least c.loop-restore.restore-index c.args.restores.now c.restore-item.result _
+    c.loop-restore-test.true c.restore-item.is (omega (arith, c.number-row.ensures.number)) c.loop-restore.invariant
 
 pub loop-restore-preserved : goal.loop-restore-preserved
 loop-restore-preserved c =
-    let more = rising_more c.loop-restore.least c.loop-restore.restore-index c.args.restores.now c.restore-item.result _ c.loop-restore-test.true c.restore-item.is (omega (arith, c.number-row.ensures.number)) c.loop-restore.invariant in
-    ap (λ k. rising_from (k + 1) (map restore (drop (c.loop-restore.restore-index + 1) c.args.restores.now))) c.number-row.ensures.number ∙ more
+    let more = rising_more c.loop-restore.least c.loop-restore.restore-index c.args.restores.now c.restore-item.result _
+    c.loop-restore-test.true c.restore-item.is (omega (arith, c.number-row.ensures.number)) c.loop-restore.invariant
+    in
+    ap (λ k. rising_from (k + 1) (map restore (drop (c.loop-restore.restore-index + 1) c.args.restores.now)))
+    c.number-row.ensures.number ∙ more
 
 pub returns : goal.returns
 returns c =
-    let none : drop c.loop-restore.restore-index c.args.restores.now ≡ [] = drop_all c.loop-restore.restore-index c.args.restores.now c.loop-restore-test.false in
-    sym (ap (λ xs. rising_from c.loop-restore.least (map restore xs)) none ∙ rising_done c.loop-restore.least) ∙ c.loop-restore.invariant
+    let none : drop c.loop-restore.restore-index c.args.restores.now ≡ [] =
+    drop_all c.loop-restore.restore-index c.args.restores.now c.loop-restore-test.false in
+    sym (ap (λ xs. rising_from c.loop-restore.least (map restore xs)) none ∙ rising_done c.loop-restore.least)
+    ∙ c.loop-restore.invariant

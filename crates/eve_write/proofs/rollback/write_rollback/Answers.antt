@@ -8,8 +8,10 @@ use Rattle.eve_write.proofs.rollback.write_rollback.Goals as goal
 
 pub returns-in_err-write_front : goal.returns-in_err-write_front
 returns-in_err-write_front g c =
-    Writes-at_err {S = g.row.W.Denot} g.W.Sink.written g.W.Sink.failures _ _ _ c.from_residual.result c.from_residual.ensures.0
-    (Stopped-before {S = g.row.W.Denot} (flat_map restore_text (map restore c.args.rollback.now.restores.items)) c.in_err-write_front.ensures)
+    Writes-at_err {S = g.row.W.Denot} g.W.Sink.written g.W.Sink.failures _ _ _ c.from_residual.result
+    c.from_residual.ensures.0
+    (Stopped-before {S = g.row.W.Denot} (flat_map restore_text (map restore c.args.rollback.now.restores.items))
+    c.in_err-write_front.ensures)
 
 pub write_each-requires : goal.write_each-requires
 write_each-requires g c = all_fit c.as_slice.result.now
@@ -17,5 +19,7 @@ write_each-requires g c = all_fit c.as_slice.result.now
 pub returns : goal.returns
 returns g c =
     let same = each_as restore_text restore _ _ c.as_slice.ensures.value in
-    let restores = subst (Writes g.W.Sink.written g.W.Sink.failures c.write_front.new.out c.write_each.new.out c.write_each.result) same c.write_each.ensures in
-    Writes-then {S = g.row.W.Denot} g.W.Sink.written g.W.Sink.failures _ _ _ _ _ c.write_each.result c.in_ok-write_front.ensures restores
+    let restores = subst (Writes g.W.Sink.written g.W.Sink.failures c.write_front.new.out c.write_each.new.out
+    c.write_each.result) same c.write_each.ensures in
+    Writes-then {S = g.row.W.Denot} g.W.Sink.written g.W.Sink.failures _ _ _ _ _ c.write_each.result
+    c.in_ok-write_front.ensures restores

@@ -8,4 +8,5 @@ use Rattle.eve_write.proofs.sections.write_batches.Given as goal
 
 abbrev pub invariant-loop-i : goal.invariant-loop-i
 invariant-loop-i g l =
-    Wrote g.W.Sink.written g.W.Sink.failures l.initial.out l.out (flat_map batch_text (take l.i (enumerate_from 1 (map batch l.batches))))
+    Wrote g.W.Sink.written g.W.Sink.failures l.initial.out l.out
+    (flat_map batch_text (take l.i (enumerate_from 1 (map batch l.batches))))

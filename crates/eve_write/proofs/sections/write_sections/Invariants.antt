@@ -8,4 +8,5 @@ use Rattle.eve_write.proofs.sections.write_sections.Given as goal
 
 abbrev pub invariant-loop-i : goal.invariant-loop-i
 invariant-loop-i g l =
-    Wrote g.W.Sink.written g.W.Sink.failures l.initial.out l.out (flat_map section_text (take l.i (enumerate_from 0 (map section l.sections))))
+    Wrote g.W.Sink.written g.W.Sink.failures l.initial.out l.out
+    (flat_map section_text (take l.i (enumerate_from 0 (map section l.sections))))

@@ -8,4 +8,5 @@ use Rattle.eve_write.proofs.sections.write_verifiers.Given as goal
 
 abbrev pub invariant-loop-i : goal.invariant-loop-i
 invariant-loop-i g l =
-    Wrote g.W.Sink.written g.W.Sink.failures l.initial.out l.out (flat_map votes_text (take l.i (enumerate_from 0 (map votes l.verifiers))))
+    Wrote g.W.Sink.written g.W.Sink.failures l.initial.out l.out
+    (flat_map votes_text (take l.i (enumerate_from 0 (map votes l.verifiers))))

@@ -14,7 +14,8 @@ returns-in_err-send_all g c =
     let item : Bor (List ℕ) = get_or texts i (record { ref_ptr = (0, 0); now = [] }) in
     let stopped : Stopped g.W.Sink.written g.W.Sink.failures c.loop-text.out c.send_all.new.sink item.now =
     record { front = c.in_err-send_all.ensures.front; counted = c.in_err-send_all.ensures.counted } in
-    let all = Stopped-more (λ (x : Bor (List ℕ)). x.now) texts i item c.loop-text-test.true (get_or_default texts i _ item c.loop-text-test.true) c.loop-text.invariant stopped in
+    let all = Stopped-more (λ (x : Bor (List ℕ)). x.now) texts i item c.loop-text-test.true
+    (get_or_default texts i _ item c.loop-text-test.true) c.loop-text.invariant stopped in
     Writes-at_err _ _ _ _ _ c.from_residual.result c.from_residual.ensures.0
     (subst (Stopped g.W.Sink.written g.W.Sink.failures c.args.out.now c.send_all.new.sink) (sym (joined_is texts)) all)
 
@@ -22,5 +23,6 @@ pub returns : goal.returns
 returns g c =
     let texts : List (Bor (List ℕ)) = c.args.texts.now in
     let whole : flat_map (λ (x : Bor (List ℕ)). x.now) (take c.loop-text.text-index texts) ≡ joined texts =
-    ap (flat_map (λ (x : Bor (List ℕ)). x.now)) (take_all c.loop-text.text-index texts c.loop-text-test.false) ∙ sym (joined_is texts) in
+    ap (flat_map (λ (x : Bor (List ℕ)). x.now)) (take_all c.loop-text.text-index texts c.loop-text-test.false)
+    ∙ sym (joined_is texts) in
     subst (Wrote g.W.Sink.written g.W.Sink.failures c.args.out.now c.loop-text.out) whole c.loop-text.invariant

@@ -16,4 +16,13 @@ returns c = λ before keeps.
     let customers : c.len.result ≡ length c.args.self.now.customers.items = search rules in
     let starts : c.len-2.result ≡ length c.args.self.now.starts.items = search rules in
     let requests : c.len-3.result ≡ length c.args.self.now.requests.items = search rules in
-    omega (arith, line_count before keeps.right, c.next_line-first.ensures.next before keeps.last, length-map c.args.self.now.customers.items customer, ap length keeps.customers, ap length keeps.starts, length-map c.args.self.now.requests.items asked, ap length keeps.requests)
+    omega (
+      arith,
+      line_count before keeps.right,
+      c.next_line-first.ensures.next before keeps.last,
+      length-map c.args.self.now.customers.items customer,
+      ap length keeps.customers,
+      ap length keeps.starts,
+      length-map c.args.self.now.requests.items asked,
+      ap length keeps.requests,
+    )

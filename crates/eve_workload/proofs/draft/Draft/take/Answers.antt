@@ -5,4 +5,5 @@ use Rattle.eve_workload.proofs.draft.Draft.take.Goals as goal
 
 pub returns-in-Head : goal.returns-in-Head
 returns-in-Head c = λ before keeps.
-    subst (λ line. Takes c.take_head.new.self before line c.take_head.result) (sym (ap said c.in-Head.is)) (c.take_head.ensures before keeps)
+    subst (λ line. Takes c.take_head.new.self before line c.take_head.result) (sym (ap said c.in-Head.is))
+    (c.take_head.ensures before keeps)

@@ -12,4 +12,5 @@ returns c = λ before keeps.
     let count : c.len.result ≡ length c.args.self.now.starts.items = search rules in
     let start : c.len-2.result ≡ length c.args.self.now.requests.items = search rules in
     let follows = c.takes_batch.ensures before keeps.last in
-    batch_taken c.args.self.now c.push.new.self before (c.in_ok-push.ensures.items ∙ ap (λ n. c.args.self.now.starts.items ++ n ∷ []) start) (omega arith) (cc) keeps
+    batch_taken c.args.self.now c.push.new.self before
+    (c.in_ok-push.ensures.items ∙ ap (λ n. c.args.self.now.starts.items ++ n ∷ []) start) (omega arith) (cc) keeps

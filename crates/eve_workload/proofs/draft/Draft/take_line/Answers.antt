@@ -9,23 +9,35 @@ use Rattle.eve_workload.proofs.draft.Draft.take_line.Goals as goal
 pub returns-in_default-line_of : goal.returns-in_default-line_of
 returns-in_default-line_of c = λ before keeps line behind is right.
     let found = rw c.in-Some.is at c.in_ok-len.ensures.found in
-    let first = subst (λ words. IsFirstLine c.args.text.now (bytes_of words) c.in-Some.len) (sym c.as_slice.ensures.value) found in
-    no_line_here c.args.text.now (bytes_of c.as_slice.result.now) c.in-Some.len first c.in_default-line_of.ensures.none line behind is right.ranges
+    let first = subst (λ words. IsFirstLine c.args.text.now (bytes_of words) c.in-Some.len)
+    (sym c.as_slice.ensures.value) found in
+    no_line_here c.args.text.now (bytes_of c.as_slice.result.now) c.in-Some.len first c.in_default-line_of.ensures.none
+    line behind is right.ranges
 
 pub returns-else-taken : goal.returns-else-taken
 returns-else-taken c = λ before keeps line behind is right.
     let found = rw c.in-Some.is at c.in_ok-len.ensures.found in
-    let first = subst (λ words. IsFirstLine c.args.text.now (bytes_of words) c.in-Some.len) (sym c.as_slice.ensures.value) found in
+    let first = subst (λ words. IsFirstLine c.args.text.now (bytes_of words) c.in-Some.len)
+    (sym c.as_slice.ensures.value) found in
     let some = c.in-Some-line_of.ensures.some in
-    let same = line_here c.args.text.now (bytes_of c.as_slice.result.now) c.in-Some.len (said c.in-Some-line_of.line) first some.0 some.1 line behind is right.ranges in
+    let same = line_here c.args.text.now (bytes_of c.as_slice.result.now) c.in-Some.len (said c.in-Some-line_of.line)
+    first some.0 some.1 line behind is right.ranges in
     let refused = rw c.if-taken.false at (c.in_ok-taken.ensures before keeps) in
     refused (subst (IsRightBehind before) same right)
 
 pub returns-then-taken : goal.returns-then-taken
 returns-then-taken c = λ before keeps.
     let found = rw c.in-Some.is at c.in_ok-len.ensures.found in
-    let first = subst (λ words. IsFirstLine c.args.text.now (bytes_of words) c.in-Some.len) (sym c.as_slice.ensures.value) found in
+    let first = subst (λ words. IsFirstLine c.args.text.now (bytes_of words) c.in-Some.len)
+    (sym c.as_slice.ensures.value) found in
     let some = c.in-Some-line_of.ensures.some in
     let kept = rw c.if-taken.true at (c.in_ok-taken.ensures before keeps) in
-    let spelled : take c.in-Some.len c.args.text.now ≡ line_text (said c.in-Some-line_of.line) = first.line ∙ ap text_of_words (sym some.0) in
-    (said c.in-Some-line_of.line, spelled, first.within, some_bytes c.in-Some.len c.args.text.now (said c.in-Some-line_of.line) spelled, kept)
+    let spelled : take c.in-Some.len c.args.text.now ≡ line_text (said c.in-Some-line_of.line) = first.line
+    ∙ ap text_of_words (sym some.0) in (
+      said c.in-Some-line_of.line,
+      spelled,
+      first.within,
+      some_bytes c.in-Some.len c.args.text.now
+          (said c.in-Some-line_of.line) spelled,
+      kept,
+    )

@@ -5,7 +5,8 @@ use Rattle.eve_workload.proofs.workload.Workload.batches.Goals as goal
 pub overflow_cast-result : goal.overflow_cast-result
 overflow_cast-result c =
     let held : c.len.result ≡ length c.self.inside.starts.items = search rules in
-    let count = starts_count c.self.inside c.args.self.now c.self.invariant c.self.view_is c.self.inside.starts.items refl in
+    let count = starts_count c.self.inside c.args.self.now c.self.invariant c.self.view_is c.self.inside.starts.items
+    refl in
     let few = batches_few c.self.inside c.args.self.now c.self.invariant c.self.view_is in
     omega arith
 
@@ -17,6 +18,7 @@ returns-clause-batches c =
 pub returns-clause-few : goal.returns-clause-few
 returns-clause-few c =
     let held : c.len.result ≡ length c.self.inside.starts.items = search rules in
-    let count = starts_count c.self.inside c.args.self.now c.self.invariant c.self.view_is c.self.inside.starts.items refl in
+    let count = starts_count c.self.inside c.args.self.now c.self.invariant c.self.view_is c.self.inside.starts.items
+    refl in
     let few = batches_few c.self.inside c.args.self.now c.self.invariant c.self.view_is in
     omega arith

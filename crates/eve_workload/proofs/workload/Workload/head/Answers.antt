@@ -1,19 +1,22 @@
 use Rattle.std.proofs.Common.{◌≡◌, length, IsTrue, arith, rules, refl, sym, subst, ◌∙◌}
 use Rattle.eve_grammar.specs.Limits.{is_head}
-use Rattle.eve_workload.proofs.Holding.{starts_count, batches_few, customer_count, customers_few, head_is, head_right, is_workload}
+use Rattle.eve_workload.proofs.Holding.{starts_count, batches_few, customer_count, customers_few, head_is, head_right}
+use Rattle.eve_workload.proofs.Holding.{is_workload}
 use Rattle.eve_workload.proofs.workload.Workload.head.Goals as goal
 
 pub overflow_cast-customers : goal.overflow_cast-customers
 overflow_cast-customers c =
     let held : c.len-customers.result ≡ length c.self.inside.customers.items = search rules in
-    let count = customer_count c.self.inside c.args.self.now c.self.invariant c.self.view_is c.self.inside.customers.items refl in
+    let count = customer_count c.self.inside c.args.self.now c.self.invariant c.self.view_is
+    c.self.inside.customers.items refl in
     let few = customers_few c.self.inside c.args.self.now c.self.invariant c.self.view_is in
     omega arith
 
 pub overflow_cast-batches : goal.overflow_cast-batches
 overflow_cast-batches c =
     let held : c.len-batches.result ≡ length c.self.inside.starts.items = search rules in
-    let count = starts_count c.self.inside c.args.self.now c.self.invariant c.self.view_is c.self.inside.starts.items refl in
+    let count = starts_count c.self.inside c.args.self.now c.self.invariant c.self.view_is c.self.inside.starts.items
+    refl in
     let few = batches_few c.self.inside c.args.self.now c.self.invariant c.self.view_is in
     omega arith
 

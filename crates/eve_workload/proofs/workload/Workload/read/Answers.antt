@@ -17,7 +17,8 @@ pub loop-at-preserved : goal.loop-at-preserved
 loop-at-preserved c =
     let taken = c.in_ok-len.ensures c.loop-at.invariant.before c.loop-at.invariant.keeps in
     read_more c.args.text.now c.loop-at.at c.in-Some.len c.loop-at.draft c.take_line.new.self c.loop-at.invariant
-    (subst (λ rest. TakesLine c.take_line.new.self c.loop-at.invariant.before rest (Some c.in-Some.len)) (take_rest c.args.text.now c.loop-at.at) (rw c.in-Some.is at taken))
+    (subst (λ rest. TakesLine c.take_line.new.self c.loop-at.invariant.before rest (Some c.in-Some.len))
+    (take_rest c.args.text.now c.loop-at.at) (rw c.in-Some.is at taken))
 
 pub returns-in-None-clause-bad : goal.returns-in-None-clause-bad
 returns-in-None-clause-bad c = λ number same.
@@ -25,12 +26,14 @@ returns-in-None-clause-bad c = λ number same.
     let taken = c.in_ok-len.ensures c.loop-at.invariant.before c.loop-at.invariant.keeps in
     read_bad c.args.text.now c.loop-at.at number c.loop-at.draft c.take_line.new.self c.loop-at.invariant
     (sym is ∙ c.next_line-number.ensures c.loop-at.invariant.before c.loop-at.invariant.keeps) (omega arith)
-    (subst (λ rest. TakesLine c.take_line.new.self c.loop-at.invariant.before rest None) (take_rest c.args.text.now c.loop-at.at) (rw c.in-None.is at taken))
+    (subst (λ rest. TakesLine c.take_line.new.self c.loop-at.invariant.before rest None)
+    (take_rest c.args.text.now c.loop-at.at) (rw c.in-None.is at taken))
 
 pub returns-then-not-may_end-clause-bad : goal.returns-then-not-may_end-clause-bad
 returns-then-not-may_end-clause-bad c = λ number same.
     let is : c.next_line.result ≡ number = cc in
     let read = c.loop-at.invariant in
     let ends : c.may_end.result ≡ false = search rules in
-    read_early c.args.text.now c.loop-at.at number c.loop-at.draft read (sym is ∙ c.next_line.ensures read.before read.keeps) (omega arith)
+    read_early c.args.text.now c.loop-at.at number c.loop-at.draft read
+    (sym is ∙ c.next_line.ensures read.before read.keeps) (omega arith)
     (sym (c.may_end.ensures read.before read.keeps.last) ∙ ends)

@@ -8,6 +8,10 @@ pub returns-clause-puts : goal.returns-clause-puts
 returns-clause-puts g c =
     let body_len = c.to_be_bytes.ensures ∙ ap (big_bytes 4) c.body_len.ensures in
     let count = c.byte-3.ensures ∙ ap (big_bytes 1) c.len.ensures.len in
-    let spelled = app c.byte.ensures (app body_len (app c.byte-2.ensures (app c.to_be_bytes-2.ensures (app c.to_be_bytes-3.ensures count)))) in
+    let spelled = app c.byte.ensures
+    (app body_len (app c.byte-2.ensures (app c.to_be_bytes-2.ensures (app c.to_be_bytes-3.ensures count)))) in
     subst (Puts c.args.frame.now.items c.put-6.new.frame.items) spelled
-    (Puts-then c.put.ensures.puts (Puts-then c.put-2.ensures.puts (Puts-then c.put-3.ensures.puts (Puts-then c.put-4.ensures.puts (Puts-then c.put-5.ensures.puts c.put-6.ensures.puts)))))
+    (Puts-then c.put.ensures.puts
+    (Puts-then c.put-2.ensures.puts
+    (Puts-then c.put-3.ensures.puts
+    (Puts-then c.put-4.ensures.puts (Puts-then c.put-5.ensures.puts c.put-6.ensures.puts)))))

@@ -23,7 +23,8 @@ overflow_add-result c =
 
 pub len_of_requests-requires-clause-right : goal.len_of_requests-requires-clause-right
 len_of_requests-requires-clause-right c =
-    all_as is_asked asked c.as_slice.result.now c.args.self.now.requests.items c.as_slice.ensures.value (IsGrouped-from_test (batch c.args.self.now) c.requires).right
+    all_as is_asked asked c.as_slice.result.now c.args.self.now.requests.items c.as_slice.ensures.value
+    (IsGrouped-from_test (batch c.args.self.now) c.requires).right
 
 pub overflow_add-result-2 : goal.overflow_add-result-2
 overflow_add-result-2 c =
@@ -33,5 +34,13 @@ overflow_add-result-2 c =
 pub returns : goal.returns
 returns c =
     let b = c.args.self.now in
-    let requests = ap length (each_as asked_text asked c.as_slice.result.now b.requests.items c.as_slice.ensures.value) in
-    omega (arith, requests, length-groups b.sizes.items (map asked b.requests.items), c.len.ensures, b.sizes.ok, c.len_of_requests.ensures.len)
+    let requests = ap length (each_as asked_text asked c.as_slice.result.now b.requests.items c.as_slice.ensures.value)
+    in
+    omega (
+      arith,
+      requests,
+      length-groups b.sizes.items (map asked b.requests.items),
+      c.len.ensures,
+      b.sizes.ok,
+      c.len_of_requests.ensures.len,
+    )

@@ -12,15 +12,18 @@ use Rattle.eve_write.proofs.parts.Parts.text_len.Goals as goal
 
 pub len_of_each-requires : goal.len_of_each-requires
 len_of_each-requires c =
-    ap (list_all (λ x. is_customer (customer x))) c.as_slice.ensures.value ∙ (AreWritable-from_spelling c.args.self.now c.requires).customers
+    ap (list_all (λ x. is_customer (customer x))) c.as_slice.ensures.value
+    ∙ (AreWritable-from_spelling c.args.self.now c.requires).customers
 
 pub len_of_each-requires-2 : goal.len_of_each-requires-2
 len_of_each-requires-2 c =
-    ap (list_all (λ x. is_batch (batch x))) c.as_slice-2.ensures.value ∙ (AreWritable-from_spelling c.args.self.now c.requires).batches
+    ap (list_all (λ x. is_batch (batch x))) c.as_slice-2.ensures.value
+    ∙ (AreWritable-from_spelling c.args.self.now c.requires).batches
 
 pub len_of_each-requires-3 : goal.len_of_each-requires-3
 len_of_each-requires-3 c =
-    ap (list_all (λ x. list_all fits_step x.items)) c.as_slice-3.ensures.value ∙ (AreWritable-from_spelling c.args.self.now c.requires).sections
+    ap (list_all (λ x. list_all fits_step x.items)) c.as_slice-3.ensures.value
+    ∙ (AreWritable-from_spelling c.args.self.now c.requires).sections
 
 pub len_of_each-requires-5 : goal.len_of_each-requires-5
 len_of_each-requires-5 c = all_fit c.as_slice-5.result.now
@@ -34,4 +37,22 @@ returns c =
     let verifiers = ap (sum_by (λ v. 6 + sum_by vote_size v.items)) c.as_slice-4.ensures.value in
     let replies = ap (sum_by (λ s. length (frame_text (OfSent (sent s))))) c.as_slice-5.ensures.value in
     let whole = length_is p in
-    omega (arith, whole, customers, batches, sections, verifiers, replies, c.len_of_each.ensures, c.len_of_each-2.ensures, c.len_of_each-3.ensures, c.len_of_each-4.ensures, c.len_of_each-5.ensures, c.saturating_add.ensures, c.saturating_add-2.ensures, c.saturating_add-3.ensures, c.saturating_add-4.ensures, c.saturating_add-5.ensures)
+    omega (
+      arith,
+      whole,
+      customers,
+      batches,
+      sections,
+      verifiers,
+      replies,
+      c.len_of_each.ensures,
+      c.len_of_each-2.ensures,
+      c.len_of_each-3.ensures,
+      c.len_of_each-4.ensures,
+      c.len_of_each-5.ensures,
+      c.saturating_add.ensures,
+      c.saturating_add-2.ensures,
+      c.saturating_add-3.ensures,
+      c.saturating_add-4.ensures,
+      c.saturating_add-5.ensures,
+    )

@@ -8,4 +8,9 @@ use Rattle.eve_write.proofs.rollback.RollbackData.body_len.Goals as goal
 pub returns : goal.returns
 returns c =
     let restores = c.args.self.now.restores.items in
-    omega (arith, length-flat_map-same restore_text 20 (λ r. refl) (map restore restores), length-map restores restore, c.len.ensures)
+    omega (
+      arith,
+      length-flat_map-same restore_text 20 (λ r. refl) (map restore restores),
+      length-map restores restore,
+      c.len.ensures,
+    )

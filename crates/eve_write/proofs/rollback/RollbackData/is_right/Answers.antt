@@ -11,4 +11,5 @@ returns-then-is_rising c =
     let rows = row_count (limits c.args.head.now) in
     let same = c.as_slice-restores.ensures.value in
     let rising = ap (λ xs. is_rising (map restore xs)) (sym same) ∙ sym c.is_rising.ensures ∙ c.if-is_rising.true in
-    rollback_is rows (rollback r) c.all_right.result (omega arith) (omega arith) rising (c.all_right.ensures ∙ all_is (is_restore rows) restore c.as_slice-restores.result.now r.restores.items same)
+    rollback_is rows (rollback r) c.all_right.result (omega arith) (omega arith) rising
+    (c.all_right.ensures ∙ all_is (is_restore rows) restore c.as_slice-restores.result.now r.restores.items same)

@@ -9,7 +9,8 @@ use Rattle.eve_write.proofs.rollback.RollbackData.write_front.Goals as goal
 pub returns : goal.returns
 returns g c =
     let restores = c.args.self.now.restores in
-    let counted : c.len.result ≡ length (map restore restores.items) = omega (arith, c.len.ensures, restores.ok, length-map restores.items restore) in
+    let counted : c.len.result ≡ length (map restore restores.items) =
+    omega (arith, c.len.ensures, restores.ok, length-map restores.items restore) in
     let count = c.to_be_bytes-count.ensures ∙ ap (big_bytes 4) counted in
     let body_len = c.to_be_bytes-body_len.ensures ∙ ap (big_bytes 4) c.body_len.ensures in
     subst (Writes g.W.Sink.written g.W.Sink.failures c.args.out.now c.send_texts.new.out c.send_texts.result)

@@ -13,9 +13,11 @@ returns-in-Attempt g c =
 pub returns-in-Commit : goal.returns-in-Commit
 returns-in-Commit g c =
     subst (Writes g.W.Sink.written g.W.Sink.failures c.args.out.now c.write_commit.new.out c.write_commit.result)
-    (sym (append-nil (frame_text (OfCommit (commit c.in-Commit.commit)))) ∙ sym (ap (λ s. step_text (step s)) c.in-Commit.is)) c.write_commit.ensures
+    (sym (append-nil (frame_text (OfCommit (commit c.in-Commit.commit))))
+    ∙ sym (ap (λ s. step_text (step s)) c.in-Commit.is)) c.write_commit.ensures
 
 pub returns-in-Rollback : goal.returns-in-Rollback
 returns-in-Rollback g c =
     subst (Writes g.W.Sink.written g.W.Sink.failures c.args.out.now c.write_rollback.new.out c.write_rollback.result)
-    (sym (append-nil (frame_text (OfRollback (rollback c.in-Rollback.rollback)))) ∙ sym (ap (λ s. step_text (step s)) c.in-Rollback.is)) c.write_rollback.ensures
+    (sym (append-nil (frame_text (OfRollback (rollback c.in-Rollback.rollback))))
+    ∙ sym (ap (λ s. step_text (step s)) c.in-Rollback.is)) c.write_rollback.ensures

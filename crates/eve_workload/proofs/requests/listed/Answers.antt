@@ -4,18 +4,21 @@ use Rattle.std.proofs.lemmas.List.{take_all, get_or-map}
 use Rattle.eve_write.specs.Data.{asked}
 use Rattle.eve_workload.specs.Groups.{refused_request, listed}
 use Rattle.eve_workload.proofs.Listing.{listed_more}
-use Rattle.eve_workload.proofs.requests.copy_listed.Goals as goal
+use Rattle.eve_workload.proofs.requests.listed.Goals as goal
 
 pub loop-index-preserved : goal.loop-index-preserved
 loop-index-preserved c =
-    let pushed : c.push.new.self.items ≡ c.loop-index.copies.items ++ c.in_ok-copy_request.field-0 ∷ [] = search rules in
+    let pushed : c.push.new.self.items ≡ c.loop-index.copies.items ++ c.index-requests-index.result ∷ [] =
+    search rules in
     let index : ℕ = slice_index_or c.args.order.now c.loop-index.index-index 0 in
     let there : c.loop-index.index-index < length c.args.order.now = omega arith in
     let bound : index < length c.args.requests.now = c.requires c.loop-index.index-index 0 there in
-    let at : asked c.in_ok-copy_request.field-0 ≡ slice_index_or (map asked c.args.requests.now) index refused_request =
-    c.in_ok-copy_request.ensures ∙ ap asked c.index-requests-index.is
+    let at : asked c.index-requests-index.result ≡ slice_index_or (map asked c.args.requests.now) index refused_request
+    =
+    ap asked c.index-requests-index.is
     ∙ sym (get_or-map asked c.args.requests.now index c.index-requests-index.result refused_request bound) in
-    listed_more c.loop-index.copies.items c.in_ok-copy_request.field-0 (map asked c.args.requests.now) c.args.order.now c.loop-index.index-index refused_request c.push.new.self.items
+    listed_more c.loop-index.copies.items c.index-requests-index.result (map asked c.args.requests.now) c.args.order.now
+    c.loop-index.index-index refused_request c.push.new.self.items
     c.loop-index.invariant pushed at there
 
 pub returns : goal.returns

@@ -1,7 +1,7 @@
 use Rattle.std.proofs.Common.{◌≡◌, map, take}
 use Rattle.eve_write.specs.Data.{asked}
 use Rattle.eve_workload.specs.Groups.{listed}
-use Rattle.eve_workload.proofs.requests.copy_listed.Given as goal
+use Rattle.eve_workload.proofs.requests.listed.Given as goal
 
 abbrev pub invariant-loop-index : goal.invariant-loop-index
 invariant-loop-index l = map asked l.copies.items ≡ listed (map asked l.requests) (take l.index-index l.order)
