@@ -1,5 +1,6 @@
 -- A worker as contracts see it, and what one execution makes of it. docs/MODEL.md, "Executions".
-use Rattle.std.specs.Prelude.{◌≡◌, ℕ, ◌⊎◌, IsSome, List, [], ◌∷◌, ◌++◌, length, map, slice_index_or, Option, None, Some, Result, Ok, Err}
+use Rattle.std.specs.Prelude.{◌≡◌, ℕ, ◌⊎◌, IsSome, List, [], ◌∷◌, ◌++◌, length, map, slice_index_or, Option, None, Some}
+use Rattle.std.specs.Prelude.{Result, Ok, Err}
 use Rattle.eve_smallbank.specs.SmallBank.{Request, Balance}
 use Rattle.eve_smallbank.specs.Access.{Fits}
 use Rattle.eve_grammar.specs.Trace.{Batch}

@@ -1,11 +1,9 @@
 //! The stripes of all rows, each behind a lock of its own.
 
-ghost use Rattle.std.specs.Prelude.{◌≡◌, ◌*◌, ◌+◌, ◌<◌, ◌++◌, List, IfOk, IsErr, length, vec_len, vec_capacity};
-ghost use Rattle.eve_grammar.specs.declared.restore.Restore as spec;
+ghost use Rattle.std.specs.Prelude.{◌≡◌, ◌*◌, IfOk, length};
 
 use crossbeam_utils::CachePadded;
 use eve_accounts::{Balances, Names};
-use eve_grammar::Restore;
 use eve_stamps::{STRIPES, Stripe, opening_stripe};
 use std::alloc::{AllocError, Global};
 use std::marker::Model;
@@ -60,23 +58,12 @@ impl<'n> Floor<'n> {
         }
     }
 
-    /// Returns all stripes to their committed bases, and appends each row that was written since, as its base has it:
-    /// stripe by stripe, in each by rising row.
-    ///
-    /// Takes no memory: it fails, changing nothing, where the vector has no room for two rows of each customer.
-    pub fn undo(&mut self, restores: &mut Vec<Restore>) -> Result<(), AllocError>
-        ensures names { self.new ≡ self.old }
-        ensures appended { (undone : List spec.Restore) × (restores.new.items ≡ restores.old.items ++ undone) }
-        ensures capacity { vec_capacity restores.new ≡ vec_capacity restores.old }
-        ensures short { vec_capacity restores.old < vec_len restores.old + 2 * length self.old
-            → IsErr result × (restores.new.items ≡ restores.old.items) }
+    /// Returns all stripes to their committed bases. It takes no memory and can't be refused.
+    pub fn go_back(&mut self)
+        ensures { self.new ≡ self.old }
     {
-        if restores.capacity() - restores.len() < 2 * self.names.len() {
-            return Err(AllocError);
-        }
         for stripe in self.stripes.iter_mut() {
-            stripe.get_mut().undo(restores)?;
+            stripe.get_mut().go_back();
         }
-        Ok(())
     }
 }

@@ -1,5 +1,6 @@
 -- Each step keeps the rule over the counter and all seats.
-use Rattle.std.proofs.Common.{◌≡◌, ℕ, zero, suc, ◌+◌, ◌*◌, ◌%◌, ◌^◌, ◌≤◌, ◌<◌, List, [], ◌∷◌, ◌++◌, length, set, All, sum_by, sym, refl, ap, ◌∙◌, subst, ⊎_elim, length-append, arith}
+use Rattle.std.proofs.Common.{◌≡◌, ℕ, zero, suc, ◌+◌, ◌*◌, ◌%◌, ◌^◌, ◌≤◌, ◌<◌, List, [], ◌∷◌, ◌++◌, length, set, All}
+use Rattle.std.proofs.Common.{sum_by, sym, refl, ap, ◌∙◌, subst, ⊎_elim, length-append, arith}
 use Rattle.std.specs.Prelude.{slice_index}
 use Rattle.std.proofs.lemmas.Bool.Decides.{nat_tests}
 use Rattle.std.proofs.lemmas.List.Elements.{All-append}
@@ -10,12 +11,16 @@ use native.Mathlib.Nat.{mod-eq_of_lt}
 use Rattle.atomic_table.specs.Table.{State, Me, Step, Allows, Splits, Joins, keeps}
 use Rattle.atomic_table.proofs.Lists.{at_set, at_snoc}
 use Rattle.eve_recorder.specs.declared.drawn.Drawn.{Drawn}
-use Rattle.eve_recorder.specs.Dealt.{drawn, all_parts, times, once_below, IsFair, AreBelow, IsDealt, Draws, fewer, one_part, joined, spent}
+use Rattle.eve_recorder.specs.Dealt.{drawn, all_parts, times, once_below, IsFair, AreBelow, IsDealt, Draws, fewer}
+use Rattle.eve_recorder.specs.Dealt.{one_part, joined, spent}
 
-sum_set : (f : Drawn → ℕ) (views : List Drawn) (p : ℕ) (v w : Drawn) → get_elem? views p ≡ some v → sum_by f (set views p w) + f v ≡ sum_by f views + f w
+sum_set : (f : Drawn → ℕ) (views : List Drawn) (p : ℕ) (v w : Drawn) → get_elem? views p ≡ some v
+    → sum_by f (set views p w) + f v ≡ sum_by f views + f w
 sum_set f [] p v w e = absurd (some-ne-none v (sym e))
-sum_set f (y ∷ ys) zero v w e = let same = ap f (some-injective y v e) in omega (arith, sum_by-cons f y ys, sum_by-cons f w ys)
-sum_set f (y ∷ ys) (suc p) v w e = let h = sum_set f ys p v w e in omega (arith, sum_by-cons f y ys, sum_by-cons f y (set ys p w))
+sum_set f (y ∷ ys) zero v w e = let same = ap f (some-injective y v e) in
+    omega (arith, sum_by-cons f y ys, sum_by-cons f w ys)
+sum_set f (y ∷ ys) (suc p) v w e = let h = sum_set f ys p v w e in
+    omega (arith, sum_by-cons f y ys, sum_by-cons f y (set ys p w))
 
 times-append : (x : ℕ) (xs ys : List ℕ) → times x (xs ++ ys) ≡ times x xs + times x ys
 times-append x xs ys = sum_by-append _ xs ys
@@ -33,7 +38,8 @@ below_one : (n m : ℕ) → n < m → All (λ x. x < m) (n ∷ [])
 below_one n m lt zero d h = lt
 below_one n m lt (suc k) d h = absurd (omega arith)
 
-fair_total : (n : ℕ) (views : List Drawn) → ((p : ℕ) (v : Drawn) → get_elem? views p ≡ some v → IsFair n v) → sum_by (λ v. length v.numbers) views ≤ sum_by (λ v. v.parts) views * 2 ^ 40
+fair_total : (n : ℕ) (views : List Drawn) → ((p : ℕ) (v : Drawn) → get_elem? views p ≡ some v → IsFair n v)
+    → sum_by (λ v. length v.numbers) views ≤ sum_by (λ v. v.parts) views * 2 ^ 40
 fair_total n [] h = omega arith
 fair_total n (y ∷ ys) h = let a = (h zero y refl).0 in let b = fair_total n ys (λ p v e. h (suc p) v e) in
     omega (arith, sum_by-cons (λ (v : Drawn). length v.numbers) y ys, sum_by-cons (λ (v : Drawn). v.parts) y ys)
@@ -70,7 +76,11 @@ draws {S} t slots seat me room s h len at small =
     let mine = d.3 seat v at in
     let few : n ≤ 9 * 2 ^ 40 = few_drawn n s.views d in
     let next : (i + 1) % 2 ^ 64 ≡ n + 1 = mod-eq_of_lt (omega arith) ∙ ap (λ k. k + 1) is in
-    let fair : IsFair (n + 1) w = ((let e = length-append v.numbers (i ∷ []) in omega arith), All-append (λ x. x < n + 1) v.numbers (i ∷ []) (below_more n (n + 1) v.numbers (omega arith) mine.1) (below_one i (n + 1) (omega arith))) in (
+    let fair : IsFair (n + 1) w = (
+      (let e = length-append v.numbers (i ∷ []) in omega arith),
+      All-append (λ x. x < n + 1) v.numbers (i ∷ [])
+          (below_more n (n + 1) v.numbers (omega arith) mine.1) (below_one i (n + 1) (omega arith)),
+    ) in (
       w,
       keeps,
       tt,
@@ -79,8 +89,10 @@ draws {S} t slots seat me room s h len at small =
         ap (λ l. set l 0 ((i + 1) % 2 ^ 64)) h.1 ∙ ap (λ k. k ∷ []) next,
         (
           (let e = sum_set (λ u. u.parts) s.views seat v w at in let p = d.0 in omega arith),
-          (let e = sum_set (λ u. length u.numbers) s.views seat v w at in let p = d.1 in let q = length-append v.numbers (i ∷ []) in omega arith),
-          (λ x. let e = sum_set (λ u. times x u.numbers) s.views seat v w at in let p = d.2 x in let q = times-append x v.numbers (i ∷ []) in
+          (let e = sum_set (λ u. length u.numbers) s.views seat v w at in let p = d.1 in let q = length-append v.numbers
+              (i ∷ []) in omega arith),
+          (λ x. let e = sum_set (λ u. times x u.numbers) s.views seat v w at in let p = d.2 x in
+              let q = times-append x v.numbers (i ∷ []) in
               let o = once_more x n in let r = ap (λ k. times x (k ∷ [])) is in omega arith),
           each_set (IsFair (n + 1)) s.views seat w fair (fair_more n (n + 1) s.views (omega arith) d.3),
         ),
@@ -88,34 +100,48 @@ draws {S} t slots seat me room s h len at small =
       (refl, subst (λ k. All (λ x. x < k) v.numbers) (sym is) mine.1),
     )
 
-pub splits : {S : Type 0} (seat : ℕ) (v : Drawn) → 0 < v.parts → v.numbers ≡ [] → Splits {S = S} IsDealt seat v (fewer v) (one_part v)
+pub splits : {S : Type 0} (seat : ℕ) (v : Drawn) → 0 < v.parts → v.numbers ≡ []
+    → Splits {S = S} IsDealt seat v (fewer v) (one_part v)
 splits seat v some_part none s h at =
     let n = h.0 in let d = h.2 in let l = fewer v in let r = one_part v in let vs = set s.views seat l in
-    let fair : IsFair n l = subst (λ k. (length k ≤ l.parts * 2 ^ 40) × All (λ x. x < n) k) (sym none) (omega arith, none_below n) in (
+    let fair : IsFair n l = subst (λ k. (length k ≤ l.parts * 2 ^ 40) × All (λ x. x < n) k) (sym none)
+    (omega arith, none_below n) in (
       n,
       h.1,
       (
-        (let e = sum_set (λ u. u.parts) s.views seat v l at in let f = sum_by_push (λ u. u.parts) vs r in let p = d.0 in omega arith),
-        (let e = sum_set (λ u. length u.numbers) s.views seat v l at in let f = sum_by_push (λ u. length u.numbers) vs r in let p = d.1 in omega arith),
-        (λ x. let e = sum_set (λ u. times x u.numbers) s.views seat v l at in let f = sum_by_push (λ u. times x u.numbers) vs r in let p = d.2 x in omega arith),
+        (let e = sum_set (λ u. u.parts) s.views seat v l at in let f = sum_by_push (λ u. u.parts) vs r in let p = d.0 in
+            omega arith),
+        (let e = sum_set (λ u. length u.numbers) s.views seat v l at in let f = sum_by_push (λ u. length u.numbers) vs r
+            in let p = d.1 in omega arith),
+        (λ x. let e = sum_set (λ u. times x u.numbers) s.views seat v l at in
+            let f = sum_by_push (λ u. times x u.numbers) vs r in let p = d.2 x in omega arith),
         each_more (IsFair n) vs r (omega arith, none_below n) (each_set (IsFair n) s.views seat l fair d.3),
       ),
     )
 
-was_there : (views : List Drawn) (seat other : ℕ) (both u : Drawn) → ¬ (other ≡ seat) → get_elem? (set views seat both) other ≡ some u → get_elem? views other ≡ some u
+was_there : (views : List Drawn) (seat other : ℕ) (both u : Drawn) → ¬ (other ≡ seat)
+    → get_elem? (set views seat both) other ≡ some u → get_elem? views other ≡ some u
 was_there views seat other both u two e = ⊎_elim (λ x. absurd (two x.0)) (λ x. x.1) (at_set views seat other both u e)
 
-pub joins : {S : Type 0} (seat : ℕ) (v : Drawn) (other : ℕ) (w : Drawn) → Joins {S = S} IsDealt seat v other w (joined v w) spent
+pub joins : {S : Type 0} (seat : ℕ) (v : Drawn) (other : ℕ) (w : Drawn)
+    → Joins {S = S} IsDealt seat v other w (joined v w) spent
 joins seat v other w s h at two at' =
     let n = h.0 in let d = h.2 in let b = joined v w in let vs = set s.views seat b in
     let mine = d.3 seat v at in let theirs = d.3 other w (was_there s.views seat other b w two at') in
-    let fair : IsFair n b = ((let e = length-append v.numbers w.numbers in omega arith), All-append (λ x. x < n) v.numbers w.numbers mine.1 theirs.1) in (
+    let fair : IsFair n b = (
+      (let e = length-append v.numbers w.numbers in omega arith),
+      All-append (λ x. x < n) v.numbers w.numbers mine.1 theirs.1,
+    ) in (
       n,
       h.1,
       (
-        (let e = sum_set (λ u. u.parts) s.views seat v b at in let f = sum_set (λ u. u.parts) vs other w spent at' in let p = d.0 in omega arith),
-        (let e = sum_set (λ u. length u.numbers) s.views seat v b at in let f = sum_set (λ u. length u.numbers) vs other w spent at' in let p = d.1 in let q = length-append v.numbers w.numbers in omega arith),
-        (λ x. let e = sum_set (λ u. times x u.numbers) s.views seat v b at in let f = sum_set (λ u. times x u.numbers) vs other w spent at' in let p = d.2 x in let q = times-append x v.numbers w.numbers in omega arith),
+        (let e = sum_set (λ u. u.parts) s.views seat v b at in let f = sum_set (λ u. u.parts) vs other w spent at' in
+            let p = d.0 in omega arith),
+        (let e = sum_set (λ u. length u.numbers) s.views seat v b at in let f = sum_set (λ u. length u.numbers) vs other
+            w spent at' in let p = d.1 in let q = length-append v.numbers w.numbers in omega arith),
+        (λ x. let e = sum_set (λ u. times x u.numbers) s.views seat v b at in
+            let f = sum_set (λ u. times x u.numbers) vs other w spent at' in let p = d.2 x in let q =
+            times-append x v.numbers w.numbers in omega arith),
         each_set (IsFair n) vs other spent (omega arith, none_below n) (each_set (IsFair n) s.views seat b fair d.3),
       ),
     )
@@ -130,18 +156,22 @@ sum_at f (y ∷ ys) zero v e = let same = ap f (some-injective y v e) in omega (
 sum_at f (y ∷ ys) (suc p) v e = let h = sum_at f ys p v e in omega (arith, sum_by-cons f y ys)
 
 -- seats with no part have drawn nothing
-sum_none : (x n : ℕ) (views : List Drawn) → Each (IsFair n) views → sum_by (λ v. v.parts) views ≡ 0 → sum_by (λ v. times x v.numbers) views ≡ 0
+sum_none : (x n : ℕ) (views : List Drawn) → Each (IsFair n) views → sum_by (λ v. v.parts) views ≡ 0
+    → sum_by (λ v. times x v.numbers) views ≡ 0
 sum_none x n [] h e = refl
 sum_none x n (y ∷ ys) h e =
     let p = sum_by-cons (λ (v : Drawn). v.parts) y ys in let t = sum_by-cons (λ (v : Drawn). times x v.numbers) y ys in
-    let a = no_numbers x y.numbers (let f = (h zero y refl).0 in omega arith) in let b = sum_none x n ys (λ p v q. h (suc p) v q) (omega arith) in omega arith
+    let a = no_numbers x y.numbers (let f = (h zero y refl).0 in omega arith) in let b =
+    sum_none x n ys (λ p v q. h (suc p) v q) (omega arith) in omega arith
 
 -- where one seat has every part, it drew what all seats drew
-sum_one : (x n : ℕ) (views : List Drawn) (seat : ℕ) (v : Drawn) → Each (IsFair n) views → get_elem? views seat ≡ some v → sum_by (λ v. v.parts) views ≡ v.parts
+sum_one : (x n : ℕ) (views : List Drawn) (seat : ℕ) (v : Drawn) → Each (IsFair n) views → get_elem? views seat ≡ some v
+    → sum_by (λ v. v.parts) views ≡ v.parts
     → sum_by (λ v. times x v.numbers) views ≡ times x v.numbers
 sum_one x n [] seat v h at e = absurd (some-ne-none v (sym at))
 sum_one x n (y ∷ ys) zero v h at e =
-    let same = some-injective y v at in let p = ap (λ (u : Drawn). u.parts) same in let q = ap (λ (u : Drawn). times x u.numbers) same in
+    let same = some-injective y v at in let p = ap (λ (u : Drawn). u.parts) same in let q =
+    ap (λ (u : Drawn). times x u.numbers) same in
     let r = sum_by-cons (λ (v : Drawn). v.parts) y ys in let t = sum_by-cons (λ (v : Drawn). times x v.numbers) y ys in
     let a = sum_none x n ys (λ p v q. h (suc p) v q) (omega arith) in omega arith
 sum_one x n (y ∷ ys) (suc seat) v h at e =
@@ -150,7 +180,8 @@ sum_one x n (y ∷ ys) (suc seat) v h at e =
     let a = no_numbers x y.numbers (let f = (h zero y refl).0 in omega arith) in
     let b = sum_one x n ys seat v (λ p v q. h (suc p) v q) at (omega arith) in omega arith
 
-pub closes : {S : Type 0} (s : State S Drawn) (seat n : ℕ) (v : Drawn) → IsDealt s → get_elem? s.views seat ≡ some v → v.parts ≡ all_parts → get_elem? s.words 0 ≡ some n → (x : ℕ) → times x v.numbers ≡ once_below x n
+pub closes : {S : Type 0} (s : State S Drawn) (seat n : ℕ) (v : Drawn) → IsDealt s → get_elem? s.views seat ≡ some v
+    → v.parts ≡ all_parts → get_elem? s.words 0 ≡ some n → (x : ℕ) → times x v.numbers ≡ once_below x n
 closes s seat n v h at all word x =
     let d = h.2 in let is : h.0 ≡ n = some-injective h.0 n (ap (λ l. get_elem? l 0) (sym h.1) ∙ word) in
     sym (sum_one x h.0 s.views seat v d.3 at (d.0 ∙ sym all)) ∙ d.2 x ∙ ap (λ k. once_below x k) is

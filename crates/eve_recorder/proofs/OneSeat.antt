@@ -1,5 +1,6 @@
 -- The steps of one seat.
-use Rattle.std.proofs.Common.{◌≡◌, ℕ, suc, ◌+◌, ◌≤◌, ◌<◌, true, false, cond, eq-eqb, List, [], ◌∷◌, ◌++◌, length, sym, refl, ap, ◌∙◌, subst, length-append, arith}
+use Rattle.std.proofs.Common.{◌≡◌, ℕ, suc, ◌+◌, ◌≤◌, ◌<◌, true, false, cond, eq-eqb, List, [], ◌∷◌, ◌++◌, length, sym}
+use Rattle.std.proofs.Common.{refl, ap, ◌∙◌, subst, length-append, arith}
 use Rattle.atomic_table.specs.Seated.{TableId}
 use Rattle.crossbeam_queue.specs.Fifo.{Pushes, Pops, Learns, Held}
 use Rattle.eve_recorder.specs.declared.ledger.Ledger.{Ledger}
@@ -11,21 +12,25 @@ use Rattle.eve_recorder.proofs.Keeps.{whose_is, come_rest, notes, takes, learns_
 
 pub all_of-of_worker : (w : ℕ) (xs : List Applied) → AllOf w xs → of_worker w xs ≡ xs
 all_of-of_worker w [] h = refl
-all_of-of_worker w (x ∷ xs) h = ap (λ b. cond b (x ∷ of_worker w xs) (of_worker w xs)) (eq-eqb x.worker w h.0) ∙ ap (λ l. x ∷ l) (all_of-of_worker w xs h.1)
+all_of-of_worker w (x ∷ xs) h = ap (λ b. cond b (x ∷ of_worker w xs) (of_worker w xs)) (eq-eqb x.worker w h.0)
+    ∙ ap (λ l. x ∷ l) (all_of-of_worker w xs h.1)
 
 pub all_of_snoc : (w : ℕ) (xs : List Applied) (x : Applied) → AllOf w xs → x.worker ≡ w → AllOf w (xs ++ x ∷ [])
 all_of_snoc w [] x h e = (e, tt)
 all_of_snoc w (y ∷ xs) x h e = (h.0, all_of_snoc w xs x h.1 e)
 
-pub note_step : (n port w count : ℕ) (v : Ledger) (x : Applied) → IsWorkers w count v → x.worker ≡ w → x.place ≡ length v.noted
+pub note_step : (n port w count : ℕ) (v : Ledger) (x : Applied) → IsWorkers w count v → x.worker ≡ w
+    → x.place ≡ length v.noted
     → Pushes Kept n port v x (λ u. u ≡ noting v x) × Learns Kept port v (SeesSome v)
 note_step n port w count v x is e place =
     let from : v.from ≡ w = ap (λ (h : Ledger). h.from) is.0 in
     let below : v.below ≡ suc w = ap (λ (h : Ledger). h.below) is.0 in
-    let due : x.place ≡ length (of_worker x.worker v.noted) = place ∙ ap length (sym (ap (λ k. of_worker k v.noted) e ∙ all_of-of_worker w v.noted is.4)) in
+    let due : x.place ≡ length (of_worker x.worker v.noted) = place
+    ∙ ap length (sym (ap (λ k. of_worker k v.noted) e ∙ all_of-of_worker w v.noted is.4)) in
     (notes n port v x (omega arith) due, learns_some port v)
 
-pub seat_after : (w count : ℕ) (v u : Ledger) (x : Applied) → IsWorkers w count v → x.worker ≡ w → u ≡ noting v x → IsWorkers w (count + 1) u
+pub seat_after : (w count : ℕ) (v u : Ledger) (x : Applied) → IsWorkers w count v → x.worker ≡ w → u ≡ noting v x
+    → IsWorkers w (count + 1) u
 seat_after w count v u x is e after =
     let noted : u.noted ≡ v.noted ++ x ∷ [] = ap (λ (h : Ledger). h.noted) after in
     let workers : u.workers ≡ v.workers = ap (λ (h : Ledger). h.workers) after in (
@@ -41,13 +46,15 @@ seat_after w count v u x is e after =
 of_one : (xs : List Applied) → ComeFrom 1 xs → length (of_worker 0 xs) ≡ length xs
 of_one [] h = refl
 of_one (x ∷ xs) h = let lt = whose_is 1 [] xs x h in let is : x.worker ≡ 0 = omega arith in
-    ap (λ b. length (cond b (x ∷ of_worker 0 xs) (of_worker 0 xs))) (eq-eqb x.worker 0 is) ∙ ap suc (of_one xs (come_rest 1 x xs h))
+    ap (λ b. length (cond b (x ∷ of_worker 0 xs) (of_worker 0 xs))) (eq-eqb x.worker 0 is)
+    ∙ ap suc (of_one xs (come_rest 1 x xs h))
 
 abbrev pub noter_of : TableId → ℕ → Ledger → Noter
 noter_of table w v = record { recorder = recorder_id table v.workers; worker = w; noted = v.noted }
 
 -- what is learned where the queue is full
-pub full_by : (desk : Desk) (table : TableId) (w count : ℕ) (v : Ledger) → IsWorkers w count v → recorder_id table v.workers ≡ desk.recorder
+pub full_by : (desk : Desk) (table : TableId) (w count : ℕ) (v : Ledger) → IsWorkers w count v
+    → recorder_id table v.workers ≡ desk.recorder
     → Held desk.room (SeesSome v) → WasFull desk (noter_of table w v)
 full_by desk table w count v is own held =
     let from : v.from ≡ w = ap (λ (h : Ledger). h.from) is.0 in
@@ -62,14 +69,17 @@ full_by desk table w count v is own held =
     )
 
 -- where there is one worker, a full queue holds its records alone
-pub full_alone : (desk : Desk) (seat : Noter) → WasFull desk seat → seat.worker < desk.recorder.workers → desk.recorder.workers ≡ 1 → desk.room ≤ length seat.noted
+pub full_alone : (desk : Desk) (seat : Noter) → WasFull desk seat → seat.worker < desk.recorder.workers
+    → desk.recorder.workers ≡ 1 → desk.room ≤ length seat.noted
 full_alone desk seat full lt one =
     let all = full.0 ++ full.1 in
     let mine = of_one all (subst (λ n. ComeFrom n all) one full.4) in
     let is : seat.worker ≡ 0 = omega arith in
-    let whole : length (of_worker 0 all) ≡ length seat.noted = ap (λ k. length (of_worker k all)) (sym is) ∙ ap length full.5 in
+    let whole : length (of_worker 0 all) ≡ length seat.noted = ap (λ k. length (of_worker k all)) (sym is)
+    ∙ ap length full.5 in
     omega (arith, mine, whole, full.2, length-append full.0 full.1)
 
 pub take_step : (port : ℕ) (v : Ledger) → v.takes ≡ true
-    → Pops Kept port v (λ x u. (u ≡ taking v x) × IsOrderly u.taken × TakesFront u × (x.worker < v.workers)) × Learns Kept port v (SeesAll v)
+    → Pops Kept port v (λ x u. (u ≡ taking v x) × IsOrderly u.taken × TakesFront u × (x.worker < v.workers))
+    × Learns Kept port v (SeesAll v)
 take_step port v may = (takes port v may, learns_all port v may)

@@ -1,5 +1,6 @@
 -- What contracts see of a recorder and its seats. docs/MODEL.md, "Recorder lists, drawn numbers".
-use Rattle.std.specs.Prelude.{◌≡◌, ℕ, ◌<◌, if◌then◌else◌, nat_lt, IsSome, List, [], ◌++◌, length, Option, Some, None, flat_map}
+use Rattle.std.specs.Prelude.{◌≡◌, ℕ, ◌<◌, if◌then◌else◌, nat_lt, IsSome, List, [], ◌++◌, length, Option, Some, None}
+use Rattle.std.specs.Prelude.{flat_map}
 use Rattle.atomic_table.specs.Seated.{TableId}
 use Rattle.eve_stamps.specs.Applied.{Applied}
 use Rattle.eve_recorder.specs.Noted.{of_worker, AllOf, IsOrderly, ComeFrom}

@@ -1,10 +1,12 @@
 //! The recorder: how it is made, its two steps, and how it is ended.
 
-ghost use Rattle.std.specs.Prelude.{◌≡◌, ◌<◌, ◌≤◌, ◌+◌, true, false, [], ◌++◌, ◌∷◌, ℕ, min, max, length, IfOk, OnOk, IfErr, IfSome, IsSome, IfNone, Some, slice_get};
+ghost use Rattle.std.specs.Prelude.{◌≡◌, ◌<◌, ◌≤◌, ◌+◌, true, false, [], ◌++◌, ◌∷◌, ℕ, min, max, length, IfOk, OnOk};
+ghost use Rattle.std.specs.Prelude.{IfErr, IfSome, IsSome, IfNone, Some, slice_get};
 ghost use Rattle.crossbeam_queue.specs.Passes.{view, IsPassOf, IsSamePass};
 ghost use Rattle.eve_recorder.specs.Noted.{of_worker, IsOrderly};
 ghost use Rattle.eve_recorder.specs.Kept.{ledger};
-ghost use Rattle.eve_recorder.specs.Seen.{Desk, Noter, Taker, Places, Gathered, recorder_id, fresh_noter, fresh_places, noted_on, IsNoterOf, IsWhole, WasFull, WasEmpty};
+ghost use Rattle.eve_recorder.specs.Seen.{Desk, Noter, Taker, Places, Gathered, recorder_id, fresh_noter, fresh_places};
+ghost use Rattle.eve_recorder.specs.Seen.{noted_on, IsNoterOf, IsWhole, WasFull, WasEmpty};
 
 use crate::ledger::{AbsentCut, Notes, Queue, QueuePass, TakerCut, Takes, WorkerCut};
 use crate::row::Row;

@@ -1,6 +1,7 @@
 //! The counter, and what draws from it.
 
-ghost use Rattle.std.specs.Prelude.{◌≡◌, ◌+◌, ◌-◌, ◌^◌, ◌<◌, ◌≤◌, ◌↔◌, [], ◌∷◌, ◌++◌, length, min, All, IfNone, IfOk, IfSome, IsNone, IsPermutation, IsSome};
+ghost use Rattle.std.specs.Prelude.{◌≡◌, ◌+◌, ◌-◌, ◌^◌, ◌<◌, ◌≤◌, ◌↔◌, [], ◌∷◌, ◌++◌, length, min, All, IfNone, IfOk};
+ghost use Rattle.std.specs.Prelude.{IfSome, IsNone, IsPermutation, IsSome};
 ghost use Rattle.std.specs.List.{range_with_len};
 ghost use Rattle.eve_recorder.specs.Dealt.{drawn, all_parts};
 ghost use Rattle.eve_recorder.specs.Drawing.{Drawer, Source, all_drawn, drawn_on, fresh_seat, fresh_seats, IsWhole};

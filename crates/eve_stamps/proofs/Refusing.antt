@@ -1,5 +1,6 @@
 -- Why a request is refused, from what was found.
-use Rattle.std.proofs.Common.{◌≡◌, ℕ, zero, suc, ◌≤◌, nat_le, Bool, true, false, cond, ◌&&◌, List, [], ◌∷◌, map, length, slice_get, Option, Some, None, Ok, Err, refl, sym, subst, ap, ap₂, ◌∙◌}
+use Rattle.std.proofs.Common.{◌≡◌, ℕ, zero, suc, ◌≤◌, nat_le, Bool, true, false, cond, ◌&&◌, List, [], ◌∷◌, map, length}
+use Rattle.std.proofs.Common.{slice_get, Option, Some, None, Ok, Err, refl, sym, subst, ap, ap₂, ◌∙◌}
 use Rattle.std.specs.List.{list_all}
 use Rattle.std.proofs.lemmas.Bool.{or_left, or_right, and_left, and_right, le-leb, and_from}
 use Rattle.std.proofs.lemmas.List.{length-map}
@@ -30,38 +31,50 @@ told_none : {A : Type 0} (b : Bool) (y : A) → None ≡ cond b (Some y) None �
 told_none true y e = absurd (none≢some y e)
 told_none false y e = refl
 
-pub seen_is : (is_there : ℕ → Bool) (now : Table) (rows found : Rows) (seen : List Restore) → found ≡ rows → Some seen ≡ seen_of is_there now found → IsSeen is_there now rows seen
+pub seen_is : (is_there : ℕ → Bool) (now : Table) (rows found : Rows) (seen : List Restore) → found ≡ rows → Some seen
+    ≡ seen_of is_there now found → IsSeen is_there now rows seen
 seen_is is_there now rows found seen same told =
-    let both = told_some (list_all (λ r. is_there r.0) rows) seen (map (λ r. row_in now r.0) rows) (told ∙ ap (seen_of is_there now) same) in record { there = both.0; as_now = both.1 }
+    let both = told_some (list_all (λ r. is_there r.0) rows) seen (map (λ r. row_in now r.0) rows)
+    (told ∙ ap (seen_of is_there now) same) in record { there = both.0; as_now = both.1 }
 
-pub length-seen : (is_there : ℕ → Bool) (now : Table) (rows : Rows) (seen : List Restore) → IsSeen is_there now rows seen → length seen ≡ length rows
+pub length-seen : (is_there : ℕ → Bool) (now : Table) (rows : Rows) (seen : List Restore)
+    → IsSeen is_there now rows seen → length seen ≡ length rows
 length-seen is_there now rows seen is = ap length is.as_now ∙ length-map rows (λ r. row_in now r.0)
 
-pub refused_late : (A : Type 0) (is_there : ℕ → Bool) (is_new : Bool) (now : Table) (rows : Rows) (seen : List Restore) → IsSeen is_there now rows seen → is_new ≡ false
+pub refused_late : (A : Type 0) (is_there : ℕ → Bool) (is_new : Bool) (now : Table) (rows : Rows) (seen : List Restore)
+    → IsSeen is_there now rows seen → is_new ≡ false
     → IsRefusedFor {A = A} (refused_for is_there is_new now rows) (Err fault.TickOrder)
 refused_late A is_there is_new now rows seen is late =
     subst (λ (o : Option StampFault). IsRefusedFor {A = A} o (Err fault.TickOrder))
-    (sym (ap₂ (λ a b. cond a (cond b (cond (is_worn now rows) (Some fault.Worn) None) (Some fault.TickOrder)) (Some fault.NoRow)) is.there late)) refl
+    (sym (ap₂ (λ a b. cond a (cond b (cond (is_worn now rows) (Some fault.Worn) None) (Some fault.TickOrder))
+    (Some fault.NoRow)) is.there late)) refl
 
-pub refused_worn : (A : Type 0) (is_there : ℕ → Bool) (is_new : Bool) (now : Table) (rows : Rows) (seen : List Restore) → IsSeen is_there now rows seen → is_new ≡ true → is_worn now rows ≡ true
+pub refused_worn : (A : Type 0) (is_there : ℕ → Bool) (is_new : Bool) (now : Table) (rows : Rows) (seen : List Restore)
+    → IsSeen is_there now rows seen → is_new ≡ true → is_worn now rows ≡ true
     → IsRefusedFor {A = A} (refused_for is_there is_new now rows) (Err fault.Worn)
 refused_worn A is_there is_new now rows seen is timely worn =
     subst (λ (o : Option StampFault). IsRefusedFor {A = A} o (Err fault.Worn))
-    (sym (ap₂ (λ a b. cond a (cond b (cond (is_worn now rows) (Some fault.Worn) None) (Some fault.TickOrder)) (Some fault.NoRow)) is.there timely ∙ ap (λ c. cond c (Some fault.Worn) None) worn)) refl
+    (sym (ap₂ (λ a b. cond a (cond b (cond (is_worn now rows) (Some fault.Worn) None) (Some fault.TickOrder))
+    (Some fault.NoRow)) is.there timely ∙ ap (λ c. cond c (Some fault.Worn) None) worn)) refl
 
-pub not_refused : (is_there : ℕ → Bool) (is_new : Bool) (now : Table) (rows : Rows) (seen : List Restore) → IsSeen is_there now rows seen → is_new ≡ true → is_worn now rows ≡ false
+pub not_refused : (is_there : ℕ → Bool) (is_new : Bool) (now : Table) (rows : Rows) (seen : List Restore)
+    → IsSeen is_there now rows seen → is_new ≡ true → is_worn now rows ≡ false
     → refused_for is_there is_new now rows ≡ None
 not_refused is_there is_new now rows seen is timely fresh =
-    ap₂ (λ a b. cond a (cond b (cond (is_worn now rows) (Some fault.Worn) None) (Some fault.TickOrder)) (Some fault.NoRow)) is.there timely ∙ ap (λ c. cond c (Some fault.Worn) None) fresh
+    ap₂ (λ a b. cond a (cond b (cond (is_worn now rows) (Some fault.Worn) None) (Some fault.TickOrder))
+    (Some fault.NoRow)) is.there timely ∙ ap (λ c. cond c (Some fault.Worn) None) fresh
 
 -- ---- at one place
 
-pub missing_at : {A : Type 0} (p : A → Bool) (xs : List A) (i : ℕ) (x : A) → slice_get xs i ≡ Some x → p x ≡ false → list_all p xs ≡ false
+pub missing_at : {A : Type 0} (p : A → Bool) (xs : List A) (i : ℕ) (x : A) → slice_get xs i ≡ Some x → p x ≡ false
+    → list_all p xs ≡ false
 missing_at p [] i x at out = absurd (none≢some x at)
-missing_at p (y ∷ xs) zero x at out = ap (λ z. p z && list_all p xs) (some_injective y x at) ∙ and_left (p x) (list_all p xs) out
+missing_at p (y ∷ xs) zero x at out = ap (λ z. p z && list_all p xs) (some_injective y x at)
+    ∙ and_left (p x) (list_all p xs) out
 missing_at p (y ∷ xs) (suc i) x at out = and_right (p y) (list_all p xs) (missing_at p xs i x at out)
 
-pub worn_at : (now : Table) (rows : Rows) (seen : List Restore) (i : ℕ) (r : ℕ × Kind) (held : Restore) → slice_get rows i ≡ Some r → slice_get seen i ≡ Some held → seen ≡ map (λ q. row_in now q.0) rows
+pub worn_at : (now : Table) (rows : Rows) (seen : List Restore) (i : ℕ) (r : ℕ × Kind) (held : Restore)
+    → slice_get rows i ≡ Some r → slice_get seen i ≡ Some held → seen ≡ map (λ q. row_in now q.0) rows
     → is_write r.1 ≡ true → version_limit ≤ held.version → is_worn now rows ≡ true
 worn_at now [] seen i r held at there so writes old = absurd (none≢some r at)
 worn_at now (q ∷ rows) [] i r held at there so writes old = absurd (none≢some held there)
@@ -70,27 +83,36 @@ worn_at now (q ∷ rows) (h ∷ seen) zero r held at there so writes old =
     let same : h ≡ held = some_injective h held there in
     let version : held.version ≡ (now q.0).version = cc in
     or_left (is_write q.1 && nat_le version_limit (now q.0).version) (is_worn now rows)
-    (and_from (is_write q.1) (nat_le version_limit (now q.0).version) (ap (λ x. is_write x.1) here ∙ writes) (le-leb version_limit (now q.0).version (subst (λ n. version_limit ≤ n) version old)))
+    (and_from (is_write q.1) (nat_le version_limit (now q.0).version) (ap (λ x. is_write x.1) here ∙ writes)
+    (le-leb version_limit (now q.0).version (subst (λ n. version_limit ≤ n) version old)))
 worn_at now (q ∷ rows) (h ∷ seen) (suc i) r held at there so writes old =
     let rest : seen ≡ map (λ q. row_in now q.0) rows = cc in
-    or_right (is_write q.1 && nat_le version_limit (now q.0).version) (is_worn now rows) (worn_at now rows seen i r held at there rest writes old)
+    or_right (is_write q.1 && nat_le version_limit (now q.0).version) (is_worn now rows)
+    (worn_at now rows seen i r held at there rest writes old)
 
-pub not_seen : (is_there : ℕ → Bool) (now : Table) (rows : Rows) (i : ℕ) (r : ℕ × Kind) → slice_get rows i ≡ Some r → None ≡ cond (is_there r.0) (Some (row_in now r.0)) None → None ≡ seen_of is_there now rows
+pub not_seen : (is_there : ℕ → Bool) (now : Table) (rows : Rows) (i : ℕ) (r : ℕ × Kind) → slice_get rows i ≡ Some r
+    → None ≡ cond (is_there r.0) (Some (row_in now r.0)) None → None ≡ seen_of is_there now rows
 not_seen is_there now rows i r at out =
-    ap (λ b. cond b (Some (map (λ q. row_in now q.0) rows)) None) (sym (missing_at (λ (q : ℕ × Kind). is_there q.0) rows i r at (told_none (is_there r.0) (row_in now r.0) out)))
+    ap (λ b. cond b (Some (map (λ q. row_in now q.0) rows)) None)
+    (sym (missing_at (λ (q : ℕ × Kind). is_there q.0) rows i r at (told_none (is_there r.0) (row_in now r.0) out)))
 
-pub refused_memory : (A : Type 0) (is_there : ℕ → Bool) (is_new : Bool) (now : Table) (rows : Rows) (seen : List Restore) → IsSeen is_there now rows seen → is_new ≡ true → is_worn now rows ≡ false
+pub refused_memory : (A : Type 0) (is_there : ℕ → Bool) (is_new : Bool) (now : Table) (rows : Rows)
+    (seen : List Restore) → IsSeen is_there now rows seen → is_new ≡ true → is_worn now rows ≡ false
     → IsRefusedFor {A = A} (refused_for is_there is_new now rows) (Err fault.Memory)
 refused_memory A is_there is_new now rows seen is timely fresh =
-    subst (λ (o : Option StampFault). IsRefusedFor {A = A} o (Err fault.Memory)) (sym (not_refused is_there is_new now rows seen is timely fresh)) refl
+    subst (λ (o : Option StampFault). IsRefusedFor {A = A} o (Err fault.Memory))
+    (sym (not_refused is_there is_new now rows seen is timely fresh)) refl
 
-pub taken_on : {A : Type 0} (is_there : ℕ → Bool) (is_new : Bool) (now : Table) (rows : Rows) (seen : List Restore) (x : A) → IsSeen is_there now rows seen → is_new ≡ true → is_worn now rows ≡ false
+pub taken_on : {A : Type 0} (is_there : ℕ → Bool) (is_new : Bool) (now : Table) (rows : Rows) (seen : List Restore)
+    (x : A) → IsSeen is_there now rows seen → is_new ≡ true → is_worn now rows ≡ false
     → IsRefusedFor {A = A} (refused_for is_there is_new now rows) (Ok x)
 taken_on {A} is_there is_new now rows seen x is timely fresh =
-    subst (λ (o : Option StampFault). IsRefusedFor {A = A} o (Ok x)) (sym (not_refused is_there is_new now rows seen is timely fresh)) tt
+    subst (λ (o : Option StampFault). IsRefusedFor {A = A} o (Ok x))
+    (sym (not_refused is_there is_new now rows seen is timely fresh)) tt
 
 -- what was told of the rows that were found
-pub worn_told : (is_there : ℕ → Bool) (now : Table) (rows found : Rows) (seen : List Restore) (b : Bool) → IsSeen is_there now rows seen → found ≡ rows
+pub worn_told : (is_there : ℕ → Bool) (now : Table) (rows found : Rows) (seen : List Restore) (b : Bool)
+    → IsSeen is_there now rows seen → found ≡ rows
     → ((table : Table) → seen ≡ map (λ r. row_in table r.0) found → b ≡ is_worn table found) → b ≡ is_worn now rows
 worn_told is_there now rows found seen b is same told =
     told now (is.as_now ∙ ap (λ (rs : Rows). map (λ r. row_in now r.0) rs) (sym same)) ∙ ap (is_worn now) same

@@ -1,5 +1,6 @@
 -- How versions rise along a journal.
-use Rattle.std.proofs.Common.{◌≡◌, ℕ, ◌+◌, ◌<◌, ◌≤◌, ◌==◌, Bool, true, false, not, cond, ◌||◌, List, [], ◌∷◌, filter, refl, sym, subst, ap, ◌∙◌, inl, inr, arith}
+use Rattle.std.proofs.Common.{◌≡◌, ℕ, ◌+◌, ◌<◌, ◌≤◌, ◌==◌, Bool, true, false, not, cond, ◌||◌, List, [], ◌∷◌, filter}
+use Rattle.std.proofs.Common.{refl, sym, subst, ap, ◌∙◌, inl, inr, arith}
 use Rattle.std.specs.List.{AllByRecursion, list_any}
 use Rattle.std.proofs.lemmas.Bool.{cases_Bool, eqb-true, eq-eqb, ne_eqb, and_parts, or_cases, false≢true, leb-false}
 use Rattle.eve_smallbank.specs.declared.entry.Entry.{Entry}
@@ -8,7 +9,8 @@ use Rattle.eve_smallbank.specs.Chain.{Table, Sees, left_by, table_after}
 use Rattle.eve_grammar.specs.declared.restore.Restore.{Restore}
 use Rattle.eve_grammar.specs.Limits.{version_limit}
 use Rattle.eve_stamps.specs.declared.journal.Journaled.{Journaled}
-use Rattle.eve_stamps.specs.Stripes.{Stripe, IsStripe, lies_in, row_in, rows_in_table, AreWithinLimit, committed, rows_now, table_after_journal, AreJournaled, was_written, restores_of}
+use Rattle.eve_stamps.specs.Stripes.{Stripe, IsStripe, lies_in, row_in, rows_in_table, AreWithinLimit, committed}
+use Rattle.eve_stamps.specs.Stripes.{rows_now, table_after_journal, AreJournaled, was_written, restores_of}
 use Rattle.eve_stamps.specs.Holding.{changed, IsNoted}
 use Rattle.eve_stamps.proofs.RowLaws.{rows_in_table-self}
 
@@ -20,9 +22,11 @@ version_after t u (e ∷ es) row sees =
     version_after t (λ r. cond (writes_row r e) (left_by e) (u r)) es row sees.1
     ∙ elim (cases_Bool (writes_row row e)) [
       | inl writes ↦
-          ap (λ b. cond (list_any (writes_row row) es) ((t row).version + 1) (cond b (left_by e) (u row)).version) writes
+          ap (λ b. cond (list_any (writes_row row) es) ((t row).version + 1) (cond b (left_by e) (u row)).version)
+          writes
           ∙ ap (λ n. cond (list_any (writes_row row) es) ((t row).version + 1) (n + 1))
-          (sees.0.version ∙ ap (λ r. (t r).version) (eqb-true e.row row (and_parts (is_write e.kind) (e.row == row) writes).1))
+          (sees.0.version ∙ ap (λ r. (t r).version)
+          (eqb-true e.row row (and_parts (is_write e.kind) (e.row == row) writes).1))
           ∙ both (list_any (writes_row row) es) ((t row).version + 1)
           ∙ ap (λ b. cond (b || list_any (writes_row row) es) ((t row).version + 1) (u row).version) (sym writes)
       | inr kept ↦
@@ -39,17 +43,26 @@ pub record IsRisen (before after : ℕ) (written : Bool) : Type 0 where
   pub higher : written ≡ true → before < after
   pub same : written ≡ false → after ≡ before
 
-pub risen : (t : Table) (js : List Journaled) (row : ℕ) → AreJournaled t js → IsRisen (t row).version (table_after_journal t js row).version (was_written js row)
+pub risen : (t : Table) (js : List Journaled) (row : ℕ) → AreJournaled t js
+    → IsRisen (t row).version (table_after_journal t js row).version (was_written js row)
 risen t [] row seen = record { higher = λ h. absurd (false≢true h); same = λ h. refl }
 risen t (j ∷ js) row seen =
-    let rest : IsRisen (table_after t j.entries row).version (table_after_journal (table_after t j.entries) js row).version (was_written js row) = risen (table_after t j.entries) js row seen.1 in
-    let one : (table_after t j.entries row).version ≡ cond (list_any (writes_row row) j.entries) ((t row).version + 1) (t row).version = version_after t t j.entries row seen.0 in
-    join (t row).version (table_after t j.entries row).version (table_after_journal (table_after t j.entries) js row).version (list_any (writes_row row) j.entries) (was_written js row) one rest
+    let rest : IsRisen (table_after t j.entries row).version
+    (table_after_journal (table_after t j.entries) js row).version (was_written js row) =
+    risen (table_after t j.entries) js row seen.1 in
+    let one : (table_after t j.entries row).version ≡ cond (list_any (writes_row row) j.entries) ((t row).version + 1)
+    (t row).version = version_after t t j.entries row seen.0 in
+    join (t row).version (table_after t j.entries row).version
+    (table_after_journal (table_after t j.entries) js row).version (list_any (writes_row row) j.entries)
+    (was_written js row) one rest
   where
     join : (v w x : ℕ) (a b : Bool) → w ≡ cond a (v + 1) v → IsRisen w x b → IsRisen v x (a || b)
-    join v w x true true e r = record { higher = λ h. omega (arith, r.higher refl); same = λ h. absurd (false≢true (sym h)) }
-    join v w x true false e r = record { higher = λ h. omega (arith, r.same refl); same = λ h. absurd (false≢true (sym h)) }
-    join v w x false true e r = record { higher = λ h. omega (arith, r.higher refl); same = λ h. absurd (false≢true (sym h)) }
+    join v w x true true e r =
+        record { higher = λ h. omega (arith, r.higher refl); same = λ h. absurd (false≢true (sym h)) }
+    join v w x true false e r =
+        record { higher = λ h. omega (arith, r.same refl); same = λ h. absurd (false≢true (sym h)) }
+    join v w x false true e r =
+        record { higher = λ h. omega (arith, r.higher refl); same = λ h. absurd (false≢true (sym h)) }
     join v w x false false e r = record { higher = λ h. absurd (false≢true h); same = λ h. r.same refl ∙ e }
 
 no_lower : (before after : ℕ) (written : Bool) → IsRisen before after written → before ≤ after
@@ -63,42 +76,60 @@ told_apart before after false r = eq-eqb before after (sym (r.same refl))
 -- ---- rows that were written
 
 -- rows whose versions tell what was written
-changed_rows : (table : Table) (js : List Journaled) (rows : List Restore) → AllByRecursion (λ r. (r.version == (table r.row).version) ≡ not (was_written js r.row)) rows
+changed_rows : (table : Table) (js : List Journaled) (rows : List Restore)
+    → AllByRecursion (λ r. (r.version == (table r.row).version) ≡ not (was_written js r.row)) rows
     → changed rows (rows_in_table table rows) ≡ filter (λ r. was_written js r.row) rows
 changed_rows table js [] told = refl
 changed_rows table js (r ∷ rows) told = step (was_written js r.row) told.0 (changed_rows table js rows told.1)
   where
-    step : (b : Bool) → (r.version == (table r.row).version) ≡ not b → changed rows (rows_in_table table rows) ≡ filter (λ q. was_written js q.row) rows
-        → cond (r.version == (table r.row).version) (changed rows (rows_in_table table rows)) (r ∷ changed rows (rows_in_table table rows))
+    step : (b : Bool) → (r.version == (table r.row).version) ≡ not b → changed rows (rows_in_table table rows)
+        ≡ filter (λ q. was_written js q.row) rows
+        → cond (r.version == (table r.row).version) (changed rows (rows_in_table table rows))
+        (r ∷ changed rows (rows_in_table table rows))
         ≡ cond b (r ∷ filter (λ q. was_written js q.row) rows) (filter (λ q. was_written js q.row) rows)
-    step true is rest = ap (λ c. cond c (changed rows (rows_in_table table rows)) (r ∷ changed rows (rows_in_table table rows))) is ∙ ap (λ (rs : List Restore). r ∷ rs) rest
-    step false is rest = ap (λ c. cond c (changed rows (rows_in_table table rows)) (r ∷ changed rows (rows_in_table table rows))) is ∙ rest
+    step true is rest = ap (λ c. cond c (changed rows (rows_in_table table rows))
+        (r ∷ changed rows (rows_in_table table rows))) is ∙ ap (λ (rs : List Restore). r ∷ rs) rest
+    step false is rest = ap (λ c. cond c (changed rows (rows_in_table table rows))
+        (r ∷ changed rows (rows_in_table table rows))) is ∙ rest
 
 -- where a table has the versions of these rows
-versions_told : (t : Table) (js : List Journaled) (rows : List Restore) → AreJournaled t js → rows_in_table t rows ≡ rows
+versions_told : (t : Table) (js : List Journaled) (rows : List Restore) → AreJournaled t js → rows_in_table t rows
+    ≡ rows
     → AllByRecursion (λ r. (r.version == (table_after_journal t js r.row).version) ≡ not (was_written js r.row)) rows
 versions_told t js [] seen same = tt
 versions_told t js (r ∷ rows) seen same =
     let here : row_in t r.row ≡ r = cc in
     let rest : rows_in_table t rows ≡ rows = cc in (
-      ap (λ (q : Restore). q.version == (table_after_journal t js r.row).version) (sym here) ∙ told_apart (t r.row).version (table_after_journal t js r.row).version (was_written js r.row) (risen t js r.row seen),
+      ap (λ (q : Restore). q.version == (table_after_journal t js r.row).version) (sym here)
+          ∙ told_apart (t r.row).version (table_after_journal t js r.row).version (was_written js r.row)
+          (risen t js r.row seen),
       versions_told t js rows seen rest,
     )
 
 pub changed_is : (s : Stripe) → IsStripe s → changed s.base (rows_in_table (rows_now s) s.base) ≡ restores_of s
 changed_is s stands =
-    changed_rows (rows_now s) s.journal s.base (versions_told (committed s) s.journal s.base stands.seen (rows_in_table-self s.base stands.rows))
+    changed_rows (rows_now s) s.journal s.base
+    (versions_told (committed s) s.journal s.base stands.seen (rows_in_table-self s.base stands.rows))
 
 -- ---- the limit
 
 -- no version was higher before
-pub limit_before : (t : Table) (js : List Journaled) (rows : List Restore) → AreJournaled t js → AreWithinLimit (rows_in_table (table_after_journal t js) rows) → AreWithinLimit (rows_in_table t rows)
+pub limit_before : (t : Table) (js : List Journaled) (rows : List Restore) → AreJournaled t js
+    → AreWithinLimit (rows_in_table (table_after_journal t js) rows) → AreWithinLimit (rows_in_table t rows)
 limit_before t js [] seen limit = tt
-limit_before t js (r ∷ rows) seen limit =
-    (omega (arith, no_lower (t r.row).version (table_after_journal t js r.row).version (was_written js r.row) (risen t js r.row seen), limit.0), limit_before t js rows seen limit.1)
+limit_before t js (r ∷ rows) seen limit = (
+  omega (
+    arith,
+    no_lower (t r.row).version (table_after_journal t js r.row).version (was_written js r.row)
+        (risen t js r.row seen),
+    limit.0,
+  ),
+  limit_before t js rows seen limit.1,
+)
 
 -- the versions within the limit are those of the rows
-pub limit_at : (t : Table) (rows : List Restore) (row : ℕ) → AreWithinLimit (rows_in_table t rows) → lies_in rows row ≡ true → (t row).version ≤ version_limit
+pub limit_at : (t : Table) (rows : List Restore) (row : ℕ) → AreWithinLimit (rows_in_table t rows) → lies_in rows row
+    ≡ true → (t row).version ≤ version_limit
 limit_at t [] row limit there = absurd (false≢true there)
 limit_at t (r ∷ rows) row limit there =
     elim (or_cases (r.row == row) (lies_in rows row) there) [
@@ -107,25 +138,34 @@ limit_at t (r ∷ rows) row limit there =
     ]
 
 -- a row that is written was below it
-fresh_below : (is_there : ℕ → Bool) (t : Table) (es : List Entry) (row : ℕ) → AllByRecursion (IsNoted is_there t) es → list_any (writes_row row) es ≡ true → (t row).version < version_limit
+fresh_below : (is_there : ℕ → Bool) (t : Table) (es : List Entry) (row : ℕ) → AllByRecursion (IsNoted is_there t) es
+    → list_any (writes_row row) es ≡ true → (t row).version < version_limit
 fresh_below is_there t [] row noted writes = absurd (false≢true writes)
 fresh_below is_there t (e ∷ es) row noted writes =
     elim (or_cases (writes_row row e) (list_any (writes_row row) es) writes) [
       | inl here ↦
           let parts = and_parts (is_write e.kind) (e.row == row) here in
-          subst (λ q. (t q).version < version_limit) (eqb-true e.row row parts.1) (leb-false version_limit (t e.row).version (noted.0.fresh parts.0))
+          subst (λ q. (t q).version < version_limit) (eqb-true e.row row parts.1)
+          (leb-false version_limit (t e.row).version (noted.0.fresh parts.0))
       | inr rest ↦ fresh_below is_there t es row noted.1 rest
     ]
 
-pub all_sees : (is_there : ℕ → Bool) (t : Table) (es : List Entry) → AllByRecursion (IsNoted is_there t) es → AllByRecursion (Sees t) es
+pub all_sees : (is_there : ℕ → Bool) (t : Table) (es : List Entry) → AllByRecursion (IsNoted is_there t) es
+    → AllByRecursion (Sees t) es
 all_sees is_there t [] noted = tt
 all_sees is_there t (e ∷ es) noted = (noted.0.sees, all_sees is_there t es noted.1)
 
-pub limit_after : (is_there : ℕ → Bool) (t : Table) (es : List Entry) (rows : List Restore) → AllByRecursion (IsNoted is_there t) es → AreWithinLimit (rows_in_table t rows) → AreWithinLimit (rows_in_table (table_after t es) rows)
+pub limit_after : (is_there : ℕ → Bool) (t : Table) (es : List Entry) (rows : List Restore)
+    → AllByRecursion (IsNoted is_there t) es → AreWithinLimit (rows_in_table t rows)
+    → AreWithinLimit (rows_in_table (table_after t es) rows)
 limit_after is_there t es [] noted limit = tt
-limit_after is_there t es (r ∷ rows) noted limit =
-    (step (list_any (writes_row r.row) es) (fresh_below is_there t es r.row noted) (version_after t t es r.row (all_sees is_there t es noted)), limit_after is_there t es rows noted limit.1)
+limit_after is_there t es (r ∷ rows) noted limit = (
+  step (list_any (writes_row r.row) es) (fresh_below is_there t es r.row noted)
+      (version_after t t es r.row (all_sees is_there t es noted)),
+  limit_after is_there t es rows noted limit.1,
+)
   where
-    step : (b : Bool) → (b ≡ true → (t r.row).version < version_limit) → (table_after t es r.row).version ≡ cond b ((t r.row).version + 1) (t r.row).version → (table_after t es r.row).version ≤ version_limit
+    step : (b : Bool) → (b ≡ true → (t r.row).version < version_limit) → (table_after t es r.row).version
+        ≡ cond b ((t r.row).version + 1) (t r.row).version → (table_after t es r.row).version ≤ version_limit
     step true below is = let less : (t r.row).version < version_limit = below refl in omega (arith, is)
     step false below is = subst (λ n. n ≤ version_limit) (sym is) limit.0

@@ -1,5 +1,6 @@
 -- How a stripe is held: its rows as they are committed beside its rows as they are now.
-use Rattle.std.specs.Prelude.{◌≡◌, ℕ, ◌==◌, nat_le, Bool, true, false, if◌then◌else◌, List, [], ◌∷◌, slice_get, Option, Some, None}
+use Rattle.std.specs.Prelude.{◌≡◌, ℕ, ◌==◌, nat_le, Bool, true, false, if◌then◌else◌, List, [], ◌∷◌, slice_get, Option}
+use Rattle.std.specs.Prelude.{Some, None}
 use Rattle.eve_smallbank.specs.declared.entry.Entry.{Entry}
 use Rattle.eve_smallbank.specs.declared.decision.Effect.{Effect}
 use Rattle.eve_smallbank.specs.Access.{is_write}
@@ -30,7 +31,8 @@ changed base now = []
 -- one entry for each row seen
 abbrev pub entries_on : List Restore → List Effect → List Entry
 entries_on (r ∷ seen) (effect ∷ effects) =
-    record { row = r.row; kind = effect.kind; version = r.version; seen = r.value; after = effect.after } ∷ entries_on seen effects
+    record { row = r.row; kind = effect.kind; version = r.version; seen = r.value; after = effect.after } ∷ entries_on
+    seen effects
 entries_on seen effects = []
 
 -- An entry of a row that is there, that sees the table, and that writes no row whose version is the greatest.

@@ -1,5 +1,6 @@
 -- What a request does to the stripes that it is lent, and why it is refused. docs/MODEL.md, "Stripe".
-use Rattle.std.specs.Prelude.{◌≡◌, ℕ, nat_le, Bool, not, ◌&&◌, ◌||◌, if◌then◌else◌, List, filter, Option, Some, None, Result, Err, IfErr}
+use Rattle.std.specs.Prelude.{◌≡◌, ℕ, nat_le, Bool, not, ◌&&◌, ◌||◌, if◌then◌else◌, List, filter, Option, Some, None}
+use Rattle.std.specs.Prelude.{Result, Err, IfErr}
 use Rattle.std.specs.List.{list_all, list_any}
 use Rattle.eve_smallbank.specs.declared.entry.Entry.{Entry}
 use Rattle.eve_smallbank.specs.Access.{Rows, is_write}
@@ -45,7 +46,8 @@ refusal s tick rows = refused_for (has_row s) (is_above tick s.greatest) (rows_n
 -- of a request on two stripes
 abbrev pub refusal_of_two : Stripe → Stripe → ℕ → Rows → Option StampFault
 refusal_of_two first second tick rows =
-    refused_for (has_row_in_two first second) (is_above tick first.greatest && is_above tick second.greatest) (rows_in_two first second) rows
+    refused_for (has_row_in_two first second) (is_above tick first.greatest && is_above tick second.greatest)
+    (rows_in_two first second) rows
 
 -- it is refused for this reason, and for want of memory alone where there is none
 abbrev pub IsRefusedFor : {A : Type 0} → Option StampFault → Result A StampFault → Type 0

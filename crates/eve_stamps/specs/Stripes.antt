@@ -1,5 +1,6 @@
 -- Rows with a committed base and a journal of what was written since. docs/MODEL.md, "Stripe".
-use Rattle.std.specs.Prelude.{ℕ, pos, ◌<◌, ◌≤◌, nat_le, nat_lt, ◌==◌, Bool, true, false, IsTrue, if◌then◌else◌, ⊤, List, [], ◌∷◌, ◌++◌, map, filter, Option, Some, None}
+use Rattle.std.specs.Prelude.{ℕ, pos, ◌<◌, ◌≤◌, nat_le, nat_lt, ◌==◌, Bool, true, false, IsTrue, if◌then◌else◌, ⊤, List}
+use Rattle.std.specs.Prelude.{[], ◌∷◌, ◌++◌, map, filter, Option, Some, None}
 use Rattle.std.specs.List.{AllByRecursion, list_any}
 use Rattle.eve_smallbank.specs.declared.entry.Entry.{Entry}
 use Rattle.eve_smallbank.specs.Access.{writes_row}
@@ -63,7 +64,8 @@ rows_now s = table_after_journal (committed s) s.journal
 -- each entry sees what the base and the entries before it leave
 abbrev pub AreJournaled : Table → List Journaled → Type 0
 AreJournaled table [] = ⊤
-AreJournaled table (j ∷ journal) = AllByRecursion (Sees table) j.entries × AreJournaled (table_after table j.entries) journal
+AreJournaled table (j ∷ journal) = AllByRecursion (Sees table) j.entries
+    × AreJournaled (table_after table j.entries) journal
 
 -- its ticks rise
 abbrev pub JournalRises : List Journaled → Type 0
@@ -103,7 +105,11 @@ is_above tick (Some greatest) = nat_lt greatest tick
 -- one more request
 abbrev pub noted_in : Stripe → ℕ → List Entry → Stripe
 noted_in s tick entries =
-    record { base = s.base; journal = s.journal ++ record { tick = tick; entries = entries } ∷ []; greatest = Some tick }
+    record {
+      base = s.base;
+      journal = s.journal ++ record { tick = tick; entries = entries } ∷ [];
+      greatest = Some tick;
+    }
 
 -- the journal up to the tick becomes part of the base
 abbrev pub settled_to : ℕ → Stripe → Stripe

@@ -1,6 +1,7 @@
 //! A request on the stripes that it is lent.
 
-ghost use Rattle.std.specs.Prelude.{◌≡◌, ◌<◌, ◌≤◌, ◌+◌, ℕ, List, IfOk, OnOk, OnErr, ◌&&◌, not, map, length, if◌then◌else◌, [], ◌∷◌, ◌++◌, vec_len, vec_capacity};
+ghost use Rattle.std.specs.Prelude.{◌≡◌, ◌<◌, ◌≤◌, ◌+◌, ℕ, List, IfOk, OnOk, OnErr, ◌&&◌, not, map, length};
+ghost use Rattle.std.specs.Prelude.{if◌then◌else◌, [], ◌∷◌, ◌++◌, vec_len, vec_capacity};
 ghost use Rattle.std.specs.List.{list_all, AllByRecursion};
 ghost use Rattle.eve_smallbank.specs.SmallBank.{plain};
 ghost use Rattle.eve_smallbank.specs.Access.{Fits};
@@ -9,7 +10,8 @@ ghost use Rattle.eve_smallbank.specs.Touch.{touched_of, rows_in};
 ghost use Rattle.eve_smallbank.specs.Execution.{executed_on};
 ghost use Rattle.eve_stamps.specs.Applied.{noted_of, executed_by};
 ghost use Rattle.eve_stamps.specs.Stripes.{has_row, row_in, rows_now, is_above, noted_in};
-ghost use Rattle.eve_stamps.specs.Stamping.{has_row_in_two, rows_in_two, entries_within, entries_outside, is_worn, refusal, refusal_of_two, IsRefusedFor};
+ghost use Rattle.eve_stamps.specs.Stamping.{has_row_in_two, rows_in_two, entries_within, entries_outside, is_worn};
+ghost use Rattle.eve_stamps.specs.Stamping.{refusal, refusal_of_two, IsRefusedFor};
 
 use crate::executing::executed;
 use crate::journal::Journaled;
@@ -42,7 +44,8 @@ pub fn apply(
 
     // The record is the request's, executed on the rows as they were, and fits it whoever the customers are.
     ensures exact { (names : List (List ℕ)) → touched.now ≡ touched_of names (plain request.now)
-        → IfOk result (λ r. r ≡ noted_of worker place index tick (executed_on names (rows_now stripe.old) (plain request.now))) }
+        → IfOk result (λ r. r ≡ noted_of worker place index tick
+        (executed_on names (rows_now stripe.old) (plain request.now))) }
     ensures fits { (names : List (List ℕ)) → touched.now ≡ touched_of names (plain request.now)
         → IfOk result (λ r. Fits names (executed_by (plain request.now) r)) }
     ensures sees { IfOk result (λ r. AllByRecursion (Sees (rows_now stripe.old)) r.entries) }
@@ -95,7 +98,8 @@ pub fn apply_two(
 
     // The record is the request's, executed on the rows as they were, and fits it whoever the customers are.
     ensures exact { (names : List (List ℕ)) → touched.now ≡ touched_of names (plain request.now)
-        → IfOk result (λ r. r ≡ noted_of worker place index tick (executed_on names (rows_in_two first.old second.old) (plain request.now))) }
+        → IfOk result (λ r. r ≡ noted_of worker place index tick
+        (executed_on names (rows_in_two first.old second.old) (plain request.now))) }
     ensures fits { (names : List (List ℕ)) → touched.now ≡ touched_of names (plain request.now)
         → IfOk result (λ r. Fits names (executed_by (plain request.now) r)) }
     ensures sees { IfOk result (λ r. AllByRecursion (Sees (rows_in_two first.old second.old)) r.entries) }
@@ -140,7 +144,8 @@ pub fn apply_two(
 
 /// The rows as they are now, where all lie in the stripe.
 fn seen_in(stripe: &Stripe, rows: &UpToThree<(Row, Kind)>) -> Option<UpToThree<Restore>>
-    ensures { result ≡ (if list_all (λ r. has_row stripe.now r.0) rows.now then Some (map (λ r. row_in (rows_now stripe.now) r.0) rows.now) else None) }
+    ensures { result ≡ (if list_all (λ r. has_row stripe.now r.0) rows.now then Some
+        (map (λ r. row_in (rows_now stripe.now) r.0) rows.now) else None) }
 {
     let mut seen = UpToThree::new();
     for place in 0..rows.len() {
@@ -158,7 +163,8 @@ fn seen_in_two(
     second: &Stripe,
     rows: &UpToThree<(Row, Kind)>,
 ) -> Option<UpToThree<Restore>>
-    ensures { result ≡ (if list_all (λ r. has_row_in_two first.now second.now r.0) rows.now then Some (map (λ r. row_in (rows_in_two first.now second.now) r.0) rows.now) else None) }
+    ensures { result ≡ (if list_all (λ r. has_row_in_two first.now second.now r.0) rows.now then Some
+        (map (λ r. row_in (rows_in_two first.now second.now) r.0) rows.now) else None) }
 {
     let mut seen = UpToThree::new();
     for place in 0..rows.len() {
@@ -171,7 +177,8 @@ fn seen_in_two(
 }
 
 fn see_in_two(first: &Stripe, second: &Stripe, row: Row) -> Option<Restore>
-    ensures { result ≡ (if has_row_in_two first.now second.now row then Some (row_in (rows_in_two first.now second.now) row) else None) }
+    ensures { result ≡ (if has_row_in_two first.now second.now row then Some
+        (row_in (rows_in_two first.now second.now) row) else None) }
 {
     match first.see(row) {
         Some(held) => Some(held),
@@ -236,7 +243,8 @@ fn put(
     requires room_within { length within.old < 3 }
     requires room_outside { length outside.old < 3 }
     ensures within { within.new ≡ within.old ++ (if has_row stripe.now entry.now.row then entry.now ∷ [] else []) }
-    ensures outside { outside.new ≡ outside.old ++ (if not (has_row stripe.now entry.now.row) then entry.now ∷ [] else []) }
+    ensures outside { outside.new
+        ≡ outside.old ++ (if not (has_row stripe.now entry.now.row) then entry.now ∷ [] else []) }
 {
     if stripe.has(entry.row) {
         within.push(*entry);

@@ -24,7 +24,8 @@ pub fn executed(
     requires seen { length seen.now ≡ length (rows_in touched.now) }
     ensures exact { (names : List (List ℕ)) (table : Table) → touched.now ≡ touched_of names (plain request.now)
         → seen.now ≡ map (λ r. row_in table r.0) (rows_in touched.now)
-        → executed_on names table (plain request.now) ≡ record { request = plain request.now; reply = result.0; entries = result.1 } }
+        → executed_on names table (plain request.now)
+        ≡ record { request = plain request.now; reply = result.0; entries = result.1 } }
     ensures noted { (is_there : ℕ → Bool) (table : Table) → seen.now ≡ map (λ r. row_in table r.0) (rows_in touched.now)
         → list_all (λ r. is_there r.0) (rows_in touched.now) ≡ true → is_worn table (rows_in touched.now) ≡ false
         → AllByRecursion (IsNoted is_there table) result.1 }

@@ -7,7 +7,8 @@ ghost use Rattle.eve_stamps.specs.Stripes.{Stripe, IsStripe, rows_now, committed
 
 /// What is noted is written to the rows.
 pub fn rows_take_what_is_noted()
-    ensures { (s : Stripe) (tick : ℕ) (entries : List Entry) → rows_now (noted_in s tick entries) ≡ table_after (rows_now s) entries }
+    ensures { (s : Stripe) (tick : ℕ) (entries : List Entry) → rows_now (noted_in s tick entries)
+        ≡ table_after (rows_now s) entries }
 {}
 
 /// A stripe that settles keeps its rows as they are now.

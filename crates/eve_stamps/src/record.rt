@@ -40,7 +40,14 @@ impl AccessRecord {
         reply: Reply,
         entries: UpToThree<Entry>,
     ) -> AccessRecord
-        ensures { result ≡ record { worker = worker; place = place; index = index; tick = tick; reply = reply; entries = entries } }
+        ensures { result ≡ record {
+          worker = worker;
+          place = place;
+          index = index;
+          tick = tick;
+          reply = reply;
+          entries = entries;
+        } }
     {
         AccessRecord {
             worker,
@@ -97,7 +104,14 @@ impl AccessRecord {
 
 /// The record of a request that is refused before it touches a row.
 pub fn untouched(why: Abort, tick: u64, worker: u8, place: u16, index: u16) -> AccessRecord
-    ensures { result ≡ record { worker = worker; place = place; index = index; tick = tick; reply = Aborted why; entries = [] } }
+    ensures { result ≡ record {
+      worker = worker;
+      place = place;
+      index = index;
+      tick = tick;
+      reply = Aborted why;
+      entries = [];
+    } }
 {
     AccessRecord {
         worker,

@@ -3,7 +3,8 @@
 ghost use Rattle.std.specs.Prelude.{◌≡◌, ◌≤◌, ◌+◌, ◌++◌, nat_le, [], ◌∷◌, filter, length, vec_len, vec_capacity};
 ghost use Rattle.std.specs.List.{AllByRecursion};
 ghost use Rattle.eve_smallbank.specs.Chain.{table_after};
-ghost use Rattle.eve_stamps.specs.Stripes.{RowsRise, IsEntryIn, JournalLiesIn, table_in, rows_in_table, table_after_journal};
+ghost use Rattle.eve_stamps.specs.Stripes.{RowsRise, IsEntryIn, JournalLiesIn, table_in, rows_in_table};
+ghost use Rattle.eve_stamps.specs.Stripes.{table_after_journal};
 ghost use Rattle.eve_stamps.specs.Holding.{IsPlaceOf, changed};
 
 use crate::journal::Journaled;
@@ -55,7 +56,8 @@ fn write_one(rows: &mut [Restore], entry: &Entry)
 pub fn write_up_to(rows: &mut [Restore], journal: &[Journaled], tick: u64)
     requires rise { RowsRise rows.old }
     requires journal { JournalLiesIn rows.old journal.now }
-    ensures { rows.new ≡ rows_in_table (table_after_journal (table_in rows.old) (filter (λ j. nat_le j.tick tick) journal.now)) rows.old }
+    ensures { rows.new ≡ rows_in_table
+        (table_after_journal (table_in rows.old) (filter (λ j. nat_le j.tick tick) journal.now)) rows.old }
 {
     for journaled in journal {
         write_if_up_to(rows, journaled, tick);
@@ -65,7 +67,8 @@ pub fn write_up_to(rows: &mut [Restore], journal: &[Journaled], tick: u64)
 fn write_if_up_to(rows: &mut [Restore], journaled: &Journaled, tick: u64)
     requires rise { RowsRise rows.old }
     requires entries { AllByRecursion (IsEntryIn rows.old) journaled.now.entries }
-    ensures { rows.new ≡ rows_in_table (table_after_journal (table_in rows.old) (filter (λ j. nat_le j.tick tick) (journaled.now ∷ []))) rows.old }
+    ensures { rows.new ≡ rows_in_table
+        (table_after_journal (table_in rows.old) (filter (λ j. nat_le j.tick tick) (journaled.now ∷ []))) rows.old }
 {
     if journaled.tick <= tick {
         write(rows, &journaled.entries);

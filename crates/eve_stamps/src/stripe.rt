@@ -1,7 +1,9 @@
 //! Rows with a committed base and a journal of what was read and written since.
 
-ghost use Rattle.std.specs.Prelude.{◌≡◌, ◌<◌, ◌+◌, ◌↔◌, ◌++◌, nat_le, nat_lt, filter, IsTrue, IsErr, IfOk, OnOk, OnErr, if◌then◌else◌, [], length, vec_len, vec_capacity};
-ghost use Rattle.eve_stamps.specs.Stripes.{RowsRise, AreWithinLimit, IsStripe, has_row, row_in, rows_now, is_above, settled_to, undone, restores_of};
+ghost use Rattle.std.specs.Prelude.{◌≡◌, ◌<◌, ◌+◌, ◌↔◌, ◌++◌, nat_le, nat_lt, filter, IsTrue, IsErr, IfOk, OnOk, OnErr};
+ghost use Rattle.std.specs.Prelude.{if◌then◌else◌, [], length, vec_len, vec_capacity};
+ghost use Rattle.eve_stamps.specs.Stripes.{RowsRise, AreWithinLimit, IsStripe, has_row, row_in, rows_now, is_above};
+ghost use Rattle.eve_stamps.specs.Stripes.{settled_to, undone, restores_of};
 
 use crate::journal::Journaled;
 use crate::rows::{append_changed, changed_count, place_of, write_up_to};
@@ -95,7 +97,8 @@ impl Stripe {
     pub fn undo(&mut self, restores: &mut Vec<Restore>) -> Result<(), AllocError>
         ensures undone { OnOk result (self.new ≡ undone self.old) }
         ensures restores { OnOk result (restores.new.items ≡ restores.old.items ++ restores_of self.old) }
-        ensures room { IsErr result ↔ (vec_capacity restores.old < vec_len restores.old + length (restores_of self.old)) }
+        ensures room { IsErr result
+            ↔ (vec_capacity restores.old < vec_len restores.old + length (restores_of self.old)) }
         ensures kept { OnErr result (self.new ≡ self.old) }
         ensures restores_kept { OnErr result (restores.new.items ≡ restores.old.items) }
         ensures capacity { vec_capacity restores.new ≡ vec_capacity restores.old }
@@ -104,9 +107,16 @@ impl Stripe {
             return Err(AllocError);
         }
         append_changed(&self.base, &self.rows, restores);
+        self.go_back();
+        Ok(())
+    }
+
+    /// Returns to the committed base, and tells nothing. It takes no memory.
+    pub fn go_back(&mut self)
+        ensures { self.new ≡ undone self.old }
+    {
         self.rows.copy_from_slice(&self.base);
         self.journal.clear();
-        Ok(())
     }
 
     /// The row as it is now, if it lies in the stripe.

@@ -1,10 +1,14 @@
 -- Stripes that a request is applied to.
-use Rattle.std.proofs.Common.{◌≡◌, ℕ, ◌+◌, ◌-◌, ◌++◌, ◌<◌, ◌*◌, Bool, true, false, not, nat_le, nat_lt, ◌&&◌, ◌||◌, ◌==◌, cond, List, [], ◌∷◌, length, set, get_or, Option, Some, None, Result, Ok, Err, IfOk, IfErr, ◌⊎◌, inl, inr, refl, sym, subst, ap, ap₂, ◌∙◌, arith}
+use Rattle.std.proofs.Common.{◌≡◌, ℕ, ◌+◌, ◌-◌, ◌++◌, ◌<◌, ◌*◌, Bool, true, false, not, nat_le, nat_lt, ◌&&◌, ◌||◌}
+use Rattle.std.proofs.Common.{◌==◌, cond, List, [], ◌∷◌, length, set, get_or, Option, Some, None, Result, Ok, Err, IfOk}
+use Rattle.std.proofs.Common.{IfErr, ◌⊎◌, inl, inr, refl, sym, subst, ap, ap₂, ◌∙◌, arith}
 use mathlib.Core.Path.{fun_ext}
 use Rattle.std.specs.List.{AllByRecursion, list_all}
-use Rattle.std.proofs.lemmas.Bool.{cases_eq, or_cases, and_from, and_right, eqb-true, eq-eqb, ne_eqb, lt-ltb, lt-leb, cond-true, cond-false}
+use Rattle.std.proofs.lemmas.Bool.{cases_eq, or_cases, and_from, and_right, eqb-true, eq-eqb, ne_eqb, lt-ltb, lt-leb}
+use Rattle.std.proofs.lemmas.Bool.{cond-true, cond-false}
 use Rattle.std.proofs.lemmas.Grind.{get_or-set_at}
-use Rattle.std.proofs.lemmas.List.{get_or-set_other, length-set, set-append_left, set-append_right, get_or_append_left, get_or-append-add, get_or_default}
+use Rattle.std.proofs.lemmas.List.{get_or-set_other, length-set, set-append_left, set-append_right, get_or_append_left}
+use Rattle.std.proofs.lemmas.List.{get_or-append-add, get_or_default}
 use Rattle.eve_smallbank.specs.declared.entry.Entry.{Entry}
 use Rattle.eve_smallbank.specs.SmallBank.{Request}
 use Rattle.eve_smallbank.specs.Access.{Rows, is_write}
@@ -17,7 +21,8 @@ use Rattle.eve_grammar.specs.Limits.{version_limit}
 use Rattle.eve_stamps.specs.declared.fault.StampFault.{StampFault}
 use Rattle.eve_stamps.specs.declared.fault.StampFault.TheVariants as fault
 use Rattle.eve_stamps.specs.Stripes.{Stripe, has_row, rows_now, is_above, noted_in}
-use Rattle.eve_stamps.specs.Stamping.{has_row_in_two, rows_in_two, entries_within, entries_outside, is_worn, refused_for, refusal, refusal_of_two, IsRefusedFor}
+use Rattle.eve_stamps.specs.Stamping.{has_row_in_two, rows_in_two, entries_within, entries_outside, is_worn}
+use Rattle.eve_stamps.specs.Stamping.{refused_for, refusal, refusal_of_two, IsRefusedFor}
 use Rattle.eve_stamps.specs.Opening.{stripe_count, stripe_of}
 use Rattle.eve_stamps.proofs.JournalLaws.{rows_now-noted}
 use Rattle.eve_stamps_schedule.specs.Stripes.{needs}
@@ -38,11 +43,14 @@ off_set ss a s i other = get_or-set_other ss a i s (record { base = []; journal 
 -- ---- one stripe
 
 -- entries of rows of one stripe
-none_elsewhere : (a row : ℕ) (es : List Entry) → ¬ (stripe_of row ≡ a) → AllByRecursion (λ e. stripe_of e.row ≡ a) es → AllByRecursion (λ e. ¬ (e.row ≡ row)) es
+none_elsewhere : (a row : ℕ) (es : List Entry) → ¬ (stripe_of row ≡ a) → AllByRecursion (λ e. stripe_of e.row ≡ a) es
+    → AllByRecursion (λ e. ¬ (e.row ≡ row)) es
 none_elsewhere a row [] other own = tt
-none_elsewhere a row (e ∷ es) other own = (λ same. other (ap stripe_of (sym same) ∙ own.0), none_elsewhere a row es other own.1)
+none_elsewhere a row (e ∷ es) other own =
+    (λ same. other (ap stripe_of (sym same) ∙ own.0), none_elsewhere a row es other own.1)
 
-pub one_table : (ss : List Stripe) (a tick : ℕ) (es : List Entry) → a < length ss → AllByRecursion (λ e. stripe_of e.row ≡ a) es
+pub one_table : (ss : List Stripe) (a tick : ℕ) (es : List Entry) → a < length ss
+    → AllByRecursion (λ e. stripe_of e.row ≡ a) es
     → table_of (set ss a (noted_in (stripe_at ss a) tick es)) ≡ table_after (table_of ss) es
 one_table ss a tick es within own =
     let new : Stripe = noted_in (stripe_at ss a) tick es in
@@ -50,13 +58,15 @@ one_table ss a tick es within own =
       | inl same ↦
           ap (λ (s : Stripe). rows_now s row) (at_set ss a new (stripe_of row) within same)
           ∙ ap (λ (t : Table). t row) (rows_now-noted (stripe_at ss a) tick es)
-          ∙ table_after-at (rows_now (stripe_at ss a)) (table_of ss) es row (ap (λ i. rows_now (stripe_at ss i) row) (sym same))
+          ∙ table_after-at (rows_now (stripe_at ss a)) (table_of ss) es row
+          (ap (λ i. rows_now (stripe_at ss i) row) (sym same))
       | inr other ↦
           ap (λ (s : Stripe). rows_now s row) (off_set ss a new (stripe_of row) other)
           ∙ sym (table_after-none (table_of ss) es row (none_elsewhere a row es other own))
     ])
 
-pub one_kept : (ss : List Stripe) (a tick : ℕ) (es : List Entry) (test : ℕ → Bool) (i : ℕ) → a < length ss → AreEnds test a a
+pub one_kept : (ss : List Stripe) (a tick : ℕ) (es : List Entry) (test : ℕ → Bool) (i : ℕ) → a < length ss
+    → AreEnds test a a
     → IsKeptAt tick (test i) (stripe_at ss i) (stripe_at (set ss a (noted_in (stripe_at ss a) tick es)) i)
 one_kept ss a tick es test i within ends =
     let new : Stripe = noted_in (stripe_at ss a) tick es in
@@ -66,14 +76,17 @@ one_kept ss a tick es test i within ends =
           let changed : test i ≡ true = ends i ∙ ap₂ (λ b c. b || c) (eq-eqb a i (sym same)) (eq-eqb a i (sym same)) in
           record {
             base = ap (λ (s : Stripe). s.base) is ∙ ap (λ j. (stripe_at ss j).base) (sym same);
-            greatest = ap (λ (s : Stripe). s.greatest) is ∙ sym (cond-true (test i) (Some tick) (stripe_at ss i).greatest changed);
+            greatest = ap (λ (s : Stripe). s.greatest) is
+                ∙ sym (cond-true (test i) (Some tick) (stripe_at ss i).greatest changed);
           }
       | inr other ↦
           let is = off_set ss a new i other in
-          let kept : test i ≡ false = ends i ∙ ap₂ (λ b c. b || c) (ne_eqb a i (λ e. other (sym e))) (ne_eqb a i (λ e. other (sym e))) in
+          let kept : test i ≡ false = ends i ∙ ap₂ (λ b c. b || c) (ne_eqb a i (λ e. other (sym e)))
+          (ne_eqb a i (λ e. other (sym e))) in
           record {
             base = ap (λ (s : Stripe). s.base) is;
-            greatest = ap (λ (s : Stripe). s.greatest) is ∙ sym (cond-false (test i) (Some tick) (stripe_at ss i).greatest kept);
+            greatest = ap (λ (s : Stripe). s.greatest) is
+                ∙ sym (cond-false (test i) (Some tick) (stripe_at ss i).greatest kept);
           }
     ]
 
@@ -81,7 +94,8 @@ one_kept ss a tick es test i within ends =
 
 -- an entry of the first stripe, or of the last
 abbrev pub IsParted : Stripe → ℕ → ℕ → Entry → Type 0
-IsParted s a b e = ((stripe_of e.row ≡ a) × (has_row s e.row ≡ true)) ⊎ ((stripe_of e.row ≡ b) × (has_row s e.row ≡ false))
+IsParted s a b e = ((stripe_of e.row ≡ a) × (has_row s e.row ≡ true))
+    ⊎ ((stripe_of e.row ≡ b) × (has_row s e.row ≡ false))
 
 not_same : {m n k : ℕ} → m ≡ n → m ≡ k → n < k → ⊥
 not_same e f h = omega arith
@@ -89,23 +103,34 @@ not_same e f h = omega arith
 below_same : {m n : ℕ} → m ≡ n → m < n → ⊥
 below_same e h = omega arith
 
-within_first : (s : Stripe) (a b row : ℕ) (es : List Entry) → a < b → stripe_of row ≡ a → AllByRecursion (IsParted s a b) es
+within_first : (s : Stripe) (a b row : ℕ) (es : List Entry) → a < b → stripe_of row ≡ a
+    → AllByRecursion (IsParted s a b) es
     → AllByRecursion (λ e. e.row ≡ row → has_row s e.row ≡ true) es
 within_first s a b row [] less at parted = tt
 within_first s a b row (e ∷ es) less at parted = (
-  (λ same. elim parted.0 [ inl one ↦ one.1 | inr two ↦ absurd (below_same (sym at ∙ ap stripe_of (sym same) ∙ two.0) less) ]),
+  (λ same. elim parted.0 [
+    | inl one ↦ one.1
+    | inr two
+        ↦ absurd (below_same (sym at ∙ ap stripe_of (sym same) ∙ two.0) less)
+  ]),
   within_first s a b row es less at parted.1,
 )
 
-within_last : (s : Stripe) (a b row : ℕ) (es : List Entry) → a < b → stripe_of row ≡ b → AllByRecursion (IsParted s a b) es
+within_last : (s : Stripe) (a b row : ℕ) (es : List Entry) → a < b → stripe_of row ≡ b
+    → AllByRecursion (IsParted s a b) es
     → AllByRecursion (λ e. e.row ≡ row → not (has_row s e.row) ≡ true) es
 within_last s a b row [] less at parted = tt
 within_last s a b row (e ∷ es) less at parted = (
-  (λ same. elim parted.0 [ inl one ↦ absurd (below_same (sym one.0 ∙ ap stripe_of same ∙ at) less) | inr two ↦ ap not two.1 ]),
+  (λ same. elim parted.0 [
+    | inl one ↦ absurd (below_same (sym one.0 ∙ ap stripe_of same ∙ at) less)
+    | inr two
+        ↦ ap not two.1
+  ]),
   within_last s a b row es less at parted.1,
 )
 
-in_neither : (s : Stripe) (a b row : ℕ) (es : List Entry) → ¬ (stripe_of row ≡ a) → ¬ (stripe_of row ≡ b) → AllByRecursion (IsParted s a b) es
+in_neither : (s : Stripe) (a b row : ℕ) (es : List Entry) → ¬ (stripe_of row ≡ a) → ¬ (stripe_of row ≡ b)
+    → AllByRecursion (IsParted s a b) es
     → AllByRecursion (λ e. ¬ (e.row ≡ row)) es
 in_neither s a b row [] one two parted = tt
 in_neither s a b row (e ∷ es) one two parted = (
@@ -116,9 +141,11 @@ in_neither s a b row (e ∷ es) one two parted = (
 -- both stripes with their entries
 abbrev pub both_noted : List Stripe → ℕ → ℕ → ℕ → List Entry → List Stripe
 both_noted ss a b tick es =
-    set (set ss a (noted_in (stripe_at ss a) tick (entries_within (stripe_at ss a) es))) b (noted_in (stripe_at ss b) tick (entries_outside (stripe_at ss a) es))
+    set (set ss a (noted_in (stripe_at ss a) tick (entries_within (stripe_at ss a) es))) b
+    (noted_in (stripe_at ss b) tick (entries_outside (stripe_at ss a) es))
 
-pub two_table : (ss : List Stripe) (a b tick : ℕ) (es : List Entry) → a < b → b < length ss → AllByRecursion (IsParted (stripe_at ss a) a b) es
+pub two_table : (ss : List Stripe) (a b tick : ℕ) (es : List Entry) → a < b → b < length ss
+    → AllByRecursion (IsParted (stripe_at ss a) a b) es
     → table_of (both_noted ss a b tick es) ≡ table_after (table_of ss) es
 two_table ss a b tick es less within parted =
     let first : Stripe = stripe_at ss a in
@@ -129,23 +156,28 @@ two_table ss a b tick es less within parted =
       | inl same ↦
           ap (λ (s : Stripe). rows_now s row) (at_set (set ss a one) b two (stripe_of row) (omega arith) same)
           ∙ ap (λ (t : Table). t row) (rows_now-noted (stripe_at ss b) tick (entries_outside first es))
-          ∙ table_after-some (rows_now (stripe_at ss b)) (λ e. not (has_row first e.row)) es row (within_last first a b row es less same parted)
-          ∙ table_after-at (rows_now (stripe_at ss b)) (table_of ss) es row (ap (λ i. rows_now (stripe_at ss i) row) (sym same))
+          ∙ table_after-some (rows_now (stripe_at ss b)) (λ e. not (has_row first e.row)) es row
+          (within_last first a b row es less same parted)
+          ∙ table_after-at (rows_now (stripe_at ss b)) (table_of ss) es row
+          (ap (λ i. rows_now (stripe_at ss i) row) (sym same))
       | inr other ↦
           ap (λ (s : Stripe). rows_now s row) (off_set (set ss a one) b two (stripe_of row) other)
           ∙ elim (cases_eq (stripe_of row) a) [
             | inl same ↦
                 ap (λ (s : Stripe). rows_now s row) (at_set ss a one (stripe_of row) (omega arith) same)
                 ∙ ap (λ (t : Table). t row) (rows_now-noted first tick (entries_within first es))
-                ∙ table_after-some (rows_now first) (λ e. has_row first e.row) es row (within_first first a b row es less same parted)
-                ∙ table_after-at (rows_now first) (table_of ss) es row (ap (λ i. rows_now (stripe_at ss i) row) (sym same))
+                ∙ table_after-some (rows_now first) (λ e. has_row first e.row) es row
+                (within_first first a b row es less same parted)
+                ∙ table_after-at (rows_now first) (table_of ss) es row
+                (ap (λ i. rows_now (stripe_at ss i) row) (sym same))
             | inr else ↦
                 ap (λ (s : Stripe). rows_now s row) (off_set ss a one (stripe_of row) else)
                 ∙ sym (table_after-none (table_of ss) es row (in_neither first a b row es else other parted))
           ]
     ])
 
-pub two_kept : (ss : List Stripe) (a b tick : ℕ) (es : List Entry) (test : ℕ → Bool) (i : ℕ) → a < b → b < length ss → AreEnds test a b
+pub two_kept : (ss : List Stripe) (a b tick : ℕ) (es : List Entry) (test : ℕ → Bool) (i : ℕ) → a < b → b < length ss
+    → AreEnds test a b
     → IsKeptAt tick (test i) (stripe_at ss i) (stripe_at (both_noted ss a b tick es) i)
 two_kept ss a b tick es test i less within ends =
     let first : Stripe = stripe_at ss a in
@@ -158,7 +190,8 @@ two_kept ss a b tick es test i less within ends =
           let changed : test i ≡ true = ends i ∙ ap (λ c. (a == i) || c) (eq-eqb b i (sym same)) ∙ or_true (a == i) in
           record {
             base = ap (λ (s : Stripe). s.base) is ∙ ap (λ j. (stripe_at ss j).base) (sym same);
-            greatest = ap (λ (s : Stripe). s.greatest) is ∙ sym (cond-true (test i) (Some tick) (stripe_at ss i).greatest changed);
+            greatest = ap (λ (s : Stripe). s.greatest) is
+                ∙ sym (cond-true (test i) (Some tick) (stripe_at ss i).greatest changed);
           }
       | inr other ↦ elim (cases_eq i a) [
         | inl same ↦
@@ -166,14 +199,17 @@ two_kept ss a b tick es test i less within ends =
             let changed : test i ≡ true = ends i ∙ ap (λ c. c || (b == i)) (eq-eqb a i (sym same)) in
             record {
               base = ap (λ (s : Stripe). s.base) is ∙ ap (λ j. (stripe_at ss j).base) (sym same);
-              greatest = ap (λ (s : Stripe). s.greatest) is ∙ sym (cond-true (test i) (Some tick) (stripe_at ss i).greatest changed);
+              greatest = ap (λ (s : Stripe). s.greatest) is
+                  ∙ sym (cond-true (test i) (Some tick) (stripe_at ss i).greatest changed);
             }
         | inr else ↦
             let is = off_set (set ss a one) b two i other ∙ off_set ss a one i else in
-            let kept : test i ≡ false = ends i ∙ ap₂ (λ b c. b || c) (ne_eqb a i (λ e. else (sym e))) (ne_eqb b i (λ e. other (sym e))) in
+            let kept : test i ≡ false = ends i ∙ ap₂ (λ b c. b || c) (ne_eqb a i (λ e. else (sym e)))
+            (ne_eqb b i (λ e. other (sym e))) in
             record {
               base = ap (λ (s : Stripe). s.base) is;
-              greatest = ap (λ (s : Stripe). s.greatest) is ∙ sym (cond-false (test i) (Some tick) (stripe_at ss i).greatest kept);
+              greatest = ap (λ (s : Stripe). s.greatest) is
+                  ∙ sym (cond-false (test i) (Some tick) (stripe_at ss i).greatest kept);
             }
       ]
     ]
@@ -186,15 +222,19 @@ pub none_kept : (tick : ℕ) (b : Bool) (s : Stripe) → b ≡ false → IsKeptA
 none_kept tick b s not = record { base = refl; greatest = sym (cond-false b (Some tick) s.greatest not) }
 
 -- both stripes, written each in its part of the list
-both_set : (ss front back : List Stripe) (a b : ℕ) (x y : Stripe) → ss ≡ front ++ back → a < length front → length front ≡ b → set front a x ++ set back 0 y ≡ set (set ss a x) b y
+both_set : (ss front back : List Stripe) (a b : ℕ) (x y : Stripe) → ss ≡ front ++ back → a < length front → length front
+    ≡ b → set front a x ++ set back 0 y ≡ set (set ss a x) b y
 both_set ss front back a b x y is within cut =
     let long : length (set front a x) ≡ b = length-set front a x ∙ cut in
     let none : b - b ≡ 0 = omega arith in
-    sym (ap (λ (l : List Stripe). set (set l a x) b y) is ∙ ap (λ (l : List Stripe). set l b y) (set-append_left front back a x within)
+    sym (ap (λ (l : List Stripe). set (set l a x) b y) is
+    ∙ ap (λ (l : List Stripe). set l b y) (set-append_left front back a x within)
     ∙ set-append_right (set front a x) back b b y long (omega arith) ∙ ap (λ n. set front a x ++ set back n y) none)
 
-pub two_written : (ss front back : List Stripe) (a b tick : ℕ) (s u one two : Stripe) (es : List Entry) → ss ≡ front ++ back → a < length front → length front ≡ b
-    → s ≡ stripe_at ss a → u ≡ stripe_at ss b → one ≡ noted_in s tick (entries_within s es) → two ≡ noted_in u tick (entries_outside s es)
+pub two_written : (ss front back : List Stripe) (a b tick : ℕ) (s u one two : Stripe) (es : List Entry)
+    → ss ≡ front ++ back → a < length front → length front ≡ b
+    → s ≡ stripe_at ss a → u ≡ stripe_at ss b → one ≡ noted_in s tick (entries_within s es)
+    → two ≡ noted_in u tick (entries_outside s es)
     → set front a one ++ set back 0 two ≡ both_noted ss a b tick es
 two_written ss front back a b tick s u one two es is within cut first last x y =
     both_set ss front back a b one two is within cut
@@ -203,16 +243,20 @@ two_written ss front back a b tick s u one two es is within cut first last x y =
     (y ∙ ap₂ (λ (q r : Stripe). noted_in q tick (entries_outside r es)) last first)
 
 -- a stripe of the first part, and the first of the second
-pub in_front : (ss front back : List Stripe) (a : ℕ) (d : Stripe) → ss ≡ front ++ back → a < length front → get_or front a d ≡ stripe_at ss a
+pub in_front : (ss front back : List Stripe) (a : ℕ) (d : Stripe) → ss ≡ front ++ back → a < length front
+    → get_or front a d ≡ stripe_at ss a
 in_front ss front back a d is within =
     get_or_default front a d (record { base = []; journal = []; greatest = None }) within
-    ∙ sym (get_or_append_left front back (record { base = []; journal = []; greatest = None }) a within) ∙ ap (λ (l : List Stripe). stripe_at l a) (sym is)
+    ∙ sym (get_or_append_left front back (record { base = []; journal = []; greatest = None }) a within)
+    ∙ ap (λ (l : List Stripe). stripe_at l a) (sym is)
 
-pub in_back : (ss front back : List Stripe) (b : ℕ) (d : Stripe) → ss ≡ front ++ back → length front ≡ b → 0 < length back → get_or back 0 d ≡ stripe_at ss b
+pub in_back : (ss front back : List Stripe) (b : ℕ) (d : Stripe) → ss ≡ front ++ back → length front ≡ b
+    → 0 < length back → get_or back 0 d ≡ stripe_at ss b
 in_back ss front back b d is cut some =
     let long : length front + 0 ≡ b = omega arith in
     get_or_default back 0 d (record { base = []; journal = []; greatest = None }) some
-    ∙ sym (get_or-append-add front back 0 (record { base = []; journal = []; greatest = None })) ∙ ap (stripe_at (front ++ back)) long ∙ ap (λ (l : List Stripe). stripe_at l b) (sym is)
+    ∙ sym (get_or-append-add front back 0 (record { base = []; journal = []; greatest = None }))
+    ∙ ap (stripe_at (front ++ back)) long ∙ ap (λ (l : List Stripe). stripe_at l b) (sym is)
 
 -- ---- the rows of a request
 
@@ -229,53 +273,68 @@ same_end i a (inl e) = e
 same_end i a (inr e) = e
 
 -- it lies in its stripe
-has_own : (names : List (List ℕ)) (ss : List Stripe) (request : Request) (i row : ℕ) → HaveTheirRows (length names) ss → i < stripe_count → IsPlaced names request row → stripe_of row ≡ i
+has_own : (names : List (List ℕ)) (ss : List Stripe) (request : Request) (i row : ℕ) → HaveTheirRows (length names) ss
+    → i < stripe_count → IsPlaced names request row → stripe_of row ≡ i
     → has_row (stripe_at ss i) row ≡ true
 has_own names ss request i row have small placed own =
-    have i row small ∙ and_from (stripe_of row == i) (nat_lt row (2 * length names)) (eq-eqb (stripe_of row) i own) (lt-ltb row (2 * length names) placed.within)
+    have i row small ∙ and_from (stripe_of row == i) (nat_lt row (2 * length names)) (eq-eqb (stripe_of row) i own)
+    (lt-ltb row (2 * length names) placed.within)
 
 -- and in no other
-has_no_other : (names : List (List ℕ)) (ss : List Stripe) (i row : ℕ) → HaveTheirRows (length names) ss → i < stripe_count → ¬ (stripe_of row ≡ i)
+has_no_other : (names : List (List ℕ)) (ss : List Stripe) (i row : ℕ) → HaveTheirRows (length names) ss
+    → i < stripe_count → ¬ (stripe_of row ≡ i)
     → has_row (stripe_at ss i) row ≡ false
 has_no_other names ss i row have small other =
     have i row small ∙ ap (λ b. b && nat_lt row (2 * length names)) (ne_eqb (stripe_of row) i other)
 
 -- ---- what is made
 
-pub one_made : (names : List (List ℕ)) (ss : List Stripe) (request : Request) (a : ℕ) → AreEnds (needs names request) a a
+pub one_made : (names : List (List ℕ)) (ss : List Stripe) (request : Request) (a : ℕ)
+    → AreEnds (needs names request) a a
     → executed_on names (rows_now (stripe_at ss a)) request ≡ executed_on names (table_of ss) request
 one_made names ss request a ends =
     executed_alike names (rows_now (stripe_at ss a)) (table_of ss) request (λ row placed.
-    ap (λ i. rows_now (stripe_at ss i) row) (sym (same_end (stripe_of row) a (in_ends (needs names request) a a (stripe_of row) ends placed.needed))))
+    ap (λ i. rows_now (stripe_at ss i) row)
+    (sym (same_end (stripe_of row) a (in_ends (needs names request) a a (stripe_of row) ends placed.needed))))
 
 pub one_own : (names : List (List ℕ)) (table : Table) (request : Request) (a : ℕ) → AreEnds (needs names request) a a
     → AllByRecursion (λ e. stripe_of e.row ≡ a) (executed_on names table request).entries
 one_own names table request a ends =
     all_from_in (λ e. stripe_of e.row ≡ a) (executed_on names table request).entries (λ e i.
-    let placed : IsPlaced names request e.row = all_in (λ (f : Entry). IsPlaced names request f.row) (entries_placed names table request) i in
+    let placed : IsPlaced names request e.row = all_in (λ (f : Entry). IsPlaced names request f.row)
+    (entries_placed names table request) i in
     same_end (stripe_of e.row) a (in_ends (needs names request) a a (stripe_of e.row) ends placed.needed))
 
 -- a row is the first stripe's where it has it
-two_rows : (names : List (List ℕ)) (ss : List Stripe) (request : Request) (a b row : ℕ) → HaveTheirRows (length names) ss → a < b → b < stripe_count → IsPlaced names request row
+two_rows : (names : List (List ℕ)) (ss : List Stripe) (request : Request) (a b row : ℕ)
+    → HaveTheirRows (length names) ss → a < b → b < stripe_count → IsPlaced names request row
     → (stripe_of row ≡ a) ⊎ (stripe_of row ≡ b) → rows_in_two (stripe_at ss a) (stripe_at ss b) row ≡ table_of ss row
 two_rows names ss request a b row have less small placed (inl one) =
-    cond-true (has_row (stripe_at ss a) row) (rows_now (stripe_at ss a) row) (rows_now (stripe_at ss b) row) (has_own names ss request a row have (omega arith) placed one)
+    cond-true (has_row (stripe_at ss a) row) (rows_now (stripe_at ss a) row) (rows_now (stripe_at ss b) row)
+    (has_own names ss request a row have (omega arith) placed one)
     ∙ ap (λ i. rows_now (stripe_at ss i) row) (sym one)
 two_rows names ss request a b row have less small placed (inr two) =
-    cond-false (has_row (stripe_at ss a) row) (rows_now (stripe_at ss a) row) (rows_now (stripe_at ss b) row) (has_no_other names ss a row have (omega arith) (λ one. not_same one two less))
+    cond-false (has_row (stripe_at ss a) row) (rows_now (stripe_at ss a) row) (rows_now (stripe_at ss b) row)
+    (has_no_other names ss a row have (omega arith) (λ one. not_same one two less))
     ∙ ap (λ i. rows_now (stripe_at ss i) row) (sym two)
 
-pub two_made : (names : List (List ℕ)) (ss : List Stripe) (request : Request) (a b : ℕ) → HaveTheirRows (length names) ss → a < b → b < stripe_count → AreEnds (needs names request) a b
-    → executed_on names (rows_in_two (stripe_at ss a) (stripe_at ss b)) request ≡ executed_on names (table_of ss) request
+pub two_made : (names : List (List ℕ)) (ss : List Stripe) (request : Request) (a b : ℕ)
+    → HaveTheirRows (length names) ss → a < b → b < stripe_count → AreEnds (needs names request) a b
+    → executed_on names (rows_in_two (stripe_at ss a) (stripe_at ss b)) request
+    ≡ executed_on names (table_of ss) request
 two_made names ss request a b have less small ends =
     executed_alike names (rows_in_two (stripe_at ss a) (stripe_at ss b)) (table_of ss) request (λ row placed.
-    two_rows names ss request a b row have less small placed (in_ends (needs names request) a b (stripe_of row) ends placed.needed))
+    two_rows names ss request a b row have less small placed
+    (in_ends (needs names request) a b (stripe_of row) ends placed.needed))
 
-pub two_parted : (names : List (List ℕ)) (ss : List Stripe) (table : Table) (request : Request) (a b : ℕ) → HaveTheirRows (length names) ss → a < b → b < stripe_count
-    → AreEnds (needs names request) a b → AllByRecursion (IsParted (stripe_at ss a) a b) (executed_on names table request).entries
+pub two_parted : (names : List (List ℕ)) (ss : List Stripe) (table : Table) (request : Request) (a b : ℕ)
+    → HaveTheirRows (length names) ss → a < b → b < stripe_count
+    → AreEnds (needs names request) a b → AllByRecursion (IsParted (stripe_at ss a) a b)
+    (executed_on names table request).entries
 two_parted names ss table request a b have less small ends =
     all_from_in (IsParted (stripe_at ss a) a b) (executed_on names table request).entries (λ e i.
-    let placed : IsPlaced names request e.row = all_in (λ (f : Entry). IsPlaced names request f.row) (entries_placed names table request) i in
+    let placed : IsPlaced names request e.row = all_in (λ (f : Entry). IsPlaced names request f.row)
+    (entries_placed names table request) i in
     elim (in_ends (needs names request) a b (stripe_of e.row) ends placed.needed) [
       | inl one ↦ inl (one, has_own names ss request a e.row have (omega arith) placed one)
       | inr two ↦ inr (two, has_no_other names ss a e.row have (omega arith) (λ one. not_same one two less))
@@ -283,31 +342,42 @@ two_parted names ss table request a b have less small ends =
 
 -- ---- nothing is refused
 
-all_numbers : (p : ℕ → Bool) (rows : Rows) → AllByRecursion (λ row. p row ≡ true) (numbers rows) → list_all (λ r. p r.0) rows ≡ true
+all_numbers : (p : ℕ → Bool) (rows : Rows) → AllByRecursion (λ row. p row ≡ true) (numbers rows)
+    → list_all (λ r. p r.0) rows ≡ true
 all_numbers p [] all = refl
 all_numbers p (r ∷ rows) all = and_from (p r.0) (list_all (λ q. p q.0) rows) all.0 (all_numbers p rows all.1)
 
-none_worn : (now : Table) (rows : Rows) → AllByRecursion (λ row. (now row).version < version_limit) (numbers rows) → is_worn now rows ≡ false
+none_worn : (now : Table) (rows : Rows) → AllByRecursion (λ row. (now row).version < version_limit) (numbers rows)
+    → is_worn now rows ≡ false
 none_worn now [] fresh = refl
 none_worn now (r ∷ rows) fresh =
-    ap₂ (λ b c. b || c) (and_right (is_write r.1) (nat_le version_limit (now r.0).version) (lt-leb version_limit (now r.0).version fresh.0)) (none_worn now rows fresh.1)
+    ap₂ (λ b c. b || c) (and_right (is_write r.1) (nat_le version_limit (now r.0).version)
+    (lt-leb version_limit (now r.0).version fresh.0)) (none_worn now rows fresh.1)
 
-none_refused : (is_there : ℕ → Bool) (is_new : Bool) (now : Table) (rows : Rows) → list_all (λ r. is_there r.0) rows ≡ true → is_new ≡ true → is_worn now rows ≡ false
+none_refused : (is_there : ℕ → Bool) (is_new : Bool) (now : Table) (rows : Rows) → list_all (λ r. is_there r.0) rows
+    ≡ true → is_new ≡ true → is_worn now rows ≡ false
     → refused_for is_there is_new now rows ≡ None
 none_refused is_there is_new now rows lie timely fresh =
-    ap₂ (λ a b. cond a (cond b (cond (is_worn now rows) (Some fault.Worn) None) (Some fault.TickOrder)) (Some fault.NoRow)) lie timely
+    ap₂ (λ a b. cond a (cond b (cond (is_worn now rows) (Some fault.Worn) None) (Some fault.TickOrder))
+    (Some fault.NoRow)) lie timely
     ∙ ap (λ c. cond c (Some fault.Worn) None) fresh
 
-memory_alone : {A : Type 0} (o : Option StampFault) (result : Result A StampFault) → o ≡ None → IsRefusedFor o result → IfErr result (λ why. why ≡ fault.Memory)
+memory_alone : {A : Type 0} (o : Option StampFault) (result : Result A StampFault) → o ≡ None → IsRefusedFor o result
+    → IfErr result (λ why. why ≡ fault.Memory)
 memory_alone {A} o result none refused = subst (λ (p : Option StampFault). IsRefusedFor {A = A} p result) none refused
 
-all_of : {A : Type 0} (P Q : A → Type 0) (xs : List A) → ((x : A) → P x → Q x) → AllByRecursion P xs → AllByRecursion Q xs
+all_of : {A : Type 0} (P Q : A → Type 0) (xs : List A) → ((x : A) → P x → Q x) → AllByRecursion P xs
+    → AllByRecursion Q xs
 all_of P Q [] h all = tt
 all_of P Q (x ∷ xs) h all = (h x all.0, all_of P Q xs h all.1)
 
-pub one_memory : {A : Type 0} (names : List (List ℕ)) (ss : List Stripe) (request : Request) (a tick : ℕ) (result : Result A StampFault) → HaveTheirRows (length names) ss → a < stripe_count
-    → AreEnds (needs names request) a a → ((i : ℕ) → needs names request i ≡ true → is_above tick (stripe_at ss i).greatest ≡ true) → AreFresh (table_of ss)
-    → IsRefusedFor (refusal (stripe_at ss a) tick (rows_in (touched_of names request))) result → IfErr result (λ why. why ≡ fault.Memory)
+pub one_memory : {A : Type 0} (names : List (List ℕ)) (ss : List Stripe) (request : Request) (a tick : ℕ)
+    (result : Result A StampFault) → HaveTheirRows (length names) ss → a < stripe_count
+    → AreEnds (needs names request) a a
+    → ((i : ℕ) → needs names request i ≡ true → is_above tick (stripe_at ss i).greatest ≡ true)
+    → AreFresh (table_of ss)
+    → IsRefusedFor (refusal (stripe_at ss a) tick (rows_in (touched_of names request))) result
+    → IfErr result (λ why. why ≡ fault.Memory)
 one_memory names ss request a tick result have small ends above fresh refused =
     let rows : Rows = rows_in (touched_of names request) in
     let at : (row : ℕ) → IsPlaced names request row → stripe_of row ≡ a =
@@ -315,42 +385,55 @@ one_memory names ss request a tick result have small ends above fresh refused =
     memory_alone (refusal (stripe_at ss a) tick rows) result
     (none_refused (has_row (stripe_at ss a)) (is_above tick (stripe_at ss a).greatest) (rows_now (stripe_at ss a)) rows
     (all_numbers (has_row (stripe_at ss a)) rows
-    (all_of (IsPlaced names request) (λ row. has_row (stripe_at ss a) row ≡ true) (numbers rows) (λ row placed. has_own names ss request a row have small placed (at row placed)) (rows_placed names request)))
+    (all_of (IsPlaced names request) (λ row. has_row (stripe_at ss a) row ≡ true) (numbers rows)
+    (λ row placed. has_own names ss request a row have small placed (at row placed)) (rows_placed names request)))
     (above a (ends a ∙ ap₂ (λ b c. b || c) (eq-eqb a a refl) (eq-eqb a a refl)))
     (none_worn (rows_now (stripe_at ss a)) rows
     (all_of (IsPlaced names request) (λ row. (rows_now (stripe_at ss a) row).version < version_limit) (numbers rows)
-    (λ row placed. subst (λ i. (rows_now (stripe_at ss i) row).version < version_limit) (at row placed) (fresh row)) (rows_placed names request))))
+    (λ row placed. subst (λ i. (rows_now (stripe_at ss i) row).version < version_limit) (at row placed) (fresh row))
+    (rows_placed names request))))
     refused
 
-pub two_memory : {A : Type 0} (names : List (List ℕ)) (ss : List Stripe) (request : Request) (a b tick : ℕ) (result : Result A StampFault) → HaveTheirRows (length names) ss → a < b → b < stripe_count
-    → AreEnds (needs names request) a b → ((i : ℕ) → needs names request i ≡ true → is_above tick (stripe_at ss i).greatest ≡ true) → AreFresh (table_of ss)
-    → IsRefusedFor (refusal_of_two (stripe_at ss a) (stripe_at ss b) tick (rows_in (touched_of names request))) result → IfErr result (λ why. why ≡ fault.Memory)
+pub two_memory : {A : Type 0} (names : List (List ℕ)) (ss : List Stripe) (request : Request) (a b tick : ℕ)
+    (result : Result A StampFault) → HaveTheirRows (length names) ss → a < b → b < stripe_count
+    → AreEnds (needs names request) a b
+    → ((i : ℕ) → needs names request i ≡ true → is_above tick (stripe_at ss i).greatest ≡ true)
+    → AreFresh (table_of ss)
+    → IsRefusedFor (refusal_of_two (stripe_at ss a) (stripe_at ss b) tick (rows_in (touched_of names request))) result
+    → IfErr result (λ why. why ≡ fault.Memory)
 two_memory names ss request a b tick result have less small ends above fresh refused =
     let rows : Rows = rows_in (touched_of names request) in
     let first : Stripe = stripe_at ss a in
     let last : Stripe = stripe_at ss b in
     memory_alone (refusal_of_two first last tick rows) result
-    (none_refused (has_row_in_two first last) (is_above tick first.greatest && is_above tick last.greatest) (rows_in_two first last) rows
+    (none_refused (has_row_in_two first last) (is_above tick first.greatest && is_above tick last.greatest)
+    (rows_in_two first last) rows
     (all_numbers (has_row_in_two first last) rows
     (all_of (IsPlaced names request) (λ row. has_row_in_two first last row ≡ true) (numbers rows) (λ row placed.
     elim (in_ends (needs names request) a b (stripe_of row) ends placed.needed) [
       | inl one ↦ ap (λ c. c || has_row last row) (has_own names ss request a row have (omega arith) placed one)
-      | inr two ↦ ap₂ (λ c d. c || d) (has_no_other names ss a row have (omega arith) (λ one. not_same one two less)) (has_own names ss request b row have small placed two)
+      | inr two ↦ ap₂ (λ c d. c || d) (has_no_other names ss a row have (omega arith) (λ one. not_same one two less))
+          (has_own names ss request b row have small placed two)
     ]) (rows_placed names request)))
     (and_from (is_above tick first.greatest) (is_above tick last.greatest)
     (above a (ends a ∙ ap (λ c. c || (b == a)) (eq-eqb a a refl)))
     (above b (ends b ∙ ap₂ (λ c d. c || d) (ne_eqb a b (λ e. omega arith)) (eq-eqb b b refl))))
     (none_worn (rows_in_two first last) rows
     (all_of (IsPlaced names request) (λ row. (rows_in_two first last row).version < version_limit) (numbers rows)
-    (λ row placed. subst (λ v. v.version < version_limit) (sym (two_rows names ss request a b row have less small placed (in_ends (needs names request) a b (stripe_of row) ends placed.needed))) (fresh row)) (rows_placed names request))))
+    (λ row placed. subst (λ v. v.version < version_limit)
+    (sym (two_rows names ss request a b row have less small placed
+    (in_ends (needs names request) a b (stripe_of row) ends placed.needed))) (fresh row))
+    (rows_placed names request))))
     refused
 
 -- ---- by the answer
 
-pub if_ok : {A E : Type 0} (P Q : A → Type 0) (result : Result A E) → IfOk result P → ((x : A) → P x → Q x) → IfOk result Q
+pub if_ok : {A E : Type 0} (P Q : A → Type 0) (result : Result A E) → IfOk result P → ((x : A) → P x → Q x)
+    → IfOk result Q
 if_ok P Q (Ok x) p h = h x p
 if_ok P Q (Err e) p h = tt
 
-pub if_ok_both : {A E : Type 0} (P R Q : A → Type 0) (result : Result A E) → IfOk result P → IfOk result R → ((x : A) → P x → R x → Q x) → IfOk result Q
+pub if_ok_both : {A E : Type 0} (P R Q : A → Type 0) (result : Result A E) → IfOk result P → IfOk result R
+    → ((x : A) → P x → R x → Q x) → IfOk result Q
 if_ok_both P R Q (Ok x) p r h = h x p r
 if_ok_both P R Q (Err e) p r h = tt

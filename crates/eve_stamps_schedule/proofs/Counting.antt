@@ -1,6 +1,8 @@
 -- Each event keeps the counts.
-use Rattle.std.proofs.Common.{◌≡◌, ℕ, zero, suc, ◌+◌, ◌-◌, ◌<◌, ◌≤◌, Bool, true, ◌==◌, nat_lt, List, [], ◌∷◌, ◌++◌, length, Option, Some, None, inl, inr, refl, sym, subst, ap, ◌∙◌, arith}
-use Rattle.std.proofs.lemmas.Bool.{cases_Bool, cases_eq, cases_lt, cases_order, and_parts, eqb-true, eq-eqb, ne_eqb, ltb-true, lt-ltb, le-ltb, cond-true, cond-false}
+use Rattle.std.proofs.Common.{◌≡◌, ℕ, zero, suc, ◌+◌, ◌-◌, ◌<◌, ◌≤◌, Bool, true, ◌==◌, nat_lt, List, [], ◌∷◌, ◌++◌}
+use Rattle.std.proofs.Common.{length, Option, Some, None, inl, inr, refl, sym, subst, ap, ◌∙◌, arith}
+use Rattle.std.proofs.lemmas.Bool.{cases_Bool, cases_eq, cases_lt, cases_order, and_parts, eqb-true, eq-eqb, ne_eqb}
+use Rattle.std.proofs.lemmas.Bool.{ltb-true, lt-ltb, le-ltb, cond-true, cond-false}
 use Rattle.std.proofs.lemmas.List.{length-append}
 use Rattle.eve_grammar.specs.Certificate.{group_of}
 use Rattle.eve_stamps.specs.Applied.{Applied}
@@ -8,7 +10,8 @@ use Rattle.eve_stamps_schedule.specs.declared.event.Event.TheVariants.{Claim, Ti
 use Rattle.eve_stamps_schedule.specs.declared.stage.Stage.{Stage}
 use Rattle.eve_stamps_schedule.specs.declared.stage.Stage.TheVariants as at
 use Rattle.eve_stamps_schedule.specs.World.{Plan, World, noted_count}
-use Rattle.eve_stamps_schedule.specs.Events.{changed, current_group, may_claim, with_owner, with_applied, with_noted, placed, then_happens}
+use Rattle.eve_stamps_schedule.specs.Events.{changed, current_group, may_claim, with_owner, with_applied, with_noted}
+use Rattle.eve_stamps_schedule.specs.Events.{placed, then_happens}
 use Rattle.eve_stamps_schedule.proofs.Changes.{counted, counted-changed}
 use Rattle.eve_stamps_schedule.proofs.Inserting.{count-placed}
 use Rattle.eve_stamps_schedule.proofs.Holding.{flag, held, is_busy, is_claimed, is_ticked, has_index, has_tick, Counts}
@@ -19,19 +22,23 @@ pub group_of-mono : (sizes : List ℕ) (i j : ℕ) → i ≤ j → group_of size
 group_of-mono [] i j h = omega arith
 group_of-mono (size ∷ sizes) i j h =
     elim (cases_lt i size) [
-      | inl low ↦ subst (λ k. k ≤ group_of (size ∷ sizes) j) (sym (cond-true (nat_lt i size) 0 (suc (group_of sizes (i - size))) (lt-ltb i size low))) (omega arith)
+      | inl low ↦ subst (λ k. k ≤ group_of (size ∷ sizes) j)
+          (sym (cond-true (nat_lt i size) 0 (suc (group_of sizes (i - size))) (lt-ltb i size low))) (omega arith)
       | inr high ↦
           let here = cond-false (nat_lt i size) 0 (suc (group_of sizes (i - size))) (le-ltb i size high) in
           let there = cond-false (nat_lt j size) 0 (suc (group_of sizes (j - size))) (le-ltb j size (omega arith)) in
-          let rest : group_of sizes (i - size) ≤ group_of sizes (j - size) = group_of-mono sizes (i - size) (j - size) (omega arith) in
-          subst (λ k. k ≤ group_of (size ∷ sizes) j) (sym here) (subst (λ k. suc (group_of sizes (i - size)) ≤ k) (sym there) (omega arith))
+          let rest : group_of sizes (i - size) ≤ group_of sizes (j - size) = group_of-mono sizes (i - size) (j - size)
+          (omega arith) in
+          subst (λ k. k ≤ group_of (size ∷ sizes) j) (sym here)
+          (subst (λ k. suc (group_of sizes (i - size)) ≤ k) (sym there) (omega arith))
     ]
 
 pub noted_counted : (noted : ℕ → List Applied) (n : ℕ) → noted_count noted n ≡ counted length noted n
 noted_counted noted zero = refl
 noted_counted noted (suc n) = ap (λ k. k + length (noted n)) (noted_counted noted n)
 
-pub noted_more : (noted : ℕ → List Applied) (v n : ℕ) (x : Applied) → v < n → noted_count (changed noted v (noted v ++ x ∷ [])) n ≡ noted_count noted n + 1
+pub noted_more : (noted : ℕ → List Applied) (v n : ℕ) (x : Applied) → v < n
+    → noted_count (changed noted v (noted v ++ x ∷ [])) n ≡ noted_count noted n + 1
 noted_more noted v n x h =
     let more = counted-changed length noted v (noted v ++ x ∷ []) n h in
     let longer : length (noted v ++ x ∷ []) ≡ length (noted v) + 1 = length-append (noted v) (x ∷ []) in
@@ -66,126 +73,158 @@ length-placed x [] = refl
 length-placed x (y ∷ ys) =
     elim (cases_Bool (nat_lt x.tick y.tick)) [
       | inl t ↦ ap length (cond-true (nat_lt x.tick y.tick) (x ∷ y ∷ ys) (y ∷ placed x ys) t) ∙ omega arith
-      | inr f ↦ ap length (cond-false (nat_lt x.tick y.tick) (x ∷ y ∷ ys) (y ∷ placed x ys) f) ∙ ap suc (length-placed x ys) ∙ omega arith
+      | inr f ↦ ap length (cond-false (nat_lt x.tick y.tick) (x ∷ y ∷ ys) (y ∷ placed x ys) f)
+          ∙ ap suc (length-placed x ys) ∙ omega arith
     ]
 
 -- a worker goes from one stage to another
 shifted : (test : Stage → Bool) (stages : ℕ → Stage) (v n : ℕ) (old new : Stage) → v < n → stages v ≡ old
     → held test (changed stages v new) n + flag (test old) ≡ held test stages n + flag (test new)
 shifted test stages v n old new h stage =
-    subst (λ s. held test (changed stages v new) n + flag (test s) ≡ held test stages n + flag (test new)) stage (counted-changed (λ s. flag (test s)) stages v new n h)
+    subst (λ s. held test (changed stages v new) n + flag (test s) ≡ held test stages n + flag (test new)) stage
+    (counted-changed (λ s. flag (test s)) stages v new n h)
 
 -- ---- events
 
-pub counts_claim : (p : Plan) (w : World) (v : ℕ) → v < p.workers → w.stages v ≡ at.Idle → may_claim p w ≡ true → Counts p w → Counts p (then_happens p w (Claim v) at.Idle)
+pub counts_claim : (p : Plan) (w : World) (v : ℕ) → v < p.workers → w.stages v ≡ at.Idle → may_claim p w ≡ true
+    → Counts p w → Counts p (then_happens p w (Claim v) at.Idle)
 counts_claim p w v h stage may c =
-    let parts = and_parts (nat_lt w.claimed (length p.requests)) (group_of p.sizes w.claimed == current_group p w) may in
+    let parts = and_parts (nat_lt w.claimed (length p.requests)) (group_of p.sizes w.claimed == current_group p w) may
+    in
     let new : Stage = at.Claimed w.claimed in
     let there : w.claimed < length p.requests = ltb-true w.claimed (length p.requests) parts.0 in
     record {
       indexes = λ i.
-          let shift : held (has_index i) (changed w.stages v new) p.workers + 0 ≡ held (has_index i) w.stages p.workers + flag (w.claimed == i)
+          let shift : held (has_index i) (changed w.stages v new) p.workers + 0
+          ≡ held (has_index i) w.stages p.workers + flag (w.claimed == i)
           = shifted (has_index i) w.stages v p.workers at.Idle new h stage in
           omega (arith, shift, c.indexes i, flag_more i w.claimed);
       ticks = λ n.
-          let shift : held (has_tick n) (changed w.stages v new) p.workers + 0 ≡ held (has_tick n) w.stages p.workers + 0
+          let shift : held (has_tick n) (changed w.stages v new) p.workers + 0
+          ≡ held (has_tick n) w.stages p.workers + 0
           = shifted (has_tick n) w.stages v p.workers at.Idle new h stage in
           omega (arith, shift, c.ticks n);
       claimed =
-          let shift : held is_busy (changed w.stages v new) p.workers + 0 ≡ held is_busy w.stages p.workers + 1 = shifted is_busy w.stages v p.workers at.Idle new h stage in
+          let shift : held is_busy (changed w.stages v new) p.workers + 0 ≡ held is_busy w.stages p.workers + 1 =
+          shifted is_busy w.stages v p.workers at.Idle new h stage in
           omega (arith, shift, c.claimed);
       ticked =
-          let shift : held is_claimed (changed w.stages v new) p.workers + 0 ≡ held is_claimed w.stages p.workers + 1 = shifted is_claimed w.stages v p.workers at.Idle new h stage in
+          let shift : held is_claimed (changed w.stages v new) p.workers + 0 ≡ held is_claimed w.stages p.workers + 1 =
+          shifted is_claimed w.stages v p.workers at.Idle new h stage in
           omega (arith, shift, c.ticked);
       applied =
-          let shift : held is_ticked (changed w.stages v new) p.workers + 0 ≡ held is_ticked w.stages p.workers + 0 = shifted is_ticked w.stages v p.workers at.Idle new h stage in
+          let shift : held is_ticked (changed w.stages v new) p.workers + 0 ≡ held is_ticked w.stages p.workers + 0 =
+          shifted is_ticked w.stages v p.workers at.Idle new h stage in
           omega (arith, shift, c.applied);
       within = omega (arith, there);
       current = λ i below.
           elim (cases_eq i w.claimed) [
             | inl e ↦
-                let same : group_of p.sizes i ≡ current_group p w = ap (group_of p.sizes) e ∙ eqb-true (group_of p.sizes w.claimed) (current_group p w) parts.1 in
+                let same : group_of p.sizes i ≡ current_group p w = ap (group_of p.sizes) e
+                ∙ eqb-true (group_of p.sizes w.claimed) (current_group p w) parts.1 in
                 omega (arith, same)
             | inr e ↦ c.current i (omega arith)
           ];
     }
 
-pub counts_tick : (p : Plan) (w : World) (v i : ℕ) → v < p.workers → w.stages v ≡ at.Claimed i → Counts p w → Counts p (then_happens p w (Tick v) (at.Claimed i))
+pub counts_tick : (p : Plan) (w : World) (v i : ℕ) → v < p.workers → w.stages v ≡ at.Claimed i → Counts p w
+    → Counts p (then_happens p w (Tick v) (at.Claimed i))
 counts_tick p w v i h stage c =
     let old : Stage = at.Claimed i in
     let new : Stage = at.Ticked i w.counter in
     record {
       indexes = λ j.
-          let shift : held (has_index j) (changed w.stages v new) p.workers + flag (i == j) ≡ held (has_index j) w.stages p.workers + flag (i == j)
+          let shift : held (has_index j) (changed w.stages v new) p.workers + flag (i == j)
+          ≡ held (has_index j) w.stages p.workers + flag (i == j)
           = shifted (has_index j) w.stages v p.workers old new h stage in
           omega (arith, shift, c.indexes j);
       ticks = λ n.
-          let shift : held (has_tick n) (changed w.stages v new) p.workers + 0 ≡ held (has_tick n) w.stages p.workers + flag (w.counter == n)
+          let shift : held (has_tick n) (changed w.stages v new) p.workers + 0
+          ≡ held (has_tick n) w.stages p.workers + flag (w.counter == n)
           = shifted (has_tick n) w.stages v p.workers old new h stage in
           omega (arith, shift, c.ticks n, flag_more n w.counter);
       claimed =
-          let shift : held is_busy (changed w.stages v new) p.workers + 1 ≡ held is_busy w.stages p.workers + 1 = shifted is_busy w.stages v p.workers old new h stage in
+          let shift : held is_busy (changed w.stages v new) p.workers + 1 ≡ held is_busy w.stages p.workers + 1 =
+          shifted is_busy w.stages v p.workers old new h stage in
           omega (arith, shift, c.claimed);
       ticked =
-          let shift : held is_claimed (changed w.stages v new) p.workers + 1 ≡ held is_claimed w.stages p.workers + 0 = shifted is_claimed w.stages v p.workers old new h stage in
+          let shift : held is_claimed (changed w.stages v new) p.workers + 1 ≡ held is_claimed w.stages p.workers + 0 =
+          shifted is_claimed w.stages v p.workers old new h stage in
           omega (arith, shift, c.ticked);
       applied =
-          let shift : held is_ticked (changed w.stages v new) p.workers + 0 ≡ held is_ticked w.stages p.workers + 1 = shifted is_ticked w.stages v p.workers old new h stage in
+          let shift : held is_ticked (changed w.stages v new) p.workers + 0 ≡ held is_ticked w.stages p.workers + 1 =
+          shifted is_ticked w.stages v p.workers old new h stage in
           omega (arith, shift, c.applied);
       within = c.within;
       current = c.current;
     }
 
-pub counts_apply : (p : Plan) (w : World) (v : ℕ) (x : Applied) → v < p.workers → w.stages v ≡ at.Ticked x.index x.tick → Counts p w → Counts p (with_applied w v x)
+pub counts_apply : (p : Plan) (w : World) (v : ℕ) (x : Applied) → v < p.workers → w.stages v ≡ at.Ticked x.index x.tick
+    → Counts p w → Counts p (with_applied w v x)
 counts_apply p w v x h stage c =
     let old : Stage = at.Ticked x.index x.tick in
     let new : Stage = at.Applied x in
     record {
       indexes = λ j.
-          let shift : held (has_index j) (changed w.stages v new) p.workers + flag (x.index == j) ≡ held (has_index j) w.stages p.workers + 0
+          let shift : held (has_index j) (changed w.stages v new) p.workers + flag (x.index == j)
+          ≡ held (has_index j) w.stages p.workers + 0
           = shifted (has_index j) w.stages v p.workers old new h stage in
           omega (arith, shift, c.indexes j, count-placed (λ y. y.index) j x w.applied);
       ticks = λ n.
-          let shift : held (has_tick n) (changed w.stages v new) p.workers + flag (x.tick == n) ≡ held (has_tick n) w.stages p.workers + 0
+          let shift : held (has_tick n) (changed w.stages v new) p.workers + flag (x.tick == n)
+          ≡ held (has_tick n) w.stages p.workers + 0
           = shifted (has_tick n) w.stages v p.workers old new h stage in
           omega (arith, shift, c.ticks n, count-placed (λ y. y.tick) n x w.applied);
       claimed =
-          let shift : held is_busy (changed w.stages v new) p.workers + 1 ≡ held is_busy w.stages p.workers + 1 = shifted is_busy w.stages v p.workers old new h stage in
+          let shift : held is_busy (changed w.stages v new) p.workers + 1 ≡ held is_busy w.stages p.workers + 1 =
+          shifted is_busy w.stages v p.workers old new h stage in
           omega (arith, shift, c.claimed);
       ticked =
-          let shift : held is_claimed (changed w.stages v new) p.workers + 0 ≡ held is_claimed w.stages p.workers + 0 = shifted is_claimed w.stages v p.workers old new h stage in
+          let shift : held is_claimed (changed w.stages v new) p.workers + 0 ≡ held is_claimed w.stages p.workers + 0 =
+          shifted is_claimed w.stages v p.workers old new h stage in
           omega (arith, shift, c.ticked);
       applied =
-          let shift : held is_ticked (changed w.stages v new) p.workers + 1 ≡ held is_ticked w.stages p.workers + 0 = shifted is_ticked w.stages v p.workers old new h stage in
+          let shift : held is_ticked (changed w.stages v new) p.workers + 1 ≡ held is_ticked w.stages p.workers + 0 =
+          shifted is_ticked w.stages v p.workers old new h stage in
           omega (arith, shift, c.applied, length-placed x w.applied);
       within = c.within;
       current = c.current;
     }
 
 -- one more is noted, and no earlier parallelBatch becomes current
-pub current_later : (p : Plan) (w : World) (v : ℕ) (x : Applied) → v < p.workers → current_group p w ≤ current_group p (with_noted w v x)
+pub current_later : (p : Plan) (w : World) (v : ℕ) (x : Applied) → v < p.workers
+    → current_group p w ≤ current_group p (with_noted w v x)
 current_later p w v x h =
-    group_of-mono p.sizes (noted_count w.noted p.workers) (noted_count (changed w.noted v (w.noted v ++ x ∷ [])) p.workers) (omega (arith, noted_more w.noted v p.workers x h))
+    group_of-mono p.sizes (noted_count w.noted p.workers)
+    (noted_count (changed w.noted v (w.noted v ++ x ∷ [])) p.workers)
+    (omega (arith, noted_more w.noted v p.workers x h))
 
-pub counts_note : (p : Plan) (w : World) (v : ℕ) (x : Applied) → v < p.workers → w.stages v ≡ at.Applied x → Counts p w → Counts p (with_noted w v x)
+pub counts_note : (p : Plan) (w : World) (v : ℕ) (x : Applied) → v < p.workers → w.stages v ≡ at.Applied x → Counts p w
+    → Counts p (with_noted w v x)
 counts_note p w v x h stage c =
     let old : Stage = at.Applied x in
     let new : Stage = at.Idle in
     record {
       indexes = λ j.
-          let shift : held (has_index j) (changed w.stages v new) p.workers + 0 ≡ held (has_index j) w.stages p.workers + 0 = shifted (has_index j) w.stages v p.workers old new h stage in
+          let shift : held (has_index j) (changed w.stages v new) p.workers + 0
+          ≡ held (has_index j) w.stages p.workers + 0 =
+          shifted (has_index j) w.stages v p.workers old new h stage in
           omega (arith, shift, c.indexes j);
       ticks = λ n.
-          let shift : held (has_tick n) (changed w.stages v new) p.workers + 0 ≡ held (has_tick n) w.stages p.workers + 0 = shifted (has_tick n) w.stages v p.workers old new h stage in
+          let shift : held (has_tick n) (changed w.stages v new) p.workers + 0
+          ≡ held (has_tick n) w.stages p.workers + 0 = shifted (has_tick n) w.stages v p.workers old new h stage in
           omega (arith, shift, c.ticks n);
       claimed =
-          let shift : held is_busy (changed w.stages v new) p.workers + 1 ≡ held is_busy w.stages p.workers + 0 = shifted is_busy w.stages v p.workers old new h stage in
+          let shift : held is_busy (changed w.stages v new) p.workers + 1 ≡ held is_busy w.stages p.workers + 0 =
+          shifted is_busy w.stages v p.workers old new h stage in
           omega (arith, shift, c.claimed, noted_more w.noted v p.workers x h);
       ticked =
-          let shift : held is_claimed (changed w.stages v new) p.workers + 0 ≡ held is_claimed w.stages p.workers + 0 = shifted is_claimed w.stages v p.workers old new h stage in
+          let shift : held is_claimed (changed w.stages v new) p.workers + 0 ≡ held is_claimed w.stages p.workers + 0 =
+          shifted is_claimed w.stages v p.workers old new h stage in
           omega (arith, shift, c.ticked);
       applied =
-          let shift : held is_ticked (changed w.stages v new) p.workers + 0 ≡ held is_ticked w.stages p.workers + 0 = shifted is_ticked w.stages v p.workers old new h stage in
+          let shift : held is_ticked (changed w.stages v new) p.workers + 0 ≡ held is_ticked w.stages p.workers + 0 =
+          shifted is_ticked w.stages v p.workers old new h stage in
           omega (arith, shift, c.applied);
       within = c.within;
       current = λ i below. omega (arith, c.current i below, current_later p w v x h);

@@ -1,5 +1,6 @@
 -- The records of all workers are the applied ones.
-use Rattle.std.proofs.Common.{◌≡◌, ℕ, zero, suc, ◌<◌, List, [], ◌∷◌, ◌++◌, Option, Some, None, inl, inr, refl, sym, subst, ap, ◌∙◌, arith}
+use Rattle.std.proofs.Common.{◌≡◌, ℕ, zero, suc, ◌<◌, List, [], ◌∷◌, ◌++◌, Option, Some, None, inl, inr, refl, sym}
+use Rattle.std.proofs.Common.{subst, ap, ◌∙◌, arith}
 use Rattle.std.specs.Prelude.{IsPermutation}
 use Rattle.std.proofs.lemmas.Bool.{cases_eq}
 use Rattle.std.proofs.lemmas.List.{append-nil, append_assoc}
@@ -11,21 +12,27 @@ use Rattle.eve_stamps_schedule.specs.Events.{changed, with_owner, with_applied, 
 use Rattle.eve_stamps_schedule.proofs.Changes.{changed-here, changed-other}
 use Rattle.eve_stamps_schedule.proofs.Inserting.{permutation-placed}
 
-records_alike : (w x : World) (n : ℕ) → ((u : ℕ) → u < n → records_at x u ≡ records_at w u) → records_of x n ≡ records_of w n
+records_alike : (w x : World) (n : ℕ) → ((u : ℕ) → u < n → records_at x u ≡ records_at w u) → records_of x n
+    ≡ records_of w n
 records_alike w x zero h = refl
 records_alike w x (suc n) h =
-    ap (λ xs. xs ++ records_at x n) (records_alike w x n (λ u l. h u (omega arith))) ∙ ap (λ ys. records_of w n ++ ys) (h n (omega arith))
+    ap (λ xs. xs ++ records_at x n) (records_alike w x n (λ u l. h u (omega arith)))
+    ∙ ap (λ ys. records_of w n ++ ys) (h n (omega arith))
 
 -- ---- events that make no record
 
 -- a worker goes to another stage, at which it has as few records to note
-pub at_stage : (w x : World) (v : ℕ) (old new : Stage) → w.stages v ≡ old → pending new ≡ pending old → x.noted ≡ w.noted → x.stages ≡ changed w.stages v new
+pub at_stage : (w x : World) (v : ℕ) (old new : Stage) → w.stages v ≡ old → pending new ≡ pending old
+    → x.noted ≡ w.noted → x.stages ≡ changed w.stages v new
     → (u : ℕ) → records_at x u ≡ records_at w u
 at_stage w x v old new stage same noted stages u =
-    ap (λ (f : ℕ → List Applied). f u ++ pending (x.stages u)) noted ∙ ap (λ (f : ℕ → Stage). w.noted u ++ pending (f u)) stages
+    ap (λ (f : ℕ → List Applied). f u ++ pending (x.stages u)) noted
+    ∙ ap (λ (f : ℕ → Stage). w.noted u ++ pending (f u)) stages
     ∙ (elim (cases_eq u v) [
-      | inl e ↦ ap (λ k. w.noted u ++ pending (changed w.stages v new k)) e ∙ ap (λ s. w.noted u ++ pending s) (changed-here w.stages v new)
-          ∙ ap (λ xs. w.noted u ++ xs) same ∙ ap (λ s. w.noted u ++ pending s) (sym stage) ∙ ap (λ k. w.noted u ++ pending (w.stages k)) (sym e)
+      | inl e ↦ ap (λ k. w.noted u ++ pending (changed w.stages v new k)) e
+          ∙ ap (λ s. w.noted u ++ pending s) (changed-here w.stages v new)
+          ∙ ap (λ xs. w.noted u ++ xs) same ∙ ap (λ s. w.noted u ++ pending s) (sym stage)
+          ∙ ap (λ k. w.noted u ++ pending (w.stages k)) (sym e)
       | inr e ↦ ap (λ s. w.noted u ++ pending s) (changed-other w.stages v new u e)
     ])
 
@@ -33,7 +40,8 @@ pub at_owner : (w : World) (o owner : Option ℕ) (u : ℕ) → records_at (with
 at_owner w None owner u = refl
 at_owner w (Some s) owner u = refl
 
-pub at_note : (w : World) (v : ℕ) (x : Applied) → w.stages v ≡ at.Applied x → (u : ℕ) → records_at (with_noted w v x) u ≡ records_at w u
+pub at_note : (w : World) (v : ℕ) (x : Applied) → w.stages v ≡ at.Applied x → (u : ℕ) → records_at (with_noted w v x) u
+    ≡ records_at w u
 at_note w v x stage u =
     elim (cases_eq u v) [
       | inl e ↦
@@ -47,7 +55,8 @@ at_note w v x stage u =
           ∙ ap (λ s. w.noted u ++ pending s) (changed-other w.stages v at.Idle u e)
     ]
 
-pub gathered_alike : (w x : World) (n : ℕ) → ((u : ℕ) → records_at x u ≡ records_at w u) → IsPermutation (records_of w n) w.applied → IsPermutation (records_of x n) w.applied
+pub gathered_alike : (w x : World) (n : ℕ) → ((u : ℕ) → records_at x u ≡ records_at w u)
+    → IsPermutation (records_of w n) w.applied → IsPermutation (records_of x n) w.applied
 gathered_alike w x n h p = subst (λ xs. IsPermutation xs w.applied) (sym (records_alike w x n (λ u l. h u))) p
 
 -- ---- the event that makes one
@@ -66,7 +75,8 @@ more_by w v (suc n) x h none =
       | inl e ↦ record {
         front = records_of w n ++ w.noted n;
         back = [];
-        were = ap (λ k. records_of w n ++ (w.noted n ++ pending (w.stages k))) (sym e) ∙ ap (λ xs. records_of w n ++ (w.noted n ++ xs)) none
+        were = ap (λ k. records_of w n ++ (w.noted n ++ pending (w.stages k))) (sym e)
+            ∙ ap (λ xs. records_of w n ++ (w.noted n ++ xs)) none
             ∙ sym (append_assoc (records_of w n) (w.noted n) []);
         are = ap (λ xs. xs ++ records_at (with_applied w v x) n) (records_alike w (with_applied w v x) n (λ u l.
             ap (λ s. w.noted u ++ pending s) (changed-other w.stages v (at.Applied x) u (λ k. below_itself (k ∙ e) l))))
@@ -81,7 +91,8 @@ more_by w v (suc n) x h none =
             back = rest.back ++ records_at w n;
             were = ap (λ xs. xs ++ records_at w n) rest.were ∙ append_assoc rest.front rest.back (records_at w n);
             are = ap (λ xs. xs ++ records_at (with_applied w v x) n) rest.are
-                ∙ ap (λ s. (rest.front ++ x ∷ rest.back) ++ (w.noted n ++ pending s)) (changed-other w.stages v (at.Applied x) n (λ k. e (sym k)))
+                ∙ ap (λ s. (rest.front ++ x ∷ rest.back) ++ (w.noted n ++ pending s))
+                (changed-other w.stages v (at.Applied x) n (λ k. e (sym k)))
                 ∙ append_assoc rest.front (x ∷ rest.back) (records_at w n);
           }
     ]
@@ -89,7 +100,8 @@ more_by w v (suc n) x h none =
     below_itself : {m n : ℕ} → m ≡ n → m < n → ⊥
     below_itself e h = omega arith
 
-pub gathered_apply : (w : World) (v n : ℕ) (x : Applied) → v < n → pending (w.stages v) ≡ [] → IsPermutation (records_of w n) w.applied
+pub gathered_apply : (w : World) (v n : ℕ) (x : Applied) → v < n → pending (w.stages v) ≡ []
+    → IsPermutation (records_of w n) w.applied
     → IsPermutation (records_of (with_applied w v x) n) (placed x w.applied)
 gathered_apply w v n x h none p =
     let more = more_by w v n x h none in

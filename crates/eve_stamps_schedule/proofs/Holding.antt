@@ -1,5 +1,6 @@
 -- What every reached world keeps.
-use Rattle.std.proofs.Common.{◌≡◌, ℕ, ◌+◌, ◌<◌, ◌≤◌, Bool, true, false, cond, ◌==◌, nat_lt, List, [], map, length, count_by, Option, ◌⊎◌}
+use Rattle.std.proofs.Common.{◌≡◌, ℕ, ◌+◌, ◌<◌, ◌≤◌, Bool, true, false, cond, ◌==◌, nat_lt, List, [], map, length}
+use Rattle.std.proofs.Common.{count_by, Option, ◌⊎◌}
 use Rattle.std.specs.Prelude.{IsPermutation}
 use Rattle.std.specs.List.{AllByRecursion}
 use Rattle.eve_smallbank.specs.Access.{Executed}
@@ -66,8 +67,10 @@ ticks_of w = map (λ x. x.tick) w.applied
 
 -- each claimed index and each tick that was drawn is in one place
 pub record Counts (p : Plan) (w : World) : Type 0 where
-  pub indexes : (i : ℕ) → count_by (λ j. j == i) (order_of w) + held (has_index i) w.stages p.workers ≡ flag (nat_lt i w.claimed)
-  pub ticks : (n : ℕ) → count_by (λ m. m == n) (ticks_of w) + held (has_tick n) w.stages p.workers ≡ flag (nat_lt n w.counter)
+  pub indexes : (i : ℕ) → count_by (λ j. j == i) (order_of w) + held (has_index i) w.stages p.workers
+      ≡ flag (nat_lt i w.claimed)
+  pub ticks : (n : ℕ) → count_by (λ m. m == n) (ticks_of w) + held (has_tick n) w.stages p.workers
+      ≡ flag (nat_lt n w.counter)
   pub claimed : w.claimed ≡ noted_count w.noted p.workers + held is_busy w.stages p.workers
   pub ticked : w.claimed ≡ w.counter + held is_claimed w.stages p.workers
   pub applied : w.counter ≡ length w.applied + held is_ticked w.stages p.workers
@@ -93,7 +96,8 @@ abbrev pub IsReady : Plan → ℕ → ℕ → (ℕ → Option ℕ) → List Appl
 IsReady p counter current owners history v at.Idle = Unit {0}
 IsReady p counter current owners history v (at.Claimed i) = group_of p.sizes i ≡ current
 IsReady p counter current owners history v (at.Ticked i n) =
-    (n < counter) × (group_of p.sizes i ≡ current) × ((s : ℕ) → s < stripe_count → needs_at p i s ≡ true → is_owner v (owners s) ≡ true)
+    (n < counter) × (group_of p.sizes i ≡ current)
+    × ((s : ℕ) → s < stripe_count → needs_at p i s ≡ true → is_owner v (owners s) ≡ true)
     × AllByRecursion (λ x. Bound p x.index i → x.tick < n) history
 IsReady p counter current owners history v (at.Applied x) = Unit {0}
 

@@ -1,5 +1,6 @@
 -- Every reached world keeps it.
-use Rattle.std.proofs.Common.{◌≡◌, ℕ, zero, suc, ◌<◌, ◌≤◌, Bool, true, false, nat_lt, List, [], ◌∷◌, ◌++◌, Option, Some, None, refl, sym, subst, ap, ◌∙◌, arith}
+use Rattle.std.proofs.Common.{◌≡◌, ℕ, zero, suc, ◌<◌, ◌≤◌, Bool, true, false, nat_lt, List, [], ◌∷◌, ◌++◌, Option, Some}
+use Rattle.std.proofs.Common.{None, refl, sym, subst, ap, ◌∙◌, arith}
 use Rattle.std.specs.Prelude.{IsPermutation}
 use Rattle.std.specs.List.{AllByRecursion}
 use Rattle.std.proofs.lemmas.Bool.{and_parts, eq-eqb, ltb-true, le-ltb, cond-false, false≢true}
@@ -10,15 +11,19 @@ use Rattle.eve_stamps_schedule.specs.declared.event.Event.TheVariants.{Claim, Lo
 use Rattle.eve_stamps_schedule.specs.declared.stage.Stage.{Stage}
 use Rattle.eve_stamps_schedule.specs.declared.stage.Stage.TheVariants as at
 use Rattle.eve_stamps_schedule.specs.World.{Plan, World, begin, noted_count, pending, records_of}
-use Rattle.eve_stamps_schedule.specs.Events.{worker_of, next_stripe, last_stripe, with_owner, with_noted, made, may, is_allowed, then_happens, happens, are_allowed, world_after}
+use Rattle.eve_stamps_schedule.specs.Events.{worker_of, next_stripe, last_stripe, with_owner, with_noted, made, may}
+use Rattle.eve_stamps_schedule.specs.Events.{is_allowed, then_happens, happens, are_allowed, world_after}
 use Rattle.eve_stamps_schedule.proofs.Changes.{counted-at_least}
 use Rattle.eve_stamps_schedule.proofs.Inserting.{reordering-placed, rises-placed, none_counted}
-use Rattle.eve_stamps_schedule.proofs.Holding.{flag, held, is_busy, is_claimed, is_ticked, has_index, has_tick, Holds, IsKept}
+use Rattle.eve_stamps_schedule.proofs.Holding.{flag, held, is_busy, is_claimed, is_ticked, has_index, has_tick, Holds}
+use Rattle.eve_stamps_schedule.proofs.Holding.{IsKept}
 use Rattle.eve_stamps_schedule.proofs.Counting.{counts_claim, counts_tick, counts_apply, counts_note, counts_owner}
 use Rattle.eve_stamps_schedule.proofs.Gathering.{at_stage, at_owner, at_note, gathered_alike, gathered_apply}
-use Rattle.eve_stamps_schedule.proofs.Histories.{holds_claim, holds_lock, holds_tick, holds_apply, holds_unlock, holds_note}
+use Rattle.eve_stamps_schedule.proofs.Histories.{holds_claim, holds_lock, holds_tick, holds_apply, holds_unlock}
+use Rattle.eve_stamps_schedule.proofs.Histories.{holds_note}
 
-kept_owner : (p : Plan) (w : World) (o owner : Option ℕ) (kept : IsKept p w) → Holds p (with_owner w o owner) kept.history → IsKept p (with_owner w o owner)
+kept_owner : (p : Plan) (w : World) (o owner : Option ℕ) (kept : IsKept p w)
+    → Holds p (with_owner w o owner) kept.history → IsKept p (with_owner w o owner)
 kept_owner p w None owner kept holds = kept
 kept_owner p w (Some s) owner kept holds = record {
   counts = counts_owner p w (Some s) owner kept.counts;
@@ -34,13 +39,16 @@ at_most_one true = omega arith
 at_most_one false = omega arith
 
 -- no applied record has the tick of a worker that hasn't applied
-new_tick : (p : Plan) (w : World) (v i n : ℕ) → v < p.workers → w.stages v ≡ at.Ticked i n → IsKept p w → AllByRecursion (λ y. ¬ (y.tick ≡ n)) w.applied
+new_tick : (p : Plan) (w : World) (v i n : ℕ) → v < p.workers → w.stages v ≡ at.Ticked i n → IsKept p w
+    → AllByRecursion (λ y. ¬ (y.tick ≡ n)) w.applied
 new_tick p w v i n h stage kept =
     let one : 1 ≤ held (has_tick n) w.stages p.workers = subst (λ k. k ≤ held (has_tick n) w.stages p.workers)
-    (ap (λ s. flag (has_tick n s)) stage ∙ ap flag (eq-eqb n n (λ _. n))) (counted-at_least (λ s. flag (has_tick n s)) w.stages v p.workers h) in
+    (ap (λ s. flag (has_tick n s)) stage ∙ ap flag (eq-eqb n n (λ _. n)))
+    (counted-at_least (λ s. flag (has_tick n s)) w.stages v p.workers h) in
     none_counted (λ y. y.tick) n w.applied (omega (arith, kept.counts.ticks n, one, at_most_one (nat_lt n w.counter)))
 
-kept_event : (p : Plan) (w : World) (event : Event) (stage : Stage) → worker_of event < p.workers → w.stages (worker_of event) ≡ stage → may p w event stage ≡ true
+kept_event : (p : Plan) (w : World) (event : Event) (stage : Stage) → worker_of event < p.workers
+    → w.stages (worker_of event) ≡ stage → may p w event stage ≡ true
     → IsKept p w → IsKept p (then_happens p w event stage)
 kept_event p w (Claim v) at.Idle h stage allowed kept = record {
   counts = counts_claim p w v h stage allowed kept.counts;
@@ -48,17 +56,22 @@ kept_event p w (Claim v) at.Idle h stage allowed kept = record {
   holds = holds_claim p w v kept.history allowed kept.holds;
   same = kept.same;
   rises = kept.rises;
-  gathered = gathered_alike w (then_happens p w (Claim v) at.Idle) p.workers (at_stage w (then_happens p w (Claim v) at.Idle) v at.Idle (at.Claimed w.claimed) stage refl refl refl) kept.gathered;
+  gathered = gathered_alike w (then_happens p w (Claim v) at.Idle) p.workers
+      (at_stage w (then_happens p w (Claim v) at.Idle) v at.Idle (at.Claimed w.claimed) stage refl refl refl)
+      kept.gathered;
 }
 kept_event p w (LockStripe v) (at.Claimed i) h stage allowed kept =
-    kept_owner p w (next_stripe p w v i) (Some v) kept (holds_lock p w v (next_stripe p w v i) kept.history allowed kept.holds)
+    kept_owner p w (next_stripe p w v i) (Some v) kept
+    (holds_lock p w v (next_stripe p w v i) kept.history allowed kept.holds)
 kept_event p w (Tick v) (at.Claimed i) h stage allowed kept = record {
   counts = counts_tick p w v i h stage kept.counts;
   history = kept.history;
   holds = holds_tick p w v i kept.history h stage allowed kept.holds;
   same = kept.same;
   rises = kept.rises;
-  gathered = gathered_alike w (then_happens p w (Tick v) (at.Claimed i)) p.workers (at_stage w (then_happens p w (Tick v) (at.Claimed i)) v (at.Claimed i) (at.Ticked i w.counter) stage refl refl refl) kept.gathered;
+  gathered = gathered_alike w (then_happens p w (Tick v) (at.Claimed i)) p.workers
+      (at_stage w (then_happens p w (Tick v) (at.Claimed i)) v (at.Claimed i) (at.Ticked i w.counter) stage refl refl
+      refl) kept.gathered;
 }
 kept_event p w (Apply v) (at.Ticked i n) h stage allowed kept =
     let x : Applied = made p w v i n in
@@ -71,7 +84,8 @@ kept_event p w (Apply v) (at.Ticked i n) h stage allowed kept =
       gathered = gathered_apply w v p.workers x h (ap pending stage) kept.gathered;
     }
 kept_event p w (Unlock v) (at.Applied x) h stage allowed kept =
-    kept_owner p w (last_stripe w v) None kept (holds_unlock p w v x (last_stripe w v) kept.history stage refl kept.holds)
+    kept_owner p w (last_stripe w v) None kept
+    (holds_unlock p w v x (last_stripe w v) kept.history stage refl kept.holds)
 kept_event p w (Note v) (at.Applied x) h stage allowed kept = record {
   counts = counts_note p w v x h stage kept.counts;
   history = kept.history;
@@ -82,12 +96,14 @@ kept_event p w (Note v) (at.Applied x) h stage allowed kept = record {
 }
 kept_event p w _ _ h stage allowed kept = absurd (false≢true allowed)
 
-pub kept_allowed : (p : Plan) (w : World) (event : Event) → is_allowed p w event ≡ true → IsKept p w → IsKept p (happens p w event)
+pub kept_allowed : (p : Plan) (w : World) (event : Event) → is_allowed p w event ≡ true → IsKept p w
+    → IsKept p (happens p w event)
 kept_allowed p w event allowed kept =
     let parts = and_parts (nat_lt (worker_of event) p.workers) (may p w event (w.stages (worker_of event))) allowed in
     kept_event p w event (w.stages (worker_of event)) (ltb-true (worker_of event) p.workers parts.0) refl parts.1 kept
 
-kept_events : (p : Plan) (w : World) (events : List Event) → are_allowed p w events ≡ true → IsKept p w → IsKept p (world_after p w events)
+kept_events : (p : Plan) (w : World) (events : List Event) → are_allowed p w events ≡ true → IsKept p w
+    → IsKept p (world_after p w events)
 kept_events p w [] allowed kept = kept
 kept_events p w (event ∷ events) allowed kept =
     let parts = and_parts (is_allowed p w event) (are_allowed p (happens p w event) events) allowed in
@@ -124,11 +140,21 @@ kept_first p = record {
     current = λ i h. absurd (omega arith);
   };
   history = [];
-  holds = record { made = tt; follows = tt; table = refl; below = tt; ordered = tt; grouped = tt; passed = tt; ready = λ v h. tt };
+  holds = record {
+    made = tt;
+    follows = tt;
+    table = refl;
+    below = tt;
+    ordered = tt;
+    grouped = tt;
+    passed = tt;
+    ready = λ v h. tt;
+  };
   same = refl;
   rises = tt;
   gathered = subst (λ xs. IsPermutation xs []) (sym (no_records p p.workers)) (IsPermutation-refl []);
 }
 
-pub kept_after : (p : Plan) (events : List Event) → are_allowed p (begin p) events ≡ true → IsKept p (world_after p (begin p) events)
+pub kept_after : (p : Plan) (events : List Event) → are_allowed p (begin p) events ≡ true
+    → IsKept p (world_after p (begin p) events)
 kept_after p events allowed = kept_events p (begin p) events allowed (kept_first p)

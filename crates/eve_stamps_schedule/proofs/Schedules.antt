@@ -1,5 +1,6 @@
 -- Every schedule is serial in the order of its ticks, which keeps the parallelBatches.
-use Rattle.std.proofs.Common.{◌≡◌, ℕ, zero, suc, ◌<◌, ◌≤◌, true, false, ◌==◌, nat_lt, List, [], ◌∷◌, ◌++◌, map, length, count_by, refl, sym, subst, ap, ◌∙◌, ◌⊎◌, inl, inr, IsTrue, arith}
+use Rattle.std.proofs.Common.{◌≡◌, ℕ, zero, suc, ◌<◌, ◌≤◌, true, false, ◌==◌, nat_lt, List, [], ◌∷◌, ◌++◌, map, length}
+use Rattle.std.proofs.Common.{count_by, refl, sym, subst, ap, ◌∙◌, ◌⊎◌, inl, inr, IsTrue, arith}
 use Rattle.std.specs.Prelude.{IsPermutation}
 use Rattle.std.specs.List.{AllByRecursion, list_any}
 use Rattle.std.proofs.lemmas.Bool.{cases_Bool, cases_lt, and_left, eqb-true}
@@ -20,7 +21,8 @@ use Rattle.eve_stamps_schedule.specs.Before.{EachBefore}
 use Rattle.eve_stamps_schedule.specs.World.{Plan, World, request_at, executed_at, noted_count, records_of}
 use Rattle.eve_stamps_schedule.specs.Events.{needs_at}
 use Rattle.eve_stamps_schedule.specs.Serial.{IsReached, executed_in, IsSerial, order_of, is_done, IsComplete}
-use Rattle.eve_stamps_schedule.proofs.Holding.{flag, held, is_busy, has_index, Share, Bound, IsMade, executed, Holds, IsKept}
+use Rattle.eve_stamps_schedule.proofs.Holding.{flag, held, is_busy, has_index, Share, Bound, IsMade, executed, Holds}
+use Rattle.eve_stamps_schedule.proofs.Holding.{IsKept}
 use Rattle.eve_stamps_schedule.proofs.Sharing.{in_map, needed_by, stripe_below}
 use Rattle.eve_stamps_schedule.proofs.Keeping.{kept_after}
 use Rattle.eve_stamps_schedule.proofs.KeptGroups.{keeps}
@@ -48,10 +50,13 @@ each_at R x y [] each before = elim before [ ]
 each_at R x y (z ∷ xs) each (first i) = all_in (R x) each.0 i
 each_at R x y (z ∷ xs) each (later before) = each_at R x y xs each.1 before
 
-above_before : (p : Plan) (table : Table) (x y : Applied) (xs : List Applied) → Follows table (executed p xs) → Before x y xs → StandsAbove (executed_at p x) (executed_at p y)
+above_before : (p : Plan) (table : Table) (x y : Applied) (xs : List Applied) → Follows table (executed p xs)
+    → Before x y xs → StandsAbove (executed_at p x) (executed_at p y)
 above_before p table x y [] follows before = elim before [ ]
-above_before p table x y (z ∷ xs) follows (first i) = stands_above_head table (executed_at p x) (executed_at p y) (executed p xs) follows (in_map (executed_at p) i)
-above_before p table x y (z ∷ xs) follows (later before) = above_before p (table_after table z.entries) x y xs follows.1 before
+above_before p table x y (z ∷ xs) follows (first i) = stands_above_head table (executed_at p x) (executed_at p y)
+    (executed p xs) follows (in_map (executed_at p) i)
+above_before p table x y (z ∷ xs) follows (later before) = above_before p (table_after table z.entries) x y xs follows.1
+    before
 
 below_itself : {m n : ℕ} → m ≡ n → m < n → ⊥
 below_itself e h = omega arith
@@ -60,7 +65,8 @@ both_below : {m n : ℕ} → m < n → n < m → ⊥
 both_below h k = omega arith
 
 -- records that share no stripe have no row in common
-strangers : (p : Plan) (x y : Applied) → IsMade p x → IsMade p y → ¬ Share p x.index y.index → precedes (executed_at p y) (executed_at p x) ≡ false
+strangers : (p : Plan) (x y : Applied) → IsMade p x → IsMade p y → ¬ Share p x.index y.index
+    → precedes (executed_at p y) (executed_at p x) ≡ false
 strangers p x y mx my none =
     list_any-none (λ f. list_any (entry_precedes f) x.entries) y.entries
     (λ f j. list_any-none (entry_precedes f) x.entries (λ e i.
@@ -75,26 +81,31 @@ strangers p x y mx my none =
     ]))
 
 -- of two applied records the one with the greater tick doesn't precede the other
-agreeing : (p : Plan) (w : World) (h : List Applied) → Holds p w h → (x y : Applied) → In x h → In y h → x.tick < y.tick → precedes (executed_at p y) (executed_at p x) ≡ false
+agreeing : (p : Plan) (w : World) (h : List Applied) → Holds p w h → (x y : Applied) → In x h → In y h → x.tick < y.tick
+    → precedes (executed_at p y) (executed_at p x) ≡ false
 agreeing p w h holds x y i j less =
     elim (which_first i j) [
       | inl e ↦ absurd (below_itself (ap (λ (z : Applied). z.tick) e) less)
       | inr r ↦ elim r [
-        | inl before ↦ later_precedes_not (executed_at p x) (executed_at p y) (above_before p (visible_at p.base []) x y h holds.follows before)
+        | inl before ↦ later_precedes_not (executed_at p x) (executed_at p y)
+            (above_before p (visible_at p.base []) x y h holds.follows before)
         | inr after ↦ strangers p x y (all_in (IsMade p) holds.made i) (all_in (IsMade p) holds.made j)
-            (λ share. both_below (each_at (λ a b. Bound p a.index b.index → a.tick < b.tick) y x h holds.ordered after (inl (share.0, share.1, share.3, share.2))) less)
+            (λ share. both_below (each_at (λ a b. Bound p a.index b.index → a.tick < b.tick) y x h holds.ordered after
+            (inl (share.0, share.1, share.3, share.2))) less)
       ]
     ]
 
 -- and it isn't of an earlier parallelBatch
-in_turn : (p : Plan) (w : World) (h : List Applied) → Holds p w h → (x y : Applied) → In x h → In y h → x.tick < y.tick → group_of p.sizes x.index ≤ group_of p.sizes y.index
+in_turn : (p : Plan) (w : World) (h : List Applied) → Holds p w h → (x y : Applied) → In x h → In y h → x.tick < y.tick
+    → group_of p.sizes x.index ≤ group_of p.sizes y.index
 in_turn p w h holds x y i j less =
     elim (which_first i j) [
       | inl e ↦ absurd (below_itself (ap (λ (z : Applied). z.tick) e) less)
       | inr r ↦ elim r [
         | inl before ↦ each_at (λ a b. group_of p.sizes a.index ≤ group_of p.sizes b.index) x y h holds.grouped before
         | inr after ↦ elim (cases_lt (group_of p.sizes y.index) (group_of p.sizes x.index)) [
-          | inl low ↦ absurd (both_below (each_at (λ a b. Bound p a.index b.index → a.tick < b.tick) y x h holds.ordered after (inr low)) less)
+          | inl low ↦ absurd (both_below
+              (each_at (λ a b. Bound p a.index b.index → a.tick < b.tick) y x h holds.ordered after (inr low)) less)
           | inr high ↦ high
         ]
       ]
@@ -118,10 +129,13 @@ agrees : (xs : List Executed) → EachBefore (λ x y. precedes y x ≡ false) xs
 agrees [] each = tt
 agrees (x ∷ xs) each = (each.0, agrees xs each.1)
 
-fitting : (p : Plan) (xs : List Applied) → ((x : Applied) → In x xs → IsMade p x) → AllByRecursion (Fits p.names) (executed p xs)
+fitting : (p : Plan) (xs : List Applied) → ((x : Applied) → In x xs → IsMade p x)
+    → AllByRecursion (Fits p.names) (executed p xs)
 fitting p [] made = tt
-fitting p (x ∷ xs) made =
-    (subst (Fits p.names) (sym (made x here).1) (always_fits p.names (made x here).0 (request_at p x.index)), fitting p xs (λ y i. made y (there i)))
+fitting p (x ∷ xs) made = (
+  subst (Fits p.names) (sym (made x here).1) (always_fits p.names (made x here).0 (request_at p x.index)),
+  fitting p xs (λ y i. made y (there i)),
+)
 
 reordering_map : {A B : Type 0} (f : A → B) (xs ys : List A) → IsReordering xs ys → IsReordering (map f xs) (map f ys)
 reordering_map f [] ys r = ap (map f) r
@@ -135,9 +149,11 @@ reordering_map f (x ∷ xs) ys r = (
 serial_kept : (p : Plan) (w : World) → IsKept p w → IsSerial p w
 serial_kept p w kept =
     let holds = kept.holds in
-    let member : (x : Applied) → In x w.applied → In x kept.history = λ x i. in_after w.applied kept.history kept.same i in
+    let member : (x : Applied) → In x w.applied → In x kept.history =
+    λ x i. in_after w.applied kept.history kept.same i in
     let fit = fitting p w.applied (λ x i. all_in (IsMade p) holds.made (member x i)) in
-    let same = reordered (visible_at p.base []) (executed_in p w) (executed p kept.history) (reordering_map (executed_at p) w.applied kept.history kept.same)
+    let same = reordered (visible_at p.base []) (executed_in p w) (executed p kept.history)
+    (reordering_map (executed_at p) w.applied kept.history kept.same)
     (agrees (executed_in p w) (along (executed_at p) (λ x y. precedes y x ≡ false) w.applied kept.rises
     (λ x y i j less. agreeing p w kept.history holds x y (member x i) (member y j) less))) holds.follows in
     record {
@@ -145,7 +161,8 @@ serial_kept p w kept =
       fits = fit;
       chained = chain_follows p.base [] (executed_in p w) same.0;
       runs = run_along p.names (visible_at p.base []) (executed_in p w) fit same.0
-          ∙ ap (λ (t : Table). (bank_of p.names (values_of t), map (λ x. x.reply) (executed_in p w))) (sym (holds.table ∙ same.1));
+          ∙ ap (λ (t : Table). (bank_of p.names (values_of t), map (λ x. x.reply) (executed_in p w)))
+          (sym (holds.table ∙ same.1));
     }
 
 -- ---- when all is noted
@@ -163,18 +180,22 @@ no_less stages i (suc n) h =
     let before : held is_busy stages n ≡ 0 = omega (arith, h) in
     omega (arith, no_less stages i n before, idle_has_none i (stages n) here)
 
-groups_kept : (p : Plan) (w : World) → IsKept p w → is_done p w ≡ true → KeepsGroups p.sizes (length p.requests) (order_of w)
+groups_kept : (p : Plan) (w : World) → IsKept p w → is_done p w ≡ true
+    → KeepsGroups p.sizes (length p.requests) (order_of w)
 groups_kept p w kept done =
-    let all : noted_count w.noted p.workers ≡ length p.requests = eqb-true (noted_count w.noted p.workers) (length p.requests) done in
+    let all : noted_count w.noted p.workers ≡ length p.requests = eqb-true (noted_count w.noted p.workers)
+    (length p.requests) done in
     let idle : held is_busy w.stages p.workers ≡ 0 = omega (arith, all, kept.counts.claimed, kept.counts.within) in
     let claimed : w.claimed ≡ length p.requests = omega (arith, all, kept.counts.claimed, kept.counts.within) in
     keeps p.sizes (length p.requests) (order_of w)
     (λ i.
     let none = no_less w.stages i p.workers idle in
-    let once : count_by (λ j. j == i) (order_of w) ≡ flag (nat_lt i w.claimed) = omega (arith, none, kept.counts.indexes i) in
+    let once : count_by (λ j. j == i) (order_of w) ≡ flag (nat_lt i w.claimed) =
+    omega (arith, none, kept.counts.indexes i) in
     once ∙ ap (λ k. flag (nat_lt i k)) claimed)
     (along (λ x. x.index) (λ i j. group_of p.sizes i ≤ group_of p.sizes j) w.applied kept.rises
-    (λ x y i j less. in_turn p w kept.history kept.holds x y (in_after w.applied kept.history kept.same i) (in_after w.applied kept.history kept.same j) less))
+    (λ x y i j less. in_turn p w kept.history kept.holds x y (in_after w.applied kept.history kept.same i)
+    (in_after w.applied kept.history kept.same j) less))
 
 -- ---- of reached worlds
 

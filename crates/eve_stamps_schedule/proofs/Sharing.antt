@@ -23,18 +23,25 @@ in_map f here = here
 in_map f (there i) = there (in_map f i)
 
 -- a row that is among the rows lies in a stripe that one of them is in
-pub in_stripe : (rows : Rows) (row : ℕ) → In row (map (λ r. r.0) rows) → list_any (λ r. stripe_of r.0 == stripe_of row) rows ≡ true
+pub in_stripe : (rows : Rows) (row : ℕ) → In row (map (λ r. r.0) rows)
+    → list_any (λ r. stripe_of r.0 == stripe_of row) rows ≡ true
 in_stripe [] row i = elim i [ ]
-in_stripe (r ∷ rows) row here = ap (λ b. b || list_any (λ q. stripe_of q.0 == stripe_of r.0) rows) (eq-eqb (stripe_of r.0) (stripe_of r.0) (λ _. stripe_of r.0))
-in_stripe (r ∷ rows) row (there i) = or_right (stripe_of r.0 == stripe_of row) (list_any (λ q. stripe_of q.0 == stripe_of row) rows) (in_stripe rows row i)
+in_stripe (r ∷ rows) row here = ap (λ b. b || list_any (λ q. stripe_of q.0 == stripe_of r.0) rows)
+    (eq-eqb (stripe_of r.0) (stripe_of r.0) (λ _. stripe_of r.0))
+in_stripe (r ∷ rows) row (there i) = or_right (stripe_of r.0 == stripe_of row)
+    (list_any (λ q. stripe_of q.0 == stripe_of row) rows) (in_stripe rows row i)
 
-pub needed : (names : List (List ℕ)) (table : Table) (request : Request) (e : Entry) → In e (executed_on names table request).entries → needs names request (stripe_of e.row) ≡ true
+pub needed : (names : List (List ℕ)) (table : Table) (request : Request) (e : Entry)
+    → In e (executed_on names table request).entries → needs names request (stripe_of e.row) ≡ true
 needed names table request e i =
     in_stripe (rows_in (touched_of names request)) e.row
-    (subst (In e.row) (touches_rows names (executed_on names table request) (always_fits names table request)) (in_map (λ (f : Entry). f.row) i))
+    (subst (In e.row) (touches_rows names (executed_on names table request) (always_fits names table request))
+    (in_map (λ (f : Entry). f.row) i))
 
-pub needed_by : (p : Plan) (x : Applied) → IsMade p x → (e : Entry) → In e x.entries → needs_at p x.index (stripe_of e.row) ≡ true
-needed_by p x made e i = needed p.names made.0 (executed_at p x).request e (subst (λ (y : Executed). In e y.entries) made.1 i)
+pub needed_by : (p : Plan) (x : Applied) → IsMade p x → (e : Entry) → In e x.entries
+    → needs_at p x.index (stripe_of e.row) ≡ true
+needed_by p x made e i = needed p.names made.0 (executed_at p x).request e
+    (subst (λ (y : Executed). In e y.entries) made.1 i)
 
 pub stripe_below : (row : ℕ) → stripe_of row < stripe_count
 stripe_below row = omega arith

@@ -1,5 +1,6 @@
 -- The next stripe of a request whose rows lie in two stripes at most.
-use Rattle.std.proofs.Common.{◌≡◌, ℕ, ◌<◌, ◌≤◌, Bool, true, false, not, ◌&&◌, ◌||◌, ◌==◌, Some, None, refl, sym, ap, ap₂, ◌∙◌, inl, inr, arith}
+use Rattle.std.proofs.Common.{◌≡◌, ℕ, ◌<◌, ◌≤◌, Bool, true, false, not, ◌&&◌, ◌||◌, ◌==◌, Some, None, refl, sym, ap}
+use Rattle.std.proofs.Common.{ap₂, ◌∙◌, inl, inr, arith}
 use Rattle.std.proofs.lemmas.Bool.{cases_Bool, eqb-true, eq-eqb, ne_eqb, or_left, or_right, and_right}
 use Rattle.eve_stamps.specs.Opening.{stripe_count}
 use Rattle.eve_stamps_schedule.specs.Stripes.{least_from}
@@ -19,14 +20,17 @@ owned a b own = ap (λ c. a && not c) own ∙ and_right a false refl
 free : (a b : Bool) → a ≡ true → b ≡ false → (a && not b) ≡ true
 free a b need none = ap₂ (λ c d. c && not d) need none
 
-pub first_is_next : (test own : ℕ → Bool) (first last : ℕ) → AreEnds test first last → first ≤ last → last < stripe_count → own first ≡ false
+pub first_is_next : (test own : ℕ → Bool) (first last : ℕ) → AreEnds test first last → first ≤ last
+    → last < stripe_count → own first ≡ false
     → least_from 0 stripe_count (λ s. test s && not (own s)) ≡ Some first
 first_is_next test own first last ends rise small none =
     least_is 0 stripe_count (λ s. test s && not (own s)) first (omega arith) (omega arith)
-    (free (test first) (own first) (ends first ∙ or_left (first == first) (last == first) (eq-eqb first first refl)) none)
+    (free (test first) (own first) (ends first ∙ or_left (first == first) (last == first) (eq-eqb first first refl))
+    none)
     (λ r less. ap (λ b. b && not (own r)) (ends r ∙ neither first last r (λ e. omega arith) (λ e. omega arith)))
 
-pub last_is_next : (test own : ℕ → Bool) (first last : ℕ) → AreEnds test first last → first ≤ last → last < stripe_count → own first ≡ true → own last ≡ false
+pub last_is_next : (test own : ℕ → Bool) (first last : ℕ) → AreEnds test first last → first ≤ last → last < stripe_count
+    → own first ≡ true → own last ≡ false
     → least_from 0 stripe_count (λ s. test s && not (own s)) ≡ Some last
 last_is_next test own first last ends rise small has none =
     least_is 0 stripe_count (λ s. test s && not (own s)) last (omega arith) (omega arith)

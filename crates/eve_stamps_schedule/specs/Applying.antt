@@ -9,7 +9,8 @@ use Rattle.eve_stamps_schedule.specs.Schedule.{stripe_at}
 -- each stripe has the rows of its customers, of whom there are so many
 abbrev pub HaveTheirRows : ℕ → List Stripe → Type 0
 HaveTheirRows customers stripes =
-    (i row : ℕ) → i < stripe_count → has_row (stripe_at stripes i) row ≡ ((stripe_of row == i) && nat_lt row (2 * customers))
+    (i row : ℕ) → i < stripe_count → has_row (stripe_at stripes i) row
+    ≡ ((stripe_of row == i) && nat_lt row (2 * customers))
 
 -- no row is at the greatest version
 abbrev pub AreFresh : Table → Type 0

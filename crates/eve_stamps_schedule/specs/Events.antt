@@ -1,5 +1,6 @@
 -- What may happen next, and what the world is then. docs/MODEL.md, "Schedule".
-use Rattle.std.specs.Prelude.{ℕ, ◌+◌, nat_lt, ◌==◌, Bool, true, false, not, ◌&&◌, if◌then◌else◌, List, [], ◌∷◌, ◌++◌, length, Option, Some, None, is_some, is_none}
+use Rattle.std.specs.Prelude.{ℕ, ◌+◌, nat_lt, ◌==◌, Bool, true, false, not, ◌&&◌, if◌then◌else◌, List, [], ◌∷◌, ◌++◌}
+use Rattle.std.specs.Prelude.{length, Option, Some, None, is_some, is_none}
 use Rattle.eve_smallbank.specs.Chain.{table_after}
 use Rattle.eve_smallbank.specs.Execution.{executed_on}
 use Rattle.eve_grammar.specs.Certificate.{group_of}
@@ -90,7 +91,11 @@ placed x (y ∷ ys) = if nat_lt x.tick y.tick then x ∷ y ∷ ys else y ∷ pla
 -- the rows have what the record wrote
 abbrev pub with_applied : World → ℕ → Applied → World
 with_applied w v x =
-    record w { table = table_after w.table x.entries; stages = changed w.stages v (at.Applied x); applied = placed x w.applied }
+    record w {
+      table = table_after w.table x.entries;
+      stages = changed w.stages v (at.Applied x);
+      applied = placed x w.applied;
+    }
 
 -- the record goes to the end of the worker's list
 abbrev pub with_noted : World → ℕ → Applied → World
@@ -98,9 +103,11 @@ with_noted w v x = record w { stages = changed w.stages v at.Idle; noted = chang
 
 -- what an event does for its worker, who is at this stage
 abbrev pub then_happens : Plan → World → Event → Stage → World
-then_happens p w (Claim v) at.Idle = record w { claimed = w.claimed + 1; stages = changed w.stages v (at.Claimed w.claimed) }
+then_happens p w (Claim v) at.Idle =
+    record w { claimed = w.claimed + 1; stages = changed w.stages v (at.Claimed w.claimed) }
 then_happens p w (LockStripe v) (at.Claimed i) = with_owner w (next_stripe p w v i) (Some v)
-then_happens p w (Tick v) (at.Claimed i) = record w { counter = w.counter + 1; stages = changed w.stages v (at.Ticked i w.counter) }
+then_happens p w (Tick v) (at.Claimed i) =
+    record w { counter = w.counter + 1; stages = changed w.stages v (at.Ticked i w.counter) }
 then_happens p w (Apply v) (at.Ticked i n) = with_applied w v (made p w v i n)
 then_happens p w (Unlock v) (at.Applied x) = with_owner w (last_stripe w v) None
 then_happens p w (Note v) (at.Applied x) = with_noted w v x

@@ -1,5 +1,6 @@
 -- A schedule as contracts see it: what is executed, and the world so far. docs/MODEL.md, "Schedule".
-use Rattle.std.specs.Prelude.{◌≡◌, ℕ, ℤ, true, false, Bool, List, [], map, length, slice_index_or, Option, None, Result, Ok, Err}
+use Rattle.std.specs.Prelude.{◌≡◌, ℕ, ℤ, true, false, Bool, List, [], map, length, slice_index_or, Option, None, Result}
+use Rattle.std.specs.Prelude.{Ok, Err}
 use Rattle.eve_smallbank.specs.SmallBank.{Request}
 use Rattle.eve_smallbank.specs.Access.{balance_at}
 use Rattle.eve_smallbank.specs.Chain.{Table}
@@ -59,7 +60,13 @@ base_of stripes row = committed (stripe_at stripes (stripe_of row)) row
 
 abbrev pub plan_of : Schedule → Plan
 plan_of s =
-    record { names = s.names; base = base_of s.stripes; sizes = s.sizes; requests = s.requests; workers = length s.stages }
+    record {
+      names = s.names;
+      base = base_of s.stripes;
+      sizes = s.sizes;
+      requests = s.requests;
+      workers = length s.stages;
+    }
 
 abbrev pub world_of : Schedule → World
 world_of s = record {
@@ -91,6 +98,7 @@ takes_memory (Note worker) = true
 -- where the event isn't, and Memory only where it is allowed and takes memory; then nothing has changed.
 abbrev pub Steps : {A : Type 0} → Event → Schedule → Schedule → Result A StepFault → Type 0
 Steps event old new (Ok _) =
-    (allows old event ≡ true) × (plan_of new ≡ plan_of old) × (world_of new ≡ happens (plan_of old) (world_of old) event)
+    (allows old event ≡ true) × (plan_of new ≡ plan_of old)
+    × (world_of new ≡ happens (plan_of old) (world_of old) event)
 Steps event old new (Err fault.NotAllowed) = (allows old event ≡ false) × (new ≡ old)
 Steps event old new (Err fault.Memory) = (allows old event ≡ true) × (takes_memory event ≡ true) × (new ≡ old)

@@ -30,7 +30,8 @@ schedule_of s = record {
 -- that owns it.
 pub record IsTimely (count : ℕ) (owner : Option ℕ) (stages : List Stage) (greatest : Option ℕ) : Type 0 where
   pub counter : is_above count greatest ≡ true
-  pub owned : (v index tick : ℕ) → slice_index_or stages v at.Idle ≡ at.Ticked index tick → is_owner v owner ≡ true → is_above tick greatest ≡ true
+  pub owned : (v index tick : ℕ) → slice_index_or stages v at.Idle ≡ at.Ticked index tick → is_owner v owner ≡ true
+      → is_above tick greatest ≡ true
 
 -- so many records are noted, and the world is reached
 pub record IsHeld (s : Schedule) (count : ℕ) : Type 0 where
@@ -42,4 +43,5 @@ pub record IsHeld (s : Schedule) (count : ℕ) : Type 0 where
   pub reached : IsReached (plan_of s) (world_of s)
   pub opened : (row : ℕ) → (base_of s.stripes row).version ≡ 0
   pub rows : HaveTheirRows (length s.names) s.stripes
-  pub timely : (i : ℕ) → i < stripe_count → IsTimely s.counter (slice_index_or s.owners i None) s.stages (stripe_at s.stripes i).greatest
+  pub timely : (i : ℕ) → i < stripe_count → IsTimely s.counter (slice_index_or s.owners i None) s.stages
+      (stripe_at s.stripes i).greatest

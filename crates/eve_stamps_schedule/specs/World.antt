@@ -28,7 +28,15 @@ pub record World : Type 0 where
 
 -- the world at first
 abbrev pub begin : Plan → World
-begin p = record { table = p.base; owners = λ _. None; claimed = 0; counter = 0; stages = λ _. at.Idle; noted = λ _. []; applied = [] }
+begin p = record {
+  table = p.base;
+  owners = λ _. None;
+  claimed = 0;
+  counter = 0;
+  stages = λ _. at.Idle;
+  noted = λ _. [];
+  applied = [];
+}
 
 -- the request of an index
 abbrev pub request_at : Plan → ℕ → Request

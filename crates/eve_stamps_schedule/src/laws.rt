@@ -6,7 +6,8 @@ ghost use Rattle.eve_stamps_schedule.specs.declared.event.Event.TheVariants.{Cla
 ghost use Rattle.eve_stamps_schedule.specs.World.{Plan, World, begin, records_at, records_of};
 ghost use Rattle.eve_stamps_schedule.specs.Events.{is_allowed, happens, are_allowed};
 ghost use Rattle.eve_stamps_schedule.specs.Serial.{IsReached, IsSerial, AreNotedBy, order_of, is_done, IsComplete};
-ghost use Rattle.eve_stamps_schedule.specs.Worked.{same_stripe, two_groups, two_stripes, no_stripe, up_to_the_lock, the_rest_of, one_after_the_other, applied_out_of_order, world_of};
+ghost use Rattle.eve_stamps_schedule.specs.Worked.{same_stripe, two_groups, two_stripes, no_stripe, up_to_the_lock};
+ghost use Rattle.eve_stamps_schedule.specs.Worked.{the_rest_of, one_after_the_other, applied_out_of_order, world_of};
 
 /// Whatever events came, if each was allowed where it came, the applied records are serial in the order of their
 /// ticks, also where requests on different stripes were applied in another order.
@@ -60,7 +61,8 @@ pub fn ticks_order_what_is_applied()
 /// docs/MODEL.md, "Schedule".
 pub fn later_groups_wait()
     ensures waits { is_allowed two_groups (world_of two_groups (Claim 0 ∷ [])) (Claim 1) ≡ false }
-    ensures follows { is_allowed two_groups (world_of two_groups (Claim 0 ∷ LockStripe 0 ∷ the_rest_of 0)) (Claim 1) ≡ true }
+    ensures follows { is_allowed two_groups (world_of two_groups (Claim 0 ∷ LockStripe 0 ∷ the_rest_of 0)) (Claim 1)
+        ≡ true }
 {}
 
 /// A request that touches no row needs no stripe, and a worker that isn't there may do nothing.

@@ -2,7 +2,8 @@
 
 ghost use Rattle.std.specs.Prelude.{◌≡◌, ◌<◌, ◌≤◌, ℕ, List, length, is_none};
 ghost use Rattle.eve_smallbank.specs.SmallBank.{plain};
-ghost use Rattle.eve_stamps_schedule.specs.declared.event.Event.TheVariants.{Claim, LockStripe, Tick, Apply, Unlock, Note};
+ghost use Rattle.eve_stamps_schedule.specs.declared.event.Event.TheVariants.{Claim, LockStripe, Tick, Apply, Unlock};
+ghost use Rattle.eve_stamps_schedule.specs.declared.event.Event.TheVariants.{Note};
 ghost use Rattle.eve_stamps_schedule.specs.declared.stage.Stage.TheVariants.{Claimed, Ticked};
 ghost use Rattle.eve_stamps_schedule.specs.World.{request_at};
 ghost use Rattle.eve_stamps_schedule.specs.Events.{may_claim as may_claim_now, next_stripe as next_stripe_of};

@@ -1,21 +1,139 @@
-//! Tickets: two threads that draw from the same ones, and what each call gives where seats are given out and back.
+//! Tickets: what each call gives where seats are given out and back, and two threads that draw from the same ones.
 
-ghost use Rattle.std.specs.Prelude.{◌≡◌};
-ghost use Rattle.eve_recorder.specs.Drawing.{Drawer};
+ghost use Rattle.std.specs.Prelude.{◌≡◌, ◌≤◌};
 
-use eve_recorder::{TicketSeat, Tickets};
-use std::test::Fail;
-use std::thread;
+use crate::seen::Seen;
+use eve_recorder::{TicketSeat, TicketSeats, Tickets};
+use std::alloc::{AllocError, Global};
+use std::thread::{Threads, join};
 
-/// Draws three times.
-fn draw_three(tickets: &Tickets, mut seat: TicketSeat) -> (TicketSeat, [Option<u64>; 3])
+/// Tickets with those of their seats that aren't given out.
+#[derive(Drop)]
+struct Counter {
+    tickets: Tickets,
+    seats: TicketSeats,
+    ghost own: { seats.tickets ≡ tickets },
+}
+
+/// Tickets with so many seats, at most 8, and so many numbers for each, at most 256. Where memory is refused, it is
+/// asked for once more.
+fn counter_of(alloc: Global, seats: u8, limit: u64) -> Result<Counter, AllocError> {
+    if 8 < seats || 256 < limit {
+        return Err(AllocError);
+    }
+    match fresh_counter(alloc, seats, limit) {
+        Err(AllocError) => fresh_counter(alloc, seats, limit),
+        counter => counter,
+    }
+}
+
+fn fresh_counter(alloc: Global, seats: u8, limit: u64) -> Result<Counter, AllocError>
+    requires { (seats ≤ 8) × (limit ≤ 256) }
+{
+    let (tickets, seats) = Tickets::new(alloc, seats, limit)?;
+    Ok(Counter { tickets, seats })
+}
+
+impl Counter {
+    /// Whether the seat with this number is there, once, and its next draw gives this.
+    fn draws(&mut self, number: u8, due: Option<u64>) -> bool {
+        let Some(mut seat) = self.seats.seat(number) else {
+            return false;
+        };
+        let is_there_once = self.seats.seat(number).is_none();
+        let drawn = self.tickets.draw(&mut seat);
+        self.seats.give_back(seat);
+        is_there_once && drawn == due
+    }
+
+    /// How many numbers were drawn, None where a seat is missing.
+    fn close(self) -> Option<u64> {
+        let Counter { tickets, seats } = self;
+        if !seats.whole() {
+            return None;
+        }
+        Some(tickets.close(seats))
+    }
+}
+
+/// Each of eight seats is there once, and again once it is back; there is no ninth.
+pub fn eight_seats(alloc: Global) -> Result<Seen, AllocError> {
+    let mut seen = Seen::nothing();
+    let mut counter = counter_of(alloc, 8, 2)?;
+    for number in 0..8u8 {
+        seen.want(counter.seats.whole(), "all seats are there");
+        let due = Some(u64::from(number));
+        seen.want(
+            counter.draws(number, due),
+            "a seat is there and draws the next number",
+        );
+    }
+    seen.want(!counter.draws(8, None), "there is no ninth seat");
+    seen.want(counter.close() == Some(8), "eight numbers were drawn");
+    Ok(seen)
+}
+
+/// Where a seat may draw nothing, its first draw is none.
+pub fn limit_zero(alloc: Global) -> Result<Seen, AllocError> {
+    let mut seen = Seen::nothing();
+    let mut counter = counter_of(alloc, 1, 0)?;
+    seen.want(counter.draws(0, None), "the first draw is none");
+    seen.want(!counter.draws(1, None), "there is no second seat");
+    seen.want(counter.close() == Some(0), "no number was drawn");
+    Ok(seen)
+}
+
+/// What three draws on a seat gave.
+#[derive(Drop)]
+struct Three {
+    seat: TicketSeat,
+    drawn: [Option<u64>; 3],
+}
+
+fn draw_three(tickets: &Tickets, mut seat: TicketSeat) -> Three
     requires { seat.tickets ≡ tickets.now }
-    ensures { result.0.tickets ≡ tickets.now }
+    ensures { result.seat.tickets ≡ tickets.now }
 {
     let first = tickets.draw(&mut seat);
     let second = tickets.draw(&mut seat);
     let third = tickets.draw(&mut seat);
-    (seat, [first, second, third])
+    Three {
+        seat,
+        drawn: [first, second, third],
+    }
+}
+
+/// What two threads drew.
+#[derive(Drop)]
+struct Both {
+    one: Three,
+    two: Three,
+}
+
+/// Three draws on each of two seats, in two threads.
+fn draw_at_once<R: Threads + Sync>(
+    rt: &R,
+    tickets: &Tickets,
+    one: TicketSeat,
+    two: TicketSeat,
+) -> Both
+    requires one { one.tickets ≡ tickets.now }
+    requires two { two.tickets ≡ tickets.now }
+    ensures one { result.one.seat.tickets ≡ tickets.now }
+    ensures two { result.two.seat.tickets ≡ tickets.now }
+{
+    let (one, two) = join(
+        rt,
+        move ||
+            requires { one.tickets ≡ tickets.now }
+            ensures { result.seat.tickets ≡ tickets.entry.now }
+        { draw_three(tickets, one) },
+        move ||
+            requires { two.tickets ≡ tickets.now }
+            ensures { result.seat.tickets ≡ tickets.entry.now }
+        { draw_three(tickets, two) },
+    );
+    Both { one, two }
 }
 
 /// How often a number was drawn, here and there.
@@ -26,72 +144,32 @@ fn times(here: &[Option<u64>], there: &[Option<u64>], number: u64) -> usize {
         .count()
 }
 
-/// The worked case `tickets-two-seats`: six draws are 0 to 5, each once; a seventh is none.
-#[test]
-fn tickets_two_seats(rt: HostRuntime) -> Result<(), Fail> {
-    let (tickets, mut seats) = Tickets::new(rt.alloc(), 2, 3)?;
-    let shared = &tickets;
-    let Some(one) = seats.seat(0) else {
-        panic!(rt; "seat 0 is not there")
-    };
-    let Some(two) = seats.seat(1) else {
-        panic!(rt; "seat 1 is not there")
-    };
-    assert!(rt; !seats.whole());
-    let (left, right) = thread::join(
-        &rt,
-        move ||
-            requires { one.tickets ≡ shared.now }
-            ensures { result.0.tickets ≡ shared.entry.now }
-        { draw_three(shared, one) },
-        move ||
-            requires { two.tickets ≡ shared.now }
-            ensures { result.0.tickets ≡ shared.entry.now }
-        { draw_three(shared, two) },
-    );
-    let (mut one, here) = left;
-    let (two, there) = right;
-    for number in 0..6 {
-        assert_eq!(rt; times(&here, &there, number), 1, "at {number}");
-    }
-    assert_eq!(rt; tickets.draw(&mut one), None);
-    seats.give_back(one);
-    seats.give_back(two);
-    assert!(rt; seats.whole());
-    assert_eq!(rt; tickets.close(seats), 6);
-    Ok(())
-}
-
-/// Each of eight seats is there once, and again once it is back; there is no ninth.
-#[test]
-fn gives_out_eight_seats(rt: HostRuntime) -> Result<(), Fail> {
-    let (tickets, mut seats) = Tickets::new(rt.alloc(), 8, 2)?;
-    for k in 0..8u8 {
-        assert!(rt; seats.whole());
-        let Some(mut seat) = seats.seat(k) else {
-            panic!(rt; "seat {k} is not there")
+impl Counter {
+    /// Two threads draw three numbers each, on the first two seats. Whether these are 0 to 5, each once.
+    fn draws_by_two<R: Threads + Sync>(&mut self, rt: &R) -> bool {
+        let Some(one) = self.seats.seat(0) else {
+            return false;
         };
-        assert!(rt; seats.seat(k).is_none());
-        assert_eq!(rt; tickets.draw(&mut seat), Some(u64::from(k)));
-        seats.give_back(seat);
+        let Some(two) = self.seats.seat(1) else {
+            self.seats.give_back(one);
+            return false;
+        };
+        let Both { one, two } = draw_at_once(rt, &self.tickets, one, two);
+        let here = one.drawn;
+        let there = two.drawn;
+        self.seats.give_back(one.seat);
+        self.seats.give_back(two.seat);
+        (0..6).all(|number| times(&here, &there, number) == 1)
     }
-    assert!(rt; seats.seat(8).is_none());
-    assert!(rt; seats.whole());
-    assert_eq!(rt; tickets.close(seats), 8);
-    Ok(())
 }
 
-/// Where a seat may draw nothing, its first draw is none.
-#[test]
-fn draws_none_at_limit_zero(rt: HostRuntime) -> Result<(), Fail> {
-    let (tickets, mut seats) = Tickets::new(rt.alloc(), 1, 0)?;
-    assert!(rt; seats.seat(1).is_none());
-    let Some(mut seat) = seats.seat(0) else {
-        panic!(rt; "seat 0 is not there")
-    };
-    assert_eq!(rt; tickets.draw(&mut seat), None);
-    seats.give_back(seat);
-    assert!(rt; seats.whole());
-    assert_eq!(rt; tickets.close(seats), 0);
-    Ok(())
+/// Six draws of two threads are 0 to 5, each once; a seventh is none.
+pub fn two_seats<R: Threads + Sync>(rt: &R, alloc: Global) -> Result<Seen, AllocError> {
+    let mut seen = Seen::nothing();
+    let mut counter = counter_of(alloc, 2, 3)?;
+    seen.want(counter.draws_by_two(rt), "each number is drawn once");
+    seen.want(counter.draws(0, None), "there is no more on the first seat");
+    seen.want(counter.draws(1, None), "nor on the second");
+    seen.want(counter.close() == Some(6), "six numbers were drawn");
+    Ok(seen)
 }

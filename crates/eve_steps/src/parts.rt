@@ -1,14 +1,19 @@
 //! Customers and batches, in few words.
 
-use eve_accounts::{Amount, Balances, Cents, Names, Row};
+use eve_accounts::{Amount, Balances, Cents, Name, Names, Row};
 use eve_stamps_schedule::Schedule;
 use eve_write::{BatchData, RequestData, TransactionData};
 use std::alloc::{AllocError, Global};
 use std::hash::RandomState;
-use std::test::Fail;
+use std::io;
 
 /// The names of all customers, one letter each.
 const LETTERS: &[u8] = b"abcdefghijklmnopqrst";
+
+/// Why a case can't go on, where it isn't for want of memory.
+pub(crate) fn stopped() -> io::Error {
+    io::Error::other("the case can't go on")
+}
 
 /// The name of a customer, by number; past the last customer one that nobody has.
 pub(crate) fn name_of(customer: u8) -> &'static [u8] {
@@ -25,24 +30,26 @@ pub(crate) fn names(
     alloc: Global,
     random: RandomState,
     customers: u8,
-) -> Result<Names<'static>, Fail> {
+) -> io::Result<Names<'static>> {
     let mut names = Names::new(alloc, random, 100);
     for customer in 0..customers {
-        names
-            .add(name_of(customer))
-            .ok()
-            .ok_or("no room for a name")?;
+        if names.add(name_of(customer)).is_err() {
+            return Err(stopped());
+        }
     }
     Ok(names)
 }
 
 /// So many cents.
-pub(crate) fn cents(value: i64) -> Result<Cents, Fail> {
-    Ok(Cents::new(value).ok_or("no balance")?)
+pub(crate) fn cents(value: i64) -> io::Result<Cents> {
+    match Cents::new(value) {
+        Some(cents) => Ok(cents),
+        None => Err(stopped()),
+    }
 }
 
 /// The balance of a row, from the list of all.
-fn set_from(balances: &mut Balances, row: Row, values: &[i64]) -> Result<(), Fail> {
+fn set_from(balances: &mut Balances, row: Row, values: &[i64]) -> io::Result<()> {
     let place = row.number() as usize;
     let value = values.get(place).copied().unwrap_or(0);
     if place < balances.len() {
@@ -52,7 +59,7 @@ fn set_from(balances: &mut Balances, row: Row, values: &[i64]) -> Result<(), Fai
 }
 
 /// These balances, by row, of 20 customers at most.
-pub(crate) fn balances(alloc: Global, values: &[i64]) -> Result<Balances, Fail> {
+pub(crate) fn balances(alloc: Global, values: &[i64]) -> io::Result<Balances> {
     let mut balances = Balances::new(alloc, values.len())?;
     for customer in 0..20 {
         set_from(&mut balances, Row::saving(customer), values)?;
@@ -71,39 +78,43 @@ pub(crate) enum Ask {
     Check(u8, i64),
 }
 
-fn name(alloc: Global, customer: u8) -> Result<Vec<u8>, AllocError> {
-    Vec::from_slice(alloc, name_of(customer))
+fn name(customer: u8) -> io::Result<Name> {
+    match Name::new(name_of(customer)) {
+        Some(name) => Ok(name),
+        None => Err(stopped()),
+    }
 }
 
 /// An amount of so many cents.
-pub(crate) fn amount(value: i64) -> Result<Amount, Fail> {
-    Ok(Amount::new(value).ok_or("no amount")?)
+pub(crate) fn amount(value: i64) -> io::Result<Amount> {
+    match Amount::new(value) {
+        Some(amount) => Ok(amount),
+        None => Err(stopped()),
+    }
 }
 
 /// What is asked for, as a transaction.
-pub(crate) fn transaction(alloc: Global, ask: Ask) -> Result<TransactionData, Fail> {
+pub(crate) fn transaction(ask: Ask) -> io::Result<TransactionData> {
     Ok(match ask {
-        Ask::Balance(customer) => TransactionData::Balance(name(alloc, customer)?),
+        Ask::Balance(customer) => TransactionData::Balance(name(customer)?),
         Ask::Deposit(customer, value) => {
-            TransactionData::DepositChecking(name(alloc, customer)?, amount(value)?)
+            TransactionData::DepositChecking(name(customer)?, amount(value)?)
         }
         Ask::Saving(customer, value) => {
-            TransactionData::TransactSaving(name(alloc, customer)?, amount(value)?)
+            TransactionData::TransactSaving(name(customer)?, amount(value)?)
         }
-        Ask::Amalgamate(from, to) => {
-            TransactionData::Amalgamate(name(alloc, from)?, name(alloc, to)?)
-        }
+        Ask::Amalgamate(from, to) => { TransactionData::Amalgamate(name(from)?, name(to)?) }
         Ask::Check(customer, value) => {
-            TransactionData::WriteCheck(name(alloc, customer)?, amount(value)?)
+            TransactionData::WriteCheck(name(customer)?, amount(value)?)
         }
     })
 }
 
 /// A batch with these parallelBatches.
-pub(crate) fn batch(alloc: Global, sizes: &[u16], asks: &[Ask]) -> Result<BatchData, Fail> {
+pub(crate) fn batch(alloc: Global, sizes: &[u16], asks: &[Ask]) -> io::Result<BatchData> {
     let mut requests = Vec::new(alloc);
     for (place, ask) in asks.iter().enumerate() {
-        let transaction = transaction(alloc, *ask)?;
+        let transaction = transaction(*ask)?;
         requests.push(RequestData {
             client: 7,
             number: place as u64,
@@ -123,14 +134,17 @@ pub(crate) fn opened<'s>(
     balances: &Balances,
     batch: &'s BatchData,
     workers: u8,
-) -> Result<Schedule<'s>, Fail> {
+) -> io::Result<Schedule<'s>> {
     if 65536 <= batch.requests.len() {
-        return Err("too many requests".into());
+        return Err(stopped());
     }
     if balances.len() != 2 * names.len() {
-        return Err("not two rows for each name".into());
+        return Err(stopped());
     }
-    Ok(Schedule::new(alloc, names, balances, batch, workers)?)
+    match Schedule::new(alloc, names, balances, batch, workers) {
+        Err(AllocError) => Ok(Schedule::new(alloc, names, balances, batch, workers)?),
+        Ok(schedule) => Ok(schedule),
+    }
 }
 
 /// Customers with their balances, and a batch.

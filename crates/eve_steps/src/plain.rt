@@ -5,7 +5,7 @@ use eve_accounts::Row;
 use eve_smallbank::{Abort, Entry, Kind, Reply, UpToThree};
 use eve_stamps_schedule::Event;
 use std::alloc::{AllocError, Global};
-use std::test::Fail;
+use std::io;
 
 /// How many customers there are.
 pub(crate) const CUSTOMERS: u8 = 20;
@@ -260,7 +260,7 @@ impl<'a> Plain<'a> {
         last
     }
 
-    fn made(&mut self, worker: u8, index: u16, tick: u64) -> Result<Made, Fail> {
+    fn made(&mut self, worker: u8, index: u16, tick: u64) -> io::Result<Made> {
         let done = self.does(self.ask_at(index));
         let mut entries = UpToThree::new();
         for row in done.rows {
@@ -304,7 +304,7 @@ impl<'a> Plain<'a> {
     }
 
     /// Whether the event is allowed. If it is, it happens.
-    pub(crate) fn step(&mut self, event: Event) -> Result<bool, Fail> {
+    pub(crate) fn step(&mut self, event: Event) -> io::Result<bool> {
         let worker = event.worker();
         let Some(stage) = self.stages.get(worker as usize).copied() else {
             return Ok(false);

@@ -4,13 +4,16 @@ ghost use Rattle.std.specs.Prelude.{◌<◌};
 
 use crate::parts::{Ask, Plan, balances, batch, names, opened};
 use crate::plain::{CUSTOMERS, Made, Plain};
+use crate::seen::Seen;
+use crate::worked::{ordered, stepped};
 use eve_stamps::AccessRecord;
 use eve_stamps_schedule::{Event, Schedule, StepFault};
 use rand_core::Rng;
 use rand_pcg::Pcg32;
 use std::alloc::{AllocError, Global};
 use std::hash::RandomState;
-use std::test::Fail;
+use std::io;
+use std::random::RandomSource;
 
 /// A number below the limit.
 fn below(rng: &mut Pcg32, limit: u32) -> u32
@@ -96,82 +99,118 @@ fn draw(alloc: Global, rng: &mut Pcg32) -> Result<Drawn, AllocError> {
     })
 }
 
-/// Draws 600 events, and compares step by step.
+/// Draws 600 events. What differs, step by step, if anything does.
 fn compare_steps(
     rng: &mut Pcg32,
     schedule: &mut Schedule,
     plain: &mut Plain,
     workers: u8,
-) -> Result<(), Fail> {
+) -> io::Result<Option<&'static str>> {
     for _ in 0..600 {
         let event = event(rng, workers);
-        let answer = schedule.step(event);
+        let answer = stepped(schedule, event);
         let wanted = if plain.step(event)? {
             Ok(())
         } else {
             Err(StepFault::NotAllowed)
         };
         if answer != wanted || schedule.done() != plain.done() {
-            return Err("a step differs".into());
+            return Ok(Some("a step differs"));
         }
     }
-    Ok(())
+    Ok(None)
 }
 
-/// Compares what the workers noted.
-fn compare_noted(alloc: Global, schedule: &Schedule, plain: &Plain) -> Result<(), Fail> {
+/// What of the workers' notes differs, if anything does.
+fn compare_noted(
+    alloc: Global,
+    schedule: &Schedule,
+    plain: &Plain,
+) -> Result<Option<&'static str>, AllocError> {
     let mut worker: u8 = 0;
     for noted in plain.noted.as_slice() {
         if schedule.workers() <= worker as usize {
-            return Err("no such worker".into());
+            return Ok(Some("no such worker"));
         }
         if &all_shown(alloc, schedule.noted(worker))? != noted {
-            return Err("what a worker noted differs".into());
+            return Ok(Some("what a worker noted differs"));
         }
         worker = worker.wrapping_add(1);
     }
-    Ok(())
+    Ok(None)
 }
 
-/// Draws a batch and a list of events, and compares. Whether every request is noted at the end.
-fn compared(rt: &HostRuntime, seed: u64) -> Result<bool, Fail> {
-    let alloc = rt.alloc();
+/// What comes of a batch and a list of events: whether every request is noted at the end, and what differs.
+#[derive(Clone, Copy)]
+struct Outcome {
+    is_done: bool,
+    differs: Option<&'static str>,
+}
+
+/// Draws events for a batch, and compares.
+fn compared(
+    alloc: Global,
+    rng: &mut Pcg32,
+    plan: &Plan,
+    drawn: &Drawn,
+    workers: u8,
+) -> io::Result<Outcome> {
+    let mut schedule = opened(alloc, &plan.names, &plan.balances, &plan.batch, workers)?;
+    let mut plain = plain_of(alloc, drawn, workers)?;
+    let mut differs = compare_steps(rng, &mut schedule, &mut plain, workers)?;
+    if differs.is_none() {
+        differs = compare_noted(alloc, &schedule, &plain)?;
+    }
+    if ordered(alloc, &schedule)? != plain.order(alloc)? {
+        differs = Some("the order differs");
+    }
+    Ok(Outcome {
+        is_done: schedule.done(),
+        differs,
+    })
+}
+
+fn plain_of<'d>(alloc: Global, drawn: &'d Drawn, workers: u8) -> Result<Plain<'d>, AllocError> {
+    let values = drawn.values.as_slice();
+    Plain::new(
+        alloc,
+        values,
+        drawn.sizes.as_slice(),
+        drawn.asks.as_slice(),
+        workers,
+    )
+}
+
+/// The batch that is drawn, with its customers.
+fn plan_of(alloc: Global, random: RandomState, drawn: &Drawn) -> io::Result<Plan> {
+    Ok(Plan {
+        names: names(alloc, random, CUSTOMERS)?,
+        balances: balances(alloc, drawn.values.as_slice())?,
+        batch: batch(alloc, drawn.sizes.as_slice(), drawn.asks.as_slice())?,
+    })
+}
+
+/// Draws a batch and a list of events, and compares.
+fn drawn_and_compared<R: AllocGlobal + RandomSource>(rt: &R, seed: u64) -> io::Result<Outcome> {
     let mut rng = Pcg32::new(seed, 54);
     let workers = 1 + below(&mut rng, 4) as u8;
-    let Drawn {
-        values,
-        sizes,
-        asks,
-    } = draw(alloc, &mut rng)?;
-    let plan = Plan {
-        names: names(alloc, RandomState::new(rt)?, CUSTOMERS)?,
-        balances: balances(alloc, values.as_slice())?,
-        batch: batch(alloc, sizes.as_slice(), asks.as_slice())?,
-    };
-    let mut schedule = opened(alloc, &plan.names, &plan.balances, &plan.batch, workers)?;
-    let mut plain = Plain::new(
-        alloc,
-        values.as_slice(),
-        sizes.as_slice(),
-        asks.as_slice(),
-        workers,
-    )?;
-    compare_steps(&mut rng, &mut schedule, &mut plain, workers)?;
-    compare_noted(alloc, &schedule, &plain)?;
-    if schedule.order(alloc)? != plain.order(alloc)? {
-        return Err("the order differs".into());
-    }
-    Ok(schedule.done())
+    let drawn = draw(rt.alloc(), &mut rng)?;
+    let plan = plan_of(rt.alloc(), RandomState::new(rt)?, &drawn)?;
+    compared(rt.alloc(), &mut rng, &plan, &drawn, workers)
 }
 
-#[test]
-fn random_events_as_the_lists_have_them(rt: HostRuntime) -> Result<(), Fail> {
+/// So many lists of events. They come far enough: more than half of the schedules are carried out whole.
+pub fn random_events<R: AllocGlobal + RandomSource>(rt: &R, count: u32) -> io::Result<Seen> {
+    let mut seen = Seen::nothing();
     let mut done: u32 = 0;
-    for seed in 0..1000 {
-        let all = compared(&rt, seed)?;
-        done = done.wrapping_add(u32::from(all));
+    for seed in 0..u64::from(count) {
+        let compared = drawn_and_compared(rt, seed)?;
+        done = done.wrapping_add(u32::from(compared.is_done));
+        match compared.differs {
+            Some(what) => seen.want(false, what),
+            None => seen.want(true, ""),
+        }
     }
-    // They come far enough: most schedules are carried out whole.
-    assert!(rt; 500 < done);
-    Ok(())
+    seen.want(count / 2 < done, "half are carried out whole");
+    Ok(seen)
 }

@@ -1,14 +1,100 @@
 //! Recorders: a queue that is filled and drained, and eight threads that note while another takes.
 
-ghost use Rattle.std.specs.Prelude.{◌≡◌, ◌∷◌, ◌++◌, [], All, IfOk, IfSome, length};
+ghost use Rattle.std.specs.Prelude.{◌≡◌, ◌≤◌, ◌∷◌, ◌++◌, [], All, IfOk, IfSome, length};
 
+use crate::seen::Seen;
 use eve_recorder::{NoteFault, Recorder, Seats, TakerSeat, WorkerSeat};
 use eve_smallbank::Abort;
 use eve_stamps::{AccessRecord, untouched};
 use std::alloc::{AllocError, Global};
 use std::sync::Wait;
-use std::test::Fail;
 use std::thread::{Threads, for_each_mut, join, yield_now};
+
+/// A recorder with those of its seats that aren't given out.
+#[derive(Drop)]
+struct Desk {
+    recorder: Recorder,
+    seats: Seats,
+    ghost own: { seats.recorder ≡ recorder.recorder },
+}
+
+/// A recorder for so many workers, at most 8, with so much room, at most 256. Where memory is refused, it is asked for
+/// once more.
+fn desk_of(alloc: Global, workers: u8, room: usize) -> Result<Desk, AllocError> {
+    if workers < 1 || 8 < workers || room < 1 || 256 < room {
+        return Err(AllocError);
+    }
+    match fresh_desk(alloc, workers, room) {
+        Err(AllocError) => fresh_desk(alloc, workers, room),
+        desk => desk,
+    }
+}
+
+fn fresh_desk(alloc: Global, workers: u8, room: usize) -> Result<Desk, AllocError>
+    requires workers { (1 ≤ workers) × (workers ≤ 8) }
+    requires room { (1 ≤ room) × (room ≤ 256) }
+{
+    let (recorder, seats) = Recorder::new(alloc, workers, room)?;
+    Ok(Desk { recorder, seats })
+}
+
+impl Desk {
+    /// What is noted next of this worker, if its seat is there: the record, and whether it was noted.
+    fn note<R: Wait>(&mut self, rt: &R, worker: u8) -> Option<Noted> {
+        let mut seat = self.seats.worker(worker)?;
+        let Some(made) = next_record(&seat) else {
+            self.seats.give_back(seat);
+            return None;
+        };
+        let answer = self.recorder.note(rt, &mut seat, made);
+        self.seats.give_back(seat);
+        if answer == Err(NoteFault::Full(made)) {
+            return Some(Noted {
+                record: made,
+                is_noted: false,
+            });
+        }
+        Some(Noted {
+            record: made,
+            is_noted: answer.is_ok(),
+        })
+    }
+
+    /// What is taken next, None where nothing is, or the seat isn't there.
+    fn take<R: Wait>(&mut self, rt: &R) -> Option<AccessRecord> {
+        let mut seat = self.seats.taker()?;
+        let record = self.recorder.take(rt, &mut seat);
+        self.seats.give_taker(seat);
+        record
+    }
+
+    /// Whether the first worker's seat and the taker's are there, each once, and the seats aren't whole without it.
+    fn has_each_seat_once(&mut self) -> bool {
+        let Some(worker) = self.seats.worker(0) else {
+            return false;
+        };
+        let is_lent_once = self.seats.worker(0).is_none() && !self.seats.whole();
+        self.seats.give_back(worker);
+        let Some(taker) = self.seats.taker() else {
+            return false;
+        };
+        let is_taker_lent_once = self.seats.taker().is_none() && !self.seats.whole();
+        self.seats.give_taker(taker);
+        is_lent_once && is_taker_lent_once && self.seats.whole()
+    }
+
+    /// What is left in the queue when the recorder ends, first to last, two at most; None where a seat is missing.
+    fn finish<R: Wait>(self, rt: &R) -> Option<Left> {
+        let Desk { recorder, seats } = self;
+        if !seats.whole() {
+            return None;
+        }
+        let mut taken = recorder.finish(seats);
+        let first = taken.next(rt);
+        let second = taken.next(rt);
+        Some(Left { first, second })
+    }
+}
 
 /// The record that may be noted next on a seat.
 fn next_record(seat: &WorkerSeat) -> Option<AccessRecord>
@@ -24,37 +110,69 @@ fn next_record(seat: &WorkerSeat) -> Option<AccessRecord>
     ))
 }
 
-#[test]
-fn queue_full_and_drained(rt: HostRuntime) -> Result<(), Fail> {
-    let (recorder, mut seats) = Recorder::new(rt.alloc(), 1, 1)?;
-    let mut worker = seats.worker(0).ok_or("the worker's seat is there")?;
-    let mut taker = seats.taker().ok_or("the taker's seat is there")?;
-    assert!(rt; seats.worker(0).is_none() && seats.worker(1).is_none() && seats.taker().is_none());
-    assert_eq!(rt; recorder.take(&rt, &mut taker), None);
-    let first = next_record(&worker).ok_or("the place is small")?;
-    assert_eq!(rt; (first.worker(), first.place()), (0, 0));
-    assert_eq!(rt; recorder.note(&rt, &mut worker, first), Ok(()));
-    let second = next_record(&worker).ok_or("the place is small")?;
-    assert_eq!(rt; (second.worker(), second.place()), (0, 1));
-    assert_eq!(rt;
-        recorder.note(&rt, &mut worker, second),
-        Err(NoteFault::Full(second))
-    );
-    assert_eq!(rt; worker.place(), 1);
-    assert_eq!(rt; recorder.take(&rt, &mut taker), Some(first));
-    assert_eq!(rt; recorder.note(&rt, &mut worker, second), Ok(()));
-    seats.give_back(worker);
-    assert!(rt; !seats.whole());
-    seats.give_taker(taker);
-    assert!(rt; seats.whole());
-    let mut taken = recorder.finish(seats);
-    assert_eq!(rt; taken.next(&rt), Some(second));
-    assert_eq!(rt; taken.next(&rt), None);
-    Ok(())
+/// What is left in a queue, first to last.
+#[derive(Clone, Copy, PartialEq, Eq)]
+struct Left {
+    first: Option<AccessRecord>,
+    second: Option<AccessRecord>,
+}
+
+/// A record, and whether it was noted.
+#[derive(Clone, Copy, PartialEq, Eq)]
+struct Noted {
+    record: AccessRecord,
+    is_noted: bool,
+}
+
+/// Whether that is the first worker's record at this place, noted or not.
+fn is_at(noted: &Option<Noted>, place: u16, is_noted: bool) -> bool {
+    match noted {
+        Some(noted) => {
+            let record = noted.record;
+            record.worker() == 0 && record.place() == place && noted.is_noted == is_noted
+        }
+        None => false,
+    }
+}
+
+/// The record, noted or not.
+fn record_of(noted: &Option<Noted>) -> Option<AccessRecord> {
+    match noted {
+        Some(noted) => Some(noted.record),
+        None => None,
+    }
+}
+
+/// Whether that is what is left.
+fn is_left(left: &Option<Left>, first: &Option<AccessRecord>) -> bool {
+    match left {
+        Some(left) => left.first == *first && left.second.is_none(),
+        None => false,
+    }
+}
+
+/// A queue with room for one record, which is filled, drained and filled again.
+pub fn full_and_drained<R: Wait>(rt: &R, alloc: Global) -> Result<Seen, AllocError> {
+    let mut seen = Seen::nothing();
+    let mut desk = desk_of(alloc, 1, 1)?;
+    seen.want(desk.has_each_seat_once(), "each seat is there once");
+    seen.want(desk.take(rt).is_none(), "nothing is queued");
+    let first = desk.note(rt, 0);
+    seen.want(is_at(&first, 0, true), "the first is noted");
+    let second = desk.note(rt, 0);
+    seen.want(is_at(&second, 1, false), "the queue is full");
+    seen.want(desk.note(rt, 1).is_none(), "there is no second worker");
+    let taken = desk.take(rt);
+    seen.want(taken == record_of(&first), "the first is taken");
+    let again = desk.note(rt, 0);
+    seen.want(is_at(&again, 1, true), "the second is noted");
+    let left = desk.finish(rt);
+    seen.want(is_left(&left, &record_of(&second)), "it is left");
+    Ok(seen)
 }
 
 /// What came of each worker: the place that is due next, and whether each record had its own.
-#[derive(Drop)]
+#[derive(Clone, Copy)]
 struct Tally {
     due: [u16; 8],
     in_order: bool,
@@ -180,28 +298,66 @@ fn give_all(seats: &mut Seats, mut workers: Vec<WorkerSeat>)
     }
 }
 
-#[test]
-fn eight_threads_note_and_one_takes(rt: HostRuntime) -> Result<(), Fail> {
-    let (recorder, mut seats) = Recorder::new(rt.alloc(), 8, 16)?;
-    let workers = all_workers(rt.alloc(), &mut seats)?;
-    let taker = seats.taker().ok_or("the taker's seat is there")?;
+/// What eight threads noted and another took, each with its seats again.
+#[derive(Drop)]
+struct Met {
+    taking: Taking,
+    workers: Vec<WorkerSeat>,
+}
+
+/// Eight workers note in threads, while another takes.
+fn all_at_once<R: Threads + Wait + Sync>(
+    rt: &R,
+    recorder: &Recorder,
+    taker: TakerSeat,
+    workers: Vec<WorkerSeat>,
+) -> Met
+    requires taker { taker.recorder ≡ recorder.now.recorder }
+    requires workers { All (λ s. s.recorder ≡ recorder.now.recorder) workers.items }
+    ensures taker { result.taking.seat.recorder ≡ recorder.now.recorder }
+    ensures workers { All (λ s. s.recorder ≡ recorder.now.recorder) result.workers.items }
+{
     let (taking, workers) = join(
-        &rt,
-        || -> Taking
-            requires { taker.recorder ≡ recorder.recorder }
-            ensures { result.seat.recorder ≡ recorder.recorder }
-        { take_all(&rt, &recorder, taker) },
-        || -> Vec<WorkerSeat>
-            requires { All (λ s. s.recorder ≡ recorder.recorder) workers.items }
-            ensures { All (λ s. s.recorder ≡ recorder.recorder) result.items }
-        { note_all(&rt, &recorder, workers) },
+        rt,
+        move || -> Taking
+            requires { taker.recorder ≡ recorder.now.recorder }
+            ensures { result.seat.recorder ≡ recorder.entry.now.recorder }
+        { take_all(rt, recorder, taker) },
+        move || -> Vec<WorkerSeat>
+            requires { All (λ s. s.recorder ≡ recorder.now.recorder) workers.items }
+            ensures { All (λ s. s.recorder ≡ recorder.entry.now.recorder) result.items }
+        { note_all(rt, recorder, workers) },
     );
-    let Taking { seat, tally } = taking;
-    assert!(rt; tally.in_order);
-    assert_eq!(rt; tally.due, [30; 8]);
-    give_all(&mut seats, workers);
-    seats.give_taker(seat);
-    assert!(rt; seats.whole());
-    assert_eq!(rt; recorder.finish(seats).next(&rt), None);
-    Ok(())
+    Met { taking, workers }
+}
+
+impl Desk {
+    /// Eight workers note in threads, while another takes. What came of them, None where the taker's seat is missing.
+    fn meet<R: Threads + Wait + Sync>(
+        &mut self,
+        rt: &R,
+        alloc: Global,
+    ) -> Result<Tally, AllocError> {
+        let workers = all_workers(alloc, &mut self.seats)?;
+        let Some(taker) = self.seats.taker() else {
+            give_all(&mut self.seats, workers);
+            return Err(AllocError);
+        };
+        let met = all_at_once(rt, &self.recorder, taker, workers);
+        give_all(&mut self.seats, met.workers);
+        self.seats.give_taker(met.taking.seat);
+        Ok(met.taking.tally)
+    }
+}
+
+/// Each of eight workers notes 30 records in a queue with room for 16, while another thread takes all.
+pub fn eight_threads<R: Threads + Wait + Sync>(rt: &R, alloc: Global) -> Result<Seen, AllocError> {
+    let mut seen = Seen::nothing();
+    let mut desk = desk_of(alloc, 8, 16)?;
+    let tally = desk.meet(rt, alloc)?;
+    seen.want(tally.in_order, "each record comes at its place");
+    seen.want(tally.due == [30; 8], "all records come");
+    let left = desk.finish(rt);
+    seen.want(is_left(&left, &None), "none is left");
+    Ok(seen)
 }

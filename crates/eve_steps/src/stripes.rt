@@ -1,47 +1,49 @@
-//! Stripes: what is noted, settled and undone, and what is refused.
+//! Stripes: what is noted, settled, undone and gone back from, and what is refused. Where memory is refused, each call
+//! is made once more.
 
-ghost use Rattle.std.specs.Prelude.{◌≡◌};
-
-use crate::parts::{amount, cents, name_of, names};
-use eve_accounts::{Cents, Names, Row};
+use crate::parts::{amount, cents, name_of};
+use crate::seen::Seen;
+use eve_accounts::{Names, Row};
 use eve_grammar::Restore;
 use eve_smallbank::{Abort, Entry, Kind, Reply, Request, UpToThree, touched};
 use eve_stamps::{AccessRecord, StampFault, Stripe, apply, apply_two, untouched};
 use std::alloc::{AllocError, Global};
-use std::hash::RandomState;
-use std::test::Fail;
+use std::io;
 
-fn held(row: Row, value: Cents) -> Restore
-    ensures { result ≡ record { row = row; version = 0; value = value } }
-{
-    Restore {
+/// A row at this version, with so many cents.
+fn held(row: Row, version: u64, value: i64) -> io::Result<Restore> {
+    Ok(Restore {
         row,
-        version: 0,
-        value,
-    }
+        version,
+        value: cents(value)?,
+    })
 }
 
-/// Both rows of a customer, with this version in the checking row.
+/// A stripe with both rows of a customer, the checking row at this version.
 fn of_one(
     alloc: Global,
     customer: u8,
-    saving: Cents,
-    checking: Restore,
-) -> Result<Stripe, AllocError> {
+    saving: i64,
+    checking: i64,
+    version: u64,
+) -> io::Result<Stripe> {
     let customer = u32::from(customer);
-    if checking.row != Row::checking(customer) || (1 << 40) < checking.version {
-        return Err(AllocError);
-    }
-    Stripe::new(alloc, &[held(Row::saving(customer), saving), checking])
+    let saving = held(Row::saving(customer), 0, saving)?;
+    let checking = held(Row::checking(customer), version, checking)?;
+    Ok(stripe_of(alloc, saving, checking)?)
 }
 
-fn written(row: Row, version: u64, seen: Cents, after: Cents) -> Entry {
-    Entry {
-        row,
-        kind: Kind::Write,
-        version,
-        seen,
-        after,
+fn stripe_of(alloc: Global, saving: Restore, checking: Restore) -> Result<Stripe, AllocError> {
+    if checking.row.number() <= saving.row.number()
+        || 1 << 40 < saving.version
+        || 1 << 40 < checking.version
+    {
+        return Err(AllocError);
+    }
+    let rows = [saving, checking];
+    match Stripe::new(alloc, &rows) {
+        Err(AllocError) => Stripe::new(alloc, &rows),
+        stripe => stripe,
     }
 }
 
@@ -52,9 +54,14 @@ fn run(
     request: &Request,
     tick: u64,
 ) -> Result<AccessRecord, StampFault> {
-    apply(stripe, request, &touched(request, names), tick, 1, 2, 3)
+    let touched = touched(request, names);
+    match apply(stripe, request, &touched, tick, 1, 2, 3) {
+        Err(StampFault::Memory) => apply(stripe, request, &touched, tick, 1, 2, 3),
+        answer => answer,
+    }
 }
 
+/// The same, over both stripes.
 fn run_two(
     first: &mut Stripe,
     second: &mut Stripe,
@@ -62,189 +69,189 @@ fn run_two(
     request: &Request,
     tick: u64,
 ) -> Result<AccessRecord, StampFault> {
-    apply_two(
-        first,
-        second,
-        request,
-        &touched(request, names),
-        tick,
-        1,
-        2,
-        3,
-    )
-}
-
-/// What the row has now, if it lies in the stripe.
-fn now(stripe: &Stripe, row: Row) -> Option<Restore> {
-    if stripe.has(row) {
-        Some(stripe.get(row))
-    } else {
-        None
+    let touched = touched(request, names);
+    match apply_two(first, second, request, &touched, tick, 1, 2, 3) {
+        Err(StampFault::Memory) => apply_two(first, second, request, &touched, tick, 1, 2, 3),
+        answer => answer,
     }
 }
 
-#[test]
-fn stripe_deposit_and_undo(rt: HostRuntime) -> Result<(), Fail> {
-    let deposit = Request::DepositChecking(name_of(0), amount(500)?);
-    let names = names(rt.alloc(), RandomState::new(&rt)?, 2)?;
-    let checking = held(Row::checking(0), Cents::ZERO);
-    let mut stripe = of_one(rt.alloc(), 0, Cents::ZERO, checking)?;
-    let made = run(&mut stripe, &names, &deposit, 5)
-        .ok()
-        .ok_or("not applied")?;
-    assert_eq!(rt;
-        (made.worker(), made.place(), made.index(), made.tick()),
-        (1, 2, 3, 5)
-    );
-    assert_eq!(rt; made.reply(), Reply::Done);
-    let entry = written(Row::checking(0), 0, Cents::ZERO, cents(500)?);
-    assert_eq!(rt; made.entries(), UpToThree::one(entry));
-    assert_eq!(rt;
-        run(&mut stripe, &names, &deposit, 5),
-        Err(StampFault::TickOrder)
-    );
-    let mut restores = Vec::with_capacity(rt.alloc(), 1)?;
-    stripe.undo(&mut restores)?;
-    assert_eq!(rt; restores.as_slice(), [checking].as_slice());
-    Ok(())
+fn written(row: Row, version: u64, seen: i64, after: i64) -> io::Result<Entry> {
+    Ok(Entry {
+        row,
+        kind: Kind::Write,
+        version,
+        seen: cents(seen)?,
+        after: cents(after)?,
+    })
 }
 
-#[test]
-fn undo_with_too_little_room(rt: HostRuntime) -> Result<(), Fail> {
-    let deposit = Request::DepositChecking(name_of(0), amount(500)?);
-    let names = names(rt.alloc(), RandomState::new(&rt)?, 2)?;
-    let checking = held(Row::checking(0), Cents::ZERO);
-    let mut stripe = of_one(rt.alloc(), 0, Cents::ZERO, checking)?;
-    run(&mut stripe, &names, &deposit, 5)
-        .ok()
-        .ok_or("not applied")?;
-    let mut restores = Vec::new(rt.alloc());
-    assert!(rt; stripe.undo(&mut restores).is_err());
-    assert!(rt; restores.is_empty());
-    assert_eq!(rt;
-        now(&stripe, Row::checking(0)).ok_or("no row")?.value,
-        cents(500)?
-    );
-    Ok(())
+/// Whether that is the record of worker 1, at place 2, with index 3, which did these things at this tick.
+fn is_made(made: Result<AccessRecord, StampFault>, tick: u64, entries: UpToThree<Entry>) -> bool {
+    let Ok(made) = made else {
+        return false;
+    };
+    let is_its = made.worker() == 1 && made.place() == 2 && made.index() == 3;
+    is_its && made.tick() == tick && made.reply() == Reply::Done && made.entries() == entries
 }
 
-#[test]
-fn rows_are_settled_and_worn(rt: HostRuntime) -> Result<(), Fail> {
+/// Whether the row has that version and so many cents.
+fn has_now(stripe: &Stripe, row: Row, version: u64, value: i64) -> bool {
+    if !stripe.has(row) {
+        return false;
+    }
+    let now = stripe.get(row);
+    now.row == row && now.version == version && now.value.get() == value
+}
+
+/// A deposit is noted once at its tick; undone, the row is told as it was.
+pub fn deposit_and_undo(alloc: Global, names: &Names) -> io::Result<Seen> {
+    let mut seen = Seen::nothing();
+    let row = Row::checking(0);
     let deposit = Request::DepositChecking(name_of(0), amount(500)?);
-    let names = names(rt.alloc(), RandomState::new(&rt)?, 2)?;
-    let mut checking = held(Row::checking(0), Cents::ZERO);
-    let mut stripe = of_one(rt.alloc(), 0, Cents::ZERO, checking)?;
-    run(&mut stripe, &names, &deposit, 5)
-        .ok()
-        .ok_or("not applied")?;
+    let wanted = UpToThree::one(written(row, 0, 0, 500)?);
+    let before = held(row, 0, 0)?;
+    let mut restores = Vec::with_capacity(alloc, 1)?;
+    let mut stripe = of_one(alloc, 0, 0, 0, 0)?;
+    let made = run(&mut stripe, names, &deposit, 5);
+    seen.want(is_made(made, 5, wanted), "the deposit is noted");
+    let again = run(&mut stripe, names, &deposit, 5);
+    seen.want(again == Err(StampFault::TickOrder), "the tick was had");
+    seen.want(stripe.undo(&mut restores).is_ok(), "there is room");
+    seen.want(
+        restores.as_slice() == [before].as_slice(),
+        "the row is told",
+    );
+    seen.want(has_now(&stripe, row, 0, 0), "the row is as it was");
+    let again = run(&mut stripe, names, &deposit, 5);
+    seen.want(again == Err(StampFault::TickOrder), "the tick stays");
+    let made = run(&mut stripe, names, &deposit, 6);
+    seen.want(is_made(made, 6, wanted), "the deposit is noted anew");
+    Ok(seen)
+}
+
+/// Nothing is undone where the rows can't be told.
+pub fn undo_with_too_little_room(alloc: Global, names: &Names) -> io::Result<Seen> {
+    let mut seen = Seen::nothing();
+    let row = Row::checking(0);
+    let deposit = Request::DepositChecking(name_of(0), amount(500)?);
+    let mut stripe = of_one(alloc, 0, 0, 0, 0)?;
+    seen.want(
+        run(&mut stripe, names, &deposit, 5).is_ok(),
+        "the deposit is noted",
+    );
+    let mut restores = Vec::new(alloc);
+    seen.want(stripe.undo(&mut restores).is_err(), "there is no room");
+    seen.want(restores.is_empty(), "no row is told");
+    seen.want(has_now(&stripe, row, 1, 500), "the row is as it is now");
+    Ok(seen)
+}
+
+/// To go back needs no room, and reaches what isn't settled alone.
+pub fn settled_and_went_back(alloc: Global, names: &Names) -> io::Result<Seen> {
+    let mut seen = Seen::nothing();
+    let row = Row::checking(0);
+    let deposit = Request::DepositChecking(name_of(0), amount(500)?);
+    let mut stripe = of_one(alloc, 0, 0, 0, 0)?;
+    seen.want(
+        run(&mut stripe, names, &deposit, 5).is_ok(),
+        "the first is noted",
+    );
     stripe.settle(5);
-    let mut restores = Vec::new(rt.alloc());
-    stripe.undo(&mut restores)?;
-    assert!(rt; restores.is_empty());
-    assert_eq!(rt;
-        now(&stripe, Row::checking(0)).ok_or("no row")?.value,
-        cents(500)?
+    stripe.go_back();
+    seen.want(has_now(&stripe, row, 1, 500), "what is settled stays");
+    seen.want(
+        run(&mut stripe, names, &deposit, 6).is_ok(),
+        "the second is noted",
     );
-    assert_eq!(rt; now(&stripe, Row::checking(1)), None);
-    checking.version = 1 << 40;
-    let mut worn = of_one(rt.alloc(), 0, Cents::ZERO, checking)?;
-    assert_eq!(rt; run(&mut worn, &names, &deposit, 5), Err(StampFault::Worn));
-    let why = Abort::BadAmount;
-    assert_eq!(rt; untouched(why, 6, 0, 0, 0).reply(), Reply::Aborted(why));
-    Ok(())
+    stripe.settle(5);
+    seen.want(
+        has_now(&stripe, row, 2, 1000),
+        "settled rows stay as they are",
+    );
+    stripe.go_back();
+    seen.want(has_now(&stripe, row, 1, 500), "the second is gone");
+    let again = run(&mut stripe, names, &deposit, 6);
+    seen.want(again == Err(StampFault::TickOrder), "the tick stays");
+    seen.want(!stripe.has(Row::checking(1)), "another's row isn't there");
+    Ok(seen)
 }
 
-#[test]
-fn two_stripes_amalgamate(rt: HostRuntime) -> Result<(), Fail> {
-    let names = names(rt.alloc(), RandomState::new(&rt)?, 2)?;
-    let mut first = of_one(rt.alloc(), 0, cents(5)?, held(Row::checking(0), cents(7)?))?;
-    let mut second = of_one(
-        rt.alloc(),
-        1,
-        Cents::ZERO,
-        held(Row::checking(1), Cents::ZERO),
-    )?;
-    let amalgamate = Request::Amalgamate(name_of(0), name_of(1));
-    assert_eq!(rt;
-        run(&mut first, &names, &amalgamate, 5),
-        Err(StampFault::NoRow)
-    );
-    let made = run_two(&mut first, &mut second, &names, &amalgamate, 5)
-        .ok()
-        .ok_or("not applied")?;
-    assert_eq!(rt;
-        made.entries(),
-        UpToThree::three(
-            written(Row::saving(0), 0, cents(5)?, Cents::ZERO),
-            written(Row::checking(0), 0, cents(7)?, Cents::ZERO),
-            written(Row::checking(1), 0, Cents::ZERO, cents(12)?),
-        )
-    );
-    Ok(())
-}
-
-#[test]
-fn a_row_in_both_is_the_firsts(rt: HostRuntime) -> Result<(), Fail> {
+/// A row at the greatest version isn't written, and a request that touches no row is noted as it is told.
+pub fn worn_and_untouched(alloc: Global, names: &Names) -> io::Result<Seen> {
+    let mut seen = Seen::nothing();
     let deposit = Request::DepositChecking(name_of(0), amount(500)?);
-    let names = names(rt.alloc(), RandomState::new(&rt)?, 2)?;
-    let mut first = of_one(
-        rt.alloc(),
-        0,
-        Cents::ZERO,
-        held(Row::checking(0), cents(7)?),
-    )?;
-    let mut second = of_one(
-        rt.alloc(),
-        0,
-        Cents::ZERO,
-        held(Row::checking(0), cents(9)?),
-    )?;
-    let made = run_two(&mut first, &mut second, &names, &deposit, 5)
-        .ok()
-        .ok_or("not applied")?;
-    let entry = written(Row::checking(0), 0, cents(7)?, cents(507)?);
-    assert_eq!(rt; made.entries(), UpToThree::one(entry));
-    assert_eq!(rt;
-        now(&first, Row::checking(0)).ok_or("no row")?.value,
-        cents(507)?
-    );
-    assert_eq!(rt;
-        now(&second, Row::checking(0)),
-        Some(held(Row::checking(0), cents(9)?))
-    );
-    // The second has had the tick too, though it has no entry.
-    assert_eq!(rt;
-        run(&mut second, &names, &deposit, 5),
-        Err(StampFault::TickOrder)
-    );
-    Ok(())
+    let mut worn = of_one(alloc, 0, 0, 0, 1 << 40)?;
+    let answer = run(&mut worn, names, &deposit, 5);
+    seen.want(answer == Err(StampFault::Worn), "the row is worn");
+    let mut last = of_one(alloc, 0, 0, 0, (1 << 40) - 1)?;
+    let wanted = UpToThree::one(written(Row::checking(0), (1 << 40) - 1, 0, 500)?);
+    let made = run(&mut last, names, &deposit, 5);
+    seen.want(is_made(made, 5, wanted), "a version before, it isn't");
+    let refused = untouched(Abort::BadAmount, 6, 0, 0, 0);
+    let reply = Reply::Aborted(Abort::BadAmount);
+    seen.want(refused.reply() == reply, "the reason is told");
+    seen.want(refused.entries().is_empty(), "no row is touched");
+    Ok(seen)
 }
 
-#[test]
-fn the_second_stripe_alone_is_past_the_tick(rt: HostRuntime) -> Result<(), Fail> {
-    let deposit_0 = Request::DepositChecking(name_of(0), amount(500)?);
-    let deposit_1 = Request::DepositChecking(name_of(1), amount(500)?);
-    let names = names(rt.alloc(), RandomState::new(&rt)?, 2)?;
-    let mut first = of_one(rt.alloc(), 0, cents(5)?, held(Row::checking(0), cents(7)?))?;
-    let mut second = of_one(
-        rt.alloc(),
-        1,
-        Cents::ZERO,
-        held(Row::checking(1), Cents::ZERO),
-    )?;
-    run(&mut second, &names, &deposit_1, 7)
-        .ok()
-        .ok_or("not applied")?;
+/// All that one customer has is moved over two stripes; one alone has too few rows.
+pub fn two_stripes_amalgamate(alloc: Global, names: &Names) -> io::Result<Seen> {
+    let mut seen = Seen::nothing();
     let amalgamate = Request::Amalgamate(name_of(0), name_of(1));
-    assert_eq!(rt;
-        run_two(&mut first, &mut second, &names, &amalgamate, 6),
-        Err(StampFault::TickOrder)
+    let wanted = UpToThree::three(
+        written(Row::saving(0), 0, 5, 0)?,
+        written(Row::checking(0), 0, 7, 0)?,
+        written(Row::checking(1), 0, 0, 12)?,
     );
-    assert_eq!(rt;
-        now(&first, Row::saving(0)),
-        Some(held(Row::saving(0), cents(5)?))
+    let mut first = of_one(alloc, 0, 5, 7, 0)?;
+    let mut second = of_one(alloc, 1, 0, 0, 0)?;
+    let alone = run(&mut first, names, &amalgamate, 5);
+    seen.want(alone == Err(StampFault::NoRow), "a row isn't there");
+    let made = run_two(&mut first, &mut second, names, &amalgamate, 5);
+    seen.want(is_made(made, 5, wanted), "it is noted");
+    seen.want(has_now(&first, Row::checking(0), 1, 0), "the first gave");
+    seen.want(has_now(&second, Row::checking(1), 1, 12), "the second got");
+    Ok(seen)
+}
+
+/// A row that lies in both stripes is seen and written in the first; the second has had the tick too.
+pub fn a_row_in_both_is_the_firsts(alloc: Global, names: &Names) -> io::Result<Seen> {
+    let mut seen = Seen::nothing();
+    let row = Row::checking(0);
+    let deposit = Request::DepositChecking(name_of(0), amount(500)?);
+    let wanted = UpToThree::one(written(row, 0, 7, 507)?);
+    let mut first = of_one(alloc, 0, 0, 7, 0)?;
+    let mut second = of_one(alloc, 0, 0, 9, 0)?;
+    let made = run_two(&mut first, &mut second, names, &deposit, 5);
+    seen.want(is_made(made, 5, wanted), "it is noted");
+    seen.want(has_now(&first, row, 1, 507), "the first's row is written");
+    seen.want(has_now(&second, row, 0, 9), "the second's isn't");
+    let alone = run(&mut second, names, &deposit, 5);
+    seen.want(
+        alone == Err(StampFault::TickOrder),
+        "the second had the tick",
     );
-    // The first has had no tick.
-    assert!(rt; run(&mut first, &names, &deposit_0, 1).is_ok());
-    Ok(())
+    Ok(seen)
+}
+
+/// Two stripes that share a row, of which the second alone is past the tick: nothing is done in either.
+pub fn the_second_alone_is_past_the_tick(alloc: Global, names: &Names) -> io::Result<Seen> {
+    let mut seen = Seen::nothing();
+    let row = Row::checking(0);
+    let deposit = Request::DepositChecking(name_of(0), amount(500)?);
+    let wanted = UpToThree::one(written(row, 0, 7, 507)?);
+    let mut first = of_one(alloc, 0, 5, 7, 0)?;
+    let mut second = of_one(alloc, 0, 0, 9, 0)?;
+    seen.want(
+        run(&mut second, names, &deposit, 7).is_ok(),
+        "the second is at 7",
+    );
+    let both = run_two(&mut first, &mut second, names, &deposit, 6);
+    seen.want(both == Err(StampFault::TickOrder), "6 is past");
+    seen.want(has_now(&first, row, 0, 7), "the first is as it was");
+    seen.want(has_now(&second, row, 1, 509), "the second too");
+    let alone = run(&mut first, names, &deposit, 1);
+    seen.want(is_made(alone, 1, wanted), "the first had no tick");
+    Ok(seen)
 }

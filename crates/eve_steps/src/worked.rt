@@ -1,168 +1,246 @@
 //! Worked schedules.
 
 use crate::parts::{Ask, Plan, balances, batch, names, opened};
+use crate::seen::Seen;
 use eve_smallbank::{Abort, Reply};
 use eve_stamps::AccessRecord;
 use eve_stamps_schedule::{Event, Schedule, StepFault};
+use std::alloc::{AllocError, Global};
 use std::hash::RandomState;
-use std::test::Fail;
+use std::io;
 
-/// So many customers with 10 cents in each row.
-fn planned(rt: &HostRuntime, customers: u8, sizes: &[u16], asks: &[Ask]) -> Result<Plan, Fail> {
-    let alloc = rt.alloc();
-    let values = vec![in alloc; 10; 2 * customers as usize]?;
+/// What a worked schedule begins with: so many customers with 10 cents in each row, the sizes of the parallelBatches,
+/// and what is asked for.
+#[derive(Clone, Copy)]
+struct Setting {
+    customers: u8,
+    sizes: &'static [u16],
+    asks: &'static [Ask],
+}
+
+const TWO_DEPOSITS: Setting = Setting {
+    customers: 1,
+    sizes: &[2],
+    asks: &[Ask::Deposit(0, 5), Ask::Deposit(0, 7)],
+};
+
+const TWO_GROUPS: Setting = Setting {
+    customers: 2,
+    sizes: &[1, 1],
+    asks: &[Ask::Deposit(0, 5), Ask::Deposit(1, 7)],
+};
+
+const BAD_AMOUNT: Setting = Setting {
+    customers: 1,
+    sizes: &[1],
+    asks: &[Ask::Deposit(0, -1)],
+};
+
+const TWO_STRIPES: Setting = Setting {
+    customers: 3,
+    sizes: &[1],
+    asks: &[Ask::Amalgamate(2, 1)],
+};
+
+const ONE_DEPOSIT: Setting = Setting {
+    customers: 1,
+    sizes: &[1],
+    asks: &[Ask::Deposit(0, 5)],
+};
+
+fn planned(alloc: Global, random: RandomState, setting: Setting) -> io::Result<Plan> {
+    let values = vec![in alloc; 10; 2 * setting.customers as usize]?;
     Ok(Plan {
-        names: names(alloc, RandomState::new(rt)?, customers)?,
+        names: names(alloc, random, setting.customers)?,
         balances: balances(alloc, values.as_slice())?,
-        batch: batch(alloc, sizes, asks)?,
+        batch: batch(alloc, setting.sizes, setting.asks)?,
     })
 }
 
 /// The step; where no memory was left, the step again.
-fn stepped(schedule: &mut Schedule, event: Event) -> Result<(), StepFault> {
+pub fn stepped(schedule: &mut Schedule, event: Event) -> Result<(), StepFault> {
     match schedule.step(event) {
         Err(StepFault::Memory) => schedule.step(event),
         answer => answer,
     }
 }
 
-/// The worker's last record.
-fn last_of(schedule: &Schedule, worker: u8) -> Option<AccessRecord> {
-    if schedule.workers() <= worker as usize {
-        return None;
+/// The order of what is applied; where no memory was left, asked for again.
+pub fn ordered(alloc: Global, schedule: &Schedule) -> Result<Vec<u16>, AllocError> {
+    match schedule.order(alloc) {
+        Err(AllocError) => schedule.order(alloc),
+        order => order,
     }
-    schedule.noted(worker).last().copied()
 }
 
-/// Carries out the events, each allowed or refused as it says.
-fn carried(schedule: &mut Schedule, events: &[(Event, bool)]) -> Result<(), Fail> {
-    for event in events {
-        let wanted = if event.1 {
+/// An event, and whether it is allowed where it comes.
+#[derive(Clone, Copy)]
+struct Step(Event, bool);
+
+/// Carries out the events. Whether each is allowed or refused as it says.
+fn carried(schedule: &mut Schedule, steps: &[Step]) -> bool {
+    for step in steps {
+        let wanted = if step.1 {
             Ok(())
         } else {
             Err(StepFault::NotAllowed)
         };
-        if stepped(schedule, event.0) != wanted {
-            return Err("a step is answered otherwise".into());
+        if stepped(schedule, step.0) != wanted {
+            return false;
         }
     }
-    Ok(())
+    true
 }
 
-/// What a schedule came to, and the last record of its first worker.
-#[derive(Drop)]
-struct Outcome {
-    workers: usize,
-    done: bool,
-    order: Vec<u16>,
-    last: Option<AccessRecord>,
+/// The first worker's last record.
+fn last_of(schedule: &Schedule) -> Option<AccessRecord> {
+    if schedule.workers() == 0 {
+        return None;
+    }
+    schedule.noted(0).last().copied()
 }
 
-/// What the schedule comes to by these events, each allowed or refused as it says.
-fn ended(
-    rt: &HostRuntime,
-    plan: &Plan,
-    workers: u8,
-    events: &[(Event, bool)],
-) -> Result<Outcome, Fail> {
-    let mut schedule = opened(
-        rt.alloc(),
-        &plan.names,
-        &plan.balances,
-        &plan.batch,
-        workers,
-    )?;
-    carried(&mut schedule, events)?;
-    Ok(Outcome {
-        workers: schedule.workers(),
-        done: schedule.done(),
-        order: schedule.order(rt.alloc())?,
-        last: last_of(&schedule, 0),
-    })
-}
-
-#[test]
-fn schedule_two_workers(rt: HostRuntime) -> Result<(), Fail> {
-    let plan = planned(&rt, 1, &[2], &[Ask::Deposit(0, 5), Ask::Deposit(0, 7)])?;
-    let events = [
-        (Event::Claim(0), true),
-        (Event::Claim(1), true),
-        (Event::LockStripe(1), true),
-        (Event::LockStripe(0), false),
-        (Event::Tick(1), true),
-        (Event::Apply(1), true),
-        (Event::Unlock(1), true),
-        (Event::Note(1), true),
-        (Event::LockStripe(0), true),
-        (Event::Tick(0), true),
-        (Event::Apply(0), true),
-        (Event::Unlock(0), true),
-        (Event::Note(0), true),
+/// Two deposits to one customer by two workers, of which the second goes first.
+fn two_workers(alloc: Global, plan: &Plan) -> io::Result<Seen> {
+    let before = [
+        Step(Event::Claim(0), true),
+        Step(Event::Claim(1), true),
+        Step(Event::LockStripe(1), true),
+        Step(Event::LockStripe(0), false),
+        Step(Event::Tick(1), true),
+        Step(Event::Apply(1), true),
+        Step(Event::Unlock(1), true),
+        Step(Event::Note(1), true),
     ];
-    assert!(rt; !ended(&rt, &plan, 2, &events[..8])?.done);
-    let ended = ended(&rt, &plan, 2, &events)?;
-    assert!(rt; ended.done);
-    assert!(rt; ended.order.as_slice() == [1, 0].as_slice());
-    Ok(())
-}
-
-#[test]
-fn a_request_that_touches_no_row(rt: HostRuntime) -> Result<(), Fail> {
-    let plan = planned(&rt, 1, &[1], &[Ask::Deposit(0, -1)])?;
-    let events = [
-        (Event::Claim(0), true),
-        (Event::LockStripe(0), false),
-        (Event::Tick(0), true),
-        (Event::Apply(0), true),
-        (Event::Note(0), true),
+    let after = [
+        Step(Event::LockStripe(0), true),
+        Step(Event::Tick(0), true),
+        Step(Event::Apply(0), true),
+        Step(Event::Unlock(0), true),
+        Step(Event::Note(0), true),
     ];
-    let made = ended(&rt, &plan, 1, &events)?.last.ok_or("nothing noted")?;
-    assert!(rt; made.reply() == Reply::Aborted(Abort::BadAmount));
-    assert!(rt; made.entries().is_empty());
-    Ok(())
+    let mut seen = Seen::nothing();
+    let mut schedule = opened(alloc, &plan.names, &plan.balances, &plan.batch, 2)?;
+    seen.want(carried(&mut schedule, &before), "worker 1 goes first");
+    seen.want(!schedule.done(), "a request is left");
+    seen.want(carried(&mut schedule, &after), "worker 0 follows");
+    seen.want(schedule.done(), "all is noted");
+    let order = ordered(alloc, &schedule)?;
+    seen.want(order.as_slice() == [1, 0].as_slice(), "the order is 1, 0");
+    Ok(seen)
 }
 
-#[test]
-fn a_later_group_waits(rt: HostRuntime) -> Result<(), Fail> {
-    let plan = planned(&rt, 2, &[1, 1], &[Ask::Deposit(0, 5), Ask::Deposit(1, 7)])?;
-    let events = [
-        (Event::Claim(0), true),
-        (Event::Claim(1), false),
-        (Event::LockStripe(0), true),
-        (Event::Tick(0), true),
-        (Event::Apply(0), true),
-        (Event::Unlock(0), true),
-        (Event::Note(0), true),
-        (Event::Claim(1), true),
+/// A request that touches no row locks no stripe.
+fn no_row(alloc: Global, plan: &Plan) -> io::Result<Seen> {
+    let steps = [
+        Step(Event::Claim(0), true),
+        Step(Event::LockStripe(0), false),
+        Step(Event::Tick(0), true),
+        Step(Event::Apply(0), true),
+        Step(Event::Note(0), true),
     ];
-    assert!(rt; !ended(&rt, &plan, 2, &events)?.done);
-    Ok(())
+    let mut seen = Seen::nothing();
+    let mut schedule = opened(alloc, &plan.names, &plan.balances, &plan.batch, 1)?;
+    seen.want(carried(&mut schedule, &steps), "it locks nothing");
+    let is_told = match last_of(&schedule) {
+        Some(made) => {
+            made.reply() == Reply::Aborted(Abort::BadAmount) && made.entries().is_empty()
+        }
+        None => false,
+    };
+    seen.want(is_told, "the reason is noted, and no entry");
+    Ok(seen)
 }
 
-#[test]
-fn amalgamate_over_two_stripes(rt: HostRuntime) -> Result<(), Fail> {
-    let plan = planned(&rt, 3, &[1], &[Ask::Amalgamate(2, 1)])?;
-    let events = [
-        (Event::Claim(0), true),
-        (Event::LockStripe(0), true),
-        (Event::Tick(0), false),
-        (Event::LockStripe(0), true),
-        (Event::Tick(0), true),
-        (Event::Apply(0), true),
-        (Event::Unlock(0), true),
-        (Event::Unlock(0), true),
-        (Event::Note(0), true),
+/// A request of a later parallelBatch waits until those before it are noted.
+fn later_group(alloc: Global, plan: &Plan) -> io::Result<Seen> {
+    let steps = [
+        Step(Event::Claim(0), true),
+        Step(Event::Claim(1), false),
+        Step(Event::LockStripe(0), true),
+        Step(Event::Tick(0), true),
+        Step(Event::Apply(0), true),
+        Step(Event::Unlock(0), true),
+        Step(Event::Note(0), true),
+        Step(Event::Claim(1), true),
     ];
-    let made = ended(&rt, &plan, 1, &events)?.last.ok_or("nothing noted")?;
-    assert!(rt; made.entries().len() == 3);
-    assert!(rt; made.reply() == Reply::Done);
-    Ok(())
+    let mut seen = Seen::nothing();
+    let mut schedule = opened(alloc, &plan.names, &plan.balances, &plan.batch, 2)?;
+    seen.want(
+        carried(&mut schedule, &steps),
+        "the second waits for the first",
+    );
+    seen.want(!schedule.done(), "a request is left");
+    Ok(seen)
 }
 
-#[test]
-fn a_worker_that_is_not_there(rt: HostRuntime) -> Result<(), Fail> {
-    let plan = planned(&rt, 1, &[1], &[Ask::Deposit(0, 5)])?;
-    let events = [(Event::Claim(1), false), (Event::Claim(0), true)];
-    assert!(rt; ended(&rt, &plan, 1, &events)?.workers == 1);
-    Ok(())
+/// A request of two stripes locks both before its tick.
+fn two_stripes(alloc: Global, plan: &Plan) -> io::Result<Seen> {
+    let steps = [
+        Step(Event::Claim(0), true),
+        Step(Event::LockStripe(0), true),
+        Step(Event::Tick(0), false),
+        Step(Event::LockStripe(0), true),
+        Step(Event::Tick(0), true),
+        Step(Event::Apply(0), true),
+        Step(Event::Unlock(0), true),
+        Step(Event::Note(0), false),
+        Step(Event::Unlock(0), true),
+        Step(Event::Note(0), true),
+    ];
+    let mut seen = Seen::nothing();
+    let mut schedule = opened(alloc, &plan.names, &plan.balances, &plan.batch, 1)?;
+    seen.want(
+        carried(&mut schedule, &steps),
+        "both are locked, and given back",
+    );
+    let is_made = match last_of(&schedule) {
+        Some(made) => made.reply() == Reply::Done && made.entries().len() == 3,
+        None => false,
+    };
+    seen.want(is_made, "three rows are noted");
+    Ok(seen)
+}
+
+/// A worker that isn't there may do nothing.
+fn nobody(alloc: Global, plan: &Plan) -> io::Result<Seen> {
+    let steps = [Step(Event::Claim(1), false), Step(Event::Claim(0), true)];
+    let mut seen = Seen::nothing();
+    let mut schedule = opened(alloc, &plan.names, &plan.balances, &plan.batch, 1)?;
+    seen.want(carried(&mut schedule, &steps), "the second isn't there");
+    seen.want(schedule.workers() == 1, "there is one");
+    Ok(seen)
+}
+
+// What the schedule of that name begins with, None where none has it.
+fn setting_of(name: &str) -> Option<Setting> {
+    match name {
+        "schedule-two-workers" => Some(TWO_DEPOSITS),
+        "schedule-no-row" => Some(BAD_AMOUNT),
+        "schedule-later-group" => Some(TWO_GROUPS),
+        "schedule-two-stripes" => Some(TWO_STRIPES),
+        "schedule-nobody" => Some(ONE_DEPOSIT),
+        _ => None,
+    }
+}
+
+// What is seen of the schedule of that name, of those that `setting_of` knows.
+fn seen_of(alloc: Global, plan: &Plan, name: &str) -> io::Result<Seen> {
+    match name {
+        "schedule-two-workers" => two_workers(alloc, plan),
+        "schedule-no-row" => no_row(alloc, plan),
+        "schedule-later-group" => later_group(alloc, plan),
+        "schedule-two-stripes" => two_stripes(alloc, plan),
+        _ => nobody(alloc, plan),
+    }
+}
+
+/// What is seen of the worked schedule of that name, None where none has it.
+pub fn scheduled(alloc: Global, random: RandomState, name: &str) -> io::Result<Option<Seen>> {
+    let Some(setting) = setting_of(name) else {
+        return Ok(None);
+    };
+    let plan = planned(alloc, random, setting)?;
+    let seen = seen_of(alloc, &plan, name)?;
+    Ok(Some(seen))
 }

@@ -5,7 +5,6 @@ use crate::opening::{Ask, batch_of, floor_of};
 use crate::telling::Text;
 use eve_accounts::Names;
 use eve_floor::Floor;
-use eve_grammar::Restore;
 use eve_write::BatchData;
 use std::alloc::{AllocError, Global};
 use std::sync::Wait;
@@ -32,8 +31,8 @@ pub enum Act {
     Take,
     /// What was done up to this tick is committed.
     Settle(u64),
-    /// All stripes are undone, with room for so many rows.
-    Undo(usize),
+    /// All stripes go back to what is committed.
+    GoBack,
 }
 
 /// A case of which nothing is done yet: the words with which it begins, the requests of its batch, how much room the
@@ -60,22 +59,28 @@ pub fn case_of<'n>(
     })
 }
 
-/// What is told of the case when these things are done, one after another.
+/// A plan, and what is done in its case, one thing after another.
+#[derive(Clone, Copy)]
+pub struct Script {
+    pub plan: Plan<'static>,
+    pub acts: &'static [Act],
+}
+
+/// What is told of the case of a script.
 pub fn told<R: Wait>(
     rt: &R,
     alloc: Global,
     names: &Names,
-    plan: &Plan,
-    acts: &[Act],
+    script: &Script,
 ) -> Result<Text, AllocError> {
-    let mut case = case_of(alloc, names, plan)?;
-    case.play(rt, alloc, acts)?;
+    let mut case = case_of(alloc, names, &script.plan)?;
+    case.play(rt, script.acts);
     Ok(case.text)
 }
 
 impl<'n> Case<'n> {
     /// Does these things, one after another.
-    pub fn play<R: Wait>(&mut self, rt: &R, alloc: Global, acts: &[Act]) -> Result<(), AllocError> {
+    pub fn play<R: Wait>(&mut self, rt: &R, acts: &[Act]) {
         for act in acts {
             match *act {
                 Act::Run(index) => self.run(rt, index),
@@ -83,10 +88,9 @@ impl<'n> Case<'n> {
                 Act::Flush => self.flush(rt),
                 Act::Take => self.take(rt),
                 Act::Settle(tick) => self.floor.settle(tick),
-                Act::Undo(room) => self.undo(Vec::with_capacity(alloc, room)?),
+                Act::GoBack => self.floor.go_back(),
             }
         }
-        Ok(())
     }
 
     // The worker at hand executes a request.
@@ -106,13 +110,5 @@ impl<'n> Case<'n> {
     fn take<R: Wait>(&mut self, rt: &R) {
         let record = self.crew.take(rt);
         self.text.say_record(record);
-    }
-
-    // All stripes are undone.
-    fn undo(&mut self, mut restores: Vec<Restore>) {
-        self.text.say(", undo");
-        let is_undone = self.floor.undo(&mut restores).is_ok();
-        self.text.say_whether(is_undone);
-        self.text.say_restores(restores.as_slice());
     }
 }

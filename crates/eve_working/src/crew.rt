@@ -1,10 +1,10 @@
 //! Two workers, with what their seats are of.
 
-ghost use Rattle.std.specs.Prelude.{◌≡◌, ◌<◌, IsTrue, length};
+ghost use Rattle.std.specs.Prelude.{◌≡◌, ◌<◌, ◌≤◌, IsTrue, length};
 ghost use Rattle.eve_floor.specs.Executing.{IsAt};
 
 use eve_floor::{ExecFault, Floor, Worker, execute, flush};
-use eve_recorder::{OpenGate, Recorder, TakerSeat, Tickets};
+use eve_recorder::{OpenGate, Recorder, TakerSeat, TicketSeat, Tickets, WorkerSeat};
 use eve_stamps::AccessRecord;
 use eve_write::BatchData;
 use std::alloc::{AllocError, Global};
@@ -24,25 +24,72 @@ pub struct Crew {
     pub ghost taker_at: { taker.recorder ≡ recorder.recorder },
 }
 
+/// A recorder with its seats, given out.
+#[derive(Drop)]
+struct Desk {
+    recorder: Recorder,
+    taker: TakerSeat,
+    first: WorkerSeat,
+    second: WorkerSeat,
+    ghost taker_own: { taker.recorder ≡ recorder.recorder },
+    ghost first_own: { first.recorder ≡ recorder.recorder },
+    ghost second_own: { second.recorder ≡ recorder.recorder },
+}
+
+fn desk_of(alloc: Global, room: usize) -> Result<Desk, AllocError>
+    requires { (1 ≤ room) × (room ≤ 256) }
+{
+    let (recorder, mut seats) = Recorder::new(alloc, 2, room)?;
+    let (Some(first), Some(second), Some(taker)) = (seats.worker(0), seats.worker(1), seats.taker())
+    else {
+        return Err(AllocError);
+    };
+    Ok(Desk {
+        recorder,
+        taker,
+        first,
+        second,
+    })
+}
+
+/// Tickets with their seats, given out.
+#[derive(Drop)]
+struct Drawers {
+    tickets: Tickets,
+    first: TicketSeat,
+    second: TicketSeat,
+    ghost first_own: { first.tickets ≡ tickets },
+    ghost second_own: { second.tickets ≡ tickets },
+}
+
+fn drawers_of(alloc: Global, limit: u64) -> Result<Drawers, AllocError>
+    requires { limit ≤ 256 }
+{
+    let (tickets, mut seats) = Tickets::new(alloc, 2, limit)?;
+    let (Some(first), Some(second)) = (seats.seat(0), seats.seat(1)) else {
+        return Err(AllocError);
+    };
+    Ok(Drawers {
+        tickets,
+        first,
+        second,
+    })
+}
+
 /// Workers 0 and 1, the first of them at hand: a queue with so much room, from 1 to 256, and so many numbers for each,
 /// at most 256.
 pub fn crew_of(alloc: Global, room: usize, limit: u64) -> Result<Crew, AllocError> {
     if room < 1 || 256 < room || 256 < limit {
         return Err(AllocError);
     }
-    let (recorder, mut seats) = Recorder::new(alloc, 2, room)?;
-    let (tickets, mut drawers) = Tickets::new(alloc, 2, limit)?;
-    let first = seats.worker(0).ok_or(AllocError)?;
-    let second = seats.worker(1).ok_or(AllocError)?;
-    let taker = seats.taker().ok_or(AllocError)?;
-    let one = drawers.seat(0).ok_or(AllocError)?;
-    let two = drawers.seat(1).ok_or(AllocError)?;
+    let desk = desk_of(alloc, room)?;
+    let drawers = drawers_of(alloc, limit)?;
     Ok(Crew {
-        recorder,
-        tickets,
-        taker,
-        hand: Worker::new(first, one),
-        other: Worker::new(second, two),
+        recorder: desk.recorder,
+        tickets: drawers.tickets,
+        taker: desk.taker,
+        hand: Worker::new(desk.first, drawers.first),
+        other: Worker::new(desk.second, drawers.second),
     })
 }
 

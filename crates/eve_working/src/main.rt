@@ -9,7 +9,7 @@ mod opening;
 mod pair;
 mod telling;
 
-use crate::cases::{Act, Case, Plan, case_of, told};
+use crate::cases::{Act, Case, Plan, Script, case_of, told};
 use crate::gates::{HeldGate, LoneGate, Watched};
 use crate::opening::{Ask, customers};
 use crate::pair::{Met, at_once};
@@ -24,33 +24,32 @@ use std::sync::Wait;
 use std::thread::Threads;
 
 /// Two deposits to one customer, the second by another worker.
-fn attempt_and_close<R: Wait>(rt: &R, alloc: Global, names: &Names) -> Result<Text, AllocError> {
-    let plan = Plan {
+const ATTEMPT_AND_CLOSE: Script = Script {
+    plan: Plan {
         begin: "replica-attempt-and-close:",
         asks: &[Ask::Deposit(b"a"), Ask::Deposit(b"a")],
         room: 2,
         limit: 8,
-    };
-    let acts = [
+    },
+    acts: &[
         Act::Run(0),
         Act::Turn,
         Act::Run(1),
         Act::Take,
         Act::Take,
         Act::Take,
-    ];
-    told(rt, alloc, names, &plan, &acts)
-}
+    ],
+};
 
 /// A queue with room for one record: the second waits, and its worker does nothing until it is noted.
-fn full_and_drained<R: Wait>(rt: &R, alloc: Global, names: &Names) -> Result<Text, AllocError> {
-    let plan = Plan {
+const FULL_AND_DRAINED: Script = Script {
+    plan: Plan {
         begin: "queue-full-and-drained:",
         asks: &[Ask::Deposit(b"a"), Ask::Deposit(b"a")],
         room: 1,
         limit: 8,
-    };
-    let acts = [
+    },
+    acts: &[
         Act::Run(0),
         Act::Run(1),
         Act::Run(0),
@@ -59,25 +58,12 @@ fn full_and_drained<R: Wait>(rt: &R, alloc: Global, names: &Names) -> Result<Tex
         Act::Flush,
         Act::Flush,
         Act::Take,
-    ];
-    told(rt, alloc, names, &plan, &acts)
-}
-
-/// So many numbers may be drawn.
-fn spent<R: Wait>(rt: &R, alloc: Global, names: &Names, limit: u64) -> Result<Text, AllocError> {
-    let plan = Plan {
-        begin: "tickets-two-seats:",
-        asks: &[Ask::Deposit(b"a")],
-        room: 2,
-        limit,
-    };
-    let acts = [Act::Run(0), Act::Run(0), Act::Take];
-    told(rt, alloc, names, &plan, &acts)
-}
+    ],
+};
 
 /// Customers 0 and 16 share a stripe, 0 and 1 don't, and `z` is none.
-fn one_lock_or_two<R: Wait>(rt: &R, alloc: Global, names: &Names) -> Result<Text, AllocError> {
-    let plan = Plan {
+const ONE_LOCK_OR_TWO: Script = Script {
+    plan: Plan {
         begin: "one-lock-or-two:",
         asks: &[
             Ask::Deposit(b"a"),
@@ -89,8 +75,8 @@ fn one_lock_or_two<R: Wait>(rt: &R, alloc: Global, names: &Names) -> Result<Text
         ],
         room: 8,
         limit: 8,
-    };
-    let acts = [
+    },
+    acts: &[
         Act::Run(0),
         Act::Take,
         Act::Run(1),
@@ -103,31 +89,58 @@ fn one_lock_or_two<R: Wait>(rt: &R, alloc: Global, names: &Names) -> Result<Text
         Act::Take,
         Act::Run(5),
         Act::Take,
-    ];
-    told(rt, alloc, names, &plan, &acts)
-}
+    ],
+};
 
-/// Two deposits for each of two customers, of which the first two are settled. A vector without room is tried first.
-fn settled_and_undone<R: Wait>(rt: &R, alloc: Global, names: &Names) -> Result<Text, AllocError> {
-    let plan = Plan {
-        begin: "settled-and-undone:",
-        asks: &[Ask::Deposit(b"a"), Ask::Deposit(b"b")],
-        room: 4,
+/// Two deposits for each of two customers, of which the first two are settled and the others taken back: what comes
+/// next sees the settled ones. Their rows lie in the first stripe and in the last.
+const SETTLED_AND_WENT_BACK: Script = Script {
+    plan: Plan {
+        begin: "settled-and-went-back:",
+        asks: &[Ask::Deposit(b"a"), Ask::Deposit(b"p")],
+        room: 8,
         limit: 8,
-    };
-    let acts = [
+    },
+    acts: &[
         Act::Run(0),
         Act::Run(1),
         Act::Settle(1),
         Act::Turn,
         Act::Run(0),
         Act::Run(1),
-        Act::Undo(0),
-        Act::Undo(64),
-        Act::Undo(64),
-    ];
-    told(rt, alloc, names, &plan, &acts)
-}
+        Act::GoBack,
+        Act::Run(0),
+        Act::Run(1),
+        Act::Take,
+        Act::Take,
+        Act::Take,
+        Act::Take,
+        Act::Take,
+        Act::Take,
+    ],
+};
+
+/// No number may be drawn.
+const NONE_TO_DRAW: Script = Script {
+    plan: Plan {
+        begin: "tickets-two-seats:",
+        asks: &[Ask::Deposit(b"a")],
+        room: 2,
+        limit: 0,
+    },
+    acts: &[Act::Run(0), Act::Run(0), Act::Take],
+};
+
+/// One number may be drawn.
+const ONE_TO_DRAW: Script = Script {
+    plan: Plan {
+        begin: "tickets-two-seats:",
+        asks: &[Ask::Deposit(b"a")],
+        room: 2,
+        limit: 1,
+    },
+    acts: &[Act::Run(0), Act::Run(0), Act::Take],
+};
 
 /// A worker in which a record waits keeps its seats, until the record is taken out.
 fn waiting_worker<R: Wait>(rt: &R, alloc: Global, names: &Names) -> Result<Text, AllocError> {
@@ -138,7 +151,7 @@ fn waiting_worker<R: Wait>(rt: &R, alloc: Global, names: &Names) -> Result<Text,
         limit: 8,
     };
     let mut case = case_of(alloc, names, &plan)?;
-    case.play(rt, alloc, &[Act::Run(0), Act::Run(1)])?;
+    case.play(rt, &[Act::Run(0), Act::Run(1)]);
     let Case { crew, mut text, .. } = case;
     take_apart(crew.into_hand(), &mut text);
     Ok(text)
@@ -169,21 +182,25 @@ fn waiting_record<R: Threads + Wait + Sync>(
         limit: 8,
     };
     let case = case_of(alloc, names, &plan)?;
+    let met = at_once(rt, alloc, case, &OpenGate)?;
+    if !met.had_memory() {
+        return Err(AllocError);
+    }
     let Met {
         mut case,
         first,
         second,
-    } = at_once(rt, alloc, case, &OpenGate)?;
+    } = met;
     case.text.say_whether(first.is_ok() != second.is_ok());
     if first.is_ok() {
         case.crew.turn();
     }
-    case.play(rt, alloc, &[Act::Run(2)])?;
+    case.play(rt, &[Act::Run(2)]);
     let first = case.crew.take(rt).is_some();
-    case.play(rt, alloc, &[Act::Flush])?;
+    case.play(rt, &[Act::Flush]);
     let second = case.crew.take(rt).is_some();
     case.text.say_whether(first && second);
-    case.play(rt, alloc, &[Act::Run(2)])?;
+    case.play(rt, &[Act::Run(2)]);
     if let Some(record) = case.crew.take(rt) {
         case.text.say_entries(&record);
     }
@@ -234,6 +251,9 @@ fn answers<R: Threads + Wait + Sync, G: Watched>(
 ) -> Result<(bool, bool), AllocError> {
     let case = case_of(alloc, names, &pair_of(asks))?;
     let met = at_once(rt, alloc, case, gate)?;
+    if !met.had_memory() {
+        return Err(AllocError);
+    }
     Ok((met.first.is_ok(), met.second.is_ok()))
 }
 
@@ -250,7 +270,8 @@ fn say_each<R: Threads + Wait + Sync>(
         let is_so = if is_meeting {
             meet(rt, alloc, names, asks)?
         } else {
-            held(rt, alloc, names, asks)?
+            // Where a thread couldn't be started, once more.
+            held(rt, alloc, names, asks)? || held(rt, alloc, names, asks)?
         };
         text.say_whether(is_so);
     }
@@ -291,12 +312,17 @@ fn tell<R: Print>(rt: &R, told: Result<Text, AllocError>) -> io::Result<()> {
 
 // Prints the cases of one thread.
 fn tell_one_by_one<R: Print + Wait>(rt: &R, alloc: Global, names: &Names) -> io::Result<()> {
-    tell(rt, attempt_and_close(rt, alloc, names))?;
-    tell(rt, full_and_drained(rt, alloc, names))?;
-    tell(rt, spent(rt, alloc, names, 0))?;
-    tell(rt, spent(rt, alloc, names, 1))?;
-    tell(rt, one_lock_or_two(rt, alloc, names))?;
-    tell(rt, settled_and_undone(rt, alloc, names))?;
+    let scripts = [
+        ATTEMPT_AND_CLOSE,
+        FULL_AND_DRAINED,
+        NONE_TO_DRAW,
+        ONE_TO_DRAW,
+        ONE_LOCK_OR_TWO,
+        SETTLED_AND_WENT_BACK,
+    ];
+    for script in &scripts {
+        tell(rt, told(rt, alloc, names, script))?;
+    }
     tell(rt, waiting_worker(rt, alloc, names))
 }
 

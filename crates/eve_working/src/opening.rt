@@ -1,6 +1,6 @@
 //! Customers, their rows, and batches.
 
-use eve_accounts::{Amount, Balances, Names};
+use eve_accounts::{Amount, Balances, Name, Names};
 use eve_floor::Floor;
 use eve_write::{BatchData, RequestData, TransactionData};
 use std::alloc::{AllocError, Global};
@@ -34,7 +34,12 @@ pub enum Ask<'a> {
 pub fn batch_of(alloc: Global, asks: &[Ask]) -> Result<BatchData, AllocError> {
     let mut requests = Vec::with_capacity(alloc, asks.len())?;
     for ask in asks {
-        requests.push(request_of(alloc, *ask)?)?;
+        let transaction = transaction_of(*ask)?;
+        requests.push(RequestData {
+            client: 7,
+            number: 1,
+            transaction,
+        })?;
     }
     Ok(BatchData {
         sizes: Vec::new(alloc),
@@ -42,23 +47,16 @@ pub fn batch_of(alloc: Global, asks: &[Ask]) -> Result<BatchData, AllocError> {
     })
 }
 
-fn request_of(alloc: Global, ask: Ask) -> Result<RequestData, AllocError> {
-    Ok(RequestData {
-        client: 7,
-        number: 1,
-        transaction: transaction_of(alloc, ask)?,
-    })
-}
-
-fn transaction_of(alloc: Global, ask: Ask) -> Result<TransactionData, AllocError> {
+fn transaction_of(ask: Ask) -> Result<TransactionData, AllocError> {
     match ask {
         Ask::Deposit(to) => {
             let five = Amount::new(5).ok_or(AllocError)?;
-            Ok(TransactionData::DepositChecking(to.to_vec(alloc)?, five))
+            Ok(TransactionData::DepositChecking(name_of(to)?, five))
         }
-        Ask::Move(from, to) => Ok(TransactionData::Amalgamate(
-            from.to_vec(alloc)?,
-            to.to_vec(alloc)?,
-        )),
+        Ask::Move(from, to) => Ok(TransactionData::Amalgamate(name_of(from)?, name_of(to)?)),
     }
+}
+
+fn name_of(bytes: &[u8]) -> Result<Name, AllocError> {
+    Name::new(bytes).ok_or(AllocError)
 }

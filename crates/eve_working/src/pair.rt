@@ -29,6 +29,13 @@ pub struct Met<'n> {
     pub second: Result<(), ExecFault>,
 }
 
+impl<'n> Met<'n> {
+    /// Whether neither was refused memory.
+    pub fn had_memory(&self) -> bool {
+        self.first != Err(ExecFault::Memory) && self.second != Err(ExecFault::Memory)
+    }
+}
+
 /// Both workers at once: the one at hand executes request 0, the other request 1.
 pub fn at_once<'n, R: Threads + Wait + Sync, G: Watched>(
     rt: &R,

@@ -1,14 +1,13 @@
 //! What came of a case, told.
 
 use eve_floor::ExecFault;
-use eve_grammar::Restore;
 use eve_smallbank::Reply;
 use eve_stamps::AccessRecord;
-use std::alloc::Global;
+use std::alloc::{AllocError, Global};
 use std::io;
 use std::io::Write;
 
-/// The text of a case. Where memory runs out it ends in a mark, so that nothing is passed over.
+/// The text of a case. Where memory runs out, for a text or in a call, it isn't whole, and can't be printed.
 #[derive(Drop)]
 pub struct Text {
     text: String,
@@ -35,6 +34,9 @@ impl Text {
 
     /// Tells what a call answered.
     pub fn say_answer(&mut self, answer: Result<(), ExecFault>) {
+        if answer == Err(ExecFault::Memory) {
+            self.is_whole = false;
+        }
         self.say(match answer {
             Ok(()) => " ok",
             Err(ExecFault::Full) => " Full",
@@ -90,20 +92,13 @@ impl Text {
         }
     }
 
-    /// Tells each row as it is restored.
-    pub fn say_restores(&mut self, restores: &[Restore]) {
-        for restore in restores {
-            self.say_number("; row", i64::from(restore.row.number()));
-            self.say_number(" version", restore.version.cast_signed());
-            self.say_number(" value", restore.value.get());
-        }
-    }
-
-    /// Prints it.
+    /// Prints it, if it is whole.
     pub fn print<R: Print>(&self, rt: &R) -> io::Result<()> {
-        let mark = if self.is_whole { "\n" } else { " ..\n" };
+        if !self.is_whole {
+            return Err(AllocError)?;
+        }
         let mut out = io::writer(rt);
         out.write_all(self.text.as_bytes())?;
-        out.write_all(mark.as_bytes())
+        out.write_all(b"\n")
     }
 }

@@ -6,7 +6,8 @@ use Rattle.eve_recorder.proofs.recorder.cut.Goals as goal
 pub another-requires-clause-rule : goal.another-requires-clause-rule
 another-requires-clause-rule c =
     let m = c.requires.main in
-    let from = ap (λ (h : Ledger). h.from) m in let below = ap (λ (h : Ledger). h.below) m in let many = ap (λ (h : Ledger). h.workers) m in
+    let from = ap (λ (h : Ledger). h.from) m in let below = ap (λ (h : Ledger). h.below) m in let many =
+    ap (λ (h : Ledger). h.workers) m in
     forks_absent _ _ (ap (λ (h : Ledger). h.takes) m) from (omega arith) (omega arith) (ap (λ (h : Ledger). h.noted) m)
 
 pub another-pass-requires-clause-rule : goal.another-pass-requires-clause-rule

@@ -5,4 +5,5 @@ use Rattle.eve_stamps.specs.Stamping.{is_worn}
 use Rattle.eve_stamps.proofs.applying.are_worn.Given as goal
 
 abbrev pub invariant-loop-place : goal.invariant-loop-place
-invariant-loop-place l = (now : Table) → l.seen ≡ map (λ r. row_in now r.0) l.rows → is_worn now (take l.place l.rows) ≡ false
+invariant-loop-place l = (now : Table) → l.seen ≡ map (λ r. row_in now r.0) l.rows → is_worn now (take l.place l.rows)
+    ≡ false

@@ -1,7 +1,8 @@
 use Rattle.std.proofs.Common.{refl}
 use Rattle.eve_stamps.proofs.OpeningLaws.{opening_rows_with, opening_rows_without}
 use Rattle.eve_stamps.proofs.opening.opening_rows.Goals as goal
-use Rattle.eve_stamps.proofs.opening.opening_rows.Goals.{then-customer-stripe+in_ok-extend_from_slice, else-customer-stripe}
+use Rattle.eve_stamps.proofs.opening.opening_rows.Goals.{then-customer-stripe+in_ok-extend_from_slice}
+use Rattle.eve_stamps.proofs.opening.opening_rows.Goals.{else-customer-stripe}
 
 pub loop-customer-preserved : goal.loop-customer-preserved
 loop-customer-preserved c =

@@ -5,7 +5,8 @@ use Rattle.eve_stamps.proofs.rows.append_changed.Given as goal
 
 abbrev pub invariant-loop-place : goal.invariant-loop-place
 invariant-loop-place l = record {
-  items : l.restores.items ++ changed (drop l.place l.base) (drop l.place l.now) ≡ l.initial.restores.items ++ changed l.base l.now;
+  items : l.restores.items ++ changed (drop l.place l.base) (drop l.place l.now)
+      ≡ l.initial.restores.items ++ changed l.base l.now;
   room : vec_len l.restores + length (changed (drop l.place l.base) (drop l.place l.now)) ≤ vec_capacity l.restores;
   capacity : vec_capacity l.restores ≡ vec_capacity l.initial.restores;
 }

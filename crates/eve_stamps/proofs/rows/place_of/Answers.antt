@@ -7,4 +7,5 @@ pub returns : goal.returns
 returns c =
     let facts = c.binary_search_by_key.ensures in
     let by_key = facts.position (λ r. r.row) (answers_always _ _ _ (λ f a r g called. search rules)) in
-    place_found c.args.rows.now c.args.row c.number.result c.binary_search_by_key.result c.ok.result c.requires c.number.ensures.number facts.bound by_key c.ok.ensures.value
+    place_found c.args.rows.now c.args.row c.number.result c.binary_search_by_key.result c.ok.result c.requires
+    c.number.ensures.number facts.bound by_key c.ok.ensures.value

@@ -11,14 +11,18 @@ loop-place-init c = sym (rows_in_table-self c.args.rows.now c.requires.rise)
 pub write_one-requires-clause-rise : goal.write_one-requires-clause-rise
 write_one-requires-clause-rise c =
     subst RowsRise (sym c.loop-place.invariant)
-    (RowsRise-rows (table_after (table_in c.args.rows.now) (take c.loop-place.place c.args.entries.now)) c.args.rows.now c.requires.rise)
+    (RowsRise-rows (table_after (table_in c.args.rows.now) (take c.loop-place.place c.args.entries.now)) c.args.rows.now
+    c.requires.rise)
 
 pub write_one-requires-clause-entry : goal.write_one-requires-clause-entry
 write_one-requires-clause-entry c =
     subst (λ rows. IsEntryIn rows c.at.result) (sym c.loop-place.invariant)
-    (still_in c.args.rows.now (table_after (table_in c.args.rows.now) (take c.loop-place.place c.args.entries.now)) c.at.result
-    (all_at (IsEntryIn c.args.rows.now) c.args.entries.now c.loop-place.place c.at.result c.requires.entries c.at.ensures))
+    (still_in c.args.rows.now (table_after (table_in c.args.rows.now) (take c.loop-place.place c.args.entries.now))
+    c.at.result
+    (all_at (IsEntryIn c.args.rows.now) c.args.entries.now c.loop-place.place c.at.result c.requires.entries
+    c.at.ensures))
 
 pub loop-place-preserved : goal.loop-place-preserved
 loop-place-preserved c =
-    write_more c.args.rows.now c.loop-place.rows c.write_one.new.rows c.args.entries.now c.loop-place.place c.at.result c.requires.entries c.at.ensures c.loop-place.invariant c.write_one.ensures
+    write_more c.args.rows.now c.loop-place.rows c.write_one.new.rows c.args.entries.now c.loop-place.place c.at.result
+    c.requires.entries c.at.ensures c.loop-place.invariant c.write_one.ensures

@@ -6,4 +6,5 @@ returns-in-Read c = read_kept c.args.rows.now c.args.entry.now c.requires.rise c
 
 pub returns-in-Some : goal.returns-in-Some
 returns-in-Some c =
-    write_at c.args.rows.now c.in-Some.place c.in-Some.ensures.0 c.args.entry.now c.requires.rise c.in-Some.ensures.1 c.in-Some.ensures.2 c.in-Write.is
+    write_at c.args.rows.now c.in-Some.place c.in-Some.ensures.0 c.args.entry.now c.requires.rise c.in-Some.ensures.1
+    c.in-Some.ensures.2 c.in-Write.is

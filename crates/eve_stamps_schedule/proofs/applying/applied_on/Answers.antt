@@ -19,7 +19,9 @@ use Rattle.eve_stamps_schedule.specs.Schedule.{stripe_at, table_of}
 use Rattle.eve_stamps_schedule.specs.Applying.{IsKeptAt}
 use Rattle.eve_stamps_schedule.proofs.Spans.{AreEnds}
 use Rattle.eve_stamps_schedule.proofs.Reaches.{some_touched}
-use Rattle.eve_stamps_schedule.proofs.Applications.{one_table, one_kept, one_made, one_own, one_memory, IsParted, both_noted, two_table, two_kept, two_made, two_parted, two_memory, if_ok, if_ok_both}
+use Rattle.eve_stamps_schedule.proofs.Applications.{one_table, one_kept, one_made, one_own, one_memory, IsParted}
+use Rattle.eve_stamps_schedule.proofs.Applications.{both_noted, two_table, two_kept, two_made, two_parted, two_memory}
+use Rattle.eve_stamps_schedule.proofs.Applications.{if_ok, if_ok_both}
 use Rattle.eve_stamps_schedule.proofs.applying.applied_on.Goals as goal
 
 pub returns-in-Refused-clause-exact : goal.returns-in-Refused-clause-exact
@@ -28,17 +30,24 @@ returns-in-Refused-clause-exact c =
     let request : Request = plain c.args.request.now in
     c.untouched.ensures
     ∙ ap (noted_of c.args.worker c.args.place c.args.index c.args.tick)
-    (made_of_table names (table_of c.args.stripes.now) (record { request = request; reply = Aborted c.in-Refused.why; entries = [] })
+    (made_of_table names (table_of c.args.stripes.now)
+    (record { request = request; reply = Aborted c.in-Refused.why; entries = [] })
     (refused_fits names request c.in-Refused.why (sym c.touched-reached.ensures ∙ c.in-Refused.is)) tt)
 
 -- ---- on one stripe
 
-one_end : (c : goal.After-stripes-1) → AreEnds (needs c.args.names.now.items (plain c.args.request.now)) c.span_of-span.result.first c.span_of-span.result.first
+one_end : (c : goal.After-stripes-1)
+    → AreEnds (needs c.args.names.now.items (plain c.args.request.now)) c.span_of-span.result.first
+    c.span_of-span.result.first
 one_end c =
-    let same : c.in-Rows.rows ≡ rows_in (touched_of c.args.names.now.items (plain c.args.request.now)) = sym (ap rows_in c.in-Rows.is) ∙ ap rows_in c.touched-reached.ensures in
-    let some : 0 < length c.in-Rows.rows = some_touched c.args.names.now.items (plain c.args.request.now) c.in-Rows.rows (sym c.touched-reached.ensures ∙ c.in-Rows.is) in
-    subst (AreEnds (needs c.args.names.now.items (plain c.args.request.now)) c.span_of-span.result.first) (sym c.if-span.true)
-    (λ s. ap (λ (rs : Rows). touches rs s) (sym same) ∙ c.span_of-span.ensures.exact c.args.names.now.items (plain c.args.request.now) same some s)
+    let same : c.in-Rows.rows ≡ rows_in (touched_of c.args.names.now.items (plain c.args.request.now)) =
+    sym (ap rows_in c.in-Rows.is) ∙ ap rows_in c.touched-reached.ensures in
+    let some : 0 < length c.in-Rows.rows = some_touched c.args.names.now.items (plain c.args.request.now) c.in-Rows.rows
+    (sym c.touched-reached.ensures ∙ c.in-Rows.is) in
+    subst (AreEnds (needs c.args.names.now.items (plain c.args.request.now)) c.span_of-span.result.first)
+    (sym c.if-span.true)
+    (λ s. ap (λ (rs : Rows). touches rs s) (sym same) ∙ c.span_of-span.ensures.exact c.args.names.now.items
+    (plain c.args.request.now) same some s)
 
 pub returns-then-span-clause-exact : goal.returns-then-span-clause-exact
 returns-then-span-clause-exact c =
@@ -46,8 +55,10 @@ returns-then-span-clause-exact c =
     let request : Request = plain c.args.request.now in
     let a : ℕ = c.span_of-span.result.first in
     let noted = λ (x : Executed). noted_of c.args.worker c.args.place c.args.index c.args.tick x in
-    if_ok (λ r. r ≡ noted (executed_on names (rows_now (stripe_at c.args.stripes.now a)) request)) (λ r. r ≡ noted (executed_on names (table_of c.args.stripes.now) request)) c.on_one.result
-    (c.on_one.ensures.exact names c.touched-reached.ensures) (λ r e. e ∙ ap noted (one_made names c.args.stripes.now request a (one_end c)))
+    if_ok (λ r. r ≡ noted (executed_on names (rows_now (stripe_at c.args.stripes.now a)) request))
+    (λ r. r ≡ noted (executed_on names (table_of c.args.stripes.now) request)) c.on_one.result
+    (c.on_one.ensures.exact names c.touched-reached.ensures)
+    (λ r e. e ∙ ap noted (one_made names c.args.stripes.now request a (one_end c)))
 
 pub returns-then-span-clause-table : goal.returns-then-span-clause-table
 returns-then-span-clause-table c =
@@ -56,11 +67,14 @@ returns-then-span-clause-table c =
     let a : ℕ = c.span_of-span.result.first in
     let here : List Stripe = c.args.stripes.now in
     let within : a < length here = omega arith in
-    if_ok_both (λ r. r ≡ noted_of c.args.worker c.args.place c.args.index c.args.tick (executed_on names (rows_now (stripe_at here a)) request))
-    (λ r. c.on_one.new.stripes ≡ set here a (noted_in (stripe_at here a) c.args.tick r.entries)) (λ r. table_of c.on_one.new.stripes ≡ table_after (table_of here) r.entries) c.on_one.result
+    if_ok_both (λ r. r ≡ noted_of c.args.worker c.args.place c.args.index c.args.tick
+    (executed_on names (rows_now (stripe_at here a)) request))
+    (λ r. c.on_one.new.stripes ≡ set here a (noted_in (stripe_at here a) c.args.tick r.entries))
+    (λ r. table_of c.on_one.new.stripes ≡ table_after (table_of here) r.entries) c.on_one.result
     (c.on_one.ensures.exact names c.touched-reached.ensures) c.on_one.ensures.journal
     (λ r e j. ap table_of j ∙ one_table here a c.args.tick r.entries within
-    (subst (λ (x : Applied). AllByRecursion (λ (f : Entry). stripe_of f.row ≡ a) x.entries) (sym e) (one_own names (rows_now (stripe_at here a)) request a (one_end c))))
+    (subst (λ (x : Applied). AllByRecursion (λ (f : Entry). stripe_of f.row ≡ a) x.entries) (sym e)
+    (one_own names (rows_now (stripe_at here a)) request a (one_end c))))
 
 pub returns-then-span-clause-stripes : goal.returns-then-span-clause-stripes
 returns-then-span-clause-stripes c =
@@ -70,8 +84,10 @@ returns-then-span-clause-stripes c =
     let here : List Stripe = c.args.stripes.now in
     let within : a < length here = omega arith in
     if_ok (λ r. c.on_one.new.stripes ≡ set here a (noted_in (stripe_at here a) c.args.tick r.entries))
-    (λ r. (i : ℕ) → IsKeptAt c.args.tick (needs names request i) (stripe_at here i) (stripe_at c.on_one.new.stripes i)) c.on_one.result c.on_one.ensures.journal
-    (λ r j i. subst (λ ss. IsKeptAt c.args.tick (needs names request i) (stripe_at here i) (stripe_at ss i)) (sym j) (one_kept here a c.args.tick r.entries (needs names request) i within (one_end c)))
+    (λ r. (i : ℕ) → IsKeptAt c.args.tick (needs names request i) (stripe_at here i) (stripe_at c.on_one.new.stripes i))
+    c.on_one.result c.on_one.ensures.journal
+    (λ r j i. subst (λ ss. IsKeptAt c.args.tick (needs names request i) (stripe_at here i) (stripe_at ss i)) (sym j)
+    (one_kept here a c.args.tick r.entries (needs names request) i within (one_end c)))
 
 pub returns-then-span-clause-memory : goal.returns-then-span-clause-memory
 returns-then-span-clause-memory c =
@@ -79,16 +95,23 @@ returns-then-span-clause-memory c =
     let request : Request = plain c.args.request.now in
     let a : ℕ = c.span_of-span.result.first in
     let here : List Stripe = c.args.stripes.now in
-    one_memory names here request a c.args.tick c.on_one.result c.requires.rows (omega arith) (one_end c) c.requires.above c.requires.fresh
-    (subst (λ (t : Touched). IsRefusedFor (refusal (stripe_at here a) c.args.tick (rows_in t)) c.on_one.result) c.touched-reached.ensures c.on_one.ensures.refused)
+    one_memory names here request a c.args.tick c.on_one.result c.requires.rows (omega arith)
+    (one_end c) c.requires.above c.requires.fresh
+    (subst (λ (t : Touched). IsRefusedFor (refusal (stripe_at here a) c.args.tick (rows_in t)) c.on_one.result)
+    c.touched-reached.ensures c.on_one.ensures.refused)
 
 -- ---- on two
 
-two_ends : (c : goal.After-stripes-2-1) → AreEnds (needs c.args.names.now.items (plain c.args.request.now)) c.span_of-span.result.first c.span_of-span.result.last
+two_ends : (c : goal.After-stripes-2-1)
+    → AreEnds (needs c.args.names.now.items (plain c.args.request.now)) c.span_of-span.result.first
+    c.span_of-span.result.last
 two_ends c =
-    let same : c.in-Rows.rows ≡ rows_in (touched_of c.args.names.now.items (plain c.args.request.now)) = sym (ap rows_in c.in-Rows.is) ∙ ap rows_in c.touched-reached.ensures in
-    let some : 0 < length c.in-Rows.rows = some_touched c.args.names.now.items (plain c.args.request.now) c.in-Rows.rows (sym c.touched-reached.ensures ∙ c.in-Rows.is) in
-    λ s. ap (λ (rs : Rows). touches rs s) (sym same) ∙ c.span_of-span.ensures.exact c.args.names.now.items (plain c.args.request.now) same some s
+    let same : c.in-Rows.rows ≡ rows_in (touched_of c.args.names.now.items (plain c.args.request.now)) =
+    sym (ap rows_in c.in-Rows.is) ∙ ap rows_in c.touched-reached.ensures in
+    let some : 0 < length c.in-Rows.rows = some_touched c.args.names.now.items (plain c.args.request.now) c.in-Rows.rows
+    (sym c.touched-reached.ensures ∙ c.in-Rows.is) in
+    λ s. ap (λ (rs : Rows). touches rs s) (sym same) ∙ c.span_of-span.ensures.exact c.args.names.now.items
+    (plain c.args.request.now) same some s
 
 pub returns-clause-exact : goal.returns-clause-exact
 returns-clause-exact c =
@@ -99,8 +122,11 @@ returns-clause-exact c =
     let here : List Stripe = c.args.stripes.now in
     let less : a < b = omega arith in
     let noted = λ (x : Executed). noted_of c.args.worker c.args.place c.args.index c.args.tick x in
-    if_ok (λ r. r ≡ noted (executed_on names (rows_in_two (stripe_at here a) (stripe_at here b)) request)) (λ r. r ≡ noted (executed_on names (table_of here) request)) c.on_two.result
-    (c.on_two.ensures.exact names c.touched-reached.ensures) (λ r e. e ∙ ap noted (two_made names here request a b c.requires.rows less c.span_of-span.ensures.range (two_ends c)))
+    if_ok (λ r. r ≡ noted (executed_on names (rows_in_two (stripe_at here a) (stripe_at here b)) request))
+    (λ r. r ≡ noted (executed_on names (table_of here) request)) c.on_two.result
+    (c.on_two.ensures.exact names c.touched-reached.ensures)
+    (λ r e. e ∙ ap noted (two_made names here request a b c.requires.rows less c.span_of-span.ensures.range
+    (two_ends c)))
 
 pub returns-clause-table : goal.returns-clause-table
 returns-clause-table c =
@@ -111,12 +137,15 @@ returns-clause-table c =
     let here : List Stripe = c.args.stripes.now in
     let less : a < b = omega arith in
     let within : b < length here = omega arith in
-    if_ok_both (λ r. r ≡ noted_of c.args.worker c.args.place c.args.index c.args.tick (executed_on names (rows_in_two (stripe_at here a) (stripe_at here b)) request))
-    (λ r. c.on_two.new.stripes ≡ both_noted here a b c.args.tick r.entries) (λ r. table_of c.on_two.new.stripes ≡ table_after (table_of here) r.entries) c.on_two.result
+    if_ok_both (λ r. r ≡ noted_of c.args.worker c.args.place c.args.index c.args.tick
+    (executed_on names (rows_in_two (stripe_at here a) (stripe_at here b)) request))
+    (λ r. c.on_two.new.stripes ≡ both_noted here a b c.args.tick r.entries)
+    (λ r. table_of c.on_two.new.stripes ≡ table_after (table_of here) r.entries) c.on_two.result
     (c.on_two.ensures.exact names c.touched-reached.ensures) c.on_two.ensures.journals
     (λ r e j. ap table_of j ∙ two_table here a b c.args.tick r.entries less within
     (subst (λ (x : Applied). AllByRecursion (IsParted (stripe_at here a) a b) x.entries) (sym e)
-    (two_parted names here (rows_in_two (stripe_at here a) (stripe_at here b)) request a b c.requires.rows less c.span_of-span.ensures.range (two_ends c))))
+    (two_parted names here (rows_in_two (stripe_at here a) (stripe_at here b)) request a b c.requires.rows less
+    c.span_of-span.ensures.range (two_ends c))))
 
 pub returns-clause-stripes : goal.returns-clause-stripes
 returns-clause-stripes c =
@@ -128,8 +157,10 @@ returns-clause-stripes c =
     let less : a < b = omega arith in
     let within : b < length here = omega arith in
     if_ok (λ r. c.on_two.new.stripes ≡ both_noted here a b c.args.tick r.entries)
-    (λ r. (i : ℕ) → IsKeptAt c.args.tick (needs names request i) (stripe_at here i) (stripe_at c.on_two.new.stripes i)) c.on_two.result c.on_two.ensures.journals
-    (λ r j i. subst (λ ss. IsKeptAt c.args.tick (needs names request i) (stripe_at here i) (stripe_at ss i)) (sym j) (two_kept here a b c.args.tick r.entries (needs names request) i less within (two_ends c)))
+    (λ r. (i : ℕ) → IsKeptAt c.args.tick (needs names request i) (stripe_at here i) (stripe_at c.on_two.new.stripes i))
+    c.on_two.result c.on_two.ensures.journals
+    (λ r j i. subst (λ ss. IsKeptAt c.args.tick (needs names request i) (stripe_at here i) (stripe_at ss i)) (sym j)
+    (two_kept here a b c.args.tick r.entries (needs names request) i less within (two_ends c)))
 
 pub returns-clause-memory : goal.returns-clause-memory
 returns-clause-memory c =
@@ -139,5 +170,7 @@ returns-clause-memory c =
     let b : ℕ = c.span_of-span.result.last in
     let here : List Stripe = c.args.stripes.now in
     let less : a < b = omega arith in
-    two_memory names here request a b c.args.tick c.on_two.result c.requires.rows less c.span_of-span.ensures.range (two_ends c) c.requires.above c.requires.fresh
-    (subst (λ (t : Touched). IsRefusedFor (refusal_of_two (stripe_at here a) (stripe_at here b) c.args.tick (rows_in t)) c.on_two.result) c.touched-reached.ensures c.on_two.ensures.refused)
+    two_memory names here request a b c.args.tick c.on_two.result c.requires.rows less c.span_of-span.ensures.range
+    (two_ends c) c.requires.above c.requires.fresh
+    (subst (λ (t : Touched). IsRefusedFor (refusal_of_two (stripe_at here a) (stripe_at here b) c.args.tick (rows_in t))
+    c.on_two.result) c.touched-reached.ensures c.on_two.ensures.refused)

@@ -7,5 +7,8 @@ use Rattle.eve_stamps_schedule.proofs.opening.opening_stripes.Goals as goal
 pub loop-stripe-preserved : goal.loop-stripe-preserved
 loop-stripe-preserved c =
     c.in_ok-push.ensures.items
-    ∙ ap₂ (λ (stripes : List Stripe) (stripe : Stripe). stripes ++ stripe ∷ []) c.loop-stripe.invariant c.in_ok-opening_stripe.ensures
-    ∙ sym (map-range_with_len_more (λ i. record { base = opening_rows c.args.balances.now i c.args.customers; journal = []; greatest = None }) 0 c.loop-stripe.stripe c.loop-stripe.stripe (omega arith))
+    ∙ ap₂ (λ (stripes : List Stripe) (stripe : Stripe). stripes ++ stripe ∷ []) c.loop-stripe.invariant
+    c.in_ok-opening_stripe.ensures
+    ∙ sym (map-range_with_len_more
+    (λ i. record { base = opening_rows c.args.balances.now i c.args.customers; journal = []; greatest = None }) 0
+    c.loop-stripe.stripe c.loop-stripe.stripe (omega arith))

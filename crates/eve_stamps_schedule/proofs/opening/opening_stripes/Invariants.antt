@@ -5,4 +5,5 @@ use Rattle.eve_stamps_schedule.proofs.opening.opening_stripes.Given as goal
 
 abbrev pub invariant-loop-stripe : goal.invariant-loop-stripe
 invariant-loop-stripe l =
-    l.stripes.items ≡ map (λ i. record { base = opening_rows l.balances i l.customers; journal = []; greatest = None }) (range_with_len 0 l.stripe)
+    l.stripes.items ≡ map (λ i. record { base = opening_rows l.balances i l.customers; journal = []; greatest = None })
+    (range_with_len 0 l.stripe)

@@ -12,46 +12,61 @@ use Rattle.eve_recorder.proofs.Ending.{own_at, tied, noted_at, noted_past, from_
 use Rattle.eve_recorder.proofs.recorder.Recorder.finish.Goals as goal
 
 pub put_back-requires-clause-own : goal.put_back-requires-clause-own
-put_back-requires-clause-own c = own_at _ (row_of c.seats.inside.row) 0 (tied c.seats.view_is c.requires.own c.self.view_is) c.seats.invariant.3
+put_back-requires-clause-own c = own_at _ (row_of c.seats.inside.row) 0
+    (tied c.seats.view_is c.requires.own c.self.view_is) c.seats.invariant.3
 
 pub put_back-requires-2-clause-own : goal.put_back-requires-2-clause-own
-put_back-requires-2-clause-own c = own_at _ (row_of c.seats.inside.row) 1 (tied c.seats.view_is c.requires.own c.self.view_is) c.seats.invariant.3
+put_back-requires-2-clause-own c = own_at _ (row_of c.seats.inside.row) 1
+    (tied c.seats.view_is c.requires.own c.self.view_is) c.seats.invariant.3
 
 pub put_back-requires-3-clause-own : goal.put_back-requires-3-clause-own
-put_back-requires-3-clause-own c = own_at _ (row_of c.seats.inside.row) 2 (tied c.seats.view_is c.requires.own c.self.view_is) c.seats.invariant.3
+put_back-requires-3-clause-own c = own_at _ (row_of c.seats.inside.row) 2
+    (tied c.seats.view_is c.requires.own c.self.view_is) c.seats.invariant.3
 
 pub put_back-requires-4-clause-own : goal.put_back-requires-4-clause-own
-put_back-requires-4-clause-own c = own_at _ (row_of c.seats.inside.row) 3 (tied c.seats.view_is c.requires.own c.self.view_is) c.seats.invariant.3
+put_back-requires-4-clause-own c = own_at _ (row_of c.seats.inside.row) 3
+    (tied c.seats.view_is c.requires.own c.self.view_is) c.seats.invariant.3
 
 pub put_back-requires-5-clause-own : goal.put_back-requires-5-clause-own
-put_back-requires-5-clause-own c = own_at _ (row_of c.seats.inside.row) 4 (tied c.seats.view_is c.requires.own c.self.view_is) c.seats.invariant.3
+put_back-requires-5-clause-own c = own_at _ (row_of c.seats.inside.row) 4
+    (tied c.seats.view_is c.requires.own c.self.view_is) c.seats.invariant.3
 
 pub put_back-requires-6-clause-own : goal.put_back-requires-6-clause-own
-put_back-requires-6-clause-own c = own_at _ (row_of c.seats.inside.row) 5 (tied c.seats.view_is c.requires.own c.self.view_is) c.seats.invariant.3
+put_back-requires-6-clause-own c = own_at _ (row_of c.seats.inside.row) 5
+    (tied c.seats.view_is c.requires.own c.self.view_is) c.seats.invariant.3
 
 pub put_back-requires-7-clause-own : goal.put_back-requires-7-clause-own
-put_back-requires-7-clause-own c = own_at _ (row_of c.seats.inside.row) 6 (tied c.seats.view_is c.requires.own c.self.view_is) c.seats.invariant.3
+put_back-requires-7-clause-own c = own_at _ (row_of c.seats.inside.row) 6
+    (tied c.seats.view_is c.requires.own c.self.view_is) c.seats.invariant.3
 
 pub put_back-requires-8-clause-own : goal.put_back-requires-8-clause-own
-put_back-requires-8-clause-own c = own_at _ (row_of c.seats.inside.row) 7 (tied c.seats.view_is c.requires.own c.self.view_is) c.seats.invariant.3
+put_back-requires-8-clause-own c = own_at _ (row_of c.seats.inside.row) 7
+    (tied c.seats.view_is c.requires.own c.self.view_is) c.seats.invariant.3
 
 noted : (c : goal.After-absorb) → all_noted (row_of c.seats.inside.row) ≡ (view c.absorb.new.pass).noted
 noted c = let n : Ledger → List Applied = λ h. h.noted in let r = c.seats.inside.row in
     all_gathered noted_on _ _ _ _ _ _ _ _ _ r.s0 r.s1 r.s2 r.s3 r.s4 r.s5 r.s6 r.s7 (ap n c.seats.invariant.1)
-    (ap n c.put_back.ensures.main) (ap n c.put_back-2.ensures.main) (ap n c.put_back-3.ensures.main) (ap n c.put_back-4.ensures.main)
-    (ap n c.put_back-5.ensures.main) (ap n c.put_back-6.ensures.main) (ap n c.put_back-7.ensures.main) (ap n c.put_back-8.ensures.main)
+    (ap n c.put_back.ensures.main) (ap n c.put_back-2.ensures.main) (ap n c.put_back-3.ensures.main)
+    (ap n c.put_back-4.ensures.main)
+    (ap n c.put_back-5.ensures.main) (ap n c.put_back-6.ensures.main) (ap n c.put_back-7.ensures.main)
+    (ap n c.put_back-8.ensures.main)
     ∙ sym (ap n c.absorb.ensures.rule)
 
 pub absorb-requires-clause-rule : goal.absorb-requires-clause-rule
 absorb-requires-clause-rule c =
     let here : RecorderId = recorder_id c.seats.inside.main.table_id c.seats.inside.workers in
     let own : c.in-Some.taker.recorder ≡ here = subst (IsAt here) c.in-Some.is c.seats.invariant.4 in
-    let many = ap (λ (t : Taker). t.recorder.workers) c.taker.view_is ∙ ap (λ (r : RecorderId). r.workers) own ∙ sym (ap (λ (h : Ledger). h.workers) c.put_back-8.ensures.main) in
+    let many = ap (λ (t : Taker). t.recorder.workers) c.taker.view_is ∙ ap (λ (r : RecorderId). r.workers) own
+    ∙ sym (ap (λ (h : Ledger). h.workers) c.put_back-8.ensures.main) in
     merges_taker _ _ _ _ (ap (λ (h : Ledger). h.takes) c.taker.invariant.1) many
 
 pub returns-clause-noted : goal.returns-clause-noted
-returns-clause-noted c k x e = ap (of_worker k) (sym (noted c)) ∙ noted_at 0 k k (row_of c.seats.inside.row) x (omega arith) (from_seated _ (row_of c.seats.inside.row) c.seats.invariant.3)
+returns-clause-noted c k x e = ap (of_worker k) (sym (noted c))
+    ∙ noted_at 0 k k (row_of c.seats.inside.row) x (omega arith)
+    (from_seated _ (row_of c.seats.inside.row) c.seats.invariant.3)
     (ap (λ (p : Places). slice_get p.seats k) c.seats.view_is ∙ e)
 
 pub returns-clause-others : goal.returns-clause-others
-returns-clause-others c k le = ap (of_worker k) (sym (noted c)) ∙ noted_past _ (row_of c.seats.inside.row) k c.seats.invariant.3 (subst (λ (p : Places). p.recorder.workers ≤ k) (sym c.seats.view_is) le)
+returns-clause-others c k le = ap (of_worker k) (sym (noted c))
+    ∙ noted_past _ (row_of c.seats.inside.row) k c.seats.invariant.3
+    (subst (λ (p : Places). p.recorder.workers ≤ k) (sym c.seats.view_is) le)

@@ -7,8 +7,11 @@ use Rattle.eve_recorder.proofs.OneSeat.{note_step, seat_after, full_by, full_alo
 use Rattle.eve_recorder.proofs.recorder.Recorder.note.Goals as goal
 
 pub push_as-requires-clause-queue : goal.push_as-requires-clause-queue
-push_as-requires-clause-queue g c =
-    (ap (λ (s : Noter). s.recorder.table) c.seat.view_is ∙ ap (λ (r : RecorderId). r.table) c.requires.own ∙ sym (ap (λ (d : Desk). d.recorder.table) c.self.view_is), c.seat.invariant.0)
+push_as-requires-clause-queue g c = (
+  ap (λ (s : Noter). s.recorder.table) c.seat.view_is ∙ ap (λ (r : RecorderId). r.table) c.requires.own
+      ∙ sym (ap (λ (d : Desk). d.recorder.table) c.self.view_is),
+  c.seat.invariant.0,
+)
 
 pub push_as-requires-clause-rule : goal.push_as-requires-clause-rule
 push_as-requires-clause-rule g c = let i = c.seat.invariant.1 in let r = rw (← c.seat.view_is) at c.requires.next in
@@ -21,13 +24,17 @@ invariant_of-seat g c = let i = c.seat.invariant.1 in let r = rw (← c.seat.vie
 pub returns-in-Err-clause-full : goal.returns-in-Err-clause-full
 returns-in-Err-clause-full g c =
     let pass = c.seat.inside.pass in let desk = c.args.self.now in
-    let own : recorder_id pass.table_id (view pass).workers ≡ desk.recorder = ap (λ (s : Noter). s.recorder) c.seat.view_is ∙ c.requires.own in
-    let held = subst (λ n. Held n (SeesSome (view pass))) (ap (λ (d : Desk). d.room) c.self.view_is) c.in-Err.ensures.rule.2 in
-    subst (WasFull desk) c.seat.view_is (full_by desk pass.table_id c.seat.inside.worker c.seat.inside.place (view pass) c.seat.invariant.1 own held)
+    let own : recorder_id pass.table_id (view pass).workers ≡ desk.recorder =
+    ap (λ (s : Noter). s.recorder) c.seat.view_is ∙ c.requires.own in
+    let held = subst (λ n. Held n (SeesSome (view pass))) (ap (λ (d : Desk). d.room) c.self.view_is)
+    c.in-Err.ensures.rule.2 in
+    subst (WasFull desk) c.seat.view_is
+    (full_by desk pass.table_id c.seat.inside.worker c.seat.inside.place (view pass) c.seat.invariant.1 own held)
 
 pub returns-in-Err-clause-alone : goal.returns-in-Err-clause-alone
 returns-in-Err-clause-alone g c one =
     let is = ap (λ (s : Noter). s.worker) c.seat.view_is in
-    let many = ap (λ (s : Noter). s.recorder.workers) c.seat.view_is ∙ ap (λ (r : RecorderId). r.workers) c.requires.own in
+    let many = ap (λ (s : Noter). s.recorder.workers) c.seat.view_is
+    ∙ ap (λ (r : RecorderId). r.workers) c.requires.own in
     let lt = c.seat.invariant.1.1 in
     full_alone c.args.self.now c.args.seat.now (returns-in-Err-clause-full g c) (omega arith) one

@@ -13,6 +13,7 @@ invariant_of-self c = let i = c.self.invariant in let s = c.self.inside in let s
     let all = subst (λ (x : Noter). AllOf x.worker x.noted) c.seat.view_is c.seat.invariant.1.4 in
     let many = ap (λ (x : Noter). x.recorder.workers) c.seat.view_is ∙ ap (λ (r : RecorderId). r.workers) own in
     let lt = c.seat.invariant.1.1 in
-    let row : set (row_of s.row) seat.worker (Some seat) ≡ row_of c.put.new.self = sym (c.put.ensures ∙ ap (λ k. set (row_of s.row) k (Some seat)) is) in
+    let row : set (row_of s.row) seat.worker (Some seat) ≡ row_of c.put.new.self =
+    sym (c.put.ensures ∙ ap (λ k. set (row_of s.row) k (Some seat)) is) in
     let seated = seated_with (IsNoterOf here) (row_of s.row) seat.worker seat i.3 (own, refl, omega arith, all) in
     (i.0, i.1, i.2, subst (λ (l : List (Option Noter)). IsSeated here l) row seated, i.4)

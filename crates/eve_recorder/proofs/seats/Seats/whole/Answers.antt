@@ -9,4 +9,5 @@ there (Some x) e = refl
 
 pub returns-then-is_some : goal.returns-then-is_some
 returns-then-is_some c = let h = c.has_below.ensures in
-    subst (λ (p : Places). IsTrue c.has_below.result ↔ IsWhole p) c.self.view_is ((λ t. (there c.self.inside.taker (sym (c.if-is_some.ensures)), h.0 t)), λ w. h.1 w.1)
+    subst (λ (p : Places). IsTrue c.has_below.result ↔ IsWhole p) c.self.view_is
+    ((λ t. (there c.self.inside.taker (sym (c.if-is_some.ensures)), h.0 t)), λ w. h.1 w.1)

@@ -9,8 +9,10 @@ invariant_of-self c = let i = c.self.invariant in let s = c.args.seat in
     let t : Source = source c.self.inside.rest.table_id c.self.inside.seats c.self.inside.limit in
     let own : s.tickets ≡ t = c.requires ∙ sym (ap (λ (p : Drawers). p.tickets) c.self.view_is) in
     let is : c.seat.inside.number ≡ s.number = ap (λ (x : Drawer). x.number) c.seat.view_is in
-    let seats : c.seat.inside.seats ≡ t.seats = ap (λ (x : Drawer). x.tickets.seats) c.seat.view_is ∙ ap (λ (u : Source). u.seats) own in
+    let seats : c.seat.inside.seats ≡ t.seats = ap (λ (x : Drawer). x.tickets.seats) c.seat.view_is
+    ∙ ap (λ (u : Source). u.seats) own in
     let lt : s.number < t.seats = omega (arith, c.seat.invariant.2) in
-    let row : set (row_of c.self.inside.row) s.number (Some s) ≡ row_of c.put.new.self = sym (c.put.ensures ∙ ap (λ k. set (row_of c.self.inside.row) k (Some s)) is) in
+    let row : set (row_of c.self.inside.row) s.number (Some s) ≡ row_of c.put.new.self =
+    sym (c.put.ensures ∙ ap (λ k. set (row_of c.self.inside.row) k (Some s)) is) in
     let seated = seated_with (IsDrawerOf t) (row_of c.self.inside.row) s.number s i.4 (own, refl, lt) in
     (i.0, i.1, i.2, i.3, subst (λ (l : List (Option Drawer)). IsSeated t l) row seated)

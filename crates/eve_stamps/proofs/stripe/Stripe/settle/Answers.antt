@@ -20,33 +20,44 @@ settled : (c : goal.After-retain) → committed_to c
 settled c =
     with_items_is c.self.inside.base c.write_up_to.new.rows (c.write_up_to.auto.rows ∙ c.deref_mut.ensures.len)
     ∙ c.write_up_to.ensures
-    ∙ ap₂ (λ (bs : List Restore) (js : List Journaled). rows_in_table (table_after_journal (table_in bs) (filter (up_to c.args.tick) js)) bs) c.deref_mut.ensures.value c.deref-2.ensures.value
+    ∙ ap₂ (λ (bs : List Restore) (js : List Journaled). rows_in_table
+    (table_after_journal (table_in bs) (filter (up_to c.args.tick) js)) bs) c.deref_mut.ensures.value
+    c.deref-2.ensures.value
 
 kept : (c : goal.After-retain) → c.retain.new.self.items ≡ filter (behind c.args.tick) c.self.inside.journal.items
 kept c = filter_same _ (behind c.args.tick) _ (λ x b f' k. search rules) _ _ c.retain.ensures.filtered
 
 -- where all is settled, the rows are those that are committed
-whole : (c : goal.After-clear) → (filter (up_to c.args.tick) c.self.inside.journal.items ≡ c.self.inside.journal.items) × (filter (behind c.args.tick) c.self.inside.journal.items ≡ [])
+whole : (c : goal.After-clear) → (filter (up_to c.args.tick) c.self.inside.journal.items ≡ c.self.inside.journal.items)
+    × (filter (behind c.args.tick) c.self.inside.journal.items ≡ [])
 whole c = let all = c.if-is_all_up_to.true in (
-  subst (λ (s : Stripe). filter (up_to c.args.tick) s.journal ≡ s.journal) (sym c.self.view_is) (c.is_all_up_to.ensures.journal all),
-  subst (λ (s : Stripe). filter (behind c.args.tick) s.journal ≡ []) (sym c.self.view_is) (c.is_all_up_to.ensures.rest all),
+  subst (λ (s : Stripe). filter (up_to c.args.tick) s.journal ≡ s.journal) (sym c.self.view_is)
+      (c.is_all_up_to.ensures.journal all),
+  subst (λ (s : Stripe). filter (behind c.args.tick) s.journal ≡ []) (sym c.self.view_is)
+      (c.is_all_up_to.ensures.rest all),
 )
 
 as_now : (c : goal.After-clear) → c.self.inside.rows.items
-    ≡ rows_in_table (table_after_journal (table_in c.self.inside.base.items) (filter (up_to c.args.tick) c.self.inside.journal.items)) c.self.inside.base.items
+    ≡ rows_in_table (table_after_journal (table_in c.self.inside.base.items)
+    (filter (up_to c.args.tick) c.self.inside.journal.items)) c.self.inside.base.items
 as_now c = let base : List Restore = c.self.inside.base.items in
-    c.self.invariant.as_now ∙ ap (λ (js : List Journaled). rows_in_table (table_after_journal (table_in base) js) base) (sym (whole c).0)
+    c.self.invariant.as_now ∙ ap (λ (js : List Journaled). rows_in_table (table_after_journal (table_in base) js) base)
+    (sym (whole c).0)
 
 pub invariant_of-self : goal.invariant_of-self
 invariant_of-self c = let s = c.self.inside in
     rw (c.copy_from_slice.ensures.items, c.deref.ensures.value, c.clear.ensures.items)
-    (held_settled s.base.items s.rows.items s.rows.items s.journal.items [] s.greatest c.args.tick c.self.invariant (as_now c) (sym (whole c).1))
+    (held_settled s.base.items s.rows.items s.rows.items s.journal.items [] s.greatest c.args.tick c.self.invariant
+    (as_now c) (sym (whole c).1))
 
 pub invariant_of-self-2 : goal.invariant_of-self-2
 invariant_of-self-2 c =
-    held_settled c.self.inside.base.items c.self.inside.rows.items (with_items c.self.inside.base c.write_up_to.new.rows).items c.self.inside.journal.items c.retain.new.self.items c.self.inside.greatest c.args.tick
+    held_settled c.self.inside.base.items c.self.inside.rows.items
+    (with_items c.self.inside.base c.write_up_to.new.rows).items c.self.inside.journal.items c.retain.new.self.items
+    c.self.inside.greatest c.args.tick
     c.self.invariant (settled c) (kept c)
 
 pub returns : goal.returns
 returns c =
-    ap₂ (λ (bs : List Restore) (js : List Journaled). stripe_of bs js c.self.inside.greatest) (settled c) (kept c) ∙ ap (settled_to c.args.tick) c.self.view_is
+    ap₂ (λ (bs : List Restore) (js : List Journaled). stripe_of bs js c.self.inside.greatest) (settled c) (kept c)
+    ∙ ap (settled_to c.args.tick) c.self.view_is

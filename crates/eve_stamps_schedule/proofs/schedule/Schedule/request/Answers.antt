@@ -13,8 +13,10 @@ pub returns : goal.returns
 returns c =
     let items : List RequestData = c.self.inside.batch.now.requests.items in
     let x : RequestData = c.index.result.now in
-    let two : c.args.index < length (schedule_of c.self.inside).requests = subst (λ (t : Schedule). c.args.index < length t.requests) (sym c.self.view_is) c.requires.there in
-    let there : c.args.index < length (map asked items) = rw (← length-map (map asked items) (λ (a : Asked). a.request)) two in
+    let two : c.args.index < length (schedule_of c.self.inside).requests =
+    subst (λ (t : Schedule). c.args.index < length t.requests) (sym c.self.view_is) c.requires.there in
+    let there : c.args.index < length (map asked items) = rw (← length-map (map asked items) (λ (a : Asked). a.request))
+    two in
     let here : c.args.index < length items = rw (← length-map items asked) there in
     subst (λ (s : Schedule). plain c.request.result ≡ request_at (plan_of s) c.args.index) c.self.view_is
     (c.request.ensures
