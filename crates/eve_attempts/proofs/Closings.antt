@@ -1,5 +1,7 @@
 -- The records of a batch become an attempt.
-use Rattle.std.proofs.Common.{◌≡◌, ℕ, ℤ, ◌+◌, ◌≤◌, ◌==◌, nat_le, true, false, ltb, leb, IsTrue, List, [], ◌∷◌, ◌++◌, map, length, replicate, sum, slice_get, Some, refl, sym, subst, ap, ◌∙◌, append-nil, arith}
+use Rattle.std.proofs.Common.{◌≡◌, ℕ, ℤ, ◌+◌, ◌≤◌, ◌==◌, nat_le, true, false, ltb, leb, IsTrue, List, [], ◌∷◌, ◌++◌}
+use Rattle.std.proofs.Common.{map, length, replicate, sum, slice_get, Some, refl, sym, subst, ap, ◌∙◌, append-nil}
+use Rattle.std.proofs.Common.{arith}
 use Rattle.std.specs.List.{AllByRecursion, list_all}
 use Rattle.std.proofs.lemmas.Bool.{and_parts, and_from, eq-eqb, lt-ltb, ltb-true, le-leb, leb-true}
 use Rattle.std.proofs.lemmas.List.{length-map, length-replicate}
@@ -10,7 +12,8 @@ use Rattle.eve_smallbank.specs.declared.request.Reply.TheVariants.{Done}
 use Rattle.eve_smallbank.specs.declared.rows.Touched.{Touched}
 use Rattle.eve_smallbank.specs.Chain.{Table, table_after}
 use Rattle.eve_grammar.specs.Trace.{Access, Batch, Attempt}
-use Rattle.eve_grammar.specs.Limits.{is_number, is_between, is_token, is_reply, is_batch, is_access, is_attempt, is_whole_attempt}
+use Rattle.eve_grammar.specs.Limits.{is_number, is_between, is_token, is_reply, is_batch, is_access, is_attempt}
+use Rattle.eve_grammar.specs.Limits.{is_whole_attempt}
 use Rattle.eve_grammar.specs.Certificate.{is_permutation, is_certificate, keeps_groups}
 use Rattle.eve_grammar.proofs.Grouping.{few_requests}
 use Rattle.eve_stamps.specs.Applied.{Applied}
@@ -18,7 +21,8 @@ use Rattle.eve_write.specs.Data.{access}
 use Rattle.eve_token.specs.Token.{token_of}
 use Rattle.eve_attempts.specs.declared.front.AttemptFront.{AttemptFront}
 use Rattle.eve_attempts.specs.declared.taken.Taken.{Taken}
-use Rattle.eve_attempts.specs.Ledgers.{Opened, Rows, Ledger, row_count, table_of, rows_now, undone, writes_in, open_writes, rows_committed, is_write_in, AreLaid, IsLedger}
+use Rattle.eve_attempts.specs.Ledgers.{Opened, Rows, Ledger, row_count, table_of, rows_now, undone, writes_in}
+use Rattle.eve_attempts.specs.Ledgers.{open_writes, rows_committed, is_write_in, AreLaid, IsLedger}
 use Rattle.eve_attempts.specs.Closing.{access_of, AreNoted, IsAttemptOf}
 use Rattle.eve_attempts.specs.Ordering.{records_in}
 use Rattle.eve_attempts.specs.Taking.{IsTakenOf}
@@ -30,7 +34,8 @@ use Rattle.eve_attempts.proofs.Takings.{length_certificate, few_records}
 
 some_requests : (sizes : List ℕ) → nat_le 1 (length sizes) ≡ true → list_all (nat_le 1) sizes ≡ true → 1 ≤ sum sizes
 some_requests [] some each = absurd (let h = leb-true 1 0 some in omega arith)
-some_requests (n ∷ sizes) some each = let one = leb-true 1 n (and_parts (nat_le 1 n) (list_all (nat_le 1) sizes) each).0 in omega (arith, sum_by-cons (λ (m : ℕ). m) n sizes)
+some_requests (n ∷ sizes) some each = let one = leb-true 1 n (and_parts (nat_le 1 n) (list_all (nat_le 1) sizes) each).0
+    in omega (arith, sum_by-cons (λ (m : ℕ). m) n sizes)
 
 batch_some : (b : Batch) → IsTrue (is_batch b) → 1 ≤ length b.requests
 batch_some b right =
@@ -50,36 +55,56 @@ small_numbers r (x ∷ xs) le all =
 -- what the attempt says
 abbrev pub attempt_of : AttemptFront → Taken → List ℕ → Attempt
 attempt_of front t token =
-    record { seq = front.seq; view = front.view; serial = front.serial; certificate = t.certificate.items; replies = t.replies.items; token = token; accesses = map access t.accesses.items }
+    record {
+      seq = front.seq;
+      view = front.view;
+      serial = front.serial;
+      certificate = t.certificate.items;
+      replies = t.replies.items;
+      token = token;
+      accesses = map access t.accesses.items;
+    }
 
-module _ (front : AttemptFront) (b : Batch) (touched : List Touched) (records : List Applied) (t : Taken) (workers rows : ℕ) (right : IsTrue (is_batch b)) (noted : AreNoted workers rows b touched records)
-    (taken : IsTakenOf records t) (order : IsTrue (is_certificate b.sizes (length b.requests) front.serial t.certificate.items)) where
+module _ (front : AttemptFront) (b : Batch) (touched : List Touched) (records : List Applied) (t : Taken)
+    (workers rows : ℕ) (right : IsTrue (is_batch b)) (noted : AreNoted workers rows b touched records)
+    (taken : IsTakenOf records t)
+    (order : IsTrue (is_certificate b.sizes (length b.requests) front.serial t.certificate.items)) where
   permutes : is_permutation (length b.requests) t.certificate.items ≡ true
-  permutes = (and_parts (is_permutation (length b.requests) t.certificate.items) _ (and_parts (keeps_groups b.sizes (length b.requests) t.certificate.items) _ order).0).0
+  permutes = (and_parts (is_permutation (length b.requests) t.certificate.items) _
+      (and_parts (keeps_groups b.sizes (length b.requests) t.certificate.items) _ order).0).0
 
   replies_many : length t.replies.items ≡ length records
-  replies_many = ap (λ (rs : List Reply). length rs) taken.replies ∙ length-placed (replicate (length records) Done) records ∙ length-replicate (length records) Done
+  replies_many = ap (λ (rs : List Reply). length rs) taken.replies ∙ length-placed (replicate (length records) Done)
+      records ∙ length-replicate (length records) Done
 
-  whole_attempt : (token : List ℕ) → front.seq ≤ 65535 → IsTrue (is_number 4 front.view) → IsTrue (is_token token) → IsTrue (is_whole_attempt rows (attempt_of front t token))
+  whole_attempt : (token : List ℕ) → front.seq ≤ 65535 → IsTrue (is_number 4 front.view) → IsTrue (is_token token)
+      → IsTrue (is_whole_attempt rows (attempt_of front t token))
   whole_attempt token seq view is =
       let few : length records ≤ 256 = few_records workers rows b touched records noted right in
       let some : 1 ≤ length b.requests = batch_some b right in
       let long : length t.certificate.items ≡ length records = length_certificate records t taken in
       let many : length records ≡ length b.requests = noted.many in
-      let small : list_all (λ i. ltb i (length b.requests)) t.certificate.items ≡ true = (and_parts (list_all (λ i. ltb i (length b.requests)) t.certificate.items) _ permutes).0 in
-      let accesses : length (map access t.accesses.items) ≡ length records = ap (λ (xs : List Access). length xs) taken.accesses ∙ length-map records access_of in
+      let small : list_all (λ i. ltb i (length b.requests)) t.certificate.items ≡ true =
+      (and_parts (list_all (λ i. ltb i (length b.requests)) t.certificate.items) _ permutes).0 in
+      let accesses : length (map access t.accesses.items) ≡ length records =
+      ap (λ (xs : List Access). length xs) taken.accesses ∙ length-map records access_of in
       and_from (is_attempt (attempt_of front t token)) _
       (and_from (is_number 4 front.seq) _ (lt-ltb front.seq 4294967296 (omega arith))
       (and_from (is_number 4 front.view) _ view
       (and_from (is_between 1 256 (length t.certificate.items)) _
-      (and_from (leb 1 (length t.certificate.items)) (leb (length t.certificate.items) 256) (le-leb 1 (length t.certificate.items) (omega arith)) (le-leb (length t.certificate.items) 256 (omega arith)))
-      (and_from (list_all (is_number 2) t.certificate.items) _ (small_numbers (length b.requests) t.certificate.items (omega arith) small)
-      (and_from (length t.replies.items == length t.certificate.items) _ (eq-eqb (length t.replies.items) (length t.certificate.items) (replies_many ∙ sym long))
+      (and_from (leb 1 (length t.certificate.items)) (leb (length t.certificate.items) 256)
+      (le-leb 1 (length t.certificate.items) (omega arith)) (le-leb (length t.certificate.items) 256 (omega arith)))
+      (and_from (list_all (is_number 2) t.certificate.items) _
+      (small_numbers (length b.requests) t.certificate.items (omega arith) small)
+      (and_from (length t.replies.items == length t.certificate.items) _
+      (eq-eqb (length t.replies.items) (length t.certificate.items) (replies_many ∙ sym long))
       (and_from (list_all is_reply t.replies.items) (is_token token) taken.limits is))))))
-      (and_from (length (map access t.accesses.items) == length t.certificate.items) _ (eq-eqb (length (map access t.accesses.items)) (length t.certificate.items) (accesses ∙ sym long))
+      (and_from (length (map access t.accesses.items) == length t.certificate.items) _
+      (eq-eqb (length (map access t.accesses.items)) (length t.certificate.items) (accesses ∙ sym long))
       (ap (list_all (is_access rows)) taken.accesses ∙ noted.limits))
 
-  pub is_attempt_of : (balances : List ℤ) (token : List ℕ) → front.seq ≤ 65535 → IsTrue (is_number 4 front.view) → IsTrue (is_token token) → token ≡ token_of 1 front.seq balances t.replies.items
+  pub is_attempt_of : (balances : List ℤ) (token : List ℕ) → front.seq ≤ 65535 → IsTrue (is_number 4 front.view)
+      → IsTrue (is_token token) → token ≡ token_of 1 front.seq balances t.replies.items
       → IsAttemptOf front rows balances records (records_in records t.order.items) (attempt_of front t token)
   is_attempt_of balances token seq view is tells = record {
     seq = refl;
@@ -87,8 +112,10 @@ module _ (front : AttemptFront) (b : Batch) (touched : List Touched) (records : 
     serial = refl;
     certificate = taken.certificate;
     many = replies_many;
-    replies = subst (λ (rs : List Reply). AllByRecursion (λ r. slice_get rs r.index ≡ Some r.reply) records) (sym taken.replies)
-        (all_placed workers (length b.requests) [] (replicate (length records) Done) records noted.accesses (sym (length-replicate (length records) Done ∙ noted.many)));
+    replies = subst (λ (rs : List Reply). AllByRecursion (λ r. slice_get rs r.index ≡ Some r.reply) records)
+        (sym taken.replies)
+        (all_placed workers (length b.requests) [] (replicate (length records) Done) records noted.accesses
+        (sym (length-replicate (length records) Done ∙ noted.many)));
     token = tells;
     accesses = taken.accesses;
     whole = whole_attempt token seq view is;
@@ -96,25 +123,32 @@ module _ (front : AttemptFront) (b : Batch) (touched : List Touched) (records : 
 
 -- ---- the ledger
 
-module _ (old new : Ledger) (o : Opened) (rows : Rows) (is : new ≡ record old { rows = rows; opened = old.opened ++ o ∷ []; is_next_serial = false }) (many : length rows.balances ≡ row_count old)
+module _ (old new : Ledger) (o : Opened) (rows : Rows)
+    (is : new ≡ record old { rows = rows; opened = old.opened ++ o ∷ []; is_next_serial = false })
+    (many : length rows.balances ≡ row_count old)
     (back : undone (table_of rows) o.written ≡ rows_now old) where
   pub committed_stays : rows_committed new ≡ rows_committed old
   committed_stays =
       ap (λ (n : Ledger). rows_committed n) is
-      ∙ ap (undone (table_of rows)) (writes_in-append old.opened (o ∷ [])) ∙ undone-append (table_of rows) (open_writes old) (writes_in (o ∷ []))
+      ∙ ap (undone (table_of rows)) (writes_in-append old.opened (o ∷ []))
+      ∙ undone-append (table_of rows) (open_writes old) (writes_in (o ∷ []))
       ∙ ap (λ (t : Table). undone t (open_writes old)) (one o ∙ back)
     where
       one : (p : Opened) → undone (table_of rows) (writes_in (p ∷ [])) ≡ undone (table_of rows) p.written
       one p = ap (undone (table_of rows)) (append-nil p.written)
 
-  pub ledger_further : IsLedger old → old.committed + 1 + length old.opened ≤ 65535 → table_of rows ≡ table_after (rows_now old) o.written → list_all (is_write_in (length rows.balances)) o.written ≡ true → IsLedger new
+  pub ledger_further : IsLedger old → old.committed + 1 + length old.opened ≤ 65535 → table_of rows
+      ≡ table_after (rows_now old) o.written → list_all (is_write_in (length rows.balances)) o.written ≡ true
+      → IsLedger new
   ledger_further l last table right = subst IsLedger (sym is) (record {
     counted = let h = pushed old.opened in omega arith;
     written = ap (list_all (is_write_in (length rows.balances))) (writes_in-append old.opened (o ∷ []))
         ∙ list_all-append (is_write_in (length rows.balances)) (open_writes old) (writes_in (o ∷ []))
-        ∙ and_from (list_all (is_write_in (length rows.balances)) (open_writes old)) _ (ap (λ n. list_all (is_write_in n) (open_writes old)) many ∙ l.written)
+        ∙ and_from (list_all (is_write_in (length rows.balances)) (open_writes old)) _
+        (ap (λ n. list_all (is_write_in n) (open_writes old)) many ∙ l.written)
         (ap (list_all (is_write_in (length rows.balances))) (append-nil o.written) ∙ right);
-    laid = subst (λ (t : Table). AreLaid t (old.opened ++ o ∷ []) (table_of rows)) (sym (sym (ap (λ (n : Ledger). rows_committed n) is) ∙ committed_stays))
+    laid = subst (λ (t : Table). AreLaid t (old.opened ++ o ∷ []) (table_of rows))
+        (sym (sym (ap (λ (n : Ledger). rows_committed n) is) ∙ committed_stays))
         (laid_further (rows_committed old) old.opened (rows_now old) (table_of rows) o l.laid back table);
   })
     where

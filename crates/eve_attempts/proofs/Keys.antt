@@ -1,5 +1,7 @@
 -- Keys of records, and keys that are sorted.
-use Rattle.std.proofs.Common.{◌≡◌, ℕ, suc, ◌+◌, ◌<◌, ◌≤◌, ◌==◌, Bool, true, false, cond, ltb, List, [], ◌∷◌, ◌++◌, length, get_or, take, drop, refl, sym, subst, ap, ap₂, ◌∙◌, append_assoc, append-nil, add-one, is_lt, nat_cmp, arith}
+use Rattle.std.proofs.Common.{◌≡◌, ℕ, suc, ◌+◌, ◌<◌, ◌≤◌, ◌==◌, Bool, true, false, cond, ltb, List, [], ◌∷◌, ◌++◌}
+use Rattle.std.proofs.Common.{length, get_or, take, drop, refl, sym, subst, ap, ap₂, ◌∙◌, append_assoc, append-nil}
+use Rattle.std.proofs.Common.{add-one, is_lt, nat_cmp, arith}
 use Rattle.std.specs.declared.cmp.Ordering.{Ordering}
 use Rattle.std.specs.declared.cmp.Ordering.TheVariants.{Less, Equal, Greater}
 use Rattle.std.specs.Ordering.{ordering_then}
@@ -7,7 +9,8 @@ use Rattle.std.proofs.lemmas.Bool.{ltb-false, eqb-false, false≢true}
 use Rattle.std.specs.List.{AllByRecursion}
 use Rattle.std.proofs.lemmas.List.{drop_all, take_all}
 use Rattle.eve_stamps.specs.Applied.{Applied}
-use Rattle.eve_attempts.specs.Ordering.{Key, keys_from, no_record, record_of, records_in, IsKeyOf, IsNotAfter, TicksDontFall}
+use Rattle.eve_attempts.specs.Ordering.{Key, keys_from, no_record, record_of, records_in, IsKeyOf, IsNotAfter}
+use Rattle.eve_attempts.specs.Ordering.{TicksDontFall}
 
 at_middle : (front rs : List Applied) (r d : Applied) → get_or (front ++ r ∷ rs) (length front) d ≡ r
 at_middle [] rs r d = refl
@@ -26,20 +29,29 @@ pub records_of_keys : (front rs : List Applied) → records_in (front ++ rs) (ke
 records_of_keys front [] = refl
 records_of_keys front (r ∷ rs) =
     ap₂ (λ (x : Applied) (xs : List Applied). x ∷ xs) (at_middle front rs r no_record)
-    (ap₂ (λ (all : List Applied) (n : ℕ). records_in all (keys_from n rs)) (sym (append_assoc front (r ∷ []) rs)) (sym (pushed front r)) ∙ records_of_keys (front ++ r ∷ []) rs)
+    (ap₂ (λ (all : List Applied) (n : ℕ). records_in all (keys_from n rs)) (sym (append_assoc front (r ∷ []) rs))
+    (sym (pushed front r)) ∙ records_of_keys (front ++ r ∷ []) rs)
 
 pub are_keys : (front rs : List Applied) → AllByRecursion (IsKeyOf (front ++ rs)) (keys_from (length front) rs)
 are_keys front [] = tt
 are_keys front (r ∷ rs) = (
-  record { there = longer front rs r; tick = ap (λ (x : Applied). x.tick) (sym (at_middle front rs r no_record)); index = ap (λ (x : Applied). x.index) (sym (at_middle front rs r no_record)) },
-  subst (λ (all : List Applied). AllByRecursion (IsKeyOf all) (keys_from (length front + 1) rs)) (append_assoc front (r ∷ []) rs)
-      (subst (λ (n : ℕ). AllByRecursion (IsKeyOf ((front ++ r ∷ []) ++ rs)) (keys_from n rs)) (pushed front r) (are_keys (front ++ r ∷ []) rs)),
+  record {
+    there = longer front rs r;
+    tick = ap (λ (x : Applied). x.tick) (sym (at_middle front rs r no_record));
+    index = ap (λ (x : Applied). x.index) (sym (at_middle front rs r no_record));
+  },
+  subst (λ (all : List Applied). AllByRecursion (IsKeyOf all) (keys_from (length front + 1) rs))
+      (append_assoc front (r ∷ []) rs)
+      (subst (λ (n : ℕ). AllByRecursion (IsKeyOf ((front ++ r ∷ []) ++ rs)) (keys_from n rs)) (pushed front r)
+      (are_keys (front ++ r ∷ []) rs)),
 )
 
 -- a vector that was sorted as a slice
-pub whole_slice : {A : Type 0} (xs ys : List A) (n : ℕ) → length ys ≡ length xs → n ≡ length xs → take n (ys ++ drop (length ys) xs) ≡ ys
+pub whole_slice : {A : Type 0} (xs ys : List A) (n : ℕ) → length ys ≡ length xs → n ≡ length xs
+    → take n (ys ++ drop (length ys) xs) ≡ ys
 whole_slice xs ys n same many =
-    ap (λ (zs : List _). take n (ys ++ zs)) (drop_all (length ys) xs (omega arith)) ∙ ap (take n) (append-nil ys) ∙ take_all n ys (omega arith)
+    ap (λ (zs : List _). take n (ys ++ zs)) (drop_all (length ys) xs (omega arith)) ∙ ap (take n) (append-nil ys)
+    ∙ take_all n ys (omega arith)
 
 -- ---- sorted keys
 
@@ -73,20 +85,25 @@ pub stepwise_all : (keys : List Key) → AreStepwise keys → KeysDontFall keys
 unfolding AreStepwise
 stepwise_all [] steps = tt
 stepwise_all (k ∷ []) steps = (tt, tt)
-stepwise_all (k ∷ j ∷ keys) steps = let rest = stepwise_all (j ∷ keys) steps.1 in ((steps.0, all_after k j keys steps.0 rest.0), rest)
+stepwise_all (k ∷ j ∷ keys) steps = let rest = stepwise_all (j ∷ keys) steps.1 in
+    ((steps.0, all_after k j keys steps.0 rest.0), rest)
 
 -- from what each place tells
-pub stepwise_places : (keys : List Key) (d : Key) → ((i : ℕ) → suc i < length keys → KeyLe (get_or keys i d) (get_or keys (suc i) d)) → AreStepwise keys
+pub stepwise_places : (keys : List Key) (d : Key)
+    → ((i : ℕ) → suc i < length keys → KeyLe (get_or keys i d) (get_or keys (suc i) d)) → AreStepwise keys
 unfolding AreStepwise
 stepwise_places [] d each = tt
 stepwise_places (k ∷ []) d each = tt
-stepwise_places (k ∷ j ∷ keys) d each = (each 0 (omega arith), stepwise_places (j ∷ keys) d (λ i lt. each (suc i) (omega arith)))
+stepwise_places (k ∷ j ∷ keys) d each =
+    (each 0 (omega arith), stepwise_places (j ∷ keys) d (λ i lt. each (suc i) (omega arith)))
 
-step_of : (k j : Key) → is_lt (ordering_then (ordering_then (nat_cmp j.0 k.0) (nat_cmp j.1 k.1)) (nat_cmp j.2 k.2)) ≡ false → KeyLe k j
+step_of : (k j : Key) → is_lt (ordering_then (ordering_then (nat_cmp j.0 k.0) (nat_cmp j.1 k.1)) (nat_cmp j.2 k.2))
+    ≡ false → KeyLe k j
 step_of k j h = by (ltb j.0 k.0) (j.0 == k.0) (ltb j.1 k.1) (j.1 == k.1) (nat_cmp j.2 k.2) refl refl refl h
   where
     by : (a b m n : Bool) (o : Ordering) → ltb j.0 k.0 ≡ a → (j.0 == k.0) ≡ b → ltb j.1 k.1 ≡ m
-        → is_lt (ordering_then (ordering_then (cond a Less (cond b Equal Greater)) (cond m Less (cond n Equal Greater))) o) ≡ false → KeyLe k j
+        → is_lt (ordering_then (ordering_then (cond a Less (cond b Equal Greater)) (cond m Less (cond n Equal Greater)))
+        o) ≡ false → KeyLe k j
     by true b m n o e f g h = absurd (false≢true (sym h))
     by false true true n o e f g h = absurd (false≢true (sym h))
     by false true false n o e f g h =
@@ -99,22 +116,32 @@ step_of k j h = by (ltb j.0 k.0) (j.0 == k.0) (ltb j.1 k.1) (j.1 == k.1) (nat_cm
 
 -- keys that the sort's order leaves as they are
 pub sorted_keys : (keys : List Key) (d : Key)
-    → ((i : ℕ) → i + 1 < length keys → is_lt (ordering_then (ordering_then (nat_cmp (get_or keys (i + 1) d).0 (get_or keys i d).0) (nat_cmp (get_or keys (i + 1) d).1 (get_or keys i d).1)) (nat_cmp (get_or keys (i + 1) d).2 (get_or keys i d).2)) ≡ false)
+    → ((i : ℕ) → i + 1 < length keys
+    → is_lt (ordering_then (ordering_then (nat_cmp (get_or keys (i + 1) d).0 (get_or keys i d).0)
+    (nat_cmp (get_or keys (i + 1) d).1 (get_or keys i d).1))
+    (nat_cmp (get_or keys (i + 1) d).2 (get_or keys i d).2)) ≡ false)
     → KeysDontFall keys
 sorted_keys keys d each =
-    stepwise_all keys (stepwise_places keys d (λ i lt. subst (λ (n : ℕ). KeyLe (get_or keys i d) (get_or keys n d)) (add-one i) (step_of (get_or keys i d) (get_or keys (i + 1) d) (each i (omega arith)))))
+    stepwise_all keys (stepwise_places keys d
+    (λ i lt. subst (λ (n : ℕ). KeyLe (get_or keys i d) (get_or keys n d)) (add-one i)
+    (step_of (get_or keys i d) (get_or keys (i + 1) d) (each i (omega arith)))))
 
-not_after : (records : List Applied) (k j : Key) → IsKeyOf records k → IsKeyOf records j → KeyLe k j → IsNotAfter (record_of records k) (record_of records j)
+not_after : (records : List Applied) (k j : Key) → IsKeyOf records k → IsKeyOf records j → KeyLe k j
+    → IsNotAfter (record_of records k) (record_of records j)
 not_after records k j a b le = record {
   tick = omega (arith, a.tick, b.tick, le.tick);
   index = λ back. let h = le.index (omega (arith, a.tick, b.tick)) in omega (arith, a.index, b.index);
 }
 
-all_not_after : (records : List Applied) (k : Key) (keys : List Key) → IsKeyOf records k → AllByRecursion (IsKeyOf records) keys → AllByRecursion (KeyLe k) keys
+all_not_after : (records : List Applied) (k : Key) (keys : List Key) → IsKeyOf records k
+    → AllByRecursion (IsKeyOf records) keys → AllByRecursion (KeyLe k) keys
     → AllByRecursion (IsNotAfter (record_of records k)) (records_in records keys)
 all_not_after records k [] a all le = tt
-all_not_after records k (j ∷ keys) a all le = (not_after records k j a all.0 le.0, all_not_after records k keys a all.1 le.1)
+all_not_after records k (j ∷ keys) a all le =
+    (not_after records k j a all.0 le.0, all_not_after records k keys a all.1 le.1)
 
-pub ticks_dont_fall : (records : List Applied) (keys : List Key) → AllByRecursion (IsKeyOf records) keys → KeysDontFall keys → TicksDontFall (records_in records keys)
+pub ticks_dont_fall : (records : List Applied) (keys : List Key) → AllByRecursion (IsKeyOf records) keys
+    → KeysDontFall keys → TicksDontFall (records_in records keys)
 ticks_dont_fall records [] all up = tt
-ticks_dont_fall records (k ∷ keys) all up = (all_not_after records k keys all.0 all.1 up.0, ticks_dont_fall records keys all.1 up.1)
+ticks_dont_fall records (k ∷ keys) all up =
+    (all_not_after records k keys all.0 all.1 up.0, ticks_dont_fall records keys all.1 up.1)

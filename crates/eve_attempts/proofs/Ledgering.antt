@@ -1,9 +1,12 @@
 -- A ledger after a commit and after a rollback.
-use Rattle.std.proofs.Common.{◌≡◌, ℕ, suc, ◌+◌, ◌<◌, ◌≤◌, ◌==◌, nat_le, Bool, true, false, cond, ◌||◌, ◌&&◌, ltb, leb, IsTrue, List, [], ◌∷◌, map, length, get_or, refl, sym, subst, ap, ap₂, ◌∙◌, inl, inr, ◌⊎◌, arith}
+use Rattle.std.proofs.Common.{◌≡◌, ℕ, suc, ◌+◌, ◌<◌, ◌≤◌, ◌==◌, nat_le, Bool, true, false, cond, ◌||◌, ◌&&◌, ltb, leb}
+use Rattle.std.proofs.Common.{IsTrue, List, [], ◌∷◌, map, length, get_or, refl, sym, subst, ap, ap₂, ◌∙◌, inl, inr, ◌⊎◌}
+use Rattle.std.proofs.Common.{arith}
 use Rattle.std.specs.Prelude.{remove}
 use Rattle.std.specs.List.{AllByRecursion, list_all, list_any}
 use Rattle.std.specs.List.Sorted.{IsPermutation, IsNonDecreasing}
-use Rattle.std.proofs.lemmas.Bool.{cases_lt, and_parts, and_from, or_left, or_right, eq-eqb, eqb-true, lt-ltb, ltb-true, leb-true, leb-false, false≢true}
+use Rattle.std.proofs.lemmas.Bool.{cases_lt, and_parts, and_from, or_left, or_right, eq-eqb, eqb-true, lt-ltb, ltb-true}
+use Rattle.std.proofs.lemmas.Bool.{leb-true, leb-false, false≢true}
 use Rattle.std.proofs.lemmas.List.Sorted.{IsPermutation-sym}
 use Rattle.std.proofs.lemmas.List.Folds.{list_all-append}
 use Rattle.eve_accounts.specs.Money.{is_balance}
@@ -12,7 +15,8 @@ use Rattle.eve_smallbank.specs.Access.{is_write, writes_row}
 use Rattle.eve_smallbank.specs.Chain.{Table, table_after}
 use Rattle.eve_grammar.specs.Trace.{Restore, Rollback}
 use Rattle.eve_grammar.specs.Limits.{is_entry, is_restore, is_rising, is_rollback, is_number, version_limit}
-use Rattle.eve_attempts.specs.Ledgers.{Opened, Rows, Ledger, row_count, table_of, rows_now, undone, writes_in, open_writes, rows_committed, is_write_in, AreLaid, IsLedger}
+use Rattle.eve_attempts.specs.Ledgers.{Opened, Rows, Ledger, row_count, table_of, rows_now, undone, writes_in}
+use Rattle.eve_attempts.specs.Ledgers.{open_writes, rows_committed, is_write_in, AreLaid, IsLedger}
 use Rattle.eve_attempts.specs.Discarding.{restore_in, AreRestores, RollsBack}
 use Rattle.eve_attempts.specs.Restoring.{rows_of, rising_from}
 use Rattle.eve_attempts.proofs.Ordered.{In, here, there, in_split, all_in, all_from_in, all_moved}
@@ -21,7 +25,8 @@ use Rattle.eve_attempts.proofs.TableLaws.{laid_undone}
 -- ---- commits
 
 -- a list without its first item
-pub opened_split : (os : List Opened) (first : Opened) (others : List Opened) → 0 < length os → first ≡ get_or os 0 first → others ≡ remove os 0 → os ≡ first ∷ others
+pub opened_split : (os : List Opened) (first : Opened) (others : List Opened) → 0 < length os
+    → first ≡ get_or os 0 first → others ≡ remove os 0 → os ≡ first ∷ others
 opened_split [] first others some is rest = absurd (omega arith)
 opened_split (o ∷ os) first others some is rest = ap₂ (λ (p : Opened) (ps : List Opened). p ∷ ps) (sym is) (sym rest)
 
@@ -34,7 +39,8 @@ module _ (s : Ledger) (first : Opened) (others : List Opened) (is : s.opened ≡
 
   pub ledger_next : IsLedger (record s { opened = others; committed = s.committed + 1 })
   ledger_next = record {
-    counted = let h : length s.opened ≡ length (first ∷ others) = ap (λ (os : List Opened). length os) is in omega (arith, l.counted);
+    counted = let h : length s.opened ≡ length (first ∷ others) = ap (λ (os : List Opened). length os) is in
+        omega (arith, l.counted);
     written = (and_parts (list_all (is_write_in (row_count s)) first.written) _
         (sym (list_all-append (is_write_in (row_count s)) first.written (writes_in others))
         ∙ ap (λ (os : List Opened). list_all (is_write_in (row_count s)) (writes_in os)) (sym is) ∙ l.written)).1;
@@ -52,7 +58,8 @@ from_least least (n ∷ ns) = by (nat_le least n) refl (from_least (n + 1) ns) (
     weaker m [] le all = tt
     weaker m (x ∷ xs) le all = (let h = all.0 in omega arith, weaker m xs le all.1)
 
-    by : (b : Bool) → nat_le least n ≡ b → AllByRecursion (λ m. n + 1 ≤ m) (rising_from (n + 1) ns) → AllByRecursion (λ m. least ≤ m) (rising_from least ns)
+    by : (b : Bool) → nat_le least n ≡ b → AllByRecursion (λ m. n + 1 ≤ m) (rising_from (n + 1) ns)
+        → AllByRecursion (λ m. least ≤ m) (rising_from least ns)
         → AllByRecursion (λ m. least ≤ m) (cond b (n ∷ rising_from (n + 1) ns) (rising_from least ns))
     by true e one two = (leb-true least n e, weaker n (rising_from (n + 1) ns) (leb-true least n e) one)
     by false e one two = two
@@ -61,17 +68,22 @@ from_least least (n ∷ ns) = by (nat_le least n) refl (from_least (n + 1) ns) (
 abbrev restores_of : Table → List ℕ → List Restore
 restores_of table ns = map (restore_in table) ns
 
-above : (table : Table) (n : ℕ) (ns : List ℕ) → AllByRecursion (λ m. n + 1 ≤ m) ns → list_all (λ q. ltb n q.row) (restores_of table ns) ≡ true
+above : (table : Table) (n : ℕ) (ns : List ℕ) → AllByRecursion (λ m. n + 1 ≤ m) ns
+    → list_all (λ q. ltb n q.row) (restores_of table ns) ≡ true
 above table n [] all = refl
 above table n (m ∷ ns) all = and_from (ltb n m) _ (lt-ltb n m (let h = all.0 in omega arith)) (above table n ns all.1)
 
-pub rising_restores : (table : Table) (least : ℕ) (ns : List ℕ) → is_rising (restores_of table (rising_from least ns)) ≡ true
+pub rising_restores : (table : Table) (least : ℕ) (ns : List ℕ) → is_rising (restores_of table (rising_from least ns))
+    ≡ true
 rising_restores table least [] = refl
-rising_restores table least (n ∷ ns) = by (nat_le least n) (rising_restores table (n + 1) ns) (rising_restores table least ns)
+rising_restores table least (n ∷ ns) = by (nat_le least n) (rising_restores table (n + 1) ns)
+    (rising_restores table least ns)
   where
-    by : (b : Bool) → is_rising (restores_of table (rising_from (n + 1) ns)) ≡ true → is_rising (restores_of table (rising_from least ns)) ≡ true
+    by : (b : Bool) → is_rising (restores_of table (rising_from (n + 1) ns)) ≡ true
+        → is_rising (restores_of table (rising_from least ns)) ≡ true
         → is_rising (restores_of table (cond b (n ∷ rising_from (n + 1) ns) (rising_from least ns))) ≡ true
-    by true one two = and_from (list_all (λ q. ltb n q.row) (restores_of table (rising_from (n + 1) ns))) _ (above table n (rising_from (n + 1) ns) (from_least (n + 1) ns)) one
+    by true one two = and_from (list_all (λ q. ltb n q.row) (restores_of table (rising_from (n + 1) ns))) _
+        (above table n (rising_from (n + 1) ns) (from_least (n + 1) ns)) one
     by false one two = two
 
 -- what holds of all numbers holds of those that rise
@@ -79,7 +91,8 @@ all_rising : (P : ℕ → Type 0) (least : ℕ) (ns : List ℕ) → AllByRecursi
 all_rising P least [] all = tt
 all_rising P least (n ∷ ns) all = by (nat_le least n) (all_rising P (n + 1) ns all.1) (all_rising P least ns all.1)
   where
-    by : (b : Bool) → AllByRecursion P (rising_from (n + 1) ns) → AllByRecursion P (rising_from least ns) → AllByRecursion P (cond b (n ∷ rising_from (n + 1) ns) (rising_from least ns))
+    by : (b : Bool) → AllByRecursion P (rising_from (n + 1) ns) → AllByRecursion P (rising_from least ns)
+        → AllByRecursion P (cond b (n ∷ rising_from (n + 1) ns) (rising_from least ns))
     by true one two = (all.0, one)
     by false one two = two
 
@@ -91,13 +104,17 @@ DontFall (n ∷ ns) = AllByRecursion (λ m. n ≤ m) ns × DontFall ns
 -- each of the numbers rises, or stands below the least
 kept : (least : ℕ) (ns : List ℕ) → DontFall ns → (m : ℕ) → In m ns → least ≤ m → In m (rising_from least ns)
 kept least [] up m i le = elim i [ ]
-kept least (n ∷ ns) up m i le = by (nat_le least n) refl (in_split m n ns i) (λ j lt. kept (n + 1) ns up.1 m j (omega arith)) (λ j le. kept least ns up.1 m j le)
+kept least (n ∷ ns) up m i le = by (nat_le least n) refl (in_split m n ns i)
+    (λ j lt. kept (n + 1) ns up.1 m j (omega arith)) (λ j le. kept least ns up.1 m j le)
   where
-    by : (b : Bool) → nat_le least n ≡ b → (m ≡ n) ⊎ In m ns → (In m ns → n < m → In m (rising_from (n + 1) ns)) → (In m ns → least ≤ m → In m (rising_from least ns)) → In m (cond b (n ∷ rising_from (n + 1) ns) (rising_from least ns))
+    by : (b : Bool) → nat_le least n ≡ b → (m ≡ n) ⊎ In m ns → (In m ns → n < m → In m (rising_from (n + 1) ns))
+        → (In m ns → least ≤ m → In m (rising_from least ns))
+        → In m (cond b (n ∷ rising_from (n + 1) ns) (rising_from least ns))
     by true e (inl same) later further = subst (λ (k : ℕ). In k (n ∷ rising_from (n + 1) ns)) (sym same) here
     by true e (inr i) later further = elim (cases_lt n m) [
       | inl lt ↦ there (later i lt)
-      | inr ge ↦ let up_to : n ≤ m = all_in (λ k. n ≤ k) up.0 i in let same : m ≡ n = omega arith in subst (λ (k : ℕ). In k (n ∷ rising_from (n + 1) ns)) (sym same) here
+      | inr ge ↦ let up_to : n ≤ m = all_in (λ k. n ≤ k) up.0 i in let same : m ≡ n = omega arith in
+          subst (λ (k : ℕ). In k (n ∷ rising_from (n + 1) ns)) (sym same) here
     ]
     by false e (inl same) later further = absurd (let h = leb-false least n e in omega arith)
     by false e (inr i) later further = further i le
@@ -106,36 +123,55 @@ kept least (n ∷ ns) up m i le = by (nat_le least n) refl (in_split m n ns i) (
 
 dont_fall : (ns : List ℕ) → IsNonDecreasing ns → DontFall ns
 dont_fall [] up = tt
-dont_fall (n ∷ ns) up = (all_from ns (λ i lt. up 0 (suc i) 0 (omega arith) (omega arith)), dont_fall ns (λ i j d le lt. up (suc i) (suc j) d (omega arith) (omega arith)))
+dont_fall (n ∷ ns) up = (
+  all_from ns (λ i lt. up 0 (suc i) 0 (omega arith) (omega arith)),
+  dont_fall ns (λ i j d le lt. up (suc i) (suc j) d (omega arith) (omega arith)),
+)
   where
     all_from : (ms : List ℕ) → ((i : ℕ) → i < length ms → n ≤ get_or ms i 0) → AllByRecursion (λ m. n ≤ m) ms
     all_from [] each = tt
     all_from (m ∷ ms) each = (each 0 (omega arith), all_from ms (λ i lt. each (suc i) (omega arith)))
 
 -- an entry that writes a row
-some_write : (rows row : ℕ) (es : List Entry) → list_all (is_write_in rows) es ≡ true → In row (rows_of es) → list_any (writes_row row) es ≡ true
+some_write : (rows row : ℕ) (es : List Entry) → list_all (is_write_in rows) es ≡ true → In row (rows_of es)
+    → list_any (writes_row row) es ≡ true
 some_write rows row [] all i = elim i [ ]
-some_write rows row (e ∷ es) all i = by (in_split row e.row (rows_of es) i) (some_write rows row es (and_parts (is_write_in rows e) (list_all (is_write_in rows) es) all).1)
+some_write rows row (e ∷ es) all i = by (in_split row e.row (rows_of es) i)
+    (some_write rows row es (and_parts (is_write_in rows e) (list_all (is_write_in rows) es) all).1)
   where
-    by : (row ≡ e.row) ⊎ In row (rows_of es) → (In row (rows_of es) → list_any (writes_row row) es ≡ true) → (writes_row row e || list_any (writes_row row) es) ≡ true
+    by : (row ≡ e.row) ⊎ In row (rows_of es) → (In row (rows_of es) → list_any (writes_row row) es ≡ true)
+        → (writes_row row e || list_any (writes_row row) es) ≡ true
     by (inl same) rest = or_left (writes_row row e) (list_any (writes_row row) es)
-        (and_from (is_write e.kind) (e.row == row) (and_parts (is_write e.kind) _ (and_parts (is_write_in rows e) (list_all (is_write_in rows) es) all).0).0 (eq-eqb e.row row (sym same)))
+        (and_from (is_write e.kind) (e.row == row)
+        (and_parts (is_write e.kind) _ (and_parts (is_write_in rows e) (list_all (is_write_in rows) es) all).0).0
+        (eq-eqb e.row row (sym same)))
     by (inr j) rest = or_right (writes_row row e) (list_any (writes_row row) es) (rest j)
 
 -- a row that was written is there, and what the first write of it saw lies within the limits
-restore_fits : (rows : ℕ) (table : Table) (row : ℕ) (es : List Entry) → list_all (is_write_in rows) es ≡ true → list_any (writes_row row) es ≡ true → is_restore rows (restore_in (undone table es) row) ≡ true
+restore_fits : (rows : ℕ) (table : Table) (row : ℕ) (es : List Entry) → list_all (is_write_in rows) es ≡ true
+    → list_any (writes_row row) es ≡ true → is_restore rows (restore_in (undone table es) row) ≡ true
 restore_fits rows table row [] all some = absurd (false≢true some)
-restore_fits rows table row (e ∷ es) all some = by (writes_row row e) refl some (λ h. restore_fits rows table row es (and_parts (is_write_in rows e) (list_all (is_write_in rows) es) all).1 h)
+restore_fits rows table row (e ∷ es) all some =
+    by (writes_row row e) refl some
+    (λ h. restore_fits rows table row es (and_parts (is_write_in rows e) (list_all (is_write_in rows) es) all).1 h)
   where
-    by : (b : Bool) → writes_row row e ≡ b → (b || list_any (writes_row row) es) ≡ true → (list_any (writes_row row) es ≡ true → is_restore rows (restore_in (undone table es) row) ≡ true)
-        → is_restore rows (record { row = row; version = (cond b (record { version = e.version; value = e.seen }) (undone table es row)).version; value = (cond b (record { version = e.version; value = e.seen }) (undone table es row)).value }) ≡ true
+    by : (b : Bool) → writes_row row e ≡ b → (b || list_any (writes_row row) es) ≡ true
+        → (list_any (writes_row row) es ≡ true → is_restore rows (restore_in (undone table es) row) ≡ true)
+        → is_restore rows (record {
+          row = row;
+          version = (cond b (record { version = e.version; value = e.seen })
+              (undone table es row)).version;
+          value = (cond b (record { version = e.version; value = e.seen }) (undone table es row)).value;
+        }) ≡ true
     by true is some rest =
-        let right = (and_parts (is_write e.kind) (is_entry rows e) (and_parts (is_write_in rows e) (list_all (is_write_in rows) es) all).0).1 in
+        let right = (and_parts (is_write e.kind) (is_entry rows e)
+        (and_parts (is_write_in rows e) (list_all (is_write_in rows) es) all).0).1 in
         let one = and_parts (ltb e.row rows) _ right in
         let two = and_parts (leb e.version version_limit) _ one.1 in
         let three = and_parts (is_balance e.seen) _ two.1 in
         let same : e.row ≡ row = eqb-true e.row row (and_parts (is_write e.kind) (e.row == row) is).1 in
-        and_from (ltb row rows) _ (ap (λ (r : ℕ). ltb r rows) (sym same) ∙ one.0) (and_from (leb e.version version_limit) (is_balance e.seen) two.0 three.0)
+        and_from (ltb row rows) _ (ap (λ (r : ℕ). ltb r rows) (sym same) ∙ one.0)
+        (and_from (leb e.version version_limit) (is_balance e.seen) two.0 three.0)
     by false is some rest = rest some
 
 rows_in : (P : ℕ → Type 0) (es : List Entry) → ((e : Entry) → In e es → P e.row) → AllByRecursion P (rows_of es)
@@ -159,66 +195,97 @@ all_test_in p (d ∷ es) e all i = by (in_split e d es i) (all_test_in p es e (a
     by (inr j) rest = rest j
 
 -- some restore is of the row
-some_restore : (table : Table) (row : ℕ) (ns : List ℕ) → In row ns → list_any (λ r. r.row == row) (restores_of table ns) ≡ true
+some_restore : (table : Table) (row : ℕ) (ns : List ℕ) → In row ns → list_any (λ r. r.row == row) (restores_of table ns)
+    ≡ true
 some_restore table row [] i = elim i [ ]
 some_restore table row (n ∷ ns) i = by (in_split row n ns i) (some_restore table row ns)
   where
-    by : (row ≡ n) ⊎ In row ns → (In row ns → list_any (λ r. r.row == row) (restores_of table ns) ≡ true) → ((n == row) || list_any (λ r. r.row == row) (restores_of table ns)) ≡ true
-    by (inl same) rest = or_left (n == row) (list_any (λ r. r.row == row) (restores_of table ns)) (eq-eqb n row (sym same))
+    by : (row ≡ n) ⊎ In row ns → (In row ns → list_any (λ r. r.row == row) (restores_of table ns) ≡ true)
+        → ((n == row) || list_any (λ r. r.row == row) (restores_of table ns)) ≡ true
+    by (inl same) rest = or_left (n == row) (list_any (λ r. r.row == row) (restores_of table ns))
+        (eq-eqb n row (sym same))
     by (inr j) rest = or_right (n == row) (list_any (λ r. r.row == row) (restores_of table ns)) (rest j)
 
-all_restores : (P : Restore → Type 0) (table : Table) (ns : List ℕ) → AllByRecursion (λ n. P (restore_in table n)) ns → AllByRecursion P (restores_of table ns)
+all_restores : (P : Restore → Type 0) (table : Table) (ns : List ℕ) → AllByRecursion (λ n. P (restore_in table n)) ns
+    → AllByRecursion P (restores_of table ns)
 all_restores P table [] all = tt
 all_restores P table (n ∷ ns) all = (all.0, all_restores P table ns all.1)
 
-tests_restores : (p : Restore → Bool) (table : Table) (ns : List ℕ) → AllByRecursion (λ n. p (restore_in table n) ≡ true) ns → list_all p (restores_of table ns) ≡ true
+tests_restores : (p : Restore → Bool) (table : Table) (ns : List ℕ)
+    → AllByRecursion (λ n. p (restore_in table n) ≡ true) ns → list_all p (restores_of table ns) ≡ true
 tests_restores p table [] all = refl
 tests_restores p table (n ∷ ns) all = and_from (p (restore_in table n)) _ all.0 (tests_restores p table ns all.1)
 
 -- the numbers are the rows that the open attempts wrote
-module _ (s : Ledger) (l : IsLedger s) (numbers : List ℕ) (moved : IsPermutation (rows_of (open_writes s)) numbers) (up : IsNonDecreasing numbers) where
+module _ (s : Ledger) (l : IsLedger s) (numbers : List ℕ) (moved : IsPermutation (rows_of (open_writes s)) numbers)
+    (up : IsNonDecreasing numbers) where
   were_written : AllByRecursion (λ n. IsTrue (list_any (writes_row n) (open_writes s))) numbers
-  were_written = all_moved (λ (n : ℕ). IsTrue (list_any (writes_row n) (open_writes s))) (rows_of (open_writes s)) numbers moved
-      (rows_in (λ n. IsTrue (list_any (writes_row n) (open_writes s))) (open_writes s) (λ e i. some_write (row_count s) e.row (open_writes s) l.written (row_in_rows e (open_writes s) i)))
+  were_written = all_moved (λ (n : ℕ). IsTrue (list_any (writes_row n) (open_writes s))) (rows_of (open_writes s))
+      numbers moved
+      (rows_in (λ n. IsTrue (list_any (writes_row n) (open_writes s))) (open_writes s)
+      (λ e i. some_write (row_count s) e.row (open_writes s) l.written (row_in_rows e (open_writes s) i)))
 
   pub are_there : AllByRecursion (λ n. n < row_count s) numbers
   are_there = all_moved (λ (n : ℕ). n < row_count s) (rows_of (open_writes s)) numbers moved
-      (rows_in (λ n. n < row_count s) (open_writes s) (λ e i. ltb-true e.row (row_count s) (and_parts (ltb e.row (row_count s)) _ (and_parts (is_write e.kind) (is_entry (row_count s) e) (all_test_in (is_write_in (row_count s)) (open_writes s) e l.written i)).1).0))
+      (rows_in (λ n. n < row_count s) (open_writes s)
+      (λ e i. ltb-true e.row (row_count s)
+      (and_parts (ltb e.row (row_count s)) _
+      (and_parts (is_write e.kind) (is_entry (row_count s) e)
+      (all_test_in (is_write_in (row_count s)) (open_writes s) e l.written i)).1).0))
 
   pub are_restores : AreRestores s (restores_of (rows_committed s) (rising_from 0 numbers))
   are_restores = record {
-    written = all_restores (λ r. IsTrue (list_any (writes_row r.row) (open_writes s))) (rows_committed s) (rising_from 0 numbers) (all_rising (λ n. IsTrue (list_any (writes_row n) (open_writes s))) 0 numbers were_written);
-    all = all_from_in (λ e. IsTrue (list_any (λ r. r.row == e.row) (restores_of (rows_committed s) (rising_from 0 numbers)))) (open_writes s)
+    written = all_restores (λ r. IsTrue (list_any (writes_row r.row) (open_writes s))) (rows_committed s)
+        (rising_from 0 numbers) (all_rising (λ n. IsTrue (list_any (writes_row n) (open_writes s))) 0 numbers
+        were_written);
+    all = all_from_in (λ e. IsTrue
+        (list_any (λ r. r.row == e.row) (restores_of (rows_committed s) (rising_from 0 numbers)))) (open_writes s)
         (λ e i. some_restore (rows_committed s) e.row (rising_from 0 numbers)
-        (kept 0 numbers (dont_fall numbers up) e.row (all_in (λ n. In n numbers) (all_moved (λ n. In n numbers) numbers (rows_of (open_writes s)) (IsPermutation-sym (rows_of (open_writes s)) numbers moved) (all_from_in (λ n. In n numbers) numbers (λ n j. j))) (row_in_rows e (open_writes s) i)) (omega arith)));
-    committed = all_restores (λ r. r ≡ restore_in (rows_committed s) r.row) (rows_committed s) (rising_from 0 numbers) (all_from_in (λ n. restore_in (rows_committed s) n ≡ restore_in (rows_committed s) n) (rising_from 0 numbers) (λ n i. refl));
+        (kept 0 numbers (dont_fall numbers up) e.row
+        (all_in (λ n. In n numbers)
+        (all_moved (λ n. In n numbers) numbers (rows_of (open_writes s))
+        (IsPermutation-sym (rows_of (open_writes s)) numbers moved)
+        (all_from_in (λ n. In n numbers) numbers (λ n j. j))) (row_in_rows e (open_writes s) i)) (omega arith)));
+    committed = all_restores (λ r. r ≡ restore_in (rows_committed s) r.row) (rows_committed s) (rising_from 0 numbers)
+        (all_from_in (λ n. restore_in (rows_committed s) n ≡ restore_in (rows_committed s) n) (rising_from 0 numbers)
+        (λ n i. refl));
   }
 
-  pub whole_rollback : (r : Rollback) → r.to < 4294967296 → r.view < 4294967296 → r.restores ≡ restores_of (rows_committed s) (rising_from 0 numbers) → IsTrue (is_rollback (row_count s) r)
+  pub whole_rollback : (r : Rollback) → r.to < 4294967296 → r.view < 4294967296 → r.restores
+      ≡ restores_of (rows_committed s) (rising_from 0 numbers) → IsTrue (is_rollback (row_count s) r)
   whole_rollback r to view are =
       and_from (is_number 4 r.to) _ (lt-ltb r.to 4294967296 to)
       (and_from (is_number 4 r.view) _ (lt-ltb r.view 4294967296 view)
       (subst (λ (rs : List Restore). (is_rising rs && list_all (is_restore (row_count s)) rs) ≡ true) (sym are)
-      (and_from (is_rising (restores_of (rows_committed s) (rising_from 0 numbers))) _ (rising_restores (rows_committed s) 0 numbers)
+      (and_from (is_rising (restores_of (rows_committed s) (rising_from 0 numbers))) _
+      (rising_restores (rows_committed s) 0 numbers)
       (tests_restores (is_restore (row_count s)) (rows_committed s) (rising_from 0 numbers)
       (all_rising (λ n. is_restore (row_count s) (restore_in (rows_committed s) n) ≡ true) 0 numbers
       (all_from_in (λ n. is_restore (row_count s) (restore_in (rows_committed s) n) ≡ true) numbers
-      (λ n i. restore_fits (row_count s) (rows_now s) n (open_writes s) l.written (all_in (λ m. IsTrue (list_any (writes_row m) (open_writes s))) were_written i))))))))
+      (λ n i. restore_fits (row_count s) (rows_now s) n (open_writes s) l.written
+      (all_in (λ m. IsTrue (list_any (writes_row m) (open_writes s))) were_written i))))))))
 
 -- with nothing open
-pub ledger_empty : (s : Ledger) (rows : Rows) (view : ℕ) (serial : Bool) → IsLedger s → IsLedger (record s { rows = rows; opened = []; view = view; is_next_serial = serial })
+pub ledger_empty : (s : Ledger) (rows : Rows) (view : ℕ) (serial : Bool) → IsLedger s
+    → IsLedger (record s { rows = rows; opened = []; view = view; is_next_serial = serial })
 ledger_empty s rows view serial l = record { counted = let h = l.counted in omega arith; written = refl; laid = refl }
 
-pub rolled_back : (s : Ledger) (l : IsLedger s) (numbers : List ℕ) (moved : IsPermutation (rows_of (open_writes s)) numbers) (up : IsNonDecreasing numbers) (new : Ledger) (rows : Rows) (restores : List Restore)
-    → new ≡ record s { rows = rows; opened = []; view = s.view + 1; is_next_serial = true } → length rows.balances ≡ row_count s → table_of rows ≡ rows_committed s
-    → restores ≡ restores_of (rows_committed s) (rising_from 0 numbers) → s.committed < 4294967296 → s.view + 1 < 4294967296
+pub rolled_back : (s : Ledger) (l : IsLedger s) (numbers : List ℕ)
+    (moved : IsPermutation (rows_of (open_writes s)) numbers) (up : IsNonDecreasing numbers) (new : Ledger)
+    (rows : Rows) (restores : List Restore)
+    → new ≡ record s { rows = rows; opened = []; view = s.view + 1; is_next_serial = true } → length rows.balances
+    ≡ row_count s → table_of rows ≡ rows_committed s
+    → restores ≡ restores_of (rows_committed s) (rising_from 0 numbers) → s.committed < 4294967296
+    → s.view + 1 < 4294967296
     → RollsBack s new (record { to = s.committed; view = s.view + 1; restores = restores })
 rolled_back s l numbers moved up new rows restores is many table are to view = record {
   to = refl;
   view = refl;
   restores = subst (AreRestores s) (sym are) (are_restores s l numbers moved up);
-  whole = whole_rollback s l numbers moved up (record { to = s.committed; view = s.view + 1; restores = restores }) to view are;
-  changed = is ∙ ap (λ (r : Rows). record s { rows = r; opened = []; view = s.view + 1; is_next_serial = true }) (sym (ap (λ (n : Ledger). n.rows) is));
+  whole = whole_rollback s l numbers moved up (record { to = s.committed; view = s.view + 1; restores = restores }) to
+      view are;
+  changed = is ∙ ap (λ (r : Rows). record s { rows = r; opened = []; view = s.view + 1; is_next_serial = true })
+      (sym (ap (λ (n : Ledger). n.rows) is));
   as_many = ap (λ (n : Ledger). row_count n) is ∙ many;
   rows = ap (λ (n : Ledger). rows_now n) is ∙ table;
 }

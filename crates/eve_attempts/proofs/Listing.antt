@@ -1,5 +1,7 @@
 -- Lists, place by place.
-use Rattle.std.proofs.Common.{◌≡◌, ℕ, zero, suc, ◌+◌, ◌-◌, ◌<◌, ◌≤◌, Bool, true, false, List, [], ◌∷◌, ◌++◌, Some, None, cond, filter, map, length, set, replicate, get_or, drop, slice_get, ltb, refl, sym, subst, ap, ◌∙◌, add-one, arith}
+use Rattle.std.proofs.Common.{◌≡◌, ℕ, zero, suc, ◌+◌, ◌-◌, ◌<◌, ◌≤◌, Bool, true, false, List, [], ◌∷◌, ◌++◌, Some, None}
+use Rattle.std.proofs.Common.{cond, filter, map, length, set, replicate, get_or, drop, slice_get, ltb, refl, sym, subst}
+use Rattle.std.proofs.Common.{ap, ◌∙◌, add-one, arith}
 use Rattle.std.specs.List.{AllByRecursion, list_all}
 use Rattle.std.proofs.lemmas.Bool.{and_parts, and_from, lt-ltb, false≢true}
 use Rattle.std.specs.Bool.{Decides}
@@ -24,23 +26,28 @@ place_within (y ∷ xs) (suc i) x e = let h = place_within xs i x e in omega ari
 
 -- the item at a place and those behind it
 pub drop_at : {A : Type 0} (xs : List A) (i : ℕ) (x : A) → slice_get xs i ≡ Some x → drop i xs ≡ x ∷ drop (i + 1) xs
-drop_at xs i x e = drop_more xs i x (place_within xs i x e) ∙ ap (λ (y : _). y ∷ drop (i + 1) xs) (sym (at_place xs i x x e))
+drop_at xs i x e = drop_more xs i x (place_within xs i x e)
+    ∙ ap (λ (y : _). y ∷ drop (i + 1) xs) (sym (at_place xs i x x e))
 
 -- the same, where the item is told by the list
-pub drop_read : {A : Type 0} (xs : List A) (i : ℕ) (x : A) → i < length xs → x ≡ get_or xs i x → drop i xs ≡ x ∷ drop (i + 1) xs
+pub drop_read : {A : Type 0} (xs : List A) (i : ℕ) (x : A) → i < length xs → x ≡ get_or xs i x
+    → drop i xs ≡ x ∷ drop (i + 1) xs
 drop_read xs i x within is = drop_more xs i x within ∙ ap (λ (y : _). y ∷ drop (i + 1) xs) (sym is)
 
-pub all_test : {A : Type 0} (p : A → Bool) (xs : List A) (i : ℕ) (x : A) → list_all p xs ≡ true → slice_get xs i ≡ Some x → p x ≡ true
+pub all_test : {A : Type 0} (p : A → Bool) (xs : List A) (i : ℕ) (x : A) → list_all p xs ≡ true → slice_get xs i
+    ≡ Some x → p x ≡ true
 all_test p [] i x all e = absurd (none≢some x e)
 all_test p (y ∷ xs) zero x all e = ap p (sym (some_injective y x e)) ∙ (and_parts (p y) (list_all p xs) all).0
 all_test p (y ∷ xs) (suc i) x all e = all_test p xs i x (and_parts (p y) (list_all p xs) all).1 e
 
-pub all_fact : {A : Type 0} (P : A → Type 0) (xs : List A) (i : ℕ) (d : A) → AllByRecursion P xs → i < length xs → P (get_or xs i d)
+pub all_fact : {A : Type 0} (P : A → Type 0) (xs : List A) (i : ℕ) (d : A) → AllByRecursion P xs → i < length xs
+    → P (get_or xs i d)
 all_fact P [] i d all within = absurd (omega arith)
 all_fact P (y ∷ xs) zero d all within = all.0
 all_fact P (y ∷ xs) (suc i) d all within = all_fact P xs i d all.1 (omega arith)
 
-pub all_at : {A : Type 0} (P : A → Type 0) (xs : List A) (i : ℕ) (x : A) → AllByRecursion P xs → slice_get xs i ≡ Some x → P x
+pub all_at : {A : Type 0} (P : A → Type 0) (xs : List A) (i : ℕ) (x : A) → AllByRecursion P xs → slice_get xs i ≡ Some x
+    → P x
 all_at P [] i x all e = absurd (none≢some x e)
 all_at P (y ∷ xs) zero x all e = subst P (some_injective y x e) all.0
 all_at P (y ∷ xs) (suc i) x all e = all_at P xs i x all.1 e
@@ -48,7 +55,8 @@ all_at P (y ∷ xs) (suc i) x all e = all_at P xs i x all.1 e
 -- numbers that are all below one
 pub all_below : (n : ℕ) (xs : List ℕ) → ((i : ℕ) → get_or xs i 0 < n) → list_all (λ x. ltb x n) xs ≡ true
 all_below n [] below = refl
-all_below n (x ∷ xs) below = and_from (ltb x n) (list_all (λ y. ltb y n) xs) (lt-ltb x n (below 0)) (all_below n xs (λ i. below (suc i)))
+all_below n (x ∷ xs) below = and_from (ltb x n) (list_all (λ y. ltb y n) xs) (lt-ltb x n (below 0))
+    (all_below n xs (λ i. below (suc i)))
 
 -- ---- along a loop
 
@@ -60,32 +68,39 @@ pub record Goes {A : Type 0} (P : A → Type 0) (xs : List A) (k : ℕ) : Type 0
 pub goes_start : {A : Type 0} (P : A → Type 0) (xs : List A) → Goes P xs 0
 goes_start P xs = record { all = λ h. h; rest = λ h. h }
 
-pub goes_more : {A : Type 0} (P : A → Type 0) (xs : List A) (k : ℕ) (x : A) → Goes P xs k → drop k xs ≡ x ∷ drop (k + 1) xs → P x → Goes P xs (k + 1)
+pub goes_more : {A : Type 0} (P : A → Type 0) (xs : List A) (k : ℕ) (x : A) → Goes P xs k → drop k xs
+    ≡ x ∷ drop (k + 1) xs → P x → Goes P xs (k + 1)
 goes_more P xs k x goes is holds = record {
   all = λ h. goes.all (subst (AllByRecursion P) (sym is) (holds, h));
   rest = λ h. (subst (AllByRecursion P) is (goes.rest h)).1;
 }
 
-pub goes_stop : {A : Type 0} (P : A → Type 0) (xs : List A) (k : ℕ) (x : A) → Goes P xs k → drop k xs ≡ x ∷ drop (k + 1) xs → (P x → ⊥) → Decides false (AllByRecursion P xs)
-goes_stop P xs k x goes is fails = ((λ e. absurd (false≢true e)), (λ h. absurd (fails (subst (AllByRecursion P) is (goes.rest h)).0)))
+pub goes_stop : {A : Type 0} (P : A → Type 0) (xs : List A) (k : ℕ) (x : A) → Goes P xs k → drop k xs
+    ≡ x ∷ drop (k + 1) xs → (P x → ⊥) → Decides false (AllByRecursion P xs)
+goes_stop P xs k x goes is fails =
+    ((λ e. absurd (false≢true e)), (λ h. absurd (fails (subst (AllByRecursion P) is (goes.rest h)).0)))
 
-pub goes_end : {A : Type 0} (P : A → Type 0) (xs : List A) (k : ℕ) → Goes P xs k → length xs ≤ k → Decides true (AllByRecursion P xs)
+pub goes_end : {A : Type 0} (P : A → Type 0) (xs : List A) (k : ℕ) → Goes P xs k → length xs ≤ k
+    → Decides true (AllByRecursion P xs)
 goes_end P xs k goes all = ((λ _. goes.all (subst (AllByRecursion P) (sym (drop_all k xs all)) tt)), (λ _. refl))
 
 -- what is decided to be false doesn't hold
 pub fails_by : {P : Type 0} (r : Bool) → Decides r P → r ≡ false → P → ⊥
 fails_by r d e p = false≢true (sym e ∙ d.1 p)
 
-pub all_read : {A : Type 0} (p : A → Bool) (xs : List A) (i : ℕ) (x : A) → list_all p xs ≡ true → i < length xs → x ≡ get_or xs i x → p x ≡ true
+pub all_read : {A : Type 0} (p : A → Bool) (xs : List A) (i : ℕ) (x : A) → list_all p xs ≡ true → i < length xs
+    → x ≡ get_or xs i x → p x ≡ true
 all_read p [] i x all within is = absurd (omega arith)
 all_read p (y ∷ xs) zero x all within is = ap p is ∙ (and_parts (p y) (list_all p xs) all).0
 all_read p (y ∷ xs) (suc i) x all within is = all_read p xs i x (and_parts (p y) (list_all p xs) all).1 (omega arith) is
 
 -- the item before a place, and those from the place on
-pub drop_before : {A : Type 0} (xs : List A) (i : ℕ) (x : A) → 0 < i → i ≤ length xs → x ≡ get_or xs (i - 1) x → drop (i - 1) xs ≡ x ∷ drop i xs
+pub drop_before : {A : Type 0} (xs : List A) (i : ℕ) (x : A) → 0 < i → i ≤ length xs → x ≡ get_or xs (i - 1) x
+    → drop (i - 1) xs ≡ x ∷ drop i xs
 drop_before xs zero x some within is = absurd (omega arith)
 drop_before xs (suc i) x some within is =
-    ap (λ (n : ℕ). drop n xs) (less i) ∙ drop_read xs i x (omega arith) (is ∙ ap (λ (n : ℕ). get_or xs n x) (less i)) ∙ ap (λ (n : ℕ). x ∷ drop n xs) (add-one i)
+    ap (λ (n : ℕ). drop n xs) (less i) ∙ drop_read xs i x (omega arith) (is ∙ ap (λ (n : ℕ). get_or xs n x) (less i))
+    ∙ ap (λ (n : ℕ). x ∷ drop n xs) (add-one i)
   where
     less : (n : ℕ) → suc n - 1 ≡ n
     less n = omega arith
@@ -94,28 +109,34 @@ pub filter-append : {A : Type 0} (p : A → Bool) (xs ys : List A) → filter p 
 filter-append p [] ys = refl
 filter-append {A} p (x ∷ xs) ys = by (p x) (filter-append p xs ys)
   where
-    by : (b : Bool) → filter p (xs ++ ys) ≡ filter p xs ++ filter p ys → cond b (x ∷ filter p (xs ++ ys)) (filter p (xs ++ ys)) ≡ cond b (x ∷ filter p xs) (filter p xs) ++ filter p ys
+    by : (b : Bool) → filter p (xs ++ ys) ≡ filter p xs ++ filter p ys
+        → cond b (x ∷ filter p (xs ++ ys)) (filter p (xs ++ ys)) ≡ cond b (x ∷ filter p xs) (filter p xs) ++ filter p ys
     by true rest = ap (λ (zs : List A). x ∷ zs) rest
     by false rest = rest
 
-pub all_mapped : {A B : Type 0} (P : B → Type 0) (f : A → B) (xs : List A) → AllByRecursion (λ x. P (f x)) xs → AllByRecursion P (map f xs)
+pub all_mapped : {A B : Type 0} (P : B → Type 0) (f : A → B) (xs : List A) → AllByRecursion (λ x. P (f x)) xs
+    → AllByRecursion P (map f xs)
 all_mapped P f [] all = tt
 all_mapped P f (x ∷ xs) all = (all.0, all_mapped P f xs all.1)
 
-pub all_unmapped : {A B : Type 0} (P : B → Type 0) (f : A → B) (xs : List A) → AllByRecursion P (map f xs) → AllByRecursion (λ x. P (f x)) xs
+pub all_unmapped : {A B : Type 0} (P : B → Type 0) (f : A → B) (xs : List A) → AllByRecursion P (map f xs)
+    → AllByRecursion (λ x. P (f x)) xs
 all_unmapped P f [] all = tt
 all_unmapped P f (x ∷ xs) all = (all.0, all_unmapped P f xs all.1)
 
-pub decides_mapped : {A B : Type 0} (P : B → Type 0) (f : A → B) (xs : List A) (r : Bool) → Decides r (AllByRecursion (λ x. P (f x)) xs) → Decides r (AllByRecursion P (map f xs))
+pub decides_mapped : {A B : Type 0} (P : B → Type 0) (f : A → B) (xs : List A) (r : Bool)
+    → Decides r (AllByRecursion (λ x. P (f x)) xs) → Decides r (AllByRecursion P (map f xs))
 decides_mapped P f xs r d = ((λ e. all_mapped P f xs (d.0 e)), (λ h. d.1 (all_unmapped P f xs h)))
 
 -- what is made of the item at a place
-pub mapped_at : {A B : Type 0} (f : A → B) (xs : List A) (i : ℕ) (x : A) (d : B) → i < length xs → x ≡ get_or xs i x → get_or (map f xs) i d ≡ f x
+pub mapped_at : {A B : Type 0} (f : A → B) (xs : List A) (i : ℕ) (x : A) (d : B) → i < length xs → x ≡ get_or xs i x
+    → get_or (map f xs) i d ≡ f x
 mapped_at f [] i x d within is = absurd (omega arith)
 mapped_at f (y ∷ xs) zero x d within is = ap f (sym is)
 mapped_at f (y ∷ xs) (suc i) x d within is = mapped_at f xs i x d (omega arith) is
 
-pub list_all-set : {A : Type 0} (p : A → Bool) (xs : List A) (i : ℕ) (x : A) → list_all p xs ≡ true → p x ≡ true → list_all p (set xs i x) ≡ true
+pub list_all-set : {A : Type 0} (p : A → Bool) (xs : List A) (i : ℕ) (x : A) → list_all p xs ≡ true → p x ≡ true
+    → list_all p (set xs i x) ≡ true
 list_all-set p [] i x all is = all
 list_all-set p (y ∷ xs) zero x all is = and_from (p x) (list_all p xs) is (and_parts (p y) (list_all p xs) all).1
 list_all-set p (y ∷ xs) (suc i) x all is =
@@ -126,6 +147,7 @@ pub list_all-replicate : {A : Type 0} (p : A → Bool) (n : ℕ) (x : A) → p x
 list_all-replicate p zero x is = refl
 list_all-replicate p (suc n) x is = and_from (p x) (list_all p (replicate n x)) is (list_all-replicate p n x is)
 
-pub all_push : {A : Type 0} (P : A → Type 0) (xs : List A) (x : A) → AllByRecursion P xs → P x → AllByRecursion P (xs ++ x ∷ [])
+pub all_push : {A : Type 0} (P : A → Type 0) (xs : List A) (x : A) → AllByRecursion P xs → P x
+    → AllByRecursion P (xs ++ x ∷ [])
 all_push P [] x all holds = (holds, tt)
 all_push P (y ∷ xs) x all holds = (all.0, all_push P xs x all.1 holds)

@@ -1,9 +1,11 @@
 -- There is one order of the ticks.
-use Rattle.std.proofs.Common.{◌≡◌, ◌≢◌, ℕ, suc, ◌+◌, ◌<◌, ◌≤◌, ◌==◌, Bool, true, false, cond, ◌||◌, ◌&&◌, ltb, IsTrue, List, [], ◌∷◌, refl, sym, subst, ap, ap₂, ◌∙◌, inl, inr, ◌⊎◌, arith}
+use Rattle.std.proofs.Common.{◌≡◌, ◌≢◌, ℕ, suc, ◌+◌, ◌<◌, ◌≤◌, ◌==◌, Bool, true, false, cond, ◌||◌, ◌&&◌, ltb, IsTrue}
+use Rattle.std.proofs.Common.{List, [], ◌∷◌, refl, sym, subst, ap, ap₂, ◌∙◌, inl, inr, ◌⊎◌, arith}
 use Rattle.std.specs.Prelude.{All, sum_by}
 use Rattle.std.specs.List.{AllByRecursion, list_all}
 use Rattle.std.specs.List.Sorted.{IsPermutation}
-use Rattle.std.proofs.lemmas.Bool.{cases_lt, and_parts, and_from, or_right, eqb-true, eq-eqb, ne_eqb, ltb-true, lt-ltb, cond-true, cond-false, false≢true}
+use Rattle.std.proofs.lemmas.Bool.{cases_lt, and_parts, and_from, or_right, eqb-true, eq-eqb, ne_eqb, ltb-true, lt-ltb}
+use Rattle.std.proofs.lemmas.Bool.{cond-true, cond-false, false≢true}
 use Rattle.std.proofs.lemmas.List.Sums.{sum_by-cons}
 use Rattle.std.proofs.lemmas.List.Elements.{All-nil, All-cons, recursion_from_All}
 use Rattle.std.proofs.lemmas.List.Sorted.{All-permutation, IsPermutation-sym, IsPermutation-trans, sum_by-IsPermutation}
@@ -36,7 +38,8 @@ all_from_in P (x ∷ xs) h = (h x here, all_from_in P xs (λ y i. h y (there i))
 before_parts : (r q : Applied) → IsTrue (is_before r q) → (r.tick < q.tick) ⊎ ((r.tick ≡ q.tick) × (r.index < q.index))
 before_parts r q h = by (ltb r.tick q.tick) (r.tick == q.tick) (ltb r.index q.index) refl refl refl h
   where
-    by : (a b d : Bool) → ltb r.tick q.tick ≡ a → (r.tick == q.tick) ≡ b → ltb r.index q.index ≡ d → (a || (b && d)) ≡ true → (r.tick < q.tick) ⊎ ((r.tick ≡ q.tick) × (r.index < q.index))
+    by : (a b d : Bool) → ltb r.tick q.tick ≡ a → (r.tick == q.tick) ≡ b → ltb r.index q.index ≡ d → (a || (b && d))
+        ≡ true → (r.tick < q.tick) ⊎ ((r.tick ≡ q.tick) × (r.index < q.index))
     by true b d e f g t = inl (ltb-true r.tick q.tick e)
     by false true true e f g t = inr (eqb-true r.tick q.tick f, ltb-true r.index q.index g)
     by false true false e f g t = absurd (false≢true t)
@@ -62,7 +65,8 @@ not_after_before r q h other = elim (cases_lt r.tick q.tick) [
       let t = h.tick in
       let i = h.index ge in
       let e : r.tick ≡ q.tick = omega arith in
-      let lt : r.index < q.index = elim (cases_lt r.index q.index) [ inl l ↦ l | inr g ↦ absurd (other (omega arith)) ] in
+      let lt : r.index < q.index = elim (cases_lt r.index q.index) [ inl l ↦ l | inr g ↦ absurd (other (omega arith)) ]
+      in
       or_right (ltb r.tick q.tick) ((r.tick == q.tick) && ltb r.index q.index)
       (and_from (r.tick == q.tick) (ltb r.index q.index) (eq-eqb r.tick q.tick e) (lt-ltb r.index q.index lt))
 ]
@@ -77,7 +81,9 @@ occurrences-sum : (i : ℕ) (rs : List Applied) → occurrences i (indexes_of rs
 occurrences-sum i [] = refl
 occurrences-sum i (r ∷ rs) = by (r.index == i) (occurrences-sum i rs) ∙ sym (sum_by-cons (has_index i) r rs)
   where
-    by : (b : Bool) → occurrences i (indexes_of rs) ≡ sum_by (has_index i) rs → cond b (suc (occurrences i (indexes_of rs))) (occurrences i (indexes_of rs)) ≡ cond b 1 0 + sum_by (has_index i) rs
+    by : (b : Bool) → occurrences i (indexes_of rs) ≡ sum_by (has_index i) rs
+        → cond b (suc (occurrences i (indexes_of rs))) (occurrences i (indexes_of rs))
+        ≡ cond b 1 0 + sum_by (has_index i) rs
     by true e = omega arith
     by false e = omega arith
 
@@ -90,35 +96,42 @@ all_small r [] i all le = refl
 all_small r (x ∷ xs) i all le =
     let parts = and_parts (ltb x r) (list_all (λ j. ltb j r) xs) all in
     let below = ltb-true x r parts.0 in
-    cond-false (x == i) (suc (occurrences i xs)) (occurrences i xs) (ne_eqb x i (λ e. omega arith)) ∙ all_small r xs i parts.1 le
+    cond-false (x == i) (suc (occurrences i xs)) (occurrences i xs) (ne_eqb x i (λ e. omega arith))
+    ∙ all_small r xs i parts.1 le
 
 pub distinct_permutation : (r : ℕ) (rs : List Applied) → is_permutation r (indexes_of rs) ≡ true → AreDistinct rs
 distinct_permutation r rs h i =
-    let parts = and_parts (list_all (λ j. ltb j r) (indexes_of rs)) (all_below r (λ j. occurrences j (indexes_of rs) == 1)) h in
+    let parts = and_parts (list_all (λ j. ltb j r) (indexes_of rs))
+    (all_below r (λ j. occurrences j (indexes_of rs) == 1)) h in
     elim (cases_lt i r) [
-      | inl lt ↦ let once = eqb-true (occurrences i (indexes_of rs)) 1 (all_below_at r (λ j. occurrences j (indexes_of rs) == 1) i parts.1 lt) in omega arith
+      | inl lt ↦ let once = eqb-true (occurrences i (indexes_of rs)) 1
+          (all_below_at r (λ j. occurrences j (indexes_of rs) == 1) i parts.1 lt) in omega arith
       | inr ge ↦ let none = all_small r (indexes_of rs) i parts.0 ge in omega arith
     ]
 
 pub distinct_moved : (rs qs : List Applied) → IsPermutation rs qs → AreDistinct rs → AreDistinct qs
 distinct_moved rs qs same distinct i =
-    let is : occurrences i (indexes_of qs) ≡ occurrences i (indexes_of rs) = occurrences-sum i qs ∙ sum_by-IsPermutation (has_index i) rs qs same ∙ sym (occurrences-sum i rs) in
+    let is : occurrences i (indexes_of qs) ≡ occurrences i (indexes_of rs) = occurrences-sum i qs
+    ∙ sum_by-IsPermutation (has_index i) rs qs same ∙ sym (occurrences-sum i rs) in
     let h = distinct i in
     omega arith
 
 occurs : (q : Applied) (rs : List Applied) → In q rs → 0 < occurrences q.index (indexes_of rs)
 occurs q [] i = elim i [ ]
-occurs q (r ∷ rs) here = let e = cond-true (q.index == q.index) (suc (occurrences q.index (indexes_of rs))) (occurrences q.index (indexes_of rs)) (eq-eqb q.index q.index refl) in omega arith
+occurs q (r ∷ rs) here = let e = cond-true (q.index == q.index) (suc (occurrences q.index (indexes_of rs)))
+    (occurrences q.index (indexes_of rs)) (eq-eqb q.index q.index refl) in omega arith
 occurs q (r ∷ rs) (there i) = by (r.index == q.index) (occurs q rs i)
   where
-    by : (b : Bool) → 0 < occurrences q.index (indexes_of rs) → 0 < cond b (suc (occurrences q.index (indexes_of rs))) (occurrences q.index (indexes_of rs))
+    by : (b : Bool) → 0 < occurrences q.index (indexes_of rs) → 0 < cond b (suc (occurrences q.index (indexes_of rs)))
+        (occurrences q.index (indexes_of rs))
     by true h = omega arith
     by false h = h
 
 distinct_rest : (r : Applied) (rs : List Applied) → AreDistinct (r ∷ rs) → AreDistinct rs
 distinct_rest r rs distinct i = by (r.index == i) (distinct i)
   where
-    by : (b : Bool) → cond b (suc (occurrences i (indexes_of rs))) (occurrences i (indexes_of rs)) ≤ 1 → occurrences i (indexes_of rs) ≤ 1
+    by : (b : Bool) → cond b (suc (occurrences i (indexes_of rs))) (occurrences i (indexes_of rs)) ≤ 1
+        → occurrences i (indexes_of rs) ≤ 1
     by true h = omega arith
     by false h = h
 
@@ -126,15 +139,19 @@ distinct_rest r rs distinct i = by (r.index == i) (distinct i)
 distinct_first : (r : Applied) (rs : List Applied) (q : Applied) → AreDistinct (r ∷ rs) → In q rs → r.index ≢ q.index
 distinct_first r rs q distinct i same =
     let some = occurs q rs i in
-    let e = cond-true (r.index == q.index) (suc (occurrences q.index (indexes_of rs))) (occurrences q.index (indexes_of rs)) (eq-eqb r.index q.index same) in
+    let e = cond-true (r.index == q.index) (suc (occurrences q.index (indexes_of rs)))
+    (occurrences q.index (indexes_of rs)) (eq-eqb r.index q.index same) in
     let h = distinct q.index in
     omega arith
 
 -- records whose indexes differ and whose ticks don't fall rise
 pub rises : (rs : List Applied) → TicksDontFall rs → AreDistinct rs → TicksRise rs
 rises [] up distinct = tt
-rises (r ∷ rs) up distinct =
-    (all_from_in (λ q. IsTrue (is_before r q)) rs (λ q i. not_after_before r q (all_in (IsNotAfter r) up.0 i) (distinct_first r rs q distinct i)), rises rs up.1 (distinct_rest r rs distinct))
+rises (r ∷ rs) up distinct = (
+  all_from_in (λ q. IsTrue (is_before r q)) rs
+      (λ q i. not_after_before r q (all_in (IsNotAfter r) up.0 i) (distinct_first r rs q distinct i)),
+  rises rs up.1 (distinct_rest r rs distinct),
+)
 
 -- ---- one order
 
@@ -142,27 +159,35 @@ rises (r ∷ rs) up distinct =
 abbrev pub AreAmong : List Applied → List Applied → Type 0
 AreAmong xs ys = (z : Applied) → In z xs → In z ys
 
-same_first : (x y : Applied) (xs ys : List Applied) → TicksRise (x ∷ xs) → TicksRise (y ∷ ys) → AreAmong (x ∷ xs) (y ∷ ys) → AreAmong (y ∷ ys) (x ∷ xs) → x ≡ y
+same_first : (x y : Applied) (xs ys : List Applied) → TicksRise (x ∷ xs) → TicksRise (y ∷ ys)
+    → AreAmong (x ∷ xs) (y ∷ ys) → AreAmong (y ∷ ys) (x ∷ xs) → x ≡ y
 same_first x y xs ys up uq one two = by (in_split x y ys (one x here)) (in_split y x xs (two y here))
   where
     by : (x ≡ y) ⊎ In x ys → (y ≡ x) ⊎ In y xs → x ≡ y
     by (inl e) j = e
     by (inr i) (inl e) = sym e
-    by (inr i) (inr j) = absurd (before_clash x y (all_in (λ q. IsTrue (is_before x q)) up.0 j) (before_not_after y x (all_in (λ q. IsTrue (is_before y q)) uq.0 i)))
+    by (inr i) (inr j) = absurd
+        (before_clash x y (all_in (λ q. IsTrue (is_before x q)) up.0 j)
+        (before_not_after y x (all_in (λ q. IsTrue (is_before y q)) uq.0 i)))
 
 among_rest : (x : Applied) (xs ys : List Applied) → TicksRise (x ∷ xs) → AreAmong (x ∷ xs) (x ∷ ys) → AreAmong xs ys
 among_rest x xs ys up one z i = by (in_split z x ys (one z (there i)))
   where
     by : (z ≡ x) ⊎ In z ys → In z ys
     by (inl e) = absurd (before_clash x z (all_in (λ q. IsTrue (is_before x q)) up.0 i)
-        (record { tick = let h = ap (λ (r : Applied). r.tick) e in omega arith; index = λ le. let h = ap (λ (r : Applied). r.index) e in omega arith }))
+        (record {
+          tick = let h = ap (λ (r : Applied). r.tick) e in omega arith;
+          index = λ le. let h = ap
+              (λ (r : Applied). r.index) e in omega arith;
+        }))
     by (inr j) = j
 
 pub one_order : (xs ys : List Applied) → TicksRise xs → TicksRise ys → AreAmong xs ys → AreAmong ys xs → xs ≡ ys
 one_order [] [] up uq one two = refl
 one_order [] (y ∷ ys) up uq one two = elim (two y here) [ ]
 one_order (x ∷ xs) [] up uq one two = elim (one x here) [ ]
-one_order (x ∷ xs) (y ∷ ys) up uq one two = by y (same_first x y xs ys up uq one two) uq one two (λ a b d. one_order xs ys up.1 a.1 (among_rest x xs ys up b) (among_rest x ys xs a d))
+one_order (x ∷ xs) (y ∷ ys) up uq one two = by y (same_first x y xs ys up uq one two) uq one two
+    (λ a b d. one_order xs ys up.1 a.1 (among_rest x xs ys up b) (among_rest x ys xs a d))
   where
     by : (y : Applied) → x ≡ y → TicksRise (y ∷ ys) → AreAmong (x ∷ xs) (y ∷ ys) → AreAmong (y ∷ ys) (x ∷ xs)
         → (TicksRise (x ∷ ys) → AreAmong (x ∷ xs) (x ∷ ys) → AreAmong (x ∷ ys) (x ∷ xs) → xs ≡ ys) → x ∷ xs ≡ y ∷ ys
@@ -177,15 +202,19 @@ pub all_to : {A : Type 0} (P : A → Type 0) (xs : List A) → AllByRecursion P 
 all_to P [] all = All-nil P
 all_to P (x ∷ xs) all = All-cons P x xs all.0 (all_to P xs all.1)
 
-pub all_moved : {A : Type 0} (P : A → Type 0) (xs ys : List A) → IsPermutation xs ys → AllByRecursion P xs → AllByRecursion P ys
+pub all_moved : {A : Type 0} (P : A → Type 0) (xs ys : List A) → IsPermutation xs ys → AllByRecursion P xs
+    → AllByRecursion P ys
 all_moved P xs ys same all = recursion_from_All P ys (All-permutation P xs ys same (all_to P xs all))
 
 among_moved : (xs ys : List Applied) → IsPermutation xs ys → AreAmong ys xs
-among_moved xs ys same z i = all_in (λ y. In y xs) (all_moved (λ y. In y xs) xs ys same (all_from_in (λ y. In y xs) xs (λ y j. j))) i
+among_moved xs ys same z i =
+    all_in (λ y. In y xs) (all_moved (λ y. In y xs) xs ys same (all_from_in (λ y. In y xs) xs (λ y j. j))) i
 
 -- the records in the order of their ticks are those of any order in which the ticks don't fall, if their indexes differ
-pub same_order : (records ordered mine : List Applied) → IsPermutation records ordered → TicksRise ordered → AreDistinct ordered → IsPermutation records mine → TicksDontFall mine → mine ≡ ordered
+pub same_order : (records ordered mine : List Applied) → IsPermutation records ordered → TicksRise ordered
+    → AreDistinct ordered → IsPermutation records mine → TicksDontFall mine → mine ≡ ordered
 same_order records ordered mine same up distinct moved down =
-    let across : IsPermutation ordered mine = IsPermutation-trans ordered records mine (IsPermutation-sym records ordered same) moved in
+    let across : IsPermutation ordered mine = IsPermutation-trans ordered records mine
+    (IsPermutation-sym records ordered same) moved in
     one_order mine ordered (rises mine down (distinct_moved ordered mine across distinct)) up
     (among_moved ordered mine across) (among_moved mine ordered (IsPermutation-sym ordered mine across))

@@ -1,9 +1,12 @@
 -- What a write leaves in the rows, what going back over writes gives, and what each entry along an attempt sees.
-use Rattle.std.proofs.Common.{◌≡◌, ℕ, ℤ, pos, zero, suc, ◌+◌, ◌<◌, ◌==◌, Bool, true, false, cond, ltb, ◌||◌, ◌&&◌, IsTrue, List, [], ◌∷◌, ◌++◌, map, filter, length, get_or, set, refl, sym, subst, ap, ap₂, ◌∙◌, inl, inr, append_assoc, arith}
+use Rattle.std.proofs.Common.{◌≡◌, ℕ, ℤ, pos, zero, suc, ◌+◌, ◌<◌, ◌==◌, Bool, true, false, cond, ltb, ◌||◌, ◌&&◌}
+use Rattle.std.proofs.Common.{IsTrue, List, [], ◌∷◌, ◌++◌, map, filter, length, get_or, set, refl, sym, subst, ap, ap₂}
+use Rattle.std.proofs.Common.{◌∙◌, inl, inr, append_assoc, arith}
 use mathlib.Core.Path.{fun_ext}
 use Rattle.std.specs.List.{AllByRecursion, flat_map, list_any, list_all}
 use Rattle.std.proofs.lemmas.List.Folds.{list_all-append}
-use Rattle.std.proofs.lemmas.Bool.{cases_Bool, cases_eq, and_parts, or_parts, ltb-true, eq-eqb, ne_eqb, eqb-true, cond-true, cond-false}
+use Rattle.std.proofs.lemmas.Bool.{cases_Bool, cases_eq, and_parts, or_parts, ltb-true, eq-eqb, ne_eqb, eqb-true}
+use Rattle.std.proofs.lemmas.Bool.{cond-true, cond-false}
 use Rattle.std.proofs.lemmas.List.{get_or-set_other}
 use Rattle.std.proofs.lemmas.Grind.{get_or-set_at}
 use Rattle.eve_smallbank.specs.declared.entry.Entry.{Entry}
@@ -19,51 +22,65 @@ use Rattle.eve_attempts.specs.Ordering.{AreSeenAlong, table_along}
 
 -- ---- rows as tables
 
-same_list : {A : Type 0} (xs ys : List A) (d : A) → length xs ≡ length ys → ((i : ℕ) → get_or xs i d ≡ get_or ys i d) → xs ≡ ys
+same_list : {A : Type 0} (xs ys : List A) (d : A) → length xs ≡ length ys → ((i : ℕ) → get_or xs i d ≡ get_or ys i d)
+    → xs ≡ ys
 same_list [] [] d many same = refl
 same_list [] (y ∷ ys) d many same = absurd (omega arith)
 same_list (x ∷ xs) [] d many same = absurd (omega arith)
 same_list (x ∷ xs) (y ∷ ys) d many same =
     ap₂ (λ (z : _) (zs : List _). z ∷ zs) (same 0) (same_list xs ys d (omega arith) (λ i. same (suc i)))
 
-pub same_rows : (a b : Rows) → length a.versions ≡ length b.versions → length a.balances ≡ length b.balances → table_of a ≡ table_of b → a ≡ b
+pub same_rows : (a b : Rows) → length a.versions ≡ length b.versions → length a.balances ≡ length b.balances
+    → table_of a ≡ table_of b → a ≡ b
 same_rows a b versions balances same =
     ap₂ (λ (v : List ℕ) (m : List ℤ). record { versions = v; balances = m })
     (same_list a.versions b.versions 0 versions (λ i. ap (λ (t : Table). (t i).version) same))
     (same_list a.balances b.balances (pos 0) balances (λ i. ap (λ (t : Table). (t i).value) same))
 
-get_or-set : {A : Type 0} (xs : List A) (i : ℕ) (x d : A) → i < length xs → (k : ℕ) → get_or (set xs i x) k d ≡ cond (i == k) x (get_or xs k d)
+get_or-set : {A : Type 0} (xs : List A) (i : ℕ) (x d : A) → i < length xs → (k : ℕ) → get_or (set xs i x) k d
+    ≡ cond (i == k) x (get_or xs k d)
 get_or-set xs i x d within k = elim (cases_eq k i) [
   | inl same ↦ get_or-set_at xs i k x d same within ∙ sym (cond-true (i == k) x (get_or xs k d) (eq-eqb i k (sym same)))
-  | inr other ↦ get_or-set_other xs i k x d other ∙ sym (cond-false (i == k) x (get_or xs k d) (ne_eqb i k (λ e. other (sym e))))
+  | inr other ↦ get_or-set_other xs i k x d other
+      ∙ sym (cond-false (i == k) x (get_or xs k d) (ne_eqb i k (λ e. other (sym e))))
 ]
 
 -- a row of both lists set
 abbrev set_both : Rows → ℕ → ℕ → ℤ → Rows
-set_both rows row version value = record { versions = set rows.versions row version; balances = set rows.balances row value }
+set_both rows row version value =
+    record { versions = set rows.versions row version; balances = set rows.balances row value }
 
-table_of-set : (rows : Rows) (at version : ℕ) (value : ℤ) (row : ℕ) → at < length rows.versions → at < length rows.balances
-    → table_of (set_both rows at version value) row ≡ cond (at == row) (record { version = version; value = value }) (table_of rows row)
+table_of-set : (rows : Rows) (at version : ℕ) (value : ℤ) (row : ℕ) → at < length rows.versions
+    → at < length rows.balances
+    → table_of (set_both rows at version value) row ≡ cond (at == row) (record { version = version; value = value })
+    (table_of rows row)
 table_of-set rows at version value row one two =
-    ap₂ (λ (v : ℕ) (m : ℤ). record { version = v; value = m }) (get_or-set rows.versions at version 0 one row) (get_or-set rows.balances at value (pos 0) two row)
+    ap₂ (λ (v : ℕ) (m : ℤ). record { version = v; value = m }) (get_or-set rows.versions at version 0 one row)
+    (get_or-set rows.balances at value (pos 0) two row)
     ∙ exchange (at == row)
   where
-    exchange : (b : Bool) → record { version = cond b version (get_or rows.versions row 0); value = cond b value (get_or rows.balances row (pos 0)) }
+    exchange : (b : Bool) → record {
+      version = cond b version (get_or rows.versions row 0);
+      value = cond b value (get_or rows.balances row (pos 0));
+    }
         ≡ cond b (record { version = version; value = value }) (table_of rows row)
     exchange true = refl
     exchange false = refl
 
-pub write_left : (rows : Rows) (e : Entry) → e.row < length rows.versions → e.row < length rows.balances → is_write e.kind ≡ true
+pub write_left : (rows : Rows) (e : Entry) → e.row < length rows.versions → e.row < length rows.balances
+    → is_write e.kind ≡ true
     → table_of (set_both rows e.row (e.version + 1) e.after) ≡ table_after (table_of rows) (e ∷ [])
 write_left rows e one two written =
     fun_ext (λ row. table_of-set rows e.row (e.version + 1) e.after row one two
     ∙ ap (λ b. cond (b && (e.row == row)) (left_by e) (table_of rows row)) (sym written))
 
-pub seen_left : (rows : Rows) (e : Entry) → e.row < length rows.versions → e.row < length rows.balances → is_write e.kind ≡ true
+pub seen_left : (rows : Rows) (e : Entry) → e.row < length rows.versions → e.row < length rows.balances
+    → is_write e.kind ≡ true
     → table_of (set_both rows e.row e.version e.seen) ≡ undone (table_of rows) (e ∷ [])
 seen_left rows e one two written =
     fun_ext (λ row. table_of-set rows e.row e.version e.seen row one two
-    ∙ ap (λ b. cond (b && (e.row == row)) (record { version = e.version; value = e.seen }) (table_of rows row)) (sym written))
+    ∙ ap (λ b. cond (b && (e.row == row)) (record { version = e.version; value = e.seen }) (table_of rows row))
+    (sym written))
 
 -- the row of an entry is there
 pub entry_there : (rows : ℕ) (e : Entry) → IsTrue (is_entry rows e) → e.row < rows
@@ -78,19 +95,23 @@ write_there rows e right =
 abbrev pub held : List ℕ → List ℤ → Rows
 held versions balances = record { versions = versions; balances = balances }
 
-module _ (now : Rows) (versions : List ℕ) (balances after : List ℤ) (e : Entry) (n : ℕ) (is : held versions balances ≡ now) (at : n ≡ e.row) (many : length versions ≡ length balances)
+module _ (now : Rows) (versions : List ℕ) (balances after : List ℤ) (e : Entry) (n : ℕ)
+    (is : held versions balances ≡ now) (at : n ≡ e.row) (many : length versions ≡ length balances)
     (right : IsTrue (is_write_in (length now.balances) e)) where
   there : e.row < length balances
-  there = let h = (write_there (length now.balances) e right).1 in let k : length balances ≡ length now.balances = ap (λ (r : Rows). length r.balances) is in omega arith
+  there = let h = (write_there (length now.balances) e right).1 in let k : length balances ≡ length now.balances =
+      ap (λ (r : Rows). length r.balances) is in omega arith
 
-  pub write_held : after ≡ set balances e.row e.after → table_of (held (set versions n (e.version + 1)) after) ≡ table_after (table_of now) (e ∷ [])
+  pub write_held : after ≡ set balances e.row e.after → table_of (held (set versions n (e.version + 1)) after)
+      ≡ table_after (table_of now) (e ∷ [])
   write_held set_is =
       let h = there in
       ap₂ (λ (m : ℕ) (b : List ℤ). table_of (held (set versions m (e.version + 1)) b)) at set_is
       ∙ write_left (held versions balances) e (omega arith) h (write_there (length now.balances) e right).0
       ∙ ap (λ (r : Rows). table_after (table_of r) (e ∷ [])) is
 
-  pub seen_held : after ≡ set balances e.row e.seen → table_of (held (set versions n e.version) after) ≡ undone (table_of now) (e ∷ [])
+  pub seen_held : after ≡ set balances e.row e.seen → table_of (held (set versions n e.version) after)
+      ≡ undone (table_of now) (e ∷ [])
   seen_held set_is =
       let h = there in
       ap₂ (λ (m : ℕ) (b : List ℤ). table_of (held (set versions m e.version) b)) at set_is
@@ -99,18 +120,22 @@ module _ (now : Rows) (versions : List ℕ) (balances after : List ℤ) (e : Ent
 
 -- ---- going back
 
-pub undone-cons : (table : Table) (e : Entry) (es : List Entry) → undone table (e ∷ es) ≡ undone (undone table es) (e ∷ [])
+pub undone-cons : (table : Table) (e : Entry) (es : List Entry) → undone table (e ∷ es)
+    ≡ undone (undone table es) (e ∷ [])
 undone-cons table e es = refl
 
 pub undone-append : (table : Table) (xs ys : List Entry) → undone table (xs ++ ys) ≡ undone (undone table ys) xs
 undone-append table [] ys = refl
-undone-append table (e ∷ xs) ys = ap (λ (t : Table). λ row. cond (writes_row row e) (record { version = e.version; value = e.seen }) (t row)) (undone-append table xs ys)
+undone-append table (e ∷ xs) ys =
+    ap (λ (t : Table). λ row. cond (writes_row row e) (record { version = e.version; value = e.seen }) (t row))
+    (undone-append table xs ys)
 
 -- what an entry saw
 abbrev saw : Entry → Versioned
 saw e = record { version = e.version; value = e.seen }
 
-undone_at : (table : Table) (v : Versioned) (row : ℕ) (es : List Entry) → AllByRecursion (λ e. writes_row row e ≡ true → saw e ≡ v) es
+undone_at : (table : Table) (v : Versioned) (row : ℕ) (es : List Entry)
+    → AllByRecursion (λ e. writes_row row e ≡ true → saw e ≡ v) es
     → undone table es row ≡ cond (list_any (writes_row row) es) v (table row)
 undone_at table v row [] all = refl
 undone_at table v row (e ∷ es) all = by (writes_row row e) all.0 (undone_at table v row es all.1)
@@ -120,13 +145,16 @@ undone_at table v row (e ∷ es) all = by (writes_row row e) all.0 (undone_at ta
     by true is rest = is refl
     by false is rest = rest
 
-pub kept_at : (table : Table) (row : ℕ) (es : List Entry) → list_any (writes_row row) es ≡ false → table_after table es row ≡ table row
+pub kept_at : (table : Table) (row : ℕ) (es : List Entry) → list_any (writes_row row) es ≡ false
+    → table_after table es row ≡ table row
 kept_at table row [] none = refl
 kept_at table row (e ∷ es) none =
     let parts = or_parts (writes_row row e) (list_any (writes_row row) es) none in
-    kept_at (λ r. cond (writes_row r e) (left_by e) (table r)) row es parts.1 ∙ ap (λ b. cond b (left_by e) (table row)) parts.0
+    kept_at (λ r. cond (writes_row r e) (left_by e) (table r)) row es parts.1
+    ∙ ap (λ b. cond b (left_by e) (table row)) parts.0
 
-saw_base : (base : Table) (row : ℕ) (es : List Entry) → AllByRecursion (Sees base) es → AllByRecursion (λ e. writes_row row e ≡ true → saw e ≡ base row) es
+saw_base : (base : Table) (row : ℕ) (es : List Entry) → AllByRecursion (Sees base) es
+    → AllByRecursion (λ e. writes_row row e ≡ true → saw e ≡ base row) es
 saw_base base row [] all = tt
 saw_base base row (e ∷ es) all = (here, saw_base base row es all.1)
   where
@@ -136,13 +164,16 @@ saw_base base row (e ∷ es) all = (here, saw_base base row es all.1)
         ap₂ (λ (v : ℕ) (m : ℤ). record { version = v; value = m }) all.0.version all.0.value ∙ ap base same
 
 -- entries that all saw one table, undone behind themselves, give it again
-pub undone_seen : (base : Table) (es : List Entry) → AllByRecursion (Sees base) es → undone (table_after base es) es ≡ base
-undone_seen base es all = fun_ext (λ row. undone_at (table_after base es) (base row) row es (saw_base base row es all) ∙ by row)
+pub undone_seen : (base : Table) (es : List Entry) → AllByRecursion (Sees base) es → undone (table_after base es) es
+    ≡ base
+undone_seen base es all = fun_ext (λ row. undone_at (table_after base es) (base row) row es (saw_base base row es all)
+    ∙ by row)
   where
     by : (row : ℕ) → cond (list_any (writes_row row) es) (base row) (table_after base es row) ≡ base row
     by row = elim (cases_Bool (list_any (writes_row row) es)) [
       | inl some ↦ cond-true (list_any (writes_row row) es) (base row) (table_after base es row) some
-      | inr none ↦ cond-false (list_any (writes_row row) es) (base row) (table_after base es row) none ∙ kept_at base row es none
+      | inr none ↦ cond-false (list_any (writes_row row) es) (base row) (table_after base es row) none
+          ∙ kept_at base row es none
     ]
 
 -- reads leave nothing, and are not undone
@@ -153,94 +184,124 @@ pub undone-writes : (table : Table) (es : List Entry) → undone table (writes_a
 undone-writes table [] = refl
 undone-writes table (e ∷ es) = by (is_write e.kind) refl (undone-writes table es)
   where
-    by : (b : Bool) → is_write e.kind ≡ b → undone table (writes_among es) ≡ undone table es → undone table (cond b (e ∷ writes_among es) (writes_among es)) ≡ undone table (e ∷ es)
+    by : (b : Bool) → is_write e.kind ≡ b → undone table (writes_among es) ≡ undone table es
+        → undone table (cond b (e ∷ writes_among es) (writes_among es)) ≡ undone table (e ∷ es)
     by true is rest = fun_ext (λ row. ap (λ (t : Table). cond (writes_row row e) (saw e) (t row)) rest)
-    by false is rest = rest ∙ fun_ext (λ row. ap (λ b. cond (b && (e.row == row)) (saw e) (undone table es row)) (sym is))
+    by false is rest = rest ∙ fun_ext
+        (λ row. ap (λ b. cond (b && (e.row == row)) (saw e) (undone table es row)) (sym is))
 
 pub table_after-writes : (table : Table) (es : List Entry) → table_after table (writes_among es) ≡ table_after table es
 table_after-writes table [] = refl
 table_after-writes table (e ∷ es) = by (is_write e.kind) refl (λ t. table_after-writes t es)
   where
-    by : (b : Bool) → is_write e.kind ≡ b → ((t : Table) → table_after t (writes_among es) ≡ table_after t es) → table_after table (cond b (e ∷ writes_among es) (writes_among es)) ≡ table_after table (e ∷ es)
+    by : (b : Bool) → is_write e.kind ≡ b → ((t : Table) → table_after t (writes_among es) ≡ table_after t es)
+        → table_after table (cond b (e ∷ writes_among es) (writes_among es)) ≡ table_after table (e ∷ es)
     by true is rest = rest (λ row. cond (writes_row row e) (left_by e) (table row))
     by false is rest =
         rest table
-        ∙ ap (λ (t : Table). table_after t es) (fun_ext (λ row. ap (λ b. cond (b && (e.row == row)) (left_by e) (table row)) (sym is)))
+        ∙ ap (λ (t : Table). table_after t es)
+        (fun_ext (λ row. ap (λ b. cond (b && (e.row == row)) (left_by e) (table row)) (sym is)))
 
-pub table_after-append : (table : Table) (xs ys : List Entry) → table_after table (xs ++ ys) ≡ table_after (table_after table xs) ys
+pub table_after-append : (table : Table) (xs ys : List Entry) → table_after table (xs ++ ys)
+    ≡ table_after (table_after table xs) ys
 table_after-append table [] ys = refl
 table_after-append table (e ∷ xs) ys = table_after-append (λ row. cond (writes_row row e) (left_by e) (table row)) xs ys
 
 -- one more request that sees what there is
-pub undone_further : (base now : Table) (written es : List Entry) → undone now written ≡ base → AllByRecursion (Sees now) es
+pub undone_further : (base now : Table) (written es : List Entry) → undone now written ≡ base
+    → AllByRecursion (Sees now) es
     → undone (table_after now es) (written ++ writes_among es) ≡ base
 undone_further base now written es back all =
     undone-append (table_after now es) written (writes_among es)
     ∙ ap (λ (t : Table). undone t written) (undone-writes (table_after now es) es ∙ undone_seen now es all) ∙ back
 
 -- all that executed requests noted, undone behind their writes, gives the table that they found
-pub chain_undone : (table : Table) (xs : List Executed) → Follows table xs → undone (table_after_all table xs) (flat_map (λ x. x.entries) xs) ≡ table
+pub chain_undone : (table : Table) (xs : List Executed) → Follows table xs
+    → undone (table_after_all table xs) (flat_map (λ x. x.entries) xs) ≡ table
 chain_undone table [] follows = refl
 chain_undone table (x ∷ xs) follows =
     undone-append (table_after_all (table_after table x.entries) xs) x.entries (flat_map (λ y. y.entries) xs)
-    ∙ ap (λ (t : Table). undone t x.entries) (chain_undone (table_after table x.entries) xs follows.1) ∙ undone_seen table x.entries follows.0
+    ∙ ap (λ (t : Table). undone t x.entries) (chain_undone (table_after table x.entries) xs follows.1)
+    ∙ undone_seen table x.entries follows.0
 
-pub chained_undone : (table : Table) (xs : List Executed) → IsChained table [] xs → undone (table_after_all table xs) (flat_map (λ x. x.entries) xs) ≡ table
+pub chained_undone : (table : Table) (xs : List Executed) → IsChained table [] xs
+    → undone (table_after_all table xs) (flat_map (λ x. x.entries) xs) ≡ table
 chained_undone table xs chained = chain_undone table xs (follows_chain table [] xs chained)
 
 -- ---- along an attempt
 
-pub table_along-entries : (table : Table) (rs : List Applied) → table_along table rs ≡ table_after table (entries_along rs)
+pub table_along-entries : (table : Table) (rs : List Applied) → table_along table rs
+    ≡ table_after table (entries_along rs)
 table_along-entries table [] = refl
-table_along-entries table (r ∷ rs) = table_along-entries (table_after table r.entries) rs ∙ sym (table_after-append table r.entries (entries_along rs))
+table_along-entries table (r ∷ rs) = table_along-entries (table_after table r.entries) rs
+    ∙ sym (table_after-append table r.entries (entries_along rs))
 
-pub table_along-writes : (table : Table) (rs : List Applied) → table_along table rs ≡ table_after table (writes_along rs)
+pub table_along-writes : (table : Table) (rs : List Applied) → table_along table rs
+    ≡ table_after table (writes_along rs)
 table_along-writes table rs = table_along-entries table rs ∙ sym (table_after-writes table (entries_along rs))
 
-pub table_along-executed : (b : Batch) (table : Table) (rs : List Applied) → table_along table rs ≡ table_after_all table (map (executed b) rs)
+pub table_along-executed : (b : Batch) (table : Table) (rs : List Applied) → table_along table rs
+    ≡ table_after_all table (map (executed b) rs)
 table_along-executed b table [] = refl
 table_along-executed b table (r ∷ rs) = table_along-executed b (table_after table r.entries) rs
 
-pub seen_follows : (b : Batch) (table : Table) (rs : List Applied) → AreSeenAlong table rs → Follows table (map (executed b) rs)
+pub seen_follows : (b : Batch) (table : Table) (rs : List Applied) → AreSeenAlong table rs
+    → Follows table (map (executed b) rs)
 seen_follows b table [] seen = tt
 seen_follows b table (r ∷ rs) seen = (seen.0, seen_follows b (table_after table r.entries) rs seen.1)
 
-pub follows_seen : (b : Batch) (table : Table) (rs : List Applied) → Follows table (map (executed b) rs) → AreSeenAlong table rs
+pub follows_seen : (b : Batch) (table : Table) (rs : List Applied) → Follows table (map (executed b) rs)
+    → AreSeenAlong table rs
 follows_seen b table [] seen = tt
 follows_seen b table (r ∷ rs) seen = (seen.0, follows_seen b (table_after table r.entries) rs seen.1)
 
-pub seen_chained : (b : Batch) (table : Table) (rs : List Applied) → AreSeenAlong table rs → IsChained table [] (map (executed b) rs)
+pub seen_chained : (b : Batch) (table : Table) (rs : List Applied) → AreSeenAlong table rs
+    → IsChained table [] (map (executed b) rs)
 seen_chained b table rs seen = chain_follows table [] (map (executed b) rs) (seen_follows b table rs seen)
 
-pub chained_seen : (b : Batch) (table : Table) (rs : List Applied) → IsChained table [] (map (executed b) rs) → AreSeenAlong table rs
+pub chained_seen : (b : Batch) (table : Table) (rs : List Applied) → IsChained table [] (map (executed b) rs)
+    → AreSeenAlong table rs
 chained_seen b table rs chained = follows_seen b table rs (follows_chain table [] (map (executed b) rs) chained)
 
 -- ---- open attempts
 
 pub writes_in-append : (xs ys : List Opened) → writes_in (xs ++ ys) ≡ writes_in xs ++ writes_in ys
 writes_in-append [] ys = refl
-writes_in-append (o ∷ xs) ys = ap (λ (es : List Entry). o.written ++ es) (writes_in-append xs ys) ∙ sym (append_assoc o.written (writes_in xs) (writes_in ys))
+writes_in-append (o ∷ xs) ys = ap (λ (es : List Entry). o.written ++ es) (writes_in-append xs ys)
+    ∙ sym (append_assoc o.written (writes_in xs) (writes_in ys))
 
 -- what the open attempts wrote, undone, is what stood before them
-pub laid_undone : (base : Table) (opened : List Opened) (now : Table) → AreLaid base opened now → undone now (writes_in opened) ≡ base
+pub laid_undone : (base : Table) (opened : List Opened) (now : Table) → AreLaid base opened now
+    → undone now (writes_in opened) ≡ base
 laid_undone base [] now laid = sym laid
 laid_undone base (o ∷ opened) now laid =
     undone-append now o.written (writes_in opened)
     ∙ ap (λ (t : Table). undone t o.written) (laid_undone (table_after base o.written) opened now laid.1) ∙ laid.0
 
-pub laid_further : (base : Table) (opened : List Opened) (now next : Table) (o : Opened) → AreLaid base opened now → undone next o.written ≡ now → next ≡ table_after now o.written
+pub laid_further : (base : Table) (opened : List Opened) (now next : Table) (o : Opened) → AreLaid base opened now
+    → undone next o.written ≡ now → next ≡ table_after now o.written
     → AreLaid base (opened ++ o ∷ []) next
-laid_further base [] now next o laid back is =
-    (subst (λ (t : Table). undone (table_after t o.written) o.written ≡ t) (sym laid) (ap (λ (t : Table). undone t o.written) (sym is) ∙ back), ap (λ (t : Table). table_after t o.written) laid ∙ sym is)
-laid_further base (p ∷ opened) now next o laid back is = (laid.0, laid_further (table_after base p.written) opened now next o laid.1 back is)
+laid_further base [] now next o laid back is = (
+  subst (λ (t : Table). undone (table_after t o.written) o.written ≡ t) (sym laid)
+      (ap (λ (t : Table). undone t o.written) (sym is) ∙ back),
+  ap (λ (t : Table). table_after t o.written) laid
+      ∙ sym is,
+)
+laid_further base (p ∷ opened) now next o laid back is =
+    (laid.0, laid_further (table_after base p.written) opened now next o laid.1 back is)
 
 -- the writes of one of the open attempts are among all
-pub writes_of_one : (p : Entry → Bool) (opened : List Opened) (i : ℕ) (o : Opened) → list_all p (writes_in opened) ≡ true → i < length opened → o ≡ get_or opened i o → list_all p o.written ≡ true
+pub writes_of_one : (p : Entry → Bool) (opened : List Opened) (i : ℕ) (o : Opened) → list_all p (writes_in opened)
+    ≡ true → i < length opened → o ≡ get_or opened i o → list_all p o.written ≡ true
 writes_of_one p [] i o all within is = absurd (omega arith)
 writes_of_one p (q ∷ opened) zero o all within is =
-    ap (λ (r : Opened). list_all p r.written) is ∙ (and_parts (list_all p q.written) (list_all p (writes_in opened)) (sym (list_all-append p q.written (writes_in opened)) ∙ all)).0
+    ap (λ (r : Opened). list_all p r.written) is
+    ∙ (and_parts (list_all p q.written) (list_all p (writes_in opened))
+    (sym (list_all-append p q.written (writes_in opened)) ∙ all)).0
 writes_of_one p (q ∷ opened) (suc i) o all within is =
-    writes_of_one p opened i o (and_parts (list_all p q.written) (list_all p (writes_in opened)) (sym (list_all-append p q.written (writes_in opened)) ∙ all)).1 (omega arith) is
+    writes_of_one p opened i o
+    (and_parts (list_all p q.written) (list_all p (writes_in opened))
+    (sym (list_all-append p q.written (writes_in opened)) ∙ all)).1 (omega arith) is
 
 -- a read leaves nothing
 pub read_left : (table : Table) (e : Entry) → is_write e.kind ≡ false → table ≡ table_after table (e ∷ [])

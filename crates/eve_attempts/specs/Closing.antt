@@ -1,5 +1,6 @@
 -- What becomes of the records that were taken of a batch. docs/MODEL.md, "Certificate order, keeps the groups".
-use Rattle.std.specs.Prelude.{◌≡◌, ℕ, ℤ, nat_lt, ◌==◌, Bool, true, false, ◌&&◌, ◌||◌, IsTrue, if◌then◌else◌, ⊤, List, [], ◌∷◌, ◌++◌, map, filter, length, slice_get, slice_index_or, Some}
+use Rattle.std.specs.Prelude.{◌≡◌, ℕ, ℤ, nat_lt, ◌==◌, Bool, true, false, ◌&&◌, ◌||◌, IsTrue, if◌then◌else◌, ⊤, List}
+use Rattle.std.specs.Prelude.{[], ◌∷◌, ◌++◌, map, filter, length, slice_get, slice_index_or, Some}
 use Rattle.std.specs.List.{AllByRecursion, flat_map, list_all}
 use Rattle.std.specs.List.Sorted.{IsPermutation}
 use Rattle.eve_smallbank.specs.declared.entry.Entry.{Entry}
@@ -86,11 +87,13 @@ pub record AreNoted (workers rows : ℕ) (b : Batch) (touched : List Touched) (r
   pub many : length records ≡ length b.requests
   pub accesses : IsTrue (are_right_accesses workers (length b.requests) [] (map access_of records))
   pub limits : IsTrue (list_all (is_access rows) (map access_of records))
-  pub fit : (names : List (List ℕ)) → touched ≡ touched_by names b → AllByRecursion (Fits names) (map (executed b) records)
+  pub fit : (names : List (List ℕ)) → touched ≡ touched_by names b
+      → AllByRecursion (Fits names) (map (executed b) records)
 
 -- And the order of their ticks keeps the groups, and in it each entry sees what the open attempts and the records
 -- before it left.
-pub record AreRight (s : Ledger) (serial : Bool) (b : Batch) (touched : List Touched) (records ordered : List Applied) : Type 0 where
+pub record AreRight (s : Ledger) (serial : Bool) (b : Batch) (touched : List Touched) (records ordered : List Applied) :
+    Type 0 where
   pub noted : AreNoted (worker_count s serial) (row_count s) b touched records
   pub certificate : IsTrue (is_certificate b.sizes (length b.requests) serial (indexes_of ordered))
   pub chained : IsChained (rows_now s) [] (map (executed b) ordered)
@@ -99,7 +102,8 @@ pub record AreRight (s : Ledger) (serial : Bool) (b : Batch) (touched : List Tou
 
 -- What the attempt says: number, view and mode as handed in; the indexes in the order of ticks; each record's reply at
 -- its index; the token of these balances; the records as they came. It lies within the limits of the format.
-pub record IsAttemptOf (front : AttemptFront) (rows : ℕ) (balances : List ℤ) (records ordered : List Applied) (a : Attempt) : Type 0 where
+pub record IsAttemptOf (front : AttemptFront) (rows : ℕ) (balances : List ℤ) (records ordered : List Applied)
+    (a : Attempt) : Type 0 where
   pub seq : a.seq ≡ front.seq
   pub view : a.view ≡ front.view
   pub serial : a.serial ≡ front.serial
@@ -116,13 +120,18 @@ opened_as a ordered = record { view = a.view; token = a.token; written = writes_
 
 -- The ledger has one more attempt open, and its rows are what that left; what is committed stays.
 pub record Opens (old new : Ledger) (b : Batch) (ordered : List Applied) (a : Attempt) : Type 0 where
-  pub changed : new ≡ record old { rows = new.rows; opened = old.opened ++ opened_as a ordered ∷ []; is_next_serial = false }
+  pub changed : new ≡ record old {
+    rows = new.rows;
+    opened = old.opened ++ opened_as a ordered ∷ [];
+    is_next_serial = false;
+  }
   pub as_many : row_count new ≡ row_count old
   pub rows : rows_now new ≡ table_after_all (rows_now old) (map (executed b) ordered)
   pub committed : rows_committed new ≡ rows_committed old
 
 -- The records of a batch became an attempt.
-pub record Closes (front : AttemptFront) (old new : Ledger) (b : Batch) (touched : List Touched) (records : List Applied) (a : Attempt) : Type 0 where
+pub record Closes (front : AttemptFront) (old new : Ledger) (b : Batch) (touched : List Touched)
+    (records : List Applied) (a : Attempt) : Type 0 where
   pub ordered : List Applied
   pub by_ticks : IsByTicks records ordered
   pub right : AreRight old front.serial b touched records ordered

@@ -1,5 +1,6 @@
 -- A replica's own account of its rows, and of what is open on them. docs/MODEL.md, "Section state, fate".
-use Rattle.std.specs.Prelude.{◌≡◌, ℕ, ℤ, ◌+◌, ◌≤◌, Bool, false, ◌&&◌, IsTrue, if◌then◌else◌, List, [], ◌∷◌, length, replicate, slice_index_or}
+use Rattle.std.specs.Prelude.{◌≡◌, ℕ, ℤ, ◌+◌, ◌≤◌, Bool, false, ◌&&◌, IsTrue, if◌then◌else◌, List, [], ◌∷◌, length}
+use Rattle.std.specs.Prelude.{replicate, slice_index_or}
 use Rattle.std.specs.List.{flat_map, list_all}
 use Rattle.eve_smallbank.specs.declared.entry.Entry.{Entry}
 use Rattle.eve_smallbank.specs.Access.{is_write, writes_row, balance_at}
@@ -60,7 +61,8 @@ rows_now s = table_of s.rows
 -- what the first write of it saw.
 abbrev pub undone : Table → List Entry → Table
 undone table [] row = table row
-undone table (e ∷ es) row = if writes_row row e then record { version = e.version; value = e.seen } else undone table es row
+undone table (e ∷ es) row = if writes_row row e then record { version = e.version; value = e.seen } else undone table es
+    row
 
 -- the writes of attempts, one attempt after another
 abbrev pub writes_in : List Opened → List Entry

@@ -1,6 +1,7 @@
 //! A replica's own account of its rows.
 
-ghost use Rattle.std.specs.Prelude.{◌≡◌, ◌<◌, ◌≤◌, ◌+◌, ◌-◌, ◌^◌, ◌↔◌, ℕ, List, [], length, slice_get, option_map, Some, IsTrue, IfOk, OnErr, IsOk, Err};
+ghost use Rattle.std.specs.Prelude.{◌≡◌, ◌<◌, ◌≤◌, ◌+◌, ◌-◌, ◌^◌, ◌↔◌, ℕ, List, [], length, slice_get, option_map};
+ghost use Rattle.std.specs.Prelude.{Some, IsTrue, IfOk, OnErr, IsOk, Err};
 ghost use Rattle.eve_grammar.specs.Limits.{is_batch};
 ghost use Rattle.eve_write.specs.Data.{batch as plain, attempt, commit, rollback};
 ghost use Rattle.eve_attempts.specs.Ledgers.{IsLedger, opening};
@@ -11,7 +12,7 @@ use crate::fault::{CloseFault, NotOpen};
 use crate::front::AttemptFront;
 use crate::opened::OpenAttempt;
 use crate::replies::{token_fits, view_fits};
-use crate::restores::{restore_all, take_back_all, written_rows};
+use crate::restores::{restore_all, undo_all, written_rows};
 use crate::rows::Rows;
 use crate::taken::take;
 use crate::walk::write_along;
@@ -235,7 +236,7 @@ impl Ledger {
     {
         let numbers = written_rows(alloc, self.opened.as_slice())?;
         let mut restores = Vec::with_capacity(alloc, numbers.len())?;
-        take_back_all(&mut self.rows, self.opened.as_slice());
+        undo_all(&mut self.rows, self.opened.as_slice());
         restore_all(&self.rows, numbers.as_slice(), &mut restores);
         self.opened.clear();
         self.view += 1;

@@ -42,7 +42,7 @@ pub fn written_rows(alloc: Global, opened: &[OpenAttempt]) -> Result<Vec<u32>, A
 }
 
 /// Gives the rows again what they had before the attempts, going back from the last.
-pub fn take_back_all(rows: &mut Rows, opened: &[OpenAttempt])
+pub fn undo_all(rows: &mut Rows, opened: &[OpenAttempt])
     requires { IsTrue (list_all (is_write_in (length rows.old.balances)) (writes_in opened.now)) }
     ensures as_many { length rows.new.balances ≡ length rows.old.balances }
     ensures table { table_of rows.new ≡ undone (table_of rows.old) (writes_in opened.now) }
@@ -51,7 +51,7 @@ pub fn take_back_all(rows: &mut Rows, opened: &[OpenAttempt])
     while end > 0 {
         end -= 1;
         let open = &opened[end];
-        rows.take_back(open.written.as_slice());
+        rows.undo(open.written.as_slice());
     }
 }
 

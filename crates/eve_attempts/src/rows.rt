@@ -94,7 +94,7 @@ impl Rows {
     }
 
     /// Gives a row again what a write saw.
-    fn take_back_one(&mut self, entry: &Entry)
+    fn undo_one(&mut self, entry: &Entry)
         requires { IsTrue (is_write_in (length self.old.balances) entry.now) }
         ensures as_many { length self.new.balances ≡ length self.old.balances }
         ensures versions { length self.new.versions ≡ length self.old.versions }
@@ -105,7 +105,7 @@ impl Rows {
     }
 
     /// Gives the rows again what they had before these writes, going back from the last.
-    pub fn take_back(&mut self, written: &[Entry])
+    pub fn undo(&mut self, written: &[Entry])
         requires { IsTrue (list_all (is_write_in (length self.old.balances)) written.now) }
         ensures as_many { length self.new.balances ≡ length self.old.balances }
         ensures versions { length self.new.versions ≡ length self.old.versions }
@@ -114,7 +114,7 @@ impl Rows {
         let mut end = written.len();
         while end > 0 {
             end -= 1;
-            self.take_back_one(&written[end]);
+            self.undo_one(&written[end]);
         }
     }
 

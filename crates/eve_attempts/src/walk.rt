@@ -1,6 +1,7 @@
 //! Along an attempt's records.
 
-ghost use Rattle.std.specs.Prelude.{◌≡◌, ◌≤◌, ◌+◌, ◌*◌, ◌<◌, ◌++◌, IsTrue, [], ◌∷◌, length, map, filter, vec_len, vec_capacity};
+ghost use Rattle.std.specs.Prelude.{◌≡◌, ◌≤◌, ◌+◌, ◌*◌, ◌<◌, ◌++◌, IsTrue, [], ◌∷◌, length, map, filter, vec_len};
+ghost use Rattle.std.specs.Prelude.{vec_capacity};
 ghost use Rattle.std.specs.Bool.{Decides, OnTrue, OnFalse};
 ghost use Rattle.std.specs.List.{list_all, AllByRecursion};
 ghost use Rattle.eve_smallbank.specs.Access.{is_write};
@@ -77,7 +78,7 @@ pub fn write_along(
     for key in order {
         let entries = records[key.2 as usize].entries();
         if !rows.are_seen(&entries) {
-            rows.take_back(written.as_slice());
+            rows.undo(written.as_slice());
             return false;
         }
         write_all(rows, &entries, written);

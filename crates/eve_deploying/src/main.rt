@@ -1,6 +1,6 @@
 //! Replicas and whole runs whose threads are held by gates. Each line of the input names a case, of which one line is
-//! printed: of a run what each replica did and the verdict on its trace, of calls of a replica what isn't as it is due.
-//! A line that names no case names a workload among the files. What is printed hangs on no schedule.
+//! printed: of calls of a replica what isn't as it is due, of a run what each replica did and the verdict on its trace,
+//! or the verdict alone where what they did hangs on the schedule. What is printed hangs on no schedule.
 #![tactic(auto)]
 
 mod gates;
@@ -11,13 +11,8 @@ mod world;
 
 use crate::gates::Turn;
 use crate::misses::Misses;
-use crate::replicas::{
-    DEPOSITS, attempt_and_close, broken_until_rollback, gates_held, rolled_back,
-};
-use crate::runs::{
-    FOUR_REPLICAS, ONE_DEPOSIT, Ran, THREE_REPLICAS, TWO_DEPOSITS, TWO_REPLICAS, run_knots,
-    run_text,
-};
+use crate::replicas::{attempt_and_close, broken_until_rollback, gates_held, rolled_back};
+use crate::runs::{Ran, run_knots, run_whole};
 use crate::world::{names_of, workload_of};
 use eve_accounts::Names;
 use eve_audit::Verdict;
@@ -30,30 +25,28 @@ use std::sync::Wait;
 use std::thread::Threads;
 use std::{fs, io};
 
-/// What of a case of a replica isn't as it is due, None where no such case has the name.
-fn of_replica<R: AllocGlobal + RandomSource + Threads + Wait + Sync>(
-    rt: &R,
-    name: &str,
-    trace: &[u8],
-) -> io::Result<Option<Misses>> {
-    let text = match name {
-        "replica-attempt-and-close" => ONE_DEPOSIT,
-        "gates-held" | "rollback" | "broken-until-rollback" => DEPOSITS,
-        _ => return Ok(None),
-    };
-    let workload = workload_of(rt.alloc(), text)?;
-    let misses = of_workload(
-        rt,
-        rt.alloc(),
-        name,
-        &workload,
-        RandomState::new(rt)?,
-        trace,
-    )?;
-    Ok(Some(misses))
+/// The file with the workload of a case; a case that isn't named here is a run of the workload with its name.
+fn file_of(name: &str) -> &str {
+    match name {
+        "replica-attempt-and-close" | "run-of-one-deposit" => "one-deposit",
+        "gates-held" | "rollback" | "broken-until-rollback" => "three-deposits",
+        "run-two-deposits-whole" => "two-deposits",
+        "two-replicas-disagree" => "knot-of-two-replicas",
+        "first-of-three-disagrees" => "knot-of-three-replicas",
+        "half-of-four-agree" => "knots-of-four-replicas",
+        _ => name,
+    }
 }
 
-// The same, where the case has this workload.
+/// Whether the case is calls of one replica, and not a run.
+fn is_of_replica(name: &str) -> bool {
+    matches!(
+        name,
+        "replica-attempt-and-close" | "gates-held" | "rollback" | "broken-until-rollback"
+    )
+}
+
+// What of a case of a replica isn't as it is due, where it has this workload.
 fn of_workload<R: Threads + Wait + Sync>(
     rt: &R,
     alloc: Global,
@@ -83,55 +76,43 @@ fn of_names<R: Threads + Wait + Sync>(
     }
 }
 
-/// What a case that is a run came to, None where no such case has the name.
+/// What the run of the case's workload came to.
 fn of_run<R: AllocGlobal + RandomSource + Threads + Wait + Sync>(
     rt: &R,
     name: &str,
-) -> io::Result<Option<Ran>> {
-    let alloc = rt.alloc();
+    workload: &Workload,
+) -> io::Result<Ran> {
     let check = Turn::CheckFirst;
     let order = Turn::InOrder;
     let free = Turn::Free;
-    let ran = match name {
-        "run-of-one-deposit" => run_text(rt, alloc, ONE_DEPOSIT, &OpenGate)?,
-        "run-two-deposits-whole" => run_text(rt, alloc, TWO_DEPOSITS, &OpenGate)?,
-        "two-replicas-disagree" => {
-            let turns = [check, free, order, free, free, free, free];
-            run_knots(rt, alloc, TWO_REPLICAS, turns)?
-        }
-        "first-of-three-disagrees" => {
-            let turns = [check, order, order, free, free, free, free];
-            run_knots(rt, alloc, THREE_REPLICAS, turns)?
-        }
-        "half-of-four-agree" => {
-            let turns = [check, order, order, order, check, order, order];
-            run_knots(rt, alloc, FOUR_REPLICAS, turns)?
-        }
-        _ => return Ok(None),
+    let turns = match name {
+        "two-replicas-disagree" => [check, free, order, free, free, free, free],
+        "first-of-three-disagrees" => [check, order, order, free, free, free, free],
+        "half-of-four-agree" => [check, order, order, order, check, order, order],
+        _ => return run_whole(rt, rt.alloc(), workload, &OpenGate),
     };
-    Ok(Some(ran))
+    run_knots(rt, rt.alloc(), workload, turns)
 }
 
 fn main(rt: HostRuntime) -> io::Result<()> {
     for line in rt.lines(rt.alloc()) {
         let line = line?;
         let name = line.as_str();
-        let trace = match name {
-            "replica-attempt-and-close" => fs::read(&rt, "deposit-committed.trace")?,
-            _ => Vec::new(rt.alloc()),
-        };
-        if let Some(misses) = of_replica(&rt, name, trace.as_slice())? {
+        let file = file_of(name);
+        let path = format!(in rt.alloc(); "{file}.in")?;
+        let text = fs::read(&rt, path.as_str())?;
+        let workload = workload_of(rt.alloc(), text.as_slice())?;
+        if is_of_replica(name) {
+            let trace = fs::read(&rt, "deposit-committed.trace")?;
+            let random = RandomState::new(&rt)?;
+            let misses = of_workload(&rt, rt.alloc(), name, &workload, random, trace.as_slice())?;
             println!(rt; "{name}: {misses}")?;
-        } else if let Some(ran) = of_run(&rt, name)? {
-            let Ran { sections, verdict } = ran;
-            println!(rt; "{name}: {sections}{verdict:?}")?;
-        } else {
-            let workload = fs::read(&rt, name)?;
-            let ran = run_text(&rt, rt.alloc(), workload.as_slice(), &OpenGate)?;
-            match ran.verdict {
-                Verdict::Yes(_) => println!(rt; "{name}: accepted")?,
-                Verdict::No(fault) => println!(rt; "{name}: {fault:?}")?,
-            }
+            continue;
+        }
+        let Ran { sections, verdict } = of_run(&rt, name, &workload)?;
+        match verdict {
+            Verdict::Yes(_) if file == name => println!(rt; "{name}: accepted")?,
+            _ => println!(rt; "{name}: {sections}{verdict:?}")?,
         }
     }
     Ok(())

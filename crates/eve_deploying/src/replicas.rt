@@ -3,7 +3,8 @@
 use crate::gates::MeetingGate;
 use crate::misses::Misses;
 use crate::world::{
-    attempt, batch_of, close, closed, committed, ran, record_at, replica_of, roll_back, trace_of,
+    Fit, attempt, batch_of, close, closed, commit_first, committed, ran, record_at, replica_of,
+    roll_back, trace_of,
 };
 use eve_accounts::{Cents, Names, Row};
 use eve_grammar::Restore;
@@ -11,15 +12,10 @@ use eve_recorder::OpenGate;
 use eve_replica::eve_workload::Workload;
 use eve_replica::{AttemptFault, CloseFault, CommitFault, Replica};
 use eve_write::{AttemptData, RollbackData};
-use std::alloc::Global;
+use std::alloc::{AllocError, Global};
 use std::io;
 use std::sync::Wait;
 use std::thread::Threads;
-
-/// Ann's deposit; behind it one for each of two customers.
-pub const DEPOSITS: &[u8] =
-    b"eve 1 1 1 2 2\ncustomer ann 0 0\ncustomer bob 0 0\nbatch\ndeposit 7 1 ann 500\n\
-batch\ndeposit 7 2 ann 500\ndeposit 7 3 bob 500\n";
 
 // Ann's checking row, as it was at first.
 fn opening_row() -> Restore {
@@ -75,7 +71,7 @@ fn attempt_and_commit<'n, R: Threads + Wait + Sync>(
 }
 
 fn is_not_open(replica: &mut Replica) -> bool {
-    replica.commit(1).err() == Some(CommitFault::NotOpen)
+    commit_first(replica).err() == Some(CommitFault::NotOpen)
 }
 
 // The trace of a deployment that attempts ann's deposit and commits it.
@@ -88,8 +84,19 @@ fn trace_of_attempt<R: Threads + Wait + Sync>(
 ) -> io::Result<Vec<u8>> {
     let batch = batch_of(alloc, workload, 1, names)?;
     let made = ran(attempt(rt, alloc, replica, &batch, &OpenGate))?;
-    let commit = committed(replica.commit(1))?;
-    trace_of(alloc, workload, batch, made, commit)
+    trace_with(alloc, workload, replica, batch, made)
+}
+
+// The trace of a deployment that made this attempt of ann's deposit and commits it.
+fn trace_with(
+    alloc: Global,
+    workload: &Workload,
+    replica: &mut Replica,
+    fit: Fit,
+    made: AttemptData,
+) -> io::Result<Vec<u8>> {
+    let commit = committed(commit_first(replica))?;
+    trace_of(alloc, workload, fit, made, commit)
 }
 
 fn close_records<'n>(
@@ -98,23 +105,49 @@ fn close_records<'n>(
     names: &'n Names<'n>,
     wanted: &[u8],
 ) -> io::Result<Misses> {
+    let mut replica = replica_of(alloc, names)?;
+    let refused = records_refused(alloc, workload, names, &mut replica)?;
+    let made = records_made(alloc, workload, names, &mut replica, wanted)?;
+    Ok(refused.and(made))
+}
+
+// No records are no attempt, and neither is one that saw another version.
+fn records_refused(
+    alloc: Global,
+    workload: &Workload,
+    names: &Names,
+    replica: &mut Replica,
+) -> io::Result<Misses> {
     let mut misses = Misses::none();
     let batch = batch_of(alloc, workload, 1, names)?;
-    let mut replica = replica_of(alloc, names)?;
-    let none = close(alloc, &mut replica, &batch, &[]).err();
-    misses.want(
-        none == Some(CloseFault::Mismatch),
-        "no records are no attempt",
-    );
+    let none = is_mismatch(close(alloc, replica, &batch, &[]))?;
+    misses.want(none, "no records are no attempt");
     let later = record_at(alloc, names, 1)?;
-    let at_one = close(alloc, &mut replica, &batch, &[later]).err();
-    misses.want(
-        at_one == Some(CloseFault::Mismatch),
-        "the row isn't at version 1",
-    );
-    let trace = trace_of_record(alloc, workload, names, &mut replica)?;
+    let at_one = is_mismatch(close(alloc, replica, &batch, &[later]))?;
+    misses.want(at_one, "the row isn't at version 1");
+    Ok(misses)
+}
+
+fn records_made(
+    alloc: Global,
+    workload: &Workload,
+    names: &Names,
+    replica: &mut Replica,
+    wanted: &[u8],
+) -> io::Result<Misses> {
+    let mut misses = Misses::none();
+    let trace = trace_of_record(alloc, workload, names, replica)?;
     misses.want(trace.as_slice() == wanted, "the trace of the records");
     Ok(misses)
+}
+
+// Whether the records were refused, and not for want of memory.
+fn is_mismatch(answer: Result<AttemptData, CloseFault>) -> io::Result<bool> {
+    match answer {
+        Err(CloseFault::Memory) => Err(AllocError.into()),
+        Err(why) => Ok(why == CloseFault::Mismatch),
+        Ok(_) => Ok(false),
+    }
 }
 
 // The same trace, of a record that was taken by hand.
@@ -127,8 +160,7 @@ fn trace_of_record(
     let batch = batch_of(alloc, workload, 1, names)?;
     let record = record_at(alloc, names, 0)?;
     let made = closed(close(alloc, replica, &batch, &[record]))?;
-    let commit = committed(replica.commit(1))?;
-    trace_of(alloc, workload, batch, made, commit)
+    trace_with(alloc, workload, replica, batch, made)
 }
 
 /// The replica's part of `gates-held`: two deposits in one parallelBatch, by two workers, each held until the other has
@@ -156,18 +188,51 @@ pub fn rolled_back<'n, R: Threads + Wait + Sync>(
     workload: &Workload,
     names: &'n Names<'n>,
 ) -> io::Result<Misses> {
-    let mut misses = Misses::none();
     let mut replica = replica_of(alloc, names)?;
-    let first = ran(attempt_one(rt, alloc, workload, 1, names, &mut replica)?)?;
+    let first = first_attempt(rt, alloc, workload, names, &mut replica)?;
+    let back = one_row_back(alloc, &mut replica)?;
+    let again = serial_again(rt, alloc, workload, 1, names, &mut replica)?;
+    Ok(first.and(back).and(again))
+}
+
+// The first attempt is parallel, and sees the opening rows.
+fn first_attempt<R: Threads + Wait + Sync>(
+    rt: &R,
+    alloc: Global,
+    workload: &Workload,
+    names: &Names,
+    replica: &mut Replica,
+) -> io::Result<Misses> {
+    let mut misses = Misses::none();
+    let first = ran(attempt_one(rt, alloc, workload, 1, names, replica)?)?;
     misses.want(
         !first.serial && sees_opening(&first),
         "the first attempt sees version 0",
     );
-    let rollback = roll_back(alloc, &mut replica)?;
-    misses.want(restores_one_row(&rollback), "one row is restored");
-    let again = ran(attempt_one(rt, alloc, workload, 1, names, &mut replica)?)?;
+    Ok(misses)
+}
+
+// A rollback restores ann's row.
+fn one_row_back(alloc: Global, replica: &mut Replica) -> io::Result<Misses> {
+    let mut misses = Misses::none();
+    let rollback = roll_back(alloc, replica)?;
+    misses.want(restores_one_row(&rollback), "her row is restored");
+    Ok(misses)
+}
+
+// The attempt behind a rollback, of the batch with this number: it sees the opening rows again.
+fn serial_again<R: Threads + Wait + Sync>(
+    rt: &R,
+    alloc: Global,
+    workload: &Workload,
+    number: u32,
+    names: &Names,
+    replica: &mut Replica,
+) -> io::Result<Misses> {
+    let mut misses = Misses::none();
+    let again = ran(attempt_one(rt, alloc, workload, number, names, replica)?)?;
     misses.want(
-        again.serial && again.view == 1,
+        again.seq == 1 && again.view == 1 && again.serial,
         "a serial attempt in view 1",
     );
     misses.want(sees_opening(&again), "it sees version 0 again");
@@ -200,23 +265,37 @@ pub fn broken_until_rollback<'n, R: Threads + Wait + Sync>(
     workload: &Workload,
     names: &'n Names<'n>,
 ) -> io::Result<Misses> {
-    let mut misses = Misses::none();
     let mut replica = replica_of(alloc, names)?;
     close_one(alloc, workload, names, &mut replica)?;
-    let why = attempt_one(rt, alloc, workload, 2, names, &mut replica)?.err();
+    let failed = attempt_fails(rt, alloc, workload, names, &mut replica)?;
+    let refused = while_broken(rt, alloc, workload, names, &mut replica)?;
+    let back = back_at_last(alloc, &mut replica)?;
+    let again = serial_again(rt, alloc, workload, 2, names, &mut replica)?;
+    Ok(failed.and(refused).and(back).and(again))
+}
+
+// An attempt over ann's row fails, since the stripes don't have her deposit.
+fn attempt_fails<R: Threads + Wait + Sync>(
+    rt: &R,
+    alloc: Global,
+    workload: &Workload,
+    names: &Names,
+    replica: &mut Replica,
+) -> io::Result<Misses> {
+    let mut misses = Misses::none();
+    let why = attempt_one(rt, alloc, workload, 2, names, replica)?.err();
     let has_failed = why == Some(AttemptFault::Mismatch) || why == Some(AttemptFault::Memory);
     misses.want(has_failed, "an attempt over her row fails");
-    let refused = while_broken(rt, alloc, workload, names, &mut replica)?;
-    let rollback = roll_back_at_last(alloc, &mut replica, &mut misses)?;
+    Ok(misses)
+}
+
+// A rollback restores ann's row, and the replica isn't broken any more.
+fn back_at_last(alloc: Global, replica: &mut Replica) -> io::Result<Misses> {
+    let mut misses = Misses::none();
+    let rollback = roll_back_at_last(alloc, replica, &mut misses)?;
     misses.want(restores_one_row(&rollback), "her row is restored");
     misses.want(!replica.is_broken(), "not broken any more");
-    let again = ran(attempt_one(rt, alloc, workload, 2, names, &mut replica)?)?;
-    misses.want(
-        again.seq == 1 && again.view == 1 && again.serial,
-        "a serial attempt in view 1",
-    );
-    misses.want(sees_opening(&again), "both rows are at version 0 again");
-    Ok(refused.and(misses))
+    Ok(misses)
 }
 
 // Ann's deposit is closed of a record that was taken by hand.
@@ -255,7 +334,7 @@ fn while_broken<R: Threads + Wait + Sync>(
 }
 
 fn is_broken_at_commit(replica: &mut Replica) -> bool {
-    replica.commit(1).err() == Some(CommitFault::Broken)
+    commit_first(replica).err() == Some(CommitFault::Broken)
 }
 
 // A rollback; where it is refused memory the replica stays broken, and a second one is asked for.

@@ -1,10 +1,10 @@
 //! Whole runs, and what their auditor says.
 
 use crate::gates::{KnotGate, Turn};
-use crate::world::{bytes_of, stopped, workload_of};
+use crate::world::{bytes_of, stopped};
 use eve_audit::{Verdict, audit_one};
-use eve_recorder::{Gate, OpenGate};
-use eve_replica::eve_workload::Mixer;
+use eve_recorder::Gate;
+use eve_replica::eve_workload::{Mixer, Workload};
 use eve_replica::{RunFault, run};
 use eve_write::{Parts, Step};
 use std::alloc::{AllocError, Global};
@@ -14,69 +14,6 @@ use std::random::RandomSource;
 use std::sync::Wait;
 use std::thread::Threads;
 
-/// One replica, one deposit.
-pub const ONE_DEPOSIT: &[u8] = b"eve 1 1 1 1 1\ncustomer ann 0 0\nbatch\ndeposit 7 1 ann 500\n";
-
-/// Two replicas with two workers each, two deposits for one customer.
-pub const TWO_DEPOSITS: &[u8] =
-    b"eve 2 1 1 1 2\ncustomer ann 0 0\nbatch\ndeposit 7 1 ann 5\ndeposit 7 2 ann 7\n";
-
-/// A knot, and a batch behind it in which nothing is in conflict; two replicas that attempt both before one is decided.
-pub const TWO_REPLICAS: &[u8] = b"eve 2 1 1 2 3
-customer bob 0 100
-customer ann 0 0
-customer cid 0 0
-customer dan 0 0
-customer eve 0 0
-batch
-deposit 7 1 bob 5
-deposit 7 2 cid 5
-deposit 7 3 dan 5
-amalgamate 7 4 bob ann
-check 7 5 ann 50
-batch
-deposit 8 1 bob 5
-deposit 8 2 cid 5
-deposit 8 3 dan 5
-deposit 8 4 ann 5
-deposit 8 5 eve 5
-";
-
-/// A knot for three replicas.
-pub const THREE_REPLICAS: &[u8] = b"eve 3 2 2 1 3
-customer bob 0 100
-customer ann 0 0
-customer cid 0 0
-customer dan 0 0
-batch
-deposit 7 1 bob 5
-deposit 7 2 cid 5
-deposit 7 3 dan 5
-amalgamate 7 4 bob ann
-check 7 5 ann 50
-";
-
-/// Two knots for four replicas, one behind the other. In the second, too, the order decides whether the check is
-/// covered: ann has 55 from the first.
-pub const FOUR_REPLICAS: &[u8] = b"eve 4 3 2 1 3
-customer bob 0 100
-customer ann 0 0
-customer cid 0 0
-customer dan 0 0
-batch
-deposit 7 1 bob 5
-deposit 7 2 cid 5
-deposit 7 3 dan 5
-amalgamate 7 4 bob ann
-check 7 5 ann 50
-batch
-deposit 8 1 bob 5
-deposit 8 2 cid 5
-deposit 8 3 dan 5
-amalgamate 8 4 bob ann
-check 8 5 ann 58
-";
-
 /// What each replica did, and the verdict on the trace.
 #[derive(Drop)]
 pub struct Ran {
@@ -84,16 +21,15 @@ pub struct Ran {
     pub verdict: Verdict,
 }
 
-/// Runs the workload of the text, all requests of a batch in one parallelBatch, and audits the trace.
-pub fn run_text<R: RandomSource + Threads + Wait + Sync, G: Gate>(
+/// Runs the workload, all requests of a batch in one parallelBatch, and audits the trace.
+pub fn run_whole<R: RandomSource + Threads + Wait + Sync, G: Gate>(
     rt: &R,
     alloc: Global,
-    text: &[u8],
+    workload: &Workload,
     gate: &G,
 ) -> io::Result<Ran> {
-    let workload = workload_of(alloc, text)?;
     let random = RandomState::new(rt)?;
-    let parts = match run(rt, alloc, &workload, Mixer::Whole, random, gate) {
+    let parts = match run(rt, alloc, workload, Mixer::Whole, random, gate) {
         Ok(parts) => parts,
         Err(RunFault::Memory) => return Err(AllocError.into()),
         Err(RunFault::Broken) => return Err(io::Error::other("broken")),
@@ -129,15 +65,15 @@ fn word_of(step: &Step) -> &'static str {
     }
 }
 
-/// Runs the workload of the text; the attempts of its knots are held as these turns say.
+/// Runs the workload as `run_whole` does; the attempts of its knots are held as these turns say.
 pub fn run_knots<R: RandomSource + Threads + Wait + Sync>(
     rt: &R,
     alloc: Global,
-    text: &[u8],
+    workload: &Workload,
     turns: [Turn; 7],
 ) -> io::Result<Ran> {
     let gate = KnotGate::new(turns);
-    let ran = run_text(rt, alloc, text, &gate)?;
+    let ran = run_whole(rt, alloc, workload, &gate)?;
     if !gate.is_kept() {
         return Err(stopped());
     }

@@ -13,8 +13,7 @@ use eve_smallbank::{Request, touched};
 use eve_stamps::{AccessRecord, Stripe, apply};
 use eve_streams::SinkOf;
 use eve_write::{
-    AttemptData, BatchData, ChoiceData, CommitData, CustomerData, Parts, RollbackData, Step,
-    VoteData, gather,
+    AttemptData, BatchData, ChoiceData, CommitData, Parts, RollbackData, Step, VoteData, gather,
 };
 use std::alloc::{AllocError, Global};
 use std::hash::RandomState;
@@ -122,6 +121,11 @@ pub fn closed(answer: Result<AttemptData, CloseFault>) -> io::Result<AttemptData
     }
 }
 
+/// A commit of the first batch.
+pub fn commit_first(replica: &mut Replica) -> Result<CommitData, CommitFault> {
+    replica.commit(1)
+}
+
 /// The commit that was due.
 pub fn committed(answer: Result<CommitData, CommitFault>) -> io::Result<CommitData> {
     match answer {
@@ -183,14 +187,7 @@ pub fn trace_of(
         choice: ChoiceData::ForCommit,
         token: commit.token,
     };
-    let mut customers = Vec::new(alloc);
-    for customer in workload.customers() {
-        customers.push(CustomerData {
-            name: customer.name.to_vec(alloc)?,
-            saving: customer.saving,
-            checking: customer.checking,
-        })?;
-    }
+    let customers = workload.customers().to_vec(alloc)?;
     let Fit { batch } = fit;
     let steps = vec![in alloc; Step::Attempt(attempt), Step::Commit(commit)]?;
     let parts = Parts {

@@ -1,3 +1,5 @@
 pub mod Cuts
 mod Bytes
+mod Counting
+mod Going
 mod Parts

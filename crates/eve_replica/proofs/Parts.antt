@@ -1,11 +1,12 @@
 -- What a run did lies within the limits of the format.
-use Rattle.std.proofs.Common.{◌≡◌, ℕ, ◌*◌, true, List, [], ◌∷◌, Vec, All, IsTrue, length, map, ap, refl, sym, ◌∙◌, subst}
+use Rattle.std.proofs.Common.{◌≡◌, ℕ, ◌*◌, true, List, [], ◌∷◌, Vec, All, IsTrue, length, map, ap, refl, sym, ◌∙◌}
+use Rattle.std.proofs.Common.{subst}
 use Rattle.std.proofs.lemmas.Bool.{and_from}
 use Rattle.std.proofs.lemmas.List.{length-map}
-use Rattle.std.proofs.lemmas.List.Elements.{All-nil, All-cons, All-head, All-tail}
+use Rattle.std.proofs.lemmas.List.Elements.{All-head, All-tail}
 use Rattle.std.specs.List.{list_all}
 use Rattle.std.specs.declared.alloc.Global.{Global}
-use Rattle.eve_grammar.specs.Trace.{Head, head_of}
+use Rattle.eve_grammar.specs.Trace.{Head, Step, head_of}
 use Rattle.eve_grammar.specs.Limits.{is_head, is_customer, is_batch, is_step, is_vote, is_sent}
 use Rattle.eve_write.specs.declared.vote.VoteData.{VoteData}
 use Rattle.eve_write.specs.declared.parts.Parts.{Parts}
@@ -13,36 +14,18 @@ use Rattle.eve_write.specs.Data.{customer, batch, section, vote, votes, trace}
 use Rattle.eve_write.specs.Writable.{fits_vote, HasSpelling}
 use Rattle.eve_workload.specs.declared.mixer.MixedBatch.{MixedBatch}
 use Rattle.eve_replica.specs.declared.server.Server.{Server}
-use Rattle.eve_replica.specs.Serving.{IsMixed, GoesOn, Serves, Starts, AreVotes, AreReplies}
+use Rattle.eve_replica.specs.declared.standing.Standing.{Standing}
+use Rattle.eve_replica.specs.Serving.{IsMixed, Serves, AreVotes, AreReplies}
 
-pub sections_fit : (rows : ℕ) (batches : List MixedBatch) (servers : List Server) → All (Serves rows batches) servers
-    → list_all (list_all (is_step rows)) (map (λ s. section s.steps) servers) ≡ true
-sections_fit rows batches [] serve = refl
-sections_fit rows batches (s ∷ servers) serve =
-    let first = All-head (Serves rows batches) s servers serve in
+pub sections_fit : (names : List (List ℕ)) (window : ℕ) (at : Standing) (servers : List Server)
+    → All (Serves names window at) servers
+    → list_all (list_all (is_step (2 * length names))) (map (λ s. section s.steps) servers) ≡ true
+sections_fit names window at [] serve = refl
+sections_fit names window at (s ∷ servers) serve =
+    let first = All-head (Serves names window at) s servers serve in
     let P : ℕ → Type 0 = λ n. list_all (is_step n) (section s.steps) ≡ true in
-    and_from (list_all (is_step rows) (section s.steps)) _ (subst P first.rows first.steps)
-    (sections_fit rows batches servers (All-tail (Serves rows batches) s servers serve))
-
--- a replica that went on serves as it did
-pub goes_on : (rows : ℕ) (batches : List MixedBatch) (old new : Server) → GoesOn old new → Serves rows batches old → Serves rows batches new
-goes_on rows batches old new goes serves = record {
-  rows = goes.rows ∙ serves.rows;
-  mixed = (let P : List (List ℕ) → Type 0 = λ names. All (IsMixed names) batches in subst P (sym goes.names) serves.mixed);
-  whole = goes.whole serves.whole;
-  steps = goes.steps serves.steps;
-}
-
--- replicas that start serve
-pub all_serve : (names : List (List ℕ)) (batches : List MixedBatch) (servers : List Server) → All (IsMixed names) batches
-    → All (Starts names) servers → All (Serves (2 * length names) batches) servers
-all_serve names batches [] mixed start = All-nil (Serves (2 * length names) batches)
-all_serve names batches (s ∷ servers) mixed start =
-    let first = All-head (Starts names) s servers start in
-    let P : List (List ℕ) → Type 0 = λ ns. All (IsMixed ns) batches in
-    All-cons (Serves (2 * length names) batches) s servers
-    (record { rows = first.rows; mixed = subst P (sym first.names) mixed; whole = first.whole; steps = first.steps })
-    (all_serve names batches servers mixed (All-tail (Starts names) s servers start))
+    and_from (list_all (is_step (2 * length names)) (section s.steps)) _ (subst P first.rows first.steps)
+    (sections_fit names window at servers (All-tail (Serves names window at) s servers serve))
 
 -- each verifier has these votes
 abbrev Copies : List VoteData → Vec VoteData Global → Type 0
@@ -53,7 +36,8 @@ pub votes_fit : (batches : ℕ) (given : List VoteData) (copies : List (Vec Vote
 votes_fit batches given [] right each = refl
 votes_fit batches given (copy ∷ copies) right each =
     let P : List VoteData → Type 0 = λ vs. list_all (is_vote batches) (map vote vs) ≡ true in
-    and_from (list_all (is_vote batches) (votes copy)) _ (subst P (sym (All-head (Copies given) copy copies each)) right.limits)
+    and_from (list_all (is_vote batches) (votes copy)) _
+    (subst P (sym (All-head (Copies given) copy copies each)) right.limits)
     (votes_fit batches given copies right (All-tail (Copies given) copy copies each))
 
 pub tokens_fit : (batches : ℕ) (given : List VoteData) (copies : List (Vec VoteData Global)) → AreVotes batches given
@@ -65,7 +49,8 @@ tokens_fit batches given (copy ∷ copies) right each =
     (tokens_fit batches given copies right (All-tail (Copies given) copy copies each))
 
 -- the numbers in the header
-pub same_head : (p : Parts) (replicas verifiers customers batches : ℕ) → length p.sections.items ≡ replicas → length p.verifiers.items ≡ verifiers
+pub same_head : (p : Parts) (replicas verifiers customers batches : ℕ) → length p.sections.items ≡ replicas
+    → length p.verifiers.items ≡ verifiers
     → length (trace p).customers ≡ customers → length (trace p).batches ≡ batches
     → head_of (trace p) ≡ record {
       replicas = replicas;
@@ -90,26 +75,32 @@ batches_fit names (m ∷ mixed) right =
 
 -- The parts of a run have a spelling: its numbers and customers are a workload's, its batches were mixed, its replicas
 -- served, each verifier gave these votes, and the replies are of these replicas in these batches.
-pub spelled : (p : Parts) (h : Head) (names : List (List ℕ)) (mixed : List MixedBatch) (servers : List Server) (given : List VoteData)
-    → head_of (trace p) ≡ h → IsTrue (is_head h)
+pub spelled : (p : Parts) (h : Head) (names : List (List ℕ)) (mixed : List MixedBatch) (window : ℕ) (at : Standing)
+    (servers : List Server) (given : List VoteData)
+    → head_of (trace p) ≡ h → IsTrue (is_head h) → length names ≡ h.customers
     → IsTrue (list_all is_customer (map customer p.customers.items))
     → map batch p.batches.items ≡ map (λ m. batch m.batch) mixed → All (IsMixed names) mixed
-    → map section p.sections.items ≡ map (λ s. section s.steps) servers → All (Serves (2 * h.customers) mixed) servers
+    → map section p.sections.items ≡ map (λ s. section s.steps) servers → All (Serves names window at) servers
     → AreVotes (length mixed) given → All (Copies given) p.verifiers.items
     → AreReplies (length servers) (length mixed) p.sent.items
     → HasSpelling p
-spelled p h names mixed servers given head right customers batches mix sections serve votes each replies =
+spelled p h names mixed window at servers given head right named customers batches mix sections serve votes each replies
+    =
     let many : length (trace p).batches ≡ length mixed = ap length batches ∙ length-map mixed (λ m. batch m.batch) in
-    let replicas : length (trace p).sections ≡ length servers = ap length sections ∙ length-map servers (λ s. section s.steps) in
+    let replicas : length (trace p).sections ≡ length servers =
+    ap length sections ∙ length-map servers (λ s. section s.steps) in
+    let Fit : ℕ → List (List Step) → Type 0 = λ n ss. IsTrue (list_all (list_all (is_step n)) ss) in
+    let rows : 2 * length names ≡ 2 * (head_of (trace p)).customers =
+    ap (λ (n : ℕ). 2 * n) named ∙ ap (λ (x : Head). 2 * x.customers) (sym head) in
     record {
       limits = record {
         head = subst (λ x. IsTrue (is_head x)) (sym head) right;
         customers = customers;
         batches = subst (λ bs. IsTrue (list_all is_batch bs)) (sym batches) (batches_fit names mixed mix);
-        sections = subst (λ ss. IsTrue (list_all (list_all (is_step (2 * (head_of (trace p)).customers))) ss)) (sym sections)
-            (subst (λ n. IsTrue (list_all (list_all (is_step n)) (map (λ s. section s.steps) servers))) (ap (λ (x : Head). 2 * x.customers) (sym head))
-            (sections_fit (2 * h.customers) mixed servers serve));
-        votes = subst (λ n. IsTrue (list_all (list_all (is_vote n)) (trace p).verifiers)) (sym many) (votes_fit (length mixed) given p.verifiers.items votes each);
+        sections = subst (Fit (2 * (head_of (trace p)).customers)) (sym sections)
+            (subst (λ n. Fit n (map (λ s. section s.steps) servers)) rows (sections_fit names window at servers serve));
+        votes = subst (λ n. IsTrue (list_all (list_all (is_vote n)) (trace p).verifiers)) (sym many)
+            (votes_fit (length mixed) given p.verifiers.items votes each);
         sent = subst (λ n. IsTrue (list_all (is_sent n (length (trace p).batches)) (trace p).sent)) (sym replicas)
             (subst (λ n. IsTrue (list_all (is_sent (length servers) n) (trace p).sent)) (sym many) replies);
       };

@@ -1,14 +1,17 @@
 -- What a run of a deployment keeps from window to window. docs/TRACE.md, "The deployment's procedure".
-use Rattle.std.specs.Prelude.{◌≡◌, false, ◌*◌, ◌≤◌, ℕ, All, IsTrue, List, length, map, vec_len}
-use Rattle.std.specs.List.{list_all}
+use Rattle.std.specs.Prelude.{◌≡◌, ℕ, ◌+◌, ◌-◌, ◌*◌, ◌<◌, ◌≤◌, ◌==◌, Bool, true, false, ◌&&◌, if◌then◌else◌, All}
+use Rattle.std.specs.Prelude.{IsTrue, List, length, map, slice_get, vec_len, Option, Some, None, option_map}
+use Rattle.std.specs.Str.{bytes_eq}
+use Rattle.std.specs.List.{count_by, list_all}
 use Rattle.eve_grammar.specs.Limits.{is_batch, is_step, is_vote, is_sent}
 use Rattle.eve_attempts.specs.Closing.{touched_by}
-use Rattle.eve_attempts.specs.Ledgers.{row_count}
+use Rattle.eve_attempts.specs.Ledgers.{Ledger, row_count}
 use Rattle.eve_write.specs.Data.{batch as plain, section, vote, sent}
 use Rattle.eve_write.specs.Writable.{fits_vote}
 use Rattle.eve_write.specs.declared.vote.VoteData.{VoteData}
 use Rattle.eve_write.specs.declared.sent.SentData.{SentData}
 use Rattle.eve_workload.specs.declared.mixer.MixedBatch.{MixedBatch}
+use Rattle.eve_replica.specs.declared.standing.Standing.{Standing}
 use Rattle.eve_replica.specs.declared.server.Server.{Server}
 use Rattle.eve_replica.specs.declared.deployment.Deployment.{Deployment}
 
@@ -17,32 +20,94 @@ pub record IsMixed (names : List (List ℕ)) (m : MixedBatch) : Type 0 where
   pub right : IsTrue (is_batch (plain m.batch))
   pub touched : m.touched.items ≡ touched_by names (plain m.batch)
 
+-- ---- where live replicas stand
+
+-- where a replica stands by its own account
+abbrev pub standing_of : Ledger → Standing
+standing_of s =
+    record { view = s.view; committed = s.committed; opened = length s.opened; is_next_serial = s.is_next_serial }
+
+-- at first
+abbrev pub at_first : Standing
+at_first = record { view = 0; committed = 0; opened = 0; is_next_serial = false }
+
+-- so many attempts on
+abbrev pub attempting : ℕ → Standing → Standing
+attempting many at = record {
+  view = at.view;
+  committed = at.committed;
+  opened = at.opened + many;
+  is_next_serial = at.is_next_serial && (many == 0);
+}
+
+-- one commit on
+abbrev pub committing : Standing → Standing
+committing at = record {
+  view = at.view;
+  committed = at.committed + 1;
+  opened = at.opened - 1;
+  is_next_serial = at.is_next_serial;
+}
+
+-- one rollback on
+abbrev pub rolling_back : Standing → Standing
+rolling_back at = record { view = at.view + 1; committed = at.committed; opened = 0; is_next_serial = true }
+
+-- so many more attempts are due, in this view and the first of them in this mode: there is room for them, and for their
+-- numbers
+pub record AreDue (many view : ℕ) (serial : Bool) (s : Ledger) : Type 0 where
+  pub last : s.committed + length s.opened + many ≤ 65535
+  pub room : length s.opened + many ≤ s.window
+  pub in_view : s.view ≡ view
+  pub in_mode : s.is_next_serial ≡ serial
+
+-- ---- replicas of a run
+
 -- all that a replica did lies within the limits
 abbrev pub AreRightSteps : Server → Type 0
 AreRightSteps s = IsTrue (list_all (is_step (row_count s.replica.ledger)) (section s.steps))
 
--- A replica went on: it has the same names and as many rows, it isn't broken if it wasn't, and all that it did lies
--- within the limits if it did before.
-pub record GoesOn (old new : Server) : Type 0 where
-  pub names : new.replica.names ≡ old.replica.names
-  pub rows : row_count new.replica.ledger ≡ row_count old.replica.ledger
-  pub whole : old.replica.is_broken ≡ false → new.replica.is_broken ≡ false
-  pub steps : AreRightSteps old → AreRightSteps new
-
--- a replica that isn't broken, with so many rows, whose names are those by which these batches were looked up
-pub record Serves (count : ℕ) (batches : List MixedBatch) (s : Server) : Type 0 where
-  pub rows : row_count s.replica.ledger ≡ count
-  pub mixed : All (IsMixed s.replica.names) batches
-  pub whole : s.replica.is_broken ≡ false
-  pub steps : AreRightSteps s
-
--- a replica among customers with these names, two rows for each, that isn't broken and has done nothing yet that lies
--- outside the limits
-pub record Starts (customers : List (List ℕ)) (s : Server) : Type 0 where
+-- A replica of a run among customers with these names, with at most so many attempts open at once. It isn't broken, all
+-- that it did lies within the limits, and where it is live it stands here.
+pub record Serves (customers : List (List ℕ)) (window : ℕ) (at : Standing) (s : Server) : Type 0 where
   pub names : s.replica.names ≡ customers
   pub rows : row_count s.replica.ledger ≡ 2 * length customers
+  pub room : s.replica.ledger.window ≡ window
   pub whole : s.replica.is_broken ≡ false
   pub steps : AreRightSteps s
+  pub live : s.is_live ≡ true → standing_of s.replica.ledger ≡ at
+
+-- A replica went on: its names, its rows and how many attempts it may have open stay; it isn't broken if it wasn't, and
+-- all that it did lies within the limits if it did before; where it is still live, it stands this much further.
+pub record GoesOn (further : Standing → Standing) (old new : Server) : Type 0 where
+  pub names : new.replica.names ≡ old.replica.names
+  pub rows : row_count new.replica.ledger ≡ row_count old.replica.ledger
+  pub room : new.replica.ledger.window ≡ old.replica.ledger.window
+  pub whole : old.replica.is_broken ≡ false → new.replica.is_broken ≡ false
+  pub steps : AreRightSteps old → AreRightSteps new
+  pub live : new.is_live ≡ true
+      → (old.is_live ≡ true) × (standing_of new.replica.ledger ≡ further (standing_of old.replica.ledger))
+
+-- ---- what is decided
+
+-- the token of its first open attempt, where a replica is live
+abbrev pub next_token : Server → Option (List ℕ)
+next_token s = if s.is_live then option_map (λ o. o.token) (slice_get s.replica.ledger.opened 0) else None
+
+abbrev pub is_some_of : List ℕ → Option (List ℕ) → Bool
+is_some_of token None = false
+is_some_of token (Some own) = bytes_eq own token
+
+-- how many live replicas have this token for the next batch
+abbrev pub count_with : List ℕ → List Server → ℕ
+count_with token servers = count_by (λ s. is_some_of token (next_token s)) servers
+
+-- A token is decided where more than half of all replicas are live and have it, and none is where no token is such.
+abbrev pub IsDecision : Option (List ℕ) → List Server → Type 0
+IsDecision (Some token) servers = length servers < 2 * count_with token servers
+IsDecision None servers = (token : List ℕ) → 2 * count_with token servers ≤ length servers
+
+-- ---- votes and replies
 
 -- votes on so many batches
 pub record AreVotes (batches : ℕ) (votes : List VoteData) : Type 0 where
@@ -53,12 +118,21 @@ pub record AreVotes (batches : ℕ) (votes : List VoteData) : Type 0 where
 abbrev pub AreReplies : ℕ → ℕ → List SentData → Type 0
 AreReplies replicas batches replies = IsTrue (list_all (is_sent replicas batches) (map sent replies))
 
--- the state of a run
+-- ---- the run
+
+-- The state of a run: its batches were looked up among its customers' names; each replica is one of this run, and each
+-- live one stands where the run does; every vote so far lies within the limits.
 pub record IsUnderWay (d : Deployment) : Type 0 where
+  pub names : List (List ℕ)
+  pub customers : length names ≡ d.head.customers
   pub few : length d.batches.now ≤ 65535
-  pub servers : All (Serves (2 * d.head.customers) d.batches.now) d.servers.items
+  pub room : 1 ≤ d.head.window
+  pub mixed : All (IsMixed names) d.batches.now
+  pub due : d.standing.committed + d.standing.opened ≤ length d.batches.now
+  pub many : vec_len d.servers ≡ d.head.replicas
+  pub servers : All (Serves names d.head.window d.standing) d.servers.items
   pub votes : AreVotes (length d.batches.now) d.votes.items
 
--- the numbers, the batches and how many replicas there are stay
+-- the numbers and the batches stay
 abbrev pub IsSameRun : Deployment → Deployment → Type 0
-IsSameRun old new = (new.head ≡ old.head) × (new.batches ≡ old.batches) × (vec_len new.servers ≡ vec_len old.servers)
+IsSameRun old new = (new.head ≡ old.head) × (new.batches ≡ old.batches)

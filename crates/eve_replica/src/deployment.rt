@@ -1,30 +1,31 @@
 //! The state of a run.
 
-ghost use Rattle.std.specs.Prelude.{◌≡◌, ℕ, ◌≤◌, ◌+◌, ◌<◌, All, List, OnOk, length};
-ghost use Rattle.eve_workload.specs.declared.mixer.MixedBatch.{MixedBatch};
-ghost use Rattle.eve_replica.specs.Serving.{Serves, IsSameRun, IsUnderWay};
+ghost use Rattle.std.specs.Prelude.{◌≡◌, ℕ, ◌≤◌, ◌+◌, ◌-◌, ◌*◌, ◌<◌, min, All, List, OnOk, length};
+ghost use Rattle.eve_replica.specs.declared.standing.Standing.{Standing};
+ghost use Rattle.eve_replica.specs.Serving.{IsMixed, Serves, IsSameRun, IsUnderWay};
+ghost use Rattle.eve_replica.specs.Serving.{attempting, committing, rolling_back, IsDecision, count_with};
 
 use crate::fault::RunFault;
 use crate::server::Server;
+use crate::standing::Standing;
 use crate::votes::{vote_for_commit, vote_for_rollback};
 use eve_grammar::Head;
 use eve_recorder::Gate;
 use eve_workload::MixedBatch;
 use eve_write::VoteData;
-use std::alloc::Global;
+use std::alloc::{AllocError, Global};
 use std::sync::Wait;
 use std::thread::Threads;
 
-/// How far a run is: its numbers and its batches, its replicas, the votes that each verifier gave, the view, and the
-/// last batch that was committed.
+/// How far a run is: its numbers and its batches, its replicas, where those of them that are live stand, and the votes
+/// that each verifier gave.
 #[derive(Drop)]
 pub(crate) struct Deployment<'n, 'b> {
     pub head: Head,
     pub batches: &'b [MixedBatch],
     pub servers: Vec<Server<'n>>,
+    pub standing: Standing,
     pub votes: Vec<VoteData>,
-    pub view: u32,
-    pub committed: u32,
 }
 
 impl<'n, 'b> Deployment<'n, 'b> {
@@ -38,77 +39,129 @@ impl<'n, 'b> Deployment<'n, 'b> {
         gate: &G,
     ) -> Result<(), RunFault>
         requires under_way { IsUnderWay self.old }
-        requires view { self.old.view < 131072 }
+        requires none_open { self.old.standing.opened ≡ 0 }
+        requires left { self.old.standing.committed < length self.old.batches.now }
+        requires view { self.old.standing.view < 131072 }
         ensures under_way { OnOk result (IsUnderWay self.new) }
-        ensures same { IsSameRun self.old self.new }
-        ensures view { OnOk result (self.new.view ≤ self.old.view + 1) }
+        ensures none_open { OnOk result (self.new.standing.opened ≡ 0) }
+        ensures same { OnOk result (IsSameRun self.old self.new) }
+        ensures view { OnOk result (self.new.standing.view ≤ self.old.standing.view + 1) }
     {
-        let from = self.committed as usize;
-        let end = self.batches.len().min(from + self.head.window as usize);
-        attempt_all(rt, alloc, self.servers.as_mut_slice(), self.batches, gate)?;
-        for number in from..end {
-            match decided(self.servers.as_slice()) {
-                Some(token) => self.commit(number as u32 + 1, token)?,
-                None => return self.roll_back(alloc, number as u32 + 1),
-            }
+        self.attempt(rt, alloc, gate)?;
+        while self.standing.opened > 0 {
+            let Some(token) = decided(self.servers.as_slice()) else {
+                return Ok(self.roll_back(alloc)?);
+            };
+            self.commit(token)?;
         }
         Ok(())
     }
 
-    // Every verifier votes for the commit; who has the token commits, and who hasn't stops.
-    fn commit(&mut self, seq: u32, token: [u8; 32]) -> Result<(), RunFault>
+    // Each live replica, one after another, attempts the batches of the window: as many as it has, or as there are
+    // left.
+    fn attempt<R: Threads + Wait + Sync, G: Gate>(
+        &mut self,
+        rt: &R,
+        alloc: Global,
+        gate: &G,
+    ) -> Result<(), RunFault>
         requires under_way { IsUnderWay self.old }
-        requires seq { (1 ≤ seq) × (seq ≤ length self.old.batches.now) }
+        requires none_open { self.old.standing.opened ≡ 0 }
+        requires left { self.old.standing.committed < length self.old.batches.now }
         ensures under_way { OnOk result (IsUnderWay self.new) }
-        ensures same { IsSameRun self.old self.new }
-        ensures view { self.new.view ≡ self.old.view }
+        ensures same { OnOk result (IsSameRun self.old self.new) }
+        ensures standing { OnOk result (self.new.standing ≡ attempting self.new.standing.opened self.old.standing) }
+        ensures many { let left = length self.old.batches.now - self.old.standing.committed in
+            OnOk result (self.new.standing.opened ≡ min self.old.head.window left) }
     {
-        let batches = self.batches.len();
-        vote_for_commit(&mut self.votes, batches, seq, self.view, token)?;
-        self.committed = seq;
-        commit_all(self.servers.as_mut_slice(), seq, token)?;
+        let batches = self.batches;
+        let from = self.standing.committed as usize;
+        let end = batches.len().min(from + self.head.window as usize);
+        let window = &batches[from..end];
+        attempt_all(
+            rt,
+            alloc,
+            self.servers.as_mut_slice(),
+            window,
+            self.standing,
+            gate,
+        )?;
+        self.standing.opened = window.len() as u32;
+        self.standing.is_next_serial = false;
         Ok(())
     }
 
-    // Every verifier votes for the rollback, and who is live rolls back.
-    fn roll_back(&mut self, alloc: Global, seq: u32) -> Result<(), RunFault>
+    // Every verifier votes for the commit of the first open batch; who has the token commits it, and who hasn't stops.
+    fn commit(&mut self, token: [u8; 32]) -> Result<(), AllocError>
         requires under_way { IsUnderWay self.old }
-        requires seq { (1 ≤ seq) × (seq ≤ length self.old.batches.now) }
-        requires view { self.old.view < 131072 }
+        requires open { 0 < self.old.standing.opened }
         ensures under_way { OnOk result (IsUnderWay self.new) }
-        ensures same { IsSameRun self.old self.new }
-        ensures view { OnOk result (self.new.view ≡ self.old.view + 1) }
+        ensures same { OnOk result (IsSameRun self.old self.new) }
+        ensures standing { OnOk result (self.new.standing ≡ committing self.old.standing) }
     {
+        let seq = self.standing.committed + 1;
         let batches = self.batches.len();
-        vote_for_rollback(&mut self.votes, batches, seq, self.view)?;
-        self.view += 1;
+        vote_for_commit(&mut self.votes, batches, seq, self.standing.view, token)?;
+        commit_all(self.servers.as_mut_slice(), seq, token)?;
+        self.standing.committed = seq;
+        self.standing.opened -= 1;
+        Ok(())
+    }
+
+    // Every verifier votes for the rollback of the first open batch, and who is live rolls back.
+    fn roll_back(&mut self, alloc: Global) -> Result<(), AllocError>
+        requires under_way { IsUnderWay self.old }
+        requires open { 0 < self.old.standing.opened }
+        requires view { self.old.standing.view < 131072 }
+        ensures under_way { OnOk result (IsUnderWay self.new) }
+        ensures same { OnOk result (IsSameRun self.old self.new) }
+        ensures standing { OnOk result (self.new.standing ≡ rolling_back self.old.standing) }
+    {
+        let seq = self.standing.committed + 1;
+        let batches = self.batches.len();
+        vote_for_rollback(&mut self.votes, batches, seq, self.standing.view)?;
         roll_back_all(self.servers.as_mut_slice(), alloc)?;
+        self.standing.view += 1;
+        self.standing.opened = 0;
+        self.standing.is_next_serial = true;
         Ok(())
     }
 }
 
-// Each live replica, one after another, attempts the batches of the window.
+// Each live replica, one after another, attempts the batches of the window, which are the next from where they stand.
 fn attempt_all<R: Threads + Wait + Sync, G: Gate>(
     rt: &R,
     alloc: Global,
     servers: &mut [Server],
-    batches: &[MixedBatch],
+    window: &[MixedBatch],
+    standing: Standing,
     gate: &G,
 ) -> Result<(), RunFault>
-    requires few { length batches.now ≤ 65535 }
-    requires serve { (rows : ℕ) × All (Serves rows batches.now) servers.old }
-    ensures { (rows : ℕ) → All (Serves rows batches.now) servers.old
-        → OnOk result (All (Serves rows batches.now) servers.new) }
+    requires serve { (names : List (List ℕ)) × (room : ℕ) × All (IsMixed names) window.now
+        × All (Serves names room standing) servers.old × (standing.opened + length window.now ≤ room)
+        × (standing.committed + standing.opened + length window.now ≤ 65535) }
+    ensures { (names : List (List ℕ)) (room : ℕ) → All (Serves names room standing) servers.old
+        → OnOk result (All (Serves names room (attempting (length window.now) standing)) servers.new) }
 {
     for server in servers.iter_mut() {
-        server.attempt_window(rt, alloc, batches, gate)?;
+        server.attempt_window(
+            rt,
+            alloc,
+            window,
+            standing.view,
+            standing.is_next_serial,
+            gate,
+        )?;
     }
     Ok(())
 }
 
-fn commit_all(servers: &mut [Server], seq: u32, token: [u8; 32]) -> Result<(), RunFault>
-    ensures { (rows : ℕ) (batches : List MixedBatch) → All (Serves rows batches) servers.old
-        → OnOk result (All (Serves rows batches) servers.new) }
+// Each live replica commits this batch, which is the next, or stops.
+fn commit_all(servers: &mut [Server], seq: u32, token: [u8; 32]) -> Result<(), AllocError>
+    requires { (names : List (List ℕ)) × (room : ℕ) × (at : Standing) × All (Serves names room at) servers.old
+        × (seq ≡ at.committed + 1) }
+    ensures { (names : List (List ℕ)) (room : ℕ) (at : Standing) → All (Serves names room at) servers.old
+        → OnOk result (All (Serves names room (committing at)) servers.new) }
 {
     for server in servers.iter_mut() {
         server.commit_or_stop(seq, token)?;
@@ -116,9 +169,12 @@ fn commit_all(servers: &mut [Server], seq: u32, token: [u8; 32]) -> Result<(), R
     Ok(())
 }
 
-fn roll_back_all(servers: &mut [Server], alloc: Global) -> Result<(), RunFault>
-    ensures { (rows : ℕ) (batches : List MixedBatch) → All (Serves rows batches) servers.old
-        → OnOk result (All (Serves rows batches) servers.new) }
+// Each live replica rolls back.
+fn roll_back_all(servers: &mut [Server], alloc: Global) -> Result<(), AllocError>
+    requires { (names : List (List ℕ)) × (room : ℕ) × (at : Standing) × All (Serves names room at) servers.old
+        × (at.view < 131072) }
+    ensures { (names : List (List ℕ)) (room : ℕ) (at : Standing) → All (Serves names room at) servers.old
+        → OnOk result (All (Serves names room (rolling_back at)) servers.new) }
 {
     for server in servers.iter_mut() {
         server.roll_back(alloc)?;
@@ -127,7 +183,9 @@ fn roll_back_all(servers: &mut [Server], alloc: Global) -> Result<(), RunFault>
 }
 
 // The token that live replicas, in number more than half of all replicas, have for the next batch.
-fn decided(servers: &[Server]) -> Option<[u8; 32]> {
+fn decided(servers: &[Server]) -> Option<[u8; 32]>
+    ensures { IsDecision result servers.now }
+{
     for server in servers {
         if let Some(token) = server.next_token() {
             if count_with(servers, token) > servers.len() / 2 {
@@ -139,9 +197,14 @@ fn decided(servers: &[Server]) -> Option<[u8; 32]> {
 }
 
 // How many live replicas have this token for the next batch.
-fn count_with(servers: &[Server], token: [u8; 32]) -> usize {
-    servers
-        .iter()
-        .filter(|server| server.next_token() == Some(token))
-        .count()
+fn count_with(servers: &[Server], token: [u8; 32]) -> usize
+    ensures { result ≡ count_with token servers.now }
+{
+    let mut count = 0;
+    for server in servers {
+        if server.has_next(token) {
+            count += 1;
+        }
+    }
+    count
 }

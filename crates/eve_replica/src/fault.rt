@@ -105,14 +105,6 @@ impl From<AttemptFault> for RunFault {
     }
 }
 
-impl From<CommitFault> for RunFault {
-    ghost from_gives = { λ _ e. e ≡ run.Broken };
-
-    fn from(_why: CommitFault) -> RunFault {
-        RunFault::Broken
-    }
-}
-
 /// The fault of an attempt in which a worker met this one.
 pub(crate) fn fault_of(why: ExecFault) -> AttemptFault
     ensures { IsFresh result }

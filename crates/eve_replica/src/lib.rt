@@ -9,6 +9,7 @@ mod replica;
 mod running;
 mod sending;
 mod server;
+mod standing;
 mod votes;
 
 pub use eve_attempts;

@@ -301,19 +301,16 @@ impl<'n> Replica<'n> {
     /// Discards all open attempts, puts the rows back to what is committed, also those that only an attempt that failed
     /// has written, and goes on in the next view. The replica isn't broken any more.
     ///
-    /// docs/MODEL.md, "Working table, committed table". All memory is asked for before a first stripe is undone; where
-    /// it runs out nothing has changed.
+    /// docs/MODEL.md, "Working table, committed table". All memory is asked for before a first stripe goes back, and
+    /// nothing else is refused; where it runs out nothing has changed.
     pub fn rollback(&mut self, alloc: Global) -> Result<RollbackData, AllocError>
         requires { self.old.ledger.view < 2 ^ 32 - 1 }
         ensures rolled_back { IfOk result (λ r. RollsBack self.old.ledger self.new.ledger (rollback r)) }
         ensures whole { OnOk result (self.new ≡ record self.old { ledger = self.new.ledger; is_broken = false }) }
         ensures refused { OnErr result (self.new ≡ self.old) }
     {
-        let mut undone = Vec::with_capacity(alloc, 2 * self.names.len())?;
         let rollback = self.ledger.rollback(alloc)?;
-        // There is room for every row, so nothing is refused here. No clause needs that: attempts are made by the
-        // ledger alone, and one over rows that stayed would be `Mismatch`.
-        let _ = self.floor.undo(&mut undone);
+        self.floor.go_back();
         self.settles.clear();
         self.is_broken = false;
         Ok(rollback)

@@ -4,7 +4,7 @@ ghost use Rattle.std.specs.Prelude.{◌≡◌, ◌≤◌, ◌*◌, All, IfOk, le
 ghost use Rattle.eve_write.specs.Data.{batch as plain, customer, section};
 ghost use Rattle.eve_workload.specs.Workload.{names_of};
 ghost use Rattle.eve_replica.specs.Run.{IsRunOf};
-ghost use Rattle.eve_replica.specs.Serving.{IsMixed, Serves, Starts, AreVotes};
+ghost use Rattle.eve_replica.specs.Serving.{IsMixed, Serves, IsUnderWay, at_first};
 
 use crate::deployment::Deployment;
 use crate::fault::RunFault;
@@ -12,6 +12,7 @@ use crate::opening::{balances_of, batches_of, names_of};
 use crate::replica::Replica;
 use crate::sending::replies_of;
 use crate::server::Server;
+use crate::standing::Standing;
 use eve_accounts::{Balances, Names};
 use eve_grammar::Head;
 use eve_recorder::Gate;
@@ -95,25 +96,29 @@ fn run_windows<'n, 'b, R: Threads + Wait + Sync, G: Gate>(
     requires few { length batches.now ≤ 65535 }
     requires mixed { All (IsMixed names.now.items) batches.now }
     requires customers { length names.now.items ≡ head.now.customers }
-    ensures many { IfOk result (λ d. vec_len d.servers ≡ head.now.replicas) }
-    ensures steps { IfOk result (λ d. All (Serves (2 * head.now.customers) batches.now) d.servers.items) }
-    ensures votes { IfOk result (λ d. AreVotes (length batches.now) d.votes.items) }
+    ensures under_way { IfOk result IsUnderWay }
+    ensures head { IfOk result (λ d. d.head ≡ head.now) }
+    ensures batches { IfOk result (λ d. d.batches.now ≡ batches.now) }
 {
     let mut deployment = Deployment {
         head: *head,
         batches,
         servers: servers_of(alloc, head, names, balances)?,
+        standing: Standing {
+            view: 0,
+            committed: 0,
+            opened: 0,
+            is_next_serial: false,
+        },
         votes: Vec::new(alloc),
-        view: 0,
-        committed: 0,
     };
     for turn in 0..2 * batches.len() {
-        if deployment.committed as usize >= batches.len() {
+        if deployment.standing.committed as usize >= batches.len() {
             break;
         }
         deployment.run_window(rt, alloc, gate)?;
     }
-    if (deployment.committed as usize) < batches.len() {
+    if (deployment.standing.committed as usize) < batches.len() {
         return Err(RunFault::Broken);
     }
     Ok(deployment)
@@ -129,7 +134,7 @@ fn servers_of<'n>(
     requires workers { (1 ≤ head.now.workers) × (head.now.workers ≤ 8) }
     requires window { (1 ≤ head.now.window) × (head.now.window ≤ 8) }
     ensures many { IfOk result (λ servers. vec_len servers ≡ head.now.replicas) }
-    ensures start { IfOk result (λ servers. All (Starts names.now.items) servers.items) }
+    ensures serve { IfOk result (λ servers. All (Serves names.now.items head.now.window at_first) servers.items) }
 {
     let mut servers = Vec::with_capacity(alloc, head.replicas as usize)?;
     for number in 0..head.replicas {
@@ -144,14 +149,7 @@ fn copy_customers(
 ) -> Result<Vec<CustomerData>, AllocError>
     ensures { IfOk result (λ copies. map customer copies.items ≡ map customer customers.now) }
 {
-    let mut copies = Vec::with_capacity(alloc, customers.len())?;
-    for customer in customers {
-        copies.push(CustomerData {
-            name: customer.name.to_vec(alloc)?,
-            saving: customer.saving,
-            checking: customer.checking,
-        })?;
-    }
+    let copies = customers.to_vec(alloc)?;
     Ok(copies)
 }
 
@@ -165,7 +163,7 @@ fn server_of<'n>(
     requires rows { length balances.now ≡ 2 * length names.now.items }
     requires workers { (1 ≤ head.now.workers) × (head.now.workers ≤ 8) }
     requires window { (1 ≤ head.now.window) × (head.now.window ≤ 8) }
-    ensures { IfOk result (Starts names.now.items) }
+    ensures { IfOk result (Serves names.now.items head.now.window at_first) }
 {
     Ok(Server {
         replica: Replica::new(alloc, names, balances, head.workers, head.window)?,

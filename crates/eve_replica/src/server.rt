@@ -1,10 +1,12 @@
 //! A replica of a run, with what it did.
 
-ghost use Rattle.std.specs.Prelude.{◌≡◌, false, ◌≤◌, ◌+◌, ◌<◌, All, IsTrue, OnOk, length};
+ghost use Rattle.std.specs.Prelude.{◌≡◌, true, false, ◌≤◌, ◌+◌, ◌-◌, ◌<◌, ◌^◌, All, IsTrue, IsSome, OnOk, length};
 ghost use Rattle.eve_grammar.specs.Limits.{is_step};
 ghost use Rattle.eve_attempts.specs.Ledgers.{row_count};
 ghost use Rattle.eve_write.specs.Data.{step as plain};
-ghost use Rattle.eve_replica.specs.Serving.{IsMixed, AreRightSteps, GoesOn};
+ghost use Rattle.eve_replica.specs.Serving.{IsMixed, AreDue, AreRightSteps, GoesOn};
+ghost use Rattle.eve_replica.specs.Serving.{attempting, committing, rolling_back};
+ghost use Rattle.eve_replica.specs.Serving.{next_token, is_some_of};
 
 use crate::fault::RunFault;
 use crate::fits::commit_fits;
@@ -25,8 +27,12 @@ pub(crate) struct Server<'n> {
 }
 
 impl<'n> Server<'n> {
-    /// The token of the first open attempt.
-    pub(crate) fn next_token(&self) -> Option<[u8; 32]> {
+    /// The token of the first open attempt, where the replica is live.
+    pub(crate) fn next_token(&self) -> Option<[u8; 32]>
+        ensures is { result ≡ next_token self.now }
+        ensures live { IsSome result → self.now.is_live ≡ true }
+        ensures opened { IsSome result → 0 < length self.now.replica.ledger.opened }
+    {
         if self.is_live && self.replica.opened() > 0 {
             Some(self.replica.token(0))
         } else {
@@ -34,48 +40,60 @@ impl<'n> Server<'n> {
         }
     }
 
-    /// Attempts the batches from its next one on, as many as a window has, if the replica is live.
+    /// Whether the replica is live, and its first open attempt has this token.
+    pub(crate) fn has_next(&self, token: [u8; 32]) -> bool
+        ensures { result ≡ is_some_of token (next_token self.now) }
+    {
+        match self.next_token() {
+            Some(own) => own == token,
+            None => false,
+        }
+    }
+
+    /// Attempts these batches, which are the next, if the replica is live: in this view, and only the first of them in
+    /// serial mode, where `serial` says so.
     pub(crate) fn attempt_window<R: Threads + Wait + Sync, G: Gate>(
         &mut self,
         rt: &R,
         alloc: Global,
-        batches: &[MixedBatch],
+        window: &[MixedBatch],
+        view: u32,
+        serial: bool,
         gate: &G,
     ) -> Result<(), RunFault>
-        requires few { length batches.now ≤ 65535 }
-        requires mixed { All (IsMixed self.old.replica.names) batches.now }
+        requires mixed { All (IsMixed self.old.replica.names) window.now }
         requires whole { self.old.replica.is_broken ≡ false }
-        ensures { OnOk result (GoesOn self.old self.new) }
+        requires due { self.old.is_live ≡ true → AreDue (length window.now) view serial self.old.replica.ledger }
+        ensures { OnOk result (GoesOn (attempting (length window.now)) self.old self.new) }
     {
         if !self.is_live {
             return Ok(());
         }
-        for _ in 0..8u8 {
-            let number = self.replica.next_number() as usize;
-            if number > batches.len() || !self.replica.has_room() {
-                break;
-            }
-            self.attempt(rt, alloc, &batches[number - 1], gate)?;
+        let mut is_serial = serial;
+        for mixed in window {
+            self.attempt(rt, alloc, mixed, view, is_serial, gate)?;
+            is_serial = false;
         }
         Ok(())
     }
 
-    // Attempts the batch, in the replica's view and in the mode that is due.
+    // Attempts the next batch, in the view and in the mode that are due.
     fn attempt<R: Threads + Wait + Sync, G: Gate>(
         &mut self,
         rt: &R,
         alloc: Global,
         mixed: &MixedBatch,
+        view: u32,
+        serial: bool,
         gate: &G,
     ) -> Result<(), RunFault>
-        requires last { self.old.replica.ledger.committed + 1 + length self.old.replica.ledger.opened ≤ 65535 }
-        requires room { length self.old.replica.ledger.opened < self.old.replica.ledger.window }
+        requires due { AreDue 1 view serial self.old.replica.ledger }
         requires mixed { IsMixed self.old.replica.names mixed.now }
         requires whole { self.old.replica.is_broken ≡ false }
-        ensures { OnOk result (GoesOn self.old self.new) }
+        requires live { self.old.is_live ≡ true }
+        ensures on { OnOk result (GoesOn (attempting 1) self.old self.new) }
+        ensures live { self.new.is_live ≡ true }
     {
-        let view = self.replica.view();
-        let serial = self.replica.is_next_serial();
         let batch = &mixed.batch;
         let touched = mixed.touched.as_slice();
         let attempt = self
@@ -85,40 +103,41 @@ impl<'n> Server<'n> {
         Ok(())
     }
 
-    /// Commits the batch where the replica is live and its first open attempt has this token. Else it goes on no more,
-    /// and keeps its open attempts.
-    pub(crate) fn commit_or_stop(&mut self, seq: u32, token: [u8; 32]) -> Result<(), RunFault>
-        ensures { OnOk result (GoesOn self.old self.new) }
+    /// Commits the batch, which is the next, where the replica is live and its first open attempt has this token. Else
+    /// it goes on no more, and keeps its open attempts.
+    pub(crate) fn commit_or_stop(&mut self, seq: u32, token: [u8; 32]) -> Result<(), AllocError>
+        requires whole { self.old.replica.is_broken ≡ false }
+        requires next { self.old.is_live ≡ true → seq ≡ self.old.replica.ledger.committed + 1 }
+        ensures { OnOk result (GoesOn committing self.old self.new) }
     {
-        if self.next_token() != Some(token) {
+        if !self.has_next(token) {
             self.is_live = false;
             return Ok(());
         }
-        let commit = self.replica.commit(seq)?;
+        let Ok(commit) = self.replica.commit(seq) else {
+            unreachable!()
+        };
         commit_fits(&commit);
-        self.did(Step::Commit(commit))?;
-        Ok(())
+        self.did(Step::Commit(commit))
     }
 
     /// Rolls back, if the replica is live.
-    pub(crate) fn roll_back(&mut self, alloc: Global) -> Result<(), RunFault>
-        ensures { OnOk result (GoesOn self.old self.new) }
+    pub(crate) fn roll_back(&mut self, alloc: Global) -> Result<(), AllocError>
+        requires { self.old.is_live ≡ true → self.old.replica.ledger.view < 2 ^ 32 - 1 }
+        ensures { OnOk result (GoesOn rolling_back self.old self.new) }
     {
         if !self.is_live {
             return Ok(());
         }
-        if self.replica.view() == u32::MAX {
-            return Err(RunFault::Broken);
-        }
         let rollback = self.replica.rollback(alloc)?;
-        self.did(Step::Rollback(rollback))?;
-        Ok(())
+        self.did(Step::Rollback(rollback))
     }
 
     // One more thing that the replica did.
     fn did(&mut self, step: Step) -> Result<(), AllocError>
         requires right { IsTrue (is_step (row_count self.old.replica.ledger) (plain step)) }
         ensures replica { self.new.replica ≡ self.old.replica }
+        ensures live { self.new.is_live ≡ self.old.is_live }
         ensures steps { OnOk result (AreRightSteps self.old → AreRightSteps self.new) }
     {
         self.steps.push(step)?;

@@ -29,7 +29,8 @@ counted b right =
     (omega (arith, some, same), omega (arith, few, same))
 
 -- 1 to 256
-pub batch_counted : (b : BatchData) → IsTrue (is_batch (batch b)) → (1 ≤ length b.requests.items) × (length b.requests.items ≤ 256)
+pub batch_counted : (b : BatchData) → IsTrue (is_batch (batch b)) → (1 ≤ length b.requests.items)
+    × (length b.requests.items ≤ 256)
 batch_counted b right =
     let both = counted (batch b) right in
     let same = length-map b.requests.items asked in

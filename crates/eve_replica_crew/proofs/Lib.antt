@@ -1,1 +1,2 @@
 mod Batches
+mod Sizes

@@ -1,5 +1,6 @@
 -- The workers of an attempt, and what they share.
-use Rattle.std.specs.Prelude.{◌≡◌, ℕ, ◌<◌, ◌≤◌, All, List, [], length, map, Option, Some, None, IsSome, slice_index_or}
+use Rattle.std.specs.Prelude.{◌≡◌, ℕ, ◌<◌, ◌≤◌, max, min, Bool, if◌then◌else◌, All, List, [], ◌∷◌, length, map, Option}
+use Rattle.std.specs.Prelude.{Some, None, IsSome, slice_index_or}
 use Rattle.eve_recorder.specs.Drawing.{Source, Drawer}
 use Rattle.eve_recorder.specs.Seen.{RecorderId, Noter}
 use Rattle.eve_write.specs.Data.{batch as plain}
@@ -29,6 +30,16 @@ pub record IsOn (s : Stage) (m : Member) : Type 0 where
 -- and it has noted nothing
 abbrev pub IsReady : Stage → Member → Type 0
 IsReady s m = IsOn s m × (length m.worker.seat.noted ≡ 0)
+
+-- the requests of the largest parallelBatch
+abbrev pub largest : List ℕ → ℕ
+largest [] = 0
+largest (size ∷ sizes) = max size (largest sizes)
+
+-- How many of so many workers can have something to do at once, one at least: in serial mode one, else as many as the
+-- largest parallelBatch has requests.
+abbrev pub crew_of : List ℕ → ℕ → Bool → ℕ
+crew_of sizes workers serial = if serial then 1 else min workers (max 1 (largest sizes))
 
 -- seats at these tickets
 abbrev pub AreTickets : Source → List Drawer → Type 0

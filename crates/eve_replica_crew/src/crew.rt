@@ -4,7 +4,7 @@ ghost use Rattle.std.specs.Prelude.{◌≡◌, ◌+◌, ◌-◌, ◌<◌, ◌≤
 ghost use Rattle.std.specs.Thread.{IsSync};
 ghost use Rattle.eve_recorder.specs.Seen.{fresh_places};
 ghost use Rattle.eve_recorder.specs.Drawing.{fresh_seats};
-ghost use Rattle.eve_replica_crew.specs.Crews.{AreNoters, AreThere, AreTickets, IsOn, IsReady, IsSet};
+ghost use Rattle.eve_replica_crew.specs.Crews.{AreNoters, AreThere, AreTickets, IsOn, IsReady, IsSet, crew_of};
 
 use crate::stage::Stage;
 use crate::work::run_share;
@@ -28,6 +28,7 @@ pub(crate) struct Member {
 /// parallelBatch has requests.
 pub fn crew_size(sizes: &[u16], workers: u8, serial: bool) -> u8
     requires { 1 ≤ workers }
+    ensures is { result ≡ crew_of sizes.now workers serial }
     ensures some { 1 ≤ result }
     ensures few { result ≤ workers }
 {

@@ -12,17 +12,23 @@ pub returns-then-not-is_access : goal.returns-then-not-is_access
 returns-then-not-is_access c =
     let test : Applied → Bool = λ r. is_access c.args.rows (access_of r) in
     let records = c.args.records.now in
-    let wrong : test (get_or records c.loop-record.record-index c.record-item.result) ≡ false = ap test (sym c.record-item.is) ∙ sym c.is_access.ensures ∙ c.if-not-is_access.true in
-    sym (list_all-map (is_access c.args.rows) access_of records ∙ list_all_at test records c.loop-record.record-index c.record-item.result c.loop-record-test.true wrong)
+    let wrong : test (get_or records c.loop-record.record-index c.record-item.result) ≡ false =
+    ap test (sym c.record-item.is) ∙ sym c.is_access.ensures ∙ c.if-not-is_access.true in
+    sym (list_all-map (is_access c.args.rows) access_of records
+    ∙ list_all_at test records c.loop-record.record-index c.record-item.result c.loop-record-test.true wrong)
 
 pub loop-record-preserved : goal.loop-record-preserved
 loop-record-preserved c =
     let test : Applied → Bool = λ r. is_access c.args.rows (access_of r) in
     let records = c.args.records.now in
-    let right : test (get_or records c.loop-record.record-index c.record-item.result) ≡ true = ap test (sym c.record-item.is) ∙ sym c.is_access.ensures ∙ c.if-not-is_access.false in
-    list_all_more test records c.loop-record.record-index c.record-item.result c.loop-record-test.true ∙ and_from _ _ c.loop-record.invariant right
+    let right : test (get_or records c.loop-record.record-index c.record-item.result) ≡ true =
+    ap test (sym c.record-item.is) ∙ sym c.is_access.ensures ∙ c.if-not-is_access.false in
+    list_all_more test records c.loop-record.record-index c.record-item.result c.loop-record-test.true
+    ∙ and_from _ _ c.loop-record.invariant right
 
 pub returns : goal.returns
 returns c =
     let test : Applied → Bool = λ r. is_access c.args.rows (access_of r) in
-    sym (list_all-map (is_access c.args.rows) access_of c.args.records.now ∙ ap (list_all test) (sym (take_all c.loop-record.record-index c.args.records.now c.loop-record-test.false)) ∙ c.loop-record.invariant)
+    sym (list_all-map (is_access c.args.rows) access_of c.args.records.now
+    ∙ ap (list_all test) (sym (take_all c.loop-record.record-index c.args.records.now c.loop-record-test.false))
+    ∙ c.loop-record.invariant)

@@ -10,7 +10,8 @@ returns-then-not-is_entry c =
     let entries = c.args.entries.now in
     let test = is_entry c.args.rows in
     let is = at_place entries c.loop-place.place c.at.result c.at.result c.at.ensures in
-    let wrong : test (get_or entries c.loop-place.place c.at.result) ≡ false = ap test (sym is) ∙ sym c.is_entry.ensures ∙ c.if-not-is_entry.true in
+    let wrong : test (get_or entries c.loop-place.place c.at.result) ≡ false = ap test (sym is) ∙ sym c.is_entry.ensures
+    ∙ c.if-not-is_entry.true in
     sym (list_all_at test entries c.loop-place.place c.at.result (omega (arith, c.len-place-end.ensures.len)) wrong)
 
 pub loop-place-preserved : goal.loop-place-preserved
@@ -18,5 +19,7 @@ loop-place-preserved c =
     let entries = c.args.entries.now in
     let test = is_entry c.args.rows in
     let is = at_place entries c.loop-place.place c.at.result c.at.result c.at.ensures in
-    let right : test (get_or entries c.loop-place.place c.at.result) ≡ true = ap test (sym is) ∙ sym c.is_entry.ensures ∙ c.if-not-is_entry.false in
-    list_all_more test entries c.loop-place.place c.at.result (omega (arith, c.len-place-end.ensures.len)) ∙ and_from _ _ c.loop-place.invariant right
+    let right : test (get_or entries c.loop-place.place c.at.result) ≡ true = ap test (sym is) ∙ sym c.is_entry.ensures
+    ∙ c.if-not-is_entry.false in
+    list_all_more test entries c.loop-place.place c.at.result (omega (arith, c.len-place-end.ensures.len))
+    ∙ and_from _ _ c.loop-place.invariant right

@@ -3,13 +3,15 @@ use Rattle.eve_smallbank.specs.Access.{Fits}
 use Rattle.eve_write.specs.Data.{batch as plain}
 use Rattle.eve_stamps.specs.Applied.{Applied}
 use Rattle.eve_attempts.specs.Closing.{executed}
-use Rattle.eve_attempts.proofs.Listing.{all_fact, drop_read, goes_start, goes_more, goes_stop, goes_end, fails_by, decides_mapped}
+use Rattle.eve_attempts.proofs.Listing.{all_fact, drop_read, goes_start, goes_more, goes_stop, goes_end, fails_by}
+use Rattle.eve_attempts.proofs.Listing.{decides_mapped}
 use Rattle.eve_attempts.proofs.noted.are_fitting.Goals as goal
 
 pub is_fitting-requires-clause-index : goal.is_fitting-requires-clause-index
 is_fitting-requires-clause-index c =
     subst (λ (r : Applied). r.index < length (plain c.args.batch.now).requests) (sym c.record-item.is)
-    (all_fact (λ r. r.index < length (plain c.args.batch.now).requests) c.args.records.now c.loop-record.record-index c.record-item.result c.requires.indexes c.loop-record-test.true)
+    (all_fact (λ r. r.index < length (plain c.args.batch.now).requests) c.args.records.now c.loop-record.record-index
+    c.record-item.result c.requires.indexes c.loop-record-test.true)
 
 pub loop-record-init : goal.loop-record-init
 loop-record-init c = λ names is. goes_start (λ r. Fits names (executed (plain c.args.batch.now) r)) c.args.records.now
@@ -19,17 +21,21 @@ returns-then-not-is_fitting c = λ names is.
     let b = plain c.args.batch.now in
     let rs = c.args.records.now in
     decides_mapped (Fits names) (executed b) rs false
-    (goes_stop (λ r. Fits names (executed b r)) rs c.loop-record.record-index c.record-item.result (c.loop-record.invariant names is)
+    (goes_stop (λ r. Fits names (executed b r)) rs c.loop-record.record-index c.record-item.result
+    (c.loop-record.invariant names is)
     (drop_read rs c.loop-record.record-index c.record-item.result c.loop-record-test.true c.record-item.is)
     (fails_by c.is_fitting.result (c.is_fitting.ensures names is) c.if-not-is_fitting.true))
 
 pub loop-record-preserved : goal.loop-record-preserved
 loop-record-preserved c = λ names is.
-    goes_more (λ r. Fits names (executed (plain c.args.batch.now) r)) c.args.records.now c.loop-record.record-index c.record-item.result (c.loop-record.invariant names is)
-    (drop_read c.args.records.now c.loop-record.record-index c.record-item.result c.loop-record-test.true c.record-item.is) ((c.is_fitting.ensures names is).0 c.if-not-is_fitting.false)
+    goes_more (λ r. Fits names (executed (plain c.args.batch.now) r)) c.args.records.now c.loop-record.record-index
+    c.record-item.result (c.loop-record.invariant names is)
+    (drop_read c.args.records.now c.loop-record.record-index c.record-item.result c.loop-record-test.true
+    c.record-item.is) ((c.is_fitting.ensures names is).0 c.if-not-is_fitting.false)
 
 pub returns : goal.returns
 returns c = λ names is.
     let b = plain c.args.batch.now in
     decides_mapped (Fits names) (executed b) c.args.records.now true
-    (goes_end (λ r. Fits names (executed b r)) c.args.records.now c.loop-record.record-index (c.loop-record.invariant names is) c.loop-record-test.false)
+    (goes_end (λ r. Fits names (executed b r)) c.args.records.now c.loop-record.record-index
+    (c.loop-record.invariant names is) c.loop-record-test.false)

@@ -6,4 +6,5 @@ use Rattle.eve_attempts.proofs.Listing.{Goes}
 use Rattle.eve_attempts.proofs.noted.are_fitting.Given as goal
 
 abbrev pub invariant-loop-record : goal.invariant-loop-record
-invariant-loop-record l = (names : List (List ℕ)) → l.touched ≡ touched_by names (plain l.batch) → Goes (λ r. Fits names (executed (plain l.batch) r)) l.records l.record-index
+invariant-loop-record l = (names : List (List ℕ)) → l.touched ≡ touched_by names (plain l.batch)
+    → Goes (λ r. Fits names (executed (plain l.batch) r)) l.records l.record-index

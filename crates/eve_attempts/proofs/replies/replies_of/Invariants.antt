@@ -7,7 +7,8 @@ use Rattle.eve_attempts.proofs.replies.replies_of.Given as goal
 
 abbrev pub invariant-loop-record : goal.invariant-loop-record
 invariant-loop-record l = record {
-  placed : replies_placed l.replies.items (drop l.record-index l.records) ≡ replies_placed (replicate (length l.records) Done) l.records;
+  placed : replies_placed l.replies.items (drop l.record-index l.records)
+      ≡ replies_placed (replicate (length l.records) Done) l.records;
   len : vec_len l.replies ≡ length l.records;
   limits : IsTrue (list_all is_reply l.replies.items);
 }

@@ -13,9 +13,12 @@ loop-entry-preserved c =
       rows = ap (λ (xs : List ℕ). xs ++ rows_of (drop (k + 1) es)) c.push_reserved.ensures.items
           ∙ append_assoc c.loop-entry.rows.items (c.number.result ∷ []) (rows_of (drop (k + 1) es))
           ∙ ap (λ (n : ℕ). c.loop-entry.rows.items ++ n ∷ rows_of (drop (k + 1) es)) c.number.ensures.number
-          ∙ ap (λ (ds : List Entry). c.loop-entry.rows.items ++ rows_of ds) (sym (drop_read es k c.entry-item.result c.loop-entry-test.true c.entry-item.is)) ∙ c.loop-entry.invariant.rows;
+          ∙ ap (λ (ds : List Entry). c.loop-entry.rows.items ++ rows_of ds)
+          (sym (drop_read es k c.entry-item.result c.loop-entry-test.true c.entry-item.is))
+          ∙ c.loop-entry.invariant.rows;
       small = subst (AllByRecursion (λ row. row < 131072)) (sym c.push_reserved.ensures.items)
-          (all_push (λ (row : ℕ). row < 131072) c.loop-entry.rows.items c.number.result c.loop-entry.invariant.small c.number.ensures.range);
+          (all_push (λ (row : ℕ). row < 131072) c.loop-entry.rows.items c.number.result c.loop-entry.invariant.small
+          c.number.ensures.range);
       len = omega (arith, c.push_reserved.ensures.len, c.loop-entry.invariant.len);
       room = c.push_reserved.ensures.capacity ∙ c.loop-entry.invariant.room;
     }

@@ -7,7 +7,9 @@ use Rattle.eve_attempts.proofs.restores.restore_all.Given as goal
 
 abbrev pub invariant-loop-number : goal.invariant-loop-number
 invariant-loop-number l = record {
-  restores : map restore l.restores.items ++ map (restore_in (table_of l.rows)) (rising_from l.least (drop l.number-index l.numbers)) ≡ map (restore_in (table_of l.rows)) (rising_from 0 l.numbers);
+  restores : map restore l.restores.items ++ map (restore_in (table_of l.rows))
+      (rising_from l.least (drop l.number-index l.numbers)) ≡ map (restore_in (table_of l.rows))
+      (rising_from 0 l.numbers);
   len : vec_len l.restores ≤ l.number-index;
   room : vec_capacity l.restores ≡ vec_capacity l.initial.restores;
 }

@@ -9,7 +9,8 @@ invariant-loop-place l = record {
   as_many : length l.rows.balances ≡ length l.initial.rows.balances;
   versions : length l.rows.versions ≡ length l.initial.rows.versions;
   table : table_after (table_of l.rows) (drop l.place l.entries) ≡ table_after (table_of l.initial.rows) l.entries;
-  written : l.written.items ++ writes_among (drop l.place l.entries) ≡ l.initial.written.items ++ writes_among l.entries;
+  written : l.written.items ++ writes_among (drop l.place l.entries)
+      ≡ l.initial.written.items ++ writes_among l.entries;
   len : vec_len l.written ≤ vec_len l.initial.written + l.place;
   capacity : vec_capacity l.written ≡ vec_capacity l.initial.written;
 }

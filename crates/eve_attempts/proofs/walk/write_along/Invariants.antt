@@ -7,7 +7,8 @@ use Rattle.eve_attempts.proofs.walk.write_along.Given as goal
 
 abbrev pub invariant-loop-key : goal.invariant-loop-key
 invariant-loop-key l = record {
-  walking : Walking (table_of l.initial.rows) (records_in l.records l.order) (table_of l.rows) (records_in l.records (drop l.key-index l.order)) l.written.items;
+  walking : Walking (table_of l.initial.rows) (records_in l.records l.order) (table_of l.rows)
+      (records_in l.records (drop l.key-index l.order)) l.written.items;
   as_many : length l.rows.balances ≡ length l.initial.rows.balances;
   versions : length l.rows.versions ≡ length l.initial.rows.versions;
   right : IsTrue (list_all (is_write_in (length l.initial.rows.balances)) l.written.items);

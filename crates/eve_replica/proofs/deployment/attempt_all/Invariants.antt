@@ -1,6 +1,9 @@
-use Rattle.std.proofs.Common.{ℕ, All}
-use Rattle.eve_replica.specs.Serving.{Serves}
+use Rattle.std.proofs.Common.{ℕ, List, All, length}
+use Rattle.eve_replica.specs.Serving.{Serves, attempting}
+use Rattle.eve_replica.proofs.Going.{AreGoing}
 use Rattle.eve_replica.proofs.deployment.attempt_all.Given as goal
 
 abbrev pub invariant-loop-server : goal.invariant-loop-server
-invariant-loop-server g l = (rows : ℕ) → All (Serves rows l.batches) l.fn.servers → All (Serves rows l.batches) l.servers
+invariant-loop-server g l =
+    (names : List (List ℕ)) (room : ℕ) → All (Serves names room l.standing) l.fn.servers
+    → AreGoing names room l.standing (attempting (length l.window)) l.server-index l.servers

@@ -1,12 +1,26 @@
-use Rattle.std.proofs.Common.{arith}
-use Rattle.std.proofs.lemmas.List.Elements.{All-set}
-use Rattle.eve_replica.specs.Serving.{Serves}
-use Rattle.eve_replica.proofs.Parts.{goes_on}
+use Rattle.std.proofs.Common.{ap, arith}
+use Rattle.eve_replica.specs.declared.standing.Standing.{Standing}
+use Rattle.eve_replica.specs.Serving.{rolling_back}
+use Rattle.eve_replica.proofs.Going.{none_gone, one_gone, all_gone}
 use Rattle.eve_replica.proofs.deployment.roll_back_all.Goals as goal
 
+pub roll_back-requires : goal.roll_back-requires
+roll_back-requires c = λ live.
+    let r = c.requires in
+    let old = (c.loop-server.invariant r.0 r.1 r.2 r.3).left c.loop-server.server-index c.server-item.result
+    (omega arith) (omega arith) in
+    let stands = ap (λ (s : Standing). s.view) (old.live live) in omega arith
+
+pub loop-server-init : goal.loop-server-init
+loop-server-init c = λ names room at. none_gone names room at rolling_back c.args.servers.now
+
 pub loop-server-preserved : goal.loop-server-preserved
-loop-server-preserved c = λ rows batches given.
-    let before = c.loop-server.invariant rows batches given in
-    let old = before c.loop-server.server-index c.server-item.result (omega arith) in
-    All-set (Serves rows batches) c.loop-server.servers c.loop-server.server-index c.roll_back.new.self
-    (goes_on rows batches _ c.roll_back.new.self c.in_ok-roll_back.ensures old) before
+loop-server-preserved c = λ names room at all.
+    one_gone names room at rolling_back c.loop-server.server-index c.loop-server.servers c.server-item.result
+    c.roll_back.new.self
+    (omega arith) c.in_ok-roll_back.ensures (c.loop-server.invariant names room at all)
+
+pub returns : goal.returns
+returns c = λ names room at all.
+    all_gone names room at rolling_back c.loop-server.server-index c.loop-server.servers (omega arith)
+    (c.loop-server.invariant names room at all)

@@ -7,5 +7,7 @@ use Rattle.eve_replica.proofs.opening.batches_of.Given as goal
 
 abbrev pub invariant-loop-number : goal.invariant-loop-number
 invariant-loop-number l =
-    (map (λ m. batch m.batch) l.batches.items ≡ map (λ requests. batch_of (cut (names_of l.workload.customers) l.mixer requests)) (take l.number l.workload.batches))
+    (map (λ m. batch m.batch) l.batches.items
+    ≡ map (λ requests. batch_of (cut (names_of l.workload.customers) l.mixer requests))
+    (take l.number l.workload.batches))
     × All (IsMixed l.names.items) l.batches.items

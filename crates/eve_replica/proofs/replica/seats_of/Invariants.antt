@@ -5,5 +5,6 @@ use Rattle.eve_replica.proofs.replica.seats_of.Given as goal
 
 abbrev pub invariant-loop-number : goal.invariant-loop-number
 invariant-loop-number l =
-    AreTickets l.tickets l.seats.items × (vec_len l.seats ≡ l.number) × (l.workers ≤ vec_capacity l.seats) × (l.all.tickets ≡ l.tickets)
+    AreTickets l.tickets l.seats.items × (vec_len l.seats ≡ l.number) × (l.workers ≤ vec_capacity l.seats)
+    × (l.all.tickets ≡ l.tickets)
     × ((k : ℕ) → l.number ≤ k → k < l.workers → IsSome (slice_index_or l.all.places k None))

@@ -9,5 +9,6 @@ use Rattle.eve_replica.proofs.replica.touched_in.Goals as goal
 pub returns : goal.returns
 returns c =
     c.loop-request.invariant
-    ∙ ap (map (λ r. touched_of c.args.names.now.items (asked r).request)) (take_all c.loop-request.request-index c.args.batch.now.requests.items (omega arith))
+    ∙ ap (map (λ r. touched_of c.args.names.now.items (asked r).request))
+    (take_all c.loop-request.request-index c.args.batch.now.requests.items (omega arith))
     ∙ sym (map-map (λ (a : Asked). touched_of c.args.names.now.items a.request) asked c.args.batch.now.requests.items)

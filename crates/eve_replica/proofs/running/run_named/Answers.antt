@@ -1,7 +1,8 @@
-use Rattle.std.proofs.Common.{rules, ◌≡◌, ◌*◌, All, IsTrue, List, length, map, sym, ◌∙◌, ap, subst, arith}
+use Rattle.std.proofs.Common.{rules, ◌≡◌, All, IsTrue, List, length, map, sym, ◌∙◌, ap, subst, arith}
 use Rattle.std.proofs.lemmas.List.{length-map}
 use Rattle.std.specs.List.{list_all}
 use Rattle.eve_grammar.specs.Trace.{Customer, Head, head_of}
+use Rattle.eve_grammar.specs.declared.head.Head as header
 use Rattle.eve_grammar.specs.Bodies.{limits}
 use Rattle.eve_grammar.specs.Limits.{is_customer}
 use Rattle.eve_write.specs.declared.parts.Parts.{Parts}
@@ -9,7 +10,7 @@ use Rattle.eve_write.specs.declared.vote.VoteData.{VoteData}
 use Rattle.eve_write.specs.Data.{customer, section, trace}
 use Rattle.eve_workload.specs.declared.mixer.MixedBatch.{MixedBatch}
 use Rattle.eve_replica.specs.declared.server.Server.{Server}
-use Rattle.eve_replica.specs.Serving.{Serves, AreVotes, AreReplies}
+use Rattle.eve_replica.specs.Serving.{IsMixed, AreVotes, AreReplies}
 use Rattle.eve_workload.specs.Workload.{head_of as head_asked}
 use Rattle.eve_replica.specs.Run.{batches_cut}
 use Rattle.eve_replica.proofs.Parts.{same_head, spelled}
@@ -28,34 +29,48 @@ returns g c =
       sent = c.in_ok-sent.sent;
     } in
     let mixed : List MixedBatch = c.in_ok-batches.batches.items in
+    let under = c.in_ok-servers.ensures.under_way in
+    let same = c.in_ok-servers.ensures.head in
     let servers : List Server = c.in_ok-servers.field-0.servers.items in
     let given : List VoteData = c.in_ok-servers.field-0.votes.items in
     let h : Head = limits c.head-head.result in
     let replicas : length p.sections.items ≡ h.replicas =
-    sym (length-map p.sections.items section) ∙ ap length c.in_ok-sections_of.ensures ∙ length-map servers (λ s. section s.steps)
-    ∙ omega (arith, c.in_ok-servers.field-0.servers.ok, c.in_ok-servers.ensures.many) in
-    let verifiers : length p.verifiers.items ≡ h.verifiers = omega (arith, p.verifiers.ok, c.in_ok-copies_of.ensures.many) in
+    sym (length-map p.sections.items section) ∙ ap length c.in_ok-sections_of.ensures
+    ∙ length-map servers (λ s. section s.steps)
+    ∙ omega (arith, c.in_ok-servers.field-0.servers.ok, under.many, ap (λ (x : header.Head). x.replicas) same) in
+    let verifiers : length p.verifiers.items ≡ h.verifiers =
+    omega (arith, p.verifiers.ok, c.in_ok-copies_of.ensures.many) in
     let customers : (trace p).customers ≡ c.args.workload.now.customers = search rules in
     let batches : (trace p).batches ≡ batches_cut c.args.workload.now c.args.mixer = search rules in
     let asked : h ≡ head_asked c.args.workload.now = c.head-head.ensures.head in
     let many : length (trace p).batches ≡ h.batches =
     ap length batches ∙ length-map c.args.workload.now.batches _ ∙ ap (λ (x : Head). x.batches) (sym asked) in
-    let named : length (trace p).customers ≡ h.customers = ap length customers ∙ ap (λ (x : Head). x.customers) (sym asked) in
-    let head : head_of (trace p) ≡ h = same_head p h.replicas h.verifiers h.customers h.batches replicas verifiers named many in
+    let named : length (trace p).customers ≡ h.customers = ap length customers
+    ∙ ap (λ (x : Head). x.customers) (sym asked) in
+    let head : head_of (trace p) ≡ h = same_head p h.replicas h.verifiers h.customers h.batches replicas verifiers named
+    many in
     let right : IsTrue (list_all is_customer (map customer p.customers.items)) =
-    subst (λ (cs : List Customer). IsTrue (list_all is_customer cs)) (sym c.in_ok-copy_customers.ensures) c.customers-2.ensures.right in
-    let serve : All (Serves (2 * h.customers) mixed) servers =
-    subst (λ (ms : List MixedBatch). All (Serves (2 * h.customers) ms) servers) c.as_slice.ensures.value c.in_ok-servers.ensures.steps in
+    subst (λ (cs : List Customer). IsTrue (list_all is_customer cs)) (sym c.in_ok-copy_customers.ensures)
+    c.customers-2.ensures.right in
+    let all : c.in_ok-servers.field-0.batches.now ≡ mixed = c.in_ok-servers.ensures.batches
+    ∙ c.as_slice.ensures.value in
+    let counted : length under.names ≡ h.customers = under.customers ∙ ap (λ (x : header.Head). x.customers) same in
+    let mix : All (IsMixed under.names) mixed =
+    subst (λ (ms : List MixedBatch). All (IsMixed under.names) ms) all under.mixed in
     let votes : AreVotes (length mixed) given =
-    subst (λ (ms : List MixedBatch). AreVotes (length ms) given) c.as_slice.ensures.value c.in_ok-servers.ensures.votes in
+    subst (λ (ms : List MixedBatch). AreVotes (length ms) given) all under.votes in
     let each : All (λ copy. copy.items ≡ given) p.verifiers.items =
-    subst (λ (vs : List VoteData). All (λ copy. copy.items ≡ vs) p.verifiers.items) c.as_slice-4.ensures.value c.in_ok-copies_of.ensures.each in
+    subst (λ (vs : List VoteData). All (λ copy. copy.items ≡ vs) p.verifiers.items) c.as_slice-4.ensures.value
+    c.in_ok-copies_of.ensures.each in
     let replies : AreReplies (length servers) (length mixed) p.sent.items =
     subst (λ (ss : List Server). AreReplies (length ss) (length mixed) p.sent.items) c.as_slice-2.ensures.value
-    (subst (λ (ms : List MixedBatch). AreReplies (length c.as_slice-2.result.now) (length ms) p.sent.items) c.as_slice-3.ensures.value c.in_ok-sent.ensures) in
+    (subst (λ (ms : List MixedBatch). AreReplies (length c.as_slice-2.result.now) (length ms) p.sent.items)
+    c.as_slice-3.ensures.value c.in_ok-sent.ensures) in
     record {
-      spelled = spelled p h c.args.names.now.items mixed servers given head c.head-head.ensures.right right
-          c.in_ok-plain_batches.ensures c.in_ok-batches.ensures.mixed c.in_ok-sections_of.ensures serve votes each replies;
+      spelled = spelled p h under.names mixed c.in_ok-servers.field-0.head.window c.in_ok-servers.field-0.standing
+          servers given
+          head c.head-head.ensures.right counted right c.in_ok-plain_batches.ensures mix c.in_ok-sections_of.ensures
+          under.servers votes each replies;
       head = head ∙ asked;
       customers = customers;
       batches = batches;

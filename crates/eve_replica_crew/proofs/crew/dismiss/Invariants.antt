@@ -5,7 +5,8 @@ use Rattle.eve_replica_crew.proofs.crew.dismiss.Given as goal
 abbrev pub invariant-loop-member : goal.invariant-loop-member
 invariant-loop-member l =
     All (IsOn l.stage) l.members.items × AreTickets l.stage.ticks.now l.ticks.items
-    × (vec_len l.ticks + vec_len l.members ≡ vec_len l.fn.ticks + vec_len l.fn.members) × (vec_capacity l.ticks ≡ vec_capacity l.fn.ticks)
+    × (vec_len l.ticks + vec_len l.members ≡ vec_len l.fn.ticks + vec_len l.fn.members)
+    × (vec_capacity l.ticks ≡ vec_capacity l.fn.ticks)
 
 abbrev pub decreases-loop-member : goal.decreases-loop-member
 decreases-loop-member l = vec_len l.members

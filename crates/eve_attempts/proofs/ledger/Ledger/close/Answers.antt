@@ -18,13 +18,15 @@ use Rattle.eve_attempts.proofs.Closings.{attempt_of, is_attempt_of, committed_st
 use Rattle.eve_attempts.proofs.ledger.Ledger.close.Goals as goal
 
 pub invariant_of-self : goal.invariant_of-self
-invariant_of-self c = subst (λ (os : List Opened). IsLedger (record (ledger_of c.self.inside) { opened = os })) (sym c.reserve.ensures.items) c.self.invariant
+invariant_of-self c = subst (λ (os : List Opened). IsLedger (record (ledger_of c.self.inside) { opened = os }))
+    (sym c.reserve.ensures.items) c.self.invariant
 
 pub write_along-requires-clause-room : goal.write_along-requires-clause-room
 write_along-requires-clause-room c =
     let taken = c.in_ok-taken.ensures.taken in
     let many : length c.as_slice-order.result.now ≡ length c.args.records.now =
-    ap (λ (keys : List Key). length keys) c.as_slice-order.ensures.value ∙ length_order c.args.records.now c.in_ok-taken.taken.order.items taken.same in
+    ap (λ (keys : List Key). length keys) c.as_slice-order.ensures.value
+    ∙ length_order c.args.records.now c.in_ok-taken.taken.order.items taken.same in
     omega (arith, taken.room)
 
 pub returns-then-not-write_along-clause-mismatch : goal.returns-then-not-write_along-clause-mismatch
@@ -36,8 +38,10 @@ returns-then-not-write_along-clause-mismatch c = λ _ ordered by_ticks right.
     let right_here : AreRight s c.args.front.serial b c.args.touched.now rs ordered =
     subst (λ (o : Ledger). AreRight o c.args.front.serial b c.args.touched.now rs ordered) (sym c.self.view_is) right in
     let one : records_in rs c.in_ok-taken.taken.order.items ≡ ordered =
-    one_with b.sizes (length b.requests) c.args.front.serial rs ordered c.in_ok-taken.taken taken by_ticks right_here.certificate in
-    let mine : ordered ≡ records_in rs c.as_slice-order.result.now = sym (ap (records_in rs) c.as_slice-order.ensures.value ∙ one) in
+    one_with b.sizes (length b.requests) c.args.front.serial rs ordered c.in_ok-taken.taken taken by_ticks
+    right_here.certificate in
+    let mine : ordered ≡ records_in rs c.as_slice-order.result.now =
+    sym (ap (records_in rs) c.as_slice-order.ensures.value ∙ one) in
     let seen : AreSeenAlong (rows_now s) (records_in rs c.as_slice-order.result.now) =
     subst (AreSeenAlong (rows_now s)) mine (chained_seen b (rows_now s) ordered right_here.chained) in
     false≢true (c.if-not-write_along.ensures.seen.1 seen)
@@ -47,13 +51,25 @@ invariant_of-self-2 c =
     let s : Ledger = ledger_of c.self.inside in
     let rs = c.args.records.now in
     let mine = records_in rs c.as_slice-order.result.now in
-    let o : Opened = record { view = c.args.front.view; token = c.token-token.result; written = c.write_along.new.written.items } in
-    let new : Ledger = record s { rows = c.write_along.new.rows; opened = c.push_reserved.new.self.items; is_next_serial = false } in
+    let o : Opened = record {
+      view = c.args.front.view;
+      token = c.token-token.result;
+      written = c.write_along.new.written.items;
+    } in
+    let new : Ledger = record s {
+      rows = c.write_along.new.rows;
+      opened = c.push_reserved.new.self.items;
+      is_next_serial = false;
+    } in
     let is : new ≡ record s { rows = c.write_along.new.rows; opened = s.opened ++ o ∷ []; is_next_serial = false } =
-    ap (λ (os : List Opened). record s { rows = c.write_along.new.rows; opened = os; is_next_serial = false }) (c.push_reserved.ensures.items ∙ ap (λ (os : List Opened). os ++ o ∷ []) c.reserve.ensures.items) in
-    let last : s.committed + 1 + length s.opened ≡ c.args.self.now.committed + 1 + length c.args.self.now.opened = ap (λ (l : Ledger). l.committed + 1 + length l.opened) c.self.view_is in
-    ledger_further s new o c.write_along.new.rows is c.if-not-write_along.ensures.as_many c.if-not-write_along.ensures.undone c.self.invariant (omega (arith, c.requires.seq, c.requires.last))
-    (c.if-not-write_along.ensures.table ∙ table_along-writes (rows_now s) mine ∙ ap (table_after (rows_now s)) (sym c.if-not-write_along.ensures.written)) c.if-not-write_along.ensures.right
+    ap (λ (os : List Opened). record s { rows = c.write_along.new.rows; opened = os; is_next_serial = false })
+    (c.push_reserved.ensures.items ∙ ap (λ (os : List Opened). os ++ o ∷ []) c.reserve.ensures.items) in
+    let last : s.committed + 1 + length s.opened ≡ c.args.self.now.committed + 1 + length c.args.self.now.opened =
+    ap (λ (l : Ledger). l.committed + 1 + length l.opened) c.self.view_is in
+    ledger_further s new o c.write_along.new.rows is c.if-not-write_along.ensures.as_many
+    c.if-not-write_along.ensures.undone c.self.invariant (omega (arith, c.requires.seq, c.requires.last))
+    (c.if-not-write_along.ensures.table ∙ table_along-writes (rows_now s) mine
+    ∙ ap (table_after (rows_now s)) (sym c.if-not-write_along.ensures.written)) c.if-not-write_along.ensures.right
 
 pub returns-clause-closed : goal.returns-clause-closed
 returns-clause-closed c =
@@ -65,31 +81,56 @@ returns-clause-closed c =
     let mine = records_in rs t.order.items in
     let at : records_in rs c.as_slice-order.result.now ≡ mine = ap (records_in rs) c.as_slice-order.ensures.value in
     let a : Attempt = attempt_of c.args.front t c.token-token.result in
-    let o : Opened = record { view = c.args.front.view; token = c.token-token.result; written = c.write_along.new.written.items } in
-    let new : Ledger = record s { rows = c.write_along.new.rows; opened = c.push_reserved.new.self.items; is_next_serial = false } in
+    let o : Opened = record {
+      view = c.args.front.view;
+      token = c.token-token.result;
+      written = c.write_along.new.written.items;
+    } in
+    let new : Ledger = record s {
+      rows = c.write_along.new.rows;
+      opened = c.push_reserved.new.self.items;
+      is_next_serial = false;
+    } in
     let is : new ≡ record s { rows = c.write_along.new.rows; opened = s.opened ++ o ∷ []; is_next_serial = false } =
-    ap (λ (os : List Opened). record s { rows = c.write_along.new.rows; opened = os; is_next_serial = false }) (c.push_reserved.ensures.items ∙ ap (λ (os : List Opened). os ++ o ∷ []) c.reserve.ensures.items) in
+    ap (λ (os : List Opened). record s { rows = c.write_along.new.rows; opened = os; is_next_serial = false })
+    (c.push_reserved.ensures.items ∙ ap (λ (os : List Opened). os ++ o ∷ []) c.reserve.ensures.items) in
     let rows_is : c.len-rows.result ≡ row_count s = c.len-rows.ensures.balances in
-    let workers_is : c.workers_for-workers.result ≡ worker_count s c.args.front.serial = c.workers_for-workers.ensures ∙ ap (λ (l : Ledger). worker_count l c.args.front.serial) (sym c.self.view_is) in
-    let noted : AreNoted c.workers_for-workers.result c.len-rows.result b c.args.touched.now rs = c.in_ok-taken.ensures.noted in
+    let workers_is : c.workers_for-workers.result ≡ worker_count s c.args.front.serial = c.workers_for-workers.ensures
+    ∙ ap (λ (l : Ledger). worker_count l c.args.front.serial) (sym c.self.view_is) in
+    let noted : AreNoted c.workers_for-workers.result c.len-rows.result b c.args.touched.now rs =
+    c.in_ok-taken.ensures.noted in
     let tells : c.token-token.result ≡ token_of 1 c.args.front.seq c.write_along.new.rows.balances t.replies.items =
-    c.token-token.ensures ∙ ap₂ (λ (m : List ℤ) (ps : List Reply). token_of 1 c.args.front.seq m ps) c.balances.ensures c.as_slice.ensures.value in
-    let written : c.write_along.new.written.items ≡ writes_along mine = c.if-not-write_along.ensures.written ∙ ap writes_along at in
+    c.token-token.ensures ∙ ap₂ (λ (m : List ℤ) (ps : List Reply). token_of 1 c.args.front.seq m ps) c.balances.ensures
+    c.as_slice.ensures.value in
+    let written : c.write_along.new.written.items ≡ writes_along mine = c.if-not-write_along.ensures.written
+    ∙ ap writes_along at in
     subst (λ (l : Ledger). Closes c.args.front l new b c.args.touched.now rs a) c.self.view_is (record {
       ordered = mine;
       by_ticks = order_rises b.sizes (length b.requests) c.args.front.serial rs t taken c.in_ok-taken.ensures.order;
       right = record {
-        noted = subst (λ (w : ℕ). AreNoted w (row_count s) b c.args.touched.now rs) workers_is (subst (λ (n : ℕ). AreNoted c.workers_for-workers.result n b c.args.touched.now rs) rows_is noted);
-        certificate = ap (is_certificate b.sizes (length b.requests) c.args.front.serial) (sym taken.certificate) ∙ c.in_ok-taken.ensures.order;
-        chained = seen_chained b (rows_now s) mine (subst (AreSeenAlong (rows_now s)) at (c.if-not-write_along.ensures.seen.0 refl));
+        noted = subst (λ (w : ℕ). AreNoted w (row_count s) b c.args.touched.now rs) workers_is
+            (subst (λ (n : ℕ). AreNoted c.workers_for-workers.result n b c.args.touched.now rs) rows_is noted);
+        certificate = ap (is_certificate b.sizes (length b.requests) c.args.front.serial) (sym taken.certificate)
+            ∙ c.in_ok-taken.ensures.order;
+        chained = seen_chained b (rows_now s) mine
+            (subst (AreSeenAlong (rows_now s)) at (c.if-not-write_along.ensures.seen.0 refl));
       };
       attempt = subst (λ (n : ℕ). IsAttemptOf c.args.front n c.write_along.new.rows.balances rs mine a) rows_is
-          (is_attempt_of c.args.front b c.args.touched.now rs t c.workers_for-workers.result c.len-rows.result c.requires.batch noted taken c.in_ok-taken.ensures.order c.write_along.new.rows.balances
+          (is_attempt_of c.args.front b c.args.touched.now rs t c.workers_for-workers.result c.len-rows.result
+          c.requires.batch noted taken c.in_ok-taken.ensures.order c.write_along.new.rows.balances
           c.token-token.result c.requires.last c.view_fits.ensures c.token_fits.ensures tells);
       opens = record {
-        changed = is ∙ ap (λ (ws : List Entry). record s { rows = c.write_along.new.rows; opened = s.opened ++ record { view = c.args.front.view; token = c.token-token.result; written = ws } ∷ []; is_next_serial = false }) written;
+        changed = is ∙ ap (λ (ws : List Entry). record s {
+          rows = c.write_along.new.rows;
+          opened = s.opened ++ record
+              { view = c.args.front.view; token = c.token-token.result; written = ws } ∷ [];
+          is_next_serial = false;
+        })
+            written;
         as_many = c.if-not-write_along.ensures.as_many;
-        rows = c.if-not-write_along.ensures.table ∙ ap (λ (ps : List Applied). table_along (rows_now s) ps) at ∙ table_along-executed b (rows_now s) mine;
-        committed = committed_stays s new o c.write_along.new.rows is c.if-not-write_along.ensures.as_many c.if-not-write_along.ensures.undone;
+        rows = c.if-not-write_along.ensures.table ∙ ap (λ (ps : List Applied). table_along (rows_now s) ps) at
+            ∙ table_along-executed b (rows_now s) mine;
+        committed = committed_stays s new o c.write_along.new.rows is c.if-not-write_along.ensures.as_many
+            c.if-not-write_along.ensures.undone;
       };
     })

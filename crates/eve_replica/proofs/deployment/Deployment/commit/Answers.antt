@@ -1,16 +1,24 @@
-use Rattle.std.proofs.Common.{ℕ, ◌*◌, All, List, sym, ◌∙◌, subst}
-use Rattle.std.proofs.lemmas.List.{with_items_is}
-use Rattle.eve_replica.specs.declared.server.Server.{Server}
-use Rattle.eve_replica.specs.Serving.{Serves}
+use Rattle.std.proofs.Common.{◌∙◌, arith}
+use Rattle.eve_replica.specs.Serving.{committing}
+use Rattle.eve_replica.proofs.Going.{lent_serve, moved}
 use Rattle.eve_replica.proofs.deployment.Deployment.commit.Goals as goal
+
+pub commit_all-requires : goal.commit_all-requires
+commit_all-requires c =
+    let was = c.requires.under_way in
+    let d = c.args.self.now in (
+      was.names,
+      d.head.window,
+      d.standing,
+      lent_serve d c.as_mut_slice.result.now was c.as_mut_slice.ensures.value,
+      omega arith,
+    )
 
 pub returns-clause-under_way : goal.returns-clause-under_way
 returns-clause-under_way c =
-    let rows : ℕ = 2 * c.args.self.now.head.customers in
-    let P : List Server → Type 0 = λ servers. All (Serves rows c.args.self.now.batches.now) servers in
-    let kept = with_items_is c.args.self.now.servers c.commit_all.new.servers (c.commit_all.auto.servers ∙ c.as_mut_slice.ensures.len) in
-    record {
-      few = c.requires.under_way.few;
-      servers = subst P (sym kept) (c.in_ok-commit_all.ensures rows c.args.self.now.batches.now (subst P (sym c.as_mut_slice.ensures.value) c.requires.under_way.servers));
-      votes = c.in_ok-vote_for_commit.ensures;
-    }
+    let d = c.args.self.now in
+    let due = c.requires.under_way.due in
+    moved d c.as_mut_slice.result.now c.commit_all.new.servers (committing d.standing) c.vote_for_commit.new.votes
+    c.requires.under_way
+    c.as_mut_slice.ensures.value (c.commit_all.auto.servers ∙ c.as_mut_slice.ensures.len) (omega arith)
+    c.in_ok-vote_for_commit.ensures (λ names room. c.in_ok-commit_all.ensures names room d.standing)

@@ -2,5 +2,9 @@ use Rattle.std.proofs.Common.{◌≡◌}
 use Rattle.eve_replica.specs.Serving.{IsSameRun, IsUnderWay}
 use Rattle.eve_replica.proofs.deployment.Deployment.run_window.Given as goal
 
-abbrev pub invariant-loop-number : goal.invariant-loop-number
-invariant-loop-number g l = IsUnderWay l.self × IsSameRun l.fn.self l.self × (l.self.view ≡ l.fn.self.view)
+abbrev pub invariant-loop-self : goal.invariant-loop-self
+invariant-loop-self g l = IsUnderWay l.self × IsSameRun l.fn.self l.self
+    × (l.self.standing.view ≡ l.fn.self.standing.view)
+
+abbrev pub decreases-loop-self : goal.decreases-loop-self
+decreases-loop-self g l = l.self.standing.opened

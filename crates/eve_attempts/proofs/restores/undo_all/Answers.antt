@@ -5,24 +5,26 @@ use Rattle.eve_smallbank.specs.Chain.{Table}
 use Rattle.eve_attempts.specs.Ledgers.{Opened, table_of, undone, writes_in, is_write_in}
 use Rattle.eve_attempts.proofs.Listing.{drop_before}
 use Rattle.eve_attempts.proofs.TableLaws.{undone-append, writes_of_one}
-use Rattle.eve_attempts.proofs.restores.take_back_all.Goals as goal
+use Rattle.eve_attempts.proofs.restores.undo_all.Goals as goal
 
 pub loop-end-init : goal.loop-end-init
 loop-end-init c = record {
   within = omega arith;
   as_many = refl;
-  table = ap (λ (os : List Opened). undone (table_of c.args.rows.now) (writes_in os)) (sym (drop_all (length c.args.opened.now) c.args.opened.now (omega arith)));
+  table = ap (λ (os : List Opened). undone (table_of c.args.rows.now) (writes_in os))
+      (sym (drop_all (length c.args.opened.now) c.args.opened.now (omega arith)));
 }
 
 -- the slice is what the attempt wrote
 written_is : (c : goal.After-as_slice) → c.as_slice.result.now ≡ c.index-opened-end.result.written
 written_is c = c.as_slice.ensures.value ∙ ap (λ (o : Opened). o.written) c.open.view_is
 
-pub take_back-requires : goal.take_back-requires
-take_back-requires c =
+pub undo-requires : goal.undo-requires
+undo-requires c =
     let at : ℕ = c.loop-end.end - 1 in
     let o = c.index-opened-end.result in
-    let right = writes_of_one (is_write_in (length c.args.rows.now.balances)) c.args.opened.now at o c.requires (omega (arith, c.loop-end.invariant.within, c.loop-end-test.true)) c.index-opened-end.is in
+    let right = writes_of_one (is_write_in (length c.args.rows.now.balances)) c.args.opened.now at o c.requires
+    (omega (arith, c.loop-end.invariant.within, c.loop-end-test.true)) c.index-opened-end.is in
     let is : o.written ≡ c.as_slice.result.now = sym (written_is c) in
     subst (λ n. IsTrue (list_all (is_write_in n) c.as_slice.result.now)) (sym c.loop-end.invariant.as_many)
     (subst (λ es. IsTrue (list_all (is_write_in (length c.args.rows.now.balances)) es)) is right)
@@ -36,17 +38,21 @@ loop-end-preserved c =
     let o = c.index-opened-end.result in
     record {
       within = omega arith;
-      as_many = c.take_back.ensures.as_many ∙ c.loop-end.invariant.as_many;
-      table = c.take_back.ensures.table
-          ∙ ap (undone (table_of c.loop-end.rows)) (c.as_slice.ensures.value ∙ ap (λ (p : Opened). p.written) c.open.view_is)
+      as_many = c.undo.ensures.as_many ∙ c.loop-end.invariant.as_many;
+      table = c.undo.ensures.table
+          ∙ ap (undone (table_of c.loop-end.rows))
+          (c.as_slice.ensures.value ∙ ap (λ (p : Opened). p.written) c.open.view_is)
           ∙ ap (λ (t : Table). undone t o.written) c.loop-end.invariant.table
           ∙ sym (undone-append T o.written rest)
-          ∙ ap (λ (os : List Opened). undone T (writes_in os)) (sym (drop_before c.args.opened.now c.loop-end.end o some within c.index-opened-end.is));
+          ∙ ap (λ (os : List Opened). undone T (writes_in os))
+          (sym (drop_before c.args.opened.now c.loop-end.end o some within c.index-opened-end.is));
     }
 
 pub returns-clause-table : goal.returns-clause-table
 returns-clause-table c =
-    c.loop-end.invariant.table ∙ ap (λ (n : ℕ). undone (table_of c.args.rows.now) (writes_in (drop n c.args.opened.now))) (none c.loop-end.end c.loop-end-test.false)
+    c.loop-end.invariant.table
+    ∙ ap (λ (n : ℕ). undone (table_of c.args.rows.now) (writes_in (drop n c.args.opened.now)))
+    (none c.loop-end.end c.loop-end-test.false)
   where
     none : (n : ℕ) → n ≤ 0 → n ≡ 0
     none n le = omega arith

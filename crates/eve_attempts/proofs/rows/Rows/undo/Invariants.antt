@@ -1,6 +1,6 @@
 use Rattle.std.proofs.Common.{◌≡◌, ◌≤◌, length, drop}
 use Rattle.eve_attempts.specs.Ledgers.{table_of, undone}
-use Rattle.eve_attempts.proofs.rows.Rows.take_back.Given as goal
+use Rattle.eve_attempts.proofs.rows.Rows.undo.Given as goal
 
 abbrev pub invariant-loop-end : goal.invariant-loop-end
 invariant-loop-end l = record {

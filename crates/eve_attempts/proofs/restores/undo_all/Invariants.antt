@@ -1,6 +1,6 @@
 use Rattle.std.proofs.Common.{◌≡◌, ◌≤◌, length, drop}
 use Rattle.eve_attempts.specs.Ledgers.{table_of, undone, writes_in}
-use Rattle.eve_attempts.proofs.restores.take_back_all.Given as goal
+use Rattle.eve_attempts.proofs.restores.undo_all.Given as goal
 
 abbrev pub invariant-loop-end : goal.invariant-loop-end
 invariant-loop-end l = record {

@@ -1,0 +1,19 @@
+use Rattle.std.proofs.Common.{sym, ◌∙◌, below_more, arith}
+use Rattle.std.proofs.lemmas.List.Elements.{at_read}
+use Rattle.eve_replica.proofs.Counting.{IsNoMajority, bound, none_decided}
+use Rattle.eve_replica.proofs.deployment.decided.Goals as goal
+use Rattle.eve_replica.proofs.deployment.decided.Goals.{in-Some+else-count_with-servers, in_default}
+
+pub loop-server-preserved : goal.loop-server-preserved
+loop-server-preserved c =
+    below_more _ _ c.loop-server.invariant
+    (at_read c.args.servers.now (IsNoMajority c.args.servers.now) c.loop-server.server-index c.server-item.result
+    (omega arith) c.server-item.is
+    (λ token e. elim c.match-next_token.branch [
+      | in-Some+else-count_with-servers w ↦ bound c.args.servers.now token w.in-Some.token w.count_with.result
+          (sym w.in-Some.is ∙ c.next_token.ensures.is ∙ e) w.count_with.ensures w.if-count_with-servers.false
+      | in_default w ↦ absurd (w.in_default.not-Some token (c.next_token.ensures.is ∙ e))
+    ]))
+
+pub returns : goal.returns
+returns c = none_decided c.args.servers.now (λ k below d. c.loop-server.invariant k (omega arith) d)

@@ -1,0 +1,11 @@
+//! Where the live replicas of a run stand.
+
+/// What all live replicas of a run have in common: their view, the last batch that they committed, how many attempts
+/// they have open, and whether their next attempt is serial.
+#[derive(Clone, Copy)]
+pub(crate) struct Standing {
+    pub view: u32,
+    pub committed: u32,
+    pub opened: u32,
+    pub is_next_serial: bool,
+}
