@@ -1,5 +1,6 @@
 -- From the balances after one batch to those after the next.
-use Rattle.std.proofs.Common.{◌≡◌, ℕ, ℤ, zero, suc, ◌-◌, ◌≤◌, List, [], ◌∷◌, ◌++◌, map, take, length, slice_get, Option, Some, None, refl, sym, subst, ap, ◌∙◌, append-nil, arith}
+use Rattle.std.proofs.Common.{◌≡◌, ℕ, ℤ, zero, suc, ◌-◌, ◌≤◌, List, [], ◌∷◌, ◌++◌, map, take, length, slice_get, Option}
+use Rattle.std.proofs.Common.{Some, None, refl, sym, subst, ap, ◌∙◌, append-nil, arith}
 use Rattle.std.specs.List.{flat_map}
 use Rattle.std.proofs.lemmas.Grind.{flat_map-append}
 use Rattle.eve_smallbank.specs.declared.entry.Entry.{Entry}
@@ -8,7 +9,7 @@ use Rattle.eve_frames.specs.declared.access.AccessView.{AccessView}
 use Rattle.eve_grammar.specs.Trace.{Access, Trace}
 use Rattle.eve_grammar.specs.Limits.{HasLimits}
 use Rattle.eve_history.specs.Section.{Placed}
-use Rattle.eve_history.specs.Told.{ordered, history, names_of, IsRightSection}
+use Rattle.eve_history.specs.SectionHistory.{ordered, history, names_of, IsRightSection}
 use Rattle.eve_chains.specs.Visible.{opening_rows, rows_after}
 use Rattle.eve_chains.specs.Committed.{attempts_of, values_to, bank_after}
 use Rattle.eve_chains.specs.Along.{all_said, entries_along, AreWithin}
@@ -22,24 +23,30 @@ use Rattle.eve_chains.proofs.PartsInOrder.{part_within, length-parts}
 
 -- ---- one batch
 
-one_more : (opening : List ℤ) (batches : List (List (ℕ × Access))) (n : ℕ) (ys : List (ℕ × Access)) → slice_get batches n ≡ Some ys
-    → values_after (balance_at opening) (flat_map entries_along (take (suc n) batches)) ≡ values_after (values_after (balance_at opening) (flat_map entries_along (take n batches))) (entries_along ys)
+one_more : (opening : List ℤ) (batches : List (List (ℕ × Access))) (n : ℕ) (ys : List (ℕ × Access))
+    → slice_get batches n ≡ Some ys
+    → values_after (balance_at opening) (flat_map entries_along (take (suc n) batches))
+    ≡ values_after (values_after (balance_at opening) (flat_map entries_along (take n batches))) (entries_along ys)
 one_more opening batches n ys at =
     ap (values_after (balance_at opening))
-    (ap (flat_map entries_along) (take_one_more batches n ys at) ∙ flat_map-append entries_along (take n batches) (ys ∷ [])
+    (ap (flat_map entries_along) (take_one_more batches n ys at) ∙ flat_map-append entries_along (take n batches)
+    (ys ∷ [])
     ∙ ap (λ (es : List Entry). flat_map entries_along (take n batches) ++ es) (append-nil (entries_along ys)))
     ∙ values_after-append (balance_at opening) (flat_map entries_along (take n batches)) (entries_along ys)
 
-pub values_next : (s : Settling) (n : ℕ) (ys : List (ℕ × Access)) → slice_get s.batches n ≡ Some ys → values_in s (suc n) ≡ values_after (values_in s n) (entries_along ys)
+pub values_next : (s : Settling) (n : ℕ) (ys : List (ℕ × Access)) → slice_get s.batches n ≡ Some ys
+    → values_in s (suc n) ≡ values_after (values_in s n) (entries_along ys)
 unfolding values_in
 values_next s n ys at = one_more s.opening s.batches n ys at
 
 -- the same, where the number is that of the batch
-pub values_then : (s : Settling) (n : ℕ) (ys : List (ℕ × Access)) (old new : ℕ → ℤ) → 1 ≤ n → slice_get s.batches (n - 1) ≡ Some ys → old ≡ values_in s (n - 1) → new ≡ values_after old (entries_along ys)
+pub values_then : (s : Settling) (n : ℕ) (ys : List (ℕ × Access)) (old new : ℕ → ℤ) → 1 ≤ n
+    → slice_get s.batches (n - 1) ≡ Some ys → old ≡ values_in s (n - 1) → new ≡ values_after old (entries_along ys)
     → new ≡ values_in s n
 values_then s n ys old new le at so step =
     let is : suc (n - 1) ≡ n = omega arith in
-    step ∙ ap (λ (values : ℕ → ℤ). values_after values (entries_along ys)) so ∙ sym (values_next s (n - 1) ys at) ∙ ap (values_in s) is
+    step ∙ ap (λ (values : ℕ → ℤ). values_after values (entries_along ys)) so ∙ sym (values_next s (n - 1) ys at)
+    ∙ ap (values_in s) is
 
 pub values_opening : (s : Settling) → balance_at s.opening ≡ values_in s 0
 unfolding values_in
@@ -47,27 +54,34 @@ values_opening s = refl
 
 -- ---- the part that is kept
 
-pub batch_kept : (s : Settling) (opening : List ℤ) (xs ys : List (ℕ × Access)) (ends : List ℕ) (i : ℕ) → record { opening = opening; batches = parts 0 xs ends } ≡ s
+pub batch_kept : (s : Settling) (opening : List ℤ) (xs ys : List (ℕ × Access)) (ends : List ℕ) (i : ℕ)
+    → record { opening = opening; batches = parts 0 xs ends } ≡ s
     → slice_get (parts 0 xs ends) i ≡ Some ys → slice_get s.batches i ≡ Some ys
 batch_kept s opening xs ys ends i is at = subst (λ (v : Settling). slice_get v.batches i ≡ Some ys) is at
 
-pub count_kept : (s : Settling) (opening : List ℤ) (xs : List (ℕ × Access)) (ends : List ℕ) → record { opening = opening; batches = parts 0 xs ends } ≡ s → length ends ≡ length s.batches
+pub count_kept : (s : Settling) (opening : List ℤ) (xs : List (ℕ × Access)) (ends : List ℕ)
+    → record { opening = opening; batches = parts 0 xs ends } ≡ s → length ends ≡ length s.batches
 count_kept s opening xs ends is = sym (length-parts 0 xs ends) ∙ ap (λ (v : Settling). length v.batches) is
 
-pub batch_within : (s : Settling) (opening : List ℤ) (xs ys : List (ℕ × Access)) (ends : List ℕ) (i rows : ℕ) → record { opening = opening; batches = parts 0 xs ends } ≡ s → AreWithin (length opening) xs
+pub batch_within : (s : Settling) (opening : List ℤ) (xs ys : List (ℕ × Access)) (ends : List ℕ) (i rows : ℕ)
+    → record { opening = opening; batches = parts 0 xs ends } ≡ s → AreWithin (length opening) xs
     → rows ≡ length s.opening → slice_get (parts 0 xs ends) i ≡ Some ys → AreWithin rows ys
 batch_within s opening xs ys ends i rows is own many at =
-    subst (λ n. AreWithin n ys) (ap (λ (v : Settling). length v.opening) is ∙ sym many) (part_within (length opening) 0 xs ends i ys own at)
+    subst (λ n. AreWithin n ys) (ap (λ (v : Settling). length v.opening) is ∙ sym many)
+    (part_within (length opening) 0 xs ends i ys own at)
 
 -- what is read is what is kept
-pub batch_read : (records rs : List AccessView) (ends es : List ℕ) (i : ℕ) (ys : List (ℕ × Access)) → rs ≡ records → es ≡ ends → slice_get (parts 0 (all_said rs) es) i ≡ Some ys
+pub batch_read : (records rs : List AccessView) (ends es : List ℕ) (i : ℕ) (ys : List (ℕ × Access)) → rs ≡ records
+    → es ≡ ends → slice_get (parts 0 (all_said rs) es) i ≡ Some ys
     → slice_get (parts 0 (all_said records) ends) i ≡ Some ys
 batch_read records rs ends es i ys is so at =
-    subst (λ (vs : List ℕ). slice_get (parts 0 (all_said records) vs) i ≡ Some ys) so (subst (λ (vs : List AccessView). slice_get (parts 0 (all_said vs) es) i ≡ Some ys) is at)
+    subst (λ (vs : List ℕ). slice_get (parts 0 (all_said records) vs) i ≡ Some ys) so
+    (subst (λ (vs : List AccessView). slice_get (parts 0 (all_said vs) es) i ≡ Some ys) is at)
 
 -- ---- the law
 
-get_mapped : {A B : Type 0} (f : A → B) (xs : List A) (i : ℕ) (x : A) → slice_get xs i ≡ Some x → slice_get (map f xs) i ≡ Some (f x)
+get_mapped : {A B : Type 0} (f : A → B) (xs : List A) (i : ℕ) (x : A) → slice_get xs i ≡ Some x → slice_get (map f xs) i
+    ≡ Some (f x)
 get_mapped f [] i x at = none≢some x at
 get_mapped f (y ∷ xs) zero x at = ap (λ z. Some (f z)) (some_injective y x at)
 get_mapped f (y ∷ xs) (suc i) x at = get_mapped f xs i x at
@@ -78,42 +92,50 @@ take_no_more [] (suc n) none = refl
 take_no_more (x ∷ xs) zero none = none≢some x (sym none)
 take_no_more (x ∷ xs) (suc n) none = ap (λ ys. x ∷ ys) (take_no_more xs n none)
 
-map_no_more : {A B : Type 0} (f : A → B) (xs : List A) (n : ℕ) → slice_get xs n ≡ None → take (suc n) (map f xs) ≡ take n (map f xs)
+map_no_more : {A B : Type 0} (f : A → B) (xs : List A) (n : ℕ) → slice_get xs n ≡ None → take (suc n) (map f xs)
+    ≡ take n (map f xs)
 map_no_more f [] zero none = refl
 map_no_more f [] (suc n) none = refl
 map_no_more f (x ∷ xs) zero none = none≢some x (sym none)
 map_no_more f (x ∷ xs) (suc n) none = ap (λ ys. f x ∷ ys) (map_no_more f xs n none)
 
 abbrev values_settled : Trace → ℕ → ℕ → ℕ → ℤ
-values_settled t e n = values_after (balance_at (opening_rows t.customers)) (flat_map entries_along (take n (map (λ p. ordered p.offset p.attempt) (history t e).committed)))
+values_settled t e n = values_after (balance_at (opening_rows t.customers))
+    (flat_map entries_along (take n (map (λ p. ordered p.offset p.attempt) (history t e).committed)))
 
 stays : (t : Trace) (e n : ℕ) → slice_get (history t e).committed n ≡ None → values_to t e (suc n) ≡ values_to t e n
 stays t e n none =
     let values : List Placed → ℕ → ℤ = λ ps row. (rows_after t (attempts_of ps) row).value in
     ap values (take_no_more (history t e).committed n none)
 
-one_settled : (t : Trace) (e n : ℕ) → HasLimits t → IsRightSection t e → values_settled t e n ≡ values_to t e n → (o : Option Placed) → slice_get (history t e).committed n ≡ o
+one_settled : (t : Trace) (e n : ℕ) → HasLimits t → IsRightSection t e → values_settled t e n ≡ values_to t e n
+    → (o : Option Placed) → slice_get (history t e).committed n ≡ o
     → values_settled t e (suc n) ≡ values_to t e (suc n)
 one_settled t e n limits right before None none =
-    ap (λ (xs : List (List (ℕ × Access))). values_after (balance_at (opening_rows t.customers)) (flat_map entries_along xs))
+    ap (λ (xs : List (List (ℕ × Access))). values_after (balance_at (opening_rows t.customers))
+    (flat_map entries_along xs))
     (map_no_more (λ p. ordered p.offset p.attempt) (history t e).committed n none)
     ∙ before ∙ sym (stays t e n none)
 one_settled t e n limits right before (Some p) at =
-    one_more (opening_rows t.customers) (map (λ p. ordered p.offset p.attempt) (history t e).committed) n (ordered p.offset p.attempt)
+    one_more (opening_rows t.customers) (map (λ p. ordered p.offset p.attempt) (history t e).committed) n
+    (ordered p.offset p.attempt)
     (get_mapped (λ p. ordered p.offset p.attempt) (history t e).committed n p at)
     ∙ ap (λ (values : ℕ → ℤ). values_after values (entries_along (ordered p.offset p.attempt))) before
     ∙ sym (advance_along t e n p limits right at)
 
 settled_are : (t : Trace) (e n : ℕ) → HasLimits t → IsRightSection t e → values_settled t e n ≡ values_to t e n
 settled_are t e zero limits right = refl
-settled_are t e (suc n) limits right = one_settled t e n limits right (settled_are t e n limits right) (slice_get (history t e).committed n) refl
+settled_are t e (suc n) limits right = one_settled t e n limits right (settled_are t e n limits right)
+    (slice_get (history t e).committed n) refl
 
-pub settled_values : (t : Trace) (e n : ℕ) → HasLimits t → IsRightSection t e → values_in (settling t e) n ≡ values_to t e n
+pub settled_values : (t : Trace) (e n : ℕ) → HasLimits t → IsRightSection t e → values_in (settling t e) n
+    ≡ values_to t e n
 unfolding values_in settling
 settled_values t e n limits right = settled_are t e n limits right
 
 -- balances with those values are the bank after batch n
-pub banks_are : (s : Settling) (n : ℕ) (balances : List ℤ) → balance_at balances ≡ values_in s n → AreBankAfter s n balances
+pub banks_are : (s : Settling) (n : ℕ) (balances : List ℤ) → balance_at balances ≡ values_in s n
+    → AreBankAfter s n balances
 unfolding bank_after
 banks_are s n balances values = λ t e limits right is.
     ap (bank_of (names_of t)) (values ∙ ap (λ (v : Settling). values_in v n) is ∙ settled_values t e n limits right)

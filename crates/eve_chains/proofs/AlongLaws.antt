@@ -1,5 +1,8 @@
--- Public: other crates cite these lemmas. Records one after another: the tables between them, and the first thing that is wrong.
-use Rattle.std.proofs.Common.{◌≡◌, ℕ, ℤ, zero, suc, ◌+◌, ◌≤◌, Bool, true, false, cond, ◌||◌, List, [], ◌∷◌, ◌++◌, take, drop, length, get_or, slice_get, Option, Some, None, refl, sym, subst, ap, ◌∙◌, inl, inr, ◌⊎◌, append_assoc, append-nil, arith, IsTrue}
+-- Public: other crates cite these lemmas. Records one after another: the tables between them, and the first thing that
+-- is wrong.
+use Rattle.std.proofs.Common.{◌≡◌, ℕ, ℤ, zero, suc, ◌+◌, ◌≤◌, Bool, true, false, cond, ◌||◌, List, [], ◌∷◌, ◌++◌, take}
+use Rattle.std.proofs.Common.{drop, length, get_or, slice_get, Option, Some, None, refl, sym, subst, ap, ◌∙◌, inl, inr}
+use Rattle.std.proofs.Common.{◌⊎◌, append_assoc, append-nil, arith, IsTrue}
 use mathlib.Core.Path.{fun_ext}
 use Rattle.std.specs.List.{AllByRecursion, list_any, list_all}
 use Rattle.std.proofs.lemmas.Bool.{cases_Bool, and_parts, or_parts}
@@ -20,8 +23,9 @@ use Rattle.eve_views.specs.Form.{IsUpTo}
 use Rattle.eve_views.specs.declared.fault.Code.{Code}
 use Rattle.eve_views.specs.declared.fault.Code.TheVariants as code
 use Rattle.eve_views.specs.declared.fault.Fault.{Fault}
-use Rattle.eve_chains.specs.Tables.{taken_back, IsWrongIn}
-use Rattle.eve_chains.specs.Along.{said, all_said, entries_along, AreWithin, SeesOther, IsWrongAlong, AllSee, IsFirstAlong, fault_of}
+use Rattle.eve_chains.specs.Tables.{undone, IsWrongIn}
+use Rattle.eve_chains.specs.Along.{said, all_said, entries_along, AreWithin, SeesOther, IsWrongAlong, AllSee}
+use Rattle.eve_chains.specs.Along.{IsFirstAlong, fault_of}
 use Rattle.eve_chains.proofs.Linked.{some_injective, none≢some}
 use Rattle.eve_chains.proofs.Faultless.{in_place}
 use Rattle.eve_views.specs.First.{is_before, first_of}
@@ -29,16 +33,19 @@ use Rattle.eve_views.proofs.Firsts.{before_precedes, behind_precedes, up_to_from
 
 -- ---- one list of entries after another
 
-pub table_after-append : (table : Table) (es fs : List Entry) → table_after table (es ++ fs) ≡ table_after (table_after table es) fs
+pub table_after-append : (table : Table) (es fs : List Entry) → table_after table (es ++ fs)
+    ≡ table_after (table_after table es) fs
 table_after-append table [] fs = refl
 table_after-append table (e ∷ es) fs = table_after-append (λ row. cond (writes_row row e) (left_by e) (table row)) es fs
 
-pub values_after-append : (values : ℕ → ℤ) (es fs : List Entry) → values_after values (es ++ fs) ≡ values_after (values_after values es) fs
+pub values_after-append : (values : ℕ → ℤ) (es fs : List Entry) → values_after values (es ++ fs)
+    ≡ values_after (values_after values es) fs
 values_after-append values [] fs = refl
 values_after-append values (e ∷ es) fs = values_after-append (λ row. cond (writes_row row e) e.after (values row)) es fs
 
-pub taken_back-append : (from table : Table) (es fs : List Entry) → taken_back from table (es ++ fs) ≡ taken_back from (taken_back from table es) fs
-taken_back-append from table es fs =
+pub undone-append : (from table : Table) (es fs : List Entry) → undone from table (es ++ fs)
+    ≡ undone from (undone from table es) fs
+undone-append from table es fs =
     fun_ext (λ row. ap (λ b. cond b (from row) (table row)) (list_any-append (writes_row row) es fs)
     ∙ exchange (list_any (writes_row row) es) (list_any (writes_row row) fs) (from row) (table row))
   where
@@ -50,15 +57,17 @@ taken_back-append from table es fs =
 
 -- ---- writes undone
 
-unwritten : (table : Table) (es : List Entry) (row : ℕ) → list_any (writes_row row) es ≡ false → table_after table es row ≡ table row
+unwritten : (table : Table) (es : List Entry) (row : ℕ) → list_any (writes_row row) es ≡ false
+    → table_after table es row ≡ table row
 unwritten table [] row h = refl
 unwritten table (e ∷ es) row h =
     let parts = or_parts (writes_row row e) (list_any (writes_row row) es) h in
-    unwritten (λ r. cond (writes_row r e) (left_by e) (table r)) es row parts.1 ∙ ap (λ b. cond b (left_by e) (table row)) parts.0
+    unwritten (λ r. cond (writes_row r e) (left_by e) (table r)) es row parts.1
+    ∙ ap (λ b. cond b (left_by e) (table row)) parts.0
 
 -- rows taken back from the table before the writes
-pub undone : (table : Table) (es : List Entry) → taken_back table (table_after table es) es ≡ table
-undone table es =
+pub undone_is_before : (table : Table) (es : List Entry) → undone table (table_after table es) es ≡ table
+undone_is_before table es =
     fun_ext (λ row. elim (cases_Bool (list_any (writes_row row) es)) [
       | inl h ↦ ap (λ b. cond b (table row) (table_after table es row)) h
       | inr h ↦ ap (λ b. cond b (table row) (table_after table es row)) h ∙ unwritten table es row h
@@ -66,69 +75,98 @@ undone table es =
 
 -- ---- one record more
 
-pub all_said_more : (views : List AccessView) (k : ℕ) (v : AccessView) → slice_get views k ≡ Some v → all_said (take (k + 1) views) ≡ all_said (take k views) ++ said v ∷ []
+pub all_said_more : (views : List AccessView) (k : ℕ) (v : AccessView) → slice_get views k ≡ Some v
+    → all_said (take (k + 1) views) ≡ all_said (take k views) ++ said v ∷ []
 all_said_more views k v at =
-    ap all_said (take_more views k v (slice_get_within views k v at) ∙ ap (λ (x : AccessView). take k views ++ x ∷ []) (get_or_from_slice_get views k v v at))
+    ap all_said (take_more views k v (slice_get_within views k v at) ∙ ap (λ (x : AccessView). take k views ++ x ∷ [])
+    (get_or_from_slice_get views k v v at))
     ∙ map-append said (take k views) (v ∷ [])
 
-pub entries_along-push : (xs : List (ℕ × Access)) (x : ℕ × Access) → entries_along (xs ++ x ∷ []) ≡ entries_along xs ++ x.1.entries
+pub entries_along-push : (xs : List (ℕ × Access)) (x : ℕ × Access) → entries_along (xs ++ x ∷ [])
+    ≡ entries_along xs ++ x.1.entries
 entries_along-push xs x =
-    flat_map-append (λ (y : ℕ × Access). y.1.entries) xs (x ∷ []) ∙ ap (λ (es : List Entry). entries_along xs ++ es) (append-nil x.1.entries)
+    flat_map-append (λ (y : ℕ × Access). y.1.entries) xs (x ∷ []) ∙ ap (λ (es : List Entry). entries_along xs ++ es)
+    (append-nil x.1.entries)
 
 pub entries_more : (views : List AccessView) (k : ℕ) (v : AccessView) → slice_get views k ≡ Some v
-    → entries_along (all_said (take (k + 1) views)) ≡ entries_along (all_said (take k views)) ++ (access_in v.bytes.now).entries
-entries_more views k v at = ap entries_along (all_said_more views k v at) ∙ entries_along-push (all_said (take k views)) (said v)
+    → entries_along (all_said (take (k + 1) views)) ≡ entries_along (all_said (take k views)) ++
+    (access_in v.bytes.now).entries
+entries_more views k v at = ap entries_along (all_said_more views k v at)
+    ∙ entries_along-push (all_said (take k views)) (said v)
 
-pub within_at : (rows : ℕ) (views : List AccessView) (k : ℕ) (v : AccessView) → AreWithin rows (all_said views) → slice_get views k ≡ Some v → IsTrue (list_all (is_entry rows) (access_in v.bytes.now).entries)
+pub within_at : (rows : ℕ) (views : List AccessView) (k : ℕ) (v : AccessView) → AreWithin rows (all_said views)
+    → slice_get views k ≡ Some v → IsTrue (list_all (is_entry rows) (access_in v.bytes.now).entries)
 within_at rows [] k v within at = none≢some v at
 within_at rows (w ∷ views) zero v within at =
-    subst (λ (x : AccessView). IsTrue (list_all (is_entry rows) (access_in x.bytes.now).entries)) (some_injective w v at)
-    (and_parts (list_all (is_entry rows) (access_in w.bytes.now).entries) (list_all (λ x. list_all (is_entry rows) x.1.entries) (all_said views)) within).0
+    subst (λ (x : AccessView). IsTrue (list_all (is_entry rows) (access_in x.bytes.now).entries))
+    (some_injective w v at)
+    (and_parts (list_all (is_entry rows) (access_in w.bytes.now).entries)
+    (list_all (λ x. list_all (is_entry rows) x.1.entries) (all_said views)) within).0
 within_at rows (w ∷ views) (suc k) v within at =
-    within_at rows views k v (and_parts (list_all (is_entry rows) (access_in w.bytes.now).entries) (list_all (λ x. list_all (is_entry rows) x.1.entries) (all_said views)) within).1 at
+    within_at rows views k v
+    (and_parts (list_all (is_entry rows) (access_in w.bytes.now).entries)
+    (list_all (λ x. list_all (is_entry rows) x.1.entries) (all_said views)) within).1 at
 
 -- the entries of a record that stands there, where the table has that many rows
-pub item_within : (rows n : ℕ) (views : List AccessView) (k : ℕ) (v : AccessView) (es : List Entry) → AreWithin rows (all_said views) → n ≡ rows → slice_get views k ≡ Some v
+pub item_within : (rows n : ℕ) (views : List AccessView) (k : ℕ) (v : AccessView) (es : List Entry)
+    → AreWithin rows (all_said views) → n ≡ rows → slice_get views k ≡ Some v
     → es ≡ (access_in v.bytes.now).entries → IsTrue (list_all (is_entry n) es)
 item_within rows n views k v es within many at e =
     subst (λ (xs : List Entry). IsTrue (list_all (is_entry n) xs)) (sym e)
-    (subst (λ m. IsTrue (list_all (is_entry m) (access_in v.bytes.now).entries)) (sym many) (within_at rows views k v within at))
+    (subst (λ m. IsTrue (list_all (is_entry m) (access_in v.bytes.now).entries)) (sym many)
+    (within_at rows views k v within at))
 
-pub table_more : (base : Table) (views : List AccessView) (k : ℕ) (v : AccessView) (old new : Table) (es : List Entry) → slice_get views k ≡ Some v
-    → old ≡ table_after base (entries_along (all_said (take k views))) → es ≡ (access_in v.bytes.now).entries → new ≡ table_after old es
+pub table_more : (base : Table) (views : List AccessView) (k : ℕ) (v : AccessView) (old new : Table) (es : List Entry)
+    → slice_get views k ≡ Some v
+    → old ≡ table_after base (entries_along (all_said (take k views))) → es ≡ (access_in v.bytes.now).entries
+    → new ≡ table_after old es
     → new ≡ table_after base (entries_along (all_said (take (k + 1) views)))
 table_more base views k v old new es at so e step =
-    step ∙ ap (λ (t : Table). table_after t es) so ∙ ap (table_after (table_after base (entries_along (all_said (take k views))))) e
-    ∙ sym (table_after-append base (entries_along (all_said (take k views))) (access_in v.bytes.now).entries) ∙ ap (table_after base) (sym (entries_more views k v at))
+    step ∙ ap (λ (t : Table). table_after t es) so
+    ∙ ap (table_after (table_after base (entries_along (all_said (take k views))))) e
+    ∙ sym (table_after-append base (entries_along (all_said (take k views))) (access_in v.bytes.now).entries)
+    ∙ ap (table_after base) (sym (entries_more views k v at))
 
-pub taken_more : (from base : Table) (views : List AccessView) (k : ℕ) (v : AccessView) (old new : Table) (es : List Entry) → slice_get views k ≡ Some v
-    → old ≡ taken_back from base (entries_along (all_said (take k views))) → es ≡ (access_in v.bytes.now).entries → new ≡ taken_back from old es
-    → new ≡ taken_back from base (entries_along (all_said (take (k + 1) views)))
+pub taken_more : (from base : Table) (views : List AccessView) (k : ℕ) (v : AccessView) (old new : Table)
+    (es : List Entry) → slice_get views k ≡ Some v
+    → old ≡ undone from base (entries_along (all_said (take k views))) → es ≡ (access_in v.bytes.now).entries
+    → new ≡ undone from old es
+    → new ≡ undone from base (entries_along (all_said (take (k + 1) views)))
 taken_more from base views k v old new es at so e step =
-    step ∙ ap (λ (t : Table). taken_back from t es) so ∙ ap (taken_back from (taken_back from base (entries_along (all_said (take k views))))) e
-    ∙ sym (taken_back-append from base (entries_along (all_said (take k views))) (access_in v.bytes.now).entries) ∙ ap (taken_back from base) (sym (entries_more views k v at))
+    step ∙ ap (λ (t : Table). undone from t es) so
+    ∙ ap (undone from (undone from base (entries_along (all_said (take k views))))) e
+    ∙ sym (undone-append from base (entries_along (all_said (take k views))) (access_in v.bytes.now).entries)
+    ∙ ap (undone from base) (sym (entries_more views k v at))
 
-pub values_more : (base : ℕ → ℤ) (views : List AccessView) (k : ℕ) (v : AccessView) (old new : ℕ → ℤ) (es : List Entry) → slice_get views k ≡ Some v
-    → old ≡ values_after base (entries_along (all_said (take k views))) → es ≡ (access_in v.bytes.now).entries → new ≡ values_after old es
+pub values_more : (base : ℕ → ℤ) (views : List AccessView) (k : ℕ) (v : AccessView) (old new : ℕ → ℤ) (es : List Entry)
+    → slice_get views k ≡ Some v
+    → old ≡ values_after base (entries_along (all_said (take k views))) → es ≡ (access_in v.bytes.now).entries
+    → new ≡ values_after old es
     → new ≡ values_after base (entries_along (all_said (take (k + 1) views)))
 values_more base views k v old new es at so e step =
-    step ∙ ap (λ (t : ℕ → ℤ). values_after t es) so ∙ ap (values_after (values_after base (entries_along (all_said (take k views))))) e
-    ∙ sym (values_after-append base (entries_along (all_said (take k views))) (access_in v.bytes.now).entries) ∙ ap (values_after base) (sym (entries_more views k v at))
+    step ∙ ap (λ (t : ℕ → ℤ). values_after t es) so
+    ∙ ap (values_after (values_after base (entries_along (all_said (take k views))))) e
+    ∙ sym (values_after-append base (entries_along (all_said (take k views))) (access_in v.bytes.now).entries)
+    ∙ ap (values_after base) (sym (entries_more views k v at))
 
 -- ---- what is seen along the records
 
-all_see_more : (table : Table) (xs : List (ℕ × Access)) (x : ℕ × Access) → AllSee table xs → AllByRecursion (Sees (table_after table (entries_along xs))) x.1.entries → AllSee table (xs ++ x ∷ [])
+all_see_more : (table : Table) (xs : List (ℕ × Access)) (x : ℕ × Access) → AllSee table xs
+    → AllByRecursion (Sees (table_after table (entries_along xs))) x.1.entries → AllSee table (xs ++ x ∷ [])
 all_see_more table [] x all own = (own, tt)
 all_see_more table (y ∷ xs) x all own = (
   all.0,
   all_see_more (table_after table y.1.entries) xs x all.1
-      (subst (λ (t : Table). AllByRecursion (Sees t) x.1.entries) (table_after-append table y.1.entries (entries_along xs)) own),
+      (subst (λ (t : Table). AllByRecursion (Sees t) x.1.entries)
+      (table_after-append table y.1.entries (entries_along xs)) own),
 )
 
-sees_at : (table : Table) (before : List (ℕ × Access)) (y : ℕ × Access) (rest : List (ℕ × Access)) → AllSee table (before ++ y ∷ rest) → AllByRecursion (Sees (table_after table (entries_along before))) y.1.entries
+sees_at : (table : Table) (before : List (ℕ × Access)) (y : ℕ × Access) (rest : List (ℕ × Access))
+    → AllSee table (before ++ y ∷ rest) → AllByRecursion (Sees (table_after table (entries_along before))) y.1.entries
 sees_at table [] y rest all = all.0
 sees_at table (x ∷ before) y rest all =
-    subst (λ (t : Table). AllByRecursion (Sees t) y.1.entries) (sym (table_after-append table x.1.entries (entries_along before)))
+    subst (λ (t : Table). AllByRecursion (Sees t) y.1.entries)
+    (sym (table_after-append table x.1.entries (entries_along before)))
     (sees_at (table_after table x.1.entries) before y rest all.1)
 
 -- entries that see what they must see nothing else
@@ -137,14 +175,17 @@ no_other code.Version table es all place = place.holds (all_in (Sees table) all 
 no_other code.Value table es all place = place.holds (all_in (Sees table) all (in_place es place)).value
 no_other _ table es all place = absurd place
 
-nothing_wrong : (e : ℕ) (table : Table) (xs : List (ℕ × Access)) (g : Fault) → AllSee table xs → IsWrongAlong e table xs g → ⊥
+nothing_wrong : (e : ℕ) (table : Table) (xs : List (ℕ × Access)) (g : Fault) → AllSee table xs
+    → IsWrongAlong e table xs g → ⊥
 nothing_wrong e table xs g all wrong =
     no_other g.code (table_after table (entries_along wrong.stands.before)) wrong.stands.item.1.entries
-    (sees_at table wrong.stands.before wrong.stands.item wrong.stands.rest (subst (AllSee table) wrong.stands.is all)) wrong.stands.holds.1
+    (sees_at table wrong.stands.before wrong.stands.item wrong.stands.rest (subst (AllSee table) wrong.stands.is all))
+    wrong.stands.holds.1
 
 -- ---- places in a list with one more
 
-split_last : {A : Type 0} (xs : List A) (x : A) (before : List A) (y : A) (rest : List A) → xs ++ x ∷ [] ≡ before ++ y ∷ rest
+split_last : {A : Type 0} (xs : List A) (x : A) (before : List A) (y : A) (rest : List A) → xs ++ x ∷ []
+    ≡ before ++ y ∷ rest
     → ((before ≡ xs) × (y ≡ x)) ⊎ ((others : List A) × (xs ≡ before ++ y ∷ others))
 split_last {A} [] x [] y rest e = inl (refl, sym (ap (λ zs. get_or zs 0 x) e))
 split_last {A} [] x (b ∷ before) y rest e = absurd (none (before) (ap (λ zs. drop 1 zs) e))
@@ -160,13 +201,15 @@ split_last {A} (z ∷ xs) x (b ∷ before) y rest e =
       | inr front ↦ inr (front.0, ap (λ w. w ∷ xs) head ∙ ap (λ zs. b ∷ zs) front.1)
     ]
 
-wrong_front : (e : ℕ) (table : Table) (xs : List (ℕ × Access)) (x : ℕ × Access) (f : Fault) → IsWrongAlong e table xs f → IsWrongAlong e table (xs ++ x ∷ []) f
+wrong_front : (e : ℕ) (table : Table) (xs : List (ℕ × Access)) (x : ℕ × Access) (f : Fault) → IsWrongAlong e table xs f
+    → IsWrongAlong e table (xs ++ x ∷ []) f
 wrong_front e table xs x f wrong = record {
   stands = record {
     before = wrong.stands.before;
     item = wrong.stands.item;
     rest = wrong.stands.rest ++ x ∷ [];
-    is = ap (λ (ys : List (ℕ × Access)). ys ++ x ∷ []) wrong.stands.is ∙ append_assoc wrong.stands.before (wrong.stands.item ∷ wrong.stands.rest) (x ∷ []);
+    is = ap (λ (ys : List (ℕ × Access)). ys ++ x ∷ []) wrong.stands.is
+        ∙ append_assoc wrong.stands.before (wrong.stands.item ∷ wrong.stands.rest) (x ∷ []);
     holds = wrong.stands.holds;
   };
   inside = wrong.inside;
@@ -176,21 +219,26 @@ wrong_front e table xs x f wrong = record {
 last_fault : ℕ → ℕ × Access → Code → Fault
 last_fault e x c = record { code = c; offset = x.0; replica = Some e }
 
-wrong_last : (e : ℕ) (table : Table) (xs : List (ℕ × Access)) (x : ℕ × Access) (c : Code) → SeesOther c (table_after table (entries_along xs)) x.1.entries
+wrong_last : (e : ℕ) (table : Table) (xs : List (ℕ × Access)) (x : ℕ × Access) (c : Code)
+    → SeesOther c (table_after table (entries_along xs)) x.1.entries
     → IsWrongAlong e table (xs ++ x ∷ []) (last_fault e x c)
 unfolding last_fault
-wrong_last e table xs x c other = record { stands = record { before = xs; item = x; rest = []; is = refl; holds = (refl, other) }; inside = refl }
+wrong_last e table xs x c other =
+    record { stands = record { before = xs; item = x; rest = []; is = refl; holds = (refl, other) }; inside = refl }
 
 -- what is wrong with one record more is wrong with the last or with those before
-wrong_split : (e : ℕ) (table : Table) (xs : List (ℕ × Access)) (x : ℕ × Access) (g : Fault) → IsWrongAlong e table (xs ++ x ∷ []) g
-    → IsWrongAlong e table xs g ⊎ ((x.0 ≡ g.offset) × SeesOther g.code (table_after table (entries_along xs)) x.1.entries)
+wrong_split : (e : ℕ) (table : Table) (xs : List (ℕ × Access)) (x : ℕ × Access) (g : Fault)
+    → IsWrongAlong e table (xs ++ x ∷ []) g
+    → IsWrongAlong e table xs g
+    ⊎ ((x.0 ≡ g.offset) × SeesOther g.code (table_after table (entries_along xs)) x.1.entries)
 wrong_split e table xs x g wrong =
     let place = wrong.stands in
     elim (split_last xs x place.before place.item place.rest place.is) [
       | inl last ↦ inr (
         ap (λ (y : ℕ × Access). y.0) (sym last.1) ∙ place.holds.0,
         subst (λ (ys : List (ℕ × Access)). SeesOther g.code (table_after table (entries_along ys)) x.1.entries) last.0
-            (subst (λ (y : ℕ × Access). SeesOther g.code (table_after table (entries_along place.before)) y.1.entries) last.1 place.holds.1),
+            (subst (λ (y : ℕ × Access). SeesOther g.code (table_after table (entries_along place.before)) y.1.entries)
+            last.1 place.holds.1),
       )
       | inr front ↦ inl (record {
         stands = record { before = place.before; item = place.item; rest = front.0; is = front.1; holds = place.holds };
@@ -206,7 +254,8 @@ other_phase code.Version table es other = refl
 other_phase code.Value table es other = refl
 other_phase _ table es other = absurd other
 
-pub wrong_phase : (e : ℕ) (table : Table) (xs : List (ℕ × Access)) (f : Fault) → IsWrongAlong e table xs f → phase_of f.code ≡ 5
+pub wrong_phase : (e : ℕ) (table : Table) (xs : List (ℕ × Access)) (f : Fault) → IsWrongAlong e table xs f
+    → phase_of f.code ≡ 5
 wrong_phase e table xs f wrong = let place = wrong.stands in other_phase f.code _ _ place.holds.1
 
 pub before_up : (f g : Fault) → phase_of f.code ≡ 5 → phase_of g.code ≡ 5 → is_before f g ≡ true → IsUpTo f g
@@ -219,7 +268,8 @@ up_through : (f g h : Fault) → IsUpTo f g → IsUpTo g h → IsUpTo f h
 up_through f g h (inl a) (inl b) = inl (omega arith)
 up_through f g h (inl a) (inr b) = let e : g.offset ≡ h.offset = b.0 in inl (omega arith)
 up_through f g h (inr a) (inl b) = let e : f.offset ≡ g.offset = a.0 in inl (omega arith)
-up_through f g h (inr a) (inr b) = let m : number_of f.code ≤ number_of g.code = a.1 in let n : number_of g.code ≤ number_of h.code = b.1 in inr (a.0 ∙ b.0, omega arith)
+up_through f g h (inr a) (inr b) = let m : number_of f.code ≤ number_of g.code =
+    a.1 in let n : number_of g.code ≤ number_of h.code = b.1 in inr (a.0 ∙ b.0, omega arith)
 
 -- ---- what was found of one record
 
@@ -229,16 +279,19 @@ found_other code.Value table es wrong = wrong.1
 found_other _ table es wrong = absurd wrong
 
 -- and nothing with a lesser number
-found_least : (c d : Code) (table : Table) (es : List Entry) → IsWrongIn table es (Some c) → SeesOther d table es → number_of c ≤ number_of d
+found_least : (c d : Code) (table : Table) (es : List Entry) → IsWrongIn table es (Some c) → SeesOther d table es
+    → number_of c ≤ number_of d
 found_least code.Version code.Version table es wrong other = omega arith
 found_least code.Version code.Value table es wrong other = omega arith
-found_least code.Value code.Version table es wrong other = absurd (other.holds (all_in (λ e. e.version ≡ (table e.row).version) wrong.0 (in_place es other)))
+found_least code.Value code.Version table es wrong other =
+    absurd (other.holds (all_in (λ e. e.version ≡ (table e.row).version) wrong.0 (in_place es other)))
 found_least code.Value code.Value table es wrong other = omega arith
 found_least code.Version _ table es wrong other = absurd other
 found_least code.Value _ table es wrong other = absurd other
 found_least _ d table es wrong other = absurd wrong
 
-last_up : (e : ℕ) (table : Table) (x : ℕ × Access) (c : Code) (g : Fault) → IsWrongIn table x.1.entries (Some c) → (x.0 ≡ g.offset) × SeesOther g.code table x.1.entries → IsUpTo (last_fault e x c) g
+last_up : (e : ℕ) (table : Table) (x : ℕ × Access) (c : Code) (g : Fault) → IsWrongIn table x.1.entries (Some c)
+    → (x.0 ≡ g.offset) × SeesOther g.code table x.1.entries → IsUpTo (last_fault e x c) g
 unfolding last_fault
 last_up e table x c g wrong other = inr (other.0, found_least c g.code table x.1.entries wrong other.1)
 
@@ -252,12 +305,16 @@ module _ (e : ℕ) (table : Table) (xs : List (ℕ × Access)) (x : ℕ × Acces
   unfolding last_fault
   last_phase c wrong = other_phase c now x.1.entries (found_other c now x.1.entries wrong)
 
-  choose : (f : Fault) (c : Code) → IsWrongAlong e table xs f × ((g : Fault) → IsWrongAlong e table xs g → IsUpTo f g) → IsWrongIn now x.1.entries (Some c)
-      → (b : Bool) → is_before (last_fault e x c) f ≡ b → IsFirstAlong e table (xs ++ x ∷ []) (cond b (Some (last_fault e x c)) (Some f))
+  choose : (f : Fault) (c : Code) → IsWrongAlong e table xs f × ((g : Fault) → IsWrongAlong e table xs g → IsUpTo f g)
+      → IsWrongIn now x.1.entries (Some c)
+      → (b : Bool) → is_before (last_fault e x c) f ≡ b
+      → IsFirstAlong e table (xs ++ x ∷ []) (cond b (Some (last_fault e x c)) (Some f))
   choose f c first wrong true before = (
     wrong_last e table xs x c (found_other c now x.1.entries wrong),
     λ g own. elim (wrong_split e table xs x g own) [
-      | inl front ↦ up_through (last_fault e x c) f g (before_up (last_fault e x c) f (last_phase c wrong) (wrong_phase e table xs f first.0) before) (first.1 g front)
+      | inl front ↦ up_through (last_fault e x c) f g
+          (before_up (last_fault e x c) f (last_phase c wrong) (wrong_phase e table xs f first.0) before)
+          (first.1 g front)
       | inr last ↦ last_up e now x c g wrong last
     ],
   )
@@ -265,11 +322,14 @@ module _ (e : ℕ) (table : Table) (xs : List (ℕ × Access)) (x : ℕ × Acces
     wrong_front e table xs x f first.0,
     λ g own. elim (wrong_split e table xs x g own) [
       | inl front ↦ first.1 g front
-      | inr last ↦ up_through f (last_fault e x c) g (not_before_up (last_fault e x c) f (last_phase c wrong) (wrong_phase e table xs f first.0) behind) (last_up e now x c g wrong last)
+      | inr last ↦ up_through f (last_fault e x c) g
+          (not_before_up (last_fault e x c) f (last_phase c wrong) (wrong_phase e table xs f first.0) behind)
+          (last_up e now x c g wrong last)
     ],
   )
 
-  pub first_more : (o : Option Fault) (found : Option Code) → IsFirstAlong e table xs o → IsWrongIn now x.1.entries found → IsFirstAlong e table (xs ++ x ∷ []) (first_of o (fault_of e x.0 found))
+  pub first_more : (o : Option Fault) (found : Option Code) → IsFirstAlong e table xs o
+      → IsWrongIn now x.1.entries found → IsFirstAlong e table (xs ++ x ∷ []) (first_of o (fault_of e x.0 found))
   unfolding last_fault
   first_more None None first wrong = all_see_more table xs x first wrong
   first_more None (Some c) first wrong = (
@@ -289,13 +349,17 @@ module _ (e : ℕ) (table : Table) (xs : List (ℕ × Access)) (x : ℕ × Acces
   first_more (Some f) (Some c) first wrong = choose f c first wrong (is_before (last_fault e x c) f) refl
 
 -- and over the views of the records
-pub first_next : (e : ℕ) (base : Table) (views : List AccessView) (k : ℕ) (v : AccessView) (now : Table) (es : List Entry) (o : Option Fault) (found : Option Code) (offset : ℕ) (fault result : Option Fault)
-    → slice_get views k ≡ Some v → now ≡ table_after base (entries_along (all_said (take k views))) → es ≡ (access_in v.bytes.now).entries
-    → IsFirstAlong e base (all_said (take k views)) o → IsWrongIn now es found → offset ≡ v.offset → fault ≡ fault_of e offset found → result ≡ first_of o fault
+pub first_next : (e : ℕ) (base : Table) (views : List AccessView) (k : ℕ) (v : AccessView) (now : Table)
+    (es : List Entry) (o : Option Fault) (found : Option Code) (offset : ℕ) (fault result : Option Fault)
+    → slice_get views k ≡ Some v → now ≡ table_after base (entries_along (all_said (take k views)))
+    → es ≡ (access_in v.bytes.now).entries
+    → IsFirstAlong e base (all_said (take k views)) o → IsWrongIn now es found → offset ≡ v.offset
+    → fault ≡ fault_of e offset found → result ≡ first_of o fault
     → IsFirstAlong e base (all_said (take (k + 1) views)) result
 first_next e base views k v now es o found offset fault result at so same first wrong where_it_is fault_is result_is =
     subst (λ (xs : List (ℕ × Access)). IsFirstAlong e base xs result) (sym (all_said_more views k v at))
     (subst (IsFirstAlong e base (all_said (take k views) ++ said v ∷ []))
     (sym (result_is ∙ ap (first_of o) (fault_is ∙ ap (λ (n : ℕ). fault_of e n found) where_it_is)))
     (first_more e base (all_said (take k views)) (said v) o found first
-    (subst (λ (t : Table). IsWrongIn t (access_in v.bytes.now).entries found) so (subst (λ (xs : List Entry). IsWrongIn now xs found) same wrong))))
+    (subst (λ (t : Table). IsWrongIn t (access_in v.bytes.now).entries found) so
+    (subst (λ (xs : List Entry). IsWrongIn now xs found) same wrong))))

@@ -1,32 +1,42 @@
 -- The records of one attempt, copied one after another.
-use Rattle.std.proofs.Common.{◌≡◌, ℕ, ◌+◌, List, [], ◌∷◌, ◌++◌, take, length, slice_get, Some, sym, ap, ◌∙◌, append_assoc}
+use Rattle.std.proofs.Common.{◌≡◌, ℕ, ◌+◌, List, [], ◌∷◌, ◌++◌, take, length, slice_get, Some, sym, ap, ◌∙◌}
+use Rattle.std.proofs.Common.{append_assoc}
 use Rattle.std.proofs.lemmas.List.{map-append, take_more}
 use Rattle.std.proofs.lemmas.Option.{get_or_from_slice_get, slice_get_within}
 use Rattle.eve_frames.specs.Views.{access_in, attempt_in}
 use Rattle.eve_frames.specs.declared.access.AccessView.{AccessView}
 use Rattle.eve_frames.specs.declared.attempt.AttemptView.{AttemptView}
 use Rattle.eve_grammar.specs.Trace.{Access}
-use Rattle.eve_history.specs.Told.{Ran}
+use Rattle.eve_history.specs.SectionHistory.{ExecutedAttempt}
 use Rattle.eve_chains.specs.Along.{said, all_said}
 use Rattle.eve_chains.proofs.Linked.{some_injective}
 
 -- what was found there is what stands there
-pub same_ran : (rs : List Ran) (i : ℕ) (r q : Ran) → slice_get rs i ≡ Some r → slice_get rs i ≡ Some q → q ≡ r
-same_ran rs i r q at other = some_injective q r (sym other ∙ at)
+pub same_executed_attempt : (rs : List ExecutedAttempt) (i : ℕ) (r q : ExecutedAttempt) → slice_get rs i ≡ Some r
+    → slice_get rs i ≡ Some q → q ≡ r
+same_executed_attempt rs i r q at other = some_injective q r (sym other ∙ at)
 
-pub one_copied : (rs : List Ran) (i place : ℕ) (r : Ran) (start old new : List AccessView) (v : AccessView) → slice_get rs i ≡ Some r
-    → (q : Ran) × (slice_get rs i ≡ Some q) × (slice_get q.ordered place ≡ Some (v.offset, access_in v.bytes.now))
-    → all_said old ≡ all_said start ++ take place r.ordered → new ≡ old ++ v ∷ [] → all_said new ≡ all_said start ++ take (place + 1) r.ordered
+pub one_copied : (rs : List ExecutedAttempt) (i place : ℕ) (r : ExecutedAttempt) (start old new : List AccessView)
+    (v : AccessView)
+    → slice_get rs i ≡ Some r
+    → (q : ExecutedAttempt) × (slice_get rs i ≡ Some q)
+    × (slice_get q.ordered place ≡ Some (v.offset, access_in v.bytes.now))
+    → all_said old ≡ all_said start ++ take place r.ordered → new ≡ old ++ v ∷ [] → all_said new
+    ≡ all_said start ++ take (place + 1) r.ordered
 one_copied rs i place r start old new v at (q, other, found) so push =
-    let there : slice_get r.ordered place ≡ Some (said v) = ap (λ (x : Ran). slice_get x.ordered place) (sym (same_ran rs i r q at other)) ∙ found in
+    let there : slice_get r.ordered place ≡ Some (said v) = ap (λ (x : ExecutedAttempt). slice_get x.ordered place)
+    (sym (same_executed_attempt rs i r q at other)) ∙ found in
     ap all_said push ∙ map-append said old (v ∷ []) ∙ ap (λ (xs : List (ℕ × Access)). xs ++ said v ∷ []) so
     ∙ append_assoc (all_said start) (take place r.ordered) (said v ∷ [])
     ∙ ap (λ (xs : List (ℕ × Access)). all_said start ++ xs)
-    (ap (λ (x : ℕ × Access). take place r.ordered ++ x ∷ []) (sym (get_or_from_slice_get r.ordered place (said v) (said v) there))
+    (ap (λ (x : ℕ × Access). take place r.ordered ++ x ∷ [])
+    (sym (get_or_from_slice_get r.ordered place (said v) (said v) there))
     ∙ sym (take_more r.ordered place (said v) (slice_get_within r.ordered place (said v) there)))
 
-pub has_length : (rs : List Ran) (i n : ℕ) (r : Ran) (v : AttemptView) → slice_get rs i ≡ Some r
-    → (q : Ran) × (slice_get rs i ≡ Some q) × (v.offset ≡ q.offset) × (attempt_in v.bytes.now ≡ q.attempt) × (length q.ordered ≡ length q.attempt.certificate)
+pub has_length : (rs : List ExecutedAttempt) (i n : ℕ) (r : ExecutedAttempt) (v : AttemptView) → slice_get rs i ≡ Some r
+    → (q : ExecutedAttempt) × (slice_get rs i ≡ Some q) × (v.offset ≡ q.offset) × (attempt_in v.bytes.now ≡ q.attempt)
+    × (length q.ordered ≡ length q.attempt.certificate)
     → n ≡ length (attempt_in v.bytes.now).certificate → length r.ordered ≡ n
 has_length rs i n r v at (q, other, offset, attempt, long) is =
-    ap (λ (x : Ran). length x.ordered) (sym (same_ran rs i r q at other)) ∙ long ∙ ap (λ a. length a.certificate) (sym attempt) ∙ sym is
+    ap (λ (x : ExecutedAttempt). length x.ordered) (sym (same_executed_attempt rs i r q at other)) ∙ long
+    ∙ ap (λ a. length a.certificate) (sym attempt) ∙ sym is

@@ -1,5 +1,6 @@
 -- Where an item of a filtered, mapped or joined list comes from.
-use Rattle.std.proofs.Common.{◌≡◌, inl, inr, ◌⊎◌, Bool, true, false, cond, List, [], ◌∷◌, ◌++◌, map, filter, flat_map, get_or, length, length-append, refl, sym, ap, ◌∙◌, append_assoc, arith}
+use Rattle.std.proofs.Common.{◌≡◌, inl, inr, ◌⊎◌, Bool, true, false, cond, List, [], ◌∷◌, ◌++◌, map, filter, flat_map}
+use Rattle.std.proofs.Common.{get_or, length, length-append, refl, sym, ap, ◌∙◌, append_assoc, arith}
 use Rattle.eve_chains.proofs.Meeting.{filter_kept, filter_dropped}
 
 head : {A : Type 0} (x y : A) (xs ys : List A) → x ∷ xs ≡ y ∷ ys → x ≡ y
@@ -24,12 +25,14 @@ pub record FilterCut {A : Type 0} (test : A → Bool) (xs before : List A) (x : 
   pub same : filter test front ≡ before
   pub passes : test x ≡ true
 
-pub filter_cut : {A : Type 0} (test : A → Bool) (xs before : List A) (x : A) (rest : List A) → filter test xs ≡ before ++ x ∷ rest → FilterCut test xs before x
+pub filter_cut : {A : Type 0} (test : A → Bool) (xs before : List A) (x : A) (rest : List A) → filter test xs
+    ≡ before ++ x ∷ rest → FilterCut test xs before x
 filter_cut test [] before x rest e = absurd (no_item before x rest e)
 filter_cut {A} test (y ∷ xs) before x rest e = by (test y) refl before e (λ b k. filter_cut test xs b x rest k)
   where
     by : (b : Bool) → test y ≡ b → (before : List A) → cond b (y ∷ filter test xs) (filter test xs) ≡ before ++ x ∷ rest
-        → ((own : List A) → filter test xs ≡ own ++ x ∷ rest → FilterCut test xs own x) → FilterCut test (y ∷ xs) before x
+        → ((own : List A) → filter test xs ≡ own ++ x ∷ rest → FilterCut test xs own x)
+        → FilterCut test (y ∷ xs) before x
     by true k [] e more =
         let first = head y x (filter test xs) rest e in
         record { front = []; back = xs; is = ap (λ z. z ∷ xs) first; same = refl; passes = ap test (sym first) ∙ k }
@@ -44,7 +47,14 @@ filter_cut {A} test (y ∷ xs) before x rest e = by (test y) refl before e (λ b
         }
     by false k own e more =
         let c = more own e in
-        record { front = y ∷ c.front; back = c.back; is = ap (λ l. y ∷ l) c.is; same = filter_dropped test y c.front k ∙ c.same; passes = c.passes }
+        record {
+          front = y ∷ c.front;
+          back = c.back;
+          is = ap (λ l. y ∷ l) c.is;
+          same = filter_dropped test y c.front k
+              ∙ c.same;
+          passes = c.passes;
+        }
 
 -- ---- joined
 
@@ -69,11 +79,21 @@ pub record FlatCut {A B : Type 0} (f : B → List A) (ys : List B) (before : Lis
   pub inner : f item ≡ front ++ x ∷ back
   pub same : before ≡ flat_map f earlier ++ front
 
-pub flat_cut : {A B : Type 0} (f : B → List A) (ys : List B) (before : List A) (x : A) (rest : List A) → flat_map f ys ≡ before ++ x ∷ rest → FlatCut f ys before x
+pub flat_cut : {A B : Type 0} (f : B → List A) (ys : List B) (before : List A) (x : A) (rest : List A) → flat_map f ys
+    ≡ before ++ x ∷ rest → FlatCut f ys before x
 flat_cut f [] before x rest e = absurd (no_item before x rest e)
 flat_cut f (y ∷ ys) before x rest e =
     elim (append_cut (f y) (flat_map f ys) before x rest e) [
-      | inl c ↦ record { earlier = []; item = y; later = ys; front = before; back = c.0; is = refl; inner = c.1; same = refl }
+      | inl c ↦ record {
+        earlier = [];
+        item = y;
+        later = ys;
+        front = before;
+        back = c.0;
+        is = refl;
+        inner = c.1;
+        same = refl;
+      }
       | inr d ↦
           let r = flat_cut f ys d.0 x rest d.1 in
           record {
@@ -98,9 +118,11 @@ pub record MapCut {A B : Type 0} (f : B → A) (ys : List B) (before : List A) (
   pub it : x ≡ f item
   pub same : before ≡ map f earlier
 
-pub map_cut : {A B : Type 0} (f : B → A) (ys : List B) (before : List A) (x : A) (rest : List A) → map f ys ≡ before ++ x ∷ rest → MapCut f ys before x
+pub map_cut : {A B : Type 0} (f : B → A) (ys : List B) (before : List A) (x : A) (rest : List A)
+    → map f ys ≡ before ++ x ∷ rest → MapCut f ys before x
 map_cut f [] before x rest e = absurd (no_item before x rest e)
-map_cut f (y ∷ ys) [] x rest e = record { earlier = []; item = y; later = ys; is = refl; it = sym (head (f y) x (map f ys) rest e); same = refl }
+map_cut f (y ∷ ys) [] x rest e =
+    record { earlier = []; item = y; later = ys; is = refl; it = sym (head (f y) x (map f ys) rest e); same = refl }
 map_cut f (y ∷ ys) (z ∷ before) x rest e =
     let r = map_cut f ys before x rest (tail (f y) z (map f ys) (before ++ x ∷ rest) e) in
     record {

@@ -1,5 +1,6 @@
 -- Lists without repetition.
-use Rattle.std.proofs.Common.{◌≡◌, ℕ, zero, suc, ◌≤◌, ◌<◌, nat_lt, ◌==◌, Bool, true, false, cond, List, [], ◌∷◌, ◌++◌, map, length, refl, sym, subst, ap, ◌∙◌, inl, inr, ◌⊎◌, arith}
+use Rattle.std.proofs.Common.{◌≡◌, ℕ, zero, suc, ◌≤◌, ◌<◌, nat_lt, ◌==◌, Bool, true, false, cond, List, [], ◌∷◌, ◌++◌}
+use Rattle.std.proofs.Common.{map, length, refl, sym, subst, ap, ◌∙◌, inl, inr, ◌⊎◌, arith}
 use Rattle.std.specs.Prelude.{⊤}
 use Rattle.std.proofs.lemmas.Bool.{cases_lt, and_parts, eqb-true, eq-eqb, ltb-true, cond-true}
 use Rattle.std.specs.List.{list_all}
@@ -45,7 +46,8 @@ pub record Source {A B : Type 0} (f : A → B) (xs : List A) (y : B) : Type 0 wh
 pub in_source : {A B : Type 0} {y : B} (f : A → B) (xs : List A) → In y (map f xs) → Source f xs y
 in_source f [] i = elim i [ ]
 in_source f (x ∷ xs) here = record { item = x; there_is = here; is = refl }
-in_source f (x ∷ xs) (there i) = let s = in_source f xs i in record { item = s.item; there_is = there s.there_is; is = s.is }
+in_source f (x ∷ xs) (there i) = let s = in_source f xs i in
+    record { item = s.item; there_is = there s.there_is; is = s.is }
 
 -- ---- distinct parts
 
@@ -62,7 +64,8 @@ distinct_apart [] ys d i j = elim i [ ]
 distinct_apart (x ∷ xs) ys d here j = d.0 (in_right xs ys j)
 distinct_apart (x ∷ xs) ys d (there i) j = distinct_apart xs ys d.1 i j
 
-pub distinct_append : {A : Type 0} (xs ys : List A) → Distinct xs → Distinct ys → ((z : A) → In z xs → In z ys → ⊥) → Distinct (xs ++ ys)
+pub distinct_append : {A : Type 0} (xs ys : List A) → Distinct xs → Distinct ys → ((z : A) → In z xs → In z ys → ⊥)
+    → Distinct (xs ++ ys)
 distinct_append [] ys d k apart = k
 distinct_append {A} (x ∷ xs) ys d k apart = (
   λ i. own (in_split xs ys i),
@@ -73,7 +76,8 @@ distinct_append {A} (x ∷ xs) ys d k apart = (
     own (inl i) = d.0 i
     own (inr j) = apart x here j
 
-distinct_middle : {A : Type 0} (x : A) (front back : List A) → Distinct (front ++ x ∷ back) → (In x (front ++ back) → ⊥) × Distinct (front ++ back)
+distinct_middle : {A : Type 0} (x : A) (front back : List A) → Distinct (front ++ x ∷ back) → (In x (front ++ back) → ⊥)
+    × Distinct (front ++ back)
 distinct_middle x [] back d = d
 distinct_middle {A} x (y ∷ front) back d =
     let rest = distinct_middle x front back d.1 in
@@ -83,7 +87,8 @@ distinct_middle {A} x (y ∷ front) back d =
     other none (inl e) = d.0 (subst (λ z. In z (front ++ x ∷ back)) e (in_middle x front back))
     other none (inr i) = none i
 
-pub distinct_map : {A B : Type 0} (f : A → B) (xs : List A) → ((x y : A) → In x xs → In y xs → f x ≡ f y → x ≡ y) → Distinct xs → Distinct (map f xs)
+pub distinct_map : {A B : Type 0} (f : A → B) (xs : List A) → ((x y : A) → In x xs → In y xs → f x ≡ f y → x ≡ y)
+    → Distinct xs → Distinct (map f xs)
 distinct_map f [] apart d = tt
 distinct_map f (x ∷ xs) apart d = (
   λ i. let s = in_source f xs i in
@@ -95,7 +100,8 @@ distinct_map f (x ∷ xs) apart d = (
 
 pub occurs : (k : ℕ) (xs : List ℕ) → In k xs → 1 ≤ occurrences k xs
 occurs k [] i = elim i [ ]
-occurs k (x ∷ xs) here = subst (λ b. 1 ≤ cond b (suc (occurrences x xs)) (occurrences x xs)) (sym (eq-eqb x x refl)) (omega arith)
+occurs k (x ∷ xs) here = subst (λ b. 1 ≤ cond b (suc (occurrences x xs)) (occurrences x xs)) (sym (eq-eqb x x refl))
+    (omega arith)
 occurs k (x ∷ xs) (there i) = more (x == k) (occurrences k xs) (occurs k xs i)
   where
     more : (b : Bool) (n : ℕ) → 1 ≤ n → 1 ≤ cond b (suc n) n
@@ -125,7 +131,8 @@ distinct_permutation r order h = distinct_counts order once
         let parts = and_parts (list_all (λ j. nat_lt j r) order) (all_below r (λ j. occurrences j order == 1)) h in
         elim (cases_lt i r) [
           | inl l ↦
-              let one : occurrences i order ≡ 1 = eqb-true (occurrences i order) 1 (all_below_at r (λ j. occurrences j order == 1) i parts.1 l) in
+              let one : occurrences i order ≡ 1 =
+              eqb-true (occurrences i order) 1 (all_below_at r (λ j. occurrences j order == 1) i parts.1 l) in
               omega arith
           | inr l ↦ let none : occurrences i order ≡ 0 = none_above r i order parts.0 l in omega arith
         ]
@@ -142,7 +149,8 @@ below_permutation r i order h member =
 pub in_permutation : (r i : ℕ) (order : List ℕ) → is_permutation r order ≡ true → i < r → In i order
 in_permutation r i order h l =
     let once : occurrences i order ≡ 1 = eqb-true (occurrences i order) 1
-    (all_below_at r (λ j. occurrences j order == 1) i (and_parts (list_all (λ j. nat_lt j r) order) (all_below r (λ j. occurrences j order == 1)) h).1 l) in
+    (all_below_at r (λ j. occurrences j order == 1) i
+    (and_parts (list_all (λ j. nat_lt j r) order) (all_below r (λ j. occurrences j order == 1)) h).1 l) in
     let place = found i order (omega arith) in
     subst (In i) (sym place.2) (in_middle i place.0 place.1)
 
@@ -162,11 +170,13 @@ few (suc r) xs d below =
           let at = found r xs some in
           let parts = distinct_middle r at.0 at.1 (subst Distinct at.2 d) in
           let rest : length (at.0 ++ at.1) ≤ r = few r (at.0 ++ at.1) parts.1
-          (λ i k. lower i (below i (subst (In i) (sym at.2) (in_around r at.0 at.1 k))) (λ e. parts.0 (subst (λ j. In j (at.0 ++ at.1)) e k))) in
+          (λ i k. lower i (below i (subst (In i) (sym at.2) (in_around r at.0 at.1 k)))
+          (λ e. parts.0 (subst (λ j. In j (at.0 ++ at.1)) e k))) in
           let long : length xs ≡ suc (length (at.0 ++ at.1)) = ap length at.2 ∙ length-middle r at.0 at.1 in
           omega arith
       | inr none ↦
-          let rest : length xs ≤ r = few r xs d (λ i k. lower i (below i k) (λ e. absent none (occurs r xs (subst (λ j. In j xs) e k)))) in
+          let rest : length xs ≤ r =
+          few r xs d (λ i k. lower i (below i k) (λ e. absent none (occurs r xs (subst (λ j. In j xs) e k)))) in
           omega arith
     ]
   where

@@ -5,15 +5,19 @@ use Rattle.std.specs.List.{list_all}
 use Rattle.eve_smallbank.specs.declared.entry.Entry.{Entry}
 use Rattle.eve_grammar.specs.Limits.{is_entry}
 
-both : (rows : ℕ) (es : List Entry) (e : Entry) (rest : List Entry) → es ≡ e ∷ rest → IsTrue (list_all (is_entry rows) es) → IsTrue (is_entry rows e) × IsTrue (list_all (is_entry rows) rest)
-both rows es e rest is right = and_parts (is_entry rows e) (list_all (is_entry rows) rest) (subst (λ (xs : List Entry). IsTrue (list_all (is_entry rows) xs)) is right)
+both : (rows : ℕ) (es : List Entry) (e : Entry) (rest : List Entry) → es ≡ e ∷ rest
+    → IsTrue (list_all (is_entry rows) es) → IsTrue (is_entry rows e) × IsTrue (list_all (is_entry rows) rest)
+both rows es e rest is right = and_parts (is_entry rows e) (list_all (is_entry rows) rest)
+    (subst (λ (xs : List Entry). IsTrue (list_all (is_entry rows) xs)) is right)
 
 -- the first of entries within the limits
-pub first_right : (rows : ℕ) (es : List Entry) (e : Entry) (rest : List Entry) → es ≡ e ∷ rest → IsTrue (list_all (is_entry rows) es) → IsTrue (is_entry rows e)
+pub first_right : (rows : ℕ) (es : List Entry) (e : Entry) (rest : List Entry) → es ≡ e ∷ rest
+    → IsTrue (list_all (is_entry rows) es) → IsTrue (is_entry rows e)
 first_right rows es e rest is right = (both rows es e rest is right).0
 
 -- and the others
-pub rest_right : (rows : ℕ) (es : List Entry) (e : Entry) (rest : List Entry) → es ≡ e ∷ rest → IsTrue (list_all (is_entry rows) es) → IsTrue (list_all (is_entry rows) rest)
+pub rest_right : (rows : ℕ) (es : List Entry) (e : Entry) (rest : List Entry) → es ≡ e ∷ rest
+    → IsTrue (list_all (is_entry rows) es) → IsTrue (list_all (is_entry rows) rest)
 rest_right rows es e rest is right = (both rows es e rest is right).1
 
 -- its row is there

@@ -1,5 +1,6 @@
 -- What is found in settled attempts, one after another.
-use Rattle.std.proofs.Common.{◌≡◌, ℕ, ◌≤◌, Bool, true, false, cond, List, [], ◌∷◌, ◌++◌, map, Option, Some, None, refl, sym, subst, ap, ◌∙◌, inl, inr, ◌⊎◌, append_assoc, append-nil, arith}
+use Rattle.std.proofs.Common.{◌≡◌, ℕ, ◌≤◌, Bool, true, false, cond, List, [], ◌∷◌, ◌++◌, map, Option, Some, None, refl}
+use Rattle.std.proofs.Common.{sym, subst, ap, ◌∙◌, inl, inr, ◌⊎◌, append_assoc, append-nil, arith}
 use Rattle.std.specs.List.{AllByRecursion}
 use Rattle.eve_smallbank.specs.declared.entry.Entry.{Entry}
 use Rattle.eve_smallbank.specs.Chain.{Table, Sees as SeesEntry, table_after}
@@ -21,10 +22,13 @@ use Rattle.eve_views.specs.First.{is_before, first_of}
 
 -- ---- what sees what it must is not wrong
 
-sees_at : (table : Table) (before : List (ℕ × Access)) (y : ℕ × Access) (rest : List (ℕ × Access)) → AllSee table (before ++ y ∷ rest) → AllByRecursion (SeesEntry (table_after table (entries_along before))) y.1.entries
+sees_at : (table : Table) (before : List (ℕ × Access)) (y : ℕ × Access) (rest : List (ℕ × Access))
+    → AllSee table (before ++ y ∷ rest) → AllByRecursion (SeesEntry (table_after table (entries_along before)))
+    y.1.entries
 sees_at table [] y rest all = all.0
 sees_at table (x ∷ before) y rest all =
-    subst (λ (t : Table). AllByRecursion (SeesEntry t) y.1.entries) (sym (table_after-append table x.1.entries (entries_along before)))
+    subst (λ (t : Table). AllByRecursion (SeesEntry t) y.1.entries)
+    (sym (table_after-append table x.1.entries (entries_along before)))
     (sees_at (table_after table x.1.entries) before y rest all.1)
 
 no_other : (c : Code) (table : Table) (es : List Entry) → AllByRecursion (SeesEntry table) es → SeesOther c table es → ⊥
@@ -32,10 +36,12 @@ no_other code.Version table es all place = place.holds (all_in (SeesEntry table)
 no_other code.Value table es all place = place.holds (all_in (SeesEntry table) all (in_place es place)).value
 no_other _ table es all place = absurd place
 
-nothing_wrong : (e : ℕ) (table : Table) (xs : List (ℕ × Access)) (g : Fault) → AllSee table xs → IsWrongAlong e table xs g → ⊥
+nothing_wrong : (e : ℕ) (table : Table) (xs : List (ℕ × Access)) (g : Fault) → AllSee table xs
+    → IsWrongAlong e table xs g → ⊥
 nothing_wrong e table xs g all wrong =
     no_other g.code (table_after table (entries_along wrong.stands.before)) wrong.stands.item.1.entries
-    (sees_at table wrong.stands.before wrong.stands.item wrong.stands.rest (subst (AllSee table) wrong.stands.is all)) wrong.stands.holds.1
+    (sees_at table wrong.stands.before wrong.stands.item wrong.stands.rest (subst (AllSee table) wrong.stands.is all))
+    wrong.stands.holds.1
 
 -- ---- the order of faults
 
@@ -43,11 +49,13 @@ up_through : (f g h : Fault) → IsUpTo f g → IsUpTo g h → IsUpTo f h
 up_through f g h (inl a) (inl b) = inl (omega arith)
 up_through f g h (inl a) (inr b) = let e : g.offset ≡ h.offset = b.0 in inl (omega arith)
 up_through f g h (inr a) (inl b) = let e : f.offset ≡ g.offset = a.0 in inl (omega arith)
-up_through f g h (inr a) (inr b) = let m : number_of f.code ≤ number_of g.code = a.1 in let n : number_of g.code ≤ number_of h.code = b.1 in inr (a.0 ∙ b.0, omega arith)
+up_through f g h (inr a) (inr b) = let m : number_of f.code ≤ number_of g.code =
+    a.1 in let n : number_of g.code ≤ number_of h.code = b.1 in inr (a.0 ∙ b.0, omega arith)
 
 -- ---- one attempt more
 
-all_around : {A : Type 0} (P : A → Type 0) (ps : List A) (p : A) (qs : List A) → AllByRecursion P (ps ++ qs) → P p → AllByRecursion P (ps ++ p ∷ qs)
+all_around : {A : Type 0} (P : A → Type 0) (ps : List A) (p : A) (qs : List A) → AllByRecursion P (ps ++ qs) → P p
+    → AllByRecursion P (ps ++ p ∷ qs)
 all_around P [] p qs all one = (one, all)
 all_around P (q ∷ ps) p qs all one = (all.0, all_around P ps p qs all.1 one)
 
@@ -69,31 +77,37 @@ module _ (t : Trace) (e : ℕ) (ps : List Placed) (p : Placed) (qs : List Placed
       ]
 
   nowhere : (g : Fault) → AllByRecursion (Sees t) (ps ++ qs) → Somewhere (ps ++ qs) g → ⊥
-  nowhere g all place = nothing_wrong e (table_along t place.item.path) (own place.item) g (all_in (Sees t) all (in_place (ps ++ qs) place)) place.holds
+  nowhere g all place = nothing_wrong e (table_along t place.item.path) (own place.item) g
+      (all_in (Sees t) all (in_place (ps ++ qs) place)) place.holds
 
   found_phase : (g : Fault) → IsFirstAlong e (table_along t p.path) (own p) (Some g) → phase_of g.code ≡ 5
   found_phase g found = wrong_phase e (table_along t p.path) (own p) g found.0
 
   first_phase : (f : Fault) → IsFirstIn t e (ps ++ qs) (Some f) → phase_of f.code ≡ 5
-  first_phase f first = let place = first.0 in wrong_phase e (table_along t place.item.path) (own place.item) f place.holds
+  first_phase f first = let place = first.0 in wrong_phase e (table_along t place.item.path)
+      (own place.item) f place.holds
 
-  choose : (f g : Fault) → IsFirstIn t e (ps ++ qs) (Some f) → IsFirstAlong e (table_along t p.path) (own p) (Some g) → (b : Bool) → is_before g f ≡ b → IsFirstIn t e (ps ++ p ∷ qs) (cond b (Some g) (Some f))
+  choose : (f g : Fault) → IsFirstIn t e (ps ++ qs) (Some f) → IsFirstAlong e (table_along t p.path) (own p) (Some g)
+      → (b : Bool) → is_before g f ≡ b → IsFirstIn t e (ps ++ p ∷ qs) (cond b (Some g) (Some f))
   choose f g first found true before = (
     middle g found.0,
     λ k place. elim (which k place) [
       | inl wrong ↦ found.1 k wrong
-      | inr other ↦ up_through g f k (before_up g f (found_phase g found) (first_phase f first) before) (first.1 k other)
+      | inr other ↦ up_through g f k (before_up g f (found_phase g found) (first_phase f first) before)
+          (first.1 k other)
     ],
   )
   choose f g first found false behind = (
     around f first.0,
     λ k place. elim (which k place) [
-      | inl wrong ↦ up_through f g k (not_before_up g f (found_phase g found) (first_phase f first) behind) (found.1 k wrong)
+      | inl wrong ↦ up_through f g k (not_before_up g f (found_phase g found) (first_phase f first) behind)
+          (found.1 k wrong)
       | inr other ↦ first.1 k other
     ],
   )
 
-  pub first_with : (o found : Option Fault) → IsFirstIn t e (ps ++ qs) o → IsFirstAlong e (table_along t p.path) (own p) found → IsFirstIn t e (ps ++ p ∷ qs) (first_of o found)
+  pub first_with : (o found : Option Fault) → IsFirstIn t e (ps ++ qs) o
+      → IsFirstAlong e (table_along t p.path) (own p) found → IsFirstIn t e (ps ++ p ∷ qs) (first_of o found)
   first_with None None first one = all_around (Sees t) ps p qs first one
   first_with None (Some g) first one = (
     middle g one.0,
@@ -114,30 +128,39 @@ module _ (t : Trace) (e : ℕ) (ps : List Placed) (p : Placed) (qs : List Placed
 -- ---- several attempts
 
 -- the last of them
-pub judged_more : (e : ℕ) (table : Table) (xss : List (List (ℕ × Access))) (xs : List (ℕ × Access)) (before mid found : Option Fault) → AreJudged e table xss before mid
-    → IsFirstAlong e (table_after table (entries_of xss)) xs found → AreJudged e table (xss ++ xs ∷ []) before (first_of mid found)
+pub judged_more : (e : ℕ) (table : Table) (xss : List (List (ℕ × Access))) (xs : List (ℕ × Access))
+    (before mid found : Option Fault) → AreJudged e table xss before mid
+    → IsFirstAlong e (table_after table (entries_of xss)) xs found
+    → AreJudged e table (xss ++ xs ∷ []) before (first_of mid found)
 judged_more e table [] xs before mid found judged one = (found, one, ap (λ (o : Option Fault). first_of o found) judged)
 judged_more e table (ys ∷ xss) xs before mid found judged one = (
   judged.0,
   judged.1,
   judged_more e (table_after table (entries_along ys)) xss xs (first_of before judged.0) mid found judged.2
-      (subst (λ (u : Table). IsFirstAlong e u xs found) (table_after-append table (entries_along ys) (entries_of xss)) one),
+      (subst (λ (u : Table). IsFirstAlong e u xs found) (table_after-append table (entries_along ys) (entries_of xss))
+      one),
 )
 
 -- each attempt's records lead from what its path left to what it leaves with it
 abbrev pub Advances : Trace → List Attempt → List Placed → Type 0
 Advances t before [] = Unit {0}
 Advances t before (p ∷ ps) =
-    (table_along t (before ++ p.attempt ∷ []) ≡ table_after (table_along t before) (entries_along (own p))) × Advances t (before ++ p.attempt ∷ []) ps
+    (table_along t (before ++ p.attempt ∷ []) ≡ table_after (table_along t before) (entries_along (own p)))
+    × Advances t (before ++ p.attempt ∷ []) ps
 
 -- all of them
-pub first_with_all : (t : Trace) (e : ℕ) (done ps : List Placed) (before : List Attempt) (table : Table) (o last : Option Fault) → ArePlaced before ps → Advances t before ps
-    → table ≡ table_along t before → AreJudged e table (map own ps) o last → IsFirstIn t e done o → IsFirstIn t e (done ++ ps) last
+pub first_with_all : (t : Trace) (e : ℕ) (done ps : List Placed) (before : List Attempt) (table : Table)
+    (o last : Option Fault) → ArePlaced before ps → Advances t before ps
+    → table ≡ table_along t before → AreJudged e table (map own ps) o last → IsFirstIn t e done o
+    → IsFirstIn t e (done ++ ps) last
 first_with_all t e done [] before table o last placed advances so judged first =
-    subst (λ (ps : List Placed). IsFirstIn t e ps last) (sym (append-nil done)) (subst (IsFirstIn t e done) (sym judged) first)
+    subst (λ (ps : List Placed). IsFirstIn t e ps last) (sym (append-nil done))
+    (subst (IsFirstIn t e done) (sym judged) first)
 first_with_all t e done (p ∷ ps) before table o last placed advances so judged first =
     subst (λ (qs : List Placed). IsFirstIn t e qs last) (append_assoc done (p ∷ []) ps)
-    (first_with_all t e (done ++ p ∷ []) ps (before ++ p.attempt ∷ []) (table_after table (entries_along (own p))) (first_of o judged.0) last placed.1 advances.1
+    (first_with_all t e (done ++ p ∷ []) ps (before ++ p.attempt ∷ []) (table_after table (entries_along (own p)))
+    (first_of o judged.0) last placed.1 advances.1
     (ap (λ (u : Table). table_after u (entries_along (own p))) so ∙ sym advances.0) judged.2
-    (first_with t e done p [] o judged.0 (subst (λ (qs : List Placed). IsFirstIn t e qs o) (sym (append-nil done)) first)
+    (first_with t e done p [] o judged.0
+    (subst (λ (qs : List Placed). IsFirstIn t e qs o) (sym (append-nil done)) first)
     (subst (λ (u : Table). IsFirstAlong e u (own p) judged.0) (so ∙ ap (table_along t) (sym placed.0)) judged.1)))

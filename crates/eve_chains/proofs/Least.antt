@@ -1,5 +1,7 @@
 -- The least offset of the records that don't fit: of one list and of another behind it.
-use Rattle.std.proofs.Common.{◌≡◌, ℕ, ◌+◌, ◌≤◌, ◌<◌, nat_lt, Bool, true, false, cond, List, [], ◌∷◌, ◌++◌, map, take, slice_get, get_or, length, Option, Some, None, refl, sym, subst, ap, ◌∙◌, inl, inr, ◌⊎◌, arith}
+use Rattle.std.proofs.Common.{◌≡◌, ℕ, ◌+◌, ◌≤◌, ◌<◌, nat_lt, Bool, true, false, cond, List, [], ◌∷◌, ◌++◌, map, take}
+use Rattle.std.proofs.Common.{slice_get, get_or, length, Option, Some, None, refl, sym, subst, ap, ◌∙◌, inl, inr, ◌⊎◌}
+use Rattle.std.proofs.Common.{arith}
 use Rattle.std.proofs.lemmas.Bool.{cases_lt, ltb-true, lt-ltb, false≢true}
 use Rattle.std.specs.List.{AllByRecursion}
 use Rattle.std.proofs.lemmas.List.{get_or-map, map_more}
@@ -27,22 +29,29 @@ module _ (names : List (List ℕ)) where
   abbrev IsUpToUnfit : ℕ → ℕ × Executed → Type 0
   IsUpToUnfit at x = ¬ Fits names x.1 → at ≤ x.0
 
-  unfit_left : (at : ℕ) (xs ys : List (ℕ × Executed)) → SomePlace xs (λ _ x. Unfit at x) → SomePlace (xs ++ ys) (λ _ x. Unfit at x)
+  unfit_left : (at : ℕ) (xs ys : List (ℕ × Executed)) → SomePlace xs (λ _ x. Unfit at x)
+      → SomePlace (xs ++ ys) (λ _ x. Unfit at x)
   unfit_left at xs ys place = place_of (Unfit at) (xs ++ ys) (in_left xs ys (in_place xs place)) place.holds
 
-  unfit_right : (at : ℕ) (xs ys : List (ℕ × Executed)) → SomePlace ys (λ _ x. Unfit at x) → SomePlace (xs ++ ys) (λ _ x. Unfit at x)
+  unfit_right : (at : ℕ) (xs ys : List (ℕ × Executed)) → SomePlace ys (λ _ x. Unfit at x)
+      → SomePlace (xs ++ ys) (λ _ x. Unfit at x)
   unfit_right at xs ys place = place_of (Unfit at) (xs ++ ys) (in_right xs ys (in_place ys place)) place.holds
 
-  up_from_fit : (at : ℕ) (xs : List (ℕ × Executed)) → AllByRecursion (λ x. Fits names x.1) xs → AllByRecursion (IsUpToUnfit at) xs
-  up_from_fit at xs all = all_from_in (IsUpToUnfit at) xs (λ x i unfit. absurd (unfit (all_in (λ x. Fits names x.1) all i)))
+  up_from_fit : (at : ℕ) (xs : List (ℕ × Executed)) → AllByRecursion (λ x. Fits names x.1) xs
+      → AllByRecursion (IsUpToUnfit at) xs
+  up_from_fit at xs all = all_from_in (IsUpToUnfit at) xs
+      (λ x i unfit. absurd (unfit (all_in (λ x. Fits names x.1) all i)))
 
-  up_from_less : (m n : ℕ) (xs : List (ℕ × Executed)) → m ≤ n → AllByRecursion (IsUpToUnfit n) xs → AllByRecursion (IsUpToUnfit m) xs
-  up_from_less m n xs up all = all_from_in (IsUpToUnfit m) xs (λ x i unfit. through x.0 (all_in (IsUpToUnfit n) all i unfit))
+  up_from_less : (m n : ℕ) (xs : List (ℕ × Executed)) → m ≤ n → AllByRecursion (IsUpToUnfit n) xs
+      → AllByRecursion (IsUpToUnfit m) xs
+  up_from_less m n xs up all =
+      all_from_in (IsUpToUnfit m) xs (λ x i unfit. through x.0 (all_in (IsUpToUnfit n) all i unfit))
     where
       through : (k : ℕ) → n ≤ k → m ≤ k
       through k h = omega arith
 
-  lesser_of : (m n : ℕ) (xs ys : List (ℕ × Executed)) (b : Bool) → nat_lt n m ≡ b → IsLeastUnfit names xs (Some m) → IsLeastUnfit names ys (Some n)
+  lesser_of : (m n : ℕ) (xs ys : List (ℕ × Executed)) (b : Bool) → nat_lt n m ≡ b → IsLeastUnfit names xs (Some m)
+      → IsLeastUnfit names ys (Some n)
       → IsLeastUnfit names (xs ++ ys) (cond b (Some n) (Some m))
   lesser_of m n xs ys true less first other = (
     unfit_right n xs ys other.0,
@@ -60,10 +69,13 @@ module _ (names : List (List ℕ)) where
       above (inl h) = absurd (false≢true (sym more ∙ lt-ltb n m h))
       above (inr h) = h
 
-  pub least_append : (xs ys : List (ℕ × Executed)) (o p : Option ℕ) → IsLeastUnfit names xs o → IsLeastUnfit names ys p → IsLeastUnfit names (xs ++ ys) (lesser o p)
+  pub least_append : (xs ys : List (ℕ × Executed)) (o p : Option ℕ) → IsLeastUnfit names xs o → IsLeastUnfit names ys p
+      → IsLeastUnfit names (xs ++ ys) (lesser o p)
   least_append xs ys None None first other = all-append (λ x. Fits names x.1) xs ys first other
-  least_append xs ys None (Some n) first other = (unfit_right n xs ys other.0, all-append (IsUpToUnfit n) xs ys (up_from_fit n xs first) other.1)
-  least_append xs ys (Some m) None first other = (unfit_left m xs ys first.0, all-append (IsUpToUnfit m) xs ys first.1 (up_from_fit m ys other))
+  least_append xs ys None (Some n) first other =
+      (unfit_right n xs ys other.0, all-append (IsUpToUnfit n) xs ys (up_from_fit n xs first) other.1)
+  least_append xs ys (Some m) None first other =
+      (unfit_left m xs ys first.0, all-append (IsUpToUnfit m) xs ys first.1 (up_from_fit m ys other))
   least_append xs ys (Some m) (Some n) first other = lesser_of m n xs ys (nat_lt n m) refl first other
 
 -- ---- one record
@@ -71,29 +83,39 @@ module _ (names : List (List ℕ)) where
 pub fit_alone : (names : List (List ℕ)) (x : ℕ × Executed) → Fits names x.1 → IsLeastUnfit names (x ∷ []) None
 fit_alone names x fits = (fits, tt)
 
-pub unfit_alone : (names : List (List ℕ)) (x : ℕ × Executed) (at : ℕ) → at ≡ x.0 → (Fits names x.1 → ⊥) → IsLeastUnfit names (x ∷ []) (Some at)
-unfit_alone names x at same unfit = (record { before = []; item = x; rest = []; is = refl; holds = (sym same, unfit) }, (λ _. up same, tt))
+pub unfit_alone : (names : List (List ℕ)) (x : ℕ × Executed) (at : ℕ) → at ≡ x.0 → (Fits names x.1 → ⊥)
+    → IsLeastUnfit names (x ∷ []) (Some at)
+unfit_alone names x at same unfit =
+    (record { before = []; item = x; rest = []; is = refl; holds = (sym same, unfit) }, (λ _. up same, tt))
   where
     up : at ≡ x.0 → at ≤ x.0
     up e = omega arith
 
 -- ---- a record of requests and replies
 
-pub recorded_at : (requests : List shown.Request) (replies : List Reply) (x : ℕ × Access) (index : ℕ) (request : shown.Request) (reply : Reply) → index ≡ x.1.index → index < length requests
-    → request ≡ get_or requests index request → slice_get replies index ≡ Some reply → recorded_of (map plain requests) replies x ≡ (x.0, recorded (plain request) reply x.1.entries)
+pub recorded_at : (requests : List shown.Request) (replies : List Reply) (x : ℕ × Access) (index : ℕ)
+    (request : shown.Request) (reply : Reply) → index ≡ x.1.index → index < length requests
+    → request ≡ get_or requests index request → slice_get replies index ≡ Some reply
+    → recorded_of (map plain requests) replies x ≡ (x.0, recorded (plain request) reply x.1.entries)
 recorded_at requests replies x index request reply is within read answered =
     let asked : get_or (map plain requests) x.1.index (Balance []) ≡ plain request =
-    ap (λ (n : ℕ). get_or (map plain requests) n (Balance [])) (sym is) ∙ get_or-map plain requests index request (Balance []) within ∙ ap plain (sym read) in
-    let replied : get_or replies x.1.index Done ≡ reply = ap (λ (n : ℕ). get_or replies n Done) (sym is) ∙ get_or_from_slice_get replies index reply Done answered in
+    ap (λ (n : ℕ). get_or (map plain requests) n (Balance [])) (sym is)
+    ∙ get_or-map plain requests index request (Balance []) within ∙ ap plain (sym read) in
+    let replied : get_or replies x.1.index Done ≡ reply = ap (λ (n : ℕ). get_or replies n Done) (sym is)
+    ∙ get_or_from_slice_get replies index reply Done answered in
     λ i. (x.0, recorded (asked i) (replied i) x.1.entries)
 
 -- ---- one record more
 
 -- the item at a place, where all before it were judged
-pub least_next : (names : List (List ℕ)) (f : ℕ × Access → ℕ × Executed) (xs : List (ℕ × Access)) (i : ℕ) (x : ℕ × Access) (y : ℕ × Executed) (o p : Option ℕ) → slice_get xs i ≡ Some x → f x ≡ y
-    → IsLeastUnfit names (map f (take i xs)) o → IsLeastUnfit names (y ∷ []) p → IsLeastUnfit names (map f (take (i + 1) xs)) (lesser o p)
+pub least_next : (names : List (List ℕ)) (f : ℕ × Access → ℕ × Executed) (xs : List (ℕ × Access)) (i : ℕ)
+    (x : ℕ × Access) (y : ℕ × Executed) (o p : Option ℕ) → slice_get xs i ≡ Some x → f x ≡ y
+    → IsLeastUnfit names (map f (take i xs)) o → IsLeastUnfit names (y ∷ []) p
+    → IsLeastUnfit names (map f (take (i + 1) xs)) (lesser o p)
 least_next names f xs i x y o p at is first other =
     let within = slice_get_within xs i x at in
     let one : map f (take (i + 1) xs) ≡ map f (take i xs) ++ y ∷ [] =
-    map_more f xs i x within ∙ ap (λ (z : ℕ × Access). map f (take i xs) ++ f z ∷ []) (get_or_from_slice_get xs i x x at) ∙ ap (λ (z : ℕ × Executed). map f (take i xs) ++ z ∷ []) is in
-    subst (λ (zs : List (ℕ × Executed)). IsLeastUnfit names zs (lesser o p)) (sym one) (least_append names (map f (take i xs)) (y ∷ []) o p first other)
+    map_more f xs i x within ∙ ap (λ (z : ℕ × Access). map f (take i xs) ++ f z ∷ [])
+    (get_or_from_slice_get xs i x x at) ∙ ap (λ (z : ℕ × Executed). map f (take i xs) ++ z ∷ []) is in
+    subst (λ (zs : List (ℕ × Executed)). IsLeastUnfit names zs (lesser o p)) (sym one)
+    (least_append names (map f (take i xs)) (y ∷ []) o p first other)

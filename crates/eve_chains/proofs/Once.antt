@@ -1,5 +1,6 @@
 -- No request takes effect twice: the requests of all batches are distinct, and each committed batch comes once.
-use Rattle.std.proofs.Common.{◌≡◌, true, ℕ, zero, suc, ◌-◌, ◌≤◌, ◌<◌, List, [], ◌∷◌, ◌++◌, map, length, length-append, get_or, drop, drop-cons, Some, refl, sym, subst, ap, ◌∙◌, inl, inr, arith, AllPairs}
+use Rattle.std.proofs.Common.{◌≡◌, true, ℕ, zero, suc, ◌-◌, ◌≤◌, ◌<◌, List, [], ◌∷◌, ◌++◌, map, length, length-append}
+use Rattle.std.proofs.Common.{get_or, drop, drop-cons, Some, refl, sym, subst, ap, ◌∙◌, inl, inr, arith, AllPairs}
 use Rattle.std.specs.Prelude.{◌≢◌}
 use Rattle.std.proofs.lemmas.Bool.{and_parts}
 use Rattle.std.proofs.lemmas.List.{length-map}
@@ -8,11 +9,14 @@ use Rattle.std.specs.List.{flat_map}
 use Rattle.eve_grammar.specs.Trace.{Asked, Batch, Attempt, Trace}
 use Rattle.eve_grammar.specs.Certificate.{is_permutation, keeps_groups, KeepsGroups}
 use Rattle.eve_history.specs.Section.{Placed, no_batch, batch_at, request_count}
-use Rattle.eve_history.specs.Told.{no_request, history, committed_at, IsRightSection}
+use Rattle.eve_history.specs.SectionHistory.{no_request, history, committed_at, IsRightSection}
 use Rattle.eve_history.specs.Faults.{RequestId, request_id}
 use Rattle.eve_smallbank.proofs.Members.{In, here, there}
-use Rattle.eve_chains.specs.Committed.{attempts_of, request_ids_in, committed_request_ids, batch_request_ids, AreDistinct}
-use Rattle.eve_chains.proofs.Distinct.{Distinct, in_split, in_left, in_right, in_map, in_source, distinct_left, distinct_right, distinct_apart, distinct_append, distinct_map, distinct_permutation, below_permutation}
+use Rattle.eve_chains.specs.Committed.{attempts_of, request_ids_in, committed_request_ids, batch_request_ids}
+use Rattle.eve_chains.specs.Committed.{AreDistinct}
+use Rattle.eve_chains.proofs.Distinct.{Distinct, in_split, in_left, in_right, in_map, in_source, distinct_left}
+use Rattle.eve_chains.proofs.Distinct.{distinct_right, distinct_apart, distinct_append, distinct_map}
+use Rattle.eve_chains.proofs.Distinct.{distinct_permutation, below_permutation}
 use Rattle.eve_chains.proofs.Linked.{IsLinked, AreLinked, linked_history, linked_at, none≢some, committed_number}
 use Rattle.eve_chains.proofs.Soundness.{permutes}
 
@@ -26,7 +30,8 @@ in_get_or (x ∷ xs) (suc i) d h = there (in_get_or xs i d (omega arith))
 pub distinct_pairs : {A : Type 0} (xs : List A) → Distinct xs → AllPairs (λ a b. a ≢ b) xs
 distinct_pairs [] d i j default l m = absurd (omega arith)
 distinct_pairs (x ∷ xs) d i zero default l m = absurd (omega arith)
-distinct_pairs (x ∷ xs) d zero (suc j) default l m = λ e. d.0 (subst (λ z. In z xs) (sym e) (in_get_or xs j default (omega arith)))
+distinct_pairs (x ∷ xs) d zero (suc j) default l m =
+    λ e. d.0 (subst (λ z. In z xs) (sym e) (in_get_or xs j default (omega arith)))
 distinct_pairs (x ∷ xs) d (suc i) (suc j) default l m = distinct_pairs xs d.1 i j default (omega arith) (omega arith)
 
 -- where a member stands, by its place
@@ -38,7 +43,8 @@ pub record Place {A : Type 0} (xs : List A) (x : A) : Type 0 where
 pub place_in : {A : Type 0} {x : A} (xs : List A) → In x xs → Place xs x
 place_in [] i = elim i [ ]
 place_in (x ∷ xs) here = record { place = 0; within = omega arith; is = refl }
-place_in (y ∷ xs) (there i) = let p = place_in xs i in record { place = suc p.place; within = more p.place (length xs) p.within; is = p.is }
+place_in (y ∷ xs) (there i) = let p = place_in xs i in
+    record { place = suc p.place; within = more p.place (length xs) p.within; is = p.is }
   where
     more : (m n : ℕ) → m < n → suc m < suc n
     more m n h = omega arith
@@ -56,18 +62,22 @@ pairs_distinct (x ∷ xs) pairs = (
 -- ---- a batch in another order
 
 -- the same element stands at one place alone
-one_place : {A : Type 0} (xs : List A) (i j : ℕ) (d : A) → Distinct xs → i < length xs → j < length xs → get_or xs i d ≡ get_or xs j d → i ≡ j
+one_place : {A : Type 0} (xs : List A) (i j : ℕ) (d : A) → Distinct xs → i < length xs → j < length xs → get_or xs i d
+    ≡ get_or xs j d → i ≡ j
 one_place [] i j d apart l m e = absurd (omega arith)
 one_place (x ∷ xs) zero zero d apart l m e = refl
-one_place (x ∷ xs) zero (suc j) d apart l m e = absurd (apart.0 (subst (λ z. In z xs) (sym e) (in_get_or xs j d (omega arith))))
-one_place (x ∷ xs) (suc i) zero d apart l m e = absurd (apart.0 (subst (λ z. In z xs) e (in_get_or xs i d (omega arith))))
+one_place (x ∷ xs) zero (suc j) d apart l m e =
+    absurd (apart.0 (subst (λ z. In z xs) (sym e) (in_get_or xs j d (omega arith))))
+one_place (x ∷ xs) (suc i) zero d apart l m e =
+    absurd (apart.0 (subst (λ z. In z xs) e (in_get_or xs i d (omega arith))))
 one_place (x ∷ xs) (suc i) (suc j) d apart l m e = ap suc (one_place xs i j d apart.1 (omega arith) (omega arith) e)
 
 -- the request ids of these requests, in the order of the indexes
 abbrev ordered_request_ids : List Asked → List ℕ → List RequestId
 ordered_request_ids rs order = map (λ i. request_id (get_or rs i no_request)) order
 
-distinct_order : (rs : List Asked) (order : List ℕ) → Distinct (map request_id rs) → is_permutation (length rs) order ≡ true → Distinct (ordered_request_ids rs order)
+distinct_order : (rs : List Asked) (order : List ℕ) → Distinct (map request_id rs) → is_permutation (length rs) order
+    ≡ true → Distinct (ordered_request_ids rs order)
 distinct_order rs order d permutes =
     distinct_map (λ i. request_id (get_or rs i no_request)) order
     (λ i j k l e. one_place (map request_id rs) i j (request_id no_request) d (within i k) (within j l)
@@ -77,11 +87,13 @@ distinct_order rs order d permutes =
     within : (i : ℕ) → In i order → i < length (map request_id rs)
     within i k = subst (λ n. i < n) (sym (length-map rs request_id)) (below_permutation (length rs) i order permutes k)
 
-in_order : (rs : List Asked) (order : List ℕ) (z : RequestId) → is_permutation (length rs) order ≡ true → In z (ordered_request_ids rs order) → In z (map request_id rs)
+in_order : (rs : List Asked) (order : List ℕ) (z : RequestId) → is_permutation (length rs) order ≡ true
+    → In z (ordered_request_ids rs order) → In z (map request_id rs)
 in_order rs order z permutes i =
     let s = in_source (λ i. request_id (get_or rs i no_request)) order i in
     subst (λ y. In y (map request_id rs)) (sym s.is)
-    (in_map request_id rs (in_get_or rs s.item no_request (below_permutation (length rs) s.item order permutes s.there_is)))
+    (in_map request_id rs (in_get_or rs s.item no_request
+    (below_permutation (length rs) s.item order permutes s.there_is)))
 
 -- ---- the committed batches
 
@@ -99,10 +111,13 @@ module _ (t : Trace) (before : List Attempt) (p : Placed) (linked : IsLinked t b
   its_requests : List Asked
   its_requests = (batch_at t p.attempt.seq).requests
 
-  from_here : request_ids_from t (length before) ≡ map request_id its_requests ++ request_ids_from t (suc (length before))
+  from_here : request_ids_from t (length before) ≡ map request_id its_requests ++ request_ids_from t
+      (suc (length before))
   unfolding its_requests
   from_here =
-      ap (flat_map (λ b. map request_id b.requests)) (drop-cons t.batches (length before) no_batch (known p.attempt.seq (length before) (length t.batches) linked.number linked.there))
+      ap (flat_map (λ b. map request_id b.requests))
+      (drop-cons t.batches (length before) no_batch
+      (known p.attempt.seq (length before) (length t.batches) linked.number linked.there))
       ∙ ap (λ (b : Batch). map request_id b.requests ++ request_ids_from t (suc (length before))) (sym batch_is)
     where
       known : (m n k : ℕ) → m ≡ suc n → m ≤ k → n < k
@@ -123,18 +138,22 @@ module _ (t : Trace) (before : List Attempt) (p : Placed) (linked : IsLinked t b
 one_longer : (before : List Attempt) (a : Attempt) → length (before ++ a ∷ []) ≡ suc (length before)
 one_longer before a = simp length-append (omega arith)
 
-committed_members : (t : Trace) (before : List Attempt) (ps : List Placed) → AreLinked t before ps → (z : RequestId) → In z (flat_map (request_ids_in t) (attempts_of ps))
+committed_members : (t : Trace) (before : List Attempt) (ps : List Placed) → AreLinked t before ps → (z : RequestId)
+    → In z (flat_map (request_ids_in t) (attempts_of ps))
     → In z (request_ids_from t (length before))
 committed_members t before [] linked z i = elim i [ ]
 committed_members t before (p ∷ ps) linked z i =
     subst (In z) (sym (from_here t before p linked.0))
     (elim (in_split (request_ids_in t p.attempt) (flat_map (request_ids_in t) (attempts_of ps)) i) [
-      | inl j ↦ in_left (map request_id (its_requests t before p linked.0)) (request_ids_from t (suc (length before))) (own_member t before p linked.0 z j)
+      | inl j ↦ in_left (map request_id (its_requests t before p linked.0)) (request_ids_from t (suc (length before)))
+          (own_member t before p linked.0 z j)
       | inr j ↦ in_right (map request_id (its_requests t before p linked.0)) (request_ids_from t (suc (length before)))
-          (subst (λ n. In z (request_ids_from t n)) (one_longer before p.attempt) (committed_members t (before ++ p.attempt ∷ []) ps linked.1 z j))
+          (subst (λ n. In z (request_ids_from t n)) (one_longer before p.attempt)
+          (committed_members t (before ++ p.attempt ∷ []) ps linked.1 z j))
     ])
 
-committed_distinct : (t : Trace) (before : List Attempt) (ps : List Placed) → AreLinked t before ps → Distinct (request_ids_from t (length before))
+committed_distinct : (t : Trace) (before : List Attempt) (ps : List Placed) → AreLinked t before ps
+    → Distinct (request_ids_from t (length before))
     → Distinct (flat_map (request_ids_in t) (attempts_of ps))
 committed_distinct t before [] linked d = tt
 committed_distinct t before (p ∷ ps) linked d =
@@ -143,15 +162,20 @@ committed_distinct t before (p ∷ ps) linked d =
     let whole : Distinct (own ++ rest) = subst Distinct (from_here t before p linked.0) d in
     distinct_append (request_ids_in t p.attempt) (flat_map (request_ids_in t) (attempts_of ps))
     (own_distinct t before p linked.0 (distinct_left own rest whole))
-    (committed_distinct t (before ++ p.attempt ∷ []) ps linked.1 (subst (λ n. Distinct (request_ids_from t n)) (sym (one_longer before p.attempt)) (distinct_right own rest whole)))
+    (committed_distinct t (before ++ p.attempt ∷ []) ps linked.1
+    (subst (λ n. Distinct (request_ids_from t n)) (sym (one_longer before p.attempt))
+    (distinct_right own rest whole)))
     (λ z i j. distinct_apart own rest whole (own_member t before p linked.0 z i)
-    (subst (λ n. In z (request_ids_from t n)) (one_longer before p.attempt) (committed_members t (before ++ p.attempt ∷ []) ps linked.1 z j)))
+    (subst (λ n. In z (request_ids_from t n)) (one_longer before p.attempt)
+    (committed_members t (before ++ p.attempt ∷ []) ps linked.1 z j)))
 
-pub once : (t : Trace) (e : ℕ) → IsRightSection t e → AreDistinct (batch_request_ids t) → AreDistinct (committed_request_ids t e)
+pub once : (t : Trace) (e : ℕ) → IsRightSection t e → AreDistinct (batch_request_ids t)
+    → AreDistinct (committed_request_ids t e)
 unfolding batch_request_ids committed_request_ids
 once t e right distinct =
     distinct_pairs (flat_map (request_ids_in t) (attempts_of (history t e).committed))
-    (committed_distinct t [] (history t e).committed (linked_history t e right) (pairs_distinct (flat_map (λ b. map request_id b.requests) t.batches) distinct))
+    (committed_distinct t [] (history t e).committed (linked_history t e right)
+    (pairs_distinct (flat_map (λ b. map request_id b.requests) t.batches) distinct))
 
 -- ---- the order of a committed batch
 
@@ -160,5 +184,7 @@ pub certificate_keeps_groups : (t : Trace) (e n : ℕ) (p : Placed) → IsRightS
 certificate_keeps_groups t e zero p right at = none≢some p at
 certificate_keeps_groups t e (suc n) p right at =
     let linked = linked_at t [] (history t e).committed n p (linked_history t e right) at in
-    subst (λ m. KeepsGroups (batch_at t m).sizes (length (batch_at t m).requests) p.attempt.certificate) (committed_number t e (suc n) p right at)
-    (and_parts (keeps_groups (batch_at t p.attempt.seq).sizes (request_count t p.attempt) p.attempt.certificate) _ linked.certificate).0
+    subst (λ m. KeepsGroups (batch_at t m).sizes (length (batch_at t m).requests) p.attempt.certificate)
+    (committed_number t e (suc n) p right at)
+    (and_parts (keeps_groups (batch_at t p.attempt.seq).sizes (request_count t p.attempt) p.attempt.certificate) _
+    linked.certificate).0

@@ -1,5 +1,6 @@
 -- The opening balances, customer by customer.
-use Rattle.std.proofs.Common.{◌≡◌, ℕ, ℤ, suc, ◌+◌, ◌*◌, ◌<◌, List, [], ◌∷◌, ◌++◌, take, length, set, slice_get, Some, refl, sym, ap, ◌∙◌, append_assoc, arith}
+use Rattle.std.proofs.Common.{◌≡◌, ℕ, ℤ, suc, ◌+◌, ◌*◌, ◌<◌, List, [], ◌∷◌, ◌++◌, take, length, set, slice_get, Some}
+use Rattle.std.proofs.Common.{refl, sym, ap, ◌∙◌, append_assoc, arith}
 use Rattle.std.proofs.lemmas.List.{take_more, take_more_set, length-set}
 use Rattle.std.proofs.lemmas.Option.{get_or_from_slice_get, slice_get_within}
 use Rattle.std.proofs.lemmas.Grind.{flat_map-append}
@@ -14,7 +15,8 @@ length-opening_rows (x ∷ xs) = twice (length (opening_rows xs)) (length xs) (l
     twice m n e = omega arith
 
 -- one customer more, whose two rows get its balances
-pub opening_more : (customers : List Customer) (i : ℕ) (c : Customer) (old : List ℤ) (saving checking : ℤ) → slice_get customers i ≡ Some c → length old ≡ 2 * length customers
+pub opening_more : (customers : List Customer) (i : ℕ) (c : Customer) (old : List ℤ) (saving checking : ℤ)
+    → slice_get customers i ≡ Some c → length old ≡ 2 * length customers
     → take (2 * i) old ≡ opening_rows (take i customers) → saving ≡ c.saving → checking ≡ c.checking
     → take (2 * (i + 1)) (set (set old (2 * i) saving) (2 * i + 1) checking) ≡ opening_rows (take (i + 1) customers)
 opening_more customers i c old saving checking at long so own other =

@@ -1,5 +1,6 @@
 -- Batches kept as one list: each part, and what one more changes.
-use Rattle.std.proofs.Common.{◌≡◌, ◌≢◌, ℕ, zero, suc, ◌+◌, ◌-◌, ◌<◌, ◌≤◌, List, [], ◌∷◌, ◌++◌, take, drop, length, slice_get, slice_index_or, Some, refl, sym, subst, ap, ◌∙◌, arith}
+use Rattle.std.proofs.Common.{◌≡◌, ◌≢◌, ℕ, zero, suc, ◌+◌, ◌-◌, ◌<◌, ◌≤◌, List, [], ◌∷◌, ◌++◌, take, drop, length}
+use Rattle.std.proofs.Common.{slice_get, slice_index_or, Some, refl, sym, subst, ap, ◌∙◌, arith}
 use Rattle.std.specs.List.{list_all}
 use Rattle.std.proofs.lemmas.Bool.{and_parts, and_from}
 use Rattle.std.proofs.lemmas.List.{take_all, take-map, drop-map, drop-append-le, length-append, length-drop}
@@ -55,13 +56,16 @@ pub record LiesWithin (begins end to : ℕ) : Type 0 where
   pub rises : begins ≤ end
   pub inside : end ≤ to
 
-pub lies_within : (from : ℕ) (ends : List ℕ) (to i end : ℕ) → DoRise from ends to → slice_get ends i ≡ Some end → LiesWithin (begin from ends i) end to
+pub lies_within : (from : ℕ) (ends : List ℕ) (to i end : ℕ) → DoRise from ends to → slice_get ends i ≡ Some end
+    → LiesWithin (begin from ends i) end to
 lies_within from [] to i end rise at = none≢some end at
 lies_within from (e ∷ ends) to zero end rise at =
-    subst (λ n. LiesWithin from n to) (some_injective e end at) (record { rises = rise.0; inside = rise_up e ends to rise.1 })
+    subst (λ n. LiesWithin from n to) (some_injective e end at)
+    (record { rises = rise.0; inside = rise_up e ends to rise.1 })
 lies_within from (e ∷ ends) to (suc i) end rise at = lies_within e ends to i end rise.1 at
 
-pub said_between : (views : List AccessView) (from n : ℕ) → all_said (take n (drop from views)) ≡ take n (drop from (all_said views))
+pub said_between : (views : List AccessView) (from n : ℕ) → all_said (take n (drop from views))
+    ≡ take n (drop from (all_said views))
 said_between views from n = sym (take-map said n (drop from views)) ∙ ap (take n) (sym (drop-map said from views))
 
 -- ---- one part more
@@ -71,13 +75,16 @@ take_front zero xs ys le = refl
 take_front (suc n) [] ys le = absurd (omega arith)
 take_front (suc n) (x ∷ xs) ys le = ap (λ zs. x ∷ zs) (take_front n xs ys (omega arith))
 
-part_behind : (from end : ℕ) (xs ys : List (ℕ × Access)) → from ≤ end → end ≤ length xs → take (end - from) (drop from (xs ++ ys)) ≡ take (end - from) (drop from xs)
+part_behind : (from end : ℕ) (xs ys : List (ℕ × Access)) → from ≤ end → end ≤ length xs
+    → take (end - from) (drop from (xs ++ ys)) ≡ take (end - from) (drop from xs)
 part_behind from end xs ys up inside =
     let long : length (drop from xs) ≡ length xs - from = length-drop from xs in
-    ap (take (end - from)) (drop-append-le from xs ys (omega arith)) ∙ take_front (end - from) (drop from xs) ys (omega arith)
+    ap (take (end - from)) (drop-append-le from xs ys (omega arith))
+    ∙ take_front (end - from) (drop from xs) ys (omega arith)
 
 -- records behind the last end change no part
-parts_behind : (from : ℕ) (xs ys : List (ℕ × Access)) (ends : List ℕ) → DoRise from ends (length xs) → parts from (xs ++ ys) ends ≡ parts from xs ends
+parts_behind : (from : ℕ) (xs ys : List (ℕ × Access)) (ends : List ℕ) → DoRise from ends (length xs)
+    → parts from (xs ++ ys) ends ≡ parts from xs ends
 parts_behind from xs ys [] rise = refl
 parts_behind from xs ys (e ∷ ends) rise =
     λ i. part_behind from e xs ys rise.0 (rise_up e ends (length xs) rise.1) i ∷ parts_behind e xs ys ends rise.1 i
@@ -94,38 +101,48 @@ parts_more from xs ys [] rise =
 parts_more from xs ys (e ∷ ends) rise =
     λ i. part_behind from e xs ys rise.0 (rise_up e ends (length xs) rise.1) i ∷ parts_more e xs ys ends rise.1 i
 
-pub rise_more : (from : ℕ) (ends : List ℕ) (to more : ℕ) → to ≤ more → DoRise from ends to → DoRise from (ends ++ more ∷ []) more
+pub rise_more : (from : ℕ) (ends : List ℕ) (to more : ℕ) → to ≤ more → DoRise from ends to
+    → DoRise from (ends ++ more ∷ []) more
 rise_more from [] to more le rise = (subst (λ n. n ≤ more) (sym rise) le, refl)
 rise_more from (e ∷ ends) to more le rise = (rise.0, rise_more e ends to more le rise.1)
 
 -- ---- records of these rows
 
-pub within_both : (rows : ℕ) (xs ys : List (ℕ × Access)) → AreWithin rows xs → AreWithin rows ys → AreWithin rows (xs ++ ys)
+pub within_both : (rows : ℕ) (xs ys : List (ℕ × Access)) → AreWithin rows xs → AreWithin rows ys
+    → AreWithin rows (xs ++ ys)
 within_both rows [] ys own other = other
 within_both rows (x ∷ xs) ys own other =
-    let both = and_parts (list_all (is_entry rows) x.1.entries) (list_all (λ y. list_all (is_entry rows) y.1.entries) xs) own in
-    and_from (list_all (is_entry rows) x.1.entries) (list_all (λ y. list_all (is_entry rows) y.1.entries) (xs ++ ys)) both.0 (within_both rows xs ys both.1 other)
+    let both = and_parts (list_all (is_entry rows) x.1.entries)
+    (list_all (λ y. list_all (is_entry rows) y.1.entries) xs) own in
+    and_from (list_all (is_entry rows) x.1.entries) (list_all (λ y. list_all (is_entry rows) y.1.entries) (xs ++ ys))
+    both.0 (within_both rows xs ys both.1 other)
 
 within_drop : (rows n : ℕ) (xs : List (ℕ × Access)) → AreWithin rows xs → AreWithin rows (drop n xs)
 within_drop rows zero xs own = own
 within_drop rows (suc n) [] own = own
 within_drop rows (suc n) (x ∷ xs) own =
-    within_drop rows n xs (and_parts (list_all (is_entry rows) x.1.entries) (list_all (λ y. list_all (is_entry rows) y.1.entries) xs) own).1
+    within_drop rows n xs (and_parts (list_all (is_entry rows) x.1.entries)
+    (list_all (λ y. list_all (is_entry rows) y.1.entries) xs) own).1
 
 within_take : (rows n : ℕ) (xs : List (ℕ × Access)) → AreWithin rows xs → AreWithin rows (take n xs)
 within_take rows zero xs own = refl
 within_take rows (suc n) [] own = refl
 within_take rows (suc n) (x ∷ xs) own =
-    let both = and_parts (list_all (is_entry rows) x.1.entries) (list_all (λ y. list_all (is_entry rows) y.1.entries) xs) own in
-    and_from (list_all (is_entry rows) x.1.entries) (list_all (λ y. list_all (is_entry rows) y.1.entries) (take n xs)) both.0 (within_take rows n xs both.1)
+    let both = and_parts (list_all (is_entry rows) x.1.entries)
+    (list_all (λ y. list_all (is_entry rows) y.1.entries) xs) own in
+    and_from (list_all (is_entry rows) x.1.entries) (list_all (λ y. list_all (is_entry rows) y.1.entries) (take n xs))
+    both.0 (within_take rows n xs both.1)
 
 -- each part is of the rows that all are of
-pub part_within : (rows from : ℕ) (xs : List (ℕ × Access)) (ends : List ℕ) (i : ℕ) (ys : List (ℕ × Access)) → AreWithin rows xs → slice_get (parts from xs ends) i ≡ Some ys → AreWithin rows ys
+pub part_within : (rows from : ℕ) (xs : List (ℕ × Access)) (ends : List ℕ) (i : ℕ) (ys : List (ℕ × Access))
+    → AreWithin rows xs → slice_get (parts from xs ends) i ≡ Some ys → AreWithin rows ys
 part_within rows from xs [] i ys own at = none≢some ys at
-part_within rows from xs (e ∷ ends) zero ys own at = subst (AreWithin rows) (some_injective _ ys at) (within_take rows (e - from) (drop from xs) (within_drop rows from xs own))
+part_within rows from xs (e ∷ ends) zero ys own at = subst (AreWithin rows) (some_injective _ ys at)
+    (within_take rows (e - from) (drop from xs) (within_drop rows from xs own))
 part_within rows from xs (e ∷ ends) (suc i) ys own at = part_within rows e xs ends i ys own at
 
-pub part_read : (views : List AccessView) (ends : List ℕ) (i from to : ℕ) (part : List AccessView) → slice_get ends i ≡ Some to → from ≡ begin 0 ends i → part ≡ take (to - from) (drop from views)
+pub part_read : (views : List AccessView) (ends : List ℕ) (i from to : ℕ) (part : List AccessView) → slice_get ends i
+    ≡ Some to → from ≡ begin 0 ends i → part ≡ take (to - from) (drop from views)
     → slice_get (parts 0 (all_said views) ends) i ≡ Some (all_said part)
 part_read views ends i from to part at is so =
     part_at 0 (all_said views) ends i to at ∙ ap (λ n. Some (take (to - n) (drop n (all_said views)))) (sym is)

@@ -1,6 +1,8 @@
 -- Two permutations of the same indexes list the same things in another order.
-use Rattle.std.proofs.Common.{◌≡◌, ℕ, zero, suc, ◌≤◌, ◌<◌, Bool, true, false, cond, ◌==◌, nat_lt, List, [], ◌∷◌, ◌++◌, map, refl, sym, subst, ap, ◌∙◌, inl, inr, arith}
-use Rattle.std.proofs.lemmas.Bool.{cases_Bool, cases_lt, cases_eq, and_parts, eqb-true, eq-eqb, ne_eqb, ltb-true, cond-true, cond-false}
+use Rattle.std.proofs.Common.{◌≡◌, ℕ, zero, suc, ◌≤◌, ◌<◌, Bool, true, false, cond, ◌==◌, nat_lt, List, [], ◌∷◌, ◌++◌}
+use Rattle.std.proofs.Common.{map, refl, sym, subst, ap, ◌∙◌, inl, inr, arith}
+use Rattle.std.proofs.lemmas.Bool.{cases_Bool, cases_lt, cases_eq, and_parts, eqb-true, eq-eqb, ne_eqb, ltb-true}
+use Rattle.std.proofs.lemmas.Bool.{cond-true, cond-false}
 use Rattle.std.proofs.lemmas.List.{map-append}
 use Rattle.std.specs.List.{list_all}
 use Rattle.eve_grammar.specs.Certificate.{occurrences, all_below, is_permutation}
@@ -8,11 +10,14 @@ use Rattle.eve_smallbank.specs.Conflict.{IsReordering}
 
 -- ---- from counts
 
-occurrences-middle : (i x : ℕ) (front back : List ℕ) → occurrences i (front ++ x ∷ back) ≡ cond (x == i) (suc (occurrences i (front ++ back))) (occurrences i (front ++ back))
+occurrences-middle : (i x : ℕ) (front back : List ℕ) → occurrences i (front ++ x ∷ back)
+    ≡ cond (x == i) (suc (occurrences i (front ++ back))) (occurrences i (front ++ back))
 occurrences-middle i x [] back = refl
-occurrences-middle i x (y ∷ front) back = ap (λ n. cond (y == i) (suc n) n) (occurrences-middle i x front back) ∙ exchange (y == i) (x == i) (occurrences i (front ++ back))
+occurrences-middle i x (y ∷ front) back = ap (λ n. cond (y == i) (suc n) n) (occurrences-middle i x front back)
+    ∙ exchange (y == i) (x == i) (occurrences i (front ++ back))
   where
-    exchange : (b c : Bool) (n : ℕ) → cond b (suc (cond c (suc n) n)) (cond c (suc n) n) ≡ cond c (suc (cond b (suc n) n)) (cond b (suc n) n)
+    exchange : (b c : Bool) (n : ℕ) → cond b (suc (cond c (suc n) n)) (cond c (suc n) n)
+        ≡ cond c (suc (cond b (suc n) n)) (cond b (suc n) n)
     exchange true true n = refl
     exchange true false n = refl
     exchange false true n = refl
@@ -25,14 +30,16 @@ found x (y ∷ ys) h =
     elim (cases_Bool (y == x)) [
       | inl e ↦ ([], ys, ap (λ z. z ∷ ys) (eqb-true y x e))
       | inr e ↦
-          let rest = found x ys (subst (λ n. 0 < n) (cond-false (y == x) (suc (occurrences x ys)) (occurrences x ys) e) h) in
+          let rest = found x ys (subst (λ n. 0 < n) (cond-false (y == x) (suc (occurrences x ys)) (occurrences x ys) e)
+          h) in
           (y ∷ rest.0, rest.1, ap (λ (zs : List ℕ). y ∷ zs) rest.2)
     ]
 
 none_left : (ys : List ℕ) → ((i : ℕ) → 0 ≡ occurrences i ys) → ys ≡ []
 none_left [] h = refl
 none_left (y ∷ ys) h =
-    let e : 0 ≡ suc (occurrences y ys) = h y ∙ cond-true (y == y) (suc (occurrences y ys)) (occurrences y ys) (eq-eqb y y refl) in
+    let e : 0 ≡ suc (occurrences y ys) = h y ∙ cond-true (y == y) (suc (occurrences y ys)) (occurrences y ys)
+    (eq-eqb y y refl) in
     absurd (omega arith)
 
 same_rest : (b : Bool) (m n : ℕ) → cond b (suc m) m ≡ cond b (suc n) n → m ≡ n
@@ -42,12 +49,15 @@ same_rest false m n e = e
 reordering_from_counts : (xs ys : List ℕ) → ((i : ℕ) → occurrences i xs ≡ occurrences i ys) → IsReordering xs ys
 reordering_from_counts [] ys h = none_left ys h
 reordering_from_counts (x ∷ xs) ys h =
-    let here : 0 < occurrences x ys = subst (λ n. 0 < n) (sym (cond-true (x == x) (suc (occurrences x xs)) (occurrences x xs) (eq-eqb x x refl)) ∙ h x) (omega arith) in
+    let here : 0 < occurrences x ys =
+    subst (λ n. 0 < n) (sym (cond-true (x == x) (suc (occurrences x xs)) (occurrences x xs) (eq-eqb x x refl))
+    ∙ h x) (omega arith) in
     let at = found x ys here in (
       at.0,
       at.1,
       at.2,
-      reordering_from_counts xs (at.0 ++ at.1) (λ i. same_rest (x == i) (occurrences i xs) (occurrences i (at.0 ++ at.1))
+      reordering_from_counts xs (at.0 ++ at.1)
+          (λ i. same_rest (x == i) (occurrences i xs) (occurrences i (at.0 ++ at.1))
           (h i ∙ ap (occurrences i) at.2 ∙ occurrences-middle i x at.0 at.1)),
     )
 
@@ -67,9 +77,11 @@ none_above r i [] h k = refl
 none_above r i (x ∷ xs) h k =
     let parts = and_parts (nat_lt x r) (list_all (λ j. nat_lt j r) xs) h in
     let below : x < r = ltb-true x r parts.0 in
-    cond-false (x == i) (suc (occurrences i xs)) (occurrences i xs) (ne_eqb x i (λ e. omega arith)) ∙ none_above r i xs parts.1 k
+    cond-false (x == i) (suc (occurrences i xs)) (occurrences i xs) (ne_eqb x i (λ e. omega arith))
+    ∙ none_above r i xs parts.1 k
 
-same_counts : (r : ℕ) (xs ys : List ℕ) → is_permutation r xs ≡ true → is_permutation r ys ≡ true → (i : ℕ) → occurrences i xs ≡ occurrences i ys
+same_counts : (r : ℕ) (xs ys : List ℕ) → is_permutation r xs ≡ true → is_permutation r ys ≡ true → (i : ℕ)
+    → occurrences i xs ≡ occurrences i ys
 same_counts r xs ys h k i =
     let p = and_parts (list_all (λ j. nat_lt j r) xs) (all_below r (λ j. occurrences j xs == 1)) h in
     let q = and_parts (list_all (λ j. nat_lt j r) ys) (all_below r (λ j. occurrences j ys == 1)) k in
@@ -81,7 +93,8 @@ same_counts r xs ys h k i =
 
 -- ---- of what the indexes stand for
 
-pub reordering_map : {A B : Type 0} (f : A → B) (xs ys : List A) → IsReordering xs ys → IsReordering (map f xs) (map f ys)
+pub reordering_map : {A B : Type 0} (f : A → B) (xs ys : List A) → IsReordering xs ys
+    → IsReordering (map f xs) (map f ys)
 reordering_map f [] ys r = ap (map f) r
 reordering_map f (x ∷ xs) ys r = (
   map f r.0,
@@ -90,5 +103,7 @@ reordering_map f (x ∷ xs) ys r = (
   subst (IsReordering (map f xs)) (map-append f r.0 r.1) (reordering_map f xs (r.0 ++ r.1) r.3),
 )
 
-pub reordering_of_permutations : {A : Type 0} (f : ℕ → A) (r : ℕ) (xs ys : List ℕ) → is_permutation r xs ≡ true → is_permutation r ys ≡ true → IsReordering (map f xs) (map f ys)
-reordering_of_permutations f r xs ys h k = reordering_map f xs ys (reordering_from_counts xs ys (same_counts r xs ys h k))
+pub reordering_of_permutations : {A : Type 0} (f : ℕ → A) (r : ℕ) (xs ys : List ℕ) → is_permutation r xs ≡ true
+    → is_permutation r ys ≡ true → IsReordering (map f xs) (map f ys)
+reordering_of_permutations f r xs ys h k =
+    reordering_map f xs ys (reordering_from_counts xs ys (same_counts r xs ys h k))

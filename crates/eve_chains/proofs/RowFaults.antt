@@ -1,5 +1,6 @@
 -- What is wrong on the rows is what is wrong along the records.
-use Rattle.std.proofs.Common.{◌≡◌, ◌≢◌, inl, inr, ℕ, ◌+◌, ◌||◌, Some, length, ◌==◌, Bool, true, List, [], ◌∷◌, ◌++◌, map, filter, flat_map, refl, sym, subst, ap, ◌∙◌, append_assoc, append-nil}
+use Rattle.std.proofs.Common.{◌≡◌, ◌≢◌, inl, inr, ℕ, ◌+◌, ◌||◌, Some, length, ◌==◌, Bool, true, List, [], ◌∷◌, ◌++◌}
+use Rattle.std.proofs.Common.{map, filter, flat_map, refl, sym, subst, ap, ◌∙◌, append_assoc, append-nil}
 use Rattle.std.proofs.lemmas.Bool.{eqb-true, eq-eqb, ne_eqb}
 use Rattle.std.proofs.lemmas.List.{map-append}
 use Rattle.std.proofs.lemmas.Grind.{flat_map-append}
@@ -16,7 +17,7 @@ use Rattle.eve_views.specs.declared.fault.Code.{Code}
 use Rattle.eve_views.specs.declared.fault.Code.TheVariants as code
 use Rattle.eve_views.specs.declared.fault.Fault.{Fault}
 use Rattle.eve_history.specs.Section.{Placed, settled}
-use Rattle.eve_history.specs.Told.{ordered, history, names_of, IsRightSection, is_committed, is_discarded}
+use Rattle.eve_history.specs.SectionHistory.{ordered, history, names_of, IsRightSection, is_committed, is_discarded}
 use Rattle.eve_history.specs.declared.fate.Fate.{Fate}
 use Rattle.eve_history.specs.declared.fate.Fate.TheVariants.{Committed, Discarded, Open}
 use Rattle.eve_grammar.specs.Frames.{OfAccess, OfAttempt}
@@ -29,7 +30,8 @@ use Rattle.eve_chains.proofs.Distinct.{in_map, in_source, in_split}
 use Rattle.eve_chains.proofs.Faultless.{place_of, in_place, standing, in_located}
 use Rattle.eve_chains.proofs.Walks.{right_one, complete_one}
 use Rattle.eve_chains.proofs.Attempts.{from_ordered}
-use Rattle.eve_chains.specs.Rows.{Fated, told_of, settles, Noted, noted_by, noted_in, all_noted, of_row, met_by, pair_after, SeesAnother, IsWrongOnRow, EachSees}
+use Rattle.eve_chains.specs.Rows.{Fated, told_of, settles, Noted, noted_by, noted_in, all_noted, of_row, met_by}
+use Rattle.eve_chains.specs.Rows.{pair_after, SeesAnother, IsWrongOnRow, EachSees}
 use Rattle.eve_chains.proofs.Loading.{own}
 use Rattle.eve_chains.proofs.Paths.{all_placed, view_of, committed_told, discarded_told}
 use Rattle.eve_chains.proofs.Meeting.{filter_kept, filter_dropped, settled_there, meets_visible}
@@ -39,17 +41,22 @@ abbrev noted_entry : ℕ → ℕ → Bool → Entry → Noted
 noted_entry at view commits e = record { offset = at; view = view; commits = commits; entry = e }
 
 -- of a request's entries on distinct rows none before this one is of its row
-none_before : (at view : ℕ) (commits : Bool) (row : ℕ) (before : List Entry) (e : Entry) (rest : List Entry) → AreDistinct (map (λ d. d.row) (before ++ e ∷ rest)) → e.row ≡ row
+none_before : (at view : ℕ) (commits : Bool) (row : ℕ) (before : List Entry) (e : Entry) (rest : List Entry)
+    → AreDistinct (map (λ d. d.row) (before ++ e ∷ rest)) → e.row ≡ row
     → of_row row (map (noted_entry at view commits) before) ≡ []
 none_before at view commits row [] e rest apart its = refl
 none_before at view commits row (d ∷ before) e rest apart its =
-    filter_dropped (λ (n : Noted). n.entry.row == row) (noted_entry at view commits d) (map (noted_entry at view commits) before) (ne_eqb d.row row other) ∙ none_before at view commits row before e rest apart.1 its
+    filter_dropped (λ (n : Noted). n.entry.row == row) (noted_entry at view commits d)
+    (map (noted_entry at view commits) before) (ne_eqb d.row row other)
+    ∙ none_before at view commits row before e rest apart.1 its
   where
     other : d.row ≡ row → ⊥
-    other same = all_in (λ n. ¬ (n ≡ d.row)) apart.0 (in_map (λ (x : Entry). x.row) (before ++ e ∷ rest) (in_middle e before rest)) (its ∙ sym same)
+    other same = all_in (λ n. ¬ (n ≡ d.row)) apart.0
+        (in_map (λ (x : Entry). x.row) (before ++ e ∷ rest) (in_middle e before rest)) (its ∙ sym same)
 
 -- the fault at an entry is one at its record
-at_record : (c : Code) (table : Table) (es : List Entry) (e : Entry) → In e es → SeesAnother c (table e.row) e → SeesOther c table es
+at_record : (c : Code) (table : Table) (es : List Entry) (e : Entry) → In e es → SeesAnother c (table e.row) e
+    → SeesOther c table es
 at_record code.Version table es e i other = place_of (λ d. d.version ≢ (table d.row).version) es i other
 at_record code.Value table es e i other = place_of (λ d. d.seen ≢ (table d.row).value) es i other
 at_record _ table es e i other = absurd other
@@ -63,8 +70,10 @@ record OtherAt (c : Code) (table : Table) (es : List Entry) : Type 0 where
   other : SeesAnother c (table item.row) item
 
 other_at : (c : Code) (table : Table) (es : List Entry) → SeesOther c table es → OtherAt c table es
-other_at code.Version table es place = record { before = place.before; item = place.item; rest = place.rest; is = place.is; other = place.holds }
-other_at code.Value table es place = record { before = place.before; item = place.item; rest = place.rest; is = place.is; other = place.holds }
+other_at code.Version table es place =
+    record { before = place.before; item = place.item; rest = place.rest; is = place.is; other = place.holds }
+other_at code.Value table es place =
+    record { before = place.before; item = place.item; rest = place.rest; is = place.is; other = place.holds }
 other_at _ table es place = absurd place
 
 -- where an attempt stands among those told
@@ -76,12 +85,21 @@ record ToldAt (told : List Fated) (p : Placed) : Type 0 where
   passes : settles item ≡ true
   same : item.placed ≡ p
 
-told_at : (told : List Fated) (test : Fate → Bool) → ((f : Fate) → test f ≡ true → (is_committed f || is_discarded f) ≡ true) → (p : Placed) → In p (all_placed (filter (λ y. test y.fate) told)) → ToldAt told p
+told_at : (told : List Fated) (test : Fate → Bool)
+    → ((f : Fate) → test f ≡ true → (is_committed f || is_discarded f) ≡ true) → (p : Placed)
+    → In p (all_placed (filter (λ y. test y.fate) told)) → ToldAt told p
 told_at told test only p i =
     let s = in_source (λ (y : Fated). y.placed) (filter (λ y. test y.fate) told) i in
     let z = standing (filter (λ y. test y.fate) told) s.there_is in
     let c = filter_cut (λ y. test y.fate) told z.before s.item z.rest z.is in
-    record { front = c.front; item = s.item; back = c.back; is = c.is; passes = only s.item.fate c.passes; same = sym s.is }
+    record {
+      front = c.front;
+      item = s.item;
+      back = c.back;
+      is = c.is;
+      passes = only s.item.fate c.passes;
+      same = sym s.is;
+    }
 
 committed_settles : (f : Fate) → is_committed f ≡ true → (is_committed f || is_discarded f) ≡ true
 committed_settles f e = ap (λ (b : Bool). b || is_discarded f) e
@@ -92,44 +110,63 @@ discarded_settles Discarded e = refl
 discarded_settles Open e = e
 
 module _ (t : Trace) (e : ℕ) (limits : HasLimits t) (right : IsRightSection t e)
-    (apart : (y : Fated) → In y (told_of t e) → settles y ≡ true → (x : ℕ × Access) → In x (own y.placed) → AreDistinct (map (λ d. d.row) x.1.entries)) where
+    (apart : (y : Fated) → In y (told_of t e) → settles y ≡ true → (x : ℕ × Access) → In x (own y.placed)
+    → AreDistinct (map (λ d. d.row) x.1.entries)) where
   -- a fault on a row stands at some record
-  pub row_fault_stands : (row : ℕ) (f : Fault) → IsWrongOnRow e (opening_table t row) (of_row row (all_noted (told_of t e))) f → IsWrongSomewhere t e f
+  pub row_fault_stands : (row : ℕ) (f : Fault)
+      → IsWrongOnRow e (opening_table t row) (of_row row (all_noted (told_of t e))) f → IsWrongSomewhere t e f
   row_fault_stands row f wrong =
       let place = wrong.stands in
       let n = place.item in
-      let a = filter_cut (λ (m : Noted). m.entry.row == row) (all_noted (told_of t e)) place.before n place.rest place.is in
+      let a = filter_cut (λ (m : Noted). m.entry.row == row) (all_noted (told_of t e)) place.before n place.rest
+      place.is in
       let b = flat_cut noted_in (filter settles (told_of t e)) a.front n a.back a.is in
       let c = filter_cut settles (told_of t e) b.earlier b.item b.later b.is in
-      let d = flat_cut (noted_by (view_of b.item) (is_committed b.item.fate)) (own b.item.placed) b.front n b.back b.inner in
-      let m = map_cut (noted_entry d.item.0 (view_of b.item) (is_committed b.item.fate)) d.item.1.entries d.front n d.back d.inner in
+      let d = flat_cut (noted_by (view_of b.item) (is_committed b.item.fate)) (own b.item.placed) b.front n b.back
+      b.inner in
+      let m = map_cut (noted_entry d.item.0 (view_of b.item) (is_committed b.item.fate)) d.item.1.entries d.front n
+      d.back d.inner in
       let its : n.entry.row ≡ row = eqb-true n.entry.row row a.passes in
       let same : n.entry ≡ m.item = ap (λ (k : Noted). k.entry) m.it in
       let there_is : In b.item (told_of t e) = subst (In b.item) (sym c.is) (in_middle b.item c.front c.back) in
-      let record_there : In d.item (own b.item.placed) = subst (In d.item) (sym d.is) (in_middle d.item d.earlier d.later) in
+      let record_there : In d.item (own b.item.placed) =
+      subst (In d.item) (sym d.is) (in_middle d.item d.earlier d.later) in
       let none : of_row row d.front ≡ [] =
-      ap (of_row row) m.same ∙ none_before d.item.0 (view_of b.item) (is_committed b.item.fate) row m.earlier m.item m.later
-      (subst (λ (es : List Entry). AreDistinct (map (λ k. k.row) es)) m.is (apart b.item there_is c.passes d.item record_there)) (ap (λ (k : Entry). k.row) (sym same) ∙ its) in
+      ap (of_row row) m.same ∙ none_before d.item.0 (view_of b.item) (is_committed b.item.fate) row m.earlier m.item
+      m.later
+      (subst (λ (es : List Entry). AreDistinct (map (λ k. k.row) es)) m.is
+      (apart b.item there_is c.passes d.item record_there)) (ap (λ (k : Entry). k.row) (sym same) ∙ its) in
       let mine = flat_map (noted_by (view_of b.item) (is_committed b.item.fate)) d.earlier in
       let all : a.front ≡ (all_noted c.front ++ mine) ++ d.front =
-      b.same ∙ (λ i. flat_map noted_in (sym c.same i) ++ d.same i) ∙ sym (append_assoc (all_noted c.front) mine d.front) in
+      b.same ∙ (λ i. flat_map noted_in (sym c.same i) ++ d.same i)
+      ∙ sym (append_assoc (all_noted c.front) mine d.front) in
       let before : place.before ≡ of_row row (all_noted c.front ++ mine) =
-      sym a.same ∙ ap (of_row row) all ∙ filter-append (λ (k : Noted). k.entry.row == row) (all_noted c.front ++ mine) d.front
-      ∙ ap (λ (ks : List Noted). of_row row (all_noted c.front ++ mine) ++ ks) none ∙ append-nil (of_row row (all_noted c.front ++ mine)) in
+      sym a.same ∙ ap (of_row row) all ∙ filter-append (λ (k : Noted). k.entry.row == row) (all_noted c.front ++ mine)
+      d.front
+      ∙ ap (λ (ks : List Noted). of_row row (all_noted c.front ++ mine) ++ ks) none
+      ∙ append-nil (of_row row (all_noted c.front ++ mine)) in
       let table = table_after (table_along t b.item.placed.path) (entries_along d.earlier) in
       let met : met_by (pair_after (opening_table t row) place.before) n ≡ table n.entry.row =
       ap (λ (ks : List Noted). met_by (pair_after (opening_table t row) ks) n) before
-      ∙ meets_visible t e limits right c.front b.item c.back c.is c.passes d.earlier row n (ap (λ (k : Noted). k.view) m.it) ∙ ap table (sym its) in
-      let other : SeesAnother f.code (table n.entry.row) n.entry = subst (λ (v : Versioned). SeesAnother f.code v n.entry) met place.holds.1 in
-      let member : In n.entry d.item.1.entries = subst (λ (k : Entry). In k d.item.1.entries) (sym same) (subst (In m.item) (sym m.is) (in_middle m.item m.earlier m.later)) in
-      place_of (λ p. IsWrongAlong e (table_along t p.path) (ordered p.offset p.attempt) f) (settled (history t e)) (settled_there t e limits right b.item there_is c.passes)
+      ∙ meets_visible t e limits right c.front b.item c.back c.is c.passes d.earlier row n
+      (ap (λ (k : Noted). k.view) m.it) ∙ ap table (sym its) in
+      let other : SeesAnother f.code (table n.entry.row) n.entry =
+      subst (λ (v : Versioned). SeesAnother f.code v n.entry) met place.holds.1 in
+      let member : In n.entry d.item.1.entries = subst (λ (k : Entry). In k d.item.1.entries) (sym same)
+      (subst (In m.item) (sym m.is) (in_middle m.item m.earlier m.later)) in
+      place_of (λ p. IsWrongAlong e (table_along t p.path) (ordered p.offset p.attempt) f) (settled (history t e))
+      (settled_there t e limits right b.item there_is c.passes)
       (record {
         stands = record {
           before = d.earlier;
           item = d.item;
           rest = d.later;
           is = d.is;
-          holds = (sym (ap (λ (k : Noted). k.offset) m.it) ∙ place.holds.0, at_record f.code table d.item.1.entries n.entry member other);
+          holds = (
+            sym (ap (λ (k : Noted). k.offset) m.it)
+                ∙ place.holds.0,
+            at_record f.code table d.item.1.entries n.entry member other,
+          );
         };
         inside = wrong.inside;
       })
@@ -137,12 +174,15 @@ module _ (t : Trace) (e : ℕ) (limits : HasLimits t) (right : IsRightSection t 
   its_place : (p : Placed) → In p (settled (history t e)) → ToldAt (told_of t e) p
   its_place p i =
       elim (in_split (history t e).committed (history t e).discarded i) [
-        | inl j ↦ told_at (told_of t e) is_committed committed_settles p (subst (In p) (sym (committed_told t e right)) j)
-        | inr j ↦ told_at (told_of t e) is_discarded discarded_settles p (subst (In p) (sym (discarded_told t e right)) j)
+        | inl j ↦ told_at (told_of t e) is_committed committed_settles p
+            (subst (In p) (sym (committed_told t e right)) j)
+        | inr j ↦ told_at (told_of t e) is_discarded discarded_settles p
+            (subst (In p) (sym (discarded_told t e right)) j)
       ]
 
   -- where what is noted at an entry stands
-  module _ (front : List Fated) (y : Fated) (back : List Fated) (is : told_of t e ≡ front ++ y ∷ back) (done : settles y ≡ true)
+  module _ (front : List Fated) (y : Fated) (back : List Fated) (is : told_of t e ≡ front ++ y ∷ back)
+      (done : settles y ≡ true)
       (xs : List (ℕ × Access)) (x : ℕ × Access) (zs : List (ℕ × Access)) (its : own y.placed ≡ xs ++ x ∷ zs)
       (before : List Entry) (en : Entry) (rest : List Entry) (entries_is : x.1.entries ≡ before ++ en ∷ rest) where
     abbrev note : Noted
@@ -156,27 +196,40 @@ module _ (t : Trace) (e : ℕ) (limits : HasLimits t) (right : IsRightSection t 
 
     abbrev others : List Noted
     others =
-        map (noted_entry x.0 (view_of y) (is_committed y.fate)) rest ++ (flat_map (noted_by (view_of y) (is_committed y.fate)) zs ++ all_noted back)
+        map (noted_entry x.0 (view_of y) (is_committed y.fate)) rest ++
+        (flat_map (noted_by (view_of y) (is_committed y.fate)) zs ++ all_noted back)
 
-    in_record : noted_by (view_of y) (is_committed y.fate) x ≡ own_before ++ note ∷ map (noted_entry x.0 (view_of y) (is_committed y.fate)) rest
-    in_record = ap (map (noted_entry x.0 (view_of y) (is_committed y.fate))) entries_is ∙ map-append (noted_entry x.0 (view_of y) (is_committed y.fate)) before (en ∷ rest)
+    in_record : noted_by (view_of y) (is_committed y.fate) x
+        ≡ own_before ++ note ∷ map (noted_entry x.0 (view_of y) (is_committed y.fate)) rest
+    in_record = ap (map (noted_entry x.0 (view_of y) (is_committed y.fate))) entries_is
+        ∙ map-append (noted_entry x.0 (view_of y) (is_committed y.fate)) before (en ∷ rest)
 
-    in_attempt : noted_in y ≡ mine ++ (noted_by (view_of y) (is_committed y.fate) x ++ flat_map (noted_by (view_of y) (is_committed y.fate)) zs)
-    in_attempt = ap (flat_map (noted_by (view_of y) (is_committed y.fate))) its ∙ flat_map-append (noted_by (view_of y) (is_committed y.fate)) xs (x ∷ zs)
+    in_attempt : noted_in y ≡ mine ++
+        (noted_by (view_of y) (is_committed y.fate) x ++ flat_map (noted_by (view_of y) (is_committed y.fate)) zs)
+    in_attempt = ap (flat_map (noted_by (view_of y) (is_committed y.fate))) its
+        ∙ flat_map-append (noted_by (view_of y) (is_committed y.fate)) xs (x ∷ zs)
 
     in_all : all_noted (told_of t e) ≡ all_noted front ++ (noted_in y ++ all_noted back)
     in_all =
-        ap all_noted is ∙ ap (flat_map noted_in) (filter-append settles front (y ∷ back) ∙ ap (λ ys. filter settles front ++ ys) (filter_kept settles y back done))
+        ap all_noted is ∙ ap (flat_map noted_in) (filter-append settles front (y ∷ back)
+        ∙ ap (λ ys. filter settles front ++ ys) (filter_kept settles y back done))
         ∙ flat_map-append noted_in (filter settles front) (y ∷ filter settles back)
 
     all_is : all_noted (told_of t e) ≡ ((all_noted front ++ mine) ++ own_before) ++ note ∷ others
     all_is =
-        in_all ∙ ap (λ ns. all_noted front ++ (ns ++ all_noted back)) (in_attempt ∙ ap (λ ns. mine ++ (ns ++ flat_map (noted_by (view_of y) (is_committed y.fate)) zs)) in_record)
-        ∙ ap (λ ns. all_noted front ++ ns) (append_assoc mine ((own_before ++ note ∷ map (noted_entry x.0 (view_of y) (is_committed y.fate)) rest) ++ flat_map (noted_by (view_of y) (is_committed y.fate)) zs) (all_noted back))
-        ∙ sym (append_assoc (all_noted front) mine (((own_before ++ note ∷ map (noted_entry x.0 (view_of y) (is_committed y.fate)) rest) ++ flat_map (noted_by (view_of y) (is_committed y.fate)) zs) ++ all_noted back))
+        in_all ∙ ap (λ ns. all_noted front ++ (ns ++ all_noted back))
+        (in_attempt ∙ ap (λ ns. mine ++ (ns ++ flat_map (noted_by (view_of y) (is_committed y.fate)) zs)) in_record)
+        ∙ ap (λ ns. all_noted front ++ ns)
+        (append_assoc mine ((own_before ++ note ∷ map (noted_entry x.0 (view_of y) (is_committed y.fate)) rest)
+        ++ flat_map (noted_by (view_of y) (is_committed y.fate)) zs) (all_noted back))
+        ∙ sym (append_assoc (all_noted front) mine
+        (((own_before ++ note ∷ map (noted_entry x.0 (view_of y) (is_committed y.fate)) rest) ++ flat_map
+        (noted_by (view_of y) (is_committed y.fate)) zs) ++ all_noted back))
         ∙ ap (λ ns. (all_noted front ++ mine) ++ ns)
-        (append_assoc (own_before ++ note ∷ map (noted_entry x.0 (view_of y) (is_committed y.fate)) rest) (flat_map (noted_by (view_of y) (is_committed y.fate)) zs) (all_noted back)
-        ∙ append_assoc own_before (note ∷ map (noted_entry x.0 (view_of y) (is_committed y.fate)) rest) (flat_map (noted_by (view_of y) (is_committed y.fate)) zs ++ all_noted back))
+        (append_assoc (own_before ++ note ∷ map (noted_entry x.0 (view_of y) (is_committed y.fate)) rest)
+        (flat_map (noted_by (view_of y) (is_committed y.fate)) zs) (all_noted back)
+        ∙ append_assoc own_before (note ∷ map (noted_entry x.0 (view_of y) (is_committed y.fate)) rest)
+        (flat_map (noted_by (view_of y) (is_committed y.fate)) zs ++ all_noted back))
         ∙ sym (append_assoc (all_noted front ++ mine) own_before (note ∷ others))
 
     there_is : In y (told_of t e)
@@ -185,19 +238,26 @@ module _ (t : Trace) (e : ℕ) (limits : HasLimits t) (right : IsRightSection t 
     record_there : In x (own y.placed)
     record_there = subst (In x) (sym its) (in_middle x xs zs)
 
-    row_is : of_row en.row (all_noted (told_of t e)) ≡ of_row en.row (all_noted front ++ mine) ++ note ∷ of_row en.row others
+    row_is : of_row en.row (all_noted (told_of t e)) ≡ of_row en.row (all_noted front ++ mine) ++ note ∷ of_row en.row
+        others
     row_is =
-        ap (of_row en.row) all_is ∙ filter-append (λ (n : Noted). n.entry.row == en.row) ((all_noted front ++ mine) ++ own_before) (note ∷ others)
-        ∙ (λ i. front_is i ++ filter_kept (λ (n : Noted). n.entry.row == en.row) note others (eq-eqb en.row en.row refl) i)
+        ap (of_row en.row) all_is ∙ filter-append (λ (n : Noted). n.entry.row == en.row)
+        ((all_noted front ++ mine) ++ own_before) (note ∷ others)
+        ∙ (λ i. front_is i ++ filter_kept (λ (n : Noted). n.entry.row == en.row) note others (eq-eqb en.row en.row refl)
+        i)
       where
         front_is : of_row en.row ((all_noted front ++ mine) ++ own_before) ≡ of_row en.row (all_noted front ++ mine)
         front_is =
             filter-append (λ (n : Noted). n.entry.row == en.row) (all_noted front ++ mine) own_before
             ∙ ap (λ ns. of_row en.row (all_noted front ++ mine) ++ ns)
-            (none_before x.0 (view_of y) (is_committed y.fate) en.row before en rest (subst (λ (es : List Entry). AreDistinct (map (λ k. k.row) es)) entries_is (apart y there_is done x record_there)) refl)
+            (none_before x.0 (view_of y) (is_committed y.fate) en.row before en rest
+            (subst (λ (es : List Entry). AreDistinct (map (λ k. k.row) es)) entries_is
+            (apart y there_is done x record_there)) refl)
             ∙ append-nil (of_row en.row (all_noted front ++ mine))
 
-    found_there : (f : Fault) → x.0 ≡ f.offset → SeesAnother f.code (table_after (table_along t y.placed.path) (entries_along xs) en.row) en → f.replica ≡ Some e
+    found_there : (f : Fault) → x.0 ≡ f.offset
+        → SeesAnother f.code (table_after (table_along t y.placed.path) (entries_along xs) en.row) en
+        → f.replica ≡ Some e
         → IsWrongOnRow e (opening_table t en.row) (of_row en.row (all_noted (told_of t e))) f
     found_there f at other inside = record {
       stands = record {
@@ -205,58 +265,83 @@ module _ (t : Trace) (e : ℕ) (limits : HasLimits t) (right : IsRightSection t 
         item = note;
         rest = of_row en.row others;
         is = row_is;
-        holds = (at, subst (λ (w : Versioned). SeesAnother f.code w en) (sym (meets_visible t e limits right front y back is done xs en.row note refl)) other);
+        holds = (
+          at,
+          subst (λ (w : Versioned). SeesAnother f.code w en)
+              (sym (meets_visible t e limits right front y back is done xs en.row note refl)) other,
+        );
       };
       inside = inside;
     }
 
-    sees_there : EachSees (opening_table t en.row) (of_row en.row (all_noted (told_of t e))) → Sees (table_after (table_along t y.placed.path) (entries_along xs)) en
+    sees_there : EachSees (opening_table t en.row) (of_row en.row (all_noted (told_of t e)))
+        → Sees (table_after (table_along t y.placed.path) (entries_along xs)) en
     sees_there each =
         let own_seen = each (of_row en.row (all_noted front ++ mine)) note (of_row en.row others) row_is in
         let met = meets_visible t e limits right front y back is done xs en.row note refl in
-        record { version = own_seen.0 ∙ ap (λ (w : Versioned). w.version) met; value = own_seen.1 ∙ ap (λ (w : Versioned). w.value) met }
+        record {
+          version = own_seen.0 ∙ ap (λ (w : Versioned). w.version) met;
+          value = own_seen.1
+              ∙ ap (λ (w : Versioned). w.value) met;
+        }
 
   -- a fault at some record stands on a row
-  pub fault_on_row : (f : Fault) → IsWrongSomewhere t e f → (row : ℕ) × IsWrongOnRow e (opening_table t row) (of_row row (all_noted (told_of t e))) f
+  pub fault_on_row : (f : Fault) → IsWrongSomewhere t e f → (row : ℕ)
+      × IsWrongOnRow e (opening_table t row) (of_row row (all_noted (told_of t e))) f
   fault_on_row f wrong =
       let p = its_place wrong.item (in_place (settled (history t e)) wrong) in
-      let own_wrong = subst (λ q. IsWrongAlong e (table_along t q.path) (ordered q.offset q.attempt) f) (sym p.same) wrong.holds in
+      let own_wrong = subst (λ q. IsWrongAlong e (table_along t q.path) (ordered q.offset q.attempt) f)
+      (sym p.same) wrong.holds in
       let place = own_wrong.stands in
-      let at = other_at f.code (table_after (table_along t p.item.placed.path) (entries_along place.before)) place.item.1.entries place.holds.1 in (
+      let at = other_at f.code (table_after (table_along t p.item.placed.path) (entries_along place.before))
+      place.item.1.entries place.holds.1 in (
         at.item.row,
-        found_there p.front p.item p.back p.is p.passes place.before place.item place.rest place.is at.before at.item at.rest at.is f place.holds.0 at.other own_wrong.inside,
+        found_there p.front p.item p.back p.is p.passes place.before place.item place.rest place.is at.before at.item
+            at.rest at.is f place.holds.0 at.other own_wrong.inside,
       )
 
   -- where each row's entries see what its walk meets, each record sees what it must
-  pub all_rows_see : ((row : ℕ) → EachSees (opening_table t row) (of_row row (all_noted (told_of t e)))) → AllSettledSee t e
+  pub all_rows_see : ((row : ℕ) → EachSees (opening_table t row) (of_row row (all_noted (told_of t e))))
+      → AllSettledSee t e
   all_rows_see each =
       all_from_in (λ p. AllSee (table_along t p.path) (ordered p.offset p.attempt)) (settled (history t e)) (λ p i.
       let q = its_place p i in
-      subst (λ r. AllSee (table_along t r.path) (ordered r.offset r.attempt)) q.same (along q.front q.item q.back q.is q.passes [] (own q.item.placed) refl))
+      subst (λ r. AllSee (table_along t r.path) (ordered r.offset r.attempt)) q.same
+      (along q.front q.item q.back q.is q.passes [] (own q.item.placed) refl))
     where
-      along : (front : List Fated) (y : Fated) (back : List Fated) → told_of t e ≡ front ++ y ∷ back → settles y ≡ true → (xs zs : List (ℕ × Access)) → own y.placed ≡ xs ++ zs
+      along : (front : List Fated) (y : Fated) (back : List Fated) → told_of t e ≡ front ++ y ∷ back → settles y ≡ true
+          → (xs zs : List (ℕ × Access)) → own y.placed ≡ xs ++ zs
           → AllSee (table_after (table_along t y.placed.path) (entries_along xs)) zs
       along front y back is done xs [] its = tt
       along front y back is done xs (x ∷ zs) its = (
         all_from_in (Sees (table_after (table_along t y.placed.path) (entries_along xs))) x.1.entries (λ en i.
             let s = standing x.1.entries i in
             sees_there front y back is done xs x zs its s.before en s.rest s.is (each en.row)),
-        subst (λ (table : Table). AllSee table zs) one_more (along front y back is done (xs ++ x ∷ []) zs (its ∙ sym (append_assoc xs (x ∷ []) zs))),
+        subst (λ (table : Table). AllSee table zs) one_more
+            (along front y back is done (xs ++ x ∷ []) zs (its ∙ sym (append_assoc xs (x ∷ []) zs))),
       )
         where
-          one_more : table_after (table_along t y.placed.path) (entries_along (xs ++ x ∷ [])) ≡ table_after (table_after (table_along t y.placed.path) (entries_along xs)) x.1.entries
+          one_more : table_after (table_along t y.placed.path) (entries_along (xs ++ x ∷ []))
+              ≡ table_after (table_after (table_along t y.placed.path) (entries_along xs)) x.1.entries
           one_more =
-              ap (table_after (table_along t y.placed.path)) (flat_map-append (λ (z : ℕ × Access). z.1.entries) xs (x ∷ []) ∙ ap (λ es. entries_along xs ++ es) (append-nil x.1.entries))
+              ap (table_after (table_along t y.placed.path))
+              (flat_map-append (λ (z : ℕ × Access). z.1.entries) xs (x ∷ [])
+              ∙ ap (λ es. entries_along xs ++ es) (append-nil x.1.entries))
               ∙ table_after-append (table_along t y.placed.path) (entries_along xs) x.1.entries
 
 -- ---- one row each
 
 -- the entries of a record that fits are on distinct rows
-pub rows_apart : (t : Trace) (e : ℕ) → HasLimits t → IsRightSection t e → RecordsFit t e → (y : Fated) → In y (told_of t e) → settles y ≡ true → (x : ℕ × Access) → In x (own y.placed)
+pub rows_apart : (t : Trace) (e : ℕ) → HasLimits t → IsRightSection t e → RecordsFit t e → (y : Fated)
+    → In y (told_of t e) → settles y ≡ true → (x : ℕ × Access) → In x (own y.placed)
     → AreDistinct (map (λ d. d.row) x.1.entries)
 rows_apart t e limits right fits y i done x j =
     let there_is = settled_there t e limits right y i done in
-    let frame = from_ordered t y.placed (right_one t e y.placed right there_is) (complete_one t e y.placed limits there_is) x j in
-    let all = all_in (λ q. AllByRecursion (λ z. Fits (names_of t) (executed_by t q.attempt z)) q.attempt.accesses) fits there_is in
-    let access = in_located (λ z. frame_text (OfAccess z)) (y.placed.offset + length (frame_text (OfAttempt y.placed.attempt))) y.placed.attempt.accesses x frame in
-    (entries_are_rows (names_of t) (executed_by t y.placed.attempt x.1) (all_in (λ z. Fits (names_of t) (executed_by t y.placed.attempt z)) all access)).distinct
+    let frame = from_ordered t y.placed (right_one t e y.placed right there_is)
+    (complete_one t e y.placed limits there_is) x j in
+    let all = all_in (λ q. AllByRecursion (λ z. Fits (names_of t) (executed_by t q.attempt z)) q.attempt.accesses) fits
+    there_is in
+    let access = in_located (λ z. frame_text (OfAccess z))
+    (y.placed.offset + length (frame_text (OfAttempt y.placed.attempt))) y.placed.attempt.accesses x frame in
+    (entries_are_rows (names_of t) (executed_by t y.placed.attempt x.1)
+    (all_in (λ z. Fits (names_of t) (executed_by t y.placed.attempt z)) all access)).distinct

@@ -1,5 +1,6 @@
 -- What holds of each attempt among a section's steps holds of each that is settled.
-use Rattle.std.proofs.Common.{◌≡◌, ℕ, zero, suc, ◌+◌, ◌&&◌, ◌==◌, List, [], ◌∷◌, ◌++◌, length, slice_index_or, refl, IsTrue}
+use Rattle.std.proofs.Common.{◌≡◌, ℕ, zero, suc, ◌+◌, ◌&&◌, ◌==◌, List, [], ◌∷◌, ◌++◌, length, slice_index_or, refl}
+use Rattle.std.proofs.Common.{IsTrue}
 use Rattle.std.specs.Prelude.{⊤}
 use Rattle.std.proofs.lemmas.Bool.{and_parts, eqb-true}
 use Rattle.std.specs.List.{AllByRecursion, list_all}
@@ -7,8 +8,10 @@ use Rattle.eve_grammar.specs.Trace.{Attempt, Step, Attempts, Commits, RollsBack,
 use Rattle.eve_grammar.specs.Frames.{OfReplica}
 use Rattle.eve_grammar.specs.Spelling.{frame_text, located, step_text, section_start, steps_of, steps_at}
 use Rattle.eve_grammar.specs.Limits.{is_attempt, is_access, is_step, row_count, HasLimits}
-use Rattle.eve_history.specs.Section.{Placed, SectionState, start, path_of, committing, next, state_after, settled, request_count, is_due, is_right_attempt, is_right_certificate, are_right_accesses, is_right, are_right}
-use Rattle.eve_history.specs.Told.{history, IsRightSection}
+use Rattle.eve_history.specs.Section.{Placed, SectionState, start, path_of, committing, next, state_after, settled}
+use Rattle.eve_history.specs.Section.{request_count, is_due, is_right_attempt, is_right_certificate, are_right_accesses}
+use Rattle.eve_history.specs.Section.{is_right, are_right}
+use Rattle.eve_history.specs.SectionHistory.{history, IsRightSection}
 
 -- ---- of any fact on attempts
 
@@ -22,30 +25,45 @@ record AreAll (P : Attempt → Type 0) (s : SectionState) : Type 0 where
   pending : AllByRecursion (λ p. P p.attempt) s.pending
   discarded : AllByRecursion (λ p. P p.attempt) s.discarded
 
-pub all-append : {A : Type 0} (P : A → Type 0) (xs ys : List A) → AllByRecursion P xs → AllByRecursion P ys → AllByRecursion P (xs ++ ys)
+pub all-append : {A : Type 0} (P : A → Type 0) (xs ys : List A) → AllByRecursion P xs → AllByRecursion P ys
+    → AllByRecursion P (xs ++ ys)
 all-append P [] ys all more = more
 all-append P (x ∷ xs) ys all more = (all.0, all-append P xs ys all.1 more)
 
-all_committing : (P : Attempt → Type 0) (s : SectionState) (pending : List Placed) → AllByRecursion (λ p. P p.attempt) pending → AreAll P s → AreAll P (committing s pending)
+all_committing : (P : Attempt → Type 0) (s : SectionState) (pending : List Placed)
+    → AllByRecursion (λ p. P p.attempt) pending → AreAll P s → AreAll P (committing s pending)
 all_committing P s [] all known = known
 all_committing P s (p ∷ ps) all known =
-    record { committed = all-append (λ q. P q.attempt) s.committed (p ∷ []) known.committed (all.0, tt); pending = all.1; discarded = known.discarded }
+    record {
+      committed = all-append (λ q. P q.attempt) s.committed (p ∷ []) known.committed (all.0, tt);
+      pending = all.1;
+      discarded = known.discarded;
+    }
 
-all_next : (P : Attempt → Type 0) (s : SectionState) (step : ℕ × Step) → IfAttempt step.1 P → AreAll P s → AreAll P (next s step)
+all_next : (P : Attempt → Type 0) (s : SectionState) (step : ℕ × Step) → IfAttempt step.1 P → AreAll P s
+    → AreAll P (next s step)
 all_next P s (at, Attempts a) own known = record {
   committed = known.committed;
-  pending = all-append (λ q. P q.attempt) s.pending (record { offset = at; attempt = a; path = path_of s } ∷ []) known.pending (own, tt);
+  pending = all-append (λ q. P q.attempt) s.pending (record { offset = at; attempt = a; path = path_of s } ∷ [])
+      known.pending (own, tt);
   discarded = known.discarded;
 }
 all_next P s (at, Commits c) own known = all_committing P s s.pending known.pending known
 all_next P s (at, RollsBack r) own known =
-    record { committed = known.committed; pending = tt; discarded = all-append (λ q. P q.attempt) s.discarded s.pending known.discarded known.pending }
+    record {
+      committed = known.committed;
+      pending = tt;
+      discarded = all-append (λ q. P q.attempt) s.discarded s.pending
+          known.discarded known.pending;
+    }
 
-all_after : (P : Attempt → Type 0) (s : SectionState) (steps : List (ℕ × Step)) → AllByRecursion (λ step. IfAttempt step.1 P) steps → AreAll P s → AreAll P (state_after s steps)
+all_after : (P : Attempt → Type 0) (s : SectionState) (steps : List (ℕ × Step))
+    → AllByRecursion (λ step. IfAttempt step.1 P) steps → AreAll P s → AreAll P (state_after s steps)
 all_after P s [] own known = known
 all_after P s (step ∷ steps) own known = all_after P (next s step) steps own.1 (all_next P s step own.0 known)
 
-all_settled : (t : Trace) (e : ℕ) (P : Attempt → Type 0) → AllByRecursion (λ step. IfAttempt step.1 P) (steps_at t e) → AllByRecursion (λ p. P p.attempt) (settled (history t e))
+all_settled : (t : Trace) (e : ℕ) (P : Attempt → Type 0) → AllByRecursion (λ step. IfAttempt step.1 P) (steps_at t e)
+    → AllByRecursion (λ p. P p.attempt) (settled (history t e))
 unfolding history
 all_settled t e P own =
     let known = all_after P start (steps_at t e) own (record { committed = tt; pending = tt; discarded = tt }) in
@@ -61,23 +79,27 @@ pub record IsRightAlone (t : Trace) (a : Attempt) : Type 0 where
 
 right_step : (t : Trace) (s : SectionState) (step : Step) → IsTrue (is_right t s step) → IfAttempt step (IsRightAlone t)
 right_step t s (Attempts a) right =
-    let parts = and_parts (is_right_attempt t s a) (is_right_certificate t a && are_right_accesses t a [] a.accesses) right in
+    let parts = and_parts (is_right_attempt t s a) (is_right_certificate t a && are_right_accesses t a [] a.accesses)
+    right in
     let own = and_parts (is_right_certificate t a) (are_right_accesses t a [] a.accesses) parts.1 in
     record {
-      indexes = eqb-true (length a.certificate) (request_count t a) (and_parts (is_due t s a) (length a.certificate == request_count t a) parts.0).1;
+      indexes = eqb-true (length a.certificate) (request_count t a)
+          (and_parts (is_due t s a) (length a.certificate == request_count t a) parts.0).1;
       certificate = own.0;
       accesses = own.1;
     }
 right_step t s (Commits c) right = tt
 right_step t s (RollsBack r) right = tt
 
-right_steps : (t : Trace) (s : SectionState) (steps : List (ℕ × Step)) → IsTrue (are_right t s steps) → AllByRecursion (λ step. IfAttempt step.1 (IsRightAlone t)) steps
+right_steps : (t : Trace) (s : SectionState) (steps : List (ℕ × Step)) → IsTrue (are_right t s steps)
+    → AllByRecursion (λ step. IfAttempt step.1 (IsRightAlone t)) steps
 right_steps t s [] right = tt
 right_steps t s (step ∷ steps) right =
     let parts = and_parts (is_right t s step.1) (are_right t (next s step) steps) right in
     (right_step t s step.1 parts.0, right_steps t (next s step) steps parts.1)
 
-pub settled_right : (t : Trace) (e : ℕ) → IsRightSection t e → AllByRecursion (λ p. IsRightAlone t p.attempt) (settled (history t e))
+pub settled_right : (t : Trace) (e : ℕ) → IsRightSection t e → AllByRecursion (λ p. IsRightAlone t p.attempt)
+    (settled (history t e))
 settled_right t e right = all_settled t e (IsRightAlone t) (right_steps t start (steps_at t e) right)
 
 -- ---- within the limits
@@ -89,26 +111,34 @@ IsComplete a = length a.accesses ≡ length a.certificate
 complete_step : (rows : ℕ) (step : Step) → IsTrue (is_step rows step) → IfAttempt step IsComplete
 complete_step rows (Attempts a) h =
     eqb-true (length a.accesses) (length a.certificate)
-    (and_parts (length a.accesses == length a.certificate) (list_all (is_access rows) a.accesses) (and_parts (is_attempt a) _ h).1).0
+    (and_parts (length a.accesses == length a.certificate) (list_all (is_access rows) a.accesses)
+    (and_parts (is_attempt a) _ h).1).0
 complete_step rows (Commits c) h = tt
 complete_step rows (RollsBack r) h = tt
 
-complete_steps : (rows at : ℕ) (steps : List Step) → IsTrue (list_all (is_step rows) steps) → AllByRecursion (λ step. IfAttempt step.1 IsComplete) (located step_text at steps)
+complete_steps : (rows at : ℕ) (steps : List Step) → IsTrue (list_all (is_step rows) steps)
+    → AllByRecursion (λ step. IfAttempt step.1 IsComplete) (located step_text at steps)
 complete_steps rows at [] h = tt
 complete_steps rows at (step ∷ steps) h =
     let parts = and_parts (is_step rows step) (list_all (is_step rows) steps) h in
     (complete_step rows step parts.0, complete_steps rows (at + length (step_text step)) steps parts.1)
 
-each_section : (rows : ℕ) (sections : List (List Step)) (e : ℕ) → IsTrue (list_all (list_all (is_step rows)) sections) → IsTrue (list_all (is_step rows) (slice_index_or sections e []))
+each_section : (rows : ℕ) (sections : List (List Step)) (e : ℕ) → IsTrue (list_all (list_all (is_step rows)) sections)
+    → IsTrue (list_all (is_step rows) (slice_index_or sections e []))
 each_section rows [] e h = refl
-each_section rows (s ∷ sections) zero h = (and_parts (list_all (is_step rows) s) (list_all (list_all (is_step rows)) sections) h).0
-each_section rows (s ∷ sections) (suc e) h = each_section rows sections e (and_parts (list_all (is_step rows) s) (list_all (list_all (is_step rows)) sections) h).1
+each_section rows (s ∷ sections) zero h =
+    (and_parts (list_all (is_step rows) s) (list_all (list_all (is_step rows)) sections) h).0
+each_section rows (s ∷ sections) (suc e) h =
+    each_section rows sections e
+    (and_parts (list_all (is_step rows) s) (list_all (list_all (is_step rows)) sections) h).1
 
-complete_section : (t : Trace) (e : ℕ) → HasLimits t → AllByRecursion (λ step. IfAttempt step.1 IsComplete) (steps_at t e)
+complete_section : (t : Trace) (e : ℕ) → HasLimits t → AllByRecursion (λ step. IfAttempt step.1 IsComplete)
+    (steps_at t e)
 unfolding steps_at
 complete_section t e limits =
     complete_steps (row_count (head_of t)) (section_start t e + length (frame_text (OfReplica e))) (steps_of t e)
     (each_section (row_count (head_of t)) t.sections e limits.sections)
 
-pub settled_complete : (t : Trace) (e : ℕ) → HasLimits t → AllByRecursion (λ p. IsComplete p.attempt) (settled (history t e))
+pub settled_complete : (t : Trace) (e : ℕ) → HasLimits t
+    → AllByRecursion (λ p. IsComplete p.attempt) (settled (history t e))
 settled_complete t e limits = all_settled t e IsComplete (complete_section t e limits)

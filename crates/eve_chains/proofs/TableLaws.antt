@@ -1,5 +1,7 @@
 -- Tables as lists by row: what a write leaves, and what entries that see other things come to.
-use Rattle.std.proofs.Common.{◌≡◌, ◌≢◌, ℕ, ℤ, pos, zero, suc, ◌+◌, ◌*◌, ◌<◌, ◌==◌, Bool, true, false, cond, ◌||◌, List, [], ◌∷◌, ◌++◌, map, take, length, get_or, set, Option, Some, None, refl, sym, subst, ap, ◌∙◌, inl, inr, ◌⊎◌, append_assoc, arith}
+use Rattle.std.proofs.Common.{◌≡◌, ◌≢◌, ℕ, ℤ, pos, zero, suc, ◌+◌, ◌*◌, ◌<◌, ◌==◌, Bool, true, false, cond, ◌||◌, List}
+use Rattle.std.proofs.Common.{[], ◌∷◌, ◌++◌, map, take, length, get_or, set, Option, Some, None, refl, sym, subst, ap}
+use Rattle.std.proofs.Common.{◌∙◌, inl, inr, ◌⊎◌, append_assoc, arith}
 use mathlib.Core.Path.{fun_ext}
 use Rattle.std.specs.Prelude.{slice_get, ◌&&◌}
 use Rattle.std.specs.Ordering.{int_eq}
@@ -20,7 +22,7 @@ use Rattle.eve_grammar.specs.Trace.{Customer, Trace}
 use Rattle.eve_grammar.specs.Spelling.{located, customer_text, customers_at}
 use Rattle.eve_views.specs.Form.{SomePlace}
 use Rattle.eve_chains.specs.Visible.{opening_rows, opening_table}
-use Rattle.eve_chains.specs.Tables.{untouched, table_of, taken_back, IsWrongIn, wrong_behind}
+use Rattle.eve_chains.specs.Tables.{untouched, table_of, undone, IsWrongIn, wrong_behind}
 use Rattle.eve_chains.proofs.Linked.{some_injective, none≢some}
 
 -- ---- the opening
@@ -48,8 +50,10 @@ pub table_of-opened : (t : Trace) → table_of (opened t.customers) ≡ opening_
 table_of-opened t = fun_ext (λ row. get_or-map at_opening (opening_rows t.customers) row (pos 0))
 
 -- one customer more
-pub opened_more : (customers : List Customer) (i : ℕ) (c : Customer) (rows one two : List Versioned) → slice_get customers i ≡ Some c → rows ≡ opened (take i customers)
-    → one ≡ rows ++ at_opening c.saving ∷ [] → two ≡ one ++ at_opening c.checking ∷ [] → two ≡ opened (take (i + 1) customers)
+pub opened_more : (customers : List Customer) (i : ℕ) (c : Customer) (rows one two : List Versioned)
+    → slice_get customers i ≡ Some c → rows ≡ opened (take i customers)
+    → one ≡ rows ++ at_opening c.saving ∷ [] → two ≡ one ++ at_opening c.checking ∷ []
+    → two ≡ opened (take (i + 1) customers)
 opened_more customers i c rows one two at so first second =
     second ∙ ap (λ (xs : List Versioned). xs ++ at_opening c.checking ∷ []) first
     ∙ append_assoc rows (at_opening c.saving ∷ []) (at_opening c.checking ∷ [])
@@ -58,64 +62,78 @@ opened_more customers i c rows one two at so first second =
     ∙ ap (λ (d : Customer). opened (take i customers ++ d ∷ [])) (sym (get_or_from_slice_get customers i c c at))
     ∙ ap opened (sym (take_more customers i c (slice_get_within customers i c at)))
 
-pub located_get : {A : Type 0} (text : A → List ℕ) (at : ℕ) (xs : List A) (i o : ℕ) (x : A) → slice_get (located text at xs) i ≡ Some (o, x) → slice_get xs i ≡ Some x
+pub located_get : {A : Type 0} (text : A → List ℕ) (at : ℕ) (xs : List A) (i o : ℕ) (x : A)
+    → slice_get (located text at xs) i ≡ Some (o, x) → slice_get xs i ≡ Some x
 located_get text at [] i o x e = none≢some (o, x) e
 located_get {A} text at (y ∷ xs) zero o x e = ap (λ (p : ℕ × A). Some p.1) (some_injective (at, y) (o, x) e)
 located_get text at (y ∷ xs) (suc i) o x e = located_get text (at + length (text y)) xs i o x e
 
-pub customer_there : (t : Trace) (i o : ℕ) (c : Customer) → slice_get (customers_at t) i ≡ Some (o, c) → slice_get t.customers i ≡ Some c
+pub customer_there : (t : Trace) (i o : ℕ) (c : Customer) → slice_get (customers_at t) i ≡ Some (o, c)
+    → slice_get t.customers i ≡ Some c
 unfolding customers_at
 customer_there t i o c e = located_get customer_text 32 t.customers i o c e
 
 -- ---- a row that gets another version and value
 
-pub get_or-set : {A : Type 0} (xs : List A) (at : ℕ) (v d : A) → at < length xs → (row : ℕ) → get_or (set xs at v) row d ≡ cond (at == row) v (get_or xs row d)
+pub get_or-set : {A : Type 0} (xs : List A) (at : ℕ) (v d : A) → at < length xs → (row : ℕ) → get_or (set xs at v) row d
+    ≡ cond (at == row) v (get_or xs row d)
 get_or-set xs at v d within row =
     elim (cases_eq at row) [
       | inl e ↦
           ap (λ n. get_or (set xs at v) n d) (sym e)
           ∙ get_or-set_same xs at v d within ∙ ap (λ b. cond b v (get_or xs row d)) (sym (eq-eqb at row e))
-      | inr other ↦ get_or-set_other xs at row v d (λ e. other (sym e)) ∙ ap (λ b. cond b v (get_or xs row d)) (sym (ne_eqb at row other))
+      | inr other ↦ get_or-set_other xs at row v d (λ e. other (sym e))
+          ∙ ap (λ b. cond b v (get_or xs row d)) (sym (ne_eqb at row other))
     ]
 
 -- a write leaves its version and value in its row
-pub write_left : (rows : List Versioned) (e : Entry) → e.row < length rows → e.kind ≡ Write → table_of (set rows e.row (left_by e)) ≡ table_after (table_of rows) (e ∷ [])
+pub write_left : (rows : List Versioned) (e : Entry) → e.row < length rows → e.kind ≡ Write
+    → table_of (set rows e.row (left_by e)) ≡ table_after (table_of rows) (e ∷ [])
 write_left rows e within written =
     fun_ext (λ row. get_or-set rows e.row (left_by e) untouched within row
     ∙ ap (λ k. cond (is_write k && (e.row == row)) (left_by e) (table_of rows row)) (sym written))
 
 -- a read leaves nothing
 pub read_left : (table : Table) (e : Entry) → e.kind ≡ Read → table ≡ table_after table (e ∷ [])
-read_left table e read = fun_ext (λ row. ap (λ k. cond (is_write k && (e.row == row)) (left_by e) (table row)) (sym read))
+read_left table e read =
+    fun_ext (λ row. ap (λ k. cond (is_write k && (e.row == row)) (left_by e) (table row)) (sym read))
 
 -- ---- balances
 
 -- a write leaves its value in its row
-pub value_left : (balances : List ℤ) (e : Entry) → e.row < length balances → e.kind ≡ Write → balance_at (set balances e.row e.after) ≡ values_after (balance_at balances) (e ∷ [])
+pub value_left : (balances : List ℤ) (e : Entry) → e.row < length balances → e.kind ≡ Write
+    → balance_at (set balances e.row e.after) ≡ values_after (balance_at balances) (e ∷ [])
 value_left balances e within written =
     fun_ext (λ row. get_or-set balances e.row e.after (pos 0) within row
     ∙ ap (λ k. cond (is_write k && (e.row == row)) e.after (balance_at balances row)) (sym written))
 
 pub value_kept : (values : ℕ → ℤ) (e : Entry) → e.kind ≡ Read → values ≡ values_after values (e ∷ [])
-value_kept values e read = fun_ext (λ row. ap (λ k. cond (is_write k && (e.row == row)) e.after (values row)) (sym read))
+value_kept values e read =
+    fun_ext (λ row. ap (λ k. cond (is_write k && (e.row == row)) e.after (values row)) (sym read))
 
 -- ---- rows taken back
 
-pub taken_one : (rows : List Versioned) (from : Table) (e : Entry) → e.row < length rows → e.kind ≡ Write → table_of (set rows e.row (from e.row)) ≡ taken_back from (table_of rows) (e ∷ [])
+pub taken_one : (rows : List Versioned) (from : Table) (e : Entry) → e.row < length rows → e.kind ≡ Write
+    → table_of (set rows e.row (from e.row)) ≡ undone from (table_of rows) (e ∷ [])
 taken_one rows from e within written =
-    fun_ext (λ row. get_or-set rows e.row (from e.row) untouched within row ∙ same row (e.row == row) (λ h. eqb-true e.row row h)
+    fun_ext (λ row. get_or-set rows e.row (from e.row) untouched within row
+    ∙ same row (e.row == row) (λ h. eqb-true e.row row h)
     ∙ ap (λ k. cond ((is_write k && (e.row == row)) || false) (from row) (table_of rows row)) (sym written))
   where
-    same : (row : ℕ) (b : Bool) → (b ≡ true → e.row ≡ row) → cond b (from e.row) (table_of rows row) ≡ cond (b || false) (from row) (table_of rows row)
+    same : (row : ℕ) (b : Bool) → (b ≡ true → e.row ≡ row) → cond b (from e.row) (table_of rows row)
+        ≡ cond (b || false) (from row) (table_of rows row)
     same row true is = ap from (is refl)
     same row false is = refl
 
-pub taken_none : (from table : Table) (e : Entry) → e.kind ≡ Read → table ≡ taken_back from table (e ∷ [])
-taken_none from table e read = fun_ext (λ row. ap (λ k. cond ((is_write k && (e.row == row)) || false) (from row) (table row)) (sym read))
+pub taken_none : (from table : Table) (e : Entry) → e.kind ≡ Read → table ≡ undone from table (e ∷ [])
+taken_none from table e read =
+    fun_ext (λ row. ap (λ k. cond ((is_write k && (e.row == row)) || false) (from row) (table row)) (sym read))
 
 -- one entry after another
-pub taken_rest : (from table : Table) (e : Entry) (es : List Entry) → taken_back from (taken_back from table (e ∷ [])) es ≡ taken_back from table (e ∷ es)
-taken_rest from table e es = fun_ext (λ row. exchange (writes_row row e) (list_any (writes_row row) es) (from row) (table row))
+pub taken_rest : (from table : Table) (e : Entry) (es : List Entry)
+    → undone from (undone from table (e ∷ [])) es ≡ undone from table (e ∷ es)
+taken_rest from table e es =
+    fun_ext (λ row. exchange (writes_row row e) (list_any (writes_row row) es) (from row) (table row))
   where
     exchange : (b c : Bool) (v w : Versioned) → cond c v (cond (b || false) v w) ≡ cond (b || c) v w
     exchange true true v w = refl
@@ -129,8 +147,15 @@ abbrev SeesVersion : Table → Entry → Type 0
 SeesVersion table e = e.version ≡ (table e.row).version
 
 -- a place further behind
-further : {A : Type 0} {P : A → Type 0} (x : A) (xs : List A) → SomePlace xs (λ _ y. P y) → SomePlace (x ∷ xs) (λ _ y. P y)
-further x xs p = record { before = x ∷ p.before; item = p.item; rest = p.rest; is = ap (λ ys. x ∷ ys) p.is; holds = p.holds }
+further : {A : Type 0} {P : A → Type 0} (x : A) (xs : List A) → SomePlace xs (λ _ y. P y)
+    → SomePlace (x ∷ xs) (λ _ y. P y)
+further x xs p = record {
+  before = x ∷ p.before;
+  item = p.item;
+  rest = p.rest;
+  is = ap (λ ys. x ∷ ys) p.is;
+  holds = p.holds;
+}
 
 first_place : {A : Type 0} {P : A → Type 0} (x : A) (xs : List A) → P x → SomePlace (x ∷ xs) (λ _ y. P y)
 first_place x xs h = record { before = []; item = x; rest = xs; is = refl; holds = h }
@@ -144,83 +169,113 @@ int_differs m n h e = false≢true (sym h ∙ (Decides-int_eq m n).1 e)
 -- where some value was wrong before
 abbrev WrongLater : Table → List Entry → Type 0
 WrongLater table es =
-    ((wrong_behind (Some code.Value) table es ≡ Some code.Version) × SomePlace es (λ _ e. e.version ≢ (table e.row).version))
+    ((wrong_behind (Some code.Value) table es ≡ Some code.Version)
+    × SomePlace es (λ _ e. e.version ≢ (table e.row).version))
     ⊎ ((wrong_behind (Some code.Value) table es ≡ Some code.Value) × AllByRecursion (SeesVersion table) es)
 
 -- by whether the version and the value are right
-abbrev told_by : Option Code → Bool → Bool → Option Code
-told_by after b c = cond b (cond c after after) (Some code.Version)
+abbrev section_history_by : Option Code → Bool → Bool → Option Code
+section_history_by after b c = cond b (cond c after after) (Some code.Version)
 
 later : (table : Table) (es : List Entry) → WrongLater table es
 later table [] = inr (refl, tt)
-later table (e ∷ es) = step (e.version == (table e.row).version) (int_eq e.seen (table e.row).value) refl refl (later table es)
+later table (e ∷ es) = step (e.version == (table e.row).version) (int_eq e.seen (table e.row).value) refl refl
+    (later table es)
   where
-    next : (b c : Bool) → b ≡ true → told_by (wrong_behind (Some code.Value) table es) b c ≡ wrong_behind (Some code.Value) table es
+    next : (b c : Bool) → b ≡ true → section_history_by (wrong_behind (Some code.Value) table es) b c
+        ≡ wrong_behind (Some code.Value) table es
     next true true h = refl
     next true false h = refl
     next false c h = absurd (false≢true h)
 
-    whole : (b c : Bool) → (e.version == (table e.row).version) ≡ b → int_eq e.seen (table e.row).value ≡ c → wrong_behind (Some code.Value) table (e ∷ es) ≡ told_by (wrong_behind (Some code.Value) table es) b c
+    whole : (b c : Bool) → (e.version == (table e.row).version) ≡ b → int_eq e.seen (table e.row).value ≡ c
+        → wrong_behind (Some code.Value) table (e ∷ es) ≡ section_history_by (wrong_behind (Some code.Value) table es) b
+        c
     whole b c g h =
-        ap (λ x. cond x (cond (int_eq e.seen (table e.row).value) (wrong_behind (Some code.Value) table es) (wrong_behind (Some code.Value) table es)) (Some code.Version)) g
-        ∙ ap (λ x. cond b (cond x (wrong_behind (Some code.Value) table es) (wrong_behind (Some code.Value) table es)) (Some code.Version)) h
+        ap (λ x. cond x (cond (int_eq e.seen (table e.row).value) (wrong_behind (Some code.Value) table es)
+        (wrong_behind (Some code.Value) table es)) (Some code.Version)) g
+        ∙ ap (λ x. cond b (cond x (wrong_behind (Some code.Value) table es) (wrong_behind (Some code.Value) table es))
+        (Some code.Version)) h
 
-    step : (b c : Bool) → (e.version == (table e.row).version) ≡ b → int_eq e.seen (table e.row).value ≡ c → WrongLater table es → WrongLater table (e ∷ es)
+    step : (b c : Bool) → (e.version == (table e.row).version) ≡ b → int_eq e.seen (table e.row).value ≡ c
+        → WrongLater table es → WrongLater table (e ∷ es)
     step true c g h (inl found) = inl (whole true c g h ∙ next true c refl ∙ found.0, further e es found.1)
-    step true c g h (inr all) = inr (whole true c g h ∙ next true c refl ∙ all.0, (eqb-true e.version (table e.row).version g, all.1))
+    step true c g h (inr all) =
+        inr (whole true c g h ∙ next true c refl ∙ all.0, (eqb-true e.version (table e.row).version g, all.1))
     step false c g h rest = inl (whole false c g h, first_place e es (differs e.version (table e.row).version g))
 
 -- an entry that sees what it must stands before
-also_behind : (table : Table) (e : Entry) (es : List Entry) (o : Option Code) → Sees table e → IsWrongIn table es o → IsWrongIn table (e ∷ es) o
+also_behind : (table : Table) (e : Entry) (es : List Entry) (o : Option Code) → Sees table e → IsWrongIn table es o
+    → IsWrongIn table (e ∷ es) o
 also_behind table e es None sees wrong = (sees, wrong)
 also_behind table e es (Some code.Version) sees wrong = further e es wrong
 also_behind table e es (Some code.Value) sees wrong = ((sees.version, wrong.0), further e es wrong.1)
 also_behind table e es (Some _) sees wrong = absurd wrong
 
 -- an entry that sees another version ends the search
-pub version_found : (found : Option Code) (table : Table) (e : Entry) (es : List Entry) → e.version ≢ (table e.row).version → wrong_behind found table (e ∷ es) ≡ Some code.Version
+pub version_found : (found : Option Code) (table : Table) (e : Entry) (es : List Entry)
+    → e.version ≢ (table e.row).version → wrong_behind found table (e ∷ es) ≡ Some code.Version
 version_found found table e es other =
-    ap (λ b. cond b (cond (int_eq e.seen (table e.row).value) (wrong_behind found table es) (wrong_behind (Some code.Value) table es)) (Some code.Version))
+    ap (λ b. cond b (cond (int_eq e.seen (table e.row).value) (wrong_behind found table es)
+    (wrong_behind (Some code.Value) table es)) (Some code.Version))
     (ne_eqb e.version (table e.row).version other)
 
-pub value_found : (found : Option Code) (table : Table) (e : Entry) (es : List Entry) → e.version ≡ (table e.row).version → e.seen ≢ (table e.row).value
+pub value_found : (found : Option Code) (table : Table) (e : Entry) (es : List Entry)
+    → e.version ≡ (table e.row).version → e.seen ≢ (table e.row).value
     → wrong_behind found table (e ∷ es) ≡ wrong_behind (Some code.Value) table es
 value_found found table e es same other =
-    ap (λ b. cond b (cond (int_eq e.seen (table e.row).value) (wrong_behind found table es) (wrong_behind (Some code.Value) table es)) (Some code.Version))
+    ap (λ b. cond b (cond (int_eq e.seen (table e.row).value) (wrong_behind found table es)
+    (wrong_behind (Some code.Value) table es)) (Some code.Version))
     (eq-eqb e.version (table e.row).version same)
     ∙ elim (cases_Bool (int_eq e.seen (table e.row).value)) [
       | inl h ↦ absurd (other ((Decides-int_eq e.seen (table e.row).value).0 h))
       | inr h ↦ ap (λ b. cond b (wrong_behind found table es) (wrong_behind (Some code.Value) table es)) h
     ]
 
-pub nothing_found : (found : Option Code) (table : Table) (e : Entry) (es : List Entry) → Sees table e → wrong_behind found table (e ∷ es) ≡ wrong_behind found table es
+pub nothing_found : (found : Option Code) (table : Table) (e : Entry) (es : List Entry) → Sees table e
+    → wrong_behind found table (e ∷ es) ≡ wrong_behind found table es
 nothing_found found table e es sees =
-    ap (λ b. cond b (cond (int_eq e.seen (table e.row).value) (wrong_behind found table es) (wrong_behind (Some code.Value) table es)) (Some code.Version))
+    ap (λ b. cond b (cond (int_eq e.seen (table e.row).value) (wrong_behind found table es)
+    (wrong_behind (Some code.Value) table es)) (Some code.Version))
     (eq-eqb e.version (table e.row).version sees.version)
-    ∙ ap (λ b. cond b (wrong_behind found table es) (wrong_behind (Some code.Value) table es)) ((Decides-int_eq e.seen (table e.row).value).1 sees.value)
+    ∙ ap (λ b. cond b (wrong_behind found table es) (wrong_behind (Some code.Value) table es))
+    ((Decides-int_eq e.seen (table e.row).value).1 sees.value)
 
 pub found_is_wrong : (table : Table) (es : List Entry) → IsWrongIn table es (wrong_behind None table es)
 found_is_wrong table [] = tt
-found_is_wrong table (e ∷ es) = step (e.version == (table e.row).version) (int_eq e.seen (table e.row).value) refl refl (found_is_wrong table es)
+found_is_wrong table (e ∷ es) = step (e.version == (table e.row).version) (int_eq e.seen (table e.row).value) refl refl
+    (found_is_wrong table es)
   where
     whole : (b c : Bool) → (e.version == (table e.row).version) ≡ b → int_eq e.seen (table e.row).value ≡ c
-        → wrong_behind None table (e ∷ es) ≡ cond b (cond c (wrong_behind None table es) (wrong_behind (Some code.Value) table es)) (Some code.Version)
+        → wrong_behind None table (e ∷ es)
+        ≡ cond b (cond c (wrong_behind None table es) (wrong_behind (Some code.Value) table es)) (Some code.Version)
     whole b c g h =
-        ap (λ x. cond x (cond (int_eq e.seen (table e.row).value) (wrong_behind None table es) (wrong_behind (Some code.Value) table es)) (Some code.Version)) g
-        ∙ ap (λ x. cond b (cond x (wrong_behind None table es) (wrong_behind (Some code.Value) table es)) (Some code.Version)) h
+        ap (λ x. cond x (cond (int_eq e.seen (table e.row).value) (wrong_behind None table es)
+        (wrong_behind (Some code.Value) table es)) (Some code.Version)) g
+        ∙ ap (λ x. cond b (cond x (wrong_behind None table es) (wrong_behind (Some code.Value) table es))
+        (Some code.Version)) h
 
-    value_wrong : (e.version == (table e.row).version) ≡ true → int_eq e.seen (table e.row).value ≡ false → WrongLater table es
+    value_wrong : (e.version == (table e.row).version) ≡ true → int_eq e.seen (table e.row).value ≡ false
+        → WrongLater table es
         → IsWrongIn table (e ∷ es) (wrong_behind None table (e ∷ es))
-    value_wrong g h (inl found) = subst (IsWrongIn table (e ∷ es)) (sym (whole true false g h ∙ found.0)) (further e es found.1)
+    value_wrong g h (inl found) = subst (IsWrongIn table (e ∷ es)) (sym (whole true false g h ∙ found.0))
+        (further e es found.1)
     value_wrong g h (inr all) =
-        subst (IsWrongIn table (e ∷ es)) (sym (whole true false g h ∙ all.0))
-        ((eqb-true e.version (table e.row).version g, all.1), first_place e es (int_differs e.seen (table e.row).value h))
+        subst (IsWrongIn table (e ∷ es)) (sym (whole true false g h ∙ all.0)) (
+          (eqb-true e.version (table e.row).version g, all.1),
+          first_place e es (int_differs e.seen (table e.row).value h),
+        )
 
-    step : (b c : Bool) → (e.version == (table e.row).version) ≡ b → int_eq e.seen (table e.row).value ≡ c → IsWrongIn table es (wrong_behind None table es)
+    step : (b c : Bool) → (e.version == (table e.row).version) ≡ b → int_eq e.seen (table e.row).value ≡ c
+        → IsWrongIn table es (wrong_behind None table es)
         → IsWrongIn table (e ∷ es) (wrong_behind None table (e ∷ es))
     step true true g h rest =
         subst (IsWrongIn table (e ∷ es)) (sym (whole true true g h))
         (also_behind table e es (wrong_behind None table es)
-        (record { version = eqb-true e.version (table e.row).version g; value = (Decides-int_eq e.seen (table e.row).value).0 h }) rest)
+        (record {
+          version = eqb-true e.version (table e.row).version g;
+          value = (Decides-int_eq e.seen (table e.row).value).0 h;
+        }) rest)
     step true false g h rest = value_wrong g h (later table es)
-    step false c g h rest = subst (IsWrongIn table (e ∷ es)) (sym (whole false c g h)) (first_place e es (differs e.version (table e.row).version g))
+    step false c g h rest = subst (IsWrongIn table (e ∷ es)) (sym (whole false c g h))
+        (first_place e es (differs e.version (table e.row).version g))

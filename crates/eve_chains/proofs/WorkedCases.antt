@@ -1,4 +1,5 @@
--- What entries must see in the worked cases, by the certificate's order and not by that of the frames: each line computes.
+-- What entries must see in the worked cases, by the certificate's order and not by that of the frames: each line
+-- computes.
 use Rattle.std.proofs.Common.{◌≡◌, ℕ, ℤ, pos, negsuc, true, false, List, [], ◌∷◌, map, replicate, codes, refl}
 use Rattle.eve_smallbank.specs.SmallBank.{Request, Balance, DepositChecking, TransactSaving, WriteCheck}
 use Rattle.eve_smallbank.specs.declared.request.Reply.{Reply}
@@ -38,7 +39,15 @@ noted place index entries = record { worker = 0; place = place; index = index; e
 first_attempt : List ℕ → List Reply → List Access → Placed
 first_attempt certificate replies accesses = record {
   offset = 0;
-  attempt = record { seq = 1; view = 0; serial = false; certificate = certificate; replies = replies; token = replicate 32 9; accesses = accesses };
+  attempt = record {
+    seq = 1;
+    view = 0;
+    serial = false;
+    certificate = certificate;
+    replies = replies;
+    token = replicate 32 9;
+    accesses = accesses;
+  };
   path = [];
 }
 
@@ -46,12 +55,14 @@ first_attempt certificate replies accesses = record {
 
 two_deposits : Trace
 unfolding one_batch asked
-two_deposits = one_batch (asked 1 (DepositChecking (codes "ann") (pos 5)) ∷ asked 2 (DepositChecking (codes "ann") (pos 7)) ∷ []) 2
+two_deposits = one_batch
+    (asked 1 (DepositChecking (codes "ann") (pos 5)) ∷ asked 2 (DepositChecking (codes "ann") (pos 7)) ∷ []) 2
 
 deposits_in : List ℕ → Placed
 unfolding first_attempt noted write
 deposits_in certificate =
-    first_attempt certificate (Done ∷ Done ∷ []) (noted 0 1 (write 1 0 (pos 0) (pos 7) ∷ []) ∷ noted 1 0 (write 1 1 (pos 7) (pos 12) ∷ []) ∷ [])
+    first_attempt certificate (Done ∷ Done ∷ [])
+    (noted 0 1 (write 1 0 (pos 0) (pos 7) ∷ []) ∷ noted 1 0 (write 1 1 (pos 7) (pos 12) ∷ []) ∷ [])
 
 -- in the order 1, 0 the second request sees version 0, and the first what it left
 first_sees : visible_to two_deposits (deposits_in (1 ∷ 0 ∷ [])) 1 1 ≡ record { version = 0; value = pos 0 }
@@ -72,7 +83,8 @@ should_see = refl
 three_requests : Trace
 unfolding one_batch asked
 three_requests =
-    one_batch (asked 1 (TransactSaving (codes "ann") (pos 2000)) ∷ asked 2 (Balance (codes "ann")) ∷ asked 3 (WriteCheck (codes "ann") (pos 1000)) ∷ []) 3
+    one_batch (asked 1 (TransactSaving (codes "ann") (pos 2000)) ∷ asked 2 (Balance (codes "ann")) ∷ asked 3
+    (WriteCheck (codes "ann") (pos 1000)) ∷ []) 3
 
 requests_in : List ℕ → Placed
 unfolding first_attempt noted write read
@@ -82,21 +94,25 @@ requests_in certificate =
     ∷ noted 2 2 (read 0 0 (pos 0) ∷ write 1 0 (pos 0) (negsuc 1099) ∷ []) ∷ [])
 
 -- in the order 0, 1, 2 the check should have seen the saving deposit
-check_should_see : visible_to three_requests (requests_in (0 ∷ 1 ∷ 2 ∷ [])) 2 0 ≡ record { version = 1; value = pos 2000 }
+check_should_see : visible_to three_requests (requests_in (0 ∷ 1 ∷ 2 ∷ [])) 2 0
+    ≡ record { version = 1; value = pos 2000 }
 unfolding three_requests requests_in
 check_should_see = refl
 
 -- in the order 2, 0, 1 the balance should have seen the check, and in the order 2, 1, 0 no saving deposit
-balance_should_see : visible_to three_requests (requests_in (2 ∷ 0 ∷ 1 ∷ [])) 1 1 ≡ record { version = 1; value = negsuc 1099 }
+balance_should_see : visible_to three_requests (requests_in (2 ∷ 0 ∷ 1 ∷ [])) 1 1
+    ≡ record { version = 1; value = negsuc 1099 }
 unfolding three_requests requests_in
 balance_should_see = refl
 
-balance_should_see_none : visible_to three_requests (requests_in (2 ∷ 1 ∷ 0 ∷ [])) 1 0 ≡ record { version = 0; value = pos 0 }
+balance_should_see_none : visible_to three_requests (requests_in (2 ∷ 1 ∷ 0 ∷ [])) 1 0
+    ≡ record { version = 0; value = pos 0 }
 unfolding three_requests requests_in
 balance_should_see_none = refl
 
 -- no order agrees with all three: each precedes another
-circle : map (λ (p : ℕ × ℕ). precedes (executed_at three_requests (requests_in []).attempt p.0) (executed_at three_requests (requests_in []).attempt p.1)) ((0, 1) ∷ (1, 2) ∷ (2, 0) ∷ [])
+circle : map (λ (p : ℕ × ℕ). precedes (executed_at three_requests (requests_in []).attempt p.0)
+    (executed_at three_requests (requests_in []).attempt p.1)) ((0, 1) ∷ (1, 2) ∷ (2, 0) ∷ [])
     ≡ true ∷ true ∷ true ∷ []
 unfolding three_requests requests_in
 circle = refl

@@ -12,7 +12,7 @@ use Rattle.eve_views.specs.declared.fault.Code.{Code}
 use Rattle.eve_views.specs.declared.fault.Code.TheVariants as code
 use Rattle.eve_views.specs.declared.fault.Fault.{Fault}
 use Rattle.eve_history.specs.Section.{settled}
-use Rattle.eve_history.specs.Told.{ordered, history}
+use Rattle.eve_history.specs.SectionHistory.{ordered, history}
 use Rattle.eve_chains.specs.Visible.{table_along}
 
 -- what an access frame says, with its offset
@@ -38,7 +38,8 @@ SeesOther _ table es = ⊥
 
 -- A fault of replica e at one of these records: it sees something else than the records before it leave in the table.
 pub record IsWrongAlong (e : ℕ) (table : Table) (xs : List (ℕ × Access)) (f : Fault) : Type 0 where
-  pub stands : SomePlace xs (λ before x. (x.0 ≡ f.offset) × SeesOther f.code (table_after table (entries_along before)) x.1.entries)
+  pub stands : SomePlace xs
+      (λ before x. (x.0 ≡ f.offset) × SeesOther f.code (table_after table (entries_along before)) x.1.entries)
   pub inside : f.replica ≡ Some e
 
 -- each record sees what those before it leave in the table
@@ -55,11 +56,13 @@ IsFirstAlong e table xs (Some f) = IsWrongAlong e table xs f × ((g : Fault) →
 
 -- a fault at one of the records of some settled attempt of replica e, in their order
 abbrev pub IsWrongSomewhere : Trace → ℕ → Fault → Type 0
-IsWrongSomewhere t e f = SomePlace (settled (history t e)) (λ _ p. IsWrongAlong e (table_along t p.path) (ordered p.offset p.attempt) f)
+IsWrongSomewhere t e f =
+    SomePlace (settled (history t e)) (λ _ p. IsWrongAlong e (table_along t p.path) (ordered p.offset p.attempt) f)
 
 -- each record of each settled attempt of replica e sees what the path and the records before it leave
 abbrev pub AllSettledSee : Trace → ℕ → Type 0
-AllSettledSee t e = AllByRecursion (λ p. AllSee (table_along t p.path) (ordered p.offset p.attempt)) (settled (history t e))
+AllSettledSee t e = AllByRecursion (λ p. AllSee (table_along t p.path) (ordered p.offset p.attempt))
+    (settled (history t e))
 
 -- a fault of replica e at this offset, if there is one
 abbrev pub fault_of : ℕ → ℕ → Option Code → Option Fault

@@ -7,7 +7,7 @@ use Rattle.eve_smallbank.specs.Access.{Executed, bank_of}
 use Rattle.eve_smallbank.specs.Conflict.{AgreesWithConflicts, IsReordering}
 use Rattle.eve_grammar.specs.Trace.{Attempt, Trace}
 use Rattle.eve_history.specs.Section.{Placed}
-use Rattle.eve_history.specs.Told.{asked_at, history, names_of}
+use Rattle.eve_history.specs.SectionHistory.{asked_at, history, names_of}
 use Rattle.eve_history.specs.Faults.{RequestId, request_id}
 use Rattle.eve_chains.specs.Visible.{opening_of, rows_after}
 
@@ -47,8 +47,8 @@ opening_bank t = bank_of (names_of t) (opening_of t)
 abbrev pub Leads : Bank → List Executed → Bank → Type 0
 Leads first xs last = run first (map (λ x. x.request) xs) ≡ (last, map (λ x. x.reply) xs)
 
--- What was executed between two banks is SmallBank on one thread in this order, which agrees with the conflict order, and in
--- every order of the same requests that agrees with it.
+-- What was executed between two banks is SmallBank on one thread in this order, which agrees with the conflict order,
+-- and in every order of the same requests that agrees with it.
 pub record IsSerialBetween (first last : Bank) (xs : List Executed) : Type 0 where
   pub serial : Leads first xs last
   pub agrees : AgreesWithConflicts xs

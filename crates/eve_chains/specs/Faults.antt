@@ -8,7 +8,7 @@ use Rattle.eve_views.specs.declared.fault.Code.TheVariants as code
 use Rattle.eve_views.specs.declared.fault.Fault.{Fault}
 use Rattle.eve_views.specs.Form.{SomePlace, IsLeast, HasNone}
 use Rattle.eve_history.specs.Section.{Placed, settled}
-use Rattle.eve_history.specs.Told.{history, names_of}
+use Rattle.eve_history.specs.SectionHistory.{history, names_of}
 use Rattle.eve_chains.specs.Visible.{executed_by, visible_to}
 
 -- of an access record whose frame stands at this offset, in a settled attempt of replica e
@@ -48,7 +48,8 @@ pub record IsChainFault (t : Trace) (e : ℕ) (f : Fault) : Type 0 where
 
 -- the first of the faults of records, or of those of chains where there are none of records
 abbrev pub IsLeastFault : Trace → ℕ → Fault → Type 0
-IsLeastFault t e f = IsLeast (IsRecordFault t e) f ⊎ (((g : Fault) → ¬ IsRecordFault t e g) × IsLeast (IsChainFault t e) f)
+IsLeastFault t e f = IsLeast (IsRecordFault t e) f
+    ⊎ (((g : Fault) → ¬ IsRecordFault t e g) × IsLeast (IsChainFault t e) f)
 
 -- no fault of records, and none of chains
 pub record HasNoFault (t : Trace) (e : ℕ) : Type 0 where

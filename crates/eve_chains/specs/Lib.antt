@@ -9,4 +9,5 @@ pub mod Records
 pub mod Along
 pub mod Unfit
 pub mod Settling
+pub mod Checking
 pub mod Parts

@@ -1,5 +1,6 @@
 -- The entries of each row, gathered along a replica's section. docs/MODEL.md, "What an entry must see".
-use Rattle.std.specs.Prelude.{◌≡◌, ◌≢◌, Some, ℕ, ◌==◌, Bool, ◌||◌, List, [], ◌∷◌, ◌++◌, map, length, filter, fold, if◌then◌else◌}
+use Rattle.std.specs.Prelude.{◌≡◌, ◌≢◌, Some, ℕ, ◌==◌, Bool, ◌||◌, List, [], ◌∷◌, ◌++◌, map, length, filter, fold}
+use Rattle.std.specs.Prelude.{if◌then◌else◌}
 use Rattle.std.specs.List.{flat_map}
 use Rattle.eve_smallbank.specs.declared.entry.Entry.{Entry}
 use Rattle.eve_smallbank.specs.Chain.{Versioned, after_own}
@@ -12,7 +13,7 @@ use Rattle.eve_views.specs.declared.fault.Fault.{Fault}
 use Rattle.eve_history.specs.declared.fate.Fate.{Fate}
 use Rattle.eve_history.specs.Section.{Placed, SectionState, start, path_of, next}
 use Rattle.eve_history.specs.Fates.{fate_in}
-use Rattle.eve_history.specs.Told.{ordered, is_committed, is_discarded}
+use Rattle.eve_history.specs.SectionHistory.{ordered, is_committed, is_discarded}
 
 -- ---- attempts and what becomes of them
 
@@ -24,7 +25,8 @@ pub record Fated : Type 0 where
 abbrev pub to_come : SectionState → List (ℕ × Step) → List Fated
 to_come s [] = []
 to_come s ((at, Attempts a) ∷ rest) =
-    record { placed = record { offset = at; attempt = a; path = path_of s }; fate = fate_in rest (length s.pending) } ∷ to_come (next s (at, Attempts a)) rest
+    record { placed = record { offset = at; attempt = a; path = path_of s }; fate = fate_in rest (length s.pending) }
+    ∷ to_come (next s (at, Attempts a)) rest
 to_come s ((at, Commits c) ∷ rest) = to_come (next s (at, Commits c)) rest
 to_come s ((at, RollsBack r) ∷ rest) = to_come (next s (at, RollsBack r)) rest
 
@@ -104,11 +106,13 @@ SeesAnother _ v e = ⊥
 -- A fault of replica e at one of these entries of a row, which had this at first: the entry sees something else than
 -- the row's walk meets there.
 pub record IsWrongOnRow (e : ℕ) (v : Versioned) (ns : List Noted) (f : Fault) : Type 0 where
-  pub stands : SomePlace ns (λ before n. (n.offset ≡ f.offset) × SeesAnother f.code (met_by (pair_after v before) n) n.entry)
+  pub stands : SomePlace ns
+      (λ before n. (n.offset ≡ f.offset) × SeesAnother f.code (met_by (pair_after v before) n) n.entry)
   pub inside : f.replica ≡ Some e
 
 -- each of these entries of a row, which had this at first, sees what the row's walk meets there
 abbrev pub EachSees : Versioned → List Noted → Type 0
 EachSees v ns =
     (before : List Noted) (n : Noted) (rest : List Noted) → ns ≡ before ++ n ∷ rest
-    → (n.entry.version ≡ (met_by (pair_after v before) n).version) × (n.entry.seen ≡ (met_by (pair_after v before) n).value)
+    → (n.entry.version ≡ (met_by (pair_after v before) n).version)
+    × (n.entry.seen ≡ (met_by (pair_after v before) n).value)

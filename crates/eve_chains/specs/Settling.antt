@@ -6,7 +6,7 @@ use Rattle.eve_smallbank.specs.Access.{balance_at, bank_of, values_after}
 use Rattle.eve_grammar.specs.Trace.{Access, Trace}
 use Rattle.eve_grammar.specs.Frames.{sections_of}
 use Rattle.eve_grammar.specs.Limits.{HasLimits}
-use Rattle.eve_history.specs.Told.{history, ordered, names_of, IsRightSection}
+use Rattle.eve_history.specs.SectionHistory.{history, ordered, names_of, IsRightSection}
 use Rattle.eve_chains.specs.Visible.{opening_rows}
 use Rattle.eve_chains.specs.Along.{entries_along}
 use Rattle.eve_chains.specs.Committed.{bank_after}
@@ -35,4 +35,5 @@ values_in s n = values_after (balance_at s.opening) (flat_map entries_along (tak
 -- the balances are the bank after batch n of each replica with a right section whose batches these are
 abbrev pub AreBankAfter : Settling → ℕ → List ℤ → Type 0
 AreBankAfter s n balances =
-    (t : Trace) (e : ℕ) → HasLimits t → IsRightSection t e → s ≡ settling t e → bank_of (names_of t) (balance_at balances) ≡ bank_after t e n
+    (t : Trace) (e : ℕ) → HasLimits t → IsRightSection t e → s ≡ settling t e
+    → bank_of (names_of t) (balance_at balances) ≡ bank_after t e n

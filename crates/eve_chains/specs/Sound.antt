@@ -7,7 +7,7 @@ use Rattle.eve_smallbank.specs.Chain.{Sees}
 use Rattle.eve_smallbank.specs.SerialOrder.{IsSound}
 use Rattle.eve_grammar.specs.Trace.{Access, Trace}
 use Rattle.eve_history.specs.Section.{Placed, settled}
-use Rattle.eve_history.specs.Told.{history, names_of}
+use Rattle.eve_history.specs.SectionHistory.{history, names_of}
 use Rattle.eve_chains.specs.Visible.{opening_table, executed_by, execution, entries_before, visible_to}
 
 -- of each access record of each settled attempt of replica e

@@ -18,8 +18,8 @@ abbrev pub table_of : List Versioned → Table
 table_of rows row = slice_index_or rows row untouched
 
 -- the rows that these entries write have again what they have in another table
-abbrev pub taken_back : Table → Table → List Entry → Table
-taken_back from table es row = if list_any (writes_row row) es then from row else table row
+abbrev pub undone : Table → Table → List Entry → Table
+undone from table es row = if list_any (writes_row row) es then from row else table row
 
 -- The first thing that is wrong with what a request's entries see: some other version, or no other version but
 -- some other value.

@@ -1,6 +1,7 @@
 -- The records of settled attempts, one after another, and the first that doesn't fit its request.
 -- docs/MODEL.md, "A record fits its request".
-use Rattle.std.specs.Prelude.{◌≡◌, ℕ, ◌<◌, ◌≤◌, nat_lt, Bool, true, false, if◌then◌else◌, List, [], ◌∷◌, ◌++◌, map, length, Option, Some, None, Result, Ok, Err, slice_get, slice_index_or}
+use Rattle.std.specs.Prelude.{◌≡◌, ℕ, ◌<◌, ◌≤◌, nat_lt, Bool, true, false, if◌then◌else◌, List, [], ◌∷◌, ◌++◌, map}
+use Rattle.std.specs.Prelude.{length, Option, Some, None, Result, Ok, Err, slice_get, slice_index_or}
 use Rattle.std.specs.List.{AllByRecursion}
 use Rattle.eve_smallbank.specs.declared.request.Reply.{Reply}
 use Rattle.eve_smallbank.specs.declared.request.Reply.TheVariants.{Done}
@@ -9,7 +10,7 @@ use Rattle.eve_smallbank.specs.Access.{Executed, Fits}
 use Rattle.eve_grammar.specs.Trace.{Access, Trace}
 use Rattle.eve_history.specs.declared.fate.Fate.{Fate}
 use Rattle.eve_history.specs.declared.fate.Fate.TheVariants.{Committed, Discarded, Open}
-use Rattle.eve_history.specs.Told.{Ran, Telling, telling, IsRightSection}
+use Rattle.eve_history.specs.SectionHistory.{ExecutedAttempt, SectionHistory, section_history, IsRightSection}
 use Rattle.eve_views.specs.Form.{SomePlace}
 use Rattle.eve_chains.specs.Visible.{executed_by}
 use Rattle.eve_chains.specs.Records.{recorded}
@@ -22,11 +23,11 @@ recorded_of requests replies x =
     (x.0, recorded (slice_index_or requests x.1.index (Balance [])) (slice_index_or replies x.1.index Done) x.1.entries)
 
 -- of an attempt, in its certificate's order
-abbrev pub records_in : Trace → Ran → List (ℕ × Executed)
+abbrev pub records_in : Trace → ExecutedAttempt → List (ℕ × Executed)
 records_in t r = map (λ x. (x.0, executed_by t r.attempt x.1)) r.ordered
 
 -- as many requests as its certificate lists, and one for each record's index
-pub record HasRequests (count : ℕ) (r : Ran) : Type 0 where
+pub record HasRequests (count : ℕ) (r : ExecutedAttempt) : Type 0 where
   pub as_many : length r.attempt.certificate ≡ count
   pub there : AllByRecursion (λ x. x.1.index < count) r.ordered
 
@@ -36,11 +37,11 @@ is_settled Discarded = true
 is_settled Open = false
 
 -- of an attempt that is settled
-abbrev pub records_of : Trace → Ran → Fate → List (ℕ × Executed)
+abbrev pub records_of : Trace → ExecutedAttempt → Fate → List (ℕ × Executed)
 records_of t r fate = if is_settled fate then records_in t r else []
 
 -- of the settled ones among attempts with these fates
-abbrev pub all_records : Trace → List Ran → List Fate → List (ℕ × Executed)
+abbrev pub all_records : Trace → List ExecutedAttempt → List Fate → List (ℕ × Executed)
 all_records t [] fates = []
 all_records t (r ∷ rs) [] = []
 all_records t (r ∷ rs) (fate ∷ fates) = records_of t r fate ++ all_records t rs fates
@@ -54,16 +55,17 @@ IsLeastUnfit names xs (Some at) =
     SomePlace xs (λ _ x. (x.0 ≡ at) × ¬ Fits names x.1) × AllByRecursion (λ x. ¬ Fits names x.1 → at ≤ x.0) xs
 
 -- the attempt at this place is one of those that a right section tells
-pub record CanBeJudged (t : Trace) (h : Telling) (i : ℕ) : Type 0 where
-  pub told : h ≡ telling t h.replica
+pub record CanBeJudged (t : Trace) (h : SectionHistory) (i : ℕ) : Type 0 where
+  pub told : h ≡ section_history t h.replica
   pub right : IsRightSection t h.replica
   pub attempt : i < length h.attempts
   pub fate : i < length h.fates
 
 -- the same of the records of the attempt at this place
-abbrev pub IsLeastOfAttempt : List (List ℕ) → Trace → Telling → ℕ → Option ℕ → Type 0
+abbrev pub IsLeastOfAttempt : List (List ℕ) → Trace → SectionHistory → ℕ → Option ℕ → Type 0
 IsLeastOfAttempt names t h i least =
-    (r : Ran) (fate : Fate) → slice_get h.attempts i ≡ Some r → slice_get h.fates i ≡ Some fate → IsLeastUnfit names (records_of t r fate) least
+    (r : ExecutedAttempt) (fate : Fate) → slice_get h.attempts i ≡ Some r → slice_get h.fates i ≡ Some fate
+    → IsLeastUnfit names (records_of t r fate) least
 
 abbrev pub lesser : Option ℕ → Option ℕ → Option ℕ
 lesser None other = other

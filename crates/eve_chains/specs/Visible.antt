@@ -7,7 +7,7 @@ use Rattle.eve_smallbank.specs.Access.{Executed}
 use Rattle.eve_smallbank.specs.Chain.{Table, visible_at, before_rest, table_after_all}
 use Rattle.eve_grammar.specs.Trace.{Customer, Access, Attempt, Trace}
 use Rattle.eve_history.specs.Section.{Placed}
-use Rattle.eve_history.specs.Told.{asked_at}
+use Rattle.eve_history.specs.SectionHistory.{asked_at}
 
 -- ---- the opening
 
@@ -72,7 +72,8 @@ before_index index (j ∷ order) = if j == index then [] else j ∷ before_index
 -- What the request with this index must see: the rows as the attempts on the path leave them, and in the
 -- attempt itself the requests that stand before this index in the certificate.
 abbrev pub visible_to : Trace → Placed → ℕ → Table
-visible_to t p index = table_after_all (rows_after t p.path) (executed_in t p.attempt (before_index index p.attempt.certificate))
+visible_to t p index = table_after_all (rows_after t p.path)
+    (executed_in t p.attempt (before_index index p.attempt.certificate))
 
 -- ---- the same by the nearest write
 

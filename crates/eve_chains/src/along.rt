@@ -3,7 +3,8 @@
 ghost use Rattle.std.specs.Prelude.{◌≡◌, length};
 ghost use Rattle.eve_smallbank.specs.Access.{balance_at, values_after};
 ghost use Rattle.eve_smallbank.specs.Chain.{table_after};
-ghost use Rattle.eve_chains.specs.Tables.{table_of, taken_back};
+ghost use Rattle.eve_views.specs.First.{first_of};
+ghost use Rattle.eve_chains.specs.Tables.{table_of, undone};
 ghost use Rattle.eve_chains.specs.Along.{all_said, entries_along, AreWithin, IsFirstAlong, fault_of};
 
 use crate::table::Table;
@@ -26,7 +27,7 @@ pub fn judge_along(table: &mut Table, replica: u8, ordered: &[AccessView<'_>]) -
     for access in ordered {
         let wrong = table.wrong_in(access.entries());
         table.write(access.entries());
-        first = first_of(first, fault_of(replica, access.offset(), wrong));
+        first = first_with(first, replica, access.offset(), wrong);
     }
     first
 }
@@ -43,14 +44,15 @@ pub fn write_along(table: &mut Table, ordered: &[AccessView<'_>])
 }
 
 /// Gives the rows that the records write what they have in another table: the work is what was written.
-pub fn take_back_along(table: &mut Table, ordered: &[AccessView<'_>], from: &Table)
+pub fn undo_along(table: &mut Table, ordered: &[AccessView<'_>], from: &Table)
     requires within { AreWithin (length table.old) (all_said ordered.now) }
     requires from { length from.now ≡ length table.old }
     ensures as_many { length table.new ≡ length table.old }
-    ensures table { table_of table.new ≡ taken_back (table_of from.now) (table_of table.old) (entries_along (all_said ordered.now)) }
+    ensures table { table_of table.new ≡ undone (table_of from.now) (table_of table.old)
+        (entries_along (all_said ordered.now)) }
 {
     for access in ordered {
-        table.take_back(access.entries(), from);
+        table.undo(access.entries(), from);
     }
 }
 
@@ -58,22 +60,27 @@ pub fn take_back_along(table: &mut Table, ordered: &[AccessView<'_>], from: &Tab
 pub fn write_values_along(balances: &mut Balances, ordered: &[AccessView<'_>])
     requires { AreWithin (length balances.old) (all_said ordered.now) }
     ensures as_many { length balances.new ≡ length balances.old }
-    ensures values { balance_at balances.new ≡ values_after (balance_at balances.old) (entries_along (all_said ordered.now)) }
+    ensures values { balance_at balances.new ≡ values_after (balance_at balances.old)
+        (entries_along (all_said ordered.now)) }
 {
     for access in ordered {
         write_values(balances, access.entries());
     }
 }
 
-fn fault_of(replica: u8, offset: u64, wrong: Option<Code>) -> Option<Fault>
-    ensures { result ≡ fault_of replica offset wrong }
+/// The first of the fault before and of what is wrong at this offset, which mostly is nothing.
+fn first_with(first: Option<Fault>, replica: u8, offset: u64, wrong: Option<Code>) -> Option<Fault>
+    ensures { result ≡ first_of first (fault_of replica offset wrong) }
 {
     match wrong {
-        Some(code) => Some(Fault {
-            code,
-            offset,
-            replica: Some(replica),
-        }),
-        None => None,
+        Some(code) => first_of(
+            first,
+            Some(Fault {
+                code,
+                offset,
+                replica: Some(replica),
+            }),
+        ),
+        None => first,
     }
 }

@@ -1,11 +1,13 @@
 //! The judgement of a replica's settled attempts.
 
 ghost use Rattle.std.specs.Prelude.{◌≡◌, IfOk, IfErr};
+ghost use Rattle.std.specs.Thread.{IsSync};
 ghost use Rattle.eve_views.specs.Form.{IfFound};
 ghost use Rattle.eve_views.specs.Fronts.{whole};
-ghost use Rattle.eve_history.specs.Told.{telling, names_of, IsRightSection};
+ghost use Rattle.eve_history.specs.SectionHistory.{section_history, names_of, IsRightSection};
 ghost use Rattle.eve_chains.specs.Sound.{SettledAreSound};
 ghost use Rattle.eve_chains.specs.Faults.{HasNoFault, IsLeastFault};
+ghost use Rattle.eve_chains.specs.Checking.{AreRecordsJudged, AreChainsJudged};
 ghost use Rattle.eve_chains.specs.Settling.{settling};
 
 use crate::laws::{chains_are_judged_along_the_records, sound_sections_have_no_fault};
@@ -15,7 +17,44 @@ use eve_accounts::Names;
 use eve_history::History;
 use eve_views::{CheckFault, Trace};
 use std::alloc::Global;
-use std::thread::Threads;
+use std::thread::{Threads, join};
+
+/// How few attempts are worth a thread of their own.
+const LEAST_ATTEMPTS: usize = 32;
+
+/// What judging the records gives, and what judging the chains gives: neither waits for the other, and the records are
+/// judged in more threads.
+fn judge_both<R: Threads + Sync>(
+    rt: &R,
+    alloc: Global,
+    history: &History<'_>,
+    trace: &Trace<'_>,
+    names: &Names<'_>,
+) -> (Result<(), CheckFault>, Result<(), CheckFault>)
+    requires history { history.now ≡ section_history (whole trace.now) history.now.replica }
+    requires right { IsRightSection (whole trace.now) history.now.replica }
+    requires names { names.now.items ≡ names_of (whole trace.now) }
+    ensures records { AreRecordsJudged (whole trace.now) history.now.replica result.0 }
+    ensures chains { AreChainsJudged (whole trace.now) history.now.replica result.1 }
+{
+    if history.attempts() < LEAST_ATTEMPTS {
+        let fit = records(rt, alloc, history, trace, names);
+        (fit, chains(alloc, history, trace))
+    } else {
+        let fit = move ||
+            requires sync { IsSync R.row }
+            requires history { history.now ≡ section_history (whole trace.now) history.now.replica }
+            requires names { names.now.items ≡ names_of (whole trace.now) }
+            ensures { AreRecordsJudged (whole trace.entry.now) history.entry.now.replica result }
+        { records(rt, alloc, history, trace, names) };
+        let see = move ||
+            requires history { history.now ≡ section_history (whole trace.now) history.now.replica }
+            requires right { IsRightSection (whole trace.now) history.now.replica }
+            ensures { AreChainsJudged (whole trace.entry.now) history.entry.now.replica result }
+        { chains(alloc, history, trace) };
+        join(rt, fit, see)
+    }
+}
 
 /// Judges a replica's settled attempts: each record fits its request by itself, and each entry sees what its path
 /// left; else the first fault, those of records before those of chains, then by offset, then by number.
@@ -29,7 +68,7 @@ pub fn check<'a, R: Threads + Sync>(
     trace: &Trace<'a>,
     names: &Names<'_>,
 ) -> Result<Settled<'a>, CheckFault>
-    requires history { history.now ≡ telling (whole trace.now) history.now.replica }
+    requires history { history.now ≡ section_history (whole trace.now) history.now.replica }
     requires names { names.now.items ≡ names_of (whole trace.now) }
     ensures settled { IfOk result (λ settled. settled ≡ settling (whole trace.now) history.now.replica) }
     ensures sound { IfOk result (λ _. SettledAreSound (whole trace.now) history.now.replica) }
@@ -37,10 +76,11 @@ pub fn check<'a, R: Threads + Sync>(
     ensures least { IfErr result (λ why. IfFound why (IsLeastFault (whole trace.now) history.now.replica)) }
 {
     history.is_right();
-    if let Err(why) = records(rt, alloc, history, trace, names) {
+    let (fit, seen) = judge_both(rt, alloc, history, trace, names);
+    if let Err(why) = fit {
         return Err(why);
     }
-    if let Err(why) = chains(alloc, history, trace) {
+    if let Err(why) = seen {
         return Err(why);
     }
     trace.is_whole();

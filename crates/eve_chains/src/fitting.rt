@@ -16,7 +16,8 @@ use eve_smallbank::{Entry, Reply, Request, UpToThree, touched};
 ///
 /// docs/MODEL.md, "A record fits its request".
 pub fn fits(request: &Request, names: &Names, reply: Reply, access: &AccessView<'_>) -> bool
-    ensures { Decides result (Fits names.now.items (recorded (plain request.now) reply (access_in access.now.bytes.now).entries)) }
+    ensures { Decides result
+        (Fits names.now.items (recorded (plain request.now) reply (access_in access.now.bytes.now).entries)) }
 {
     let reached = touched(request, names);
     eve_smallbank::fits(request, &reached, reply, &entries_of(access))

@@ -4,8 +4,9 @@ ghost use Rattle.std.specs.Prelude.{ℕ, ◌≡◌, ◌-◌, suc, List, IsTrue, 
 ghost use Rattle.eve_grammar.specs.Trace.{Trace, Attempt};
 ghost use Rattle.eve_grammar.specs.Limits.{HasLimits};
 ghost use Rattle.eve_views.specs.declared.fault.Fault.{Fault};
-ghost use Rattle.eve_history.specs.Told.{IsRightSection, ordered, committed_at, names_of};
-ghost use Rattle.eve_chains.specs.Visible.{opening_table, executed_by, executed_in, execution, executions, rows_after, before_index, visible_to, entries_before, table_along};
+ghost use Rattle.eve_history.specs.SectionHistory.{IsRightSection, ordered, committed_at, names_of};
+ghost use Rattle.eve_chains.specs.Visible.{opening_table, executed_by, executed_in, execution, executions, rows_after};
+ghost use Rattle.eve_chains.specs.Visible.{before_index, visible_to, entries_before, table_along};
 ghost use Rattle.eve_chains.specs.Sound.{SettledAreSound, RecordsFit, OfSettledAccesses, EntriesSee};
 ghost use Rattle.eve_chains.specs.Faults.{IsChainFault, HasNoFault};
 ghost use Rattle.eve_chains.specs.Rows.{told_of, all_noted, of_row, IsWrongOnRow, EachSees};
@@ -17,8 +18,9 @@ ghost use Rattle.eve_grammar.specs.Certificate.{KeepsGroups, is_permutation};
 ghost use Rattle.eve_history.specs.Section.{Placed, batch_at, request_count};
 ghost use Rattle.eve_views.specs.declared.fault.Code.TheVariants as code;
 ghost use Rattle.eve_history.specs.Faults.{StandsInOrders};
-ghost use Rattle.eve_chains.specs.Committed.{committed_to, values_to, opening_bank, bank_after, Leads, IsSerialBetween, committed_request_ids, batch_request_ids, AreDistinct};
-ghost use Rattle.eve_chains.specs.Tables.{taken_back};
+ghost use Rattle.eve_chains.specs.Committed.{committed_to, values_to, opening_bank, bank_after, Leads, IsSerialBetween};
+ghost use Rattle.eve_chains.specs.Committed.{committed_request_ids, batch_request_ids, AreDistinct};
+ghost use Rattle.eve_chains.specs.Tables.{undone};
 ghost use Rattle.eve_chains.specs.Along.{entries_along, IsWrongSomewhere, AllSettledSee};
 ghost use Rattle.eve_chains.specs.Settling.{settling, values_in};
 
@@ -30,7 +32,8 @@ ghost use Rattle.eve_chains.specs.Settling.{settling, values_in};
 pub fn rows_are_judged_by_themselves()
     ensures stands { (t : Trace) (e row : ℕ) (f : Fault) → HasLimits t → IsRightSection t e → RecordsFit t e
         → IsWrongOnRow e (opening_table t row) (of_row row (all_noted (told_of t e))) f → IsChainFault t e f }
-    ensures found { (t : Trace) (e : ℕ) (f : Fault) → HasLimits t → IsRightSection t e → RecordsFit t e → IsChainFault t e f
+    ensures found { (t : Trace) (e : ℕ) (f : Fault) → HasLimits t → IsRightSection t e → RecordsFit t e
+        → IsChainFault t e f
         → (row : ℕ) × IsWrongOnRow e (opening_table t row) (of_row row (all_noted (told_of t e))) f }
     ensures sound { (t : Trace) (e : ℕ) → HasLimits t → IsRightSection t e → RecordsFit t e
         → ((row : ℕ) → EachSees (opening_table t row) (of_row row (all_noted (told_of t e)))) → SettledAreSound t e }
@@ -78,7 +81,8 @@ pub fn requests_take_effect_once()
 pub fn sound_attempts_fit_and_see()
     ensures fit { (t : Trace) (e : ℕ) → IsRightSection t e → SettledAreSound t e → RecordsFit t e }
     ensures see { (t : Trace) (e : ℕ) → IsRightSection t e → SettledAreSound t e → EntriesSee t e }
-    ensures sound { (t : Trace) (e : ℕ) → HasLimits t → IsRightSection t e → RecordsFit t e → EntriesSee t e → SettledAreSound t e }
+    ensures sound { (t : Trace) (e : ℕ) → HasLimits t → IsRightSection t e → RecordsFit t e → EntriesSee t e
+        → SettledAreSound t e }
 {}
 
 /// Where each record fits and each entry sees what it must, no fault of records or chains stands. Where none
@@ -86,7 +90,8 @@ pub fn sound_attempts_fit_and_see()
 pub fn faults_tell_what_is_wrong()
     ensures none { (t : Trace) (e : ℕ) → RecordsFit t e → EntriesSee t e → HasNoFault t e }
     ensures see { (t : Trace) (e : ℕ) → HasNoFault t e → EntriesSee t e }
-    ensures fit { (t : Trace) (e : ℕ) → HasNoFault t e → OfSettledAccesses t e (λ p x. ¬ ¬ Fits (names_of t) (executed_by t p.attempt x)) }
+    ensures fit { (t : Trace) (e : ℕ) → HasNoFault t e
+        → OfSettledAccesses t e (λ p x. ¬ ¬ Fits (names_of t) (executed_by t p.attempt x)) }
 {}
 
 /// In a right section whose settled attempts are sound no fault of records or chains stands.
@@ -97,9 +102,12 @@ pub fn sound_sections_have_no_fault()
 /// What is found along the records of the settled attempts, each in its certificate's order and from what its path
 /// left, is exactly the faults of chains; where nothing is found, and the records fit, the attempts are sound.
 pub fn chains_are_judged_along_the_records()
-    ensures stands { (t : Trace) (e : ℕ) (f : Fault) → HasLimits t → IsRightSection t e → IsWrongSomewhere t e f → IsChainFault t e f }
-    ensures found { (t : Trace) (e : ℕ) (f : Fault) → HasLimits t → IsRightSection t e → IsChainFault t e f → IsWrongSomewhere t e f }
-    ensures sound { (t : Trace) (e : ℕ) → HasLimits t → IsRightSection t e → RecordsFit t e → AllSettledSee t e → SettledAreSound t e }
+    ensures stands { (t : Trace) (e : ℕ) (f : Fault) → HasLimits t → IsRightSection t e → IsWrongSomewhere t e f
+        → IsChainFault t e f }
+    ensures found { (t : Trace) (e : ℕ) (f : Fault) → HasLimits t → IsRightSection t e → IsChainFault t e f
+        → IsWrongSomewhere t e f }
+    ensures sound { (t : Trace) (e : ℕ) → HasLimits t → IsRightSection t e → RecordsFit t e → AllSettledSee t e
+        → SettledAreSound t e }
 {}
 
 /// The balances after a committed batch are those before it with what its records wrote, in their order.
@@ -120,7 +128,7 @@ pub fn rows_have_what_the_nearest_writes_left()
 
 /// Where the rows that were written are taken back from the table before the writes, it is that table again.
 pub fn taking_back_undoes_writes()
-    ensures { (table : Table) (es : List Entry) → taken_back table (table_after table es) es ≡ table }
+    ensures { (table : Table) (es : List Entry) → undone table (table_after table es) es ≡ table }
 {}
 
 /// What is kept of a right section gives the balances of the committed batches.

@@ -3,7 +3,7 @@
 ghost use Rattle.std.specs.Prelude.{◌≡◌, ◌<◌, ◌≤◌, ◌-◌, ◌++◌, Some, IfOk, OnOk, length, take, drop, slice_get};
 ghost use Rattle.eve_smallbank.specs.Access.{balance_at};
 ghost use Rattle.eve_views.specs.Fronts.{whole};
-ghost use Rattle.eve_history.specs.Told.{Ran, telling, IsRightSection};
+ghost use Rattle.eve_history.specs.SectionHistory.{ExecutedAttempt, section_history, IsRightSection};
 ghost use Rattle.eve_chains.specs.Along.{all_said};
 ghost use Rattle.eve_chains.specs.Settling.{settling, values_in, AreBankAfter};
 ghost use Rattle.eve_chains.specs.Parts.{begin, parts, DoRise};
@@ -50,7 +50,7 @@ impl<'a> Settled<'a> {
         history: &History<'a>,
         trace: &Trace<'a>,
     ) -> Result<Settled<'a>, AllocError>
-        requires history { history.now ≡ telling (whole trace.now) history.now.replica }
+        requires history { history.now ≡ section_history (whole trace.now) history.now.replica }
         ensures { IfOk result (λ settled. settled ≡ settling (whole trace.now) history.now.replica) }
     {
         trace.is_whole();
@@ -78,8 +78,8 @@ impl<'a> Settled<'a> {
         self.ends.len() as u32
     }
 
-    /// The balances after the first n batches, in cents, which are the bank after batch n: the work is what those batches
-    /// wrote.
+    /// The balances after the first n batches, in cents, which are the bank after batch n: the work is what those
+    /// batches wrote.
     ///
     /// docs/MODEL.md, "Bank and replies after a committed batch".
     pub fn balances_after(&self, alloc: Global, n: u32) -> Result<Balances, AllocError>
@@ -95,8 +95,8 @@ impl<'a> Settled<'a> {
         Ok(balances)
     }
 
-    /// Goes from the balances after the batch before to those after batch n, of the batches from 1 on, which are the bank
-    /// after it.
+    /// Goes from the balances after the batch before to those after batch n, of the batches from 1 on, which are the
+    /// bank after it.
     ///
     /// docs/MODEL.md, "Bank and replies after a committed batch".
     pub fn advance(&self, n: u32, balances: &mut Balances)
@@ -120,7 +120,9 @@ fn copy_ordered<'a>(
     i: usize,
 ) -> Result<(), AllocError>
     requires { i < length history.now.attempts }
-    ensures { OnOk result ((r : Ran) → slice_get history.now.attempts i ≡ Some r → all_said records.new.items ≡ all_said records.old.items ++ r.ordered) }
+    ensures { OnOk result ((r : ExecutedAttempt) → slice_get history.now.attempts i ≡ Some r
+        → all_said records.new.items
+        ≡ all_said records.old.items ++ r.ordered) }
 {
     for place in 0..history.attempt(i).len() {
         records.push(history.ordered(i, place))?;

@@ -6,7 +6,7 @@ ghost use Rattle.eve_smallbank.specs.Chain.{table_after};
 ghost use Rattle.eve_grammar.specs.Limits.{is_entry};
 ghost use Rattle.eve_views.specs.Fronts.{whole};
 ghost use Rattle.eve_chains.specs.Visible.{opening_table};
-ghost use Rattle.eve_chains.specs.Tables.{table_of, taken_back, IsWrongIn};
+ghost use Rattle.eve_chains.specs.Tables.{table_of, undone, IsWrongIn};
 
 use crate::versioned::Versioned;
 use eve_accounts::{Cents, Row};
@@ -48,6 +48,24 @@ impl Table {
             rows.push(Versioned::new(0, customer.checking()))?;
         }
         Ok(Table { rows })
+    }
+
+    /// No rows. It takes no memory.
+    pub fn none(alloc: Global) -> Table
+        ensures { result ≡ [] }
+    {
+        Table {
+            rows: Vec::new(alloc),
+        }
+    }
+
+    /// The same rows, in memory of their own.
+    pub fn copy(&self, alloc: Global) -> Result<Table, AllocError>
+        ensures { IfOk result (λ table. table ≡ self.now) }
+    {
+        Ok(Table {
+            rows: self.rows.to_vec(alloc)?,
+        })
     }
 
     /// What a row has.
@@ -105,22 +123,22 @@ impl Table {
     }
 
     /// Gives the rows that the entries write what they have in another table.
-    pub fn take_back(&mut self, entries: Entries<'_>, from: &Table)
+    pub fn undo(&mut self, entries: Entries<'_>, from: &Table)
         requires entries { IsTrue (list_all (is_entry (length self.old)) entries) }
         requires from { length from.now ≡ length self.old }
         ensures as_many { length self.new ≡ length self.old }
-        ensures table { table_of self.new ≡ taken_back (table_of from.now) (table_of self.old) entries.entry }
+        ensures table { table_of self.new ≡ undone (table_of from.now) (table_of self.old) entries.entry }
     {
         for entry in entries {
-            self.take_back_one(&entry, from);
+            self.undo_one(&entry, from);
         }
     }
 
-    fn take_back_one(&mut self, entry: &Entry, from: &Table)
+    fn undo_one(&mut self, entry: &Entry, from: &Table)
         requires entry { IsTrue (is_entry (length self.old) entry.now) }
         requires from { length from.now ≡ length self.old }
         ensures as_many { length self.new ≡ length self.old }
-        ensures table { table_of self.new ≡ taken_back (table_of from.now) (table_of self.old) (entry.now ∷ []) }
+        ensures table { table_of self.new ≡ undone (table_of from.now) (table_of self.old) (entry.now ∷ []) }
     {
         match entry.kind {
             Kind::Read => {}

@@ -6,11 +6,12 @@ ghost use Rattle.eve_frames.specs.Views.{batch_in, access_in};
 ghost use Rattle.eve_views.specs.Form.{IfFound, IsLeast, HasNone};
 ghost use Rattle.eve_views.specs.Fronts.{whole};
 ghost use Rattle.eve_views.specs.declared.fault.Fault.{Fault as FaultValue};
-ghost use Rattle.eve_history.specs.Told.{Ran, telling, names_of, IsRightSection};
+ghost use Rattle.eve_history.specs.SectionHistory.{ExecutedAttempt, section_history, names_of, IsRightSection};
 ghost use Rattle.eve_chains.specs.Records.{recorded};
 ghost use Rattle.eve_chains.specs.Sound.{RecordsFit};
 ghost use Rattle.eve_chains.specs.Faults.{IsRecordFault};
-ghost use Rattle.eve_chains.specs.Unfit.{is_settled, recorded_of, all_records, HasRequests, IsLeastUnfit, CanBeJudged, IsLeastOfAttempt, lesser, IsLesser};
+ghost use Rattle.eve_chains.specs.Unfit.{is_settled, recorded_of, all_records, HasRequests, IsLeastUnfit, CanBeJudged};
+ghost use Rattle.eve_chains.specs.Unfit.{IsLeastOfAttempt, lesser, IsLesser};
 
 use crate::fits;
 use eve_accounts::Names;
@@ -37,7 +38,7 @@ pub fn records<R: Threads + Sync>(
     trace: &Trace<'_>,
     names: &Names<'_>,
 ) -> Result<(), CheckFault>
-    requires history { history.now ≡ telling (whole trace.now) history.now.replica }
+    requires history { history.now ≡ section_history (whole trace.now) history.now.replica }
     requires names { names.now.items ≡ names_of (whole trace.now) }
     ensures fit { IfOk result (λ _. RecordsFit (whole trace.now) history.now.replica) }
     ensures none { IfOk result (λ _. HasNone (IsRecordFault (whole trace.now) history.now.replica)) }
@@ -63,9 +64,10 @@ fn first_unfit<R: Threads + Sync>(
     trace: &Trace<'_>,
     names: &Names<'_>,
 ) -> Result<Option<u64>, AllocError>
-    requires history { history.now ≡ telling (whole trace.now) history.now.replica }
+    requires history { history.now ≡ section_history (whole trace.now) history.now.replica }
     requires right { IsRightSection (whole trace.now) history.now.replica }
-    ensures { IfOk result (IsLeastUnfit names.now.items (all_records (whole trace.now) history.now.attempts history.now.fates)) }
+    ensures { IfOk result (IsLeastUnfit names.now.items
+        (all_records (whole trace.now) history.now.attempts history.now.fates)) }
 {
     (0..history.attempts())
         .into_par_iter()
@@ -73,7 +75,8 @@ fn first_unfit<R: Threads + Sync>(
         .map(
             |i: usize| -> Result<Option<u64>, AllocError>
                 requires { CanBeJudged (whole trace.now) history.now i }
-                ensures { IfOk result (IsLeastOfAttempt names.entry.now.items (whole trace.entry.now) history.entry.now i) }
+                ensures { IfOk result (IsLeastOfAttempt names.entry.now.items (whole trace.entry.now) history.entry.now
+                    i) }
             { judge_attempt(alloc, history, i, trace, names) },
         )
         .reduce(
@@ -127,7 +130,8 @@ fn read_requests<'a>(
     batch: &BatchView<'a>,
 ) -> Result<(), AllocError>
     requires { requests.old.items ≡ [] }
-    ensures { OnOk result (map plain requests.new.items ≡ map (λ a. a.request) (batch_in batch.now.bytes.now).1.requests) }
+    ensures { OnOk result (map plain requests.new.items
+        ≡ map (λ a. a.request) (batch_in batch.now.bytes.now).1.requests) }
 {
     for asked in batch.requests() {
         requests.reserve(1)?;
@@ -144,8 +148,9 @@ fn judge_records(
     names: &Names<'_>,
 ) -> Option<u64>
     requires attempt { i < length history.now.attempts }
-    requires requests { (r : Ran) → slice_get history.now.attempts i ≡ Some r → HasRequests (length requests.now) r }
-    ensures { (r : Ran) → slice_get history.now.attempts i ≡ Some r
+    requires requests { (r : ExecutedAttempt) → slice_get history.now.attempts i ≡ Some r
+        → HasRequests (length requests.now) r }
+    ensures { (r : ExecutedAttempt) → slice_get history.now.attempts i ≡ Some r
         → IsLeastUnfit names.now.items (map (recorded_of (map plain requests.now) r.attempt.replies) r.ordered) result }
 {
     let attempt = history.attempt(i);
@@ -166,7 +171,8 @@ fn judge_record(
     reply: Reply,
     access: &AccessView<'_>,
 ) -> Option<u64>
-    ensures { IsLeastUnfit names.now.items ((access.now.offset, recorded (plain request.now) reply (access_in access.now.bytes.now).entries) ∷ []) result }
+    ensures { IsLeastUnfit names.now.items
+        ((access.now.offset, recorded (plain request.now) reply (access_in access.now.bytes.now).entries) ∷ []) result }
 {
     if fits(request, names, reply, access) {
         None

@@ -1,18 +1,19 @@
 //! A walk along a replica's section, which judges each attempt's entries once the attempt settles.
 
-ghost use Rattle.std.specs.Prelude.{◌≡◌, ℕ, List, ◌≤◌, ◌<◌, ◌-◌, ◌∷◌, IfOk, IfErr, OnOk, length};
+ghost use Rattle.std.specs.Prelude.{◌≡◌, ℕ, List, ◌≤◌, ◌<◌, ◌-◌, ◌∷◌, IfOk, IfErr, OnOk, IsTrue, length};
 ghost use Rattle.std.specs.List.{AllByRecursion};
 ghost use Rattle.eve_grammar.specs.Trace.{Step as StepValue};
 ghost use Rattle.eve_grammar.specs.Spelling.{steps_at};
 ghost use Rattle.eve_views.specs.Form.{IfFound, IsLeast};
 ghost use Rattle.eve_views.specs.Fronts.{whole};
 ghost use Rattle.eve_views.specs.StepKinds.{IsStep};
-ghost use Rattle.eve_history.specs.Told.{telling, IsRightSection};
+ghost use Rattle.eve_history.specs.SectionHistory.{section_history, IsRightSection};
 ghost use Rattle.eve_chains.specs.Faults.{IsChainFault};
 ghost use Rattle.eve_chains.specs.Along.{all_said, AreWithin, AllSettledSee};
-ghost use Rattle.eve_chains.specs.Walking.{records_of, records_from, IsCommitted, AreTried, AreTakenBack, HasWalked};
+ghost use Rattle.eve_chains.specs.Walking.{records_of, records_from, IsCommitted, AreTried, AreUndone, HasWalked};
+ghost use Rattle.eve_chains.specs.Walking.{parted};
 
-use crate::{Table, judge_along, take_back_along, write_along};
+use crate::{Table, judge_along, undo_along, write_along};
 use eve_frames::AccessView;
 use eve_history::History;
 use eve_views::{CheckFault, Fault, Step, Trace, first_of};
@@ -23,8 +24,10 @@ use std::alloc::{AllocError, Global};
 pub struct Walk<'a> {
     /// What each row has behind the committed attempts.
     pub committed: Table,
-    /// The same, except while the attempts are judged that a rollback discards.
+    /// Where it stands apart, the same, except while the attempts are judged that a rollback discards.
     pub working: Table,
+    /// Whether the working table stands apart from the committed one: from the first rollback on.
+    pub apart: bool,
     /// How many attempts are committed or discarded: the first of them.
     pub settled: usize,
     /// How many attempts have come.
@@ -56,15 +59,28 @@ impl<'a> Walk<'a> {
     fn commit(&mut self, history: &History<'a>) -> Result<(), AllocError>
         requires open { self.old.settled < self.old.come }
         requires come { self.old.come ≤ length history.now.attempts }
-        requires rows { length self.old.working ≡ length self.old.committed }
+        requires rows { IsTrue self.old.apart → length self.old.working ≡ length self.old.committed }
         requires within { AreWithin (length self.old.committed) (records_of history.now self.old.settled) }
         ensures { OnOk result (IsCommitted history.now self.old self.new) }
     {
         load(&mut self.records, history, self.settled)?;
         let found = judge_along(&mut self.committed, history.replica(), &self.records);
-        write_along(&mut self.working, &self.records);
+        if self.apart {
+            write_along(&mut self.working, &self.records);
+        }
         self.first = first_of(self.first, found);
         self.settled += 1;
+        Ok(())
+    }
+
+    /// Has the working table stand apart.
+    fn part(&mut self, alloc: Global) -> Result<(), AllocError>
+        ensures { OnOk result (self.new ≡ parted self.old) }
+    {
+        if !self.apart {
+            self.working = self.committed.copy(alloc)?;
+            self.apart = true;
+        }
         Ok(())
     }
 
@@ -72,7 +88,8 @@ impl<'a> Walk<'a> {
     fn try_open(&mut self, history: &History<'a>) -> Result<(), AllocError>
         requires open { self.old.settled ≤ self.old.come }
         requires come { self.old.come ≤ length history.now.attempts }
-        requires within { AllByRecursion (AreWithin (length self.old.working)) (records_from history.now self.old.settled (self.old.come - self.old.settled)) }
+        requires within { AllByRecursion (AreWithin (length self.old.working))
+            (records_from history.now self.old.settled (self.old.come - self.old.settled)) }
         ensures { OnOk result (AreTried history.now (self.old.come - self.old.settled) self.old self.new) }
     {
         for i in self.settled..self.come {
@@ -84,16 +101,17 @@ impl<'a> Walk<'a> {
     }
 
     /// Gives the rows that the open attempts write what they have behind the committed ones.
-    fn take_back(&mut self, history: &History<'a>) -> Result<(), AllocError>
+    fn undo(&mut self, history: &History<'a>) -> Result<(), AllocError>
         requires open { self.old.settled ≤ self.old.come }
         requires come { self.old.come ≤ length history.now.attempts }
         requires rows { length self.old.committed ≡ length self.old.working }
-        requires within { AllByRecursion (AreWithin (length self.old.working)) (records_from history.now self.old.settled (self.old.come - self.old.settled)) }
-        ensures { OnOk result (AreTakenBack history.now (self.old.come - self.old.settled) self.old self.new) }
+        requires within { AllByRecursion (AreWithin (length self.old.working))
+            (records_from history.now self.old.settled (self.old.come - self.old.settled)) }
+        ensures { OnOk result (AreUndone history.now (self.old.come - self.old.settled) self.old self.new) }
     {
         for i in self.settled..self.come {
             load(&mut self.records, history, i)?;
-            take_back_along(&mut self.working, &self.records, &self.committed);
+            undo_along(&mut self.working, &self.records, &self.committed);
         }
         Ok(())
     }
@@ -101,14 +119,17 @@ impl<'a> Walk<'a> {
     /// Takes the next step.
     fn take(
         &mut self,
+        alloc: Global,
         history: &History<'a>,
         trace: &Trace<'a>,
         step: Step<'_, 'a>,
     ) -> Result<(), AllocError>
-        requires history { history.now ≡ telling (whole trace.now) history.now.replica }
+        requires history { history.now ≡ section_history (whole trace.now) history.now.replica }
         requires right { IsRightSection (whole trace.now) history.now.replica }
-        requires next { (rest : List (ℕ × StepValue)) × (next : ℕ × StepValue) × HasWalked (whole trace.now) history.now.replica (next ∷ rest) self.old × IsStep step next }
-        ensures { OnOk result ((rest : List (ℕ × StepValue)) (next : ℕ × StepValue) → HasWalked (whole trace.now) history.now.replica (next ∷ rest) self.old → IsStep step.entry next
+        requires next { (rest : List (ℕ × StepValue)) × (next : ℕ × StepValue)
+            × HasWalked (whole trace.now) history.now.replica (next ∷ rest) self.old × IsStep step next }
+        ensures { OnOk result ((rest : List (ℕ × StepValue)) (next : ℕ × StepValue)
+            → HasWalked (whole trace.now) history.now.replica (next ∷ rest) self.old → IsStep step.entry next
             → HasWalked (whole trace.now) history.now.replica rest self.new) }
     {
         trace.is_whole();
@@ -120,8 +141,9 @@ impl<'a> Walk<'a> {
             }
             Step::Commit(_) => self.commit(history)?,
             Step::Rollback(_) => {
+                self.part(alloc)?;
                 self.try_open(history)?;
-                self.take_back(history)?;
+                self.undo(history)?;
                 self.settled = self.come;
             }
         }
@@ -135,7 +157,7 @@ impl<'a> Walk<'a> {
 /// docs/MODEL.md, "What an entry must see" and "Faults". One walk along the section; a discarded attempt's writes are
 /// taken back row by row. Want of memory decides nothing.
 pub fn chains<'a>(alloc: Global, history: &History<'a>, trace: &Trace<'a>) -> Result<(), CheckFault>
-    requires history { history.now ≡ telling (whole trace.now) history.now.replica }
+    requires history { history.now ≡ section_history (whole trace.now) history.now.replica }
     requires right { IsRightSection (whole trace.now) history.now.replica }
     ensures see { IfOk result (λ _. AllSettledSee (whole trace.now) history.now.replica) }
     ensures least { IfErr result (λ why. IfFound why (IsLeast (IsChainFault (whole trace.now) history.now.replica))) }
@@ -146,7 +168,8 @@ pub fn chains<'a>(alloc: Global, history: &History<'a>, trace: &Trace<'a>) -> Re
     }
     let mut walk = Walk {
         committed: Table::opening(alloc, trace)?,
-        working: Table::opening(alloc, trace)?,
+        working: Table::none(alloc),
+        apart: false,
         settled: 0,
         come: 0,
         first: None,
@@ -154,7 +177,7 @@ pub fn chains<'a>(alloc: Global, history: &History<'a>, trace: &Trace<'a>) -> Re
     };
     let mut steps = trace.section(history.replica());
     while let Some(step) = steps.next() {
-        walk.take(history, trace, step)?;
+        walk.take(alloc, history, trace, step)?;
     }
     match walk.first {
         Some(fault) => Err(CheckFault::Found(fault)),

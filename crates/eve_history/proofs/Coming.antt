@@ -1,11 +1,15 @@
 -- Public: other crates cite these lemmas. The steps of a section, one after another.
 use Rattle.eve_views.specs.Form.{IsLeast}
-use Rattle.std.proofs.Common.{◌≡◌, ℕ, zero, suc, ◌+◌, ◌-◌, ◌<◌, ◌≤◌, ◌==◌, Bool, true, false, List, [], ◌∷◌, ◌++◌, map, length, take, drop, replicate, Option, Some, None, IsTrue, refl, sym, ap, subst, ◌∙◌, append_assoc, arith}
+use Rattle.std.proofs.Common.{◌≡◌, ℕ, zero, suc, ◌+◌, ◌-◌, ◌<◌, ◌≤◌, ◌==◌, Bool, true, false, List, [], ◌∷◌, ◌++◌, map}
+use Rattle.std.proofs.Common.{length, take, drop, replicate, Option, Some, None, IsTrue, refl, sym, ap, subst, ◌∙◌}
+use Rattle.std.proofs.Common.{append_assoc, arith}
 use Rattle.std.specs.Prelude.{slice_index_or}
 use Rattle.std.specs.List.{AllByRecursion, list_all}
 use Rattle.std.proofs.lemmas.Bool.{and_parts, and_from, eqb-true, false≢true}
-use Rattle.std.proofs.lemmas.List.{append-nil, map-append, length-map, length-append, length-drop, length-replicate, drop_all, drop-append-le, drop-drop, drop_at, take-append-le, take_all}
-use Rattle.eve_grammar.specs.Trace.{Access, Attempt, Commit, Rollback, Step, Attempts, Commits, RollsBack, Trace, head_of}
+use Rattle.std.proofs.lemmas.List.{append-nil, map-append, length-map, length-append, length-drop, length-replicate}
+use Rattle.std.proofs.lemmas.List.{drop_all, drop-append-le, drop-drop, drop_at, take-append-le, take_all}
+use Rattle.eve_grammar.specs.Trace.{Access, Attempt, Commit, Rollback, Step, Attempts, Commits, RollsBack, Trace}
+use Rattle.eve_grammar.specs.Trace.{head_of}
 use Rattle.eve_grammar.specs.Frames.{without_accesses}
 use Rattle.eve_grammar.specs.Spelling.{located, step_text, steps_of, steps_at, accesses_at}
 use Rattle.eve_grammar.specs.Limits.{is_step, row_count, HasLimits}
@@ -13,33 +17,53 @@ use Rattle.eve_views.specs.declared.fault.Fault.{Fault}
 use Rattle.eve_history.specs.declared.fate.Fate.{Fate}
 use Rattle.eve_history.specs.declared.fate.Fate.TheVariants.{Committed, Discarded, Open}
 use Rattle.eve_history.specs.declared.wrong.Wrong.{Wrong}
-use Rattle.eve_history.specs.Section.{Placed, SectionState, start, next, committing, state_after, path_of, commits_first, is_right_commit, are_right}
+use Rattle.eve_history.specs.Section.{Placed, SectionState, start, next, committing, state_after, path_of}
+use Rattle.eve_history.specs.Section.{commits_first, is_right_commit, are_right}
 use Rattle.eve_history.specs.Fates.{fate_in, fates_from}
-use Rattle.eve_history.specs.Told.{Ran, ran, placed_at, ordered, attempts_among, rollbacks_among, access_with, telling}
+use Rattle.eve_history.specs.SectionHistory.{ExecutedAttempt, executed_attempt, placed_at, ordered, attempts_among}
+use Rattle.eve_history.specs.SectionHistory.{rollbacks_among, access_with, section_history}
 use Rattle.eve_history.specs.Faults.{IsStructureFault}
 use Rattle.eve_history.specs.FirstWrong.{wrong_step, first_wrong, first_of, fault_of}
-use Rattle.eve_history.specs.Coming.{KeptAttempt, Kept, open_count, kept_ran, rans, ran_at, telling_of, StandsAt, AreSettled, open_fates, HasCome}
-use Rattle.eve_history.proofs.Structure.{state_after-append, are_right-push, right_step, steps_on, found_is_least, none_stands}
+use Rattle.eve_history.specs.Coming.{KeptAttempt, Kept, open_count, kept_executed_attempt, executed_attempts}
+use Rattle.eve_history.specs.Coming.{executed_attempt_at, section_history_of, StandsAt}
+use Rattle.eve_history.specs.Coming.{AreSettled, open_fates, HasCome}
+use Rattle.eve_history.proofs.Structure.{state_after-append, are_right-push, right_step, steps_on, found_is_least}
+use Rattle.eve_history.proofs.Structure.{none_stands}
 
 -- ---- before the first step
 
-all_located : {A : Type 0} (p : A → Bool) (text : A → List ℕ) (at : ℕ) (xs : List A) → list_all p xs ≡ true → list_all (λ x. p x.1) (located text at xs) ≡ true
+all_located : {A : Type 0} (p : A → Bool) (text : A → List ℕ) (at : ℕ) (xs : List A) → list_all p xs ≡ true
+    → list_all (λ x. p x.1) (located text at xs) ≡ true
 all_located p text at [] all = refl
 all_located p text at (x ∷ xs) all =
     let parts = and_parts (p x) (list_all p xs) all in
-    and_from (p x) (list_all (λ y. p y.1) (located text (at + length (text x)) xs)) parts.0 (all_located p text (at + length (text x)) xs parts.1)
+    and_from (p x) (list_all (λ y. p y.1) (located text (at + length (text x)) xs)) parts.0
+    (all_located p text (at + length (text x)) xs parts.1)
 
-all_in_section : (p : Step → Bool) (sections : List (List Step)) (e : ℕ) → list_all (list_all p) sections ≡ true → list_all p (slice_index_or sections e []) ≡ true
+all_in_section : (p : Step → Bool) (sections : List (List Step)) (e : ℕ) → list_all (list_all p) sections ≡ true
+    → list_all p (slice_index_or sections e []) ≡ true
 all_in_section p [] e all = refl
 all_in_section p (s ∷ sections) zero all = (and_parts (list_all p s) (list_all (list_all p) sections) all).0
-all_in_section p (s ∷ sections) (suc e) all = all_in_section p sections e (and_parts (list_all p s) (list_all (list_all p) sections) all).1
+all_in_section p (s ∷ sections) (suc e) all =
+    all_in_section p sections e (and_parts (list_all p s) (list_all (list_all p) sections) all).1
 
-steps_fit : (t : Trace) (e : ℕ) → HasLimits t → list_all (λ x. is_step (row_count (head_of t)) x.1) (steps_at t e) ≡ true
+steps_fit : (t : Trace) (e : ℕ) → HasLimits t → list_all (λ x. is_step (row_count (head_of t)) x.1) (steps_at t e)
+    ≡ true
 unfolding steps_at
-steps_fit t e limits = all_located (is_step (row_count (head_of t))) step_text _ (steps_of t e) (all_in_section (is_step (row_count (head_of t))) t.sections e limits.sections)
+steps_fit t e limits = all_located (is_step (row_count (head_of t))) step_text _ (steps_of t e)
+    (all_in_section (is_step (row_count (head_of t))) t.sections e limits.sections)
 
 abbrev pub nothing : Kept
-nothing = record { view = 0; last = 0; rolled_back = false; attempts = []; fates = []; commits = []; records = []; rollbacks = [] }
+nothing = record {
+  view = 0;
+  last = 0;
+  rolled_back = false;
+  attempts = [];
+  fates = [];
+  commits = [];
+  records = [];
+  rollbacks = [];
+}
 
 pub come_start : (t : Trace) (e : ℕ) → HasLimits t → HasCome t e (steps_at t e) nothing
 come_start t e limits = record {
@@ -57,23 +81,28 @@ come_start t e limits = record {
 
 -- ---- one step more
 
-attempts_among-push : (xs : List (ℕ × Step)) (x : ℕ × Step) → attempts_among (xs ++ x ∷ []) ≡ attempts_among xs ++ attempts_among (x ∷ [])
+attempts_among-push : (xs : List (ℕ × Step)) (x : ℕ × Step) → attempts_among (xs ++ x ∷ [])
+    ≡ attempts_among xs ++ attempts_among (x ∷ [])
 attempts_among-push [] x = refl
-attempts_among-push ((at, Attempts a) ∷ xs) x = ap (λ (ys : List (ℕ × Attempt)). (at, a) ∷ ys) (attempts_among-push xs x)
+attempts_among-push ((at, Attempts a) ∷ xs) x = ap (λ (ys : List (ℕ × Attempt)). (at, a) ∷ ys)
+    (attempts_among-push xs x)
 attempts_among-push ((at, Commits c) ∷ xs) x = attempts_among-push xs x
 attempts_among-push ((at, RollsBack r) ∷ xs) x = attempts_among-push xs x
 
-rollbacks_among-push : (xs : List (ℕ × Step)) (x : ℕ × Step) → rollbacks_among (xs ++ x ∷ []) ≡ rollbacks_among xs ++ rollbacks_among (x ∷ [])
+rollbacks_among-push : (xs : List (ℕ × Step)) (x : ℕ × Step) → rollbacks_among (xs ++ x ∷ [])
+    ≡ rollbacks_among xs ++ rollbacks_among (x ∷ [])
 rollbacks_among-push [] x = refl
 rollbacks_among-push ((at, Attempts a) ∷ xs) x = rollbacks_among-push xs x
 rollbacks_among-push ((at, Commits c) ∷ xs) x = rollbacks_among-push xs x
-rollbacks_among-push ((at, RollsBack r) ∷ xs) x = ap (λ (ys : List (ℕ × Rollback)). (at, r) ∷ ys) (rollbacks_among-push xs x)
+rollbacks_among-push ((at, RollsBack r) ∷ xs) x = ap (λ (ys : List (ℕ × Rollback)). (at, r) ∷ ys)
+    (rollbacks_among-push xs x)
 
 pub state_of : {t : Trace} {e : ℕ} {rest : List (ℕ × Step)} {k : Kept} → HasCome t e rest k → SectionState
 state_of come = state_after start come.front
 
 -- a step at which something is wrong
-pub come_wrong : (t : Trace) (e : ℕ) (step : ℕ × Step) (rest : List (ℕ × Step)) (k : Kept) (w : Wrong) (come : HasCome t e (step ∷ rest) k)
+pub come_wrong : (t : Trace) (e : ℕ) (step : ℕ × Step) (rest : List (ℕ × Step)) (k : Kept) (w : Wrong)
+    (come : HasCome t e (step ∷ rest) k)
     → wrong_step t (state_after start come.front) step ≡ Some w → IsLeast (IsStructureFault t e) (fault_of e w)
 come_wrong t e step rest k w come wrong =
     found_is_least t e w
@@ -81,39 +110,51 @@ come_wrong t e step rest k w come wrong =
     ∙ ap (λ (o : Option Wrong). first_of o (first_wrong t (next (state_after start come.front) step) rest)) wrong)
 
 -- what is the same after any step that is right
-module _ (t : Trace) (e : ℕ) (step : ℕ × Step) (rest : List (ℕ × Step)) (k : Kept) (come : HasCome t e (step ∷ rest) k) (nothing_is : wrong_step t (state_after start come.front) step ≡ None) where
+module _ (t : Trace) (e : ℕ) (step : ℕ × Step) (rest : List (ℕ × Step)) (k : Kept) (come : HasCome t e (step ∷ rest) k)
+    (nothing_is : wrong_step t (state_after start come.front) step ≡ None) where
   one_more : steps_at t e ≡ (come.front ++ step ∷ []) ++ rest
   one_more = come.split ∙ sym (append_assoc come.front (step ∷ []) rest)
 
-  settled_next : (rs : List Ran) (n : ℕ) (places : List ℕ) → AreSettled (next (state_after start come.front) step) rs n places → AreSettled (state_after start (come.front ++ step ∷ [])) rs n places
-  settled_next rs n places settled = subst (λ (s : SectionState). AreSettled s rs n places) (sym (state_after-append start come.front (step ∷ []))) settled
+  settled_next : (rs : List ExecutedAttempt) (n : ℕ) (places : List ℕ)
+      → AreSettled (next (state_after start come.front) step) rs n places
+      → AreSettled (state_after start (come.front ++ step ∷ [])) rs n places
+  settled_next rs n places settled = subst (λ (s : SectionState). AreSettled s rs n places)
+      (sym (state_after-append start come.front (step ∷ []))) settled
 
   still_right : are_right t start (come.front ++ step ∷ []) ≡ true
-  still_right = are_right-push t start come.front step come.right (right_step t (state_after start come.front) step nothing_is)
+  still_right = are_right-push t start come.front step come.right
+      (right_step t (state_after start come.front) step nothing_is)
 
-  stands_next : (k' : Kept) → StandsAt (next (state_after start come.front) step) k' → StandsAt (state_after start (come.front ++ step ∷ [])) k'
-  stands_next k' stands = subst (λ (s : SectionState). StandsAt s k') (sym (state_after-append start come.front (step ∷ []))) stands
+  stands_next : (k' : Kept) → StandsAt (next (state_after start come.front) step) k'
+      → StandsAt (state_after start (come.front ++ step ∷ [])) k'
+  stands_next k' stands = subst (λ (s : SectionState). StandsAt s k')
+      (sym (state_after-append start come.front (step ∷ []))) stands
 
   rest_fits : IsTrue (list_all (λ x. is_step (row_count (head_of t)) x.1) rest)
   rest_fits = (and_parts (is_step (row_count (head_of t)) step.1) _ come.fit).1
 
 -- ---- fates
 
-pub open_attempt : (at : ℕ) (a : Attempt) (rest : List (ℕ × Step)) (b n : ℕ) → open_fates ((at, Attempts a) ∷ rest) b n ≡ open_fates rest b n
+pub open_attempt : (at : ℕ) (a : Attempt) (rest : List (ℕ × Step)) (b n : ℕ) → open_fates ((at, Attempts a) ∷ rest) b n
+    ≡ open_fates rest b n
 open_attempt at a rest b zero = refl
 open_attempt at a rest b (suc n) = ap (λ (fs : List Fate). fate_in rest b ∷ fs) (open_attempt at a rest (suc b) n)
 
-pub open_push : (rest : List (ℕ × Step)) (b n : ℕ) → open_fates rest b (suc n) ≡ open_fates rest b n ++ fate_in rest (b + n) ∷ []
+pub open_push : (rest : List (ℕ × Step)) (b n : ℕ) → open_fates rest b (suc n) ≡ open_fates rest b n ++ fate_in rest
+    (b + n) ∷ []
 open_push rest b zero = let e : b + 0 ≡ b = omega arith in ap (λ (m : ℕ). fate_in rest m ∷ []) (sym e)
 open_push rest b (suc n) =
     let e : suc b + n ≡ b + suc n = omega arith in
-    ap (λ (fs : List Fate). fate_in rest b ∷ fs) (open_push rest (suc b) n ∙ ap (λ (m : ℕ). open_fates rest (suc b) n ++ fate_in rest m ∷ []) e)
+    ap (λ (fs : List Fate). fate_in rest b ∷ fs)
+    (open_push rest (suc b) n ∙ ap (λ (m : ℕ). open_fates rest (suc b) n ++ fate_in rest m ∷ []) e)
 
-pub open_commit : (at : ℕ) (c : Commit) (rest : List (ℕ × Step)) (b n : ℕ) → open_fates ((at, Commits c) ∷ rest) (suc b) n ≡ open_fates rest b n
+pub open_commit : (at : ℕ) (c : Commit) (rest : List (ℕ × Step)) (b n : ℕ)
+    → open_fates ((at, Commits c) ∷ rest) (suc b) n ≡ open_fates rest b n
 open_commit at c rest b zero = refl
 open_commit at c rest b (suc n) = ap (λ (fs : List Fate). fate_in rest b ∷ fs) (open_commit at c rest (suc b) n)
 
-pub open_rollback : (at : ℕ) (r : Rollback) (rest : List (ℕ × Step)) (b n : ℕ) → open_fates ((at, RollsBack r) ∷ rest) b n ≡ replicate n Discarded
+pub open_rollback : (at : ℕ) (r : Rollback) (rest : List (ℕ × Step)) (b n : ℕ)
+    → open_fates ((at, RollsBack r) ∷ rest) b n ≡ replicate n Discarded
 open_rollback at r rest b zero = refl
 open_rollback at r rest b (suc n) = ap (λ (fs : List Fate). Discarded ∷ fs) (open_rollback at r rest (suc b) n)
 
@@ -123,28 +164,36 @@ open_end b (suc n) = ap (λ (fs : List Fate). Open ∷ fs) (open_end (suc b) n)
 
 -- ---- committed attempts
 
-abbrev placed_ran : Placed → Ran
-placed_ran p = ran (placed_at p)
+abbrev placed_executed_attempt : Placed → ExecutedAttempt
+placed_executed_attempt p = executed_attempt (placed_at p)
 
-ran_among : (rs more : List Ran) (place : ℕ) → place < length rs → ran_at (rs ++ more) place ≡ ran_at rs place
-ran_among [] more place lt = absurd (omega arith)
-ran_among (r ∷ rs) more zero lt = refl
-ran_among (r ∷ rs) more (suc place) lt = ran_among rs more place (omega arith)
+executed_attempt_among : (rs more : List ExecutedAttempt) (place : ℕ) → place < length rs
+    → executed_attempt_at (rs ++ more) place ≡ executed_attempt_at rs place
+executed_attempt_among [] more place lt = absurd (omega arith)
+executed_attempt_among (r ∷ rs) more zero lt = refl
+executed_attempt_among (r ∷ rs) more (suc place) lt = executed_attempt_among rs more place (omega arith)
 
-rans_among : (rs more : List Ran) (places : List ℕ) → AllByRecursion (λ place. place < length rs) places → map (ran_at (rs ++ more)) places ≡ map (ran_at rs) places
-rans_among rs more [] there = refl
-rans_among rs more (place ∷ places) there = λ i. ran_among rs more place there.0 i ∷ rans_among rs more places there.1 i
+executed_attempts_among : (rs more : List ExecutedAttempt) (places : List ℕ)
+    → AllByRecursion (λ place. place < length rs) places
+    → map (executed_attempt_at (rs ++ more)) places ≡ map (executed_attempt_at rs) places
+executed_attempts_among rs more [] there = refl
+executed_attempts_among rs more (place ∷ places) there =
+    λ i. executed_attempt_among rs more place there.0 i ∷ executed_attempts_among rs more places there.1 i
 
-still_there : (n m : ℕ) (places : List ℕ) → n ≤ m → AllByRecursion (λ place. place < n) places → AllByRecursion (λ place. place < m) places
+still_there : (n m : ℕ) (places : List ℕ) → n ≤ m → AllByRecursion (λ place. place < n) places
+    → AllByRecursion (λ place. place < m) places
 still_there n m [] le there = tt
-still_there n m (place ∷ places) le there = let first : place < n = there.0 in (omega arith, still_there n m places le there.1)
+still_there n m (place ∷ places) le there = let first : place < n =
+    there.0 in (omega arith, still_there n m places le there.1)
 
-one_more_there : (n place : ℕ) (places : List ℕ) → place < n → AllByRecursion (λ p. p < n) places → AllByRecursion (λ p. p < n) (places ++ place ∷ [])
+one_more_there : (n place : ℕ) (places : List ℕ) → place < n → AllByRecursion (λ p. p < n) places
+    → AllByRecursion (λ p. p < n) (places ++ place ∷ [])
 one_more_there n place [] lt there = (lt, tt)
 one_more_there n place (p ∷ places) lt there = (there.0, one_more_there n place places lt there.1)
 
 -- what stands first behind so many
-first_behind : (rs : List Ran) (n : ℕ) (r : Ran) (rest : List Ran) → r ∷ rest ≡ drop n rs → ran_at rs n ≡ r
+first_behind : (rs : List ExecutedAttempt) (n : ℕ) (r : ExecutedAttempt) (rest : List ExecutedAttempt)
+    → r ∷ rest ≡ drop n rs → executed_attempt_at rs n ≡ r
 first_behind [] n r rest e = absurd (none n e)
   where
     none : (n : ℕ) → r ∷ rest ≡ drop n [] → ⊥
@@ -152,50 +201,72 @@ first_behind [] n r rest e = absurd (none n e)
     none (suc n) e = absurd (cc)
 first_behind (x ∷ rs) zero r rest e = same x rs r rest e
   where
-    same : (x : Ran) (xs : List Ran) (y : Ran) (ys : List Ran) → y ∷ ys ≡ x ∷ xs → x ≡ y
+    same : (x : ExecutedAttempt) (xs : List ExecutedAttempt) (y : ExecutedAttempt) (ys : List ExecutedAttempt)
+        → y ∷ ys ≡ x ∷ xs → x ≡ y
     same x xs y ys e = cc
 first_behind (x ∷ rs) (suc n) r rest e = first_behind rs n r rest e
 
-settled_attempt : (s : SectionState) (at : ℕ) (a : Attempt) (rs after : List Ran) (n : ℕ) (places : List ℕ) → after ≡ rs ++ ran (at, a) ∷ [] → n ≤ length rs → AllByRecursion (λ place. place < length rs) places
+settled_attempt : (s : SectionState) (at : ℕ) (a : Attempt) (rs after : List ExecutedAttempt) (n : ℕ) (places : List ℕ)
+    → after ≡ rs ++ executed_attempt (at, a) ∷ [] → n ≤ length rs → AllByRecursion (λ place. place < length rs) places
     → AreSettled s rs n places → AreSettled (next s (at, Attempts a)) after n places
-settled_attempt s at a rs after n places is few there settled = subst (λ (xs : List Ran). AreSettled (next s (at, Attempts a)) xs n places) (sym is) (record {
-  pending = map-append placed_ran s.pending (record { offset = at; attempt = a; path = path_of s } ∷ [])
-      ∙ ap (λ (xs : List Ran). xs ++ ran (at, a) ∷ []) settled.pending
-      ∙ sym (drop-append-le n rs (ran (at, a) ∷ []) few);
-  committed = rans_among rs (ran (at, a) ∷ []) places there ∙ settled.committed;
-})
+settled_attempt s at a rs after n places is few there settled =
+    subst (λ (xs : List ExecutedAttempt). AreSettled (next s (at, Attempts a)) xs n places) (sym is) (record {
+      pending = map-append placed_executed_attempt s.pending
+          (record { offset = at; attempt = a; path = path_of s } ∷ [])
+          ∙ ap (λ (xs : List ExecutedAttempt). xs ++ executed_attempt (at, a) ∷ []) settled.pending
+          ∙ sym (drop-append-le n rs (executed_attempt (at, a) ∷ []) few);
+      committed = executed_attempts_among rs (executed_attempt (at, a) ∷ []) places there ∙ settled.committed;
+    })
 
-settled_commit : (s : SectionState) (pending : List Placed) (c : Commit) (rs : List Ran) (n m : ℕ) (places : List ℕ) → s.pending ≡ pending → commits_first pending c ≡ true → m ≡ n + 1
+settled_commit : (s : SectionState) (pending : List Placed) (c : Commit) (rs : List ExecutedAttempt) (n m : ℕ)
+    (places : List ℕ)
+    → s.pending ≡ pending → commits_first pending c ≡ true → m ≡ n + 1
     → AreSettled s rs n places → AreSettled (committing s pending) rs m (places ++ n ∷ [])
 settled_commit s [] c rs n m places is first more settled = absurd (false≢true first)
 settled_commit s (p ∷ ps) c rs n m places is first more settled =
-    let open_is : placed_ran p ∷ map placed_ran ps ≡ drop n rs = ap (map placed_ran) (sym is) ∙ settled.pending in
+    let open_is : placed_executed_attempt p ∷ map placed_executed_attempt ps ≡ drop n rs =
+    ap (map placed_executed_attempt) (sym is) ∙ settled.pending in
     record {
       pending = ap (drop 1) open_is ∙ drop-drop 1 n rs ∙ ap (λ (k : ℕ). drop k rs) (sym more);
-      committed = map-append (ran_at rs) places (n ∷ [])
-          ∙ ap (λ (r : Ran). map (ran_at rs) places ++ r ∷ []) (first_behind rs n (placed_ran p) (map placed_ran ps) open_is)
-          ∙ ap (λ (xs : List Ran). xs ++ placed_ran p ∷ []) settled.committed
-          ∙ sym (map-append placed_ran s.committed (p ∷ []));
+      committed = map-append (executed_attempt_at rs) places (n ∷ [])
+          ∙ ap (λ (r : ExecutedAttempt). map (executed_attempt_at rs) places ++ r ∷ [])
+          (first_behind rs n (placed_executed_attempt p) (map placed_executed_attempt ps) open_is)
+          ∙ ap (λ (xs : List ExecutedAttempt). xs ++ placed_executed_attempt p ∷ []) settled.committed
+          ∙ sym (map-append placed_executed_attempt s.committed (p ∷ []));
     }
 
-settled_rollback : (s : SectionState) (at : ℕ) (r : Rollback) (rs : List Ran) (n m : ℕ) (places : List ℕ) → length rs ≤ m → AreSettled s rs n places → AreSettled (next s (at, RollsBack r)) rs m places
-settled_rollback s at r rs n m places all settled = record { pending = sym (drop_all m rs all); committed = settled.committed }
+settled_rollback : (s : SectionState) (at : ℕ) (r : Rollback) (rs : List ExecutedAttempt) (n m : ℕ) (places : List ℕ)
+    → length rs ≤ m → AreSettled s rs n places → AreSettled (next s (at, RollsBack r)) rs m places
+settled_rollback s at r rs n m places all settled =
+    record { pending = sym (drop_all m rs all); committed = settled.committed }
 
 -- ---- an attempt
 
-same_ran : (records more : List (ℕ × Access)) (xs : List KeptAttempt) → AllByRecursion (λ a. a.from + length a.attempt.certificate ≤ length records) xs → map (kept_ran (records ++ more)) xs ≡ map (kept_ran records) xs
-same_ran records more [] within = refl
-same_ran records more (a ∷ xs) within =
+same_executed_attempt : (records more : List (ℕ × Access)) (xs : List KeptAttempt)
+    → AllByRecursion (λ a. a.from + length a.attempt.certificate ≤ length records) xs
+    → map (kept_executed_attempt (records ++ more)) xs ≡ map (kept_executed_attempt records) xs
+same_executed_attempt records more [] within = refl
+same_executed_attempt records more (a ∷ xs) within =
     let first : a.from + length a.attempt.certificate ≤ length records = within.0 in
-    let one : drop a.from (records ++ more) ≡ drop a.from records ++ more = drop-append-le a.from records more (omega arith) in
-    let two : take (length a.attempt.certificate) (drop a.from records ++ more) ≡ take (length a.attempt.certificate) (drop a.from records) =
-    take-append-le (length a.attempt.certificate) (drop a.from records) more (omega (arith, length-drop a.from records)) in
-    λ i. record { offset = a.offset; attempt = a.attempt; ordered = (ap (take (length a.attempt.certificate)) one ∙ two) i } ∷ same_ran records more xs within.1 i
+    let one : drop a.from (records ++ more) ≡ drop a.from records ++ more =
+    drop-append-le a.from records more (omega arith) in
+    let two : take (length a.attempt.certificate) (drop a.from records ++ more) ≡ take (length a.attempt.certificate)
+    (drop a.from records) =
+    take-append-le (length a.attempt.certificate) (drop a.from records) more (omega (arith, length-drop a.from records))
+    in
+    λ i. record {
+      offset = a.offset;
+      attempt = a.attempt;
+      ordered = (ap (take (length a.attempt.certificate)) one ∙ two)
+          i;
+    } ∷ same_executed_attempt records more xs within.1 i
 
-still_within : (n m : ℕ) (xs : List KeptAttempt) (a : KeptAttempt) → n ≤ m → AllByRecursion (λ a. a.from + length a.attempt.certificate ≤ n) xs → a.from + length a.attempt.certificate ≤ m
+still_within : (n m : ℕ) (xs : List KeptAttempt) (a : KeptAttempt) → n ≤ m
+    → AllByRecursion (λ a. a.from + length a.attempt.certificate ≤ n) xs → a.from + length a.attempt.certificate ≤ m
     → AllByRecursion (λ a. a.from + length a.attempt.certificate ≤ m) (xs ++ a ∷ [])
 still_within n m [] a le within last = (last, tt)
-still_within n m (x ∷ xs) a le within last = let first : x.from + length x.attempt.certificate ≤ n = within.0 in (omega arith, still_within n m xs a le within.1 last)
+still_within n m (x ∷ xs) a le within last = let first : x.from + length x.attempt.certificate ≤ n = within.0 in
+    (omega arith, still_within n m xs a le within.1 last)
 
 -- with the attempt and its records
 abbrev pub with_attempt : Kept → ℕ → Attempt → List (ℕ × Access) → Kept
@@ -205,7 +276,9 @@ with_attempt k at said records = record k {
   records = k.records ++ records;
 }
 
-module _ (t : Trace) (e at : ℕ) (b : Attempt) (rest : List (ℕ × Step)) (k : Kept) (come : HasCome t e ((at, Attempts b) ∷ rest) k) (right : wrong_step t (state_after start come.front) (at, Attempts b) ≡ None) where
+module _ (t : Trace) (e at : ℕ) (b : Attempt) (rest : List (ℕ × Step)) (k : Kept)
+    (come : HasCome t e ((at, Attempts b) ∷ rest) k)
+    (right : wrong_step t (state_after start come.front) (at, Attempts b) ≡ None) where
   abbrev state : SectionState
   state = state_after start come.front
 
@@ -215,57 +288,72 @@ module _ (t : Trace) (e at : ℕ) (b : Attempt) (rest : List (ℕ × Step)) (k :
   attempt_stands : StandsAt (next state (at, Attempts b)) (with_attempt k at (without_accesses b) (ordered at b))
   attempt_stands =
       let fewer : length k.fates ≤ length k.attempts = come.is_kept.fewer in
-      let few : length k.fates ≤ length (map (λ (a : KeptAttempt). a.attempt) k.attempts) = omega (arith, length-map k.attempts (λ (a : KeptAttempt). a.attempt)) in
+      let few : length k.fates ≤ length (map (λ (a : KeptAttempt). a.attempt) k.attempts) =
+      omega (arith, length-map k.attempts (λ (a : KeptAttempt). a.attempt)) in
       record {
         view = come.stands.view;
         last = come.stands.last;
         rolled_back = refl;
-        pending = map-append (λ (p : Placed). without_accesses p.attempt) state.pending (record { offset = at; attempt = b; path = path_of state } ∷ [])
+        pending = map-append (λ (p : Placed). without_accesses p.attempt) state.pending
+            (record { offset = at; attempt = b; path = path_of state } ∷ [])
             ∙ ap (λ (xs : List Attempt). xs ++ without_accesses b ∷ []) come.stands.pending
-            ∙ sym (drop-append-le (length k.fates) (map (λ (a : KeptAttempt). a.attempt) k.attempts) (without_accesses b ∷ []) few)
+            ∙ sym (drop-append-le (length k.fates) (map (λ (a : KeptAttempt). a.attempt) k.attempts)
+            (without_accesses b ∷ []) few)
             ∙ ap (drop (length k.fates)) (sym (map-append (λ (a : KeptAttempt). a.attempt) k.attempts (added ∷ [])));
         fewer = omega (arith, length-append k.attempts (added ∷ []));
       }
 
-  its_records : kept_ran (k.records ++ ordered at b) added ≡ ran (at, b)
+  its_records : kept_executed_attempt (k.records ++ ordered at b) added ≡ executed_attempt (at, b)
   its_records =
-      let many : length (ordered at b) ≤ length b.certificate = omega (arith, length-map b.certificate (access_with (accesses_at at b))) in
+      let many : length (ordered at b) ≤ length b.certificate =
+      omega (arith, length-map b.certificate (access_with (accesses_at at b))) in
       λ i. record {
         offset = at;
         attempt = without_accesses b;
-        ordered = (ap (take (length b.certificate)) (drop_at k.records (ordered at b) (length k.records) refl) ∙ take_all (length b.certificate) (ordered at b) many) i;
+        ordered = (ap (take (length b.certificate)) (drop_at k.records (ordered at b) (length k.records) refl)
+            ∙ take_all (length b.certificate) (ordered at b) many) i;
       }
 
-  one_ran_more : rans (with_attempt k at (without_accesses b) (ordered at b)) ≡ rans k ++ ran (at, b) ∷ []
-  one_ran_more =
-      map-append (kept_ran (k.records ++ ordered at b)) k.attempts (added ∷ [])
-      ∙ ap (λ (rs : List Ran). rs ++ kept_ran (k.records ++ ordered at b) added ∷ []) (same_ran k.records (ordered at b) k.attempts come.is_kept.within)
-      ∙ ap (λ (r : Ran). rans k ++ r ∷ []) its_records
+  one_executed_attempt_more : executed_attempts (with_attempt k at (without_accesses b) (ordered at b))
+      ≡ executed_attempts k ++ executed_attempt (at, b) ∷ []
+  one_executed_attempt_more =
+      map-append (kept_executed_attempt (k.records ++ ordered at b)) k.attempts (added ∷ [])
+      ∙ ap (λ (rs : List ExecutedAttempt). rs ++ kept_executed_attempt (k.records ++ ordered at b) added ∷ [])
+      (same_executed_attempt k.records (ordered at b) k.attempts come.is_kept.within)
+      ∙ ap (λ (r : ExecutedAttempt). executed_attempts k ++ r ∷ []) its_records
 
-  attempts_more : rans (with_attempt k at (without_accesses b) (ordered at b)) ≡ map ran (attempts_among (come.front ++ (at, Attempts b) ∷ []))
+  attempts_more : executed_attempts (with_attempt k at (without_accesses b) (ordered at b))
+      ≡ map executed_attempt (attempts_among (come.front ++ (at, Attempts b) ∷ []))
   attempts_more =
-      one_ran_more
-      ∙ ap (λ (rs : List Ran). rs ++ ran (at, b) ∷ []) come.attempts
-      ∙ sym (map-append ran (attempts_among come.front) ((at, b) ∷ [])) ∙ ap (map ran) (sym (attempts_among-push come.front (at, Attempts b)))
+      one_executed_attempt_more
+      ∙ ap (λ (rs : List ExecutedAttempt). rs ++ executed_attempt (at, b) ∷ []) come.attempts
+      ∙ sym (map-append executed_attempt (attempts_among come.front) ((at, b) ∷ []))
+      ∙ ap (map executed_attempt) (sym (attempts_among-push come.front (at, Attempts b)))
 
-  attempt_fates : fates_from 0 (steps_at t e) ≡ k.fates ++ (open_fates rest 0 (open_count (with_attempt k at (without_accesses b) (ordered at b))) ++ fates_from (open_count (with_attempt k at (without_accesses b) (ordered at b))) rest)
+  attempt_fates : fates_from 0 (steps_at t e)
+      ≡ k.fates ++ (open_fates rest 0 (open_count (with_attempt k at (without_accesses b) (ordered at b))) ++ fates_from
+      (open_count (with_attempt k at (without_accesses b) (ordered at b))) rest)
   attempt_fates =
       let n = open_count k in
       let fewer : length k.fates ≤ length k.attempts = come.is_kept.fewer in
-      let more : suc n ≡ open_count (with_attempt k at (without_accesses b) (ordered at b)) = omega (arith, length-append k.attempts (added ∷ [])) in
+      let more : suc n ≡ open_count (with_attempt k at (without_accesses b) (ordered at b)) =
+      omega (arith, length-append k.attempts (added ∷ [])) in
       let here : 0 + n ≡ n = omega arith in
       come.fates
       ∙ ap (λ (fs : List Fate). k.fates ++ fs)
       (ap (λ (fs : List Fate). fs ++ (fate_in rest n ∷ fates_from (suc n) rest)) (open_attempt at b rest 0 n)
       ∙ sym (append_assoc (open_fates rest 0 n) (fate_in rest n ∷ []) (fates_from (suc n) rest))
-      ∙ ap (λ (fs : List Fate). fs ++ fates_from (suc n) rest) (ap (λ (m : ℕ). open_fates rest 0 n ++ fate_in rest m ∷ []) (sym here) ∙ sym (open_push rest 0 n))
+      ∙ ap (λ (fs : List Fate). fs ++ fates_from (suc n) rest)
+      (ap (λ (m : ℕ). open_fates rest 0 n ++ fate_in rest m ∷ []) (sym here) ∙ sym (open_push rest 0 n))
       ∙ ap (λ (m : ℕ). open_fates rest 0 m ++ fates_from m rest) more)
 
   pub come_attempt : HasCome t e rest (with_attempt k at (without_accesses b) (ordered at b))
   come_attempt =
       let long : length (k.records ++ ordered at b) ≡ length k.records + length b.certificate =
-      length-append k.records (ordered at b) ∙ ap (λ (n : ℕ). length k.records + n) (length-map b.certificate (access_with (accesses_at at b))) in
-      let many : length (rans k) ≡ length k.attempts = length-map k.attempts (kept_ran k.records) in
+      length-append k.records (ordered at b)
+      ∙ ap (λ (n : ℕ). length k.records + n) (length-map b.certificate (access_with (accesses_at at b))) in
+      let many : length (executed_attempts k) ≡ length k.attempts =
+      length-map k.attempts (kept_executed_attempt k.records) in
       let longer : length (k.attempts ++ added ∷ []) ≡ length k.attempts + 1 = length-append k.attempts (added ∷ []) in
       let fewer : length k.fates ≤ length k.attempts = come.is_kept.fewer in
       record {
@@ -275,35 +363,54 @@ module _ (t : Trace) (e at : ℕ) (b : Attempt) (rest : List (ℕ × Step)) (k :
         stands = stands_next t e (at, Attempts b) rest k come right _ attempt_stands;
         attempts = attempts_more;
         settled = settled_next t e (at, Attempts b) rest k come right _ _ _
-            (settled_attempt state at b (rans k) (rans (with_attempt k at (without_accesses b) (ordered at b))) (length k.fates) k.commits one_ran_more (omega arith)
-            (still_there (length k.attempts) (length (rans k)) k.commits (omega arith) come.is_kept.there) come.settled);
+            (settled_attempt state at b (executed_attempts k)
+            (executed_attempts (with_attempt k at (without_accesses b) (ordered at b)))
+            (length k.fates) k.commits one_executed_attempt_more (omega arith)
+            (still_there (length k.attempts) (length (executed_attempts k)) k.commits (omega arith) come.is_kept.there)
+            come.settled);
         is_kept = record {
-          within = still_within (length k.records) (length (k.records ++ ordered at b)) k.attempts added (omega arith) come.is_kept.within (omega arith);
+          within = still_within (length k.records) (length (k.records ++ ordered at b)) k.attempts added
+              (omega arith) come.is_kept.within (omega arith);
           fewer = attempt_stands.fewer;
           count = come.is_kept.count;
-          there = still_there (length k.attempts) (length (k.attempts ++ added ∷ [])) k.commits (omega arith) come.is_kept.there;
+          there = still_there (length k.attempts) (length (k.attempts ++ added ∷ [])) k.commits
+              (omega arith) come.is_kept.there;
         };
         fates = attempt_fates;
-        rollbacks = come.rollbacks ∙ sym (rollbacks_among-push come.front (at, Attempts b) ∙ append-nil (rollbacks_among come.front));
+        rollbacks = come.rollbacks
+            ∙ sym (rollbacks_among-push come.front (at, Attempts b) ∙ append-nil (rollbacks_among come.front));
         fit = rest_fits t e (at, Attempts b) rest k come right;
       }
 
 -- ---- a commit
 
 abbrev pub with_commit : Kept → ℕ → Kept
-with_commit k seq = record k { last = seq; fates = k.fates ++ Committed ∷ []; commits = k.commits ++ length k.fates ∷ [] }
+with_commit k seq = record k {
+  last = seq;
+  fates = k.fates ++ Committed ∷ [];
+  commits = k.commits ++ length k.fates ∷
+      [];
+}
 
-module _ (t : Trace) (e at : ℕ) (c : Commit) (rest : List (ℕ × Step)) (k : Kept) (come : HasCome t e ((at, Commits c) ∷ rest) k) (right : wrong_step t (state_after start come.front) (at, Commits c) ≡ None) where
+module _ (t : Trace) (e at : ℕ) (c : Commit) (rest : List (ℕ × Step)) (k : Kept)
+    (come : HasCome t e ((at, Commits c) ∷ rest) k) (right : wrong_step t (state_after start come.front) (at, Commits c)
+    ≡ None) where
   committed_right : is_right_commit (state_after start come.front) c ≡ true
   committed_right = right_step t (state_after start come.front) (at, Commits c) right
 
-  commit_stands : (s : SectionState) (pending : List Placed) → s.pending ≡ pending → commits_first pending c ≡ true → c.seq ≡ s.last + 1 → StandsAt s k → StandsAt (committing s pending) (with_commit k c.seq) × (length k.fates < length k.attempts)
+  commit_stands : (s : SectionState) (pending : List Placed) → s.pending ≡ pending → commits_first pending c ≡ true
+      → c.seq ≡ s.last + 1 → StandsAt s k → StandsAt (committing s pending) (with_commit k c.seq)
+      × (length k.fates < length k.attempts)
   commit_stands s [] is first seq stands = absurd (false≢true first)
   commit_stands s (p ∷ ps) is first seq stands =
       let items = map (λ (a : KeptAttempt). a.attempt) k.attempts in
-      let open_is : without_accesses p.attempt ∷ map (λ (q : Placed). without_accesses q.attempt) ps ≡ drop (length k.fates) items = ap (map (λ (q : Placed). without_accesses q.attempt)) (sym is) ∙ stands.pending in
+      let open_is : without_accesses p.attempt ∷ map (λ (q : Placed). without_accesses q.attempt) ps
+      ≡ drop (length k.fates) items = ap (map (λ (q : Placed). without_accesses q.attempt)) (sym is)
+      ∙ stands.pending in
       let count : suc (length ps) ≡ length k.attempts - length k.fates =
-      ap suc (sym (length-map ps (λ (q : Placed). without_accesses q.attempt))) ∙ ap length open_is ∙ length-drop (length k.fates) items ∙ ap (λ (n : ℕ). n - length k.fates) (length-map k.attempts (λ (a : KeptAttempt). a.attempt)) in
+      ap suc (sym (length-map ps (λ (q : Placed). without_accesses q.attempt))) ∙ ap length open_is
+      ∙ length-drop (length k.fates) items
+      ∙ ap (λ (n : ℕ). n - length k.fates) (length-map k.attempts (λ (a : KeptAttempt). a.attempt)) in
       let long : length (k.fates ++ Committed ∷ []) ≡ length k.fates + 1 = length-append k.fates (Committed ∷ []) in (
         record {
           view = stands.view;
@@ -316,16 +423,22 @@ module _ (t : Trace) (e at : ℕ) (c : Commit) (rest : List (ℕ × Step)) (k : 
       )
 
   commit_seq : c.seq ≡ (state_after start come.front).last + 1
-  commit_seq = let s = state_after start come.front in eqb-true c.seq (s.last + 1) (and_parts (c.seq == s.last + 1) (commits_first s.pending c) committed_right).0
+  commit_seq = let s = state_after start come.front in eqb-true c.seq (s.last + 1)
+      (and_parts (c.seq == s.last + 1) (commits_first s.pending c) committed_right).0
 
   commit_first : commits_first (state_after start come.front).pending c ≡ true
-  commit_first = let s = state_after start come.front in (and_parts (c.seq == s.last + 1) (commits_first s.pending c) committed_right).1
+  commit_first = let s = state_after start come.front in
+      (and_parts (c.seq == s.last + 1) (commits_first s.pending c) committed_right).1
 
-  commit_parts : StandsAt (next (state_after start come.front) (at, Commits c)) (with_commit k c.seq) × (length k.fates < length k.attempts)
+  commit_parts : StandsAt (next (state_after start come.front) (at, Commits c)) (with_commit k c.seq)
+      × (length k.fates < length k.attempts)
   commit_parts =
-      commit_stands (state_after start come.front) (state_after start come.front).pending refl commit_first commit_seq come.stands
+      commit_stands (state_after start come.front) (state_after start come.front).pending refl commit_first commit_seq
+      come.stands
 
-  commit_fates : fates_from 0 (steps_at t e) ≡ (k.fates ++ Committed ∷ []) ++ (open_fates rest 0 (open_count (with_commit k c.seq)) ++ fates_from (open_count (with_commit k c.seq)) rest)
+  commit_fates : fates_from 0 (steps_at t e)
+      ≡ (k.fates ++ Committed ∷ []) ++
+      (open_fates rest 0 (open_count (with_commit k c.seq)) ++ fates_from (open_count (with_commit k c.seq)) rest)
   commit_fates =
       let m = open_count (with_commit k c.seq) in
       let some : length k.fates < length k.attempts = commit_parts.1 in
@@ -343,49 +456,69 @@ module _ (t : Trace) (e at : ℕ) (c : Commit) (rest : List (ℕ × Step)) (k : 
     split = one_more t e (at, Commits c) rest k come right;
     right = still_right t e (at, Commits c) rest k come right;
     stands = stands_next t e (at, Commits c) rest k come right _ commit_parts.0;
-    attempts = come.attempts ∙ ap (map ran) (sym (attempts_among-push come.front (at, Commits c) ∙ append-nil (attempts_among come.front)));
+    attempts = come.attempts
+        ∙ ap (map executed_attempt)
+        (sym (attempts_among-push come.front (at, Commits c) ∙ append-nil (attempts_among come.front)));
     settled = settled_next t e (at, Commits c) rest k come right _ _ _
-        (settled_commit (state_after start come.front) (state_after start come.front).pending c (rans k) (length k.fates) (length (k.fates ++ Committed ∷ [])) k.commits refl commit_first
+        (settled_commit (state_after start come.front) (state_after start come.front).pending c (executed_attempts k)
+        (length k.fates) (length (k.fates ++ Committed ∷ [])) k.commits refl commit_first
         (length-append k.fates (Committed ∷ [])) come.settled);
     is_kept = record {
       within = come.is_kept.within;
       fewer = commit_parts.0.fewer;
-      count = length-append k.commits (length k.fates ∷ []) ∙ ap (λ (n : ℕ). n + 1) (come.is_kept.count ∙ come.stands.last) ∙ sym commit_seq;
+      count = length-append k.commits (length k.fates ∷ [])
+          ∙ ap (λ (n : ℕ). n + 1) (come.is_kept.count ∙ come.stands.last) ∙ sym commit_seq;
       there = one_more_there (length k.attempts) (length k.fates) k.commits commit_parts.1 come.is_kept.there;
     };
     fates = commit_fates;
-    rollbacks = come.rollbacks ∙ sym (rollbacks_among-push come.front (at, Commits c) ∙ append-nil (rollbacks_among come.front));
+    rollbacks = come.rollbacks
+        ∙ sym (rollbacks_among-push come.front (at, Commits c) ∙ append-nil (rollbacks_among come.front));
     fit = rest_fits t e (at, Commits c) rest k come right;
   }
 
 -- ---- a rollback
 
 abbrev pub with_rollback : Kept → ℕ → Rollback → Kept
-with_rollback k at r = record k { view = r.view; rolled_back = true; fates = k.fates ++ replicate (open_count k) Discarded; rollbacks = k.rollbacks ++ (at, r) ∷ [] }
+with_rollback k at r = record k {
+  view = r.view;
+  rolled_back = true;
+  fates = k.fates ++ replicate (open_count k) Discarded;
+  rollbacks = k.rollbacks ++ (at, r) ∷ [];
+}
 
-module _ (t : Trace) (e at : ℕ) (r : Rollback) (rest : List (ℕ × Step)) (k : Kept) (come : HasCome t e ((at, RollsBack r) ∷ rest) k) (right : wrong_step t (state_after start come.front) (at, RollsBack r) ≡ None) where
+module _ (t : Trace) (e at : ℕ) (r : Rollback) (rest : List (ℕ × Step)) (k : Kept)
+    (come : HasCome t e ((at, RollsBack r) ∷ rest) k)
+    (right : wrong_step t (state_after start come.front) (at, RollsBack r) ≡ None) where
   all_settled : length (k.fates ++ replicate (open_count k) Discarded) ≡ length k.attempts
   all_settled =
       let fewer : length k.fates ≤ length k.attempts = come.is_kept.fewer in
-      omega (arith, length-append k.fates (replicate (open_count k) Discarded), length-replicate (open_count k) Discarded)
+      omega (
+        arith,
+        length-append k.fates (replicate (open_count k) Discarded),
+        length-replicate (open_count k) Discarded,
+      )
 
   rollback_stands : StandsAt (next (state_after start come.front) (at, RollsBack r)) (with_rollback k at r)
   rollback_stands = record {
     view = refl;
     last = come.stands.last;
     rolled_back = refl;
-    pending = sym (drop_all (length (k.fates ++ replicate (open_count k) Discarded)) (map (λ (a : KeptAttempt). a.attempt) k.attempts) (omega (arith, all_settled, length-map k.attempts (λ (a : KeptAttempt). a.attempt))));
+    pending = sym (drop_all (length (k.fates ++ replicate (open_count k) Discarded))
+        (map (λ (a : KeptAttempt). a.attempt) k.attempts)
+        (omega (arith, all_settled, length-map k.attempts (λ (a : KeptAttempt). a.attempt))));
     fewer = omega (arith, all_settled);
   }
 
   rollback_fates : fates_from 0 (steps_at t e)
-      ≡ (k.fates ++ replicate (open_count k) Discarded) ++ (open_fates rest 0 (open_count (with_rollback k at r)) ++ fates_from (open_count (with_rollback k at r)) rest)
+      ≡ (k.fates ++ replicate (open_count k) Discarded) ++
+      (open_fates rest 0 (open_count (with_rollback k at r)) ++ fates_from (open_count (with_rollback k at r)) rest)
   rollback_fates =
       let none : 0 ≡ open_count (with_rollback k at r) = omega (arith, all_settled) in
       come.fates
       ∙ ap (λ (fs : List Fate). k.fates ++ (fs ++ fates_from 0 rest)) (open_rollback at r rest 0 (open_count k))
       ∙ sym (append_assoc k.fates (replicate (open_count k) Discarded) (fates_from 0 rest))
-      ∙ ap (λ (m : ℕ). (k.fates ++ replicate (open_count k) Discarded) ++ (open_fates rest 0 m ++ fates_from m rest)) none
+      ∙ ap (λ (m : ℕ). (k.fates ++ replicate (open_count k) Discarded) ++ (open_fates rest 0 m ++ fates_from m rest))
+      none
 
   pub come_rollback : HasCome t e rest (with_rollback k at r)
   come_rollback = record {
@@ -393,13 +526,22 @@ module _ (t : Trace) (e at : ℕ) (r : Rollback) (rest : List (ℕ × Step)) (k 
     split = one_more t e (at, RollsBack r) rest k come right;
     right = still_right t e (at, RollsBack r) rest k come right;
     stands = stands_next t e (at, RollsBack r) rest k come right _ rollback_stands;
-    attempts = come.attempts ∙ ap (map ran) (sym (attempts_among-push come.front (at, RollsBack r) ∙ append-nil (attempts_among come.front)));
+    attempts = come.attempts
+        ∙ ap (map executed_attempt) (sym (attempts_among-push come.front (at, RollsBack r)
+        ∙ append-nil (attempts_among come.front)));
     settled = settled_next t e (at, RollsBack r) rest k come right _ _ _
-        (settled_rollback (state_after start come.front) at r (rans k) (length k.fates) (length (k.fates ++ replicate (open_count k) Discarded)) k.commits
-        (omega (arith, all_settled, length-map k.attempts (kept_ran k.records))) come.settled);
-    is_kept = record { within = come.is_kept.within; fewer = rollback_stands.fewer; count = come.is_kept.count; there = come.is_kept.there };
+        (settled_rollback (state_after start come.front) at r (executed_attempts k) (length k.fates)
+        (length (k.fates ++ replicate (open_count k) Discarded)) k.commits
+        (omega (arith, all_settled, length-map k.attempts (kept_executed_attempt k.records))) come.settled);
+    is_kept = record {
+      within = come.is_kept.within;
+      fewer = rollback_stands.fewer;
+      count = come.is_kept.count;
+      there = come.is_kept.there;
+    };
     fates = rollback_fates;
-    rollbacks = ap (λ (rs : List (ℕ × Rollback)). rs ++ (at, r) ∷ []) come.rollbacks ∙ sym (rollbacks_among-push come.front (at, RollsBack r));
+    rollbacks = ap (λ (rs : List (ℕ × Rollback)). rs ++ (at, r) ∷ []) come.rollbacks
+        ∙ sym (rollbacks_among-push come.front (at, RollsBack r));
     fit = rest_fits t e (at, RollsBack r) rest k come right;
   }
 
@@ -416,17 +558,21 @@ module _ (t : Trace) (e : ℕ) (k : Kept) (come : HasCome t e [] k) where
   come_faultless f is =
       none_stands t e f (ap (first_wrong t start) come.split ∙ steps_on t start come.front [] come.right) is
 
-  pub come_told : telling_of e k ≡ telling t e
-  unfolding telling
+  pub come_told : section_history_of e k ≡ section_history t e
+  unfolding section_history
   come_told =
       let fates : k.fates ++ replicate (open_count k) Open ≡ fates_from 0 (steps_at t e) =
-      ap (λ (fs : List Fate). k.fates ++ fs) (sym (append-nil (replicate (open_count k) Open)) ∙ ap (λ (fs : List Fate). fs ++ []) (sym (open_end 0 (open_count k)))) ∙ sym come.fates in
+      ap (λ (fs : List Fate). k.fates ++ fs) (sym (append-nil (replicate (open_count k) Open))
+      ∙ ap (λ (fs : List Fate). fs ++ []) (sym (open_end 0 (open_count k)))) ∙ sym come.fates in
       λ i. record {
         replica = e;
         right = sym come_right i;
         committed = (come.stands.last ∙ ap (λ (xs : List (ℕ × Step)). (state_after start xs).last) (sym all_came)) i;
-        attempts = (come.attempts ∙ ap (λ (xs : List (ℕ × Step)). map ran (attempts_among xs)) (sym all_came)) i;
+        attempts = (come.attempts ∙ ap (λ (xs : List (ℕ × Step)). map executed_attempt (attempts_among xs))
+            (sym all_came)) i;
         fates = fates i;
-        commits = (come.settled.committed ∙ ap (λ (xs : List (ℕ × Step)). map (λ p. ran (placed_at p)) (state_after start xs).committed) (sym all_came)) i;
+        commits = (come.settled.committed
+            ∙ ap (λ (xs : List (ℕ × Step)). map (λ p. executed_attempt (placed_at p)) (state_after start xs).committed)
+            (sym all_came)) i;
         rollbacks = (come.rollbacks ∙ ap rollbacks_among (sym all_came)) i;
       }

@@ -1,8 +1,11 @@
 -- Public: other crates cite these lemmas. Batches and access records, where they are looked up.
-use Rattle.std.proofs.Common.{◌≡◌, ℕ, zero, suc, ◌+◌, ◌-◌, ◌<◌, ◌≤◌, ◌==◌, Bool, true, false, ◌&&◌, List, [], ◌∷◌, map, length, get_or, take, drop, slice_get, Some, None, refl, sym, ap, subst, ◌∙◌, inl, inr, arith}
+use Rattle.std.proofs.Common.{◌≡◌, ℕ, zero, suc, ◌+◌, ◌-◌, ◌<◌, ◌≤◌, ◌==◌, Bool, true, false, ◌&&◌, List, [], ◌∷◌, map}
+use Rattle.std.proofs.Common.{length, get_or, take, drop, slice_get, Some, None, refl, sym, ap, subst, ◌∙◌, inl, inr}
+use Rattle.std.proofs.Common.{arith}
 use Rattle.std.specs.Prelude.{slice_index_or}
 use Rattle.std.specs.List.{AllByRecursion, list_any, enumerate_from}
-use Rattle.std.proofs.lemmas.Bool.{cases_Bool, and_right, or_cases, eqb-true, eq-eqb, ne_eqb, cond-true, cond-false, false≢true}
+use Rattle.std.proofs.lemmas.Bool.{cases_Bool, and_right, or_cases, eqb-true, eq-eqb, ne_eqb, cond-true, cond-false}
+use Rattle.std.proofs.lemmas.Bool.{false≢true}
 use Rattle.std.proofs.lemmas.List.{length-map, length-take-le, length-drop, drop_all}
 use Rattle.eve_grammar.specs.Trace.{Access, Attempt, Batch, Commit, Trace}
 use Rattle.eve_grammar.specs.Frames.{batches_of, without_accesses}
@@ -11,8 +14,9 @@ use Rattle.eve_grammar.specs.Limits.{is_batch, HasLimits}
 use Rattle.eve_views.specs.declared.fault.Code.TheVariants as code
 use Rattle.eve_history.specs.declared.marks.Marks.{Marks}
 use Rattle.eve_grammar.specs.Certificate.{is_certificate}
-use Rattle.eve_history.specs.Section.{Placed, SectionState, no_batch, batch_at, is_due, same_bytes, commits_first, is_right_commit}
-use Rattle.eve_history.specs.Told.{access_with}
+use Rattle.eve_history.specs.Section.{Placed, SectionState, no_batch, batch_at, is_due, same_bytes, commits_first}
+use Rattle.eve_history.specs.Section.{is_right_commit}
+use Rattle.eve_history.specs.SectionHistory.{access_with}
 use Rattle.eve_history.specs.Faults.{accesses_of}
 use Rattle.eve_history.specs.FirstWrong.{wrong_attempt}
 use Rattle.eve_history.specs.Marking.{AreMarked}
@@ -23,7 +27,8 @@ use Rattle.eve_history.proofs.Marking.{drop_here}
 
 -- ---- batches
 
-of_numbered : {A : Type 0} (n : ℕ) (xs : List A) (i : ℕ) (x : ℕ × A) → slice_get (enumerate_from n xs) i ≡ Some x → slice_get xs i ≡ Some x.1
+of_numbered : {A : Type 0} (n : ℕ) (xs : List A) (i : ℕ) (x : ℕ × A) → slice_get (enumerate_from n xs) i ≡ Some x
+    → slice_get xs i ≡ Some x.1
 of_numbered n [] i x e = absurd (cc)
 of_numbered {A = A} n (y ∷ xs) zero x e = ap Some (ap (λ (u : ℕ × A). u.1) (inside (n, y) x e))
   where
@@ -39,34 +44,44 @@ index_or {A = A} (y ∷ xs) zero x d e = same y x e
     same y x e = cc
 index_or (y ∷ xs) (suc i) x d e = index_or xs i x d e
 
-batch_there : (t : Trace) (i : ℕ) (b : ℕ × (ℕ × Batch)) → slice_get (batches_at t) i ≡ Some b → slice_get t.batches i ≡ Some b.1.1
+batch_there : (t : Trace) (i : ℕ) (b : ℕ × (ℕ × Batch)) → slice_get (batches_at t) i ≡ Some b → slice_get t.batches i
+    ≡ Some b.1.1
 unfolding batches_at
 batch_there t i b e = of_numbered 1 t.batches i b.1 (of_located batch_text (batches_start t) (batches_of t) i b e)
 
-pub batch_is : (t : Trace) (n : ℕ) (b : ℕ × (ℕ × Batch)) → slice_get (batches_at t) (n - 1) ≡ Some b → batch_at t n ≡ b.1.1
+pub batch_is : (t : Trace) (n : ℕ) (b : ℕ × (ℕ × Batch)) → slice_get (batches_at t) (n - 1) ≡ Some b → batch_at t n
+    ≡ b.1.1
 batch_is t n b e = index_or t.batches (n - 1) b.1.1 no_batch (batch_there t (n - 1) b e)
 
-pub batch_fits : (t : Trace) (n : ℕ) (b : ℕ × (ℕ × Batch)) → HasLimits t → slice_get (batches_at t) (n - 1) ≡ Some b → is_batch b.1.1 ≡ true
+pub batch_fits : (t : Trace) (n : ℕ) (b : ℕ × (ℕ × Batch)) → HasLimits t → slice_get (batches_at t) (n - 1) ≡ Some b
+    → is_batch b.1.1 ≡ true
 batch_fits t n b limits e = all_at is_batch t.batches (n - 1) b.1.1 limits.batches (batch_there t (n - 1) b e)
 
 -- ---- an attempt, where its batch is found
 
 module _ (t : Trace) (s : SectionState) (a : Attempt) (b : Batch) (batch : batch_at t a.seq ≡ b) where
-  pub wrong_count : is_due t s a ≡ true → (length a.certificate ≡ length b.requests → ⊥) → Some code.Attempt ≡ wrong_attempt t s a
+  pub wrong_count : is_due t s a ≡ true → (length a.certificate ≡ length b.requests → ⊥) → Some code.Attempt
+      ≡ wrong_attempt t s a
   wrong_count due other = rw (due, batch, ne_eqb (length a.certificate) (length b.requests) other) refl
 
-  pub wrong_certificate : is_due t s a ≡ true → length a.certificate ≡ length b.requests → is_certificate b.sizes (length b.requests) a.serial a.certificate ≡ false → Some code.Certificate ≡ wrong_attempt t s a
-  wrong_certificate due count wrong = rw (due, batch, eq-eqb (length a.certificate) (length b.requests) count, wrong) refl
+  pub wrong_certificate : is_due t s a ≡ true → length a.certificate ≡ length b.requests
+      → is_certificate b.sizes (length b.requests) a.serial a.certificate ≡ false → Some code.Certificate
+      ≡ wrong_attempt t s a
+  wrong_certificate due count wrong = rw (due, batch, eq-eqb (length a.certificate) (length b.requests) count, wrong)
+      refl
 
-  pub right_attempt : is_due t s a ≡ true → length a.certificate ≡ length b.requests → is_certificate b.sizes (length b.requests) a.serial a.certificate ≡ true → None ≡ wrong_attempt t s a
+  pub right_attempt : is_due t s a ≡ true → length a.certificate ≡ length b.requests
+      → is_certificate b.sizes (length b.requests) a.serial a.certificate ≡ true → None ≡ wrong_attempt t s a
   right_attempt due count right = rw (due, batch, eq-eqb (length a.certificate) (length b.requests) count, right) refl
 
-pub not_due : (t : Trace) (s : SectionState) (a : Attempt) → is_due t s a ≡ false → Some code.Attempt ≡ wrong_attempt t s a
+pub not_due : (t : Trace) (s : SectionState) (a : Attempt) → is_due t s a ≡ false → Some code.Attempt
+    ≡ wrong_attempt t s a
 not_due t s a wrong = rw wrong refl
 
 -- ---- the first open attempt
 
-pub get_mapped : {A B : Type 0} (f : A → B) (xs : List A) (i : ℕ) (x : A) → slice_get xs i ≡ Some x → slice_get (map f xs) i ≡ Some (f x)
+pub get_mapped : {A B : Type 0} (f : A → B) (xs : List A) (i : ℕ) (x : A) → slice_get xs i ≡ Some x
+    → slice_get (map f xs) i ≡ Some (f x)
 get_mapped f [] i x e = absurd (cc)
 get_mapped {A = A} {B = B} f (y ∷ xs) zero x e = ap Some (ap f (same y x e))
   where
@@ -77,28 +92,40 @@ get_mapped f (y ∷ xs) (suc i) x e = get_mapped f xs i x e
 abbrev without : Placed → Attempt
 without p = without_accesses p.attempt
 
-first_pending : (pending : List Placed) (f : Attempt) (rest : List Attempt) (c : Commit) → map without pending ≡ f ∷ rest → commits_first pending c ≡ ((f.view == c.view) && same_bytes f.token c.token)
+first_pending : (pending : List Placed) (f : Attempt) (rest : List Attempt) (c : Commit) → map without pending
+    ≡ f ∷ rest → commits_first pending c ≡ ((f.view == c.view) && same_bytes f.token c.token)
 first_pending [] f rest c e = absurd (none f rest e)
   where
     none : (f : Attempt) (rest : List Attempt) → ◌≡◌ {A = List Attempt} [] (f ∷ rest) → ⊥
     none f rest e = cc
-first_pending (p ∷ ps) f rest c e = ap (λ (g : Attempt). (g.view == c.view) && same_bytes g.token c.token) (same (without p) (map without ps) f rest e)
+first_pending (p ∷ ps) f rest c e = ap (λ (g : Attempt). (g.view == c.view) && same_bytes g.token c.token)
+    (same (without p) (map without ps) f rest e)
   where
-    same : (x : Attempt) (xs : List Attempt) (y : Attempt) (ys : List Attempt) → ◌≡◌ {A = List Attempt} (x ∷ xs) (y ∷ ys) → x ≡ y
+    same : (x : Attempt) (xs : List Attempt) (y : Attempt) (ys : List Attempt)
+        → ◌≡◌ {A = List Attempt} (x ∷ xs) (y ∷ ys) → x ≡ y
     same x xs y ys e = cc
 
-pub commit_is : (s : SectionState) (k : Kept) (f : KeptAttempt) (c : Commit) → StandsAt s k → slice_get k.attempts (length k.fates) ≡ Some f
-    → is_right_commit s c ≡ ((c.seq == k.last + 1) && ((f.attempt.view == c.view) && same_bytes f.attempt.token c.token))
+pub commit_is : (s : SectionState) (k : Kept) (f : KeptAttempt) (c : Commit) → StandsAt s k
+    → slice_get k.attempts (length k.fates) ≡ Some f
+    → is_right_commit s c ≡ ((c.seq == k.last + 1) &&
+    ((f.attempt.view == c.view) && same_bytes f.attempt.token c.token))
 commit_is s k f c stands at =
-    let open_is = stands.pending ∙ drop_here (map (λ (a : KeptAttempt). a.attempt) k.attempts) (length k.fates) f.attempt (get_mapped (λ (a : KeptAttempt). a.attempt) k.attempts (length k.fates) f at) in
+    let open_is = stands.pending ∙ drop_here (map (λ (a : KeptAttempt). a.attempt) k.attempts)
+    (length k.fates) f.attempt (get_mapped (λ (a : KeptAttempt). a.attempt) k.attempts (length k.fates) f at) in
     ap (λ (b : Bool). (c.seq == s.last + 1) && b) (first_pending s.pending f.attempt _ c open_is)
-    ∙ ap (λ (n : ℕ). (c.seq == n + 1) && ((f.attempt.view == c.view) && same_bytes f.attempt.token c.token)) (sym stands.last)
+    ∙ ap (λ (n : ℕ). (c.seq == n + 1) && ((f.attempt.view == c.view) && same_bytes f.attempt.token c.token))
+    (sym stands.last)
 
 -- none is open
-pub none_open : (s : SectionState) (k : Kept) (c : Commit) → StandsAt s k → length k.attempts ≤ length k.fates → false ≡ is_right_commit s c
+pub none_open : (s : SectionState) (k : Kept) (c : Commit) → StandsAt s k → length k.attempts ≤ length k.fates
+    → false ≡ is_right_commit s c
 none_open s k c stands le =
-    let few : length (map (λ (a : KeptAttempt). a.attempt) k.attempts) ≤ length k.fates = omega (arith, length-map k.attempts (λ (a : KeptAttempt). a.attempt)) in
-    sym (ap (λ (b : Bool). (c.seq == s.last + 1) && b) (no_pending s.pending (stands.pending ∙ drop_all (length k.fates) (map (λ (a : KeptAttempt). a.attempt) k.attempts) few)) ∙ and_right (c.seq == s.last + 1) false refl)
+    let few : length (map (λ (a : KeptAttempt). a.attempt) k.attempts) ≤ length k.fates =
+    omega (arith, length-map k.attempts (λ (a : KeptAttempt). a.attempt)) in
+    sym (ap (λ (b : Bool). (c.seq == s.last + 1) && b)
+    (no_pending s.pending (stands.pending
+    ∙ drop_all (length k.fates) (map (λ (a : KeptAttempt). a.attempt) k.attempts) few))
+    ∙ and_right (c.seq == s.last + 1) false refl)
   where
     no_pending : (pending : List Placed) → map without pending ≡ [] → commits_first pending c ≡ false
     no_pending [] e = refl
@@ -109,12 +136,18 @@ none_open s k c stands le =
 
 -- ---- an access record by its index
 
-pub found_number : (xs : List (ℕ × Access)) (m : Marks) (i : ℕ) → AreMarked (accesses_of xs) m → list_any (λ y. y.index == i) (accesses_of xs) ≡ true
+pub found_number : (xs : List (ℕ × Access)) (m : Marks) (i : ℕ) → AreMarked (accesses_of xs) m
+    → list_any (λ y. y.index == i) (accesses_of xs) ≡ true
     → (k : ℕ) × (get_or m.numbers i 0 ≡ k) × (slice_get xs k ≡ Some (access_with xs i)) × (k < length xs)
 found_number xs m i marked some =
     let found = first xs some in
-    let own = marked.numbers found.0 found.1.1 (get_mapped (λ (x : ℕ × Access). x.1) xs found.0 found.1 found.2) in
-    (found.0, ap (λ (j : ℕ). get_or m.numbers j 0) (sym found.3) ∙ own.1, found.2 ∙ ap Some found.4, within xs found.0 found.1 found.2)
+    let own = marked.numbers found.0 found.1.1 (get_mapped (λ (x : ℕ × Access). x.1) xs found.0 found.1 found.2) in (
+      found.0,
+      ap (λ (j : ℕ). get_or m.numbers j 0) (sym found.3) ∙ own.1,
+      found.2
+          ∙ ap Some found.4,
+      within xs found.0 found.1 found.2,
+    )
   where
     first : (ys : List (ℕ × Access)) → list_any (λ y. y.index == i) (accesses_of ys) ≡ true
         → (k : ℕ) × (x : ℕ × Access) × (slice_get ys k ≡ Some x) × (x.1.index ≡ i) × (x ≡ access_with ys i)
@@ -122,8 +155,15 @@ found_number xs m i marked some =
     first (y ∷ ys) h = elim (cases_Bool (y.1.index == i)) [
       | inl here ↦ (0, y, refl, eqb-true y.1.index i here, sym (cond-true (y.1.index == i) y (access_with ys i) here))
       | inr other ↦
-          let later = first ys (elim (or_cases (y.1.index == i) (list_any (λ z. z.index == i) (accesses_of ys)) h) [ inl here ↦ absurd (false≢true (sym other ∙ here)) | inr there ↦ there ]) in
-          (suc later.0, later.1, later.2, later.3, later.4 ∙ sym (cond-false (y.1.index == i) y (access_with ys i) other))
+          let later = first ys (elim (or_cases (y.1.index == i) (list_any (λ z. z.index == i) (accesses_of ys)) h)
+          [ inl here ↦ absurd (false≢true (sym other ∙ here)) | inr there ↦ there ]) in (
+            suc later.0,
+            later.1,
+            later.2,
+            later.3,
+            later.4
+                ∙ sym (cond-false (y.1.index == i) y (access_with ys i) other),
+          )
     ]
 
     within : (ys : List (ℕ × Access)) (k : ℕ) (x : ℕ × Access) → slice_get ys k ≡ Some x → k < length ys
@@ -131,7 +171,8 @@ found_number xs m i marked some =
     within (y ∷ ys) zero x e = omega arith
     within (y ∷ ys) (suc k) x e = omega (arith, within ys k x e)
 
-pub each_at : {A : Type 0} (P : A → Type 0) (xs : List A) (i : ℕ) (d : A) → AllByRecursion P xs → i < length xs → P (get_or xs i d)
+pub each_at : {A : Type 0} (P : A → Type 0) (xs : List A) (i : ℕ) (d : A) → AllByRecursion P xs → i < length xs
+    → P (get_or xs i d)
 each_at P [] i d all lt = absurd (omega arith)
 each_at P (x ∷ xs) zero d all lt = all.0
 each_at P (x ∷ xs) (suc i) d all lt = each_at P xs i d all.1 (omega arith)
@@ -142,7 +183,8 @@ get_is [] i x lt e = absurd (omega arith)
 get_is (y ∷ xs) zero x lt e = ap Some (sym e)
 get_is (y ∷ xs) (suc i) x lt e = get_is xs i x (omega arith) e
 
-pub rec_at : {A : Type 0} (P : A → Type 0) (xs : List A) (i : ℕ) (x : A) → AllByRecursion P xs → slice_get xs i ≡ Some x → P x
+pub rec_at : {A : Type 0} (P : A → Type 0) (xs : List A) (i : ℕ) (x : A) → AllByRecursion P xs → slice_get xs i ≡ Some x
+    → P x
 rec_at P [] i x all e = absurd (cc)
 rec_at {A = A} P (y ∷ xs) zero x all e = subst P (same y x e) all.0
   where
@@ -151,25 +193,30 @@ rec_at {A = A} P (y ∷ xs) zero x all e = subst P (same y x e) all.0
 rec_at P (y ∷ xs) (suc i) x all e = rec_at P xs i x all.1 e
 
 -- a place in a part of a list
-pub get_in_part : {A : Type 0} (xs : List A) (from count place : ℕ) (x : A) → place < count → slice_get xs (from + place) ≡ Some x → slice_get (take count (drop from xs)) place ≡ Some x
+pub get_in_part : {A : Type 0} (xs : List A) (from count place : ℕ) (x : A) → place < count
+    → slice_get xs (from + place) ≡ Some x → slice_get (take count (drop from xs)) place ≡ Some x
 get_in_part {A = A} xs from count place x lt e = in_front (drop from xs) count place lt (behind xs from e)
   where
     behind : (xs : List A) (from : ℕ) → slice_get xs (from + place) ≡ Some x → slice_get (drop from xs) place ≡ Some x
     behind xs zero e = let same : 0 + place ≡ place = omega arith in subst (λ (n : ℕ). slice_get xs n ≡ Some x) same e
     behind [] (suc from) e = absurd (cc)
-    behind (y ∷ xs) (suc from) e = let same : suc from + place ≡ suc (from + place) = omega arith in behind xs from (subst (λ (n : ℕ). slice_get (y ∷ xs) n ≡ Some x) same e)
+    behind (y ∷ xs) (suc from) e = let same : suc from + place ≡ suc (from + place) = omega arith in
+        behind xs from (subst (λ (n : ℕ). slice_get (y ∷ xs) n ≡ Some x) same e)
 
-    in_front : (ys : List A) (count place : ℕ) → place < count → slice_get ys place ≡ Some x → slice_get (take count ys) place ≡ Some x
+    in_front : (ys : List A) (count place : ℕ) → place < count → slice_get ys place ≡ Some x
+        → slice_get (take count ys) place ≡ Some x
     in_front ys zero place lt e = absurd (omega arith)
     in_front [] (suc count) place lt e = e
     in_front (y ∷ ys) (suc count) zero lt e = e
     in_front (y ∷ ys) (suc count) (suc place) lt e = in_front ys count place (omega arith) e
 
-pub part_length : {A : Type 0} (xs : List A) (from count : ℕ) → from + count ≤ length xs → length (take count (drop from xs)) ≡ count
+pub part_length : {A : Type 0} (xs : List A) (from count : ℕ) → from + count ≤ length xs
+    → length (take count (drop from xs)) ≡ count
 part_length xs from count le = length-take-le count (drop from xs) (omega (arith, length-drop from xs))
 
 -- the value there doesn't depend on what stands for none
-pub get_there : {A : Type 0} (xs : List A) (i : ℕ) (d : A) → i < length xs → slice_get xs i ≡ Some (slice_index_or xs i d)
+pub get_there : {A : Type 0} (xs : List A) (i : ℕ) (d : A) → i < length xs → slice_get xs i
+    ≡ Some (slice_index_or xs i d)
 get_there [] i d lt = absurd (omega arith)
 get_there (x ∷ xs) zero d lt = refl
 get_there (x ∷ xs) (suc i) d lt = get_there xs i d (omega arith)

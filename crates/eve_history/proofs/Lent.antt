@@ -1,5 +1,6 @@
 -- Where steps, access frames and votes stand in the trace's bytes.
-use Rattle.std.proofs.Common.{◌≡◌, ℕ, zero, suc, ◌+◌, ◌<◌, ◌≤◌, List, [], ◌∷◌, ◌++◌, map, length, drop, slice_get, Option, Some, None, inl, inr, refl, sym, ap, subst, ◌∙◌, append_assoc, arith}
+use Rattle.std.proofs.Common.{◌≡◌, ℕ, zero, suc, ◌+◌, ◌<◌, ◌≤◌, List, [], ◌∷◌, ◌++◌, map, length, drop, slice_get}
+use Rattle.std.proofs.Common.{Option, Some, None, inl, inr, refl, sym, ap, subst, ◌∙◌, append_assoc, arith}
 use Rattle.std.specs.Prelude.{slice_index_or}
 use Rattle.std.specs.List.{flat_map}
 use Rattle.std.proofs.lemmas.Bool.{cases_lt}
@@ -7,7 +8,8 @@ use Rattle.std.proofs.lemmas.List.Concat.{flat_map-append}
 use Rattle.std.proofs.lemmas.List.{length-append, drop_at}
 use Rattle.eve_grammar.specs.Trace.{Access, Attempt, Rollback, Step, Attempts, Commits, RollsBack, Vote, Trace, head_of}
 use Rattle.eve_grammar.specs.Frames.{OfAttempt, OfAccess, OfRollback, OfVerifier, OfVote, frames_of, without_accesses}
-use Rattle.eve_grammar.specs.Spelling.{frame_text, frames_text, head_text, length_of, spelling, located, step_text, steps_at, accesses_at, verifier_start, votes_of, votes_at}
+use Rattle.eve_grammar.specs.Spelling.{frame_text, frames_text, head_text, length_of, spelling, located, step_text}
+use Rattle.eve_grammar.specs.Spelling.{steps_at, accesses_at, verifier_start, votes_of, votes_at}
 use Rattle.eve_grammar.proofs.HeaderParts.{length-head_text}
 use Rattle.eve_frames.specs.Views.{attempt_in, rollback_in}
 use Rattle.eve_views.specs.Fronts.{before_verifier}
@@ -15,26 +17,39 @@ use Rattle.eve_views.specs.Lent.{HasBytesAt}
 use Rattle.eve_views.proofs.CutLaws.{verifier_cut}
 use Rattle.eve_views.proofs.Locating.{verifier_begins}
 use Rattle.eve_history.proofs.FrameTexts.{mapped}
-use Rattle.eve_history.specs.Told.{Ran, Telling, ran, telling, attempts_among, rollbacks_among}
-use Rattle.eve_history.proofs.Standing.{StandsIn, stands_inside, located_stands, split_at, step_stands, first_stands, access_stands}
+use Rattle.eve_history.specs.SectionHistory.{ExecutedAttempt, SectionHistory, executed_attempt, section_history}
+use Rattle.eve_history.specs.SectionHistory.{attempts_among, rollbacks_among}
+use Rattle.eve_history.proofs.Standing.{StandsIn, stands_inside, located_stands, split_at, step_stands, first_stands}
+use Rattle.eve_history.proofs.Standing.{access_stands}
 
 bytes_at : (t : Trace) (at : ℕ) (text : List ℕ) → StandsIn (spelling t) at text → HasBytesAt t at text
-bytes_at t at text stands = record { behind = stands.behind; is = ap (drop at) stands.is ∙ drop_at stands.front (text ++ stands.behind) at stands.offset }
+bytes_at t at text stands =
+    record {
+      behind = stands.behind;
+      is = ap (drop at) stands.is
+          ∙ drop_at stands.front (text ++ stands.behind) at stands.offset;
+    }
 
 -- ---- steps, and the access frames of attempts
 
-stands : (t : Trace) (e k : ℕ) (step : ℕ × Step) → slice_get (steps_at t e) k ≡ Some step → StandsIn (spelling t) step.0 (step_text step.1)
+stands : (t : Trace) (e k : ℕ) (step : ℕ × Step) → slice_get (steps_at t e) k ≡ Some step
+    → StandsIn (spelling t) step.0 (step_text step.1)
 stands t e k step got = let s = split_at (steps_at t e) k step got in step_stands t e s.0 step s.1 s.2
 
-pub steps_stand : (t : Trace) (e k : ℕ) (step : ℕ × Step) → slice_get (steps_at t e) k ≡ Some step → HasBytesAt t step.0 (step_text step.1)
+pub steps_stand : (t : Trace) (e k : ℕ) (step : ℕ × Step) → slice_get (steps_at t e) k ≡ Some step
+    → HasBytesAt t step.0 (step_text step.1)
 steps_stand t e k step got = bytes_at t step.0 (step_text step.1) (stands t e k step got)
 
-pub accesses_stand : (t : Trace) (e k i at : ℕ) (a : Attempt) (x : ℕ × Access) → slice_get (steps_at t e) k ≡ Some (at, Attempts a) → slice_get (accesses_at at a) i ≡ Some x → HasBytesAt t x.0 (frame_text (OfAccess x.1))
-accesses_stand t e k i at a x got own = bytes_at t x.0 (frame_text (OfAccess x.1)) (access_stands at a i x (stands t e k (at, Attempts a) got) own)
+pub accesses_stand : (t : Trace) (e k i at : ℕ) (a : Attempt) (x : ℕ × Access) → slice_get (steps_at t e) k
+    ≡ Some (at, Attempts a) → slice_get (accesses_at at a) i ≡ Some x → HasBytesAt t x.0 (frame_text (OfAccess x.1))
+accesses_stand t e k i at a x got own = bytes_at t x.0 (frame_text (OfAccess x.1))
+    (access_stands at a i x (stands t e k (at, Attempts a) got) own)
 
 -- ---- votes
 
-votes_text_stands : (t : Trace) (v : ℕ) → v < length t.verifiers → StandsIn (spelling t) (verifier_start t v + length (frame_text (OfVerifier v))) (flat_map (λ w. frame_text (OfVote w)) (votes_of t v))
+votes_text_stands : (t : Trace) (v : ℕ) → v < length t.verifiers
+    → StandsIn (spelling t) (verifier_start t v + length (frame_text (OfVerifier v)))
+    (flat_map (λ w. frame_text (OfVote w)) (votes_of t v))
 unfolding spelling
 votes_text_stands t v lt =
     let cut = verifier_cut t v lt in
@@ -45,13 +60,21 @@ votes_text_stands t v lt =
     let votes = flat_map (λ w. frame_text (OfVote w)) (votes_of t v) in
     let text : frames_text (frames_of t) ≡ frames_text before ++ (own ++ (votes ++ frames_text cut.rest)) =
     ap frames_text cut.whole ∙ flat_map-append frame_text before (OfVerifier v ∷ (part ++ cut.rest))
-    ∙ ap (λ (b : List ℕ). frames_text before ++ (own ++ b)) (flat_map-append frame_text part cut.rest ∙ ap (λ (b : List ℕ). b ++ frames_text cut.rest) (mapped OfVote (votes_of t v))) in
+    ∙ ap (λ (b : List ℕ). frames_text before ++ (own ++ b)) (flat_map-append frame_text part cut.rest
+    ∙ ap (λ (b : List ℕ). b ++ frames_text cut.rest) (mapped OfVote (votes_of t v))) in
     record {
       front = head ++ (frames_text before ++ own);
       behind = frames_text cut.rest;
-      is = ap (λ (b : List ℕ). head ++ b) (text ∙ sym (append_assoc (frames_text before) own (votes ++ frames_text cut.rest)))
+      is = ap (λ (b : List ℕ). head ++ b)
+          (text ∙ sym (append_assoc (frames_text before) own (votes ++ frames_text cut.rest)))
           ∙ sym (append_assoc head (frames_text before ++ own) (votes ++ frames_text cut.rest));
-      offset = omega (arith, length-append head (frames_text before ++ own), length-append (frames_text before) own, length-head_text (head_of t) (length_of t), verifier_begins t v);
+      offset = omega (
+        arith,
+        length-append head (frames_text before ++ own),
+        length-append (frames_text before) own,
+        length-head_text (head_of t) (length_of t),
+        verifier_begins t v,
+      );
     }
 
 -- behind the last verifier there are none
@@ -60,14 +83,22 @@ no_votes place [] le = refl
 no_votes zero (x ∷ xs) le = absurd (omega (arith, le))
 no_votes (suc place) (x ∷ xs) le = no_votes place xs (omega (arith, le))
 
-pub votes_stand : (t : Trace) (v k : ℕ) (w : ℕ × Vote) → slice_get (votes_at t v) k ≡ Some w → HasBytesAt t w.0 (frame_text (OfVote w.1))
+pub votes_stand : (t : Trace) (v k : ℕ) (w : ℕ × Vote) → slice_get (votes_at t v) k ≡ Some w
+    → HasBytesAt t w.0 (frame_text (OfVote w.1))
 unfolding votes_at
 votes_stand t v k w got = elim (cases_lt v (length t.verifiers)) [
   | inl lt ↦
-      let s = split_at (located (λ x. frame_text (OfVote x)) (verifier_start t v + length (frame_text (OfVerifier v))) (votes_of t v)) k w got in
-      let found = located_stands (λ x. frame_text (OfVote x)) (verifier_start t v + length (frame_text (OfVerifier v))) (votes_of t v) s.0 w s.1 s.2 in
-      bytes_at t w.0 (frame_text (OfVote w.1)) (subst (λ (at : ℕ). StandsIn (spelling t) at (frame_text (OfVote w.1))) (sym found.offset) (stands_inside (votes_text_stands t v lt) found.stands))
-  | inr le ↦ absurd (none (ap (λ (ws : List Vote). slice_get (located (λ x. frame_text (OfVote x)) (verifier_start t v + length (frame_text (OfVerifier v))) ws) k) (sym (no_votes v t.verifiers le)) ∙ got))
+      let s = split_at (located (λ x. frame_text (OfVote x)) (verifier_start t v + length (frame_text (OfVerifier v)))
+      (votes_of t v)) k w got in
+      let found = located_stands (λ x. frame_text (OfVote x)) (verifier_start t v + length (frame_text (OfVerifier v)))
+      (votes_of t v) s.0 w s.1 s.2 in
+      bytes_at t w.0 (frame_text (OfVote w.1))
+      (subst (λ (at : ℕ). StandsIn (spelling t) at (frame_text (OfVote w.1))) (sym found.offset)
+      (stands_inside (votes_text_stands t v lt) found.stands))
+  | inr le ↦ absurd (none (ap
+      (λ (ws : List Vote). slice_get
+      (located (λ x. frame_text (OfVote x)) (verifier_start t v + length (frame_text (OfVerifier v))) ws) k)
+      (sym (no_votes v t.verifiers le)) ∙ got))
 ]
   where
     none : ◌≡◌ {A = Option (ℕ × Vote)} None (Some w) → ⊥
@@ -75,7 +106,8 @@ votes_stand t v k w got = elim (cases_lt v (length t.verifiers)) [
 
 -- ---- attempts and rollbacks, as they are told
 
-unmapped : {A B : Type 0} (f : A → B) (xs : List A) (i : ℕ) (y : B) → slice_get (map f xs) i ≡ Some y → (x : A) × (slice_get xs i ≡ Some x) × (f x ≡ y)
+unmapped : {A B : Type 0} (f : A → B) (xs : List A) (i : ℕ) (y : B) → slice_get (map f xs) i ≡ Some y → (x : A)
+    × (slice_get xs i ≡ Some x) × (f x ≡ y)
 unmapped f [] i y e = absurd (cc)
 unmapped {A = A} {B = B} f (x ∷ xs) zero y e = (x, refl, same (f x) y e)
   where
@@ -90,52 +122,74 @@ IsAmong steps step = (before : List (ℕ × Step)) × (rest : List (ℕ × Step)
 later : (step : ℕ × Step) (steps : List (ℕ × Step)) (own : ℕ × Step) → IsAmong steps own → IsAmong (step ∷ steps) own
 later step steps own found = (step ∷ found.0, found.1, ap (λ (xs : List (ℕ × Step)). step ∷ xs) found.2)
 
-attempt_among : (steps : List (ℕ × Step)) (i : ℕ) (x : ℕ × Attempt) → slice_get (attempts_among steps) i ≡ Some x → IsAmong steps (x.0, Attempts x.1)
+attempt_among : (steps : List (ℕ × Step)) (i : ℕ) (x : ℕ × Attempt) → slice_get (attempts_among steps) i ≡ Some x
+    → IsAmong steps (x.0, Attempts x.1)
 attempt_among [] i x e = absurd (cc)
-attempt_among ((at, Attempts a) ∷ steps) zero x e = ([], steps, ap (λ (y : ℕ × Attempt). (y.0, Attempts y.1) ∷ steps) (same (at, a) x e))
+attempt_among ((at, Attempts a) ∷ steps) zero x e =
+    ([], steps, ap (λ (y : ℕ × Attempt). (y.0, Attempts y.1) ∷ steps) (same (at, a) x e))
   where
     same : (y x : ℕ × Attempt) → Some y ≡ Some x → y ≡ x
     same y x e = cc
-attempt_among ((at, Attempts a) ∷ steps) (suc i) x e = later (at, Attempts a) steps (x.0, Attempts x.1) (attempt_among steps i x e)
-attempt_among ((at, Commits c) ∷ steps) i x e = later (at, Commits c) steps (x.0, Attempts x.1) (attempt_among steps i x e)
-attempt_among ((at, RollsBack r) ∷ steps) i x e = later (at, RollsBack r) steps (x.0, Attempts x.1) (attempt_among steps i x e)
+attempt_among ((at, Attempts a) ∷ steps) (suc i) x e = later (at, Attempts a) steps (x.0, Attempts x.1)
+    (attempt_among steps i x e)
+attempt_among ((at, Commits c) ∷ steps) i x e = later (at, Commits c) steps (x.0, Attempts x.1)
+    (attempt_among steps i x e)
+attempt_among ((at, RollsBack r) ∷ steps) i x e = later (at, RollsBack r) steps (x.0, Attempts x.1)
+    (attempt_among steps i x e)
 
-rollback_among : (steps : List (ℕ × Step)) (i : ℕ) (x : ℕ × Rollback) → slice_get (rollbacks_among steps) i ≡ Some x → IsAmong steps (x.0, RollsBack x.1)
+rollback_among : (steps : List (ℕ × Step)) (i : ℕ) (x : ℕ × Rollback) → slice_get (rollbacks_among steps) i ≡ Some x
+    → IsAmong steps (x.0, RollsBack x.1)
 rollback_among [] i x e = absurd (cc)
-rollback_among ((at, RollsBack r) ∷ steps) zero x e = ([], steps, ap (λ (y : ℕ × Rollback). (y.0, RollsBack y.1) ∷ steps) (same (at, r) x e))
+rollback_among ((at, RollsBack r) ∷ steps) zero x e =
+    ([], steps, ap (λ (y : ℕ × Rollback). (y.0, RollsBack y.1) ∷ steps) (same (at, r) x e))
   where
     same : (y x : ℕ × Rollback) → Some y ≡ Some x → y ≡ x
     same y x e = cc
-rollback_among ((at, RollsBack r) ∷ steps) (suc i) x e = later (at, RollsBack r) steps (x.0, RollsBack x.1) (rollback_among steps i x e)
-rollback_among ((at, Commits c) ∷ steps) i x e = later (at, Commits c) steps (x.0, RollsBack x.1) (rollback_among steps i x e)
-rollback_among ((at, Attempts a) ∷ steps) i x e = later (at, Attempts a) steps (x.0, RollsBack x.1) (rollback_among steps i x e)
+rollback_among ((at, RollsBack r) ∷ steps) (suc i) x e = later (at, RollsBack r) steps (x.0, RollsBack x.1)
+    (rollback_among steps i x e)
+rollback_among ((at, Commits c) ∷ steps) i x e = later (at, Commits c) steps (x.0, RollsBack x.1)
+    (rollback_among steps i x e)
+rollback_among ((at, Attempts a) ∷ steps) i x e = later (at, Attempts a) steps (x.0, RollsBack x.1)
+    (rollback_among steps i x e)
 
-told_attempt : (t : Trace) (e i : ℕ) (r : Ran) → slice_get (telling t e).attempts i ≡ Some r → HasBytesAt t r.offset (frame_text (OfAttempt r.attempt))
-unfolding telling
+told_attempt : (t : Trace) (e i : ℕ) (r : ExecutedAttempt) → slice_get (section_history t e).attempts i ≡ Some r
+    → HasBytesAt t r.offset (frame_text (OfAttempt r.attempt))
+unfolding section_history
 told_attempt t e i r got =
-    let x = unmapped ran (attempts_among (steps_at t e)) i r got in
+    let x = unmapped executed_attempt (attempts_among (steps_at t e)) i r got in
     let s = attempt_among (steps_at t e) i x.0 x.1 in
     let own = step_stands t e s.0 (x.0.0, Attempts x.0.1) s.1 s.2 in
     let first = first_stands (OfAttempt (without_accesses x.0.1)) (map OfAccess x.0.1.accesses) own in
-    subst (λ (q : Ran). HasBytesAt t q.offset (frame_text (OfAttempt q.attempt))) x.2 (bytes_at t x.0.0 (frame_text (OfAttempt (without_accesses x.0.1))) first)
+    subst (λ (q : ExecutedAttempt). HasBytesAt t q.offset (frame_text (OfAttempt q.attempt))) x.2
+    (bytes_at t x.0.0 (frame_text (OfAttempt (without_accesses x.0.1))) first)
 
-told_rollback : (t : Trace) (e i : ℕ) (r : ℕ × Rollback) → slice_get (telling t e).rollbacks i ≡ Some r → HasBytesAt t r.0 (frame_text (OfRollback r.1))
-unfolding telling
+told_rollback : (t : Trace) (e i : ℕ) (r : ℕ × Rollback) → slice_get (section_history t e).rollbacks i ≡ Some r
+    → HasBytesAt t r.0 (frame_text (OfRollback r.1))
+unfolding section_history
 told_rollback t e i r got =
     let s = rollback_among (steps_at t e) i r got in
-    bytes_at t r.0 (frame_text (OfRollback r.1)) (first_stands (OfRollback r.1) [] (step_stands t e s.0 (r.0, RollsBack r.1) s.1 s.2))
+    bytes_at t r.0 (frame_text (OfRollback r.1))
+    (first_stands (OfRollback r.1) [] (step_stands t e s.0 (r.0, RollsBack r.1) s.1 s.2))
 
 -- a view that lends the attempt's text, where the attempt is one of the trace's
-pub lent_attempt : (t : Trace) (e i offset : ℕ) (h : Telling) (r : Ran) (bytes : List ℕ) → h ≡ telling t e → slice_get h.attempts i ≡ Some r → offset ≡ r.offset → attempt_in bytes ≡ r.attempt
+pub lent_attempt : (t : Trace) (e i offset : ℕ) (h : SectionHistory) (r : ExecutedAttempt) (bytes : List ℕ)
+    → h ≡ section_history t e
+    → slice_get h.attempts i ≡ Some r → offset ≡ r.offset → attempt_in bytes ≡ r.attempt
     → bytes ≡ frame_text (OfAttempt (attempt_in bytes)) → HasBytesAt t offset bytes
 lent_attempt t e i offset h r bytes is got there says text =
-    let told = told_attempt t e i r (ap (λ (v : Telling). slice_get v.attempts i) (sym is) ∙ got) in
+    let told = told_attempt t e i r (ap (λ (v : SectionHistory). slice_get v.attempts i) (sym is) ∙ got) in
     record {
       behind = told.behind;
-      is = ap (λ (o : ℕ). drop o (spelling t)) there ∙ told.is ∙ ap (λ (b : List ℕ). b ++ told.behind) (ap (λ (a : Attempt). frame_text (OfAttempt a)) (sym says) ∙ sym text);
+      is = ap (λ (o : ℕ). drop o (spelling t)) there ∙ told.is
+          ∙ ap (λ (b : List ℕ). b ++ told.behind) (ap (λ (a : Attempt). frame_text (OfAttempt a)) (sym says)
+          ∙ sym text);
     }
 
-pub lent_rollback : (t : Trace) (e i offset : ℕ) (h : Telling) (bytes : List ℕ) → h ≡ telling t e → slice_get h.rollbacks i ≡ Some (offset, rollback_in bytes) → bytes ≡ frame_text (OfRollback (rollback_in bytes)) → HasBytesAt t offset bytes
+pub lent_rollback : (t : Trace) (e i offset : ℕ) (h : SectionHistory) (bytes : List ℕ) → h ≡ section_history t e
+    → slice_get h.rollbacks i ≡ Some (offset, rollback_in bytes) → bytes ≡ frame_text (OfRollback (rollback_in bytes))
+    → HasBytesAt t offset bytes
 lent_rollback t e i offset h bytes is got text =
-    let told = told_rollback t e i (offset, rollback_in bytes) (ap (λ (v : Telling). slice_get v.rollbacks i) (sym is) ∙ got) in
+    let told = told_rollback t e i (offset, rollback_in bytes)
+    (ap (λ (v : SectionHistory). slice_get v.rollbacks i) (sym is)
+    ∙ got) in
     record { behind = told.behind; is = told.is ∙ ap (λ (b : List ℕ). b ++ told.behind) (sym text) }

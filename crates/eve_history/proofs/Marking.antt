@@ -1,8 +1,12 @@
 -- Access records of an attempt, marked one after another.
-use Rattle.std.proofs.Common.{◌≡◌, ◌≢◌, ℕ, zero, suc, ◌+◌, ◌<◌, ◌≤◌, ◌==◌, Bool, true, false, ◌||◌, cond, eqb, ltb, List, [], ◌∷◌, ◌++◌, length, get_or, set, replicate, take, drop, slice_get, count_by, Option, Some, None, refl, sym, ap, subst, ◌∙◌, inl, inr, ◌⊎◌, add-one, add-zero, arith}
+use Rattle.std.proofs.Common.{◌≡◌, ◌≢◌, ℕ, zero, suc, ◌+◌, ◌<◌, ◌≤◌, ◌==◌, Bool, true, false, ◌||◌, cond, eqb, ltb}
+use Rattle.std.proofs.Common.{List, [], ◌∷◌, ◌++◌, length, get_or, set, replicate, take, drop, slice_get, count_by}
+use Rattle.std.proofs.Common.{Option, Some, None, refl, sym, ap, subst, ◌∙◌, inl, inr, ◌⊎◌, add-one, add-zero, arith}
 use Rattle.std.specs.List.{list_any}
-use Rattle.std.proofs.lemmas.Bool.{cases_eq, and_from, and_left, and_right, or_parts, or_right, not_from_true, not_from_false, eq-eqb, ne_eqb, eqb-false, lt-ltb, le-ltb, cond-true, cond-false}
-use Rattle.std.proofs.lemmas.List.{length-set, length-replicate, get_or-replicate, get_or-set_same, get_or-set_other, take_all, drop_all}
+use Rattle.std.proofs.lemmas.Bool.{cases_eq, and_from, and_left, and_right, or_parts, or_right, not_from_true}
+use Rattle.std.proofs.lemmas.Bool.{not_from_false, eq-eqb, ne_eqb, eqb-false, lt-ltb, le-ltb, cond-true, cond-false}
+use Rattle.std.proofs.lemmas.List.{length-set, length-replicate, get_or-replicate, get_or-set_same, get_or-set_other}
+use Rattle.std.proofs.lemmas.List.{take_all, drop_all}
 use Rattle.std.proofs.lemmas.List.Recursion.{or_push}
 use Rattle.std.proofs.lemmas.List.Sums.{sum_by_push, count_by-le-length}
 use Rattle.eve_grammar.specs.Trace.{Access}
@@ -18,7 +22,8 @@ use Rattle.eve_history.proofs.OrderLaws.{take_one_more}
 
 -- ---- lists
 
-pub pushed : {A : Type 0} (xs : List A) (x : A) (k : ℕ) (y : A) → slice_get (xs ++ x ∷ []) k ≡ Some y → (slice_get xs k ≡ Some y) ⊎ ((k ≡ length xs) × (x ≡ y))
+pub pushed : {A : Type 0} (xs : List A) (x : A) (k : ℕ) (y : A) → slice_get (xs ++ x ∷ []) k ≡ Some y
+    → (slice_get xs k ≡ Some y) ⊎ ((k ≡ length xs) × (x ≡ y))
 pushed {A = A} [] x zero y e = inr (refl, same x y e)
   where
     same : (x y : A) → Some x ≡ Some y → x ≡ y
@@ -30,7 +35,8 @@ pushed (z ∷ xs) x (suc k) y e = elim (pushed xs x k y e) [
   | inr last ↦ inr (ap suc last.0, last.1)
 ]
 
-none_at : {A : Type 0} (p : A → Bool) (xs : List A) (k : ℕ) (y : A) → list_any p xs ≡ false → slice_get xs k ≡ Some y → p y ≡ false
+none_at : {A : Type 0} (p : A → Bool) (xs : List A) (k : ℕ) (y : A) → list_any p xs ≡ false → slice_get xs k ≡ Some y
+    → p y ≡ false
 none_at p [] k y none e = absurd (cc)
 none_at {A = A} p (x ∷ xs) zero y none e = ap p (sym (same x y e)) ∙ (or_parts (p x) (list_any p xs) none).0
   where
@@ -51,7 +57,8 @@ drop_here {A = A} xs i x e = by xs i e ∙ ap (λ (n : ℕ). x ∷ drop n xs) (s
 
 -- ---- one record
 
-pub marked_none : AreMarked [] (record { seen = replicate 256 false; numbers = replicate 256 0; places = replicate 8 0 })
+pub marked_none : AreMarked []
+    (record { seen = replicate 256 false; numbers = replicate 256 0; places = replicate 8 0 })
 marked_none = record {
   indexes = length-replicate {A = Bool} 256 false;
   slots = length-replicate {A = ℕ} 256 0;
@@ -65,9 +72,14 @@ marked_none = record {
     none k y e = cc
 
 abbrev pub with_mark : Marks → Access → ℕ → Marks
-with_mark m x n = record { seen = set m.seen x.index true; numbers = set m.numbers x.index n; places = set m.places x.worker (get_or m.places x.worker 0 + 1) }
+with_mark m x n = record {
+  seen = set m.seen x.index true;
+  numbers = set m.numbers x.index n;
+  places = set m.places x.worker (get_or m.places x.worker 0 + 1);
+}
 
-pub marked_one : (before : List Access) (m : Marks) (x : Access) (n : ℕ) → AreMarked before m → n ≡ length before → x.index < 256 → x.worker < 8 → list_any (λ y. y.index == x.index) before ≡ false
+pub marked_one : (before : List Access) (m : Marks) (x : Access) (n : ℕ) → AreMarked before m → n ≡ length before
+    → x.index < 256 → x.worker < 8 → list_any (λ y. y.index == x.index) before ≡ false
     → AreMarked (before ++ x ∷ []) (with_mark m x n)
 marked_one before m x n marked count index worker new = record {
   indexes = length-set m.seen x.index true ∙ marked.indexes;
@@ -78,82 +90,111 @@ marked_one before m x n marked count index worker new = record {
   numbers = numbers_one;
 }
   where
-    seen_one : (i : ℕ) → i < 256 → get_or (set m.seen x.index true) i false ≡ list_any (λ y. y.index == i) (before ++ x ∷ [])
+    seen_one : (i : ℕ) → i < 256 → get_or (set m.seen x.index true) i false
+        ≡ list_any (λ y. y.index == i) (before ++ x ∷ [])
     seen_one i lt =
-        let split = or_push (list_any (λ (y : Access). y.index == i)) (λ (y : Access). y.index == i) refl (λ _ _. refl) before x in
+        let split = or_push (list_any (λ (y : Access). y.index == i)) (λ (y : Access). y.index == i) refl
+        (λ _ _. refl) before x in
         elim (cases_eq i x.index) [
           | inl same ↦
               let long : x.index < length m.seen = omega (arith, marked.indexes) in
-              ap (λ (j : ℕ). get_or (set m.seen x.index true) j false) same ∙ get_or-set_same m.seen x.index true false long
-              ∙ sym (split ∙ or_right (list_any (λ y. y.index == i) before) (eqb x.index i) (eq-eqb x.index i (sym same)))
+              ap (λ (j : ℕ). get_or (set m.seen x.index true) j false) same
+              ∙ get_or-set_same m.seen x.index true false long
+              ∙ sym (split ∙ or_right (list_any (λ y. y.index == i) before) (eqb x.index i)
+              (eq-eqb x.index i (sym same)))
           | inr other ↦
               get_or-set_other m.seen x.index i true false other ∙ marked.seen i lt
-              ∙ sym (split ∙ ap (λ (b : Bool). list_any (λ y. y.index == i) before || b) (ne_eqb x.index i (λ e. other (sym e))) ∙ or_none (list_any (λ y. y.index == i) before))
+              ∙ sym (split ∙ ap (λ (b : Bool). list_any (λ y. y.index == i) before || b)
+              (ne_eqb x.index i (λ e. other (sym e))) ∙ or_none (list_any (λ y. y.index == i) before))
         ]
       where
         or_none : (b : Bool) → (b || false) ≡ b
         or_none true = refl
         or_none false = refl
 
-    places_one : (w : ℕ) → w < 8 → get_or (set m.places x.worker (get_or m.places x.worker 0 + 1)) w 0 ≡ count_by (λ y. y.worker == w) (before ++ x ∷ [])
+    places_one : (w : ℕ) → w < 8 → get_or (set m.places x.worker (get_or m.places x.worker 0 + 1)) w 0
+        ≡ count_by (λ y. y.worker == w) (before ++ x ∷ [])
     places_one w lt =
         let split = sum_by_push (λ (y : Access). cond (y.worker == w) 1 0) before x in
         elim (cases_eq w x.worker) [
           | inl same ↦
               let long : x.worker < length m.places = omega (arith, marked.workers) in
-              ap (λ (j : ℕ). get_or (set m.places x.worker (get_or m.places x.worker 0 + 1)) j 0) same ∙ get_or-set_same m.places x.worker (get_or m.places x.worker 0 + 1) 0 long
+              ap (λ (j : ℕ). get_or (set m.places x.worker (get_or m.places x.worker 0 + 1)) j 0) same
+              ∙ get_or-set_same m.places x.worker (get_or m.places x.worker 0 + 1) 0 long
               ∙ ap (λ (j : ℕ). get_or m.places j 0 + 1) (sym same) ∙ ap (λ (n : ℕ). n + 1) (marked.places w lt)
-              ∙ sym (split ∙ ap (λ (n : ℕ). count_by (λ y. y.worker == w) before + n) (cond-true (eqb x.worker w) 1 0 (eq-eqb x.worker w (sym same))))
+              ∙ sym (split ∙ ap (λ (n : ℕ). count_by (λ y. y.worker == w) before + n)
+              (cond-true (eqb x.worker w) 1 0 (eq-eqb x.worker w (sym same))))
           | inr other ↦
               get_or-set_other m.places x.worker w (get_or m.places x.worker 0 + 1) 0 other ∙ marked.places w lt
-              ∙ sym (split ∙ ap (λ (n : ℕ). count_by (λ y. y.worker == w) before + n) (cond-false (eqb x.worker w) 1 0 (ne_eqb x.worker w (λ e. other (sym e)))) ∙ add-zero (count_by (λ y. y.worker == w) before))
+              ∙ sym (split ∙ ap (λ (n : ℕ). count_by (λ y. y.worker == w) before + n)
+              (cond-false (eqb x.worker w) 1 0 (ne_eqb x.worker w (λ e. other (sym e))))
+              ∙ add-zero (count_by (λ y. y.worker == w) before))
         ]
 
-    numbers_one : (k : ℕ) (y : Access) → slice_get (before ++ x ∷ []) k ≡ Some y → (y.index < 256) × (get_or (set m.numbers x.index n) y.index 0 ≡ k)
+    numbers_one : (k : ℕ) (y : Access) → slice_get (before ++ x ∷ []) k ≡ Some y → (y.index < 256)
+        × (get_or (set m.numbers x.index n) y.index 0 ≡ k)
     numbers_one k y e = elim (pushed before x k y e) [
       | inl earlier ↦
           let old = marked.numbers k y earlier in
-          let other : y.index ≢ x.index = eqb-false y.index x.index (none_at (λ (z : Access). z.index == x.index) before k y new earlier) in
+          let other : y.index ≢ x.index =
+          eqb-false y.index x.index (none_at (λ (z : Access). z.index == x.index) before k y new earlier) in
           (old.0, get_or-set_other m.numbers x.index y.index n 0 other ∙ old.1)
       | inr last ↦
           let long : x.index < length m.numbers = omega (arith, marked.slots) in
-          let same : x.index ≡ y.index = ap (λ (z : Access). z.index) last.1 in
-          (subst (λ (j : ℕ). j < 256) same index, ap (λ (j : ℕ). get_or (set m.numbers x.index n) j 0) (sym same) ∙ get_or-set_same m.numbers x.index n 0 long ∙ count ∙ sym last.0)
+          let same : x.index ≡ y.index = ap (λ (z : Access). z.index) last.1 in (
+            subst (λ (j : ℕ). j < 256) same index,
+            ap (λ (j : ℕ). get_or (set m.numbers x.index n) j 0) (sym same)
+                ∙ get_or-set_same m.numbers x.index n 0 long ∙ count ∙ sym last.0,
+          )
     ]
 
 -- a worker has no more places than there are records
-pub place_room : (before : List Access) (m : Marks) (w : ℕ) → AreMarked before m → w < 8 → get_or m.places w 0 ≤ length before
-place_room before m w marked lt = omega (arith, marked.places w lt, count_by-le-length (λ (y : Access). y.worker == w) before)
+pub place_room : (before : List Access) (m : Marks) (w : ℕ) → AreMarked before m → w < 8
+    → get_or m.places w 0 ≤ length before
+place_room before m w marked lt =
+    omega (arith, marked.places w lt, count_by-le-length (λ (y : Access). y.worker == w) before)
 
 -- ---- what is wrong with one
 
-pub no_worker : (workers count : ℕ) (before : List Access) (x : Access) → workers ≤ x.worker → is_new_access workers count before x ≡ false
+pub no_worker : (workers count : ℕ) (before : List Access) (x : Access) → workers ≤ x.worker
+    → is_new_access workers count before x ≡ false
 no_worker workers count before x le = and_left (ltb x.worker workers) _ (le-ltb x.worker workers le)
 
-pub no_index : (workers count : ℕ) (before : List Access) (x : Access) → count ≤ x.index → is_new_access workers count before x ≡ false
-no_index workers count before x le = and_right (ltb x.worker workers) _ (and_left (ltb x.index count) _ (le-ltb x.index count le))
+pub no_index : (workers count : ℕ) (before : List Access) (x : Access) → count ≤ x.index
+    → is_new_access workers count before x ≡ false
+no_index workers count before x le =
+    and_right (ltb x.worker workers) _ (and_left (ltb x.index count) _ (le-ltb x.index count le))
 
-pub old_index : (workers count : ℕ) (before : List Access) (x : Access) → list_any (λ y. y.index == x.index) before ≡ true → is_new_access workers count before x ≡ false
+pub old_index : (workers count : ℕ) (before : List Access) (x : Access) → list_any (λ y. y.index == x.index) before
+    ≡ true → is_new_access workers count before x ≡ false
 old_index workers count before x old =
-    and_right (ltb x.worker workers) _ (and_right (ltb x.index count) _ (not_from_true (list_any (λ y. y.index == x.index) before) old))
+    and_right (ltb x.worker workers) _
+    (and_right (ltb x.index count) _ (not_from_true (list_any (λ y. y.index == x.index) before) old))
 
-pub new_index : (workers count : ℕ) (before : List Access) (x : Access) → x.worker < workers → x.index < count → list_any (λ y. y.index == x.index) before ≡ false → is_new_access workers count before x ≡ true
+pub new_index : (workers count : ℕ) (before : List Access) (x : Access) → x.worker < workers → x.index < count
+    → list_any (λ y. y.index == x.index) before ≡ false → is_new_access workers count before x ≡ true
 new_index workers count before x worker index new =
     and_from (ltb x.worker workers) _ (lt-ltb x.worker workers worker)
-    (and_from (ltb x.index count) _ (lt-ltb x.index count index) (not_from_false (list_any (λ y. y.index == x.index) before) new))
+    (and_from (ltb x.index count) _ (lt-ltb x.index count index)
+    (not_from_false (list_any (λ y. y.index == x.index) before) new))
 
-pub judged_access : (workers count : ℕ) (before : List Access) (x : Access) (m : Marks) → is_new_access workers count before x ≡ false → IsJudged workers count before x (Some code.Access) m
+pub judged_access : (workers count : ℕ) (before : List Access) (x : Access) (m : Marks)
+    → is_new_access workers count before x ≡ false → IsJudged workers count before x (Some code.Access) m
 judged_access workers count before x m wrong = record { answer = rw wrong refl; marked = tt }
 
-pub judged_place : (workers count : ℕ) (before : List Access) (x : Access) (m : Marks) → is_new_access workers count before x ≡ true → is_right_place before x ≡ false → IsJudged workers count before x (Some code.WorkerOrder) m
+pub judged_place : (workers count : ℕ) (before : List Access) (x : Access) (m : Marks)
+    → is_new_access workers count before x ≡ true → is_right_place before x ≡ false
+    → IsJudged workers count before x (Some code.WorkerOrder) m
 judged_place workers count before x m right wrong = record { answer = rw (right, wrong) refl; marked = tt }
 
-pub judged_right : (workers count : ℕ) (before : List Access) (x : Access) (m : Marks) → is_new_access workers count before x ≡ true → is_right_place before x ≡ true → AreMarked (before ++ x ∷ []) m
+pub judged_right : (workers count : ℕ) (before : List Access) (x : Access) (m : Marks)
+    → is_new_access workers count before x ≡ true → is_right_place before x ≡ true → AreMarked (before ++ x ∷ []) m
     → IsJudged workers count before x None m
 judged_right workers count before x m right place marked = record { answer = rw (right, place) refl; marked = marked }
 
 -- the answers, where the worker and the index stand in variables
-module _ (workers count : ℕ) (before : List Access) (x : Access) (m : Marks) (worker index : ℕ) (worker_is : worker ≡ x.worker) (index_is : index ≡ x.index) (marked : AreMarked before m) where
+module _ (workers count : ℕ) (before : List Access) (x : Access) (m : Marks) (worker index : ℕ)
+    (worker_is : worker ≡ x.worker) (index_is : index ≡ x.index) (marked : AreMarked before m) where
   pub refused_worker : workers ≤ worker → IsJudged workers count before x (Some code.Access) m
   refused_worker le = judged_access workers count before x m (no_worker workers count before x (omega arith))
 
@@ -165,26 +206,52 @@ module _ (workers count : ℕ) (before : List Access) (x : Access) (m : Marks) (
       let small : x.index < 256 = omega arith in
       sym (marked.seen x.index small) ∙ ap (λ (j : ℕ). get_or m.seen j false) (sym index_is) ∙ e
 
-  pub refused_again : index < 256 → get_or m.seen index false ≡ true → IsJudged workers count before x (Some code.Access) m
+  pub refused_again : index < 256 → get_or m.seen index false ≡ true
+      → IsJudged workers count before x (Some code.Access) m
   refused_again lt old = judged_access workers count before x m (old_index workers count before x (seen_is true lt old))
 
-  is_new : worker < workers → index < count → count ≤ 256 → get_or m.seen index false ≡ false → is_new_access workers count before x ≡ true
-  is_new few below small new = new_index workers count before x (omega arith) (omega arith) (seen_is false (omega arith) new)
+  is_new : worker < workers → index < count → count ≤ 256 → get_or m.seen index false ≡ false
+      → is_new_access workers count before x ≡ true
+  is_new few below small new = new_index workers count before x (omega arith) (omega arith)
+      (seen_is false (omega arith) new)
 
   places_are : workers ≤ 8 → worker < workers → get_or m.places worker 0 ≡ count_by (λ y. y.worker == x.worker) before
-  places_are eight few = let lt : x.worker < 8 = omega arith in ap (λ (w : ℕ). get_or m.places w 0) worker_is ∙ marked.places x.worker lt
+  places_are eight few = let lt : x.worker < 8 = omega arith in ap (λ (w : ℕ). get_or m.places w 0) worker_is
+      ∙ marked.places x.worker lt
 
-  pub refused_place : workers ≤ 8 → count ≤ 256 → worker < workers → index < count → get_or m.seen index false ≡ false → x.place ≢ get_or m.places worker 0 → IsJudged workers count before x (Some code.WorkerOrder) m
+  pub refused_place : workers ≤ 8 → count ≤ 256 → worker < workers → index < count → get_or m.seen index false ≡ false
+      → x.place ≢ get_or m.places worker 0 → IsJudged workers count before x (Some code.WorkerOrder) m
   refused_place eight small few below new other =
-      judged_place workers count before x m (is_new few below small new) (ne_eqb x.place _ (λ e. other (e ∙ sym (places_are eight few))))
+      judged_place workers count before x m (is_new few below small new)
+      (ne_eqb x.place _ (λ e. other (e ∙ sym (places_are eight few))))
 
-  pub taken_right : (n : ℕ) → n ≡ length before → workers ≤ 8 → count ≤ 256 → worker < workers → index < count → get_or m.seen index false ≡ false → x.place ≡ get_or m.places worker 0
-      → IsJudged workers count before x None (record { seen = set m.seen index true; numbers = set m.numbers index n; places = set m.places worker (get_or m.places worker 0 + 1) })
+  pub taken_right : (n : ℕ) → n ≡ length before → workers ≤ 8 → count ≤ 256 → worker < workers → index < count
+      → get_or m.seen index false ≡ false → x.place ≡ get_or m.places worker 0
+      → IsJudged workers count before x None
+      (record {
+        seen = set m.seen index true;
+        numbers = set m.numbers index n;
+        places = set m.places worker
+            (get_or m.places worker 0 + 1);
+      })
   taken_right n number eight small few below new same =
       let one = marked_one before m x n marked number (omega arith) (omega arith) (seen_is false (omega arith) new) in
-      judged_right workers count before x _ (is_new few below small new) (eq-eqb x.place _ (same ∙ places_are eight few))
-      (subst (λ (i : ℕ). AreMarked (before ++ x ∷ []) (record { seen = set m.seen i true; numbers = set m.numbers i n; places = set m.places worker (get_or m.places worker 0 + 1) })) (sym index_is)
-      (subst (λ (w : ℕ). AreMarked (before ++ x ∷ []) (record { seen = set m.seen x.index true; numbers = set m.numbers x.index n; places = set m.places w (get_or m.places w 0 + 1) })) (sym worker_is) one))
+      judged_right workers count before x _ (is_new few below small new)
+      (eq-eqb x.place _ (same ∙ places_are eight few))
+      (subst (λ (i : ℕ). AreMarked (before ++ x ∷ [])
+      (record {
+        seen = set m.seen i true;
+        numbers = set m.numbers i n;
+        places = set m.places worker
+            (get_or m.places worker 0 + 1);
+      })) (sym index_is)
+      (subst (λ (w : ℕ). AreMarked (before ++ x ∷ [])
+      (record {
+        seen = set m.seen x.index true;
+        numbers = set m.numbers x.index n;
+        places = set m.places w
+            (get_or m.places w 0 + 1);
+      })) (sym worker_is) one))
 
 -- ---- record by record
 
@@ -193,30 +260,38 @@ pub record Marking (workers count : ℕ) (xs : List (ℕ × Access)) (i : ℕ) (
   pub marked : AreMarked (accesses_of (take i xs)) m
   pub rest : wrong_accesses workers count [] xs ≡ wrong_accesses workers count (accesses_of (take i xs)) (drop i xs)
 
-pub marking_start : (workers count : ℕ) (xs : List (ℕ × Access)) (m : Marks) → AreMarked [] m → Marking workers count xs 0 m
+pub marking_start : (workers count : ℕ) (xs : List (ℕ × Access)) (m : Marks) → AreMarked [] m
+    → Marking workers count xs 0 m
 marking_start workers count xs m marked = record { marked = marked; rest = refl }
 
-front_more : (xs : List (ℕ × Access)) (i : ℕ) (x : ℕ × Access) → slice_get xs i ≡ Some x → accesses_of (take (i + 1) xs) ≡ accesses_of (take i xs) ++ x.1 ∷ []
+front_more : (xs : List (ℕ × Access)) (i : ℕ) (x : ℕ × Access) → slice_get xs i ≡ Some x → accesses_of (take (i + 1) xs)
+    ≡ accesses_of (take i xs) ++ x.1 ∷ []
 front_more xs i x e = ap accesses_of (take_one_more xs i x e) ∙ accesses_of-append (take i xs) (x ∷ [])
 
-pub marking_more : (workers count : ℕ) (xs : List (ℕ × Access)) (i : ℕ) (m after : Marks) (x : ℕ × Access) → Marking workers count xs i m → slice_get xs i ≡ Some x
+pub marking_more : (workers count : ℕ) (xs : List (ℕ × Access)) (i : ℕ) (m after : Marks) (x : ℕ × Access)
+    → Marking workers count xs i m → slice_get xs i ≡ Some x
     → IsJudged workers count (accesses_of (take i xs)) x.1 None after → Marking workers count xs (i + 1) after
 marking_more workers count xs i m after x marking at judged = record {
   marked = subst (λ (b : List Access). AreMarked b after) (sym (front_more xs i x at)) judged.marked;
   rest = marking.rest ∙ ap (wrong_accesses workers count (accesses_of (take i xs))) (drop_here xs i x at)
-      ∙ ap (λ (o : Option Code). found_or x.0 o (wrong_accesses workers count (accesses_of (take i xs) ++ x.1 ∷ []) (drop (i + 1) xs))) (sym judged.answer)
+      ∙ ap (λ (o : Option Code). found_or x.0 o
+      (wrong_accesses workers count (accesses_of (take i xs) ++ x.1 ∷ []) (drop (i + 1) xs))) (sym judged.answer)
       ∙ ap (λ (b : List Access). wrong_accesses workers count b (drop (i + 1) xs)) (sym (front_more xs i x at));
 }
 
-pub marking_wrong : (workers count : ℕ) (xs : List (ℕ × Access)) (i : ℕ) (m after : Marks) (x : ℕ × Access) (c : Code) → Marking workers count xs i m → slice_get xs i ≡ Some x
-    → IsJudged workers count (accesses_of (take i xs)) x.1 (Some c) after → AreJudged workers count xs (Some (record { code = c; offset = x.0 })) after
+pub marking_wrong : (workers count : ℕ) (xs : List (ℕ × Access)) (i : ℕ) (m after : Marks) (x : ℕ × Access) (c : Code)
+    → Marking workers count xs i m → slice_get xs i ≡ Some x
+    → IsJudged workers count (accesses_of (take i xs)) x.1 (Some c) after
+    → AreJudged workers count xs (Some (record { code = c; offset = x.0 })) after
 marking_wrong workers count xs i m after x c marking at judged = record {
   answer = sym (marking.rest ∙ ap (wrong_accesses workers count (accesses_of (take i xs))) (drop_here xs i x at)
-      ∙ ap (λ (o : Option Code). found_or x.0 o (wrong_accesses workers count (accesses_of (take i xs) ++ x.1 ∷ []) (drop (i + 1) xs))) (sym judged.answer));
+      ∙ ap (λ (o : Option Code). found_or x.0 o
+      (wrong_accesses workers count (accesses_of (take i xs) ++ x.1 ∷ []) (drop (i + 1) xs))) (sym judged.answer));
   marked = tt;
 }
 
-pub marking_end : (workers count : ℕ) (xs : List (ℕ × Access)) (i : ℕ) (m : Marks) → Marking workers count xs i m → length xs ≤ i → AreJudged workers count xs None m
+pub marking_end : (workers count : ℕ) (xs : List (ℕ × Access)) (i : ℕ) (m : Marks) → Marking workers count xs i m
+    → length xs ≤ i → AreJudged workers count xs None m
 marking_end workers count xs i m marking le = record {
   answer = sym (marking.rest ∙ ap (wrong_accesses workers count (accesses_of (take i xs))) (drop_all i xs le));
   marked = subst (λ (ys : List (ℕ × Access)). AreMarked (accesses_of ys) m) (take_all i xs le) marking.marked;

@@ -1,5 +1,6 @@
 -- Public: other crates cite these lemmas. Customers and batches, one after another: the first that is there again.
-use Rattle.std.proofs.Common.{◌≡◌, ℕ, zero, suc, ◌+◌, ◌-◌, ◌<◌, ◌≤◌, true, List, [], ◌∷◌, ◌++◌, map, length, take, drop, slice_get, Contains, Some, None, refl, sym, ap, subst, ◌∙◌, inl, inr, add-one, arith}
+use Rattle.std.proofs.Common.{◌≡◌, ℕ, zero, suc, ◌+◌, ◌-◌, ◌<◌, ◌≤◌, true, List, [], ◌∷◌, ◌++◌, map, length, take, drop}
+use Rattle.std.proofs.Common.{slice_get, Contains, Some, None, refl, sym, ap, subst, ◌∙◌, inl, inr, add-one, arith}
 use Rattle.std.specs.List.{flat_map}
 use Rattle.std.proofs.lemmas.Bool.{and_parts, cases_lt}
 use Rattle.std.proofs.lemmas.List.{append-nil, map-append, take_all, length-map, length-take-le}
@@ -15,15 +16,18 @@ use Rattle.eve_views.specs.declared.fault.Code.TheVariants as code
 use Rattle.eve_views.specs.declared.fault.Fault.{Fault}
 use Rattle.eve_views.specs.Code.{number_of}
 use Rattle.eve_views.specs.Form.{IsUpTo, SomePlace, IsLeast}
-use Rattle.eve_history.specs.Told.{names_of}
-use Rattle.eve_history.specs.Faults.{name_at, RequestId, request_ids_at, IsNamedAgain, IsAskedAgain, StandsInOrders, IsOrderFault}
+use Rattle.eve_history.specs.SectionHistory.{names_of}
+use Rattle.eve_history.specs.Faults.{name_at, RequestId, request_ids_at, IsNamedAgain, IsAskedAgain, StandsInOrders}
+use Rattle.eve_history.specs.Faults.{IsOrderFault}
 use Rattle.eve_history.specs.Notes.{IsRepeated, AreNoted, HasDistinctNames, HasDistinctRequests}
 use Rattle.eve_grammar.proofs.Grouping.{all_at}
-use Rattle.eve_history.proofs.Places.{no_place, place_push, cut_at, Rising, located_rising, first_place, from_low, located_within, weaker_place}
+use Rattle.eve_history.proofs.Places.{no_place, place_push, cut_at, Rising, located_rising, first_place, from_low}
+use Rattle.eve_history.proofs.Places.{located_within, weaker_place}
 
 -- ---- lists
 
-pub take_one_more : {A : Type 0} (xs : List A) (i : ℕ) (x : A) → slice_get xs i ≡ Some x → take (i + 1) xs ≡ take i xs ++ x ∷ []
+pub take_one_more : {A : Type 0} (xs : List A) (i : ℕ) (x : A) → slice_get xs i ≡ Some x → take (i + 1) xs
+    ≡ take i xs ++ x ∷ []
 take_one_more {A = A} xs i x e = ap (λ (n : ℕ). take n xs) (add-one i) ∙ by xs i e
   where
     same : (y : A) → Some y ≡ Some x → y ≡ x
@@ -34,7 +38,8 @@ take_one_more {A = A} xs i x e = ap (λ (n : ℕ). take n xs) (add-one i) ∙ by
     by (y ∷ xs) zero e = ap (λ (z : A). z ∷ []) (same y e)
     by (y ∷ xs) (suc i) e = ap (λ (zs : List A). y ∷ zs) (by xs i e)
 
-pub of_located : {A : Type 0} (text : A → List ℕ) (at : ℕ) (xs : List A) (i : ℕ) (x : ℕ × A) → slice_get (located text at xs) i ≡ Some x → slice_get xs i ≡ Some x.1
+pub of_located : {A : Type 0} (text : A → List ℕ) (at : ℕ) (xs : List A) (i : ℕ) (x : ℕ × A)
+    → slice_get (located text at xs) i ≡ Some x → slice_get xs i ≡ Some x.1
 of_located text at [] i x e = absurd (cc)
 of_located {A = A} text at (y ∷ xs) zero x e = ap Some (same (at, y) x e)
   where
@@ -63,10 +68,12 @@ pub record Naming (t : Trace) (i : ℕ) (names : NameList) : Type 0 where
   pub limit : names.limit ≡ length t.customers
   pub apart : ¬ SomePlace (take i (customers_at t)) IsNamedAgain
 
-pub naming_start : (t : Trace) (names : NameList) → names.items ≡ [] → names.limit ≡ length t.customers → Naming t 0 names
+pub naming_start : (t : Trace) (names : NameList) → names.items ≡ [] → names.limit ≡ length t.customers
+    → Naming t 0 names
 naming_start t names none limit = record { items = none; limit = limit; apart = no_place IsNamedAgain }
 
-pub naming_more : (t : Trace) (i : ℕ) (names after : NameList) (c : ℕ × Customer) → Naming t i names → slice_get (customers_at t) i ≡ Some c → ¬ Contains names.items (name_at c)
+pub naming_more : (t : Trace) (i : ℕ) (names after : NameList) (c : ℕ × Customer) → Naming t i names
+    → slice_get (customers_at t) i ≡ Some c → ¬ Contains names.items (name_at c)
     → after ≡ record names { items = names.items ++ name_at c ∷ [] } → Naming t (i + 1) after
 naming_more t i names after c naming at new added =
     let more = take_one_more (customers_at t) i c at in
@@ -74,25 +81,31 @@ naming_more t i names after c naming at new added =
       items = ap (λ (n : NameList). n.items) added ∙ ap (λ (ns : List (List ℕ)). ns ++ name_at c ∷ []) naming.items
           ∙ sym (map-append name_at (take i (customers_at t)) (c ∷ [])) ∙ ap (map name_at) (sym more);
       limit = ap (λ (n : NameList). n.limit) added ∙ naming.limit;
-      apart = λ again. elim (place_push IsNamedAgain (take i (customers_at t)) c (subst (λ xs. SomePlace xs IsNamedAgain) more again)) [
-        | inl front ↦ naming.apart front
-        | inr here ↦ new (subst (λ (ns : List (List ℕ)). Contains ns (name_at c)) (sym naming.items) here)
-      ];
+      apart = λ again. elim (place_push IsNamedAgain (take i (customers_at t)) c
+          (subst (λ xs. SomePlace xs IsNamedAgain) more again)) [
+            | inl front ↦ naming.apart front
+            | inr here ↦ new (subst (λ (ns : List (List ℕ)). Contains ns (name_at c)) (sym naming.items) here)
+          ];
     }
 
 customer_count : (t : Trace) → length (customers_at t) ≡ length t.customers
 unfolding customers_at
 customer_count t = length-located customer_text 32 t.customers
 
-pub naming_room : (t : Trace) (i : ℕ) (names : NameList) → Naming t i names → i < length t.customers → length names.items < names.limit
+pub naming_room : (t : Trace) (i : ℕ) (names : NameList) → Naming t i names → i < length t.customers
+    → length names.items < names.limit
 naming_room t i names naming lt =
     let few : i ≤ length (customers_at t) = omega (arith, customer_count t) in
-    let count : length names.items ≡ i = ap length naming.items ∙ length-map (take i (customers_at t)) name_at ∙ length-take-le i (customers_at t) few in
+    let count : length names.items ≡ i = ap length naming.items ∙ length-map (take i (customers_at t)) name_at
+    ∙ length-take-le i (customers_at t) few in
     omega (arith, naming.limit)
 
-pub is_named : (t : Trace) (i : ℕ) (c : ℕ × Customer) → HasLimits t → slice_get (customers_at t) i ≡ Some c → is_name (name_at c) ≡ true
+pub is_named : (t : Trace) (i : ℕ) (c : ℕ × Customer) → HasLimits t → slice_get (customers_at t) i ≡ Some c
+    → is_name (name_at c) ≡ true
 unfolding customers_at
-is_named t i c limits at = (and_parts (is_name c.1.name) _ (all_at is_customer t.customers i c.1 limits.customers (of_located customer_text 32 t.customers i c at))).0
+is_named t i c limits at =
+    (and_parts (is_name c.1.name) _
+    (all_at is_customer t.customers i c.1 limits.customers (of_located customer_text 32 t.customers i c at))).0
 
 names_are : (t : Trace) → map name_at (customers_at t) ≡ names_of t
 unfolding customers_at
@@ -105,12 +118,15 @@ names_are t = by 32 t.customers
 all_customers : (t : Trace) (i : ℕ) → length t.customers ≤ i → take i (customers_at t) ≡ customers_at t
 all_customers t i le = take_all i (customers_at t) (omega (arith, customer_count t))
 
-pub naming_end : (t : Trace) (i : ℕ) (names : NameList) → Naming t i names → length t.customers ≤ i → names.items ≡ names_of t
+pub naming_end : (t : Trace) (i : ℕ) (names : NameList) → Naming t i names → length t.customers ≤ i → names.items
+    ≡ names_of t
 naming_end t i names naming le = naming.items ∙ ap (map name_at) (all_customers t i le) ∙ names_are t
 
-pub naming_apart : (t : Trace) (i : ℕ) (names : NameList) → Naming t i names → length t.customers ≤ i → HasDistinctNames t
+pub naming_apart : (t : Trace) (i : ℕ) (names : NameList) → Naming t i names → length t.customers ≤ i
+    → HasDistinctNames t
 naming_apart t i names naming le = λ at again.
-    naming.apart (subst (λ xs. SomePlace xs IsNamedAgain) (sym (all_customers t i le)) (weaker_place _ IsNamedAgain (customers_at t) (λ b c h. h.1) again))
+    naming.apart (subst (λ xs. SomePlace xs IsNamedAgain) (sym (all_customers t i le))
+    (weaker_place _ IsNamedAgain (customers_at t) (λ b c h. h.1) again))
 
 customers_rise : (t : Trace) → Rising 32 (customers_at t)
 unfolding customers_at
@@ -127,7 +143,8 @@ customers_within t at again = located_within IsNamedAgain customer_text 32 at t.
 abbrev pub fault : Code → ℕ → Fault
 fault c at = record { code = c; offset = at; replica = None }
 
-pub named_again : (t : Trace) (i : ℕ) (names : NameList) (c : ℕ × Customer) → Naming t i names → slice_get (customers_at t) i ≡ Some c → Contains names.items (name_at c)
+pub named_again : (t : Trace) (i : ℕ) (names : NameList) (c : ℕ × Customer) → Naming t i names
+    → slice_get (customers_at t) i ≡ Some c → Contains names.items (name_at c)
     → IsLeast (IsOrderFault t) (fault code.SameName c.0)
 named_again t i names c naming at again = record {
   is = record { stands = here; outside = refl };
@@ -146,13 +163,16 @@ named_again t i names c naming at again = record {
     by : (d : Code) (g : Fault) → g.code ≡ d → StandsInOrders d t g.offset → IsUpTo (fault code.SameName c.0) g
     by code.SameName g e stands =
         up_to (fault code.SameName c.0) g
-        (first_place IsNamedAgain 32 g.offset (take i (customers_at t)) c (drop (suc i) (customers_at t)) (subst (Rising 32) (cut_at (customers_at t) i c at) (customers_rise t)) naming.apart
-        (subst (λ xs. SomePlace xs (λ b y. (y.0 ≡ g.offset) × IsNamedAgain b y)) (cut_at (customers_at t) i c at) stands))
+        (first_place IsNamedAgain 32 g.offset (take i (customers_at t)) c (drop (suc i) (customers_at t))
+        (subst (Rising 32) (cut_at (customers_at t) i c at) (customers_rise t)) naming.apart
+        (subst (λ xs. SomePlace xs (λ b y. (y.0 ≡ g.offset) × IsNamedAgain b y)) (cut_at (customers_at t) i c at)
+        stands))
         (let number : number_of g.code ≡ 10 = ap number_of e in omega arith)
     by code.SameRequest g e stands =
         let from = from_low IsAskedAgain (batches_start t) g.offset (batches_at t) (batches_rise t) stands in
         let to = customers_within t c.0 here in
-        up_to (fault code.SameName c.0) g (omega arith) (let number : number_of g.code ≡ 11 = ap number_of e in omega arith)
+        up_to (fault code.SameName c.0) g (omega arith)
+        (let number : number_of g.code ≡ 11 = ap number_of e in omega arith)
     by d g e stands = absurd stands
 
 -- ---- requests
@@ -165,34 +185,43 @@ pub record Asking (t : Trace) (i : ℕ) (noted : List RequestId) : Type 0 where
 pub asking_start : (t : Trace) → Asking t 0 []
 asking_start t = record { items = refl; apart = no_place IsAskedAgain }
 
-pub asking_more : (t : Trace) (i : ℕ) (noted after : List RequestId) (b : ℕ × (ℕ × Batch)) → Asking t i noted → slice_get (batches_at t) i ≡ Some b → AreNoted noted (request_ids_at b) after
+pub asking_more : (t : Trace) (i : ℕ) (noted after : List RequestId) (b : ℕ × (ℕ × Batch)) → Asking t i noted
+    → slice_get (batches_at t) i ≡ Some b → AreNoted noted (request_ids_at b) after
     → Asking t (i + 1) after
 asking_more t i noted after b asking at more =
     let one = take_one_more (batches_at t) i b at in
     record {
       items = more.noted ∙ ap (λ (ts : List RequestId). ts ++ request_ids_at b) asking.items
-          ∙ ap (λ (ts : List RequestId). flat_map request_ids_at (take i (batches_at t)) ++ ts) (sym (append-nil (request_ids_at b)))
-          ∙ sym (flat_map-append request_ids_at (take i (batches_at t)) (b ∷ [])) ∙ ap (flat_map request_ids_at) (sym one);
-      apart = λ again. elim (place_push IsAskedAgain (take i (batches_at t)) b (subst (λ xs. SomePlace xs IsAskedAgain) one again)) [
-        | inl front ↦ asking.apart front
-        | inr here ↦ more.new (subst (λ (ts : List RequestId). IsRepeated ts (request_ids_at b)) (sym asking.items) here)
-      ];
+          ∙ ap (λ (ts : List RequestId). flat_map request_ids_at (take i (batches_at t)) ++ ts)
+          (sym (append-nil (request_ids_at b)))
+          ∙ sym (flat_map-append request_ids_at (take i (batches_at t)) (b ∷ []))
+          ∙ ap (flat_map request_ids_at) (sym one);
+      apart = λ again. elim (place_push IsAskedAgain (take i (batches_at t)) b
+          (subst (λ xs. SomePlace xs IsAskedAgain) one again)) [
+            | inl front ↦ asking.apart front
+            | inr here ↦ more.new (subst (λ (ts : List RequestId). IsRepeated ts (request_ids_at b))
+                (sym asking.items) here)
+          ];
     }
 
 -- a batch, by its number from 1
-pub batch_there : (t : List (ℕ × (ℕ × Batch))) (i : ℕ) (b : ℕ × (ℕ × Batch)) → slice_get t (i + 1 - 1) ≡ Some b → slice_get t i ≡ Some b
+pub batch_there : (t : List (ℕ × (ℕ × Batch))) (i : ℕ) (b : ℕ × (ℕ × Batch)) → slice_get t (i + 1 - 1) ≡ Some b
+    → slice_get t i ≡ Some b
 batch_there t i b e = let same : i + 1 - 1 ≡ i = omega arith in subst (λ (k : ℕ). slice_get t k ≡ Some b) same e
 
 batch_count : (t : Trace) → length (batches_at t) ≡ length t.batches
 unfolding batches_at
 batch_count t = length-located batch_text (batches_start t) (batches_of t) ∙ length-enumerate_from 1 t.batches
 
-pub asking_apart : (t : Trace) (i : ℕ) (noted : List RequestId) → Asking t i noted → length t.batches ≤ i → HasDistinctRequests t
+pub asking_apart : (t : Trace) (i : ℕ) (noted : List RequestId) → Asking t i noted → length t.batches ≤ i
+    → HasDistinctRequests t
 asking_apart t i noted asking le = λ at again.
     let all : take i (batches_at t) ≡ batches_at t = take_all i (batches_at t) (omega (arith, batch_count t)) in
-    asking.apart (subst (λ xs. SomePlace xs IsAskedAgain) (sym all) (weaker_place _ IsAskedAgain (batches_at t) (λ b c h. h.1) again))
+    asking.apart (subst (λ xs. SomePlace xs IsAskedAgain) (sym all)
+    (weaker_place _ IsAskedAgain (batches_at t) (λ b c h. h.1) again))
 
-pub asked_again : (t : Trace) (i : ℕ) (noted : List RequestId) (b : ℕ × (ℕ × Batch)) → HasDistinctNames t → Asking t i noted → slice_get (batches_at t) i ≡ Some b → IsRepeated noted (request_ids_at b)
+pub asked_again : (t : Trace) (i : ℕ) (noted : List RequestId) (b : ℕ × (ℕ × Batch)) → HasDistinctNames t
+    → Asking t i noted → slice_get (batches_at t) i ≡ Some b → IsRepeated noted (request_ids_at b)
     → IsLeast (IsOrderFault t) (fault code.SameRequest b.0)
 asked_again t i noted b distinct asking at again = record {
   is = record {
@@ -211,7 +240,8 @@ asked_again t i noted b distinct asking at again = record {
     by : (d : Code) (g : Fault) → g.code ≡ d → StandsInOrders d t g.offset → IsUpTo (fault code.SameRequest b.0) g
     by code.SameRequest g e stands =
         up_to (fault code.SameRequest b.0) g
-        (first_place IsAskedAgain (batches_start t) g.offset (take i (batches_at t)) b (drop (suc i) (batches_at t)) (subst (Rising (batches_start t)) (cut_at (batches_at t) i b at) (batches_rise t)) asking.apart
+        (first_place IsAskedAgain (batches_start t) g.offset (take i (batches_at t)) b (drop (suc i) (batches_at t))
+        (subst (Rising (batches_start t)) (cut_at (batches_at t) i b at) (batches_rise t)) asking.apart
         (subst (λ xs. SomePlace xs (λ b y. (y.0 ≡ g.offset) × IsAskedAgain b y)) (cut_at (batches_at t) i b at) stands))
         (let number : number_of g.code ≡ 11 = ap number_of e in omega arith)
     by code.SameName g e stands = absurd (distinct g.offset stands)

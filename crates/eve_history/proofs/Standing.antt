@@ -1,13 +1,17 @@
 -- Where the frames of a section stand in a trace's bytes.
-use Rattle.std.proofs.Common.{◌≡◌, ℕ, zero, suc, ◌+◌, ◌^◌, ◌<◌, ◌≤◌, ◌==◌, Bool, true, false, ◌||◌, cond, List, [], ◌∷◌, ◌++◌, map, length, take, drop, slice_get, Some, refl, sym, ap, subst, ◌∙◌, append_assoc, IsTrue, inl, inr, arith}
+use Rattle.std.proofs.Common.{◌≡◌, ℕ, zero, suc, ◌+◌, ◌^◌, ◌<◌, ◌≤◌, ◌==◌, Bool, true, false, ◌||◌, cond, List, [], ◌∷◌}
+use Rattle.std.proofs.Common.{◌++◌, map, length, take, drop, slice_get, Some, refl, sym, ap, subst, ◌∙◌, append_assoc}
+use Rattle.std.proofs.Common.{IsTrue, inl, inr, arith}
 use Rattle.std.specs.List.{AllByRecursion, flat_map, list_all, list_any}
 use Rattle.std.proofs.lemmas.Bool.{and_parts, cases_lt, false≢true}
 use Rattle.std.proofs.lemmas.List.{append-nil, length-append, take_at, drop_at}
 use Rattle.std.proofs.lemmas.List.Concat.{flat_map-append}
 use Rattle.byteorder.specs.Endian.{big_bytes, big_number}
 use Rattle.eve_grammar.specs.Trace.{Access, Attempt, Rollback, Step, Attempts, RollsBack, Trace, head_of}
-use Rattle.eve_grammar.specs.Frames.{Frame, OfReplica, OfAttempt, OfAccess, OfRollback, step_frames, frames_of, without_accesses}
-use Rattle.eve_grammar.specs.Spelling.{body_text, frame_text, frames_text, head_text, length_of, spelling, located, step_text, section_start, steps_of, steps_at, accesses_at}
+use Rattle.eve_grammar.specs.Frames.{Frame, OfReplica, OfAttempt, OfAccess, OfRollback, step_frames, frames_of}
+use Rattle.eve_grammar.specs.Frames.{without_accesses}
+use Rattle.eve_grammar.specs.Spelling.{body_text, frame_text, frames_text, head_text, length_of, spelling, located}
+use Rattle.eve_grammar.specs.Spelling.{step_text, section_start, steps_of, steps_at, accesses_at}
 use Rattle.eve_grammar.specs.Limits.{is_step, is_attempt, is_access, row_count, Spells}
 use Rattle.eve_grammar.proofs.HeaderParts.{length-head_text}
 use Rattle.eve_views.specs.Fronts.{before_section}
@@ -16,10 +20,11 @@ use Rattle.eve_views.proofs.FrameLaws.{length-frame_text}
 use Rattle.eve_views.proofs.CutLaws.{section_cut}
 use Rattle.eve_views.proofs.Locating.{section_begins}
 use Rattle.eve_grammar.proofs.FrameLaws.{small_head}
-use Rattle.eve_frames.specs.Views.{most_rows, is_attempt_frame, attempt_in, is_access_frame, access_in, is_rollback_frame, rollback_in}
+use Rattle.eve_frames.specs.Views.{most_rows, is_attempt_frame, attempt_in, is_access_frame, access_in}
+use Rattle.eve_frames.specs.Views.{is_rollback_frame, rollback_in}
 use Rattle.eve_frames.proofs.Rereading.{attempt_again, access_again, rollback_again}
 use Rattle.eve_history.specs.Standing.{frame_in, IsFramed, IsAttemptAt, IsAccessAt, IsRollbackAt}
-use Rattle.eve_history.specs.Told.{access_with}
+use Rattle.eve_history.specs.SectionHistory.{access_with}
 use Rattle.eve_history.specs.Faults.{accesses_of}
 use Rattle.eve_history.specs.Coming.{Kept, HasCome, ComesNext, seen}
 use Rattle.eve_history.proofs.FrameTexts.{mapped, nested, no_steps}
@@ -34,29 +39,40 @@ pub record StandsIn (bytes : List ℕ) (at : ℕ) (text : List ℕ) : Type 0 whe
   pub offset : length front ≡ at
 
 -- a text that stands in a part stands in the whole
-pub stands_inside : {bytes text inner : List ℕ} {at o : ℕ} → StandsIn bytes at text → StandsIn text o inner → StandsIn bytes (at + o) inner
+pub stands_inside : {bytes text inner : List ℕ} {at o : ℕ} → StandsIn bytes at text → StandsIn text o inner
+    → StandsIn bytes (at + o) inner
 stands_inside {bytes = bytes} {text = text} {inner = inner} {at = at} {o = o} outer own = record {
   front = outer.front ++ own.front;
   behind = own.behind ++ outer.behind;
   is = outer.is
       ∙ ap (λ (b : List ℕ). outer.front ++ (b ++ outer.behind)) own.is
-      ∙ ap (λ (b : List ℕ). outer.front ++ b) (append_assoc own.front (inner ++ own.behind) outer.behind ∙ ap (λ (b : List ℕ). own.front ++ b) (append_assoc inner own.behind outer.behind))
+      ∙ ap (λ (b : List ℕ). outer.front ++ b) (append_assoc own.front (inner ++ own.behind) outer.behind
+      ∙ ap (λ (b : List ℕ). own.front ++ b) (append_assoc inner own.behind outer.behind))
       ∙ sym (append_assoc outer.front own.front (inner ++ (own.behind ++ outer.behind)));
   offset = (let a = outer.offset in let b = own.offset in omega (arith, length-append outer.front own.front));
 }
 
 -- ---- a frame that stands in bytes
 
-pub framed_there : {bytes : List ℕ} {at : ℕ} (f : Frame) → length bytes ≤ 2 ^ 30 → StandsIn bytes at (frame_text f) → (frame_in bytes at ≡ frame_text f) × IsFramed bytes at
+pub framed_there : {bytes : List ℕ} {at : ℕ} (f : Frame) → length bytes ≤ 2 ^ 30 → StandsIn bytes at (frame_text f)
+    → (frame_in bytes at ≡ frame_text f) × IsFramed bytes at
 framed_there {bytes = bytes} {at = at} f short stands =
     let n = length (body_text f) in
-    let cut : drop at bytes ≡ frame_text f ++ stands.behind = ap (drop at) stands.is ∙ drop_at stands.front (frame_text f ++ stands.behind) at stands.offset in
+    let cut : drop at bytes ≡ frame_text f ++ stands.behind = ap (drop at) stands.is
+    ∙ drop_at stands.front (frame_text f ++ stands.behind) at stands.offset in
     let long : length bytes ≡ at + (5 + n + length stands.behind) =
-    ap length stands.is ∙ length-append stands.front (frame_text f ++ stands.behind) ∙ omega (arith, stands.offset, length-append (frame_text f) stands.behind, length-frame_text f) in
+    ap length stands.is ∙ length-append stands.front (frame_text f ++ stands.behind)
+    ∙ omega (arith, stands.offset, length-append (frame_text f) stands.behind, length-frame_text f) in
     let number : big_number 4 (drop 1 (drop at bytes)) ≡ n =
-    ap (λ (b : List ℕ). big_number 4 (drop 1 b)) cut ∙ ap (big_number 4) (append_assoc (big_bytes 4 n) (body_text f) stands.behind) ∙ number_again n (body_text f ++ stands.behind) (omega (arith, long, short)) in
-    let wide : length (frame_text f) ≡ 5 + big_number 4 (drop 1 (drop at bytes)) = omega (arith, number, length-frame_text f) in
-    (ap (take (5 + big_number 4 (drop 1 (drop at bytes)))) cut ∙ take_at (frame_text f) stands.behind (5 + big_number 4 (drop 1 (drop at bytes))) wide, record { within = omega (arith, long, number); small = omega (arith, long, short) })
+    ap (λ (b : List ℕ). big_number 4 (drop 1 b)) cut
+    ∙ ap (big_number 4) (append_assoc (big_bytes 4 n) (body_text f) stands.behind)
+    ∙ number_again n (body_text f ++ stands.behind) (omega (arith, long, short)) in
+    let wide : length (frame_text f) ≡ 5 + big_number 4 (drop 1 (drop at bytes)) =
+    omega (arith, number, length-frame_text f) in (
+      ap (take (5 + big_number 4 (drop 1 (drop at bytes)))) cut
+          ∙ take_at (frame_text f) stands.behind (5 + big_number 4 (drop 1 (drop at bytes))) wide,
+      record { within = omega (arith, long, number); small = omega (arith, long, short) },
+    )
 
 -- ---- located texts
 
@@ -66,7 +82,8 @@ first_item y z ys zs e = cc
 other_items : {A : Type 0} (y z : ℕ × A) (ys zs : List (ℕ × A)) → ◌≡◌ {A = List (ℕ × A)} (y ∷ ys) (z ∷ zs) → ys ≡ zs
 other_items y z ys zs e = cc
 
-no_item : {A : Type 0} {B : Type 0} (before : List (ℕ × A)) (item : ℕ × A) (rest : List (ℕ × A)) → ◌≡◌ {A = List (ℕ × A)} [] (before ++ item ∷ rest) → B
+no_item : {A : Type 0} {B : Type 0} (before : List (ℕ × A)) (item : ℕ × A) (rest : List (ℕ × A))
+    → ◌≡◌ {A = List (ℕ × A)} [] (before ++ item ∷ rest) → B
 no_item [] item rest e = absurd (cc)
 no_item (z ∷ before) item rest e = absurd (cc)
 
@@ -76,13 +93,20 @@ pub record IsLocated {A : Type 0} (text : A → List ℕ) (at : ℕ) (xs : List 
   pub stands : StandsIn (flat_map text xs) place (text item.1)
   pub offset : item.0 ≡ at + place
 
-pub located_stands : {A : Type 0} (text : A → List ℕ) (at : ℕ) (xs : List A) (before : List (ℕ × A)) (item : ℕ × A) (rest : List (ℕ × A)) → located text at xs ≡ before ++ item ∷ rest → IsLocated text at xs item
+pub located_stands : {A : Type 0} (text : A → List ℕ) (at : ℕ) (xs : List A) (before : List (ℕ × A)) (item : ℕ × A)
+    (rest : List (ℕ × A)) → located text at xs ≡ before ++ item ∷ rest → IsLocated text at xs item
 located_stands text at [] before item rest e = no_item before item rest e
 located_stands {A = A} text at (x ∷ xs) [] item rest e =
-    subst (λ (y : ℕ × A). IsLocated text at (x ∷ xs) y) (first_item (at, x) item (located text (at + length (text x)) xs) rest e)
-    (record { place = 0; stands = record { front = []; behind = flat_map text xs; is = refl; offset = refl }; offset = omega arith })
+    subst (λ (y : ℕ × A). IsLocated text at (x ∷ xs) y)
+    (first_item (at, x) item (located text (at + length (text x)) xs) rest e)
+    (record {
+      place = 0;
+      stands = record { front = []; behind = flat_map text xs; is = refl; offset = refl };
+      offset = omega arith;
+    })
 located_stands text at (x ∷ xs) (z ∷ before) item rest e =
-    let later = located_stands text (at + length (text x)) xs before item rest (other_items (at, x) z (located text (at + length (text x)) xs) (before ++ item ∷ rest) e) in
+    let later = located_stands text (at + length (text x)) xs before item rest
+    (other_items (at, x) z (located text (at + length (text x)) xs) (before ++ item ∷ rest) e) in
     let o = later.offset in
     let p = later.stands.offset in
     record {
@@ -90,14 +114,16 @@ located_stands text at (x ∷ xs) (z ∷ before) item rest e =
       stands = record {
         front = text x ++ later.stands.front;
         behind = later.stands.behind;
-        is = ap (λ (b : List ℕ). text x ++ b) later.stands.is ∙ sym (append_assoc (text x) later.stands.front (text item.1 ++ later.stands.behind));
+        is = ap (λ (b : List ℕ). text x ++ b) later.stands.is
+            ∙ sym (append_assoc (text x) later.stands.front (text item.1 ++ later.stands.behind));
         offset = omega (arith, p, length-append (text x) later.stands.front);
       };
       offset = omega (arith, o);
     }
 
 -- where what was found at a place stands
-pub split_at : {A : Type 0} (xs : List A) (i : ℕ) (x : A) → slice_get xs i ≡ Some x → (before : List A) × (rest : List A) × (xs ≡ before ++ x ∷ rest)
+pub split_at : {A : Type 0} (xs : List A) (i : ℕ) (x : A) → slice_get xs i ≡ Some x → (before : List A)
+    × (rest : List A) × (xs ≡ before ++ x ∷ rest)
 split_at [] i x e = absurd (cc)
 split_at {A = A} (y ∷ xs) zero x e = ([], xs, ap (λ (z : A). z ∷ xs) (same y x e))
   where
@@ -107,7 +133,8 @@ split_at {A = A} (y ∷ xs) (suc i) x e = let s = split_at xs i x e in (y ∷ s.
 
 -- ---- the steps of a section
 
-section_stands : (t : Trace) (e : ℕ) → e < length t.sections → StandsIn (spelling t) (section_start t e + length (frame_text (OfReplica e))) (flat_map step_text (steps_of t e))
+section_stands : (t : Trace) (e : ℕ) → e < length t.sections
+    → StandsIn (spelling t) (section_start t e + length (frame_text (OfReplica e))) (flat_map step_text (steps_of t e))
 unfolding spelling
 section_stands t e lt =
     let cut = section_cut t e lt in
@@ -115,28 +142,45 @@ section_stands t e lt =
     let before = before_section t e in
     let part = flat_map step_frames (steps_of t e) in
     let own = frame_text (OfReplica e) in
-    let text : frames_text (frames_of t) ≡ frames_text before ++ (own ++ (flat_map step_text (steps_of t e) ++ frames_text cut.rest)) =
+    let text : frames_text (frames_of t)
+    ≡ frames_text before ++ (own ++ (flat_map step_text (steps_of t e) ++ frames_text cut.rest)) =
     ap frames_text cut.whole ∙ flat_map-append frame_text before (OfReplica e ∷ (part ++ cut.rest))
-    ∙ ap (λ (b : List ℕ). frames_text before ++ (own ++ b)) (flat_map-append frame_text part cut.rest ∙ ap (λ (b : List ℕ). b ++ frames_text cut.rest) (nested (steps_of t e))) in
+    ∙ ap (λ (b : List ℕ). frames_text before ++ (own ++ b)) (flat_map-append frame_text part cut.rest
+    ∙ ap (λ (b : List ℕ). b ++ frames_text cut.rest) (nested (steps_of t e))) in
     record {
       front = head ++ (frames_text before ++ own);
       behind = frames_text cut.rest;
-      is = ap (λ (b : List ℕ). head ++ b) (text ∙ sym (append_assoc (frames_text before) own (flat_map step_text (steps_of t e) ++ frames_text cut.rest)))
-          ∙ sym (append_assoc head (frames_text before ++ own) (flat_map step_text (steps_of t e) ++ frames_text cut.rest));
-      offset = omega (arith, length-append head (frames_text before ++ own), length-append (frames_text before) own, length-head_text (head_of t) (length_of t), section_begins t e);
+      is = ap (λ (b : List ℕ). head ++ b)
+          (text ∙ sym (append_assoc (frames_text before) own
+          (flat_map step_text (steps_of t e) ++ frames_text cut.rest)))
+          ∙ sym (append_assoc head (frames_text before ++ own)
+          (flat_map step_text (steps_of t e) ++ frames_text cut.rest));
+      offset = omega (
+        arith,
+        length-append head (frames_text before ++ own),
+        length-append (frames_text before) own,
+        length-head_text (head_of t) (length_of t),
+        section_begins t e,
+      );
     }
 
-pub step_stands : (t : Trace) (e : ℕ) (before : List (ℕ × Step)) (step : ℕ × Step) (rest : List (ℕ × Step)) → steps_at t e ≡ before ++ step ∷ rest → StandsIn (spelling t) step.0 (step_text step.1)
+pub step_stands : (t : Trace) (e : ℕ) (before : List (ℕ × Step)) (step : ℕ × Step) (rest : List (ℕ × Step))
+    → steps_at t e ≡ before ++ step ∷ rest → StandsIn (spelling t) step.0 (step_text step.1)
 unfolding steps_at
 step_stands t e before step rest split = elim (cases_lt e (length t.sections)) [
   | inl lt ↦
-      let found = located_stands step_text (section_start t e + length (frame_text (OfReplica e))) (steps_of t e) before step rest split in
-      subst (λ (at : ℕ). StandsIn (spelling t) at (step_text step.1)) (sym found.offset) (stands_inside (section_stands t e lt) found.stands)
-  | inr ge ↦ no_item before step rest (ap (located step_text (section_start t e + length (frame_text (OfReplica e)))) (sym (no_steps e t.sections ge)) ∙ split)
+      let found = located_stands step_text (section_start t e + length (frame_text (OfReplica e)))
+      (steps_of t e) before step rest split in
+      subst (λ (at : ℕ). StandsIn (spelling t) at (step_text step.1)) (sym found.offset)
+      (stands_inside (section_stands t e lt) found.stands)
+  | inr ge ↦ no_item before step rest
+      (ap (located step_text (section_start t e + length (frame_text (OfReplica e)))) (sym (no_steps e t.sections ge))
+      ∙ split)
 ]
 
 -- its own frame stands first
-pub first_stands : {bytes : List ℕ} {at : ℕ} (f : Frame) (fs : List Frame) → StandsIn bytes at (frames_text (f ∷ fs)) → StandsIn bytes at (frame_text f)
+pub first_stands : {bytes : List ℕ} {at : ℕ} (f : Frame) (fs : List Frame) → StandsIn bytes at (frames_text (f ∷ fs))
+    → StandsIn bytes at (frame_text f)
 first_stands {at = at} f fs stands = record {
   front = stands.front;
   behind = frames_text fs ++ stands.behind;
@@ -145,16 +189,25 @@ first_stands {at = at} f fs stands = record {
 }
 
 -- the access frames behind an attempt's own
-pub access_stands : {bytes : List ℕ} (at : ℕ) (b : Attempt) (i : ℕ) (x : ℕ × Access) → StandsIn bytes at (step_text (Attempts b)) → slice_get (accesses_at at b) i ≡ Some x → StandsIn bytes x.0 (frame_text (OfAccess x.1))
+pub access_stands : {bytes : List ℕ} (at : ℕ) (b : Attempt) (i : ℕ) (x : ℕ × Access)
+    → StandsIn bytes at (step_text (Attempts b)) → slice_get (accesses_at at b) i ≡ Some x
+    → StandsIn bytes x.0 (frame_text (OfAccess x.1))
 access_stands {bytes = bytes} at b i x stands got =
     let s = split_at (accesses_at at b) i x got in
     let own = frame_text (OfAttempt b) in
     let all = flat_map (λ y. frame_text (OfAccess y)) b.accesses in
     let found = located_stands (λ y. frame_text (OfAccess y)) (at + length own) b.accesses s.0 x s.1 s.2 in
     let inside : StandsIn (step_text (Attempts b)) (length own) all =
-    record { front = own; behind = []; is = ap (λ (c : List ℕ). own ++ c) (mapped OfAccess b.accesses ∙ sym (append-nil all)); offset = refl } in
+    record {
+      front = own;
+      behind = [];
+      is = ap (λ (c : List ℕ). own ++ c)
+          (mapped OfAccess b.accesses ∙ sym (append-nil all));
+      offset = refl;
+    } in
     let sum : at + length own + found.place ≡ x.0 = sym found.offset in
-    subst (λ (o : ℕ). StandsIn bytes o (frame_text (OfAccess x.1))) sum (stands_inside (stands_inside stands inside) found.stands)
+    subst (λ (o : ℕ). StandsIn bytes o (frame_text (OfAccess x.1))) sum
+    (stands_inside (stands_inside stands inside) found.stands)
 
 -- ---- the step that comes next
 
@@ -162,22 +215,32 @@ spelled_short : (bytes : List ℕ) (t : Trace) → Spells bytes t → length byt
 unfolding spelling length_of
 spelled_short bytes t spelled =
     let few = spelled.short in
-    omega (arith, ap length spelled.spelled, length-append (head_text (head_of t) (length_of t)) (frames_text (frames_of t)), length-head_text (head_of t) (length_of t))
+    omega (
+      arith,
+      ap length spelled.spelled,
+      length-append (head_text (head_of t) (length_of t))
+          (frames_text (frames_of t)),
+      length-head_text (head_of t) (length_of t),
+    )
 
 -- the trace's bytes hold it where it is said to stand
-next_stands : (bytes : List ℕ) (t : Trace) (e : ℕ) (rest : List (ℕ × Step)) (k : Kept) (at : ℕ) (step : Step) → Spells bytes t → HasCome t e ((at, step) ∷ rest) k → StandsIn bytes at (step_text step)
+next_stands : (bytes : List ℕ) (t : Trace) (e : ℕ) (rest : List (ℕ × Step)) (k : Kept) (at : ℕ) (step : Step)
+    → Spells bytes t → HasCome t e ((at, step) ∷ rest) k → StandsIn bytes at (step_text step)
 next_stands bytes t e rest k at step spelled come =
-    subst (λ (c : List ℕ). StandsIn c at (step_text step)) (sym spelled.spelled) (step_stands t e come.front (at, step) rest come.split)
+    subst (λ (c : List ℕ). StandsIn c at (step_text step)) (sym spelled.spelled)
+    (step_stands t e come.front (at, step) rest come.split)
 
 few_rows : (bytes : List ℕ) (t : Trace) → Spells bytes t → row_count (head_of t) ≤ most_rows
 few_rows bytes t spelled = let small = (small_head (head_of t) spelled.limits.head).customers in omega (arith, small)
 
 -- an attempt is found again by the byte at which its frame begins
-pub attempt_there : (bytes : List ℕ) (t : Trace) (e : ℕ) (rest : List (ℕ × Step)) (k : Kept) (at : ℕ) (b : Attempt) → Spells bytes t → HasCome t e ((at, Attempts b) ∷ rest) k
+pub attempt_there : (bytes : List ℕ) (t : Trace) (e : ℕ) (rest : List (ℕ × Step)) (k : Kept) (at : ℕ) (b : Attempt)
+    → Spells bytes t → HasCome t e ((at, Attempts b) ∷ rest) k
     → (attempt_in (frame_in bytes at) ≡ without_accesses b) × IsAttemptAt bytes at
 attempt_there bytes t e rest k at b spelled come =
     let fits = (and_parts (is_step (row_count (head_of t)) (Attempts b)) _ come.fit).0 in
-    let stands = first_stands (OfAttempt b) (map OfAccess b.accesses) (next_stands bytes t e rest k at (Attempts b) spelled come) in
+    let stands = first_stands (OfAttempt b) (map OfAccess b.accesses)
+    (next_stands bytes t e rest k at (Attempts b) spelled come) in
     let framed = framed_there (OfAttempt b) (spelled_short bytes t spelled) stands in
     let says = attempt_again b (and_parts (is_attempt b) _ fits).0 in (
       ap attempt_in framed.0 ∙ says.1,
@@ -189,7 +252,8 @@ attempt_there bytes t e rest k at b spelled come =
     )
 
 -- and a rollback by that of its own
-pub rollback_there : (bytes : List ℕ) (t : Trace) (e : ℕ) (rest : List (ℕ × Step)) (k : Kept) (at : ℕ) (r : Rollback) → Spells bytes t → HasCome t e ((at, RollsBack r) ∷ rest) k
+pub rollback_there : (bytes : List ℕ) (t : Trace) (e : ℕ) (rest : List (ℕ × Step)) (k : Kept) (at : ℕ) (r : Rollback)
+    → Spells bytes t → HasCome t e ((at, RollsBack r) ∷ rest) k
     → (rollback_in (frame_in bytes at) ≡ r) × IsRollbackAt bytes at
 rollback_there bytes t e rest k at r spelled come =
     let fits = (and_parts (is_step (row_count (head_of t)) (RollsBack r)) _ come.fit).0 in
@@ -211,11 +275,13 @@ pub record IsSeen (bytes : List ℕ) (x : ℕ × Access) : Type 0 where
   pub again : seen bytes x.0 ≡ x
   pub there : IsAccessAt bytes x.0
 
-from_each : {A : Type 0} (P : A → Type 0) (xs : List A) → ((i : ℕ) (x : A) → slice_get xs i ≡ Some x → P x) → AllByRecursion P xs
+from_each : {A : Type 0} (P : A → Type 0) (xs : List A) → ((i : ℕ) (x : A) → slice_get xs i ≡ Some x → P x)
+    → AllByRecursion P xs
 from_each P [] each = tt
 from_each P (x ∷ xs) each = (each 0 x refl, from_each P xs (λ i y e. each (suc i) y e))
 
-seen_again : (bytes : List ℕ) (rows : ℕ) (x : ℕ × Access) → length bytes ≤ 2 ^ 30 → rows ≤ most_rows → IsTrue (is_access rows x.1) → StandsIn bytes x.0 (frame_text (OfAccess x.1)) → IsSeen bytes x
+seen_again : (bytes : List ℕ) (rows : ℕ) (x : ℕ × Access) → length bytes ≤ 2 ^ 30 → rows ≤ most_rows
+    → IsTrue (is_access rows x.1) → StandsIn bytes x.0 (frame_text (OfAccess x.1)) → IsSeen bytes x
 seen_again bytes rows (at, x) short few fits stands =
     let framed = framed_there (OfAccess x) short stands in
     let says = access_again rows x fits few in
@@ -228,47 +294,61 @@ seen_again bytes rows (at, x) short few fits stands =
       };
     }
 
-pub all_seen : (bytes : List ℕ) (t : Trace) (e : ℕ) (rest : List (ℕ × Step)) (b : Attempt) (k : Kept) (at : ℕ) (said : Attempt) (xs : List (ℕ × Access)) → Spells bytes t → ComesNext t e rest b k at said xs
+pub all_seen : (bytes : List ℕ) (t : Trace) (e : ℕ) (rest : List (ℕ × Step)) (b : Attempt) (k : Kept) (at : ℕ)
+    (said : Attempt) (xs : List (ℕ × Access)) → Spells bytes t → ComesNext t e rest b k at said xs
     → AllByRecursion (IsSeen bytes) xs
 all_seen bytes t e rest b k at said xs spelled comes =
     let come = comes.come in
     let few = few_rows bytes t spelled in
     let fits = (and_parts (is_step (row_count (head_of t)) (Attempts b)) _ come.fit).0 in
-    let records = (and_parts (length b.accesses == length b.certificate) (list_all (is_access (row_count (head_of t))) b.accesses) (and_parts (is_attempt b) _ fits).1).1 in
+    let records = (and_parts (length b.accesses == length b.certificate)
+    (list_all (is_access (row_count (head_of t))) b.accesses) (and_parts (is_attempt b) _ fits).1).1 in
     let step = next_stands bytes t e rest k at (Attempts b) spelled come in
     subst (AllByRecursion (IsSeen bytes)) (sym comes.accesses) (from_each (IsSeen bytes) (accesses_at at b) (λ i x got.
     seen_again bytes (row_count (head_of t)) x (spelled_short bytes t spelled) few
-    (all_at (is_access (row_count (head_of t))) b.accesses i x.1 records (of_located (λ y. frame_text (OfAccess y)) (at + length (frame_text (OfAttempt b))) b.accesses i x got))
+    (all_at (is_access (row_count (head_of t))) b.accesses i x.1 records
+    (of_located (λ y. frame_text (OfAccess y)) (at + length (frame_text (OfAttempt b))) b.accesses i x got))
     (access_stands at b i x step got)))
 
 -- one more of them
-pub one_more_framed : {A : Type 0} (P : A → Type 0) (xs : List A) (x : A) → P x → AllByRecursion P xs → AllByRecursion P (xs ++ x ∷ [])
+pub one_more_framed : {A : Type 0} (P : A → Type 0) (xs : List A) (x : A) → P x → AllByRecursion P xs
+    → AllByRecursion P (xs ++ x ∷ [])
 one_more_framed P [] x p all = (p, tt)
 one_more_framed P (y ∷ xs) x p all = (all.0, one_more_framed P xs x p all.1)
 
-pub all_small : (bytes : List ℕ) (xs : List (ℕ × Access)) → AllByRecursion (IsSeen bytes) xs → AllByRecursion (λ x. x.0 < 2 ^ 32) xs
+pub all_small : (bytes : List ℕ) (xs : List (ℕ × Access)) → AllByRecursion (IsSeen bytes) xs
+    → AllByRecursion (λ x. x.0 < 2 ^ 32) xs
 all_small bytes [] all = tt
 all_small bytes (x ∷ xs) all = (all.0.there.framed.small, all_small bytes xs all.1)
 
-seen_with : (bytes : List ℕ) (xs : List (ℕ × Access)) (i : ℕ) → AllByRecursion (IsSeen bytes) xs → list_any (λ y. y.index == i) (accesses_of xs) ≡ true → IsSeen bytes (access_with xs i)
+seen_with : (bytes : List ℕ) (xs : List (ℕ × Access)) (i : ℕ) → AllByRecursion (IsSeen bytes) xs
+    → list_any (λ y. y.index == i) (accesses_of xs) ≡ true → IsSeen bytes (access_with xs i)
 seen_with bytes [] i all some = absurd (false≢true some)
 seen_with bytes (x ∷ xs) i all some = by (x.1.index == i) some (seen_with bytes xs i all.1)
   where
-    by : (b : Bool) → (b || list_any (λ y. y.index == i) (accesses_of xs)) ≡ true → (list_any (λ y. y.index == i) (accesses_of xs) ≡ true → IsSeen bytes (access_with xs i)) → IsSeen bytes (cond b x (access_with xs i))
+    by : (b : Bool) → (b || list_any (λ y. y.index == i) (accesses_of xs)) ≡ true
+        → (list_any (λ y. y.index == i) (accesses_of xs) ≡ true → IsSeen bytes (access_with xs i))
+        → IsSeen bytes (cond b x (access_with xs i))
     by true some rest = all.0
     by false some rest = rest some
 
 -- they are kept in the certificate's order
-pub seen_in_order : (bytes : List ℕ) (xs : List (ℕ × Access)) (order : List ℕ) → AllByRecursion (IsSeen bytes) xs → AllByRecursion (λ i. (i < 256) × IsTrue (list_any (λ y. y.index == i) (accesses_of xs))) order
+pub seen_in_order : (bytes : List ℕ) (xs : List (ℕ × Access)) (order : List ℕ) → AllByRecursion (IsSeen bytes) xs
+    → AllByRecursion (λ i. (i < 256) × IsTrue (list_any (λ y. y.index == i) (accesses_of xs))) order
     → map (seen bytes) (map (λ i. (access_with xs i).0) order) ≡ map (access_with xs) order
 seen_in_order bytes xs [] all there = refl
-seen_in_order bytes xs (i ∷ order) all there = λ j. (seen_with bytes xs i all there.0.1).again j ∷ seen_in_order bytes xs order all there.1 j
+seen_in_order bytes xs (i ∷ order) all there = λ j. (seen_with bytes xs i all there.0.1).again j ∷ seen_in_order bytes
+    xs order all there.1 j
 
-pub access_frames : (bytes : List ℕ) (xs : List (ℕ × Access)) (kept order : List ℕ) → AllByRecursion (IsSeen bytes) xs → AllByRecursion (λ i. (i < 256) × IsTrue (list_any (λ y. y.index == i) (accesses_of xs))) order
-    → AllByRecursion (IsAccessAt bytes) kept → AllByRecursion (IsAccessAt bytes) (kept ++ map (λ i. (access_with xs i).0) order)
-access_frames bytes xs (at ∷ kept) order all there known = (known.0, access_frames bytes xs kept order all there known.1)
+pub access_frames : (bytes : List ℕ) (xs : List (ℕ × Access)) (kept order : List ℕ) → AllByRecursion (IsSeen bytes) xs
+    → AllByRecursion (λ i. (i < 256) × IsTrue (list_any (λ y. y.index == i) (accesses_of xs))) order
+    → AllByRecursion (IsAccessAt bytes) kept
+    → AllByRecursion (IsAccessAt bytes) (kept ++ map (λ i. (access_with xs i).0) order)
+access_frames bytes xs (at ∷ kept) order all there known =
+    (known.0, access_frames bytes xs kept order all there known.1)
 access_frames bytes xs [] order all there known = by order there
   where
-    by : (is : List ℕ) → AllByRecursion (λ i. (i < 256) × IsTrue (list_any (λ y. y.index == i) (accesses_of xs))) is → AllByRecursion (IsAccessAt bytes) (map (λ i. (access_with xs i).0) is)
+    by : (is : List ℕ) → AllByRecursion (λ i. (i < 256) × IsTrue (list_any (λ y. y.index == i) (accesses_of xs))) is
+        → AllByRecursion (IsAccessAt bytes) (map (λ i. (access_with xs i).0) is)
     by [] there = tt
     by (i ∷ is) there = ((seen_with bytes xs i all there.0.1).there, by is there.1)

@@ -1,9 +1,11 @@
 -- What the handlers of steps need of what has come.
-use Rattle.std.proofs.Common.{◌≡◌, ℕ, ◌+◌, ◌-◌, ◌<◌, ◌≤◌, ◌==◌, true, false, List, ◌∷◌, ◌++◌, map, length, take, replicate, Some, None, IsTrue, refl, sym, ap, subst, ◌∙◌, arith}
+use Rattle.std.proofs.Common.{◌≡◌, ℕ, ◌+◌, ◌-◌, ◌<◌, ◌≤◌, ◌==◌, true, false, List, ◌∷◌, ◌++◌, map, length, take}
+use Rattle.std.proofs.Common.{replicate, Some, None, IsTrue, refl, sym, ap, subst, ◌∙◌, arith}
 use Rattle.std.specs.List.{AllByRecursion, list_any}
 use Rattle.std.proofs.lemmas.Bool.{and_parts}
 use Rattle.std.proofs.lemmas.List.{take_all}
-use Rattle.eve_grammar.specs.Trace.{Access, Attempt, Commit, Rollback, Step, Attempts, Commits, RollsBack, Trace, head_of}
+use Rattle.eve_grammar.specs.Trace.{Access, Attempt, Commit, Rollback, Step, Attempts, Commits, RollsBack, Trace}
+use Rattle.eve_grammar.specs.Trace.{head_of}
 use Rattle.eve_grammar.specs.Frames.{OfAttempt, OfAccess}
 use Rattle.eve_grammar.specs.Spelling.{frame_text, accesses_at}
 use Rattle.eve_grammar.specs.Limits.{is_step, row_count}
@@ -22,7 +24,7 @@ use Rattle.eve_views.specs.Form.{IfFound}
 use Rattle.eve_history.specs.declared.fate.Fate.{Fate}
 use Rattle.eve_history.specs.declared.fate.Fate.TheVariants.{Discarded}
 use Rattle.eve_history.specs.Section.{SectionState, start, state_after, is_right_commit, is_right_rollback}
-use Rattle.eve_history.specs.Told.{ordered, access_with}
+use Rattle.eve_history.specs.SectionHistory.{ordered, access_with}
 use Rattle.eve_history.specs.Faults.{accesses_of}
 use Rattle.eve_history.specs.FirstWrong.{wrong_step}
 use Rattle.eve_history.specs.Coming.{Kept, HasCome, ComesNext}
@@ -36,37 +38,48 @@ weaker_found (Found f) P Q weaker h = weaker f h
 
 -- ---- commits and rollbacks
 
-pub commit_wrong : (t : Trace) (s : SectionState) (at : ℕ) (c : Commit) → is_right_commit s c ≡ false → wrong_step t s (at, Commits c) ≡ Some (record { code = code.Commit; offset = at })
+pub commit_wrong : (t : Trace) (s : SectionState) (at : ℕ) (c : Commit) → is_right_commit s c ≡ false
+    → wrong_step t s (at, Commits c) ≡ Some (record { code = code.Commit; offset = at })
 commit_wrong t s at c wrong = rw wrong refl
 
-pub commit_right : (t : Trace) (s : SectionState) (at : ℕ) (c : Commit) → is_right_commit s c ≡ true → wrong_step t s (at, Commits c) ≡ None
+pub commit_right : (t : Trace) (s : SectionState) (at : ℕ) (c : Commit) → is_right_commit s c ≡ true
+    → wrong_step t s (at, Commits c) ≡ None
 commit_right t s at c right = rw right refl
 
-pub rollback_wrong : (t : Trace) (s : SectionState) (at : ℕ) (r : Rollback) → is_right_rollback t s r ≡ false → wrong_step t s (at, RollsBack r) ≡ Some (record { code = code.Rollback; offset = at })
+pub rollback_wrong : (t : Trace) (s : SectionState) (at : ℕ) (r : Rollback) → is_right_rollback t s r ≡ false
+    → wrong_step t s (at, RollsBack r) ≡ Some (record { code = code.Rollback; offset = at })
 rollback_wrong t s at r wrong = rw wrong refl
 
-pub rollback_right : (t : Trace) (s : SectionState) (at : ℕ) (r : Rollback) → is_right_rollback t s r ≡ true → wrong_step t s (at, RollsBack r) ≡ None
+pub rollback_right : (t : Trace) (s : SectionState) (at : ℕ) (r : Rollback) → is_right_rollback t s r ≡ true
+    → wrong_step t s (at, RollsBack r) ≡ None
 rollback_right t s at r right = rw right refl
 
 -- all open attempts are discarded
-pub discarded_all : (fates after : List Fate) (n v a : ℕ) → after ≡ take n fates ++ replicate (n - v) Discarded → n ≡ a → v ≡ length fates → length fates ≤ a → fates ++ replicate (a - length fates) Discarded ≡ after
+pub discarded_all : (fates after : List Fate) (n v a : ℕ) → after ≡ take n fates ++ replicate (n - v) Discarded → n ≡ a
+    → v ≡ length fates → length fates ≤ a → fates ++ replicate (a - length fates) Discarded ≡ after
 discarded_all fates after n v a is count old few =
     let all : take n fates ≡ fates = take_all n fates (omega arith) in
     let more : a - length fates ≡ n - v = omega arith in
-    ap (λ (m : ℕ). fates ++ replicate m Discarded) more ∙ ap (λ (fs : List Fate). fs ++ replicate (n - v) Discarded) (sym all) ∙ sym is
+    ap (λ (m : ℕ). fates ++ replicate m Discarded) more ∙ ap (λ (fs : List Fate). fs ++ replicate (n - v) Discarded)
+    (sym all) ∙ sym is
 
 -- ---- attempts
 
-module _ (t : Trace) (e : ℕ) (rest : List (ℕ × Step)) (b : Attempt) (k : Kept) (at : ℕ) (said : Attempt) (xs : List (ℕ × Access)) (comes : ComesNext t e rest b k at said xs) where
+module _ (t : Trace) (e : ℕ) (rest : List (ℕ × Step)) (b : Attempt) (k : Kept) (at : ℕ) (said : Attempt)
+    (xs : List (ℕ × Access)) (comes : ComesNext t e rest b k at said xs) where
   its_fit : (length b.certificate ≤ 256) × (length b.accesses ≡ length b.certificate)
-  its_fit = attempt_fits (row_count (head_of t)) b (and_parts (is_step (row_count (head_of t)) (Attempts b)) _ comes.come.fit).0
+  its_fit = attempt_fits (row_count (head_of t)) b
+      (and_parts (is_step (row_count (head_of t)) (Attempts b)) _ comes.come.fit).0
 
   pub its_count : length said.certificate ≤ 256
-  its_count = let few = its_fit.0 in let same : length said.certificate ≡ length b.certificate = ap (λ (a : Attempt). length a.certificate) comes.attempt in omega arith
+  its_count = let few = its_fit.0 in let same : length said.certificate ≡ length b.certificate =
+      ap (λ (a : Attempt). length a.certificate) comes.attempt in omega arith
 
   pub its_records_count : length xs ≡ length said.certificate
   its_records_count =
-      ap length comes.accesses ∙ length-located (λ (x : Access). frame_text (OfAccess x)) (at + length (frame_text (OfAttempt b))) b.accesses ∙ its_fit.1 ∙ ap (λ (a : Attempt). length a.certificate) (sym comes.attempt)
+      ap length comes.accesses ∙ length-located (λ (x : Access). frame_text (OfAccess x))
+      (at + length (frame_text (OfAttempt b))) b.accesses ∙ its_fit.1
+      ∙ ap (λ (a : Attempt). length a.certificate) (sym comes.attempt)
 
   pub its_accesses : accesses_of xs ≡ b.accesses
   its_accesses = ap accesses_of comes.accesses ∙ accesses_of-at at b
@@ -74,17 +87,21 @@ module _ (t : Trace) (e : ℕ) (rest : List (ℕ × Step)) (b : Attempt) (k : Ke
   pub its_indexes : wrong_step t (state_after start comes.come.front) (at, Attempts b) ≡ None
       → AllByRecursion (λ i. (i < 256) × IsTrue (list_any (λ y. y.index == i) (accesses_of xs))) said.certificate
   its_indexes right =
-      subst (λ (ys : List Access). AllByRecursion (λ i. (i < 256) × IsTrue (list_any (λ y. y.index == i) ys)) said.certificate) (sym its_accesses)
-      (subst (λ (order : List ℕ). AllByRecursion (λ i. (i < 256) × IsTrue (list_any (λ y. y.index == i) b.accesses)) order) (ap (λ (a : Attempt). a.certificate) (sym comes.attempt))
+      subst (λ (ys : List Access). AllByRecursion (λ i. (i < 256) × IsTrue (list_any (λ y. y.index == i) ys))
+      said.certificate) (sym its_accesses)
+      (subst (λ (order : List ℕ). AllByRecursion (λ i. (i < 256) × IsTrue (list_any (λ y. y.index == i) b.accesses))
+      order) (ap (λ (a : Attempt). a.certificate) (sym comes.attempt))
       (all_there t (state_after start comes.come.front) at b right its_fit.1 its_fit.0))
 
   pub its_order : (order : List ℕ) → order ≡ said.certificate → map (access_with xs) order ≡ ordered at b
   its_order order is =
-      (λ i. map (access_with (comes.accesses i)) (is i)) ∙ ap (λ (a : Attempt). map (access_with (accesses_at at b)) a.certificate) comes.attempt
+      (λ i. map (access_with (comes.accesses i)) (is i))
+      ∙ ap (λ (a : Attempt). map (access_with (accesses_at at b)) a.certificate) comes.attempt
 
 -- ---- which step it is
 
-pub comes_next : (t : Trace) (e : ℕ) (rest : List (ℕ × Step)) (next : ℕ × Step) (k : Kept) (a : AttemptView) (xs : List (ℕ × Access)) → IsStep (of.Attempt a xs) next → HasCome t e (next ∷ rest) k
+pub comes_next : (t : Trace) (e : ℕ) (rest : List (ℕ × Step)) (next : ℕ × Step) (k : Kept) (a : AttemptView)
+    (xs : List (ℕ × Access)) → IsStep (of.Attempt a xs) next → HasCome t e (next ∷ rest) k
     → (b : Attempt) × ComesNext t e rest b k a.offset (attempt_in a.bytes.now) xs
 comes_next t e rest (at, Attempts b) k a xs is come = (
   b,
@@ -97,14 +114,20 @@ comes_next t e rest (at, Attempts b) k a xs is come = (
 comes_next t e rest (at, Commits c) k a xs is come = absurd is
 comes_next t e rest (at, RollsBack r) k a xs is come = absurd is
 
-pub commit_next : (t : Trace) (e : ℕ) (rest : List (ℕ × Step)) (next : ℕ × Step) (k : Kept) (c : CommitView) → IsStep (of.Commit c) next → HasCome t e (next ∷ rest) k → HasCome t e ((c.offset, Commits (commit_in c.bytes.now)) ∷ rest) k
+pub commit_next : (t : Trace) (e : ℕ) (rest : List (ℕ × Step)) (next : ℕ × Step) (k : Kept) (c : CommitView)
+    → IsStep (of.Commit c) next → HasCome t e (next ∷ rest) k
+    → HasCome t e ((c.offset, Commits (commit_in c.bytes.now)) ∷ rest) k
 commit_next t e rest (at, Commits d) k c is come =
-    subst (λ (o : ℕ). HasCome t e ((o, Commits (commit_in c.bytes.now)) ∷ rest) k) (sym is.0) (subst (λ (d : Commit). HasCome t e ((at, Commits d) ∷ rest) k) (sym is.1) come)
+    subst (λ (o : ℕ). HasCome t e ((o, Commits (commit_in c.bytes.now)) ∷ rest) k) (sym is.0)
+    (subst (λ (d : Commit). HasCome t e ((at, Commits d) ∷ rest) k) (sym is.1) come)
 commit_next t e rest (at, Attempts b) k c is come = absurd is
 commit_next t e rest (at, RollsBack r) k c is come = absurd is
 
-pub rollback_next : (t : Trace) (e : ℕ) (rest : List (ℕ × Step)) (next : ℕ × Step) (k : Kept) (r : RollbackView) → IsStep (of.Rollback r) next → HasCome t e (next ∷ rest) k → HasCome t e ((r.offset, RollsBack (rollback_in r.bytes.now)) ∷ rest) k
+pub rollback_next : (t : Trace) (e : ℕ) (rest : List (ℕ × Step)) (next : ℕ × Step) (k : Kept) (r : RollbackView)
+    → IsStep (of.Rollback r) next → HasCome t e (next ∷ rest) k
+    → HasCome t e ((r.offset, RollsBack (rollback_in r.bytes.now)) ∷ rest) k
 rollback_next t e rest (at, RollsBack q) k r is come =
-    subst (λ (o : ℕ). HasCome t e ((o, RollsBack (rollback_in r.bytes.now)) ∷ rest) k) (sym is.0) (subst (λ (q : Rollback). HasCome t e ((at, RollsBack q) ∷ rest) k) (sym is.1) come)
+    subst (λ (o : ℕ). HasCome t e ((o, RollsBack (rollback_in r.bytes.now)) ∷ rest) k) (sym is.0)
+    (subst (λ (q : Rollback). HasCome t e ((at, RollsBack q) ∷ rest) k) (sym is.1) come)
 rollback_next t e rest (at, Attempts b) k r is come = absurd is
 rollback_next t e rest (at, Commits c) k r is come = absurd is

@@ -1,5 +1,6 @@
 -- What is kept of a section's steps that have come.
-use Rattle.std.specs.Prelude.{◌≡◌, ℕ, zero, suc, ◌+◌, ◌-◌, ◌<◌, ◌≤◌, Bool, true, IsTrue, List, [], ◌∷◌, ◌++◌, map, length, take, drop, replicate, slice_index_or, false}
+use Rattle.std.specs.Prelude.{◌≡◌, ℕ, zero, suc, ◌+◌, ◌-◌, ◌<◌, ◌≤◌, Bool, true, IsTrue, List, [], ◌∷◌, ◌++◌, map}
+use Rattle.std.specs.Prelude.{length, take, drop, replicate, slice_index_or, false}
 use Rattle.std.specs.List.{AllByRecursion, list_all}
 use Rattle.eve_grammar.specs.Trace.{Access, Attempt, Rollback, Step, Attempts, Trace, head_of}
 use Rattle.eve_grammar.specs.Frames.{without_accesses}
@@ -13,7 +14,8 @@ use Rattle.eve_history.specs.declared.notes.Notes.{Notes}
 use Rattle.eve_history.specs.Standing.{frame_in, IsAttemptAt, IsAccessAt, IsRollbackAt}
 use Rattle.eve_history.specs.Section.{SectionState, start, state_after, are_right}
 use Rattle.eve_history.specs.Fates.{fate_in, fates_from}
-use Rattle.eve_history.specs.Told.{Ran, ran, placed_at, attempts_among, rollbacks_among, Telling}
+use Rattle.eve_history.specs.SectionHistory.{ExecutedAttempt, executed_attempt, placed_at, attempts_among}
+use Rattle.eve_history.specs.SectionHistory.{rollbacks_among, SectionHistory}
 
 -- ---- what is kept
 
@@ -65,31 +67,36 @@ open_count k = length k.attempts - length k.fates
 
 -- ---- what it tells
 
-abbrev pub kept_ran : List (ℕ × Access) → KeptAttempt → Ran
-kept_ran records a = record { offset = a.offset; attempt = a.attempt; ordered = take (length a.attempt.certificate) (drop a.from records) }
+abbrev pub kept_executed_attempt : List (ℕ × Access) → KeptAttempt → ExecutedAttempt
+kept_executed_attempt records a = record {
+  offset = a.offset;
+  attempt = a.attempt;
+  ordered = take (length a.attempt.certificate)
+      (drop a.from records);
+}
 
-abbrev pub rans : Kept → List Ran
-rans k = map (kept_ran k.records) k.attempts
+abbrev pub executed_attempts : Kept → List ExecutedAttempt
+executed_attempts k = map (kept_executed_attempt k.records) k.attempts
 
-abbrev pub no_ran : Ran
-no_ran = record {
+abbrev pub no_executed_attempt : ExecutedAttempt
+no_executed_attempt = record {
   offset = 0;
   attempt = record { seq = 0; view = 0; serial = false; certificate = []; replies = []; token = []; accesses = [] };
   ordered = [];
 }
 
 -- the attempt at this place
-abbrev pub ran_at : List Ran → ℕ → Ran
-ran_at rs place = slice_index_or rs place no_ran
+abbrev pub executed_attempt_at : List ExecutedAttempt → ℕ → ExecutedAttempt
+executed_attempt_at rs place = slice_index_or rs place no_executed_attempt
 
-abbrev pub telling_of : ℕ → Kept → Telling
-telling_of e k = record {
+abbrev pub section_history_of : ℕ → Kept → SectionHistory
+section_history_of e k = record {
   replica = e;
   right = true;
   committed = k.last;
-  attempts = rans k;
+  attempts = executed_attempts k;
   fates = k.fates ++ replicate (open_count k) Open;
-  commits = map (ran_at (rans k)) k.commits;
+  commits = map (executed_attempt_at (executed_attempts k)) k.commits;
   rollbacks = k.rollbacks;
 }
 
@@ -108,13 +115,14 @@ pub record StandsAt (s : SectionState) (k : Kept) : Type 0 where
   pub view : k.view ≡ s.view
   pub last : k.last ≡ s.last
   pub rolled_back : k.rolled_back ≡ s.rolled_back
-  pub pending : map (λ p. without_accesses p.attempt) s.pending ≡ drop (length k.fates) (map (λ a. a.attempt) k.attempts)
+  pub pending : map (λ p. without_accesses p.attempt) s.pending
+      ≡ drop (length k.fates) (map (λ a. a.attempt) k.attempts)
   pub fewer : length k.fates ≤ length k.attempts
 
 -- Of these attempts the ones behind the settled ones are open, and those at these places are committed.
-pub record AreSettled (s : SectionState) (rs : List Ran) (settled : ℕ) (places : List ℕ) : Type 0 where
-  pub pending : map (λ p. ran (placed_at p)) s.pending ≡ drop settled rs
-  pub committed : map (ran_at rs) places ≡ map (λ p. ran (placed_at p)) s.committed
+pub record AreSettled (s : SectionState) (rs : List ExecutedAttempt) (settled : ℕ) (places : List ℕ) : Type 0 where
+  pub pending : map (λ p. executed_attempt (placed_at p)) s.pending ≡ drop settled rs
+  pub committed : map (executed_attempt_at rs) places ≡ map (λ p. executed_attempt (placed_at p)) s.committed
 
 -- what becomes of this many open attempts in the steps, that many being open before them
 abbrev pub open_fates : List (ℕ × Step) → ℕ → ℕ → List Fate
@@ -127,15 +135,17 @@ pub record HasCome (t : Trace) (e : ℕ) (rest : List (ℕ × Step)) (k : Kept) 
   pub split : steps_at t e ≡ front ++ rest
   pub right : are_right t start front ≡ true
   pub stands : StandsAt (state_after start front) k
-  pub attempts : rans k ≡ map ran (attempts_among front)
-  pub settled : AreSettled (state_after start front) (rans k) (length k.fates) k.commits
+  pub attempts : executed_attempts k ≡ map executed_attempt (attempts_among front)
+  pub settled : AreSettled (state_after start front) (executed_attempts k) (length k.fates) k.commits
   pub is_kept : IsKept k
-  pub fates : fates_from 0 (steps_at t e) ≡ k.fates ++ (open_fates rest 0 (open_count k) ++ fates_from (open_count k) rest)
+  pub fates : fates_from 0 (steps_at t e)
+      ≡ k.fates ++ (open_fates rest 0 (open_count k) ++ fates_from (open_count k) rest)
   pub rollbacks : k.rollbacks ≡ rollbacks_among front
   pub fit : IsTrue (list_all (λ x. is_step (row_count (head_of t)) x.1) rest)
 
 -- an attempt comes next, and this is what its frames say
-pub record ComesNext (t : Trace) (e : ℕ) (rest : List (ℕ × Step)) (b : Attempt) (k : Kept) (at : ℕ) (said : Attempt) (records : List (ℕ × Access)) : Type 0 where
+pub record ComesNext (t : Trace) (e : ℕ) (rest : List (ℕ × Step)) (b : Attempt) (k : Kept) (at : ℕ) (said : Attempt)
+    (records : List (ℕ × Access)) : Type 0 where
   pub come : HasCome t e ((at, Attempts b) ∷ rest) k
   pub attempt : said ≡ without_accesses b
   pub accesses : records ≡ accesses_at at b

@@ -1,14 +1,17 @@
 -- The faults of orders and of structure, and where they stand. docs/MODEL.md, "Faults".
 use Rattle.std.specs.Prelude.{◌≡◌, ℕ, IsTrue, IsFalse, List, [], ◌++◌, map, Contains, Some, None}
 use Rattle.std.specs.List.{flat_map}
-use Rattle.eve_grammar.specs.Trace.{Customer, Asked, Batch, Access, Attempt, Commit, Rollback, Step, Attempts, Commits, RollsBack, Trace}
+use Rattle.eve_grammar.specs.Trace.{Customer, Asked, Batch, Access, Attempt, Commit, Rollback, Step, Attempts, Commits}
+use Rattle.eve_grammar.specs.Trace.{RollsBack, Trace}
 use Rattle.eve_grammar.specs.Spelling.{customers_at, batches_at, steps_at, accesses_at}
 use Rattle.eve_views.specs.declared.fault.Code.{Code}
 use Rattle.eve_views.specs.declared.fault.Code.TheVariants as code
 use Rattle.eve_views.specs.declared.fault.Fault.{Fault}
 use Rattle.eve_views.specs.Form.{SomePlace}
 use Rattle.eve_grammar.specs.Accesses.{is_right_place}
-use Rattle.eve_history.specs.Section.{SectionState, start, state_after, is_right_attempt, is_right_certificate, is_right_access, is_right_commit, is_right_rollback, are_right_accesses, are_right}
+use Rattle.eve_history.specs.Section.{SectionState, start, state_after, is_right_attempt, is_right_certificate}
+use Rattle.eve_history.specs.Section.{is_right_access, is_right_commit, is_right_rollback, are_right_accesses}
+use Rattle.eve_history.specs.Section.{are_right}
 
 -- ---- orders
 
@@ -32,7 +35,8 @@ IsNamedAgain before c = Contains (map name_at before) (name_at c)
 
 -- one of the batch's requests occurs earlier, in the batch or before it
 abbrev pub IsAskedAgain : List (ℕ × (ℕ × Batch)) → ℕ × (ℕ × Batch) → Type 0
-IsAskedAgain before b = SomePlace (request_ids_at b) (λ earlier own. Contains (flat_map request_ids_at before ++ earlier) own)
+IsAskedAgain before b = SomePlace (request_ids_at b)
+    (λ earlier own. Contains (flat_map request_ids_at before ++ earlier) own)
 
 -- a fault of orders stands at this offset
 abbrev pub StandsInOrders : Code → Trace → ℕ → Type 0
@@ -61,7 +65,8 @@ OfRollback _ P = ⊥
 
 -- of a step of replica e before which all steps are right: its offset, where the section has come to, and the step
 abbrev pub AtStep : Trace → ℕ → (ℕ → SectionState → Step → Type 0) → Type 0
-AtStep t e P = SomePlace (steps_at t e) (λ before step. IsTrue (are_right t start before) × P step.0 (state_after start before) step.1)
+AtStep t e P = SomePlace (steps_at t e) (λ before step. IsTrue (are_right t start before)
+    × P step.0 (state_after start before) step.1)
 
 abbrev pub accesses_of : List (ℕ × Access) → List Access
 accesses_of xs = map (λ x. x.1) xs
@@ -71,17 +76,24 @@ accesses_of xs = map (λ x. x.1) xs
 abbrev pub AtAccess : Trace → ℕ → (ℕ → Attempt → List Access → Access → Type 0) → Type 0
 AtAccess t e P = AtStep t e (λ offset s step. OfAttempt step (λ a.
     IsTrue (is_right_attempt t s a) × IsTrue (is_right_certificate t a)
-    × SomePlace (accesses_at offset a) (λ before x. IsTrue (are_right_accesses t a [] (accesses_of before)) × P x.0 a (accesses_of before) x.1)))
+    × SomePlace (accesses_at offset a) (λ before x. IsTrue (are_right_accesses t a [] (accesses_of before))
+    × P x.0 a (accesses_of before) x.1)))
 
 -- A fault of structure stands at this offset in replica e's section. It is judged where all frames of the
 -- section before it are right, so that only the first wrong frame counts, with all that is wrong with it.
 abbrev pub StandsInStructure : Code → Trace → ℕ → ℕ → Type 0
-StandsInStructure code.Attempt t e at = AtStep t e (λ offset s step. (offset ≡ at) × OfAttempt step (λ a. IsFalse (is_right_attempt t s a)))
-StandsInStructure code.Certificate t e at = AtStep t e (λ offset s step. (offset ≡ at) × OfAttempt step (λ a. IsFalse (is_right_certificate t a)))
-StandsInStructure code.Access t e at = AtAccess t e (λ offset a before x. (offset ≡ at) × IsFalse (is_right_access t a before x))
-StandsInStructure code.WorkerOrder t e at = AtAccess t e (λ offset a before x. (offset ≡ at) × IsFalse (is_right_place before x))
-StandsInStructure code.Commit t e at = AtStep t e (λ offset s step. (offset ≡ at) × OfCommit step (λ c. IsFalse (is_right_commit s c)))
-StandsInStructure code.Rollback t e at = AtStep t e (λ offset s step. (offset ≡ at) × OfRollback step (λ r. IsFalse (is_right_rollback t s r)))
+StandsInStructure code.Attempt t e at =
+    AtStep t e (λ offset s step. (offset ≡ at) × OfAttempt step (λ a. IsFalse (is_right_attempt t s a)))
+StandsInStructure code.Certificate t e at =
+    AtStep t e (λ offset s step. (offset ≡ at) × OfAttempt step (λ a. IsFalse (is_right_certificate t a)))
+StandsInStructure code.Access t e at =
+    AtAccess t e (λ offset a before x. (offset ≡ at) × IsFalse (is_right_access t a before x))
+StandsInStructure code.WorkerOrder t e at =
+    AtAccess t e (λ offset a before x. (offset ≡ at) × IsFalse (is_right_place before x))
+StandsInStructure code.Commit t e at =
+    AtStep t e (λ offset s step. (offset ≡ at) × OfCommit step (λ c. IsFalse (is_right_commit s c)))
+StandsInStructure code.Rollback t e at =
+    AtStep t e (λ offset s step. (offset ≡ at) × OfRollback step (λ r. IsFalse (is_right_rollback t s r)))
 StandsInStructure _ t e at = ⊥
 
 -- the fault is one of structure in replica e's section

@@ -8,7 +8,8 @@ use Rattle.eve_views.specs.declared.fault.Code.TheVariants as code
 use Rattle.eve_views.specs.declared.fault.Fault.{Fault}
 use Rattle.eve_history.specs.declared.wrong.Wrong.{Wrong}
 use Rattle.eve_grammar.specs.Accesses.{is_new_access, is_right_place}
-use Rattle.eve_history.specs.Section.{SectionState, next, request_count, worker_count, is_right_attempt, is_right_certificate, is_right_commit, is_right_rollback}
+use Rattle.eve_history.specs.Section.{SectionState, next, request_count, worker_count, is_right_attempt}
+use Rattle.eve_history.specs.Section.{is_right_certificate, is_right_commit, is_right_rollback}
 
 -- what is wrong at this offset, or else later
 abbrev pub found_or : ℕ → Option Code → Option Wrong → Option Wrong
@@ -22,11 +23,13 @@ first_of None later = later
 -- what is wrong with an access record behind those before it, of so many workers and indexes
 abbrev pub wrong_access : ℕ → ℕ → List Access → Access → Option Code
 wrong_access workers count before x =
-    if is_new_access workers count before x then (if is_right_place before x then None else Some code.WorkerOrder) else Some code.Access
+    if is_new_access workers count before x then (if is_right_place before x then None else Some code.WorkerOrder) else
+    Some code.Access
 
 abbrev pub wrong_accesses : ℕ → ℕ → List Access → List (ℕ × Access) → Option Wrong
 wrong_accesses workers count before [] = None
-wrong_accesses workers count before (x ∷ xs) = found_or x.0 (wrong_access workers count before x.1) (wrong_accesses workers count (before ++ x.1 ∷ []) xs)
+wrong_accesses workers count before (x ∷ xs) = found_or x.0 (wrong_access workers count before x.1)
+    (wrong_accesses workers count (before ++ x.1 ∷ []) xs)
 
 abbrev pub wrong_record : Trace → Attempt → List Access → Access → Option Code
 wrong_record t a = wrong_access (worker_count t a) (request_count t a)
@@ -37,7 +40,8 @@ wrong_records t a = wrong_accesses (worker_count t a) (request_count t a)
 -- what is wrong with an attempt but for its access records
 abbrev pub wrong_attempt : Trace → SectionState → Attempt → Option Code
 wrong_attempt t s a =
-    if is_right_attempt t s a then (if is_right_certificate t a then None else Some code.Certificate) else Some code.Attempt
+    if is_right_attempt t s a then (if is_right_certificate t a then None else Some code.Certificate) else Some
+    code.Attempt
 
 abbrev pub wrong_commit : SectionState → Commit → Option Code
 wrong_commit s c = if is_right_commit s c then None else Some code.Commit

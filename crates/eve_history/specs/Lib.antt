@@ -1,6 +1,6 @@
 pub mod Section
 pub mod Fates
-pub mod Told
+pub mod SectionHistory
 pub mod Faults
 pub mod FirstWrong
 pub mod Notes

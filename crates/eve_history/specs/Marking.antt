@@ -1,5 +1,6 @@
 -- What is marked of the access records of an attempt that have come.
-use Rattle.std.specs.Prelude.{◌≡◌, ℕ, ◌<◌, ◌==◌, false, List, [], ◌∷◌, ◌++◌, length, slice_get, slice_index, slice_index_or, Option, Some, IfNone}
+use Rattle.std.specs.Prelude.{◌≡◌, ℕ, ◌<◌, ◌==◌, false, List, [], ◌∷◌, ◌++◌, length, slice_get, slice_index}
+use Rattle.std.specs.Prelude.{slice_index_or, Option, Some, IfNone}
 use Rattle.std.specs.List.{list_any, count_by}
 use Rattle.eve_grammar.specs.Trace.{Access}
 use Rattle.eve_views.specs.declared.fault.Code.{Code}
@@ -15,10 +16,12 @@ pub record AreMarked (before : List Access) (m : Marks) : Type 0 where
   pub workers : length m.places ≡ 8
   pub seen : (i : ℕ) → i < 256 → slice_index_or m.seen i false ≡ list_any (λ y. y.index == i) before
   pub places : (w : ℕ) → w < 8 → slice_index m.places w ≡ count_by (λ y. y.worker == w) before
-  pub numbers : (k : ℕ) (y : Access) → slice_get before k ≡ Some y → (y.index < 256) × (slice_index m.numbers y.index ≡ k)
+  pub numbers : (k : ℕ) (y : Access) → slice_get before k ≡ Some y → (y.index < 256)
+      × (slice_index m.numbers y.index ≡ k)
 
 -- the next record is judged, and marked where it is right
-pub record IsJudged (workers count : ℕ) (before : List Access) (x : Access) (result : Option Code) (m : Marks) : Type 0 where
+pub record IsJudged (workers count : ℕ) (before : List Access) (x : Access) (result : Option Code)
+    (m : Marks) : Type 0 where
   pub answer : result ≡ wrong_access workers count before x
   pub marked : IfNone result (AreMarked (before ++ x ∷ []) m)
 

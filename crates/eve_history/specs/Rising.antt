@@ -1,5 +1,5 @@
 -- The greatest number of each client so far.
-use Rattle.std.specs.Prelude.{◌≡◌, ℕ, ◌≤◌, List, ◌++◌, All, Option, Some, None}
+use Rattle.std.specs.Prelude.{ℕ, ◌≤◌, List, ◌++◌, All, Option, Some, None}
 use Rattle.eve_history.specs.Faults.{RequestId}
 use Rattle.eve_history.specs.Notes.{IsRepeated}
 

@@ -1,13 +1,15 @@
 -- A replica's section, step by step: where it has come to, and which step is right there.
 -- docs/MODEL.md, "Section state, fate".
-use Rattle.std.specs.Prelude.{ℕ, ◌+◌, ◌-◌, nat_lt, nat_le, ◌==◌, Bool, true, false, ◌&&◌, if◌then◌else◌, List, [], ◌∷◌, ◌++◌, map, length, slice_index_or}
+use Rattle.std.specs.Prelude.{ℕ, ◌+◌, ◌-◌, nat_lt, nat_le, ◌==◌, Bool, true, false, ◌&&◌, if◌then◌else◌, List, [], ◌∷◌}
+use Rattle.std.specs.Prelude.{◌++◌, map, length, slice_index_or}
 use Rattle.std.specs.Bool.{beq}
 use Rattle.std.specs.Cmp.Lexicographic.{pointwise}
 use Rattle.eve_grammar.specs.Trace.{Batch, Access, Attempt, Commit, Rollback, Step, Attempts, Commits, RollsBack, Trace}
 use Rattle.eve_grammar.specs.Certificate.{is_certificate}
 use Rattle.eve_grammar.specs.Accesses.{is_new_access, is_right_place}
 
--- an attempt with its frame's offset, and with those on its path: the ones before it that no rollback before it discarded
+-- an attempt with its frame's offset, and with those on its path: the ones before it that no rollback before it
+-- discarded
 pub record Placed : Type 0 where
   pub offset : ℕ
   pub attempt : Attempt
@@ -41,7 +43,8 @@ abbrev pub next : SectionState → ℕ × Step → SectionState
 next s (at, Attempts a) =
     record s { pending = s.pending ++ record { offset = at; attempt = a; path = path_of s } ∷ []; rolled_back = false }
 next s (at, Commits c) = committing s s.pending
-next s (at, RollsBack r) = record s { view = r.view; pending = []; discarded = s.discarded ++ s.pending; rolled_back = true }
+next s (at, RollsBack r) =
+    record s { view = r.view; pending = []; discarded = s.discarded ++ s.pending; rolled_back = true }
 
 abbrev pub state_after : SectionState → List (ℕ × Step) → SectionState
 state_after s [] = s

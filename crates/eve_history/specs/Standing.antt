@@ -3,7 +3,8 @@ use Rattle.std.specs.Prelude.{◌≡◌, ℕ, ◌+◌, ◌^◌, ◌<◌, ◌≤�
 use Rattle.byteorder.specs.Endian.{big_number}
 use Rattle.eve_grammar.specs.Frames.{OfAttempt, OfAccess, OfRollback}
 use Rattle.eve_grammar.specs.Spelling.{frame_text}
-use Rattle.eve_frames.specs.Views.{is_attempt_frame, is_access_frame, is_rollback_frame, attempt_in, access_in, rollback_in}
+use Rattle.eve_frames.specs.Views.{is_attempt_frame, is_access_frame, is_rollback_frame, attempt_in, access_in}
+use Rattle.eve_frames.specs.Views.{rollback_in}
 
 -- how long the frame is that begins at this byte
 abbrev pub frame_length : List ℕ → ℕ → ℕ

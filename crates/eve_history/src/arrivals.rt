@@ -1,6 +1,7 @@
 //! Customers and requests, in the order in which they came.
 
-ghost use Rattle.std.specs.Prelude.{◌≡◌, ◌≤◌, ◌++◌, ◌∷◌, [], List, Contains, IfOk, IfErr, MatchBool, IsTrue, map, length, nat_eq};
+ghost use Rattle.std.specs.Prelude.{◌≡◌, ◌≤◌, ◌++◌, ◌∷◌, [], List, Contains, IfOk, IfErr, MatchBool, IsTrue, map};
+ghost use Rattle.std.specs.Prelude.{length, nat_eq};
 ghost use Rattle.indexmap.specs.IndexMap.{get};
 ghost use Rattle.eve_grammar.specs.Limits.{is_batch};
 ghost use Rattle.eve_frames.specs.Views.{batch_in};
@@ -8,7 +9,7 @@ ghost use Rattle.eve_views.specs.Form.{IfFound, IsLeast, HasNone};
 ghost use Rattle.eve_views.specs.Fronts.{whole};
 ghost use Rattle.eve_views.specs.declared.fault.Fault.{Fault};
 ghost use Rattle.eve_views.specs.declared.fault.CheckFault.TheVariants.{Found, Memory};
-ghost use Rattle.eve_history.specs.Told.{names_of};
+ghost use Rattle.eve_history.specs.SectionHistory.{names_of};
 ghost use Rattle.eve_history.specs.Faults.{IsOrderFault, RequestId, request_id};
 ghost use Rattle.eve_history.specs.Rising.{AreReached, HaveRisen};
 ghost use Rattle.eve_history.specs.Notes.{AreNoted, IsRepeated, requests_said, HasDistinctNames, HasDistinctRequests};
@@ -100,7 +101,8 @@ fn is_above(
     client: u32,
     number: u64,
 ) -> Result<bool, CheckFault>
-    ensures above { IfOk result (λ above. IsTrue above → (noted : List RequestId) → AreReached (get nat_eq greatest.old) noted
+    ensures above { IfOk result (λ above. IsTrue above → (noted : List RequestId)
+        → AreReached (get nat_eq greatest.old) noted
         → (¬ Contains noted (client, number)) × AreReached (get nat_eq greatest.new) (noted ++ (client, number) ∷ [])) }
     ensures memory { IfErr result (λ e. e ≡ Memory) }
 {
@@ -116,7 +118,8 @@ fn are_above(
     greatest: &mut IndexMap<u32, u64, KeyedHash>,
     batch: &BatchView<'_>,
 ) -> Result<bool, CheckFault>
-    ensures above { IfOk result (λ above. IsTrue above → (noted : List RequestId) → AreReached (get nat_eq greatest.old) noted
+    ensures above { IfOk result (λ above. IsTrue above → (noted : List RequestId)
+        → AreReached (get nat_eq greatest.old) noted
         → HaveRisen noted (map request_id (requests_said batch.now.bytes.now)) (get nat_eq greatest.new)) }
     ensures memory { IfErr result (λ e. e ≡ Memory) }
 {

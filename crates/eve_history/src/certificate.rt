@@ -10,7 +10,8 @@ use eve_frames::{AttemptView, BatchView};
 /// The indexes of a certificate, in its order.
 pub fn read_order(attempt: &AttemptView<'_>, order: &mut [u16; 256])
     requires { length (attempt_in attempt.now.bytes.now).certificate ≤ 256 }
-    ensures { take (length (attempt_in attempt.now.bytes.now).certificate) order.new ≡ (attempt_in attempt.now.bytes.now).certificate }
+    ensures { take (length (attempt_in attempt.now.bytes.now).certificate) order.new
+        ≡ (attempt_in attempt.now.bytes.now).certificate }
 {
     for place in 0..attempt.len() {
         order[place] = attempt.index_at(place);
@@ -20,7 +21,8 @@ pub fn read_order(attempt: &AttemptView<'_>, order: &mut [u16; 256])
 /// The parallelBatch of each index of a batch, from 0.
 fn groups_of(batch: &BatchView<'_>) -> [u8; 256]
     requires { IsTrue (is_batch (batch_in batch.now.bytes.now).1) }
-    ensures { (i : ℕ) → i < length (batch_in batch.now.bytes.now).1.requests → slice_index result i ≡ group_of (batch_in batch.now.bytes.now).1.sizes i }
+    ensures { (i : ℕ) → i < length (batch_in batch.now.bytes.now).1.requests → slice_index result i
+        ≡ group_of (batch_in batch.now.bytes.now).1.sizes i }
 {
     let mut groups = [0; 256];
     let mut group: u8 = 0;
@@ -41,7 +43,8 @@ fn groups_of(batch: &BatchView<'_>) -> [u8; 256]
 pub fn is_certificate(batch: &BatchView<'_>, serial: bool, order: &[u16]) -> bool
     requires whole { IsTrue (is_batch (batch_in batch.now.bytes.now).1) }
     requires count { length order.now ≡ length (batch_in batch.now.bytes.now).1.requests }
-    ensures { result ≡ is_certificate (batch_in batch.now.bytes.now).1.sizes (length (batch_in batch.now.bytes.now).1.requests) serial order.now }
+    ensures { result ≡ is_certificate (batch_in batch.now.bytes.now).1.sizes
+        (length (batch_in batch.now.bytes.now).1.requests) serial order.now }
 {
     eve_grammar::is_certificate(&groups_of(batch), serial, order)
 }

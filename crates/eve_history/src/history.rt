@@ -1,6 +1,7 @@
 //! What a replica did.
 
-ghost use Rattle.std.specs.Prelude.{◌≡◌, ◌≤◌, ◌<◌, ◌-◌, ◌∷◌, ℕ, List, Some, IfOk, IfErr, OnOk, IsTrue, length, slice_get};
+ghost use Rattle.std.specs.Prelude.{◌≡◌, ◌≤◌, ◌<◌, ◌-◌, ◌∷◌, ℕ, List, Some, IfOk, IfErr, OnOk, IsTrue, length};
+ghost use Rattle.std.specs.Prelude.{slice_get};
 ghost use Rattle.eve_grammar.specs.Trace.{Step as StepValue, Trace as TraceValue};
 ghost use Rattle.eve_grammar.specs.Frames.{OfAttempt, OfAccess, OfRollback};
 ghost use Rattle.eve_grammar.specs.Spelling.{frame_text};
@@ -10,7 +11,7 @@ ghost use Rattle.eve_views.specs.Fronts.{whole};
 ghost use Rattle.eve_views.specs.Lent.{HasBytesAt};
 ghost use Rattle.eve_views.specs.StepKinds.{IsStep};
 ghost use Rattle.eve_views.specs.declared.fault.Fault.{Fault};
-ghost use Rattle.eve_history.specs.Told.{Ran, telling, tellings, IsRightSection};
+ghost use Rattle.eve_history.specs.SectionHistory.{ExecutedAttempt, section_history, section_histories, IsRightSection};
 ghost use Rattle.eve_history.specs.Faults.{IsStructureFault};
 ghost use Rattle.eve_history.specs.Coming.{kept, HasCome, IsNoted};
 
@@ -33,13 +34,13 @@ pub struct History<'a> {
 }
 
 impl<'a> Model for History<'a> {
-    ghost use Rattle.eve_history.specs.Told.{Telling};
+    ghost use Rattle.eve_history.specs.SectionHistory.{SectionHistory};
 
-    ghost Value = { Telling };
+    ghost Value = { SectionHistory };
 
-    ghost use Rattle.eve_history.specs.Coming.{kept, telling_of, IsWhole};
+    ghost use Rattle.eve_history.specs.Coming.{kept, section_history_of, IsWhole};
 
-    ghost view = { λ h. telling_of h.replica (kept h.notes) };
+    ghost view = { λ h. section_history_of h.replica (kept h.notes) };
 
     ghost invariant = { λ h. IsWhole h.notes };
 }
@@ -48,7 +49,7 @@ impl<'a> Model for History<'a> {
 ///
 /// docs/MODEL.md, "Section state, fate".
 pub fn are_right(histories: &[History<'_>])
-    ensures { (t : TraceValue) → histories.now ≡ tellings t → (e : ℕ) → IsRightSection t e }
+    ensures { (t : TraceValue) → histories.now ≡ section_histories t → (e : ℕ) → IsRightSection t e }
 {
     for history in histories {
         history.is_right();
@@ -63,11 +64,15 @@ fn take<'a>(
     step: Step<'_, 'a>,
 ) -> Result<(), CheckFault>
     requires noted { IsNoted (whole trace.now) notes.old }
-    requires comes { (rest : List (ℕ × StepValue)) × (next : ℕ × StepValue) × HasCome (whole trace.now) e (next ∷ rest) (kept notes.old) × IsStep step next }
-    ensures taken { OnOk result ((rest : List (ℕ × StepValue)) (next : ℕ × StepValue) → HasCome (whole trace.now) e (next ∷ rest) (kept notes.old) → IsStep step.entry next
+    requires comes { (rest : List (ℕ × StepValue)) × (next : ℕ × StepValue)
+        × HasCome (whole trace.now) e (next ∷ rest) (kept notes.old) × IsStep step next }
+    ensures taken { OnOk result ((rest : List (ℕ × StepValue)) (next : ℕ × StepValue)
+        → HasCome (whole trace.now) e (next ∷ rest) (kept notes.old) → IsStep step.entry next
         → HasCome (whole trace.now) e rest (kept notes.new)) }
     ensures noted { OnOk result (IsNoted (whole trace.now) notes.new) }
-    ensures wrong { IfErr result (λ x. IfFound x (λ f. (rest : List (ℕ × StepValue)) (next : ℕ × StepValue) → HasCome (whole trace.now) e (next ∷ rest) (kept notes.old) → IsStep step.entry next
+    ensures wrong { IfErr result
+        (λ x. IfFound x (λ f. (rest : List (ℕ × StepValue)) (next : ℕ × StepValue)
+        → HasCome (whole trace.now) e (next ∷ rest) (kept notes.old) → IsStep step.entry next
         → IsLeast (IsStructureFault (whole trace.now) e) f)) }
 {
     trace.is_whole();
@@ -79,14 +84,14 @@ fn take<'a>(
 }
 
 impl<'a> History<'a> {
-    /// What a replica did, by the replica's number from 0, where its section is right; else the first fault of structure
-    /// in it.
+    /// What a replica did, by the replica's number from 0, where its section is right; else the first fault of
+    /// structure in it.
     ///
     /// docs/MODEL.md, "Section state, fate" and "Faults". One pass over the section's frames. Want of memory decides
     /// nothing.
     pub fn of(alloc: Global, trace: &Trace<'a>, e: u8) -> Result<History<'a>, CheckFault>
         requires { e < length (whole trace.now).sections }
-        ensures telling { IfOk result (λ history. history ≡ telling (whole trace.now) e) }
+        ensures section_history { IfOk result (λ history. history ≡ section_history (whole trace.now) e) }
         ensures replica { IfOk result (λ history. history.replica ≡ e) }
         ensures right { IfOk result (λ _. IsRightSection (whole trace.now) e) }
         ensures none { IfOk result (λ _. HasNone (IsStructureFault (whole trace.now) e)) }
@@ -106,7 +111,7 @@ impl<'a> History<'a> {
     /// docs/MODEL.md, "Section state, fate".
     pub fn is_right(&self)
         ensures right { IsTrue self.now.right }
-        ensures section { (t : TraceValue) (e : ℕ) → self.now ≡ telling t e → IsRightSection t e }
+        ensures section { (t : TraceValue) (e : ℕ) → self.now ≡ section_history t e → IsRightSection t e }
     {
         let _replica = self.replica;
     }
@@ -130,7 +135,8 @@ impl<'a> History<'a> {
     pub fn committed_attempt(&self, n: u32) -> usize
         requires one { 1 ≤ n }
         requires there { n ≤ length self.now.commits }
-        ensures { (r : Ran) × (slice_get self.now.commits (n - 1) ≡ Some r) × (slice_get self.now.attempts result ≡ Some r) }
+        ensures { (r : ExecutedAttempt) × (slice_get self.now.commits (n - 1) ≡ Some r)
+            × (slice_get self.now.attempts result ≡ Some r) }
     {
         self.notes.commits[n as usize - 1]
     }
@@ -146,9 +152,11 @@ impl<'a> History<'a> {
     /// An attempt. Its access records have frames of their own.
     pub fn attempt(&self, i: usize) -> AttemptView<'a>
         requires { i < length self.now.attempts }
-        ensures says { (r : Ran) × (slice_get self.now.attempts i ≡ Some r) × (result.offset ≡ r.offset) × (attempt_in result.bytes.now ≡ r.attempt) × (length r.ordered ≡ length r.attempt.certificate) }
+        ensures says { (r : ExecutedAttempt) × (slice_get self.now.attempts i ≡ Some r) × (result.offset ≡ r.offset)
+            × (attempt_in result.bytes.now ≡ r.attempt) × (length r.ordered ≡ length r.attempt.certificate) }
         ensures text { result.bytes.now ≡ frame_text (OfAttempt (attempt_in result.bytes.now)) }
-        ensures stands { (t : TraceValue) (e : ℕ) → self.now ≡ telling t e → HasBytesAt t result.offset result.bytes.now }
+        ensures stands { (t : TraceValue) (e : ℕ) → self.now ≡ section_history t e
+            → HasBytesAt t result.offset result.bytes.now }
     {
         attempt_at(self.notes.bytes, self.notes.attempts[i].at)
     }
@@ -168,8 +176,9 @@ impl<'a> History<'a> {
     /// The access record that an attempt's certificate lists at a place, from 0.
     pub fn ordered(&self, i: usize, place: usize) -> AccessView<'a>
         requires attempt { i < length self.now.attempts }
-        requires place { (r : Ran) → slice_get self.now.attempts i ≡ Some r → place < length r.ordered }
-        ensures says { (r : Ran) × (slice_get self.now.attempts i ≡ Some r) × (slice_get r.ordered place ≡ Some (result.offset, access_in result.bytes.now)) }
+        requires place { (r : ExecutedAttempt) → slice_get self.now.attempts i ≡ Some r → place < length r.ordered }
+        ensures says { (r : ExecutedAttempt) × (slice_get self.now.attempts i ≡ Some r)
+            × (slice_get r.ordered place ≡ Some (result.offset, access_in result.bytes.now)) }
         ensures text { result.bytes.now ≡ frame_text (OfAccess (access_in result.bytes.now)) }
     {
         let from = self.notes.attempts[i].from;
@@ -189,7 +198,8 @@ impl<'a> History<'a> {
         requires { i < length self.now.rollbacks }
         ensures says { slice_get self.now.rollbacks i ≡ Some (result.offset, rollback_in result.bytes.now) }
         ensures text { result.bytes.now ≡ frame_text (OfRollback (rollback_in result.bytes.now)) }
-        ensures stands { (t : TraceValue) (e : ℕ) → self.now ≡ telling t e → HasBytesAt t result.offset result.bytes.now }
+        ensures stands { (t : TraceValue) (e : ℕ) → self.now ≡ section_history t e
+            → HasBytesAt t result.offset result.bytes.now }
     {
         rollback_at(self.notes.bytes, self.notes.rollbacks[i])
     }

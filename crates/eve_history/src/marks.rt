@@ -53,7 +53,8 @@ impl Marks {
         requires workers { workers ≤ 8 }
         requires count { count ≤ 256 }
         requires marked { (before : List Access) × AreMarked before self.old × (number ≡ length before) }
-        ensures { (before : List Access) → AreMarked before self.old → number ≡ length before → IsJudged workers count before (access_in access.now.bytes.now) result self.new }
+        ensures { (before : List Access) → AreMarked before self.old → number ≡ length before
+            → IsJudged workers count before (access_in access.now.bytes.now) result self.new }
     {
         let worker = access.worker();
         let index = access.index() as usize;

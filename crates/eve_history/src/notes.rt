@@ -1,8 +1,10 @@
 //! What a replica's section tells, step by step.
 
-ghost use Rattle.std.specs.Prelude.{◌≡◌, ◌≤◌, ◌<◌, ◌++◌, ◌∷◌, ◌^◌, [], ℕ, List, IsTrue, IfOk, IfErr, OnOk, IfNone, ◌==◌, ◌&&◌, false, map, length};
+ghost use Rattle.std.specs.Prelude.{◌≡◌, ◌≤◌, ◌<◌, ◌++◌, ◌∷◌, ◌^◌, [], ℕ, List, IsTrue, IfOk, IfErr, OnOk, IfNone};
+ghost use Rattle.std.specs.Prelude.{◌==◌, ◌&&◌, false, map, length};
 ghost use Rattle.std.specs.List.{AllByRecursion, list_any};
-ghost use Rattle.eve_grammar.specs.Trace.{Trace as TraceValue, Attempt, Step as StepValue, Attempts, Commits, RollsBack, head_of};
+ghost use Rattle.eve_grammar.specs.Trace.{Trace as TraceValue, Attempt, Step as StepValue, Attempts, Commits};
+ghost use Rattle.eve_grammar.specs.Trace.{RollsBack, head_of};
 ghost use Rattle.eve_grammar.specs.Frames.{without_accesses};
 ghost use Rattle.eve_grammar.specs.Limits.{is_attempt};
 ghost use Rattle.eve_grammar.specs.Bodies.{limits};
@@ -13,7 +15,7 @@ ghost use Rattle.eve_views.specs.Fronts.{whole};
 ghost use Rattle.eve_views.specs.StepKinds.{IsStep};
 ghost use Rattle.eve_views.specs.declared.fault.CheckFault.TheVariants.{Found, Memory};
 ghost use Rattle.eve_history.specs.Section.{SectionState, is_due, is_right_commit, is_right_rollback, same_bytes};
-ghost use Rattle.eve_history.specs.Told.{access_with};
+ghost use Rattle.eve_history.specs.SectionHistory.{access_with};
 ghost use Rattle.eve_history.specs.Faults.{accesses_of, IsStructureFault};
 ghost use Rattle.eve_history.specs.FirstWrong.{wrong_attempt, wrong_step, fault_of};
 ghost use Rattle.eve_history.specs.Marking.{AreMarked};
@@ -74,7 +76,8 @@ fn fault_in(e: u8, wrong: Wrong) -> CheckFault
 
 /// Whether the commit has the attempt's view and token.
 fn is_of(commit: &CommitView<'_>, attempt: &AttemptView<'_>) -> bool
-    ensures { result ≡ (((attempt_in attempt.now.bytes.now).view == (commit_in commit.now.bytes.now).view) && same_bytes (attempt_in attempt.now.bytes.now).token (commit_in commit.now.bytes.now).token) }
+    ensures { result ≡ (((attempt_in attempt.now.bytes.now).view == (commit_in commit.now.bytes.now).view) && same_bytes
+        (attempt_in attempt.now.bytes.now).token (commit_in commit.now.bytes.now).token) }
 {
     attempt.view() == commit.view() && attempt.token() == commit.token()
 }
@@ -87,9 +90,11 @@ fn keep_records(
     marks: &Marks,
 ) -> Result<(), CheckFault>
     requires marked { AreMarked (accesses_of accesses.now) marks.now }
-    requires there { AllByRecursion (λ i. (i < 256) × IsTrue (list_any (λ y. y.index == i) (accesses_of accesses.now))) order.now }
+    requires there { AllByRecursion (λ i. (i < 256) × IsTrue (list_any (λ y. y.index == i) (accesses_of accesses.now)))
+        order.now }
     requires small { AllByRecursion (λ x. x.0 < 2 ^ 32) accesses.now }
-    ensures kept { OnOk result (records.new.items ≡ records.old.items ++ map (λ i. (access_with accesses.now i).0) order.now) }
+    ensures kept { OnOk result
+        (records.new.items ≡ records.old.items ++ map (λ i. (access_with accesses.now i).0) order.now) }
     ensures memory { IfErr result (λ e. e ≡ Memory) }
 {
     for index in order {
@@ -107,7 +112,17 @@ impl<'a> Notes<'a> {
         ensures attempts { result.attempts.items ≡ [] }
         ensures records { result.records.items ≡ [] }
         ensures rollbacks { result.rollbacks.items ≡ [] }
-        ensures kept { kept result ≡ record { view = 0; last = 0; rolled_back = false; attempts = []; fates = []; commits = []; records = []; rollbacks = [] } }
+        ensures kept { kept result
+            ≡ record {
+              view = 0;
+              last = 0;
+              rolled_back = false;
+              attempts = [];
+              fates = [];
+              commits = [];
+              records = [];
+              rollbacks = [];
+            } }
     {
         Notes {
             bytes,
@@ -125,7 +140,8 @@ impl<'a> Notes<'a> {
     /// Whether an attempt's number, view and mode are those that are due.
     fn is_due(&self, head: &Head, attempt: &AttemptView<'_>) -> bool
         requires { length (kept self.now).fates ≤ length (kept self.now).attempts }
-        ensures due { (t : TraceValue) (s : SectionState) → StandsAt s (kept self.now) → limits head.now ≡ head_of t → result ≡ is_due t s (attempt_in attempt.now.bytes.now) }
+        ensures due { (t : TraceValue) (s : SectionState) → StandsAt s (kept self.now) → limits head.now ≡ head_of t
+            → result ≡ is_due t s (attempt_in attempt.now.bytes.now) }
         ensures from_one { IsTrue result → 1 ≤ (attempt_in attempt.now.bytes.now).seq }
         ensures there { IsTrue result → (attempt_in attempt.now.bytes.now).seq ≤ head.now.batches }
     {
@@ -149,7 +165,8 @@ impl<'a> Notes<'a> {
     ) -> Option<Code>
         requires fewer { length (kept self.now).fates ≤ length (kept self.now).attempts }
         requires order { order.now ≡ (attempt_in attempt.now.bytes.now).certificate }
-        ensures { (s : SectionState) → StandsAt s (kept self.now) → result ≡ wrong_attempt (whole trace.now) s (attempt_in attempt.now.bytes.now) }
+        ensures { (s : SectionState) → StandsAt s (kept self.now)
+            → result ≡ wrong_attempt (whole trace.now) s (attempt_in attempt.now.bytes.now) }
     {
         trace.is_whole();
         if !self.is_due(&trace.head(), attempt) {
@@ -168,7 +185,8 @@ impl<'a> Notes<'a> {
     /// Whether the commit is of the first open attempt.
     fn commits_first(&self, commit: &CommitView<'_>) -> bool
         requires { AreFramed self.now }
-        ensures { (s : SectionState) → StandsAt s (kept self.now) → result ≡ is_right_commit s (commit_in commit.now.bytes.now) }
+        ensures { (s : SectionState) → StandsAt s (kept self.now)
+            → result ≡ is_right_commit s (commit_in commit.now.bytes.now) }
     {
         let settled = self.fates.len();
         if settled >= self.attempts.len() {
@@ -182,7 +200,8 @@ impl<'a> Notes<'a> {
 
     /// Whether the rollback is to the last committed number, of a batch that is still to come, and in the next view.
     fn rolls_back(&self, head: &Head, rollback: &RollbackView<'_>) -> bool
-        ensures { (t : TraceValue) (s : SectionState) → StandsAt s (kept self.now) → limits head.now ≡ head_of t → result ≡ is_right_rollback t s (rollback_in rollback.now.bytes.now) }
+        ensures { (t : TraceValue) (s : SectionState) → StandsAt s (kept self.now) → limits head.now ≡ head_of t
+            → result ≡ is_right_rollback t s (rollback_in rollback.now.bytes.now) }
     {
         rollback.to() == self.last
             && self.last < head.batches
@@ -203,7 +222,8 @@ impl<'a> Notes<'a> {
         requires few { length order.now ≤ 256 }
         requires many { length accesses.now ≡ length order.now }
         requires none { AreMarked [] marks.old }
-        ensures wrong { (s : SectionState) (b : Attempt) → StandsAt s (kept self.now) → attempt_in attempt.now.bytes.now ≡ without_accesses b → accesses.now ≡ accesses_at attempt.now.offset b
+        ensures wrong { (s : SectionState) (b : Attempt) → StandsAt s (kept self.now) → attempt_in attempt.now.bytes.now
+            ≡ without_accesses b → accesses.now ≡ accesses_at attempt.now.offset b
             → result ≡ wrong_step (whole trace.now) s (attempt.now.offset, Attempts b) }
         ensures marked { IfNone result (AreMarked (accesses_of accesses.now) marks.new) }
     {
@@ -231,11 +251,18 @@ impl<'a> Notes<'a> {
         accesses: &Accesses<'_, '_>,
     ) -> Result<(), CheckFault>
         requires noted { IsNoted (whole trace.now) self.old }
-        requires comes { (rest : List (ℕ × StepValue)) × (b : Attempt) × ComesNext (whole trace.now) e rest b (kept self.old) attempt.now.offset (attempt_in attempt.now.bytes.now) accesses.now }
-        ensures taken { OnOk result ((rest : List (ℕ × StepValue)) (b : Attempt) → ComesNext (whole trace.now) e rest b (kept self.old) attempt.now.offset (attempt_in attempt.now.bytes.now) accesses.now
+        requires comes { (rest : List (ℕ × StepValue)) × (b : Attempt)
+            × ComesNext (whole trace.now) e rest b (kept self.old) attempt.now.offset (attempt_in attempt.now.bytes.now)
+            accesses.now }
+        ensures taken { OnOk result ((rest : List (ℕ × StepValue)) (b : Attempt)
+            → ComesNext (whole trace.now) e rest b (kept self.old) attempt.now.offset (attempt_in attempt.now.bytes.now)
+            accesses.now
             → HasCome (whole trace.now) e rest (kept self.new)) }
         ensures noted { OnOk result (IsNoted (whole trace.now) self.new) }
-        ensures wrong { IfErr result (λ x. IfFound x (λ f. (rest : List (ℕ × StepValue)) (b : Attempt) → ComesNext (whole trace.now) e rest b (kept self.old) attempt.now.offset (attempt_in attempt.now.bytes.now) accesses.now
+        ensures wrong { IfErr result
+            (λ x. IfFound x (λ f. (rest : List (ℕ × StepValue)) (b : Attempt)
+            → ComesNext (whole trace.now) e rest b (kept self.old) attempt.now.offset (attempt_in attempt.now.bytes.now)
+            accesses.now
             → IsLeast (IsStructureFault (whole trace.now) e) f)) }
     {
         let mut indexes = [0; 256];
@@ -258,10 +285,13 @@ impl<'a> Notes<'a> {
     /// Takes the next commit, of the first open attempt, or says that it is wrong.
     pub fn take_commit(&mut self, e: u8, commit: &CommitView<'_>) -> Result<(), CheckFault>
         requires { AreFramed self.old }
-        ensures taken { OnOk result ((t : TraceValue) (rest : List (ℕ × StepValue)) → HasCome t e ((commit.now.offset, Commits (commit_in commit.now.bytes.now)) ∷ rest) (kept self.old)
+        ensures taken { OnOk result ((t : TraceValue) (rest : List (ℕ × StepValue))
+            → HasCome t e ((commit.now.offset, Commits (commit_in commit.now.bytes.now)) ∷ rest) (kept self.old)
             → HasCome t e rest (kept self.new)) }
         ensures noted { OnOk result ((t : TraceValue) → IsNoted t self.old → IsNoted t self.new) }
-        ensures wrong { IfErr result (λ x. IfFound x (λ f. (t : TraceValue) (rest : List (ℕ × StepValue)) → HasCome t e ((commit.now.offset, Commits (commit_in commit.now.bytes.now)) ∷ rest) (kept self.old)
+        ensures wrong { IfErr result
+            (λ x. IfFound x (λ f. (t : TraceValue) (rest : List (ℕ × StepValue))
+            → HasCome t e ((commit.now.offset, Commits (commit_in commit.now.bytes.now)) ∷ rest) (kept self.old)
             → IsLeast (IsStructureFault t e) f)) }
     {
         if !self.commits_first(commit) {
@@ -289,11 +319,19 @@ impl<'a> Notes<'a> {
         rollback: &RollbackView<'_>,
     ) -> Result<(), CheckFault>
         requires noted { IsNoted (whole trace.now) self.old }
-        requires comes { (rest : List (ℕ × StepValue)) × HasCome (whole trace.now) e ((rollback.now.offset, RollsBack (rollback_in rollback.now.bytes.now)) ∷ rest) (kept self.old) }
-        ensures taken { OnOk result ((rest : List (ℕ × StepValue)) → HasCome (whole trace.now) e ((rollback.now.offset, RollsBack (rollback_in rollback.now.bytes.now)) ∷ rest) (kept self.old)
+        requires comes { (rest : List (ℕ × StepValue))
+            × HasCome (whole trace.now) e ((rollback.now.offset, RollsBack (rollback_in rollback.now.bytes.now)) ∷ rest)
+            (kept self.old) }
+        ensures taken { OnOk result
+            ((rest : List (ℕ × StepValue))
+            → HasCome (whole trace.now) e ((rollback.now.offset, RollsBack (rollback_in rollback.now.bytes.now)) ∷ rest)
+            (kept self.old)
             → HasCome (whole trace.now) e rest (kept self.new)) }
         ensures noted { OnOk result (IsNoted (whole trace.now) self.new) }
-        ensures wrong { IfErr result (λ x. IfFound x (λ f. (rest : List (ℕ × StepValue)) → HasCome (whole trace.now) e ((rollback.now.offset, RollsBack (rollback_in rollback.now.bytes.now)) ∷ rest) (kept self.old)
+        ensures wrong { IfErr result
+            (λ x. IfFound x (λ f. (rest : List (ℕ × StepValue))
+            → HasCome (whole trace.now) e ((rollback.now.offset, RollsBack (rollback_in rollback.now.bytes.now)) ∷ rest)
+            (kept self.old)
             → IsLeast (IsStructureFault (whole trace.now) e) f)) }
     {
         trace.is_whole();

@@ -7,6 +7,7 @@ use Rattle.eve_chains.proofs.along.judge_along.Given as goal
 abbrev pub invariant-loop-access : goal.invariant-loop-access
 invariant-loop-access l = record {
   as_many : length l.table ≡ length l.fn.table;
-  table : table_of l.table ≡ table_after (table_of l.fn.table) (entries_along (all_said (take l.access-index l.ordered)));
+  table : table_of l.table ≡ table_after (table_of l.fn.table)
+      (entries_along (all_said (take l.access-index l.ordered)));
   first : IsFirstAlong l.replica (table_of l.fn.table) (all_said (take l.access-index l.ordered)) l.first;
 }

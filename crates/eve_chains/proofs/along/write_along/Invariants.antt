@@ -7,5 +7,6 @@ use Rattle.eve_chains.proofs.along.write_along.Given as goal
 abbrev pub invariant-loop-access : goal.invariant-loop-access
 invariant-loop-access l = record {
   as_many : length l.table ≡ length l.fn.table;
-  table : table_of l.table ≡ table_after (table_of l.fn.table) (entries_along (all_said (take l.access-index l.ordered)));
+  table : table_of l.table ≡ table_after (table_of l.fn.table)
+      (entries_along (all_said (take l.access-index l.ordered)));
 }

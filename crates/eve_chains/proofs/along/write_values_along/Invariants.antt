@@ -6,5 +6,6 @@ use Rattle.eve_chains.proofs.along.write_values_along.Given as goal
 abbrev pub invariant-loop-access : goal.invariant-loop-access
 invariant-loop-access l = record {
   as_many : length l.balances ≡ length l.fn.balances;
-  values : balance_at l.balances ≡ values_after (balance_at l.fn.balances) (entries_along (all_said (take l.access-index l.ordered)));
+  values : balance_at l.balances ≡ values_after (balance_at l.fn.balances)
+      (entries_along (all_said (take l.access-index l.ordered)));
 }

@@ -5,7 +5,10 @@ pub returns : goal.returns
 returns c =
     let along = c.chains_are_judged_along_the_records.ensures in
     record {
-      stands = λ t e row f limits right fits wrong. along.stands t e f limits right (row_fault_stands t e limits right (rows_apart t e limits right fits) row f wrong);
-      found = λ t e f limits right fits fault. fault_on_row t e limits right (rows_apart t e limits right fits) f (along.found t e f limits right fault);
-      sound = λ t e limits right fits each. along.sound t e limits right fits (all_rows_see t e limits right (rows_apart t e limits right fits) each);
+      stands = λ t e row f limits right fits wrong. along.stands t e f limits right
+          (row_fault_stands t e limits right (rows_apart t e limits right fits) row f wrong);
+      found = λ t e f limits right fits fault. fault_on_row t e limits right (rows_apart t e limits right fits) f
+          (along.found t e f limits right fault);
+      sound = λ t e limits right fits each. along.sound t e limits right fits
+          (all_rows_see t e limits right (rows_apart t e limits right fits) each);
     }

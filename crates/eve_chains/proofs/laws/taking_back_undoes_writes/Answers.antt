@@ -1,5 +1,5 @@
-use Rattle.eve_chains.proofs.AlongLaws.{undone}
+use Rattle.eve_chains.proofs.AlongLaws.{undone_is_before}
 use Rattle.eve_chains.proofs.laws.taking_back_undoes_writes.Goals as goal
 
 pub returns : goal.returns
-returns c = undone
+returns c = undone_is_before

@@ -15,8 +15,10 @@ loop-i-preserved c =
     let w = c.checking-in-loop-i.result in
     let is : c.set-in-loop-i.new.self ≡ set (set c.loop-i.balances (2 * i) z) (2 * i + 1) w = search rules in
     record {
-      rows = ap length is ∙ length-set (set c.loop-i.balances (2 * i) z) (2 * i + 1) w ∙ length-set c.loop-i.balances (2 * i) z ∙ c.loop-i.invariant.rows;
+      rows = ap length is ∙ length-set (set c.loop-i.balances (2 * i) z) (2 * i + 1) w
+          ∙ length-set c.loop-i.balances (2 * i) z ∙ c.loop-i.invariant.rows;
       written = rw is (opening_more (whole c.args.trace.now).customers i customer c.loop-i.balances z w
-          (customer_there (whole c.args.trace.now) i c.customer-customer.result.offset customer c.customer-customer.ensures.says) c.loop-i.invariant.rows c.loop-i.invariant.written
+          (customer_there (whole c.args.trace.now) i c.customer-customer.result.offset customer
+          c.customer-customer.ensures.says) c.loop-i.invariant.rows c.loop-i.invariant.written
           c.saving-in-loop-i.ensures c.checking-in-loop-i.ensures);
     }

@@ -5,7 +5,7 @@ use Rattle.eve_smallbank.specs.SmallBank.{plain}
 use Rattle.eve_grammar.specs.Trace.{Attempt, Batch}
 use Rattle.eve_frames.specs.Views.{batch_in}
 use Rattle.eve_views.specs.Fronts.{whole}
-use Rattle.eve_history.specs.Told.{Ran}
+use Rattle.eve_history.specs.SectionHistory.{ExecutedAttempt}
 use Rattle.eve_chains.proofs.Linked.{some_injective}
 use Rattle.eve_chains.specs.Unfit.{is_settled, records_in, HasRequests, IsLeastUnfit}
 use Rattle.eve_chains.proofs.Judged.{ready_told, as_many, as_recorded}
@@ -14,7 +14,8 @@ use Rattle.eve_chains.proofs.unfit.judge_attempt.Goals as goal
 pub batch-batch-requires-clause-from_one : goal.batch-batch-requires-clause-from_one
 batch-batch-requires-clause-from_one c =
     let r = c.attempt.ensures.says.0 in
-    let ready = ready_told (whole c.args.trace.now) c.args.history.now.replica c.is_whole.ensures.limits c.requires.right c.args.history.now c.args.i r c.fate.result c.requires.told
+    let ready = ready_told (whole c.args.trace.now) c.args.history.now.replica c.is_whole.ensures.limits
+    c.requires.right c.args.history.now c.args.i r c.fate.result c.requires.told
     c.attempt.ensures.says.1 c.fate.ensures (sym c.is_settled.ensures ∙ c.if-not-is_settled.false) in
     let seq : c.seq.result ≡ r.attempt.seq = c.seq.ensures ∙ ap (λ (a : Attempt). a.seq) c.attempt.ensures.says.3 in
     let one : 1 ≤ r.attempt.seq = ready.from_one in
@@ -23,7 +24,8 @@ batch-batch-requires-clause-from_one c =
 pub batch-batch-requires-clause-there : goal.batch-batch-requires-clause-there
 batch-batch-requires-clause-there c =
     let r = c.attempt.ensures.says.0 in
-    let ready = ready_told (whole c.args.trace.now) c.args.history.now.replica c.is_whole.ensures.limits c.requires.right c.args.history.now c.args.i r c.fate.result c.requires.told
+    let ready = ready_told (whole c.args.trace.now) c.args.history.now.replica c.is_whole.ensures.limits
+    c.requires.right c.args.history.now c.args.i r c.fate.result c.requires.told
     c.attempt.ensures.says.1 c.fate.ensures (sym c.is_settled.ensures ∙ c.if-not-is_settled.false) in
     let seq : c.seq.result ≡ r.attempt.seq = c.seq.ensures ∙ ap (λ (a : Attempt). a.seq) c.attempt.ensures.says.3 in
     let there : r.attempt.seq ≤ length (whole c.args.trace.now).batches = ready.there_is in
@@ -32,23 +34,31 @@ batch-batch-requires-clause-there c =
 pub judge_records-requires-clause-requests : goal.judge_records-requires-clause-requests
 judge_records-requires-clause-requests c r at =
     let t = whole c.args.trace.now in
-    let own : c.attempt.ensures.says.0 ≡ r = some_injective c.attempt.ensures.says.0 r (sym c.attempt.ensures.says.1 ∙ at) in
-    let ready = ready_told t c.args.history.now.replica c.is_whole.ensures.limits c.requires.right c.args.history.now c.args.i r c.fate.result c.requires.told
+    let own : c.attempt.ensures.says.0 ≡ r = some_injective c.attempt.ensures.says.0 r
+    (sym c.attempt.ensures.says.1 ∙ at) in
+    let ready = ready_told t c.args.history.now.replica c.is_whole.ensures.limits c.requires.right c.args.history.now
+    c.args.i r c.fate.result c.requires.told
     at c.fate.ensures (sym c.is_settled.ensures ∙ c.if-not-is_settled.false) in
-    let seq : c.seq.result ≡ r.attempt.seq = c.seq.ensures ∙ ap (λ (a : Attempt). a.seq) c.attempt.ensures.says.3 ∙ ap (λ (q : Ran). q.attempt.seq) own in
+    let seq : c.seq.result ≡ r.attempt.seq = c.seq.ensures ∙ ap (λ (a : Attempt). a.seq) c.attempt.ensures.says.3
+    ∙ ap (λ (q : ExecutedAttempt). q.attempt.seq) own in
     let said : ℕ × (ℕ × Batch) = (c.batch-batch.result.offset, batch_in c.batch-batch.result.bytes.now) in
     let lent : c.deref.result.now ≡ c.read_requests.new.requests.items = search rules in
     let read = ap (map plain) lent ∙ c.in_ok-read_requests.ensures in
-    subst (λ (n : ℕ). HasRequests n r) (as_many t r c.seq.result said c.deref.result.now c.batch-batch.ensures.says seq read) ready.requests
+    subst (λ (n : ℕ). HasRequests n r)
+    (as_many t r c.seq.result said c.deref.result.now c.batch-batch.ensures.says seq read) ready.requests
 
 pub returns : goal.returns
 returns c r fate at its =
     let t = whole c.args.trace.now in
-    let own : c.attempt.ensures.says.0 ≡ r = some_injective c.attempt.ensures.says.0 r (sym c.attempt.ensures.says.1 ∙ at) in
-    let seq : c.seq.result ≡ r.attempt.seq = c.seq.ensures ∙ ap (λ (a : Attempt). a.seq) c.attempt.ensures.says.3 ∙ ap (λ (q : Ran). q.attempt.seq) own in
+    let own : c.attempt.ensures.says.0 ≡ r = some_injective c.attempt.ensures.says.0 r
+    (sym c.attempt.ensures.says.1 ∙ at) in
+    let seq : c.seq.result ≡ r.attempt.seq = c.seq.ensures ∙ ap (λ (a : Attempt). a.seq) c.attempt.ensures.says.3
+    ∙ ap (λ (q : ExecutedAttempt). q.attempt.seq) own in
     let said : ℕ × (ℕ × Batch) = (c.batch-batch.result.offset, batch_in c.batch-batch.result.bytes.now) in
     let lent : c.deref.result.now ≡ c.read_requests.new.requests.items = search rules in
     let read = ap (map plain) lent ∙ c.in_ok-read_requests.ensures in
-    let passes = ap is_settled (some_injective fate c.fate.result (sym its ∙ c.fate.ensures)) ∙ sym c.is_settled.ensures ∙ c.if-not-is_settled.false in
+    let passes = ap is_settled (some_injective fate c.fate.result (sym its ∙ c.fate.ensures)) ∙ sym c.is_settled.ensures
+    ∙ c.if-not-is_settled.false in
     subst (λ (xs : List (ℕ × Executed)). IsLeastUnfit c.args.names.now.items xs c.judge_records.result)
-    (as_recorded t r c.seq.result said c.deref.result.now c.batch-batch.ensures.says seq read ∙ sym (cond-true (is_settled fate) (records_in t r) [] passes)) (c.judge_records.ensures r at)
+    (as_recorded t r c.seq.result said c.deref.result.now c.batch-batch.ensures.says seq read
+    ∙ sym (cond-true (is_settled fate) (records_in t r) [] passes)) (c.judge_records.ensures r at)

@@ -8,5 +8,9 @@ use Rattle.eve_chains.proofs.unfit.judge_record.Goals as goal
 
 pub returns-else-fits : goal.returns-else-fits
 returns-else-fits c =
-    unfit_alone c.args.names.now.items (c.args.access.now.offset, recorded (plain c.args.request.now) c.args.reply (access_in c.args.access.now.bytes.now).entries) c.offset.result c.offset.ensures
+    unfit_alone c.args.names.now.items (
+      c.args.access.now.offset,
+      recorded (plain c.args.request.now) c.args.reply
+          (access_in c.args.access.now.bytes.now).entries,
+    ) c.offset.result c.offset.ensures
     (λ fits. absurd (false≢true (sym c.if-fits.false ∙ c.fits.ensures.1 fits)))

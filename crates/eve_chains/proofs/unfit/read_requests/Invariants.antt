@@ -4,4 +4,5 @@ use Rattle.eve_frames.specs.Views.{batch_in}
 use Rattle.eve_chains.proofs.unfit.read_requests.Given as goal
 
 abbrev pub invariant-loop-asked : goal.invariant-loop-asked
-invariant-loop-asked l = map plain l.requests.items ++ map (λ a. a.request) l.asked-iterator ≡ map (λ a. a.request) (batch_in l.batch.bytes.now).1.requests
+invariant-loop-asked l = map plain l.requests.items ++ map (λ a. a.request) l.asked-iterator
+    ≡ map (λ a. a.request) (batch_in l.batch.bytes.now).1.requests

@@ -12,15 +12,18 @@ loop-asked-init c = λ noted reached.
     let own = requests_said c.args.batch.now.bytes.now in
     let greatest = get eqb c.args.greatest.now in
     let items : c.into_iter-asked-iterator.result ≡ own = search rules in
-    subst (λ (xs : List Asked). Rising noted (map request_id own) (map request_id xs) greatest) (sym items) (rising_start noted (map request_id own) greatest reached)
+    subst (λ (xs : List Asked). Rising noted (map request_id own) (map request_id xs) greatest) (sym items)
+    (rising_start noted (map request_id own) greatest reached)
 
 pub loop-asked-preserved : goal.loop-asked-preserved
 loop-asked-preserved c = λ noted reached.
     let own = map request_id (requests_said c.args.batch.now.bytes.now) in
     let greatest = get eqb c.loop-asked.greatest in
     let first : c.loop-asked.asked-iterator ≡ asked c.in-Some.asked ∷ c.next.new.self = search rules in
-    rising_more noted own (map request_id c.next.new.self) (request_id (asked c.in-Some.asked)) greatest (get eqb c.is_above.new.greatest)
-    (subst (λ (xs : List Asked). Rising noted own (map request_id xs) greatest) first (c.loop-asked.invariant noted reached))
+    rising_more noted own (map request_id c.next.new.self) (request_id (asked c.in-Some.asked)) greatest
+    (get eqb c.is_above.new.greatest)
+    (subst (λ (xs : List Asked). Rising noted own (map request_id xs) greatest) first
+    (c.loop-asked.invariant noted reached))
     (c.in_ok-is_above.ensures.above c.if-not-branch.false)
 
 pub returns-clause-above : goal.returns-clause-above
@@ -28,4 +31,6 @@ returns-clause-above c = λ _ noted reached.
     let own = map request_id (requests_said c.args.batch.now.bytes.now) in
     let greatest = get eqb c.loop-asked.greatest in
     let none : c.loop-asked.asked-iterator ≡ [] = search rules in
-    rising_end noted own greatest (subst (λ (xs : List Asked). Rising noted own (map request_id xs) greatest) none (c.loop-asked.invariant noted reached))
+    rising_end noted own greatest
+    (subst (λ (xs : List Asked). Rising noted own (map request_id xs) greatest) none
+    (c.loop-asked.invariant noted reached))

@@ -8,4 +8,6 @@ use Rattle.eve_history.proofs.arrivals.are_above.Given as goal
 
 abbrev pub invariant-loop-asked : goal.invariant-loop-asked
 invariant-loop-asked l =
-    (noted : List RequestId) → AreReached (get eqb l.fn.greatest) noted → Rising noted (map request_id (requests_said l.batch.bytes.now)) (map request_id l.asked-iterator) (get eqb l.greatest)
+    (noted : List RequestId) → AreReached (get eqb l.fn.greatest) noted
+    → Rising noted (map request_id (requests_said l.batch.bytes.now)) (map request_id l.asked-iterator)
+    (get eqb l.greatest)

@@ -5,4 +5,5 @@ use Rattle.eve_history.proofs.RequestIds.{Noting}
 use Rattle.eve_history.proofs.arrivals.are_new.Given as goal
 
 abbrev pub invariant-loop-asked : goal.invariant-loop-asked
-invariant-loop-asked l = Noting l.fn.noted.keys (map request_id (requests_said l.batch.bytes.now)) (map request_id l.asked-iterator) l.noted.keys
+invariant-loop-asked l = Noting l.fn.noted.keys (map request_id (requests_said l.batch.bytes.now))
+    (map request_id l.asked-iterator) l.noted.keys

@@ -12,11 +12,13 @@ pub loop-n-preserved : goal.loop-n-preserved
 loop-n-preserved c =
     let t = whole c.args.trace.now in
     let said : ℕ × (ℕ × Batch) = (c.batch-batch.result.offset, batch_in c.batch-batch.result.bytes.now) in
-    risen_more t c.loop-n.n (get eqb c.loop-n.greatest) (get eqb c.are_above.new.greatest) said c.loop-n.invariant (batch_there (batches_at t) c.loop-n.n said c.batch-batch.ensures.says)
+    risen_more t c.loop-n.n (get eqb c.loop-n.greatest) (get eqb c.are_above.new.greatest) said c.loop-n.invariant
+    (batch_there (batches_at t) c.loop-n.n said c.batch-batch.ensures.says)
     (c.in_ok-are_above.ensures.above c.if-not-branch.false)
 
 pub returns-clause-apart : goal.returns-clause-apart
 returns-clause-apart c = λ _.
     let t = whole c.args.trace.now in
-    let count : c.head-n-end.result.batches ≡ length t.batches = ap (λ (h : Head). h.batches) (c.head-n-end.ensures ∙ sym c.is_whole.ensures.head) in
+    let count : c.head-n-end.result.batches ≡ length t.batches =
+    ap (λ (h : Head). h.batches) (c.head-n-end.ensures ∙ sym c.is_whole.ensures.head) in
     risen_apart t c.loop-n.n (get eqb c.loop-n.greatest) c.loop-n.invariant (omega arith)

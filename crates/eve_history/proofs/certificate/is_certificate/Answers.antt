@@ -5,7 +5,8 @@ use Rattle.eve_frames.specs.Views.{batch_in}
 use Rattle.eve_grammar.proofs.Grouping.{few_requests}
 use Rattle.eve_history.proofs.certificate.is_certificate.Goals as goal
 
-few : (b : Batch) (order : List ℕ) → (length b.requests ≡ sum b.sizes) × (sum b.sizes ≤ 256) → length order ≡ length b.requests → length order ≤ 256
+few : (b : Batch) (order : List ℕ) → (length b.requests ≡ sum b.sizes) × (sum b.sizes ≤ 256) → length order
+    ≡ length b.requests → length order ≤ 256
 few b order requests count = let one = requests.0 in let two = requests.1 in omega arith
 
 pub is_certificate-requires : goal.is_certificate-requires

@@ -7,8 +7,10 @@ pub loop-history-preserved : goal.loop-history-preserved
 loop-history-preserved c =
     let hs = c.args.histories.now in
     let i = c.loop-history.history-index in
-    right_more hs i c.history-item.result c.loop-history.invariant (slice_get_read hs (length hs) i c.history-item.result refl c.loop-history-test.true c.history-item.is)
+    right_more hs i c.history-item.result c.loop-history.invariant
+    (slice_get_read hs (length hs) i c.history-item.result refl c.loop-history-test.true c.history-item.is)
     c.is_right.ensures.right
 
 pub returns : goal.returns
-returns c = λ t is. all_right t c.args.histories.now c.loop-history.history-index (omega (arith, c.loop-history-test.false)) c.loop-history.invariant is
+returns c = λ t is. all_right t c.args.histories.now c.loop-history.history-index
+    (omega (arith, c.loop-history-test.false)) c.loop-history.invariant is

@@ -1,8 +1,9 @@
-use Rattle.std.proofs.Common.{◌≡◌, ℕ, ◌<◌, ◌^◌, List, [], ◌∷◌, ◌++◌, map, length, get_or, take, slice_get, Some, ap, sym, ◌∙◌, append_assoc, arith}
+use Rattle.std.proofs.Common.{◌≡◌, ℕ, ◌<◌, ◌^◌, List, [], ◌∷◌, ◌++◌, map, length, get_or, take, slice_get, Some, ap}
+use Rattle.std.proofs.Common.{sym, ◌∙◌, append_assoc, arith}
 use Rattle.std.proofs.lemmas.List.{map-append, take_more, append-nil}
 use Rattle.eve_grammar.specs.Trace.{Access}
 use Rattle.eve_frames.specs.Views.{access_in}
-use Rattle.eve_history.specs.Told.{access_with}
+use Rattle.eve_history.specs.SectionHistory.{access_with}
 use Rattle.eve_history.proofs.Finding.{found_number, each_at, rec_at}
 use Rattle.eve_history.proofs.notes.keep_records.Goals as goal
 
@@ -28,7 +29,9 @@ get-access-requires c =
 pub overflow_cast-offset : goal.overflow_cast-offset
 overflow_cast-offset c =
     let small : c.get-access.result.offset < 2 ^ 32 =
-    rec_at _ c.args.accesses.now c.number-number.result (c.get-access.result.offset, access_in c.get-access.result.bytes.now) c.requires.small c.get-access.ensures.says in
+    rec_at _ c.args.accesses.now c.number-number.result
+    (c.get-access.result.offset, access_in c.get-access.result.bytes.now) c.requires.small c.get-access.ensures.says
+    in
     record { fits = omega (arith, small, c.offset.ensures) }
 
 pub loop-index-preserved : goal.loop-index-preserved
@@ -40,12 +43,15 @@ loop-index-preserved c =
     let index = get_or order i 0 in
     let there = (each_at _ order i 0 c.requires.there (omega arith)).1 in
     let found = found_number xs c.args.marks.now index c.requires.marked there in
-    let at : slice_get xs c.number-number.result ≡ Some (access_with xs index) = ap (slice_get xs) (c.number-number.ensures ∙ found.1) ∙ found.2 in
+    let at : slice_get xs c.number-number.result ≡ Some (access_with xs index) =
+    ap (slice_get xs) (c.number-number.ensures ∙ found.1) ∙ found.2 in
     let met : ℕ × Access = (c.get-access.result.offset, access_in c.get-access.result.bytes.now) in
-    let one : c.offset.result ≡ (access_with xs index).0 = c.offset.ensures ∙ ap (λ (y : ℕ × Access). y.0) (same_access met (access_with xs index) (sym c.get-access.ensures.says ∙ at)) in
+    let one : c.offset.result ≡ (access_with xs index).0 = c.offset.ensures
+    ∙ ap (λ (y : ℕ × Access). y.0) (same_access met (access_with xs index) (sym c.get-access.ensures.says ∙ at)) in
     let within : i < length order = omega arith in
     let place : ℕ → ℕ = λ j. (access_with xs j).0 in
     c.in_ok-push.ensures.items ∙ ap (λ (ys : List ℕ). ys ++ c.offset.result ∷ []) c.loop-index.invariant
     ∙ ap (λ (y : ℕ). (old ++ map place (take i order)) ++ y ∷ []) one
     ∙ append_assoc old (map place (take i order)) (place index ∷ [])
-    ∙ ap (λ (ys : List ℕ). old ++ ys) (sym (map-append place (take i order) (index ∷ [])) ∙ ap (map place) (sym (take_more order i 0 within)))
+    ∙ ap (λ (ys : List ℕ). old ++ ys) (sym (map-append place (take i order) (index ∷ []))
+    ∙ ap (map place) (sym (take_more order i 0 within)))

@@ -17,16 +17,20 @@ pub write_values_along-requires : goal.write_values_along-requires
 write_values_along-requires c =
     let s = c.self.inside in
     let ys = all_said c.part-records.result.now in
-    batch_within c.args.self.now s.opening (all_said s.records.items) ys s.ends.items (c.args.n - 1) (length c.args.balances.now) c.self.view_is c.self.invariant.within c.requires.rows
-    (batch_read s.records.items c.deref.result.now s.ends.items c.deref-2.result.now (c.args.n - 1) ys c.deref.ensures.value c.deref-2.ensures.value c.part-records.ensures)
+    batch_within c.args.self.now s.opening (all_said s.records.items) ys s.ends.items (c.args.n - 1)
+    (length c.args.balances.now) c.self.view_is c.self.invariant.within c.requires.rows
+    (batch_read s.records.items c.deref.result.now s.ends.items c.deref-2.result.now
+    (c.args.n - 1) ys c.deref.ensures.value c.deref-2.ensures.value c.part-records.ensures)
 
 pub returns-clause-values : goal.returns-clause-values
 returns-clause-values c =
     let s = c.self.inside in
     let ys = all_said c.part-records.result.now in
-    values_then c.args.self.now c.args.n ys (balance_at c.args.balances.now) (balance_at c.write_values_along.new.balances) c.requires.one
+    values_then c.args.self.now c.args.n ys (balance_at c.args.balances.now)
+    (balance_at c.write_values_along.new.balances) c.requires.one
     (batch_kept c.args.self.now s.opening (all_said s.records.items) ys s.ends.items (c.args.n - 1) c.self.view_is
-    (batch_read s.records.items c.deref.result.now s.ends.items c.deref-2.result.now (c.args.n - 1) ys c.deref.ensures.value c.deref-2.ensures.value c.part-records.ensures))
+    (batch_read s.records.items c.deref.result.now s.ends.items c.deref-2.result.now
+    (c.args.n - 1) ys c.deref.ensures.value c.deref-2.ensures.value c.part-records.ensures))
     c.requires.before c.write_values_along.ensures.values
 
 pub returns-clause-bank : goal.returns-clause-bank

@@ -6,7 +6,8 @@ use Rattle.eve_chains.proofs.settled.Settled.balances_after.Goals as goal
 
 pub loop-before-init : goal.loop-before-init
 loop-before-init c =
-    let same : c.in_ok-balances.balances ≡ c.args.self.now.opening = c.in_ok-balances.ensures ∙ ap (λ (s : Settling). s.opening) c.self.view_is in
+    let same : c.in_ok-balances.balances ≡ c.args.self.now.opening = c.in_ok-balances.ensures
+    ∙ ap (λ (s : Settling). s.opening) c.self.view_is in
     record {
       rows = ap length same;
       values = ap balance_at same ∙ values_opening c.args.self.now;
@@ -15,4 +16,5 @@ loop-before-init c =
 pub returns-clause-bank : goal.returns-clause-bank
 returns-clause-bank c =
     let last : c.loop-before.before ≡ c.args.n = search rules in
-    banks_are c.args.self.now c.args.n c.loop-before.balances (c.loop-before.invariant.values ∙ ap (values_in c.args.self.now) last)
+    banks_are c.args.self.now c.args.n c.loop-before.balances
+    (c.loop-before.invariant.values ∙ ap (values_in c.args.self.now) last)

@@ -1,4 +1,5 @@
-use Rattle.std.proofs.Common.{◌≡◌, ◌≢◌, ℕ, ◌^◌, ◌<◌, ◌≤◌, ◌++◌, ◌∷◌, [], length, vec_len, ap, refl, sym, ◌∙◌, arith, rules}
+use Rattle.std.proofs.Common.{◌≡◌, ◌≢◌, ℕ, ◌^◌, ◌<◌, ◌≤◌, ◌++◌, ◌∷◌, [], length, vec_len, ap, refl, sym, ◌∙◌, arith}
+use Rattle.std.proofs.Common.{rules}
 use Rattle.std.proofs.lemmas.List.{length-map}
 use Rattle.eve_grammar.specs.Trace.{head_of}
 use Rattle.eve_grammar.specs.Limits.{row_count}
@@ -25,14 +26,18 @@ loop-i-preserved c =
           let ys = all_said w.copy_ordered.new.records.items in
           let last : w.push.new.self.items ≡ c.loop-i.ends.items ++ w.len.result ∷ [] = w.in_ok-push.ensures.items in
           let count : vec_len w.copy_ordered.new.records ≡ length w.copy_ordered.new.records.items = search rules in
-          let long : w.len.result ≡ length ys = w.len.ensures ∙ count ∙ sym (length-map w.copy_ordered.new.records.items said) in
+          let long : w.len.result ≡ length ys = w.len.ensures ∙ count
+          ∙ sym (length-map w.copy_ordered.new.records.items said) in
           rw (w.records-is, w.ends-is)
-          (copied_more t v.replica v i rows (all_said c.loop-i.records.items) ys c.loop-i.ends.items w.push.new.self.items c.fate.result r.item c.is_whole.ensures.limits c.requires.history refl
-          c.loop-i.invariant c.fate.ensures is r.at (w.in_ok-copy_ordered.ensures r.item r.at) (last ∙ ap (λ (n : ℕ). c.loop-i.ends.items ++ n ∷ []) long))
+          (copied_more t v.replica v i rows (all_said c.loop-i.records.items) ys c.loop-i.ends.items
+          w.push.new.self.items c.fate.result r.item c.is_whole.ensures.limits c.requires.history refl
+          c.loop-i.invariant c.fate.ensures is r.at (w.in_ok-copy_ordered.ensures r.item r.at)
+          (last ∙ ap (λ (n : ℕ). c.loop-i.ends.items ++ n ∷ []) long))
       | else-eq w ↦
           let other : c.fate.result ≢ Committed = search rules in
           rw (w.records-is, w.ends-is)
-          (copied_other v i rows (all_said c.loop-i.records.items) c.loop-i.ends.items c.fate.result c.loop-i.invariant c.fate.ensures other)
+          (copied_other v i rows (all_said c.loop-i.records.items) c.loop-i.ends.items c.fate.result c.loop-i.invariant
+          c.fate.ensures other)
     ]
 
 pub invariant_of-result : goal.invariant_of-result
@@ -43,7 +48,9 @@ invariant_of-result c =
     let fates : length v.fates ≤ c.loop-i.i = search rules in
     let small : c.committed.result < 2 ^ 32 = search rules in
     let last : c.committed.result ≡ v.committed = search rules in
-    all_kept t v.replica v c.loop-i.i (row_count (head_of t)) c.in_ok-opening.opening (all_said c.loop-i.records.items) c.loop-i.ends.items (c.is_right.ensures.section (whole c.args.trace.now) c.args.history.now.replica c.requires.history) c.requires.history attempts fates
+    all_kept t v.replica v c.loop-i.i (row_count (head_of t)) c.in_ok-opening.opening (all_said c.loop-i.records.items)
+    c.loop-i.ends.items (c.is_right.ensures.section (whole c.args.trace.now) c.args.history.now.replica
+    c.requires.history) c.requires.history attempts fates
     c.loop-i.invariant (sym (ap length c.in_ok-opening.ensures ∙ length-opening_rows t.customers)) (omega arith)
 
 pub returns : goal.returns
@@ -53,5 +60,6 @@ returns c =
     let v = c.args.history.now in
     let attempts : length v.attempts ≤ c.loop-i.i = search rules in
     let fates : length v.fates ≤ c.loop-i.i = search rules in
-    let batches = all_copied t v.replica v c.loop-i.i (row_count (head_of t)) (all_said c.loop-i.records.items) c.loop-i.ends.items c.requires.history attempts fates c.loop-i.invariant in
+    let batches = all_copied t v.replica v c.loop-i.i (row_count (head_of t)) (all_said c.loop-i.records.items)
+    c.loop-i.ends.items c.requires.history attempts fates c.loop-i.invariant in
     λ i. record { opening = c.in_ok-opening.ensures i; batches = batches i }

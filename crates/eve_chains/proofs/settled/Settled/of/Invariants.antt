@@ -6,4 +6,5 @@ use Rattle.eve_chains.proofs.Committed.{AreCopied}
 use Rattle.eve_chains.proofs.settled.Settled.of.Given as goal
 
 abbrev pub invariant-loop-i : goal.invariant-loop-i
-invariant-loop-i l = AreCopied l.history l.i (row_count (head_of (whole l.trace))) (all_said l.records.items) l.ends.items
+invariant-loop-i l = AreCopied l.history l.i (row_count (head_of (whole l.trace))) (all_said l.records.items)
+    l.ends.items

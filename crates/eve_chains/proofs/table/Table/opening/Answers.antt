@@ -12,15 +12,20 @@ use Rattle.eve_chains.proofs.table.Table.opening.Goals.{After-loop-i}
 pub loop-i-preserved : goal.loop-i-preserved
 loop-i-preserved c =
     let customer : Customer = customer_in c.customer-customer.result.bytes.now in
-    opened_more (whole c.args.trace.now).customers c.loop-i.i customer c.loop-i.rows.items c.push.new.self.items c.push-in-loop-i.new.self.items
-    (customer_there (whole c.args.trace.now) c.loop-i.i c.customer-customer.result.offset customer c.customer-customer.ensures.says) c.loop-i.invariant
-    (c.in_ok-push.ensures.items ∙ ap (λ (v : Versioned). c.loop-i.rows.items ++ v ∷ []) (c.new.ensures ∙ ap at_opening c.saving.ensures))
-    (c.in_ok-push-2.ensures.items ∙ ap (λ (v : Versioned). c.push.new.self.items ++ v ∷ []) (c.new-in-loop-i.ensures ∙ ap at_opening c.checking.ensures))
+    opened_more (whole c.args.trace.now).customers c.loop-i.i customer c.loop-i.rows.items c.push.new.self.items
+    c.push-in-loop-i.new.self.items
+    (customer_there (whole c.args.trace.now) c.loop-i.i c.customer-customer.result.offset customer
+    c.customer-customer.ensures.says) c.loop-i.invariant
+    (c.in_ok-push.ensures.items ∙ ap (λ (v : Versioned). c.loop-i.rows.items ++ v ∷ [])
+    (c.new.ensures ∙ ap at_opening c.saving.ensures))
+    (c.in_ok-push-2.ensures.items ∙ ap (λ (v : Versioned). c.push.new.self.items ++ v ∷ [])
+    (c.new-in-loop-i.ensures ∙ ap at_opening c.checking.ensures))
 
 -- the loop went through all customers
 all_opened : (c : After-loop-i) → c.loop-i.rows.items ≡ opened (whole c.args.trace.now).customers
 all_opened c =
-    let many : c.head-i-end.result.customers ≡ length (whole c.args.trace.now).customers = ap (λ (h : Head). h.customers) (c.head-i-end.ensures ∙ sym c.is_whole.ensures.head) in
+    let many : c.head-i-end.result.customers ≡ length (whole c.args.trace.now).customers =
+    ap (λ (h : Head). h.customers) (c.head-i-end.ensures ∙ sym c.is_whole.ensures.head) in
     let through : c.loop-i.i ≡ length (whole c.args.trace.now).customers = omega arith in
     c.loop-i.invariant ∙ ap opened (take_all c.loop-i.i (whole c.args.trace.now).customers (omega arith))
 

@@ -10,22 +10,26 @@ use Rattle.eve_chains.proofs.table.Table.write.Goals as goal
 pub loop-entry-init : goal.loop-entry-init
 loop-entry-init c = record {
   as_many = refl;
-  right = subst (λ (es : List Entry). IsTrue (list_all (is_entry (length c.args.self.now)) es)) (sym c.into_iter-entry-iterator.ensures.into_iter_gives) c.requires;
+  right = subst (λ (es : List Entry). IsTrue (list_all (is_entry (length c.args.self.now)) es))
+      (sym c.into_iter-entry-iterator.ensures.into_iter_gives) c.requires;
   table = ap (table_after (table_of c.args.self.now)) c.into_iter-entry-iterator.ensures.into_iter_gives;
 }
 
 pub write_one-requires : goal.write_one-requires
 write_one-requires c =
     subst (λ n. IsTrue (is_entry n c.in-Some.entry)) (sym c.loop-entry.invariant.as_many)
-    (first_right (length c.args.self.now) c.loop-entry.entry-iterator c.in-Some.entry c.next.new.self c.in-Some.ensures.steps c.loop-entry.invariant.right)
+    (first_right (length c.args.self.now) c.loop-entry.entry-iterator c.in-Some.entry c.next.new.self
+    c.in-Some.ensures.steps c.loop-entry.invariant.right)
 
 pub loop-entry-preserved : goal.loop-entry-preserved
 loop-entry-preserved c = record {
   as_many = c.write_one.ensures.as_many ∙ c.loop-entry.invariant.as_many;
-  right = rest_right (length c.args.self.now) c.loop-entry.entry-iterator c.in-Some.entry c.next.new.self c.in-Some.ensures.steps c.loop-entry.invariant.right;
+  right = rest_right (length c.args.self.now) c.loop-entry.entry-iterator c.in-Some.entry c.next.new.self
+      c.in-Some.ensures.steps c.loop-entry.invariant.right;
   table = ap (λ (table : Table). table_after table c.next.new.self) c.write_one.ensures.table
       ∙ ap (table_after (table_of c.loop-entry.self)) (sym c.in-Some.ensures.steps) ∙ c.loop-entry.invariant.table;
 }
 
 pub returns-clause-table : goal.returns-clause-table
-returns-clause-table c = ap (table_after (table_of c.loop-entry.self)) (sym c.in-None.ensures.steps.0) ∙ c.loop-entry.invariant.table
+returns-clause-table c = ap (table_after (table_of c.loop-entry.self)) (sym c.in-None.ensures.steps.0)
+    ∙ c.loop-entry.invariant.table

@@ -1,9 +1,9 @@
 use Rattle.std.proofs.Common.{refl, subst, IsTrue}
-use Rattle.eve_history.specs.Told.{Telling}
+use Rattle.eve_history.specs.SectionHistory.{SectionHistory}
 use Rattle.eve_history.proofs.Rights.{right_section}
 use Rattle.eve_history.proofs.history.History.is_right.Goals as goal
 
 pub returns : goal.returns
 returns c =
-    let right = subst (λ (v : Telling). IsTrue v.right) c.self.view_is refl in
+    let right = subst (λ (v : SectionHistory). IsTrue v.right) c.self.view_is refl in
     record { right = right; section = λ t e is. right_section t e c.args.self.now is right }

@@ -20,13 +20,17 @@ loop-step-init c =
     let t = whole c.args.trace.now in
     let e = c.args.e in (
       subst (λ (xs : List (ℕ × Step)). HasCome t e xs (kept c.new-notes.result)) (sym c.section-steps.ensures)
-          (subst (λ (k : Kept). HasCome t e (steps_at t e) k) (sym c.new-notes.ensures.kept) (come_start t e c.is_whole.ensures.limits)),
+          (subst (λ (k : Kept). HasCome t e (steps_at t e) k) (sym c.new-notes.ensures.kept)
+          (come_start t e c.is_whole.ensures.limits)),
       record {
         spelled = subst (λ (b : List ℕ). Spells b t) (sym c.new-notes.ensures.bytes) c.bytes.ensures;
         framed = record {
-          attempts = subst (AllByRecursion (λ a. IsAttemptAt c.new-notes.result.bytes.now a.at)) (sym c.new-notes.ensures.attempts) tt;
-          records = subst (AllByRecursion (IsAccessAt c.new-notes.result.bytes.now)) (sym c.new-notes.ensures.records) tt;
-          rollbacks = subst (AllByRecursion (IsRollbackAt c.new-notes.result.bytes.now)) (sym c.new-notes.ensures.rollbacks) tt;
+          attempts = subst (AllByRecursion (λ a. IsAttemptAt c.new-notes.result.bytes.now a.at))
+              (sym c.new-notes.ensures.attempts) tt;
+          records = subst (AllByRecursion (IsAccessAt c.new-notes.result.bytes.now)) (sym c.new-notes.ensures.records)
+              tt;
+          rollbacks = subst (AllByRecursion (IsRollbackAt c.new-notes.result.bytes.now))
+              (sym c.new-notes.ensures.rollbacks) tt;
         };
       },
     )
@@ -37,7 +41,8 @@ take-requires-clause-noted c = c.loop-step.invariant.1
 pub invariant_of-result : goal.invariant_of-result
 invariant_of-result c =
     let none : c.loop-step.steps ≡ [] = search rules in
-    let come = subst (λ (xs : List (ℕ × Step)). HasCome (whole c.args.trace.now) c.args.e xs (kept c.loop-step.notes)) none c.loop-step.invariant.0 in
+    let come = subst (λ (xs : List (ℕ × Step)). HasCome (whole c.args.trace.now) c.args.e xs (kept c.loop-step.notes))
+    none c.loop-step.invariant.0 in
     record { kept = come.is_kept; framed = c.loop-step.invariant.1.framed }
 
 pub returns-in_err-take-clause-least : goal.returns-in_err-take-clause-least
@@ -45,27 +50,33 @@ returns-in_err-take-clause-least c =
     let t = whole c.args.trace.now in
     let e = c.args.e in
     let some = c.in-Some.ensures.some in
-    let come = subst (λ (xs : List (ℕ × Step)). HasCome t e xs (kept c.loop-step.notes)) some.1 c.loop-step.invariant.0 in
+    let come = subst (λ (xs : List (ℕ × Step)). HasCome t e xs (kept c.loop-step.notes)) some.1 c.loop-step.invariant.0
+    in
     let P : Fault → Type 0 =
-    λ f. (rest : List (ℕ × Step)) (next : ℕ × Step) → HasCome t e (next ∷ rest) (kept c.loop-step.notes) → IsStep c.in-Some.step next → IsLeast (IsStructureFault t e) f in
-    let least = weaker_found c.in_err-take.field-0.0 P (IsLeast (IsStructureFault t e)) (λ f wrong. wrong c.next.new.self some.0 come some.2) c.in_err-take.ensures.wrong in
+    λ f. (rest : List (ℕ × Step)) (next : ℕ × Step) → HasCome t e (next ∷ rest) (kept c.loop-step.notes)
+    → IsStep c.in-Some.step next → IsLeast (IsStructureFault t e) f in
+    let least = weaker_found c.in_err-take.field-0.0 P (IsLeast (IsStructureFault t e))
+    (λ f wrong. wrong c.next.new.self some.0 come some.2) c.in_err-take.ensures.wrong in
     let p = err_from_is_err_and c.from_residual.result c.from_residual.ensures.1 in
     rw (p.1, p.2) least
 
-pub returns-clause-telling : goal.returns-clause-telling
-returns-clause-telling c =
+pub returns-clause-section_history : goal.returns-clause-section_history
+returns-clause-section_history c =
     let t = whole c.args.trace.now in
     let none : c.loop-step.steps ≡ [] = search rules in
-    come_told t c.args.e (kept c.loop-step.notes) (subst (λ (xs : List (ℕ × Step)). HasCome t c.args.e xs (kept c.loop-step.notes)) none c.loop-step.invariant.0)
+    come_told t c.args.e (kept c.loop-step.notes)
+    (subst (λ (xs : List (ℕ × Step)). HasCome t c.args.e xs (kept c.loop-step.notes)) none c.loop-step.invariant.0)
 
 pub returns-clause-none : goal.returns-clause-none
 returns-clause-none c =
     let t = whole c.args.trace.now in
     let none : c.loop-step.steps ≡ [] = search rules in
-    come_faultless t c.args.e (kept c.loop-step.notes) (subst (λ (xs : List (ℕ × Step)). HasCome t c.args.e xs (kept c.loop-step.notes)) none c.loop-step.invariant.0)
+    come_faultless t c.args.e (kept c.loop-step.notes)
+    (subst (λ (xs : List (ℕ × Step)). HasCome t c.args.e xs (kept c.loop-step.notes)) none c.loop-step.invariant.0)
 
 pub loop-step-preserved : goal.loop-step-preserved
 loop-step-preserved c =
     let some = c.in-Some.ensures.some in
-    let come = subst (λ (xs : List (ℕ × Step)). HasCome (whole c.args.trace.now) c.args.e xs (kept c.loop-step.notes)) some.1 c.loop-step.invariant.0 in
+    let come = subst (λ (xs : List (ℕ × Step)). HasCome (whole c.args.trace.now) c.args.e xs (kept c.loop-step.notes))
+    some.1 c.loop-step.invariant.0 in
     (c.in_ok-take.ensures.taken c.next.new.self some.0 come some.2, c.in_ok-take.ensures.noted)

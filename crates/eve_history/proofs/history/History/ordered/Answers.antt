@@ -1,4 +1,5 @@
-use Rattle.std.proofs.Common.{◌≡◌, ℕ, ◌+◌, ◌^◌, ◌<◌, ◌≤◌, map, length, get_or, drop, slice_get, vec_len, Some, ap, sym, ◌∙◌, arith, rules}
+use Rattle.std.proofs.Common.{◌≡◌, ℕ, ◌+◌, ◌^◌, ◌<◌, ◌≤◌, map, length, get_or, drop, slice_get, vec_len, Some, ap, sym}
+use Rattle.std.proofs.Common.{◌∙◌, arith, rules}
 use Rattle.std.proofs.lemmas.List.{length-map, length-take}
 use Rattle.eve_history.specs.declared.notes.Notes.{Notes}
 use Rattle.eve_history.specs.declared.notes.Attempted.{Attempted}
@@ -7,39 +8,51 @@ use Rattle.eve_grammar.specs.Frames.{OfAccess}
 use Rattle.eve_grammar.specs.Spelling.{frame_text}
 use Rattle.eve_frames.specs.Views.{access_in}
 use Rattle.eve_history.specs.Standing.{IsAccessAt}
-use Rattle.eve_history.specs.Told.{Ran, Telling}
-use Rattle.eve_history.specs.Coming.{kept, kept_attempt, kept_ran, telling_of, IsKept, seen}
+use Rattle.eve_history.specs.SectionHistory.{ExecutedAttempt, SectionHistory}
+use Rattle.eve_history.specs.Coming.{kept, kept_attempt, kept_executed_attempt, section_history_of, IsKept, seen}
 use Rattle.eve_history.proofs.Finding.{get_mapped, get_is, rec_at, get_in_part}
 use Rattle.eve_history.proofs.history.History.ordered.Goals as goal
 
 -- where an attempt's records are
-record Here (n : Notes) (v : Telling) (i place : ℕ) (x : Attempted) : Type 0 where
-  told : slice_get v.attempts i ≡ Some (kept_ran (kept n).records (kept_attempt n.bytes.now x))
+record Here (n : Notes) (v : SectionHistory) (i place : ℕ) (x : Attempted) : Type 0 where
+  told : slice_get v.attempts i ≡ Some (kept_executed_attempt (kept n).records (kept_attempt n.bytes.now x))
   short : place < length (kept_attempt n.bytes.now x).attempt.certificate
   within : x.from + length (kept_attempt n.bytes.now x).attempt.certificate ≤ length n.records.items
 
-here : (e : ℕ) (n : Notes) (v : Telling) (i place : ℕ) (x : Attempted) → telling_of e (kept n) ≡ v → IsKept (kept n) → i < length v.attempts → ((r : Ran) → slice_get v.attempts i ≡ Some r → place < length r.ordered)
+here : (e : ℕ) (n : Notes) (v : SectionHistory) (i place : ℕ) (x : Attempted) → section_history_of e (kept n) ≡ v
+    → IsKept (kept n)
+    → i < length v.attempts → ((r : ExecutedAttempt) → slice_get v.attempts i ≡ Some r → place < length r.ordered)
     → x ≡ get_or n.attempts.items i x → Here n v i place x
 here e n v i place x is is_kept lt short read =
     let items = n.attempts.items in
     let count : length v.attempts ≡ length items =
-    ap (λ (v : Telling). length v.attempts) (sym is) ∙ length-map (map (kept_attempt n.bytes.now) items) (kept_ran (kept n).records) ∙ length-map items (kept_attempt n.bytes.now) in
+    ap (λ (v : SectionHistory). length v.attempts) (sym is) ∙ length-map (map (kept_attempt n.bytes.now) items)
+    (kept_executed_attempt (kept n).records) ∙ length-map items (kept_attempt n.bytes.now) in
     let at : slice_get items i ≡ Some x = get_is items i x (omega arith) read in
-    let one : slice_get (map (kept_attempt n.bytes.now) items) i ≡ Some (kept_attempt n.bytes.now x) = get_mapped (kept_attempt n.bytes.now) items i x at in
-    let told : slice_get v.attempts i ≡ Some (kept_ran (kept n).records (kept_attempt n.bytes.now x)) =
-    ap (λ (w : Telling). slice_get w.attempts i) (sym is) ∙ get_mapped (kept_ran (kept n).records) (map (kept_attempt n.bytes.now) items) i (kept_attempt n.bytes.now x) one in
+    let one : slice_get (map (kept_attempt n.bytes.now) items) i ≡ Some (kept_attempt n.bytes.now x) =
+    get_mapped (kept_attempt n.bytes.now) items i x at in
+    let told : slice_get v.attempts i ≡ Some (kept_executed_attempt (kept n).records (kept_attempt n.bytes.now x)) =
+    ap (λ (w : SectionHistory). slice_get w.attempts i) (sym is)
+    ∙ get_mapped (kept_executed_attempt (kept n).records) (map (kept_attempt n.bytes.now) items) i
+    (kept_attempt n.bytes.now x)
+    one in
     let within = rec_at _ (map (kept_attempt n.bytes.now) items) i (kept_attempt n.bytes.now x) is_kept.within one in
-    let few = short (kept_ran (kept n).records (kept_attempt n.bytes.now x)) told in
+    let few = short (kept_executed_attempt (kept n).records (kept_attempt n.bytes.now x)) told in
     record {
       told = told;
-      short = omega (arith, length-take (length (kept_attempt n.bytes.now x).attempt.certificate) (drop x.from (kept n).records));
+      short = omega (
+        arith,
+        length-take (length (kept_attempt n.bytes.now x).attempt.certificate)
+            (drop x.from (kept n).records),
+      );
       within = omega (arith, within, length-map n.records.items (seen n.bytes.now));
     }
 
 pub overflow_add-from : goal.overflow_add-from
 overflow_add-from c =
     let n = c.self.inside.notes in
-    let h = here c.self.inside.replica n c.args.self.now c.args.i c.args.place c.index.result.now c.self.view_is c.self.invariant.kept c.requires.attempt c.requires.place c.index.ensures in
+    let h = here c.self.inside.replica n c.args.self.now c.args.i c.args.place c.index.result.now c.self.view_is
+    c.self.invariant.kept c.requires.attempt c.requires.place c.index.ensures in
     let short = h.short in
     let within = h.within in
     let count : vec_len n.records ≡ length n.records.items = search rules in
@@ -49,24 +62,30 @@ overflow_add-from c =
 pub index-at-requires : goal.index-at-requires
 index-at-requires c =
     let n = c.self.inside.notes in
-    let h = here c.self.inside.replica n c.args.self.now c.args.i c.args.place c.index.result.now c.self.view_is c.self.invariant.kept c.requires.attempt c.requires.place c.index.ensures in
+    let h = here c.self.inside.replica n c.args.self.now c.args.i c.args.place c.index.result.now c.self.view_is
+    c.self.invariant.kept c.requires.attempt c.requires.place c.index.ensures in
     let short = h.short in
     let within = h.within in
     let count : vec_len n.records ≡ length n.records.items = search rules in
     omega arith
 
 -- where the record was found, its frame begins
-found_there : (n : Notes) (place at : ℕ) → place < length n.records.items → at ≡ get_or n.records.items place at → AllByRecursion (IsAccessAt n.bytes.now) n.records.items → (slice_get n.records.items place ≡ Some at) × IsAccessAt n.bytes.now at
-found_there n place at lt read all = let got = get_is n.records.items place at lt read in (got, rec_at (IsAccessAt n.bytes.now) n.records.items place at all got)
+found_there : (n : Notes) (place at : ℕ) → place < length n.records.items → at ≡ get_or n.records.items place at
+    → AllByRecursion (IsAccessAt n.bytes.now) n.records.items → (slice_get n.records.items place ≡ Some at)
+    × IsAccessAt n.bytes.now at
+found_there n place at lt read all = let got = get_is n.records.items place at lt read in
+    (got, rec_at (IsAccessAt n.bytes.now) n.records.items place at all got)
 
 pub access_at-requires : goal.access_at-requires
 access_at-requires c =
     let n = c.self.inside.notes in
     let x = c.index.result.now in
-    let h = here c.self.inside.replica n c.args.self.now c.args.i c.args.place x c.self.view_is c.self.invariant.kept c.requires.attempt c.requires.place c.index.ensures in
+    let h = here c.self.inside.replica n c.args.self.now c.args.i c.args.place x c.self.view_is c.self.invariant.kept
+    c.requires.attempt c.requires.place c.index.ensures in
     let short = h.short in
     let within = h.within in
-    (found_there n (x.from + c.args.place) c.index-at.result.now (omega arith) c.index-at.ensures c.self.invariant.framed.records).1
+    (found_there n (x.from + c.args.place) c.index-at.result.now (omega arith) c.index-at.ensures
+    c.self.invariant.framed.records).1
 
 pub returns-clause-says : goal.returns-clause-says
 returns-clause-says c =
@@ -74,15 +93,18 @@ returns-clause-says c =
     let x = c.index.result.now in
     let at = c.index-at.result.now in
     let a = kept_attempt n.bytes.now x in
-    let h = here c.self.inside.replica n c.args.self.now c.args.i c.args.place x c.self.view_is c.self.invariant.kept c.requires.attempt c.requires.place c.index.ensures in
+    let h = here c.self.inside.replica n c.args.self.now c.args.i c.args.place x c.self.view_is c.self.invariant.kept
+    c.requires.attempt c.requires.place c.index.ensures in
     let short = h.short in
     let within = h.within in
-    let found = found_there n (x.from + c.args.place) at (omega arith) c.index-at.ensures c.self.invariant.framed.records in
+    let found = found_there n (x.from + c.args.place) at (omega arith) c.index-at.ensures
+    c.self.invariant.framed.records in
     let is : seen n.bytes.now at ≡ (c.access_at.result.offset, access_in c.access_at.result.bytes.now) =
     λ i. (sym c.access_at.ensures.offset i, access_in (sym c.access_at.ensures.bytes i)) in (
-      kept_ran (kept n).records a,
+      kept_executed_attempt (kept n).records a,
       h.told,
-      get_in_part (kept n).records x.from (length a.attempt.certificate) c.args.place (seen n.bytes.now at) h.short (get_mapped (seen n.bytes.now) n.records.items (x.from + c.args.place) at found.0)
+      get_in_part (kept n).records x.from (length a.attempt.certificate) c.args.place (seen n.bytes.now at) h.short
+          (get_mapped (seen n.bytes.now) n.records.items (x.from + c.args.place) at found.0)
           ∙ ap Some is,
     )
 
@@ -90,8 +112,11 @@ pub returns-clause-text : goal.returns-clause-text
 returns-clause-text c =
     let n = c.self.inside.notes in
     let x = c.index.result.now in
-    let h = here c.self.inside.replica n c.args.self.now c.args.i c.args.place x c.self.view_is c.self.invariant.kept c.requires.attempt c.requires.place c.index.ensures in
+    let h = here c.self.inside.replica n c.args.self.now c.args.i c.args.place x c.self.view_is c.self.invariant.kept
+    c.requires.attempt c.requires.place c.index.ensures in
     let short = h.short in
     let within = h.within in
-    let found = found_there n (x.from + c.args.place) c.index-at.result.now (omega arith) c.index-at.ensures c.self.invariant.framed.records in
-    c.access_at.ensures.bytes ∙ found.1.text ∙ ap (λ b. frame_text (OfAccess (access_in b))) (sym c.access_at.ensures.bytes)
+    let found = found_there n (x.from + c.args.place) c.index-at.result.now (omega arith) c.index-at.ensures
+    c.self.invariant.framed.records in
+    c.access_at.ensures.bytes ∙ found.1.text
+    ∙ ap (λ b. frame_text (OfAccess (access_in b))) (sym c.access_at.ensures.bytes)

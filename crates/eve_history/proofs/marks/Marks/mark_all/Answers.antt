@@ -15,23 +15,32 @@ pub loop-i-init : goal.loop-i-init
 loop-i-init c = marking_start c.args.workers c.args.count c.args.accesses.now c.args.self.now c.requires.none
 
 pub mark-requires-clause-marked : goal.mark-requires-clause-marked
-mark-requires-clause-marked c =
-    (accesses_of (take c.loop-i.i c.args.accesses.now), c.loop-i.invariant.marked, number_is c.args.accesses.now c.loop-i.i (omega arith))
+mark-requires-clause-marked c = (
+  accesses_of (take c.loop-i.i c.args.accesses.now),
+  c.loop-i.invariant.marked,
+  number_is c.args.accesses.now c.loop-i.i (omega arith),
+)
 
 pub returns-in-Some : goal.returns-in-Some
 returns-in-Some c =
     let xs = c.args.accesses.now in
     let x : ℕ × Access = (c.get-access.result.offset, access_in c.get-access.result.bytes.now) in
-    let judged = c.in-Some.ensures (accesses_of (take c.loop-i.i xs)) c.loop-i.invariant.marked (number_is xs c.loop-i.i (omega arith)) in
-    subst (λ (o : ℕ). AreJudged c.args.workers c.args.count xs (Some (record { code = c.in-Some.code; offset = o })) c.mark.new.self) (sym c.offset.ensures)
-    (marking_wrong c.args.workers c.args.count xs c.loop-i.i c.loop-i.self c.mark.new.self x c.in-Some.code c.loop-i.invariant c.get-access.ensures.says judged)
+    let judged = c.in-Some.ensures (accesses_of (take c.loop-i.i xs)) c.loop-i.invariant.marked
+    (number_is xs c.loop-i.i (omega arith)) in
+    subst (λ (o : ℕ). AreJudged c.args.workers c.args.count xs (Some (record { code = c.in-Some.code; offset = o }))
+    c.mark.new.self) (sym c.offset.ensures)
+    (marking_wrong c.args.workers c.args.count xs c.loop-i.i c.loop-i.self c.mark.new.self x c.in-Some.code
+    c.loop-i.invariant c.get-access.ensures.says judged)
 
 pub loop-i-preserved : goal.loop-i-preserved
 loop-i-preserved c =
     let xs = c.args.accesses.now in
     let x : ℕ × Access = (c.get-access.result.offset, access_in c.get-access.result.bytes.now) in
-    let judged = c.in_default.ensures (accesses_of (take c.loop-i.i xs)) c.loop-i.invariant.marked (number_is xs c.loop-i.i (omega arith)) in
-    marking_more c.args.workers c.args.count xs c.loop-i.i c.loop-i.self c.mark.new.self x c.loop-i.invariant c.get-access.ensures.says judged
+    let judged = c.in_default.ensures (accesses_of (take c.loop-i.i xs)) c.loop-i.invariant.marked
+    (number_is xs c.loop-i.i (omega arith)) in
+    marking_more c.args.workers c.args.count xs c.loop-i.i c.loop-i.self c.mark.new.self x c.loop-i.invariant
+    c.get-access.ensures.says judged
 
 pub returns : goal.returns
-returns c = marking_end c.args.workers c.args.count c.args.accesses.now c.loop-i.i c.loop-i.self c.loop-i.invariant (omega arith)
+returns c = marking_end c.args.workers c.args.count c.args.accesses.now c.loop-i.i c.loop-i.self c.loop-i.invariant
+    (omega arith)

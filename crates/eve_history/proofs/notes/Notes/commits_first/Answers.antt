@@ -1,4 +1,5 @@
-use Rattle.std.proofs.Common.{◌≡◌, ℕ, ◌+◌, ◌<◌, ◌==◌, Bool, ◌&&◌, List, length, get_or, slice_get, Some, ap, sym, ◌∙◌, refl, rules}
+use Rattle.std.proofs.Common.{◌≡◌, ℕ, ◌+◌, ◌<◌, ◌==◌, Bool, ◌&&◌, List, length, get_or, slice_get, Some, ap, sym, ◌∙◌}
+use Rattle.std.proofs.Common.{refl, rules}
 use Rattle.std.proofs.lemmas.Bool.{eq-eqb}
 use Rattle.eve_grammar.specs.Trace.{Attempt}
 use Rattle.eve_frames.specs.Views.{attempt_in, commit_in}
@@ -13,7 +14,8 @@ number_is : (seq last : ℕ) (b : Bool) → seq ≡ last + 1 → ((seq == last +
 number_is seq last b e = rw (eq-eqb seq (last + 1) e) refl
 
 -- the first open attempt
-first_at : (items : List Attempted) (i n : ℕ) (x : Attempted) → i ≡ n → n < length items → x ≡ get_or items i x → slice_get items n ≡ Some x
+first_at : (items : List Attempted) (i n : ℕ) (x : Attempted) → i ≡ n → n < length items → x ≡ get_or items i x
+    → slice_get items n ≡ Some x
 first_at items i n x e lt h = get_is items n x lt (h ∙ ap (λ (j : ℕ). get_or items j x) e)
 
 pub attempt_at-requires : goal.attempt_at-requires
@@ -22,7 +24,8 @@ attempt_at-requires c =
     let x = c.index.result.now in
     let settled : c.len-settled.result ≡ length n.fates.items = search rules in
     let more : length n.fates.items < length n.attempts.items = search rules in
-    rec_at (λ a. IsAttemptAt n.bytes.now a.at) n.attempts.items (length n.fates.items) x c.requires.attempts (first_at n.attempts.items c.len-settled.result (length n.fates.items) x settled more c.index.ensures)
+    rec_at (λ a. IsAttemptAt n.bytes.now a.at) n.attempts.items (length n.fates.items) x c.requires.attempts
+    (first_at n.attempts.items c.len-settled.result (length n.fates.items) x settled more c.index.ensures)
 
 pub returns : goal.returns
 returns c = λ s stands.
@@ -32,7 +35,10 @@ returns c = λ s stands.
     let f = kept_attempt n.bytes.now x in
     let settled : c.len-settled.result ≡ length n.fates.items = search rules in
     let more : length n.fates.items < length n.attempts.items = search rules in
-    let at = get_mapped (kept_attempt n.bytes.now) n.attempts.items (length n.fates.items) x (first_at n.attempts.items c.len-settled.result (length n.fates.items) x settled more c.index.ensures) in
+    let at = get_mapped (kept_attempt n.bytes.now) n.attempts.items (length n.fates.items) x
+    (first_at n.attempts.items c.len-settled.result (length n.fates.items) x settled more c.index.ensures) in
     let seq : said.seq ≡ n.last + 1 = sym c.seq.ensures ∙ c.if-seq-self.false in
-    c.is_of.ensures ∙ ap (λ (a : Attempt). (a.view == said.view) && same_bytes a.token said.token) (ap attempt_in c.attempt_at.ensures.bytes)
-    ∙ sym (commit_is s (kept n) f said stands at ∙ number_is said.seq n.last ((f.attempt.view == said.view) && same_bytes f.attempt.token said.token) seq)
+    c.is_of.ensures ∙ ap (λ (a : Attempt). (a.view == said.view) && same_bytes a.token said.token)
+    (ap attempt_in c.attempt_at.ensures.bytes)
+    ∙ sym (commit_is s (kept n) f said stands at
+    ∙ number_is said.seq n.last ((f.attempt.view == said.view) && same_bytes f.attempt.token said.token) seq)

@@ -20,11 +20,15 @@ returns-then-not-commits_first-clause-wrong c =
     let k = kept c.args.self.now in
     let at = c.args.commit.now.offset in
     let said = commit_in c.args.commit.now.bytes.now in
-    let P : Fault → Type 0 = λ f. (t : Trace) (rest : List (ℕ × Step)) → HasCome t e ((at, Commits said) ∷ rest) k → IsLeast (IsStructureFault t e) f in
-    subst (λ (x : CheckFault). IfFound x P) (sym (c.fault_in.ensures ∙ ap (λ (o : ℕ). Found (fault_of e (record { code = code.Commit; offset = o }))) c.offset.ensures))
+    let P : Fault → Type 0 = λ f. (t : Trace) (rest : List (ℕ × Step)) → HasCome t e ((at, Commits said) ∷ rest) k
+    → IsLeast (IsStructureFault t e) f in
+    subst (λ (x : CheckFault). IfFound x P)
+    (sym (c.fault_in.ensures ∙ ap (λ (o : ℕ). Found (fault_of e (record { code = code.Commit; offset = o })))
+    c.offset.ensures))
     (λ t rest come.
     come_wrong t e (at, Commits said) rest k (record { code = code.Commit; offset = at }) come
-    (commit_wrong t (state_after start come.front) at said (sym (c.commits_first.ensures (state_after start come.front) come.stands) ∙ c.if-not-commits_first.true)))
+    (commit_wrong t (state_after start come.front) at said
+    (sym (c.commits_first.ensures (state_after start come.front) come.stands) ∙ c.if-not-commits_first.true)))
 
 pub returns-clause-taken : goal.returns-clause-taken
 returns-clause-taken c = λ t rest come.
@@ -34,9 +38,13 @@ returns-clause-taken c = λ t rest come.
     let said = commit_in c.args.commit.now.bytes.now in
     let place : length k.fates ≡ c.len-place.result = search rules in
     let commits : k.commits ++ length k.fates ∷ [] ≡ c.push_reserved.new.self.items =
-    ap (λ (n : ℕ). k.commits ++ n ∷ []) place ∙ ap (λ (ns : List ℕ). ns ++ c.len-place.result ∷ []) (sym c.in_ok-reserve.ensures.items) ∙ sym c.push_reserved.ensures.items in
-    let is : with_commit k said.seq ≡ kept (record c.args.self.now { last = c.seq-self.result; fates = c.push.new.self; commits = c.push_reserved.new.self }) =
+    ap (λ (n : ℕ). k.commits ++ n ∷ []) place ∙ ap (λ (ns : List ℕ). ns ++ c.len-place.result ∷ [])
+    (sym c.in_ok-reserve.ensures.items) ∙ sym c.push_reserved.ensures.items in
+    let is : with_commit k said.seq
+    ≡ kept (record c.args.self.now
+    { last = c.seq-self.result; fates = c.push.new.self; commits = c.push_reserved.new.self }) =
     λ i. record k { last = sym c.seq-self.ensures i; fates = sym c.in_ok-push.ensures.items i; commits = commits i } in
     subst (HasCome t e rest) is
     (come_commit t e at said rest k come
-    (commit_right t (state_after start come.front) at said (sym (c.commits_first.ensures (state_after start come.front) come.stands) ∙ c.if-not-commits_first.false)))
+    (commit_right t (state_after start come.front) at said
+    (sym (c.commits_first.ensures (state_after start come.front) come.stands) ∙ c.if-not-commits_first.false)))

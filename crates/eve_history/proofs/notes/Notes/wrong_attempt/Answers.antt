@@ -13,9 +13,12 @@ returns-then-order-len c = λ s stands.
     let t = whole c.args.trace.now in
     let a = attempt_in c.args.attempt.now.bytes.now in
     let b : ℕ × (ℕ × Batch) = (c.batch-batch.result.offset, batch_in c.batch-batch.result.bytes.now) in
-    let at : slice_get (batches_at t) (a.seq - 1) ≡ Some b = ap (λ (n : ℕ). slice_get (batches_at t) (n - 1)) (sym c.seq.ensures) ∙ c.batch-batch.ensures.says in
-    let due : is_due t s a ≡ true = sym (c.is_due.ensures.due t s stands (c.head.ensures ∙ sym c.is_whole.ensures.head)) ∙ c.if-not-is_due.false in
-    wrong_count t s a b.1.1 (batch_is t a.seq b at) due (λ e. c.if-order-len.true (ap length c.requires.order ∙ e ∙ sym c.len.ensures))
+    let at : slice_get (batches_at t) (a.seq - 1) ≡ Some b = ap (λ (n : ℕ). slice_get (batches_at t) (n - 1))
+    (sym c.seq.ensures) ∙ c.batch-batch.ensures.says in
+    let due : is_due t s a ≡ true = sym (c.is_due.ensures.due t s stands (c.head.ensures ∙ sym c.is_whole.ensures.head))
+    ∙ c.if-not-is_due.false in
+    wrong_count t s a b.1.1 (batch_is t a.seq b at) due
+    (λ e. c.if-order-len.true (ap length c.requires.order ∙ e ∙ sym c.len.ensures))
 
 pub is_certificate-requires-clause-whole : goal.is_certificate-requires-clause-whole
 is_certificate-requires-clause-whole c =
@@ -28,11 +31,15 @@ returns-then-not-is_certificate c = λ s stands.
     let t = whole c.args.trace.now in
     let a = attempt_in c.args.attempt.now.bytes.now in
     let b : ℕ × (ℕ × Batch) = (c.batch-batch.result.offset, batch_in c.batch-batch.result.bytes.now) in
-    let at : slice_get (batches_at t) (a.seq - 1) ≡ Some b = ap (λ (n : ℕ). slice_get (batches_at t) (n - 1)) (sym c.seq.ensures) ∙ c.batch-batch.ensures.says in
-    let due : is_due t s a ≡ true = sym (c.is_due.ensures.due t s stands (c.head.ensures ∙ sym c.is_whole.ensures.head)) ∙ c.if-not-is_due.false in
-    let count : length a.certificate ≡ length b.1.1.requests = sym (ap length c.requires.order) ∙ c.if-order-len.false ∙ c.len.ensures in
+    let at : slice_get (batches_at t) (a.seq - 1) ≡ Some b = ap (λ (n : ℕ). slice_get (batches_at t) (n - 1))
+    (sym c.seq.ensures) ∙ c.batch-batch.ensures.says in
+    let due : is_due t s a ≡ true = sym (c.is_due.ensures.due t s stands (c.head.ensures ∙ sym c.is_whole.ensures.head))
+    ∙ c.if-not-is_due.false in
+    let count : length a.certificate ≡ length b.1.1.requests = sym (ap length c.requires.order) ∙ c.if-order-len.false
+    ∙ c.len.ensures in
     let wrong : is_certificate b.1.1.sizes (length b.1.1.requests) a.serial a.certificate ≡ false =
-    (λ i. is_certificate b.1.1.sizes (length b.1.1.requests) (sym c.is_serial.ensures i) (sym c.requires.order i)) ∙ sym c.is_certificate.ensures ∙ c.if-not-is_certificate.true in
+    (λ i. is_certificate b.1.1.sizes (length b.1.1.requests) (sym c.is_serial.ensures i) (sym c.requires.order i))
+    ∙ sym c.is_certificate.ensures ∙ c.if-not-is_certificate.true in
     wrong_certificate t s a b.1.1 (batch_is t a.seq b at) due count wrong
 
 pub returns : goal.returns
@@ -40,9 +47,13 @@ returns c = λ s stands.
     let t = whole c.args.trace.now in
     let a = attempt_in c.args.attempt.now.bytes.now in
     let b : ℕ × (ℕ × Batch) = (c.batch-batch.result.offset, batch_in c.batch-batch.result.bytes.now) in
-    let at : slice_get (batches_at t) (a.seq - 1) ≡ Some b = ap (λ (n : ℕ). slice_get (batches_at t) (n - 1)) (sym c.seq.ensures) ∙ c.batch-batch.ensures.says in
-    let due : is_due t s a ≡ true = sym (c.is_due.ensures.due t s stands (c.head.ensures ∙ sym c.is_whole.ensures.head)) ∙ c.if-not-is_due.false in
-    let count : length a.certificate ≡ length b.1.1.requests = sym (ap length c.requires.order) ∙ c.if-order-len.false ∙ c.len.ensures in
+    let at : slice_get (batches_at t) (a.seq - 1) ≡ Some b = ap (λ (n : ℕ). slice_get (batches_at t) (n - 1))
+    (sym c.seq.ensures) ∙ c.batch-batch.ensures.says in
+    let due : is_due t s a ≡ true = sym (c.is_due.ensures.due t s stands (c.head.ensures ∙ sym c.is_whole.ensures.head))
+    ∙ c.if-not-is_due.false in
+    let count : length a.certificate ≡ length b.1.1.requests = sym (ap length c.requires.order) ∙ c.if-order-len.false
+    ∙ c.len.ensures in
     let right : is_certificate b.1.1.sizes (length b.1.1.requests) a.serial a.certificate ≡ true =
-    (λ i. is_certificate b.1.1.sizes (length b.1.1.requests) (sym c.is_serial.ensures i) (sym c.requires.order i)) ∙ sym c.is_certificate.ensures ∙ c.if-not-is_certificate.false in
+    (λ i. is_certificate b.1.1.sizes (length b.1.1.requests) (sym c.is_serial.ensures i) (sym c.requires.order i))
+    ∙ sym c.is_certificate.ensures ∙ c.if-not-is_certificate.false in
     right_attempt t s a b.1.1 (batch_is t a.seq b at) due count right

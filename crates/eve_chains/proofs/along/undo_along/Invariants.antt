@@ -1,10 +1,11 @@
 use Rattle.std.proofs.Common.{◌≡◌, length, take}
-use Rattle.eve_chains.specs.Tables.{table_of, taken_back}
+use Rattle.eve_chains.specs.Tables.{table_of, undone}
 use Rattle.eve_chains.specs.Along.{all_said, entries_along}
-use Rattle.eve_chains.proofs.along.take_back_along.Given as goal
+use Rattle.eve_chains.proofs.along.undo_along.Given as goal
 
 abbrev pub invariant-loop-access : goal.invariant-loop-access
 invariant-loop-access l = record {
   as_many : length l.table ≡ length l.fn.table;
-  table : table_of l.table ≡ taken_back (table_of l.from) (table_of l.fn.table) (entries_along (all_said (take l.access-index l.ordered)));
+  table : table_of l.table ≡ undone (table_of l.from) (table_of l.fn.table)
+      (entries_along (all_said (take l.access-index l.ordered)));
 }

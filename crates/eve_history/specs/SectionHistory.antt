@@ -1,6 +1,7 @@
 -- What a replica's section tells: its attempts, what became of each, and in which order each ran.
 -- docs/MODEL.md, "Section state, fate" and "Certificate order, keeps the groups".
-use Rattle.std.specs.Prelude.{ℕ, zero, suc, ◌==◌, IsTrue, if◌then◌else◌, List, [], ◌∷◌, map, Option, None, slice_get, slice_index_or, Bool, true, false}
+use Rattle.std.specs.Prelude.{ℕ, zero, suc, ◌==◌, IsTrue, if◌then◌else◌, List, [], ◌∷◌, map, Option, None, slice_get}
+use Rattle.std.specs.Prelude.{slice_index_or, Bool, true, false}
 use Rattle.eve_smallbank.specs.SmallBank.{Balance}
 use Rattle.eve_grammar.specs.Trace.{Asked, Access, Attempt, Rollback, Step, Attempts, Commits, RollsBack, Trace}
 use Rattle.eve_grammar.specs.Frames.{without_accesses, sections_of}
@@ -37,47 +38,48 @@ abbrev pub ordered : ℕ → Attempt → List (ℕ × Access)
 ordered at a = map (access_with (accesses_at at a)) a.certificate
 
 -- an attempt as its own frame says it, with its access records in its certificate's order
-pub record Ran : Type 0 where
+pub record ExecutedAttempt : Type 0 where
   pub offset : ℕ
   pub attempt : Attempt
   pub ordered : List (ℕ × Access)
 
-abbrev pub ran : ℕ × Attempt → Ran
-ran (at, a) = record { offset = at; attempt = without_accesses a; ordered = ordered at a }
+abbrev pub executed_attempt : ℕ × Attempt → ExecutedAttempt
+executed_attempt (at, a) = record { offset = at; attempt = without_accesses a; ordered = ordered at a }
 
 -- an attempt with its frame's offset
 abbrev pub placed_at : Placed → ℕ × Attempt
 placed_at p = (p.offset, p.attempt)
 
 -- Whose section it is, and whether each of its steps is right; its last committed number; its attempts in the order of
--- their frames, and what became of each; its committed attempts, by number; its rollbacks with the offsets of their frames.
-pub record Telling : Type 0 where
+-- their frames, and what became of each; its committed attempts, by number; its rollbacks with the offsets of their
+-- frames.
+pub record SectionHistory : Type 0 where
   pub replica : ℕ
   pub right : Bool
   pub committed : ℕ
-  pub attempts : List Ran
+  pub attempts : List ExecutedAttempt
   pub fates : List Fate
-  pub commits : List Ran
+  pub commits : List ExecutedAttempt
   pub rollbacks : List (ℕ × Rollback)
 
-abbrev pub told_by : Trace → ℕ → List (ℕ × Step) → Telling
-told_by t e steps = record {
+abbrev pub section_history_by : Trace → ℕ → List (ℕ × Step) → SectionHistory
+section_history_by t e steps = record {
   replica = e;
   right = are_right t start steps;
   committed = (state_after start steps).last;
-  attempts = map ran (attempts_among steps);
+  attempts = map executed_attempt (attempts_among steps);
   fates = fates_from 0 steps;
-  commits = map (λ p. ran (placed_at p)) (state_after start steps).committed;
+  commits = map (λ p. executed_attempt (placed_at p)) (state_after start steps).committed;
   rollbacks = rollbacks_among steps;
 }
 
 -- what replica e's section tells
-unfoldable pub telling : Trace → ℕ → Telling
-telling t e = told_by t e (steps_at t e)
+unfoldable pub section_history : Trace → ℕ → SectionHistory
+section_history t e = section_history_by t e (steps_at t e)
 
 -- what each replica's section tells, in the order of the replicas
-unfoldable pub tellings : Trace → List Telling
-tellings t = map (λ s. telling t s.0) (sections_of t)
+unfoldable pub section_histories : Trace → List SectionHistory
+section_histories t = map (λ s. section_history t s.0) (sections_of t)
 
 -- ---- orders
 
