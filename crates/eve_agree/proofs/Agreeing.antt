@@ -1,5 +1,7 @@
 -- Public: other crates cite these lemmas. The least of the faults of agreement, batch after batch.
-use Rattle.std.proofs.Common.{◌≡◌, ℕ, zero, suc, ◌+◌, ◌<◌, ◌≤◌, nat_le, Bool, true, false, cond, List, [], ◌∷◌, map, length, take, drop, slice_get, Option, Some, None, IfSome, refl, sym, ap, subst, ◌∙◌, inl, inr, arith, add-one}
+use Rattle.std.proofs.Common.{◌≡◌, ℕ, zero, suc, ◌+◌, ◌<◌, ◌≤◌, nat_le, Bool, true, false, cond, List, [], ◌∷◌, map}
+use Rattle.std.proofs.Common.{length, take, drop, slice_get, Option, Some, None, IfSome, refl, sym, ap, subst, ◌∙◌, inl}
+use Rattle.std.proofs.Common.{inr, arith, add-one}
 use Rattle.std.specs.List.{enumerate_from, find}
 use Rattle.std.proofs.lemmas.Bool.{cases_lt, leb-true, leb-false}
 use Rattle.eve_smallbank.specs.declared.request.Reply.{Reply}
@@ -10,13 +12,16 @@ use Rattle.eve_views.specs.declared.fault.Fault.{Fault}
 use Rattle.eve_views.specs.Form.{IsUpTo, IsLeast}
 use Rattle.eve_views.specs.Code.{number_of}
 use Rattle.eve_history.specs.Section.{Placed}
-use Rattle.eve_history.specs.Told.{Telling, telling, tellings, history, committed_at, IsRightSection}
+use Rattle.eve_history.specs.SectionHistory.{SectionHistory, section_history, section_histories, history, committed_at}
+use Rattle.eve_history.specs.SectionHistory.{IsRightSection}
 use Rattle.eve_history.proofs.Places.{cut_at}
 use Rattle.eve_chains.proofs.Linked.{last_committed, some_injective, none≢some}
 use Rattle.eve_agree.proofs.TokensInOrder.{get_at_seam}
-use Rattle.eve_agree.specs.Agreement.{first_to_commit, HaveSameOutcome, ReplicasAgree, StandsInAgreement, IsOutcomeFault}
+use Rattle.eve_agree.specs.Agreement.{first_to_commit, HaveSameOutcome, ReplicasAgree, StandsInAgreement}
+use Rattle.eve_agree.specs.Agreement.{IsOutcomeFault}
 use Rattle.eve_agree.specs.Judging.{NoneBefore, Stand, IsUpToAt, Lowers, IsJudged, outcome_fault, lower}
-use Rattle.eve_agree.proofs.Outcomes.{IsOf, last_told, telling_at, committed_low, replica_there, first_there, tellings_count}
+use Rattle.eve_agree.proofs.Outcomes.{IsOf, last_told, section_history_at, committed_low, replica_there, first_there}
+use Rattle.eve_agree.proofs.Outcomes.{section_histories_count}
 
 -- ---- the lesser of two
 
@@ -36,7 +41,8 @@ lower_here (Some f) at e = by (nat_le f.offset at) refl
     by true le = leb-true f.offset at le
     by false le = omega arith
 
-pub lower_stands : (t : Trace) (least : Option Fault) (at e : ℕ) → Stand t least → IsOutcomeFault t (outcome_fault at e) → Stand t (lower least at e)
+pub lower_stands : (t : Trace) (least : Option Fault) (at e : ℕ) → Stand t least → IsOutcomeFault t (outcome_fault at e)
+    → Stand t (lower least at e)
 lower_stands t None at e stand is = (refl, is)
 lower_stands t (Some f) at e stand is = by (nat_le f.offset at)
   where
@@ -44,8 +50,10 @@ lower_stands t (Some f) at e stand is = by (nat_le f.offset at)
     by true = stand
     by false = (refl, is)
 
-pub judged_later : (t : Trace) (least now : Option Fault) (e n : ℕ) → Lowers least now → IsJudged t least e n → IsJudged t now e n
-judged_later t least now e n lowers judged p at = elim (judged p at) [ inl same ↦ inl same | inr up ↦ inr (lowers p.offset up) ]
+pub judged_later : (t : Trace) (least now : Option Fault) (e n : ℕ) → Lowers least now → IsJudged t least e n
+    → IsJudged t now e n
+judged_later t least now e n lowers judged p at =
+    elim (judged p at) [ inl same ↦ inl same | inr up ↦ inr (lowers p.offset up) ]
 
 -- ---- one replica and one batch
 
@@ -55,13 +63,16 @@ take_length (y ∷ xs) zero x e = refl
 take_length (y ∷ xs) (suc n) x e = ap suc (take_length xs n x e)
 
 -- it differs
-pub differs : (t : Trace) (e f n at : ℕ) (rs : List Reply) → IsOf t e n at rs → first_to_commit t n ≡ Some f → ¬ HaveSameOutcome t e f n → IsOutcomeFault t (outcome_fault at e)
+pub differs : (t : Trace) (e f n at : ℕ) (rs : List Reply) → IsOf t e n at rs → first_to_commit t n ≡ Some f
+    → ¬ HaveSameOutcome t e f n → IsOutcomeFault t (outcome_fault at e)
 differs t e f n at rs own first apart = by n own.item own.at own.offset_is first apart
   where
-    by : (n : ℕ) (p : Placed) → committed_at t e n ≡ Some p → at ≡ p.offset → first_to_commit t n ≡ Some f → ¬ HaveSameOutcome t e f n → IsOutcomeFault t (outcome_fault at e)
+    by : (n : ℕ) (p : Placed) → committed_at t e n ≡ Some p → at ≡ p.offset → first_to_commit t n ≡ Some f
+        → ¬ HaveSameOutcome t e f n → IsOutcomeFault t (outcome_fault at e)
     by zero p here is first apart = none≢some p here
     by (suc m) p here is first apart =
-        let number : length (take m (history t e).committed) + 1 ≡ suc m = add-one (length (take m (history t e).committed)) ∙ ap suc (take_length (history t e).committed m p here) in
+        let number : length (take m (history t e).committed) + 1 ≡ suc m =
+        add-one (length (take m (history t e).committed)) ∙ ap suc (take_length (history t e).committed m p here) in
         record {
           replica = e;
           stands = record {
@@ -69,21 +80,31 @@ differs t e f n at rs own first apart = by n own.item own.at own.offset_is first
             item = p;
             rest = drop (suc m) (history t e).committed;
             is = cut_at (history t e).committed m p here;
-            holds = (sym is, subst (λ (k : ℕ). IfSome (first_to_commit t k) (λ g. ¬ HaveSameOutcome t e g k)) (sym number) (subst (λ (o : Option ℕ). IfSome o (λ g. ¬ HaveSameOutcome t e g (suc m))) (sym first) apart));
+            holds = (
+              sym is,
+              subst (λ (k : ℕ). IfSome (first_to_commit t k) (λ g. ¬ HaveSameOutcome t e g k))
+                  (sym number) (subst (λ (o : Option ℕ). IfSome o (λ g. ¬ HaveSameOutcome t e g (suc m)))
+                  (sym first) apart),
+            );
           };
           inside = refl;
         }
 
-pub judged_same : (t : Trace) (least : Option Fault) (e f n : ℕ) → first_to_commit t n ≡ Some f → HaveSameOutcome t e f n → IsJudged t least e n
-judged_same t least e f n first same p at = inl (subst (λ (o : Option ℕ). IfSome o (λ g. HaveSameOutcome t e g n)) (sym first) same)
+pub judged_same : (t : Trace) (least : Option Fault) (e f n : ℕ) → first_to_commit t n ≡ Some f
+    → HaveSameOutcome t e f n → IsJudged t least e n
+judged_same t least e f n first same p at =
+    inl (subst (λ (o : Option ℕ). IfSome o (λ g. HaveSameOutcome t e g n)) (sym first) same)
 
-pub judged_apart : (t : Trace) (least : Option Fault) (e n at : ℕ) (rs : List Reply) → IsOf t e n at rs → IsJudged t (lower least at e) e n
+pub judged_apart : (t : Trace) (least : Option Fault) (e n at : ℕ) (rs : List Reply) → IsOf t e n at rs
+    → IsJudged t (lower least at e) e n
 judged_apart t least e n at rs own p here =
     let same : p ≡ own.item = some_injective p own.item (sym here ∙ own.at) in
-    inr (subst (IsUpToAt (lower least at e)) (own.offset_is ∙ sym (ap (λ (q : Placed). q.offset) same)) (lower_here least at e))
+    inr (subst (IsUpToAt (lower least at e)) (own.offset_is ∙ sym (ap (λ (q : Placed). q.offset) same))
+    (lower_here least at e))
 
 -- it didn't commit the batch
-pub judged_none : (t : Trace) (least : Option Fault) (e n : ℕ) → IsRightSection t e → (history t e).last < n → IsJudged t least e n
+pub judged_none : (t : Trace) (least : Option Fault) (e n : ℕ) → IsRightSection t e → (history t e).last < n
+    → IsJudged t least e n
 judged_none t least e n right less p at = absurd (let low = committed_low t e n p right at in omega arith)
 
 -- it is not there
@@ -99,22 +120,27 @@ pub record InBatch (t : Trace) (before : Option Fault) (n e : ℕ) (least : Opti
   pub judged : (i : ℕ) → i < e → IsJudged t least i n
 
 module _ (t : Trace) (before : Option Fault) (n : ℕ) where
-  pub batch_start : (f : ℕ) (hs : List Telling) → hs ≡ tellings t → ((e : ℕ) → IsRightSection t e) → Stand t before → NoneBefore hs n f → f < length t.sections → first_to_commit t n ≡ Some f → InBatch t before n (f + 1) before
+  pub batch_start : (f : ℕ) (hs : List SectionHistory) → hs ≡ section_histories t → ((e : ℕ) → IsRightSection t e)
+      → Stand t before → NoneBefore hs n f → f < length t.sections → first_to_commit t n ≡ Some f
+      → InBatch t before n (f + 1) before
   batch_start f hs told right stand none there first = record {
     stand = stand;
     lowers = λ at up. up;
     judged = λ i lt. elim (cases_lt i f) [
       | inl early ↦
-          let low = none i (telling t i) early (ap (λ (xs : List Telling). slice_get xs i) told ∙ telling_at t i (omega arith)) in
-          let last = last_told t i (telling t i) refl in
+          let low = none i (section_history t i) early (ap (λ (xs : List SectionHistory). slice_get xs i) told
+          ∙ section_history_at t i (omega arith)) in
+          let last = last_told t i (section_history t i) refl in
           judged_none t before i n (right i) (omega arith)
       | inr late ↦
           let same : i ≡ f = omega arith in
-          judged_same t before i f n first (subst (λ (j : ℕ). HaveSameOutcome t j f n) (sym same) (record { balances = refl; replies = refl }))
+          judged_same t before i f n first
+          (subst (λ (j : ℕ). HaveSameOutcome t j f n) (sym same) (record { balances = refl; replies = refl }))
     ];
   }
 
-  pub batch_more : (e : ℕ) (least now : Option Fault) → InBatch t before n e least → Stand t now → Lowers least now → IsJudged t now e n → InBatch t before n (e + 1) now
+  pub batch_more : (e : ℕ) (least now : Option Fault) → InBatch t before n e least → Stand t now → Lowers least now
+      → IsJudged t now e n → InBatch t before n (e + 1) now
   batch_more e least now known stand lowers here = record {
     stand = stand;
     lowers = λ at up. lowers at (known.lowers at up);
@@ -124,8 +150,10 @@ module _ (t : Trace) (before : Option Fault) (n : ℕ) where
     ];
   }
 
-  pub batch_end : (e : ℕ) (least : Option Fault) → InBatch t before n e least → length t.sections ≤ e → (i : ℕ) → IsJudged t least i n
-  batch_end e least known past i = elim (cases_lt i e) [ inl there ↦ known.judged i there | inr missing ↦ judged_missing t least i n (omega arith) ]
+  pub batch_end : (e : ℕ) (least : Option Fault) → InBatch t before n e least → length t.sections ≤ e → (i : ℕ)
+      → IsJudged t least i n
+  batch_end e least known past i =
+      elim (cases_lt i e) [ inl there ↦ known.judged i there | inr missing ↦ judged_missing t least i n (omega arith) ]
 
 -- ---- all batches
 
@@ -138,7 +166,8 @@ module _ (t : Trace) where
   pub judged_start : Judged t 0 None
   judged_start = record { stand = tt; judged = λ e m one none. absurd (omega arith) }
 
-  pub judged_more : (n : ℕ) (least now : Option Fault) → Judged t n least → Stand t now → Lowers least now → ((e : ℕ) → IsJudged t now e (n + 1)) → Judged t (n + 1) now
+  pub judged_more : (n : ℕ) (least now : Option Fault) → Judged t n least → Stand t now → Lowers least now
+      → ((e : ℕ) → IsJudged t now e (n + 1)) → Judged t (n + 1) now
   judged_more n least now known stand lowers here = record {
     stand = stand;
     judged = λ e m one le. elim (cases_lt m (n + 1)) [
@@ -148,14 +177,17 @@ module _ (t : Trace) where
   }
 
   -- nothing was found, up to the last number of all
-  pub all_judged : (hs : List Telling) (n : ℕ) (least : Option Fault) → hs ≡ tellings t → ((e : ℕ) → IsRightSection t e) → ((e : ℕ) (h : Telling) → slice_get hs e ≡ Some h → h.committed ≤ n) → Judged t n least
+  pub all_judged : (hs : List SectionHistory) (n : ℕ) (least : Option Fault) → hs ≡ section_histories t
+      → ((e : ℕ) → IsRightSection t e) → ((e : ℕ) (h : SectionHistory) → slice_get hs e ≡ Some h → h.committed ≤ n)
+      → Judged t n least
       → (e m : ℕ) → IsJudged t least e m
   all_judged hs n least told right most known e zero p at = none≢some p at
   all_judged hs n least told right most known e (suc m) p at =
       let there = replica_there t e (suc m) p at in
       let low = committed_low t e (suc m) p (right e) at in
-      let last = last_told t e (telling t e) refl in
-      let le = most e (telling t e) (ap (λ (xs : List Telling). slice_get xs e) told ∙ telling_at t e there) in
+      let last = last_told t e (section_history t e) refl in
+      let le = most e (section_history t e) (ap (λ (xs : List SectionHistory). slice_get xs e) told
+      ∙ section_history_at t e there) in
       known.judged e (suc m) (omega arith) (omega arith) p at
 
   got_within : {A : Type 0} (xs : List A) (i : ℕ) → i < length xs → (x : A) × (slice_get xs i ≡ Some x)
@@ -177,29 +209,37 @@ module _ (t : Trace) where
   same_and_not (Some g) P same apart f is = apart same
 
   -- what was found is up to each place at which the outcome differs
-  up_to_each : (least : Option Fault) (e at : ℕ) → ((e : ℕ) → IsRightSection t e) → ((e m : ℕ) → IsJudged t least e m) → StandsInAgreement code.Outcome t e at → IsUpToAt least at
+  up_to_each : (least : Option Fault) (e at : ℕ) → ((e : ℕ) → IsRightSection t e) → ((e m : ℕ) → IsJudged t least e m)
+      → StandsInAgreement code.Outcome t e at → IsUpToAt least at
   up_to_each least e at right judged place =
       let n = suc (length place.before) in
-      let here : committed_at t e n ≡ Some place.item = ap (λ (ps : List Placed). slice_get ps (length place.before)) place.is ∙ get_at_seam place.before place.item place.rest in
+      let here : committed_at t e n ≡ Some place.item = ap (λ (ps : List Placed). slice_get ps (length place.before))
+      place.is ∙ get_at_seam place.before place.item place.rest in
       let apart : IfSome (first_to_commit t n) (λ f. ¬ HaveSameOutcome t e f n) =
-      subst (λ (k : ℕ). IfSome (first_to_commit t k) (λ f. ¬ HaveSameOutcome t e f k)) (add-one (length place.before)) place.holds.1 in
+      subst (λ (k : ℕ). IfSome (first_to_commit t k) (λ f. ¬ HaveSameOutcome t e f k)) (add-one (length place.before))
+      place.holds.1 in
       let first = first_there t e n place.item (right e) here in
       elim (judged e n place.item here) [
-        | inl same ↦ absurd (same_and_not (first_to_commit t n) (λ f. HaveSameOutcome t e f n) same apart first.0 first.1)
+        | inl same ↦ absurd (same_and_not (first_to_commit t n) (λ f. HaveSameOutcome t e f n) same apart first.0
+            first.1)
         | inr up ↦ subst (IsUpToAt least) place.holds.0 up
       ]
 
-  pub none_stands : ((e : ℕ) → IsRightSection t e) → ((e m : ℕ) → IsJudged t None e m) → (f : Fault) → ¬ IsOutcomeFault t f
+  pub none_stands : ((e : ℕ) → IsRightSection t e) → ((e m : ℕ) → IsJudged t None e m) → (f : Fault)
+      → ¬ IsOutcomeFault t f
   none_stands right judged f is = by f.code is.stands
     where
       by : (c : Code) → StandsInAgreement c t is.replica f.offset → ⊥
       by code.Outcome stands = up_to_each None is.replica f.offset right judged stands
       by c stands = absurd stands
 
-  pub is_least : (f : Fault) → ((e : ℕ) → IsRightSection t e) → ((e m : ℕ) → IsJudged t (Some f) e m) → Stand t (Some f) → IsLeast (IsOutcomeFault t) f
-  is_least f right judged stand = record { is = stand.1; least = λ g is. by g.code g.offset g.replica is.replica is.stands }
+  pub is_least : (f : Fault) → ((e : ℕ) → IsRightSection t e) → ((e m : ℕ) → IsJudged t (Some f) e m) → Stand t (Some f)
+      → IsLeast (IsOutcomeFault t) f
+  is_least f right judged stand =
+      record { is = stand.1; least = λ g is. by g.code g.offset g.replica is.replica is.stands }
     where
-      by : (c : Code) (at : ℕ) (r : Option ℕ) (e : ℕ) → StandsInAgreement c t e at → IsUpTo f (record { code = c; offset = at; replica = r })
+      by : (c : Code) (at : ℕ) (r : Option ℕ) (e : ℕ) → StandsInAgreement c t e at
+          → IsUpTo f (record { code = c; offset = at; replica = r })
       by code.Outcome at r e stands =
           let le : f.offset ≤ at = up_to_each (Some f) e at right judged stands in
           let number : number_of f.code ≡ number_of code.Outcome = ap number_of stand.0 in
@@ -208,7 +248,8 @@ module _ (t : Trace) where
 
 -- ---- one replica alone
 
-only_first : {A : Type 0} (test : ℕ → Bool) (xs : List A) (f : ℕ) → length xs < 2 → find test (map (λ s. s.0) (enumerate_from 0 xs)) ≡ Some f → f ≡ 0
+only_first : {A : Type 0} (test : ℕ → Bool) (xs : List A) (f : ℕ) → length xs < 2
+    → find test (map (λ s. s.0) (enumerate_from 0 xs)) ≡ Some f → f ≡ 0
 only_first test [] f few is = none≢some f is
 only_first test (x ∷ []) f few is = by (test 0) is
   where
@@ -218,11 +259,12 @@ only_first test (x ∷ []) f few is = by (test 0) is
 only_first test (x ∷ y ∷ ys) f few is = absurd (omega arith)
 
 -- it is the first that committed what it committed
-pub alone_judged : (t : Trace) (hs : List Telling) → hs ≡ tellings t → length hs < 2 → (e n : ℕ) → IsJudged t None e n
+pub alone_judged : (t : Trace) (hs : List SectionHistory) → hs ≡ section_histories t → length hs < 2 → (e n : ℕ)
+    → IsJudged t None e n
 alone_judged t hs told few e n p at = inl (by (first_to_commit t n) refl)
   where
     sections : length t.sections < 2
-    sections = let count : length hs ≡ length t.sections = ap length told ∙ tellings_count t in omega arith
+    sections = let count : length hs ≡ length t.sections = ap length told ∙ section_histories_count t in omega arith
 
     by : (o : Option ℕ) → first_to_commit t n ≡ o → IfSome o (λ f. HaveSameOutcome t e f n)
     by None is = tt

@@ -1,9 +1,11 @@
 -- What is answered, and by which reply.
-use Rattle.std.proofs.Common.{◌≡◌, ℕ, zero, suc, ◌-◌, ◌<◌, ◌≤◌, List, [], ◌∷◌, map, length, slice_get, Some, None, refl, sym, ap, ◌∙◌, arith}
+use Rattle.std.proofs.Common.{◌≡◌, ℕ, zero, suc, ◌-◌, ◌<◌, ◌≤◌, List, [], ◌∷◌, map, length, slice_get, Some, None, refl}
+use Rattle.std.proofs.Common.{sym, ap, ◌∙◌, arith}
 use Rattle.eve_smallbank.specs.declared.request.Reply.{Reply}
 use Rattle.eve_grammar.specs.Trace.{Attempt, Sent, Trace}
 use Rattle.eve_history.specs.Section.{Placed, batch_at}
-use Rattle.eve_history.specs.Told.{Ran, Telling, ran, placed_at, telling, history, committed_at}
+use Rattle.eve_history.specs.SectionHistory.{ExecutedAttempt, SectionHistory, executed_attempt, placed_at}
+use Rattle.eve_history.specs.SectionHistory.{section_history, history, committed_at}
 use Rattle.eve_history.specs.Faults.{RequestId, request_id}
 use Rattle.eve_chains.proofs.Linked.{some_injective, none≢some}
 use Rattle.eve_agree.specs.declared.request_ids.RequestId.{RequestId as Item}
@@ -17,7 +19,8 @@ get_past [] i x le at = none≢some x at
 get_past (y ∷ xs) zero x le at = absurd (omega arith)
 get_past (y ∷ xs) (suc i) x le at = get_past xs i x (omega arith) at
 
-get_mapped : {A B : Type 0} (f : A → B) (xs : List A) (i : ℕ) (x : A) → slice_get xs i ≡ Some x → slice_get (map f xs) i ≡ Some (f x)
+get_mapped : {A B : Type 0} (f : A → B) (xs : List A) (i : ℕ) (x : A) → slice_get xs i ≡ Some x → slice_get (map f xs) i
+    ≡ Some (f x)
 get_mapped f [] i x at = none≢some x at
 get_mapped f (y ∷ xs) zero x at = ap (λ z. Some (f z)) (some_injective y x at)
 get_mapped f (y ∷ xs) (suc i) x at = get_mapped f xs i x at
@@ -31,59 +34,72 @@ record Source {A B : Type 0} (f : A → B) (xs : List A) (i : ℕ) (y : B) : Typ
 source : {A B : Type 0} (f : A → B) (xs : List A) (i : ℕ) (y : B) → slice_get (map f xs) i ≡ Some y → Source f xs i y
 source f [] i y at = none≢some y at
 source f (x ∷ xs) zero y at = record { item = x; at = refl; is = some_injective (f x) y at }
-source f (x ∷ xs) (suc i) y at = let rest = source f xs i y at in record { item = rest.item; at = rest.at; is = rest.is }
+source f (x ∷ xs) (suc i) y at = let rest = source f xs i y at in
+    record { item = rest.item; at = rest.at; is = rest.is }
 
 -- ---- one index
 
-kept_past : (items : List Item) (count i : ℕ) (x : RequestId) → count ≤ i → slice_get (kept_in items count) i ≡ Some x → ⊥
+kept_past : (items : List Item) (count i : ℕ) (x : RequestId) → count ≤ i → slice_get (kept_in items count) i ≡ Some x
+    → ⊥
 kept_past items zero i x le at = none≢some x at
 kept_past [] (suc count) i x le at = none≢some x at
 kept_past (y ∷ items) (suc count) zero x le at = absurd (omega arith)
 kept_past (y ∷ items) (suc count) (suc i) x le at = kept_past items count i x (omega arith) at
 
 -- an index past the requests, or past the replies, is no answer's
-pub past_requests : (items : List Item) (count i : ℕ) (replies : List Reply) (s : Sent) → count ≤ i → ¬ IsAnswer (kept_in items count) replies s i
+pub past_requests : (items : List Item) (count i : ℕ) (replies : List Reply) (s : Sent) → count ≤ i
+    → ¬ IsAnswer (kept_in items count) replies s i
 past_requests items count i replies s le answer = kept_past items count i (s.client, s.number) le answer.request_id
 
-pub past_replies : (request_ids : List RequestId) (i : ℕ) (replies : List Reply) (s : Sent) → length replies ≤ i → ¬ IsAnswer request_ids replies s i
+pub past_replies : (request_ids : List RequestId) (i : ℕ) (replies : List Reply) (s : Sent) → length replies ≤ i
+    → ¬ IsAnswer request_ids replies s i
 past_replies request_ids i replies s le answer = get_past replies i s.reply le answer.reply
 
-pub kept_at : (items : List Item) (count i : ℕ) (x : Item) → i < count → slice_get items i ≡ Some x → slice_get (kept_in items count) i ≡ Some (request_id_of x)
+pub kept_at : (items : List Item) (count i : ℕ) (x : Item) → i < count → slice_get items i ≡ Some x
+    → slice_get (kept_in items count) i ≡ Some (request_id_of x)
 kept_at items zero i x lt at = absurd (omega arith)
 kept_at [] (suc count) i x lt at = none≢some x at
 kept_at (y ∷ items) (suc count) zero x lt at = ap (λ (z : Item). Some (request_id_of z)) (some_injective y x at)
 kept_at (y ∷ items) (suc count) (suc i) x lt at = kept_at items count i x (omega arith) at
 
-pub answer_here : (request_ids : List RequestId) (replies : List Reply) (s : Sent) (i : ℕ) (x : Item) (r : Reply) → slice_get request_ids i ≡ Some (request_id_of x) → slice_get replies i ≡ Some r
+pub answer_here : (request_ids : List RequestId) (replies : List Reply) (s : Sent) (i : ℕ) (x : Item) (r : Reply)
+    → slice_get request_ids i ≡ Some (request_id_of x) → slice_get replies i ≡ Some r
     → x.client ≡ s.client → x.number ≡ s.number → r ≡ s.reply → IsAnswer request_ids replies s i
 answer_here request_ids replies s i x r at reply client number same = record {
   request_id = at ∙ (λ j. Some (client j, number j));
   reply = reply ∙ ap (λ (q : Reply). Some q) same;
 }
 
-pub client_of : (request_ids : List RequestId) (replies : List Reply) (s : Sent) (i : ℕ) (x : Item) → slice_get request_ids i ≡ Some (request_id_of x) → IsAnswer request_ids replies s i → x.client ≡ s.client
-client_of request_ids replies s i x at answer = ap (λ (y : ℕ × ℕ). y.0) (some_injective (request_id_of x) (s.client, s.number) (sym at ∙ answer.request_id))
+pub client_of : (request_ids : List RequestId) (replies : List Reply) (s : Sent) (i : ℕ) (x : Item)
+    → slice_get request_ids i ≡ Some (request_id_of x) → IsAnswer request_ids replies s i → x.client ≡ s.client
+client_of request_ids replies s i x at answer =
+    ap (λ (y : ℕ × ℕ). y.0) (some_injective (request_id_of x) (s.client, s.number) (sym at ∙ answer.request_id))
 
-pub number_of : (request_ids : List RequestId) (replies : List Reply) (s : Sent) (i : ℕ) (x : Item) → slice_get request_ids i ≡ Some (request_id_of x) → IsAnswer request_ids replies s i → x.number ≡ s.number
-number_of request_ids replies s i x at answer = ap (λ (y : ℕ × ℕ). y.1) (some_injective (request_id_of x) (s.client, s.number) (sym at ∙ answer.request_id))
+pub number_of : (request_ids : List RequestId) (replies : List Reply) (s : Sent) (i : ℕ) (x : Item)
+    → slice_get request_ids i ≡ Some (request_id_of x) → IsAnswer request_ids replies s i → x.number ≡ s.number
+number_of request_ids replies s i x at answer =
+    ap (λ (y : ℕ × ℕ). y.1) (some_injective (request_id_of x) (s.client, s.number) (sym at ∙ answer.request_id))
 
-pub reply_of : (request_ids : List RequestId) (replies : List Reply) (s : Sent) (i : ℕ) (r : Reply) → slice_get replies i ≡ Some r → IsAnswer request_ids replies s i → r ≡ s.reply
+pub reply_of : (request_ids : List RequestId) (replies : List Reply) (s : Sent) (i : ℕ) (r : Reply)
+    → slice_get replies i ≡ Some r → IsAnswer request_ids replies s i → r ≡ s.reply
 reply_of request_ids replies s i r at answer = some_injective r s.reply (sym at ∙ answer.reply)
 
 -- ---- one reply sent
 
 -- where the replica didn't commit the batch
-pub not_committed : (t : Trace) (s : Sent) (v : Telling) → 1 ≤ s.seq → v ≡ telling t s.replica → slice_get v.commits (s.seq - 1) ≡ None → ¬ IsReplied t s
-unfolding telling history
+pub not_committed : (t : Trace) (s : Sent) (v : SectionHistory) → 1 ≤ s.seq → v ≡ section_history t s.replica
+    → slice_get v.commits (s.seq - 1) ≡ None → ¬ IsReplied t s
+unfolding section_history history
 not_committed t s v one is none replied = by s.seq one none replied.committed
   where
     by : (n : ℕ) → 1 ≤ n → slice_get v.commits (n - 1) ≡ None → committed_at t s.replica n ≡ Some replied.placed → ⊥
     by zero le out at = absurd (omega arith)
     by (suc n) le out at =
         let less : suc n - 1 ≡ n = omega arith in
-        none≢some (ran (placed_at replied.placed))
-        (sym out ∙ ap (λ (w : Telling). slice_get w.commits (suc n - 1)) is ∙ ap (λ m. slice_get (telling t s.replica).commits m) less
-        ∙ get_mapped (λ p. ran (placed_at p)) (history t s.replica).committed n replied.placed at)
+        none≢some (executed_attempt (placed_at replied.placed))
+        (sym out ∙ ap (λ (w : SectionHistory). slice_get w.commits (suc n - 1)) is
+        ∙ ap (λ m. slice_get (section_history t s.replica).commits m) less
+        ∙ get_mapped (λ p. executed_attempt (placed_at p)) (history t s.replica).committed n replied.placed at)
 
 -- the attempt by which it did
 pub record IsCommitted (t : Trace) (e n : ℕ) (replies : List Reply) : Type 0 where
@@ -91,22 +107,27 @@ pub record IsCommitted (t : Trace) (e n : ℕ) (replies : List Reply) : Type 0 w
   at : committed_at t e n ≡ Some placed
   is : placed.attempt.replies ≡ replies
 
-pub is_committed : (t : Trace) (e n : ℕ) (v : Telling) (r : Ran) (a : Attempt) → 1 ≤ n → v ≡ telling t e → slice_get v.commits (n - 1) ≡ Some r → a ≡ r.attempt → IsCommitted t e n a.replies
-unfolding telling history
+pub is_committed : (t : Trace) (e n : ℕ) (v : SectionHistory) (r : ExecutedAttempt) (a : Attempt) → 1 ≤ n
+    → v ≡ section_history t e → slice_get v.commits (n - 1) ≡ Some r → a ≡ r.attempt → IsCommitted t e n a.replies
+unfolding section_history history
 is_committed t e zero v r a one is at same = absurd (omega arith)
 is_committed t e (suc n) v r a one is at same =
     let less : suc n - 1 ≡ n = omega arith in
-    let s = source (λ p. ran (placed_at p)) (history t e).committed n r (ap (λ m. slice_get (telling t e).commits m) (sym less) ∙ ap (λ (w : Telling). slice_get w.commits (suc n - 1)) (sym is) ∙ at) in
+    let s = source (λ p. executed_attempt (placed_at p)) (history t e).committed n r
+    (ap (λ m. slice_get (section_history t e).commits m) (sym less)
+    ∙ ap (λ (w : SectionHistory). slice_get w.commits (suc n - 1)) (sym is) ∙ at) in
     record {
       placed = s.item;
       at = s.at;
-      is = ap (λ (q : Ran). q.attempt.replies) s.is ∙ ap (λ (b : Attempt). b.replies) (sym same);
+      is = ap (λ (q : ExecutedAttempt). q.attempt.replies) s.is ∙ ap (λ (b : Attempt). b.replies) (sym same);
     }
 
-pub replied_from : (t : Trace) (s : Sent) (replies : List Reply) (request_ids : List RequestId) (i : ℕ) → IsCommitted t s.replica s.seq replies → request_ids ≡ map request_id (batch_at t s.seq).requests
+pub replied_from : (t : Trace) (s : Sent) (replies : List Reply) (request_ids : List RequestId) (i : ℕ)
+    → IsCommitted t s.replica s.seq replies → request_ids ≡ map request_id (batch_at t s.seq).requests
     → IsAnswer request_ids replies s i → IsReplied t s
 replied_from t s replies request_ids i committed is answer =
-    let a = source request_id (batch_at t s.seq).requests i (s.client, s.number) (ap (λ (xs : List RequestId). slice_get xs i) (sym is) ∙ answer.request_id) in
+    let a = source request_id (batch_at t s.seq).requests i (s.client, s.number)
+    (ap (λ (xs : List RequestId). slice_get xs i) (sym is) ∙ answer.request_id) in
     record {
       placed = committed.placed;
       index = i;
@@ -118,14 +139,18 @@ replied_from t s replies request_ids i committed is answer =
       reply = ap (λ (rs : List Reply). slice_get rs i) committed.is ∙ answer.reply;
     }
 
-pub answer_from : (t : Trace) (s : Sent) (replies : List Reply) (request_ids : List RequestId) → IsCommitted t s.replica s.seq replies → request_ids ≡ map request_id (batch_at t s.seq).requests
+pub answer_from : (t : Trace) (s : Sent) (replies : List Reply) (request_ids : List RequestId)
+    → IsCommitted t s.replica s.seq replies → request_ids ≡ map request_id (batch_at t s.seq).requests
     → IsReplied t s → (i : ℕ) × IsAnswer request_ids replies s i
 answer_from t s replies request_ids committed is replied =
-    let same : replied.placed ≡ committed.placed = some_injective replied.placed committed.placed (sym replied.committed ∙ committed.at) in (
+    let same : replied.placed ≡ committed.placed = some_injective replied.placed committed.placed
+    (sym replied.committed ∙ committed.at) in (
       replied.index,
       record {
-        request_id = ap (λ (xs : List RequestId). slice_get xs replied.index) is ∙ get_mapped request_id (batch_at t s.seq).requests replied.index replied.asked replied.request
+        request_id = ap (λ (xs : List RequestId). slice_get xs replied.index) is
+            ∙ get_mapped request_id (batch_at t s.seq).requests replied.index replied.asked replied.request
             ∙ (λ j. Some (replied.client j, replied.number j));
-        reply = ap (λ (rs : List Reply). slice_get rs replied.index) (sym committed.is) ∙ ap (λ (p : Placed). slice_get p.attempt.replies replied.index) (sym same) ∙ replied.reply;
+        reply = ap (λ (rs : List Reply). slice_get rs replied.index) (sym committed.is)
+            ∙ ap (λ (p : Placed). slice_get p.attempt.replies replied.index) (sym same) ∙ replied.reply;
       },
     )

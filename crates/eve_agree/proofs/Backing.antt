@@ -1,5 +1,6 @@
 -- Public: other crates cite these lemmas. Which commits and rollbacks no majority voted for, and which is the first.
-use Rattle.std.proofs.Common.{◌≡◌, ℕ, suc, ◌+◌, ◌-◌, ◌*◌, ◌^◌, ◌<◌, ◌≤◌, ◌==◌, nat_lt, nat_le, List, [], ◌∷◌, ◌++◌, length, Option, Some, None, refl, sym, subst, ap, ◌∙◌, ◌⊎◌, inl, inr, IsTrue, arith}
+use Rattle.std.proofs.Common.{◌≡◌, ℕ, suc, ◌+◌, ◌-◌, ◌*◌, ◌^◌, ◌<◌, ◌≤◌, ◌==◌, nat_lt, nat_le, List, [], ◌∷◌, ◌++◌}
+use Rattle.std.proofs.Common.{length, Option, Some, None, refl, sym, subst, ap, ◌∙◌, ◌⊎◌, inl, inr, IsTrue, arith}
 use Rattle.std.specs.Prelude.{Bool, true, false, ◌↔◌, IfNone, IfSome}
 use Rattle.std.specs.Cmp.Lexicographic.{pointwise, same_text, other_text}
 use Rattle.std.specs.List.{AllByRecursion}
@@ -20,7 +21,7 @@ use Rattle.eve_views.specs.declared.fault.Code.{Code}
 use Rattle.eve_views.specs.declared.fault.Code.TheVariants as code
 use Rattle.eve_views.specs.declared.fault.Fault.{Fault}
 use Rattle.eve_history.specs.Section.{SectionState, start, next, is_right, are_right}
-use Rattle.eve_history.specs.Told.{IsRightSection}
+use Rattle.eve_history.specs.SectionHistory.{IsRightSection}
 use Rattle.eve_history.specs.Faults.{OfCommit, OfRollback}
 use Rattle.eve_votes.specs.Votes.{IsDecided, IsRolledBack}
 use Rattle.eve_history.proofs.Places.{place_here, place_later, no_place, place_cases, located_rising, from_low}
@@ -36,21 +37,32 @@ use Rattle.eve_history.proofs.Rights.{none_at}
 abbrev pub IsUnbackedAmong : Trace → ℕ → List (ℕ × Step) → Fault → Type 0
 IsUnbackedAmong t e steps f = SomePlace steps (λ _ step. IsUnbacked t e step f)
 
-pub place_of : {P Q : List (ℕ × Step) → ℕ × Step → Type 0} {steps : List (ℕ × Step)} → ((b : List (ℕ × Step)) (s : ℕ × Step) → P b s → Q b s) → SomePlace steps P → SomePlace steps Q
-place_of f place = record { before = place.before; item = place.item; rest = place.rest; is = place.is; holds = f place.before place.item place.holds }
+pub place_of : {P Q : List (ℕ × Step) → ℕ × Step → Type 0} {steps : List (ℕ × Step)}
+    → ((b : List (ℕ × Step)) (s : ℕ × Step) → P b s → Q b s) → SomePlace steps P → SomePlace steps Q
+place_of f place = record {
+  before = place.before;
+  item = place.item;
+  rest = place.rest;
+  is = place.is;
+  holds = f place.before place.item place.holds;
+}
 
 pub unbacked_from : (t : Trace) (f : Fault) → (fault : IsMajorityFault t f) → IsUnbackedIn t fault.replica f
 unbacked_from t f fault = by f.code refl fault.stands
   where
-    commit : f.code ≡ code.NoMajority → (at : ℕ) (step : Step) → at ≡ f.offset → OfCommit step (λ c. ¬ IsDecided t c.seq c.view c.token) → IsUnbacked t fault.replica (at, step) f
+    commit : f.code ≡ code.NoMajority → (at : ℕ) (step : Step) → at ≡ f.offset
+        → OfCommit step (λ c. ¬ IsDecided t c.seq c.view c.token) → IsUnbacked t fault.replica (at, step) f
     commit is at (Attempts a) offset holds = absurd holds
-    commit is at (Commits c) offset holds = record { unbacked = holds; lacking = is; offset = offset; inside = fault.inside }
+    commit is at (Commits c) offset holds =
+        record { unbacked = holds; lacking = is; offset = offset; inside = fault.inside }
     commit is at (RollsBack r) offset holds = absurd holds
 
-    rollback : f.code ≡ code.RollbackNoMajority → (at : ℕ) (step : Step) → at ≡ f.offset → OfRollback step (λ r. ¬ IsRolledBack t (r.to + 1) (r.view - 1)) → IsUnbacked t fault.replica (at, step) f
+    rollback : f.code ≡ code.RollbackNoMajority → (at : ℕ) (step : Step) → at ≡ f.offset
+        → OfRollback step (λ r. ¬ IsRolledBack t (r.to + 1) (r.view - 1)) → IsUnbacked t fault.replica (at, step) f
     rollback is at (Attempts a) offset holds = absurd holds
     rollback is at (Commits c) offset holds = absurd holds
-    rollback is at (RollsBack r) offset holds = record { unbacked = holds; lacking = is; offset = offset; inside = fault.inside }
+    rollback is at (RollsBack r) offset holds =
+        record { unbacked = holds; lacking = is; offset = offset; inside = fault.inside }
 
     by : (c : Code) → f.code ≡ c → StandsInMajorities c t fault.replica f.offset → IsUnbackedIn t fault.replica f
     by code.NoMajority is stands = place_of (λ b s h. commit is s.0 s.1 h.0 h.1) stands
@@ -64,12 +76,27 @@ fault_from t e f place = record { replica = e; stands = by place.item refl place
     by (at, Attempts a) is here = absurd here.lacking
     by (at, Commits c) is here =
         subst (λ d. StandsInMajorities d t e f.offset) (sym here.lacking)
-        (record { before = place.before; item = (at, Commits c); rest = place.rest; is = place.is ∙ ap (λ (s : ℕ × Step). place.before ++ s ∷ place.rest) is; holds = (here.offset, here.unbacked) })
+        (record {
+          before = place.before;
+          item = (at, Commits c);
+          rest = place.rest;
+          is = place.is
+              ∙ ap (λ (s : ℕ × Step). place.before ++ s ∷ place.rest) is;
+          holds = (here.offset, here.unbacked);
+        })
     by (at, RollsBack r) is here =
         subst (λ d. StandsInMajorities d t e f.offset) (sym here.lacking)
-        (record { before = place.before; item = (at, RollsBack r); rest = place.rest; is = place.is ∙ ap (λ (s : ℕ × Step). place.before ++ s ∷ place.rest) is; holds = (here.offset, here.unbacked) })
+        (record {
+          before = place.before;
+          item = (at, RollsBack r);
+          rest = place.rest;
+          is = place.is
+              ∙ ap (λ (s : ℕ × Step). place.before ++ s ∷ place.rest) is;
+          holds = (here.offset, here.unbacked);
+        })
 
-none_unbacked : (t : Trace) (e : ℕ) (f : Fault) (steps : List (ℕ × Step)) → AllByRecursion (λ s. IsBacked t s.1) steps → IsUnbackedAmong t e steps f → ⊥
+none_unbacked : (t : Trace) (e : ℕ) (f : Fault) (steps : List (ℕ × Step)) → AllByRecursion (λ s. IsBacked t s.1) steps
+    → IsUnbackedAmong t e steps f → ⊥
 none_unbacked t e f [] backed place = no_place _ place
 none_unbacked t e f (s ∷ steps) backed place = elim (place_cases (λ _ x. IsUnbacked t e x f) s steps place) [
   | inl here ↦ here.unbacked backed.0
@@ -79,19 +106,24 @@ none_unbacked t e f (s ∷ steps) backed place = elim (place_cases (λ _ x. IsUn
 -- ---- along a section
 
 -- a right rollback has room
-room_along : (t : Trace) (s : SectionState) (steps : List (ℕ × Step)) → length t.batches ≤ 65535 → IsTrue (are_right t s steps) → AllByRecursion (λ x. HasRoom x.1) steps
+room_along : (t : Trace) (s : SectionState) (steps : List (ℕ × Step)) → length t.batches ≤ 65535
+    → IsTrue (are_right t s steps) → AllByRecursion (λ x. HasRoom x.1) steps
 room_along t s [] few right = tt
-room_along t s ((at, Attempts a) ∷ steps) few right = (tt, room_along t (next s (at, Attempts a)) steps few (and_parts (is_right t s (Attempts a)) _ right).1)
-room_along t s ((at, Commits c) ∷ steps) few right = (tt, room_along t (next s (at, Commits c)) steps few (and_parts (is_right t s (Commits c)) _ right).1)
+room_along t s ((at, Attempts a) ∷ steps) few right =
+    (tt, room_along t (next s (at, Attempts a)) steps few (and_parts (is_right t s (Attempts a)) _ right).1)
+room_along t s ((at, Commits c) ∷ steps) few right =
+    (tt, room_along t (next s (at, Commits c)) steps few (and_parts (is_right t s (Commits c)) _ right).1)
 room_along t s ((at, RollsBack r) ∷ steps) few right =
     let parts = and_parts (is_right t s (RollsBack r)) _ right in
     let to = and_parts (r.to == s.last) _ parts.0 in
     let view = and_parts (nat_lt s.last (length t.batches)) _ to.1 in (
-      room r.to s.last r.view s.view (length t.batches) (eqb-true r.to s.last to.0) (ltb-true s.last (length t.batches) view.0) few (eqb-true r.view (s.view + 1) view.1),
+      room r.to s.last r.view s.view (length t.batches) (eqb-true r.to s.last to.0)
+          (ltb-true s.last (length t.batches) view.0) few (eqb-true r.view (s.view + 1) view.1),
       room_along t (next s (at, RollsBack r)) steps few parts.1,
     )
   where
-    room : (to last view before n : ℕ) → to ≡ last → last < n → n ≤ 65535 → view ≡ before + 1 → (to + 1 < 2 ^ 32) × (1 ≤ view)
+    room : (to last view before n : ℕ) → to ≡ last → last < n → n ≤ 65535 → view ≡ before + 1 → (to + 1 < 2 ^ 32)
+        × (1 ≤ view)
     room to last view before n e lt few f = (omega arith, omega arith)
 
 few_batches : (t : Trace) → HasLimits t → length t.batches ≤ 65535
@@ -136,13 +168,15 @@ record IsCut (offset : ℕ) (steps : List Step) (step : ℕ × Step) (left : Lis
   is : left ≡ located step_text behind others
   after : offset < behind
 
-cut : (offset : ℕ) (steps : List Step) (step : ℕ × Step) (left : List (ℕ × Step)) → step ∷ left ≡ located step_text offset steps → IsCut offset steps step left
+cut : (offset : ℕ) (steps : List Step) (step : ℕ × Step) (left : List (ℕ × Step)) → step ∷ left
+    ≡ located step_text offset steps → IsCut offset steps step left
 cut offset [] step left e = absurd (none step left e)
   where
     none : (s : ℕ × Step) (xs : List (ℕ × Step)) → ◌≡◌ {A = List (ℕ × Step)} (s ∷ xs) [] → ⊥
     none s xs e = cc
 cut offset (s ∷ steps) step left e = record {
-  at = ap (λ (x : ℕ × Step). x.0) (first step (offset, s) left (located step_text (offset + length (step_text s)) steps) e);
+  at = ap (λ (x : ℕ × Step). x.0)
+      (first step (offset, s) left (located step_text (offset + length (step_text s)) steps) e);
   others = steps;
   behind = offset + length (step_text s);
   is = rest step (offset, s) left (located step_text (offset + length (step_text s)) steps) e;
@@ -164,7 +198,8 @@ cut offset (s ∷ steps) step left e = record {
     longer (RollsBack r) = more offset _
 
 -- a step that is backed
-pub left_next : (t : Trace) (e : ℕ) (step : ℕ × Step) (left : List (ℕ × Step)) → AreLeft t e (step ∷ left) → IsBacked t step.1 → AreLeft t e left
+pub left_next : (t : Trace) (e : ℕ) (step : ℕ × Step) (left : List (ℕ × Step)) → AreLeft t e (step ∷ left)
+    → IsBacked t step.1 → AreLeft t e left
 left_next t e step left are backed =
     let own = cut are.offset are.steps step left are.is in
     record {
@@ -173,17 +208,20 @@ left_next t e step left are backed =
       is = own.is;
       room = are.room.1;
       backed = λ all. are.backed (backed, all);
-      to = λ f place. elim (place_cases (λ _ s. IsUnbacked t e s f) step left (are.to f place)) [ inl here ↦ absurd (here.unbacked backed) | inr there ↦ there ];
+      to = λ f place. elim (place_cases (λ _ s. IsUnbacked t e s f) step left (are.to f place))
+          [ inl here ↦ absurd (here.unbacked backed) | inr there ↦ there ];
       from = λ f place. are.from f (place_later (λ _ s. IsUnbacked t e s f) step left place);
     }
 
 same_code : (step : Step) (c d : Code) → lacks step c → lacks step d → number_of c ≤ number_of d
 same_code (Attempts a) c d one two = absurd one
 same_code (Commits x) c d one two = (let same : number_of c ≡ number_of d = ap number_of (one ∙ sym two) in omega arith)
-same_code (RollsBack r) c d one two = (let same : number_of c ≡ number_of d = ap number_of (one ∙ sym two) in omega arith)
+same_code (RollsBack r) c d one two =
+    (let same : number_of c ≡ number_of d = ap number_of (one ∙ sym two) in omega arith)
 
 -- one that isn't is the first fault
-pub left_fault : (t : Trace) (e : ℕ) (step : ℕ × Step) (left : List (ℕ × Step)) (f : Fault) → AreLeft t e (step ∷ left) → IsUnbacked t e step f → IsFirstIn t e f
+pub left_fault : (t : Trace) (e : ℕ) (step : ℕ × Step) (left : List (ℕ × Step)) (f : Fault) → AreLeft t e (step ∷ left)
+    → IsUnbacked t e step f → IsFirstIn t e f
 left_fault t e step left f are wrong = record {
   is = are.from f (place_here (λ _ s. IsUnbacked t e s f) step left wrong);
   first = λ g place. elim (place_cases (λ _ s. IsUnbacked t e s g) step left (are.to g place)) [
@@ -197,8 +235,10 @@ left_fault t e step left f are wrong = record {
 
     later : (g : Fault) → IsUnbackedAmong t e left g → f.offset < g.offset
     later g there =
-        let low = from_low (λ _ s. IsUnbacked t e s g) own.behind g.offset (located step_text own.behind own.others) (located_rising step_text own.behind own.others)
-        (subst (λ (xs : List (ℕ × Step)). SomePlace xs (λ _ s. (s.0 ≡ g.offset) × IsUnbacked t e s g)) own.is (place_of (λ b s h. (h.offset, h)) there)) in
+        let low = from_low (λ _ s. IsUnbacked t e s g) own.behind g.offset (located step_text own.behind own.others)
+        (located_rising step_text own.behind own.others)
+        (subst (λ (xs : List (ℕ × Step)). SomePlace xs (λ _ s. (s.0 ≡ g.offset) × IsUnbacked t e s g)) own.is
+        (place_of (λ b s h. (h.offset, h)) there)) in
         omega (arith, low, own.after, own.at, wrong.offset)
 
 -- ---- section after section
@@ -216,8 +256,14 @@ pub none_found : (t : Trace) → IsFoundBelow t 0 None
 none_found t = λ e lt. absurd (omega (arith, lt))
 
 -- this replica's section is backed
-pub none_more : (t : Trace) (e : ℕ) (first : Option Fault) → IsFoundBelow t e first → IsBackedSection t e → IsFoundBelow t (e + 1) first
-none_more t e None found backed = λ k lt. elim (below_more k e lt) [ inl less ↦ found k less | inr same ↦ subst (IsBackedSection t) (sym same) backed ]
+pub none_more : (t : Trace) (e : ℕ) (first : Option Fault) → IsFoundBelow t e first → IsBackedSection t e
+    → IsFoundBelow t (e + 1) first
+none_more t e None found backed =
+    λ k lt. elim (below_more k e lt) [
+      | inl less ↦ found k less
+      | inr same
+          ↦ subst (IsBackedSection t) (sym same) backed
+    ]
 none_more t e (Some f) found backed = record {
   replica = found.replica;
   below = (let below = found.below in omega (arith, below));
@@ -241,7 +287,8 @@ first_more t e f none first = record {
 }
 
 -- it has one beside an earlier replica's
-pub both_more : (t : Trace) (e : ℕ) (f g h : Fault) → IsFirstBelow t e g → IsFirstIn t e f → (h ≡ g) ⊎ (h ≡ f) → IsUpTo h g → IsUpTo h f → IsFirstBelow t (e + 1) h
+pub both_more : (t : Trace) (e : ℕ) (f g h : Fault) → IsFirstBelow t e g → IsFirstIn t e f → (h ≡ g) ⊎ (h ≡ f)
+    → IsUpTo h g → IsUpTo h f → IsFirstBelow t (e + 1) h
 both_more t e f g h found own which before after = by which
   where
     first : (k : ℕ) (x : Fault) → k < e + 1 → IsUnbackedIn t k x → IsUpTo h x
@@ -257,7 +304,13 @@ both_more t e f g h found own which before after = by which
       is = subst (λ (x : Fault). IsUnbackedIn t found.replica x) (sym same) found.is;
       first = first;
     }
-    by (inr same) = record { replica = e; below = omega arith; is = subst (λ (x : Fault). IsUnbackedIn t e x) (sym same) own.is; first = first }
+    by (inr same) = record {
+      replica = e;
+      below = omega arith;
+      is = subst (λ (x : Fault). IsUnbackedIn t e x)
+          (sym same) own.is;
+      first = first;
+    }
 
 -- what no majority voted for is a matter of majorities
 lacking_phase : (step : Step) (c : Code) → lacks step c → phase_of c ≡ 9
@@ -269,7 +322,8 @@ unbacked_phase : (t : Trace) (e : ℕ) (f : Fault) → IsUnbackedIn t e f → ph
 unbacked_phase t e f place = lacking_phase place.item.1 f.code place.holds.lacking
 
 -- the first so far, with what was found in this replica's section
-pub found_more : (t : Trace) (e : ℕ) (first found : Option Fault) → IsFoundBelow t e first → IfNone found (IsBackedSection t e) → IfSome found (IsFirstIn t e)
+pub found_more : (t : Trace) (e : ℕ) (first found : Option Fault) → IsFoundBelow t e first
+    → IfNone found (IsBackedSection t e) → IfSome found (IsFirstIn t e)
     → IsFoundBelow t (e + 1) (first_of first found)
 found_more t e None None before backed own = none_more t e None before backed
 found_more t e None (Some f) before backed own = first_more t e f before own
@@ -279,9 +333,14 @@ found_more t e (Some g) (Some f) before backed own =
     let one = unbacked_phase t before.replica g before.is in
     let other = unbacked_phase t e f own.is in
     let its : phase_of two.0.code ≡ 9 =
-    elim two.2.one [ inl same ↦ ap (λ (x : Fault). phase_of x.code) same ∙ one | inr same ↦ ap (λ (x : Fault). phase_of x.code) same ∙ other ] in
+    elim two.2.one [
+      | inl same ↦ ap (λ (x : Fault). phase_of x.code) same ∙ one
+      | inr same
+          ↦ ap (λ (x : Fault). phase_of x.code) same ∙ other
+    ] in
     subst (IsFoundBelow t (e + 1)) (sym two.1)
-    (both_more t e f g two.0 before own two.2.one (up_to_from two.0 g (its ∙ sym one) two.2.before) (up_to_from two.0 f (its ∙ sym other) two.2.and_before))
+    (both_more t e f g two.0 before own two.2.one (up_to_from two.0 g (its ∙ sym one) two.2.before)
+    (up_to_from two.0 f (its ∙ sym other) two.2.and_before))
 
 -- ---- all sections
 
@@ -292,9 +351,11 @@ all_backed t n many found e = elim (cases_lt e n) [
 ]
 
 pub no_fault : (t : Trace) → AllAreBacked t → (f : Fault) → IsMajorityFault t f → ⊥
-no_fault t backed f fault = none_unbacked t fault.replica f (steps_at t fault.replica) (backed fault.replica) (unbacked_from t f fault)
+no_fault t backed f fault = none_unbacked t fault.replica f (steps_at t fault.replica) (backed fault.replica)
+    (unbacked_from t f fault)
 
-pub least_fault : (t : Trace) (n : ℕ) (f : Fault) → length t.sections ≤ n → IsFirstBelow t n f → IsLeast (IsMajorityFault t) f
+pub least_fault : (t : Trace) (n : ℕ) (f : Fault) → length t.sections ≤ n → IsFirstBelow t n f
+    → IsLeast (IsMajorityFault t) f
 least_fault t n f many found = record {
   is = fault_from t found.replica f found.is;
   least = λ g fault. by g fault (cases_lt fault.replica n);
@@ -303,13 +364,16 @@ least_fault t n f many found = record {
     by : (g : Fault) → (fault : IsMajorityFault t g) → (fault.replica < n) ⊎ (n ≤ fault.replica) → IsUpTo f g
     by g fault (inl lt) = found.first fault.replica g lt (unbacked_from t g fault)
     by g fault (inr ge) =
-        absurd (no_place _ (subst (λ (xs : List (ℕ × Step)). IsUnbackedAmong t fault.replica xs g) (none_at t fault.replica (omega arith)) (unbacked_from t g fault)))
+        absurd (no_place _ (subst (λ (xs : List (ℕ × Step)). IsUnbackedAmong t fault.replica xs g)
+        (none_at t fault.replica (omega arith)) (unbacked_from t g fault)))
 
 -- ---- what is read of a frame
 
-pub rolled_from : (t : Trace) (said : Bool) (to view n v : ℕ) → n ≡ to → v ≡ view → IsTrue said ↔ IsRolledBack t (n + 1) (v - 1) → IsTrue said ↔ IsRolledBack t (to + 1) (view - 1)
+pub rolled_from : (t : Trace) (said : Bool) (to view n v : ℕ) → n ≡ to → v ≡ view → IsTrue said
+    ↔ IsRolledBack t (n + 1) (v - 1) → IsTrue said ↔ IsRolledBack t (to + 1) (view - 1)
 rolled_from t said to view n v e f is =
-    subst (λ (m : ℕ). IsTrue said ↔ IsRolledBack t (m + 1) (view - 1)) e (subst (λ (w : ℕ). IsTrue said ↔ IsRolledBack t (n + 1) (w - 1)) f is)
+    subst (λ (m : ℕ). IsTrue said ↔ IsRolledBack t (m + 1) (view - 1)) e
+    (subst (λ (w : ℕ). IsTrue said ↔ IsRolledBack t (n + 1) (w - 1)) f is)
 
 -- what is told of a batch: in which view it is decided, and with which token
 abbrev Tells : Trace → ℕ → Option (ℕ × List ℕ) → Type 0
@@ -318,17 +382,21 @@ Tells t n found = (view : ℕ) (token : List ℕ) → IsDecided t n view token �
 told_same : (x y : ℕ × List ℕ) → ◌≡◌ {A = Option (ℕ × List ℕ)} (Some x) (Some y) → x ≡ y
 told_same x y e = cc
 
-pub decided_from : (t : Trace) (n seq v view : ℕ) (token b : List ℕ) (said : Bool) → n ≡ seq → v ≡ view → b ≡ token → IsTrue said ↔ IsDecided t n v b → IsTrue said ↔ IsDecided t seq view token
+pub decided_from : (t : Trace) (n seq v view : ℕ) (token b : List ℕ) (said : Bool) → n ≡ seq → v ≡ view → b ≡ token
+    → IsTrue said ↔ IsDecided t n v b → IsTrue said ↔ IsDecided t seq view token
 decided_from t n seq v view token b said e f g is =
     subst (λ (m : ℕ). IsTrue said ↔ IsDecided t m view token) e
-    (subst (λ (w : ℕ). IsTrue said ↔ IsDecided t n w token) f (subst (λ (bytes : List ℕ). IsTrue said ↔ IsDecided t n v bytes) g is))
+    (subst (λ (w : ℕ). IsTrue said ↔ IsDecided t n w token) f
+    (subst (λ (bytes : List ℕ). IsTrue said ↔ IsDecided t n v bytes) g is))
 
 -- the same view is told: it is decided where the token is the same
-pub decided_with : (t : Trace) (n v : ℕ) (a b : List ℕ) (found : Option (ℕ × List ℕ)) (told : ℕ × List ℕ) (said : Bool) → Tells t n found → found ≡ Some told → told.0 ≡ v → a ≡ told.1
+pub decided_with : (t : Trace) (n v : ℕ) (a b : List ℕ) (found : Option (ℕ × List ℕ)) (told : ℕ × List ℕ) (said : Bool)
+    → Tells t n found → found ≡ Some told → told.0 ≡ v → a ≡ told.1
     → said ≡ pointwise ◌==◌ a b → IsTrue said ↔ IsDecided t n v b
 decided_with t n v a b found told said tells is view token test = (
   λ held. (tells v b).1 (is ∙ ap Some (pair (token_same held))),
-  λ decided. by said refl (token ∙ ap (λ (x : ℕ × List ℕ). x.1) (told_same told (v, b) (sym is ∙ (tells v b).0 decided))),
+  λ decided. by said refl (token
+      ∙ ap (λ (x : ℕ × List ℕ). x.1) (told_same told (v, b) (sym is ∙ (tells v b).0 decided))),
 )
   where
     token_same : said ≡ true → a ≡ b
@@ -342,14 +410,16 @@ decided_with t n v a b found told said tells is view token test = (
     by false e same = absurd (other_text a b (sym e ∙ test) same)
 
 -- another view is told
-pub decided_elsewhere : (t : Trace) (n v : ℕ) (b : List ℕ) (found : Option (ℕ × List ℕ)) (told : ℕ × List ℕ) → Tells t n found → found ≡ Some told → (told.0 ≡ v → ⊥) → IsTrue (told.0 == v) ↔ IsDecided t n v b
+pub decided_elsewhere : (t : Trace) (n v : ℕ) (b : List ℕ) (found : Option (ℕ × List ℕ)) (told : ℕ × List ℕ)
+    → Tells t n found → found ≡ Some told → (told.0 ≡ v → ⊥) → IsTrue (told.0 == v) ↔ IsDecided t n v b
 decided_elsewhere t n v b found told tells is apart = (
   λ held. absurd (apart (eqb-true told.0 v held)),
   λ decided. absurd (apart (ap (λ (x : ℕ × List ℕ). x.0) (told_same told (v, b) (sym is ∙ (tells v b).0 decided)))),
 )
 
 -- none is told
-pub decided_nowhere : (t : Trace) (n v : ℕ) (b : List ℕ) (found : Option (ℕ × List ℕ)) → Tells t n found → found ≡ None → IsTrue false ↔ IsDecided t n v b
+pub decided_nowhere : (t : Trace) (n v : ℕ) (b : List ℕ) (found : Option (ℕ × List ℕ)) → Tells t n found → found ≡ None
+    → IsTrue false ↔ IsDecided t n v b
 decided_nowhere t n v b found tells is = (
   λ held. absurd (false≢true held),
   λ decided. absurd (none_said (v, b) (sym is ∙ (tells v b).0 decided)),
@@ -361,15 +431,19 @@ decided_nowhere t n v b found tells is = (
 -- ---- what is met
 
 pub commit_met : (t : Trace) (m : met.Step) (x : CommitView) (next : ℕ × Step) → m ≡ of.Commit x → IsStep m next
-    → IsDecided t (commit_in x.bytes.now).seq (commit_in x.bytes.now).view (commit_in x.bytes.now).token → IsBacked t next.1
+    → IsDecided t (commit_in x.bytes.now).seq (commit_in x.bytes.now).view (commit_in x.bytes.now).token
+    → IsBacked t next.1
 commit_met t m x (at, Attempts a) is step decided = absurd (subst (λ (k : met.Step). IsStep k (at, Attempts a)) is step)
 commit_met t m x (at, Commits c) is step decided =
-    subst (λ (d : Commit). IsDecided t d.seq d.view d.token) (subst (λ (k : met.Step). IsStep k (at, Commits c)) is step).1 decided
-commit_met t m x (at, RollsBack r) is step decided = absurd (subst (λ (k : met.Step). IsStep k (at, RollsBack r)) is step)
+    subst (λ (d : Commit). IsDecided t d.seq d.view d.token)
+    (subst (λ (k : met.Step). IsStep k (at, Commits c)) is step).1 decided
+commit_met t m x (at, RollsBack r) is step decided =
+    absurd (subst (λ (k : met.Step). IsStep k (at, RollsBack r)) is step)
 
 pub rollback_met : (t : Trace) (m : met.Step) (x : RollbackView) (next : ℕ × Step) → m ≡ of.Rollback x → IsStep m next
     → IsRolledBack t ((rollback_in x.bytes.now).to + 1) ((rollback_in x.bytes.now).view - 1) → IsBacked t next.1
 rollback_met t m x (at, Attempts a) is step voted = absurd (subst (λ (k : met.Step). IsStep k (at, Attempts a)) is step)
 rollback_met t m x (at, Commits c) is step voted = absurd (subst (λ (k : met.Step). IsStep k (at, Commits c)) is step)
 rollback_met t m x (at, RollsBack r) is step voted =
-    subst (λ (q : Rollback). IsRolledBack t (q.to + 1) (q.view - 1)) (subst (λ (k : met.Step). IsStep k (at, RollsBack r)) is step).1 voted
+    subst (λ (q : Rollback). IsRolledBack t (q.to + 1) (q.view - 1))
+    (subst (λ (k : met.Step). IsStep k (at, RollsBack r)) is step).1 voted

@@ -11,7 +11,8 @@ use Rattle.eve_grammar.specs.Trace.{Attempt, Rollback, Step, Attempts, Commits, 
 use Rattle.eve_grammar.specs.Spelling.{steps_at, accesses_at}
 use Rattle.eve_grammar.specs.Limits.{HasLimits}
 use Rattle.eve_history.specs.Section.{Placed, SectionState, start, path_of, committing, next, state_after, settled}
-use Rattle.eve_history.specs.Told.{Ran, ran, ordered, access_with, history, names_of, placed_at, IsRightSection}
+use Rattle.eve_history.specs.SectionHistory.{ExecutedAttempt, executed_attempt, ordered, access_with, history, names_of}
+use Rattle.eve_history.specs.SectionHistory.{placed_at, IsRightSection}
 use Rattle.eve_history.proofs.Structure.{state_after-append}
 use Rattle.eve_chains.specs.Visible.{opening_table, execution, executions, executed_at, entries_before, rows_after}
 use Rattle.eve_chains.specs.Committed.{attempts_of}
@@ -27,32 +28,42 @@ abbrev ArePathed : List Attempt → List Placed → Type 0
 ArePathed before [] = Unit {0}
 ArePathed before (p ∷ ps) = (p.path ≡ before) × ArePathed (before ++ p.attempt ∷ []) ps
 
-pathed-push : (before : List Attempt) (ps : List Placed) (q : Placed) → ArePathed before ps → q.path ≡ before ++ attempts_of ps → ArePathed before (ps ++ q ∷ [])
+pathed-push : (before : List Attempt) (ps : List Placed) (q : Placed) → ArePathed before ps
+    → q.path ≡ before ++ attempts_of ps → ArePathed before (ps ++ q ∷ [])
 pathed-push before [] q pathed last = (last ∙ append-nil before, tt)
-pathed-push before (p ∷ ps) q pathed last = (pathed.0, pathed-push (before ++ p.attempt ∷ []) ps q pathed.1 (last ∙ sym (append_assoc before (p.attempt ∷ []) (attempts_of ps))))
+pathed-push before (p ∷ ps) q pathed last = (
+  pathed.0,
+  pathed-push (before ++ p.attempt ∷ []) ps q pathed.1
+      (last ∙ sym (append_assoc before (p.attempt ∷ []) (attempts_of ps))),
+)
 
 pathed-front : (before : List Attempt) (ps qs : List Placed) → ArePathed before (ps ++ qs) → ArePathed before ps
 pathed-front before [] qs pathed = tt
 pathed-front before (p ∷ ps) qs pathed = (pathed.0, pathed-front (before ++ p.attempt ∷ []) ps qs pathed.1)
 
-pathed-behind : (before : List Attempt) (ps qs : List Placed) → ArePathed before (ps ++ qs) → ArePathed (before ++ attempts_of ps) qs
+pathed-behind : (before : List Attempt) (ps qs : List Placed) → ArePathed before (ps ++ qs)
+    → ArePathed (before ++ attempts_of ps) qs
 pathed-behind before [] qs pathed = subst (λ (path : List Attempt). ArePathed path qs) (sym (append-nil before)) pathed
 pathed-behind before (p ∷ ps) qs pathed =
-    subst (λ (path : List Attempt). ArePathed path qs) (append_assoc before (p.attempt ∷ []) (attempts_of ps)) (pathed-behind (before ++ p.attempt ∷ []) ps qs pathed.1)
+    subst (λ (path : List Attempt). ArePathed path qs) (append_assoc before (p.attempt ∷ []) (attempts_of ps))
+    (pathed-behind (before ++ p.attempt ∷ []) ps qs pathed.1)
 
 abbrev IsPathed : SectionState → Type 0
 IsPathed s = ArePathed [] (s.committed ++ s.pending)
 
 pathed_next : (s : SectionState) (step : ℕ × Step) → IsPathed s → IsPathed (next s step)
 pathed_next s (at, Attempts a) pathed =
-    subst (ArePathed []) (append_assoc s.committed s.pending (record { offset = at; attempt = a; path = path_of s } ∷ []))
+    subst (ArePathed []) (append_assoc s.committed s.pending
+    (record { offset = at; attempt = a; path = path_of s } ∷ []))
     (pathed-push [] (s.committed ++ s.pending) (record { offset = at; attempt = a; path = path_of s }) pathed refl)
 pathed_next s (at, Commits c) pathed = by s.pending refl
   where
     by : (pending : List Placed) → s.pending ≡ pending → IsPathed (committing s pending)
     by [] e = pathed
-    by (p ∷ ps) e = subst (ArePathed []) (ap (λ (qs : List Placed). s.committed ++ qs) e ∙ sym (append_assoc s.committed (p ∷ []) ps)) pathed
-pathed_next s (at, RollsBack r) pathed = subst (ArePathed []) (sym (append-nil s.committed)) (pathed-front [] s.committed s.pending pathed)
+    by (p ∷ ps) e = subst (ArePathed []) (ap (λ (qs : List Placed). s.committed ++ qs) e
+        ∙ sym (append_assoc s.committed (p ∷ []) ps)) pathed
+pathed_next s (at, RollsBack r) pathed = subst (ArePathed []) (sym (append-nil s.committed))
+    (pathed-front [] s.committed s.pending pathed)
 
 pathed_after : (s : SectionState) (steps : List (ℕ × Step)) → IsPathed s → IsPathed (state_after s steps)
 pathed_after s [] pathed = pathed
@@ -60,27 +71,34 @@ pathed_after s (step ∷ steps) pathed = pathed_after (next s step) steps (pathe
 
 -- ---- chained from what is committed
 
-follows-append : (table : Table) (xs ys : List Executed) → Follows table xs → Follows (table_after_all table xs) ys → Follows table (xs ++ ys)
+follows-append : (table : Table) (xs ys : List Executed) → Follows table xs → Follows (table_after_all table xs) ys
+    → Follows table (xs ++ ys)
 follows-append table [] ys first rest = rest
 follows-append table (x ∷ xs) ys first rest = (first.0, follows-append (table_after table x.entries) xs ys first.1 rest)
 
-pub table_after_all-append : (table : Table) (xs ys : List Executed) → table_after_all table (xs ++ ys) ≡ table_after_all (table_after_all table xs) ys
+pub table_after_all-append : (table : Table) (xs ys : List Executed) → table_after_all table (xs ++ ys)
+    ≡ table_after_all (table_after_all table xs) ys
 table_after_all-append table [] ys = refl
 table_after_all-append table (x ∷ xs) ys = table_after_all-append (table_after table x.entries) xs ys
 
-left_more : (t : Trace) (path : List Attempt) (a : Attempt) → rows_after t (path ++ a ∷ []) ≡ table_after_all (rows_after t path) (execution t a)
+left_more : (t : Trace) (path : List Attempt) (a : Attempt) → rows_after t (path ++ a ∷ [])
+    ≡ table_after_all (rows_after t path) (execution t a)
 left_more t path a =
-    ap (table_after_all (opening_table t)) (flat_map-append (execution t) path (a ∷ []) ∙ ap (λ (xs : List Executed). executions t path ++ xs) (append-nil (execution t a)))
+    ap (table_after_all (opening_table t)) (flat_map-append (execution t) path (a ∷ [])
+    ∙ ap (λ (xs : List Executed). executions t path ++ xs) (append-nil (execution t a)))
     ∙ table_after_all-append (opening_table t) (executions t path) (execution t a)
 
-follows_path : (t : Trace) (before : List Attempt) (ps : List Placed) → ArePathed before ps → ((p : Placed) → In p ps → IsSoundAlong t p) → Follows (rows_after t before) (executions t (attempts_of ps))
+follows_path : (t : Trace) (before : List Attempt) (ps : List Placed) → ArePathed before ps
+    → ((p : Placed) → In p ps → IsSoundAlong t p) → Follows (rows_after t before) (executions t (attempts_of ps))
 follows_path t before [] pathed sound = tt
 follows_path t before (p ∷ ps) pathed sound =
     follows-append (rows_after t before) (execution t p.attempt) (executions t (attempts_of ps))
-    (subst (λ (table : Table). Follows table (execution t p.attempt)) (visible_at-before_rest (opening_table t) [] (executions t before))
+    (subst (λ (table : Table). Follows table (execution t p.attempt))
+    (visible_at-before_rest (opening_table t) [] (executions t before))
     (follows_chain (opening_table t) (entries_before t before) (execution t p.attempt)
     (chained_by_rows (opening_table t) (entries_before t before) (execution t p.attempt)
-    (subst (λ (path : List Attempt). IsSound (names_of t) (opening_table t) (entries_before t path) (execution t p.attempt)) pathed.0 (sound p here)).chained)))
+    (subst (λ (path : List Attempt). IsSound (names_of t) (opening_table t) (entries_before t path)
+    (execution t p.attempt)) pathed.0 (sound p here)).chained)))
     (subst (λ (table : Table). Follows table (executions t (attempts_of ps))) (left_more t before p.attempt)
     (follows_path t (before ++ p.attempt ∷ []) ps pathed.1 (λ q i. sound q (there i))))
 
@@ -90,7 +108,8 @@ in_back : {A : Type 0} {x : A} {xs : List A} (ys : List A) → In x xs → In x 
 in_back [] i = i
 in_back (y ∷ ys) i = there (in_back ys i)
 
-stays_discarded : (s : SectionState) (steps : List (ℕ × Step)) (p : Placed) → In p s.discarded → In p (state_after s steps).discarded
+stays_discarded : (s : SectionState) (steps : List (ℕ × Step)) (p : Placed) → In p s.discarded
+    → In p (state_after s steps).discarded
 stays_discarded s [] p i = i
 stays_discarded s ((at, Attempts a) ∷ steps) p i = stays_discarded (next s (at, Attempts a)) steps p i
 stays_discarded s ((at, Commits c) ∷ steps) p i = stays_discarded (committing s s.pending) steps p (by s.pending)
@@ -98,42 +117,55 @@ stays_discarded s ((at, Commits c) ∷ steps) p i = stays_discarded (committing 
     by : (pending : List Placed) → In p (committing s pending).discarded
     by [] = i
     by (q ∷ qs) = i
-stays_discarded s ((at, RollsBack r) ∷ steps) p i = stays_discarded (next s (at, RollsBack r)) steps p (in_front s.pending i)
+stays_discarded s ((at, RollsBack r) ∷ steps) p i = stays_discarded (next s (at, RollsBack r)) steps p
+    (in_front s.pending i)
 
 -- behind these steps a rollback comes
-module _ (t : Trace) (e : ℕ) (front : List (ℕ × Step)) (at : ℕ) (r : Rollback) (rest : List (ℕ × Step)) (split : steps_at t e ≡ front ++ (at, RollsBack r) ∷ rest) where
+module _ (t : Trace) (e : ℕ) (front : List (ℕ × Step)) (at : ℕ) (r : Rollback) (rest : List (ℕ × Step))
+    (split : steps_at t e ≡ front ++ (at, RollsBack r) ∷ rest) where
   -- the open attempts get settled
   gets_settled : (p : Placed) → In p (state_after start front).pending → In p (settled (history t e))
   unfolding history
   gets_settled p i =
       let s = state_after start front in
       in_back (history t e).committed
-      (subst (λ (o : SectionState). In p o.discarded) (sym (ap (state_after start) split ∙ state_after-append start front ((at, RollsBack r) ∷ rest)))
+      (subst (λ (o : SectionState). In p o.discarded)
+      (sym (ap (state_after start) split ∙ state_after-append start front ((at, RollsBack r) ∷ rest)))
       (stays_discarded (next s (at, RollsBack r)) rest p (in_back s.discarded i)))
 
-  pub follows_committed : SettledAreSound t e → Follows (committed_rows t (state_after start front)) (executions t (attempts_of (state_after start front).pending))
+  pub follows_committed : SettledAreSound t e → Follows (committed_rows t (state_after start front))
+      (executions t (attempts_of (state_after start front).pending))
   follows_committed sound =
       let s = state_after start front in
-      follows_path t (attempts_of s.committed) s.pending (pathed-behind [] s.committed s.pending (pathed_after start front tt))
+      follows_path t (attempts_of s.committed) s.pending
+      (pathed-behind [] s.committed s.pending (pathed_after start front tt))
       (λ p i. all_in (IsSoundAlong t) sound (gets_settled p i))
 
   -- ---- what is read of them
 
-  same_noted : (p : Placed) → HasLimits t → IsRightSection t e → In p (settled (history t e)) → entries_along (ordered p.offset p.attempt) ≡ entries_of (execution t p.attempt)
+  same_noted : (p : Placed) → HasLimits t → IsRightSection t e → In p (settled (history t e))
+      → entries_along (ordered p.offset p.attempt) ≡ entries_of (execution t p.attempt)
   unfolding record_at
-  same_noted p limits right member = by p.attempt.certificate (same_entries t p (right_one t e p right member) (complete_one t e p limits member))
+  same_noted p limits right member =
+      by p.attempt.certificate (same_entries t p (right_one t e p right member) (complete_one t e p limits member))
     where
-      by : (order : List ℕ) → ((i : ℕ) → In i order → (access_with (accesses_at p.offset p.attempt) i).1.entries ≡ (executed_at t p.attempt i).entries)
-          → entries_along (map (access_with (accesses_at p.offset p.attempt)) order) ≡ entries_of (map (executed_at t p.attempt) order)
+      by : (order : List ℕ) → ((i : ℕ) → In i order → (access_with (accesses_at p.offset p.attempt) i).1.entries
+          ≡ (executed_at t p.attempt i).entries)
+          → entries_along (map (access_with (accesses_at p.offset p.attempt)) order)
+          ≡ entries_of (map (executed_at t p.attempt) order)
       by [] same = refl
       by (i ∷ order) same = λ j. same i here j ++ by order (λ k m. same k (there m)) j
 
-  all_noted : HasLimits t → IsRightSection t e → (ps : List Placed) → ((p : Placed) → In p ps → In p (settled (history t e)))
-      → flat_map (λ (q : Ran). entries_along q.ordered) (map ran (map placed_at ps)) ≡ entries_of (executions t (attempts_of ps))
+  all_noted : HasLimits t → IsRightSection t e → (ps : List Placed)
+      → ((p : Placed) → In p ps → In p (settled (history t e)))
+      → flat_map (λ (q : ExecutedAttempt). entries_along q.ordered) (map executed_attempt (map placed_at ps))
+      ≡ entries_of (executions t (attempts_of ps))
   all_noted limits right [] member = refl
   all_noted limits right (p ∷ ps) member =
       (λ i. same_noted p limits right (member p here) i ++ all_noted limits right ps (λ q j. member q (there j)) i)
       ∙ sym (flat_map-append (λ (x : Executed). x.entries) (execution t p.attempt) (executions t (attempts_of ps)))
 
-  pub open_noted : HasLimits t → IsRightSection t e → flat_map (λ (q : Ran). entries_along q.ordered) (map ran (map placed_at (state_after start front).pending)) ≡ open_entries t (state_after start front)
+  pub open_noted : HasLimits t → IsRightSection t e → flat_map (λ (q : ExecutedAttempt). entries_along q.ordered)
+      (map executed_attempt (map placed_at (state_after start front).pending))
+      ≡ open_entries t (state_after start front)
   open_noted limits right = all_noted limits right (state_after start front).pending gets_settled

@@ -12,3 +12,4 @@ pub mod Replicas
 mod Answering
 mod Reading
 mod Sending
+pub mod Stretched

@@ -1,5 +1,6 @@
 -- What attempts noted, one after another.
-use Rattle.std.proofs.Common.{◌≡◌, ℕ, zero, suc, ◌+◌, ◌-◌, ◌<◌, ◌≤◌, List, [], ◌∷◌, ◌++◌, take, drop, length, slice_get, Some, refl, sym, subst, ap, ◌∙◌, append-nil, arith, IsTrue}
+use Rattle.std.proofs.Common.{◌≡◌, ℕ, zero, suc, ◌+◌, ◌-◌, ◌<◌, ◌≤◌, List, [], ◌∷◌, ◌++◌, take, drop, length, slice_get}
+use Rattle.std.proofs.Common.{Some, refl, sym, subst, ap, ◌∙◌, append-nil, arith, IsTrue}
 use Rattle.std.specs.List.{AllByRecursion, list_all, flat_map}
 use Rattle.std.proofs.lemmas.List.{take_more}
 use Rattle.std.proofs.lemmas.Grind.{flat_map-append}
@@ -8,7 +9,7 @@ use Rattle.std.proofs.lemmas.Option.{get_or_from_slice_get, slice_get_within}
 use Rattle.eve_smallbank.specs.declared.entry.Entry.{Entry}
 use Rattle.eve_grammar.specs.Trace.{Access}
 use Rattle.eve_grammar.specs.Limits.{is_entry}
-use Rattle.eve_history.specs.Told.{Ran}
+use Rattle.eve_history.specs.SectionHistory.{ExecutedAttempt}
 use Rattle.eve_history.proofs.Finding.{rec_at}
 use Rattle.eve_chains.specs.Along.{entries_along, AreWithin}
 use Rattle.eve_chains.proofs.Linked.{some_injective, none≢some}
@@ -17,32 +18,44 @@ use Rattle.eve_agree.proofs.Marking.{marked-append}
 
 -- the list with one more
 take_one : {A : Type 0} (xs : List A) (k : ℕ) (x : A) → slice_get xs k ≡ Some x → take (k + 1) xs ≡ take k xs ++ x ∷ []
-take_one {A = A} xs k x at = take_more xs k x (slice_get_within xs k x at) ∙ ap (λ (y : A). take k xs ++ y ∷ []) (get_or_from_slice_get xs k x x at)
+take_one {A = A} xs k x at = take_more xs k x (slice_get_within xs k x at)
+    ∙ ap (λ (y : A). take k xs ++ y ∷ []) (get_or_from_slice_get xs k x x at)
 
 -- ---- the records of an attempt
 
 -- one record more
-pub records_more : (base old new : Marking) (xs : List (ℕ × Access)) (k : ℕ) (x : ℕ × Access) → slice_get xs k ≡ Some x → old ≡ marked base (entries_along (take k xs)) → new ≡ marked old x.1.entries
+pub records_more : (base old new : Marking) (xs : List (ℕ × Access)) (k : ℕ) (x : ℕ × Access) → slice_get xs k ≡ Some x
+    → old ≡ marked base (entries_along (take k xs)) → new ≡ marked old x.1.entries
     → new ≡ marked base (entries_along (take (k + 1) xs))
 records_more base old new xs k x at so step =
-    step ∙ ap (λ (marks : Marking). marked marks x.1.entries) so ∙ sym (marked-append base (entries_along (take k xs)) x.1.entries)
-    ∙ ap (marked base) (sym (ap entries_along (take_one xs k x at) ∙ flat_map-append (λ (y : ℕ × Access). y.1.entries) (take k xs) (x ∷ []) ∙ ap (λ (es : List Entry). entries_along (take k xs) ++ es) (append-nil x.1.entries)))
+    step ∙ ap (λ (marks : Marking). marked marks x.1.entries) so
+    ∙ sym (marked-append base (entries_along (take k xs)) x.1.entries)
+    ∙ ap (marked base) (sym (ap entries_along (take_one xs k x at) ∙ flat_map-append (λ (y : ℕ × Access). y.1.entries)
+    (take k xs) (x ∷ []) ∙ ap (λ (es : List Entry). entries_along (take k xs) ++ es) (append-nil x.1.entries)))
 
 -- the entries of one of the records lie within
-pub record_within : (rows : ℕ) (xs : List (ℕ × Access)) (k : ℕ) (x : ℕ × Access) → AreWithin rows xs → slice_get xs k ≡ Some x → IsTrue (list_all (is_entry rows) x.1.entries)
+pub record_within : (rows : ℕ) (xs : List (ℕ × Access)) (k : ℕ) (x : ℕ × Access) → AreWithin rows xs → slice_get xs k
+    ≡ Some x → IsTrue (list_all (is_entry rows) x.1.entries)
 record_within rows [] k x within at = none≢some x at
 record_within rows (y ∷ xs) zero x within at =
-    subst (λ (z : ℕ × Access). IsTrue (list_all (is_entry rows) z.1.entries)) (some_injective y x at) (and_parts (list_all (is_entry rows) y.1.entries) (list_all (λ z. list_all (is_entry rows) z.1.entries) xs) within).0
+    subst (λ (z : ℕ × Access). IsTrue (list_all (is_entry rows) z.1.entries)) (some_injective y x at)
+    (and_parts (list_all (is_entry rows) y.1.entries) (list_all (λ z. list_all (is_entry rows) z.1.entries) xs)
+    within).0
 record_within rows (y ∷ xs) (suc k) x within at =
-    record_within rows xs k x (and_parts (list_all (is_entry rows) y.1.entries) (list_all (λ z. list_all (is_entry rows) z.1.entries) xs) within).1 at
+    record_within rows xs k x
+    (and_parts (list_all (is_entry rows) y.1.entries) (list_all (λ z. list_all (is_entry rows) z.1.entries) xs)
+    within).1 at
 
 -- ---- one attempt after another
 
-pub same_found : (rs : List Ran) (i : ℕ) (r q : Ran) → slice_get rs i ≡ Some r → slice_get rs i ≡ Some q → r ≡ q
+pub same_found : (rs : List ExecutedAttempt) (i : ℕ) (r q : ExecutedAttempt) → slice_get rs i ≡ Some r → slice_get rs i
+    ≡ Some q → r ≡ q
 same_found rs i r q one other = some_injective r q (sym one ∙ other)
 
-pub ran_within : (rows : ℕ) (rs : List Ran) (i : ℕ) (r : Ran) → AllByRecursion (λ q. AreWithin rows q.ordered) rs → slice_get rs i ≡ Some r → AreWithin rows r.ordered
-ran_within rows rs i r within at = rec_at (λ (q : Ran). AreWithin rows q.ordered) rs i r within at
+pub executed_attempt_within : (rows : ℕ) (rs : List ExecutedAttempt) (i : ℕ) (r : ExecutedAttempt)
+    → AllByRecursion (λ q. AreWithin rows q.ordered) rs → slice_get rs i ≡ Some r → AreWithin rows r.ordered
+executed_attempt_within rows rs i r within at = rec_at (λ (q : ExecutedAttempt). AreWithin rows q.ordered) rs i r within
+    at
 
 get-drop : {A : Type 0} (xs : List A) (first k : ℕ) → slice_get (drop first xs) k ≡ slice_get xs (first + k)
 get-drop xs zero k = let same : 0 + k ≡ k = omega arith in ap (slice_get xs) (sym same)
@@ -55,22 +68,29 @@ get-drop (x ∷ xs) (suc first) k =
     get-drop xs first k ∙ ap (slice_get (x ∷ xs)) (sym same)
 
 -- none from a number up to itself
-pub noted_none : (base : Marking) (rs : List Ran) (first : ℕ) → base ≡ marked base (noted_between rs first first)
-noted_none base rs first = let none : first - first ≡ 0 = omega arith in ap (λ (n : ℕ). marked base (flat_map (λ r. entries_along r.ordered) (take n (drop first rs)))) (sym none)
+pub noted_none : (base : Marking) (rs : List ExecutedAttempt) (first : ℕ)
+    → base ≡ marked base (noted_between rs first first)
+noted_none base rs first = let none : first - first ≡ 0 = omega arith in
+    ap (λ (n : ℕ). marked base (flat_map (λ r. entries_along r.ordered) (take n (drop first rs)))) (sym none)
 
 -- one attempt more
-pub noted_more : (base old new : Marking) (rs : List Ran) (first i : ℕ) (r : Ran) → first ≤ i → slice_get rs i ≡ Some r → old ≡ marked base (noted_between rs first i)
+pub noted_more : (base old new : Marking) (rs : List ExecutedAttempt) (first i : ℕ) (r : ExecutedAttempt) → first ≤ i
+    → slice_get rs i ≡ Some r → old ≡ marked base (noted_between rs first i)
     → new ≡ marked old (entries_along r.ordered) → new ≡ marked base (noted_between rs first (i + 1))
 noted_more base old new rs first i r le at so step =
-    let along : Ran → List Entry = λ q. entries_along q.ordered in
-    let there : slice_get (drop first rs) (i - first) ≡ Some r = get-drop rs first (i - first) ∙ (let same : first + (i - first) ≡ i = omega arith in ap (slice_get rs) same) ∙ at in
+    let along : ExecutedAttempt → List Entry = λ q. entries_along q.ordered in
+    let there : slice_get (drop first rs) (i - first) ≡ Some r = get-drop rs first (i - first)
+    ∙ (let same : first + (i - first) ≡ i = omega arith in ap (slice_get rs) same) ∙ at in
     let more : i + 1 - first ≡ i - first + 1 = omega arith in
-    step ∙ ap (λ (marks : Marking). marked marks (along r)) so ∙ sym (marked-append base (noted_between rs first i) (along r))
-    ∙ ap (marked base) (sym (ap (λ (n : ℕ). flat_map along (take n (drop first rs))) more ∙ ap (flat_map along) (take_one (drop first rs) (i - first) r there)
-    ∙ flat_map-append along (take (i - first) (drop first rs)) (r ∷ []) ∙ ap (λ (es : List Entry). noted_between rs first i ++ es) (append-nil (along r))))
+    step ∙ ap (λ (marks : Marking). marked marks (along r)) so
+    ∙ sym (marked-append base (noted_between rs first i) (along r))
+    ∙ ap (marked base) (sym (ap (λ (n : ℕ). flat_map along (take n (drop first rs))) more
+    ∙ ap (flat_map along) (take_one (drop first rs) (i - first) r there)
+    ∙ flat_map-append along (take (i - first) (drop first rs)) (r ∷ [])
+    ∙ ap (λ (es : List Entry). noted_between rs first i ++ es) (append-nil (along r))))
 
 -- an attempt of the number
-pub found_at : (rs : List Ran) (i : ℕ) → i < length rs → (r : Ran) × (slice_get rs i ≡ Some r)
+pub found_at : (rs : List ExecutedAttempt) (i : ℕ) → i < length rs → (r : ExecutedAttempt) × (slice_get rs i ≡ Some r)
 found_at [] i lt = absurd (omega arith)
 found_at (r ∷ rs) zero lt = (r, refl)
 found_at (r ∷ rs) (suc i) lt = found_at rs i (omega arith)

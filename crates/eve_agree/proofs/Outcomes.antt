@@ -1,5 +1,7 @@
 -- What a batch came to in a replica, and which replica was the first to commit it.
-use Rattle.std.proofs.Common.{◌≡◌, ◌≢◌, ℕ, zero, suc, ◌+◌, ◌-◌, ◌<◌, ◌≤◌, ℤ, nat_le, Bool, true, false, List, [], ◌∷◌, ◌++◌, map, length, take, slice_get, get_or, Option, Some, None, refl, sym, ap, subst, ◌∙◌, inl, inr, arith, take_all}
+use Rattle.std.proofs.Common.{◌≡◌, ◌≢◌, ℕ, zero, suc, ◌+◌, ◌-◌, ◌<◌, ◌≤◌, ℤ, nat_le, Bool, true, false, List, [], ◌∷◌}
+use Rattle.std.proofs.Common.{◌++◌, map, length, take, slice_get, get_or, Option, Some, None, refl, sym, ap, subst, ◌∙◌}
+use Rattle.std.proofs.Common.{inl, inr, arith, take_all}
 use Rattle.std.specs.List.{enumerate_from, find}
 use Rattle.std.specs.Option.{option_map}
 use Rattle.std.specs.Prelude.{slice_index_or}
@@ -10,7 +12,8 @@ use Rattle.eve_grammar.specs.Trace.{Attempt, Step, Trace}
 use Rattle.eve_grammar.specs.Frames.{OfReplica}
 use Rattle.eve_grammar.specs.Spelling.{frame_text, located, step_text, section_start, steps_at}
 use Rattle.eve_history.specs.Section.{Placed, start, state_after}
-use Rattle.eve_history.specs.Told.{Ran, ran, Telling, telling, tellings, placed_at, history, committed_at, IsRightSection}
+use Rattle.eve_history.specs.SectionHistory.{ExecutedAttempt, executed_attempt, SectionHistory, section_history}
+use Rattle.eve_history.specs.SectionHistory.{section_histories, placed_at, history, committed_at, IsRightSection}
 use Rattle.eve_chains.specs.Committed.{first_rows, values_to, balances_to}
 use Rattle.eve_chains.proofs.Linked.{last_committed, some_injective, none≢some}
 use Rattle.eve_chains.specs.Settling.{Settling, settling, settlings, values_in}
@@ -21,12 +24,15 @@ use Rattle.eve_agree.specs.Judging.{NoneBefore, IsAfter, AreAfter}
 
 -- ---- of each replica
 
-each_at : {A B : Type 0} (f : ℕ → B) (k : ℕ) (xs : List A) (i : ℕ) → i < length xs → slice_get (map (λ s. f s.0) (enumerate_from k xs)) i ≡ Some (f (k + i))
+each_at : {A B : Type 0} (f : ℕ → B) (k : ℕ) (xs : List A) (i : ℕ) → i < length xs
+    → slice_get (map (λ s. f s.0) (enumerate_from k xs)) i ≡ Some (f (k + i))
 each_at f k [] i lt = absurd (omega arith)
 each_at f k (x ∷ xs) zero lt = let same : k ≡ k + 0 = omega arith in ap (λ (j : ℕ). Some (f j)) same
-each_at f k (x ∷ xs) (suc i) lt = let same : k + 1 + i ≡ k + suc i = omega arith in each_at f (k + 1) xs i (omega arith) ∙ ap (λ (j : ℕ). Some (f j)) same
+each_at f k (x ∷ xs) (suc i) lt = let same : k + 1 + i ≡ k + suc i = omega arith in each_at f (k + 1) xs i (omega arith)
+    ∙ ap (λ (j : ℕ). Some (f j)) same
 
-each_count : {A B : Type 0} (f : ℕ → B) (k : ℕ) (xs : List A) → length (map (λ s. f s.0) (enumerate_from k xs)) ≡ length xs
+each_count : {A B : Type 0} (f : ℕ → B) (k : ℕ) (xs : List A) → length (map (λ s. f s.0) (enumerate_from k xs))
+    ≡ length xs
 each_count f k [] = refl
 each_count f k (x ∷ xs) = ap suc (each_count f (k + 1) xs)
 
@@ -36,20 +42,24 @@ within (y ∷ xs) zero x e = omega arith
 within (y ∷ xs) (suc i) x e = let lt = within xs i x e in omega arith
 
 module _ (t : Trace) where
-  pub tellings_count : length (tellings t) ≡ length t.sections
-  unfolding tellings
-  tellings_count = each_count (telling t) 0 t.sections
+  pub section_histories_count : length (section_histories t) ≡ length t.sections
+  unfolding section_histories
+  section_histories_count = each_count (section_history t) 0 t.sections
 
-  pub telling_at : (e : ℕ) → e < length t.sections → slice_get (tellings t) e ≡ Some (telling t e)
-  unfolding tellings
-  telling_at e lt = let same : 0 + e ≡ e = omega arith in each_at (telling t) 0 t.sections e lt ∙ ap (λ (j : ℕ). Some (telling t j)) same
+  pub section_history_at : (e : ℕ) → e < length t.sections → slice_get (section_histories t) e
+      ≡ Some (section_history t e)
+  unfolding section_histories
+  section_history_at e lt = let same : 0 + e ≡ e = omega arith in each_at (section_history t) 0 t.sections e lt
+      ∙ ap (λ (j : ℕ). Some (section_history t j)) same
 
-  pub telling_is : (hs : List Telling) (e : ℕ) (h : Telling) → hs ≡ tellings t → slice_get hs e ≡ Some h → h ≡ telling t e
-  telling_is hs e h is got =
-      let here : slice_get (tellings t) e ≡ Some h = ap (λ (xs : List Telling). slice_get xs e) (sym is) ∙ got in
-      let lt = within (tellings t) e h here in
-      let count = tellings_count in
-      some_injective h (telling t e) (sym here ∙ telling_at e (omega arith))
+  pub section_history_is : (hs : List SectionHistory) (e : ℕ) (h : SectionHistory) → hs ≡ section_histories t
+      → slice_get hs e ≡ Some h → h ≡ section_history t e
+  section_history_is hs e h is got =
+      let here : slice_get (section_histories t) e ≡ Some h = ap (λ (xs : List SectionHistory). slice_get xs e) (sym is)
+      ∙ got in
+      let lt = within (section_histories t) e h here in
+      let count = section_histories_count in
+      some_injective h (section_history t e) (sym here ∙ section_history_at e (omega arith))
 
   pub settlings_count : length (settlings t) ≡ length t.sections
   unfolding settlings
@@ -57,7 +67,8 @@ module _ (t : Trace) where
 
   pub settling_at : (e : ℕ) → e < length t.sections → slice_get (settlings t) e ≡ Some (settling t e)
   unfolding settlings
-  settling_at e lt = let same : 0 + e ≡ e = omega arith in each_at (settling t) 0 t.sections e lt ∙ ap (λ (j : ℕ). Some (settling t j)) same
+  settling_at e lt = let same : 0 + e ≡ e = omega arith in each_at (settling t) 0 t.sections e lt
+      ∙ ap (λ (j : ℕ). Some (settling t j)) same
 
 -- ---- how many batches
 
@@ -67,27 +78,30 @@ no_steps zero (x ∷ xs) le = absurd (omega arith)
 no_steps (suc place) (x ∷ xs) le = no_steps place xs (omega arith)
 
 module _ (t : Trace) (e : ℕ) where
-  pub last_told : (h : Telling) → h ≡ telling t e → h.committed ≡ (history t e).last
-  unfolding telling history
-  last_told h is = ap (λ (x : Telling). x.committed) is
+  pub last_told : (h : SectionHistory) → h ≡ section_history t e → h.committed ≡ (history t e).last
+  unfolding section_history history
+  last_told h is = ap (λ (x : SectionHistory). x.committed) is
 
-  pub replica_told : (h : Telling) → h ≡ telling t e → h.replica ≡ e
-  unfolding telling
-  replica_told h is = ap (λ (x : Telling). x.replica) is
+  pub replica_told : (h : SectionHistory) → h ≡ section_history t e → h.replica ≡ e
+  unfolding section_history
+  replica_told h is = ap (λ (x : SectionHistory). x.replica) is
 
-  commits_told : (telling t e).commits ≡ map (λ p. ran (placed_at p)) (history t e).committed
-  unfolding telling history
+  pub commits_told : (section_history t e).commits ≡ map (λ p. executed_attempt (placed_at p)) (history t e).committed
+  unfolding section_history history
   commits_told = refl
 
   -- a replica that is not there committed nothing
   none_there : length t.sections ≤ e → (history t e).committed ≡ []
   unfolding history steps_at
-  none_there past = ap (λ (xs : List Step). (state_after start (located step_text (section_start t e + length (frame_text (OfReplica e))) xs)).committed) (no_steps e t.sections past)
+  none_there past = ap (λ (xs : List Step).
+      (state_after start (located step_text (section_start t e + length (frame_text (OfReplica e))) xs)).committed)
+      (no_steps e t.sections past)
 
   -- where it committed the batch, the batch is one up to the last
   pub committed_low : (n : ℕ) (p : Placed) → IsRightSection t e → committed_at t e n ≡ Some p → n ≤ (history t e).last
   committed_low zero p right at = omega arith
-  committed_low (suc n) p right at = let lt = within (history t e).committed n p at in let last = last_committed t e right in omega arith
+  committed_low (suc n) p right at = let lt = within (history t e).committed n p at in let last =
+      last_committed t e right in omega arith
 
   pub replica_there : (n : ℕ) (p : Placed) → committed_at t e n ≡ Some p → e < length t.sections
   replica_there zero p at = none≢some p at
@@ -96,12 +110,15 @@ module _ (t : Trace) (e : ℕ) where
     | inr past ↦ none≢some p (sym (ap (λ (ps : List Placed). slice_get ps n) (none_there past)) ∙ at)
   ]
 
-  pub commits_count : (h : Telling) → IsRightSection t e → h ≡ telling t e → length h.commits ≡ (history t e).last
-  commits_count h right is = ap (λ (x : Telling). length x.commits) is ∙ ap length commits_told ∙ length-map (history t e).committed (λ p. ran (placed_at p)) ∙ sym (last_committed t e right)
+  pub commits_count : (h : SectionHistory) → IsRightSection t e → h ≡ section_history t e → length h.commits
+      ≡ (history t e).last
+  commits_count h right is = ap (λ (x : SectionHistory). length x.commits) is ∙ ap length commits_told
+      ∙ length-map (history t e).committed (λ p. executed_attempt (placed_at p)) ∙ sym (last_committed t e right)
 
 -- ---- the attempt
 
-mapped_at : {A B : Type 0} (f : A → B) (xs : List A) (i : ℕ) (y : B) → slice_get (map f xs) i ≡ Some y → (x : A) × (slice_get xs i ≡ Some x) × (f x ≡ y)
+mapped_at : {A B : Type 0} (f : A → B) (xs : List A) (i : ℕ) (y : B) → slice_get (map f xs) i ≡ Some y → (x : A)
+    × (slice_get xs i ≡ Some x) × (f x ≡ y)
 mapped_at f [] i y e = absurd cc
 mapped_at f (x ∷ xs) zero y e = (x, refl, some_injective (f x) y e)
 mapped_at f (x ∷ xs) (suc i) y e = mapped_at f xs i y e
@@ -113,26 +130,30 @@ pub record IsOf (t : Trace) (e n offset : ℕ) (replies : List Reply) : Type 0 w
   pub offset_is : offset ≡ item.offset
   pub replies_are : replies ≡ item.attempt.replies
 
-pub outcome_of : (t : Trace) (e n offset : ℕ) (said : Attempt) (h : Telling) → h ≡ telling t e → 1 ≤ n
-    → (r : Ran) × (slice_get h.commits (n - 1) ≡ Some r) × (offset ≡ r.offset) × (said ≡ r.attempt) → IsOf t e n offset said.replies
+pub outcome_of : (t : Trace) (e n offset : ℕ) (said : Attempt) (h : SectionHistory) → h ≡ section_history t e → 1 ≤ n
+    → (r : ExecutedAttempt) × (slice_get h.commits (n - 1) ≡ Some r) × (offset ≡ r.offset) × (said ≡ r.attempt)
+    → IsOf t e n offset said.replies
 outcome_of t e zero offset said h is one got = absurd (omega arith)
 outcome_of t e (suc n) offset said h is one got =
     let less : suc n - 1 ≡ n = omega arith in
     let r = got.0 in
-    let here : slice_get (map (λ p. ran (placed_at p)) (history t e).committed) n ≡ Some r =
-    ap (λ (rs : List Ran). slice_get rs n) (sym (commits_told t e)) ∙ ap (λ (x : Telling). slice_get x.commits n) (sym is) ∙ ap (slice_get h.commits) (sym less) ∙ got.1 in
-    let found = mapped_at (λ p. ran (placed_at p)) (history t e).committed n r here in
+    let here : slice_get (map (λ p. executed_attempt (placed_at p)) (history t e).committed) n ≡ Some r =
+    ap (λ (rs : List ExecutedAttempt). slice_get rs n) (sym (commits_told t e))
+    ∙ ap (λ (x : SectionHistory). slice_get x.commits n) (sym is) ∙ ap (slice_get h.commits) (sym less) ∙ got.1 in
+    let found = mapped_at (λ p. executed_attempt (placed_at p)) (history t e).committed n r here in
     record {
       item = found.0;
       at = found.1;
-      offset_is = got.2 ∙ sym (ap (λ (x : Ran). x.offset) found.2);
-      replies_are = ap (λ (a : Attempt). a.replies) (got.3 ∙ sym (ap (λ (x : Ran). x.attempt) found.2));
+      offset_is = got.2 ∙ sym (ap (λ (x : ExecutedAttempt). x.offset) found.2);
+      replies_are = ap (λ (a : Attempt). a.replies) (got.3 ∙ sym (ap (λ (x : ExecutedAttempt). x.attempt) found.2));
     }
 
 -- ---- the balances
 
-pub balances_are : (t : Trace) (e n : ℕ) (b : List ℤ) → IsAfter (settling t e) n b → values_in (settling t e) n ≡ values_to t e n → b ≡ balances_to t e n
-balances_are t e n b after law = rows_are b ∙ (λ k. first_rows ((after.rows ∙ rows_told t e) k) ((after.values ∙ law) k))
+pub balances_are : (t : Trace) (e n : ℕ) (b : List ℤ) → IsAfter (settling t e) n b → values_in (settling t e) n
+    ≡ values_to t e n → b ≡ balances_to t e n
+balances_are t e n b after law = rows_are b
+    ∙ (λ k. first_rows ((after.rows ∙ rows_told t e) k) ((after.values ∙ law) k))
 
 -- past the last batch nothing changes
 pub values_past : (s : Settling) (n : ℕ) → length s.batches < n → values_in s (n - 1) ≡ values_in s n
@@ -144,102 +165,128 @@ values_past s n past =
 
 -- ---- both
 
-pub same_outcome : (t : Trace) (e f n o q : ℕ) (rs ss : List Reply) (b c : List ℤ) → IsOf t e n o rs → IsOf t f n q ss → b ≡ balances_to t e n → c ≡ balances_to t f n → (b ≡ c) × (rs ≡ ss) → HaveSameOutcome t e f n
+pub same_outcome : (t : Trace) (e f n o q : ℕ) (rs ss : List Reply) (b c : List ℤ) → IsOf t e n o rs → IsOf t f n q ss
+    → b ≡ balances_to t e n → c ≡ balances_to t f n → (b ≡ c) × (rs ≡ ss) → HaveSameOutcome t e f n
 same_outcome t e f n o q rs ss b c own other is it same = record {
   balances = sym is ∙ same.0 ∙ it;
-  replies = ap (option_map (λ p. p.attempt.replies)) own.at ∙ ap (λ (xs : List Reply). Some xs) (sym own.replies_are ∙ same.1 ∙ other.replies_are) ∙ sym (ap (option_map (λ p. p.attempt.replies)) other.at);
+  replies = ap (option_map (λ p. p.attempt.replies)) own.at
+      ∙ ap (λ (xs : List Reply). Some xs) (sym own.replies_are ∙ same.1 ∙ other.replies_are)
+      ∙ sym (ap (option_map (λ p. p.attempt.replies)) other.at);
 }
 
-pub outcome_same : (t : Trace) (e f n o q : ℕ) (rs ss : List Reply) (b c : List ℤ) → IsOf t e n o rs → IsOf t f n q ss → b ≡ balances_to t e n → c ≡ balances_to t f n → HaveSameOutcome t e f n → (b ≡ c) × (rs ≡ ss)
+pub outcome_same : (t : Trace) (e f n o q : ℕ) (rs ss : List Reply) (b c : List ℤ) → IsOf t e n o rs → IsOf t f n q ss
+    → b ≡ balances_to t e n → c ≡ balances_to t f n → HaveSameOutcome t e f n → (b ≡ c) × (rs ≡ ss)
 outcome_same t e f n o q rs ss b c own other is it same = (
   is ∙ same.balances ∙ sym it,
   own.replies_are
-      ∙ some_injective own.item.attempt.replies other.item.attempt.replies (sym (ap (option_map (λ p. p.attempt.replies)) own.at) ∙ same.replies ∙ ap (option_map (λ p. p.attempt.replies)) other.at)
+      ∙ some_injective own.item.attempt.replies other.item.attempt.replies
+      (sym (ap (option_map (λ p. p.attempt.replies)) own.at) ∙ same.replies
+      ∙ ap (option_map (λ p. p.attempt.replies)) other.at)
       ∙ sym other.replies_are,
 )
 
 -- ---- the first replica
 
-find_first : {A : Type 0} (test : ℕ → Bool) (k : ℕ) (xs : List A) (i : ℕ) → i < length xs → test (k + i) ≡ true → ((j : ℕ) → j < i → test (k + j) ≡ false) → find test (map (λ s. s.0) (enumerate_from k xs)) ≡ Some (k + i)
+find_first : {A : Type 0} (test : ℕ → Bool) (k : ℕ) (xs : List A) (i : ℕ) → i < length xs → test (k + i) ≡ true
+    → ((j : ℕ) → j < i → test (k + j) ≡ false) → find test (map (λ s. s.0) (enumerate_from k xs)) ≡ Some (k + i)
 find_first test k [] i lt here none = absurd (omega arith)
-find_first test k (x ∷ xs) zero lt here none = let same : k + 0 ≡ k = omega arith in let found : test k ≡ true = ap test (sym same) ∙ here in rw (found, same) refl
+find_first test k (x ∷ xs) zero lt here none = let same : k + 0 ≡ k = omega arith in let found : test k ≡ true =
+    ap test (sym same) ∙ here in rw (found, same) refl
 find_first test k (x ∷ xs) (suc i) lt here none =
     let zeroth : k + 0 ≡ k = omega arith in
     let same : k + 1 + i ≡ k + suc i = omega arith in
     let not_here : test k ≡ false = ap test (sym zeroth) ∙ none 0 (omega arith) in
-    rw not_here (find_first test (k + 1) xs i (omega arith) (ap test same ∙ here) (λ j less. let next : k + 1 + j ≡ k + suc j = omega arith in ap test next ∙ none (suc j) (omega arith)) ∙ ap (λ (m : ℕ). Some m) same)
+    rw not_here (find_first test (k + 1) xs i (omega arith) (ap test same ∙ here)
+    (λ j less. let next : k + 1 + j ≡ k + suc j = omega arith in ap test next ∙ none (suc j) (omega arith))
+    ∙ ap (λ (m : ℕ). Some m) same)
 
-find_none : {A : Type 0} (test : ℕ → Bool) (k : ℕ) (xs : List A) → ((j : ℕ) → j < length xs → test (k + j) ≡ false) → find test (map (λ s. s.0) (enumerate_from k xs)) ≡ None
+find_none : {A : Type 0} (test : ℕ → Bool) (k : ℕ) (xs : List A) → ((j : ℕ) → j < length xs → test (k + j) ≡ false)
+    → find test (map (λ s. s.0) (enumerate_from k xs)) ≡ None
 find_none test k [] none = refl
 find_none test k (x ∷ xs) none =
     let zeroth : k + 0 ≡ k = omega arith in
     let not_here : test k ≡ false = ap test (sym zeroth) ∙ none 0 (omega arith) in
-    rw not_here (find_none test (k + 1) xs (λ j less. let next : k + 1 + j ≡ k + suc j = omega arith in ap test next ∙ none (suc j) (omega arith)))
+    rw not_here (find_none test (k + 1) xs (λ j less. let next : k + 1 + j ≡ k + suc j = omega arith in ap test next
+    ∙ none (suc j) (omega arith)))
 
-pub none_more : (hs : List Telling) (n e : ℕ) (h : Telling) → NoneBefore hs n e → slice_get hs e ≡ Some h → h.committed < n → NoneBefore hs n (e + 1)
+pub none_more : (hs : List SectionHistory) (n e : ℕ) (h : SectionHistory) → NoneBefore hs n e → slice_get hs e ≡ Some h
+    → h.committed < n → NoneBefore hs n (e + 1)
 none_more hs n e h none got less i g lt here = elim (cases_lt i e) [
   | inl before ↦ none i g before here
   | inr last ↦
       let same : i ≡ e = omega arith in
       let is : g ≡ h = some_injective g h (sym here ∙ ap (slice_get hs) same ∙ got) in
-      subst (λ (x : Telling). x.committed < n) (sym is) less
+      subst (λ (x : SectionHistory). x.committed < n) (sym is) less
 ]
 
-module _ (t : Trace) (hs : List Telling) (told : hs ≡ tellings t) (n : ℕ) where
+module _ (t : Trace) (hs : List SectionHistory) (told : hs ≡ section_histories t) (n : ℕ) where
   not_committed : (e i : ℕ) → e ≤ length t.sections → NoneBefore hs n e → i < e → nat_le n (history t i).last ≡ false
   not_committed e i le none lt =
-      let got : slice_get hs i ≡ Some (telling t i) = ap (λ (xs : List Telling). slice_get xs i) told ∙ telling_at t i (omega arith) in
-      let low = none i (telling t i) lt got in
-      let last = last_told t i (telling t i) refl in
+      let got : slice_get hs i ≡ Some (section_history t i) = ap (λ (xs : List SectionHistory). slice_get xs i) told
+      ∙ section_history_at t i (omega arith) in
+      let low = none i (section_history t i) lt got in
+      let last = last_told t i (section_history t i) refl in
       lt-leb n (history t i).last (omega arith)
 
-  pub first_is : (e : ℕ) (h : Telling) → slice_get hs e ≡ Some h → n ≤ h.committed → NoneBefore hs n e → first_to_commit t n ≡ Some e
+  pub first_is : (e : ℕ) (h : SectionHistory) → slice_get hs e ≡ Some h → n ≤ h.committed → NoneBefore hs n e
+      → first_to_commit t n ≡ Some e
   first_is e h got some none =
-      let count : length hs ≡ length t.sections = ap length told ∙ tellings_count t in
+      let count : length hs ≡ length t.sections = ap length told ∙ section_histories_count t in
       let lt = within hs e h got in
-      let last = last_told t e h (telling_is t hs e h told got) in
+      let last = last_told t e h (section_history_is t hs e h told got) in
       let zeroth : 0 + e ≡ e = omega arith in
-      find_first (λ i. nat_le n (history t i).last) 0 t.sections e (omega arith) (ap (λ (i : ℕ). nat_le n (history t i).last) zeroth ∙ le-leb n (history t e).last (omega arith))
-      (λ j less. let same : 0 + j ≡ j = omega arith in ap (λ (i : ℕ). nat_le n (history t i).last) same ∙ not_committed e j (omega arith) none less)
+      find_first (λ i. nat_le n (history t i).last) 0 t.sections e (omega arith)
+      (ap (λ (i : ℕ). nat_le n (history t i).last) zeroth ∙ le-leb n (history t e).last (omega arith))
+      (λ j less. let same : 0 + j ≡ j = omega arith in ap (λ (i : ℕ). nat_le n (history t i).last) same
+      ∙ not_committed e j (omega arith) none less)
       ∙ ap (λ (i : ℕ). Some i) zeroth
 
   pub first_none : (e : ℕ) → length hs ≤ e → NoneBefore hs n e → first_to_commit t n ≡ None
   first_none e past none =
-      let count : length hs ≡ length t.sections = ap length told ∙ tellings_count t in
+      let count : length hs ≡ length t.sections = ap length told ∙ section_histories_count t in
       find_none (λ i. nat_le n (history t i).last) 0 t.sections
-      (λ j less. let same : 0 + j ≡ j = omega arith in ap (λ (i : ℕ). nat_le n (history t i).last) same ∙ not_committed (length t.sections) j (omega arith) (λ i h lt got. none i h (omega arith) got) less)
+      (λ j less. let same : 0 + j ≡ j = omega arith in ap (λ (i : ℕ). nat_le n (history t i).last) same
+      ∙ not_committed (length t.sections) j (omega arith) (λ i h lt got. none i h (omega arith) got) less)
 
-none_found : {A : Type 0} (test : ℕ → Bool) (k : ℕ) (xs : List A) (i : ℕ) → i < length xs → find test (map (λ s. s.0) (enumerate_from k xs)) ≡ None → test (k + i) ≡ false
+none_found : {A : Type 0} (test : ℕ → Bool) (k : ℕ) (xs : List A) (i : ℕ) → i < length xs
+    → find test (map (λ s. s.0) (enumerate_from k xs)) ≡ None → test (k + i) ≡ false
 none_found test k [] i lt none = absurd (omega arith)
 none_found test k (x ∷ xs) i lt none = by (test k) refl i lt (λ j less e. none_found test (k + 1) xs j less e)
   where
     nothing : (m : ℕ) → ◌≡◌ {A = Option ℕ} (Some m) None → ⊥
     nothing m e = cc
 
-    by : (b : Bool) → test k ≡ b → (i : ℕ) → i < suc (length xs) → ((j : ℕ) → j < length xs → find test (map (λ s. s.0) (enumerate_from (k + 1) xs)) ≡ None → test (k + 1 + j) ≡ false) → test (k + i) ≡ false
+    by : (b : Bool) → test k ≡ b → (i : ℕ) → i < suc (length xs)
+        → ((j : ℕ) → j < length xs → find test (map (λ s. s.0) (enumerate_from (k + 1) xs)) ≡ None → test (k + 1 + j)
+        ≡ false) → test (k + i) ≡ false
     by true is i lt more = absurd (nothing k (sym (rw is refl) ∙ none))
     by false is zero lt more = let zeroth : k + 0 ≡ k = omega arith in ap test zeroth ∙ is
-    by false is (suc j) lt more = let same : k + suc j ≡ k + 1 + j = omega arith in ap test same ∙ more j (omega arith) (sym (rw is refl) ∙ none)
+    by false is (suc j) lt more = let same : k + suc j ≡ k + 1 + j = omega arith in ap test same
+        ∙ more j (omega arith) (sym (rw is refl) ∙ none)
 
 -- a batch that some replica committed has a first that did
-pub first_there : (t : Trace) (e n : ℕ) (p : Placed) → IsRightSection t e → committed_at t e n ≡ Some p → (f : ℕ) × (first_to_commit t n ≡ Some f)
+pub first_there : (t : Trace) (e n : ℕ) (p : Placed) → IsRightSection t e → committed_at t e n ≡ Some p → (f : ℕ)
+    × (first_to_commit t n ≡ Some f)
 first_there t e n p right at = by (first_to_commit t n) refl
   where
     by : (o : Option ℕ) → first_to_commit t n ≡ o → (f : ℕ) × (first_to_commit t n ≡ Some f)
     by (Some f) is = (f, is)
     by None is =
         let zeroth : 0 + e ≡ e = omega arith in
-        let out : nat_le n (history t e).last ≡ false = ap (λ (i : ℕ). nat_le n (history t i).last) (sym zeroth) ∙ none_found (λ i. nat_le n (history t i).last) 0 t.sections e (replica_there t e n p at) is in
+        let out : nat_le n (history t e).last ≡ false = ap (λ (i : ℕ). nat_le n (history t i).last) (sym zeroth)
+        ∙ none_found (λ i. nat_le n (history t i).last) 0 t.sections e (replica_there t e n p at) is in
         let low = committed_low t e n p right at in
         absurd (omega (arith, leb-false n (history t e).last out))
 
 -- the balances of one replica among those of all
-pub all_balances : (t : Trace) (e n : ℕ) (all : List (List ℤ)) (b : List ℤ) → AreAfter (settlings t) n all → values_in (settling t e) n ≡ values_to t e n → e < length t.sections → b ≡ get_or all e b → b ≡ balances_to t e n
+pub all_balances : (t : Trace) (e n : ℕ) (all : List (List ℤ)) (b : List ℤ) → AreAfter (settlings t) n all
+    → values_in (settling t e) n ≡ values_to t e n → e < length t.sections → b ≡ get_or all e b → b ≡ balances_to t e n
 all_balances t e n all b after law there is =
     let count = settlings_count t in
     let many = after.as_many in
     let within : e < length all = omega arith in
-    is ∙ default all e b [] within ∙ balances_are t e n (get_or all e []) (after.each e (settling t e) (settling_at t e there)) law
+    is ∙ default all e b [] within
+    ∙ balances_are t e n (get_or all e []) (after.each e (settling t e) (settling_at t e there)) law
   where
     default : (xs : List (List ℤ)) (i : ℕ) (x y : List ℤ) → i < length xs → get_or xs i x ≡ get_or xs i y
     default [] i x y lt = absurd (omega arith)
@@ -248,10 +295,13 @@ all_balances t e n all b after law there is =
 
 -- ---- lists that agree in front
 
-pub agree_more : {A : Type 0} (xs ys : List A) (i : ℕ) (a b : A) → take i xs ≡ take i ys → slice_get xs i ≡ Some a → slice_get ys i ≡ Some b → a ≡ b → take (i + 1) xs ≡ take (i + 1) ys
-agree_more xs ys i a b same own its is = take_one_more xs i a own ∙ (λ k. same k ++ is k ∷ []) ∙ sym (take_one_more ys i b its)
+pub agree_more : {A : Type 0} (xs ys : List A) (i : ℕ) (a b : A) → take i xs ≡ take i ys → slice_get xs i ≡ Some a
+    → slice_get ys i ≡ Some b → a ≡ b → take (i + 1) xs ≡ take (i + 1) ys
+agree_more xs ys i a b same own its is = take_one_more xs i a own ∙ (λ k. same k ++ is k ∷ [])
+    ∙ sym (take_one_more ys i b its)
 
-pub agree_not : {A : Type 0} (xs ys : List A) (i : ℕ) (a b : A) → slice_get xs i ≡ Some a → slice_get ys i ≡ Some b → a ≢ b → xs ≢ ys
+pub agree_not : {A : Type 0} (xs ys : List A) (i : ℕ) (a b : A) → slice_get xs i ≡ Some a → slice_get ys i ≡ Some b
+    → a ≢ b → xs ≢ ys
 agree_not xs ys i a b own its apart e = apart (some_injective a b (sym own ∙ ap (λ zs. slice_get zs i) e ∙ its))
 
 pub agree_all : {A : Type 0} (xs ys : List A) (i : ℕ) → take i xs ≡ take i ys → length xs ≤ i → length ys ≤ i → xs ≡ ys

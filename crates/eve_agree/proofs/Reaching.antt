@@ -1,5 +1,6 @@
 -- The balances of all replicas, one replica after another.
-use Rattle.std.proofs.Common.{◌≡◌, ℕ, zero, suc, ◌+◌, ◌-◌, ◌<◌, ◌≤◌, ℤ, List, [], ◌∷◌, ◌++◌, length, slice_get, get_or, set, Some, refl, sym, ap, subst, ◌∙◌, inl, inr, arith, get_or-set_same, get_or-set_other}
+use Rattle.std.proofs.Common.{◌≡◌, ℕ, zero, suc, ◌+◌, ◌-◌, ◌<◌, ◌≤◌, ℤ, List, [], ◌∷◌, ◌++◌, length, slice_get, get_or}
+use Rattle.std.proofs.Common.{set, Some, refl, sym, ap, subst, ◌∙◌, inl, inr, arith, get_or-set_same, get_or-set_other}
 use Rattle.std.proofs.lemmas.Bool.{cases_lt, cases_eq}
 use Rattle.std.proofs.lemmas.List.{length-set, length-append}
 use Rattle.eve_smallbank.specs.Access.{balance_at}
@@ -26,23 +27,33 @@ pub record Opened (settled : List Settling) (i : ℕ) (all : List (List ℤ)) : 
 pub opened_start : (settled : List Settling) → Opened settled 0 []
 opened_start settled = record { as_many = refl; each = λ e s lt got. absurd (omega arith) }
 
-pub opened_more : (settled : List Settling) (i : ℕ) (all after : List (List ℤ)) (s : Settling) (b : List ℤ) → Opened settled i all → slice_get settled i ≡ Some s → length b ≡ length s.opening → balance_at b ≡ values_in s 0
+pub opened_more : (settled : List Settling) (i : ℕ) (all after : List (List ℤ)) (s : Settling) (b : List ℤ)
+    → Opened settled i all → slice_get settled i ≡ Some s → length b ≡ length s.opening → balance_at b ≡ values_in s 0
     → after ≡ all ++ b ∷ [] → Opened settled (i + 1) after
 opened_more settled i all after s b opened got rows values is = record {
   as_many = ap length is ∙ length-append all (b ∷ []) ∙ ap (λ (n : ℕ). n + 1) opened.as_many;
   each = λ e r lt here. subst (λ (xs : List (List ℤ)). IsAfter r 0 (get_or xs e [])) (sym is) (elim (cases_lt e i) [
-    | inl early ↦ let count = opened.as_many in subst (IsAfter r 0) (sym (push_left all b [] e (omega arith))) (opened.each e r early here)
+    | inl early ↦ let count = opened.as_many in subst (IsAfter r 0) (sym (push_left all b [] e (omega arith)))
+        (opened.each e r early here)
     | inr late ↦
         let same : e ≡ length all = (let count = opened.as_many in omega arith) in
         let at : e ≡ i = omega arith in
         let its : s ≡ r = some_injective s r (sym got ∙ ap (slice_get settled) (sym at) ∙ here) in
-        let last : get_or (all ++ b ∷ []) e [] ≡ b = ap (λ (k : ℕ). get_or (all ++ b ∷ []) k []) same ∙ push_here all b [] in
-        subst (IsAfter r 0) (sym last) (subst (λ (x : Settling). IsAfter x 0 b) its (record { rows = rows; values = values }))
+        let last : get_or (all ++ b ∷ []) e [] ≡ b = ap (λ (k : ℕ). get_or (all ++ b ∷ []) k []) same
+        ∙ push_here all b [] in
+        subst (IsAfter r 0) (sym last)
+        (subst (λ (x : Settling). IsAfter x 0 b) its (record { rows = rows; values = values }))
   ]);
 }
 
-pub opened_all : (settled : List Settling) (i : ℕ) (all : List (List ℤ)) → i ≡ length settled → Opened settled i all → AreAfter settled 0 all
-opened_all settled i all is opened = record { as_many = opened.as_many ∙ is; each = λ e s got. opened.each e s (let lt = within settled e s got in omega arith) got }
+pub opened_all : (settled : List Settling) (i : ℕ) (all : List (List ℤ)) → i ≡ length settled → Opened settled i all
+    → AreAfter settled 0 all
+opened_all settled i all is opened =
+    record {
+      as_many = opened.as_many
+          ∙ is;
+      each = λ e s got. opened.each e s (let lt = within settled e s got in omega arith) got;
+    }
   where
     within : (xs : List Settling) (k : ℕ) (x : Settling) → slice_get xs k ≡ Some x → k < length xs
     within [] k x e = none≢some x e
@@ -57,35 +68,55 @@ pub record Reached (settled : List Settling) (n i : ℕ) (all : List (List ℤ))
   pub done : (e : ℕ) (s : Settling) → e < i → slice_get settled e ≡ Some s → IsAfter s n (get_or all e [])
   pub rest : (e : ℕ) (s : Settling) → i ≤ e → slice_get settled e ≡ Some s → IsAfter s (n - 1) (get_or all e [])
 
-pub reached_start : (settled : List Settling) (n : ℕ) (all : List (List ℤ)) → AreAfter settled (n - 1) all → Reached settled n 0 all
-reached_start settled n all before = record { as_many = before.as_many; done = λ e s lt got. absurd (omega arith); rest = λ e s le got. before.each e s got }
+pub reached_start : (settled : List Settling) (n : ℕ) (all : List (List ℤ)) → AreAfter settled (n - 1) all
+    → Reached settled n 0 all
+reached_start settled n all before =
+    record {
+      as_many = before.as_many;
+      done = λ e s lt got. absurd (omega arith);
+      rest = λ e s le got. before.each e s got;
+    }
 
-pub reached_here : (settled : List Settling) (n i : ℕ) (all : List (List ℤ)) (s : Settling) (b : List ℤ) → Reached settled n i all → slice_get settled i ≡ Some s → b ≡ get_or all i b → i < length all → IsAfter s (n - 1) b
-reached_here settled n i all s b reached got is lt = subst (IsAfter s (n - 1)) (same all i lt ∙ sym is) (reached.rest i s (omega arith) got)
+pub reached_here : (settled : List Settling) (n i : ℕ) (all : List (List ℤ)) (s : Settling) (b : List ℤ)
+    → Reached settled n i all → slice_get settled i ≡ Some s → b ≡ get_or all i b → i < length all → IsAfter s (n - 1) b
+reached_here settled n i all s b reached got is lt = subst (IsAfter s (n - 1)) (same all i lt ∙ sym is)
+    (reached.rest i s (omega arith) got)
   where
     same : (xs : List (List ℤ)) (k : ℕ) → k < length xs → get_or xs k [] ≡ get_or xs k b
     same [] k lt = absurd (omega arith)
     same (x ∷ xs) zero lt = refl
     same (x ∷ xs) (suc k) lt = same xs k (omega arith)
 
-pub reached_more : (settled : List Settling) (n i : ℕ) (all after : List (List ℤ)) (s : Settling) (b : List ℤ) → Reached settled n i all → i < length settled → slice_get settled i ≡ Some s → IsAfter s n b → after ≡ set all i b → Reached settled n (i + 1) after
+pub reached_more : (settled : List Settling) (n i : ℕ) (all after : List (List ℤ)) (s : Settling) (b : List ℤ)
+    → Reached settled n i all → i < length settled → slice_get settled i ≡ Some s → IsAfter s n b → after ≡ set all i b
+    → Reached settled n (i + 1) after
 reached_more settled n i all after s b reached lt got here is =
     let count = reached.as_many in
     record {
       as_many = ap length is ∙ length-set all i b ∙ reached.as_many;
-      done = λ e r less its. subst (λ (xs : List (List ℤ)). IsAfter r n (get_or xs e [])) (sym is) (elim (cases_eq e i) [
-        | inl at ↦
-            let same : s ≡ r = some_injective s r (sym got ∙ ap (slice_get settled) (sym at) ∙ its) in
-            let it : get_or (set all i b) e [] ≡ b = ap (λ (k : ℕ). get_or (set all i b) k []) at ∙ get_or-set_same all i b [] (omega arith) in
-            subst (IsAfter r n) (sym it) (subst (λ (x : Settling). IsAfter x n b) same here)
-        | inr other ↦ subst (IsAfter r n) (sym (get_or-set_other all i e b [] other)) (reached.done e r (omega arith) its)
-      ]);
+      done = λ e r less its. subst (λ (xs : List (List ℤ)). IsAfter r n (get_or xs e [])) (sym is)
+          (elim (cases_eq e i) [
+            | inl at ↦
+                let same : s ≡ r = some_injective s r (sym got ∙ ap (slice_get settled) (sym at) ∙ its) in
+                let it : get_or (set all i b) e [] ≡ b = ap (λ (k : ℕ). get_or (set all i b) k []) at
+                ∙ get_or-set_same all i b [] (omega arith) in
+                subst (IsAfter r n) (sym it) (subst (λ (x : Settling). IsAfter x n b) same here)
+            | inr other ↦ subst (IsAfter r n) (sym (get_or-set_other all i e b [] other))
+                (reached.done e r (omega arith) its)
+          ]);
       rest = λ e r more its. subst (λ (xs : List (List ℤ)). IsAfter r (n - 1) (get_or xs e [])) (sym is)
-          (subst (IsAfter r (n - 1)) (sym (get_or-set_other all i e b [] (λ at. omega arith))) (reached.rest e r (omega arith) its));
+          (subst (IsAfter r (n - 1)) (sym (get_or-set_other all i e b [] (λ at. omega arith)))
+          (reached.rest e r (omega arith) its));
     }
 
-pub reached_all : (settled : List Settling) (n i : ℕ) (all : List (List ℤ)) → length settled ≤ i → Reached settled n i all → AreAfter settled n all
-reached_all settled n i all past reached = record { as_many = reached.as_many; each = λ e s got. reached.done e s (let lt = within settled e s got in omega arith) got }
+pub reached_all : (settled : List Settling) (n i : ℕ) (all : List (List ℤ)) → length settled ≤ i
+    → Reached settled n i all → AreAfter settled n all
+reached_all settled n i all past reached =
+    record {
+      as_many = reached.as_many;
+      each = λ e s got. reached.done e s
+          (let lt = within settled e s got in omega arith) got;
+    }
   where
     within : (xs : List Settling) (k : ℕ) (x : Settling) → slice_get xs k ≡ Some x → k < length xs
     within [] k x e = none≢some x e

@@ -1,5 +1,6 @@
 -- The requests of a batch, read one after another.
-use Rattle.std.proofs.Common.{◌≡◌, ℕ, ◌+◌, ◌≤◌, List, [], ◌∷◌, ◌++◌, map, take, length, set, sym, ap, ◌∙◌, append_assoc, append-nil, arith, IsTrue}
+use Rattle.std.proofs.Common.{◌≡◌, ℕ, ◌+◌, ◌≤◌, List, [], ◌∷◌, ◌++◌, map, take, length, set, sym, ap, ◌∙◌, append_assoc}
+use Rattle.std.proofs.Common.{append-nil, arith, IsTrue}
 use Rattle.std.proofs.lemmas.List.{map-append, take_more_set}
 use Rattle.eve_grammar.specs.Trace.{Asked, Batch}
 use Rattle.eve_grammar.specs.Limits.{is_batch}
@@ -14,7 +15,8 @@ pub record IsReading (own rest : List Asked) (items : List Item) (count : ℕ) :
   pub few : count + length rest ≤ 256
   pub long : length items ≡ 256
 
-pub reading_start : (b : Batch) (own rest : List Asked) (items : List Item) → IsTrue (is_batch b) → own ≡ b.requests → rest ≡ own → length items ≡ 256 → IsReading own rest items 0
+pub reading_start : (b : Batch) (own rest : List Asked) (items : List Item) → IsTrue (is_batch b) → own ≡ b.requests
+    → rest ≡ own → length items ≡ 256 → IsReading own rest items 0
 reading_start b own rest items fits is so long =
     let few = few_requests b fits in
     let count : length rest ≡ length b.requests = ap (λ (xs : List Asked). length xs) (so ∙ is) in
@@ -22,19 +24,23 @@ reading_start b own rest items fits is so long =
     let most = few.1 in
     record { kept = ap (map request_id) so; few = omega arith; long = long }
 
-pub reading_more : (own rest : List Asked) (a : Asked) (items next : List Item) (count : ℕ) (x : Item) (m : ℕ) → IsReading own (a ∷ rest) items count → request_id_of x ≡ request_id a → next ≡ set items count x → m ≡ count + 1
+pub reading_more : (own rest : List Asked) (a : Asked) (items next : List Item) (count : ℕ) (x : Item) (m : ℕ)
+    → IsReading own (a ∷ rest) items count → request_id_of x ≡ request_id a → next ≡ set items count x → m ≡ count + 1
     → length next ≡ 256 → IsReading own rest next m
 reading_more own rest a items next count x m reading is set_is so long =
     let few : count + length (a ∷ rest) ≤ 256 = reading.few in
     let many : length items ≡ 256 = reading.long in
     let step : kept_in next m ≡ kept_in items count ++ request_id a ∷ [] =
-    (λ i. kept_in (set_is i) (so i)) ∙ ap (map request_id_of) (take_more_set items count x (omega arith)) ∙ map-append request_id_of (take count items) (x ∷ [])
+    (λ i. kept_in (set_is i) (so i)) ∙ ap (map request_id_of) (take_more_set items count x (omega arith))
+    ∙ map-append request_id_of (take count items) (x ∷ [])
     ∙ ap (λ (y : ℕ × ℕ). kept_in items count ++ y ∷ []) is in
     record {
-      kept = ap (λ (ys : List RequestId). ys ++ map request_id rest) step ∙ append_assoc (kept_in items count) (request_id a ∷ []) (map request_id rest) ∙ reading.kept;
+      kept = ap (λ (ys : List RequestId). ys ++ map request_id rest) step
+          ∙ append_assoc (kept_in items count) (request_id a ∷ []) (map request_id rest) ∙ reading.kept;
       few = omega arith;
       long = long;
     }
 
-pub reading_end : (own : List Asked) (items : List Item) (count : ℕ) → IsReading own [] items count → kept_in items count ≡ map request_id own
+pub reading_end : (own : List Asked) (items : List Item) (count : ℕ) → IsReading own [] items count
+    → kept_in items count ≡ map request_id own
 reading_end own items count reading = sym (append-nil (kept_in items count)) ∙ reading.kept

@@ -1,14 +1,19 @@
 -- Steps of a section judged one after another: which attempts are open, and the first rollback that is wrong.
-use Rattle.std.proofs.Common.{◌≡◌, ℕ, zero, suc, ◌+◌, ◌-◌, ◌*◌, ◌<◌, ◌≤◌, ◌==◌, Bool, true, false, cond, ◌&&◌, List, [], ◌∷◌, ◌++◌, map, take, drop, length, slice_index_or, Some, refl, sym, subst, ap, ◌∙◌, inl, inr, ◌⊎◌, append_assoc, append-nil, arith, IsTrue, IsFalse}
+use Rattle.std.proofs.Common.{◌≡◌, ℕ, zero, suc, ◌+◌, ◌-◌, ◌*◌, ◌<◌, ◌≤◌, ◌==◌, Bool, true, false, cond, ◌&&◌, List, []}
+use Rattle.std.proofs.Common.{◌∷◌, ◌++◌, map, take, drop, length, slice_index_or, Some, refl, sym, subst, ap, ◌∙◌, inl}
+use Rattle.std.proofs.Common.{inr, ◌⊎◌, append_assoc, append-nil, arith, IsTrue, IsFalse}
 use Rattle.std.specs.List.{AllByRecursion, list_all, flat_map}
 use Rattle.std.proofs.lemmas.Bool.{and_parts, and_from, cases_lt, false≢true}
-use Rattle.std.proofs.lemmas.List.{map-append, length-map, length-append, length-drop, drop-map, drop-drop, drop_all, drop-append-le}
+use Rattle.std.proofs.lemmas.List.{map-append, length-map, length-append, length-drop, drop-map, drop-drop, drop_all}
+use Rattle.std.proofs.lemmas.List.{drop-append-le}
 use Rattle.eve_smallbank.specs.Chain.{Table}
 use Rattle.eve_smallbank.specs.declared.entry.Entry.{Entry}
-use Rattle.eve_grammar.specs.Trace.{Access, Attempt, Commit, Rollback, Step, Attempts, Commits, RollsBack, Trace, head_of}
+use Rattle.eve_grammar.specs.Trace.{Access, Attempt, Commit, Rollback, Step, Attempts, Commits, RollsBack, Trace}
+use Rattle.eve_grammar.specs.Trace.{head_of}
 use Rattle.eve_grammar.specs.Frames.{OfReplica, OfAttempt as AttemptFrame, OfAccess}
 use Rattle.eve_grammar.specs.Spelling.{frame_text, located, step_text, section_start, steps_of, steps_at, accesses_at}
-use Rattle.eve_grammar.specs.Limits.{HasLimits, is_number, is_attempt, is_entry, is_access, is_step, is_rising, is_restore, is_rollback, row_count}
+use Rattle.eve_grammar.specs.Limits.{HasLimits, is_number, is_attempt, is_entry, is_access, is_step, is_rising}
+use Rattle.eve_grammar.specs.Limits.{is_restore, is_rollback, row_count}
 use Rattle.eve_frames.specs.Views.{rollback_in}
 use Rattle.eve_frames.specs.declared.attempt.AttemptView.{AttemptView}
 use Rattle.eve_frames.specs.declared.commit.CommitView.{CommitView}
@@ -21,8 +26,11 @@ use Rattle.eve_views.specs.Form.{IsUpTo, SomePlace, IsLeast}
 use Rattle.eve_views.specs.declared.fault.Code.{Code}
 use Rattle.eve_views.specs.declared.fault.Code.TheVariants as code
 use Rattle.eve_views.specs.declared.fault.Fault.{Fault}
-use Rattle.eve_history.specs.Section.{Placed, SectionState, start, path_of, committing, next, state_after, commits_first, is_right_commit, is_right, are_right}
-use Rattle.eve_history.specs.Told.{Ran, Telling, ran, ordered, access_with, attempts_among, rollbacks_among, telling, placed_at, IsRightSection}
+use Rattle.eve_history.specs.Section.{Placed, SectionState, start, path_of, committing, next, state_after}
+use Rattle.eve_history.specs.Section.{commits_first, is_right_commit, is_right, are_right}
+use Rattle.eve_history.specs.SectionHistory.{ExecutedAttempt, SectionHistory, executed_attempt, ordered, access_with}
+use Rattle.eve_history.specs.SectionHistory.{attempts_among, rollbacks_among, section_history, placed_at}
+use Rattle.eve_history.specs.SectionHistory.{IsRightSection}
 use Rattle.eve_history.specs.Faults.{OfRollback}
 use Rattle.eve_history.proofs.Coming.{come_start}
 use Rattle.eve_history.proofs.Structure.{state_after-append}
@@ -31,7 +39,8 @@ use Rattle.eve_chains.specs.Along.{entries_along, AreWithin}
 use Rattle.eve_chains.specs.Sound.{SettledAreSound}
 use Rattle.eve_chains.specs.Visible.{executions}
 use Rattle.eve_chains.specs.Committed.{attempts_of}
-use Rattle.eve_agree.specs.Tables.{committed_rows, open_entries, are_right_restores, restores_rightly, all_restore_rightly, RestoresAreRight}
+use Rattle.eve_agree.specs.Tables.{committed_rows, open_entries, are_right_restores, restores_rightly}
+use Rattle.eve_agree.specs.Tables.{all_restore_rightly, RestoresAreRight}
 use Rattle.eve_agree.specs.Restores.{StandsInRestores, IsRestoreFault}
 use Rattle.eve_agree.specs.Marking.{unmarked, marked, noted_between, written_in, are_written_in}
 use Rattle.eve_agree.proofs.Marking.{first_writes}
@@ -49,25 +58,36 @@ pub record HasJudged (t : Trace) (e : ℕ) (rest : List (ℕ × Step)) (first en
 
 attempts_among-append : (xs ys : List (ℕ × Step)) → attempts_among (xs ++ ys) ≡ attempts_among xs ++ attempts_among ys
 attempts_among-append [] ys = refl
-attempts_among-append ((at, Attempts a) ∷ xs) ys = ap (λ (zs : List (ℕ × Attempt)). (at, a) ∷ zs) (attempts_among-append xs ys)
+attempts_among-append ((at, Attempts a) ∷ xs) ys = ap (λ (zs : List (ℕ × Attempt)). (at, a) ∷ zs)
+    (attempts_among-append xs ys)
 attempts_among-append ((at, Commits c) ∷ xs) ys = attempts_among-append xs ys
 attempts_among-append ((at, RollsBack r) ∷ xs) ys = attempts_among-append xs ys
 
-rightly-push : (t : Trace) (s : SectionState) (xs : List (ℕ × Step)) (x : ℕ × Step) → all_restore_rightly t s xs ≡ true → restores_rightly t (state_after s xs) x.1 ≡ true
+rightly-push : (t : Trace) (s : SectionState) (xs : List (ℕ × Step)) (x : ℕ × Step) → all_restore_rightly t s xs ≡ true
+    → restores_rightly t (state_after s xs) x.1 ≡ true
     → all_restore_rightly t s (xs ++ x ∷ []) ≡ true
 rightly-push t s [] x all own = and_from (restores_rightly t s x.1) true own refl
 rightly-push t s (y ∷ xs) x all own =
     let parts = and_parts (restores_rightly t s y.1) (all_restore_rightly t (next s y) xs) all in
-    and_from (restores_rightly t s y.1) (all_restore_rightly t (next s y) (xs ++ x ∷ [])) parts.0 (rightly-push t (next s y) xs x parts.1 own)
+    and_from (restores_rightly t s y.1) (all_restore_rightly t (next s y) (xs ++ x ∷ [])) parts.0
+    (rightly-push t (next s y) xs x parts.1 own)
 
 -- a step that was met, and the steps behind it
 abbrev pub ComesNext : met.Step → List (ℕ × Step) → List (ℕ × Step) → Type 0
 ComesNext s steps rest = (step : ℕ × Step) × (steps ≡ step ∷ rest) × IsStep s step
 
 pub judged_start : (t : Trace) (e : ℕ) → HasJudged t e (steps_at t e) 0 0
-judged_start t e = record { front = []; split = refl; came = refl; fewer = omega arith; pending = refl; rightly = λ _. refl }
+judged_start t e = record {
+  front = [];
+  split = refl;
+  came = refl;
+  fewer = omega arith;
+  pending = refl;
+  rightly = λ _. refl;
+}
 
-module _ (t : Trace) (e : ℕ) (step : ℕ × Step) (rest : List (ℕ × Step)) (first end : ℕ) (judged : HasJudged t e (step ∷ rest) first end) where
+module _ (t : Trace) (e : ℕ) (step : ℕ × Step) (rest : List (ℕ × Step)) (first end : ℕ)
+    (judged : HasJudged t e (step ∷ rest) first end) where
   one_more : steps_at t e ≡ (judged.front ++ step ∷ []) ++ rest
   one_more = judged.split ∙ sym (append_assoc judged.front (step ∷ []) rest)
 
@@ -76,7 +96,8 @@ module _ (t : Trace) (e : ℕ) (step : ℕ × Step) (rest : List (ℕ × Step)) 
 
 -- ---- an attempt
 
-module _ (t : Trace) (e at : ℕ) (a : Attempt) (rest : List (ℕ × Step)) (first end : ℕ) (judged : HasJudged t e ((at, Attempts a) ∷ rest) first end) where
+module _ (t : Trace) (e at : ℕ) (a : Attempt) (rest : List (ℕ × Step)) (first end : ℕ)
+    (judged : HasJudged t e ((at, Attempts a) ∷ rest) first end) where
   judged_attempt : HasJudged t e rest first (end + 1)
   judged_attempt =
       let s = state_after start judged.front in
@@ -89,67 +110,89 @@ module _ (t : Trace) (e at : ℕ) (a : Attempt) (rest : List (ℕ × Step)) (fir
         split = one_more t e (at, Attempts a) rest first end judged;
         came = ap length more ∙ length-append (attempts_among judged.front) ((at, a) ∷ []) ∙ ap (λ (n : ℕ). n + 1) came;
         fewer = omega arith;
-        pending = ap (λ (o : SectionState). map placed_at o.pending) (state_next t e (at, Attempts a) rest first end judged) ∙ map-append placed_at s.pending (placed ∷ [])
-            ∙ ap (λ (xs : List (ℕ × Attempt)). xs ++ (at, a) ∷ []) judged.pending ∙ sym (drop-append-le first (attempts_among judged.front) ((at, a) ∷ []) (omega arith)) ∙ ap (drop first) (sym more);
+        pending = ap (λ (o : SectionState). map placed_at o.pending)
+            (state_next t e (at, Attempts a) rest first end judged) ∙ map-append placed_at s.pending (placed ∷ [])
+            ∙ ap (λ (xs : List (ℕ × Attempt)). xs ++ (at, a) ∷ []) judged.pending
+            ∙ sym (drop-append-le first (attempts_among judged.front) ((at, a) ∷ []) (omega arith))
+            ∙ ap (drop first) (sym more);
         rightly = λ sound. rightly-push t start judged.front (at, Attempts a) (judged.rightly sound) refl;
       }
 
   attempt_there : end < length (attempts_among (steps_at t e))
   attempt_there =
-      let long = ap length (ap attempts_among judged.split ∙ attempts_among-append judged.front ((at, Attempts a) ∷ rest)) ∙ length-append (attempts_among judged.front) ((at, a) ∷ attempts_among rest) in
+      let long = ap length (ap attempts_among judged.split
+      ∙ attempts_among-append judged.front ((at, Attempts a) ∷ rest))
+      ∙ length-append (attempts_among judged.front) ((at, a) ∷ attempts_among rest) in
       let came : length (attempts_among judged.front) ≡ end = judged.came in
       omega arith
 
-pub on_attempt : (t : Trace) (e : ℕ) (steps rest : List (ℕ × Step)) (first end : ℕ) (s : met.Step) (v : AttemptView) (xs : List (ℕ × Access)) → ComesNext s steps rest → s ≡ of.Attempt v xs
-    → HasJudged t e steps first end → HasJudged t e rest first (end + 1) × (end < length (attempts_among (steps_at t e)))
+pub on_attempt : (t : Trace) (e : ℕ) (steps rest : List (ℕ × Step)) (first end : ℕ) (s : met.Step) (v : AttemptView)
+    (xs : List (ℕ × Access)) → ComesNext s steps rest → s ≡ of.Attempt v xs
+    → HasJudged t e steps first end → HasJudged t e rest first (end + 1)
+    × (end < length (attempts_among (steps_at t e)))
 on_attempt t e steps rest first end s v xs comes is judged =
-    by comes.0 (subst (λ o. IsStep o comes.0) is comes.2) (subst (λ (ys : List (ℕ × Step)). HasJudged t e ys first end) comes.1 judged)
+    by comes.0 (subst (λ o. IsStep o comes.0) is comes.2)
+    (subst (λ (ys : List (ℕ × Step)). HasJudged t e ys first end) comes.1 judged)
   where
-    by : (step : ℕ × Step) → IsStep (of.Attempt v xs) step → HasJudged t e (step ∷ rest) first end → HasJudged t e rest first (end + 1) × (end < length (attempts_among (steps_at t e)))
-    by (at, Attempts a) own here = (judged_attempt t e at a rest first end here, attempt_there t e at a rest first end here)
+    by : (step : ℕ × Step) → IsStep (of.Attempt v xs) step → HasJudged t e (step ∷ rest) first end
+        → HasJudged t e rest first (end + 1) × (end < length (attempts_among (steps_at t e)))
+    by (at, Attempts a) own here =
+        (judged_attempt t e at a rest first end here, attempt_there t e at a rest first end here)
     by (at, Commits c) own here = absurd own
     by (at, RollsBack r) own here = absurd own
 
 -- ---- a commit
 
-right_there : (t : Trace) (s : SectionState) (front : List (ℕ × Step)) (step : ℕ × Step) (rest : List (ℕ × Step)) → IsTrue (are_right t s (front ++ step ∷ rest)) → IsTrue (is_right t (state_after s front) step.1)
+right_there : (t : Trace) (s : SectionState) (front : List (ℕ × Step)) (step : ℕ × Step) (rest : List (ℕ × Step))
+    → IsTrue (are_right t s (front ++ step ∷ rest)) → IsTrue (is_right t (state_after s front) step.1)
 right_there t s [] step rest right = (and_parts (is_right t s step.1) (are_right t (next s step) rest) right).0
-right_there t s (x ∷ front) step rest right = right_there t (next s x) front step rest (and_parts (is_right t s x.1) (are_right t (next s x) (front ++ step ∷ rest)) right).1
+right_there t s (x ∷ front) step rest right = right_there t (next s x) front step rest
+    (and_parts (is_right t s x.1) (are_right t (next s x) (front ++ step ∷ rest)) right).1
 
-module _ (t : Trace) (e at : ℕ) (c : Commit) (rest : List (ℕ × Step)) (first end : ℕ) (right : IsRightSection t e) (judged : HasJudged t e ((at, Commits c) ∷ rest) first end) where
+module _ (t : Trace) (e at : ℕ) (c : Commit) (rest : List (ℕ × Step)) (first end : ℕ) (right : IsRightSection t e)
+    (judged : HasJudged t e ((at, Commits c) ∷ rest) first end) where
   judged_commit : HasJudged t e rest (first + 1) end × (first < end)
   judged_commit =
       let s = state_after start judged.front in
-      let own : IsTrue (is_right_commit s c) = right_there t start judged.front (at, Commits c) rest (subst (λ (xs : List (ℕ × Step)). IsTrue (are_right t start xs)) judged.split right) in
+      let own : IsTrue (is_right_commit s c) = right_there t start judged.front (at, Commits c) rest
+      (subst (λ (xs : List (ℕ × Step)). IsTrue (are_right t start xs)) judged.split right) in
       by s.pending refl (and_parts (c.seq == s.last + 1) (commits_first s.pending c) own).1
     where
-      by : (pending : List Placed) → (state_after start judged.front).pending ≡ pending → commits_first pending c ≡ true → HasJudged t e rest (first + 1) end × (first < end)
+      by : (pending : List Placed) → (state_after start judged.front).pending ≡ pending → commits_first pending c ≡ true
+          → HasJudged t e rest (first + 1) end × (first < end)
       by [] is ok = absurd (false≢true ok)
       by (p ∷ ps) is ok =
           let s = state_after start judged.front in
           let items = attempts_among judged.front in
-          let open_is : placed_at p ∷ map placed_at ps ≡ drop first items = ap (map placed_at) (sym is) ∙ judged.pending in
-          let count : suc (length (map placed_at ps)) ≡ length items - first = ap length open_is ∙ length-drop first items in
+          let open_is : placed_at p ∷ map placed_at ps ≡ drop first items = ap (map placed_at) (sym is)
+          ∙ judged.pending in
+          let count : suc (length (map placed_at ps)) ≡ length items - first = ap length open_is
+          ∙ length-drop first items in
           let came : length items ≡ end = judged.came in
-          let more : attempts_among (judged.front ++ (at, Commits c) ∷ []) ≡ items = attempts_among-append judged.front ((at, Commits c) ∷ []) ∙ append-nil items in (
+          let more : attempts_among (judged.front ++ (at, Commits c) ∷ []) ≡ items =
+          attempts_among-append judged.front ((at, Commits c) ∷ []) ∙ append-nil items in (
             record {
               front = judged.front ++ (at, Commits c) ∷ [];
               split = one_more t e (at, Commits c) rest first end judged;
               came = ap length more ∙ came;
               fewer = omega arith;
-              pending = ap (λ (o : SectionState). map placed_at o.pending) (state_next t e (at, Commits c) rest first end judged ∙ ap (committing s) is)
+              pending = ap (λ (o : SectionState). map placed_at o.pending)
+                  (state_next t e (at, Commits c) rest first end judged ∙ ap (committing s) is)
                   ∙ ap (drop 1) open_is ∙ drop-drop 1 first items ∙ ap (drop (first + 1)) (sym more);
               rightly = λ sound. rightly-push t start judged.front (at, Commits c) (judged.rightly sound) refl;
             },
             omega arith,
           )
 
-pub on_commit : (t : Trace) (e : ℕ) (steps rest : List (ℕ × Step)) (first end : ℕ) (s : met.Step) (v : CommitView) → IsRightSection t e → ComesNext s steps rest → s ≡ of.Commit v
+pub on_commit : (t : Trace) (e : ℕ) (steps rest : List (ℕ × Step)) (first end : ℕ) (s : met.Step) (v : CommitView)
+    → IsRightSection t e → ComesNext s steps rest → s ≡ of.Commit v
     → HasJudged t e steps first end → HasJudged t e rest (first + 1) end × (first < end)
 on_commit t e steps rest first end s v right comes is judged =
-    by comes.0 (subst (λ o. IsStep o comes.0) is comes.2) (subst (λ (ys : List (ℕ × Step)). HasJudged t e ys first end) comes.1 judged)
+    by comes.0 (subst (λ o. IsStep o comes.0) is comes.2)
+    (subst (λ (ys : List (ℕ × Step)). HasJudged t e ys first end) comes.1 judged)
   where
-    by : (step : ℕ × Step) → IsStep (of.Commit v) step → HasJudged t e (step ∷ rest) first end → HasJudged t e rest (first + 1) end × (first < end)
+    by : (step : ℕ × Step) → IsStep (of.Commit v) step → HasJudged t e (step ∷ rest) first end
+        → HasJudged t e rest (first + 1) end × (first < end)
     by (at, Attempts a) own here = absurd own
     by (at, Commits c) own here = judged_commit t e at c rest first end right here
     by (at, RollsBack r) own here = absurd own
@@ -159,19 +202,24 @@ on_commit t e steps rest first end s v right comes is judged =
 abbrev rolled : RollbackView → ℕ × Step
 rolled v = (v.offset, RollsBack (rollback_in v.bytes.now))
 
-pub on_rollback : (t : Trace) (e : ℕ) (steps rest : List (ℕ × Step)) (first end : ℕ) (s : met.Step) (v : RollbackView) → ComesNext s steps rest → s ≡ of.Rollback v
+pub on_rollback : (t : Trace) (e : ℕ) (steps rest : List (ℕ × Step)) (first end : ℕ) (s : met.Step) (v : RollbackView)
+    → ComesNext s steps rest → s ≡ of.Rollback v
     → HasJudged t e steps first end → HasJudged t e (rolled v ∷ rest) first end
 on_rollback t e steps rest first end s v comes is judged =
-    by comes.0 (subst (λ o. IsStep o comes.0) is comes.2) (subst (λ (ys : List (ℕ × Step)). HasJudged t e ys first end) comes.1 judged)
+    by comes.0 (subst (λ o. IsStep o comes.0) is comes.2)
+    (subst (λ (ys : List (ℕ × Step)). HasJudged t e ys first end) comes.1 judged)
   where
-    by : (step : ℕ × Step) → IsStep (of.Rollback v) step → HasJudged t e (step ∷ rest) first end → HasJudged t e (rolled v ∷ rest) first end
+    by : (step : ℕ × Step) → IsStep (of.Rollback v) step → HasJudged t e (step ∷ rest) first end
+        → HasJudged t e (rolled v ∷ rest) first end
     by (at, Attempts a) own here = absurd own
     by (at, Commits c) own here = absurd own
     by (at, RollsBack r) own here =
-        subst (λ (o : ℕ). HasJudged t e ((o, RollsBack (rollback_in v.bytes.now)) ∷ rest) first end) (sym own.0) (subst (λ (q : Rollback). HasJudged t e ((at, RollsBack q) ∷ rest) first end) (sym own.1) here)
+        subst (λ (o : ℕ). HasJudged t e ((o, RollsBack (rollback_in v.bytes.now)) ∷ rest) first end) (sym own.0)
+        (subst (λ (q : Rollback). HasJudged t e ((at, RollsBack q) ∷ rest) first end) (sym own.1) here)
 
 -- the last of a list's front
-part : {A : Type 0} (xs ys : List A) (first n : ℕ) → first ≤ length xs → n ≡ length xs - first → take n (drop first (xs ++ ys)) ≡ drop first xs
+part : {A : Type 0} (xs ys : List A) (first n : ℕ) → first ≤ length xs → n ≡ length xs - first
+    → take n (drop first (xs ++ ys)) ≡ drop first xs
 part {A = A} xs ys first n le e =
     ap (take n) (drop-append-le first xs ys le) ∙ front (drop first xs) n (e ∙ sym (length-drop first xs))
   where
@@ -181,71 +229,94 @@ part {A = A} xs ys first n le e =
     front (z ∷ zs) zero e = absurd (omega arith)
     front (z ∷ zs) (suc m) e = ap (λ (ws : List A). z ∷ ws) (front zs m (omega arith))
 
-each_step : (P : ℕ × Step → Bool) (front : List (ℕ × Step)) (step : ℕ × Step) (rest : List (ℕ × Step)) → IsTrue (list_all P (front ++ step ∷ rest)) → IsTrue (P step)
+each_step : (P : ℕ × Step → Bool) (front : List (ℕ × Step)) (step : ℕ × Step) (rest : List (ℕ × Step))
+    → IsTrue (list_all P (front ++ step ∷ rest)) → IsTrue (P step)
 each_step P [] step rest all = (and_parts (P step) (list_all P rest) all).0
-each_step P (x ∷ front) step rest all = each_step P front step rest (and_parts (P x) (list_all P (front ++ step ∷ rest)) all).1
+each_step P (x ∷ front) step rest all =
+    each_step P front step rest (and_parts (P x) (list_all P (front ++ step ∷ rest)) all).1
 
-module _ (t : Trace) (e at : ℕ) (r : Rollback) (rest : List (ℕ × Step)) (first end : ℕ) (judged : HasJudged t e ((at, RollsBack r) ∷ rest) first end) where
-  abbrev rans : List Ran
-  rans = map ran (attempts_among (steps_at t e))
+module _ (t : Trace) (e at : ℕ) (r : Rollback) (rest : List (ℕ × Step)) (first end : ℕ)
+    (judged : HasJudged t e ((at, RollsBack r) ∷ rest) first end) where
+  abbrev executed_attempts : List ExecutedAttempt
+  executed_attempts = map executed_attempt (attempts_among (steps_at t e))
 
   -- the open attempts are those from one number up to the other
-  noted_open : HasLimits t → IsRightSection t e → noted_between rans first end ≡ open_entries t (state_after start judged.front)
+  noted_open : HasLimits t → IsRightSection t e → noted_between executed_attempts first end
+      ≡ open_entries t (state_after start judged.front)
   noted_open limits right =
       let items = attempts_among judged.front in
       let came : length items ≡ end = judged.came in
       let few : first ≤ end = judged.fewer in
-      let along : List Ran → List Entry = flat_map (λ (q : Ran). entries_along q.ordered) in
-      let all : rans ≡ map ran items ++ map ran (attempts_among rest) =
-      ap (map ran) (ap attempts_among judged.split ∙ attempts_among-append judged.front ((at, RollsBack r) ∷ rest)) ∙ map-append ran items (attempts_among rest) in
-      let same : length (map ran items) ≡ length items = length-map items ran in
-      ap (λ (qs : List Ran). along (take (end - first) (drop first qs))) all
-      ∙ ap along (part (map ran items) (map ran (attempts_among rest)) first (end - first) (omega arith) (omega arith))
-      ∙ ap along (drop-map ran first items ∙ ap (map ran) (sym judged.pending))
+      let along : List ExecutedAttempt → List Entry = flat_map (λ (q : ExecutedAttempt). entries_along q.ordered) in
+      let all : executed_attempts ≡ map executed_attempt items ++ map executed_attempt (attempts_among rest) =
+      ap (map executed_attempt)
+      (ap attempts_among judged.split ∙ attempts_among-append judged.front ((at, RollsBack r) ∷ rest))
+      ∙ map-append executed_attempt items (attempts_among rest) in
+      let same : length (map executed_attempt items) ≡ length items = length-map items executed_attempt in
+      ap (λ (qs : List ExecutedAttempt). along (take (end - first) (drop first qs))) all
+      ∙ ap along (part (map executed_attempt items) (map executed_attempt (attempts_among rest)) first (end - first)
+      (omega arith) (omega arith))
+      ∙ ap along (drop-map executed_attempt first items ∙ ap (map executed_attempt) (sym judged.pending))
       ∙ open_noted t e judged.front at r rest judged.split limits right
 
   pub marked_open : HasLimits t → IsRightSection t e → SettledAreSound t e
-      → marked unmarked (noted_between rans first end) ≡ written_in (committed_rows t (state_after start judged.front)) (noted_between rans first end)
+      → marked unmarked (noted_between executed_attempts first end)
+      ≡ written_in (committed_rows t (state_after start judged.front)) (noted_between executed_attempts first end)
   marked_open limits right sound =
       let s = state_after start judged.front in
-      subst (λ (es : List Entry). marked unmarked es ≡ written_in (committed_rows t s) es) (sym (noted_open limits right))
-      (first_writes (committed_rows t s) (executions t (attempts_of s.pending)) (follows_committed t e judged.front at r rest judged.split sound))
+      subst (λ (es : List Entry). marked unmarked es ≡ written_in (committed_rows t s) es)
+      (sym (noted_open limits right))
+      (first_writes (committed_rows t s) (executions t (attempts_of s.pending))
+      (follows_committed t e judged.front at r rest judged.split sound))
 
   -- what was found of it is whether it is right
   pub found_is : (result : Bool) → HasLimits t → IsRightSection t e → SettledAreSound t e
-      → ((table : Table) → marked unmarked (noted_between rans first end) ≡ written_in table (noted_between rans first end) → result ≡ are_written_in table (noted_between rans first end) r.restores)
+      → ((table : Table) → marked unmarked (noted_between executed_attempts first end)
+      ≡ written_in table (noted_between executed_attempts first end)
+      → result ≡ are_written_in table (noted_between executed_attempts first end) r.restores)
       → result ≡ are_right_restores t (state_after start judged.front) r.restores
   found_is result limits right sound found =
       let s = state_after start judged.front in
-      found (committed_rows t s) (marked_open limits right sound) ∙ ap (λ (es : List Entry). are_written_in (committed_rows t s) es r.restores) (noted_open limits right)
+      found (committed_rows t s) (marked_open limits right sound)
+      ∙ ap (λ (es : List Entry). are_written_in (committed_rows t s) es r.restores) (noted_open limits right)
 
-  pub all_there : end ≤ length rans
+  pub all_there : end ≤ length executed_attempts
   all_there =
-      let long = ap length (ap attempts_among judged.split ∙ attempts_among-append judged.front ((at, RollsBack r) ∷ rest)) ∙ length-append (attempts_among judged.front) (attempts_among rest) in
+      let long = ap length (ap attempts_among judged.split
+      ∙ attempts_among-append judged.front ((at, RollsBack r) ∷ rest))
+      ∙ length-append (attempts_among judged.front) (attempts_among rest) in
       let came : length (attempts_among judged.front) ≡ end = judged.came in
-      omega (arith, length-map (attempts_among (steps_at t e)) ran)
+      omega (arith, length-map (attempts_among (steps_at t e)) executed_attempt)
 
-  pub judged_rollback : (SettledAreSound t e → are_right_restores t (state_after start judged.front) r.restores ≡ true) → HasJudged t e rest end end
+  pub judged_rollback : (SettledAreSound t e → are_right_restores t (state_after start judged.front) r.restores ≡ true)
+      → HasJudged t e rest end end
   judged_rollback right =
-      let more : attempts_among (judged.front ++ (at, RollsBack r) ∷ []) ≡ attempts_among judged.front = attempts_among-append judged.front ((at, RollsBack r) ∷ []) ∙ append-nil (attempts_among judged.front) in
+      let more : attempts_among (judged.front ++ (at, RollsBack r) ∷ []) ≡ attempts_among judged.front =
+      attempts_among-append judged.front ((at, RollsBack r) ∷ []) ∙ append-nil (attempts_among judged.front) in
       record {
         front = judged.front ++ (at, RollsBack r) ∷ [];
         split = one_more t e (at, RollsBack r) rest first end judged;
         came = ap length more ∙ judged.came;
         fewer = omega arith;
-        pending = ap (λ (o : SectionState). map placed_at o.pending) (state_next t e (at, RollsBack r) rest first end judged)
-            ∙ sym (ap (drop end) more ∙ drop_all end (attempts_among judged.front) (let came : length (attempts_among judged.front) ≡ end = judged.came in omega arith));
+        pending = ap (λ (o : SectionState). map placed_at o.pending)
+            (state_next t e (at, RollsBack r) rest first end judged)
+            ∙ sym (ap (drop end) more
+            ∙ drop_all end (attempts_among judged.front) (let came : length (attempts_among judged.front)
+            ≡ end = judged.came in omega arith));
         rightly = λ sound. rightly-push t start judged.front (at, RollsBack r) (judged.rightly sound) (right sound);
       }
 
   -- its restores are within the limits
-  pub restores_fit : HasLimits t → IsTrue (list_all (is_restore (2 * length t.customers)) r.restores) × IsTrue (is_rising r.restores)
+  pub restores_fit : HasLimits t → IsTrue (list_all (is_restore (2 * length t.customers)) r.restores)
+      × IsTrue (is_rising r.restores)
   restores_fit limits =
       let fits : IsTrue (is_rollback (row_count (head_of t)) r) =
       each_step (λ x. is_step (row_count (head_of t)) x.1) judged.front (at, RollsBack r) rest
-      (subst (λ (xs : List (ℕ × Step)). IsTrue (list_all (λ x. is_step (row_count (head_of t)) x.1) xs)) judged.split (come_start t e limits).fit) in
+      (subst (λ (xs : List (ℕ × Step)). IsTrue (list_all (λ x. is_step (row_count (head_of t)) x.1) xs)) judged.split
+      (come_start t e limits).fit) in
       let one = and_parts (is_number 4 r.to) _ fits in
-      let two = and_parts (is_number 4 r.view) (is_rising r.restores && list_all (is_restore (row_count (head_of t))) r.restores) one.1 in
+      let two = and_parts (is_number 4 r.view)
+      (is_rising r.restores && list_all (is_restore (row_count (head_of t))) r.restores) one.1 in
       let three = and_parts (is_rising r.restores) (list_all (is_restore (row_count (head_of t))) r.restores) two.1 in
       (three.1, three.0)
 
@@ -255,7 +326,8 @@ abbrev pub IsWrong : Trace → SectionState → List (ℕ × Step) → ℕ × St
 IsWrong t s before step = OfRollback step.1 (λ r. IsFalse (are_right_restores t (state_after s before) r.restores))
 
 -- none is wrong among steps that restore rightly
-none_wrong : (t : Trace) (s : SectionState) (steps : List (ℕ × Step)) → all_restore_rightly t s steps ≡ true → SomePlace steps (IsWrong t s) → ⊥
+none_wrong : (t : Trace) (s : SectionState) (steps : List (ℕ × Step)) → all_restore_rightly t s steps ≡ true
+    → SomePlace steps (IsWrong t s) → ⊥
 none_wrong t s [] rightly place = no_place _ place
 none_wrong t s (x ∷ steps) rightly place =
     let parts = and_parts (restores_rightly t s x.1) (all_restore_rightly t (next s x) steps) rightly in
@@ -264,7 +336,8 @@ none_wrong t s (x ∷ steps) rightly place =
       | inr there ↦ none_wrong t (next s x) steps parts.1 there
     ]
   where
-    own : (step : Step) → restores_rightly t s step ≡ true → OfRollback step (λ r. IsFalse (are_right_restores t s r.restores)) → ⊥
+    own : (step : Step) → restores_rightly t s step ≡ true
+        → OfRollback step (λ r. IsFalse (are_right_restores t s r.restores)) → ⊥
     own (Attempts a) right wrong = wrong
     own (Commits c) right wrong = wrong
     own (RollsBack r) right wrong = false≢true (sym wrong ∙ right)
@@ -273,54 +346,75 @@ pub faultless : (t : Trace) (e : ℕ) → RestoresAreRight t e → (f : Fault) �
 faultless t e right f is = by f.code is.stands
   where
     by : (c : Code) → StandsInRestores c t e f.offset → ⊥
-    by code.Restore stands = none_wrong t start (steps_at t e) right (weaker_place _ (IsWrong t start) (steps_at t e) (λ b y h. h.1) stands)
+    by code.Restore stands = none_wrong t start (steps_at t e) right
+        (weaker_place _ (IsWrong t start) (steps_at t e) (λ b y h. h.1) stands)
     by _ stands = absurd stands
 
 steps_rising : (t : Trace) (e : ℕ) → Rising (section_start t e + length (frame_text (OfReplica e))) (steps_at t e)
 unfolding steps_at
 steps_rising t e = located_rising step_text (section_start t e + length (frame_text (OfReplica e))) (steps_of t e)
 
-pub wrong_is_least : (t : Trace) (e at : ℕ) (r : Rollback) (rest : List (ℕ × Step)) (first end : ℕ) (judged : HasJudged t e ((at, RollsBack r) ∷ rest) first end)
-    → SettledAreSound t e → are_right_restores t (state_after start judged.front) r.restores ≡ false → IsLeast (IsRestoreFault t e) (record { code = code.Restore; offset = at; replica = Some e })
+pub wrong_is_least : (t : Trace) (e at : ℕ) (r : Rollback) (rest : List (ℕ × Step)) (first end : ℕ)
+    (judged : HasJudged t e ((at, RollsBack r) ∷ rest) first end)
+    → SettledAreSound t e → are_right_restores t (state_after start judged.front) r.restores ≡ false
+    → IsLeast (IsRestoreFault t e) (record { code = code.Restore; offset = at; replica = Some e })
 wrong_is_least t e at r rest first end judged sound wrong = record {
-  is = record { stands = record { before = judged.front; item = (at, RollsBack r); rest = rest; is = judged.split; holds = (refl, wrong) }; inside = refl };
+  is = record {
+    stands = record {
+      before = judged.front;
+      item = (at, RollsBack r);
+      rest = rest;
+      is = judged.split;
+      holds = (refl, wrong);
+    };
+    inside = refl;
+  };
   least = λ g other. by g g.code refl other.stands;
 }
   where
     lesser : (m n : ℕ) → m ≤ n → (m < n) ⊎ (m ≡ n)
     lesser m n le = elim (cases_lt m n) [ inl lt ↦ inl lt | inr ge ↦ inr (omega arith) ]
 
-    by : (g : Fault) (c : Code) → g.code ≡ c → StandsInRestores c t e g.offset → IsUpTo (record { code = code.Restore; offset = at; replica = Some e }) g
+    by : (g : Fault) (c : Code) → g.code ≡ c → StandsInRestores c t e g.offset
+        → IsUpTo (record { code = code.Restore; offset = at; replica = Some e }) g
     by g code.Restore is stands =
         let low = section_start t e + length (frame_text (OfReplica e)) in
         let le : at ≤ g.offset =
-        first_place (IsWrong t start) low g.offset judged.front (at, RollsBack r) rest (subst (Rising low) judged.split (steps_rising t e))
-        (none_wrong t start judged.front (judged.rightly sound)) (subst (λ (xs : List (ℕ × Step)). SomePlace xs (At g.offset (IsWrong t start))) judged.split stands) in
-        let same : number_of code.Restore ≤ number_of g.code = subst (λ (d : Code). number_of code.Restore ≤ number_of d) (sym is) (omega arith) in
+        first_place (IsWrong t start) low g.offset judged.front (at, RollsBack r) rest
+        (subst (Rising low) judged.split (steps_rising t e))
+        (none_wrong t start judged.front (judged.rightly sound))
+        (subst (λ (xs : List (ℕ × Step)). SomePlace xs (At g.offset (IsWrong t start))) judged.split stands) in
+        let same : number_of code.Restore ≤ number_of g.code =
+        subst (λ (d : Code). number_of code.Restore ≤ number_of d) (sym is) (omega arith) in
         elim (lesser at g.offset le) [ inl lt ↦ inl lt | inr eq ↦ inr (eq, same) ]
     by g _ is stands = absurd stands
 
 pub judged_end : (t : Trace) (e first end : ℕ) → HasJudged t e [] first end → SettledAreSound t e → RestoresAreRight t e
-judged_end t e first end judged sound = subst (λ (xs : List (ℕ × Step)). all_restore_rightly t start xs ≡ true) (sym (judged.split ∙ append-nil judged.front)) (judged.rightly sound)
+judged_end t e first end judged sound = subst (λ (xs : List (ℕ × Step)). all_restore_rightly t start xs ≡ true)
+    (sym (judged.split ∙ append-nil judged.front)) (judged.rightly sound)
 
 -- ---- where there is no rollback
 
-none_rolled : (t : Trace) (s : SectionState) (steps : List (ℕ × Step)) → length (rollbacks_among steps) ≡ 0 → all_restore_rightly t s steps ≡ true
+none_rolled : (t : Trace) (s : SectionState) (steps : List (ℕ × Step)) → length (rollbacks_among steps) ≡ 0
+    → all_restore_rightly t s steps ≡ true
 none_rolled t s [] none = refl
 none_rolled t s ((at, Attempts a) ∷ steps) none = none_rolled t (next s (at, Attempts a)) steps none
 none_rolled t s ((at, Commits c) ∷ steps) none = none_rolled t (next s (at, Commits c)) steps none
 none_rolled t s ((at, RollsBack r) ∷ steps) none = absurd (omega arith)
 
-pub right_without : (t : Trace) (e : ℕ) → length (telling t e).rollbacks ≡ 0 → RestoresAreRight t e
-unfolding telling
+pub right_without : (t : Trace) (e : ℕ) → length (section_history t e).rollbacks ≡ 0 → RestoresAreRight t e
+unfolding section_history
 right_without t e none = none_rolled t start (steps_at t e) none
 
 -- where there is one the section is there
-pub section_there : (t : Trace) (e : ℕ) → (length (telling t e).rollbacks ≡ 0 → ⊥) → e < length t.sections
-unfolding telling steps_at
+pub section_there : (t : Trace) (e : ℕ) → (length (section_history t e).rollbacks ≡ 0 → ⊥) → e < length t.sections
+unfolding section_history steps_at
 section_there t e some = elim (cases_lt e (length t.sections)) [
   | inl lt ↦ lt
-  | inr ge ↦ absurd (some (ap (λ (xs : List Step). length (rollbacks_among (located step_text (section_start t e + length (frame_text (OfReplica e))) xs))) (past t.sections e ge)))
+  | inr ge ↦ absurd (some (ap
+      (λ (xs : List Step). length
+      (rollbacks_among (located step_text (section_start t e + length (frame_text (OfReplica e))) xs)))
+      (past t.sections e ge)))
 ]
   where
     past : (xs : List (List Step)) (n : ℕ) → length xs ≤ n → slice_index_or xs n [] ≡ []
@@ -328,8 +422,9 @@ section_there t e some = elim (cases_lt e (length t.sections)) [
     past (x ∷ xs) zero le = absurd (omega arith)
     past (x ∷ xs) (suc n) le = past xs n (omega arith)
 
-pub told_attempts : (t : Trace) (e : ℕ) → (telling t e).attempts ≡ map ran (attempts_among (steps_at t e))
-unfolding telling
+pub told_attempts : (t : Trace) (e : ℕ) → (section_history t e).attempts
+    ≡ map executed_attempt (attempts_among (steps_at t e))
+unfolding section_history
 told_attempts t e = refl
 
 -- ---- within the limits
@@ -341,66 +436,88 @@ entries_within rows x fits =
     let three = and_parts (is_number 2 x.index) _ two.1 in
     (and_parts _ (list_all (is_entry rows) x.entries) three.1).1
 
-access_within : (rows : ℕ) (text : Access → List ℕ) (at : ℕ) (xs : List Access) (i : ℕ) → IsTrue (list_all (is_access rows) xs) → IsTrue (list_all (is_entry rows) (access_with (located text at xs) i).1.entries)
+access_within : (rows : ℕ) (text : Access → List ℕ) (at : ℕ) (xs : List Access) (i : ℕ)
+    → IsTrue (list_all (is_access rows) xs)
+    → IsTrue (list_all (is_entry rows) (access_with (located text at xs) i).1.entries)
 access_within rows text at [] i fits = refl
 access_within rows text at (x ∷ xs) i fits =
     let parts = and_parts (is_access rows x) (list_all (is_access rows) xs) fits in
     by (x.index == i) (entries_within rows x parts.0) (access_within rows text (at + length (text x)) xs i parts.1)
   where
-    by : (b : Bool) → IsTrue (list_all (is_entry rows) x.entries) → IsTrue (list_all (is_entry rows) (access_with (located text (at + length (text x)) xs) i).1.entries)
-        → IsTrue (list_all (is_entry rows) (cond b (at, x) (access_with (located text (at + length (text x)) xs) i)).1.entries)
+    by : (b : Bool) → IsTrue (list_all (is_entry rows) x.entries)
+        → IsTrue (list_all (is_entry rows) (access_with (located text (at + length (text x)) xs) i).1.entries)
+        → IsTrue (list_all (is_entry rows)
+        (cond b (at, x) (access_with (located text (at + length (text x)) xs) i)).1.entries)
     by true own later = own
     by false own later = later
 
-ordered_within : (rows at : ℕ) (a : Attempt) → IsTrue (list_all (is_access rows) a.accesses) → AreWithin rows (ordered at a)
+ordered_within : (rows at : ℕ) (a : Attempt) → IsTrue (list_all (is_access rows) a.accesses)
+    → AreWithin rows (ordered at a)
 ordered_within rows at a fits = by a.certificate
   where
     by : (order : List ℕ) → AreWithin rows (map (access_with (accesses_at at a)) order)
     by [] = refl
-    by (i ∷ order) = and_from (list_all (is_entry rows) (access_with (accesses_at at a) i).1.entries) (list_all (λ x. list_all (is_entry rows) x.1.entries) (map (access_with (accesses_at at a)) order))
-        (access_within rows (λ x. frame_text (OfAccess x)) (at + length (frame_text (AttemptFrame a))) a.accesses i fits) (by order)
+    by (i ∷ order) = and_from (list_all (is_entry rows) (access_with (accesses_at at a) i).1.entries)
+        (list_all (λ x. list_all (is_entry rows) x.1.entries) (map (access_with (accesses_at at a)) order))
+        (access_within rows (λ x. frame_text (OfAccess x)) (at + length (frame_text (AttemptFrame a))) a.accesses i
+        fits) (by order)
 
-rans_within : (rows : ℕ) (steps : List (ℕ × Step)) → IsTrue (list_all (λ x. is_step rows x.1) steps) → AllByRecursion (λ r. AreWithin rows r.ordered) (map ran (attempts_among steps))
-rans_within rows [] fits = tt
-rans_within rows ((at, Attempts a) ∷ steps) fits =
+executed_attempts_within : (rows : ℕ) (steps : List (ℕ × Step)) → IsTrue (list_all (λ x. is_step rows x.1) steps)
+    → AllByRecursion (λ r. AreWithin rows r.ordered) (map executed_attempt (attempts_among steps))
+executed_attempts_within rows [] fits = tt
+executed_attempts_within rows ((at, Attempts a) ∷ steps) fits =
     let parts = and_parts (is_step rows (Attempts a)) (list_all (λ x. is_step rows x.1) steps) fits in
     let whole = and_parts (is_attempt a) _ parts.0 in
     let own = and_parts (length a.accesses == length a.certificate) (list_all (is_access rows) a.accesses) whole.1 in
-    (ordered_within rows at a own.1, rans_within rows steps parts.1)
-rans_within rows ((at, Commits c) ∷ steps) fits = rans_within rows steps (and_parts (is_step rows (Commits c)) (list_all (λ x. is_step rows x.1) steps) fits).1
-rans_within rows ((at, RollsBack r) ∷ steps) fits = rans_within rows steps (and_parts (is_step rows (RollsBack r)) (list_all (λ x. is_step rows x.1) steps) fits).1
+    (ordered_within rows at a own.1, executed_attempts_within rows steps parts.1)
+executed_attempts_within rows ((at, Commits c) ∷ steps) fits = executed_attempts_within rows steps
+    (and_parts (is_step rows (Commits c)) (list_all (λ x. is_step rows x.1) steps) fits).1
+executed_attempts_within rows ((at, RollsBack r) ∷ steps) fits = executed_attempts_within rows steps
+    (and_parts (is_step rows (RollsBack r)) (list_all (λ x. is_step rows x.1) steps) fits).1
 
-pub attempts_within : (t : Trace) (e : ℕ) → HasLimits t → AllByRecursion (λ r. AreWithin (2 * length t.customers) r.ordered) (map ran (attempts_among (steps_at t e)))
-attempts_within t e limits = rans_within (row_count (head_of t)) (steps_at t e) (come_start t e limits).fit
+pub attempts_within : (t : Trace) (e : ℕ) → HasLimits t
+    → AllByRecursion (λ r. AreWithin (2 * length t.customers) r.ordered)
+    (map executed_attempt (attempts_among (steps_at t e)))
+attempts_within t e limits = executed_attempts_within (row_count (head_of t)) (steps_at t e) (come_start t e limits).fit
 
 -- ---- what is told
 
-module _ (t : Trace) (h : Telling) (told : h ≡ telling t h.replica) where
+module _ (t : Trace) (h : SectionHistory) (told : h ≡ section_history t h.replica) where
   pub right_told : length h.rollbacks ≡ 0 → RestoresAreRight t h.replica
-  right_told none = right_without t h.replica (ap (λ (x : Telling). length x.rollbacks) (sym told) ∙ none)
+  right_told none = right_without t h.replica (ap (λ (x : SectionHistory). length x.rollbacks) (sym told) ∙ none)
 
   pub section_told : (length h.rollbacks ≡ 0 → ⊥) → h.replica < length t.sections
-  section_told some = section_there t h.replica (λ none. some (ap (λ (x : Telling). length x.rollbacks) told ∙ none))
+  section_told some = section_there t h.replica
+      (λ none. some (ap (λ (x : SectionHistory). length x.rollbacks) told ∙ none))
 
-  attempts_told : h.attempts ≡ map ran (attempts_among (steps_at t h.replica))
-  attempts_told = ap (λ (x : Telling). x.attempts) told ∙ told_attempts t h.replica
+  attempts_told : h.attempts ≡ map executed_attempt (attempts_among (steps_at t h.replica))
+  attempts_told = ap (λ (x : SectionHistory). x.attempts) told ∙ told_attempts t h.replica
 
-  pub within_told : (rows : ℕ) → HasLimits t → rows ≡ 2 * length t.customers → AllByRecursion (λ r. AreWithin rows r.ordered) h.attempts
+  pub within_told : (rows : ℕ) → HasLimits t → rows ≡ 2 * length t.customers
+      → AllByRecursion (λ r. AreWithin rows r.ordered) h.attempts
   within_told rows limits many =
       subst (λ (n : ℕ). AllByRecursion (λ r. AreWithin n r.ordered) h.attempts) (sym many)
-      (subst (λ (rs : List Ran). AllByRecursion (λ r. AreWithin (2 * length t.customers) r.ordered) rs) (sym attempts_told) (attempts_within t h.replica limits))
+      (subst (λ (rs : List ExecutedAttempt). AllByRecursion (λ r. AreWithin (2 * length t.customers) r.ordered) rs)
+      (sym attempts_told) (attempts_within t h.replica limits))
 
   pub attempt_told : (end : ℕ) → end < length (attempts_among (steps_at t h.replica)) → end < length h.attempts
-  attempt_told end lt = subst (λ (n : ℕ). end < n) (sym (ap length attempts_told ∙ length-map (attempts_among (steps_at t h.replica)) ran)) lt
+  attempt_told end lt = subst (λ (n : ℕ). end < n)
+      (sym (ap length attempts_told ∙ length-map (attempts_among (steps_at t h.replica)) executed_attempt)) lt
 
   -- a rollback of the section
-  module _ (at : ℕ) (r : Rollback) (rest : List (ℕ × Step)) (first end : ℕ) (judged : HasJudged t h.replica ((at, RollsBack r) ∷ rest) first end) where
+  module _ (at : ℕ) (r : Rollback) (rest : List (ℕ × Step)) (first end : ℕ)
+      (judged : HasJudged t h.replica ((at, RollsBack r) ∷ rest) first end) where
     pub there_told : end ≤ length h.attempts
-    there_told = subst (λ (rs : List Ran). end ≤ length rs) (sym attempts_told) (all_there t h.replica at r rest first end judged)
+    there_told = subst (λ (rs : List ExecutedAttempt). end ≤ length rs) (sym attempts_told)
+        (all_there t h.replica at r rest first end judged)
 
     pub found_told : (result : Bool) → HasLimits t → IsRightSection t h.replica → SettledAreSound t h.replica
-        → ((table : Table) → marked unmarked (noted_between h.attempts first end) ≡ written_in table (noted_between h.attempts first end) → result ≡ are_written_in table (noted_between h.attempts first end) r.restores)
+        → ((table : Table) → marked unmarked (noted_between h.attempts first end)
+        ≡ written_in table (noted_between h.attempts first end)
+        → result ≡ are_written_in table (noted_between h.attempts first end) r.restores)
         → result ≡ are_right_restores t (state_after start judged.front) r.restores
     found_told result limits right sound found =
         found_is t h.replica at r rest first end judged result limits right sound
-        (subst (λ (rs : List Ran). (table : Table) → marked unmarked (noted_between rs first end) ≡ written_in table (noted_between rs first end) → result ≡ are_written_in table (noted_between rs first end) r.restores) attempts_told found)
+        (subst (λ (rs : List ExecutedAttempt). (table : Table) → marked unmarked (noted_between rs first end)
+        ≡ written_in table (noted_between rs first end)
+        → result ≡ are_written_in table (noted_between rs first end) r.restores) attempts_told found)

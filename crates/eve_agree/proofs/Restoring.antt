@@ -1,5 +1,6 @@
 -- After a rollback that restores what it must a replica works on what is committed.
-use Rattle.std.proofs.Common.{◌≡◌, ℕ, zero, suc, Bool, true, false, cond, ◌==◌, List, [], ◌∷◌, ◌++◌, take, slice_get, Option, Some, None, refl, sym, ap, ◌∙◌, inl, inr, append_assoc, append-nil}
+use Rattle.std.proofs.Common.{◌≡◌, ℕ, zero, suc, Bool, true, false, cond, ◌==◌, List, [], ◌∷◌, ◌++◌, take, slice_get}
+use Rattle.std.proofs.Common.{Option, Some, None, refl, sym, ap, ◌∙◌, inl, inr, append_assoc, append-nil}
 use mathlib.Core.Path.{fun_ext}
 use Rattle.std.specs.List.{list_all, list_any}
 use Rattle.std.specs.Ordering.{int_eq}
@@ -17,7 +18,9 @@ use Rattle.eve_history.specs.Section.{Placed, SectionState, start, path_of, comm
 use Rattle.eve_chains.specs.Visible.{opening_table, execution, executions}
 use Rattle.eve_chains.specs.Committed.{attempts_of}
 use Rattle.eve_agree.specs.Marking.{has_row}
-use Rattle.eve_agree.specs.Tables.{restored, worked, committed_rows, working_table, committed_table, IsRestored, entries_of, open_entries, is_right_restore, are_right_restores, all_restore_rightly, RestoresAreRight}
+use Rattle.eve_agree.specs.Tables.{restored, worked, committed_rows, working_table, committed_table, IsRestored}
+use Rattle.eve_agree.specs.Tables.{entries_of, open_entries, is_right_restore, are_right_restores, all_restore_rightly}
+use Rattle.eve_agree.specs.Tables.{RestoresAreRight}
 use Rattle.eve_agree.proofs.Marking.{is_covered, not_covered, unwritten}
 use Rattle.eve_agree.proofs.Discarding.{table_after_all-append}
 
@@ -29,7 +32,8 @@ list_all_at p (x ∷ xs) h here = (and_parts (p x) (list_all p xs) h).0
 list_all_at p (y ∷ xs) h (there i) = list_all_at p xs (and_parts (p y) (list_all p xs) h).1 i
 
 -- a row that is not restored
-restored_not : (table : Table) (row : ℕ) (rs : List Restore) → has_row row rs ≡ false → restored table rs row ≡ table row
+restored_not : (table : Table) (row : ℕ) (rs : List Restore) → has_row row rs ≡ false → restored table rs row
+    ≡ table row
 restored_not table row [] h = refl
 restored_not table row (r ∷ rs) h =
     let parts = or_parts (r.row == row) (has_row row rs) h in
@@ -38,7 +42,8 @@ restored_not table row (r ∷ rs) h =
 
 -- a restored row has what some restore of it says
 restored_row : (table : Table) (row : ℕ) (rs : List Restore) → has_row row rs ≡ true
-    → (r : Restore) × In r rs × (r.row ≡ row) × (restored table rs row ≡ record { version = r.version; value = r.value })
+    → (r : Restore) × In r rs × (r.row ≡ row)
+    × (restored table rs row ≡ record { version = r.version; value = r.value })
 restored_row table row [] h = absurd (false≢true h)
 restored_row table row (r ∷ rs) h =
     let set : Table = λ q. cond (r.row == q) (record { version = r.version; value = r.value }) (table q) in
@@ -51,19 +56,23 @@ restored_row table row (r ∷ rs) h =
           r,
           here,
           eqb-true r.row row same,
-          restored_not set row rs none ∙ ap (λ b. cond b (record { version = r.version; value = r.value }) (table row)) same,
+          restored_not set row rs none ∙ ap (λ b. cond b (record { version = r.version; value = r.value }) (table row))
+              same,
         )
         | inr later ↦ absurd (false≢true (sym none ∙ later))
       ]
     ]
 
-unwritten_all : (table : Table) (row : ℕ) (xs : List Executed) → list_any (writes_row row) (entries_of xs) ≡ false → table_after_all table xs row ≡ table row
+unwritten_all : (table : Table) (row : ℕ) (xs : List Executed) → list_any (writes_row row) (entries_of xs) ≡ false
+    → table_after_all table xs row ≡ table row
 unwritten_all table row [] h = refl
 unwritten_all table row (x ∷ xs) h =
-    let parts = or_parts (list_any (writes_row row) x.entries) (list_any (writes_row row) (entries_of xs)) (sym (list_any-append (writes_row row) x.entries (entries_of xs)) ∙ h) in
+    let parts = or_parts (list_any (writes_row row) x.entries) (list_any (writes_row row) (entries_of xs))
+    (sym (list_any-append (writes_row row) x.entries (entries_of xs)) ∙ h) in
     unwritten_all (table_after table x.entries) row xs parts.1 ∙ unwritten table x.entries row parts.0
 
-same_versioned : (r : Restore) (v : Versioned) → r.version ≡ v.version → r.value ≡ v.value → ◌≡◌ {A = Versioned} (record { version = r.version; value = r.value }) v
+same_versioned : (r : Restore) (v : Versioned) → r.version ≡ v.version → r.value ≡ v.value
+    → ◌≡◌ {A = Versioned} (record { version = r.version; value = r.value }) v
 same_versioned r v e f = λ i. record { version = e i; value = f i }
 
 module _ (t : Trace) (s : SectionState) (rs : List Restore) (right : are_right_restores t s rs ≡ true) where
@@ -80,16 +89,20 @@ module _ (t : Trace) (s : SectionState) (rs : List Restore) (right : are_right_r
     | inr nowhere ↦ nowhere
   ]
 
-  restored_rows : restored (table_after_all (committed_rows t s) (executions t (attempts_of s.pending))) rs ≡ committed_rows t s
+  restored_rows : restored (table_after_all (committed_rows t s) (executions t (attempts_of s.pending))) rs
+      ≡ committed_rows t s
   restored_rows = fun_ext (λ row.
       let work : Table = table_after_all (committed_rows t s) (executions t (attempts_of s.pending)) in
       elim (cases_Bool (has_row row rs)) [
         | inl some ↦
             let found = restored_row work row rs some in
-            let own = and_parts (found.0.version == (committed_rows t s found.0.row).version) (int_eq found.0.value (committed_rows t s found.0.row).value)
-            (and_parts (list_any (writes_row found.0.row) (open_entries t s)) _ (list_all_at (is_right_restore t s) rs exact found.1)).1 in
+            let own = and_parts (found.0.version == (committed_rows t s found.0.row).version)
+            (int_eq found.0.value (committed_rows t s found.0.row).value)
+            (and_parts (list_any (writes_row found.0.row) (open_entries t s)) _
+            (list_all_at (is_right_restore t s) rs exact found.1)).1 in
             found.3
-            ∙ same_versioned found.0 (committed_rows t s found.0.row) (eqb-true found.0.version (committed_rows t s found.0.row).version own.0)
+            ∙ same_versioned found.0 (committed_rows t s found.0.row)
+            (eqb-true found.0.version (committed_rows t s found.0.row).version own.0)
             ((Decides-int_eq found.0.value (committed_rows t s found.0.row).value).0 own.1)
             ∙ ap (committed_rows t s) found.2
         | inr none ↦ restored_not work row rs none
@@ -102,28 +115,35 @@ module _ (t : Trace) (s : SectionState) (rs : List Restore) (right : are_right_r
 abbrev line_rows : Trace → List Placed → Table
 line_rows t ps = table_after_all (opening_table t) (executions t (attempts_of ps))
 
-line_rows-append : (t : Trace) (ps qs : List Placed) → line_rows t (ps ++ qs) ≡ table_after_all (line_rows t ps) (executions t (attempts_of qs))
+line_rows-append : (t : Trace) (ps qs : List Placed) → line_rows t (ps ++ qs)
+    ≡ table_after_all (line_rows t ps) (executions t (attempts_of qs))
 line_rows-append t ps qs =
-    ap (λ (path : List Attempt). table_after_all (opening_table t) (executions t path)) (map-append (λ (p : Placed). p.attempt) ps qs)
+    ap (λ (path : List Attempt). table_after_all (opening_table t) (executions t path))
+    (map-append (λ (p : Placed). p.attempt) ps qs)
     ∙ ap (table_after_all (opening_table t)) (flat_map-append (execution t) (attempts_of ps) (attempts_of qs))
     ∙ table_after_all-append (opening_table t) (executions t (attempts_of ps)) (executions t (attempts_of qs))
 
 abbrev along : Trace → SectionState → Table
 along t s = line_rows t (s.committed ++ s.pending)
 
-along_committing : (t : Trace) (s : SectionState) (pending : List Placed) → s.pending ≡ pending → along t s ≡ along t (committing s pending)
+along_committing : (t : Trace) (s : SectionState) (pending : List Placed) → s.pending ≡ pending → along t s
+    ≡ along t (committing s pending)
 along_committing t s [] e = refl
-along_committing t s (p ∷ ps) e = ap (line_rows t) (ap (λ qs. s.committed ++ qs) e ∙ sym (append_assoc s.committed (p ∷ []) ps))
+along_committing t s (p ∷ ps) e =
+    ap (line_rows t) (ap (λ qs. s.committed ++ qs) e ∙ sym (append_assoc s.committed (p ∷ []) ps))
 
-along_pushed : (t : Trace) (s : SectionState) (at : ℕ) (a : Attempt) → table_after_all (along t s) (execution t a) ≡ along t (next s (at, Attempts a))
+along_pushed : (t : Trace) (s : SectionState) (at : ℕ) (a : Attempt) → table_after_all (along t s) (execution t a)
+    ≡ along t (next s (at, Attempts a))
 along_pushed t s at a =
     let placed : Placed = record { offset = at; attempt = a; path = path_of s } in
     sym (ap (line_rows t) (sym (append_assoc s.committed s.pending (placed ∷ [])))
     ∙ line_rows-append t (s.committed ++ s.pending) (placed ∷ [])
     ∙ ap (table_after_all (along t s)) (append-nil (execution t a)))
 
-along_restored : (t : Trace) (s : SectionState) (rs : List Restore) → are_right_restores t s rs ≡ true → restored (along t s) rs ≡ line_rows t s.committed
-along_restored t s rs right = ap (λ (table : Table). restored table rs) (line_rows-append t s.committed s.pending) ∙ restored_rows t s rs right
+along_restored : (t : Trace) (s : SectionState) (rs : List Restore) → are_right_restores t s rs ≡ true
+    → restored (along t s) rs ≡ line_rows t s.committed
+along_restored t s rs right = ap (λ (table : Table). restored table rs) (line_rows-append t s.committed s.pending)
+    ∙ restored_rows t s rs right
 
 found_step : (x y : ℕ × Step) → Some x ≡ Some y → x.1 ≡ y.1
 found_step x y e = ap (λ (p : ℕ × Step). p.1) (same x y e)
@@ -141,23 +161,30 @@ none_found : (x : ℕ × Step) → ◌≡◌ {A = Option (ℕ × Step)} None (So
 none_found x e = cc
 
 -- what the replica works on is what its attempts leave that are not discarded
-works_along : (t : Trace) (s : SectionState) (table : Table) (steps : List (ℕ × Step)) (k at : ℕ) (r : Rollback) → all_restore_rightly t s steps ≡ true → table ≡ along t s
-    → slice_get steps k ≡ Some (at, RollsBack r) → worked t table (take (suc k) steps) ≡ committed_rows t (state_after s (take (suc k) steps))
+works_along : (t : Trace) (s : SectionState) (table : Table) (steps : List (ℕ × Step)) (k at : ℕ) (r : Rollback)
+    → all_restore_rightly t s steps ≡ true → table ≡ along t s
+    → slice_get steps k ≡ Some (at, RollsBack r) → worked t table (take (suc k) steps)
+    ≡ committed_rows t (state_after s (take (suc k) steps))
 works_along t s table [] k at r right e found = absurd (none_found (at, RollsBack r) found)
-works_along t s table ((o, Attempts a) ∷ steps) zero at r right e found = absurd (no_rollback a r (found_step (o, Attempts a) (at, RollsBack r) found))
-works_along t s table ((o, Commits c) ∷ steps) zero at r right e found = absurd (no_rollback_commit c r (found_step (o, Commits c) (at, RollsBack r) found))
+works_along t s table ((o, Attempts a) ∷ steps) zero at r right e found =
+    absurd (no_rollback a r (found_step (o, Attempts a) (at, RollsBack r) found))
+works_along t s table ((o, Commits c) ∷ steps) zero at r right e found =
+    absurd (no_rollback_commit c r (found_step (o, Commits c) (at, RollsBack r) found))
 works_along t s table ((o, RollsBack q) ∷ steps) zero at r right e found =
     ap (λ (old : Table). restored old q.restores) e
-    ∙ along_restored t s q.restores (and_parts (are_right_restores t s q.restores) (all_restore_rightly t (next s (o, RollsBack q)) steps) right).0
+    ∙ along_restored t s q.restores
+    (and_parts (are_right_restores t s q.restores) (all_restore_rightly t (next s (o, RollsBack q)) steps) right).0
 works_along t s table ((o, Attempts a) ∷ steps) (suc k) at r right e found =
     works_along t (next s (o, Attempts a)) (table_after_all table (execution t a)) steps k at r right
     (ap (λ (old : Table). table_after_all old (execution t a)) e ∙ along_pushed t s o a) found
 works_along t s table ((o, Commits c) ∷ steps) (suc k) at r right e found =
     works_along t (next s (o, Commits c)) table steps k at r right (e ∙ along_committing t s s.pending refl) found
 works_along t s table ((o, RollsBack q) ∷ steps) (suc k) at r right e found =
-    let parts = and_parts (are_right_restores t s q.restores) (all_restore_rightly t (next s (o, RollsBack q)) steps) right in
+    let parts = and_parts (are_right_restores t s q.restores) (all_restore_rightly t (next s (o, RollsBack q)) steps)
+    right in
     works_along t (next s (o, RollsBack q)) (restored table q.restores) steps k at r parts.1
-    (ap (λ (old : Table). restored old q.restores) e ∙ along_restored t s q.restores parts.0 ∙ ap (line_rows t) (sym (append-nil s.committed))) found
+    (ap (λ (old : Table). restored old q.restores) e ∙ along_restored t s q.restores parts.0
+    ∙ ap (line_rows t) (sym (append-nil s.committed))) found
 
 pub restored_after : (t : Trace) (e : ℕ) → RestoresAreRight t e → (k : ℕ) → IsRestored t e k
 unfolding working_table committed_table

@@ -1,5 +1,6 @@
 -- The replies that were sent, one after another.
-use Rattle.std.proofs.Common.{◌≡◌, ℕ, zero, suc, ◌+◌, ◌<◌, ◌≤◌, List, [], ◌∷◌, ◌++◌, map, take, drop, length, slice_get, slice_index_or, Some, None, refl, sym, subst, ap, ◌∙◌, inl, inr, ◌⊎◌, arith, IsTrue}
+use Rattle.std.proofs.Common.{◌≡◌, ℕ, zero, suc, ◌+◌, ◌<◌, ◌≤◌, List, [], ◌∷◌, ◌++◌, map, take, drop, length, slice_get}
+use Rattle.std.proofs.Common.{slice_index_or, Some, None, refl, sym, subst, ap, ◌∙◌, inl, inr, ◌⊎◌, arith, IsTrue}
 use Rattle.std.specs.List.{AllByRecursion, list_all, enumerate_from}
 use Rattle.std.proofs.lemmas.Bool.{and_parts, cases_lt, ltb-true, leb-true}
 use Rattle.std.proofs.lemmas.Option.{get_or_from_slice_get}
@@ -12,8 +13,9 @@ use Rattle.eve_views.specs.declared.fault.Code.{Code}
 use Rattle.eve_views.specs.declared.fault.Code.TheVariants as code
 use Rattle.eve_views.specs.declared.fault.Fault.{Fault}
 use Rattle.eve_views.specs.Form.{SomePlace, IsLeast}
-use Rattle.eve_history.specs.Told.{Telling, telling, tellings}
-use Rattle.eve_history.proofs.Places.{no_place, place_cases, cut_at, Rising, located_rising, At, first_place, weaker_place}
+use Rattle.eve_history.specs.SectionHistory.{SectionHistory, section_history, section_histories}
+use Rattle.eve_history.proofs.Places.{no_place, place_cases, cut_at, Rising, located_rising, At, first_place}
+use Rattle.eve_history.proofs.Places.{weaker_place}
 use Rattle.eve_chains.proofs.Linked.{some_injective, none≢some}
 use Rattle.eve_agree.specs.SentReplies.{IsReplied, AllReplied, StandsInReplies, IsReplyFault}
 
@@ -21,19 +23,24 @@ use Rattle.eve_agree.specs.SentReplies.{IsReplied, AllReplied, StandsInReplies, 
 abbrev pub IsUnreplied : Trace → List (ℕ × Sent) → ℕ × Sent → Type 0
 IsUnreplied t before s = ¬ IsReplied t s.1
 
-none_unreplied : (t : Trace) (text : Sent → List ℕ) (at : ℕ) (xs : List Sent) → AllByRecursion (IsReplied t) xs → SomePlace (located text at xs) (λ _ s. ¬ IsReplied t s.1) → ⊥
+none_unreplied : (t : Trace) (text : Sent → List ℕ) (at : ℕ) (xs : List Sent) → AllByRecursion (IsReplied t) xs
+    → SomePlace (located text at xs) (λ _ s. ¬ IsReplied t s.1) → ⊥
 none_unreplied t text at [] all place = no_place _ place
-none_unreplied t text at (x ∷ xs) all place = elim (place_cases (λ _ s. ¬ IsReplied t s.1) (at, x) (located text (at + length (text x)) xs) place) [
-  | inl here ↦ here all.0
-  | inr there ↦ none_unreplied t text (at + length (text x)) xs all.1 there
-]
+none_unreplied t text at (x ∷ xs) all place =
+    elim (place_cases (λ _ s. ¬ IsReplied t s.1) (at, x) (located text (at + length (text x)) xs) place) [
+      | inl here ↦ here all.0
+      | inr there ↦ none_unreplied t text (at + length (text x)) xs all.1 there
+    ]
 
-take_located : {A : Type 0} (text : A → List ℕ) (at i : ℕ) (xs : List A) → take i (located text at xs) ≡ located text at (take i xs)
+take_located : {A : Type 0} (text : A → List ℕ) (at i : ℕ) (xs : List A) → take i (located text at xs)
+    ≡ located text at (take i xs)
 take_located text at zero xs = refl
 take_located text at (suc i) [] = refl
-take_located {A = A} text at (suc i) (x ∷ xs) = ap (λ (ys : List (ℕ × A)). (at, x) ∷ ys) (take_located text (at + length (text x)) i xs)
+take_located {A = A} text at (suc i) (x ∷ xs) = ap (λ (ys : List (ℕ × A)). (at, x) ∷ ys)
+    (take_located text (at + length (text x)) i xs)
 
-of_located : {A : Type 0} (text : A → List ℕ) (at : ℕ) (xs : List A) (i o : ℕ) (x : A) → slice_get (located text at xs) i ≡ Some (o, x) → slice_get xs i ≡ Some x
+of_located : {A : Type 0} (text : A → List ℕ) (at : ℕ) (xs : List A) (i o : ℕ) (x : A)
+    → slice_get (located text at xs) i ≡ Some (o, x) → slice_get xs i ≡ Some x
 of_located text at [] i o x e = none≢some (o, x) e
 of_located {A} text at (y ∷ xs) zero o x e = ap (λ (p : ℕ × A). Some p.1) (some_injective (at, y) (o, x) e)
 of_located text at (y ∷ xs) (suc i) o x e = of_located text (at + length (text y)) xs i o x e
@@ -44,10 +51,13 @@ sent_there t i o s e = of_located (λ s. frame_text (OfSent s)) (sent_start t) t
 
 -- ---- all of them
 
-pub replied_more : (t : Trace) (i : ℕ) (s : Sent) → AllByRecursion (IsReplied t) (take i t.sent) → slice_get t.sent i ≡ Some s → IsReplied t s → AllByRecursion (IsReplied t) (take (i + 1) t.sent)
-replied_more t i s all at one = let next : suc i ≡ i + 1 = omega arith in subst (λ n. AllByRecursion (IsReplied t) (take n t.sent)) next (more t.sent i all at)
+pub replied_more : (t : Trace) (i : ℕ) (s : Sent) → AllByRecursion (IsReplied t) (take i t.sent) → slice_get t.sent i
+    ≡ Some s → IsReplied t s → AllByRecursion (IsReplied t) (take (i + 1) t.sent)
+replied_more t i s all at one = let next : suc i ≡ i + 1 = omega arith in
+    subst (λ n. AllByRecursion (IsReplied t) (take n t.sent)) next (more t.sent i all at)
   where
-    more : (xs : List Sent) (k : ℕ) → AllByRecursion (IsReplied t) (take k xs) → slice_get xs k ≡ Some s → AllByRecursion (IsReplied t) (take (suc k) xs)
+    more : (xs : List Sent) (k : ℕ) → AllByRecursion (IsReplied t) (take k xs) → slice_get xs k ≡ Some s
+        → AllByRecursion (IsReplied t) (take (suc k) xs)
     more [] k before there = none≢some s there
     more (x ∷ xs) zero before there = (subst (IsReplied t) (sym (some_injective x s there)) one, tt)
     more (x ∷ xs) (suc k) before there = (before.0, more xs k before.1 there)
@@ -58,27 +68,44 @@ no_fault t all f is = by f.code is.stands
   where
     by : (c : Code) → StandsInReplies c t f.offset → ⊥
     by code.Reply stands =
-        none_unreplied t (λ s. frame_text (OfSent s)) (sent_start t) t.sent all (weaker_place (λ _ s. (s.0 ≡ f.offset) × ¬ IsReplied t s.1) (λ _ s. ¬ IsReplied t s.1) (sent_at t) (λ b y h. h.1) stands)
+        none_unreplied t (λ s. frame_text (OfSent s)) (sent_start t) t.sent all
+        (weaker_place (λ _ s. (s.0 ≡ f.offset) × ¬ IsReplied t s.1) (λ _ s. ¬ IsReplied t s.1) (sent_at t)
+        (λ b y h. h.1) stands)
     by _ stands = stands
 
-pub first_fault : (t : Trace) (i o : ℕ) (s : Sent) (f : Fault) → AllByRecursion (IsReplied t) (take i t.sent) → slice_get (sent_at t) i ≡ Some (o, s) → ¬ IsReplied t s → f ≡ record { code = code.Reply; offset = o; replica = None }
+pub first_fault : (t : Trace) (i o : ℕ) (s : Sent) (f : Fault) → AllByRecursion (IsReplied t) (take i t.sent)
+    → slice_get (sent_at t) i ≡ Some (o, s) → ¬ IsReplied t s
+    → f ≡ record { code = code.Reply; offset = o; replica = None }
     → IsLeast (IsReplyFault t) f
 unfolding sent_at
 first_fault t i o s f all at not is = subst (IsLeast (IsReplyFault t)) (sym is) (record {
-  is = record { stands = record { before = take i (sent_at t); item = (o, s); rest = drop (suc i) (sent_at t); is = cut_at (sent_at t) i (o, s) at; holds = (refl, not) }; outside = refl };
+  is = record {
+    stands = record {
+      before = take i (sent_at t);
+      item = (o, s);
+      rest = drop (suc i) (sent_at t);
+      is = cut_at (sent_at t) i (o, s) at;
+      holds = (refl, not);
+    };
+    outside = refl;
+  };
   least = λ g stands. by g.offset g.code stands.stands;
 })
   where
     none_before : SomePlace (take i (sent_at t)) (IsUnreplied t) → ⊥
     none_before place =
         none_unreplied t (λ s. frame_text (OfSent s)) (sent_start t) (take i t.sent) all
-        (subst (λ (xs : List (ℕ × Sent)). SomePlace xs (IsUnreplied t)) (take_located (λ s. frame_text (OfSent s)) (sent_start t) i t.sent) place)
+        (subst (λ (xs : List (ℕ × Sent)). SomePlace xs (IsUnreplied t))
+        (take_located (λ s. frame_text (OfSent s)) (sent_start t) i t.sent) place)
 
     by : (to : ℕ) (c : Code) → StandsInReplies c t to → (o < to) ⊎ ((o ≡ to) × (90 ≤ number_of c))
     by to code.Reply stands =
-        let cut : sent_at t ≡ take i (sent_at t) ++ (o, s) ∷ drop (suc i) (sent_at t) = cut_at (sent_at t) i (o, s) at in
-        let rises = subst (λ (xs : List (ℕ × Sent)). Rising (sent_start t) xs) cut (located_rising (λ s. frame_text (OfSent s)) (sent_start t) t.sent) in
-        up (first_place (IsUnreplied t) (sent_start t) to (take i (sent_at t)) (o, s) (drop (suc i) (sent_at t)) rises none_before (subst (λ (xs : List (ℕ × Sent)). SomePlace xs (At to (IsUnreplied t))) cut stands))
+        let cut : sent_at t ≡ take i (sent_at t) ++ (o, s) ∷ drop (suc i) (sent_at t) =
+        cut_at (sent_at t) i (o, s) at in
+        let rises = subst (λ (xs : List (ℕ × Sent)). Rising (sent_start t) xs) cut
+        (located_rising (λ s. frame_text (OfSent s)) (sent_start t) t.sent) in
+        up (first_place (IsUnreplied t) (sent_start t) to (take i (sent_at t)) (o, s) (drop (suc i) (sent_at t)) rises
+        none_before (subst (λ (xs : List (ℕ × Sent)). SomePlace xs (At to (IsUnreplied t))) cut stands))
       where
         up : o ≤ to → (o < to) ⊎ ((o ≡ to) × (90 ≤ 90))
         up le = elim (cases_lt o to) [ inl lt ↦ inl lt | inr ge ↦ inr (omega arith, omega arith) ]
@@ -105,31 +132,40 @@ is_possible t i s limits at =
       there = leb-true s.seq (length t.batches) e.1;
     }
   where
-    each : (xs : List Sent) (k : ℕ) → IsTrue (list_all (is_sent (length t.sections) (length t.batches)) xs) → slice_get xs k ≡ Some s → IsTrue (is_sent (length t.sections) (length t.batches) s)
+    each : (xs : List Sent) (k : ℕ) → IsTrue (list_all (is_sent (length t.sections) (length t.batches)) xs)
+        → slice_get xs k ≡ Some s → IsTrue (is_sent (length t.sections) (length t.batches) s)
     each [] k all there = none≢some s there
-    each (x ∷ xs) zero all there = subst (λ (y : Sent). IsTrue (is_sent (length t.sections) (length t.batches) y)) (some_injective x s there) (and_parts _ _ all).0
-    each (x ∷ xs) (suc k) all there = each xs k (and_parts (is_sent (length t.sections) (length t.batches) x) _ all).1 there
+    each (x ∷ xs) zero all there = subst (λ (y : Sent). IsTrue (is_sent (length t.sections) (length t.batches) y))
+        (some_injective x s there) (and_parts _ _ all).0
+    each (x ∷ xs) (suc k) all there = each xs k (and_parts (is_sent (length t.sections) (length t.batches) x) _ all).1
+        there
 
 -- what a replica's section tells, among all
-pub telling_there : (t : Trace) (e : ℕ) → e < length t.sections → slice_get (tellings t) e ≡ Some (telling t e)
-unfolding tellings
-telling_there t e lt = let same : 0 + e ≡ e = omega arith in told 0 t.sections e lt ∙ ap (λ n. Some (telling t n)) same
+pub section_history_there : (t : Trace) (e : ℕ) → e < length t.sections → slice_get (section_histories t) e
+    ≡ Some (section_history t e)
+unfolding section_histories
+section_history_there t e lt = let same : 0 + e ≡ e = omega arith in told 0 t.sections e lt
+    ∙ ap (λ n. Some (section_history t n)) same
   where
-    told : (from : ℕ) (xs : List (List Step)) (k : ℕ) → k < length xs → slice_get (map (λ s. telling t s.0) (enumerate_from from xs)) k ≡ Some (telling t (from + k))
+    told : (from : ℕ) (xs : List (List Step)) (k : ℕ) → k < length xs
+        → slice_get (map (λ s. section_history t s.0) (enumerate_from from xs)) k ≡ Some (section_history t (from + k))
     told from [] k lt = absurd (omega arith)
-    told from (x ∷ xs) zero lt = let same : from ≡ from + 0 = omega arith in ap (λ n. Some (telling t n)) same
+    told from (x ∷ xs) zero lt = let same : from ≡ from + 0 = omega arith in ap (λ n. Some (section_history t n)) same
     told from (x ∷ xs) (suc k) lt =
         let same : from + 1 + k ≡ from + suc k = omega arith in
-        told (from + 1) xs k (omega arith) ∙ ap (λ n. Some (telling t n)) same
+        told (from + 1) xs k (omega arith) ∙ ap (λ n. Some (section_history t n)) same
 
-pub told_as : (t : Trace) (vs : List Telling) (e k : ℕ) (v : Telling) → vs ≡ tellings t → e < length t.sections → k ≡ e → v ≡ slice_index_or vs k v → v ≡ telling t e
+pub told_as : (t : Trace) (vs : List SectionHistory) (e k : ℕ) (v : SectionHistory) → vs ≡ section_histories t
+    → e < length t.sections → k ≡ e → v ≡ slice_index_or vs k v → v ≡ section_history t e
 told_as t vs e k v is lt same read =
-    read ∙ (λ i. slice_index_or (is i) (same i) v) ∙ get_or_from_slice_get (tellings t) e (telling t e) v (telling_there t e lt)
+    read ∙ (λ i. slice_index_or (is i) (same i) v) ∙ get_or_from_slice_get (section_histories t) e
+    (section_history t e) v (section_history_there t e lt)
 
-pub length-tellings : (t : Trace) → length (tellings t) ≡ length t.sections
-unfolding tellings
-length-tellings t = long 0 t.sections
+pub length-section_histories : (t : Trace) → length (section_histories t) ≡ length t.sections
+unfolding section_histories
+length-section_histories t = long 0 t.sections
   where
-    long : (from : ℕ) (xs : List (List Step)) → length (map (λ s. telling t s.0) (enumerate_from from xs)) ≡ length xs
+    long : (from : ℕ) (xs : List (List Step)) → length (map (λ s. section_history t s.0) (enumerate_from from xs))
+        ≡ length xs
     long from [] = refl
     long from (x ∷ xs) = ap suc (long (from + 1) xs)

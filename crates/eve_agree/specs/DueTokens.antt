@@ -1,5 +1,5 @@
 -- The token that a committed attempt must have, and the faults of tokens. docs/MODEL.md, "Faults".
-use Rattle.std.specs.Prelude.{◌≡◌, ◌≢◌, ℕ, List, Some}
+use Rattle.std.specs.Prelude.{◌≡◌, ◌≢◌, ◌<◌, ◌≤◌, ℕ, List, Option, Some, None}
 use Rattle.std.specs.List.{AllByRecursion}
 use Rattle.eve_grammar.specs.Trace.{Trace}
 use Rattle.eve_views.specs.declared.fault.Code.{Code}
@@ -8,7 +8,7 @@ use Rattle.eve_views.specs.declared.fault.Fault.{Fault}
 use Rattle.eve_views.specs.Form.{SomePlace}
 use Rattle.eve_token.specs.Token.{flat_token}
 use Rattle.eve_history.specs.Section.{Placed}
-use Rattle.eve_history.specs.Told.{history}
+use Rattle.eve_history.specs.SectionHistory.{history, committed_at}
 use Rattle.eve_chains.specs.Committed.{balances_to}
 
 -- version 1's token of the balances after the attempt's batch, as replica e committed it, and of the attempt's replies
@@ -21,10 +21,33 @@ TokensAreDue t e = AllByRecursion (λ p. p.attempt.token ≡ due_token t e p) (h
 
 -- a fault of tokens stands at this offset in replica e's section
 abbrev pub StandsInTokens : Code → Trace → ℕ → ℕ → Type 0
-StandsInTokens code.Token t e at = SomePlace (history t e).committed (λ _ p. (p.offset ≡ at) × (p.attempt.token ≢ due_token t e p))
+StandsInTokens code.Token t e at = SomePlace (history t e).committed (λ _ p. (p.offset ≡ at) ×
+    (p.attempt.token ≢ due_token t e p))
 StandsInTokens _ t e at = ⊥
 
 -- the fault is one of tokens in replica e's section
 pub record IsTokenFault (t : Trace) (e : ℕ) (f : Fault) : Type 0 where
   pub stands : StandsInTokens f.code t e f.offset
   pub inside : f.replica ≡ Some e
+
+-- ---- from batch to batch
+
+-- replica e's attempt of batch n, if it committed one, has the token that it must have
+abbrev pub IsDueIn : Trace → ℕ → ℕ → Type 0
+IsDueIn t e n = (p : Placed) → committed_at t e n ≡ Some p → p.attempt.token ≡ due_token t e p
+
+-- batch n is the first, behind those up to `before`, whose attempt has another token, and stands at this offset
+pub record IsWrongIn (t : Trace) (e before last at : ℕ) : Type 0 where
+  pub n : ℕ
+  pub low : before < n
+  pub high : n ≤ last
+  pub item : Placed
+  pub is : committed_at t e n ≡ Some item
+  pub offset : at ≡ item.offset
+  pub wrong : item.attempt.token ≢ due_token t e item
+  pub early : (m : ℕ) → before < m → m < n → IsDueIn t e m
+
+-- where replica e's first wrong token of these batches stands, if there is one
+abbrev pub IsFirstWrong : Trace → ℕ → ℕ → ℕ → Option ℕ → Type 0
+IsFirstWrong t e before last None = (n : ℕ) → before < n → n ≤ last → IsDueIn t e n
+IsFirstWrong t e before last (Some at) = IsWrongIn t e before last at

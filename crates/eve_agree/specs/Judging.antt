@@ -1,11 +1,12 @@
 -- What is kept while the batches are judged one after another.
-use Rattle.std.specs.Prelude.{◌≡◌, ℕ, ℤ, ◌≤◌, ◌<◌, nat_le, if◌then◌else◌, List, [], length, Option, Some, None, IfSome, slice_get, slice_index_or, ◌⊎◌}
+use Rattle.std.specs.Prelude.{◌≡◌, ℕ, ℤ, ◌≤◌, ◌<◌, nat_le, if◌then◌else◌, List, [], length, Option, Some, None, IfSome}
+use Rattle.std.specs.Prelude.{slice_get, slice_index_or, ◌⊎◌}
 use Rattle.eve_smallbank.specs.Access.{balance_at}
 use Rattle.eve_grammar.specs.Trace.{Trace}
 use Rattle.eve_views.specs.declared.fault.Code.TheVariants as code
 use Rattle.eve_views.specs.declared.fault.Fault.{Fault}
 use Rattle.eve_history.specs.Section.{Placed}
-use Rattle.eve_history.specs.Told.{Telling, committed_at}
+use Rattle.eve_history.specs.SectionHistory.{SectionHistory, committed_at}
 use Rattle.eve_chains.specs.Settling.{Settling, values_in}
 use Rattle.eve_agree.specs.Agreement.{first_to_commit, HaveSameOutcome, IsOutcomeFault}
 
@@ -20,8 +21,8 @@ pub record AreAfter (settled : List Settling) (n : ℕ) (all : List (List ℤ)) 
   pub each : (e : ℕ) (s : Settling) → slice_get settled e ≡ Some s → IsAfter s n (slice_index_or all e [])
 
 -- none of the first replicas committed the batch
-abbrev pub NoneBefore : List Telling → ℕ → ℕ → Type 0
-NoneBefore hs n e = (i : ℕ) (h : Telling) → i < e → slice_get hs i ≡ Some h → h.committed < n
+abbrev pub NoneBefore : List SectionHistory → ℕ → ℕ → Type 0
+NoneBefore hs n e = (i : ℕ) (h : SectionHistory) → i < e → slice_get hs i ≡ Some h → h.committed < n
 
 -- what was found is a fault of agreement
 abbrev pub Stand : Trace → Option Fault → Type 0
@@ -38,7 +39,8 @@ Lowers least now = (at : ℕ) → IsUpToAt least at → IsUpToAt now at
 
 -- where replica e committed batch n it has the outcome of the first that did, or something was found there or before
 abbrev pub IsJudged : Trace → Option Fault → ℕ → ℕ → Type 0
-IsJudged t least e n = (p : Placed) → committed_at t e n ≡ Some p → IfSome (first_to_commit t n) (λ f. HaveSameOutcome t e f n) ⊎ IsUpToAt least p.offset
+IsJudged t least e n = (p : Placed) → committed_at t e n ≡ Some p
+    → IfSome (first_to_commit t n) (λ f. HaveSameOutcome t e f n) ⊎ IsUpToAt least p.offset
 
 -- a fault of replica e at this offset
 abbrev pub outcome_fault : ℕ → ℕ → Fault

@@ -8,3 +8,4 @@ pub mod Majority
 pub mod Unbacked
 pub mod SentReplies
 pub mod Keeping
+pub mod Stretches

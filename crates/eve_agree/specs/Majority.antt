@@ -30,7 +30,8 @@ abbrev pub StandsInMajorities : Code → Trace → ℕ → ℕ → Type 0
 StandsInMajorities code.NoMajority t e at =
     SomePlace (steps_at t e) (λ _ step. (step.0 ≡ at) × OfCommit step.1 (λ c. ¬ IsDecided t c.seq c.view c.token))
 StandsInMajorities code.RollbackNoMajority t e at =
-    SomePlace (steps_at t e) (λ _ step. (step.0 ≡ at) × OfRollback step.1 (λ r. ¬ IsRolledBack t (r.to + 1) (r.view - 1)))
+    SomePlace (steps_at t e)
+    (λ _ step. (step.0 ≡ at) × OfRollback step.1 (λ r. ¬ IsRolledBack t (r.to + 1) (r.view - 1)))
 StandsInMajorities _ t e at = ⊥
 
 -- the fault is one of majorities, in the section of some replica

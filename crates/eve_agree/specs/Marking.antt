@@ -1,12 +1,13 @@
 -- What the first write of a row saw, marked by row, and restores that take the marks away.
-use Rattle.std.specs.Prelude.{ℕ, ◌-◌, ◌==◌, Bool, false, not, ◌&&◌, ◌||◌, if◌then◌else◌, is_some, List, [], ◌∷◌, take, drop, Option, Some, None, slice_index_or}
+use Rattle.std.specs.Prelude.{ℕ, ◌-◌, ◌==◌, Bool, false, not, ◌&&◌, ◌||◌, if◌then◌else◌, is_some, List, [], ◌∷◌, take}
+use Rattle.std.specs.Prelude.{drop, Option, Some, None, slice_index_or}
 use Rattle.std.specs.List.{list_all, list_any, flat_map, sum_by}
 use Rattle.std.specs.Ordering.{int_eq}
 use Rattle.eve_smallbank.specs.declared.entry.Entry.{Entry}
 use Rattle.eve_smallbank.specs.Access.{is_write, writes_row}
 use Rattle.eve_smallbank.specs.Chain.{Versioned, Table}
 use Rattle.eve_grammar.specs.Trace.{Restore}
-use Rattle.eve_history.specs.Told.{Ran}
+use Rattle.eve_history.specs.SectionHistory.{ExecutedAttempt}
 use Rattle.eve_chains.specs.Along.{entries_along}
 
 -- what is marked of each row, where something is
@@ -41,7 +42,7 @@ marked marks [] = marks
 marked marks (e ∷ es) = marked (λ row. if writes_row row e then marked_once (marks row) (seen_by e) else marks row) es
 
 -- all that the attempts from one number up to another noted, each in its certificate's order
-abbrev pub noted_between : List Ran → ℕ → ℕ → List Entry
+abbrev pub noted_between : List ExecutedAttempt → ℕ → ℕ → List Entry
 noted_between rs first end = flat_map (λ r. entries_along r.ordered) (take (end - first) (drop first rs))
 
 -- the rows that these entries write, each with what it has in the table
@@ -65,5 +66,6 @@ taken marks rs row = if has_row row rs then None else marks row
 -- the restores are the rows that these entries write, each with what it has in the table
 abbrev pub are_written_in : Table → List Entry → List Restore → Bool
 are_written_in table es rs =
-    list_all (λ r. list_any (writes_row r.row) es && ((r.version == (table r.row).version) && int_eq r.value (table r.row).value)) rs
+    list_all (λ r. list_any (writes_row r.row) es &&
+    ((r.version == (table r.row).version) && int_eq r.value (table r.row).value)) rs
     && list_all (λ e. not (is_write e.kind) || has_row e.row rs) es

@@ -13,7 +13,9 @@ use Rattle.eve_agree.specs.Tables.{are_right_restores}
 -- a fault of restores stands at this offset in replica e's section
 abbrev pub StandsInRestores : Code → Trace → ℕ → ℕ → Type 0
 StandsInRestores code.Restore t e at =
-    SomePlace (steps_at t e) (λ before step. (step.0 ≡ at) × OfRollback step.1 (λ r. IsFalse (are_right_restores t (state_after start before) r.restores)))
+    SomePlace (steps_at t e)
+    (λ before step. (step.0 ≡ at)
+    × OfRollback step.1 (λ r. IsFalse (are_right_restores t (state_after start before) r.restores)))
 StandsInRestores _ t e at = ⊥
 
 -- the fault is one of restores in replica e's section

@@ -8,7 +8,7 @@ use Rattle.eve_views.specs.declared.fault.Code.TheVariants as code
 use Rattle.eve_views.specs.declared.fault.Fault.{Fault}
 use Rattle.eve_views.specs.Form.{SomePlace}
 use Rattle.eve_history.specs.Section.{Placed, batch_at}
-use Rattle.eve_history.specs.Told.{committed_at}
+use Rattle.eve_history.specs.SectionHistory.{committed_at}
 
 -- the replica committed the batch, and by its attempt the client's request has this reply
 pub record IsReplied (t : Trace) (s : Sent) : Type 0 where

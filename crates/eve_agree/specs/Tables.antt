@@ -1,6 +1,7 @@
 -- What all rows have along a section: as the replica works, and as it is committed; and what a rollback must restore.
 -- docs/MODEL.md, "Working table, committed table".
-use Rattle.std.specs.Prelude.{◌≡◌, ℕ, suc, ◌==◌, Bool, true, not, ◌&&◌, ◌||◌, IsTrue, if◌then◌else◌, List, [], ◌∷◌, take, slice_get, Some}
+use Rattle.std.specs.Prelude.{◌≡◌, ℕ, suc, ◌==◌, Bool, true, not, ◌&&◌, ◌||◌, IsTrue, if◌then◌else◌, List, [], ◌∷◌}
+use Rattle.std.specs.Prelude.{take, slice_get, Some}
 use Rattle.std.specs.List.{list_all, list_any, flat_map}
 use Rattle.std.specs.Ordering.{int_eq}
 use Rattle.eve_smallbank.specs.declared.entry.Entry.{Entry}
@@ -17,7 +18,8 @@ use Rattle.eve_chains.specs.Committed.{attempts_of}
 -- a table after restores
 abbrev pub restored : Table → List Restore → Table
 restored table [] = table
-restored table (r ∷ rs) = restored (λ row. if r.row == row then record { version = r.version; value = r.value } else table row) rs
+restored table (r ∷ rs) =
+    restored (λ row. if r.row == row then record { version = r.version; value = r.value } else table row) rs
 
 -- a table after steps: every attempt writes, and a rollback restores
 abbrev pub worked : Trace → Table → List (ℕ × Step) → Table
@@ -40,7 +42,8 @@ committed_table t e k = committed_rows t (state_after start (take k (steps_at t 
 
 -- the step with this number, from 0, is a rollback, and behind it the replica works on what is committed
 abbrev pub IsRestored : Trace → ℕ → ℕ → Type 0
-IsRestored t e k = (at : ℕ) (r : Rollback) → slice_get (steps_at t e) k ≡ Some (at, RollsBack r) → working_table t e (suc k) ≡ committed_table t e (suc k)
+IsRestored t e k = (at : ℕ) (r : Rollback) → slice_get (steps_at t e) k ≡ Some (at, RollsBack r)
+    → working_table t e (suc k) ≡ committed_table t e (suc k)
 
 -- ---- restores
 
@@ -60,7 +63,8 @@ is_right_restore t s r =
 -- they are rows that open attempts wrote, and no such row is left out; that rows rise is a matter of form
 abbrev pub are_right_restores : Trace → SectionState → List Restore → Bool
 are_right_restores t s rs =
-    list_all (is_right_restore t s) rs && list_all (λ e. not (is_write e.kind) || list_any (λ r. r.row == e.row) rs) (open_entries t s)
+    list_all (is_right_restore t s) rs && list_all (λ e. not (is_write e.kind) || list_any (λ r. r.row == e.row) rs)
+    (open_entries t s)
 
 abbrev pub restores_rightly : Trace → SectionState → Step → Bool
 restores_rightly t s (Attempts a) = true

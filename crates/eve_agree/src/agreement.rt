@@ -1,12 +1,13 @@
 //! The faults of agreement.
 
-ghost use Rattle.std.specs.Prelude.{◌≡◌, ◌≤◌, ◌<◌, ◌-◌, ◌↔◌, ℕ, IsTrue, IfOk, IfErr, IfSome, IfNone, Some, length, slice_get};
+ghost use Rattle.std.specs.Prelude.{◌≡◌, ◌≤◌, ◌<◌, ◌-◌, ◌↔◌, ℕ, IsTrue, IfOk, IfErr, IfSome, IfNone, Some, length};
+ghost use Rattle.std.specs.Prelude.{slice_get};
 ghost use Rattle.eve_frames.specs.Views.{attempt_in};
 ghost use Rattle.eve_views.specs.Form.{IfFound, IsLeast, HasNone};
 ghost use Rattle.eve_views.specs.Fronts.{whole};
 ghost use Rattle.eve_views.specs.declared.fault.Fault.{Fault as FaultValue};
 ghost use Rattle.eve_grammar.specs.Trace.{Trace as TraceValue};
-ghost use Rattle.eve_history.specs.Told.{Ran, Telling, tellings, IsRightSection};
+ghost use Rattle.eve_history.specs.SectionHistory.{ExecutedAttempt, SectionHistory, section_histories, IsRightSection};
 ghost use Rattle.eve_chains.specs.Settling.{settling, settlings, values_in};
 ghost use Rattle.eve_chains.specs.Committed.{values_to};
 ghost use Rattle.eve_agree.specs.Agreement.{first_to_commit, ReplicasAgree, IsOutcomeFault};
@@ -21,18 +22,19 @@ use eve_smallbank::Reply;
 use eve_views::{CheckFault, Code, Fault, Trace};
 use std::alloc::{AllocError, Global};
 
-/// Judges the outcomes of all committed batches: each replica has the balances after a batch, and the replies to it, of the
-/// lowest-numbered replica that committed it; else the first attempt where it differs.
+/// Judges the outcomes of all committed batches: each replica has the balances after a batch, and the replies to it, of
+/// the lowest-numbered replica that committed it; else the first attempt where it differs.
 ///
-/// docs/MODEL.md, "Faults". Balances and replies are compared themselves. It keeps the balances of each replica once, and goes
-/// with all of them from batch to batch; of one replica alone nothing is asked. Want of memory decides nothing.
+/// docs/MODEL.md, "Faults". Balances and replies are compared themselves. It keeps the balances of each replica once,
+/// and goes with all of them from batch to batch; of one replica alone nothing is asked. Want of memory decides
+/// nothing.
 pub fn equal_balances(
     alloc: Global,
     trace: &Trace<'_>,
     histories: &[History<'_>],
     settled: &[Settled<'_>],
 ) -> Result<(), CheckFault>
-    requires histories { histories.now ≡ tellings (whole trace.now) }
+    requires histories { histories.now ≡ section_histories (whole trace.now) }
     requires settled { settled.now ≡ settlings (whole trace.now) }
     ensures agree { IfOk result (λ _. ReplicasAgree (whole trace.now)) }
     ensures none { IfOk result (λ _. HasNone (IsOutcomeFault (whole trace.now))) }
@@ -70,7 +72,7 @@ fn opening_of_each(alloc: Global, settled: &[Settled<'_>]) -> Result<Vec<Balance
 
 /// The greatest number that a replica committed, 0 where there is none.
 fn last_of_all(histories: &[History<'_>]) -> u32
-    ensures { (e : ℕ) (h : Telling) → slice_get histories.now e ≡ Some h → h.committed ≤ result }
+    ensures { (e : ℕ) (h : SectionHistory) → slice_get histories.now e ≡ Some h → h.committed ≤ result }
 {
     let mut last = 0;
     for each in histories {
@@ -110,7 +112,7 @@ fn judge_batch(
     least: Option<Fault>,
 ) -> Option<Fault>
     requires one { 1 ≤ n }
-    requires histories { histories.now ≡ tellings (whole trace.now) }
+    requires histories { histories.now ≡ section_histories (whole trace.now) }
     requires right { (e : ℕ) → IsRightSection (whole trace.now) e }
     requires after { AreAfter (settlings (whole trace.now)) n all.now }
     requires law { (e : ℕ) → values_in (settling (whole trace.now) e) n ≡ values_to (whole trace.now) e n }
@@ -137,8 +139,9 @@ fn judge_batch(
 
 /// The number of the first replica that committed batch n, if one did.
 fn first_to_commit(histories: &[History<'_>], n: u32) -> Option<usize>
-    ensures is { (t : TraceValue) → histories.now ≡ tellings t → result ≡ first_to_commit t n }
-    ensures there { IfSome result (λ f. (h : Telling) × (slice_get histories.now f ≡ Some h) × (n ≤ length h.commits)) }
+    ensures is { (t : TraceValue) → histories.now ≡ section_histories t → result ≡ first_to_commit t n }
+    ensures there { IfSome result (λ f. (h : SectionHistory) × (slice_get histories.now f ≡ Some h)
+        × (n ≤ length h.commits)) }
     ensures before { IfSome result (λ f. NoneBefore histories.now n f) }
     ensures none { IfNone result (NoneBefore histories.now n (length histories.now)) }
 {
@@ -151,10 +154,11 @@ fn first_to_commit(histories: &[History<'_>], n: u32) -> Option<usize>
 }
 
 /// The attempt by which a replica committed batch n.
-fn committed_attempt<'a>(history: &History<'a>, n: u32) -> AttemptView<'a>
+pub(crate) fn committed_attempt<'a>(history: &History<'a>, n: u32) -> AttemptView<'a>
     requires one { 1 ≤ n }
     requires there { n ≤ length history.now.commits }
-    ensures { (r : Ran) × (slice_get history.now.commits (n - 1) ≡ Some r) × (result.offset ≡ r.offset) × (attempt_in result.bytes.now ≡ r.attempt) }
+    ensures { (r : ExecutedAttempt) × (slice_get history.now.commits (n - 1) ≡ Some r) × (result.offset ≡ r.offset)
+        × (attempt_in result.bytes.now ≡ r.attempt) }
 {
     history.attempt(history.committed_attempt(n))
 }
@@ -166,7 +170,9 @@ fn is_same(
     other: &AttemptView<'_>,
     others: &Balances,
 ) -> bool
-    ensures { IsTrue result ↔ ((balances.now ≡ others.now) × ((attempt_in attempt.now.bytes.now).replies ≡ (attempt_in other.now.bytes.now).replies)) }
+    ensures { IsTrue result ↔
+        ((balances.now ≡ others.now)
+        × ((attempt_in attempt.now.bytes.now).replies ≡ (attempt_in other.now.bytes.now).replies)) }
 {
     let replies = have_same_replies(attempt, other);
     replies && are_same(balances, others)

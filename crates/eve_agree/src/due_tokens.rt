@@ -1,23 +1,29 @@
 //! The faults of tokens.
 
-ghost use Rattle.std.specs.Prelude.{◌≡◌, ◌↔◌, IsTrue, IfOk, IfErr};
+ghost use Rattle.std.specs.Prelude.{◌≡◌, ◌≤◌, ◌<◌, ◌↔◌, ℕ, All, IsTrue, IfOk, IfErr, length, slice_index_or};
 ghost use Rattle.eve_frames.specs.Views.{attempt_in};
 ghost use Rattle.eve_token.specs.Token.{token_of};
 ghost use Rattle.eve_views.specs.Form.{IfFound, IsLeast, HasNone};
 ghost use Rattle.eve_views.specs.Fronts.{whole};
 ghost use Rattle.eve_views.specs.declared.fault.Fault.{Fault as FaultValue};
-ghost use Rattle.eve_history.specs.Told.{telling, IsRightSection};
+ghost use Rattle.eve_history.specs.SectionHistory.{section_history, IsRightSection};
 ghost use Rattle.eve_chains.specs.Settling.{settling};
-ghost use Rattle.eve_agree.specs.DueTokens.{TokensAreDue, IsTokenFault};
+ghost use Rattle.eve_agree.specs.DueTokens.{TokensAreDue, IsTokenFault, IsFirstWrong};
+ghost use Rattle.eve_agree.specs.Judging.{IsAfter};
+ghost use Rattle.eve_agree.specs.Stretches.{IsReady, IsJudged, AreStretches, first_found};
+ghost use Rattle.eve_agree.specs.declared.due_tokens.Stretch.{Stretch as StretchValue};
 
+use crate::agreement::committed_attempt;
 use eve_accounts::Balances;
 use eve_chains::Settled;
 use eve_chains::laws::settled_values_are_the_banks;
 use eve_frames::AttemptView;
-use eve_history::{Fate, History};
+use eve_history::History;
 use eve_token::token_of_spelled;
 use eve_views::{CheckFault, Code, Fault, Trace};
-use std::alloc::Global;
+use std::alloc::{AllocError, Global};
+use std::thread;
+use std::thread::Threads;
 
 /// Whether the attempt has the token of these balances and of its replies.
 fn is_due(attempt: &AttemptView<'_>, balances: &Balances) -> bool
@@ -28,40 +34,181 @@ fn is_due(attempt: &AttemptView<'_>, balances: &Balances) -> bool
     attempt.token() == due.as_slice()
 }
 
-/// Judges the tokens of a replica's committed attempts: each is that of the balances after its batch and of its replies;
-/// else the first that is not.
-///
-/// docs/MODEL.md, "Faults"; docs/TRACE.md, "Token". It goes from batch to batch and hashes each batch's balances once.
-/// Want of memory decides nothing.
-pub fn tokens(
-    alloc: Global,
+/// How few batches are worth a thread of their own.
+const LEAST_BATCHES: u32 = 16;
+
+/// Committed batches of a replica that stand behind one another, to be judged by themselves.
+#[derive(Drop)]
+struct Stretch {
+    /// How many batches stand before them.
+    before: u32,
+    /// The number of the last of them.
+    last: u32,
+    /// The balances after the batches before them; once they were judged, those after what was judged.
+    balances: Balances,
+    /// Once they were judged, the offset of the first attempt that has not the token that is due.
+    wrong: Option<u64>,
+}
+
+/// The offset of the first of a replica's attempts with a token that is not due, of the batches behind the first
+/// `before` up to the last.
+fn first_wrong(
     trace: &Trace<'_>,
     history: &History<'_>,
     settled: &Settled<'_>,
-) -> Result<(), CheckFault>
-    requires history { history.now ≡ telling (whole trace.now) history.now.replica }
+    before: u32,
+    last: u32,
+    balances: &mut Balances,
+) -> Option<u64>
+    requires history { history.now ≡ section_history (whole trace.now) history.now.replica }
     requires settled { settled.now ≡ settling (whole trace.now) history.now.replica }
-    ensures due { IfOk result (λ _. TokensAreDue (whole trace.now) history.now.replica) }
-    ensures none { IfOk result (λ _. HasNone (IsTokenFault (whole trace.now) history.now.replica)) }
-    ensures least { IfErr result (λ why. IfFound why (IsLeast (IsTokenFault (whole trace.now) history.now.replica))) }
+    requires there { last ≤ length settled.now.batches }
+    requires balances { IsAfter settled.now before balances.old }
+    ensures { IsFirstWrong (whole trace.now) history.now.replica before last result }
 {
     trace.is_whole();
     history.is_right();
     settled_values_are_the_banks();
-    let mut balances = settled.balances_after(alloc, 0)?;
-    for i in 0..history.attempts() {
-        if history.fate(i) != Fate::Committed {
-            continue;
-        }
-        let attempt = history.attempt(i);
-        settled.advance(attempt.seq(), &mut balances);
-        if !is_due(&attempt, &balances) {
-            return Err(CheckFault::Found(Fault {
-                code: Code::Token,
-                offset: attempt.offset(),
-                replica: Some(history.replica()),
-            }));
+    for n in before..last {
+        settled.advance(n + 1, balances);
+        let attempt = committed_attempt(history, n + 1);
+        if !is_due(&attempt, balances) {
+            return Some(attempt.offset());
         }
     }
-    Ok(())
+    None
+}
+
+/// Judges a stretch.
+fn judge(trace: &Trace<'_>, history: &History<'_>, settled: &Settled<'_>, stretch: &mut Stretch)
+    requires history { history.now ≡ section_history (whole trace.now) history.now.replica }
+    requires settled { settled.now ≡ settling (whole trace.now) history.now.replica }
+    requires ready { IsReady settled.now stretch.old }
+    ensures { IsJudged (whole trace.now) history.now.replica stretch.old stretch.new }
+{
+    stretch.wrong = first_wrong(
+        trace,
+        history,
+        settled,
+        stretch.before,
+        stretch.last,
+        &mut stretch.balances,
+    );
+}
+
+/// Goes from the balances after one number of batches to those after another.
+fn skip(settled: &Settled<'_>, from: u32, to: u32, balances: &mut Balances)
+    requires there { to ≤ length settled.now.batches }
+    requires rising { from ≤ to }
+    requires before { IsAfter settled.now from balances.old }
+    ensures { IsAfter settled.now to balances.new }
+{
+    for n in from..to {
+        settled.advance(n + 1, balances);
+    }
+}
+
+/// Cuts a replica's committed batches into stretches, each as long as one of so many that are alike, but no shorter
+/// than is worth a thread.
+fn cut(alloc: Global, settled: &Settled<'_>, jobs: u8) -> Result<Vec<Stretch>, AllocError>
+    requires { 1 ≤ jobs }
+    ensures { IfOk result (λ stretches. AreStretches settled.now 0 stretches.items) }
+{
+    let committed = settled.committed();
+    let size = committed.div_ceil(u32::from(jobs)).max(LEAST_BATCHES);
+    let mut stretches = Vec::new(alloc);
+    let mut balances = settled.balances_after(alloc, 0)?;
+    let mut before = 0;
+    while committed - before > size {
+        stretches.push(Stretch {
+            before,
+            last: before + size,
+            balances: balances.copy(alloc)?,
+            wrong: None,
+        })?;
+        skip(settled, before, before + size, &mut balances);
+        before += size;
+    }
+    stretches.push(Stretch {
+        before,
+        last: committed,
+        balances,
+        wrong: None,
+    })?;
+    Ok(stretches)
+}
+
+/// Judges the stretches, up to so many of them side by side.
+fn judge_all<R: Threads + Sync>(
+    rt: &R,
+    trace: &Trace<'_>,
+    history: &History<'_>,
+    settled: &Settled<'_>,
+    stretches: &mut [Stretch],
+    jobs: u8,
+)
+    requires some { 1 ≤ jobs }
+    requires history { history.now ≡ section_history (whole trace.now) history.now.replica }
+    requires settled { settled.now ≡ settling (whole trace.now) history.now.replica }
+    requires ready { All (IsReady settled.now) stretches.old }
+    ensures len { length stretches.new ≡ length stretches.old }
+    ensures judged { (i : ℕ) (d : StretchValue) → i < length stretches.old
+        → IsJudged (whole trace.now) history.now.replica (slice_index_or stretches.old i d)
+        (slice_index_or stretches.new i d) }
+{
+    thread::for_each_mut(
+        rt,
+        stretches,
+        jobs as usize,
+        &|_: usize, stretch: &mut Stretch|
+            requires { (history.now ≡ section_history (whole trace.now) history.now.replica)
+                × (settled.now ≡ settling (whole trace.now) history.now.replica) × IsReady settled.now stretch.old }
+            ensures { IsJudged (whole trace.entry.now) history.entry.now.replica stretch.old stretch.new }
+        { judge(trace, history, settled, stretch) },
+    );
+}
+
+/// The first that was found in stretches that follow one another.
+fn first_of_all(stretches: &[Stretch]) -> Option<u64>
+    ensures { result ≡ first_found stretches.now }
+{
+    for stretch in stretches {
+        if let Some(offset) = stretch.wrong {
+            return Some(offset);
+        }
+    }
+    None
+}
+
+/// Judges the tokens of a replica's committed attempts: each is that of the balances after its batch and of its
+/// replies; else the first that is not.
+///
+/// docs/MODEL.md, "Faults"; docs/TRACE.md, "Token". It hashes each batch's balances once. The batches are cut into up
+/// to so many stretches as there are jobs, from 1 on, each with the balances at its start, and judged in as many
+/// threads; of one job none is started. What is found doesn't rest on which ends first. Want of memory decides nothing.
+pub fn tokens<R: Threads + Sync>(
+    rt: &R,
+    alloc: Global,
+    trace: &Trace<'_>,
+    history: &History<'_>,
+    settled: &Settled<'_>,
+    jobs: u8,
+) -> Result<(), CheckFault>
+    requires history { history.now ≡ section_history (whole trace.now) history.now.replica }
+    requires settled { settled.now ≡ settling (whole trace.now) history.now.replica }
+    requires some { 1 ≤ jobs }
+    ensures due { IfOk result (λ _. TokensAreDue (whole trace.now) history.now.replica) }
+    ensures none { IfOk result (λ _. HasNone (IsTokenFault (whole trace.now) history.now.replica)) }
+    ensures least { IfErr result (λ why. IfFound why (IsLeast (IsTokenFault (whole trace.now) history.now.replica))) }
+{
+    let mut stretches = cut(alloc, settled, jobs)?;
+    judge_all(rt, trace, history, settled, stretches.as_mut_slice(), jobs);
+    match first_of_all(&stretches) {
+        Some(offset) => Err(CheckFault::Found(Fault {
+            code: Code::Token,
+            offset,
+            replica: Some(history.replica()),
+        })),
+        None => Ok(()),
+    }
 }

@@ -9,7 +9,7 @@ ghost use Rattle.eve_views.specs.Fronts.{whole};
 ghost use Rattle.eve_views.specs.StepKinds.{IsStep};
 ghost use Rattle.eve_views.specs.declared.fault.CheckFault.TheVariants.{Memory};
 ghost use Rattle.eve_views.specs.declared.fault.Fault.{Fault as FaultValue};
-ghost use Rattle.eve_history.specs.Told.{tellings, IsRightSection};
+ghost use Rattle.eve_history.specs.SectionHistory.{section_histories, IsRightSection};
 ghost use Rattle.eve_votes.specs.Votes.{IsDecided, IsRolledBack};
 ghost use Rattle.eve_agree.specs.Majority.{IsBacked, IsBackedSection, AllAreBacked, IsMajorityFault};
 ghost use Rattle.eve_agree.specs.Unbacked.{HasRoom, IsUnbacked, IsFirstIn};
@@ -21,7 +21,8 @@ use eve_votes::Tally;
 
 /// Whether a majority decided what is committed: the batch, in that view, with that token.
 fn is_decided(tally: &Tally<'_, '_>, commit: &CommitView<'_>) -> bool
-    ensures { IsTrue result ↔ IsDecided tally.now (commit_in commit.now.bytes.now).seq (commit_in commit.now.bytes.now).view (commit_in commit.now.bytes.now).token }
+    ensures { IsTrue result ↔ IsDecided tally.now (commit_in commit.now.bytes.now).seq
+        (commit_in commit.now.bytes.now).view (commit_in commit.now.bytes.now).token }
 {
     let decided = tally.decided(commit.seq());
     match &decided {
@@ -34,7 +35,8 @@ fn is_decided(tally: &Tally<'_, '_>, commit: &CommitView<'_>) -> bool
 fn is_rolled_back(tally: &Tally<'_, '_>, rollback: &RollbackView<'_>) -> bool
     requires next { (rollback_in rollback.now.bytes.now).to + 1 < 2 ^ 32 }
     requires view { 1 ≤ (rollback_in rollback.now.bytes.now).view }
-    ensures { IsTrue result ↔ IsRolledBack tally.now ((rollback_in rollback.now.bytes.now).to + 1) ((rollback_in rollback.now.bytes.now).view - 1) }
+    ensures { IsTrue result ↔ IsRolledBack tally.now ((rollback_in rollback.now.bytes.now).to + 1)
+        ((rollback_in rollback.now.bytes.now).view - 1) }
 {
     tally.rolled_back(rollback.to() + 1, rollback.view() - 1)
 }
@@ -43,7 +45,8 @@ fn is_rolled_back(tally: &Tally<'_, '_>, rollback: &RollbackView<'_>) -> bool
 fn unbacked(tally: &Tally<'_, '_>, e: u8, step: Step<'_, '_>) -> Option<Fault>
     requires { (next : ℕ × StepValue) × IsStep step next × HasRoom next.1 }
     ensures backed { IfNone result ((next : ℕ × StepValue) → IsStep step.entry next → IsBacked tally.now next.1) }
-    ensures unbacked { IfSome result (λ f. (next : ℕ × StepValue) → IsStep step.entry next → IsUnbacked tally.now e next f) }
+    ensures unbacked { IfSome result (λ f. (next : ℕ × StepValue) → IsStep step.entry next
+        → IsUnbacked tally.now e next f) }
 {
     let (code, offset) = match step {
         Step::Attempt(_, _) => return None,
@@ -85,16 +88,17 @@ fn first_in(trace: &Trace<'_>, tally: &Tally<'_, '_>, e: u8) -> Option<Fault>
     None
 }
 
-/// Judges the commits and rollbacks of all replicas: a majority of the verifiers voted for each; else the first without.
+/// Judges the commits and rollbacks of all replicas: a majority of the verifiers voted for each; else the first
+/// without.
 ///
-/// docs/MODEL.md, "Decided, rolled back" and "Faults". The votes are those of the trace. It takes no memory, and never answers want of it; it looks up one vote count for each
-/// commit and rollback.
+/// docs/MODEL.md, "Decided, rolled back" and "Faults". The votes are those of the trace. It takes no memory, and never
+/// answers want of it; it looks up one vote count for each commit and rollback.
 pub fn majorities(
     trace: &Trace<'_>,
     histories: &[History<'_>],
     tally: &Tally<'_, '_>,
 ) -> Result<(), CheckFault>
-    requires histories { histories.now ≡ tellings (whole trace.now) }
+    requires histories { histories.now ≡ section_histories (whole trace.now) }
     requires tally { tally.now ≡ whole trace.now }
     ensures backed { IfOk result (λ _. AllAreBacked (whole trace.now)) }
     ensures none { IfOk result (λ _. HasNone (IsMajorityFault (whole trace.now))) }

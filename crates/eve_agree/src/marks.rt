@@ -1,12 +1,14 @@
 //! What the discarded attempts first saw of the rows that they wrote.
 
-ghost use Rattle.std.specs.Prelude.{◌≡◌, ◌≢◌, ◌<◌, ℕ, IsTrue, IsFalse, IfOk, List, None, if◌then◌else◌, ◌==◌, length, replicate, [], ◌∷◌};
+ghost use Rattle.std.specs.Prelude.{◌≡◌, ◌≢◌, ◌<◌, ℕ, IsTrue, IsFalse, IfOk, List, None, if◌then◌else◌, ◌==◌, length};
+ghost use Rattle.std.specs.Prelude.{replicate, [], ◌∷◌};
 ghost use Rattle.std.specs.List.{list_all};
 ghost use Rattle.eve_smallbank.specs.Chain as chain;
 ghost use Rattle.eve_smallbank.specs.declared.entry.Entry as noted;
 ghost use Rattle.eve_grammar.specs.Bodies.{restore};
 ghost use Rattle.eve_grammar.specs.Limits.{is_entry, is_restore, is_rising};
-ghost use Rattle.eve_agree.specs.Marking.{marking_of, unmarked, marked_once, marked, written_in, is_marked, taken, are_written_in};
+ghost use Rattle.eve_agree.specs.Marking.{marking_of, unmarked, marked_once, marked, written_in, is_marked, taken};
+ghost use Rattle.eve_agree.specs.Marking.{are_written_in};
 
 use eve_accounts::Row;
 use eve_chains::Versioned;
@@ -60,7 +62,8 @@ impl Marks {
     fn mark(&mut self, row: Row, seen: Versioned)
         requires { row < length self.old }
         ensures as_many { length self.new ≡ length self.old }
-        ensures marks { (r : ℕ) → marking_of self.new r ≡ (if row == r then marked_once (marking_of self.old r) seen else marking_of self.old r) }
+        ensures marks { (r : ℕ) → marking_of self.new r
+            ≡ (if row == r then marked_once (marking_of self.old r) seen else marking_of self.old r) }
     {
         let row = row.number() as usize;
         if self.rows[row].is_none() {
@@ -116,7 +119,8 @@ impl Marks {
         requires rows { IsTrue (list_all (is_restore (length self.old)) restores) }
         requires rising { IsTrue (is_rising restores) }
         ensures as_many { length self.new ≡ length self.old }
-        ensures right { (table : chain.Table) (es : List noted.Entry) → marking_of self.old ≡ written_in table es → result ≡ are_written_in table es restores.entry }
+        ensures right { (table : chain.Table) (es : List noted.Entry) → marking_of self.old ≡ written_in table es
+            → result ≡ are_written_in table es restores.entry }
         ensures none { IsTrue result → marking_of self.new ≡ unmarked }
     {
         for restored in restores {

@@ -18,7 +18,8 @@ pub struct RequestId {
     number: u64,
 }
 
-/// The clients and numbers of one batch's requests by their indexes, so that the batch is read once for all its replies.
+/// The clients and numbers of one batch's requests by their indexes, so that the batch is read once for all its
+/// replies.
 #[derive(Drop)]
 pub struct RequestIds {
     /// The batch, from 1; 0 before the first.
@@ -68,7 +69,9 @@ impl RequestIds {
     /// looked for first behind the one that was found last.
     pub fn find(&mut self, attempt: &AttemptView<'_>, sent: &SentView<'_>) -> bool
         requires { self.old.count ≤ 256 }
-        ensures answer { IsTrue result ↔ ((i : ℕ) × IsAnswer (kept self.old) (attempt_in attempt.now.bytes.now).replies (sent_in sent.now.bytes.now) i) }
+        ensures answer { IsTrue result
+            ↔ ((i : ℕ) × IsAnswer (kept self.old) (attempt_in attempt.now.bytes.now).replies
+            (sent_in sent.now.bytes.now) i) }
         ensures batch { self.new.batch ≡ self.old.batch }
         ensures count { self.new.count ≡ self.old.count }
         ensures kept { kept self.new ≡ kept self.old }
@@ -86,8 +89,11 @@ impl RequestIds {
     fn index_of(&self, attempt: &AttemptView<'_>, sent: &SentView<'_>) -> Option<usize>
         requires { self.now.count ≤ 256 }
         ensures below { IfSome result (λ i. i < 256) }
-        ensures found { IfSome result (λ i. IsAnswer (kept self.now) (attempt_in attempt.now.bytes.now).replies (sent_in sent.now.bytes.now) i) }
-        ensures none { IfNone result ((i : ℕ) → ¬ IsAnswer (kept self.now) (attempt_in attempt.now.bytes.now).replies (sent_in sent.now.bytes.now) i) }
+        ensures found { IfSome result
+            (λ i. IsAnswer (kept self.now) (attempt_in attempt.now.bytes.now).replies (sent_in sent.now.bytes.now) i) }
+        ensures none { IfNone result
+            ((i : ℕ) → ¬ IsAnswer (kept self.now) (attempt_in attempt.now.bytes.now).replies
+            (sent_in sent.now.bytes.now) i) }
     {
         if self.is_answer(attempt, sent, self.next) {
             return Some(self.next);
@@ -104,7 +110,8 @@ impl RequestIds {
     fn is_answer(&self, attempt: &AttemptView<'_>, sent: &SentView<'_>, i: usize) -> bool
         requires { self.now.count ≤ 256 }
         ensures below { IsTrue result → i < 256 }
-        ensures answer { IsTrue result ↔ IsAnswer (kept self.now) (attempt_in attempt.now.bytes.now).replies (sent_in sent.now.bytes.now) i }
+        ensures answer { IsTrue result ↔ IsAnswer (kept self.now) (attempt_in attempt.now.bytes.now).replies
+            (sent_in sent.now.bytes.now) i }
     {
         if i >= self.count || i >= attempt.len() {
             return false;

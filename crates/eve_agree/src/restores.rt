@@ -11,7 +11,7 @@ ghost use Rattle.eve_views.specs.Fronts.{whole};
 ghost use Rattle.eve_views.specs.declared.fault.Fault.{Fault as FaultValue};
 ghost use Rattle.eve_views.specs.declared.fault.CheckFault.TheVariants.{Found};
 ghost use Rattle.eve_views.specs.declared.fault.Code.TheVariants as code;
-ghost use Rattle.eve_history.specs.Told.{Ran, telling, IsRightSection};
+ghost use Rattle.eve_history.specs.SectionHistory.{ExecutedAttempt, section_history, IsRightSection};
 ghost use Rattle.eve_chains.specs.Along.{entries_along, AreWithin};
 ghost use Rattle.eve_chains.specs.Sound.{SettledAreSound};
 ghost use Rattle.eve_agree.specs.Tables.{RestoresAreRight};
@@ -30,7 +30,8 @@ fn note_attempt(marks: &mut Marks, history: &History<'_>, i: usize)
     requires there { i < length history.now.attempts }
     requires within { AllByRecursion (λ r. AreWithin (length marks.old) r.ordered) history.now.attempts }
     ensures as_many { length marks.new ≡ length marks.old }
-    ensures marks { (r : Ran) → slice_get history.now.attempts i ≡ Some r → marking_of marks.new ≡ marked (marking_of marks.old) (entries_along r.ordered) }
+    ensures marks { (r : ExecutedAttempt) → slice_get history.now.attempts i ≡ Some r → marking_of marks.new
+        ≡ marked (marking_of marks.old) (entries_along r.ordered) }
 {
     for place in 0..history.attempt(i).len() {
         marks.note(history.ordered(i, place).entries());
@@ -43,15 +44,16 @@ fn note_attempts(marks: &mut Marks, history: &History<'_>, first: usize, end: us
     requires there { end ≤ length history.now.attempts }
     requires within { AllByRecursion (λ r. AreWithin (length marks.old) r.ordered) history.now.attempts }
     ensures as_many { length marks.new ≡ length marks.old }
-    ensures marks { marking_of marks.new ≡ marked (marking_of marks.old) (noted_between history.now.attempts first end) }
+    ensures marks { marking_of marks.new
+        ≡ marked (marking_of marks.old) (noted_between history.now.attempts first end) }
 {
     for i in first..end {
         note_attempt(marks, history, i);
     }
 }
 
-/// Whether a rollback that discards these attempts restores exactly the rows that they wrote, as the first write of each
-/// saw it.
+/// Whether a rollback that discards these attempts restores exactly the rows that they wrote, as the first write of
+/// each saw it.
 fn is_right(
     marks: &mut Marks,
     history: &History<'_>,
@@ -66,8 +68,10 @@ fn is_right(
     requires restores { IsTrue (is_rising (rollback_in rollback.now.bytes.now).restores) }
     requires none { marking_of marks.old ≡ unmarked }
     ensures as_many { length marks.new ≡ length marks.old }
-    ensures right { (table : Table) → marked unmarked (noted_between history.now.attempts first end) ≡ written_in table (noted_between history.now.attempts first end)
-        → result ≡ are_written_in table (noted_between history.now.attempts first end) (rollback_in rollback.now.bytes.now).restores }
+    ensures right { (table : Table) → marked unmarked (noted_between history.now.attempts first end)
+        ≡ written_in table (noted_between history.now.attempts first end)
+        → result ≡ are_written_in table (noted_between history.now.attempts first end)
+        (rollback_in rollback.now.bytes.now).restores }
     ensures none { IsTrue result → marking_of marks.new ≡ unmarked }
 {
     note_attempts(marks, history, first, end);
@@ -81,10 +85,12 @@ pub(crate) fn judge(
     trace: &Trace<'_>,
     history: &History<'_>,
 ) -> Result<(), CheckFault>
-    requires history { history.now ≡ telling (whole trace.now) history.now.replica }
+    requires history { history.now ≡ section_history (whole trace.now) history.now.replica }
     requires right { IsRightSection (whole trace.now) history.now.replica }
-    ensures right { SettledAreSound (whole trace.now) history.now.replica → IfOk result (λ _. RestoresAreRight (whole trace.now) history.now.replica) }
-    ensures least { SettledAreSound (whole trace.now) history.now.replica → IfErr result (λ why. IfFound why (IsLeast (IsRestoreFault (whole trace.now) history.now.replica))) }
+    ensures right { SettledAreSound (whole trace.now) history.now.replica
+        → IfOk result (λ _. RestoresAreRight (whole trace.now) history.now.replica) }
+    ensures least { SettledAreSound (whole trace.now) history.now.replica
+        → IfErr result (λ why. IfFound why (IsLeast (IsRestoreFault (whole trace.now) history.now.replica))) }
 {
     trace.is_whole();
     if history.rollbacks() == 0 {
@@ -116,15 +122,15 @@ pub(crate) fn judge(
 /// and value as they are committed; else the first that does not.
 ///
 /// docs/MODEL.md, "Faults". The replica's attempts were judged before: `sound` is what `check` ensures, under the same
-/// name, where it gives `settled`. The time is linear in what discarded attempts wrote; the memory is a mark for each row,
-/// and none where there is no rollback. Want of memory decides nothing.
+/// name, where it gives `settled`. The time is linear in what discarded attempts wrote; the memory is a mark for each
+/// row, and none where there is no rollback. Want of memory decides nothing.
 pub fn rollbacks(
     alloc: Global,
     trace: &Trace<'_>,
     history: &History<'_>,
     _settled: &Settled<'_>,
 ) -> Result<(), CheckFault>
-    requires history { history.now ≡ telling (whole trace.now) history.now.replica }
+    requires history { history.now ≡ section_history (whole trace.now) history.now.replica }
     requires sound { SettledAreSound (whole trace.now) history.now.replica }
     ensures right { IfOk result (λ _. RestoresAreRight (whole trace.now) history.now.replica) }
     ensures none { IfOk result (λ _. HasNone (IsRestoreFault (whole trace.now) history.now.replica)) }

@@ -8,7 +8,7 @@ ghost use Rattle.eve_views.specs.Fronts.{whole};
 ghost use Rattle.eve_views.specs.declared.fault.CheckFault.TheVariants.{Memory};
 ghost use Rattle.eve_views.specs.declared.fault.Code.TheVariants as code;
 ghost use Rattle.eve_views.specs.declared.fault.Fault.{Fault as FaultValue};
-ghost use Rattle.eve_history.specs.Told.{Ran, telling, tellings};
+ghost use Rattle.eve_history.specs.SectionHistory.{ExecutedAttempt, section_history, section_histories};
 ghost use Rattle.eve_agree.specs.SentReplies.{IsReplied, AllReplied, IsReplyFault};
 ghost use Rattle.eve_agree.specs.Keeping.{AreOf};
 
@@ -23,7 +23,7 @@ use eve_views::{CheckFault, Code, Fault, Trace};
 /// docs/MODEL.md, "Faults". It takes no memory, and never answers want of it. Where replies are sent batch by batch,
 /// each batch is read once.
 pub fn replies(trace: &Trace<'_>, histories: &[History<'_>]) -> Result<(), CheckFault>
-    requires histories { histories.now ≡ tellings (whole trace.now) }
+    requires histories { histories.now ≡ section_histories (whole trace.now) }
     ensures replied { IfOk result (λ _. AllReplied (whole trace.now)) }
     ensures none { IfOk result (λ _. HasNone (IsReplyFault (whole trace.now))) }
     ensures least { IfErr result (λ why. IfFound why (IsLeast (IsReplyFault (whole trace.now)))) }
@@ -59,7 +59,7 @@ fn is_replied(
     request_ids: &mut RequestIds,
     sent: &SentView<'_>,
 ) -> bool
-    requires history { history.now ≡ telling (whole trace.now) (sent_in sent.now.bytes.now).replica }
+    requires history { history.now ≡ section_history (whole trace.now) (sent_in sent.now.bytes.now).replica }
     requires one { 1 ≤ (sent_in sent.now.bytes.now).seq }
     requires there { (sent_in sent.now.bytes.now).seq ≤ length (whole trace.now).batches }
     requires old { AreOf (whole trace.now) request_ids.old }
@@ -78,7 +78,8 @@ fn is_replied(
 /// The attempt by which the replica committed a batch, by the batch's number from 1.
 fn committed<'a>(history: &History<'a>, batch: u32) -> Option<AttemptView<'a>>
     requires { 1 ≤ batch }
-    ensures some { IfSome result (λ a. (r : Ran) × (slice_get history.now.commits (batch - 1) ≡ Some r) × (attempt_in a.bytes.now ≡ r.attempt)) }
+    ensures some { IfSome result (λ a. (r : ExecutedAttempt) × (slice_get history.now.commits (batch - 1) ≡ Some r)
+        × (attempt_in a.bytes.now ≡ r.attempt)) }
     ensures none { IfNone result (slice_get history.now.commits (batch - 1) ≡ None) }
 {
     if batch > history.committed() {

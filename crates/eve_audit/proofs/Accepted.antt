@@ -10,9 +10,11 @@ use Rattle.eve_views.specs.Form.{HasNone}
 use Rattle.eve_audit.specs.Pieces.{IsSoundReplica, IsSoundTogether}
 
 pub no_request_again : (t : Trace) → HasNone (IsOrderFault t) → (at : ℕ) → ¬ StandsInOrders code.SameRequest t at
-no_request_again t none at stands = none (record { code = code.SameRequest; offset = at; replica = None }) (record { stands = stands; outside = refl })
+no_request_again t none at stands = none (record { code = code.SameRequest; offset = at; replica = None })
+    (record { stands = stands; outside = refl })
 
-pub accepted_of : (t : Trace) → HasLimits t → AreDistinct (batch_request_ids t) → ((e : ℕ) → IsSoundReplica t e) → IsSoundTogether t → IsAccepted t
+pub accepted_of : (t : Trace) → HasLimits t → AreDistinct (batch_request_ids t) → ((e : ℕ) → IsSoundReplica t e)
+    → IsSoundTogether t → IsAccepted t
 accepted_of t limits apart replicas together = record {
   limits = limits;
   apart = apart;

@@ -10,8 +10,10 @@ use Rattle.eve_views.specs.declared.fault.Code.{Code}
 use Rattle.eve_views.specs.declared.fault.Code.TheVariants as code
 use Rattle.eve_views.specs.declared.fault.Fault.{Fault}
 use Rattle.eve_views.specs.Form.{SomePlace}
-use Rattle.eve_history.specs.Section.{Placed, SectionState, start, state_after, settled, are_right, is_right_attempt, is_right_certificate, is_right_access, is_right_commit, is_right_rollback, are_right_accesses}
-use Rattle.eve_history.specs.Told.{history, names_of}
+use Rattle.eve_history.specs.Section.{Placed, SectionState, start, state_after, settled, are_right, is_right_attempt}
+use Rattle.eve_history.specs.Section.{is_right_certificate, is_right_access, is_right_commit, is_right_rollback}
+use Rattle.eve_history.specs.Section.{are_right_accesses}
+use Rattle.eve_history.specs.SectionHistory.{history, names_of}
 use Rattle.eve_history.specs.Faults.{StandsInStructure, OfAttempt, OfCommit, OfRollback, accesses_of}
 use Rattle.eve_chains.specs.Visible.{executed_by, visible_to, rows_after}
 use Rattle.eve_chains.specs.Committed.{attempts_of, first_rows}
@@ -39,41 +41,62 @@ besides t sections verifiers sent = record {
 -- ---- the phases, by the steps of a section
 
 abbrev AtStepOf : Trace → (ℕ → SectionState → Step → Type 0) → List (ℕ × Step) → Type 0
-AtStepOf t P steps = SomePlace steps (λ before step. IsTrue (are_right t start before) × P step.0 (state_after start before) step.1)
+AtStepOf t P steps = SomePlace steps (λ before step. IsTrue (are_right t start before)
+    × P step.0 (state_after start before) step.1)
 
 abbrev AtAccessOf : Trace → (ℕ → Attempt → List Access → Access → Type 0) → List (ℕ × Step) → Type 0
 AtAccessOf t P steps = AtStepOf t (λ offset s step. OfAttempt step (λ a.
     IsTrue (is_right_attempt t s a) × IsTrue (is_right_certificate t a)
-    × SomePlace (accesses_at offset a) (λ before x. IsTrue (are_right_accesses t a [] (accesses_of before)) × P x.0 a (accesses_of before) x.1))) steps
+    × SomePlace (accesses_at offset a) (λ before x. IsTrue (are_right_accesses t a [] (accesses_of before))
+    × P x.0 a (accesses_of before) x.1))) steps
 
 abbrev AtSettledOf : (Placed → Access → Type 0) → ℕ → List (ℕ × Step) → Type 0
-AtSettledOf P at steps = SomePlace (settled (state_after start steps)) (λ _ p. SomePlace (accesses_at p.offset p.attempt) (λ _ x. (x.0 ≡ at) × P p x.1))
+AtSettledOf P at steps = SomePlace (settled (state_after start steps))
+    (λ _ p. SomePlace (accesses_at p.offset p.attempt) (λ _ x. (x.0 ≡ at) × P p x.1))
 
-module _ (t : Trace) (sections : List (List Step)) (verifiers : List (List Vote)) (sent : List Sent) (e : ℕ) (same : steps_at t e ≡ steps_at (besides t sections verifiers sent) e) where
-  structure_alone : (c : Code) (at : ℕ) → StandsInStructure c t e at → StandsInStructure c (besides t sections verifiers sent) e at
-  structure_alone code.Attempt at = subst (AtStepOf t (λ offset s step. (offset ≡ at) × OfAttempt step (λ a. IsFalse (is_right_attempt t s a)))) same
-  structure_alone code.Certificate at = subst (AtStepOf t (λ offset s step. (offset ≡ at) × OfAttempt step (λ a. IsFalse (is_right_certificate t a)))) same
-  structure_alone code.Access at = subst (AtAccessOf t (λ offset a before x. (offset ≡ at) × IsFalse (is_right_access t a before x))) same
-  structure_alone code.WorkerOrder at = subst (AtAccessOf t (λ offset a before x. (offset ≡ at) × IsFalse (is_right_place before x))) same
-  structure_alone code.Commit at = subst (AtStepOf t (λ offset s step. (offset ≡ at) × OfCommit step (λ c. IsFalse (is_right_commit s c)))) same
-  structure_alone code.Rollback at = subst (AtStepOf t (λ offset s step. (offset ≡ at) × OfRollback step (λ r. IsFalse (is_right_rollback t s r)))) same
+module _ (t : Trace) (sections : List (List Step)) (verifiers : List (List Vote)) (sent : List Sent) (e : ℕ)
+    (same : steps_at t e ≡ steps_at (besides t sections verifiers sent) e) where
+  structure_alone : (c : Code) (at : ℕ) → StandsInStructure c t e at
+      → StandsInStructure c (besides t sections verifiers sent) e at
+  structure_alone code.Attempt at =
+      subst (AtStepOf t (λ offset s step. (offset ≡ at) × OfAttempt step (λ a. IsFalse (is_right_attempt t s a)))) same
+  structure_alone code.Certificate at =
+      subst (AtStepOf t (λ offset s step. (offset ≡ at) × OfAttempt step (λ a. IsFalse (is_right_certificate t a))))
+      same
+  structure_alone code.Access at =
+      subst (AtAccessOf t (λ offset a before x. (offset ≡ at) × IsFalse (is_right_access t a before x))) same
+  structure_alone code.WorkerOrder at =
+      subst (AtAccessOf t (λ offset a before x. (offset ≡ at) × IsFalse (is_right_place before x))) same
+  structure_alone code.Commit at =
+      subst (AtStepOf t (λ offset s step. (offset ≡ at) × OfCommit step (λ c. IsFalse (is_right_commit s c)))) same
+  structure_alone code.Rollback at =
+      subst (AtStepOf t (λ offset s step. (offset ≡ at) × OfRollback step (λ r. IsFalse (is_right_rollback t s r))))
+      same
   structure_alone c at = λ stands. absurd stands
 
-  records_alone : (c : Code) (at : ℕ) → StandsInRecords c t e at → StandsInRecords c (besides t sections verifiers sent) e at
+  records_alone : (c : Code) (at : ℕ) → StandsInRecords c t e at
+      → StandsInRecords c (besides t sections verifiers sent) e at
   unfolding history
   records_alone code.Record at = subst (AtSettledOf (λ p x. ¬ Fits (names_of t) (executed_by t p.attempt x)) at) same
   records_alone c at = λ stands. absurd stands
 
-  chains_alone : (c : Code) (at : ℕ) → StandsInChains c t e at → StandsInChains c (besides t sections verifiers sent) e at
+  chains_alone : (c : Code) (at : ℕ) → StandsInChains c t e at
+      → StandsInChains c (besides t sections verifiers sent) e at
   unfolding history
-  chains_alone code.Version at = subst (AtSettledOf (λ p x. SomePlace x.entries (λ _ y. y.version ≢ (visible_to t p x.index y.row).version)) at) same
-  chains_alone code.Value at = subst (AtSettledOf (λ p x. SomePlace x.entries (λ _ y. y.seen ≢ (visible_to t p x.index y.row).value)) at) same
+  chains_alone code.Version at =
+      subst (AtSettledOf (λ p x. SomePlace x.entries (λ _ y. y.version ≢ (visible_to t p x.index y.row).version)) at)
+      same
+  chains_alone code.Value at =
+      subst (AtSettledOf (λ p x. SomePlace x.entries (λ _ y. y.seen ≢ (visible_to t p x.index y.row).value)) at) same
   chains_alone c at = λ stands. absurd stands
 
-  restores_alone : (c : Code) (at : ℕ) → StandsInRestores c t e at → StandsInRestores c (besides t sections verifiers sent) e at
+  restores_alone : (c : Code) (at : ℕ) → StandsInRestores c t e at
+      → StandsInRestores c (besides t sections verifiers sent) e at
   restores_alone code.Restore at =
       let P : List (ℕ × Step) → Type 0 =
-      λ steps. SomePlace steps (λ before step. (step.0 ≡ at) × OfRollback step.1 (λ r. IsFalse (are_right_restores t (state_after start before) r.restores))) in
+      λ steps. SomePlace steps
+      (λ before step. (step.0 ≡ at)
+      × OfRollback step.1 (λ r. IsFalse (are_right_restores t (state_after start before) r.restores))) in
       subst P same
   restores_alone c at = λ stands. absurd stands
 
@@ -81,20 +104,28 @@ module _ (t : Trace) (sections : List (List Step)) (verifiers : List (List Vote)
   unfolding history
   same_history = ap (state_after start) same
 
-  tokens_alone : (c : Code) (at : ℕ) → StandsInTokens c t e at → StandsInTokens c (besides t sections verifiers sent) e at
+  tokens_alone : (c : Code) (at : ℕ) → StandsInTokens c t e at
+      → StandsInTokens c (besides t sections verifiers sent) e at
   tokens_alone code.Token at stands =
       let P : SectionState → Type 0 =
       λ s. SomePlace s.committed (λ _ p. (p.offset ≡ at)
-      × (p.attempt.token ≢ flat_token p.attempt.seq (first_rows (2 * length t.customers) (λ row. (rows_after t (attempts_of (take p.attempt.seq s.committed)) row).value)) p.attempt.replies)) in
+      × (p.attempt.token ≢ flat_token p.attempt.seq
+      (first_rows (2 * length t.customers)
+      (λ row. (rows_after t (attempts_of (take p.attempt.seq s.committed)) row).value)) p.attempt.replies)) in
       subst P same_history stands
   tokens_alone c at stands = absurd stands
 
   own_alone : (f : Fault) → IsOwnFault t e f → IsOwnFault (besides t sections verifiers sent) e f
-  own_alone f (of_structure is) = of_structure (record { stands = structure_alone f.code f.offset is.stands; inside = is.inside })
-  own_alone f (of_records is) = of_records (record { stands = records_alone f.code f.offset is.stands; inside = is.inside })
-  own_alone f (of_chains is) = of_chains (record { stands = chains_alone f.code f.offset is.stands; inside = is.inside })
-  own_alone f (of_restores is) = of_restores (record { stands = restores_alone f.code f.offset is.stands; inside = is.inside })
-  own_alone f (of_tokens is) = of_tokens (record { stands = tokens_alone f.code f.offset is.stands; inside = is.inside })
+  own_alone f (of_structure is) =
+      of_structure (record { stands = structure_alone f.code f.offset is.stands; inside = is.inside })
+  own_alone f (of_records is) =
+      of_records (record { stands = records_alone f.code f.offset is.stands; inside = is.inside })
+  own_alone f (of_chains is) =
+      of_chains (record { stands = chains_alone f.code f.offset is.stands; inside = is.inside })
+  own_alone f (of_restores is) =
+      of_restores (record { stands = restores_alone f.code f.offset is.stands; inside = is.inside })
+  own_alone f (of_tokens is) =
+      of_tokens (record { stands = tokens_alone f.code f.offset is.stands; inside = is.inside })
 
 -- ---- two traces
 
@@ -118,5 +149,6 @@ same_steps t u e agree i = located step_text (agree.begins i + length (frame_tex
 pub own_faults_alone : (t u : Trace) (e : ℕ) (f : Fault) → AgreeFor t u e → IsOwnFault t e f → IsOwnFault u e f
 own_faults_alone t u e f agree is =
     let all = as_besides t u e agree in
-    let same : steps_at t e ≡ steps_at (besides t u.sections u.verifiers u.sent) e = same_steps t u e agree ∙ ap (λ (v : Trace). steps_at v e) (sym all) in
+    let same : steps_at t e ≡ steps_at (besides t u.sections u.verifiers u.sent) e = same_steps t u e agree
+    ∙ ap (λ (v : Trace). steps_at v e) (sym all) in
     subst (λ (v : Trace). IsOwnFault v e f) all (own_alone t u.sections u.verifiers u.sent e same f is)

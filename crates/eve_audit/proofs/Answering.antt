@@ -20,11 +20,13 @@ use Rattle.eve_audit.proofs.Within.{trace_fault_within, long_as}
 use Rattle.eve_audit.proofs.Naming.{named_in, named_in_none}
 
 module _ (bytes : List ℕ) (t : Trace) (read : IsRead bytes t) (once : (u : Trace) → Spells bytes u → u ≡ t) where
-  pub no_for : ((f : Fault) → IsOrderFault t f → f.offset ≤ length_of t) → ((e : ℕ) → FatesAreAsItEnds t e) → (f : Fault) → IsFirstOf (IsTraceFault t) f → IsAnswer bytes (No f)
+  pub no_for : ((f : Fault) → IsOrderFault t f → f.offset ≤ length_of t) → ((e : ℕ) → FatesAreAsItEnds t e)
+      → (f : Fault) → IsFirstOf (IsTraceFault t) f → IsAnswer bytes (No f)
   no_for orders fates f found = record {
     verdict = trace_first bytes t read.spells once f read.none found;
     yes = tt;
-    within = (let within = trace_fault_within t orders fates f found.is in let long = long_as bytes t read.spells in omega (arith, within, long));
+    within = (let within = trace_fault_within t orders fates f found.is in let long = long_as bytes t read.spells in
+        omega (arith, within, long));
     replica = named_in bytes t read.spells once fates f found.is;
   }
 
@@ -37,8 +39,14 @@ module _ (bytes : List ℕ) (t : Trace) (read : IsRead bytes t) (once : (u : Tra
   }
 
 -- a fault of form
-pub form_for : (bytes : List ℕ) (why : CheckFault) → IfFound why (IsLeast (IsFormFault bytes)) → IfFound why (λ _. (t : Trace) → ¬ Spells bytes t) → IfFound why (λ f. f.offset ≤ length bytes)
+pub form_for : (bytes : List ℕ) (why : CheckFault) → IfFound why (IsLeast (IsFormFault bytes))
+    → IfFound why (λ _. (t : Trace) → ¬ Spells bytes t) → IfFound why (λ f. f.offset ≤ length bytes)
     → IfFound why (λ f. IsAnswer bytes (No f))
 form_for bytes Memory least none within = tt
 form_for bytes (Found f) least none within =
-    record { verdict = found_in_form bytes (Found f) least none; yes = tt; within = within; replica = named_in_none bytes f least.is none }
+    record {
+      verdict = found_in_form bytes (Found f) least none;
+      yes = tt;
+      within = within;
+      replica = named_in_none bytes f least.is none;
+    }

@@ -1,5 +1,6 @@
 -- What can be decided.
-use Rattle.std.proofs.Common.{◌≡◌, ℕ, zero, suc, ℤ, pos, ◌<◌, ◌⊎◌, inl, inr, List, [], ◌∷◌, Option, Some, None, IfSome, refl, sym, ap, ap₂, subst, ◌∙◌, arith}
+use Rattle.std.proofs.Common.{◌≡◌, ℕ, zero, suc, ℤ, pos, ◌<◌, ◌⊎◌, inl, inr, List, [], ◌∷◌, Option, Some, None, IfSome}
+use Rattle.std.proofs.Common.{refl, sym, ap, ap₂, subst, ◌∙◌, arith}
 use Rattle.std.specs.List.{AllByRecursion}
 use Rattle.std.specs.Ordering.{int_eq}
 use Rattle.std.proofs.lemmas.Bool.{cases_Bool, cases_eq, cases_lt}
@@ -42,7 +43,11 @@ module _ {A : Type 0} (P : A → Type 0) (decided : (x : A) → Decided (P x)) w
   pub all_or_place : (xs : List A) → AllByRecursion P xs ⊎ SomePlace xs (λ _ x. ¬ P x)
   all_or_place [] = inl tt
   all_or_place (x ∷ xs) = elim (decided x) [
-    | inl here ↦ elim (all_or_place xs) [ inl all ↦ inl (here, all) | inr place ↦ inr (place_later (λ _ y. ¬ P y) x xs place) ]
+    | inl here ↦ elim (all_or_place xs) [
+      | inl all ↦ inl (here, all)
+      | inr place
+          ↦ inr (place_later (λ _ y. ¬ P y) x xs place)
+    ]
     | inr wrong ↦ inr (place_here (λ _ y. ¬ P y) x xs wrong)
   ]
 
@@ -89,10 +94,15 @@ pub numbers : HasEquality ℕ
 numbers = cases_eq
 
 pub integers : HasEquality ℤ
-integers x y = elim (cases_Bool (int_eq x y)) [ inl same ↦ inl ((Decides-int_eq x y).0 same) | inr apart ↦ inr (not_from_Decides (int_eq x y) (Decides-int_eq x y) apart) ]
+integers x y = elim (cases_Bool (int_eq x y)) [
+  | inl same ↦ inl ((Decides-int_eq x y).0 same)
+  | inr apart
+      ↦ inr (not_from_Decides (int_eq x y) (Decides-int_eq x y) apart)
+]
 
 pub pairs : {A B : Type 0} → HasEquality A → HasEquality B → HasEquality (A × B)
-pairs {A = A} {B = B} first second x y = decided_as (λ both i. (both.0 i, both.1 i)) (λ e. (ap (λ (z : A × B). z.0) e, ap (λ (z : A × B). z.1) e)) (decided_both (first x.0 y.0) (second x.1 y.1))
+pairs {A = A} {B = B} first second x y = decided_as (λ both i. (both.0 i, both.1 i))
+    (λ e. (ap (λ (z : A × B). z.0) e, ap (λ (z : A × B). z.1) e)) (decided_both (first x.0 y.0) (second x.1 y.1))
 
 pub lists : {A : Type 0} → HasEquality A → HasEquality (List A)
 lists equal [] [] = inl refl
@@ -105,7 +115,8 @@ lists {A = A} equal (x ∷ xs) [] = inr (none x xs)
     none : (x : A) (xs : List A) → ◌≡◌ {A = List A} (x ∷ xs) [] → ⊥
     none x xs e = cc
 lists {A = A} equal (x ∷ xs) (y ∷ ys) =
-    decided_as (λ both. ap₂ (λ (z : A) (zs : List A). z ∷ zs) both.0 both.1) (λ e. (first x y xs ys e, others x y xs ys e)) (decided_both (equal x y) (lists equal xs ys))
+    decided_as (λ both. ap₂ (λ (z : A) (zs : List A). z ∷ zs) both.0 both.1)
+    (λ e. (first x y xs ys e, others x y xs ys e)) (decided_both (equal x y) (lists equal xs ys))
   where
     first : (x y : A) (xs ys : List A) → ◌≡◌ {A = List A} (x ∷ xs) (y ∷ ys) → x ≡ y
     first x y xs ys e = cc
@@ -185,7 +196,8 @@ entry_of x = record { row = x.0.0; kind = x.0.1; version = x.1.0.0; seen = x.1.0
 
 entries : HasEquality Entry
 unfolding entry_of told
-entries = told_apart_by told entry_of (λ e. refl) (pairs (pairs numbers kinds) (pairs (pairs numbers integers) integers))
+entries = told_apart_by told entry_of (λ e. refl)
+    (pairs (pairs numbers kinds) (pairs (pairs numbers integers) integers))
 
 pub entry_lists : HasEquality (List Entry)
 entry_lists = lists entries

@@ -30,11 +30,15 @@ record IsLowest (t : Trace) (n c : ℕ) : Type 0 where
 lowest : (t : Trace) (n : ℕ) → (c : ℕ) × IsLowest t n c
 lowest t zero = (
   last_of t 0,
-  record { least = λ e lt. (let same : e ≡ 0 = omega (arith, lt) in omega (arith, ap (last_of t) same)); reached = (0, omega arith, refl) },
+  record {
+    least = λ e lt. (let same : e ≡ 0 = omega (arith, lt) in omega (arith, ap (last_of t) same));
+    reached = (0, omega arith, refl);
+  },
 )
 lowest t (suc n) = by (lowest t n) (cases_lt (last_of t (suc n)) (lowest t n).0)
   where
-    by : (found : (c : ℕ) × IsLowest t n c) → (last_of t (suc n) < found.0) ⊎ (found.0 ≤ last_of t (suc n)) → (c : ℕ) × IsLowest t (suc n) c
+    by : (found : (c : ℕ) × IsLowest t n c) → (last_of t (suc n) < found.0) ⊎ (found.0 ≤ last_of t (suc n)) → (c : ℕ)
+        × IsLowest t (suc n) c
     by found (inl lt) = (
       last_of t (suc n),
       record {
@@ -71,18 +75,35 @@ summary_of t some =
 
 -- ---- the verdict
 
-module _ (fits : (names : List (List ℕ)) (x : Executed) → Decided (Fits names x)) (once : (bytes : List ℕ) (t u : Trace) → Spells bytes t → Spells bytes u → t ≡ u)
-    (orders : (t : Trace) (f : Fault) → IsOrderFault t f → f.offset ≤ length_of t) (fates : (t : Trace) (e : ℕ) → FatesAreAsItEnds t e) where
+module _ (fits : (names : List (List ℕ)) (x : Executed) → Decided (Fits names x)) (once : (bytes : List ℕ) (t u : Trace)
+    → Spells bytes t → Spells bytes u → t ≡ u)
+    (orders : (t : Trace) (f : Fault) → IsOrderFault t f → f.offset ≤ length_of t)
+    (fates : (t : Trace) (e : ℕ) → FatesAreAsItEnds t e) where
   of_trace : (bytes : List ℕ) (t : Trace) → IsRead bytes t → (v : Verdict) × IsVerdict bytes v
   of_trace bytes t read = elim (first_in_trace t (fates t) read.spells.limits fits (orders t)) [
-    | inl found ↦ (No found.0, trace_first bytes t read.spells (λ u other. once bytes u t other read.spells) found.0 read.none found.1)
+    | inl found ↦ (
+      No found.0,
+      trace_first bytes t read.spells (λ u other. once bytes u t other read.spells) found.0
+          read.none found.1,
+    )
     | inr none ↦
-        let summary = summary_of t (some_replica (head_of t) read.spells.limits.head) in
-        (Yes summary.0, (t, read.spells, faultless bytes t read.spells (λ u other. once bytes u t other read.spells) read.none none, summary.1))
+        let summary = summary_of t (some_replica (head_of t) read.spells.limits.head) in (
+          Yes summary.0,
+          (
+            t,
+            read.spells,
+            faultless bytes t read.spells (λ u other. once bytes u t other read.spells)
+                read.none none,
+            summary.1,
+          ),
+        )
   ]
 
   -- with what is found of form
-  pub some_verdict : (bytes : List ℕ) → ((f : Fault) × IsLeast (IsFormFault bytes) f) ⊎ ((t : Trace) × Spells bytes t) → ((f : Fault) (t : Trace) → IsFormFault bytes f → ¬ Spells bytes t)
+  pub some_verdict : (bytes : List ℕ) → ((f : Fault) × IsLeast (IsFormFault bytes) f) ⊎ ((t : Trace) × Spells bytes t)
+      → ((f : Fault) (t : Trace) → IsFormFault bytes f → ¬ Spells bytes t)
       → (v : Verdict) × IsVerdict bytes v
-  some_verdict bytes (inl found) apart = (No found.0, found_in_form bytes (Found found.0) found.1 (λ t. apart found.0 t found.1.is))
-  some_verdict bytes (inr read) apart = of_trace bytes read.0 (record { spells = read.1; none = λ f is. apart f read.0 is read.1 })
+  some_verdict bytes (inl found) apart =
+      (No found.0, found_in_form bytes (Found found.0) found.1 (λ t. apart found.0 t found.1.is))
+  some_verdict bytes (inr read) apart =
+      of_trace bytes read.0 (record { spells = read.1; none = λ f is. apart f read.0 is read.1 })

@@ -9,7 +9,7 @@ use Rattle.eve_smallbank.specs.Execution.{executed_on}
 use Rattle.eve_grammar.specs.Trace.{Trace}
 use Rattle.eve_grammar.specs.Limits.{Spells, HasLimits}
 use Rattle.eve_views.specs.declared.fault.Code.TheVariants as code
-use Rattle.eve_history.specs.Told.{names_of, IsRightSection}
+use Rattle.eve_history.specs.SectionHistory.{names_of, IsRightSection}
 use Rattle.eve_history.specs.Faults.{StandsInOrders}
 use Rattle.eve_chains.specs.Visible.{executed_by}
 use Rattle.eve_chains.specs.Committed.{batch_request_ids, AreDistinct}
@@ -19,7 +19,9 @@ use Rattle.eve_audit.specs.Accepted.{IsAccepted}
 use Rattle.eve_audit.specs.Audited.{IsAudited}
 use Rattle.eve_audit.specs.declared.verdict.Summary.{Summary}
 use Rattle.eve_audit.specs.declared.verdict.Verdict.TheVariants.{Yes}
-use Rattle.eve_audit.specs.Verdict.{Stands, IsVerdict, SpellsAudited, IsOwnFault, of_structure, of_records, of_chains, of_restores, of_tokens, IsTraceFault, of_votes, of_majorities, of_agreement, of_replies, in_orders, in_section, in_common}
+use Rattle.eve_audit.specs.Verdict.{Stands, IsVerdict, SpellsAudited, IsOwnFault, of_structure, of_records, of_chains}
+use Rattle.eve_audit.specs.Verdict.{of_restores, of_tokens, IsTraceFault, of_votes, of_majorities, of_agreement}
+use Rattle.eve_audit.specs.Verdict.{of_replies, in_orders, in_section, in_common}
 use Rattle.eve_views.specs.Form.{HasNone}
 use Rattle.eve_audit.specs.Pieces.{IsSoundReplica, IsSoundTogether}
 use Rattle.eve_audit.proofs.Accepted.{no_request_again, accepted_of}
@@ -32,21 +34,26 @@ use Rattle.eve_audit.proofs.UnfaultedTogether.{sound_votes, all_backed, all_agre
 -- what is known of records and requests
 pub record Laws : Type 0 where
   pub fit : (names : List (List ℕ)) (table : Table) (request : Request) → Fits names (executed_on names table request)
-  pub only : (names : List (List ℕ)) (table : Table) (x : Executed) → Fits names x → AllByRecursion (Sees table) x.entries → x ≡ executed_on names table x.request
+  pub only : (names : List (List ℕ)) (table : Table) (x : Executed) → Fits names x
+      → AllByRecursion (Sees table) x.entries → x ≡ executed_on names table x.request
   pub apart : (t : Trace) → ((at : ℕ) → ¬ StandsInOrders code.SameRequest t at) → AreDistinct (batch_request_ids t)
   pub see : (t : Trace) (e : ℕ) → HasNoFault t e → EntriesSee t e
-  pub refuted : (t : Trace) (e : ℕ) → HasNoFault t e → OfSettledAccesses t e (λ p x. ¬ ¬ Fits (names_of t) (executed_by t p.attempt x))
-  pub sound : (t : Trace) (e : ℕ) → HasLimits t → IsRightSection t e → RecordsFit t e → EntriesSee t e → SettledAreSound t e
+  pub refuted : (t : Trace) (e : ℕ) → HasNoFault t e
+      → OfSettledAccesses t e (λ p x. ¬ ¬ Fits (names_of t) (executed_by t p.attempt x))
+  pub sound : (t : Trace) (e : ℕ) → HasLimits t → IsRightSection t e → RecordsFit t e → EntriesSee t e
+      → SettledAreSound t e
 
 module _ (laws : Laws) (t : Trace) (limits : HasLimits t) where
   -- a replica without a fault of its own
   own_sound : (e : ℕ) → HasNone (IsOwnFault t e) → IsSoundReplica t e
   own_sound e none =
       let right = right_section t e (λ f is. none f (of_structure is)) in
-      let attempts : HasNoFault t e = record { records = λ f is. none f (of_records is); chains = λ f is. none f (of_chains is) } in
+      let attempts : HasNoFault t e =
+      record { records = λ f is. none f (of_records is); chains = λ f is. none f (of_chains is) } in
       record {
         right = right;
-        sound = laws.sound t e limits right (records_fit t e (fits_decided laws.fit laws.only) (laws.refuted t e attempts)) (laws.see t e attempts);
+        sound = laws.sound t e limits right
+            (records_fit t e (fits_decided laws.fit laws.only) (laws.refuted t e attempts)) (laws.see t e attempts);
         restores = right_restores t e (λ f is. none f (of_restores is));
         tokens = due_tokens t e (λ f is. none f (of_tokens is));
       }
@@ -67,19 +74,24 @@ module _ (laws : Laws) (t : Trace) (limits : HasLimits t) where
     }
 
     pub unfaulted_accepted : IsAccepted t
-    unfaulted_accepted = accepted_of t limits (laws.apart t (no_request_again t (λ f is. none f (in_orders is)))) all_sound together
+    unfaulted_accepted = accepted_of t limits (laws.apart t (no_request_again t (λ f is. none f (in_orders is))))
+        all_sound together
 
 -- where nothing stands in the bytes, nothing does in the trace
-pub faultless_trace : (bytes : List ℕ) (t : Trace) → ((u : Trace) → Spells bytes u → u ≡ t) → Spells bytes t → HasNone (Stands bytes) → HasNone (IsTraceFault t)
+pub faultless_trace : (bytes : List ℕ) (t : Trace) → ((u : Trace) → Spells bytes u → u ≡ t) → Spells bytes t
+    → HasNone (Stands bytes) → HasNone (IsTraceFault t)
 faultless_trace bytes t once spells none f is = none f (stands_in_bytes bytes t spells once f is)
 
 -- a yes is said of such bytes alone
-pub yes_audited : Laws → ((t : Trace) → IsAccepted t → IsAudited t) → ((bytes : List ℕ) (t u : Trace) → Spells bytes t → Spells bytes u → t ≡ u) → (bytes : List ℕ) (s : Summary) → IsVerdict bytes (Yes s) → SpellsAudited bytes
+pub yes_audited : Laws → ((t : Trace) → IsAccepted t → IsAudited t)
+    → ((bytes : List ℕ) (t u : Trace) → Spells bytes t → Spells bytes u → t ≡ u) → (bytes : List ℕ) (s : Summary)
+    → IsVerdict bytes (Yes s) → SpellsAudited bytes
 yes_audited laws audited once bytes s is =
     let t : Trace = is.0 in
     let spells : Spells bytes t = is.1 in
     record {
       trace = t;
       spells = spells;
-      audited = audited t (unfaulted_accepted laws t spells.limits (faultless_trace bytes t (λ u other. once bytes u t other spells) spells is.2));
+      audited = audited t (unfaulted_accepted laws t spells.limits
+          (faultless_trace bytes t (λ u other. once bytes u t other spells) spells is.2));
     }

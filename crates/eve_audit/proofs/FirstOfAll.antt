@@ -1,5 +1,6 @@
 -- The first of the faults of a trace, where one stands.
-use Rattle.std.proofs.Common.{◌≡◌, ℕ, zero, suc, ◌+◌, ◌<◌, ◌≤◌, ◌⊎◌, inl, inr, length, Some, None, List, refl, sym, ap, subst, ◌∙◌, arith, take_all}
+use Rattle.std.proofs.Common.{◌≡◌, ℕ, zero, suc, ◌+◌, ◌<◌, ◌≤◌, ◌⊎◌, inl, inr, length, Some, None, List, refl, sym, ap}
+use Rattle.std.proofs.Common.{subst, ◌∙◌, arith, take_all}
 use Rattle.std.specs.List.{flat_map}
 use Rattle.std.proofs.lemmas.Bool.{cases_lt}
 use Rattle.eve_smallbank.specs.Access.{Executed, Fits}
@@ -19,7 +20,9 @@ use Rattle.eve_votes.specs.Faults.{StandsInVotes}
 use Rattle.eve_agree.specs.Majority.{StandsInMajorities}
 use Rattle.eve_agree.specs.Agreement.{StandsInAgreement}
 use Rattle.eve_agree.specs.SentReplies.{StandsInReplies}
-use Rattle.eve_audit.specs.Verdict.{IsOwnFault, of_structure, of_records, of_chains, of_restores, of_tokens, IsTraceFault, of_votes, of_majorities, of_agreement, of_replies, in_orders, in_section, in_common}
+use Rattle.eve_audit.specs.Verdict.{IsOwnFault, of_structure, of_records, of_chains, of_restores, of_tokens}
+use Rattle.eve_audit.specs.Verdict.{IsTraceFault, of_votes, of_majorities, of_agreement, of_replies, in_orders}
+use Rattle.eve_audit.specs.Verdict.{in_section, in_common}
 use Rattle.eve_views.specs.Form.{HasNone, Precedes}
 use Rattle.eve_audit.specs.Pieces.{IsFirstOf}
 use Rattle.eve_audit.proofs.Sections.{LiesIn, FatesAreAsItEnds}
@@ -28,7 +31,9 @@ use Rattle.eve_audit.proofs.Placed.{majority_lies, outcome_lies}
 use Rattle.eve_audit.proofs.Within.{fewer, trace_fault_within}
 use Rattle.eve_audit.proofs.Deciding.{Decided, decided_as, decided_both, numbers, below_or_none}
 use Rattle.eve_audit.proofs.UnfaultedTogether.{length-enumerated}
-use Rattle.eve_audit.proofs.StandingDecided.{orders_decided, votes_decided, replies_decided, structure_decided, records_decided, chains_decided, restores_decided, tokens_decided, majorities_decided, agreement_decided}
+use Rattle.eve_audit.proofs.StandingDecided.{orders_decided, votes_decided, replies_decided, structure_decided}
+use Rattle.eve_audit.proofs.StandingDecided.{records_decided, chains_decided, restores_decided, tokens_decided}
+use Rattle.eve_audit.proofs.StandingDecided.{majorities_decided, agreement_decided}
 
 decided_either : {P Q : Type 0} → Decided P → Decided Q → Decided (P ⊎ Q)
 decided_either (inl p) q = inl (inl p)
@@ -54,7 +59,11 @@ first_below P decided (suc n) = elim (first_below P decided n) [
     less n i lt = omega (arith, lt)
 
     by : (j : ℕ) → j < suc n → ((i : ℕ) → i < n → ¬ P i) → ¬ P n → ¬ P j
-    by j lt none wrong = elim (cases_lt j n) [ inl below ↦ none j below | inr up ↦ (let same : n ≡ j = omega (arith, lt, up) in subst (λ (k : ℕ). ¬ P k) same wrong) ]
+    by j lt none wrong = elim (cases_lt j n) [
+      | inl below ↦ none j below
+      | inr up
+          ↦ (let same : n ≡ j = omega (arith, lt, up) in subst (λ (k : ℕ). ¬ P k) same wrong)
+    ]
 
 -- ---- the first by phase, offset and number
 
@@ -66,19 +75,23 @@ phase-few : (c : Code) → phase_of c < 12
 phase-few code.Length = omega arith
 phase-few c = omega arith
 
-module _ (S : Code → ℕ → Type 0) (decided : (c : Code) (at : ℕ) → Decided (S c at)) (end : ℕ) (within : (c : Code) (at : ℕ) → S c at → at ≤ end) where
+module _ (S : Code → ℕ → Type 0) (decided : (c : Code) (at : ℕ) → Decided (S c at)) (end : ℕ)
+    (within : (c : Code) (at : ℕ) → S c at → at ≤ end) where
   -- at this place
   abbrev Here : ℕ → ℕ → ℕ → Type 0
-  Here phase at number = (phase_of (code_with number) ≡ phase) × (number_of (code_with number) ≡ number) × S (code_with number) at
+  Here phase at number = (phase_of (code_with number) ≡ phase) × (number_of (code_with number) ≡ number)
+      × S (code_with number) at
 
   here : (phase at number : ℕ) → Decided (Here phase at number)
   here phase at number =
       decided_as (λ all. (all.0.0, all.0.1, all.1)) (λ all. ((all.0, all.1), all.2))
-      (decided_both (decided_both (numbers (phase_of (code_with number)) phase) (numbers (number_of (code_with number)) number)) (decided (code_with number) at))
+      (decided_both (decided_both (numbers (phase_of (code_with number)) phase)
+      (numbers (number_of (code_with number)) number)) (decided (code_with number) at))
 
   here_from : (c : Code) (at : ℕ) → S c at → Here (phase_of c) at (number_of c)
   here_from c at stands =
-      let same = sym (with_its_number c) in (ap phase_of (with_its_number c), ap number_of (with_its_number c), subst (λ (d : Code). S d at) same stands)
+      let same = sym (with_its_number c) in
+      (ap phase_of (with_its_number c), ap number_of (with_its_number c), subst (λ (d : Code). S d at) same stands)
 
   abbrev AtOffset : ℕ → ℕ → Type 0
   AtOffset phase at = (number : ℕ) × (number < 91) × Here phase at number
@@ -104,9 +117,11 @@ module _ (S : Code → ℕ → Type 0) (decided : (c : Code) (at : ℕ) → Deci
     pub offset : ℕ
     pub stands : S kind offset
     pub first : (c : Code) (at : ℕ) → S c at
-        → (phase_of kind < phase_of c) ⊎ ((phase_of kind ≡ phase_of c) × ((offset < at) ⊎ ((offset ≡ at) × (number_of kind ≤ number_of c))))
+        → (phase_of kind < phase_of c)
+        ⊎ ((phase_of kind ≡ phase_of c) × ((offset < at) ⊎ ((offset ≡ at) × (number_of kind ≤ number_of c))))
 
-  made : (phase at number : ℕ) → ((p : ℕ) → p < phase → ¬ InPhase p) → ((o : ℕ) → o < at → ¬ AtOffset phase o) → ((k : ℕ) → k < number → ¬ Here phase at k) → Here phase at number → IsFirstHere
+  made : (phase at number : ℕ) → ((p : ℕ) → p < phase → ¬ InPhase p) → ((o : ℕ) → o < at → ¬ AtOffset phase o)
+      → ((k : ℕ) → k < number → ¬ Here phase at k) → Here phase at number → IsFirstHere
   made phase at number no_phase no_offset no_number is = record {
     kind = code_with number;
     offset = at;
@@ -114,19 +129,27 @@ module _ (S : Code → ℕ → Type 0) (decided : (c : Code) (at : ℕ) → Deci
     first = λ c o stands. by c o stands (cases_lt phase (phase_of c)) (cases_lt (phase_of c) phase);
   }
     where
-      lowest : (c : Code) → phase ≡ phase_of c → S c at → (number_of c < number) ⊎ (number ≤ number_of c) → number_of (code_with number) ≤ number_of c
+      lowest : (c : Code) → phase ≡ phase_of c → S c at → (number_of c < number) ⊎ (number ≤ number_of c)
+          → number_of (code_with number) ≤ number_of c
       lowest c same stands (inr le) = omega (arith, is.1, le)
-      lowest c same stands (inl lt) = absurd (no_number (number_of c) lt (subst (λ (p : ℕ). Here p at (number_of c)) (sym same) (here_from c at stands)))
+      lowest c same stands (inl lt) =
+          absurd (no_number (number_of c) lt
+          (subst (λ (p : ℕ). Here p at (number_of c)) (sym same) (here_from c at stands)))
 
-      up_to : (c : Code) (o : ℕ) → phase ≡ phase_of c → S c o → (at < o) ⊎ (o ≤ at) → (o < at) ⊎ (at ≤ o) → (at < o) ⊎ ((at ≡ o) × (number_of (code_with number) ≤ number_of c))
+      up_to : (c : Code) (o : ℕ) → phase ≡ phase_of c → S c o → (at < o) ⊎ (o ≤ at) → (o < at) ⊎ (at ≤ o) → (at < o)
+          ⊎ ((at ≡ o) × (number_of (code_with number) ≤ number_of c))
       up_to c o same stands (inl lt) other = inl lt
-      up_to c o same stands (inr le) (inl lt) = absurd (no_offset o lt (subst (λ (p : ℕ). AtOffset p o) (sym same) (offset_from c o stands)))
+      up_to c o same stands (inr le) (inl lt) =
+          absurd (no_offset o lt (subst (λ (p : ℕ). AtOffset p o) (sym same) (offset_from c o stands)))
       up_to c o same stands (inr le) (inr ge) =
           let equal : at ≡ o = omega (arith, le, ge) in
           inr (equal, lowest c same (subst (S c) (sym equal) stands) (cases_lt (number_of c) number))
 
-      by : (c : Code) (o : ℕ) → S c o → (phase < phase_of c) ⊎ (phase_of c ≤ phase) → (phase_of c < phase) ⊎ (phase ≤ phase_of c)
-          → (phase_of (code_with number) < phase_of c) ⊎ ((phase_of (code_with number) ≡ phase_of c) × ((at < o) ⊎ ((at ≡ o) × (number_of (code_with number) ≤ number_of c))))
+      by : (c : Code) (o : ℕ) → S c o → (phase < phase_of c) ⊎ (phase_of c ≤ phase) → (phase_of c < phase)
+          ⊎ (phase ≤ phase_of c)
+          → (phase_of (code_with number) < phase_of c)
+          ⊎ ((phase_of (code_with number) ≡ phase_of c)
+          × ((at < o) ⊎ ((at ≡ o) × (number_of (code_with number) ≤ number_of c))))
       by c o stands (inl lt) other = inl (omega (arith, is.0, lt))
       by c o stands (inr le) (inl lt) = absurd (no_phase (phase_of c) lt (phase_from c o stands))
       by c o stands (inr le) (inr ge) =
@@ -148,28 +171,33 @@ module _ (S : Code → ℕ → Type 0) (decided : (c : Code) (at : ℕ) → Deci
 -- ---- what stands in a trace
 
 abbrev Own : Trace → ℕ → Code → ℕ → Type 0
-Own t e c at = StandsInStructure c t e at ⊎ (StandsInRecords c t e at ⊎ (StandsInChains c t e at ⊎ (StandsInRestores c t e at ⊎ StandsInTokens c t e at)))
+Own t e c at = StandsInStructure c t e at
+    ⊎ (StandsInRecords c t e at ⊎ (StandsInChains c t e at ⊎ (StandsInRestores c t e at ⊎ StandsInTokens c t e at)))
 
 abbrev OfSome : Trace → (ℕ → Type 0) → Type 0
 OfSome t P = (e : ℕ) × (e < length t.sections) × P e
 
 abbrev StandsAt : Trace → Code → ℕ → Type 0
 StandsAt t c at =
-    StandsInOrders c t at ⊎ (OfSome t (λ e. Own t e c at) ⊎ (StandsInVotes c t at ⊎ (OfSome t (λ e. StandsInMajorities c t e at)
+    StandsInOrders c t at ⊎ (OfSome t (λ e. Own t e c at)
+    ⊎ (StandsInVotes c t at ⊎ (OfSome t (λ e. StandsInMajorities c t e at)
     ⊎ (OfSome t (λ e. StandsInAgreement c t e at) ⊎ StandsInReplies c t at))))
 
 of_some : (t : Trace) (P : ℕ → Type 0) → ((e : ℕ) → Decided (P e)) → Decided (OfSome t P)
 of_some t P decided = below_or_none P decided (length t.sections)
 
-all_decided : (t : Trace) → HasLimits t → ((names : List (List ℕ)) (x : Executed) → Decided (Fits names x)) → (c : Code) (at : ℕ) → Decided (StandsAt t c at)
+all_decided : (t : Trace) → HasLimits t → ((names : List (List ℕ)) (x : Executed) → Decided (Fits names x))
+    → (c : Code) (at : ℕ) → Decided (StandsAt t c at)
 all_decided t limits fits c at =
     decided_either (orders_decided t at c)
     (decided_either (of_some t (λ e. Own t e c at) (λ e.
-    decided_either (structure_decided t at e c) (decided_either (records_decided t at e fits c) (decided_either (chains_decided t at e c)
+    decided_either (structure_decided t at e c)
+    (decided_either (records_decided t at e fits c) (decided_either (chains_decided t at e c)
     (decided_either (restores_decided t at e c) (tokens_decided t at e c))))))
     (decided_either (votes_decided t at limits c)
     (decided_either (of_some t (λ e. StandsInMajorities c t e at) (λ e. majorities_decided t at e c))
-    (decided_either (of_some t (λ e. StandsInAgreement c t e at) (λ e. agreement_decided t at e c)) (replies_decided t at c)))))
+    (decided_either (of_some t (λ e. StandsInAgreement c t e at) (λ e. agreement_decided t at e c))
+    (replies_decided t at c)))))
 
 -- a fault of this code at this offset
 record IsAt (t : Trace) (c : Code) (at : ℕ) : Type 0 where
@@ -199,12 +227,43 @@ module _ (t : Trace) (c : Code) (at : ℕ) where
 
   fault_at : StandsAt t c at → IsAt t c at
   unfolding inside outside
-  fault_at (inl s) = record { fault = outside; is = in_orders (record { stands = s; outside = refl }); kind = refl; offset = refl }
+  fault_at (inl s) = record {
+    fault = outside;
+    is = in_orders (record { stands = s; outside = refl });
+    kind = refl;
+    offset = refl;
+  }
   fault_at (inr (inl s)) = own_at s.0 s.1 (own_fault s.0 s.2)
-  fault_at (inr (inr (inl s))) = record { fault = outside; is = in_common (of_votes (record { stands = s; outside = refl })); kind = refl; offset = refl }
-  fault_at (inr (inr (inr (inl s)))) = record { fault = inside s.0; is = in_common (of_majorities (record { replica = s.0; stands = s.2; inside = refl })); kind = refl; offset = refl }
-  fault_at (inr (inr (inr (inr (inl s))))) = record { fault = inside s.0; is = in_common (of_agreement (record { replica = s.0; stands = s.2; inside = refl })); kind = refl; offset = refl }
-  fault_at (inr (inr (inr (inr (inr s))))) = record { fault = outside; is = in_common (of_replies (record { stands = s; outside = refl })); kind = refl; offset = refl }
+  fault_at (inr (inr (inl s))) =
+      record {
+        fault = outside;
+        is = in_common (of_votes (record { stands = s; outside = refl }));
+        kind = refl;
+        offset = refl;
+      }
+  fault_at (inr (inr (inr (inl s)))) =
+      record {
+        fault = inside s.0;
+        is = in_common (of_majorities (record { replica = s.0; stands = s.2; inside = refl }));
+        kind = refl;
+        offset =
+            refl;
+      }
+  fault_at (inr (inr (inr (inr (inl s))))) =
+      record {
+        fault = inside s.0;
+        is = in_common (of_agreement (record { replica = s.0; stands = s.2; inside = refl }));
+        kind = refl;
+        offset =
+            refl;
+      }
+  fault_at (inr (inr (inr (inr (inr s))))) =
+      record {
+        fault = outside;
+        is = in_common (of_replies (record { stands = s; outside = refl }));
+        kind = refl;
+        offset = refl;
+      }
 
 -- a section in which an offset lies is there
 there : (t : Trace) (e at : ℕ) → LiesIn t e at → e < length t.sections
@@ -212,7 +271,9 @@ there t e at lies = elim (cases_lt e (length t.sections)) [
   | inl lt ↦ lt
   | inr le ↦
       let count : length (sections_of t) ≡ length t.sections = length-enumerated 0 t.sections in
-      let behind : section_start t e ≡ verifiers_start t = ap (λ xs. sections_start t + length (flat_map section_text xs)) (take_all e (sections_of t) (omega (arith, count, le))) in
+      let behind : section_start t e ≡ verifiers_start t =
+      ap (λ xs. sections_start t + length (flat_map section_text xs))
+      (take_all e (sections_of t) (omega (arith, count, le))) in
       let all = fewer section_text (e + 1) (sections_of t) in
       absurd (omega (arith, lies.0, lies.1, behind, all))
 ]
@@ -229,12 +290,24 @@ module _ (t : Trace) (fates : (e : ℕ) → FatesAreAsItEnds t e) where
   stands_from f (in_orders is) = inl is.stands
   stands_from f (in_section below) = inr (inl (below.0, below.1, own_from below.0 f below.2))
   stands_from f (in_common (of_votes is)) = inr (inr (inl is.stands))
-  stands_from f (in_common (of_majorities is)) = inr (inr (inr (inl (is.replica, there t is.replica f.offset (majority_lies t is.replica f.code f.offset is.stands), is.stands))))
+  stands_from f (in_common (of_majorities is)) =
+      inr (inr (inr (inl (
+        is.replica,
+        there t is.replica f.offset
+            (majority_lies t is.replica f.code f.offset is.stands),
+        is.stands,
+      ))))
   stands_from f (in_common (of_agreement is)) =
-      inr (inr (inr (inr (inl (is.replica, there t is.replica f.offset (outcome_lies t is.replica (fates is.replica) f.code f.offset is.stands), is.stands)))))
+      inr (inr (inr (inr (inl (
+        is.replica,
+        there t is.replica f.offset
+            (outcome_lies t is.replica (fates is.replica) f.code f.offset is.stands),
+        is.stands,
+      )))))
   stands_from f (in_common (of_replies is)) = inr (inr (inr (inr (inr is.stands))))
 
-  module _ (limits : HasLimits t) (fits : (names : List (List ℕ)) (x : Executed) → Decided (Fits names x)) (orders : (f : Fault) → IsOrderFault t f → f.offset ≤ length_of t) where
+  module _ (limits : HasLimits t) (fits : (names : List (List ℕ)) (x : Executed) → Decided (Fits names x))
+      (orders : (f : Fault) → IsOrderFault t f → f.offset ≤ length_of t) where
     within : (c : Code) (at : ℕ) → StandsAt t c at → at ≤ length_of t
     within c at stands =
         let found = fault_at t c at stands in
@@ -244,12 +317,26 @@ module _ (t : Trace) (fates : (e : ℕ) → FatesAreAsItEnds t e) where
     pub first_in_trace : ((f : Fault) × IsFirstOf (IsTraceFault t) f) ⊎ HasNone (IsTraceFault t)
     first_in_trace = elim (first_or_none (StandsAt t) (all_decided t limits fits) (length_of t) within) [
       | inr none ↦ inr (λ f is. none f.code f.offset (stands_from f is))
-      | inl first ↦ (let found = fault_at t first.kind first.offset first.stands in inl (found.fault, record { is = found.is; first = λ g is. by first found g (first.first g.code g.offset (stands_from g is)) }))
+      | inl first ↦ (let found = fault_at t first.kind first.offset first.stands in
+          inl (
+            found.fault,
+            record
+                { is = found.is; first = λ g is. by first found g (first.first g.code g.offset (stands_from g is)) },
+          ))
     ]
       where
-        by : (first : IsFirstHere (StandsAt t) (all_decided t limits fits) (length_of t) within) (found : IsAt t first.kind first.offset) (g : Fault)
-            → (phase_of first.kind < phase_of g.code) ⊎ ((phase_of first.kind ≡ phase_of g.code) × ((first.offset < g.offset) ⊎ ((first.offset ≡ g.offset) × (number_of first.kind ≤ number_of g.code))))
+        by : (first : IsFirstHere (StandsAt t) (all_decided t limits fits) (length_of t) within)
+            (found : IsAt t first.kind first.offset) (g : Fault)
+            → (phase_of first.kind < phase_of g.code)
+            ⊎ ((phase_of first.kind ≡ phase_of g.code)
+            × ((first.offset < g.offset) ⊎ ((first.offset ≡ g.offset) × (number_of first.kind ≤ number_of g.code))))
             → Precedes found.fault g
         by first found g (inl lt) = inl (omega (arith, ap phase_of found.kind, lt))
-        by first found g (inr (same, inl lt)) = inr (ap phase_of found.kind ∙ same, inl (omega (arith, found.offset, lt)))
-        by first found g (inr (same, inr low)) = inr (ap phase_of found.kind ∙ same, inr (found.offset ∙ low.0, omega (arith, ap number_of found.kind, low.1)))
+        by first found g (inr (same, inl lt)) =
+            inr (ap phase_of found.kind ∙ same, inl (omega (arith, found.offset, lt)))
+        by first found g (inr (same, inr low)) =
+            inr (
+              ap phase_of found.kind
+                  ∙ same,
+              inr (found.offset ∙ low.0, omega (arith, ap number_of found.kind, low.1)),
+            )

@@ -14,9 +14,12 @@ use Rattle.eve_votes.specs.Faults.{IsVoteFault}
 use Rattle.eve_agree.specs.Majority.{IsMajorityFault}
 use Rattle.eve_agree.specs.Agreement.{IsOutcomeFault}
 use Rattle.eve_agree.specs.SentReplies.{IsReplyFault}
-use Rattle.eve_audit.specs.Verdict.{IsOwnFault, of_structure, of_records, of_chains, of_restores, of_tokens, IsFaultBelow, IsCommonFault, IsTraceFault, of_votes, of_majorities, of_agreement, of_replies, in_orders, in_section, in_common}
+use Rattle.eve_audit.specs.Verdict.{IsOwnFault, of_structure, of_records, of_chains, of_restores, of_tokens}
+use Rattle.eve_audit.specs.Verdict.{IsFaultBelow, IsCommonFault, IsTraceFault, of_votes, of_majorities, of_agreement}
+use Rattle.eve_audit.specs.Verdict.{of_replies, in_orders, in_section, in_common}
 use Rattle.eve_audit.specs.Pieces.{IsFirstOf}
-use Rattle.eve_audit.proofs.Phases.{order_phase, structure_phase, record_phase, chain_phase, restore_phase, token_phase, vote_phase, majority_phase, outcome_phase, reply_phase}
+use Rattle.eve_audit.proofs.Phases.{order_phase, structure_phase, record_phase, chain_phase, restore_phase, token_phase}
+use Rattle.eve_audit.proofs.Phases.{vote_phase, majority_phase, outcome_phase, reply_phase}
 
 -- a fact about what was found, from another about it
 pub found_weaker : (P Q : Fault → Type 0) (why : CheckFault) → ((f : Fault) → P f → Q f) → IfFound why P → IfFound why Q
@@ -50,7 +53,8 @@ module _ (t : Trace) (e : ℕ) where
       by g (of_restores is) = lower f g 3 6 own (restore_phase t e g is) (omega arith)
       by g (of_tokens is) = lower f g 3 7 own (token_phase t e g is) (omega arith)
 
-  record_first : (f : Fault) → HasNone (IsStructureFault t e) → IsLeast (IsRecordFault t e) f → IsFirstOf (IsOwnFault t e) f
+  record_first : (f : Fault) → HasNone (IsStructureFault t e) → IsLeast (IsRecordFault t e) f
+      → IsFirstOf (IsOwnFault t e) f
   record_first f structure least = record { is = of_records least.is; first = by }
     where
       own : phase_of f.code ≡ 4
@@ -63,7 +67,8 @@ module _ (t : Trace) (e : ℕ) where
       by g (of_restores is) = lower f g 4 6 own (restore_phase t e g is) (omega arith)
       by g (of_tokens is) = lower f g 4 7 own (token_phase t e g is) (omega arith)
 
-  chain_first : (f : Fault) → HasNone (IsStructureFault t e) → HasNone (IsRecordFault t e) → IsLeast (IsChainFault t e) f → IsFirstOf (IsOwnFault t e) f
+  chain_first : (f : Fault) → HasNone (IsStructureFault t e) → HasNone (IsRecordFault t e)
+      → IsLeast (IsChainFault t e) f → IsFirstOf (IsOwnFault t e) f
   chain_first f structure records least = record { is = of_chains least.is; first = by }
     where
       own : phase_of f.code ≡ 5
@@ -81,7 +86,8 @@ module _ (t : Trace) (e : ℕ) where
   attempt_first f structure (inl least) = record_first f structure least
   attempt_first f structure (inr r) = chain_first f structure r.0 r.1
 
-  pub restore_first : (f : Fault) → HasNone (IsStructureFault t e) → HasNoFault t e → IsLeast (IsRestoreFault t e) f → IsFirstOf (IsOwnFault t e) f
+  pub restore_first : (f : Fault) → HasNone (IsStructureFault t e) → HasNoFault t e → IsLeast (IsRestoreFault t e) f
+      → IsFirstOf (IsOwnFault t e) f
   restore_first f structure attempts least = record { is = of_restores least.is; first = by }
     where
       own : phase_of f.code ≡ 6
@@ -94,7 +100,8 @@ module _ (t : Trace) (e : ℕ) where
       by g (of_restores is) = inr (own ∙ sym (restore_phase t e g is), least.least g is)
       by g (of_tokens is) = lower f g 6 7 own (token_phase t e g is) (omega arith)
 
-  pub token_first : (f : Fault) → HasNone (IsStructureFault t e) → HasNoFault t e → HasNone (IsRestoreFault t e) → IsLeast (IsTokenFault t e) f → IsFirstOf (IsOwnFault t e) f
+  pub token_first : (f : Fault) → HasNone (IsStructureFault t e) → HasNoFault t e → HasNone (IsRestoreFault t e)
+      → IsLeast (IsTokenFault t e) f → IsFirstOf (IsOwnFault t e) f
   token_first f structure attempts restores least = record { is = of_tokens least.is; first = by }
     where
       own : phase_of f.code ≡ 7
@@ -107,7 +114,8 @@ module _ (t : Trace) (e : ℕ) where
       by g (of_restores is) = absurd (restores g is)
       by g (of_tokens is) = inr (own ∙ sym (token_phase t e g is), least.least g is)
 
-  pub none_own : HasNone (IsStructureFault t e) → HasNoFault t e → HasNone (IsRestoreFault t e) → HasNone (IsTokenFault t e) → HasNone (IsOwnFault t e)
+  pub none_own : HasNone (IsStructureFault t e) → HasNoFault t e → HasNone (IsRestoreFault t e)
+      → HasNone (IsTokenFault t e) → HasNone (IsOwnFault t e)
   none_own structure attempts restores tokens = by
     where
       by : (g : Fault) → IsOwnFault t e g → ⊥
@@ -138,7 +146,8 @@ module _ (t : Trace) where
       by g (of_agreement is) = lower f g 8 10 own (outcome_phase t g is) (omega arith)
       by g (of_replies is) = lower f g 8 11 own (reply_phase t g is) (omega arith)
 
-  pub majority_first : (f : Fault) → HasNone (IsVoteFault t) → IsLeast (IsMajorityFault t) f → IsFirstOf (IsCommonFault t) f
+  pub majority_first : (f : Fault) → HasNone (IsVoteFault t) → IsLeast (IsMajorityFault t) f
+      → IsFirstOf (IsCommonFault t) f
   majority_first f votes least = record { is = of_majorities least.is; first = by }
     where
       own : phase_of f.code ≡ 9
@@ -150,7 +159,8 @@ module _ (t : Trace) where
       by g (of_agreement is) = lower f g 9 10 own (outcome_phase t g is) (omega arith)
       by g (of_replies is) = lower f g 9 11 own (reply_phase t g is) (omega arith)
 
-  pub outcome_first : (f : Fault) → HasNone (IsVoteFault t) → HasNone (IsMajorityFault t) → IsLeast (IsOutcomeFault t) f → IsFirstOf (IsCommonFault t) f
+  pub outcome_first : (f : Fault) → HasNone (IsVoteFault t) → HasNone (IsMajorityFault t) → IsLeast (IsOutcomeFault t) f
+      → IsFirstOf (IsCommonFault t) f
   outcome_first f votes majorities least = record { is = of_agreement least.is; first = by }
     where
       own : phase_of f.code ≡ 10
@@ -162,7 +172,8 @@ module _ (t : Trace) where
       by g (of_agreement is) = inr (own ∙ sym (outcome_phase t g is), least.least g is)
       by g (of_replies is) = lower f g 10 11 own (reply_phase t g is) (omega arith)
 
-  pub reply_first : (f : Fault) → HasNone (IsVoteFault t) → HasNone (IsMajorityFault t) → HasNone (IsOutcomeFault t) → IsLeast (IsReplyFault t) f → IsFirstOf (IsCommonFault t) f
+  pub reply_first : (f : Fault) → HasNone (IsVoteFault t) → HasNone (IsMajorityFault t) → HasNone (IsOutcomeFault t)
+      → IsLeast (IsReplyFault t) f → IsFirstOf (IsCommonFault t) f
   reply_first f votes majorities agreement least = record { is = of_replies least.is; first = by }
     where
       by : (g : Fault) → IsCommonFault t g → Precedes f g
@@ -171,7 +182,8 @@ module _ (t : Trace) where
       by g (of_agreement is) = absurd (agreement g is)
       by g (of_replies is) = inr (reply_phase t f least.is ∙ sym (reply_phase t g is), least.least g is)
 
-  pub none_common : HasNone (IsVoteFault t) → HasNone (IsMajorityFault t) → HasNone (IsOutcomeFault t) → HasNone (IsReplyFault t) → HasNone (IsCommonFault t)
+  pub none_common : HasNone (IsVoteFault t) → HasNone (IsMajorityFault t) → HasNone (IsOutcomeFault t)
+      → HasNone (IsReplyFault t) → HasNone (IsCommonFault t)
   none_common votes majorities agreement replies = by
     where
       by : (g : Fault) → IsCommonFault t g → ⊥
@@ -195,10 +207,12 @@ module _ (t : Trace) where
     where
       by : (g : Fault) → IsTraceFault t g → Precedes f g
       by g (in_orders is) = inr (order_phase t f least.is ∙ sym (order_phase t g is), least.least g is)
-      by g (in_section below) = inl (omega (arith, order_phase t f least.is, (below_phase (length t.sections) g below).0))
+      by g (in_section below) =
+          inl (omega (arith, order_phase t f least.is, (below_phase (length t.sections) g below).0))
       by g (in_common is) = inl (omega (arith, order_phase t f least.is, common_phase g is))
 
-  pub section_first : (f : Fault) → HasNone (IsOrderFault t) → IsFirstOf (IsFaultBelow t (length t.sections)) f → IsFirstOf (IsTraceFault t) f
+  pub section_first : (f : Fault) → HasNone (IsOrderFault t) → IsFirstOf (IsFaultBelow t (length t.sections)) f
+      → IsFirstOf (IsTraceFault t) f
   section_first f orders found = record { is = in_section found.is; first = by }
     where
       by : (g : Fault) → IsTraceFault t g → Precedes f g
@@ -206,7 +220,8 @@ module _ (t : Trace) where
       by g (in_section below) = found.first g below
       by g (in_common is) = inl (omega (arith, (below_phase (length t.sections) f found.is).1, common_phase g is))
 
-  pub common_first : (f : Fault) → HasNone (IsOrderFault t) → HasNone (IsFaultBelow t (length t.sections)) → IsFirstOf (IsCommonFault t) f → IsFirstOf (IsTraceFault t) f
+  pub common_first : (f : Fault) → HasNone (IsOrderFault t) → HasNone (IsFaultBelow t (length t.sections))
+      → IsFirstOf (IsCommonFault t) f → IsFirstOf (IsTraceFault t) f
   common_first f orders sections found = record { is = in_common found.is; first = by }
     where
       by : (g : Fault) → IsTraceFault t g → Precedes f g
@@ -214,7 +229,8 @@ module _ (t : Trace) where
       by g (in_section below) = absurd (sections g below)
       by g (in_common is) = found.first g is
 
-  pub none_in_trace : HasNone (IsOrderFault t) → HasNone (IsFaultBelow t (length t.sections)) → HasNone (IsCommonFault t) → HasNone (IsTraceFault t)
+  pub none_in_trace : HasNone (IsOrderFault t) → HasNone (IsFaultBelow t (length t.sections))
+      → HasNone (IsCommonFault t) → HasNone (IsTraceFault t)
   none_in_trace orders sections common = by
     where
       by : (g : Fault) → IsTraceFault t g → ⊥

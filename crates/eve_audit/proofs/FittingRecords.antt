@@ -26,15 +26,22 @@ seen_by (e ∷ es) row = cond (e.row == row) (record { version = e.version; valu
 sees_one : (e : Entry) (es : List Entry) → Sees (seen_by (e ∷ es)) e
 unfolding seen_by
 sees_one e es =
-    let has : seen_by (e ∷ es) e.row ≡ record { version = e.version; value = e.seen } = cond-true (e.row == e.row) _ _ (eq-eqb e.row e.row refl) in
+    let has : seen_by (e ∷ es) e.row ≡ record { version = e.version; value = e.seen } =
+    cond-true (e.row == e.row) _ _ (eq-eqb e.row e.row refl) in
     record { version = sym (ap (λ (v : Versioned). v.version) has); value = sym (ap (λ (v : Versioned). v.value) has) }
 
-sees_others : (e : Entry) (all es : List Entry) → AllByRecursion (Apart e.row) (rows es) → AllByRecursion (Sees (seen_by all)) es → AllByRecursion (Sees (seen_by (e ∷ all))) es
+sees_others : (e : Entry) (all es : List Entry) → AllByRecursion (Apart e.row) (rows es)
+    → AllByRecursion (Sees (seen_by all)) es → AllByRecursion (Sees (seen_by (e ∷ all))) es
 unfolding seen_by
 sees_others e all [] apart sees = tt
 sees_others e all (d ∷ es) apart sees =
-    let has : seen_by (e ∷ all) d.row ≡ seen_by all d.row = cond-false (e.row == d.row) _ _ (ne_eqb e.row d.row (λ same. apart.0 (sym same))) in (
-      record { version = sees.0.version ∙ sym (ap (λ (v : Versioned). v.version) has); value = sees.0.value ∙ sym (ap (λ (v : Versioned). v.value) has) },
+    let has : seen_by (e ∷ all) d.row ≡ seen_by all d.row =
+    cond-false (e.row == d.row) _ _ (ne_eqb e.row d.row (λ same. apart.0 (sym same))) in (
+      record {
+        version = sees.0.version ∙ sym (ap (λ (v : Versioned). v.version) has);
+        value = sees.0.value
+            ∙ sym (ap (λ (v : Versioned). v.value) has);
+      },
       sees_others e all es apart.1 sees.1,
     )
 
@@ -44,14 +51,17 @@ all_see (e ∷ es) distinct = (sees_one e es, sees_others e es es distinct.0 (al
 
 -- ---- the record
 
-module _ (fit : (names : List (List ℕ)) (table : Table) (request : Request) → Fits names (executed_on names table request))
-    (only : (names : List (List ℕ)) (table : Table) (x : Executed) → Fits names x → AllByRecursion (Sees table) x.entries → x ≡ executed_on names table x.request) where
+module _ (fit : (names : List (List ℕ)) (table : Table) (request : Request)
+    → Fits names (executed_on names table request))
+    (only : (names : List (List ℕ)) (table : Table) (x : Executed) → Fits names x
+    → AllByRecursion (Sees table) x.entries → x ≡ executed_on names table x.request) where
   pub fits_decided : (names : List (List ℕ)) (x : Executed) → Decided (Fits names x)
   fits_decided names x =
       elim (decided_both (replies x.reply made.reply) (entry_lists x.entries made.entries)) [
         | inl same ↦ inl (subst (Fits names) (sym (made_same same.0 same.1)) (fit names (seen_by x.entries) x.request))
         | inr other ↦ inr (λ fits.
-            let is = only names (seen_by x.entries) x fits (all_see x.entries (entries_are_rows names x fits).distinct) in
+            let is = only names (seen_by x.entries) x fits (all_see x.entries (entries_are_rows names x fits).distinct)
+            in
             other (ap (λ (y : Executed). y.reply) is, ap (λ (y : Executed). y.entries) is))
       ]
     where

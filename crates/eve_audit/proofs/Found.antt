@@ -1,5 +1,6 @@
 -- What was found of replicas stays true as it is kept and taken.
-use Rattle.std.proofs.Common.{◌≡◌, Option, Some, None, List, [], ◌∷◌, ◌++◌, All, IfSome, IsNone, refl, sym, ap, subst, ◌∙◌, ℕ, suc, ◌+◌, arith, length, length-append}
+use Rattle.std.proofs.Common.{◌≡◌, Option, Some, None, List, [], ◌∷◌, ◌++◌, All, IfSome, IsNone, refl, sym, ap, subst}
+use Rattle.std.proofs.Common.{◌∙◌, ℕ, suc, ◌+◌, arith, length, length-append}
 use Rattle.std.specs.Prelude.{Result}
 use Rattle.std.proofs.lemmas.List.Elements.{All-append, All-cons, All-nil}
 use Rattle.eve_grammar.specs.Trace.{Trace}
@@ -15,7 +16,8 @@ one_longer xs more x added = ap length added ∙ length-append xs (x ∷ [])
 module _ {A : Type 0} (P : A → Type 0) where
   -- one more at the end
   pub all_push : (xs room more : List A) (x : A) → All P xs → P x → room ≡ xs → more ≡ room ++ x ∷ [] → All P more
-  all_push xs room more x all is same added = subst (All P) (sym (added ∙ ap (λ (ys : List A). ys ++ x ∷ []) same)) (All-append P xs (x ∷ []) all (All-cons P x [] is (All-nil P)))
+  all_push xs room more x all is same added = subst (All P) (sym (added ∙ ap (λ (ys : List A). ys ++ x ∷ []) same))
+      (All-append P xs (x ∷ []) all (All-cons P x [] is (All-nil P)))
 
   all_head : (x : A) (xs : List A) → All P (x ∷ xs) → P x
   all_head x xs all = all 0 x (omega arith)
@@ -27,7 +29,8 @@ module _ {A : Type 0} (P : A → Type 0) where
   all_of_none xs none = subst (All P) (sym none) (All-nil P)
 
 -- what was taken first is true, and so is what is left
-pub taken_is_true : (t : Trace) (e : ℕ) (old new : Slot) (r : Option (Result Piece Fault)) → IfSome r (λ answer. old.findings.items ≡ finding e answer ∷ new.findings.items) → (IsNone r → new ≡ old)
+pub taken_is_true : (t : Trace) (e : ℕ) (old new : Slot) (r : Option (Result Piece Fault))
+    → IfSome r (λ answer. old.findings.items ≡ finding e answer ∷ new.findings.items) → (IsNone r → new ≡ old)
     → AreTrue t old → IfSome r (IsAnswerOf t e) × AreTrue t new
 taken_is_true t e old new (Some answer) next none all =
     let P : Finding → Type 0 = λ f. IsAnswerOf t f.replica f.answer in

@@ -1,12 +1,13 @@
 -- What is kept of the replicas, one after another, and of all of them.
-use Rattle.std.proofs.Common.{◌≡◌, ℕ, zero, suc, ◌+◌, ◌^◌, ◌<◌, ◌≤◌, min, Option, Some, None, inl, inr, List, [], ◌∷◌, ◌++◌, map, length, take, refl, sym, ap, subst, ◌∙◌, arith}
+use Rattle.std.proofs.Common.{◌≡◌, ℕ, zero, suc, ◌+◌, ◌^◌, ◌<◌, ◌≤◌, min, Option, Some, None, inl, inr, List, [], ◌∷◌}
+use Rattle.std.proofs.Common.{◌++◌, map, length, take, refl, sym, ap, subst, ◌∙◌, arith}
 use Rattle.std.specs.Prelude.{slice_index_or, IsTrue}
 use Rattle.std.specs.List.{enumerate_from, AllByRecursion}
 use Rattle.std.proofs.lemmas.Bool.{cases_lt}
 use Rattle.eve_grammar.specs.Trace.{Step, Trace}
 use Rattle.eve_grammar.specs.Frames.{sections_of}
 use Rattle.eve_history.specs.Section.{SectionState, start, state_after, settled, are_right}
-use Rattle.eve_history.specs.Told.{Telling, telling, tellings, history}
+use Rattle.eve_history.specs.SectionHistory.{SectionHistory, section_history, section_histories, history}
 use Rattle.eve_chains.specs.Settling.{Settling, settling, settlings}
 use Rattle.eve_chains.specs.Sound.{IsSoundAlong}
 use Rattle.eve_agree.specs.Tables.{all_restore_rightly}
@@ -24,18 +25,21 @@ use Rattle.eve_history.proofs.Rights.{none_at}
 
 module _ {A B : Type 0} (h : ℕ → B) where
   one_more : (k n : ℕ) (xs : List A) → n < length xs
-      → map (λ s. h s.0) (take (suc n) (enumerate_from k xs)) ≡ map (λ s. h s.0) (take n (enumerate_from k xs)) ++ h (k + n) ∷ []
+      → map (λ s. h s.0) (take (suc n) (enumerate_from k xs)) ≡ map (λ s. h s.0) (take n (enumerate_from k xs)) ++ h
+      (k + n) ∷ []
   one_more k n [] lt = absurd (omega (arith, lt))
   one_more k zero (x ∷ xs) lt = ap (λ (m : ℕ). h m ∷ []) (k_is k)
     where
       k_is : (k : ℕ) → k ≡ k + 0
       k_is k = omega arith
-  one_more k (suc n) (x ∷ xs) lt = ap (λ (ys : List B). h k ∷ ys) (one_more (k + 1) n xs (omega (arith, lt)) ∙ ap (λ (m : ℕ). map (λ s. h s.0) (take n (enumerate_from (k + 1) xs)) ++ h m ∷ []) (next k n))
+  one_more k (suc n) (x ∷ xs) lt = ap (λ (ys : List B). h k ∷ ys) (one_more (k + 1) n xs (omega (arith, lt))
+      ∙ ap (λ (m : ℕ). map (λ s. h s.0) (take n (enumerate_from (k + 1) xs)) ++ h m ∷ []) (next k n))
     where
       next : (k n : ℕ) → k + 1 + n ≡ k + suc n
       next k n = omega arith
 
-  all_of_them : (k : ℕ) (xs : List A) → map (λ s. h s.0) (take (length xs) (enumerate_from k xs)) ≡ map (λ s. h s.0) (enumerate_from k xs)
+  all_of_them : (k : ℕ) (xs : List A) → map (λ s. h s.0) (take (length xs) (enumerate_from k xs))
+      ≡ map (λ s. h s.0) (enumerate_from k xs)
   all_of_them k [] = refl
   all_of_them k (x ∷ xs) = ap (λ (ys : List B). h k ∷ ys) (all_of_them (k + 1) xs)
 
@@ -58,7 +62,8 @@ sound_beyond t e le =
       right = subst (λ (xs : List (ℕ × Step)). IsTrue (are_right t start xs)) none refl;
       sound = subst (λ (s : SectionState). AllByRecursion (IsSoundAlong t) (settled s)) state tt;
       restores = subst (λ (xs : List (ℕ × Step)). IsTrue (all_restore_rightly t start xs)) none refl;
-      tokens = subst (λ (s : SectionState). AllByRecursion (λ p. p.attempt.token ≡ due_token t e p) s.committed) state tt;
+      tokens = subst (λ (s : SectionState). AllByRecursion (λ p. p.attempt.token ≡ due_token t e p) s.committed) state
+          tt;
     }
 
 -- ---- what is kept
@@ -66,17 +71,29 @@ sound_beyond t e le =
 pub none_kept : (t : Trace) → AreKept t 0 [] []
 none_kept t = record { histories = refl; settled = refl; sound = λ e lt. absurd (omega (arith, lt)) }
 
-pub kept_more : (t : Trace) (e : ℕ) (tells more_tells : List Telling) (settles more_settles : List Settling) (told : Telling) (wrote : Settling)
-    → e < length t.sections → AreKept t e tells settles → more_tells ≡ tells ++ told ∷ [] → more_settles ≡ settles ++ wrote ∷ []
-    → told ≡ telling t e → wrote ≡ settling t e → IsSoundReplica t e → AreKept t (e + 1) more_tells more_settles
-kept_more t e tells more_tells settles more_settles told wrote lt kept tells_is settles_is told_is wrote_is sound = record {
-  histories = tells_is ∙ ap (λ (x : Telling). tells ++ x ∷ []) told_is ∙ ap (λ (xs : List Telling). xs ++ telling t e ∷ []) kept.histories ∙ sym (later (telling t));
-  settled = settles_is ∙ ap (λ (x : Settling). settles ++ x ∷ []) wrote_is ∙ ap (λ (xs : List Settling). xs ++ settling t e ∷ []) kept.settled ∙ sym (later (settling t));
-  sound = λ k less. elim (below_more k e less) [ inl lower ↦ kept.sound k lower | inr same ↦ subst (IsSoundReplica t) (sym same) sound ];
-}
+pub kept_more : (t : Trace) (e : ℕ) (tells more_tells : List SectionHistory) (settles more_settles : List Settling)
+    (told : SectionHistory) (wrote : Settling)
+    → e < length t.sections → AreKept t e tells settles → more_tells ≡ tells ++ told ∷ [] → more_settles
+    ≡ settles ++ wrote ∷ []
+    → told ≡ section_history t e → wrote ≡ settling t e → IsSoundReplica t e → AreKept t (e + 1) more_tells more_settles
+kept_more t e tells more_tells settles more_settles told wrote lt kept tells_is settles_is told_is wrote_is sound =
+    record {
+      histories = tells_is ∙ ap (λ (x : SectionHistory). tells ++ x ∷ []) told_is
+          ∙ ap (λ (xs : List SectionHistory). xs ++ section_history t e ∷ []) kept.histories
+          ∙ sym (later (section_history t));
+      settled = settles_is ∙ ap (λ (x : Settling). settles ++ x ∷ []) wrote_is
+          ∙ ap (λ (xs : List Settling). xs ++ settling t e ∷ []) kept.settled ∙ sym (later (settling t));
+      sound = λ k less. elim (below_more k e less) [
+        | inl lower ↦ kept.sound k lower
+        | inr same
+            ↦ subst (IsSoundReplica t) (sym same) sound
+      ];
+    }
   where
-    later : {B : Type 0} (h : ℕ → B) → map (λ s. h s.0) (take (e + 1) (sections_of t)) ≡ map (λ s. h s.0) (take e (sections_of t)) ++ h e ∷ []
-    later {B = B} h = ap (λ (m : ℕ). map (λ s. h s.0) (take m (sections_of t))) (plus_one e) ∙ one_more h 0 e t.sections lt ∙ ap (λ (m : ℕ). map (λ s. h s.0) (take e (sections_of t)) ++ h m ∷ []) (same e)
+    later : {B : Type 0} (h : ℕ → B) → map (λ s. h s.0) (take (e + 1) (sections_of t))
+        ≡ map (λ s. h s.0) (take e (sections_of t)) ++ h e ∷ []
+    later {B = B} h = ap (λ (m : ℕ). map (λ s. h s.0) (take m (sections_of t))) (plus_one e)
+        ∙ one_more h 0 e t.sections lt ∙ ap (λ (m : ℕ). map (λ s. h s.0) (take e (sections_of t)) ++ h m ∷ []) (same e)
       where
         plus_one : (e : ℕ) → e + 1 ≡ suc e
         plus_one e = omega arith
@@ -84,10 +101,11 @@ kept_more t e tells more_tells settles more_settles told wrote lt kept tells_is 
         same : (e : ℕ) → 0 + e ≡ e
         same e = omega arith
 
-module _ (t : Trace) (tells : List Telling) (settles : List Settling) (kept : AreKept t (length t.sections) tells settles) where
-  pub all_told : tells ≡ tellings t
-  unfolding tellings
-  all_told = kept.histories ∙ all_of_them (telling t) 0 t.sections
+module _ (t : Trace) (tells : List SectionHistory) (settles : List Settling)
+    (kept : AreKept t (length t.sections) tells settles) where
+  pub all_told : tells ≡ section_histories t
+  unfolding section_histories
+  all_told = kept.histories ∙ all_of_them (section_history t) 0 t.sections
 
   pub all_settled : settles ≡ settlings t
   unfolding settlings
@@ -97,32 +115,41 @@ module _ (t : Trace) (tells : List Telling) (settles : List Settling) (kept : Ar
   all_sound e = elim (cases_lt e (length t.sections)) [ inl lt ↦ kept.sound e lt | inr le ↦ sound_beyond t e le ]
 
 -- the last committed number that a section tells is the one at which it ends
-last_told : (t : Trace) (e : ℕ) → (telling t e).committed ≡ (history t e).last
-unfolding telling history
+last_told : (t : Trace) (e : ℕ) → (section_history t e).committed ≡ (history t e).last
+unfolding section_history history
 last_told t e = refl
 
 -- ---- with what was found
 
 -- the next replica has no fault of its own
-pub sound_more : (t : Trace) (e : ℕ) (first : Option Fault) (tells more_tells : List Telling) (settles more_settles : List Settling) (c m : ℕ) (told : Telling) (wrote : Settling)
-    → IsJudgedBelow t e first tells settles c → e < length t.sections → told ≡ telling t e → wrote ≡ settling t e → IsSoundReplica t e → HasNone (IsOwnFault t e)
-    → more_tells ≡ tells ++ told ∷ [] → more_settles ≡ settles ++ wrote ∷ [] → m ≡ min c told.committed → told.committed < 2 ^ 32
+pub sound_more : (t : Trace) (e : ℕ) (first : Option Fault) (tells more_tells : List SectionHistory)
+    (settles more_settles : List Settling) (c m : ℕ) (told : SectionHistory) (wrote : Settling)
+    → IsJudgedBelow t e first tells settles c → e < length t.sections → told ≡ section_history t e
+    → wrote ≡ settling t e → IsSoundReplica t e → HasNone (IsOwnFault t e)
+    → more_tells ≡ tells ++ told ∷ [] → more_settles ≡ settles ++ wrote ∷ [] → m ≡ min c told.committed
+    → told.committed < 2 ^ 32
     → IsJudgedBelow t (e + 1) first more_tells more_settles m
-sound_more t e first tells more_tells settles more_settles c m told wrote judged lt told_is wrote_is sound none tells_is settles_is least small = record {
-  found = none_more t e first judged.found none;
-  kept = λ is. kept_more t e tells more_tells settles more_settles told wrote lt (judged.kept is) tells_is settles_is told_is wrote_is sound;
-  least = λ is. least_more t e c told.committed m (judged.least is) (ap (λ (x : Telling). x.committed) told_is ∙ last_told t e) small least;
-}
+sound_more t e first tells more_tells settles more_settles c m told wrote judged lt told_is wrote_is sound none tells_is
+    settles_is least small = record {
+      found = none_more t e first judged.found none;
+      kept = λ is. kept_more t e tells more_tells settles more_settles told wrote lt (judged.kept is) tells_is settles_is
+          told_is wrote_is sound;
+      least = λ is. least_more t e c told.committed m (judged.least is) (ap (λ (x : SectionHistory). x.committed) told_is
+          ∙ last_told t e) small least;
+    }
 
 -- it has one
-pub fault_more : (t : Trace) (e : ℕ) (f : Fault) (told : List Telling) (wrote : List Settling) (c : ℕ) → IsFirstOf (IsFaultBelow t (e + 1)) f → IsJudgedBelow t (e + 1) (Some f) told wrote c
-fault_more t e f told wrote c found = record { found = found; kept = λ none. absurd (some_none none); least = λ none. absurd (some_none none) }
+pub fault_more : (t : Trace) (e : ℕ) (f : Fault) (told : List SectionHistory) (wrote : List Settling) (c : ℕ)
+    → IsFirstOf (IsFaultBelow t (e + 1)) f → IsJudgedBelow t (e + 1) (Some f) told wrote c
+fault_more t e f told wrote c found =
+    record { found = found; kept = λ none. absurd (some_none none); least = λ none. absurd (some_none none) }
   where
     some_none : Some f ≡ None → ⊥
     some_none e = cc
 
 -- beside what was found before
-pub judged_more : (t : Trace) (e : ℕ) (first : Option Fault) (f : Fault) (told : List Telling) (wrote : List Settling) (c : ℕ) → IsFoundBelow t e first → IsFirstOf (IsOwnFault t e) f
+pub judged_more : (t : Trace) (e : ℕ) (first : Option Fault) (f : Fault) (told : List SectionHistory)
+    (wrote : List Settling) (c : ℕ) → IsFoundBelow t e first → IsFirstOf (IsOwnFault t e) f
     → IsJudgedBelow t (e + 1) (first_of first (Some f)) told wrote c
 judged_more t e None f told wrote c found first = fault_more t e f told wrote c (first_more t e f found first)
 judged_more t e (Some g) f told wrote c found first =

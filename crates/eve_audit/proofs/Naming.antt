@@ -8,12 +8,14 @@ use Rattle.eve_grammar.specs.Spelling.{section_start}
 use Rattle.eve_views.specs.Form.{IsFormFault}
 use Rattle.eve_views.specs.Parts.{is_in_section}
 use Rattle.eve_views.specs.declared.fault.Fault.{Fault}
-use Rattle.eve_audit.specs.Verdict.{Stands, in_form, in_trace, IsOwnFault, of_structure, of_records, of_chains, of_restores, of_tokens, IsCommonFault, IsTraceFault}
+use Rattle.eve_audit.specs.Verdict.{Stands, in_form, in_trace, IsOwnFault, of_structure, of_records, of_chains}
+use Rattle.eve_audit.specs.Verdict.{of_restores, of_tokens, IsCommonFault, IsTraceFault}
 use Rattle.eve_audit.specs.Where.{NamesItsSection}
 use Rattle.eve_audit.specs.Verdict as of
 use Rattle.eve_audit.proofs.Sections.{LiesIn, FatesAreAsItEnds}
 use Rattle.eve_audit.proofs.Where.{one_section}
-use Rattle.eve_audit.proofs.Placed.{structure_lies, record_lies, chain_lies, restore_lies, token_lies, majority_lies, outcome_lies}
+use Rattle.eve_audit.proofs.Placed.{structure_lies, record_lies, chain_lies, restore_lies, token_lies, majority_lies}
+use Rattle.eve_audit.proofs.Placed.{outcome_lies}
 use Rattle.eve_audit.proofs.Outside.{IsOutside, in_none, order_outside, vote_fault_outside, reply_outside}
 
 -- ---- the test of a section
@@ -24,7 +26,8 @@ lies_from t e at held =
     (leb-true (section_start t e) at parts.0, ltb-true at (section_start t (e + 1)) parts.1)
 
 held_from : (t : Trace) (e at : ℕ) → LiesIn t e at → IsTrue (is_in_section t e at)
-held_from t e at lies = and_from (nat_le (section_start t e) at) (nat_lt at (section_start t (e + 1))) (le-leb (section_start t e) at lies.0) (lt-ltb at (section_start t (e + 1)) lies.1)
+held_from t e at lies = and_from (nat_le (section_start t e) at) (nat_lt at (section_start t (e + 1)))
+    (le-leb (section_start t e) at lies.0) (lt-ltb at (section_start t (e + 1)) lies.1)
 
 -- ---- in a trace
 
@@ -45,7 +48,10 @@ inside t d f is lies e = (
 )
 
 outside : (t : Trace) (f : Fault) → f.replica ≡ None → IsOutside t f.offset → Names t f
-outside t f is out e = (λ named. absurd (not_named e (sym is ∙ named)), λ held. absurd (in_none t e f.offset out (lies_from t e f.offset held)))
+outside t f is out e = (
+  λ named. absurd (not_named e (sym is ∙ named)),
+  λ held. absurd (in_none t e f.offset out (lies_from t e f.offset held)),
+)
 
 module _ (t : Trace) (fates : (e : ℕ) → FatesAreAsItEnds t e) (f : Fault) where
   own_names : (e : ℕ) → IsOwnFault t e f → Names t f
@@ -57,8 +63,10 @@ module _ (t : Trace) (fates : (e : ℕ) → FatesAreAsItEnds t e) (f : Fault) wh
 
   common_names : IsCommonFault t f → Names t f
   common_names (of.of_votes is) = outside t f is.outside (vote_fault_outside t f.code f.offset is.stands)
-  common_names (of.of_majorities is) = inside t is.replica f is.inside (majority_lies t is.replica f.code f.offset is.stands)
-  common_names (of.of_agreement is) = inside t is.replica f is.inside (outcome_lies t is.replica (fates is.replica) f.code f.offset is.stands)
+  common_names (of.of_majorities is) =
+      inside t is.replica f is.inside (majority_lies t is.replica f.code f.offset is.stands)
+  common_names (of.of_agreement is) =
+      inside t is.replica f is.inside (outcome_lies t is.replica (fates is.replica) f.code f.offset is.stands)
   common_names (of.of_replies is) = outside t f is.outside (reply_outside t f.code f.offset is.stands)
 
   trace_names : IsTraceFault t f → Names t f
@@ -69,20 +77,24 @@ module _ (t : Trace) (fates : (e : ℕ) → FatesAreAsItEnds t e) (f : Fault) wh
 -- ---- in bytes
 
 -- of bytes that spell this trace
-pub named_in : (bytes : List ℕ) (t : Trace) → Spells bytes t → ((u : Trace) → Spells bytes u → u ≡ t) → ((e : ℕ) → FatesAreAsItEnds t e) → (f : Fault) → IsTraceFault t f → NamesItsSection bytes f
+pub named_in : (bytes : List ℕ) (t : Trace) → Spells bytes t → ((u : Trace) → Spells bytes u → u ≡ t)
+    → ((e : ℕ) → FatesAreAsItEnds t e) → (f : Fault) → IsTraceFault t f → NamesItsSection bytes f
 named_in bytes t spells once fates f is = record {
   names = λ u other. subst (λ (x : Trace). Names x f) (sym (once u other)) (trace_names t fates f is);
   outside = λ none. absurd (none t spells);
 }
 
 -- of bytes that spell none
-pub named_in_none : (bytes : List ℕ) (f : Fault) → IsFormFault bytes f → ((t : Trace) → ¬ Spells bytes t) → NamesItsSection bytes f
+pub named_in_none : (bytes : List ℕ) (f : Fault) → IsFormFault bytes f → ((t : Trace) → ¬ Spells bytes t)
+    → NamesItsSection bytes f
 named_in_none bytes f is none = record { names = λ t spells. absurd (none t spells); outside = λ _. is.outside }
 
-module _ (fates : (t : Trace) (e : ℕ) → FatesAreAsItEnds t e) (once : (bytes : List ℕ) (t u : Trace) → Spells bytes t → Spells bytes u → t ≡ u) (bytes : List ℕ) (f : Fault) where
+module _ (fates : (t : Trace) (e : ℕ) → FatesAreAsItEnds t e) (once : (bytes : List ℕ) (t u : Trace) → Spells bytes t
+    → Spells bytes u → t ≡ u) (bytes : List ℕ) (f : Fault) where
   of_trace : (t : Trace) → Spells bytes t → IsTraceFault t f → NamesItsSection bytes f
   of_trace t spells is = named_in bytes t spells (λ u other. once bytes u t other spells) (fates t) f is
 
-  pub standing_named : ((g : Fault) (t : Trace) → IsFormFault bytes g → ¬ Spells bytes t) → Stands bytes f → NamesItsSection bytes f
+  pub standing_named : ((g : Fault) (t : Trace) → IsFormFault bytes g → ¬ Spells bytes t) → Stands bytes f
+      → NamesItsSection bytes f
   standing_named apart (in_form is) = named_in_none bytes f is (λ t. apart f t is)
   standing_named apart (in_trace t spells is) = of_trace t spells is

@@ -3,7 +3,9 @@ use Rattle.std.proofs.Common.{◌≡◌, ℕ, ◌+◌, ◌<◌, ◌≤◌, List,
 use Rattle.std.specs.List.{flat_map}
 use Rattle.eve_grammar.specs.Trace.{Customer, Batch, Vote, Sent, Trace}
 use Rattle.eve_grammar.specs.Frames.{OfCustomer, OfBatch, OfVerifier, OfVote, OfSent, batches_of, sections_of}
-use Rattle.eve_grammar.specs.Spelling.{frame_text, located, customer_text, batch_text, section_text, batches_start, sections_start, section_start, verifiers_start, verifier_start, sent_start, customers_at, batches_at, votes_of, votes_at, sent_at}
+use Rattle.eve_grammar.specs.Spelling.{frame_text, located, customer_text, batch_text, section_text, batches_start}
+use Rattle.eve_grammar.specs.Spelling.{sections_start, section_start, verifiers_start, verifier_start, sent_start}
+use Rattle.eve_grammar.specs.Spelling.{customers_at, batches_at, votes_of, votes_at, sent_at}
 use Rattle.eve_views.specs.declared.fault.Code.{Code}
 use Rattle.eve_views.specs.declared.fault.Code.TheVariants as code
 use Rattle.eve_history.specs.Faults.{StandsInOrders}
@@ -19,57 +21,72 @@ pub data IsOutside (t : Trace) (at : ℕ) : Type 0 where
   late : verifiers_start t ≤ at → IsOutside t at
 
 pub in_none : (t : Trace) (e at : ℕ) → IsOutside t at → LiesIn t e at → ⊥
-in_none t e at (early lt) lies = let low : sections_start t ≤ section_start t e = omega arith in omega (arith, lies.0, lt, low)
+in_none t e at (early lt) lies = let low : sections_start t ≤ section_start t e = omega arith in
+    omega (arith, lies.0, lt, low)
 in_none t e at (late le) lies = let all = fewer section_text (e + 1) (sections_of t) in omega (arith, lies.1, le, all)
 
 module _ (t : Trace) where
-  customer_outside : (before : List (ℕ × Customer)) (c : ℕ × Customer) (rest : List (ℕ × Customer)) → customers_at t ≡ before ++ c ∷ rest → IsOutside t c.0
+  customer_outside : (before : List (ℕ × Customer)) (c : ℕ × Customer) (rest : List (ℕ × Customer)) → customers_at t
+      ≡ before ++ c ∷ rest → IsOutside t c.0
   unfolding customers_at
   customer_outside before c rest is =
       let within : Between 32 (batches_start t) c.0 (length (customer_text c.1)) =
-      at_place (λ x. Between 32 (batches_start t) x.0 (length (customer_text x.1))) (located customer_text 32 t.customers) before c rest is (all_located customer_text 32 t.customers) in
+      at_place (λ x. Between 32 (batches_start t) x.0 (length (customer_text x.1)))
+      (located customer_text 32 t.customers) before c rest is (all_located customer_text 32 t.customers) in
       let some = frame_has_text (OfCustomer c.1) in
       let behind : batches_start t ≤ sections_start t = omega arith in
       early (omega (arith, within.1, some, behind))
 
-  batch_outside : (before : List (ℕ × (ℕ × Batch))) (b : ℕ × (ℕ × Batch)) (rest : List (ℕ × (ℕ × Batch))) → batches_at t ≡ before ++ b ∷ rest → IsOutside t b.0
+  batch_outside : (before : List (ℕ × (ℕ × Batch))) (b : ℕ × (ℕ × Batch)) (rest : List (ℕ × (ℕ × Batch))) → batches_at t
+      ≡ before ++ b ∷ rest → IsOutside t b.0
   unfolding batches_at
   batch_outside before b rest is =
       let within : Between (batches_start t) (sections_start t) b.0 (length (batch_text b.1)) =
-      at_place (λ x. Between (batches_start t) (sections_start t) x.0 (length (batch_text x.1))) (located batch_text (batches_start t) (batches_of t)) before b rest is (all_located batch_text (batches_start t) (batches_of t)) in
+      at_place (λ x. Between (batches_start t) (sections_start t) x.0 (length (batch_text x.1)))
+      (located batch_text (batches_start t) (batches_of t)) before b rest is
+      (all_located batch_text (batches_start t) (batches_of t)) in
       let some = frame_has_text (OfBatch b.1.0 b.1.1) in
       early (omega (arith, within.1, some))
 
-  vote_outside : (v : ℕ) (before : List (ℕ × Vote)) (w : ℕ × Vote) (rest : List (ℕ × Vote)) → votes_at t v ≡ before ++ w ∷ rest → IsOutside t w.0
+  vote_outside : (v : ℕ) (before : List (ℕ × Vote)) (w : ℕ × Vote) (rest : List (ℕ × Vote)) → votes_at t v
+      ≡ before ++ w ∷ rest → IsOutside t w.0
   unfolding votes_at
   vote_outside v before w rest is =
       let text : Vote → List ℕ = λ x. frame_text (OfVote x) in
       let from : ℕ = verifier_start t v + length (frame_text (OfVerifier v)) in
       let within : Between from (from + length (flat_map text (votes_of t v))) w.0 (length (text w.1)) =
-      at_place (λ x. Between from (from + length (flat_map text (votes_of t v))) x.0 (length (text x.1))) (located text from (votes_of t v)) before w rest is (all_located text from (votes_of t v)) in
+      at_place (λ x. Between from (from + length (flat_map text (votes_of t v))) x.0 (length (text x.1)))
+      (located text from (votes_of t v)) before w rest is (all_located text from (votes_of t v)) in
       let behind : verifiers_start t ≤ verifier_start t v = omega arith in
       late (omega (arith, within.0, behind))
 
-  sent_outside : (before : List (ℕ × Sent)) (s : ℕ × Sent) (rest : List (ℕ × Sent)) → sent_at t ≡ before ++ s ∷ rest → IsOutside t s.0
+  sent_outside : (before : List (ℕ × Sent)) (s : ℕ × Sent) (rest : List (ℕ × Sent)) → sent_at t ≡ before ++ s ∷ rest
+      → IsOutside t s.0
   unfolding sent_at
   sent_outside before s rest is =
       let text : Sent → List ℕ = λ x. frame_text (OfSent x) in
       let from : ℕ = sent_start t in
       let within : Between from (from + length (flat_map text t.sent)) s.0 (length (text s.1)) =
-      at_place (λ x. Between from (from + length (flat_map text t.sent)) x.0 (length (text x.1))) (located text from t.sent) before s rest is (all_located text from t.sent) in
+      at_place (λ x. Between from (from + length (flat_map text t.sent)) x.0 (length (text x.1)))
+      (located text from t.sent) before s rest is (all_located text from t.sent) in
       let behind : verifiers_start t ≤ sent_start t = omega arith in
       late (omega (arith, within.0, behind))
 
   pub order_outside : (c : Code) (at : ℕ) → StandsInOrders c t at → IsOutside t at
-  order_outside code.SameName at stands = subst (IsOutside t) stands.holds.0 (customer_outside stands.before stands.item stands.rest stands.is)
-  order_outside code.SameRequest at stands = subst (IsOutside t) stands.holds.0 (batch_outside stands.before stands.item stands.rest stands.is)
+  order_outside code.SameName at stands =
+      subst (IsOutside t) stands.holds.0 (customer_outside stands.before stands.item stands.rest stands.is)
+  order_outside code.SameRequest at stands =
+      subst (IsOutside t) stands.holds.0 (batch_outside stands.before stands.item stands.rest stands.is)
   order_outside c at stands = absurd stands
 
   pub vote_fault_outside : (c : Code) (at : ℕ) → StandsInVotes c t at → IsOutside t at
-  vote_fault_outside code.TwoVotes at stands = let place = stands.1 in subst (IsOutside t) place.holds.0 (vote_outside stands.0 place.before place.item place.rest place.is)
-  vote_fault_outside code.TwoDecisions at stands = subst (IsOutside t) stands.holds.0 (batch_outside stands.before stands.item stands.rest stands.is)
+  vote_fault_outside code.TwoVotes at stands = let place = stands.1 in subst (IsOutside t) place.holds.0
+      (vote_outside stands.0 place.before place.item place.rest place.is)
+  vote_fault_outside code.TwoDecisions at stands =
+      subst (IsOutside t) stands.holds.0 (batch_outside stands.before stands.item stands.rest stands.is)
   vote_fault_outside c at stands = absurd stands
 
   pub reply_outside : (c : Code) (at : ℕ) → StandsInReplies c t at → IsOutside t at
-  reply_outside code.Reply at stands = subst (IsOutside t) stands.holds.0 (sent_outside stands.before stands.item stands.rest stands.is)
+  reply_outside code.Reply at stands =
+      subst (IsOutside t) stands.holds.0 (sent_outside stands.before stands.item stands.rest stands.is)
   reply_outside c at stands = absurd stands

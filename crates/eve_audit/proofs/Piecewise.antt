@@ -1,5 +1,6 @@
 -- The first of the replicas' own faults, replica by replica.
-use Rattle.std.proofs.Common.{◌≡◌, ℕ, ◌+◌, ◌-◌, ◌^◌, ◌<◌, ◌≤◌, ◌⊎◌, inl, inr, Option, Some, None, sym, ap, arith, min, subst}
+use Rattle.std.proofs.Common.{◌≡◌, ℕ, ◌+◌, ◌-◌, ◌^◌, ◌<◌, ◌≤◌, ◌⊎◌, inl, inr, Option, Some, None, sym, ap, arith, min}
+use Rattle.std.proofs.Common.{subst}
 use Rattle.std.proofs.lemmas.Bool.{cases_lt}
 use Rattle.eve_grammar.specs.Trace.{Trace}
 use Rattle.eve_views.specs.Form.{IsUpTo, HasNone, Precedes}
@@ -40,22 +41,30 @@ own_below : (t : Trace) (e : ℕ) (f : Fault) → IsOwnFault t e f → IsFaultBe
 own_below t e f is = (e, omega arith, is)
 
 -- this replica has no fault of its own
-pub none_more : (t : Trace) (e : ℕ) (first : Option Fault) → IsFoundBelow t e first → HasNone (IsOwnFault t e) → IsFoundBelow t (e + 1) first
-none_more t e None found none = λ g below. elim (fault_below t e g below) [ inl less ↦ found g less | inr own ↦ none g own ]
+pub none_more : (t : Trace) (e : ℕ) (first : Option Fault) → IsFoundBelow t e first → HasNone (IsOwnFault t e)
+    → IsFoundBelow t (e + 1) first
+none_more t e None found none = λ g below. elim (fault_below t e g below)
+    [ inl less ↦ found g less | inr own ↦ none g own ]
 none_more t e (Some f) found none = record {
   is = more_below t e f found.is;
   first = λ g below. elim (fault_below t e g below) [ inl less ↦ found.first g less | inr own ↦ absurd (none g own) ];
 }
 
 -- it has the first one
-pub first_more : (t : Trace) (e : ℕ) (f : Fault) → HasNone (IsFaultBelow t e) → IsFirstOf (IsOwnFault t e) f → IsFirstOf (IsFaultBelow t (e + 1)) f
+pub first_more : (t : Trace) (e : ℕ) (f : Fault) → HasNone (IsFaultBelow t e) → IsFirstOf (IsOwnFault t e) f
+    → IsFirstOf (IsFaultBelow t (e + 1)) f
 first_more t e f none own_first = record {
   is = own_below t e f own_first.is;
-  first = λ g below. elim (fault_below t e g below) [ inl less ↦ absurd (none g less) | inr own ↦ own_first.first g own ];
+  first = λ g below. elim (fault_below t e g below) [
+    | inl less ↦ absurd (none g less)
+    | inr own
+        ↦ own_first.first g own
+  ];
 }
 
 -- it has one beside an earlier replica's
-pub both_more : (t : Trace) (e : ℕ) (f g h : Fault) → IsFirstOf (IsFaultBelow t e) g → IsFirstOf (IsOwnFault t e) f → (h ≡ g) ⊎ (h ≡ f) → Precedes h g → Precedes h f → IsFirstOf (IsFaultBelow t (e + 1)) h
+pub both_more : (t : Trace) (e : ℕ) (f g h : Fault) → IsFirstOf (IsFaultBelow t e) g → IsFirstOf (IsOwnFault t e) f
+    → (h ≡ g) ⊎ (h ≡ f) → Precedes h g → Precedes h f → IsFirstOf (IsFaultBelow t (e + 1)) h
 both_more t e f g h found own_first one before after = record {
   is = elim one [
     | inl same ↦ subst (λ (x : Fault). IsFaultBelow t (e + 1) x) (sym same) (more_below t e g found.is)
@@ -68,7 +77,8 @@ both_more t e f g h found own_first one before after = record {
 }
 
 -- its last committed number with those of the replicas before it
-pub least_more : (t : Trace) (e c last m : ℕ) → IsLeastBelow t e c → last ≡ last_of t e → last < 2 ^ 32 → m ≡ min c last → IsLeastBelow t (e + 1) m
+pub least_more : (t : Trace) (e c last m : ℕ) → IsLeastBelow t e c → last ≡ last_of t e → last < 2 ^ 32 → m ≡ min c last
+    → IsLeastBelow t (e + 1) m
 least_more t e c last m found is small least = record {
   least = λ k lt. elim (below_more k e lt) [
     | inl less ↦ (let few = found.least k less in omega (arith, few, least))
@@ -77,7 +87,8 @@ least_more t e c last m found is small least = record {
   reached = inr (by (cases_lt c last) found.reached);
 }
   where
-    by : (c < last) ⊎ (last ≤ c) → ((e ≡ 0) × (c ≡ 2 ^ 32 - 1)) ⊎ ((k : ℕ) × (k < e) × (last_of t k ≡ c)) → (k : ℕ) × (k < e + 1) × (last_of t k ≡ m)
+    by : (c < last) ⊎ (last ≤ c) → ((e ≡ 0) × (c ≡ 2 ^ 32 - 1)) ⊎ ((k : ℕ) × (k < e) × (last_of t k ≡ c)) → (k : ℕ)
+        × (k < e + 1) × (last_of t k ≡ m)
     by (inr le) r = (e, omega arith, omega (arith, is, least, le))
     by (inl lt) (inl first) = absurd (omega (arith, lt, small, first.1))
     by (inl lt) (inr r) = (r.0, omega (arith, r.1), omega (arith, r.2, least, lt))

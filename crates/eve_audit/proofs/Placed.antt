@@ -10,8 +10,10 @@ use Rattle.eve_views.specs.declared.fault.Code.{Code}
 use Rattle.eve_views.specs.declared.fault.Code.TheVariants as code
 use Rattle.eve_views.specs.declared.fault.Fault.{Fault}
 use Rattle.eve_grammar.specs.Accesses.{is_right_place}
-use Rattle.eve_history.specs.Section.{Placed, SectionState, start, state_after, settled, is_right_attempt, is_right_certificate, is_right_access, is_right_commit, is_right_rollback, are_right_accesses}
-use Rattle.eve_history.specs.Told.{history, names_of}
+use Rattle.eve_history.specs.Section.{Placed, SectionState, start, state_after, settled, is_right_attempt}
+use Rattle.eve_history.specs.Section.{is_right_certificate, is_right_access, is_right_commit, is_right_rollback}
+use Rattle.eve_history.specs.Section.{are_right_accesses}
+use Rattle.eve_history.specs.SectionHistory.{history, names_of}
 use Rattle.eve_views.specs.Form.{SomePlace}
 use Rattle.eve_history.specs.Faults.{accesses_of, OfAttempt, OfCommit, OfRollback, AtStep, AtAccess, StandsInStructure}
 use Rattle.eve_chains.specs.Visible.{executed_by, visible_to}
@@ -20,57 +22,77 @@ use Rattle.eve_agree.specs.Restores.{StandsInRestores}
 use Rattle.eve_agree.specs.DueTokens.{StandsInTokens}
 use Rattle.eve_agree.specs.Majority.{StandsInMajorities}
 use Rattle.eve_agree.specs.Agreement.{StandsInAgreement}
-use Rattle.eve_audit.specs.Verdict.{Stands, in_form, in_trace, IsTraceFault, in_orders, in_section, in_common, of_votes, of_majorities, of_agreement, of_replies, IsOwnFault, of_structure, of_records, of_chains, of_restores, of_tokens}
+use Rattle.eve_audit.specs.Verdict.{Stands, in_form, in_trace, IsTraceFault, in_orders, in_section, in_common, of_votes}
+use Rattle.eve_audit.specs.Verdict.{of_majorities, of_agreement, of_replies, IsOwnFault, of_structure, of_records}
+use Rattle.eve_audit.specs.Verdict.{of_chains, of_restores, of_tokens}
 use Rattle.eve_audit.proofs.Sections.{LiesIn, FatesAreAsItEnds}
-use Rattle.eve_audit.proofs.Phases.{form_phase, order_phase, structure_phase, record_phase, chain_phase, restore_phase, token_phase, vote_phase, majority_phase, outcome_phase, reply_phase}
+use Rattle.eve_audit.proofs.Phases.{form_phase, order_phase, structure_phase, record_phase, chain_phase, restore_phase}
+use Rattle.eve_audit.proofs.Phases.{token_phase, vote_phase, majority_phase, outcome_phase, reply_phase}
 use Rattle.eve_audit.proofs.Where.{StepIn, at_place, steps_in, starts_in, step_in, access_in, committed_in, settled_in}
 
 module _ (t : Trace) (e : ℕ) where
-  at_step : (at : ℕ) (P : SectionState → Step → Type 0) → AtStep t e (λ offset s step. (offset ≡ at) × P s step) → LiesIn t e at
+  at_step : (at : ℕ) (P : SectionState → Step → Type 0) → AtStep t e (λ offset s step. (offset ≡ at) × P s step)
+      → LiesIn t e at
   at_step at P place = subst (LiesIn t e) place.holds.1.0 (step_in t e place.before place.item place.rest place.is)
 
-  at_access : (at : ℕ) (P : Attempt → List Access → Access → Type 0) → AtAccess t e (λ offset a before x. (offset ≡ at) × P a before x) → LiesIn t e at
+  at_access : (at : ℕ) (P : Attempt → List Access → Access → Type 0)
+      → AtAccess t e (λ offset a before x. (offset ≡ at) × P a before x) → LiesIn t e at
   at_access at P place = by place.item.1 refl place.holds.1
     where
       within : StepIn t e place.item
       within = at_place (StepIn t e) (steps_at t e) place.before place.item place.rest place.is (steps_in t e)
 
       by : (step : Step) → place.item.1 ≡ step
-          → OfAttempt step (λ a. IsTrue (is_right_attempt t (state_after start place.before) a) × IsTrue (is_right_certificate t a)
-          × SomePlace (accesses_at place.item.0 a) (λ before x. IsTrue (are_right_accesses t a [] (accesses_of before)) × ((x.0 ≡ at) × P a (accesses_of before) x.1)))
+          → OfAttempt step (λ a. IsTrue (is_right_attempt t (state_after start place.before) a)
+          × IsTrue (is_right_certificate t a)
+          × SomePlace (accesses_at place.item.0 a) (λ before x. IsTrue (are_right_accesses t a [] (accesses_of before))
+          × ((x.0 ≡ at) × P a (accesses_of before) x.1)))
           → LiesIn t e at
-      by (Attempts a) is h = subst (LiesIn t e) h.2.holds.1.0 (access_in t e place.item.0 a (subst (λ (s : Step). StepIn t e (place.item.0, s)) is within) h.2.before h.2.item h.2.rest h.2.is)
+      by (Attempts a) is h = subst (LiesIn t e) h.2.holds.1.0
+          (access_in t e place.item.0 a (subst (λ (s : Step). StepIn t e (place.item.0, s)) is within) h.2.before
+          h.2.item h.2.rest h.2.is)
       by (Commits c) is h = absurd h
       by (RollsBack r) is h = absurd h
 
   pub structure_lies : (c : Code) (at : ℕ) → StandsInStructure c t e at → LiesIn t e at
-  structure_lies code.Attempt at stands = at_step at (λ s step. OfAttempt step (λ a. IsFalse (is_right_attempt t s a))) stands
-  structure_lies code.Certificate at stands = at_step at (λ s step. OfAttempt step (λ a. IsFalse (is_right_certificate t a))) stands
+  structure_lies code.Attempt at stands = at_step at (λ s step. OfAttempt step (λ a. IsFalse (is_right_attempt t s a)))
+      stands
+  structure_lies code.Certificate at stands =
+      at_step at (λ s step. OfAttempt step (λ a. IsFalse (is_right_certificate t a))) stands
   structure_lies code.Access at stands = at_access at (λ a before x. IsFalse (is_right_access t a before x)) stands
   structure_lies code.WorkerOrder at stands = at_access at (λ a before x. IsFalse (is_right_place before x)) stands
-  structure_lies code.Commit at stands = at_step at (λ s step. OfCommit step (λ d. IsFalse (is_right_commit s d))) stands
-  structure_lies code.Rollback at stands = at_step at (λ s step. OfRollback step (λ r. IsFalse (is_right_rollback t s r))) stands
+  structure_lies code.Commit at stands = at_step at (λ s step. OfCommit step (λ d. IsFalse (is_right_commit s d)))
+      stands
+  structure_lies code.Rollback at stands =
+      at_step at (λ s step. OfRollback step (λ r. IsFalse (is_right_rollback t s r))) stands
   structure_lies c at stands = absurd stands
 
   pub restore_lies : (c : Code) (at : ℕ) → StandsInRestores c t e at → LiesIn t e at
-  restore_lies code.Restore at stands = subst (LiesIn t e) stands.holds.0 (step_in t e stands.before stands.item stands.rest stands.is)
+  restore_lies code.Restore at stands =
+      subst (LiesIn t e) stands.holds.0 (step_in t e stands.before stands.item stands.rest stands.is)
   restore_lies c at stands = absurd stands
 
   pub majority_lies : (c : Code) (at : ℕ) → StandsInMajorities c t e at → LiesIn t e at
-  majority_lies code.NoMajority at stands = subst (LiesIn t e) stands.holds.0 (step_in t e stands.before stands.item stands.rest stands.is)
-  majority_lies code.RollbackNoMajority at stands = subst (LiesIn t e) stands.holds.0 (step_in t e stands.before stands.item stands.rest stands.is)
+  majority_lies code.NoMajority at stands =
+      subst (LiesIn t e) stands.holds.0 (step_in t e stands.before stands.item stands.rest stands.is)
+  majority_lies code.RollbackNoMajority at stands =
+      subst (LiesIn t e) stands.holds.0 (step_in t e stands.before stands.item stands.rest stands.is)
   majority_lies c at stands = absurd stands
 
   module _ (law : FatesAreAsItEnds t e) where
     at_settled : (at : ℕ) (P : Placed → Access → Type 0) → AtSettledAccess t e at P → LiesIn t e at
     at_settled at P place = subst (LiesIn t e) place.holds.holds.0 (access_in t e place.item.offset place.item.attempt
-        (at_place (λ (p : Placed). StepIn t e (p.offset, Attempts p.attempt)) (settled (history t e)) place.before place.item place.rest place.is (settled_in t e law))
+        (at_place (λ (p : Placed). StepIn t e (p.offset, Attempts p.attempt)) (settled (history t e)) place.before
+        place.item place.rest place.is (settled_in t e law))
         place.holds.before place.holds.item place.holds.rest place.holds.is)
 
     -- where an attempt that was committed stands
-    committed_lies : (before : List Placed) (p : Placed) (rest : List Placed) → (history t e).committed ≡ before ++ p ∷ rest → LiesIn t e p.offset
+    committed_lies : (before : List Placed) (p : Placed) (rest : List Placed) → (history t e).committed
+        ≡ before ++ p ∷ rest → LiesIn t e p.offset
     committed_lies before p rest is =
-        let within : StepIn t e (p.offset, Attempts p.attempt) = at_place (λ (q : Placed). StepIn t e (q.offset, Attempts q.attempt)) (history t e).committed before p rest is (committed_in t e law) in
+        let within : StepIn t e (p.offset, Attempts p.attempt) =
+        at_place (λ (q : Placed). StepIn t e (q.offset, Attempts q.attempt)) (history t e).committed before p rest
+        is (committed_in t e law) in
         starts_in t e (p.offset, Attempts p.attempt) within
 
     pub record_lies : (c : Code) (at : ℕ) → StandsInRecords c t e at → LiesIn t e at
@@ -78,16 +100,20 @@ module _ (t : Trace) (e : ℕ) where
     record_lies c at stands = absurd stands
 
     pub chain_lies : (c : Code) (at : ℕ) → StandsInChains c t e at → LiesIn t e at
-    chain_lies code.Version at stands = at_settled at (λ p x. SomePlace x.entries (λ _ y. y.version ≢ (visible_to t p x.index y.row).version)) stands
-    chain_lies code.Value at stands = at_settled at (λ p x. SomePlace x.entries (λ _ y. y.seen ≢ (visible_to t p x.index y.row).value)) stands
+    chain_lies code.Version at stands =
+        at_settled at (λ p x. SomePlace x.entries (λ _ y. y.version ≢ (visible_to t p x.index y.row).version)) stands
+    chain_lies code.Value at stands =
+        at_settled at (λ p x. SomePlace x.entries (λ _ y. y.seen ≢ (visible_to t p x.index y.row).value)) stands
     chain_lies c at stands = absurd stands
 
     pub token_lies : (c : Code) (at : ℕ) → StandsInTokens c t e at → LiesIn t e at
-    token_lies code.Token at stands = subst (LiesIn t e) stands.holds.0 (committed_lies stands.before stands.item stands.rest stands.is)
+    token_lies code.Token at stands =
+        subst (LiesIn t e) stands.holds.0 (committed_lies stands.before stands.item stands.rest stands.is)
     token_lies c at stands = absurd stands
 
     pub outcome_lies : (c : Code) (at : ℕ) → StandsInAgreement c t e at → LiesIn t e at
-    outcome_lies code.Outcome at stands = subst (LiesIn t e) stands.holds.0 (committed_lies stands.before stands.item stands.rest stands.is)
+    outcome_lies code.Outcome at stands =
+        subst (LiesIn t e) stands.holds.0 (committed_lies stands.before stands.item stands.rest stands.is)
     outcome_lies c at stands = absurd stands
 
 -- whether the faults of a phase lie in sections
@@ -97,22 +123,33 @@ is_inside phase = (nat_le 3 phase && nat_le phase 7) || ((phase == 9) || (phase 
 -- the fault names no replica, or the one in whose section it lies; and the phase says which
 pub data IsPlaced (bytes : List ℕ) (f : Fault) : Type 0 where
   outside : f.replica ≡ None → is_inside (phase_of f.code) ≡ false → IsPlaced bytes f
-  inside : (t : Trace) (e : ℕ) → Spells bytes t → f.replica ≡ Some e → LiesIn t e f.offset → is_inside (phase_of f.code) ≡ true → IsPlaced bytes f
+  inside : (t : Trace) (e : ℕ) → Spells bytes t → f.replica ≡ Some e → LiesIn t e f.offset → is_inside (phase_of f.code)
+      ≡ true → IsPlaced bytes f
 
 module _ (laws : (t : Trace) (e : ℕ) → FatesAreAsItEnds t e) (bytes : List ℕ) (f : Fault) where
   own_placed : (t : Trace) (e : ℕ) → Spells bytes t → IsOwnFault t e f → IsPlaced bytes f
-  own_placed t e spells (of_structure is) = inside t e spells is.inside (structure_lies t e f.code f.offset is.stands) (ap is_inside (structure_phase t e f is))
-  own_placed t e spells (of_records is) = inside t e spells is.inside (record_lies t e (laws t e) f.code f.offset is.stands) (ap is_inside (record_phase t e f is))
-  own_placed t e spells (of_chains is) = inside t e spells is.inside (chain_lies t e (laws t e) f.code f.offset is.stands) (ap is_inside (chain_phase t e f is))
-  own_placed t e spells (of_restores is) = inside t e spells is.inside (restore_lies t e f.code f.offset is.stands) (ap is_inside (restore_phase t e f is))
-  own_placed t e spells (of_tokens is) = inside t e spells is.inside (token_lies t e (laws t e) f.code f.offset is.stands) (ap is_inside (token_phase t e f is))
+  own_placed t e spells (of_structure is) = inside t e spells is.inside (structure_lies t e f.code f.offset is.stands)
+      (ap is_inside (structure_phase t e f is))
+  own_placed t e spells (of_records is) =
+      inside t e spells is.inside (record_lies t e (laws t e) f.code f.offset is.stands)
+      (ap is_inside (record_phase t e f is))
+  own_placed t e spells (of_chains is) =
+      inside t e spells is.inside (chain_lies t e (laws t e) f.code f.offset is.stands)
+      (ap is_inside (chain_phase t e f is))
+  own_placed t e spells (of_restores is) = inside t e spells is.inside (restore_lies t e f.code f.offset is.stands)
+      (ap is_inside (restore_phase t e f is))
+  own_placed t e spells (of_tokens is) =
+      inside t e spells is.inside (token_lies t e (laws t e) f.code f.offset is.stands)
+      (ap is_inside (token_phase t e f is))
 
   trace_placed : (t : Trace) → Spells bytes t → IsTraceFault t f → IsPlaced bytes f
   trace_placed t spells (in_orders is) = outside is.outside (ap is_inside (order_phase t f is))
   trace_placed t spells (in_section below) = own_placed t below.0 spells below.2
   trace_placed t spells (in_common (of_votes is)) = outside is.outside (ap is_inside (vote_phase t f is))
-  trace_placed t spells (in_common (of_majorities is)) = inside t is.replica spells is.inside (majority_lies t is.replica f.code f.offset is.stands) (ap is_inside (majority_phase t f is))
-  trace_placed t spells (in_common (of_agreement is)) = inside t is.replica spells is.inside (outcome_lies t is.replica (laws t is.replica) f.code f.offset is.stands) (ap is_inside (outcome_phase t f is))
+  trace_placed t spells (in_common (of_majorities is)) = inside t is.replica spells is.inside
+      (majority_lies t is.replica f.code f.offset is.stands) (ap is_inside (majority_phase t f is))
+  trace_placed t spells (in_common (of_agreement is)) = inside t is.replica spells is.inside
+      (outcome_lies t is.replica (laws t is.replica) f.code f.offset is.stands) (ap is_inside (outcome_phase t f is))
   trace_placed t spells (in_common (of_replies is)) = outside is.outside (ap is_inside (reply_phase t f is))
 
   pub placed : Stands bytes f → IsPlaced bytes f

@@ -5,12 +5,13 @@ use Rattle.eve_grammar.specs.Trace.{Sent, Trace}
 use Rattle.eve_grammar.specs.Spelling.{steps_at}
 use Rattle.eve_grammar.specs.Certificate.{KeepsGroups}
 use Rattle.eve_history.specs.Section.{Placed, batch_at}
-use Rattle.eve_history.specs.Told.{committed_at}
+use Rattle.eve_history.specs.SectionHistory.{committed_at}
 use Rattle.eve_votes.specs.Votes.{IsDecided}
 use Rattle.eve_votes.proofs.Deciding.{quorum_limits}
 use Rattle.eve_chains.proofs.Linked.{in_at, committed_number}
 use Rattle.eve_chains.specs.Visible.{execution, executions}
-use Rattle.eve_chains.specs.Committed.{opening_bank, bank_after, committed_to, Leads, IsSerialBetween, committed_request_ids, AreDistinct}
+use Rattle.eve_chains.specs.Committed.{opening_bank, bank_after, committed_to, Leads, IsSerialBetween}
+use Rattle.eve_chains.specs.Committed.{committed_request_ids, AreDistinct}
 use Rattle.eve_agree.specs.Tables.{IsRestored}
 use Rattle.eve_agree.specs.SentReplies.{IsReplied}
 use Rattle.eve_audit.specs.Accepted.{IsAccepted}
@@ -35,9 +36,11 @@ module _ (t : Trace) (accepted : IsAccepted t) where
   reply_given k s at = all_in (IsReplied t) accepted.replied (in_at t.sent k s at)
 
   -- with the laws of serial order, of groups, of requests and of rollbacks
-  pub audited_with : ((e n : ℕ) (p : Placed) → committed_at t e n ≡ Some p → IsSerialBetween (bank_after t e (n - 1)) (bank_after t e n) (execution t p.attempt))
+  pub audited_with : ((e n : ℕ) (p : Placed) → committed_at t e n ≡ Some p
+      → IsSerialBetween (bank_after t e (n - 1)) (bank_after t e n) (execution t p.attempt))
       → ((e n : ℕ) → Leads (opening_bank t) (executions t (committed_to t e n)) (bank_after t e n))
-      → ((e n : ℕ) (p : Placed) → committed_at t e n ≡ Some p → KeepsGroups (batch_at t n).sizes (length (batch_at t n).requests) p.attempt.certificate)
+      → ((e n : ℕ) (p : Placed) → committed_at t e n ≡ Some p
+      → KeepsGroups (batch_at t n).sizes (length (batch_at t n).requests) p.attempt.certificate)
       → ((e : ℕ) → AreDistinct (committed_request_ids t e)) → ((e k : ℕ) → IsRestored t e k) → IsAudited t
   audited_with serial from_opening keeps_groups once restored = record {
     numbered = λ e n p at. committed_number t e n p (accepted.right e) at;

@@ -1,19 +1,24 @@
 -- Whether a fault stands at an offset under a code can be decided.
-use Rattle.std.proofs.Common.{◌≡◌, ◌≢◌, ℕ, zero, suc, ◌+◌, ◌-◌, ◌<◌, ◌≤◌, ◌⊎◌, inl, inr, List, [], ◌∷◌, length, get_or, refl, sym, subst, ◌∙◌, arith}
+use Rattle.std.proofs.Common.{◌≡◌, ◌≢◌, ℕ, zero, suc, ◌+◌, ◌-◌, ◌<◌, ◌≤◌, ◌⊎◌, inl, inr, List, [], ◌∷◌, length, get_or}
+use Rattle.std.proofs.Common.{refl, sym, subst, ◌∙◌, arith}
 use Rattle.std.specs.Prelude.{IsTrue, IsFalse, Contains, slice_index_or, Bool}
 use Rattle.std.specs.List.{All, list_any}
 use Rattle.std.proofs.lemmas.Bool.{cases_Bool, cases_lt, false≢true}
 use Rattle.eve_smallbank.specs.Access.{Executed, Fits}
-use Rattle.eve_grammar.specs.Trace.{Choice, ForRollback, ForCommit, Vote, Access, Attempt, Commit, Rollback, Step, Attempts, Commits, RollsBack, Trace}
+use Rattle.eve_grammar.specs.Trace.{Choice, ForRollback, ForCommit, Vote, Access, Attempt, Commit, Rollback, Step}
+use Rattle.eve_grammar.specs.Trace.{Attempts, Commits, RollsBack, Trace}
 use Rattle.eve_grammar.specs.Accesses.{is_right_place}
 use Rattle.eve_grammar.specs.Limits.{HasLimits}
 use Rattle.eve_grammar.specs.Spelling.{customers_at, batches_at, steps_at, accesses_at, votes_at, votes_of, sent_at}
 use Rattle.eve_views.specs.Form.{SomePlace}
 use Rattle.eve_views.specs.declared.fault.Code.{Code}
 use Rattle.eve_views.specs.declared.fault.Code.TheVariants as code
-use Rattle.eve_history.specs.Section.{Placed, SectionState, start, state_after, settled, is_right_attempt, is_right_certificate, is_right_access, is_right_commit, is_right_rollback, are_right_accesses, are_right}
-use Rattle.eve_history.specs.Told.{history, names_of}
-use Rattle.eve_history.specs.Faults.{request_ids_at, accesses_of, OfAttempt, OfCommit, OfRollback, StandsInOrders, StandsInStructure}
+use Rattle.eve_history.specs.Section.{Placed, SectionState, start, state_after, settled, is_right_attempt}
+use Rattle.eve_history.specs.Section.{is_right_certificate, is_right_access, is_right_commit, is_right_rollback}
+use Rattle.eve_history.specs.Section.{are_right_accesses, are_right}
+use Rattle.eve_history.specs.SectionHistory.{history, names_of}
+use Rattle.eve_history.specs.Faults.{request_ids_at, accesses_of, OfAttempt, OfCommit, OfRollback, StandsInOrders}
+use Rattle.eve_history.specs.Faults.{StandsInStructure}
 use Rattle.eve_history.proofs.Places.{place_here, place_later, place_cases, no_place}
 use Rattle.eve_chains.specs.Visible.{executed_by, visible_to}
 use Rattle.eve_chains.specs.Faults.{AtSettledAccess, StandsInRecords, StandsInChains}
@@ -27,7 +32,8 @@ use Rattle.eve_votes.proofs.Counting.{decided_backs}
 use Rattle.eve_agree.specs.Majority.{StandsInMajorities}
 use Rattle.eve_agree.specs.Agreement.{first_to_commit, StandsInAgreement}
 use Rattle.eve_agree.specs.SentReplies.{StandsInReplies}
-use Rattle.eve_audit.proofs.Deciding.{Decided, HasEquality, decided_both, decided_not, decided_as, some_if, below_or_none, numbers, integers, lists, pairs}
+use Rattle.eve_audit.proofs.Deciding.{Decided, HasEquality, decided_both, decided_not, decided_as, some_if}
+use Rattle.eve_audit.proofs.Deciding.{below_or_none, numbers, integers, lists, pairs}
 use Rattle.eve_audit.proofs.UnfaultedTogether.{some_quorum, enough, same_outcome, replied}
 
 -- ---- tests, places and elements
@@ -44,7 +50,8 @@ decided_three (inl p) (inl q) (inr n) = inr (λ all. n all.2)
 decided_three (inl p) (inr n) r = inr (λ all. n all.1)
 decided_three (inr n) q r = inr (λ all. n all.0)
 
-place_decided : {A : Type 0} (P : List A → A → Type 0) → ((before : List A) (x : A) → Decided (P before x)) → (xs : List A) → Decided (SomePlace xs P)
+place_decided : {A : Type 0} (P : List A → A → Type 0) → ((before : List A) (x : A) → Decided (P before x))
+    → (xs : List A) → Decided (SomePlace xs P)
 place_decided P decided [] = inr (no_place P)
 place_decided {A = A} P decided (x ∷ xs) = elim (decided [] x) [
   | inl here ↦ inl (place_here P x xs here)
@@ -55,7 +62,8 @@ place_decided {A = A} P decided (x ∷ xs) = elim (decided [] x) [
 ]
 
 contains_decided : {A : Type 0} → HasEquality A → (xs : List A) (x : A) → Decided (Contains xs x)
-contains_decided equal xs x = below_or_none (λ k. slice_index_or xs k x ≡ x) (λ k. equal (slice_index_or xs k x) x) (length xs)
+contains_decided equal xs x = below_or_none (λ k. slice_index_or xs k x ≡ x) (λ k. equal (slice_index_or xs k x) x)
+    (length xs)
 
 -- ---- kinds of steps
 
@@ -95,7 +103,9 @@ module _ (t : Trace) where
   at_vote : (P : Vote → Type 0) → ((w : Vote) → Decided (P w)) → Decided (AtVote P)
   unfolding AtVote
   at_vote P decided =
-      below_or_none (λ v. (i : ℕ) × (i < length (votes_of t v)) × P (vote v i)) (λ v. below_or_none (λ i. P (vote v i)) (λ i. decided (vote v i)) (length (votes_of t v))) (length t.verifiers)
+      below_or_none (λ v. (i : ℕ) × (i < length (votes_of t v)) × P (vote v i))
+      (λ v. below_or_none (λ i. P (vote v i)) (λ i. decided (vote v i)) (length (votes_of t v)))
+      (length t.verifiers)
 
   -- a vote for a commit that is decided
   IsFor : ℕ → Vote → Type 0
@@ -111,10 +121,12 @@ module _ (t : Trace) where
       same : (a b : List ℕ) → ForCommit a ≡ ForCommit b → a ≡ b
       same a b e = cc
 
-      by : (c : Choice) → w.choice ≡ c → Decided ((token : List ℕ) × (w.choice ≡ ForCommit token) × IsDecided t n w.view token)
+      by : (c : Choice) → w.choice ≡ c
+          → Decided ((token : List ℕ) × (w.choice ≡ ForCommit token) × IsDecided t n w.view token)
       by ForRollback is = inr (λ found. other found.0 (sym is ∙ found.1))
       by (ForCommit token) is =
-          decided_as (λ decided. (token, is, decided)) (λ found. subst (λ (b : List ℕ). IsDecided t n w.view b) (same found.0 token (sym found.1 ∙ is)) found.2)
+          decided_as (λ decided. (token, is, decided))
+          (λ found. subst (λ (b : List ℕ). IsDecided t n w.view b) (same found.0 token (sym found.1 ∙ is)) found.2)
           (enough t.quorum (backers t n w.view (ForCommit token)))
 
   -- two votes for commits in two views, both of them decided
@@ -123,7 +135,9 @@ module _ (t : Trace) where
 
   clashes : (n : ℕ) → Decided (AtVote (λ w. AtVote (Clash n w)))
   unfolding Clash
-  clashes n = at_vote (λ w. AtVote (Clash n w)) (λ w. at_vote (Clash n w) (λ x. decided_both (decided_not (numbers w.view x.view)) (decided_both (is_for n w) (is_for n x))))
+  clashes n = at_vote (λ w. AtVote (Clash n w))
+      (λ w. at_vote (Clash n w)
+      (λ x. decided_both (decided_not (numbers w.view x.view)) (decided_both (is_for n w) (is_for n x))))
 
   two_of : (n : ℕ) → AtVote (λ w. AtVote (Clash n w)) → HasTwoDecisions t n
   unfolding AtVote Clash IsFor
@@ -132,7 +146,15 @@ module _ (t : Trace) where
       let also = found.2.2 in
       let x = vote also.0 also.2.0 in
       let clash = also.2.2 in
-      record { view = w.view; other = x.view; token = clash.1.0.0; other_token = clash.1.1.0; apart = clash.0; decided = clash.1.0.2; other_decided = clash.1.1.2 }
+      record {
+        view = w.view;
+        other = x.view;
+        token = clash.1.0.0;
+        other_token = clash.1.1.0;
+        apart = clash.0;
+        decided = clash.1.0.2;
+        other_decided = clash.1.1.2;
+      }
 
   -- a decided commit has a vote for it
   module _ (limits : HasLimits t) where
@@ -145,7 +167,8 @@ module _ (t : Trace) where
         let some = some_quorum t limits in
         (v, omega (arith, some, early), (k, lt, same_default (votes_of t v) k no_vote d lt))
 
-    voted : (P : Vote → Type 0) (n view : ℕ) (token : List ℕ) → IsDecided t n view token → ((w : Vote) → w.view ≡ view → w.choice ≡ ForCommit token → P w) → AtVote P
+    voted : (P : Vote → Type 0) (n view : ℕ) (token : List ℕ) → IsDecided t n view token
+        → ((w : Vote) → w.view ≡ view → w.choice ≡ ForCommit token → P w) → AtVote P
     unfolding IsOne AtVote
     voted P n view token decided holds =
         let back = decided_backs t IsOne n view token (some_quorum t limits) all_ones decided in
@@ -160,7 +183,12 @@ module _ (t : Trace) where
           (λ same. two.apart (sym in_view ∙ same ∙ in_other)),
           (
             (two.token, commit, subst (λ (v : ℕ). IsDecided t n v two.token) (sym in_view) two.decided),
-            (two.other_token, also, subst (λ (v : ℕ). IsDecided t n v two.other_token) (sym in_other) two.other_decided),
+            (
+              two.other_token,
+              also,
+              subst (λ (v : ℕ). IsDecided t n v two.other_token)
+                  (sym in_other) two.other_decided,
+            ),
           ),
         )))
 
@@ -171,24 +199,34 @@ module _ (t : Trace) where
 
 module _ (t : Trace) (at : ℕ) where
   pub orders_decided : (c : Code) → Decided (StandsInOrders c t at)
-  orders_decided code.SameName = place_decided _ (λ before c. decided_both (numbers c.0 at) (contains_decided (lists numbers) _ _)) (customers_at t)
+  orders_decided code.SameName =
+      place_decided _ (λ before c. decided_both (numbers c.0 at) (contains_decided (lists numbers) _ _))
+      (customers_at t)
   orders_decided code.SameRequest =
-      place_decided _ (λ before b. decided_both (numbers b.0 at) (place_decided _ (λ earlier own. contains_decided (pairs numbers numbers) _ _) (request_ids_at b))) (batches_at t)
+      place_decided _ (λ before b. decided_both (numbers b.0 at)
+      (place_decided _ (λ earlier own. contains_decided (pairs numbers numbers) _ _) (request_ids_at b)))
+      (batches_at t)
   orders_decided c = inr (λ stands. absurd stands)
 
   pub votes_decided : HasLimits t → (c : Code) → Decided (StandsInVotes c t at)
   votes_decided limits code.TwoVotes =
-      decided_as (λ found. (found.0, found.2)) (λ further. (further.0, there further.0 further.1 (cases_lt further.0 (length t.verifiers)), further.1))
-      (below_or_none (λ v. IsFurtherAt (votes_at t v) at) (λ v. place_decided _ (λ before w. decided_both (numbers w.0 at) (decided_true (list_any (λ u. is_vote_on w.1.seq w.1.view u.1) before))) (votes_at t v)) (length t.verifiers))
+      decided_as (λ found. (found.0, found.2))
+      (λ further. (further.0, there further.0 further.1 (cases_lt further.0 (length t.verifiers)), further.1))
+      (below_or_none (λ v. IsFurtherAt (votes_at t v) at)
+      (λ v. place_decided _ (λ before w. decided_both (numbers w.0 at)
+      (decided_true (list_any (λ u. is_vote_on w.1.seq w.1.view u.1) before))) (votes_at t v)) (length t.verifiers))
     where
-      there : (v : ℕ) → IsFurtherAt (votes_at t v) at → (v < length t.verifiers) ⊎ (length t.verifiers ≤ v) → v < length t.verifiers
+      there : (v : ℕ) → IsFurtherAt (votes_at t v) at → (v < length t.verifiers) ⊎ (length t.verifiers ≤ v)
+          → v < length t.verifiers
       there v further (inl lt) = lt
       there v further (inr le) = absurd (none_behind t v at le further)
-  votes_decided limits code.TwoDecisions = place_decided _ (λ _ b. decided_both (numbers b.0 at) (two_decided t limits b.1.0)) (batches_at t)
+  votes_decided limits code.TwoDecisions =
+      place_decided _ (λ _ b. decided_both (numbers b.0 at) (two_decided t limits b.1.0)) (batches_at t)
   votes_decided limits c = inr (λ stands. absurd stands)
 
   pub replies_decided : (c : Code) → Decided (StandsInReplies c t at)
-  replies_decided code.Reply = place_decided _ (λ _ s. decided_both (numbers s.0 at) (decided_not (replied t s.1))) (sent_at t)
+  replies_decided code.Reply = place_decided _ (λ _ s. decided_both (numbers s.0 at) (decided_not (replied t s.1)))
+      (sent_at t)
   replies_decided c = inr (λ stands. absurd stands)
 
   module _ (e : ℕ) where
@@ -198,34 +236,54 @@ module _ (t : Trace) (at : ℕ) where
     pub structure_decided : (c : Code) → Decided (StandsInStructure c t e at)
     unfolding state
     structure_decided code.Attempt =
-        place_decided _ (λ before step. decided_both (decided_true (are_right t start before)) (decided_both (numbers step.0 at) (of_attempt step.1 _ (λ a. decided_false (is_right_attempt t (state before) a))))) (steps_at t e)
+        place_decided _ (λ before step. decided_both (decided_true (are_right t start before))
+        (decided_both (numbers step.0 at)
+        (of_attempt step.1 _ (λ a. decided_false (is_right_attempt t (state before) a))))) (steps_at t e)
     structure_decided code.Certificate =
-        place_decided _ (λ before step. decided_both (decided_true (are_right t start before)) (decided_both (numbers step.0 at) (of_attempt step.1 _ (λ a. decided_false (is_right_certificate t a))))) (steps_at t e)
+        place_decided _ (λ before step. decided_both (decided_true (are_right t start before))
+        (decided_both (numbers step.0 at) (of_attempt step.1 _ (λ a. decided_false (is_right_certificate t a)))))
+        (steps_at t e)
     structure_decided code.Access =
-        place_decided _ (λ before step. decided_both (decided_true (are_right t start before)) (of_attempt step.1 _ (λ a.
+        place_decided _ (λ before step. decided_both (decided_true (are_right t start before))
+        (of_attempt step.1 _ (λ a.
         decided_three (decided_true (is_right_attempt t (state before) a)) (decided_true (is_right_certificate t a))
-        (place_decided _ (λ b x. decided_both (decided_true (are_right_accesses t a [] (accesses_of b))) (decided_both (numbers x.0 at) (decided_false (is_right_access t a (accesses_of b) x.1)))) (accesses_at step.0 a))))) (steps_at t e)
+        (place_decided _ (λ b x. decided_both (decided_true (are_right_accesses t a [] (accesses_of b)))
+        (decided_both (numbers x.0 at) (decided_false (is_right_access t a (accesses_of b) x.1))))
+        (accesses_at step.0 a))))) (steps_at t e)
     structure_decided code.WorkerOrder =
-        place_decided _ (λ before step. decided_both (decided_true (are_right t start before)) (of_attempt step.1 _ (λ a.
+        place_decided _ (λ before step. decided_both (decided_true (are_right t start before))
+        (of_attempt step.1 _ (λ a.
         decided_three (decided_true (is_right_attempt t (state before) a)) (decided_true (is_right_certificate t a))
-        (place_decided _ (λ b x. decided_both (decided_true (are_right_accesses t a [] (accesses_of b))) (decided_both (numbers x.0 at) (decided_false (is_right_place (accesses_of b) x.1)))) (accesses_at step.0 a))))) (steps_at t e)
+        (place_decided _ (λ b x. decided_both (decided_true (are_right_accesses t a [] (accesses_of b)))
+        (decided_both (numbers x.0 at) (decided_false (is_right_place (accesses_of b) x.1))))
+        (accesses_at step.0 a))))) (steps_at t e)
     structure_decided code.Commit =
-        place_decided _ (λ before step. decided_both (decided_true (are_right t start before)) (decided_both (numbers step.0 at) (of_commit step.1 _ (λ c. decided_false (is_right_commit (state before) c))))) (steps_at t e)
+        place_decided _ (λ before step. decided_both (decided_true (are_right t start before))
+        (decided_both (numbers step.0 at)
+        (of_commit step.1 _ (λ c. decided_false (is_right_commit (state before) c))))) (steps_at t e)
     structure_decided code.Rollback =
-        place_decided _ (λ before step. decided_both (decided_true (are_right t start before)) (decided_both (numbers step.0 at) (of_rollback step.1 _ (λ r. decided_false (is_right_rollback t (state before) r))))) (steps_at t e)
+        place_decided _ (λ before step. decided_both (decided_true (are_right t start before))
+        (decided_both (numbers step.0 at)
+        (of_rollback step.1 _ (λ r. decided_false (is_right_rollback t (state before) r))))) (steps_at t e)
     structure_decided c = inr (λ stands. absurd stands)
 
-    settled_access : (P : Placed → Access → Type 0) → ((p : Placed) (x : Access) → Decided (P p x)) → Decided (AtSettledAccess t e at P)
-    settled_access P decided = place_decided _ (λ _ p. place_decided _ (λ _ x. decided_both (numbers x.0 at) (decided p x.1)) (accesses_at p.offset p.attempt)) (settled (history t e))
+    settled_access : (P : Placed → Access → Type 0) → ((p : Placed) (x : Access) → Decided (P p x))
+        → Decided (AtSettledAccess t e at P)
+    settled_access P decided =
+        place_decided _ (λ _ p. place_decided _ (λ _ x. decided_both (numbers x.0 at) (decided p x.1))
+        (accesses_at p.offset p.attempt)) (settled (history t e))
 
-    pub records_decided : ((names : List (List ℕ)) (x : Executed) → Decided (Fits names x)) → (c : Code) → Decided (StandsInRecords c t e at)
-    records_decided fits code.Record = settled_access (λ p x. ¬ Fits (names_of t) (executed_by t p.attempt x)) (λ p x. decided_not (fits (names_of t) (executed_by t p.attempt x)))
+    pub records_decided : ((names : List (List ℕ)) (x : Executed) → Decided (Fits names x)) → (c : Code)
+        → Decided (StandsInRecords c t e at)
+    records_decided fits code.Record = settled_access (λ p x. ¬ Fits (names_of t) (executed_by t p.attempt x))
+        (λ p x. decided_not (fits (names_of t) (executed_by t p.attempt x)))
     records_decided fits c = inr (λ stands. absurd stands)
 
     pub chains_decided : (c : Code) → Decided (StandsInChains c t e at)
     chains_decided code.Version =
         settled_access (λ p x. SomePlace x.entries (λ _ y. y.version ≢ (visible_to t p x.index y.row).version))
-        (λ p x. place_decided _ (λ _ y. decided_not (numbers y.version (visible_to t p x.index y.row).version)) x.entries)
+        (λ p x. place_decided _ (λ _ y. decided_not (numbers y.version (visible_to t p x.index y.row).version))
+        x.entries)
     chains_decided code.Value =
         settled_access (λ p x. SomePlace x.entries (λ _ y. y.seen ≢ (visible_to t p x.index y.row).value))
         (λ p x. place_decided _ (λ _ y. decided_not (integers y.seen (visible_to t p x.index y.row).value)) x.entries)
@@ -233,21 +291,31 @@ module _ (t : Trace) (at : ℕ) where
 
     pub restores_decided : (c : Code) → Decided (StandsInRestores c t e at)
     restores_decided code.Restore =
-        place_decided _ (λ before step. decided_both (numbers step.0 at) (of_rollback step.1 _ (λ r. decided_false (are_right_restores t (state_after start before) r.restores)))) (steps_at t e)
+        place_decided _ (λ before step. decided_both (numbers step.0 at)
+        (of_rollback step.1 _ (λ r. decided_false (are_right_restores t (state_after start before) r.restores))))
+        (steps_at t e)
     restores_decided c = inr (λ stands. absurd stands)
 
     pub tokens_decided : (c : Code) → Decided (StandsInTokens c t e at)
-    tokens_decided code.Token = place_decided _ (λ _ p. decided_both (numbers p.offset at) (decided_not (lists numbers p.attempt.token (due_token t e p)))) (history t e).committed
+    tokens_decided code.Token =
+        place_decided _ (λ _ p. decided_both (numbers p.offset at)
+        (decided_not (lists numbers p.attempt.token (due_token t e p)))) (history t e).committed
     tokens_decided c = inr (λ stands. absurd stands)
 
     pub majorities_decided : (c : Code) → Decided (StandsInMajorities c t e at)
     majorities_decided code.NoMajority =
-        place_decided _ (λ _ step. decided_both (numbers step.0 at) (of_commit step.1 _ (λ c. decided_not (enough t.quorum (backers t c.seq c.view (ForCommit c.token)))))) (steps_at t e)
+        place_decided _ (λ _ step. decided_both (numbers step.0 at)
+        (of_commit step.1 _ (λ c. decided_not (enough t.quorum (backers t c.seq c.view (ForCommit c.token))))))
+        (steps_at t e)
     majorities_decided code.RollbackNoMajority =
-        place_decided _ (λ _ step. decided_both (numbers step.0 at) (of_rollback step.1 _ (λ r. decided_not (enough t.quorum (backers t (r.to + 1) (r.view - 1) ForRollback))))) (steps_at t e)
+        place_decided _ (λ _ step. decided_both (numbers step.0 at)
+        (of_rollback step.1 _ (λ r. decided_not (enough t.quorum (backers t (r.to + 1) (r.view - 1) ForRollback)))))
+        (steps_at t e)
     majorities_decided c = inr (λ stands. absurd stands)
 
     pub agreement_decided : (c : Code) → Decided (StandsInAgreement c t e at)
     agreement_decided code.Outcome =
-        place_decided _ (λ before p. decided_both (numbers p.offset at) (some_if _ (λ f. decided_not (same_outcome t e (length before + 1) f)) (first_to_commit t (length before + 1)))) (history t e).committed
+        place_decided _ (λ before p. decided_both (numbers p.offset at)
+        (some_if _ (λ f. decided_not (same_outcome t e (length before + 1) f))
+        (first_to_commit t (length before + 1)))) (history t e).committed
     agreement_decided c = inr (λ stands. absurd stands)

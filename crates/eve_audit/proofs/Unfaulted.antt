@@ -1,5 +1,6 @@
 -- Where no phase finds a fault, all is as it must be, replica by replica.
-use Rattle.std.proofs.Common.{◌≡◌, ℕ, List, [], ◌∷◌, ◌++◌, Option, Some, None, inl, inr, refl, sym, ap, subst, ◌∙◌, append_assoc}
+use Rattle.std.proofs.Common.{◌≡◌, ℕ, List, [], ◌∷◌, ◌++◌, Option, Some, None, inl, inr, refl, sym, ap, subst, ◌∙◌}
+use Rattle.std.proofs.Common.{append_assoc}
 use Rattle.std.specs.List.{AllByRecursion}
 use Rattle.std.specs.Prelude.{IsTrue}
 use Rattle.std.proofs.lemmas.Bool.{cases_Bool, and_from}
@@ -10,7 +11,7 @@ use Rattle.eve_views.specs.declared.fault.Code.TheVariants as code
 use Rattle.eve_history.specs.declared.wrong.Wrong.{Wrong}
 use Rattle.eve_history.specs.FirstWrong.{first_wrong, fault_of}
 use Rattle.eve_history.specs.Section.{Placed, SectionState, start, next, state_after, settled}
-use Rattle.eve_history.specs.Told.{history, names_of, IsRightSection}
+use Rattle.eve_history.specs.SectionHistory.{history, names_of, IsRightSection}
 use Rattle.eve_history.specs.Faults.{IsStructureFault}
 use Rattle.eve_history.proofs.Structure.{state_after-append, right_steps, found_is_least}
 use Rattle.eve_chains.specs.Visible.{executed_by}
@@ -34,12 +35,16 @@ module _ (t : Trace) (e : ℕ) where
   -- ---- records
 
   module _ (decided : (names : List (List ℕ)) (x : Executed) → Decided (Fits names x)) where
-    all_fit : (p : Placed) (xs : List Access) → AllByRecursion (λ x. ¬ ¬ Fits (names_of t) (executed_by t p.attempt x)) xs → AllByRecursion (λ x. Fits (names_of t) (executed_by t p.attempt x)) xs
+    all_fit : (p : Placed) (xs : List Access) → AllByRecursion (λ x. ¬ ¬ Fits (names_of t) (executed_by t p.attempt x))
+        xs → AllByRecursion (λ x. Fits (names_of t) (executed_by t p.attempt x)) xs
     all_fit p [] none = tt
     all_fit p (x ∷ xs) none = (stable (decided (names_of t) (executed_by t p.attempt x)) none.0, all_fit p xs none.1)
 
-    all_records : (ps : List Placed) → AllByRecursion (λ p. AllByRecursion (λ x. ¬ ¬ Fits (names_of t) (executed_by t p.attempt x)) p.attempt.accesses) ps
-        → AllByRecursion (λ p. AllByRecursion (λ x. Fits (names_of t) (executed_by t p.attempt x)) p.attempt.accesses) ps
+    all_records : (ps : List Placed)
+        → AllByRecursion (λ p. AllByRecursion (λ x. ¬ ¬ Fits (names_of t) (executed_by t p.attempt x))
+        p.attempt.accesses) ps
+        → AllByRecursion (λ p. AllByRecursion (λ x. Fits (names_of t) (executed_by t p.attempt x)) p.attempt.accesses)
+        ps
     all_records [] none = tt
     all_records (p ∷ ps) none = (all_fit p p.attempt.accesses none.0, all_records ps none.1)
 
@@ -48,25 +53,40 @@ module _ (t : Trace) (e : ℕ) where
 
   -- ---- restores
 
-  state_push : (before : List (ℕ × Step)) (step : ℕ × Step) → state_after start (before ++ step ∷ []) ≡ next (state_after start before) step
+  state_push : (before : List (ℕ × Step)) (step : ℕ × Step) → state_after start (before ++ step ∷ [])
+      ≡ next (state_after start before) step
   state_push before step = state_after-append start before (step ∷ [])
 
   module _ (none : HasNone (IsRestoreFault t e)) where
-    restores_along : (before rest : List (ℕ × Step)) → steps_at t e ≡ before ++ rest → IsTrue (all_restore_rightly t (state_after start before) rest)
+    restores_along : (before rest : List (ℕ × Step)) → steps_at t e ≡ before ++ rest
+        → IsTrue (all_restore_rightly t (state_after start before) rest)
     restores_along before [] is = refl
-    restores_along before (step ∷ rest) is = by step refl (subst (λ (s : SectionState). IsTrue (all_restore_rightly t s rest)) (state_push before step) (restores_along (before ++ step ∷ []) rest (is ∙ sym (append_assoc before (step ∷ []) rest))))
+    restores_along before (step ∷ rest) is =
+        by step refl (subst (λ (s : SectionState). IsTrue (all_restore_rightly t s rest)) (state_push before step)
+        (restores_along (before ++ step ∷ []) rest (is ∙ sym (append_assoc before (step ∷ []) rest))))
       where
-        by : (x : ℕ × Step) → step ≡ x → IsTrue (all_restore_rightly t (next (state_after start before) step) rest) → IsTrue (all_restore_rightly t (state_after start before) (x ∷ rest))
-        by (at, Attempts a) same later = subst (λ (x : ℕ × Step). IsTrue (all_restore_rightly t (next (state_after start before) x) rest)) same later
-        by (at, Commits c) same later = subst (λ (x : ℕ × Step). IsTrue (all_restore_rightly t (next (state_after start before) x) rest)) same later
+        by : (x : ℕ × Step) → step ≡ x → IsTrue (all_restore_rightly t (next (state_after start before) step) rest)
+            → IsTrue (all_restore_rightly t (state_after start before) (x ∷ rest))
+        by (at, Attempts a) same later =
+            subst (λ (x : ℕ × Step). IsTrue (all_restore_rightly t (next (state_after start before) x) rest)) same later
+        by (at, Commits c) same later =
+            subst (λ (x : ℕ × Step). IsTrue (all_restore_rightly t (next (state_after start before) x) rest)) same later
         by (at, RollsBack r) same later =
             elim (cases_Bool (are_right_restores t (state_after start before) r.restores)) [
               | inl right ↦
                   and_from (are_right_restores t (state_after start before) r.restores) _ right
-                  (subst (λ (x : ℕ × Step). IsTrue (all_restore_rightly t (next (state_after start before) x) rest)) same later)
+                  (subst (λ (x : ℕ × Step). IsTrue (all_restore_rightly t (next (state_after start before) x) rest))
+                  same later)
               | inr wrong ↦ absurd (none (record { code = code.Restore; offset = at; replica = Some e })
                   (record {
-                    stands = record { before = before; item = (at, RollsBack r); rest = rest; is = is ∙ ap (λ (x : ℕ × Step). before ++ x ∷ rest) same; holds = (refl, wrong) };
+                    stands = record {
+                      before = before;
+                      item = (at, RollsBack r);
+                      rest = rest;
+                      is = is
+                          ∙ ap (λ (x : ℕ × Step). before ++ x ∷ rest) same;
+                      holds = (refl, wrong);
+                    };
                     inside = refl;
                   }))
             ]
@@ -77,8 +97,18 @@ module _ (t : Trace) (e : ℕ) where
   -- ---- tokens
 
   pub due_tokens : HasNone (IsTokenFault t e) → TokensAreDue t e
-  due_tokens none = elim (all_or_place (λ p. p.attempt.token ≡ due_token t e p) (λ p. lists numbers p.attempt.token (due_token t e p)) (history t e).committed) [
-    | inl all ↦ all
-    | inr place ↦ absurd (none (record { code = code.Token; offset = place.item.offset; replica = Some e })
-        (record { stands = record { before = place.before; item = place.item; rest = place.rest; is = place.is; holds = (refl, place.holds) }; inside = refl }))
-  ]
+  due_tokens none = elim (all_or_place (λ p. p.attempt.token ≡ due_token t e p)
+      (λ p. lists numbers p.attempt.token (due_token t e p)) (history t e).committed) [
+        | inl all ↦ all
+        | inr place ↦ absurd (none (record { code = code.Token; offset = place.item.offset; replica = Some e })
+            (record {
+              stands = record {
+                before = place.before;
+                item = place.item;
+                rest = place.rest;
+                is = place.is;
+                holds = (refl, place.holds);
+              };
+              inside = refl;
+            }))
+      ]

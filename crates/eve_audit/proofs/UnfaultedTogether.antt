@@ -1,17 +1,20 @@
 -- Where no phase finds a fault, all is as it must be, of all replicas together.
-use Rattle.std.proofs.Common.{◌≡◌, ℕ, suc, ◌+◌, ◌-◌, ◌<◌, ◌≤◌, inl, inr, List, [], ◌∷◌, length, Option, Some, None, IfSome, slice_get, get_or, refl, sym, ap, subst, ◌∙◌, arith}
+use Rattle.std.proofs.Common.{◌≡◌, ℕ, suc, ◌+◌, ◌-◌, ◌<◌, ◌≤◌, inl, inr, List, [], ◌∷◌, length, Option, Some, None}
+use Rattle.std.proofs.Common.{IfSome, slice_get, get_or, refl, sym, ap, subst, ◌∙◌, arith}
 use Rattle.std.specs.List.{AllByRecursion, All, list_all, enumerate_from}
 use Rattle.std.specs.Prelude.{IsTrue}
 use Rattle.std.proofs.lemmas.Bool.{cases_lt, cases_eq}
 use Rattle.std.proofs.lemmas.Option.{slice_get-get_or, slice_get_within}
-use Rattle.eve_grammar.specs.Trace.{ForRollback, ForCommit, Asked, Sent, Batch, Step, Attempts, Commits, RollsBack, Trace}
+use Rattle.eve_grammar.specs.Trace.{ForRollback, ForCommit, Asked, Sent, Batch, Step, Attempts, Commits, RollsBack}
+use Rattle.eve_grammar.specs.Trace.{Trace}
 use Rattle.eve_grammar.specs.Frames.{OfSent, batches_of}
-use Rattle.eve_grammar.specs.Spelling.{frame_text, located, batch_text, batches_start, batches_at, sent_start, sent_at, steps_at, votes_of}
+use Rattle.eve_grammar.specs.Spelling.{frame_text, located, batch_text, batches_start, batches_at, sent_start, sent_at}
+use Rattle.eve_grammar.specs.Spelling.{steps_at, votes_of}
 use Rattle.eve_grammar.specs.Limits.{HasLimits, is_vote}
 use Rattle.eve_views.specs.declared.fault.Code.TheVariants as code
 use Rattle.eve_views.specs.declared.fault.Fault.{Fault}
 use Rattle.eve_history.specs.Section.{Placed, no_batch, batch_at}
-use Rattle.eve_history.specs.Told.{committed_at, IsRightSection}
+use Rattle.eve_history.specs.SectionHistory.{committed_at, IsRightSection}
 use Rattle.eve_chains.specs.Committed.{balances_to}
 use Rattle.eve_chains.proofs.Linked.{some_injective, none≢some}
 use Rattle.eve_votes.specs.Votes.{IsDecided, backers}
@@ -27,7 +30,8 @@ use Rattle.eve_agree.specs.Agreement.{first_to_commit, HaveSameOutcome, Replicas
 use Rattle.eve_agree.proofs.Agreeing.{differs, they_agree}
 use Rattle.eve_agree.specs.SentReplies.{IsReplied, AllReplied, IsReplyFault}
 use Rattle.eve_views.specs.Form.{HasNone}
-use Rattle.eve_audit.proofs.Deciding.{Decided, decided_both, decided_as, all_or_place, below_or_none, numbers, integers, lists, options, replies}
+use Rattle.eve_audit.proofs.Deciding.{Decided, decided_both, decided_as, all_or_place, below_or_none, numbers, integers}
+use Rattle.eve_audit.proofs.Deciding.{lists, options, replies}
 
 -- ---- votes
 
@@ -35,12 +39,17 @@ use Rattle.eve_audit.proofs.Deciding.{Decided, decided_both, decided_as, all_or_
 pub some_quorum : (t : Trace) → HasLimits t → 1 ≤ t.quorum
 some_quorum t limits = let quorum = quorum_limits t limits in omega (arith, quorum.1)
 
-votes_right : (t : Trace) → HasLimits t → (v : ℕ) → v + t.quorum ≤ length t.verifiers → All (IsRight (length t.batches)) (votes_of t v)
+votes_right : (t : Trace) → HasLimits t → (v : ℕ) → v + t.quorum ≤ length t.verifiers
+    → All (IsRight (length t.batches)) (votes_of t v)
 votes_right t limits v early k d lt =
     let some = some_quorum t limits in
     let there : v < length t.verifiers = omega (arith, some, early) in
-    let own : IsTrue (list_all (is_vote (length t.batches)) (votes_of t v)) = all_at (list_all (is_vote (length t.batches))) t.verifiers v (votes_of t v) limits.votes (slice_get-get_or t.verifiers v [] there) in
-    right_vote (length t.batches) (get_or (votes_of t v) k d) (all_at (is_vote (length t.batches)) (votes_of t v) k (get_or (votes_of t v) k d) own (slice_get-get_or (votes_of t v) k d lt))
+    let own : IsTrue (list_all (is_vote (length t.batches)) (votes_of t v)) =
+    all_at (list_all (is_vote (length t.batches))) t.verifiers v (votes_of t v) limits.votes
+    (slice_get-get_or t.verifiers v [] there) in
+    right_vote (length t.batches) (get_or (votes_of t v) k d)
+    (all_at (is_vote (length t.batches)) (votes_of t v) k (get_or (votes_of t v) k d) own
+    (slice_get-get_or (votes_of t v) k d lt))
 
 pub length-enumerated : {A : Type 0} (n : ℕ) (xs : List A) → length (enumerate_from n xs) ≡ length xs
 length-enumerated n [] = refl
@@ -52,33 +61,54 @@ batch_count t = length_located batch_text (batches_start t) (batches_of t) ∙ l
 
 module _ (t : Trace) (limits : HasLimits t) where
   module _ (none : HasNone (IsVoteFault t)) where
-    one_view : (n view other : ℕ) (token other_token : List ℕ) → IsDecided t n view token → IsDecided t n other other_token → view ≡ other
+    one_view : (n view other : ℕ) (token other_token : List ℕ) → IsDecided t n view token
+        → IsDecided t n other other_token → view ≡ other
     one_view n view other token other_token decided also = elim (cases_eq view other) [
       | inl same ↦ same
       | inr apart ↦
-          let back = decided_backs t (IsRight (length t.batches)) n view token (some_quorum t limits) (votes_right t limits) decided in
+          let back = decided_backs t (IsRight (length t.batches)) n view token (some_quorum t limits)
+          (votes_right t limits) decided in
           let low : 1 ≤ n = subst (λ (m : ℕ). 1 ≤ m) back.seq back.holds.low in
           let high : n ≤ length t.batches = subst (λ (m : ℕ). m ≤ length t.batches) back.seq back.holds.high in
           let there : n - 1 < length (batches_at t) = omega (arith, low, high, batch_count t) in
           let b : ℕ × (ℕ × Batch) = get_or (batches_at t) (n - 1) (0, (0, no_batch)) in
-          let two : HasTwoDecisions t n = record { view = view; other = other; token = token; other_token = other_token; apart = apart; decided = decided; other_decided = also } in
+          let two : HasTwoDecisions t n =
+          record {
+            view = view;
+            other = other;
+            token = token;
+            other_token = other_token;
+            apart = apart;
+            decided = decided;
+            other_decided = also;
+          } in
           absurd (none (record { code = code.TwoDecisions; offset = b.0; replica = None })
-          (record { stands = decisions_stand t n b.0 b.1 low (slice_get-get_or (batches_at t) (n - 1) (0, (0, no_batch)) there) two; outside = refl }))
+          (record {
+            stands = decisions_stand t n b.0 b.1 low
+                (slice_get-get_or (batches_at t) (n - 1) (0, (0, no_batch)) there) two;
+            outside = refl;
+          }))
     ]
 
     pub sound_votes : AreVotesSound t
     sound_votes = record {
-      once = votes_once t (λ at stands. none (record { code = code.TwoVotes; offset = at; replica = None }) (record { stands = stands; outside = refl }));
+      once = votes_once t (λ at stands. none (record { code = code.TwoVotes; offset = at; replica = None })
+          (record { stands = stands; outside = refl }));
       one_view = one_view;
       one_token = λ n view other token other_token decided also.
           one_token t n view token other_token (quorum_limits t limits).1 decided
-          (subst (λ (v : ℕ). IsDecided t n v other_token) (sym (one_view n view other token other_token decided also)) also);
+          (subst (λ (v : ℕ). IsDecided t n v other_token) (sym (one_view n view other token other_token decided also))
+          also);
     }
 
 -- ---- majorities
 
 pub enough : (quorum votes : ℕ) → Decided (quorum ≤ votes)
-enough quorum votes = elim (cases_lt votes quorum) [ inl few ↦ inr (λ le. absurd (omega (arith, few, le))) | inr le ↦ inl le ]
+enough quorum votes = elim (cases_lt votes quorum) [
+  | inl few ↦ inr (λ le. absurd (omega (arith, few, le)))
+  | inr le
+      ↦ inl le
+]
 
 module _ (t : Trace) where
   backed : (step : Step) → Decided (IsBacked t step)
@@ -88,15 +118,22 @@ module _ (t : Trace) where
 
   unbacked : (e at : ℕ) (step : Step) → ¬ IsBacked t step → (f : Fault) × IsUnbacked t e (at, step) f
   unbacked e at (Attempts a) wrong = absurd (wrong tt)
-  unbacked e at (Commits c) wrong = (record { code = code.NoMajority; offset = at; replica = Some e }, record { unbacked = wrong; lacking = refl; offset = refl; inside = refl })
-  unbacked e at (RollsBack r) wrong = (record { code = code.RollbackNoMajority; offset = at; replica = Some e }, record { unbacked = wrong; lacking = refl; offset = refl; inside = refl })
+  unbacked e at (Commits c) wrong = (
+    record { code = code.NoMajority; offset = at; replica = Some e },
+    record { unbacked = wrong; lacking = refl; offset = refl; inside = refl },
+  )
+  unbacked e at (RollsBack r) wrong = (
+    record { code = code.RollbackNoMajority; offset = at; replica = Some e },
+    record { unbacked = wrong; lacking = refl; offset = refl; inside = refl },
+  )
 
   pub all_backed : HasNone (IsMajorityFault t) → AllAreBacked t
   all_backed none e = elim (all_or_place (λ s. IsBacked t s.1) (λ s. backed s.1) (steps_at t e)) [
     | inl all ↦ all
     | inr place ↦
         let wrong = unbacked e place.item.0 place.item.1 place.holds in
-        absurd (none wrong.0 (fault_from t e wrong.0 (record { before = place.before; item = place.item; rest = place.rest; is = place.is; holds = wrong.1 })))
+        absurd (none wrong.0 (fault_from t e wrong.0
+        (record { before = place.before; item = place.item; rest = place.rest; is = place.is; holds = wrong.1 })))
   ]
 
   -- ---- agreement
@@ -106,14 +143,17 @@ module _ (t : Trace) where
       decided_as (λ both. record { balances = both.0; replies = both.1 }) (λ h. (h.balances, h.replies))
       (decided_both (lists integers (balances_to t e n) (balances_to t f n)) (options (lists replies) _ _))
 
-  outcome_is : HasNone (IsOutcomeFault t) → (e n : ℕ) (p : Placed) → committed_at t e n ≡ Some p → IfSome (first_to_commit t n) (λ f. HaveSameOutcome t e f n)
+  outcome_is : HasNone (IsOutcomeFault t) → (e n : ℕ) (p : Placed) → committed_at t e n ≡ Some p
+      → IfSome (first_to_commit t n) (λ f. HaveSameOutcome t e f n)
   outcome_is none e n p at = by (first_to_commit t n) refl
     where
       by : (o : Option ℕ) → first_to_commit t n ≡ o → IfSome o (λ f. HaveSameOutcome t e f n)
       by None is = tt
       by (Some f) is = elim (same_outcome e n f) [
         | inl same ↦ same
-        | inr apart ↦ absurd (none _ (differs t e f n p.offset p.attempt.replies (record { item = p; at = at; offset_is = refl; replies_are = refl }) is apart))
+        | inr apart ↦ absurd (none _
+            (differs t e f n p.offset p.attempt.replies
+            (record { item = p; at = at; offset_is = refl; replies_are = refl }) is apart))
       ]
 
   pub all_agree : ((e : ℕ) → IsRightSection t e) → HasNone (IsOutcomeFault t) → ReplicasAgree t
@@ -137,8 +177,12 @@ module _ (t : Trace) (s : Sent) where
       by None is = inr (λ a. none≢some a.asked (sym is ∙ a.request))
       by (Some x) is =
           decided_as (λ h. record { asked = x; request = is; client = h.0.0; number = h.0.1; reply = h.1 })
-          (λ a. let same : a.asked ≡ x = some_injective a.asked x (sym a.request ∙ is) in ((ap (λ (y : Asked). y.client) (sym same) ∙ a.client, ap (λ (y : Asked). y.number) (sym same) ∙ a.number), a.reply))
-          (decided_both (decided_both (numbers x.client s.client) (numbers x.number s.number)) (options replies (slice_get p.attempt.replies i) (Some s.reply)))
+          (λ a. let same : a.asked ≡ x = some_injective a.asked x (sym a.request ∙ is) in (
+            (ap (λ (y : Asked). y.client) (sym same) ∙ a.client, ap (λ (y : Asked). y.number) (sym same) ∙ a.number),
+            a.reply,
+          ))
+          (decided_both (decided_both (numbers x.client s.client) (numbers x.number s.number))
+          (options replies (slice_get p.attempt.replies i) (Some s.reply)))
 
   pub replied : Decided (IsReplied t s)
   replied = by (committed_at t s.replica s.seq) refl
@@ -160,11 +204,18 @@ module _ (t : Trace) (s : Sent) where
             r.index,
             slice_get_within (batch_at t s.seq).requests r.index r.asked r.request,
             subst (λ (q : Placed). IsAnswered t s q r.index) (some_injective r.placed p (sym r.committed ∙ is))
-                (record { asked = r.asked; request = r.request; client = r.client; number = r.number; reply = r.reply }),
+                (record {
+                  asked = r.asked;
+                  request = r.request;
+                  client = r.client;
+                  number = r.number;
+                  reply = r.reply;
+                }),
           ))
           (below_or_none (IsAnswered t s p) (answered p) (length (batch_at t s.seq).requests))
 
-all_unlocated : {A : Type 0} (P : A → Type 0) (text : A → List ℕ) (at : ℕ) (xs : List A) → AllByRecursion (λ x. P x.1) (located text at xs) → AllByRecursion P xs
+all_unlocated : {A : Type 0} (P : A → Type 0) (text : A → List ℕ) (at : ℕ) (xs : List A)
+    → AllByRecursion (λ x. P x.1) (located text at xs) → AllByRecursion P xs
 all_unlocated P text at [] all = tt
 all_unlocated P text at (x ∷ xs) all = (all.0, all_unlocated P text (at + length (text x)) xs all.1)
 
@@ -177,5 +228,14 @@ module _ (t : Trace) where
   all_replied none = elim (all_or_place (λ s. IsReplied t s.1) (λ s. replied t s.1) (sent_at t)) [
     | inl all ↦ sent_all all
     | inr place ↦ absurd (none (record { code = code.Reply; offset = place.item.0; replica = None })
-        (record { stands = record { before = place.before; item = place.item; rest = place.rest; is = place.is; holds = (refl, place.holds) }; outside = refl }))
+        (record {
+          stands = record {
+            before = place.before;
+            item = place.item;
+            rest = place.rest;
+            is = place.is;
+            holds = (refl, place.holds);
+          };
+          outside = refl;
+        }))
   ]

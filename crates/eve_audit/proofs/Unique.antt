@@ -71,41 +71,54 @@ both_ways f g (inr a) (inr b) = by a.1 b.1
     by (inr c) (inl d) = absurd (omega (arith, c.0, d))
     by (inr c) (inr d) = (c.0, one_number f.code g.code (omega (arith, c.1, d.1)))
 
-module _ (laws : (t : Trace) (e : ℕ) → FatesAreAsItEnds t e) (spelled_once : (bytes : List ℕ) (t u : Trace) → Spells bytes t → Spells bytes u → t ≡ u) (bytes : List ℕ) where
+module _ (laws : (t : Trace) (e : ℕ) → FatesAreAsItEnds t e) (spelled_once : (bytes : List ℕ) (t u : Trace)
+    → Spells bytes t → Spells bytes u → t ≡ u) (bytes : List ℕ) where
   -- and so in one section
-  one_replica : (f g : Fault) → f.offset ≡ g.offset → f.code ≡ g.code → IsPlaced bytes f → IsPlaced bytes g → f.replica ≡ g.replica
+  one_replica : (f g : Fault) → f.offset ≡ g.offset → f.code ≡ g.code → IsPlaced bytes f → IsPlaced bytes g → f.replica
+      ≡ g.replica
   one_replica f g at same (outside one phase) (outside other phase_too) = one ∙ sym other
-  one_replica f g at same (outside one phase) (inside u d spells other lies phase_too) = absurd (apart (sym phase ∙ ap (λ (c : Code). is_inside (phase_of c)) same ∙ phase_too))
+  one_replica f g at same (outside one phase) (inside u d spells other lies phase_too) =
+      absurd (apart (sym phase ∙ ap (λ (c : Code). is_inside (phase_of c)) same ∙ phase_too))
     where
       apart : false ≡ true → ⊥
       apart e = cc
-  one_replica f g at same (inside t e spells one lies phase) (outside other phase_too) = absurd (apart (sym phase ∙ ap (λ (c : Code). is_inside (phase_of c)) same ∙ phase_too))
+  one_replica f g at same (inside t e spells one lies phase) (outside other phase_too) =
+      absurd (apart (sym phase ∙ ap (λ (c : Code). is_inside (phase_of c)) same ∙ phase_too))
     where
       apart : true ≡ false → ⊥
       apart e = cc
   one_replica f g at same (inside t e spells one lies phase) (inside u d other_spells other other_lies phase_too) =
-      let own : LiesIn t d f.offset = subst (LiesIn t d) (sym at) (subst (λ (x : Trace). LiesIn x d g.offset) (spelled_once bytes u t other_spells spells) other_lies) in
+      let own : LiesIn t d f.offset =
+      subst (LiesIn t d) (sym at)
+      (subst (λ (x : Trace). LiesIn x d g.offset) (spelled_once bytes u t other_spells spells) other_lies) in
       one ∙ ap (λ (k : ℕ). Some k) (one_section t e d f.offset lies own) ∙ sym other
 
   one_fault : (f g : Fault) → IsFirst bytes f → IsFirst bytes g → f ≡ g
   one_fault f g one other =
       let same = both_ways f g (one.first g other.judged) (other.first f one.judged) in
-      joined f g same.0 same.1 (one_replica f g same.0 same.1 (placed laws bytes f one.judged.stands) (placed laws bytes g other.judged.stands))
+      joined f g same.0 same.1
+      (one_replica f g same.0 same.1 (placed laws bytes f one.judged.stands)
+      (placed laws bytes g other.judged.stands))
     where
       joined : (f g : Fault) → f.offset ≡ g.offset → f.code ≡ g.code → f.replica ≡ g.replica → f ≡ g
-      joined f g at same replica = ap (λ (x : ℕ). fault f.code x f.replica) at ∙ ap (λ (c : Code). fault c g.offset f.replica) same ∙ ap (fault g.code g.offset) replica
+      joined f g at same replica = ap (λ (x : ℕ). fault f.code x f.replica) at
+          ∙ ap (λ (c : Code). fault c g.offset f.replica) same ∙ ap (fault g.code g.offset) replica
 
   one_summary : (t : Trace) (s r : Summary) → IsSummary t s → IsSummary t r → s ≡ r
   one_summary t s r one other =
       let low = one.least other.reached.0 other.reached.1 in
       let high = other.least one.reached.0 one.reached.1 in
-      joined s r (one.replicas ∙ sym other.replicas) (one.batches ∙ sym other.batches) (omega (arith, low, high, one.reached.2, other.reached.2))
+      joined s r (one.replicas ∙ sym other.replicas) (one.batches ∙ sym other.batches)
+      (omega (arith, low, high, one.reached.2, other.reached.2))
     where
       joined : (s r : Summary) → s.replicas ≡ r.replicas → s.batches ≡ r.batches → s.committed ≡ r.committed → s ≡ r
-      joined s r a b c = ap (λ (x : ℕ). summary x s.batches s.committed) a ∙ ap (λ (x : ℕ). summary r.replicas x s.committed) b ∙ ap (summary r.replicas r.batches) c
+      joined s r a b c = ap (λ (x : ℕ). summary x s.batches s.committed) a
+          ∙ ap (λ (x : ℕ). summary r.replicas x s.committed) b ∙ ap (summary r.replicas r.batches) c
 
   pub one_verdict : (v w : Verdict) → IsVerdict bytes v → IsVerdict bytes w → v ≡ w
-  one_verdict (Yes s) (Yes r) one other = ap Yes (one_summary one.0 s r one.3 (subst (λ (t : Trace). IsSummary t r) (spelled_once bytes other.0 one.0 other.1 one.1) other.3))
+  one_verdict (Yes s) (Yes r) one other =
+      ap Yes (one_summary one.0 s r one.3
+      (subst (λ (t : Trace). IsSummary t r) (spelled_once bytes other.0 one.0 other.1 one.1) other.3))
   one_verdict (Yes s) (No g) one other = absurd (one.2 g other.judged.stands)
   one_verdict (No f) (Yes r) one other = absurd (other.2 f one.judged.stands)
   one_verdict (No f) (No g) one other = ap No (one_fault f g one other)

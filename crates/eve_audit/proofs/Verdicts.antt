@@ -15,7 +15,8 @@ use Rattle.eve_audit.specs.Pieces.{IsFirstOf, IsLeastBelow}
 use Rattle.eve_audit.proofs.Phases.{form_phase}
 
 -- what precedes all that stands is judged, and the first
-first_of_all : (bytes : List ℕ) (f : Fault) → Stands bytes f → ((g : Fault) → Stands bytes g → Precedes f g) → IsFirst bytes f
+first_of_all : (bytes : List ℕ) (f : Fault) → Stands bytes f → ((g : Fault) → Stands bytes g → Precedes f g)
+    → IsFirst bytes f
 first_of_all bytes f stands first = record {
   judged = record { stands = stands; alone = λ g other hinders. late g hinders.0 (first g other) };
   first = λ g judged. first g judged.stands;
@@ -27,14 +28,16 @@ first_of_all bytes f stands first = record {
 
 -- ---- bytes that are no trace
 
-form_first : (bytes : List ℕ) (f : Fault) → IsLeast (IsFormFault bytes) f → ((t : Trace) → ¬ Spells bytes t) → IsFirst bytes f
+form_first : (bytes : List ℕ) (f : Fault) → IsLeast (IsFormFault bytes) f → ((t : Trace) → ¬ Spells bytes t)
+    → IsFirst bytes f
 form_first bytes f least none = first_of_all bytes f (in_form least.is) by
   where
     by : (g : Fault) → Stands bytes g → Precedes f g
     by g (in_form is) = inr (form_phase bytes f least.is ∙ sym (form_phase bytes g is), least.least g is)
     by g (in_trace t spells is) = absurd (none t spells)
 
-pub found_in_form : (bytes : List ℕ) (why : CheckFault) → IfFound why (IsLeast (IsFormFault bytes)) → IfFound why (λ _. (t : Trace) → ¬ Spells bytes t) → IfFound why (IsFirst bytes)
+pub found_in_form : (bytes : List ℕ) (why : CheckFault) → IfFound why (IsLeast (IsFormFault bytes))
+    → IfFound why (λ _. (t : Trace) → ¬ Spells bytes t) → IfFound why (IsFirst bytes)
 found_in_form bytes Memory least none = tt
 found_in_form bytes (Found f) least none = form_first bytes f least none
 
@@ -51,14 +54,16 @@ module _ (bytes : List ℕ) (t : Trace) (spells : Spells bytes t) (once : (u : T
   stands_in_trace f formed (in_trace u other is) = subst (λ x. IsTraceFault x f) (once u other) is
 
   pub trace_first : (f : Fault) → HasNone (IsFormFault bytes) → IsFirstOf (IsTraceFault t) f → IsFirst bytes f
-  trace_first f formed found = first_of_all bytes f (stands_in_bytes f found.is) (λ g stands. found.first g (stands_in_trace g formed stands))
+  trace_first f formed found = first_of_all bytes f (stands_in_bytes f found.is)
+      (λ g stands. found.first g (stands_in_trace g formed stands))
 
   pub faultless : HasNone (IsFormFault bytes) → HasNone (IsTraceFault t) → HasNone (Stands bytes)
   faultless formed none = λ f stands. none f (stands_in_trace f formed stands)
 
 -- ---- the summary
 
-pub summary_is : (t : Trace) (s : Summary) → s.replicas ≡ length t.sections → s.batches ≡ length t.batches → 1 ≤ length t.sections → IsLeastBelow t (length t.sections) s.committed → IsSummary t s
+pub summary_is : (t : Trace) (s : Summary) → s.replicas ≡ length t.sections → s.batches ≡ length t.batches
+    → 1 ≤ length t.sections → IsLeastBelow t (length t.sections) s.committed → IsSummary t s
 summary_is t s replicas batches some found = record {
   replicas = replicas;
   batches = batches;

@@ -1,5 +1,6 @@
 -- In which section the frames of a replica stand.
-use Rattle.std.proofs.Common.{◌≡◌, ℕ, zero, suc, ◌+◌, ◌-◌, ◌<◌, ◌≤◌, inl, inr, List, [], ◌∷◌, ◌++◌, map, length, take, refl, sym, ap, subst, ◌∙◌, arith}
+use Rattle.std.proofs.Common.{◌≡◌, ℕ, zero, suc, ◌+◌, ◌-◌, ◌<◌, ◌≤◌, inl, inr, List, [], ◌∷◌, ◌++◌, map, length, take}
+use Rattle.std.proofs.Common.{refl, sym, ap, subst, ◌∙◌, arith}
 use Rattle.std.specs.Prelude.{slice_index_or, if◌then◌else◌, Bool, true, false}
 use Rattle.std.specs.List.{flat_map, enumerate_from, AllByRecursion}
 use Rattle.std.proofs.lemmas.Bool.{cases_lt}
@@ -7,11 +8,13 @@ use Rattle.std.proofs.lemmas.List.{length-append}
 use Rattle.std.proofs.lemmas.List.Concat.{flat_map-append}
 use Rattle.std.specs.Int.{bytes_high_first}
 use Rattle.eve_grammar.specs.Trace.{Access, Attempt, Step, Attempts, Commits, RollsBack, Trace}
-use Rattle.eve_grammar.specs.Frames.{Frame, OfReplica, OfAttempt as AttemptFrame, OfAccess, OfCommit, OfRollback, kind_of, without_accesses, step_frames}
-use Rattle.eve_grammar.specs.Spelling.{body_text, frame_text, frames_text, located, step_text, section_text, section_start, steps_of, steps_at, accesses_at}
+use Rattle.eve_grammar.specs.Frames.{Frame, OfReplica, OfAttempt as AttemptFrame, OfAccess, OfCommit, OfRollback}
+use Rattle.eve_grammar.specs.Frames.{kind_of, without_accesses, step_frames}
+use Rattle.eve_grammar.specs.Spelling.{body_text, frame_text, frames_text, located, step_text, section_text}
+use Rattle.eve_grammar.specs.Spelling.{section_start, steps_of, steps_at, accesses_at}
 use Rattle.eve_history.specs.declared.fate.Fate.{Fate}
 use Rattle.eve_history.specs.Section.{settled}
-use Rattle.eve_history.specs.Told.{attempts_among, picked, placed_at, is_committed, is_discarded, history}
+use Rattle.eve_history.specs.SectionHistory.{attempts_among, picked, placed_at, is_committed, is_discarded, history}
 use Rattle.eve_history.specs.Fates.{fates_from}
 use Rattle.eve_audit.proofs.Sections.{LiesIn, FatesAreAsItEnds}
 use Rattle.eve_history.proofs.Rights.{none_at}
@@ -19,7 +22,8 @@ use Rattle.eve_history.proofs.Rights.{none_at}
 -- ---- what holds of all holds at some place
 
 module _ {A : Type 0} (P : A → Type 0) where
-  pub at_place : (xs before : List A) (item : A) (rest : List A) → xs ≡ before ++ item ∷ rest → AllByRecursion P xs → P item
+  pub at_place : (xs before : List A) (item : A) (rest : List A) → xs ≡ before ++ item ∷ rest → AllByRecursion P xs
+      → P item
   at_place xs before item rest is all = by before (subst (AllByRecursion P) is all)
     where
       by : (before : List A) → AllByRecursion P (before ++ item ∷ rest) → P item
@@ -47,13 +51,15 @@ abbrev pub Between : ℕ → ℕ → ℕ → ℕ → Type 0
 Between from to offset long = (from ≤ offset) × (offset + long ≤ to)
 
 module _ {A : Type 0} (text : A → List ℕ) where
-  pub all_located : (at : ℕ) (xs : List A) → AllByRecursion (λ x. Between at (at + length (flat_map text xs)) x.0 (length (text x.1))) (located text at xs)
+  pub all_located : (at : ℕ) (xs : List A)
+      → AllByRecursion (λ x. Between at (at + length (flat_map text xs)) x.0 (length (text x.1))) (located text at xs)
   all_located at [] = tt
   all_located at (x ∷ xs) =
       let more = length-append (text x) (flat_map text xs) in
       let later = all_located (at + length (text x)) xs in (
         (omega arith, omega (arith, more)),
-        all_weaker (λ y. Between (at + length (text x)) (at + length (text x) + length (flat_map text xs)) y.0 (length (text y.1)))
+        all_weaker (λ y. Between (at + length (text x)) (at + length (text x) + length (flat_map text xs)) y.0
+            (length (text y.1)))
             (λ y. Between at (at + length (text x ++ flat_map text xs)) y.0 (length (text y.1)))
             (λ y b. (omega (arith, b.0), omega (arith, b.1, more))) (located text (at + length (text x)) xs) later,
       )
@@ -62,17 +68,21 @@ module _ {A : Type 0} (text : A → List ℕ) where
 
 nested : (steps : List Step) → flat_map frame_text (flat_map step_frames steps) ≡ flat_map step_text steps
 nested [] = refl
-nested (s ∷ steps) = flat_map-append frame_text (step_frames s) (flat_map step_frames steps) ∙ ap (λ (b : List ℕ). step_text s ++ b) (nested steps)
+nested (s ∷ steps) = flat_map-append frame_text (step_frames s) (flat_map step_frames steps)
+    ∙ ap (λ (b : List ℕ). step_text s ++ b) (nested steps)
 
-section_is : (e : ℕ) (steps : List Step) → length (section_text (e, steps)) ≡ length (frame_text (OfReplica e)) + length (flat_map step_text steps)
-section_is e steps = length-append (frame_text (OfReplica e)) (flat_map frame_text (flat_map step_frames steps)) ∙ ap (λ (b : List ℕ). length (frame_text (OfReplica e)) + length b) (nested steps)
+section_is : (e : ℕ) (steps : List Step) → length (section_text (e, steps)) ≡ length (frame_text (OfReplica e)) + length
+    (flat_map step_text steps)
+section_is e steps = length-append (frame_text (OfReplica e)) (flat_map frame_text (flat_map step_frames steps))
+    ∙ ap (λ (b : List ℕ). length (frame_text (OfReplica e)) + length b) (nested steps)
 
 -- the bytes of the first of some numbered parts
 abbrev front : {B : Type 0} → (ℕ × List B → List ℕ) → ℕ → ℕ → List (List B) → ℕ
 front text n e parts = length (flat_map text (take e (enumerate_from n parts)))
 
 module _ {B : Type 0} (text : ℕ × List B → List ℕ) where
-  pub front_more : (n e : ℕ) (parts : List (List B)) → e < length parts → front text n (suc e) parts ≡ front text n e parts + length (text (n + e, slice_index_or parts e []))
+  pub front_more : (n e : ℕ) (parts : List (List B)) → e < length parts → front text n (suc e) parts
+      ≡ front text n e parts + length (text (n + e, slice_index_or parts e []))
   front_more n e [] lt = absurd (omega (arith, lt))
   front_more n zero (s ∷ parts) lt =
       let same : n + 0 ≡ n = omega arith in
@@ -80,16 +90,31 @@ module _ {B : Type 0} (text : ℕ × List B → List ℕ) where
       omega (arith, one, length-append (text (n, s)) [])
   front_more n (suc e) (s ∷ parts) lt =
       let same : n + suc e ≡ n + 1 + e = omega arith in
-      let one : length (text (n + suc e, slice_index_or parts e [])) ≡ length (text (n + 1 + e, slice_index_or parts e [])) = ap (λ (m : ℕ). length (text (m, slice_index_or parts e []))) same in
+      let one : length (text (n + suc e, slice_index_or parts e []))
+      ≡ length (text (n + 1 + e, slice_index_or parts e [])) =
+      ap (λ (m : ℕ). length (text (m, slice_index_or parts e []))) same in
       let later = front_more (n + 1) e parts (omega (arith, lt)) in
-      omega (arith, one, later, length-append (text (n, s)) (flat_map text (take (suc e) (enumerate_from (n + 1) parts))), length-append (text (n, s)) (flat_map text (take e (enumerate_from (n + 1) parts))))
+      omega (
+        arith,
+        one,
+        later,
+        length-append (text (n, s))
+            (flat_map text (take (suc e) (enumerate_from (n + 1) parts))),
+        length-append (text (n, s))
+            (flat_map text (take e (enumerate_from (n + 1) parts))),
+      )
 
   front_rises : (n e : ℕ) (parts : List (List B)) → front text n e parts ≤ front text n (suc e) parts
   front_rises n zero parts = omega arith
   front_rises n (suc e) [] = omega arith
   front_rises n (suc e) (s ∷ parts) =
       let later = front_rises (n + 1) e parts in
-      omega (arith, later, length-append (text (n, s)) (flat_map text (take (suc e) (enumerate_from (n + 1) parts))), length-append (text (n, s)) (flat_map text (take e (enumerate_from (n + 1) parts))))
+      omega (
+        arith,
+        later,
+        length-append (text (n, s)) (flat_map text (take (suc e) (enumerate_from (n + 1) parts))),
+        length-append (text (n, s)) (flat_map text (take e (enumerate_from (n + 1) parts))),
+      )
 
 plus_one : (e : ℕ) → e + 1 ≡ suc e
 plus_one e = omega arith
@@ -132,7 +157,8 @@ pub frame_has_text : (f : Frame) → 1 ≤ length (frame_text f)
 frame_has_text f = some_text (kind_of f) (bytes_high_first 4 (length (body_text f)) ++ body_text f)
 
 first_has_text : (f : Frame) (fs : List Frame) → 1 ≤ length (frames_text (f ∷ fs))
-first_has_text f fs = (let some = frame_has_text f in omega (arith, some, length-append (frame_text f) (frames_text fs)))
+first_has_text f fs = (let some = frame_has_text f in
+    omega (arith, some, length-append (frame_text f) (frames_text fs)))
 
 step_has_text : (s : Step) → 1 ≤ length (step_text s)
 step_has_text (Attempts a) = first_has_text (AttemptFrame (without_accesses a)) (map OfAccess a.accesses)
@@ -143,22 +169,26 @@ step_has_text (RollsBack r) = first_has_text (OfRollback r) []
 abbrev pub StepIn : Trace → ℕ → ℕ × Step → Type 0
 StepIn t e x = Between (section_start t e) (section_start t (e + 1)) x.0 (length (step_text x.1))
 
-pub mapped : {A : Type 0} (f : A → Frame) (xs : List A) → flat_map frame_text (map f xs) ≡ flat_map (λ x. frame_text (f x)) xs
+pub mapped : {A : Type 0} (f : A → Frame) (xs : List A) → flat_map frame_text (map f xs)
+    ≡ flat_map (λ x. frame_text (f x)) xs
 mapped f [] = refl
 mapped f (x ∷ xs) = ap (λ (b : List ℕ). frame_text (f x) ++ b) (mapped f xs)
 
-attempts_in : (P : ℕ × Step → Type 0) (steps : List (ℕ × Step)) → AllByRecursion P steps → AllByRecursion (λ x. P (x.0, Attempts x.1)) (attempts_among steps)
+attempts_in : (P : ℕ × Step → Type 0) (steps : List (ℕ × Step)) → AllByRecursion P steps
+    → AllByRecursion (λ x. P (x.0, Attempts x.1)) (attempts_among steps)
 attempts_in P [] all = tt
 attempts_in P ((at, Attempts a) ∷ steps) all = (all.0, attempts_in P steps all.1)
 attempts_in P ((at, Commits c) ∷ steps) all = attempts_in P steps all.1
 attempts_in P ((at, RollsBack r) ∷ steps) all = attempts_in P steps all.1
 
-picked_in : (P : ℕ × Attempt → Type 0) (test : Fate → Bool) (xs : List (ℕ × Attempt)) (fates : List Fate) → AllByRecursion P xs → AllByRecursion P (picked test xs fates)
+picked_in : (P : ℕ × Attempt → Type 0) (test : Fate → Bool) (xs : List (ℕ × Attempt)) (fates : List Fate)
+    → AllByRecursion P xs → AllByRecursion P (picked test xs fates)
 picked_in P test [] fates all = tt
 picked_in P test (x ∷ xs) [] all = tt
 picked_in P test (x ∷ xs) (fate ∷ fates) all = by (test fate) (picked_in P test xs fates all.1)
   where
-    by : (b : Bool) → AllByRecursion P (picked test xs fates) → AllByRecursion P (if b then x ∷ picked test xs fates else picked test xs fates)
+    by : (b : Bool) → AllByRecursion P (picked test xs fates)
+        → AllByRecursion P (if b then x ∷ picked test xs fates else picked test xs fates)
     by true later = (all.0, later)
     by false later = later
 
@@ -169,11 +199,14 @@ module _ (t : Trace) (e : ℕ) where
     | inl lt ↦
         let here : 0 + e ≡ e = omega arith in
         let more = front_more section_text 0 e t.sections lt in
-        let own : length (section_text (0 + e, steps_of t e)) ≡ length (section_text (e, steps_of t e)) = ap (λ (m : ℕ). length (section_text (m, steps_of t e))) here in
+        let own : length (section_text (0 + e, steps_of t e)) ≡ length (section_text (e, steps_of t e)) =
+        ap (λ (m : ℕ). length (section_text (m, steps_of t e))) here in
         let is = section_is e (steps_of t e) in
         let from : ℕ = section_start t e + length (frame_text (OfReplica e)) in
-        all_weaker (λ x. Between from (from + length (flat_map step_text (steps_of t e))) x.0 (length (step_text x.1))) (StepIn t e)
-        (λ x b. (omega (arith, b.0), omega (arith, b.1, more, own, is, ap (section_start t) (plus_one e)))) (steps_at t e) (all_located step_text from (steps_of t e))
+        all_weaker (λ x. Between from (from + length (flat_map step_text (steps_of t e))) x.0 (length (step_text x.1)))
+        (StepIn t e)
+        (λ x b. (omega (arith, b.0), omega (arith, b.1, more, own, is, ap (section_start t) (plus_one e))))
+        (steps_at t e) (all_located step_text from (steps_of t e))
     | inr le ↦ subst (AllByRecursion (StepIn t e)) (sym (none_at t e le)) tt
   ]
 
@@ -181,18 +214,24 @@ module _ (t : Trace) (e : ℕ) where
   pub starts_in : (x : ℕ × Step) → StepIn t e x → LiesIn t e x.0
   starts_in x within = let some = step_has_text x.1 in (within.0, omega (arith, within.1, some))
 
-  pub step_in : (before : List (ℕ × Step)) (item : ℕ × Step) (rest : List (ℕ × Step)) → steps_at t e ≡ before ++ item ∷ rest → LiesIn t e item.0
+  pub step_in : (before : List (ℕ × Step)) (item : ℕ × Step) (rest : List (ℕ × Step)) → steps_at t e
+      ≡ before ++ item ∷ rest → LiesIn t e item.0
   step_in before item rest is = starts_in item (at_place (StepIn t e) (steps_at t e) before item rest is steps_in)
 
   -- where an access record of an attempt stands
-  pub access_in : (at : ℕ) (a : Attempt) → StepIn t e (at, Attempts a) → (before : List (ℕ × Access)) (item : ℕ × Access) (rest : List (ℕ × Access)) → accesses_at at a ≡ before ++ item ∷ rest → LiesIn t e item.0
+  pub access_in : (at : ℕ) (a : Attempt) → StepIn t e (at, Attempts a)
+      → (before : List (ℕ × Access)) (item : ℕ × Access) (rest : List (ℕ × Access)) → accesses_at at a
+      ≡ before ++ item ∷ rest → LiesIn t e item.0
   access_in at a step before item rest is =
       let from : ℕ = at + length (frame_text (AttemptFrame a)) in
       let text : Access → List ℕ = λ x. frame_text (OfAccess x) in
       let within : Between from (from + length (flat_map text a.accesses)) item.0 (length (text item.1)) =
-      at_place (λ x. Between from (from + length (flat_map text a.accesses)) x.0 (length (text x.1))) (accesses_at at a) before item rest is (all_located text from a.accesses) in
-      let long : length (step_text (Attempts a)) ≡ length (frame_text (AttemptFrame a)) + length (flat_map text a.accesses) =
-      length-append (frame_text (AttemptFrame a)) (flat_map frame_text (map OfAccess a.accesses)) ∙ ap (λ (b : List ℕ). length (frame_text (AttemptFrame a)) + length b) (mapped OfAccess a.accesses) in
+      at_place (λ x. Between from (from + length (flat_map text a.accesses)) x.0 (length (text x.1)))
+      (accesses_at at a) before item rest is (all_located text from a.accesses) in
+      let long : length (step_text (Attempts a)) ≡ length (frame_text (AttemptFrame a)) + length
+      (flat_map text a.accesses) =
+      length-append (frame_text (AttemptFrame a)) (flat_map frame_text (map OfAccess a.accesses))
+      ∙ ap (λ (b : List ℕ). length (frame_text (AttemptFrame a)) + length b) (mapped OfAccess a.accesses) in
       let some = frame_has_text (OfAccess item.1) in
       (omega (arith, step.0, within.0), omega (arith, step.1, within.1, long, some))
 
@@ -201,12 +240,15 @@ module _ (t : Trace) (e : ℕ) where
     pub committed_in : AllByRecursion (λ p. StepIn t e (p.offset, Attempts p.attempt)) (history t e).committed
     committed_in = all_unmapped placed_at (λ x. StepIn t e (x.0, Attempts x.1)) (history t e).committed
         (subst (AllByRecursion (λ x. StepIn t e (x.0, Attempts x.1))) (sym law.0)
-        (picked_in (λ x. StepIn t e (x.0, Attempts x.1)) is_committed (attempts_among (steps_at t e)) (fates_from 0 (steps_at t e)) (attempts_in (StepIn t e) (steps_at t e) steps_in)))
+        (picked_in (λ x. StepIn t e (x.0, Attempts x.1)) is_committed (attempts_among (steps_at t e))
+        (fates_from 0 (steps_at t e)) (attempts_in (StepIn t e) (steps_at t e) steps_in)))
 
     discarded_in : AllByRecursion (λ p. StepIn t e (p.offset, Attempts p.attempt)) (history t e).discarded
     discarded_in = all_unmapped placed_at (λ x. StepIn t e (x.0, Attempts x.1)) (history t e).discarded
         (subst (AllByRecursion (λ x. StepIn t e (x.0, Attempts x.1))) (sym law.1)
-        (picked_in (λ x. StepIn t e (x.0, Attempts x.1)) is_discarded (attempts_among (steps_at t e)) (fates_from 0 (steps_at t e)) (attempts_in (StepIn t e) (steps_at t e) steps_in)))
+        (picked_in (λ x. StepIn t e (x.0, Attempts x.1)) is_discarded (attempts_among (steps_at t e))
+        (fates_from 0 (steps_at t e)) (attempts_in (StepIn t e) (steps_at t e) steps_in)))
 
     pub settled_in : AllByRecursion (λ p. StepIn t e (p.offset, Attempts p.attempt)) (settled (history t e))
-    settled_in = all_append (λ p. StepIn t e (p.offset, Attempts p.attempt)) (history t e).committed (history t e).discarded committed_in discarded_in
+    settled_in = all_append (λ p. StepIn t e (p.offset, Attempts p.attempt)) (history t e).committed
+        (history t e).discarded committed_in discarded_in

@@ -2,7 +2,7 @@
 use Rattle.std.specs.Prelude.{ℕ}
 use Rattle.eve_grammar.specs.Trace.{Trace}
 use Rattle.eve_grammar.specs.Limits.{HasLimits}
-use Rattle.eve_history.specs.Told.{IsRightSection}
+use Rattle.eve_history.specs.SectionHistory.{IsRightSection}
 use Rattle.eve_chains.specs.Committed.{batch_request_ids, AreDistinct}
 use Rattle.eve_chains.specs.Sound.{SettledAreSound}
 use Rattle.eve_agree.specs.Tables.{RestoresAreRight}

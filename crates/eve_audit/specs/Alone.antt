@@ -3,7 +3,8 @@ use Rattle.std.specs.Prelude.{◌≡◌, ℕ}
 use Rattle.eve_grammar.specs.Trace.{Trace, head_of}
 use Rattle.eve_grammar.specs.Spelling.{section_start, steps_of}
 
--- two traces have one header, the same customers and batches, and the same section of replica e, which begins at the same byte
+-- two traces have one header, the same customers and batches, and the same section of replica e, which begins at the
+-- same byte
 pub record AgreeFor (t u : Trace) (e : ℕ) : Type 0 where
   pub head : head_of t ≡ head_of u
   pub customers : t.customers ≡ u.customers

@@ -4,9 +4,10 @@ use Rattle.eve_grammar.specs.Trace.{Commit, Rollback, Sent, Commits, RollsBack, 
 use Rattle.eve_grammar.specs.Spelling.{steps_at}
 use Rattle.eve_grammar.specs.Certificate.{KeepsGroups}
 use Rattle.eve_history.specs.Section.{Placed, batch_at}
-use Rattle.eve_history.specs.Told.{committed_at}
+use Rattle.eve_history.specs.SectionHistory.{committed_at}
 use Rattle.eve_chains.specs.Visible.{execution, executions}
-use Rattle.eve_chains.specs.Committed.{opening_bank, bank_after, committed_to, Leads, IsSerialBetween, committed_request_ids, AreDistinct}
+use Rattle.eve_chains.specs.Committed.{opening_bank, bank_after, committed_to, Leads, IsSerialBetween}
+use Rattle.eve_chains.specs.Committed.{committed_request_ids, AreDistinct}
 use Rattle.eve_agree.specs.Tables.{IsRestored}
 use Rattle.eve_votes.specs.Votes.{IsDecided, IsRolledBack}
 use Rattle.eve_agree.specs.SentReplies.{IsReplied}
@@ -34,11 +35,13 @@ pub record IsAudited (t : Trace) : Type 0 where
   pub replied : (k : ℕ) (s : Sent) → slice_get t.sent k ≡ Some s → IsReplied t s
   -- more than half of the verifiers decide
   pub majority : length t.verifiers < 2 * t.quorum
-  -- each batch that a replica committed is decided, in its attempt's view and with its token; so is each commit, and each
-  -- rollback is voted for
+  -- each batch that a replica committed is decided, in its attempt's view and with its token; so is each commit, and
+  -- each rollback is voted for
   pub decided : (e n : ℕ) (p : Placed) → committed_at t e n ≡ Some p → IsDecided t n p.attempt.view p.attempt.token
-  pub commits : (e k at : ℕ) (c : Commit) → slice_get (steps_at t e) k ≡ Some (at, Commits c) → IsDecided t c.seq c.view c.token
-  pub rollbacks : (e k at : ℕ) (r : Rollback) → slice_get (steps_at t e) k ≡ Some (at, RollsBack r) → IsRolledBack t (r.to + 1) (r.view - 1)
+  pub commits : (e k at : ℕ) (c : Commit) → slice_get (steps_at t e) k ≡ Some (at, Commits c)
+      → IsDecided t c.seq c.view c.token
+  pub rollbacks : (e k at : ℕ) (r : Rollback) → slice_get (steps_at t e) k ≡ Some (at, RollsBack r)
+      → IsRolledBack t (r.to + 1) (r.view - 1)
   -- all who committed a batch did so in one view, with one token
   pub one_decision : (e f n : ℕ) (p q : Placed) → committed_at t e n ≡ Some p → committed_at t f n ≡ Some q
       → (p.attempt.view ≡ q.attempt.view) × (p.attempt.token ≡ q.attempt.token)

@@ -2,7 +2,7 @@
 use Rattle.std.specs.Prelude.{◌≡◌, ℕ, Result, MatchResult, All}
 use Rattle.eve_grammar.specs.Trace.{Trace}
 use Rattle.eve_views.specs.declared.fault.Fault.{Fault}
-use Rattle.eve_history.specs.Told.{telling}
+use Rattle.eve_history.specs.SectionHistory.{section_history}
 use Rattle.eve_chains.specs.Settling.{settling}
 use Rattle.eve_audit.specs.declared.replica.Piece.{Piece}
 use Rattle.eve_audit.specs.declared.slots.Finding.{Finding}
@@ -13,7 +13,7 @@ use Rattle.eve_audit.specs.Pieces.{IsFirstOf, IsSoundReplica}
 
 -- a replica without a fault of its own, what it tells and what it committed
 pub record IsPieceOf (t : Trace) (e : ℕ) (piece : Piece) : Type 0 where
-  pub history : piece.history ≡ telling t e
+  pub history : piece.history ≡ section_history t e
   pub settled : piece.settled ≡ settling t e
   pub sound : IsSoundReplica t e
   pub none : HasNone (IsOwnFault t e)

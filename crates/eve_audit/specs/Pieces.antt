@@ -4,7 +4,7 @@ use Rattle.eve_grammar.specs.Trace.{Trace}
 use Rattle.eve_grammar.specs.Frames.{sections_of}
 use Rattle.eve_views.specs.declared.fault.Fault.{Fault}
 use Rattle.eve_views.specs.Form.{Precedes, HasNone}
-use Rattle.eve_history.specs.Told.{Telling, telling, history, IsRightSection}
+use Rattle.eve_history.specs.SectionHistory.{SectionHistory, section_history, history, IsRightSection}
 use Rattle.eve_chains.specs.Sound.{SettledAreSound}
 use Rattle.eve_chains.specs.Settling.{Settling, settling}
 use Rattle.eve_agree.specs.Tables.{RestoresAreRight}
@@ -35,8 +35,8 @@ IsFoundBelow t n (Some f) = IsFirstOf (IsFaultBelow t n) f
 IsFoundBelow t n None = HasNone (IsFaultBelow t n)
 
 -- what the replicas below n tell, and what they committed, in their order; all of them are sound
-pub record AreKept (t : Trace) (n : ℕ) (told : List Telling) (wrote : List Settling) : Type 0 where
-  pub histories : told ≡ map (λ s. telling t s.0) (take n (sections_of t))
+pub record AreKept (t : Trace) (n : ℕ) (told : List SectionHistory) (wrote : List Settling) : Type 0 where
+  pub histories : told ≡ map (λ s. section_history t s.0) (take n (sections_of t))
   pub settled : wrote ≡ map (λ s. settling t s.0) (take n (sections_of t))
   pub sound : (e : ℕ) → e < n → IsSoundReplica t e
 
@@ -50,7 +50,8 @@ pub record IsLeastBelow (t : Trace) (n c : ℕ) : Type 0 where
   pub reached : ((n ≡ 0) × (c ≡ 2 ^ 32 - 1)) ⊎ ((e : ℕ) × (e < n) × (last_of t e ≡ c))
 
 -- what was found in the replicas below n; and where that is nothing, what was kept of them
-pub record IsJudgedBelow (t : Trace) (n : ℕ) (first : Option Fault) (told : List Telling) (wrote : List Settling) (committed : ℕ) : Type 0 where
+pub record IsJudgedBelow (t : Trace) (n : ℕ) (first : Option Fault) (told : List SectionHistory) (wrote : List Settling)
+    (committed : ℕ) : Type 0 where
   pub found : IsFoundBelow t n first
   pub kept : first ≡ None → AreKept t n told wrote
   pub least : first ≡ None → IsLeastBelow t n committed

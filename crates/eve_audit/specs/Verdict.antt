@@ -6,7 +6,7 @@ use Rattle.eve_views.specs.Code.{phase_of}
 use Rattle.eve_views.specs.Form.{IsFormFault, Precedes, HasNone}
 use Rattle.eve_views.specs.declared.fault.Fault.{Fault}
 use Rattle.eve_history.specs.Faults.{IsOrderFault, IsStructureFault}
-use Rattle.eve_history.specs.Told.{history}
+use Rattle.eve_history.specs.SectionHistory.{history}
 use Rattle.eve_chains.specs.Faults.{IsRecordFault, IsChainFault}
 use Rattle.eve_agree.specs.Restores.{IsRestoreFault}
 use Rattle.eve_agree.specs.DueTokens.{IsTokenFault}

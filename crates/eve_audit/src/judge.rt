@@ -4,7 +4,7 @@ ghost use Rattle.std.specs.Prelude.{◌≡◌, ◌≤◌, ℕ, List, IfOk, IfErr
 ghost use Rattle.eve_views.specs.Form.{IfFound, HasNone};
 ghost use Rattle.eve_views.specs.Fronts.{whole};
 ghost use Rattle.eve_history.specs.Faults.{IsOrderFault};
-ghost use Rattle.eve_history.specs.Told.{names_of};
+ghost use Rattle.eve_history.specs.SectionHistory.{names_of};
 ghost use Rattle.eve_audit.specs.Accepted.{IsAccepted};
 ghost use Rattle.eve_audit.specs.Answer.{IsAnswer, IsRead};
 ghost use Rattle.eve_audit.specs.Findings.{AreTrue};
@@ -58,8 +58,8 @@ fn open<'a>(alloc: Global, bytes: &'a [u8], random: RandomState) -> Result<Opene
     }
 }
 
-/// The summary of a trace without a fault, or its first fault, where its orders have none. What workers have found of the
-/// replicas isn't judged again.
+/// The summary of a trace without a fault, or its first fault, where its orders have none. What workers have found of
+/// the replicas isn't judged again.
 fn judge_trace<'a, R: Threads + Sync>(
     rt: &R,
     alloc: Global,
@@ -116,12 +116,13 @@ fn verdict_on<'a, R: Threads + Sync>(
     }
 }
 
-/// Audits the bytes of a trace on one thread: the first fault, or yes with the summary where none stands. Where it is yes,
-/// the bytes spell a trace that is one-thread SmallBank, batch by batch, and all else that `IsAudited` says; the first
-/// fault stands within the bytes, or at their end, and names the replica in whose section it lies, if it lies in one.
+/// Audits the bytes of a trace on one thread: the first fault, or yes with the summary where none stands. Where it is
+/// yes, the bytes spell a trace that is one-thread SmallBank, batch by batch, and all else that `IsAudited` says; the
+/// first fault stands within the bytes, or at their end, and names the replica in whose section it lies, if it lies in
+/// one.
 ///
-/// docs/MODEL.md, "Verdict" and "The audit theorem". Nothing recorded is trusted. Want of memory decides nothing. The time
-/// is linear in the trace, but for the tokens, which hash all balances once a batch. It waits for nobody.
+/// docs/MODEL.md, "Verdict" and "The audit theorem". Nothing recorded is trusted. Want of memory decides nothing. The
+/// time is linear in the trace, but for the tokens, which hash all balances once a batch. It waits for nobody.
 pub fn audit_one<R: Threads + Sync>(
     rt: &R,
     alloc: Global,
@@ -140,13 +141,13 @@ pub fn audit_one<R: Threads + Sync>(
     }
 }
 
-/// Audits the bytes of a trace as `audit_one` does, the replicas side by side on up to 16 workers: the same verdict, for
-/// every number of workers and every order in which they end.
+/// Audits the bytes of a trace as `audit_one` does, the replicas side by side on up to 16 workers: the same verdict,
+/// for every number of workers and every order in which they end.
 ///
-/// docs/MODEL.md, "Verdict" and "The audit theorem". Worker e mod `workers` judges replica e by itself, and enters the gate
-/// with e first. A worker that can't be started is run by the caller, and a replica for which a worker had no memory is
-/// judged again by the caller. What the replicas come to together is judged once all workers have ended. Nothing is
-/// promised of which threads run, and it returns where the gate does.
+/// docs/MODEL.md, "Verdict" and "The audit theorem". Worker e mod `workers` judges replica e by itself, and enters the
+/// gate with e first. A worker that can't be started is run by the caller, and a replica for which a worker had no
+/// memory is judged again by the caller. What the replicas come to together is judged once all workers have ended.
+/// Nothing is promised of which threads run, and it returns where the gate does.
 pub fn audit<R: Threads + Wait + Sync, G: Gate>(
     rt: &R,
     alloc: Global,

@@ -65,8 +65,8 @@ pub fn standing_faults_name_their_section()
     eve_history::laws::fates_are_as_the_section_ends();
 }
 
-/// Each replica is judged by itself: two traces that agree in the header, the customers, the batches and a replica's section
-/// have the same faults of that replica's own, whatever the other replicas did, was voted and was sent.
+/// Each replica is judged by itself: two traces that agree in the header, the customers, the batches and a replica's
+/// section have the same faults of that replica's own, whatever the other replicas did, was voted and was sent.
 ///
 /// docs/MODEL.md, "Faults".
 pub fn replicas_are_judged_by_themselves()
@@ -91,8 +91,8 @@ pub fn a_yes_is_audited()
     crate::laws::accepted_traces_are_audited();
 }
 
-/// A trace in which no phase finds a fault is one-thread SmallBank, batch by batch, and all else that a yes says. The body
-/// only names the laws that it follows from: the contract is the law.
+/// A trace in which no phase finds a fault is one-thread SmallBank, batch by batch, and all else that a yes says. The
+/// body only names the laws that it follows from: the contract is the law.
 ///
 /// docs/MODEL.md, "The audit theorem".
 pub fn accepted_traces_are_audited()

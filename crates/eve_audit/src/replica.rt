@@ -1,10 +1,10 @@
 //! The audit of one replica by itself.
 
-ghost use Rattle.std.specs.Prelude.{◌≡◌, ◌<◌, IfOk, IfErr, length};
+ghost use Rattle.std.specs.Prelude.{◌≡◌, ◌<◌, ◌≤◌, IfOk, IfErr, length};
 ghost use Rattle.eve_views.specs.Form.{IfFound, HasNone};
 ghost use Rattle.eve_views.specs.Fronts.{whole};
 ghost use Rattle.eve_history.specs.Faults.{IsStructureFault};
-ghost use Rattle.eve_history.specs.Told.{telling, names_of};
+ghost use Rattle.eve_history.specs.SectionHistory.{section_history, names_of};
 ghost use Rattle.eve_chains.specs.Settling.{settling};
 ghost use Rattle.eve_audit.specs.Findings.{IsPieceOf};
 ghost use Rattle.eve_audit.specs.Verdict.{IsOwnFault};
@@ -34,10 +34,12 @@ fn settle<'a, R: Threads + Sync>(
     trace: &Trace<'a>,
     names: &Names<'_>,
     history: &History<'a>,
+    jobs: u8,
 ) -> Result<Settled<'a>, CheckFault>
-    requires history { history.now ≡ telling (whole trace.now) history.now.replica }
+    requires history { history.now ≡ section_history (whole trace.now) history.now.replica }
     requires none { HasNone (IsStructureFault (whole trace.now) history.now.replica) }
     requires names { names.now.items ≡ names_of (whole trace.now) }
+    requires jobs { 1 ≤ jobs }
     ensures settled { IfOk result (λ settled. settled ≡ settling (whole trace.now) history.now.replica) }
     ensures sound { IfOk result (λ _. IsSoundReplica (whole trace.now) history.now.replica) }
     ensures none { IfOk result (λ _. HasNone (IsOwnFault (whole trace.now) history.now.replica)) }
@@ -52,23 +54,26 @@ fn settle<'a, R: Threads + Sync>(
         Ok(()) => {}
         Err(why) => return Err(why),
     }
-    match tokens(alloc, trace, history, &settled) {
+    match tokens(rt, alloc, trace, history, &settled, jobs) {
         Ok(()) => {}
         Err(why) => return Err(why),
     }
     Ok(settled)
 }
 
-/// What a replica did and committed, or the first of its own faults, by the replica's number from 0.
+/// What a replica did and committed, or the first of its own faults, by the replica's number from 0. Its tokens are
+/// judged in up to so many threads as there are jobs, from 1 on.
 pub fn judge_replica<'a, R: Threads + Sync>(
     rt: &R,
     alloc: Global,
     trace: &Trace<'a>,
     names: &Names<'_>,
     e: u8,
+    jobs: u8,
 ) -> Result<Piece<'a>, CheckFault>
     requires there { e < length (whole trace.now).sections }
     requires names { names.now.items ≡ names_of (whole trace.now) }
+    requires jobs { 1 ≤ jobs }
     ensures piece { IfOk result (IsPieceOf (whole trace.now) e) }
     ensures first { IfErr result (λ why. IfFound why (IsFirstOf (IsOwnFault (whole trace.now) e))) }
 {
@@ -76,7 +81,7 @@ pub fn judge_replica<'a, R: Threads + Sync>(
         Ok(history) => history,
         Err(why) => return Err(why),
     };
-    match settle(rt, alloc, trace, names, &history) {
+    match settle(rt, alloc, trace, names, &history, jobs) {
         Ok(settled) => Ok(Piece { history, settled }),
         Err(why) => Err(why),
     }

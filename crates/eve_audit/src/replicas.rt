@@ -3,7 +3,7 @@
 ghost use Rattle.std.specs.Prelude.{◌≡◌, ◌++◌, ◌∷◌, [], ℕ, IfOk, IfErr, IfSome, OnOk, ◌<◌, ◌^◌, length, min, All};
 ghost use Rattle.eve_views.specs.Form.{IfFound, HasNone};
 ghost use Rattle.eve_views.specs.Fronts.{whole};
-ghost use Rattle.eve_history.specs.Told.{names_of, tellings};
+ghost use Rattle.eve_history.specs.SectionHistory.{names_of, section_histories};
 ghost use Rattle.eve_chains.specs.Settling.{settlings};
 ghost use Rattle.eve_audit.specs.Findings.{AreTrue, IsAnswerOf, IsPieceOf};
 ghost use Rattle.eve_audit.specs.Verdict.{IsOwnFault, IsFaultBelow};
@@ -31,7 +31,8 @@ pub struct Pieces<'a> {
 
 /// Keeps the next replica's piece.
 fn keep<'a>(pieces: &mut Pieces<'a>, piece: Piece<'a>) -> Result<(), AllocError>
-    ensures histories { OnOk result (pieces.new.histories.items ≡ pieces.old.histories.items ++ piece.entry.history ∷ []) }
+    ensures histories { OnOk result
+        (pieces.new.histories.items ≡ pieces.old.histories.items ++ piece.entry.history ∷ []) }
     ensures settled { OnOk result (pieces.new.settled.items ≡ pieces.old.settled.items ++ piece.entry.settled ∷ []) }
     ensures committed { OnOk result (pieces.new.committed ≡ min pieces.old.committed piece.entry.history.committed) }
     ensures small { OnOk result (piece.entry.history.committed < 2 ^ 32) }
@@ -60,7 +61,8 @@ fn take_found<'a>(
     slots[worker].take(e)
 }
 
-// What a replica did and committed, or the first of its own faults: as was found before, or else as it is judged here.
+// What a replica did and committed, or the first of its own faults: as was found before, or else as it is judged here,
+// which starts no thread for its tokens and takes no memory for one.
 fn judge_missing<'a, R: Threads + Sync>(
     rt: &R,
     alloc: Global,
@@ -79,12 +81,12 @@ fn judge_missing<'a, R: Threads + Sync>(
     match take_found(trace, slots, e) {
         Some(Ok(piece)) => Ok(piece),
         Some(Err(fault)) => Err(CheckFault::Found(fault)),
-        None => judge_replica(rt, alloc, trace, names, e),
+        None => judge_replica(rt, alloc, trace, names, e, 1),
     }
 }
 
-/// What the replicas did and committed, each judged by itself, by its worker or here; or the first of the faults that they
-/// have of their own.
+/// What the replicas did and committed, each judged by itself, by its worker or here; or the first of the faults that
+/// they have of their own.
 pub fn judge_replicas<'a, R: Threads + Sync>(
     rt: &R,
     alloc: Global,
@@ -94,12 +96,14 @@ pub fn judge_replicas<'a, R: Threads + Sync>(
 ) -> Result<Pieces<'a>, CheckFault>
     requires names { names.now.items ≡ names_of (whole trace.now) }
     requires slots { All (AreTrue (whole trace.now)) slots.old }
-    ensures histories { IfOk result (λ pieces. pieces.histories.items ≡ tellings (whole trace.now)) }
+    ensures histories { IfOk result (λ pieces. pieces.histories.items ≡ section_histories (whole trace.now)) }
     ensures settled { IfOk result (λ pieces. pieces.settled.items ≡ settlings (whole trace.now)) }
-    ensures committed { IfOk result (λ pieces. IsLeastBelow (whole trace.now) (length (whole trace.now).sections) pieces.committed) }
+    ensures committed { IfOk result
+        (λ pieces. IsLeastBelow (whole trace.now) (length (whole trace.now).sections) pieces.committed) }
     ensures sound { IfOk result (λ _. (e : ℕ) → IsSoundReplica (whole trace.now) e) }
     ensures none { IfOk result (λ _. HasNone (IsFaultBelow (whole trace.now) (length (whole trace.now).sections))) }
-    ensures first { IfErr result (λ why. IfFound why (IsFirstOf (IsFaultBelow (whole trace.now) (length (whole trace.now).sections)))) }
+    ensures first { IfErr result
+        (λ why. IfFound why (IsFirstOf (IsFaultBelow (whole trace.now) (length (whole trace.now).sections)))) }
 {
     let mut first: Option<Fault> = None;
     let mut kept = Pieces {

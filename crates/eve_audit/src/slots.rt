@@ -1,8 +1,8 @@
 //! What was found of replicas before the caller asks for it.
 
-ghost use Rattle.std.specs.Prelude.{◌≡◌, ◌≢◌, ◌∷◌, [], ◌<◌, List, IfSome, IsNone, length};
+ghost use Rattle.std.specs.Prelude.{◌≡◌, ◌≢◌, ◌∷◌, [], ◌<◌, ◌≤◌, List, IfSome, IsNone, length};
 ghost use Rattle.eve_views.specs.Fronts.{whole};
-ghost use Rattle.eve_history.specs.Told.{names_of};
+ghost use Rattle.eve_history.specs.SectionHistory.{names_of};
 ghost use Rattle.eve_audit.specs.declared.slots.Finding.{Finding as FindingValue};
 ghost use Rattle.eve_audit.specs.Findings.{AreTrue, finding};
 
@@ -43,7 +43,8 @@ impl<'a> Slot<'a> {
         }
     }
 
-    /// Judges a replica by itself, and keeps what that comes to. Where memory runs out nothing is kept.
+    /// Judges a replica by itself, in up to so many threads as there are jobs, from 1 on, and keeps what that comes to.
+    /// Where memory runs out nothing is kept.
     pub fn judge<R: Threads + Sync>(
         &mut self,
         rt: &R,
@@ -51,16 +52,18 @@ impl<'a> Slot<'a> {
         trace: &Trace<'a>,
         names: &Names<'_>,
         e: u8,
+        jobs: u8,
     )
         requires there { e < length (whole trace.now).sections }
         requires names { names.now.items ≡ names_of (whole trace.now) }
         requires so_far { AreTrue (whole trace.now) self.old }
+        requires jobs { 1 ≤ jobs }
         ensures { AreTrue (whole trace.now) self.new }
     {
         if self.findings.reserve(1).is_err() {
             return;
         }
-        let answer = match judge_replica(rt, alloc, trace, names, e) {
+        let answer = match judge_replica(rt, alloc, trace, names, e, jobs) {
             Ok(piece) => Ok(piece),
             Err(CheckFault::Found(fault)) => Err(fault),
             Err(CheckFault::Memory) => return,

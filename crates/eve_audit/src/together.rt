@@ -3,7 +3,7 @@
 ghost use Rattle.std.specs.Prelude.{◌≡◌, ℕ, IfOk, IfErr};
 ghost use Rattle.eve_views.specs.Form.{IfFound, HasNone};
 ghost use Rattle.eve_views.specs.Fronts.{whole};
-ghost use Rattle.eve_history.specs.Told.{tellings};
+ghost use Rattle.eve_history.specs.SectionHistory.{section_histories};
 ghost use Rattle.eve_chains.specs.Settling.{settlings};
 ghost use Rattle.eve_audit.specs.Verdict.{IsCommonFault};
 ghost use Rattle.eve_audit.specs.Pieces.{IsFirstOf, IsSoundTogether};
@@ -23,7 +23,7 @@ pub fn judge_together(
     histories: &[History<'_>],
     settled: &[Settled<'_>],
 ) -> Result<(), CheckFault>
-    requires histories { histories.now ≡ tellings (whole trace.now) }
+    requires histories { histories.now ≡ section_histories (whole trace.now) }
     requires settled { settled.now ≡ settlings (whole trace.now) }
     ensures sound { IfOk result (λ _. IsSoundTogether (whole trace.now)) }
     ensures none { IfOk result (λ _. HasNone (IsCommonFault (whole trace.now))) }

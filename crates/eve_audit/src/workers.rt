@@ -1,9 +1,9 @@
 //! Workers, which judge replicas side by side.
 
-ghost use Rattle.std.specs.Prelude.{◌≡◌, ◌<◌, ◌≤◌, [], IfOk, All, length};
+ghost use Rattle.std.specs.Prelude.{◌≡◌, ◌<◌, ◌≤◌, ◌*◌, min, [], IfOk, All, length};
 ghost use Rattle.std.specs.Thread.{IsSync};
 ghost use Rattle.eve_views.specs.Fronts.{whole};
-ghost use Rattle.eve_history.specs.Told.{names_of};
+ghost use Rattle.eve_history.specs.SectionHistory.{names_of};
 ghost use Rattle.eve_audit.specs.Findings.{AreTrue};
 
 use crate::share::Share;
@@ -16,9 +16,10 @@ use std::sync::Wait;
 use std::thread;
 use std::thread::Threads;
 
-/// What workers find of the replicas, side by side, each replica judged by itself. Worker e mod `workers` judges replica e,
-/// and enters the gate with e first. A worker that can't be started is run by the caller; where a worker has no memory for
-/// a replica, nothing is found of it.
+/// What workers find of the replicas, side by side, each replica judged by itself. Worker e mod `workers` judges
+/// replica e, and enters the gate with e first. Where there are more workers than replicas, each replica's tokens are
+/// judged in as many threads as its part of them. A worker that can't be started is run by the caller; where a worker
+/// has no memory for a replica, nothing is found of it.
 pub fn judge_side_by_side<'a, R: Threads + Wait + Sync, G: Gate>(
     rt: &R,
     alloc: Global,
@@ -32,9 +33,23 @@ pub fn judge_side_by_side<'a, R: Threads + Wait + Sync, G: Gate>(
     ensures { IfOk result (λ slots. All (AreTrue (whole trace.now)) slots.items) }
 {
     trace.is_whole();
-    let mut slots = empty_slots(alloc, workers.min(trace.section_count()))?;
-    judge_shares(rt, alloc, trace, names, gate, slots.as_mut_slice());
+    let replicas = trace.section_count();
+    let mut slots = empty_slots(alloc, workers.min(replicas))?;
+    let jobs = jobs_of_each(workers, replicas);
+    judge_shares(rt, alloc, trace, names, gate, slots.as_mut_slice(), jobs);
     Ok(slots)
+}
+
+// In how many threads a replica's tokens are judged, so that there are no more than workers.
+fn jobs_of_each(workers: u8, replicas: u8) -> u8
+    requires { 1 ≤ workers }
+    ensures some { 1 ≤ result }
+    ensures bound { result * min workers replicas ≤ workers }
+{
+    if replicas == 0 {
+        return 1;
+    }
+    (workers / replicas).max(1)
 }
 
 // Judges a worker's replicas.
@@ -45,8 +60,10 @@ fn judge_share<'a, R: Threads + Wait + Sync, G: Gate>(
     names: &Names<'_>,
     gate: &G,
     slot: &mut Slot<'a>,
+    jobs: u8,
 )
     requires names { names.now.items ≡ names_of (whole trace.now) }
+    requires jobs { 1 ≤ jobs }
     requires so_far { AreTrue (whole trace.now) slot.old }
     ensures { AreTrue (whole trace.now) slot.new }
 {
@@ -54,7 +71,7 @@ fn judge_share<'a, R: Threads + Wait + Sync, G: Gate>(
     for e in 0..trace.section_count() {
         if share.has(e) {
             gate.enter(rt, u32::from(e));
-            slot.judge(rt, alloc, trace, names, e);
+            slot.judge(rt, alloc, trace, names, e, jobs);
         }
     }
 }
@@ -79,8 +96,10 @@ fn judge_shares<'a, R: Threads + Wait + Sync, G: Gate>(
     names: &Names<'_>,
     gate: &G,
     slots: &mut [Slot<'a>],
+    jobs: u8,
 )
     requires names { names.now.items ≡ names_of (whole trace.now) }
+    requires jobs { 1 ≤ jobs }
     requires some { 0 < length slots.old }
     requires so_far { All (AreTrue (whole trace.now)) slots.old }
     ensures { All (AreTrue (whole trace.now)) slots.new }
@@ -91,8 +110,9 @@ fn judge_shares<'a, R: Threads + Wait + Sync, G: Gate>(
         slots,
         workers,
         &|_: usize, slot: &mut Slot|
-            requires { IsSync R.row × IsSync G.row × (names.now.items ≡ names_of (whole trace.now)) × AreTrue (whole trace.now) slot.old }
+            requires { IsSync R.row × IsSync G.row × (names.now.items ≡ names_of (whole trace.now)) × (1 ≤ jobs)
+                × AreTrue (whole trace.now) slot.old }
             ensures { AreTrue (whole trace.entry.now) slot.new }
-        { judge_share(rt, alloc, trace, names, gate, slot) },
+        { judge_share(rt, alloc, trace, names, gate, slot, jobs) },
     );
 }

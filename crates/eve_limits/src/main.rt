@@ -1,6 +1,6 @@
-//! Audits at the limits of the format, and past a thousand batches and four megabytes. The traces are made here: by runs,
-//! from the parts of runs, and by a change of one place. What has to be printed follows from the rules: no two requests of
-//! a batch conflict, so all replicas commit all batches; and a change is a fault there, or none.
+//! Audits at the limits of the format, and past a thousand batches and four megabytes. The traces are made here: by
+//! runs, from the parts of runs, and by a change of one place. What has to be printed follows from the rules: no two
+//! requests of a batch conflict, so all replicas commit all batches; and a change is a fault there, or none.
 #![tactic(auto)]
 
 mod calls;
@@ -70,8 +70,8 @@ const WINDOW: Size = Size {
     requests: 256,
 };
 
-/// How many bytes an Access frame has in front of the last byte of its first entry, which is the last of the value after
-/// it: the frame's head, the record's, and the rest of the entry.
+/// How many bytes an Access frame has in front of the last byte of its first entry, which is the last of the value
+/// after it: the frame's head, the record's, and the rest of the entry.
 const LAST_OF_AFTER: usize = 5 + 6 + 28;
 
 /// How many bytes a Sent frame has in front of its last byte, the last of its reply.

@@ -2,7 +2,7 @@
 
 ghost use Rattle.std.specs.Prelude.{◌≡◌, ℕ, IfOk};
 ghost use Rattle.eve_views.specs.Fronts.{whole};
-ghost use Rattle.eve_history.specs.Told.{tellings, IsRightSection};
+ghost use Rattle.eve_history.specs.SectionHistory.{section_histories, IsRightSection};
 ghost use Rattle.eve_chains.specs.Settling.{settlings};
 
 use eve_agree::{equal_balances, replies};
@@ -20,7 +20,7 @@ struct Replicas<'a> {
 
 /// Reads what each replica did, one after another.
 fn read_replicas<'a>(alloc: Global, trace: &Trace<'a>) -> Result<Replicas<'a>, CheckFault>
-    ensures histories { IfOk result (λ told. told.histories.items ≡ tellings (whole trace.now)) }
+    ensures histories { IfOk result (λ told. told.histories.items ≡ section_histories (whole trace.now)) }
     ensures settled { IfOk result (λ told. told.settled.items ≡ settlings (whole trace.now)) }
     ensures right { IfOk result (λ _. (e : ℕ) → IsRightSection (whole trace.now) e) }
 {

@@ -1,5 +1,5 @@
-//! Workloads as large as is wanted, in which no two requests of a batch conflict: so every replica does the same, however
-//! its threads run.
+//! Workloads as large as is wanted, in which no two requests of a batch conflict: so every replica does the same,
+//! however its threads run.
 
 use std::alloc::Global;
 use std::io;

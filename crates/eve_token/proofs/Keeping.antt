@@ -1,13 +1,18 @@
 -- A tree's places and those of its two parts: what is kept in the one is kept in the others.
-use Rattle.std.proofs.Common.{◌≡◌, ℕ, ℤ, zero, suc, ◌+◌, ◌-◌, ◌*◌, ◌<◌, ◌≤◌, List, [], ◌∷◌, ◌++◌, length, take, drop, set, get_or, replicate, slice_get, Option, Some, None, IfSome, refl, sym, ap, subst, ◌∙◌, arith, length-append, length-take, length-drop, length-set}
-use Rattle.std.proofs.lemmas.List.{append-nil, append_assoc, length-replicate, drop-drop, drop_all, drop_at, drop_more, drop-set, drop-set-add, drop-set-lt, set_at, take_at, take-set-le, take_more_set, take_rest}
+use Rattle.std.proofs.Common.{◌≡◌, ℕ, ℤ, zero, suc, ◌+◌, ◌-◌, ◌*◌, ◌<◌, ◌≤◌, List, [], ◌∷◌, ◌++◌, length, take, drop}
+use Rattle.std.proofs.Common.{set, get_or, replicate, slice_get, Option, Some, None, IfSome, refl, sym, ap, subst, ◌∙◌}
+use Rattle.std.proofs.Common.{arith, length-append, length-take, length-drop, length-set}
+use Rattle.std.proofs.lemmas.List.{append-nil, append_assoc, length-replicate, drop-drop, drop_all, drop_at, drop_more}
+use Rattle.std.proofs.lemmas.List.{drop-set, drop-set-add, drop-set-lt, set_at, take_at, take-set-le, take_more_set}
+use Rattle.std.proofs.lemmas.List.{take_rest}
 use Rattle.std.proofs.lemmas.Option.{same_Some}
 use borrow.Rule.Slice.PartMut.{put_mid}
 use Rattle.eve_smallbank.specs.Spelling.{money_text}
 use Rattle.eve_token.specs.Merkle.{leaf_hash, leaf_hashes, merkle_root, IsGreatestPowerBelow}
 use Rattle.eve_token.specs.Places.{nodes_of, IsKept, IsRowTree}
 use Rattle.eve_token.proofs.Leaves.{leaves-length, leaves-set}
-use Rattle.eve_token.proofs.Places.{nodes-split, nodes-count, nodes-one, kept-stale, kept-join, kept-left, kept-top, kept-right}
+use Rattle.eve_token.proofs.Places.{nodes-split, nodes-count, nodes-one, kept-stale, kept-join, kept-left, kept-top}
+use Rattle.eve_token.proofs.Places.{kept-right}
 
 take-of_set : (n i : ℕ) (xs : List (List ℕ)) (a : List ℕ) → take n (set xs i a) ≡ set (take n xs) i a
 take-of_set zero i xs a = refl

@@ -1,6 +1,8 @@
 -- The hashes of a list's leaves, where the list is cut or changed.
-use Rattle.std.proofs.Common.{◌≡◌, ℕ, zero, suc, ◌+◌, List, [], ◌∷◌, length, take, drop, set, get_or, refl, sym, ap, subst, ◌∙◌, arith}
-use Rattle.eve_token.specs.Merkle.{leaf_hash, node_hash, leaf_hashes, next_level, levels_up, merkle_root, IsGreatestPowerBelow}
+use Rattle.std.proofs.Common.{◌≡◌, ℕ, zero, suc, ◌+◌, List, [], ◌∷◌, length, take, drop, set, get_or, refl, sym, ap}
+use Rattle.std.proofs.Common.{subst, ◌∙◌, arith}
+use Rattle.eve_token.specs.Merkle.{leaf_hash, node_hash, leaf_hashes, next_level, levels_up, merkle_root}
+use Rattle.eve_token.specs.Merkle.{IsGreatestPowerBelow}
 use Rattle.eve_token.proofs.Levels.{root-split}
 
 -- the root of one hash

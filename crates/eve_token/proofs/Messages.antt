@@ -1,5 +1,6 @@
 -- The messages to the hasher, as their parts are put into arrays.
-use Rattle.std.proofs.Common.{◌≡◌, ℕ, ◌+◌, ◌/◌, ◌%◌, suc, List, [], ◌∷◌, ◌++◌, length, take, drop, replicate, codes, refl, sym, ap, ◌∙◌, arith, append_assoc}
+use Rattle.std.proofs.Common.{◌≡◌, ℕ, ◌+◌, ◌/◌, ◌%◌, suc, List, [], ◌∷◌, ◌++◌, length, take, drop, replicate, codes}
+use Rattle.std.proofs.Common.{refl, sym, ap, ◌∙◌, arith, append_assoc}
 use Rattle.std.proofs.lemmas.List.{append-nil, take_at, drop_at, drop_all}
 use borrow.Rule.Slice.PartMut.{put_mid}
 use Rattle.byteorder.specs.Endian.{big_bytes}

@@ -1,5 +1,6 @@
 -- How a tree keeps the hashes of its nodes: one after another, from left to right.
-use Rattle.std.specs.Prelude.{◌≡◌, ℕ, ℤ, zero, suc, ◌+◌, ◌*◌, ◌^◌, ◌<◌, nat_le, if◌then◌else◌, List, [], ◌∷◌, ◌++◌, length, take, drop, Option, IfSome}
+use Rattle.std.specs.Prelude.{◌≡◌, ℕ, ℤ, zero, suc, ◌+◌, ◌*◌, ◌^◌, ◌<◌, nat_le, if◌then◌else◌, List, [], ◌∷◌, ◌++◌}
+use Rattle.std.specs.Prelude.{length, take, drop, Option, IfSome}
 use Rattle.eve_smallbank.specs.Spelling.{money_text}
 use Rattle.eve_token.specs.Merkle.{leaf_hashes, merkle_root}
 

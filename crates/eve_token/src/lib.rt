@@ -46,7 +46,8 @@ pub fn token(version: u16, seq: u32, balances: &Balances, replies: &[Reply]) -> 
 ///
 /// docs/TRACE.md, "Token". It allocates nothing.
 pub fn token_of_spelled(seq: u32, balances: &Balances, spelled: &[u8]) -> [u8; 32]
-    ensures { (replies : List ReplyValue) → spelled.now ≡ flat_map reply_text replies → result ≡ token_of 1 seq balances.now replies }
+    ensures { (replies : List ReplyValue) → spelled.now ≡ flat_map reply_text replies
+        → result ≡ token_of 1 seq balances.now replies }
 {
     let mut hasher = hash_balances(seq, balances);
     hasher.update(spelled);

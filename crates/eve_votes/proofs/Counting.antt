@@ -1,5 +1,6 @@
--- Who counts for a decision.
-use Rattle.std.proofs.Common.{◌≡◌, ℕ, suc, ◌+◌, ◌*◌, ◌<◌, ◌≤◌, Bool, true, false, cond, List, [], ◌∷◌, length, get_or, filter, count_by, refl, sym, ap, ◌∙◌, arith}
+-- Public: other crates cite these lemmas. Who counts for a decision.
+use Rattle.std.proofs.Common.{◌≡◌, ℕ, suc, ◌+◌, ◌*◌, ◌<◌, ◌≤◌, Bool, true, false, cond, List, [], ◌∷◌, length, get_or}
+use Rattle.std.proofs.Common.{filter, count_by, refl, sym, ap, ◌∙◌, arith}
 use Rattle.std.specs.Prelude.{◌==◌}
 use Rattle.std.specs.List.{All, AllByRecursion}
 use Rattle.std.specs.Cmp.Lexicographic.{pointwise, same_text, other_text}
@@ -22,7 +23,8 @@ one_of_two false true apart = omega arith
 one_of_two false false apart = omega arith
 
 -- what can't both be true of an item is counted no more often than there are items
-pub counts_apart : {A : Type 0} (p q : A → Bool) (xs : List A) → ((x : A) → p x ≡ true → q x ≡ true → ⊥) → count_by p xs + count_by q xs ≤ length xs
+pub counts_apart : {A : Type 0} (p q : A → Bool) (xs : List A) → ((x : A) → p x ≡ true → q x ≡ true → ⊥)
+    → count_by p xs + count_by q xs ≤ length xs
 counts_apart p q [] apart = omega arith
 counts_apart p q (x ∷ xs) apart =
     omega (arith, count-cons p x xs, count-cons q x xs, one_of_two (p x) (q x) (apart x), counts_apart p q xs apart)
@@ -33,7 +35,8 @@ pub record Counted {A : Type 0} (p : A → Bool) (often : ℕ) (xs : List A) : T
   pub early : place + often ≤ length xs
   pub is : (d : A) → p (get_or xs place d) ≡ true
 
-pub counted : {A : Type 0} (p : A → Bool) (often : ℕ) (xs : List A) → 1 ≤ often → often ≤ count_by p xs → Counted p often xs
+pub counted : {A : Type 0} (p : A → Bool) (often : ℕ) (xs : List A) → 1 ≤ often → often ≤ count_by p xs
+    → Counted p often xs
 counted p often [] some many = absurd (omega arith)
 counted p often (x ∷ xs) some many = here (p x) refl (λ more. counted p often xs some more)
   where
@@ -61,14 +64,18 @@ only_first : (c : Choice) (w : Vote) (ws : List Vote) → is_only c (w ∷ ws) �
 only_first c w [] e = e
 only_first c w (x ∷ xs) e = absurd cc
 
-pub backs : (P : Vote → Type 0) (n view : ℕ) (token : List ℕ) (ws : List Vote) → AllByRecursion P ws → is_only (ForCommit token) (filter (is_vote_on n view) ws) ≡ true → Backs P n view token
+pub backs : (P : Vote → Type 0) (n view : ℕ) (token : List ℕ) (ws : List Vote) → AllByRecursion P ws
+    → is_only (ForCommit token) (filter (is_vote_on n view) ws) ≡ true → Backs P n view token
 backs P n view token [] all e = absurd cc
 backs P n view token (w ∷ ws) all e = here (is_vote_on n view w) refl (λ more. backs P n view token ws all.1 more)
   where
-    here : (t : Bool) → is_vote_on n view w ≡ t → (is_only (ForCommit token) (filter (is_vote_on n view) ws) ≡ true → Backs P n view token) → Backs P n view token
+    here : (t : Bool) → is_vote_on n view w ≡ t
+        → (is_only (ForCommit token) (filter (is_vote_on n view) ws) ≡ true → Backs P n view token)
+        → Backs P n view token
     here true on tail =
         let first : is_only (ForCommit token) (w ∷ filter (is_vote_on n view) ws) ≡ true =
-        sym (ap (λ (t : Bool). is_only (ForCommit token) (cond t (w ∷ filter (is_vote_on n view) ws) (filter (is_vote_on n view) ws))) on) ∙ e in
+        sym (ap (λ (t : Bool). is_only (ForCommit token)
+        (cond t (w ∷ filter (is_vote_on n view) ws) (filter (is_vote_on n view) ws))) on) ∙ e in
         let parts = and_parts (w.seq == n) (w.view == view) on in
         record {
           vote = w;
@@ -79,7 +86,8 @@ backs P n view token (w ∷ ws) all e = here (is_vote_on n view w) refl (λ more
         }
     here false on tail =
         let rest : is_only (ForCommit token) (filter (is_vote_on n view) ws) ≡ true =
-        sym (ap (λ (t : Bool). is_only (ForCommit token) (cond t (w ∷ filter (is_vote_on n view) ws) (filter (is_vote_on n view) ws))) on) ∙ e in
+        sym (ap (λ (t : Bool). is_only (ForCommit token)
+        (cond t (w ∷ filter (is_vote_on n view) ws) (filter (is_vote_on n view) ws))) on) ∙ e in
         tail rest
 
 -- one vote isn't for two tokens
@@ -91,14 +99,18 @@ only_one a b (w ∷ x ∷ ws) e f = absurd cc
 -- ---- decisions
 
 -- a decided commit has a vote for it, of which holds what holds of each
-pub decided_backs : (t : Trace) (P : Vote → Type 0) (n view : ℕ) (token : List ℕ) → 1 ≤ t.quorum → ((v : ℕ) → v + t.quorum ≤ length t.verifiers → All P (votes_of t v)) → IsDecided t n view token → Backs P n view token
+pub decided_backs : (t : Trace) (P : Vote → Type 0) (n view : ℕ) (token : List ℕ) → 1 ≤ t.quorum
+    → ((v : ℕ) → v + t.quorum ≤ length t.verifiers → All P (votes_of t v)) → IsDecided t n view token
+    → Backs P n view token
 decided_backs t P n view token some all decided =
     let p : List Vote → Bool = λ votes. is_only (ForCommit token) (filter (is_vote_on n view) votes) in
     let one = counted p t.quorum t.verifiers some decided in
-    backs P n view token (votes_of t one.place) (recursion_from_All P (votes_of t one.place) (all one.place one.early)) (one.is [])
+    backs P n view token (votes_of t one.place) (recursion_from_All P (votes_of t one.place) (all one.place one.early))
+    (one.is [])
 
 -- more than half of the verifiers can't be for two tokens
-pub one_token : (t : Trace) (n view : ℕ) (a b : List ℕ) → length t.verifiers < 2 * t.quorum → IsDecided t n view a → IsDecided t n view b → a ≡ b
+pub one_token : (t : Trace) (n view : ℕ) (a b : List ℕ) → length t.verifiers < 2 * t.quorum → IsDecided t n view a
+    → IsDecided t n view b → a ≡ b
 one_token t n view a b most for_a for_b = by_test (pointwise ◌==◌ a b) refl
   where
     by_test : (s : Bool) → pointwise ◌==◌ a b ≡ s → a ≡ b

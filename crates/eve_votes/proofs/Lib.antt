@@ -1,6 +1,9 @@
 pub mod Places
-pub mod Noting
 pub mod Counting
 pub mod Casting
 pub mod Deciding
 pub mod Tallying
+pub mod InOrder
+pub mod Backing
+pub mod Gathered
+pub mod Sifting

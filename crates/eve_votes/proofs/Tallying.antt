@@ -1,18 +1,17 @@
--- From what was found to the tally.
+-- Public: other crates cite these lemmas. From what was found to the tally.
 use Rattle.eve_views.specs.Form.{IsLeast}
-use Rattle.std.proofs.Common.{◌≡◌, ℕ, ◌+◌, ◌<◌, ◌≤◌, Bool, true, false, cond, List, [], ◌∷◌, ◌++◌, length, get_or, filter, Option, Some, None, IfSome, refl, sym, ap, subst, ◌∙◌, append_assoc, arith, ◌⊎◌, inl, inr}
+use Rattle.std.proofs.Common.{◌≡◌, ℕ, ◌+◌, ◌<◌, ◌≤◌, Bool, true, false, cond, List, [], ◌∷◌, ◌++◌, length, get_or}
+use Rattle.std.proofs.Common.{filter, Option, Some, None, IfSome, refl, sym, ap, subst, ◌∙◌, append_assoc, arith, ◌⊎◌}
+use Rattle.std.proofs.Common.{inl, inr}
 use Rattle.std.specs.Prelude.{◌==◌, ◌||◌, nat_lt, ◌↔◌, IsTrue}
 use Rattle.std.specs.List.{list_any}
 use Rattle.std.specs.Option.{option_map}
-use Rattle.std.specs.BTreeMap.{IsEmpty, is_at}
-use Rattle.std.specs.Map.{lookup}
 use Rattle.std.proofs.lemmas.Bool.{ltb-true, ltb-false, cases_lt, and_parts, eqb-true}
 use Rattle.std.proofs.lemmas.List.{get_or_past}
 use Rattle.std.proofs.lemmas.List.Folds.{list_any-append}
 use Rattle.eve_grammar.specs.Trace.{Vote, Trace}
 use Rattle.eve_grammar.specs.Frames.{OfVote, OfVerifier}
 use Rattle.eve_grammar.specs.Spelling.{votes_of, votes_at, frame_text, verifier_start}
-use Rattle.eve_grammar.specs.Bodies.{choice}
 use Rattle.eve_views.specs.Code.{number_of}
 use Rattle.eve_views.specs.declared.fault.Code.{Code}
 use Rattle.eve_views.specs.declared.fault.Code.TheVariants as code
@@ -21,17 +20,11 @@ use Rattle.eve_votes.specs.Votes.{is_vote_on, IsDecided}
 use Rattle.eve_votes.specs.Faults.{IsFurther, IsFurtherAt, StandsInVotes, IsVoteFault, AreVotesSound}
 use Rattle.eve_votes.specs.Least.{IsBelow, IsBelowAll}
 use Rattle.eve_votes.specs.First.{first_fault, outside}
-use Rattle.eve_votes.specs.Ballots.{Ballots, ballot_cmp, kept_in}
 use Rattle.eve_votes.specs.Decisions.{said, decision_in, IsKnown, AreDecisions}
 use Rattle.eve_votes.specs.declared.decisions.Decision.{Decision}
 use Rattle.eve_votes.proofs.Places.{located_values}
 use Rattle.eve_votes.proofs.Casting.{votes_on}
 use Rattle.eve_votes.proofs.Deciding.{decision_at}
-
--- an empty map has nothing
-pub nothing_kept : (m : Ballots) → IsEmpty m → (n view v : ℕ) → kept_in m n view v ≡ None
-unfolding kept_in
-nothing_kept m empty n view v = ap (λ es. option_map (option_map choice) (lookup (is_at (ballot_cmp (record { seq = n; view = view; verifier = v }))) es)) empty
 
 -- ---- the first fault
 
@@ -45,23 +38,30 @@ after at b m n below numbers = by_order (cases_lt at b)
 abbrev IsAfter : Code → ℕ → Code → ℕ → Type 0
 IsAfter first at c b = (at < b) ⊎ ((at ≡ b) × (number_of first ≤ number_of c))
 
-two_votes_first : (t : Trace) (at : ℕ) → ((b : ℕ) → StandsInVotes code.TwoVotes t b → at ≤ b) → ((b : ℕ) → StandsInVotes code.TwoDecisions t b → at ≤ b) → (c : Code) (b : ℕ) → StandsInVotes c t b → IsAfter code.TwoVotes at c b
+two_votes_first : (t : Trace) (at : ℕ) → ((b : ℕ) → StandsInVotes code.TwoVotes t b → at ≤ b)
+    → ((b : ℕ) → StandsInVotes code.TwoDecisions t b → at ≤ b) → (c : Code) (b : ℕ) → StandsInVotes c t b
+    → IsAfter code.TwoVotes at c b
 two_votes_first t at votes decisions code.TwoVotes b s = after at b 70 70 (votes b s) (omega arith)
 two_votes_first t at votes decisions code.TwoDecisions b s = after at b 70 71 (decisions b s) (omega arith)
 two_votes_first t at votes decisions _ b s = absurd s
 
-two_decisions_first : (t : Trace) (at : ℕ) → ((b : ℕ) → StandsInVotes code.TwoVotes t b → at < b) → ((b : ℕ) → StandsInVotes code.TwoDecisions t b → at ≤ b) → (c : Code) (b : ℕ) → StandsInVotes c t b → IsAfter code.TwoDecisions at c b
+two_decisions_first : (t : Trace) (at : ℕ) → ((b : ℕ) → StandsInVotes code.TwoVotes t b → at < b)
+    → ((b : ℕ) → StandsInVotes code.TwoDecisions t b → at ≤ b) → (c : Code) (b : ℕ) → StandsInVotes c t b
+    → IsAfter code.TwoDecisions at c b
 two_decisions_first t at votes decisions code.TwoVotes b s = inl (votes b s)
 two_decisions_first t at votes decisions code.TwoDecisions b s = after at b 71 71 (decisions b s) (omega arith)
 two_decisions_first t at votes decisions _ b s = absurd s
 
-least_votes : (t : Trace) (at : ℕ) → StandsInVotes code.TwoVotes t at → ((b : ℕ) → StandsInVotes code.TwoVotes t b → at ≤ b) → ((b : ℕ) → StandsInVotes code.TwoDecisions t b → at ≤ b) → IsLeast (IsVoteFault t) (outside code.TwoVotes at)
+least_votes : (t : Trace) (at : ℕ) → StandsInVotes code.TwoVotes t at
+    → ((b : ℕ) → StandsInVotes code.TwoVotes t b → at ≤ b) → ((b : ℕ) → StandsInVotes code.TwoDecisions t b → at ≤ b)
+    → IsLeast (IsVoteFault t) (outside code.TwoVotes at)
 least_votes t at stands votes decisions = record {
   is = record { stands = stands; outside = refl };
   least = λ g fault. two_votes_first t at votes decisions g.code g.offset fault.stands;
 }
 
-least_decisions : (t : Trace) (at : ℕ) → StandsInVotes code.TwoDecisions t at → ((b : ℕ) → StandsInVotes code.TwoVotes t b → at < b) → ((b : ℕ) → StandsInVotes code.TwoDecisions t b → at ≤ b)
+least_decisions : (t : Trace) (at : ℕ) → StandsInVotes code.TwoDecisions t at
+    → ((b : ℕ) → StandsInVotes code.TwoVotes t b → at < b) → ((b : ℕ) → StandsInVotes code.TwoDecisions t b → at ≤ b)
     → IsLeast (IsVoteFault t) (outside code.TwoDecisions at)
 least_decisions t at stands votes decisions = record {
   is = record { stands = stands; outside = refl };
@@ -75,15 +75,22 @@ pub record Found (t : Trace) (again apart : Option ℕ) : Type 0 where
   pub apart_stands : IfSome apart (StandsInVotes code.TwoDecisions t)
   pub apart_least : IsBelowAll (StandsInVotes code.TwoDecisions t) apart
 
-pub first_is_least : (t : Trace) (again apart : Option ℕ) → Found t again apart → IfSome (first_fault again apart) (IsLeast (IsVoteFault t))
+pub first_is_least : (t : Trace) (again apart : Option ℕ) → Found t again apart
+    → IfSome (first_fault again apart) (IsLeast (IsVoteFault t))
 first_is_least t None None found = tt
-first_is_least t (Some a) None found = least_votes t a found.again_stands found.again_least (λ b s. absurd (found.apart_least b s))
-first_is_least t None (Some d) found = least_decisions t d found.apart_stands (λ b s. absurd (found.again_least b s)) found.apart_least
+first_is_least t (Some a) None found = least_votes t a found.again_stands found.again_least
+    (λ b s. absurd (found.apart_least b s))
+first_is_least t None (Some d) found = least_decisions t d found.apart_stands (λ b s. absurd (found.again_least b s))
+    found.apart_least
 first_is_least t (Some a) (Some d) found = by_test (nat_lt d a) refl
   where
-    by_test : (x : Bool) → nat_lt d a ≡ x → IfSome (cond x (Some (outside code.TwoDecisions d)) (Some (outside code.TwoVotes a))) (IsLeast (IsVoteFault t))
-    by_test true e = least_decisions t d found.apart_stands (λ b s. omega (arith, ltb-true d a e, found.again_least b s)) found.apart_least
-    by_test false e = least_votes t a found.again_stands found.again_least (λ b s. omega (arith, ltb-false d a e, found.apart_least b s))
+    by_test : (x : Bool) → nat_lt d a ≡ x
+        → IfSome (cond x (Some (outside code.TwoDecisions d)) (Some (outside code.TwoVotes a)))
+        (IsLeast (IsVoteFault t))
+    by_test true e = least_decisions t d found.apart_stands
+        (λ b s. omega (arith, ltb-true d a e, found.again_least b s)) found.apart_least
+    by_test false e = least_votes t a found.again_stands found.again_least
+        (λ b s. omega (arith, ltb-false d a e, found.apart_least b s))
 
 -- where there is no first fault nothing was found
 pub none_found : (again apart : Option ℕ) → first_fault again apart ≡ None → (again ≡ None) × (apart ≡ None)
@@ -96,7 +103,8 @@ none_found (Some a) (Some d) e = absurd (by_test (nat_lt d a) e)
     by_test true e = cc
     by_test false e = cc
 
-no_fault : (t : Trace) → ((b : ℕ) → StandsInVotes code.TwoVotes t b → ⊥) → ((b : ℕ) → StandsInVotes code.TwoDecisions t b → ⊥) → (c : Code) (b : ℕ) → StandsInVotes c t b → ⊥
+no_fault : (t : Trace) → ((b : ℕ) → StandsInVotes code.TwoVotes t b → ⊥)
+    → ((b : ℕ) → StandsInVotes code.TwoDecisions t b → ⊥) → (c : Code) (b : ℕ) → StandsInVotes c t b → ⊥
 no_fault t votes decisions code.TwoVotes b s = votes b s
 no_fault t votes decisions code.TwoDecisions b s = decisions b s
 no_fault t votes decisions _ b s = absurd s
@@ -104,47 +112,66 @@ no_fault t votes decisions _ b s = absurd s
 none_below : (P : ℕ → Type 0) (least : Option ℕ) → least ≡ None → IsBelowAll P least → (b : ℕ) → P b → ⊥
 none_below P least none all b p = (let below = subst (λ (o : Option ℕ). IsBelow o b) none (all b p) in absurd below)
 
-pub none_stands : (t : Trace) (again apart : Option ℕ) → Found t again apart → first_fault again apart ≡ None → (f : Fault) → IsVoteFault t f → ⊥
+pub none_stands : (t : Trace) (again apart : Option ℕ) → Found t again apart → first_fault again apart ≡ None
+    → (f : Fault) → IsVoteFault t f → ⊥
 none_stands t again apart found none f fault =
     let both = none_found again apart none in
-    no_fault t (none_below (StandsInVotes code.TwoVotes t) again both.0 found.again_least) (none_below (StandsInVotes code.TwoDecisions t) apart both.1 found.apart_least) f.code f.offset fault.stands
+    no_fault t (none_below (StandsInVotes code.TwoVotes t) again both.0 found.again_least)
+    (none_below (StandsInVotes code.TwoDecisions t) apart both.1 found.apart_least) f.code f.offset fault.stands
 
 -- ---- where each votes once
 
 abbrev Further : List (ℕ × Vote) → Type 0
 Further xs = (at : ℕ) × IsFurtherAt xs at
 
-shifted : (before : List (ℕ × Vote)) (x : ℕ × Vote) (xs : List (ℕ × Vote)) → Further ((before ++ x ∷ []) ++ xs) → Further (before ++ x ∷ xs)
-shifted before x xs f = (f.0, subst (λ (zs : List (ℕ × Vote)). IsFurtherAt zs f.0) (append_assoc before (x ∷ []) xs) f.1)
+shifted : (before : List (ℕ × Vote)) (x : ℕ × Vote) (xs : List (ℕ × Vote)) → Further ((before ++ x ∷ []) ++ xs)
+    → Further (before ++ x ∷ xs)
+shifted before x xs f = (
+  f.0,
+  subst (λ (zs : List (ℕ × Vote)). IsFurtherAt zs f.0) (append_assoc before (x ∷ []) xs)
+      f.1,
+)
 
 -- an earlier vote, and one more
-one_further : (n view : ℕ) (before xs : List (ℕ × Vote)) → list_any (λ u. is_vote_on n view u.1) before ≡ true → 1 ≤ length (votes_on n view xs) → Further (before ++ xs)
+one_further : (n view : ℕ) (before xs : List (ℕ × Vote)) → list_any (λ u. is_vote_on n view u.1) before ≡ true
+    → 1 ≤ length (votes_on n view xs) → Further (before ++ xs)
 one_further n view before [] any some = absurd (omega arith)
 one_further n view before (x ∷ xs) any some =
-    by_test (is_vote_on n view x.1) refl some (λ more. shifted before x xs (one_further n view (before ++ x ∷ []) xs still more))
+    by_test (is_vote_on n view x.1) refl some
+    (λ more. shifted before x xs (one_further n view (before ++ x ∷ []) xs still more))
   where
     still : list_any (λ u. is_vote_on n view u.1) (before ++ x ∷ []) ≡ true
-    still = list_any-append (λ u. is_vote_on n view u.1) before (x ∷ []) ∙ ap (λ (b : Bool). b || list_any (λ u. is_vote_on n view u.1) (x ∷ [])) any
+    still = list_any-append (λ u. is_vote_on n view u.1) before (x ∷ [])
+        ∙ ap (λ (b : Bool). b || list_any (λ u. is_vote_on n view u.1) (x ∷ [])) any
 
-    by_test : (b : Bool) → is_vote_on n view x.1 ≡ b → 1 ≤ length (cond b (x.1 ∷ votes_on n view xs) (votes_on n view xs)) → (1 ≤ length (votes_on n view xs) → Further (before ++ x ∷ xs)) → Further (before ++ x ∷ xs)
+    by_test : (b : Bool) → is_vote_on n view x.1 ≡ b
+        → 1 ≤ length (cond b (x.1 ∷ votes_on n view xs) (votes_on n view xs))
+        → (1 ≤ length (votes_on n view xs) → Further (before ++ x ∷ xs)) → Further (before ++ x ∷ xs)
     by_test true on more tail =
         let parts = and_parts (x.1.seq == n) (x.1.view == view) on in
         let here : IsFurther before x =
-        subst (λ (s : ℕ). IsTrue (list_any (λ u. is_vote_on x.1.seq s u.1) before)) (sym (eqb-true x.1.view view parts.1))
-        (subst (λ (s : ℕ). IsTrue (list_any (λ u. is_vote_on s view u.1) before)) (sym (eqb-true x.1.seq n parts.0)) any) in
+        subst (λ (s : ℕ). IsTrue (list_any (λ u. is_vote_on x.1.seq s u.1) before))
+        (sym (eqb-true x.1.view view parts.1))
+        (subst (λ (s : ℕ). IsTrue (list_any (λ u. is_vote_on s view u.1) before)) (sym (eqb-true x.1.seq n parts.0))
+        any) in
         (x.0, record { before = before; item = x; rest = xs; is = refl; holds = (refl, here) })
     by_test false on more tail = tail more
 
 two_further : (n view : ℕ) (before xs : List (ℕ × Vote)) → 2 ≤ length (votes_on n view xs) → Further (before ++ xs)
 two_further n view before [] some = absurd (omega arith)
 two_further n view before (x ∷ xs) some =
-    by_test (is_vote_on n view x.1) refl some (λ more. shifted before x xs (two_further n view (before ++ x ∷ []) xs more))
+    by_test (is_vote_on n view x.1) refl some
+    (λ more. shifted before x xs (two_further n view (before ++ x ∷ []) xs more))
   where
-    by_test : (b : Bool) → is_vote_on n view x.1 ≡ b → 2 ≤ length (cond b (x.1 ∷ votes_on n view xs) (votes_on n view xs)) → (2 ≤ length (votes_on n view xs) → Further (before ++ x ∷ xs)) → Further (before ++ x ∷ xs)
+    by_test : (b : Bool) → is_vote_on n view x.1 ≡ b
+        → 2 ≤ length (cond b (x.1 ∷ votes_on n view xs) (votes_on n view xs))
+        → (2 ≤ length (votes_on n view xs) → Further (before ++ x ∷ xs)) → Further (before ++ x ∷ xs)
     by_test true on more tail =
         let last : list_any (λ u. is_vote_on n view u.1) (x ∷ []) ≡ true = ap (λ (b : Bool). b || false) on in
         let still : list_any (λ u. is_vote_on n view u.1) (before ++ x ∷ []) ≡ true =
-        list_any-append (λ u. is_vote_on n view u.1) before (x ∷ []) ∙ ap (λ (b : Bool). list_any (λ u. is_vote_on n view u.1) before || b) last ∙ or-true (list_any (λ u. is_vote_on n view u.1) before) in
+        list_any-append (λ u. is_vote_on n view u.1) before (x ∷ [])
+        ∙ ap (λ (b : Bool). list_any (λ u. is_vote_on n view u.1) before || b) last
+        ∙ or-true (list_any (λ u. is_vote_on n view u.1) before) in
         shifted before x xs (one_further n view (before ++ x ∷ []) xs still (omega arith))
       where
         or-true : (b : Bool) → (b || true) ≡ true
@@ -152,25 +179,33 @@ two_further n view before (x ∷ xs) some =
         or-true false = refl
     by_test false on more tail = tail more
 
-pub votes_once : (t : Trace) → ((b : ℕ) → StandsInVotes code.TwoVotes t b → ⊥) → (v n view : ℕ) → length (filter (is_vote_on n view) (votes_of t v)) ≤ 1
+pub votes_once : (t : Trace) → ((b : ℕ) → StandsInVotes code.TwoVotes t b → ⊥) → (v n view : ℕ)
+    → length (filter (is_vote_on n view) (votes_of t v)) ≤ 1
 unfolding votes_at
 votes_once t none v n view = by_order (cases_lt 1 (length (filter (is_vote_on n view) (votes_of t v))))
   where
-    by_order : (1 < length (filter (is_vote_on n view) (votes_of t v))) ⊎ (length (filter (is_vote_on n view) (votes_of t v)) ≤ 1) → length (filter (is_vote_on n view) (votes_of t v)) ≤ 1
+    by_order : (1 < length (filter (is_vote_on n view) (votes_of t v)))
+        ⊎ (length (filter (is_vote_on n view) (votes_of t v)) ≤ 1)
+        → length (filter (is_vote_on n view) (votes_of t v)) ≤ 1
     by_order (inr few) = few
     by_order (inl many) =
-        let same = located_values (λ w. frame_text (OfVote w)) (verifier_start t v + length (frame_text (OfVerifier v))) (votes_of t v) in
-        let two : 2 ≤ length (votes_on n view (votes_at t v)) = subst (λ (ws : List Vote). 2 ≤ length (filter (is_vote_on n view) ws)) (sym same) (omega arith) in
+        let same = located_values (λ w. frame_text (OfVote w)) (verifier_start t v + length (frame_text (OfVerifier v)))
+        (votes_of t v) in
+        let two : 2 ≤ length (votes_on n view (votes_at t v)) =
+        subst (λ (ws : List Vote). 2 ≤ length (filter (is_vote_on n view) ws)) (sym same) (omega arith) in
         let further = two_further n view [] (votes_at t v) two in
         absurd (none further.0 (v, further.1))
 
-pub votes_sound : (t : Trace) (ds : List (Option Decision)) (again apart : Option ℕ) → Found t again apart → first_fault again apart ≡ None → AreDecisions t ds → AreVotesSound t
+pub votes_sound : (t : Trace) (ds : List (Option Decision)) (again apart : Option ℕ) → Found t again apart
+    → first_fault again apart ≡ None → AreDecisions t ds → AreVotesSound t
 votes_sound t ds again apart found none are =
     let both = none_found again apart none in
     record {
       once = votes_once t (none_below (StandsInVotes code.TwoVotes t) again both.0 found.again_least);
-      one_view = λ n view other token other_token d e. ap view_of (sym (are.all n view token d) ∙ are.all n other other_token e);
-      one_token = λ n view other token other_token d e. ap token_in (sym (are.all n view token d) ∙ are.all n other other_token e);
+      one_view = λ n view other token other_token d e. ap view_of
+          (sym (are.all n view token d) ∙ are.all n other other_token e);
+      one_token = λ n view other token other_token d e. ap token_in
+          (sym (are.all n view token d) ∙ are.all n other other_token e);
     }
   where
     view_of : Option (ℕ × List ℕ) → ℕ
@@ -183,18 +218,24 @@ votes_sound t ds again apart found none are =
 
 -- ---- what is decided
 
-pub decided_is : (t : Trace) (ds : List (Option Decision)) (n : ℕ) (x : Option (ℕ × List ℕ)) → AreDecisions t ds → decision_in ds n ≡ x → (view : ℕ) (token : List ℕ) → IsDecided t n view token ↔ (x ≡ Some (view, token))
+pub decided_is : (t : Trace) (ds : List (Option Decision)) (n : ℕ) (x : Option (ℕ × List ℕ)) → AreDecisions t ds
+    → decision_in ds n ≡ x → (view : ℕ) (token : List ℕ) → IsDecided t n view token ↔ (x ≡ Some (view, token))
 decided_is t ds n x are is view token = (
   λ decided. sym is ∙ are.all n view token decided,
-  λ e. (let known : IsKnown t n (view, token) = subst (λ (o : Option (ℕ × List ℕ)). IfSome o (IsKnown t n)) (is ∙ e) (are.known n) in known.decided),
+  λ e. (let known : IsKnown t n (view, token) = subst (λ (o : Option (ℕ × List ℕ)). IfSome o (IsKnown t n)) (is ∙ e)
+      (are.known n) in known.decided),
 )
 
 pub decision_past : (ds : List (Option Decision)) (n : ℕ) → nat_lt n (length ds) ≡ false → decision_in ds n ≡ None
 unfolding decision_in
 decision_past ds n past = ap (option_map said) (get_or_past ds n None (ltb-false n (length ds) past))
 
-pub decision_of : (ds : List (Option Decision)) (n : ℕ) (x : Option Decision) → nat_lt n (length ds) ≡ true → x ≡ get_or ds n x → decision_in ds n ≡ option_map said x
+pub decision_of : (ds : List (Option Decision)) (n : ℕ) (x : Option Decision) → nat_lt n (length ds) ≡ true
+    → x ≡ get_or ds n x → decision_in ds n ≡ option_map said x
 decision_of ds n x there read = decision_at ds n x (ltb-true n (length ds) there) read
 
-pub token_size : (t : Trace) (ds : List (Option Decision)) (n : ℕ) (d : ℕ × List ℕ) → AreDecisions t ds → decision_in ds n ≡ Some d → length d.1 ≡ 32
-token_size t ds n d are is = (let known : IsKnown t n d = subst (λ (o : Option (ℕ × List ℕ)). IfSome o (IsKnown t n)) is (are.known n) in known.token)
+pub token_size : (t : Trace) (ds : List (Option Decision)) (n : ℕ) (d : ℕ × List ℕ) → AreDecisions t ds
+    → decision_in ds n ≡ Some d → length d.1 ≡ 32
+token_size t ds n d are is =
+    (let known : IsKnown t n d = subst (λ (o : Option (ℕ × List ℕ)). IfSome o (IsKnown t n)) is (are.known n) in
+    known.token)

@@ -1,57 +1,102 @@
--- The votes, by batch, view and verifier.
-use Rattle.std.specs.Prelude.{◌≡◌, ℕ, ◌==◌, Bool, false, ◌&&◌, if◌then◌else◌, List, [], ◌∷◌, filter, Option, Some, None}
-use Rattle.std.specs.declared.cmp.Ordering.{Ordering}
-use Rattle.std.specs.Option.{option_map}
-use Rattle.std.specs.Ordering.{nat_cmp, ordering_then}
-use Rattle.std.specs.BTreeMap.{BTreeMap, get}
-use Rattle.eve_grammar.specs.Trace.{Choice, Vote, Trace}
+-- The votes of a trace, by batch, view and verifier.
+use Rattle.std.specs.Prelude.{◌≡◌, ◌≢◌, ℕ, ◌<◌, ◌≤◌, ◌-◌, ◌+◌, ◌==◌, nat_lt, Bool, ◌&&◌, ◌||◌, List, [], ◌∷◌, ◌++◌}
+use Rattle.std.specs.Prelude.{filter, Some, slice_get, slice_index_or, length, IsTrue}
+use Rattle.eve_grammar.specs.Trace.{Vote, Trace}
 use Rattle.eve_grammar.specs.Spelling.{votes_of}
-use Rattle.eve_grammar.specs.Bodies.{choice}
-use Rattle.eve_grammar.specs.declared.vote.Choice as chosen
-use Rattle.eve_votes.specs.Votes.{same_choice, is_vote_on}
+use Rattle.eve_votes.specs.Votes.{is_vote_on}
 use Rattle.eve_votes.specs.declared.ballots.Ballot.{Ballot}
 
--- by batch, then by view, then by verifier
-abbrev pub ballot_cmp : Ballot → Ballot → Ordering
-ballot_cmp a b = ordering_then (nat_cmp a.seq b.seq) (ordering_then (nat_cmp a.view b.view) (nat_cmp a.verifier b.verifier))
+abbrev pub ballot : ℕ → ℕ → Vote → Ballot
+ballot v place w = record { seq = w.seq; view = w.view; verifier = v; place = place }
 
-abbrev pub Ballots : Type 0
-Ballots = BTreeMap Ballot (Option chosen.Choice)
+-- a verifier's votes, the first of them at this place
+abbrev pub ballots_from : ℕ → ℕ → List Vote → List Ballot
+ballots_from v place [] = []
+ballots_from v place (w ∷ ws) = ballot v place w ∷ ballots_from v (place + 1) ws
 
--- what there is of some votes: nothing, what the only one is for, or more
-abbrev pub summary : List Vote → Option (Option Choice)
-summary [] = None
-summary (w ∷ []) = Some (Some w.choice)
-summary (w ∷ x ∷ ws) = Some None
+-- those of several verifiers, the first of them with this number
+abbrev pub ballots_among : ℕ → List (List Vote) → List Ballot
+ballots_among v [] = []
+ballots_among v (ws ∷ wss) = ballots_from v 0 ws ++ ballots_among (v + 1) wss
 
--- one more
-abbrev pub more : Option (Option Choice) → Choice → Option (Option Choice)
-more None c = Some (Some c)
-more (Some before) c = Some None
+-- all votes of a trace
+abbrev pub ballots_of : Trace → List Ballot
+ballots_of t = ballots_among 0 t.verifiers
 
--- there is one, and it is for this
-abbrev pub is_kept_for : Choice → Option (Option Choice) → Bool
-is_kept_for c None = false
-is_kept_for c (Some None) = false
-is_kept_for c (Some (Some kept)) = same_choice kept c
+-- both are a verifier's on one batch in one view
+abbrev pub is_alike : Ballot → Ballot → Bool
+is_alike a b = (a.seq == b.seq) && ((a.view == b.view) && (a.verifier == b.verifier))
 
--- what is kept of a verifier's votes on a batch in a view
-unfoldable pub kept_in : Ballots → ℕ → ℕ → ℕ → Option (Option Choice)
-kept_in m n view v = option_map (option_map choice) (get ballot_cmp m (record { seq = n; view = view; verifier = v }))
+-- there is one at this place, and it is alike
+abbrev pub is_at : List Ballot → ℕ → Ballot → Bool
+is_at xs i b = nat_lt i (length xs) && is_alike (slice_index_or xs i b) b
 
-abbrev pub is_ballot : Ballot → ℕ → ℕ → ℕ → Bool
-is_ballot b n view v = (b.seq == n) && ((b.view == view) && (b.verifier == v))
+-- on an earlier batch, or on the same in an earlier view
+abbrev pub is_lower : ℕ → ℕ → Ballot → Bool
+is_lower n view b = nat_lt b.seq n || ((b.seq == n) && nat_lt b.view view)
 
--- one more vote on the ballot, and nothing else, was noted
-abbrev pub IsNoted : Ballots → Ballots → Ballot → Choice → Type 0
-IsNoted old new b c =
-    (n view v : ℕ) → kept_in new n view v ≡ (if is_ballot b n view v then more (kept_in old n view v) c else kept_in old n view v)
+-- the one comes before the other: by batch, then by view, then by verifier
+pub record IsBefore (a b : Ballot) : Type 0 where
+  pub seq : a.seq ≤ b.seq
+  pub view : b.seq ≤ a.seq → a.view ≤ b.view
+  pub verifier : b.seq ≤ a.seq → b.view ≤ a.view → a.verifier < b.verifier
 
--- the votes of the trace were noted
-abbrev pub HasCast : Trace → Ballots → Type 0
-HasCast t m = (n view v : ℕ) → kept_in m n view v ≡ summary (filter (is_vote_on n view) (votes_of t v))
+-- the one doesn't come after the other: by batch, then by view, then by verifier, then by place
+pub record IsNotAfter (a b : Ballot) : Type 0 where
+  pub seq : a.seq ≤ b.seq
+  pub view : b.seq ≤ a.seq → a.view ≤ b.view
+  pub verifier : b.seq ≤ a.seq → b.view ≤ a.view → a.verifier ≤ b.verifier
+  pub place : b.seq ≤ a.seq → b.view ≤ a.view → b.verifier ≤ a.verifier → a.place ≤ b.place
 
--- so were those of one verifier, and nothing else
-abbrev pub CastsOf : Trace → ℕ → Ballots → Ballots → Type 0
-CastsOf t v old new =
-    (n view u : ℕ) → kept_in new n view u ≡ (if u == v then summary (filter (is_vote_on n view) (votes_of t v)) else kept_in old n view u)
+-- each stands so to each that is behind it
+abbrev pub AreInOrder : (Ballot → Ballot → Type 0) → List Ballot → Type 0
+AreInOrder R xs = (i j : ℕ) (a b : Ballot) → i < j → slice_get xs i ≡ Some a → slice_get xs j ≡ Some b → R a b
+
+-- here the votes on the batch in this view begin, of this verifier and those after it
+pub record IsStart (xs : List Ballot) (start n view v : ℕ) : Type 0 where
+  pub before : (i : ℕ) (b : Ballot) → i < start → slice_get xs i ≡ Some b →
+      IsBefore b (record { seq = n; view = view; verifier = v; place = 0 })
+  pub behind : (i : ℕ) (b : Ballot) → start ≤ i → slice_get xs i ≡ Some b →
+      IsNotAfter (record { seq = n; view = view; verifier = v; place = 0 }) b
+
+-- the vote at this place and the one before it are a verifier's on one batch in one view
+pub record Follows (xs : List Ballot) (i : ℕ) : Type 0 where
+  pub some : 1 ≤ i
+  pub former : Ballot
+  pub later : Ballot
+  pub former_is : slice_get xs (i - 1) ≡ Some former
+  pub later_is : slice_get xs i ≡ Some later
+  pub alike : IsTrue (is_alike former later)
+
+-- it is one of the votes of the trace
+pub record IsVoteOf (t : Trace) (b : Ballot) : Type 0 where
+  pub vote : Vote
+  pub there : slice_get (votes_of t b.verifier) b.place ≡ Some vote
+  pub seq : vote.seq ≡ b.seq
+  pub view : vote.view ≡ b.view
+
+-- these are the votes of the trace, each once, in order
+pub record HasVotes (t : Trace) (xs : List Ballot) : Type 0 where
+  pub each : (i : ℕ) (b : Ballot) → slice_get xs i ≡ Some b → IsVoteOf t b
+  pub all : (v place : ℕ) (w : Vote) → slice_get (votes_of t v) place ≡ Some w → (i : ℕ) ×
+      (slice_get xs i ≡ Some (ballot v place w))
+  pub once : (i j : ℕ) (a b : Ballot) → i < j → slice_get xs i ≡ Some a → slice_get xs j ≡ Some b →
+      a.verifier ≡ b.verifier → a.place ≢ b.place
+  pub order : AreInOrder IsNotAfter xs
+
+-- it is one of the votes of the trace, and its verifier's only one on the batch in this view
+pub record IsOnly (t : Trace) (b : Ballot) : Type 0 where
+  pub vote : Vote
+  pub there : slice_get (votes_of t b.verifier) b.place ≡ Some vote
+  pub only : filter (is_vote_on b.seq b.view) (votes_of t b.verifier) ≡ vote ∷ []
+
+-- the only vote of this verifier on the batch in this view is at some place
+abbrev pub IsAmong : List Ballot → ℕ → ℕ → ℕ → Type 0
+IsAmong xs n view v = (i : ℕ) × (b : Ballot) × (slice_get xs i ≡ Some b) × (b.seq ≡ n) × (b.view ≡ view) ×
+    (b.verifier ≡ v)
+
+-- these are the votes of the trace that are the only ones of their verifier on the batch in this view, in order
+pub record HasCast (t : Trace) (xs : List Ballot) : Type 0 where
+  pub each : (i : ℕ) (b : Ballot) → slice_get xs i ≡ Some b → IsOnly t b
+  pub all : (n view v : ℕ) (w : Vote) → filter (is_vote_on n view) (votes_of t v) ≡ w ∷ [] → IsAmong xs n view v
+  pub order : AreInOrder IsBefore xs

@@ -51,7 +51,8 @@ pub record IsFound (t : Trace) (ds : List (Option Decision)) (least : Option ℕ
 
 -- what the vote is for was found, if it is decided as commit
 abbrev pub Agrees : Trace → List (Option Decision) → Option ℕ → Vote → Type 0
-Agrees t ds least w = (token : List ℕ) → w.choice ≡ ForCommit token → IsDecided t w.seq w.view token → IsFound t ds least w.seq w.view
+Agrees t ds least w = (token : List ℕ) → w.choice ≡ ForCommit token → IsDecided t w.seq w.view token
+    → IsFound t ds least w.seq w.view
 
 -- the decisions are those of the trace
 pub record AreDecisions (t : Trace) (ds : List (Option Decision)) : Type 0 where

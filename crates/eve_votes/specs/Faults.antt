@@ -42,5 +42,7 @@ pub record IsVoteFault (t : Trace) (f : Fault) : Type 0 where
 -- is decided as commit in one view, with one token
 pub record AreVotesSound (t : Trace) : Type 0 where
   pub once : (v n view : ℕ) → length (filter (is_vote_on n view) (votes_of t v)) ≤ 1
-  pub one_view : (n view other : ℕ) (token other_token : List ℕ) → IsDecided t n view token → IsDecided t n other other_token → view ≡ other
-  pub one_token : (n view other : ℕ) (token other_token : List ℕ) → IsDecided t n view token → IsDecided t n other other_token → token ≡ other_token
+  pub one_view : (n view other : ℕ) (token other_token : List ℕ) → IsDecided t n view token
+      → IsDecided t n other other_token → view ≡ other
+  pub one_token : (n view other : ℕ) (token other_token : List ℕ) → IsDecided t n view token
+      → IsDecided t n other other_token → token ≡ other_token

@@ -12,4 +12,5 @@ abbrev pub first_fault : Option ℕ → Option ℕ → Option Fault
 first_fault None None = None
 first_fault (Some again) None = Some (outside code.TwoVotes again)
 first_fault None (Some apart) = Some (outside code.TwoDecisions apart)
-first_fault (Some again) (Some apart) = if nat_lt apart again then Some (outside code.TwoDecisions apart) else Some (outside code.TwoVotes again)
+first_fault (Some again) (Some apart) = if nat_lt apart again then Some (outside code.TwoDecisions apart) else Some
+    (outside code.TwoVotes again)

@@ -6,5 +6,5 @@ use Rattle.eve_votes.specs.declared.tally.Tally.TheInside.{Inside}
 
 -- the votes and the decisions of the trace
 pub record IsTally (x : Inside) : Type 0 where
-  pub cast : HasCast (whole x.trace.now) x.ballots
+  pub cast : HasCast (whole x.trace.now) x.ballots.items
   pub decisions : AreDecisions (whole x.trace.now) x.decisions.items

@@ -1,43 +1,67 @@
-//! The votes, by batch, view and verifier.
+//! The votes of a trace, by batch, view and verifier.
 
-ghost use Rattle.std.specs.Prelude.{◌≡◌, IfOk, OnOk, IfErr, is_some};
+ghost use Rattle.std.specs.Prelude.{◌≡◌, ◌<◌, Some, length, slice_get};
 ghost use Rattle.eve_grammar.specs.Bodies.{choice as choice_of};
+ghost use Rattle.eve_grammar.specs.Spelling.{votes_at, votes_of};
+ghost use Rattle.eve_frames.specs.Views.{vote_in};
 ghost use Rattle.eve_views.specs.Fronts.{whole};
-ghost use Rattle.eve_views.specs.declared.fault.CheckFault.TheVariants.{Memory};
 ghost use Rattle.eve_votes.specs.Votes.{same_choice, backers};
-ghost use Rattle.eve_votes.specs.Ballots.{kept_in, is_kept_for, IsNoted, HasCast};
+ghost use Rattle.eve_votes.specs.Ballots.{is_alike, is_at, is_lower, IsBefore, AreInOrder, IsStart, HasCast};
 
+use eve_frames::VoteView;
 use eve_grammar::Choice;
-use eve_views::{CheckFault, Trace};
-use std::collections::BTreeMap;
+use eve_views::Trace;
 
-/// Who votes on what: a verifier, by its number from 0, on a batch in a view.
+/// A vote: on which batch and view, of which verifier, by its number from 0, and at which place among that one's votes.
 #[derive(Clone, Copy, PartialEq, Eq, PartialOrd, Ord)]
 pub(crate) struct Ballot {
     pub seq: u32,
     pub view: u32,
     pub verifier: u8,
+    pub place: usize,
 }
 
-/// What each voted for where it voted once, and `None` where it voted more often.
-pub(crate) type Ballots<'a> = BTreeMap<Ballot, Option<Choice<'a>>>;
-
-/// Notes a vote: whether there was one on this ballot before.
-pub(crate) fn note<'a>(
-    ballots: &mut Ballots<'a>,
-    ballot: Ballot,
-    choice: Choice<'a>,
-) -> Result<bool, CheckFault>
-    ensures again { IfOk result (λ again. again ≡ is_some (kept_in ballots.old ballot.seq ballot.view ballot.verifier)) }
-    ensures noted { OnOk result (IsNoted ballots.old ballots.new ballot (choice_of choice.entry)) }
-    ensures memory { IfErr result (λ e. e ≡ Memory) }
+/// Whether two votes are a verifier's on one batch in one view.
+pub(crate) fn is_alike(a: &Ballot, b: &Ballot) -> bool
+    ensures { result ≡ is_alike a.now b.now }
 {
-    let before = ballots.insert(ballot, Some(choice))?;
-    if before.is_none() {
-        return Ok(false);
-    }
-    ballots.insert(ballot, None)?;
-    Ok(true)
+    a.seq == b.seq && a.view == b.view && a.verifier == b.verifier
+}
+
+/// Whether a vote is on an earlier batch, or on the same in an earlier view.
+fn is_lower(ballot: &Ballot, seq: u32, view: u32) -> bool
+    ensures { result ≡ is_lower seq view ballot.now }
+{
+    ballot.seq < seq || (ballot.seq == seq && ballot.view < view)
+}
+
+/// The vote as it stands in the trace.
+pub(crate) fn vote_at<'a>(trace: &Trace<'a>, ballot: Ballot) -> VoteView<'a>
+    requires verifier { ballot.verifier < length (whole trace.now).verifiers }
+    requires place { ballot.place < length (votes_of (whole trace.now) ballot.verifier) }
+    ensures { slice_get (votes_at (whole trace.now) ballot.verifier) ballot.place
+        ≡ Some (result.offset, vote_in result.bytes.now) }
+{
+    trace.votes(ballot.verifier).get(ballot.place)
+}
+
+/// Where the votes on the batch in this view begin.
+fn start_of(ballots: &[Ballot], seq: u32, view: u32) -> usize
+    requires { AreInOrder IsBefore ballots.now }
+    ensures { IsStart ballots.now result seq view 0 }
+{
+    ballots.partition_point(
+        |ballot: &Ballot| -> bool
+            ensures { result ≡ is_lower seq view ballot.now }
+        { is_lower(ballot, seq, view) },
+    )
+}
+
+/// Whether the vote at this place is of the same verifier as another, on the same batch in the same view.
+fn is_at(ballots: &[Ballot], at: usize, ballot: Ballot) -> bool
+    ensures { result ≡ is_at ballots.now at ballot }
+{
+    at < ballots.len() && is_alike(&ballots[at], &ballot)
 }
 
 /// Whether two votes are for the same.
@@ -53,23 +77,10 @@ fn is_same(a: Choice<'_>, b: Choice<'_>) -> bool
     }
 }
 
-/// Whether there is one vote on the ballot, and it is for this.
-fn is_for(ballots: &Ballots<'_>, ballot: Ballot, choice: Choice<'_>) -> bool
-    ensures { result ≡ is_kept_for (choice_of choice.entry) (kept_in ballots.now ballot.seq ballot.view ballot.verifier) }
-{
-    let Some(kept) = ballots.get(&ballot) else {
-        return false;
-    };
-    match *kept {
-        Some(kept) => is_same(kept, choice),
-        None => false,
-    }
-}
-
 /// How many verifiers have exactly one vote on the batch in this view, and it is for this.
 pub(crate) fn backers(
     trace: &Trace<'_>,
-    ballots: &Ballots<'_>,
+    ballots: &[Ballot],
     seq: u32,
     view: u32,
     choice: Choice<'_>,
@@ -79,18 +90,20 @@ pub(crate) fn backers(
 {
     trace.is_whole();
     let verifiers = trace.head().verifiers;
+    let mut at = start_of(ballots, seq, view);
     let mut count: u8 = 0;
     for verifier in 0..verifiers {
-        if is_for(
-            ballots,
-            Ballot {
-                seq,
-                view,
-                verifier,
-            },
-            choice,
-        ) {
-            count += 1;
+        let wanted = Ballot {
+            seq,
+            view,
+            verifier,
+            place: 0,
+        };
+        if is_at(ballots, at, wanted) {
+            if is_same(vote_at(trace, ballots[at]).choice(), choice) {
+                count += 1;
+            }
+            at += 1;
         }
     }
     count

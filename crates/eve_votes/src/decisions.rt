@@ -14,7 +14,7 @@ ghost use Rattle.eve_votes.specs.Least.{Lowers, IsBelowAll};
 ghost use Rattle.eve_votes.specs.Ballots.{HasCast};
 ghost use Rattle.eve_votes.specs.Decisions.{Judging, Keeps, Agrees, AreDecisions};
 
-use crate::ballots::{Ballots, backers};
+use crate::ballots::{Ballot, backers};
 use crate::least::lower;
 use eve_frames::VoteView;
 use eve_grammar::Choice;
@@ -30,7 +30,7 @@ pub(crate) struct Decision<'a> {
 /// Whether a quorum of verifiers has exactly one vote on the batch in this view, and it is for this.
 pub(crate) fn is_backed(
     trace: &Trace<'_>,
-    ballots: &Ballots<'_>,
+    ballots: &[Ballot],
     seq: u32,
     view: u32,
     choice: Choice<'_>,
@@ -47,7 +47,7 @@ pub(crate) fn is_backed(
 /// offset of those found so far and of the batch, where it is decided in another view than was noted.
 fn judge<'a>(
     trace: &Trace<'a>,
-    ballots: &Ballots<'a>,
+    ballots: &[Ballot],
     decisions: &mut Vec<Option<Decision<'a>>>,
     vote: VoteView<'a>,
     least: Option<u64>,
@@ -85,7 +85,7 @@ fn judge<'a>(
 /// Judges the votes of a verifier.
 fn judge_votes<'a>(
     trace: &Trace<'a>,
-    ballots: &Ballots<'a>,
+    ballots: &[Ballot],
     decisions: &mut Vec<Option<Decision<'a>>>,
     verifier: u8,
     least: Option<u64>,
@@ -113,7 +113,7 @@ fn judge_votes<'a>(
 /// votes are judged.
 pub(crate) fn decide<'a>(
     trace: &Trace<'a>,
-    ballots: &Ballots<'a>,
+    ballots: &[Ballot],
     decisions: &mut Vec<Option<Decision<'a>>>,
 ) -> Option<u64>
     requires cast { HasCast (whole trace.now) ballots.now }

@@ -10,13 +10,12 @@ ghost use Rattle.eve_votes.specs.Votes.{backers, IsDecided, IsRolledBack};
 ghost use Rattle.eve_votes.specs.Faults.{IsVoteFault, AreVotesSound};
 ghost use Rattle.eve_votes.specs.First.{first_fault, outside};
 
-use crate::ballots::{Ballots, backers};
+use crate::ballots::{Ballot, backers};
 use crate::decisions::{Decision, decide, is_backed};
-use crate::voting::cast;
+use crate::voting::{cast, sift};
 use eve_grammar::Choice;
 use eve_views::{CheckFault, Code, Fault, Trace};
 use std::alloc::{AllocError, Global};
-use std::collections::BTreeMap;
 use std::marker::Model;
 
 /// The votes of a trace, counted.
@@ -26,7 +25,7 @@ use std::marker::Model;
 #[derive(Drop)]
 pub struct Tally<'t, 'a> {
     trace: &'t Trace<'a>,
-    ballots: Ballots<'a>,
+    ballots: Vec<Ballot>,
     decisions: Vec<Option<Decision<'a>>>,
 }
 
@@ -94,17 +93,18 @@ impl<'t, 'a> Tally<'t, 'a> {
     /// Counts the votes, or finds the first fault of votes.
     ///
     /// docs/MODEL.md, "Faults": a further vote of a verifier on a batch in a view stands at that Vote, two views
-    /// of a batch decided as commit stand at the Batch. Two passes over the votes; each looks up a vote in a tree,
-    /// so the time is that of a sort, also where all votes are on one batch. Want of memory decides nothing.
+    /// of a batch decided as commit stand at the Batch. The votes are sorted once; then each is looked at once, and
+    /// those for a commit are counted with the others on their batch in their view. Want of memory decides nothing.
     pub fn of(alloc: Global, trace: &'t Trace<'a>) -> Result<Tally<'t, 'a>, CheckFault>
         ensures trace { IfOk result (λ tally. tally ≡ whole trace.now) }
         ensures sound { IfOk result (λ _. AreVotesSound (whole trace.now)) }
         ensures none { IfOk result (λ _. HasNone (IsVoteFault (whole trace.now))) }
         ensures least { IfErr result (λ e. IfFound e (IsLeast (IsVoteFault (whole trace.now)))) }
     {
-        let mut ballots = BTreeMap::new(alloc);
         trace.is_whole();
-        let again = cast(trace, &mut ballots)?;
+        let cast = cast(alloc, trace)?;
+        let mut ballots = Vec::with_capacity(alloc, cast.len())?;
+        let again = sift(trace, &cast, &mut ballots)?;
         let mut decisions = none_decided(alloc, trace.head().batches)?;
         let apart = decide(trace, &ballots, &mut decisions);
         match first_fault(again, apart) {

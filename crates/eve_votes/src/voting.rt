@@ -1,65 +1,87 @@
 //! The votes as they stand in a trace.
 
-ghost use Rattle.std.specs.Prelude.{◌≡◌, ◌<◌, ℕ, length, IfOk, OnOk, IfErr, IfSome, None};
+ghost use Rattle.std.specs.Prelude.{◌≡◌, ◌↔◌, ◌<◌, ◌++◌, [], IsTrue, length, IfOk, OnOk, IfSome};
 ghost use Rattle.eve_views.specs.Fronts.{whole};
 ghost use Rattle.eve_views.specs.declared.fault.Code.TheVariants.{TwoVotes};
-ghost use Rattle.eve_views.specs.declared.fault.CheckFault.TheVariants.{Memory};
-ghost use Rattle.eve_grammar.specs.Spelling.{votes_at};
-ghost use Rattle.eve_votes.specs.Faults.{StandsInVotes, IsFurtherAt};
-ghost use Rattle.eve_votes.specs.Least.{Lowers, IsBelowAll};
-ghost use Rattle.eve_votes.specs.Ballots.{kept_in, HasCast, CastsOf};
+ghost use Rattle.eve_grammar.specs.Spelling.{votes_of};
+ghost use Rattle.eve_votes.specs.Faults.{StandsInVotes};
+ghost use Rattle.eve_votes.specs.Least.{IsBelowAll};
+ghost use Rattle.eve_votes.specs.Ballots.{ballots_from, ballots_of, Follows, HasVotes, HasCast};
 
-use crate::ballots::{Ballot, Ballots, note};
+use crate::ballots::{Ballot, is_alike, vote_at};
 use crate::least::lower;
-use eve_views::{CheckFault, Trace};
+use eve_views::Trace;
+use std::alloc::{AllocError, Global};
 
-/// Notes the votes of a verifier. Gives the least offset of those found so far and of its further votes.
-fn cast_of<'a>(
-    trace: &Trace<'a>,
-    ballots: &mut Ballots<'a>,
-    verifier: u8,
-    least: Option<u64>,
-) -> Result<Option<u64>, CheckFault>
-    requires there { verifier < length (whole trace.now).verifiers }
-    requires fresh { (n view : ℕ) → kept_in ballots.old n view verifier ≡ None }
-    requires stood { IfSome least (StandsInVotes TwoVotes (whole trace.now)) }
-    ensures cast { OnOk result (CastsOf (whole trace.now) verifier ballots.old ballots.new) }
-    ensures stands { IfOk result (λ r. IfSome r (StandsInVotes TwoVotes (whole trace.now))) }
-    ensures lowers { IfOk result (Lowers least) }
-    ensures all { IfOk result (IsBelowAll (IsFurtherAt (votes_at (whole trace.now) verifier))) }
-    ensures memory { IfErr result (λ e. e ≡ Memory) }
+/// Appends the votes of a verifier.
+fn append(trace: &Trace<'_>, ballots: &mut Vec<Ballot>, verifier: u8) -> Result<(), AllocError>
+    requires { verifier < length (whole trace.now).verifiers }
+    ensures { OnOk result (ballots.new.items
+        ≡ ballots.old.items ++ ballots_from verifier 0 (votes_of (whole trace.now) verifier)) }
 {
-    let mut least = least;
     let votes = trace.votes(verifier);
-    for i in 0..votes.len() {
-        let vote = votes.get(i);
-        let ballot = Ballot {
+    ballots.reserve(votes.len())?;
+    for place in 0..votes.len() {
+        let vote = votes.get(place);
+        ballots.push(Ballot {
             seq: vote.seq(),
             view: vote.view(),
             verifier,
-        };
-        if note(ballots, ballot, vote.choice())? {
-            least = lower(least, vote.offset());
-        }
+            place,
+        })?;
     }
-    Ok(least)
+    Ok(())
 }
 
-/// Notes all votes of a trace. Gives the least offset of a further vote.
-pub(crate) fn cast<'a>(
-    trace: &Trace<'a>,
-    ballots: &mut Ballots<'a>,
-) -> Result<Option<u64>, CheckFault>
-    requires fresh { (n view v : ℕ) → kept_in ballots.old n view v ≡ None }
-    ensures cast { OnOk result (HasCast (whole trace.now) ballots.new) }
-    ensures stands { IfOk result (λ r. IfSome r (StandsInVotes TwoVotes (whole trace.now))) }
-    ensures all { IfOk result (IsBelowAll (StandsInVotes TwoVotes (whole trace.now))) }
-    ensures memory { IfErr result (λ e. e ≡ Memory) }
+/// The votes of all verifiers.
+fn votes_in(alloc: Global, trace: &Trace<'_>) -> Result<Vec<Ballot>, AllocError>
+    ensures { IfOk result (λ ballots. ballots.items ≡ ballots_of (whole trace.now)) }
 {
     trace.is_whole();
-    let mut least = None;
+    let mut ballots = Vec::new(alloc);
     for verifier in 0..trace.head().verifiers {
-        least = cast_of(trace, ballots, verifier, least)?;
+        append(trace, &mut ballots, verifier)?;
+    }
+    Ok(ballots)
+}
+
+/// The votes of all verifiers, by batch, then by view, then by verifier, then as they stand.
+pub(crate) fn cast(alloc: Global, trace: &Trace<'_>) -> Result<Vec<Ballot>, AllocError>
+    ensures { IfOk result (λ ballots. HasVotes (whole trace.now) ballots.items) }
+{
+    let mut ballots = votes_in(alloc, trace)?;
+    ballots.as_mut_slice().sort_unstable();
+    Ok(ballots)
+}
+
+/// Whether the vote at this place is of the verifier that has the one before it, on the same batch in the same view.
+fn follows(ballots: &[Ballot], i: usize) -> bool
+    ensures { IsTrue result ↔ Follows ballots.now i }
+{
+    i > 0 && i < ballots.len() && is_alike(&ballots[i - 1], &ballots[i])
+}
+
+/// Finds the votes that are a verifier's only ones on their batch in their view. Gives the least offset of the others,
+/// the first of each kind left out.
+pub(crate) fn sift(
+    trace: &Trace<'_>,
+    ballots: &[Ballot],
+    only: &mut Vec<Ballot>,
+) -> Result<Option<u64>, AllocError>
+    requires cast { HasVotes (whole trace.now) ballots.now }
+    requires none { only.old.items ≡ [] }
+    ensures only { OnOk result (HasCast (whole trace.now) only.new.items) }
+    ensures stands { IfOk result (λ r. IfSome r (StandsInVotes TwoVotes (whole trace.now))) }
+    ensures all { IfOk result (IsBelowAll (StandsInVotes TwoVotes (whole trace.now))) }
+{
+    let mut least = None;
+    for i in 0..ballots.len() {
+        let ballot = ballots[i];
+        if follows(ballots, i) {
+            least = lower(least, vote_at(trace, ballot).offset());
+        } else if !follows(ballots, i + 1) {
+            only.push(ballot)?;
+        }
     }
     Ok(least)
 }

@@ -10,4 +10,5 @@ pub returns : goal.returns
 unfolding flat_token token_of
 returns c = λ replies spelled.
     c.finalize.ensures _ (c.update.ensures _ c.hash_balances-hasher.ensures)
-    ∙ ap (λ (r : List ℕ). sha256 (codes "EVESB1" ++ (big_bytes 4 c.args.seq ++ (flat_map money_text c.args.balances.now ++ r)))) spelled
+    ∙ ap (λ (r : List ℕ). sha256
+    (codes "EVESB1" ++ (big_bytes 4 c.args.seq ++ (flat_map money_text c.args.balances.now ++ r)))) spelled

@@ -5,4 +5,8 @@ use Rattle.eve_agree.proofs.agreement.advance.Goals as goal
 pub returns-else-n-committed : goal.returns-else-n-committed
 returns-else-n-committed c =
     let past : length c.args.settled.now.batches < c.args.n = omega arith in
-    record { rows = c.requires.before.rows; values = c.requires.before.values ∙ values_past c.args.settled.now c.args.n past }
+    record {
+      rows = c.requires.before.rows;
+      values = c.requires.before.values
+          ∙ values_past c.args.settled.now c.args.n past;
+    }

@@ -5,4 +5,7 @@ use Rattle.eve_agree.proofs.Agreeing.{Judged}
 use Rattle.eve_agree.proofs.agreement.equal_balances.Given as goal
 
 abbrev pub invariant-loop-n : goal.invariant-loop-n
-invariant-loop-n l = record { after : AreAfter (settlings (whole l.trace)) l.n l.all.items; judged : Judged (whole l.trace) l.n l.least }
+invariant-loop-n l = record {
+  after : AreAfter (settlings (whole l.trace)) l.n l.all.items;
+  judged : Judged (whole l.trace) l.n l.least;
+}

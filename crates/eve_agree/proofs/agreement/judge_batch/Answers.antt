@@ -5,23 +5,27 @@ use Rattle.eve_frames.specs.Views.{attempt_in}
 use Rattle.eve_views.specs.Fronts.{whole}
 use Rattle.eve_agree.specs.Agreement.{HaveSameOutcome}
 use Rattle.eve_agree.specs.Judging.{lower}
-use Rattle.eve_agree.proofs.Outcomes.{telling_is, tellings_count, settlings_count, last_told, outcome_of, replica_told, all_balances, same_outcome, outcome_same}
-use Rattle.eve_agree.proofs.Agreeing.{InBatch, batch_start, batch_more, batch_end, judged_none, judged_same, judged_apart, differs, lower_lowers, lower_stands}
+use Rattle.eve_agree.proofs.Outcomes.{section_history_is, section_histories_count, settlings_count, last_told}
+use Rattle.eve_agree.proofs.Outcomes.{outcome_of, replica_told, all_balances, same_outcome, outcome_same}
+use Rattle.eve_agree.proofs.Agreeing.{InBatch, batch_start, batch_more, batch_end, judged_none, judged_same}
+use Rattle.eve_agree.proofs.Agreeing.{judged_apart, differs, lower_lowers, lower_stands}
 use Rattle.eve_agree.proofs.agreement.judge_batch.Goals as goal
-use Rattle.eve_agree.proofs.agreement.judge_batch.Goals.{then-n-committed+then-not-is_same, then-n-committed+else-not-is_same, else-n-committed}
+use Rattle.eve_agree.proofs.agreement.judge_batch.Goals.{then-n-committed+then-not-is_same}
+use Rattle.eve_agree.proofs.agreement.judge_batch.Goals.{then-n-committed+else-not-is_same, else-n-committed}
 
 pub loop-e-init : goal.loop-e-init
 loop-e-init c =
     let t = whole c.args.trace.now in
     let there = slice_get_within c.args.histories.now c.in-Some.first _ c.in-Some.ensures.there.1 in
-    let count = ap length c.requires.histories ∙ tellings_count t in
-    batch_start t c.args.least c.args.n c.in-Some.first c.args.histories.now c.requires.histories c.requires.right c.requires.stand c.in-Some.ensures.before (omega arith)
+    let count = ap length c.requires.histories ∙ section_histories_count t in
+    batch_start t c.args.least c.args.n c.in-Some.first c.args.histories.now c.requires.histories c.requires.right
+    c.requires.stand c.in-Some.ensures.before (omega arith)
     (sym (c.in-Some.ensures.is t c.requires.histories))
 
 pub bounds-all-e : goal.bounds-all-e
 bounds-all-e c =
     let t = whole c.args.trace.now in
-    let count = ap length c.requires.histories ∙ tellings_count t in
+    let count = ap length c.requires.histories ∙ section_histories_count t in
     let many = c.requires.after.as_many ∙ settlings_count t in
     omega (arith, c.loop-e-test.true)
 
@@ -29,7 +33,7 @@ pub bounds-all-first : goal.bounds-all-first
 bounds-all-first c =
     let t = whole c.args.trace.now in
     let there = slice_get_within c.args.histories.now c.in-Some.first _ c.in-Some.ensures.there.1 in
-    let count = ap length c.requires.histories ∙ tellings_count t in
+    let count = ap length c.requires.histories ∙ section_histories_count t in
     let many = c.requires.after.as_many ∙ settlings_count t in
     omega arith
 
@@ -41,48 +45,71 @@ loop-e-preserved c =
     let f = c.in-Some.first in
     let n = c.args.n in
     let before = c.loop-e.least in
-    let count = ap length c.requires.histories ∙ tellings_count t in
+    let count = ap length c.requires.histories ∙ section_histories_count t in
     let f_got = c.in-Some.ensures.there.1 in
     let f_there : f < length hs = slice_get_within hs f _ f_got in
-    let f_told = telling_is t hs f c.index-histories-first.result c.requires.histories (slice_get_read hs (length hs) f c.index-histories-first.result refl f_there c.index-histories-first.is) in
-    let e_told = telling_is t hs e c.index-histories-e.result c.requires.histories (slice_get_read hs (length hs) e c.index-histories-e.result refl c.loop-e-test.true c.index-histories-e.is) in
+    let f_told = section_history_is t hs f c.index-histories-first.result c.requires.histories
+    (slice_get_read hs (length hs) f c.index-histories-first.result refl f_there c.index-histories-first.is) in
+    let e_told = section_history_is t hs e c.index-histories-e.result c.requires.histories
+    (slice_get_read hs (length hs) e c.index-histories-e.result refl c.loop-e-test.true c.index-histories-e.is) in
     let first = sym (c.in-Some.ensures.is t c.requires.histories) in
     let reference = c.committed_attempt-reference.result in
-    let other = outcome_of t f n reference.offset (attempt_in reference.bytes.now) c.index-histories-first.result f_told c.requires.one c.committed_attempt-reference.ensures in
+    let other = outcome_of t f n reference.offset (attempt_in reference.bytes.now) c.index-histories-first.result f_told
+    c.requires.one c.committed_attempt-reference.ensures in
     elim c.if-n-committed.branch [
       | then-n-committed+then-not-is_same w ↦
           let v = w.committed_attempt-attempt.result in
-          let again = telling_is t hs e w.index-histories-e-then-n-committed.result c.requires.histories (slice_get_read hs (length hs) e w.index-histories-e-then-n-committed.result refl c.loop-e-test.true w.index-histories-e-then-n-committed.is) in
-          let own = outcome_of t e n v.offset (attempt_in v.bytes.now) w.index-histories-e-then-n-committed.result again c.requires.one w.committed_attempt-attempt.ensures in
-          let b = all_balances t e n c.args.all.now w.index-all-e.result c.requires.after (c.requires.law e) (omega (arith, c.loop-e-test.true)) w.index-all-e.is in
-          let r = all_balances t f n c.args.all.now w.index-all-first.result c.requires.after (c.requires.law f) (omega arith) w.index-all-first.is in
+          let again = section_history_is t hs e w.index-histories-e-then-n-committed.result c.requires.histories
+          (slice_get_read hs (length hs) e w.index-histories-e-then-n-committed.result refl c.loop-e-test.true
+          w.index-histories-e-then-n-committed.is) in
+          let own = outcome_of t e n v.offset (attempt_in v.bytes.now) w.index-histories-e-then-n-committed.result again
+          c.requires.one w.committed_attempt-attempt.ensures in
+          let b = all_balances t e n c.args.all.now w.index-all-e.result c.requires.after (c.requires.law e)
+          (omega (arith, c.loop-e-test.true)) w.index-all-e.is in
+          let r = all_balances t f n c.args.all.now w.index-all-first.result c.requires.after (c.requires.law f)
+          (omega arith) w.index-all-first.is in
           let apart : ¬ HaveSameOutcome t e f n =
-          λ same. let yes : IsTrue w.is_same.result = w.is_same.ensures.1 (outcome_same t e f n v.offset reference.offset _ _ w.index-all-e.result w.index-all-first.result own other b r same) in search rules in
-          let told = telling_is t hs e w.index-histories-e-then-not-is_same.result c.requires.histories (slice_get_read hs (length hs) e w.index-histories-e-then-not-is_same.result refl c.loop-e-test.true w.index-histories-e-then-not-is_same.is) in
-          let replica : w.replica.result ≡ e = w.replica.ensures ∙ replica_told t e w.index-histories-e-then-not-is_same.result told in
-          let is : c.if-n-committed.least ≡ lower before v.offset e = w.least-is ∙ w.lower-least.ensures ∙ (λ k. lower before (w.offset.ensures k) (replica k)) in
+          λ same. let yes : IsTrue w.is_same.result =
+          w.is_same.ensures.1 (outcome_same t e f n v.offset reference.offset _ _ w.index-all-e.result
+          w.index-all-first.result own other b r same) in search rules in
+          let told = section_history_is t hs e w.index-histories-e-then-not-is_same.result c.requires.histories
+          (slice_get_read hs (length hs) e w.index-histories-e-then-not-is_same.result refl c.loop-e-test.true
+          w.index-histories-e-then-not-is_same.is) in
+          let replica : w.replica.result ≡ e = w.replica.ensures
+          ∙ replica_told t e w.index-histories-e-then-not-is_same.result told in
+          let is : c.if-n-committed.least ≡ lower before v.offset e = w.least-is ∙ w.lower-least.ensures
+          ∙ (λ k. lower before (w.offset.ensures k) (replica k)) in
           subst (InBatch t c.args.least n (e + 1)) (sym is)
-          (batch_more t c.args.least n e before (lower before v.offset e) c.loop-e.invariant (lower_stands t before v.offset e c.loop-e.invariant.stand (differs t e f n v.offset _ own first apart))
+          (batch_more t c.args.least n e before (lower before v.offset e) c.loop-e.invariant
+          (lower_stands t before v.offset e c.loop-e.invariant.stand (differs t e f n v.offset _ own first apart))
           (lower_lowers before v.offset e) (judged_apart t before e n v.offset _ own))
       | then-n-committed+else-not-is_same w ↦
           let v = w.committed_attempt-attempt.result in
-          let again = telling_is t hs e w.index-histories-e-then-n-committed.result c.requires.histories (slice_get_read hs (length hs) e w.index-histories-e-then-n-committed.result refl c.loop-e-test.true w.index-histories-e-then-n-committed.is) in
-          let own = outcome_of t e n v.offset (attempt_in v.bytes.now) w.index-histories-e-then-n-committed.result again c.requires.one w.committed_attempt-attempt.ensures in
-          let b = all_balances t e n c.args.all.now w.index-all-e.result c.requires.after (c.requires.law e) (omega (arith, c.loop-e-test.true)) w.index-all-e.is in
-          let r = all_balances t f n c.args.all.now w.index-all-first.result c.requires.after (c.requires.law f) (omega arith) w.index-all-first.is in
+          let again = section_history_is t hs e w.index-histories-e-then-n-committed.result c.requires.histories
+          (slice_get_read hs (length hs) e w.index-histories-e-then-n-committed.result refl c.loop-e-test.true
+          w.index-histories-e-then-n-committed.is) in
+          let own = outcome_of t e n v.offset (attempt_in v.bytes.now) w.index-histories-e-then-n-committed.result again
+          c.requires.one w.committed_attempt-attempt.ensures in
+          let b = all_balances t e n c.args.all.now w.index-all-e.result c.requires.after (c.requires.law e)
+          (omega (arith, c.loop-e-test.true)) w.index-all-e.is in
+          let r = all_balances t f n c.args.all.now w.index-all-first.result c.requires.after (c.requires.law f)
+          (omega arith) w.index-all-first.is in
           let yes : IsTrue w.is_same.result = search rules in
-          let same = same_outcome t e f n v.offset reference.offset _ _ w.index-all-e.result w.index-all-first.result own other b r (w.is_same.ensures.0 yes) in
+          let same = same_outcome t e f n v.offset reference.offset _ _ w.index-all-e.result w.index-all-first.result
+          own other b r (w.is_same.ensures.0 yes) in
           subst (InBatch t c.args.least n (e + 1)) (sym w.least-is)
-          (batch_more t c.args.least n e before before c.loop-e.invariant c.loop-e.invariant.stand (λ at up. up) (judged_same t before e f n first same))
+          (batch_more t c.args.least n e before before c.loop-e.invariant c.loop-e.invariant.stand (λ at up. up)
+          (judged_same t before e f n first same))
       | else-n-committed w ↦
           let last = last_told t e c.index-histories-e.result e_told in
           let number = c.committed.ensures.number in
           subst (InBatch t c.args.least n (e + 1)) (sym w.least-is)
-          (batch_more t c.args.least n e before before c.loop-e.invariant c.loop-e.invariant.stand (λ at up. up) (judged_none t before e n (c.requires.right e) (omega (arith, w.if-n-committed.false))))
+          (batch_more t c.args.least n e before before c.loop-e.invariant c.loop-e.invariant.stand (λ at up. up)
+          (judged_none t before e n (c.requires.right e) (omega (arith, w.if-n-committed.false))))
     ]
 
 pub returns-clause-judged : goal.returns-clause-judged
 returns-clause-judged c =
     let t = whole c.args.trace.now in
-    let count = ap length c.requires.histories ∙ tellings_count t in
+    let count = ap length c.requires.histories ∙ section_histories_count t in
     batch_end t c.args.least c.args.n c.loop-e.e c.loop-e.least c.loop-e.invariant (omega (arith, c.loop-e-test.false))

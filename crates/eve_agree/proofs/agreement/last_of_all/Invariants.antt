@@ -1,6 +1,7 @@
 use Rattle.std.proofs.Common.{◌≡◌, ℕ, ◌<◌, ◌≤◌, Some, slice_get}
-use Rattle.eve_history.specs.Told.{Telling}
+use Rattle.eve_history.specs.SectionHistory.{SectionHistory}
 use Rattle.eve_agree.proofs.agreement.last_of_all.Given as goal
 
 abbrev pub invariant-loop-each : goal.invariant-loop-each
-invariant-loop-each l = (e : ℕ) (h : Telling) → e < l.each-index → slice_get l.histories e ≡ Some h → h.committed ≤ l.last
+invariant-loop-each l = (e : ℕ) (h : SectionHistory) → e < l.each-index → slice_get l.histories e ≡ Some h
+    → h.committed ≤ l.last

@@ -9,7 +9,8 @@ use Rattle.eve_agree.proofs.majority.first_in.Goals as goal
 pub loop-step-init : goal.loop-step-init
 loop-step-init c =
     let t = whole c.args.trace.now in
-    subst (AreLeft t c.args.e) (sym c.section-steps.ensures) (left_first t c.args.e c.is_whole.ensures.limits c.requires.right)
+    subst (AreLeft t c.args.e) (sym c.section-steps.ensures)
+    (left_first t c.args.e c.is_whole.ensures.limits c.requires.right)
 
 pub unbacked-requires : goal.unbacked-requires
 unbacked-requires c =
@@ -24,7 +25,8 @@ returns-in-Some-unbacked-clause-first c =
     let some = c.in-Some.ensures.some in
     let f = c.in-Some-unbacked.fault in
     left_fault t e some.0 c.next.new.self f (subst (AreLeft t e) some.1 c.loop-step.invariant)
-    (subst (λ (u : Trace). IsUnbacked u e some.0 f) c.requires.tally (c.in-Some-unbacked.ensures.unbacked some.0 some.2))
+    (subst (λ (u : Trace). IsUnbacked u e some.0 f) c.requires.tally
+    (c.in-Some-unbacked.ensures.unbacked some.0 some.2))
 
 pub loop-step-smaller : goal.loop-step-smaller
 loop-step-smaller c = search rules

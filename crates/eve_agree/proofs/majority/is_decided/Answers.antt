@@ -7,16 +7,20 @@ pub returns-then-said-view : goal.returns-then-said-view
 returns-then-said-view c =
     let t = c.args.tally.now in
     let x = commit_in c.args.commit.now.bytes.now in
-    decided_from t c.seq.result x.seq c.view.result x.view x.token c.token.result.now c.eq.result c.seq.ensures c.view.ensures c.token.ensures
-    (decided_with t c.seq.result c.view.result c.as_slice.result.now c.token.result.now c.decided-decided.result c.in-Some.said c.eq.result
+    decided_from t c.seq.result x.seq c.view.result x.view x.token c.token.result.now c.eq.result c.seq.ensures
+    c.view.ensures c.token.ensures
+    (decided_with t c.seq.result c.view.result c.as_slice.result.now c.token.result.now c.decided-decided.result
+    c.in-Some.said c.eq.result
     c.decided-decided.ensures c.in-Some.is c.if-said-view.true c.as_slice.ensures c.eq.ensures)
 
 pub returns-else-said-view : goal.returns-else-said-view
 returns-else-said-view c =
     let t = c.args.tally.now in
     let x = commit_in c.args.commit.now.bytes.now in
-    decided_from t c.seq.result x.seq c.view.result x.view x.token x.token (c.in-Some.said.0 == c.view.result) c.seq.ensures c.view.ensures refl
-    (decided_elsewhere t c.seq.result c.view.result x.token c.decided-decided.result c.in-Some.said c.decided-decided.ensures c.in-Some.is c.if-said-view.false)
+    decided_from t c.seq.result x.seq c.view.result x.view x.token x.token (c.in-Some.said.0 == c.view.result)
+    c.seq.ensures c.view.ensures refl
+    (decided_elsewhere t c.seq.result c.view.result x.token c.decided-decided.result c.in-Some.said
+    c.decided-decided.ensures c.in-Some.is c.if-said-view.false)
 
 pub returns-in-None : goal.returns-in-None
 returns-in-None c =

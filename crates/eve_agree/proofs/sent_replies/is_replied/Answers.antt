@@ -15,20 +15,26 @@ returns-in-Some-clause-replied c =
     let s : Sent = sent_in c.args.sent.now.bytes.now in
     let a = attempt_in c.in-Some.attempt.bytes.now in
     let some = c.in-Some.ensures.some in
-    let at : slice_get c.args.history.now.commits (s.seq - 1) ≡ Some some.0 = ap (λ (n : ℕ). slice_get c.args.history.now.commits (n - 1)) (sym c.seq.ensures) ∙ some.1 in
-    let committed = is_committed t s.replica s.seq c.args.history.now some.0 a c.requires.one c.requires.history at some.2 in
+    let at : slice_get c.args.history.now.commits (s.seq - 1) ≡ Some some.0 =
+    ap (λ (n : ℕ). slice_get c.args.history.now.commits (n - 1)) (sym c.seq.ensures) ∙ some.1 in
+    let committed = is_committed t s.replica s.seq c.args.history.now some.0 a c.requires.one c.requires.history at
+    some.2 in
     let batch : c.turn_to.new.self.batch ≡ s.seq = c.turn_to.ensures.batch ∙ c.seq-in-Some.ensures in
     let request_ids : kept c.turn_to.new.self ≡ map request_id (batch_at t s.seq).requests =
-    c.turn_to.ensures.new.request_ids (subst (λ (n : ℕ). 1 ≤ n) (sym batch) c.requires.one) ∙ ap (λ (n : ℕ). map request_id (batch_at t n).requests) batch in (
-      λ found. let answer = c.find.ensures.answer.0 found in replied_from t s a.replies (kept c.turn_to.new.self) answer.0 committed request_ids answer.1,
-      λ replied. c.find.ensures.answer.1 (answer_from t s a.replies (kept c.turn_to.new.self) committed request_ids replied),
+    c.turn_to.ensures.new.request_ids (subst (λ (n : ℕ). 1 ≤ n) (sym batch) c.requires.one)
+    ∙ ap (λ (n : ℕ). map request_id (batch_at t n).requests) batch in (
+      λ found. let answer = c.find.ensures.answer.0 found in replied_from t s a.replies (kept c.turn_to.new.self)
+          answer.0 committed request_ids answer.1,
+      λ replied. c.find.ensures.answer.1
+          (answer_from t s a.replies (kept c.turn_to.new.self) committed request_ids replied),
     )
 
 pub returns-in-None-clause-replied : goal.returns-in-None-clause-replied
 returns-in-None-clause-replied c =
     let t = whole c.args.trace.now in
     let s : Sent = sent_in c.args.sent.now.bytes.now in
-    let none : slice_get c.args.history.now.commits (s.seq - 1) ≡ None = ap (λ (n : ℕ). slice_get c.args.history.now.commits (n - 1)) (sym c.seq.ensures) ∙ c.in-None.ensures.none in (
+    let none : slice_get c.args.history.now.commits (s.seq - 1) ≡ None =
+    ap (λ (n : ℕ). slice_get c.args.history.now.commits (n - 1)) (sym c.seq.ensures) ∙ c.in-None.ensures.none in (
       λ wrong. absurd (false≢true wrong),
       λ replied. absurd (not_committed t s c.args.history.now c.requires.one c.requires.history none replied),
     )

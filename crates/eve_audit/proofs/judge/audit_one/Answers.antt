@@ -5,13 +5,18 @@ use Rattle.eve_audit.proofs.judge.audit_one.Goals as goal
 use Rattle.std.proofs.Common.{◌≤◌, length}
 
 pub returns-in-Ok-clause-verdict : goal.returns-in-Ok-clause-verdict
-returns-in-Ok-clause-verdict g c = IfOk-weaker c.verdict_on.result _ (IsVerdict c.args.bytes.now) (λ v answer. (answer c.args.bytes.now c.in-Ok.ensures.read).verdict) c.verdict_on.ensures
+returns-in-Ok-clause-verdict g c = IfOk-weaker c.verdict_on.result _ (IsVerdict c.args.bytes.now)
+    (λ v answer. (answer c.args.bytes.now c.in-Ok.ensures.read).verdict) c.verdict_on.ensures
 
 pub returns-in-Ok-clause-yes : goal.returns-in-Ok-clause-yes
-returns-in-Ok-clause-yes g c = IfOk-weaker c.verdict_on.result _ (IsYesOfAudited c.args.bytes.now) (λ v answer. (answer c.args.bytes.now c.in-Ok.ensures.read).yes) c.verdict_on.ensures
+returns-in-Ok-clause-yes g c = IfOk-weaker c.verdict_on.result _ (IsYesOfAudited c.args.bytes.now)
+    (λ v answer. (answer c.args.bytes.now c.in-Ok.ensures.read).yes) c.verdict_on.ensures
 
 pub returns-in-Ok-clause-within : goal.returns-in-Ok-clause-within
-returns-in-Ok-clause-within g c = IfOk-weaker c.verdict_on.result _ (λ v. IfNo v (λ f. f.offset ≤ length c.args.bytes.now)) (λ v answer. (answer c.args.bytes.now c.in-Ok.ensures.read).within) c.verdict_on.ensures
+returns-in-Ok-clause-within g c =
+    IfOk-weaker c.verdict_on.result _ (λ v. IfNo v (λ f. f.offset ≤ length c.args.bytes.now))
+    (λ v answer. (answer c.args.bytes.now c.in-Ok.ensures.read).within) c.verdict_on.ensures
 
 pub returns-in-Ok-clause-replica : goal.returns-in-Ok-clause-replica
-returns-in-Ok-clause-replica g c = IfOk-weaker c.verdict_on.result _ (λ v. IfNo v (NamesItsSection c.args.bytes.now)) (λ v answer. (answer c.args.bytes.now c.in-Ok.ensures.read).replica) c.verdict_on.ensures
+returns-in-Ok-clause-replica g c = IfOk-weaker c.verdict_on.result _ (λ v. IfNo v (NamesItsSection c.args.bytes.now))
+    (λ v answer. (answer c.args.bytes.now c.in-Ok.ensures.read).replica) c.verdict_on.ensures

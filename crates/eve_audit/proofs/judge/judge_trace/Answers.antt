@@ -11,7 +11,8 @@ use Rattle.eve_audit.proofs.judge.judge_trace.Goals as goal
 pub returns-in-Err-clause-first : goal.returns-in-Err-clause-first
 returns-in-Err-clause-first g c =
     let t = whole c.args.trace.now in
-    found_weaker (IsFirstOf (IsFaultBelow t (length t.sections))) (IsFirstOf (IsTraceFault t)) c.in-Err.why (λ f found. section_first t f c.requires.orders found) c.in-Err.ensures.first
+    found_weaker (IsFirstOf (IsFaultBelow t (length t.sections))) (IsFirstOf (IsTraceFault t)) c.in-Err.why
+    (λ f found. section_first t f c.requires.orders found) c.in-Err.ensures.first
 
 pub returns-in-Err-judge_together-clause-first : goal.returns-in-Err-judge_together-clause-first
 returns-in-Err-judge_together-clause-first g c =
@@ -28,7 +29,10 @@ returns-clause-summary g c =
 pub returns-clause-accepted : goal.returns-clause-accepted
 returns-clause-accepted g c =
     let t = whole c.args.trace.now in
-    accepted_of t c.is_whole.ensures.limits (c.requests_take_effect_once.ensures.apart t (no_request_again t c.requires.orders)) c.in-Ok.ensures.sound c.in-Ok-judge_together.ensures.sound
+    accepted_of t c.is_whole.ensures.limits
+    (c.requests_take_effect_once.ensures.apart t (no_request_again t c.requires.orders)) c.in-Ok.ensures.sound
+    c.in-Ok-judge_together.ensures.sound
 
 pub returns-clause-none : goal.returns-clause-none
-returns-clause-none g c = none_in_trace (whole c.args.trace.now) c.requires.orders c.in-Ok.ensures.none c.in-Ok-judge_together.ensures.none
+returns-clause-none g c = none_in_trace (whole c.args.trace.now) c.requires.orders c.in-Ok.ensures.none
+    c.in-Ok-judge_together.ensures.none

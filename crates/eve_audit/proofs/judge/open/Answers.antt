@@ -12,9 +12,16 @@ returns-clause-fault c =
     let bytes = c.args.bytes.now in
     let t = whole c.in-Ok.trace in
     found_weaker (IsLeast (IsOrderFault t)) (λ f. IsAnswer bytes (No f)) c.in-Err-orders.why
-    (λ f least. no_for bytes t (record { spells = c.in-Ok.ensures.trace; none = c.in-Ok.ensures.faultless }) (λ u other. c.bytes_spell_one_trace.ensures bytes u t other c.in-Ok.ensures.trace)
-    (c.faults_lie_within.ensures.orders t) (λ e. (c.fates_are_as_the_section_ends.ensures.committed t e, c.fates_are_as_the_section_ends.ensures.discarded t e)) f (order_first t f least))
+    (λ f least. no_for bytes t (record { spells = c.in-Ok.ensures.trace; none = c.in-Ok.ensures.faultless })
+    (λ u other. c.bytes_spell_one_trace.ensures bytes u t other c.in-Ok.ensures.trace)
+    (c.faults_lie_within.ensures.orders t)
+    (λ e. (
+      c.fates_are_as_the_section_ends.ensures.committed t e,
+      c.fates_are_as_the_section_ends.ensures.discarded
+          t e,
+    )) f (order_first t f least))
     c.in-Err-orders.ensures.least
 
 pub returns-in-Err-clause-fault : goal.returns-in-Err-clause-fault
-returns-in-Err-clause-fault c = form_for c.args.bytes.now c.in-Err.why c.in-Err.ensures.least c.in-Err.ensures.no_trace c.in-Err.ensures.within
+returns-in-Err-clause-fault c = form_for c.args.bytes.now c.in-Err.why c.in-Err.ensures.least c.in-Err.ensures.no_trace
+    c.in-Err.ensures.within

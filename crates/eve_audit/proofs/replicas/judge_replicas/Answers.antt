@@ -15,17 +15,25 @@ replicas-preserved g c =
       elim c.match-judge_missing.branch [
         | in-Ok+in_ok-keep-in-Ok w ↦ (
             let lt : e < length t.sections = search rules in
-            let judged = subst (λ (f : Option Fault). IsJudgedBelow t e f c.replicas.kept.histories.items c.replicas.kept.settled.items c.replicas.kept.committed) (sym w.first-is) c.replicas.invariant.0 in
-            sound_more t e c.match-judge_missing.first c.replicas.kept.histories.items c.match-judge_missing.kept.histories.items c.replicas.kept.settled.items c.match-judge_missing.kept.settled.items
+            let judged = subst (λ (f : Option Fault). IsJudgedBelow t e f c.replicas.kept.histories.items
+            c.replicas.kept.settled.items c.replicas.kept.committed) (sym w.first-is) c.replicas.invariant.0 in
+            sound_more t e c.match-judge_missing.first c.replicas.kept.histories.items
+            c.match-judge_missing.kept.histories.items c.replicas.kept.settled.items
+            c.match-judge_missing.kept.settled.items
             c.replicas.kept.committed c.match-judge_missing.kept.committed w.in-Ok.piece.history w.in-Ok.piece.settled
-            judged lt w.in-Ok.ensures.piece.history w.in-Ok.ensures.piece.settled w.in-Ok.ensures.piece.sound w.in-Ok.ensures.piece.none
-            (ap (λ p. p.histories.items) w.kept-is ∙ w.in_ok-keep-in-Ok.ensures.histories) (ap (λ p. p.settled.items) w.kept-is ∙ w.in_ok-keep-in-Ok.ensures.settled)
+            judged lt w.in-Ok.ensures.piece.history w.in-Ok.ensures.piece.settled w.in-Ok.ensures.piece.sound
+            w.in-Ok.ensures.piece.none
+            (ap (λ p. p.histories.items) w.kept-is ∙ w.in_ok-keep-in-Ok.ensures.histories)
+            (ap (λ p. p.settled.items) w.kept-is ∙ w.in_ok-keep-in-Ok.ensures.settled)
             (ap (λ p. p.committed) w.kept-is ∙ w.in_ok-keep-in-Ok.ensures.committed) w.in_ok-keep-in-Ok.ensures.small
             )
         | in-Err-Found w ↦ (
             let first = rw w.in-Err-Found.field-0-is at w.in-Err-Found.ensures.first in
-            subst (λ (f : Option Fault). IsJudgedBelow t (e + 1) f c.match-judge_missing.kept.histories.items c.match-judge_missing.kept.settled.items c.match-judge_missing.kept.committed) (sym (w.first-is ∙ w.first_of-first.ensures))
-            (judged_more t e c.replicas.first w.in-Err-Found.fault c.match-judge_missing.kept.histories.items c.match-judge_missing.kept.settled.items c.match-judge_missing.kept.committed
+            subst (λ (f : Option Fault). IsJudgedBelow t (e + 1) f c.match-judge_missing.kept.histories.items
+            c.match-judge_missing.kept.settled.items c.match-judge_missing.kept.committed)
+            (sym (w.first-is ∙ w.first_of-first.ensures))
+            (judged_more t e c.replicas.first w.in-Err-Found.fault c.match-judge_missing.kept.histories.items
+            c.match-judge_missing.kept.settled.items c.match-judge_missing.kept.committed
             c.replicas.invariant.0.found first)
             )
       ],
@@ -36,31 +44,36 @@ pub returns-in-Some-clause-first : goal.returns-in-Some-clause-first
 returns-in-Some-clause-first g c =
     let t = whole c.args.trace.now in
     let last : c.replicas.e ≡ length t.sections = search rules in
-    subst (λ (n : ℕ). IsFirstOf (IsFaultBelow t n) c.in-Some.fault) last (subst (IsFoundBelow t c.replicas.e) c.in-Some.is c.replicas.invariant.0.found)
+    subst (λ (n : ℕ). IsFirstOf (IsFaultBelow t n) c.in-Some.fault) last
+    (subst (IsFoundBelow t c.replicas.e) c.in-Some.is c.replicas.invariant.0.found)
 
 pub returns-clause-histories : goal.returns-clause-histories
 returns-clause-histories g c =
     let t = whole c.args.trace.now in
     let last : c.replicas.e ≡ length t.sections = search rules in
-    let kept = subst (λ (n : ℕ). AreKept t n c.replicas.kept.histories.items c.replicas.kept.settled.items) last (c.replicas.invariant.0.kept c.in-None.is) in
+    let kept = subst (λ (n : ℕ). AreKept t n c.replicas.kept.histories.items c.replicas.kept.settled.items) last
+    (c.replicas.invariant.0.kept c.in-None.is) in
     all_told t c.replicas.kept.histories.items c.replicas.kept.settled.items kept
 
 pub returns-clause-settled : goal.returns-clause-settled
 returns-clause-settled g c =
     let t = whole c.args.trace.now in
     let last : c.replicas.e ≡ length t.sections = search rules in
-    let kept = subst (λ (n : ℕ). AreKept t n c.replicas.kept.histories.items c.replicas.kept.settled.items) last (c.replicas.invariant.0.kept c.in-None.is) in
+    let kept = subst (λ (n : ℕ). AreKept t n c.replicas.kept.histories.items c.replicas.kept.settled.items) last
+    (c.replicas.invariant.0.kept c.in-None.is) in
     all_settled t c.replicas.kept.histories.items c.replicas.kept.settled.items kept
 
 pub returns-clause-sound : goal.returns-clause-sound
 returns-clause-sound g c =
     let t = whole c.args.trace.now in
     let last : c.replicas.e ≡ length t.sections = search rules in
-    let kept = subst (λ (n : ℕ). AreKept t n c.replicas.kept.histories.items c.replicas.kept.settled.items) last (c.replicas.invariant.0.kept c.in-None.is) in
+    let kept = subst (λ (n : ℕ). AreKept t n c.replicas.kept.histories.items c.replicas.kept.settled.items) last
+    (c.replicas.invariant.0.kept c.in-None.is) in
     all_sound t c.replicas.kept.histories.items c.replicas.kept.settled.items kept
 
 pub returns-clause-none : goal.returns-clause-none
 returns-clause-none g c =
     let t = whole c.args.trace.now in
     let last : c.replicas.e ≡ length t.sections = search rules in
-    subst (λ (n : ℕ). HasNone (IsFaultBelow t n)) last (subst (IsFoundBelow t c.replicas.e) c.in-None.is c.replicas.invariant.0.found)
+    subst (λ (n : ℕ). HasNone (IsFaultBelow t n)) last
+    (subst (IsFoundBelow t c.replicas.e) c.in-None.is c.replicas.invariant.0.found)

@@ -6,4 +6,5 @@ use Rattle.eve_audit.specs.Pieces.{IsJudgedBelow}
 use Rattle.eve_audit.proofs.replicas.judge_replicas.Given as goal
 
 abbrev pub invariant-replicas : goal.invariant-replicas
-invariant-replicas g l = IsJudgedBelow (whole l.trace) l.e l.first l.kept.histories.items l.kept.settled.items l.kept.committed × All (AreTrue (whole l.trace)) l.slots
+invariant-replicas g l = IsJudgedBelow (whole l.trace) l.e l.first l.kept.histories.items l.kept.settled.items
+    l.kept.committed × All (AreTrue (whole l.trace)) l.slots

@@ -10,7 +10,8 @@ returns-clause-answer c =
     let slots = c.args.slots.now in
     let worker = c.args.e % length slots in
     let there : worker < length slots = search rules in
-    (taken_is_true (whole c.args.trace.now) c.args.e (slice_index_or slots worker c.index-slots-worker.result) c.take.new.self c.take.result c.take.ensures.next c.take.ensures.none
+    (taken_is_true (whole c.args.trace.now) c.args.e (slice_index_or slots worker c.index-slots-worker.result)
+    c.take.new.self c.take.result c.take.ensures.next c.take.ensures.none
     (c.requires worker c.index-slots-worker.result there)).0
 
 pub returns-clause-left : goal.returns-clause-left
@@ -19,6 +20,7 @@ returns-clause-left c =
     let slots = c.args.slots.now in
     let worker = c.args.e % length slots in
     let there : worker < length slots = search rules in
-    let taken = taken_is_true t c.args.e (slice_index_or slots worker c.index-slots-worker.result) c.take.new.self c.take.result c.take.ensures.next c.take.ensures.none
+    let taken = taken_is_true t c.args.e (slice_index_or slots worker c.index-slots-worker.result) c.take.new.self
+    c.take.result c.take.ensures.next c.take.ensures.none
     (c.requires worker c.index-slots-worker.result there) in
     All-set (AreTrue t) slots worker c.take.new.self taken.1 c.requires

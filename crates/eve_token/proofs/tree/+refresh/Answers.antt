@@ -1,9 +1,11 @@
-use Rattle.std.proofs.Common.{rules, ◌≡◌, ◌+◌, ◌*◌, ◌-◌, ℕ, ℤ, List, length, take, drop, Option, Some, None, IfSome, sym, subst, ap, ◌∙◌, arith, length-take, length-drop, get_or, set, refl, [], ◌∷◌, ◌++◌}
+use Rattle.std.proofs.Common.{rules, ◌≡◌, ◌+◌, ◌*◌, ◌-◌, ℕ, ℤ, List, length, take, drop, Option, Some, None, IfSome}
+use Rattle.std.proofs.Common.{sym, subst, ap, ◌∙◌, arith, length-take, length-drop, get_or, set, refl, [], ◌∷◌, ◌++◌}
 use Rattle.eve_smallbank.specs.Spelling.{money_text}
 use Rattle.eve_token.specs.Merkle.{leaf_hash, leaf_hashes, merkle_root}
 use Rattle.eve_token.specs.Places.{IsKept, nodes_of}
 use Rattle.eve_token.proofs.Leaves.{leaves-one, leaves-one-root, leaves-root, leaves-power, leaves-take, leaves-drop}
-use Rattle.eve_token.proofs.Keeping.{leaf-place, leaf-kept, part-left, part-top, part-right, joined, rebuilt, rest-joined}
+use Rattle.eve_token.proofs.Keeping.{leaf-place, leaf-kept, part-left, part-top, part-right, joined, rebuilt}
+use Rattle.eve_token.proofs.Keeping.{rest-joined}
 use Rattle.eve_token.proofs.tree.+refresh.Goals as goal
 
 pub refresh_leaf-requires : goal.refresh_leaf-requires

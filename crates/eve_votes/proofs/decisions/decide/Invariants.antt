@@ -8,5 +8,6 @@ use Rattle.eve_votes.proofs.decisions.decide.Given as goal
 abbrev pub invariant-loop-verifier : goal.invariant-loop-verifier
 invariant-loop-verifier l = record {
   judging : Judging (whole l.trace) l.decisions.items l.least;
-  agrees : (u : ℕ) → u < l.verifier → All (Agrees (whole l.trace) l.decisions.items l.least) (votes_of (whole l.trace) u);
+  agrees : (u : ℕ) → u < l.verifier → All (Agrees (whole l.trace) l.decisions.items l.least)
+      (votes_of (whole l.trace) u);
 }

@@ -1,15 +1,34 @@
-use Rattle.std.proofs.Common.{◌≡◌, ◌≤◌, sym, length, ap, ◌∙◌, arith, ⊎_elim, ◌<◌}
-use Rattle.std.proofs.lemmas.Bool.{cases_lt}
-use Rattle.eve_grammar.specs.Trace.{Head}
+use Rattle.std.proofs.Common.{◌≡◌, ℕ, List, length, take, drop, ◌++◌, sym, subst, ap, ◌∙◌, append-nil, arith}
+use Rattle.std.specs.List.Sorted.{IsPermutation}
+use Rattle.std.proofs.lemmas.List.{take_all, drop_all}
 use Rattle.eve_views.specs.Fronts.{whole}
-use Rattle.eve_votes.proofs.Casting.{none_behind}
+use Rattle.eve_votes.specs.Ballots.{ballots_of, HasVotes}
+use Rattle.eve_votes.specs.declared.ballots.Ballot.{Ballot}
+use Rattle.eve_votes.proofs.InOrder.{in_order}
+use Rattle.eve_votes.proofs.Gathered.{moved_each, moved_all, moved_once}
 use Rattle.eve_votes.proofs.voting.cast.Goals as goal
 
-pub returns-clause-all : goal.returns-clause-all
-returns-clause-all c = λ at s.
+whole_slice : {A : Type 0} (xs ys : List A) (n : ℕ) → length ys ≡ length xs → n ≡ length xs →
+    take n (ys ++ drop (length ys) xs) ≡ ys
+whole_slice xs ys n same many =
+    ap (λ (zs : List _). take n (ys ++ zs)) (drop_all (length ys) xs (omega arith)) ∙ ap (take n) (append-nil ys) ∙
+    take_all n ys (omega arith)
+
+pub returns : goal.returns
+returns c =
     let t = whole c.args.trace.now in
-    let many : c.head-verifier-end.result.verifiers ≡ length t.verifiers = ap (λ (h : Head). h.verifiers) (c.head-verifier-end.ensures ∙ sym c.is_whole.ensures.head) in
-    ⊎_elim
-    (λ (less : s.0 < c.loop-verifier.verifier). c.loop-verifier.invariant.all s.0 less at s.1)
-    (λ (past : c.loop-verifier.verifier ≤ s.0). absurd (none_behind t s.0 at (omega (arith, many, c.loop-verifier-test.false)) s.1))
-    (cases_lt s.0 c.loop-verifier.verifier)
+    let xs = c.in_ok-ballots.ballots.items in
+    let ys = c.sort_unstable.new.self in
+    let many = c.sort_unstable.ensures.len in
+    let value : length c.as_mut_slice.result.now ≡ length xs =
+    ap (λ (zs : List Ballot). length zs) c.as_mut_slice.ensures.value in
+    let len = c.as_mut_slice.ensures.len in
+    let moved : IsPermutation (ballots_of t) ys = subst (λ (zs : List Ballot). IsPermutation zs ys)
+    (c.as_mut_slice.ensures.value ∙ c.in_ok-ballots.ensures) c.sort_unstable.ensures.permutation in
+    let all : HasVotes t ys = record {
+      each = moved_each t ys moved;
+      all = moved_all t ys moved;
+      once = moved_once t ys moved;
+      order = in_order ys (λ k d less. c.sort_unstable.ensures.sorted k d (omega arith) less);
+    } in
+    subst (HasVotes t) (sym (whole_slice xs ys c.in_ok-ballots.ballots.len (omega arith) (omega arith))) all

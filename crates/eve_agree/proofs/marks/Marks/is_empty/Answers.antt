@@ -5,4 +5,5 @@ use Rattle.eve_agree.proofs.Marking.{some_marked}
 use Rattle.eve_agree.proofs.marks.Marks.is_empty.Goals as goal
 
 pub returns-clause-some : goal.returns-clause-some
-returns-clause-some c = λ no. some_marked c.args.self.now (λ e. false≢true (sym no ∙ eq-eqb c.self.inside.count 0 (c.self.invariant ∙ ap marked_count c.self.view_is ∙ e)))
+returns-clause-some c = λ no. some_marked c.args.self.now
+    (λ e. false≢true (sym no ∙ eq-eqb c.self.inside.count 0 (c.self.invariant ∙ ap marked_count c.self.view_is ∙ e)))

@@ -8,7 +8,9 @@ use Rattle.eve_agree.proofs.marks.Marks.mark.Goals as goal
 pub overflow_add-self : goal.overflow_add-self
 overflow_add-self c =
     let there : c.number-row.result < length c.self.inside.rows.items =
-    subst (λ (rows : List (Option Versioned)). c.number-row.result < length rows) (sym c.self.view_is) (subst (λ n. n < length c.args.self.now) (sym c.number-row.ensures.number) c.requires) in
-    let less = one_less c.self.inside.rows.items c.number-row.result c.index.result.now there c.index.ensures (c.is_none.ensures ∙ ap not c.if-is_none.true) in
+    subst (λ (rows : List (Option Versioned)). c.number-row.result < length rows) (sym c.self.view_is)
+    (subst (λ n. n < length c.args.self.now) (sym c.number-row.ensures.number) c.requires) in
+    let less = one_less c.self.inside.rows.items c.number-row.result c.index.result.now there c.index.ensures
+    (c.is_none.ensures ∙ ap not c.if-is_none.true) in
     let count : c.self.inside.count ≡ marked_count c.self.inside.rows.items = c.self.invariant in
     omega (arith, c.self.ranges)

@@ -14,7 +14,8 @@ returns-then-not-take-clause-right c =
     let now = marking_of c.loop-restored.self in
     let no : c.take.result ≡ false = search rules in
     found_wrong old now c.args.restores (restore c.in-Some.restored) c.next.new.self
-    (subst (IsTaking old now c.args.restores) c.in-Some.ensures.steps c.loop-restored.invariant.taking) (sym c.take.ensures.right ∙ no)
+    (subst (IsTaking old now c.args.restores) c.in-Some.ensures.steps c.loop-restored.invariant.taking)
+    (sym c.take.ensures.right ∙ no)
 
 pub loop-restored-preserved : goal.loop-restored-preserved
 loop-restored-preserved c =
@@ -23,10 +24,14 @@ loop-restored-preserved c =
     let yes : c.take.result ≡ true = search rules in
     record {
       as_many = c.take.ensures.as_many ∙ c.loop-restored.invariant.as_many;
-      rows = (and_parts (is_restore (length c.args.self.now) (restore c.in-Some.restored)) (list_all (is_restore (length c.args.self.now)) c.next.new.self)
-          (subst (λ (rs : List Restore). IsTrue (list_all (is_restore (length c.args.self.now)) rs)) c.in-Some.ensures.steps c.loop-restored.invariant.rows)).1;
-      taking = taking_next old now (marking_of c.take.new.self) c.args.restores (restore c.in-Some.restored) c.next.new.self
-          (subst (IsTaking old now c.args.restores) c.in-Some.ensures.steps c.loop-restored.invariant.taking) (sym c.take.ensures.right ∙ yes) (c.take.ensures.taken yes);
+      rows = (and_parts (is_restore (length c.args.self.now) (restore c.in-Some.restored))
+          (list_all (is_restore (length c.args.self.now)) c.next.new.self)
+          (subst (λ (rs : List Restore). IsTrue (list_all (is_restore (length c.args.self.now)) rs))
+          c.in-Some.ensures.steps c.loop-restored.invariant.rows)).1;
+      taking = taking_next old now (marking_of c.take.new.self) c.args.restores (restore c.in-Some.restored)
+          c.next.new.self
+          (subst (IsTaking old now c.args.restores) c.in-Some.ensures.steps c.loop-restored.invariant.taking)
+          (sym c.take.ensures.right ∙ yes) (c.take.ensures.taken yes);
     }
 
 pub returns-clause-right : goal.returns-clause-right
@@ -36,5 +41,6 @@ returns-clause-right c = λ table es e.
     let taking = subst (IsTaking old now c.args.restores) c.in-None.ensures.steps.0 c.loop-restored.invariant.taking in
     elim (cases_Bool c.is_empty.result) [
       | inl all ↦ all ∙ found_right old now c.args.restores taking (c.is_empty.ensures.none all) table es e
-      | inr more ↦ let some = c.is_empty.ensures.some more in more ∙ found_left old now c.args.restores some.0 taking some.1 table es e
+      | inr more ↦ let some = c.is_empty.ensures.some more in more
+          ∙ found_left old now c.args.restores some.0 taking some.1 table es e
     ]

@@ -4,4 +4,5 @@ use Rattle.eve_agree.specs.Keeping.{kept, IsAnswer}
 use Rattle.eve_agree.proofs.request_ids.RequestIds.index_of.Given as goal
 
 abbrev pub invariant-loop-i : goal.invariant-loop-i
-invariant-loop-i l = (j : ℕ) → j < l.i → ¬ IsAnswer (kept l.self) (attempt_in l.attempt.bytes.now).replies (sent_in l.sent.bytes.now) j
+invariant-loop-i l = (j : ℕ) → j < l.i → ¬ IsAnswer (kept l.self) (attempt_in l.attempt.bytes.now).replies
+    (sent_in l.sent.bytes.now) j

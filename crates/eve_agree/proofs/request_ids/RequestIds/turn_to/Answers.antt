@@ -16,5 +16,6 @@ returns-then-self-batch-clause-new c =
     let b : ℕ × (ℕ × Batch) = (c.batch.result.offset, batch_in c.batch.result.bytes.now) in
     record {
       few = c.read-self.ensures.few;
-      request_ids = λ one. c.read-self.ensures.kept ∙ ap (λ (x : Batch). map request_id x.requests) (sym (batch_is (whole c.args.trace.now) c.args.batch b c.batch.ensures.says));
+      request_ids = λ one. c.read-self.ensures.kept ∙ ap (λ (x : Batch). map request_id x.requests)
+          (sym (batch_is (whole c.args.trace.now) c.args.batch b c.batch.ensures.says));
     }

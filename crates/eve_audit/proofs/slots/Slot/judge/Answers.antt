@@ -12,6 +12,8 @@ returns g c =
     let answer = c.match-judge_replica.answer in
     let is : IsAnswerOf t c.args.e answer = elim c.match-judge_replica.branch [
       | in-Ok w ↦ subst (IsAnswerOf t c.args.e) (sym w.answer-is) w.in-Ok.ensures.piece
-      | in-Err-Found w ↦ subst (IsAnswerOf t c.args.e) (sym w.answer-is) (rw w.in-Err-Found.field-0-is at w.in-Err-Found.ensures.first)
+      | in-Err-Found w ↦ subst (IsAnswerOf t c.args.e) (sym w.answer-is)
+          (rw w.in-Err-Found.field-0-is at w.in-Err-Found.ensures.first)
     ] in
-    all_push (λ (f : Finding). IsAnswerOf t f.replica f.answer) _ _ _ (finding c.args.e answer) c.requires.so_far is c.reserve.ensures.items c.push_back_reserved.ensures.items
+    all_push (λ (f : Finding). IsAnswerOf t f.replica f.answer) _ _ _ (finding c.args.e answer) c.requires.so_far is
+    c.reserve.ensures.items c.push_back_reserved.ensures.items

@@ -1,4 +1,5 @@
-use Rattle.std.proofs.Common.{◌≡◌, ◌++◌, ◌∙◌, ℕ, ℤ, List, length, take, drop, set, Option, sym, subst, ap, arith, rules, length-set}
+use Rattle.std.proofs.Common.{◌≡◌, ◌++◌, ◌∙◌, ℕ, ℤ, List, length, take, drop, set, Option, sym, subst, ap, arith, rules}
+use Rattle.std.proofs.Common.{length-set}
 use Rattle.std.proofs.lemmas.List.{take_at}
 use Rattle.eve_token.specs.Places.{IsRowTree, IsKept, nodes_of}
 use Rattle.eve_token.proofs.Keeping.{row-changed, nothing-changed}

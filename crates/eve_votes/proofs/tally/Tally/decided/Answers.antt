@@ -17,17 +17,23 @@ returns-in_default c =
     let ds = c.self.inside.decisions.items in
     let same : whole c.self.inside.trace.now ≡ c.args.self.now = c.self.view_is in
     let past : nat_lt c.args.n (length ds) ≡ false =
-    ap (λ (xs : List (Option Decision)). nat_lt c.args.n (length xs)) (sym c.deref.ensures.value) ∙ sym c.in_default.ensures.lookup.0 in
-    subst (Answers c.args.n None) same (decided_is (whole c.self.inside.trace.now) ds c.args.n None c.self.invariant.decisions (decision_past ds c.args.n past))
+    ap (λ (xs : List (Option Decision)). nat_lt c.args.n (length xs)) (sym c.deref.ensures.value)
+    ∙ sym c.in_default.ensures.lookup.0 in
+    subst (Answers c.args.n None) same
+    (decided_is (whole c.self.inside.trace.now) ds c.args.n None c.self.invariant.decisions
+    (decision_past ds c.args.n past))
 
 pub array_of-requires : goal.array_of-requires
 array_of-requires c =
     let ds = c.self.inside.decisions.items in
     let there : nat_lt c.args.n (length ds) ≡ true =
-    ap (λ (xs : List (Option Decision)). nat_lt c.args.n (length xs)) (sym c.deref.ensures.value) ∙ sym c.in-Some.ensures.lookup.0 in
+    ap (λ (xs : List (Option Decision)). nat_lt c.args.n (length xs)) (sym c.deref.ensures.value)
+    ∙ sym c.in-Some.ensures.lookup.0 in
     let read : c.in-Some.kept.now ≡ get_or ds c.args.n c.in-Some.kept.now =
-    c.in-Some.ensures.lookup.1 ∙ ap (λ (xs : List (Option Decision)). get_or xs c.args.n c.in-Some.kept.now) c.deref.ensures.value in
-    let is : decision_in ds c.args.n ≡ Some (said c.in-Some-kept.decision) = decision_of ds c.args.n c.in-Some.kept.now there read ∙ ap (option_map said) c.in-Some-kept.is in
+    c.in-Some.ensures.lookup.1 ∙ ap (λ (xs : List (Option Decision)). get_or xs c.args.n c.in-Some.kept.now)
+    c.deref.ensures.value in
+    let is : decision_in ds c.args.n ≡ Some (said c.in-Some-kept.decision) =
+    decision_of ds c.args.n c.in-Some.kept.now there read ∙ ap (option_map said) c.in-Some-kept.is in
     token_size (whole c.self.inside.trace.now) ds c.args.n (said c.in-Some-kept.decision) c.self.invariant.decisions is
 
 pub returns-in-Some-kept : goal.returns-in-Some-kept
@@ -35,21 +41,29 @@ returns-in-Some-kept c =
     let ds = c.self.inside.decisions.items in
     let same : whole c.self.inside.trace.now ≡ c.args.self.now = c.self.view_is in
     let there : nat_lt c.args.n (length ds) ≡ true =
-    ap (λ (xs : List (Option Decision)). nat_lt c.args.n (length xs)) (sym c.deref.ensures.value) ∙ sym c.in-Some.ensures.lookup.0 in
+    ap (λ (xs : List (Option Decision)). nat_lt c.args.n (length xs)) (sym c.deref.ensures.value)
+    ∙ sym c.in-Some.ensures.lookup.0 in
     let read : c.in-Some.kept.now ≡ get_or ds c.args.n c.in-Some.kept.now =
-    c.in-Some.ensures.lookup.1 ∙ ap (λ (xs : List (Option Decision)). get_or xs c.args.n c.in-Some.kept.now) c.deref.ensures.value in
+    c.in-Some.ensures.lookup.1 ∙ ap (λ (xs : List (Option Decision)). get_or xs c.args.n c.in-Some.kept.now)
+    c.deref.ensures.value in
     let is : decision_in ds c.args.n ≡ Some (c.in-Some-kept.decision.view, c.array_of.result) =
-    decision_of ds c.args.n c.in-Some.kept.now there read ∙ ap (option_map said) c.in-Some-kept.is ∙ ap (λ (token : List ℕ). Some (c.in-Some-kept.decision.view, token)) (sym c.array_of.ensures) in
+    decision_of ds c.args.n c.in-Some.kept.now there read ∙ ap (option_map said) c.in-Some-kept.is
+    ∙ ap (λ (token : List ℕ). Some (c.in-Some-kept.decision.view, token)) (sym c.array_of.ensures) in
     subst (Answers c.args.n (Some (c.in-Some-kept.decision.view, c.array_of.result))) same
-    (decided_is (whole c.self.inside.trace.now) ds c.args.n (Some (c.in-Some-kept.decision.view, c.array_of.result)) c.self.invariant.decisions is)
+    (decided_is (whole c.self.inside.trace.now) ds c.args.n (Some (c.in-Some-kept.decision.view, c.array_of.result))
+    c.self.invariant.decisions is)
 
 pub returns-in-None : goal.returns-in-None
 returns-in-None c =
     let ds = c.self.inside.decisions.items in
     let same : whole c.self.inside.trace.now ≡ c.args.self.now = c.self.view_is in
     let there : nat_lt c.args.n (length ds) ≡ true =
-    ap (λ (xs : List (Option Decision)). nat_lt c.args.n (length xs)) (sym c.deref.ensures.value) ∙ sym c.in-Some.ensures.lookup.0 in
+    ap (λ (xs : List (Option Decision)). nat_lt c.args.n (length xs)) (sym c.deref.ensures.value)
+    ∙ sym c.in-Some.ensures.lookup.0 in
     let read : c.in-Some.kept.now ≡ get_or ds c.args.n c.in-Some.kept.now =
-    c.in-Some.ensures.lookup.1 ∙ ap (λ (xs : List (Option Decision)). get_or xs c.args.n c.in-Some.kept.now) c.deref.ensures.value in
-    let is : decision_in ds c.args.n ≡ None = decision_of ds c.args.n c.in-Some.kept.now there read ∙ ap (option_map said) c.in-None.is in
-    subst (Answers c.args.n None) same (decided_is (whole c.self.inside.trace.now) ds c.args.n None c.self.invariant.decisions is)
+    c.in-Some.ensures.lookup.1 ∙ ap (λ (xs : List (Option Decision)). get_or xs c.args.n c.in-Some.kept.now)
+    c.deref.ensures.value in
+    let is : decision_in ds c.args.n ≡ None = decision_of ds c.args.n c.in-Some.kept.now there read
+    ∙ ap (option_map said) c.in-None.is in
+    subst (Answers c.args.n None) same
+    (decided_is (whole c.self.inside.trace.now) ds c.args.n None c.self.invariant.decisions is)

@@ -11,5 +11,8 @@ returns c =
     let t = whole c.self.inside.trace.now in
     let same : t ≡ c.args.self.now = c.self.view_is in
     let told : c.is_backed.result ≡ leb t.quorum (backers t c.args.n c.args.view ForRollback) = c.is_backed.ensures in
-    subst (λ (u : Trace). IsTrue c.is_backed.result ↔ IsRolledBack u c.args.n c.args.view) same
-    (λ given. leb-true t.quorum (backers t c.args.n c.args.view ForRollback) (sym told ∙ given), λ backed. told ∙ le-leb t.quorum (backers t c.args.n c.args.view ForRollback) backed)
+    subst (λ (u : Trace). IsTrue c.is_backed.result ↔ IsRolledBack u c.args.n c.args.view) same (
+      λ given. leb-true t.quorum (backers t c.args.n c.args.view ForRollback) (sym told ∙ given),
+      λ backed. told
+          ∙ le-leb t.quorum (backers t c.args.n c.args.view ForRollback) backed,
+    )

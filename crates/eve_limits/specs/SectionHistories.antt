@@ -2,11 +2,11 @@
 use Rattle.std.specs.Prelude.{◌≡◌, ℕ, ◌<◌, List, map, take}
 use Rattle.eve_grammar.specs.Trace.{Trace}
 use Rattle.eve_grammar.specs.Frames.{sections_of}
-use Rattle.eve_history.specs.Told.{Telling, telling, IsRightSection}
+use Rattle.eve_history.specs.SectionHistory.{SectionHistory, section_history, IsRightSection}
 use Rattle.eve_chains.specs.Settling.{Settling, settling}
 
 -- in their order, and their sections are right
-pub record AreTold (t : Trace) (n : ℕ) (told : List Telling) (wrote : List Settling) : Type 0 where
-  pub histories : told ≡ map (λ s. telling t s.0) (take n (sections_of t))
+pub record AreTold (t : Trace) (n : ℕ) (told : List SectionHistory) (wrote : List Settling) : Type 0 where
+  pub histories : told ≡ map (λ s. section_history t s.0) (take n (sections_of t))
   pub settled : wrote ≡ map (λ s. settling t s.0) (take n (sections_of t))
   pub right : (e : ℕ) → e < n → IsRightSection t e

@@ -1,0 +1,37 @@
+-- Stretches of a replica's committed batches, each judged by itself.
+use Rattle.std.specs.Prelude.{◌≡◌, ℕ, ◌≤◌, List, [], ◌∷◌, length, Option, Some, None, All}
+use Rattle.eve_grammar.specs.Trace.{Trace}
+use Rattle.eve_chains.specs.Settling.{Settling}
+use Rattle.eve_agree.specs.Judging.{IsAfter}
+use Rattle.eve_agree.specs.DueTokens.{IsFirstWrong}
+use Rattle.eve_agree.specs.declared.due_tokens.Stretch.{Stretch}
+
+-- it has the balances at its start, and its batches are there
+pub record IsReady (s : Settling) (x : Stretch) : Type 0 where
+  pub rising : x.before ≤ x.last
+  pub there : x.last ≤ length s.batches
+  pub balances : IsAfter s x.before x.balances
+
+-- it was judged
+pub record IsJudged (t : Trace) (e : ℕ) (old new : Stretch) : Type 0 where
+  pub before : new.before ≡ old.before
+  pub last : new.last ≡ old.last
+  pub wrong : IsFirstWrong t e old.before old.last new.wrong
+
+-- the stretches follow one another, the first behind so many batches, and reach to the last
+abbrev pub Reaches : ℕ → ℕ → List Stretch → Type 0
+Reaches before last [] = before ≡ last
+Reaches before last (x ∷ xs) = (x.before ≡ before) × Reaches x.last last xs
+
+pub record AreStretches (s : Settling) (before : ℕ) (xs : List Stretch) : Type 0 where
+  pub reaches : Reaches before (length s.batches) xs
+  pub ready : All (IsReady s) xs
+
+abbrev pub or_else : Option ℕ → Option ℕ → Option ℕ
+or_else None other = other
+or_else (Some at) other = Some at
+
+-- the first that was found
+abbrev pub first_found : List Stretch → Option ℕ
+first_found [] = None
+first_found (x ∷ xs) = or_else x.wrong (first_found xs)

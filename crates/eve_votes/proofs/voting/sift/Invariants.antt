@@ -1,0 +1,6 @@
+use Rattle.eve_views.specs.Fronts.{whole}
+use Rattle.eve_votes.proofs.Sifting.{Sifted}
+use Rattle.eve_votes.proofs.voting.sift.Given as goal
+
+abbrev pub invariant-loop-i : goal.invariant-loop-i
+invariant-loop-i l = Sifted (whole l.trace) l.ballots l.i l.only.items l.least
