@@ -1,4 +1,4 @@
-//! The program `eve`: `serve` over the words and the streams of the process.
+//! The program `eve`: `serve` over the arguments and the streams of the process.
 #![tactic(auto)]
 
 use eve_streams::{Buffered, Sink, SinkOf, SourceOf};
@@ -27,7 +27,7 @@ fn main(rt: HostRuntime) -> ExitCode {
     let status = match words_of(&rt) {
         Ok(words) => serve(&rt, words.as_slice(), &mut input, &mut out, &mut err),
         Err(e) if e.kind() == io::ErrorKind::OutOfMemory => stop(ToolFault::Memory, &mut err),
-        // Words that aren't text are no call.
+        // Arguments that aren't text are no call.
         Err(_) => serve(&rt, &["eve", "\u{fffd}"], &mut input, &mut out, &mut err),
     };
     ExitCode::from(finish(status, &mut out, &mut err))

@@ -8,19 +8,25 @@ use std::str;
 use std::sync::Wait;
 use std::thread::Threads;
 
+/// What stands there, without the line feed.
+fn line_of(sink: &SinkOf<Vec<u8>>) -> Result<&str> {
+    Ok(str::from_utf8(sink.writer().as_slice())?.trim_end())
+}
+
 /// The exit status, and what is said on out and on the error stream.
 fn said<R: AllocGlobal + RandomSource + Threads + Wait + Sync>(
     rt: &R,
     words: &[&str],
     bytes: &[u8],
 ) -> Result<String> {
+    let alloc = rt.alloc();
     let mut input = SourceOf::new(bytes);
-    let mut out = SinkOf::new(Vec::new(rt.alloc()));
-    let mut err = SinkOf::new(Vec::new(rt.alloc()));
+    let mut out = SinkOf::new(Vec::new(alloc));
+    let mut err = SinkOf::new(Vec::new(alloc));
     let status = serve(rt, words, &mut input, &mut out, &mut err);
-    let line = str::from_utf8(out.writer().as_slice())?;
-    let fault = str::from_utf8(err.writer().as_slice())?;
-    Ok(format!(in rt.alloc(); "{status} {}{}", line.trim_end(), fault.trim_end())?)
+    let line = line_of(&out)?;
+    let fault = line_of(&err)?;
+    Ok(format!(in alloc; "{status} {line}{fault}")?)
 }
 
 /// What `eve audit` says.

@@ -11,23 +11,24 @@ struct Change {
     bytes: Vec<u8>,
 }
 
+/// The places that a change names: from one up to another, or from one on as many as there are bytes.
+fn range_of(place: &str, len: usize) -> Option<(usize, usize)> {
+    match place.split_once("..") {
+        Some((from, to)) => Some((from.parse().ok()?, to.parse().ok()?)),
+        None => {
+            let from: usize = place.parse().ok()?;
+            Some((from, from.saturating_add(len)))
+        }
+    }
+}
+
 /// The change of a word. `AT=HEX` puts its bytes in place of as many at AT; `FROM..TO=HEX` puts its bytes, of any
 /// number, in place of those from FROM up to TO. Places are those of the file, from 0.
 fn change_of(alloc: Global, word: &str) -> Result<Change> {
     let (place, hex) = word.split_once('=').context("a change has =")?;
     let bytes = hex::decode(alloc, hex)?;
-    match place.split_once("..") {
-        Some((from, to)) => Ok(Change {
-            from: from.parse()?,
-            to: to.parse()?,
-            bytes,
-        }),
-        None => {
-            let from: usize = place.parse()?;
-            let to = from.saturating_add(bytes.len());
-            Ok(Change { from, to, bytes })
-        }
-    }
+    let (from, to) = range_of(place, bytes.len()).context("places")?;
+    Ok(Change { from, to, bytes })
 }
 
 /// Sets the total of a trace, of fewer than 65,536 bytes, to the number of its bytes.

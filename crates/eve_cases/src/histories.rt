@@ -12,30 +12,40 @@ use eve_votes::Tally;
 use std::alloc::{AllocError, Global};
 use std::fmt::Write;
 
-/// A replica's attempts with their fates, its committed batches, and its rollbacks.
-fn push_history(text: &mut String, history: &History) -> Result<(), AllocError> {
-    write!(
-        text,
-        "\n replica {} committed {}",
-        history.replica(),
-        history.committed()
-    )?;
+/// A replica's attempts, with their fates.
+fn push_attempts(text: &mut String, history: &History) -> Result<(), AllocError> {
     for i in 0..history.attempts() {
         let offset = history.attempt(i).offset();
-        write!(text, "\n  attempt {i} at {offset}: {:?}", history.fate(i))?;
-    }
-    for n in 0..history.committed() {
-        write!(
-            text,
-            "\n  batch {} by attempt {}",
-            n + 1,
-            history.committed_attempt(n + 1)
-        )?;
-    }
-    for i in 0..history.rollbacks() {
-        write!(text, "\n  rollback {i} at {}", history.rollback(i).offset())?;
+        let fate = history.fate(i);
+        write!(text, "\n  attempt {i} at {offset}: {fate:?}")?;
     }
     Ok(())
+}
+
+/// By which attempts it committed its batches.
+fn push_commits(text: &mut String, history: &History) -> Result<(), AllocError> {
+    for n in 0..history.committed() {
+        let attempt = history.committed_attempt(n + 1);
+        write!(text, "\n  batch {} by attempt {attempt}", n + 1)?;
+    }
+    Ok(())
+}
+
+fn push_rollbacks(text: &mut String, history: &History) -> Result<(), AllocError> {
+    for i in 0..history.rollbacks() {
+        let offset = history.rollback(i).offset();
+        write!(text, "\n  rollback {i} at {offset}")?;
+    }
+    Ok(())
+}
+
+/// A replica's attempts with their fates, its committed batches, and its rollbacks.
+fn push_history(text: &mut String, history: &History) -> Result<(), AllocError> {
+    let (replica, committed) = (history.replica(), history.committed());
+    write!(text, "\n replica {replica} committed {committed}")?;
+    push_attempts(text, history)?;
+    push_commits(text, history)?;
+    push_rollbacks(text, history)
 }
 
 /// All balances, in row order.
@@ -64,6 +74,16 @@ fn push_after(
     push_balances(text, &settled.balances_after(alloc, n + 1)?)
 }
 
+/// The balances at the opening, and after each batch that was committed.
+fn push_settled(text: &mut String, alloc: Global, settled: &Settled) -> Result<(), AllocError> {
+    text.push_str("\n  after 0:")?;
+    push_balances(text, &settled.balances_after(alloc, 0)?)?;
+    for n in 0..settled.committed() {
+        push_after(text, alloc, settled, n)?;
+    }
+    Ok(())
+}
+
 /// A replica's history, and the balances after each batch that it committed.
 fn push_replica(text: &mut String, alloc: Global, trace: &Trace, e: u8) -> Result<(), CheckFault> {
     trace.is_whole();
@@ -72,12 +92,7 @@ fn push_replica(text: &mut String, alloc: Global, trace: &Trace, e: u8) -> Resul
     }
     let history = History::of(alloc, trace, e)?;
     push_history(text, &history)?;
-    let settled = Settled::of(alloc, &history, trace)?;
-    text.push_str("\n  after 0:")?;
-    push_balances(text, &settled.balances_after(alloc, 0)?)?;
-    for n in 0..settled.committed() {
-        push_after(text, alloc, &settled, n)?;
-    }
+    push_settled(text, alloc, &Settled::of(alloc, &history, trace)?)?;
     Ok(())
 }
 

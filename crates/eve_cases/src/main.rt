@@ -8,6 +8,7 @@
 //! - `lengths FILE AT`: what it says where the frame at byte AT claims another length of its body.
 //! - `bytes FILE`: with which values of each byte it says yes.
 //! - `each-one-higher FILE`: the verdict with each byte one higher, modulo 256, if two workers come to the same.
+//! - `one FILE`: whether `audit_one` accepts it.
 //! - `meet FILE`: the audit by two workers, each held at its replica until the other has come to its own.
 //! - `agree FILE`: what is found of two replicas together, whatever was voted.
 //! - `tell FILE CHANGE..`: its frames, the parts that are lent, what is found of its replicas and votes, and what
@@ -53,6 +54,7 @@ fn answer_of<R: AllocGlobal + RandomSource + Threads + Wait + Sync>(
         "lengths" => sweeps::lengths(rt, bytes, more.first().context("a place")?.parse()?),
         "bytes" => sweeps::bytes(rt, bytes),
         "each-one-higher" => sweeps::each_one_higher(rt, bytes),
+        "one" => sweeps::one(rt, bytes),
         "agree" => findings::agreed(rt, bytes),
         "meet" => meeting::meet(rt, bytes),
         "tell" => findings::told(rt, change::changed(rt.alloc(), bytes, more)?.as_slice()),

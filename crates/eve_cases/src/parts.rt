@@ -11,11 +11,7 @@ use std::fmt::Write;
 
 /// That what an iterator gives isn't what is lent by place.
 fn push_unlike(text: &mut String, is_unlike: bool) -> Result<(), AllocError> {
-    if is_unlike {
-        text.push_str("(unlike)")
-    } else {
-        Ok(())
-    }
+    text.push_str(if is_unlike { "(unlike)" } else { "" })
 }
 
 /// A customer: its name, saving and checking.

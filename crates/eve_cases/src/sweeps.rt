@@ -35,22 +35,33 @@ pub fn fronts<R: AllocGlobal + RandomSource + Threads + Wait + Sync>(
     Ok(text)
 }
 
+/// The length of its body that the frame at this place claims.
+fn length_at(bytes: &[u8], at: usize) -> Option<u32> {
+    let (_, length) = bytes.get(at..)?.split_first()?;
+    Some(u32::from_be_bytes(*length.first_chunk()?))
+}
+
+/// Lets the frame at this place claim another length of its body.
+fn claim(bytes: &mut [u8], at: usize, length: u32) {
+    if let Some(frame) = bytes.get_mut(at..) {
+        if 5 <= frame.len() {
+            frame[1..5].copy_from_slice(&length.to_be_bytes());
+        }
+    }
+}
+
 /// What is said where a frame claims another number of bytes for its body: from none to one more than it has.
 pub fn lengths<R: AllocGlobal + RandomSource + Threads + Wait + Sync>(
     rt: &R,
     bytes: &[u8],
     at: usize,
 ) -> Result<String> {
-    let frame = bytes.get(at..).context("a frame")?;
-    let (_, length) = frame.split_first().context("a kind")?;
-    let length = u32::from_be_bytes(*length.first_chunk().context("a length")?);
+    let length = length_at(bytes, at).context("a frame")?;
     let mut text = "a body of so many bytes".to_string(rt.alloc())?;
     let mut all = Vec::new(rt.alloc());
     for claimed in 0..length.saturating_add(2) {
         let mut copy = bytes.to_vec(rt.alloc())?;
-        if at < copy.len() && 5 <= copy.len() - at {
-            copy[at + 1..at + 5].copy_from_slice(&claimed.to_be_bytes());
-        }
+        claim(copy.as_mut_slice(), at, claimed);
         let line = by_one(rt, copy.as_slice())?;
         all.push(Said {
             number: claimed as usize,
@@ -61,8 +72,33 @@ pub fn lengths<R: AllocGlobal + RandomSource + Threads + Wait + Sync>(
     Ok(text)
 }
 
-/// With how many values of a byte the verdict is yes, and the first and the last of them. With the others it is no, at a
-/// place within the bytes or at their end.
+/// Whether the verdict is yes. If it is no, then at a place within the bytes or at their end.
+fn is_accepted<R: AllocGlobal + RandomSource + Threads + Wait + Sync>(
+    rt: &R,
+    bytes: &[u8],
+) -> Result<bool> {
+    match audit_one(rt, rt.alloc(), bytes, RandomState::new(rt)?) {
+        Ok(Verdict::Yes(_)) => Ok(true),
+        Ok(Verdict::No(fault)) if fault.offset <= bytes.len() as u64 => Ok(false),
+        _ => bail!("no verdict within the bytes"),
+    }
+}
+
+/// Whether one thread accepts the trace.
+pub fn one<R: AllocGlobal + RandomSource + Threads + Wait + Sync>(
+    rt: &R,
+    bytes: &[u8],
+) -> Result<String> {
+    let text = if is_accepted(rt, bytes)? {
+        "accepted"
+    } else {
+        "not accepted"
+    };
+    Ok(text.to_string(rt.alloc())?)
+}
+
+/// With how many values of a byte the verdict is yes, and the first and the last of them. With the others it is no, at
+/// a place within the bytes or at their end.
 fn accepted_values<R: AllocGlobal + RandomSource + Threads + Wait + Sync>(
     rt: &R,
     copy: &mut Vec<u8>,
@@ -72,11 +108,8 @@ fn accepted_values<R: AllocGlobal + RandomSource + Threads + Wait + Sync>(
     for value in 0..=255u8 {
         let byte = copy.get_mut(place).context("a byte")?;
         *byte = value;
-        let random = RandomState::new(rt)?;
-        match audit_one(rt, rt.alloc(), copy.as_slice(), random) {
-            Ok(Verdict::Yes(_)) => right.push(value)?,
-            Ok(Verdict::No(fault)) if fault.offset <= copy.len() as u64 => {}
-            _ => bail!("no verdict within the bytes"),
+        if is_accepted(rt, copy.as_slice())? {
+            right.push(value)?;
         }
     }
     let count = right.len();
@@ -112,12 +145,16 @@ fn by_one_and_two<R: AllocGlobal + RandomSource + Threads + Wait + Sync>(
     let alloc = rt.alloc();
     let one = audit_one(rt, alloc, bytes, RandomState::new(rt)?);
     let two = audit(rt, alloc, bytes, 2, RandomState::new(rt)?, &OpenGate);
-    match (one, two) {
-        (Ok(one), Ok(two)) if one != two => Ok("two workers say something else"),
-        (Ok(Verdict::Yes(_)), Ok(_)) => Ok("yes"),
-        (Ok(Verdict::No(_)), Ok(_)) => Ok("no"),
-        _ => bail!("out of memory"),
+    let (Ok(one), Ok(two)) = (one, two) else {
+        bail!("out of memory");
+    };
+    if one != two {
+        return Ok("two workers say something else");
     }
+    Ok(match one {
+        Verdict::Yes(_) => "yes",
+        Verdict::No(_) => "no",
+    })
 }
 
 /// What is said where a byte is one higher, modulo 256, the others left as they are.

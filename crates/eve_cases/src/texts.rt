@@ -63,7 +63,7 @@ pub fn push_reply(text: &mut String, reply: Reply) -> Result<(), AllocError> {
     }
 }
 
-/// An entry of a record: what was done to a row, the version and the value seen, and the value behind it.
+/// An entry of a record: what was done to a row, the version and the value seen, and the value after it.
 pub fn push_entry(text: &mut String, entry: &Entry) -> Result<(), AllocError> {
     let done = if entry.kind.is_write() {
         "writes"

@@ -1,4 +1,4 @@
-//! Runs worked workloads: a line of the input names a file and, if any, further words for `eve run`. Each line is
+//! Runs worked workloads: a line of the input names a file and, if any, further arguments for `eve run`. Each line is
 //! printed again with the exit status, and with what was said where there was no run. The trace of a run is compared
 //! with the file of the same name that ends in `.trace`, where there is one, and audited.
 #![tactic(auto)]
@@ -19,7 +19,7 @@ struct Answer {
     err: Vec<u8>,
 }
 
-/// What `eve` says of the bytes for these words.
+/// What `eve` says of the bytes for these arguments.
 fn said<R: AllocGlobal + RandomSource + Threads + Wait + Sync>(
     rt: &R,
     words: &[&str],
@@ -36,7 +36,7 @@ fn said<R: AllocGlobal + RandomSource + Threads + Wait + Sync>(
     })
 }
 
-/// The words of the call that a line asks for: behind the file's name, further words.
+/// The arguments of the call that a line asks for: behind the file's name, further arguments.
 fn words_of<'a>(rt: &HostRuntime, line: &'a str) -> io::Result<Vec<&'a str>> {
     let mut words = Vec::new(rt.alloc());
     words.push("eve")?;

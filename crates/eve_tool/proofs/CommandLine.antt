@@ -1,6 +1,9 @@
 -- What a command line without a fault names.
-use Rattle.std.proofs.Common.{◌≡◌, ◌⊎◌, ℕ, suc, ◌≤◌, ◌<◌, inl, inr, arith, subst, refl, Bool, true, false, not, ◌&&◌, ◌||◌, ap₂, ◌∙◌, if◌then◌else◌, List, [], ◌∷◌, Option, Some, None, codes, is_some, option_map, option_and_then}
-use Rattle.clap.specs.Words.{IsAmong, Kinds, Row, Shape, Text, built, fault_of, is_simple, is_simple_and_free, subcommand_of}
+use Rattle.std.proofs.Common.{◌≡◌, ◌⊎◌, ℕ, suc, ◌≤◌, ◌<◌, inl, inr, arith, subst, refl, Bool, true, false, not, ◌&&◌}
+use Rattle.std.proofs.Common.{◌||◌, ap₂, ◌∙◌, if◌then◌else◌, List, [], ◌∷◌, Option, Some, None, codes, is_some}
+use Rattle.std.proofs.Common.{option_map, option_and_then}
+use Rattle.clap.specs.Words.{IsAmong, Kinds, Row, Shape, Text, built, fault_of, is_simple, is_simple_and_free}
+use Rattle.clap.specs.Words.{subcommand_of}
 use Rattle.clap.specs.Kinds.{check_kinds, or_else}
 use Rattle.clap.specs.Simple.{argument_words, built_leaf, entered, inherited, label_of, names_of, rows_at}
 use Rattle.clap.specs.Walk.{Held, Names, answers_to, finished, nothing_held, settled, stop_after, walk, walk_from}
@@ -11,7 +14,9 @@ use Rattle.std.specs.List.{list_any}
 use Rattle.std.specs.Fmt.{decimal, digits}
 use Rattle.std.proofs.lemmas.Bool.{cases_lt}
 use Rattle.clap.proofs.OnLiterals.{clap_on_literals}
-use Rattle.eve_tool.specs.Words.{Answers, AsksForHelp, SaysOf, Subcommand, Audit, Run, Show, NamesNoMixer, mixer_in, audit, run, call_of, call_unless, eve, faults_of, program, show, subcommand_named, workers_of}
+use Rattle.eve_tool.specs.Words.{Answers, AsksForHelp, AuditsBy, GetsHelp, SaysOf, Subcommand, Audit, Run, Show}
+use Rattle.eve_tool.specs.Words.{NamesNoMixer, mixer_in, audit, run, call_of, call_unless, eve, faults_of, program}
+use Rattle.eve_tool.specs.Words.{show, subcommand_named, workers_of}
 use Rattle.clap.specs.declared.error.kind.ErrorKind.{ErrorKind}
 use Rattle.eve_workload.specs.declared.mixer.Mixer.{Mixer}
 use Rattle.eve_workload.specs.declared.mixer.Mixer.TheVariants.{First, Whole}
@@ -19,7 +24,7 @@ use Rattle.clap.specs.declared.error.kind.ErrorKind.TheVariants as kind
 use Rattle.eve_tool.specs.declared.words.Asked.{Asked}
 use Rattle.eve_tool.specs.declared.words.Asked.TheVariants as asked
 
--- the program is of the kind of which clap says what it makes of the words
+-- the program is of the kind of which clap says what it makes of the arguments
 pub eve_is_simple : is_simple eve ≡ true
 unfolding clap_on_literals
 eve_is_simple = refl
@@ -40,13 +45,15 @@ last_is_empty [] [] (k ∷ c) d e h = cc
 last_is_empty [] (k ∷ b) c d e h = cc
 last_is_empty (k ∷ a) b c d e h = cc
 
-has_when_wanted : (has wants_help wants_argument : Bool) → check_kinds wants_help (not has && true) wants_argument ≡ [] → has ≡ true
+has_when_wanted : (has wants_help wants_argument : Bool) → check_kinds wants_help (not has && true) wants_argument ≡ []
+    → has ≡ true
 has_when_wanted true help argument h = refl
 has_when_wanted false true argument h = cc
 has_when_wanted false false argument h = cc
 
 -- where nothing is wrong with a level that wants a subcommand, there is one
-subcommand_wanted : (s : Shape) (names : Names) (h : Held) (words : List Text) (has : Bool) (below : Kinds) → s.subcommand_required ≡ true
+subcommand_wanted : (s : Shape) (names : Names) (h : Held) (words : List Text) (has : Bool) (below : Kinds)
+    → s.subcommand_required ≡ true
     → level_fault s names h words has below ≡ [] → has ≡ true
 subcommand_wanted s names h words has below wants right =
     let end = (walk s.rules names h words).held in
@@ -59,7 +66,8 @@ subcommand_wanted s names h words has below wants right =
     right in
     has_when_wanted has
     (not has && (s.arg_required_else_help && not (list_any (λ r. explicit_source r.source) (finished s.rules end))))
-    (not (s.subcommand_negates_reqs && has) && list_any (λ a. a.required && not (is_given a.id (finished s.rules end))) s.rules)
+    (not (s.subcommand_negates_reqs && has) && list_any (λ a. a.required && not (is_given a.id (finished s.rules end)))
+    s.rules)
     (rw wants at last)
 
 -- the subcommands as the program has them once it is built
@@ -75,7 +83,8 @@ built_run = built_leaf (inherited program.top run)
 abbrev entered_if : Bool → Bool → Bool → List Text → Option (Text × List Row)
 entered_if is_audit is_run is_show rest =
     option_map (λ s. rows_at s rest)
-    (if is_audit then Some built_audit else (if is_run then Some built_run else (if is_show then Some built_show else None)))
+    (if is_audit then Some built_audit else
+    (if is_run then Some built_run else (if is_show then Some built_show else None)))
 
 -- what was entered is no call: it is `run`, with a mixer that isn't there
 pub record EntersNoMixer (found : Option (Text × List Row)) : Type 0 where
@@ -91,7 +100,8 @@ no_mixer rows h = by (mixer_in rows) h
     by (Some m) h = absurd (cc)
 
 call_if : (is_audit is_run is_show : Bool) (rest : List Text) → is_some (entered_if is_audit is_run is_show rest) ≡ true
-    → option_and_then subcommand_named (entered_if is_audit is_run is_show rest) ≡ None → EntersNoMixer (entered_if is_audit is_run is_show rest)
+    → option_and_then subcommand_named (entered_if is_audit is_run is_show rest) ≡ None
+    → EntersNoMixer (entered_if is_audit is_run is_show rest)
 unfolding clap_on_literals
 call_if true is_run is_show rest h none = cc
 call_if false true is_show rest h none =
@@ -105,7 +115,8 @@ entered_call : (stop : Option (Text × List Text)) → is_some (entered (built e
 unfolding clap_on_literals
 entered_call None h none = cc
 entered_call (Some p) h none =
-    call_if (answers_to p.0 (label_of built_audit)) (answers_to p.0 (label_of built_run)) (answers_to p.0 (label_of built_show)) p.1 h none
+    call_if (answers_to p.0 (label_of built_audit)) (answers_to p.0 (label_of built_run))
+    (answers_to p.0 (label_of built_show)) p.1 h none
 
 -- words without a fault name a subcommand
 entered_without_faults : (words : List Text) → fault_of eve words ≡ [] → is_some (subcommand_of eve words) ≡ true
@@ -113,77 +124,74 @@ entered_without_faults words h =
     let above = built eve in
     let rest = argument_words eve words in
     let stop = (walk above.top.rules (names_of above) nothing_held rest).stopped in
-    subcommand_wanted above.top (names_of above) nothing_held rest (is_some (entered above stop)) (entered_fault above stop) refl h
+    subcommand_wanted above.top (names_of above) nothing_held rest (is_some (entered above stop))
+    (entered_fault above stop) refl h
 
 -- words without a fault are a call
-pub call_without_faults : (words : List Text) → fault_of eve words ≡ [] → call_of words ≡ option_and_then subcommand_named (subcommand_of eve words)
+pub call_without_faults : (words : List Text) → fault_of eve words ≡ [] → call_of words
+    ≡ option_and_then subcommand_named (subcommand_of eve words)
 unfolding call_of faults_of
 call_without_faults words h = rw h refl
 
 -- or they name a mixer that isn't there
-pub mixer_without_faults : (words : List Text) → fault_of eve words ≡ [] → option_and_then subcommand_named (subcommand_of eve words) ≡ None
+pub mixer_without_faults : (words : List Text) → fault_of eve words ≡ []
+    → option_and_then subcommand_named (subcommand_of eve words) ≡ None
     → NamesNoMixer words
 mixer_without_faults words h none =
     let above = built eve in
-    let found = entered_call (stop_after above.top.rules (names_of above) (argument_words eve words)) (entered_without_faults words h) none in
+    let found = entered_call (stop_after above.top.rules (names_of above) (argument_words eve words))
+    (entered_without_faults words h) none in
     record { rows = found.rows; met = found.met; unknown = found.unknown }
 
 -- words with a fault are no call
 no_call : (words : List Text) (k : ErrorKind) → IsAmong k (faults_of words) → call_of words ≡ None
 unfolding call_of
-no_call words k among = none_if (faults_of words) k among (option_and_then subcommand_named (subcommand_of eve words)) where
-  none_if : (kinds : Kinds) (k : ErrorKind) → IsAmong k kinds → (found : Option Subcommand) → call_unless kinds found ≡ None
-  none_if [] k among found = absurd among
-  none_if (x ∷ xs) k among found = refl
+no_call words k among = none_if (faults_of words) k among (option_and_then subcommand_named (subcommand_of eve words))
+  where
+    none_if : (kinds : Kinds) (k : ErrorKind) → IsAmong k kinds → (found : Option Subcommand) → call_unless kinds found
+        ≡ None
+    none_if [] k among found = absurd among
+    none_if (x ∷ xs) k among found = refl
 
--- what is said of a fault is an answer to the words
-pub answers_with_fault : (words : List Text) (k : ErrorKind) (a : Asked) → (k ≡ kind.OutOfMemory) ⊎ IsAmong k (fault_of eve words) → SaysOf k a → Answers words a
+-- what is said of a fault is an answer to the arguments
+pub answers_with_fault : (words : List Text) (k : ErrorKind) (a : Asked) → (k ≡ kind.OutOfMemory)
+    ⊎ IsAmong k (fault_of eve words) → SaysOf k a → Answers words a
 unfolding faults_of
 answers_with_fault words k (asked.Call call) found says = absurd says
 answers_with_fault words k (asked.Help text) (inl e) says = cc
 answers_with_fault words k (asked.Help text) (inr among) says =
-    let help = subst (λ (x : ErrorKind). IsAmong x (fault_of eve words)) says among in (no_call words kind.DisplayHelp help, help)
+    let help = subst (λ (x : ErrorKind). IsAmong x (fault_of eve words)) says among in
+    (no_call words kind.DisplayHelp help, help)
 answers_with_fault words k (asked.Refused text) (inl e) says = absurd (says.1 e)
-answers_with_fault words k (asked.Refused text) (inr among) says = (no_call words k among, inl (record { what = k; found = among; no_help = says.0 }))
+answers_with_fault words k (asked.Refused text) (inr among) says =
+    (no_call words k among, inl (record { what = k; found = among; no_help = says.0 }))
 
 -- ---- plain words, behind the program's name
 
-audit_call : (name : Text) → call_of (name ∷ codes "audit" ∷ []) ≡ Some Audit
+pub audit_call : (name : Text) → call_of (name ∷ codes "audit" ∷ []) ≡ Some Audit
 unfolding call_of faults_of clap_on_literals
 audit_call name = refl
 
-pub called_audit : (words : List Text) (name : Text) → words ≡ name ∷ codes "audit" ∷ [] → call_of words ≡ Some Audit
-called_audit words name e = rw e (audit_call name)
-
-run_call : (name : Text) → call_of (name ∷ codes "run" ∷ []) ≡ Some (Run First)
+pub run_call : (name : Text) → call_of (name ∷ codes "run" ∷ []) ≡ Some (Run First)
 unfolding call_of faults_of clap_on_literals
 run_call name = refl
 
-pub called_run : (words : List Text) (name : Text) → words ≡ name ∷ codes "run" ∷ [] → call_of words ≡ Some (Run First)
-called_run words name e = rw e (run_call name)
-
-whole_call : (name : Text) → call_of (name ∷ codes "run" ∷ codes "--mixer" ∷ codes "whole" ∷ []) ≡ Some (Run Whole)
+pub whole_call : (name : Text) → call_of (name ∷ codes "run" ∷ codes "--mixer" ∷ codes "whole" ∷ []) ≡ Some (Run Whole)
 unfolding call_of faults_of clap_on_literals
 whole_call name = refl
 
-pub called_run_whole : (words : List Text) (name : Text) → words ≡ name ∷ codes "run" ∷ codes "--mixer" ∷ codes "whole" ∷ []
-    → call_of words ≡ Some (Run Whole)
-called_run_whole words name e = rw e (whole_call name)
-
-show_call : (name : Text) → call_of (name ∷ codes "show" ∷ []) ≡ Some Show
+pub show_call : (name : Text) → call_of (name ∷ codes "show" ∷ []) ≡ Some Show
 unfolding call_of faults_of clap_on_literals
 show_call name = refl
-
-pub called_show : (words : List Text) (name : Text) → words ≡ name ∷ codes "show" ∷ [] → call_of words ≡ Some Show
-called_show words name e = rw e (show_call name)
 
 help_fault : (name : Text) → faults_of (name ∷ codes "--help" ∷ []) ≡ kind.DisplayHelp ∷ []
 unfolding faults_of clap_on_literals
 help_fault name = refl
 
-pub asked_help : (words : List Text) (name : Text) → words ≡ name ∷ codes "--help" ∷ [] → (call_of words ≡ None) × AsksForHelp words
-asked_help words name e =
-    let among : AsksForHelp words = rw (e, help_fault name) (inl refl) in (no_call words kind.DisplayHelp among, among)
+pub asks_help : (name : Text) → GetsHelp (name ∷ codes "--help" ∷ [])
+asks_help name =
+    let words = name ∷ codes "--help" ∷ [] in
+    let among : AsksForHelp words = rw (help_fault name) (inl refl) in (no_call words kind.DisplayHelp among, among)
 
 -- ---- workers that are named
 
@@ -195,12 +203,12 @@ up_to {P} k before last n some most = by (cases_lt n (suc k))
     by (inl less) = before n some (omega (arith, less))
     by (inr reached) = let is : suc k ≡ n = omega (arith, reached, most) in subst P is last
 
--- the words that ask for this number of workers
-abbrev asking : Text → ℕ → List Text
+-- the arguments that ask for this number of workers
+abbrev pub asking : Text → ℕ → List Text
 asking name n = name ∷ codes "audit" ∷ codes "--workers" ∷ decimal n ∷ []
 
-abbrev Asks : Text → ℕ → Type 0
-Asks name n = (call_of (asking name n) ≡ Some Audit) × (workers_of (asking name n) ≡ Some n)
+abbrev pub Asks : Text → ℕ → Type 0
+Asks name n = AuditsBy n (asking name n)
 
 asks_1 : (name : Text) → Asks name 1
 unfolding call_of faults_of workers_of clap_on_literals digits
@@ -266,16 +274,16 @@ asks_16 : (name : Text) → Asks name 16
 unfolding call_of faults_of workers_of clap_on_literals digits
 asks_16 name = (refl, refl)
 
-asks : (name : Text) (n : ℕ) → 1 ≤ n → n ≤ 16 → Asks name n
-asks name = up_to 15 (up_to 14 (up_to 13 (up_to 12 (up_to 11 (up_to 10 (up_to 9 (up_to 8 (up_to 7 (up_to 6 (up_to 5 (up_to 4 (up_to 3 (up_to 2 (up_to 1 (up_to 0 (λ n some most. absurd (omega (arith, some, most))) (asks_1 name)) (asks_2 name)) (asks_3 name)) (asks_4 name)) (asks_5 name)) (asks_6 name)) (asks_7 name)) (asks_8 name)) (asks_9 name)) (asks_10 name)) (asks_11 name)) (asks_12 name)) (asks_13 name)) (asks_14 name)) (asks_15 name)) (asks_16 name)
+pub asks : (name : Text) (n : ℕ) → 1 ≤ n → n ≤ 16 → Asks name n
+asks name = up_to 15 (up_to 14
+    (up_to 13 (up_to 12 (up_to 11
+    (up_to 10 (up_to 9 (up_to 8
+    (up_to 7 (up_to 6 (up_to 5
+    (up_to 4 (up_to 3 (up_to 2 (up_to 1 (up_to 0 (λ n some most. absurd (omega (arith, some, most))) (asks_1 name))
+    (asks_2 name)) (asks_3 name)) (asks_4 name)) (asks_5 name)) (asks_6 name)) (asks_7 name)) (asks_8 name))
+    (asks_9 name)) (asks_10 name)) (asks_11 name)) (asks_12 name)) (asks_13 name)) (asks_14 name)) (asks_15 name))
+    (asks_16 name)
 
-pub called_with_workers : (words : List Text) (name : Text) (n : ℕ) → 1 ≤ n → n ≤ 16
-    → words ≡ name ∷ codes "audit" ∷ codes "--workers" ∷ decimal n ∷ [] → (call_of words ≡ Some Audit) × (workers_of words ≡ Some n)
-called_with_workers words name n some most e = rw e (asks name n some most)
-
-alone : (name : Text) → workers_of (name ∷ codes "audit" ∷ []) ≡ Some 1
+pub alone : (name : Text) → workers_of (name ∷ codes "audit" ∷ []) ≡ Some 1
 unfolding workers_of clap_on_literals
 alone name = refl
-
-pub one_worker_alone : (words : List Text) (name : Text) → words ≡ name ∷ codes "audit" ∷ [] → workers_of words ≡ Some 1
-one_worker_alone words name e = rw e (alone name)

@@ -1,10 +1,12 @@
 -- What is said of bytes where only so many of them were read.
-use Rattle.std.proofs.Common.{◌≡◌, ℕ, ◌+◌, ◌^◌, ◌<◌, ◌≤◌, inl, inr, Bool, true, false, ◌&&◌, List, length, take, Some, None, refl, ap, sym, subst, ◌∙◌, arith}
+use Rattle.std.proofs.Common.{◌≡◌, ℕ, ◌+◌, ◌^◌, ◌<◌, ◌≤◌, inl, inr, Bool, true, false, ◌&&◌, List, length, take, Some}
+use Rattle.std.proofs.Common.{None, refl, ap, sym, subst, ◌∙◌, arith}
 use Rattle.std.specs.Prelude.{IfSome, IsFalse, Option, nat_le}
 use Rattle.std.proofs.lemmas.Bool.{cases_lt, lt-leb}
 use Rattle.std.proofs.lemmas.List.{length-take, take_all}
 use Rattle.eve_audit.proofs.Firsts.{trace_phase}
-use Rattle.eve_audit.specs.Verdict.{IsFirst, IsJudged, IsVerdict, IsYesOfAudited, SpellsAudited, Stands, in_form, in_trace}
+use Rattle.eve_audit.specs.Verdict.{IsFirst, IsJudged, IsVerdict, IsYesOfAudited, SpellsAudited, Stands, in_form}
+use Rattle.eve_audit.specs.Verdict.{in_trace}
 use Rattle.eve_audit.specs.declared.verdict.Verdict.{Verdict}
 use Rattle.eve_audit.specs.declared.verdict.Verdict.TheVariants.{No, Yes}
 use Rattle.eve_views.specs.Code.{number_of, phase_of}
@@ -17,6 +19,7 @@ use Rattle.eve_tool.specs.declared.fault.ToolFault.TheVariants as fault
 use Rattle.eve_tool.specs.Audit.{Audits}
 use Rattle.eve_tool.specs.Calls.{Leaves}
 use Rattle.eve_tool.specs.Lines.{status_of_verdict}
+use Rattle.eve_tool.specs.Run.{longest}
 use Rattle.eve_tool.specs.Show.{Shows}
 use Rattle.eve_tool.specs.Words.{Audit, Show}
 use Rattle.eve_tool.specs.Writes.{WritesAll, WritesAllOf, WritesFront, WritesFrontOf}
@@ -54,7 +57,8 @@ first_of_all f g front low =
     elim (cases_lt f.offset g.offset) [ inl before ↦ inl before | inr reached ↦ inr (omega arith, omega arith) ]
 
 -- bytes that are too long have one first fault, whatever they are
-same_fault : (xs ys : List ℕ) (f : Fault) → 2 ^ 30 < length xs → 2 ^ 30 < length ys → IsLeast (IsFormFault xs) f → IsLeast (IsFormFault ys) f
+same_fault : (xs ys : List ℕ) (f : Fault) → 2 ^ 30 < length xs → 2 ^ 30 < length ys → IsLeast (IsFormFault xs) f
+    → IsLeast (IsFormFault ys) f
 same_fault xs ys f long longer least =
     let front = at_front f (least.least length_fault (length_stands xs long)) in
     let is_its = is_length f.code front.1 in
@@ -67,18 +71,29 @@ same_fault xs ys f long longer least =
     }
 
 -- a number of bytes that no trace has is enough to say what is to be said of all of them
-pub Shows-cut : (limit : ℕ) (bytes text : List ℕ) (status : ℕ) → 2 ^ 30 ≤ limit → Shows (take (limit + 1) bytes) text status → Shows bytes text status
+pub Shows-cut : (limit : ℕ) (bytes text : List ℕ) (status : ℕ) → 2 ^ 30 ≤ limit
+    → Shows (take (limit + 1) bytes) text status → Shows bytes text status
 Shows-cut limit bytes text status enough shows =
     elim (cases_lt (limit + 1) (length bytes)) [
       | inl longer ↦ cut limit bytes text status enough longer shows
       | inr all ↦ subst (λ (b : List ℕ). Shows b text status) (take_all (limit + 1) bytes all) shows
     ] where
-      cut : (limit : ℕ) (bytes text : List ℕ) (status : ℕ) → 2 ^ 30 ≤ limit → limit + 1 < length bytes → Shows (take (limit + 1) bytes) text status → Shows bytes text status
-      cut limit bytes text status enough longer (inl trace) = absurd (omega (arith, length-take (limit + 1) bytes, trace.0.spelled.short))
+      cut : (limit : ℕ) (bytes text : List ℕ) (status : ℕ) → 2 ^ 30 ≤ limit → limit + 1 < length bytes
+          → Shows (take (limit + 1) bytes) text status → Shows bytes text status
+      cut limit bytes text status enough longer (inl trace) =
+          absurd (omega (arith, length-take (limit + 1) bytes, trace.0.spelled.short))
       cut limit bytes text status enough longer (inr found) =
           let read : 2 ^ 30 < length (take (limit + 1) bytes) = omega (arith, length-take (limit + 1) bytes) in
           let long : 2 ^ 30 < length bytes = omega arith in
-          inr (record { fault = found.0.fault; least = same_fault (take (limit + 1) bytes) bytes found.0.fault read long found.0.least; line = found.0.line }, found.1)
+          inr (
+            record {
+              fault = found.0.fault;
+              least = same_fault (take (limit + 1) bytes) bytes found.0.fault read long
+                  found.0.least;
+              line = found.0.line;
+            },
+            found.1,
+          )
 
 -- ---- verdicts
 
@@ -96,7 +111,8 @@ length_is_judged bytes long = record {
 -- what stands as Length is a fault of form
 stands_outside : (bytes : List ℕ) (f : Fault) → f.code ≡ code.Length → Stands bytes f → f.replica ≡ None
 stands_outside bytes f is_length (in_form is) = is.outside
-stands_outside bytes f is_length (in_trace t spells is) = absurd (omega (arith, trace_phase t f is, ap phase_of is_length))
+stands_outside bytes f is_length (in_trace t spells is) =
+    absurd (omega (arith, trace_phase t f is, ap phase_of is_length))
 
 -- the fault precedes Length, so it is Length
 precedes_length : (f : Fault) → Precedes f length_fault → (f.offset ≡ 0) × (f.code ≡ code.Length)
@@ -128,7 +144,8 @@ same_first xs ys f long longer first =
       first = λ g judged. precedes_all f g is_its.0 is_its.1;
     }
 
-same_verdict : (xs ys : List ℕ) (v : Verdict) → 2 ^ 30 < length xs → 2 ^ 30 < length ys → IsVerdict xs v → IsVerdict ys v
+same_verdict : (xs ys : List ℕ) (v : Verdict) → 2 ^ 30 < length xs → 2 ^ 30 < length ys → IsVerdict xs v
+    → IsVerdict ys v
 same_verdict xs ys (Yes s) long longer is = absurd (is.2 length_fault (in_form (length_stands xs long)))
 same_verdict xs ys (No f) long longer is = same_first xs ys f long longer is
 
@@ -138,7 +155,8 @@ no_yes xs ys (Yes s) long is = absurd (is.2 length_fault (in_form (length_stands
 no_yes xs ys (No f) long is = tt
 
 -- the verdict on a number of bytes that no trace has is the verdict on all of them
-pub Audits-cut : (limit : ℕ) (bytes text : List ℕ) (status : ℕ) → 2 ^ 30 ≤ limit → Audits (take (limit + 1) bytes) text status → Audits bytes text status
+pub Audits-cut : (limit : ℕ) (bytes text : List ℕ) (status : ℕ) → 2 ^ 30 ≤ limit
+    → Audits (take (limit + 1) bytes) text status → Audits bytes text status
 Audits-cut limit bytes text status enough audits =
     elim (cases_lt (limit + 1) (length bytes)) [
       | inl longer ↦
@@ -157,9 +175,11 @@ Audits-cut limit bytes text status enough audits =
 -- ---- what was written
 
 -- where what is said of the front of the bytes is said of all, so is what was written of it
-pub WritesAllOf-cut : (says : List ℕ → List ℕ → ℕ → Type 0) (limit : ℕ) (known : Option (List ℕ)) (lent read : List ℕ) (old new : Option (List ℕ)) (status : ℕ)
+pub WritesAllOf-cut : (says : List ℕ → List ℕ → ℕ → Type 0) (limit : ℕ) (known : Option (List ℕ)) (lent read : List ℕ)
+    (old new : Option (List ℕ)) (status : ℕ)
     → ((bytes text : List ℕ) (s : ℕ) → says (take (limit + 1) bytes) text s → says bytes text s) → lent ≡ read
-    → IfSome known (λ bytes. read ≡ take (limit + 1) bytes) → WritesAll says lent old new status → WritesAllOf says known old new status
+    → IfSome known (λ bytes. read ≡ take (limit + 1) bytes) → WritesAll says lent old new status
+    → WritesAllOf says known old new status
 WritesAllOf-cut says limit None lent read old new status cuts same cut all = tt
 WritesAllOf-cut says limit (Some bytes) lent read old new status cuts same cut all = record {
   text = all.text;
@@ -167,19 +187,23 @@ WritesAllOf-cut says limit (Some bytes) lent read old new status cuts same cut a
   written = all.written;
 }
 
-pub WritesFrontOf-cut : (says : List ℕ → List ℕ → ℕ → Type 0) (limit : ℕ) (known : Option (List ℕ)) (lent read : List ℕ) (old new : Option (List ℕ))
+pub WritesFrontOf-cut : (says : List ℕ → List ℕ → ℕ → Type 0) (limit : ℕ) (known : Option (List ℕ)) (lent read : List ℕ)
+    (old new : Option (List ℕ))
     → ((bytes text : List ℕ) (s : ℕ) → says (take (limit + 1) bytes) text s → says bytes text s) → lent ≡ read
-    → IfSome known (λ bytes. read ≡ take (limit + 1) bytes) → WritesFront says lent old new → WritesFrontOf says known old new
+    → IfSome known (λ bytes. read ≡ take (limit + 1) bytes) → WritesFront says lent old new
+    → WritesFrontOf says known old new
 WritesFrontOf-cut says limit None lent read old new cuts same cut front = tt
 WritesFrontOf-cut says limit (Some bytes) lent read old new cuts same cut front = record {
   text = front.text;
   status = front.status;
-  said = cuts bytes front.text front.status (subst (λ (b : List ℕ). says b front.text front.status) (same ∙ cut) front.said);
+  said = cuts bytes front.text front.status
+      (subst (λ (b : List ℕ). says b front.text front.status) (same ∙ cut) front.said);
   written = front.written;
 }
 
 -- where the status is that of a yes, the bytes spell a trace that is audited
-pub audited_of : (known : Option (List ℕ)) (old new : Option (List ℕ)) (status : ℕ) → WritesAllOf Audits known old new status → status ≡ 0 → IfSome known SpellsAudited
+pub audited_of : (known : Option (List ℕ)) (old new : Option (List ℕ)) (status : ℕ)
+    → WritesAllOf Audits known old new status → status ≡ 0 → IfSome known SpellsAudited
 audited_of None old new status all is = tt
 audited_of (Some bytes) old new status all is = by all.said.verdict (sym all.said.ends ∙ is) all.said.yes
   where
@@ -190,14 +214,17 @@ audited_of (Some bytes) old new status all is = by all.said.verdict (sym all.sai
 -- ---- what is left by a fault
 
 -- where no random words were given, nothing is asked of the bytes
-pub random_left : {O : Type 0} (written : O → Option (List ℕ)) (failures : O → ℕ) (known : Option (List ℕ)) (unread : Type 0) (old : O) (why : ToolFault)
-    → why ≡ fault.Random → Leaves written failures Audit known unread old old why
+pub random_left : {O : Type 0} (written : O → Option (List ℕ)) (failures : O → ℕ) (known : Option (List ℕ))
+    (unread : Type 0) (old : O) (why : ToolFault)
+    → why ≡ fault.Random → Leaves longest written failures Audit known unread old old why
 random_left written failures known unread old why is = rw is (tt, refl)
 
 -- what a call that reads no further than a limit left of the bytes that were read
-pub audit_left : {O : Type 0} (written : O → Option (List ℕ)) (failures : O → ℕ) (known : Option (List ℕ)) (unread : Type 0) (bytes : List ℕ) (old new : O) (why : ToolFault)
+pub audit_left : {O : Type 0} (written : O → Option (List ℕ)) (failures : O → ℕ) (known : Option (List ℕ))
+    (unread : Type 0) (bytes : List ℕ) (old new : O) (why : ToolFault)
     → (WritesFront Audits bytes (written old) (written new) → WritesFrontOf Audits known (written old) (written new))
-    → Leaves written failures Audit (Some bytes) ⊥ old new why → Leaves written failures Audit known unread old new why
+    → Leaves longest written failures Audit (Some bytes) ⊥ old new why
+    → Leaves longest written failures Audit known unread old new why
 audit_left written failures known unread bytes old new fault.Read cut left = absurd left.0
 audit_left written failures known unread bytes old new (fault.Line number) cut left = absurd left.0
 audit_left written failures known unread bytes old new fault.TooLong cut left = absurd left.0
@@ -207,9 +234,11 @@ audit_left written failures known unread bytes old new fault.Memory cut (inl sam
 audit_left written failures known unread bytes old new fault.Memory cut (inr front) = absurd front.0
 audit_left written failures known unread bytes old new fault.Write cut left = (left.0, cut left.1)
 
-pub show_left : {O : Type 0} (written : O → Option (List ℕ)) (failures : O → ℕ) (known : Option (List ℕ)) (unread : Type 0) (bytes : List ℕ) (old new : O) (why : ToolFault)
+pub show_left : {O : Type 0} (written : O → Option (List ℕ)) (failures : O → ℕ) (known : Option (List ℕ))
+    (unread : Type 0) (bytes : List ℕ) (old new : O) (why : ToolFault)
     → (WritesFront Shows bytes (written old) (written new) → WritesFrontOf Shows known (written old) (written new))
-    → Leaves written failures Show (Some bytes) ⊥ old new why → Leaves written failures Show known unread old new why
+    → Leaves longest written failures Show (Some bytes) ⊥ old new why
+    → Leaves longest written failures Show known unread old new why
 show_left written failures known unread bytes old new fault.Read cut left = absurd left.0
 show_left written failures known unread bytes old new (fault.Line number) cut left = absurd left.0
 show_left written failures known unread bytes old new fault.TooLong cut left = absurd left.0

@@ -29,7 +29,8 @@ value_along id (e ∷ es) = by (bytes_eq e.0.now id) (value_along id es)
     by : (b : Bool)
         → option_and_then value_of (option_map (λ e. e.1) (find (λ e. bytes_eq e.0.now id) es))
         ≡ option_and_then value_of_row (find (λ r. bytes_eq r.id id) (map row_of es))
-        → option_and_then value_of (option_map (λ (e : Entry). e.1) (cond b (Some e) (find (λ e. bytes_eq e.0.now id) es)))
+        → option_and_then value_of
+        (option_map (λ (e : Entry). e.1) (cond b (Some e) (find (λ e. bytes_eq e.0.now id) es)))
         ≡ option_and_then value_of_row (cond b (Some (row_of e)) (find (λ r. bytes_eq r.id id) (map row_of es)))
     by true rest = first_text e.1.vals.items
     by false rest = rest

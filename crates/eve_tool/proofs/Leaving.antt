@@ -6,11 +6,14 @@ use Rattle.eve_streams.specs.Front.{AppendsFront}
 use Rattle.eve_tool.specs.declared.fault.ToolFault.{ToolFault}
 use Rattle.eve_tool.specs.declared.fault.ToolFault.TheVariants as fault
 use Rattle.eve_tool.specs.Calls.{Leaves, StopsInParts, StopsSending, says}
+use Rattle.eve_tool.specs.Run.{longest}
 use Rattle.eve_tool.specs.Words.{Subcommand, Show}
 
 -- by a text that is sent at once
-pub sent_left : {O : Type 0} (written : O → Option (List ℕ)) (failures : O → ℕ) (call : Subcommand) (bytes text : List ℕ) (status : ℕ) (old new : O)
-    → says call bytes text status → (why : ToolFault) → StopsSending written failures old new text why → Leaves written failures call (Some bytes) ⊥ old new why
+pub sent_left : {O : Type 0} (written : O → Option (List ℕ)) (failures : O → ℕ) (call : Subcommand)
+    (bytes text : List ℕ) (status : ℕ) (old new : O)
+    → says longest call bytes text status → (why : ToolFault) → StopsSending written failures old new text why
+    → Leaves longest written failures call (Some bytes) ⊥ old new why
 sent_left written failures call bytes text status old new said fault.Read stopped = absurd stopped
 sent_left written failures call bytes text status old new said (fault.Line number) stopped = absurd stopped
 sent_left written failures call bytes text status old new said fault.TooLong stopped = absurd stopped
@@ -21,8 +24,10 @@ sent_left written failures call bytes text status old new said fault.Write stopp
     (stopped.counted, record { text = text; status = status; said = said; written = stopped.front })
 
 -- by the lines of `show`, which are sent in parts
-pub shown_left : {O : Type 0} (written : O → Option (List ℕ)) (failures : O → ℕ) (bytes text : List ℕ) (status : ℕ) (old new : O)
-    → says Show bytes text status → (why : ToolFault) → StopsInParts written failures old new text why → Leaves written failures Show (Some bytes) ⊥ old new why
+pub shown_left : {O : Type 0} (written : O → Option (List ℕ)) (failures : O → ℕ) (bytes text : List ℕ) (status : ℕ)
+    (old new : O)
+    → says longest Show bytes text status → (why : ToolFault) → StopsInParts written failures old new text why
+    → Leaves longest written failures Show (Some bytes) ⊥ old new why
 shown_left written failures bytes text status old new said fault.Read stopped = absurd stopped
 shown_left written failures bytes text status old new said (fault.Line number) stopped = absurd stopped
 shown_left written failures bytes text status old new said fault.TooLong stopped = absurd stopped
@@ -34,13 +39,16 @@ shown_left written failures bytes text status old new said fault.Write stopped =
     (stopped.counted, record { text = text; status = status; said = said; written = stopped.front })
 
 -- what stands of a fault stands of what is answered
-pub at_err : {A : Type 0} (result : Result A ToolFault) (P : ToolFault → Type 0) (why : ToolFault) → IsErrAnd result (λ e. e ≡ why) → P why → IfErr result P
+pub at_err : {A : Type 0} (result : Result A ToolFault) (P : ToolFault → Type 0) (why : ToolFault)
+    → IsErrAnd result (λ e. e ≡ why) → P why → IfErr result P
 at_err (Ok x) P why is p = tt
 at_err (Err e) P why is p = subst P (sym is) p
 
 -- a part was not sent, and so a front of all was
-pub part_left : {O : Type 0} (written : O → Option (List ℕ)) (failures : O → ℕ) (start old new : O) (part all : List ℕ) (why : ToolFault)
-    → failures old ≡ failures start → AppendsFront (written start) (written new) all → StopsSending written failures old new part why → StopsInParts written failures start new all why
+pub part_left : {O : Type 0} (written : O → Option (List ℕ)) (failures : O → ℕ) (start old new : O) (part all : List ℕ)
+    (why : ToolFault)
+    → failures old ≡ failures start → AppendsFront (written start) (written new) all
+    → StopsSending written failures old new part why → StopsInParts written failures start new all why
 part_left written failures start old new part all fault.Read fine front stopped = absurd stopped
 part_left written failures start old new part all (fault.Line number) fine front stopped = absurd stopped
 part_left written failures start old new part all fault.TooLong fine front stopped = absurd stopped
@@ -50,8 +58,11 @@ part_left written failures start old new part all fault.Memory fine front stoppe
 part_left written failures start old new part all fault.Write fine front stopped =
     record { front = front; counted = stopped.counted ∙ ap after_failure fine }
 
-pub last_part_left : {A O : Type 0} (written : O → Option (List ℕ)) (failures : O → ℕ) (start old new : O) (part all : List ℕ) (result : Result A ToolFault)
-    → failures old ≡ failures start → OnErr result (AppendsFront (written start) (written new) all) → IfErr result (StopsSending written failures old new part)
+pub last_part_left : {A O : Type 0} (written : O → Option (List ℕ)) (failures : O → ℕ) (start old new : O)
+    (part all : List ℕ) (result : Result A ToolFault)
+    → failures old ≡ failures start → OnErr result (AppendsFront (written start) (written new) all)
+    → IfErr result (StopsSending written failures old new part)
     → IfErr result (StopsInParts written failures start new all)
 last_part_left written failures start old new part all (Ok x) fine front stopped = tt
-last_part_left written failures start old new part all (Err e) fine front stopped = part_left written failures start old new part all e fine front stopped
+last_part_left written failures start old new part all (Err e) fine front stopped =
+    part_left written failures start old new part all e fine front stopped

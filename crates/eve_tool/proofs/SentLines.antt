@@ -1,5 +1,7 @@
 -- Lines that are sent one after another.
-use Rattle.std.proofs.Common.{◌≡◌, ℕ, zero, suc, ◌+◌, ◌-◌, ◌<◌, ◌≤◌, List, [], ◌∷◌, ◌++◌, Option, Some, Result, Ok, Err, OnErr, length, get_or, take, drop, refl, ap, sym, subst, ◌∙◌, arith, add-zero, append_assoc, append-nil, length-append, codes}
+use Rattle.std.proofs.Common.{◌≡◌, ℕ, zero, suc, ◌+◌, ◌-◌, ◌<◌, ◌≤◌, List, [], ◌∷◌, ◌++◌, Option, Some, Result, Ok, Err}
+use Rattle.std.proofs.Common.{OnErr, length, get_or, take, drop, refl, ap, sym, subst, ◌∙◌, arith, add-zero}
+use Rattle.std.proofs.Common.{append_assoc, append-nil, length-append, codes}
 use Rattle.std.specs.Prelude.{decimal}
 use Rattle.std.proofs.lemmas.Option.{slice_get-get_or}
 use Rattle.std.proofs.Math.ListN.{drop_of_length-le}
@@ -21,7 +23,8 @@ use Rattle.eve_tool.specs.Lines.{fault_line, frame_line, line_feed, replica_text
 use Rattle.eve_tool.specs.Show.{header_line, line_of, trace_lines}
 
 -- what was sent is a front of all where more is to come
-pub AppendsFront-so_far : (a b : Option (List ℕ)) (sent rest : List ℕ) → 0 < length rest → Appends a b sent → AppendsFront a b (sent ++ rest)
+pub AppendsFront-so_far : (a b : Option (List ℕ)) (sent rest : List ℕ) → 0 < length rest → Appends a b sent
+    → AppendsFront a b (sent ++ rest)
 AppendsFront-so_far a b sent rest more sends = record {
   count = length sent;
   proper = omega (arith, length-append sent rest);
@@ -37,7 +40,8 @@ pub flat_map-drop_next : {X : Type 0} (f : X → List ℕ) (xs : List X) (i : �
     → flat_map f (drop i xs) ≡ f x ++ flat_map f (drop (i + 1) xs)
 flat_map-drop_next f [] i x e = cc
 flat_map-drop_next f (y ∷ ys) zero x e = let same : y ≡ x = cc in ap (λ z. f z ++ flat_map f ys) same
-flat_map-drop_next f (y ∷ ys) (suc i) x e = let behind : suc i + 1 ≡ suc (i + 1) = omega arith in rw behind (flat_map-drop_next f ys i x e)
+flat_map-drop_next f (y ∷ ys) (suc i) x e = let behind : suc i + 1 ≡ suc (i + 1) = omega arith in
+    rw behind (flat_map-drop_next f ys i x e)
 
 some_injective : {X : Type 0} (x y : X) → Some x ≡ Some y → x ≡ y
 some_injective x y e = cc
@@ -48,7 +52,8 @@ located-count at [] = refl
 located-count at (f ∷ fs) = ap suc (located-count (at + length (frame_text f)) fs)
 
 -- the frame at a place, and where it begins
-pub frame_placed : (at : ℕ) (frames : List Frame) (i : ℕ) (p : ℕ × Frame) → slice_get (located frame_text at frames) i ≡ Some p
+pub frame_placed : (at : ℕ) (frames : List Frame) (i : ℕ) (p : ℕ × Frame) → slice_get (located frame_text at frames) i
+    ≡ Some p
     → (slice_get frames i ≡ Some p.1) × (p.0 ≡ at + length (frames_text (take i frames)))
 frame_placed at [] i p e = cc
 frame_placed at (f ∷ fs) zero p e =
@@ -63,7 +68,12 @@ frame_placed at (f ∷ fs) (suc i) p e =
 
 frame_line-some : (offset : ℕ) (name : List ℕ) (body_len : ℕ) → 0 < length (frame_line offset name body_len)
 unfolding frame_line
-frame_line-some offset name body_len = omega (arith, length-append (decimal offset) (codes " " ++ (name ++ (codes " " ++ (decimal body_len ++ line_feed)))))
+frame_line-some offset name body_len =
+    omega (
+      arith,
+      length-append (decimal offset)
+          (codes " " ++ (name ++ (codes " " ++ (decimal body_len ++ line_feed)))),
+    )
 
 cons-some : (x : ℕ) (xs : List ℕ) → 0 < length (x ∷ xs)
 cons-some x xs = omega arith
@@ -94,7 +104,8 @@ pub record SendsSoFar (old new : Option (List ℕ)) (held : List ℕ) (frames : 
   pub appended : Appends old new sent
   pub whole : sent ++ (held ++ flat_map line_of (drop i (located frame_text 32 frames))) ≡ trace_lines frames
 
-pub header_is_held : (a : Option (List ℕ)) (held : List ℕ) (frames : List Frame) → held ≡ header_line → SendsSoFar a a held frames 0
+pub header_is_held : (a : Option (List ℕ)) (held : List ℕ) (frames : List Frame) → held ≡ header_line
+    → SendsSoFar a a held frames 0
 unfolding trace_lines
 header_is_held a held frames e = record {
   sent = [];
@@ -103,10 +114,14 @@ header_is_held a held frames e = record {
 }
 
 -- the frame with that number, with its place
-pub placed_at : (frames : List Frame) (i : ℕ) → i < length frames → (p : ℕ × Frame) × (slice_get (located frame_text 32 frames) i ≡ Some p)
+pub placed_at : (frames : List Frame) (i : ℕ) → i < length frames → (p : ℕ × Frame)
+    × (slice_get (located frame_text 32 frames) i ≡ Some p)
 placed_at frames i within =
-    let count = located-count 32 frames in
-    (get_or (located frame_text 32 frames) i (0, End), slice_get-get_or (located frame_text 32 frames) i (0, End) (omega (arith, count)))
+    let count = located-count 32 frames in (
+      get_or (located frame_text 32 frames) i (0, End),
+      slice_get-get_or (located frame_text 32 frames) i (0, End)
+          (omega (arith, count)),
+    )
 
 -- the next frame's line is held too
 pub next_is_held : (a b : Option (List ℕ)) (held longer : List ℕ) (frames : List Frame) (i : ℕ) → i < length frames
@@ -115,7 +130,8 @@ pub next_is_held : (a b : Option (List ℕ)) (held longer : List ℕ) (frames : 
 next_is_held a b held longer frames i within grows far =
     let at = placed_at frames i within in
     let rest = flat_map line_of (drop (i + 1) (located frame_text 32 frames)) in
-    let next : flat_map line_of (drop i (located frame_text 32 frames)) ≡ line_of at.0 ++ rest = flat_map-drop_next line_of (located frame_text 32 frames) i at.0 at.1 in
+    let next : flat_map line_of (drop i (located frame_text 32 frames)) ≡ line_of at.0 ++ rest =
+    flat_map-drop_next line_of (located frame_text 32 frames) i at.0 at.1 in
     let joined : longer ++ rest ≡ held ++ flat_map line_of (drop i (located frame_text 32 frames)) =
     ap (λ l. l ++ rest) (grows at.0 at.1) ∙ append_assoc held (line_of at.0) rest ∙ ap (λ l. held ++ l) (sym next) in
     record {
@@ -125,7 +141,8 @@ next_is_held a b held longer frames i within grows far =
     }
 
 -- what is held is sent
-pub held_is_sent : (a b c : Option (List ℕ)) (held none : List ℕ) (frames : List Frame) (i : ℕ) → none ≡ [] → Appends b c held
+pub held_is_sent : (a b c : Option (List ℕ)) (held none : List ℕ) (frames : List Frame) (i : ℕ) → none ≡ []
+    → Appends b c held
     → SendsSoFar a b held frames i → SendsSoFar a c none frames i
 held_is_sent a b c held none frames i empty sends far =
     let rest = flat_map line_of (drop i (located frame_text 32 frames)) in
@@ -140,9 +157,11 @@ pub all_is_sent : (a b c : Option (List ℕ)) (held : List ℕ) (frames : List F
     → SendsSoFar a b held frames i → Appends b c held → Appends a c (trace_lines frames)
 all_is_sent a b c held frames i past far sends =
     let count = located-count 32 frames in
-    let none : drop i (located frame_text 32 frames) ≡ [] = drop_of_length-le (located frame_text 32 frames) {i = i} (omega (arith, count)) in
+    let none : drop i (located frame_text 32 frames) ≡ [] = drop_of_length-le (located frame_text 32 frames) {i = i}
+    (omega (arith, count)) in
     let whole : far.sent ++ held ≡ trace_lines frames =
-    ap (λ l. far.sent ++ l) (sym (append-nil held)) ∙ ap (λ l. far.sent ++ (held ++ flat_map line_of l)) (sym none) ∙ far.whole in
+    ap (λ l. far.sent ++ l) (sym (append-nil held)) ∙ ap (λ l. far.sent ++ (held ++ flat_map line_of l)) (sym none)
+    ∙ far.whole in
     subst (Appends a c) whole (Appends-trans a b c far.sent held far.appended sends)
 
 -- where a line is to come, a front was sent
@@ -154,7 +173,8 @@ front_so_far a b held frames i within far =
     let later = flat_map line_of (drop (i + 1) (located frame_text 32 frames)) in
     let next : rest ≡ line_of at.0 ++ later = flat_map-drop_next line_of (located frame_text 32 frames) i at.0 at.1 in
     let some = frame_line-some at.0.0 (kind_name (kind_of at.0.1)) (length (body_text at.0.1)) in
-    let more : 0 < length (held ++ rest) = omega (arith, length-append held rest, ap length next, length-append (line_of at.0) later) in
+    let more : 0 < length (held ++ rest) =
+    omega (arith, length-append held rest, ap length next, length-append (line_of at.0) later) in
     subst (AppendsFront a b) far.whole (AppendsFront-so_far a b far.sent (held ++ rest) more far.appended)
 
 -- where a front of what is held was sent, a front of all was sent
@@ -162,12 +182,14 @@ pub front_of_held : (a b c : Option (List ℕ)) (held : List ℕ) (frames : List
     → SendsSoFar a b held frames i → AppendsFront b c held → AppendsFront a c (trace_lines frames)
 front_of_held a b c held frames i far front =
     let rest = flat_map line_of (drop i (located frame_text 32 frames)) in
-    let more = AppendsFront-more a c (far.sent ++ held) rest (AppendsFront-after a b c far.sent held far.appended front) in
+    let more = AppendsFront-more a c (far.sent ++ held) rest (AppendsFront-after a b c far.sent held far.appended front)
+    in
     subst (AppendsFront a c) (append_assoc far.sent held rest ∙ far.whole) more
 
 -- the line of a frame, from what a view of it says
 pub line_of_view : (frames : List Frame) (i : ℕ) (p : ℕ × Frame) (f : Frame) (offset : ℕ) (name : List ℕ) (body_len : ℕ)
-    → slice_get (located frame_text 32 frames) i ≡ Some p → slice_get frames i ≡ Some f → offset ≡ 32 + length (frames_text (take i frames))
+    → slice_get (located frame_text 32 frames) i ≡ Some p → slice_get frames i ≡ Some f
+    → offset ≡ 32 + length (frames_text (take i frames))
     → name ≡ kind_name (kind_of f) → body_len ≡ length (body_text f) → frame_line offset name body_len ≡ line_of p
 line_of_view frames i p f offset name body_len placed got at named counted =
     let place = frame_placed 32 frames i p placed in
@@ -178,7 +200,12 @@ line_of_view frames i p f offset name body_len placed got at named counted =
     rw (offset_is, name_is, len_is) refl
 
 length-frame_text : (f : Frame) → length (frame_text f) ≡ 5 + length (body_text f)
-length-frame_text f = omega (arith, length-bytes_high_first 4 (length (body_text f)), length-append (big_bytes 4 (length (body_text f))) (body_text f))
+length-frame_text f = omega (
+  arith,
+  length-bytes_high_first 4 (length (body_text f)),
+  length-append (big_bytes 4 (length (body_text f)))
+      (body_text f),
+)
 
 -- the body of a frame is what stands behind its kind and its length
 pub length-body : (f : Frame) → length (frame_text f) - 5 ≡ length (body_text f)

@@ -1,5 +1,6 @@
 -- What is said of an input that was read to its end.
-use Rattle.std.proofs.Common.{◌≡◌, ℕ, ◌+◌, ◌<◌, ◌≤◌, ◌^◌, ◌⊎◌, inl, inr, List, length, take, Option, Some, None, ap, subst, ◌∙◌, arith}
+use Rattle.std.proofs.Common.{◌≡◌, ℕ, ◌+◌, ◌<◌, ◌≤◌, ◌⊎◌, inl, inr, List, length, take, Option, Some, None, ap, subst}
+use Rattle.std.proofs.Common.{◌∙◌, arith}
 use Rattle.std.specs.Prelude.{IfSome}
 use Rattle.std.proofs.lemmas.Bool.{cases_lt}
 use Rattle.std.proofs.lemmas.List.{length-take, take_all}
@@ -17,7 +18,8 @@ pub record IsAll (known : Option (List ℕ)) (bytes : List ℕ) : Type 0 where
   pub same : IfSome known (λ k. bytes ≡ k)
 
 -- what is short enough was read whole
-pub short_is_all : (limit : ℕ) (known : Option (List ℕ)) (read bytes : List ℕ) → bytes ≡ read → IfSome known (λ k. read ≡ take (limit + 1) k)
+pub short_is_all : (limit : ℕ) (known : Option (List ℕ)) (read bytes : List ℕ) → bytes ≡ read
+    → IfSome known (λ k. read ≡ take (limit + 1) k)
     → length read ≤ limit → IsAll known bytes
 short_is_all limit None read bytes same e short = record { same = tt }
 short_is_all limit (Some k) read bytes same e short = record { same = same ∙ e ∙ all (cases_lt (limit + 1) (length k)) }
@@ -27,30 +29,37 @@ short_is_all limit (Some k) read bytes same e short = record { same = same ∙ e
     all (inr reached) = take_all (limit + 1) k reached
 
 -- what is said of all that was left is said of what was read
-pub of_all : {known : Option (List ℕ)} {bytes : List ℕ} → IsAll known bytes → (P : List ℕ → Type 0) → P bytes → IfSome known P
+pub of_all : {known : Option (List ℕ)} {bytes : List ℕ} → IsAll known bytes → (P : List ℕ → Type 0) → P bytes
+    → IfSome known P
 of_all {known = None} all P p = tt
 of_all {known = Some k} all P p = subst P all.same p
 
-pub some_weaker : (known : Option (List ℕ)) (P Q : List ℕ → Type 0) → ((k : List ℕ) → P k → Q k) → IfSome known P → IfSome known Q
+pub some_weaker : (known : Option (List ℕ)) (P Q : List ℕ → Type 0) → ((k : List ℕ) → P k → Q k) → IfSome known P
+    → IfSome known Q
 some_weaker None P Q more p = tt
 some_weaker (Some k) P Q more p = more k p
 
 -- what was left is too long where too much of it was read
-pub too_long : (known : Option (List ℕ)) (read : List ℕ) → IfSome known (λ k. read ≡ take (2 ^ 30 + 1) k) → 2 ^ 30 < length read
-    → IfSome known (λ k. 2 ^ 30 < length k)
-too_long None read e long = tt
-too_long (Some k) read e long = omega (arith, length-take (2 ^ 30 + 1) k, ap length e)
+pub too_long : (limit : ℕ) (known : Option (List ℕ)) (read : List ℕ) → IfSome known (λ k. read ≡ take (limit + 1) k)
+    → limit < length read → IfSome known (λ k. limit < length k)
+too_long limit None read e long = tt
+too_long limit (Some k) read e long = omega (arith, length-take (limit + 1) k, ap length e)
 
 -- what a run left of the bytes that were read, which are all
-pub left_of_all : {O : Type 0} (written : O → Option (List ℕ)) (failures : O → ℕ) (mixer : Mixer) (known : Option (List ℕ)) (unread : Type 0)
-    (bytes : List ℕ) (old new : O) (why : ToolFault) → IsAll known bytes
-    → Leaves written failures (Run mixer) (Some bytes) ⊥ old new why → Leaves written failures (Run mixer) known unread old new why
-left_of_all written failures mixer known unread bytes old new fault.Read all left = absurd left.0
-left_of_all written failures mixer known unread bytes old new (fault.Line number) all left = (of_all all (λ b. IsBadLine b number) left.0, left.1)
-left_of_all written failures mixer known unread bytes old new fault.TooLong all left = (of_all all (IsTooLong mixer) left.0, left.1)
-left_of_all written failures mixer known unread bytes old new fault.Broken all left = (of_all all IsRunnable left.0, left.1)
-left_of_all written failures mixer known unread bytes old new fault.Random all left = (of_all all IsRunnable left.0, left.1)
-left_of_all written failures mixer known unread bytes old new fault.Memory all (inl same) = inl same
-left_of_all written failures mixer known unread bytes old new fault.Memory all (inr front) = absurd front.0
-left_of_all written failures mixer known unread bytes old new fault.Write all left =
-    (left.0, of_all all (λ b. WritesFront (Runs mixer) b (written old) (written new)) left.1)
+pub left_of_all : {O : Type 0} (limit : ℕ) (written : O → Option (List ℕ)) (failures : O → ℕ) (mixer : Mixer)
+    (known : Option (List ℕ)) (unread : Type 0) (bytes : List ℕ) (old new : O) (why : ToolFault) → IsAll known bytes
+    → Leaves limit written failures (Run mixer) (Some bytes) ⊥ old new why
+    → Leaves limit written failures (Run mixer) known unread old new why
+left_of_all limit written failures mixer known unread bytes old new fault.Read all left = absurd left.0
+left_of_all limit written failures mixer known unread bytes old new (fault.Line number) all left =
+    (of_all all (λ b. IsBadLine b number) left.0, left.1)
+left_of_all limit written failures mixer known unread bytes old new fault.TooLong all left =
+    (of_all all (IsTooLong limit mixer) left.0, left.1)
+left_of_all limit written failures mixer known unread bytes old new fault.Broken all left =
+    (of_all all IsRunnable left.0, left.1)
+left_of_all limit written failures mixer known unread bytes old new fault.Random all left =
+    (of_all all IsRunnable left.0, left.1)
+left_of_all limit written failures mixer known unread bytes old new fault.Memory all (inl same) = inl same
+left_of_all limit written failures mixer known unread bytes old new fault.Memory all (inr front) = absurd front.0
+left_of_all limit written failures mixer known unread bytes old new fault.Write all left =
+    (left.0, of_all all (λ b. WritesFront (Runs limit mixer) b (written old) (written new)) left.1)

@@ -8,21 +8,21 @@ use Rattle.eve_tool.specs.declared.fault.ToolFault.{ToolFault}
 use Rattle.eve_tool.specs.declared.fault.ToolFault.TheVariants as fault
 use Rattle.eve_tool.specs.Audit.{Audits}
 use Rattle.eve_tool.specs.Fault.{error_line, status_of}
-use Rattle.eve_tool.specs.Run.{Runs, IsTooLong, IsRunnable}
+use Rattle.eve_tool.specs.Run.{Runs, IsTooLong, IsRunnable, longest}
 use Rattle.eve_tool.specs.Show.{Shows}
 use Rattle.eve_tool.specs.Words.{Subcommand, Audit, Run, Show, call_of}
 use Rattle.eve_tool.specs.Writes.{WritesFrontOf}
 use Rattle.clap.specs.Words.{Text}
 
--- the words are this call
+-- the arguments are this call
 abbrev pub Calls : Subcommand → List Text → Type 0
 Calls call words = call_of words ≡ Some call
 
--- the text is what the call says of the bytes, and the number is the exit status
-abbrev pub says : Subcommand → List ℕ → List ℕ → ℕ → Type 0
-says Audit = Audits
-says (Run mixer) = Runs mixer
-says Show = Shows
+-- The text is what the call says of the bytes, and the number is the exit status. A run is of so many bytes at most.
+abbrev pub says : ℕ → Subcommand → List ℕ → List ℕ → ℕ → Type 0
+says limit Audit = Audits
+says limit (Run mixer) = Runs limit mixer
+says limit Show = Shows
 
 -- the number is that of a bad line of the bytes, which `run` alone reads by lines
 abbrev pub has_bad_line : Subcommand → Option (List ℕ) → ℕ → Type 0
@@ -30,9 +30,9 @@ has_bad_line (Run mixer) known number = IfSome known (λ bytes. IsBadLine bytes 
 has_bad_line _ known number = ⊥
 
 -- the bytes are too long for `run`, or the trace of them is
-abbrev pub is_too_long : Subcommand → Option (List ℕ) → Type 0
-is_too_long (Run mixer) known = IfSome known (IsTooLong mixer)
-is_too_long _ known = ⊥
+abbrev pub is_too_long : ℕ → Subcommand → Option (List ℕ) → Type 0
+is_too_long limit (Run mixer) known = IfSome known (IsTooLong limit mixer)
+is_too_long limit _ known = ⊥
 
 -- the call runs the bytes
 abbrev pub runs : Subcommand → Option (List ℕ) → Type 0
@@ -51,17 +51,20 @@ sends_in_parts Show = ⊤
 sends_in_parts _ = ⊥
 
 -- What a call left that ended by a fault: what stands of the bytes that were in the input, where they are `known`, and
--- of out, `old` before the call and `new` after it. `unread` says that the input failed.
-abbrev pub Leaves : {O : Type 0} → (O → Option (List ℕ)) → (O → ℕ) → Subcommand → Option (List ℕ) → Type 0 → O → O → ToolFault → Type 0
-Leaves written failures call known unread old new fault.Read = unread × (new ≡ old)
-Leaves written failures call known unread old new (fault.Line number) = has_bad_line call known number × (new ≡ old)
-Leaves written failures call known unread old new fault.TooLong = is_too_long call known × (new ≡ old)
-Leaves written failures call known unread old new fault.Broken = runs call known × (new ≡ old)
-Leaves written failures call known unread old new fault.Random = asks_for_random call known × (new ≡ old)
-Leaves written failures call known unread old new fault.Memory =
-    (new ≡ old) ⊎ (sends_in_parts call × WritesFrontOf (says call) known (written old) (written new))
-Leaves written failures call known unread old new fault.Write =
-    (failures new ≡ after_failure (failures old)) × WritesFrontOf (says call) known (written old) (written new)
+-- of out, `old` before the call and `new` after it. `unread` says that the input failed. A run is of so many bytes at
+-- most.
+abbrev pub Leaves : ℕ → {O : Type 0} → (O → Option (List ℕ)) → (O → ℕ) → Subcommand → Option (List ℕ) → Type 0 → O → O
+    → ToolFault → Type 0
+Leaves limit written failures call known unread old new fault.Read = unread × (new ≡ old)
+Leaves limit written failures call known unread old new (fault.Line number) =
+    has_bad_line call known number × (new ≡ old)
+Leaves limit written failures call known unread old new fault.TooLong = is_too_long limit call known × (new ≡ old)
+Leaves limit written failures call known unread old new fault.Broken = runs call known × (new ≡ old)
+Leaves limit written failures call known unread old new fault.Random = asks_for_random call known × (new ≡ old)
+Leaves limit written failures call known unread old new fault.Memory =
+    (new ≡ old) ⊎ (sends_in_parts call × WritesFrontOf (says limit call) known (written old) (written new))
+Leaves limit written failures call known unread old new fault.Write =
+    (failures new ≡ after_failure (failures old)) × WritesFrontOf (says limit call) known (written old) (written new)
 
 -- what was left of a text that was to be sent, by a fault: the text is held whole before any of it is sent
 abbrev pub StopsSending : {O : Type 0} → (O → Option (List ℕ)) → (O → ℕ) → O → O → List ℕ → ToolFault → Type 0
@@ -77,14 +80,16 @@ StopsInParts written failures old new text _ = ⊥
 
 -- the line of a fault was sent, or a front of it and then the stream failed
 abbrev pub Tells : {E : Type 0} → (E → Option (List ℕ)) → (E → ℕ) → E → E → ToolFault → Type 0
-Tells written failures old new why = Wrote written failures old new (error_line why) ⊎ Stopped written failures old new (error_line why)
+Tells written failures old new why =
+    Wrote written failures old new (error_line why) ⊎ Stopped written failures old new (error_line why)
 
 -- a call ended by a fault, of which the status is that and the line was told
-pub record Stops {E O : Type 0} (told : E → Option (List ℕ)) (untold : E → ℕ) (written : O → Option (List ℕ)) (failures : O → ℕ) (call : Subcommand)
+pub record Stops {E O : Type 0} (told : E → Option (List ℕ)) (untold : E → ℕ) (written : O → Option (List ℕ))
+    (failures : O → ℕ) (call : Subcommand)
     (known : Option (List ℕ)) (unread : Type 0) (err_old err_new : E) (old new : O) (status : ℕ) : Type 0 where
   pub why : ToolFault
   pub ends : status_of why ≡ status
-  pub left : Leaves written failures call known unread old new why
+  pub left : Leaves longest written failures call known unread old new why
   pub line : Tells told untold err_old err_new why
 
 -- what was left where help was asked for, by a fault: memory ran out before any of it was sent, or a send failed
@@ -94,7 +99,8 @@ LeavesHelp failures old new fault.Write = failures new ≡ after_failure (failur
 LeavesHelp failures old new _ = ⊥
 
 -- help could not be given, by a fault of which the status is that and the line was told
-pub record StopsHelp {E O : Type 0} (told : E → Option (List ℕ)) (untold : E → ℕ) (failures : O → ℕ) (err_old err_new : E) (old new : O) (status : ℕ) : Type 0 where
+pub record StopsHelp {E O : Type 0} (told : E → Option (List ℕ)) (untold : E → ℕ) (failures : O → ℕ)
+    (err_old err_new : E) (old new : O) (status : ℕ) : Type 0 where
   pub why : ToolFault
   pub ends : status_of why ≡ status
   pub left : LeavesHelp failures old new why

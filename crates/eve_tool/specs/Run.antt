@@ -34,28 +34,33 @@ pub record IsRunOfText (mixer : Mixer) (bytes : List ℕ) (parts : Parts) : Type
   pub typed : IsText bytes workload
   pub run : IsRunOf workload mixer parts
 
--- the bytes, 2^30 at most, are a workload, and the text spells a trace of it; the exit status is 0
-pub record Runs (mixer : Mixer) (bytes text : List ℕ) (status : ℕ) : Type 0 where
-  pub short : length bytes ≤ 2 ^ 30
+-- how many bytes a workload and the trace of its run have at most
+abbrev pub longest : ℕ
+longest = 2 ^ 30
+
+-- the bytes are a workload, and the text spells a trace of it, of `limit` bytes at most both; the exit status is 0
+pub record Runs (limit : ℕ) (mixer : Mixer) (bytes text : List ℕ) (status : ℕ) : Type 0 where
+  pub short : length bytes ≤ limit
   pub workload : Workload
   pub typed : IsText bytes workload
   pub trace : Trace
   pub spelled : Spells text trace
   pub run : IsTraceOf workload mixer trace
+  pub fits : length_of trace ≤ limit
   pub ends : status ≡ 0
 
--- the bytes are a workload, and a trace of it has more than 2^30 bytes
-pub record RunsTooLong (mixer : Mixer) (bytes : List ℕ) : Type 0 where
+-- the bytes are a workload, and a trace of it has more than `limit` bytes
+pub record RunsTooLong (limit : ℕ) (mixer : Mixer) (bytes : List ℕ) : Type 0 where
   pub workload : Workload
   pub typed : IsText bytes workload
   pub trace : Trace
   pub limits : HasLimits trace
   pub run : IsTraceOf workload mixer trace
-  pub long : 2 ^ 30 < length_of trace
+  pub long : limit < length_of trace
 
--- the bytes, or a trace of them, are more than 2^30
-abbrev pub IsTooLong : Mixer → List ℕ → Type 0
-IsTooLong mixer bytes = (2 ^ 30 < length bytes) ⊎ RunsTooLong mixer bytes
+-- the bytes, or a trace of them, are more than `limit`
+abbrev pub IsTooLong : ℕ → Mixer → List ℕ → Type 0
+IsTooLong limit mixer bytes = (limit < length bytes) ⊎ RunsTooLong limit mixer bytes
 
 -- why the bytes are not run, before anything is sent
 abbrev pub StopsRun : List ℕ → ToolFault → Type 0

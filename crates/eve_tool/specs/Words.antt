@@ -1,7 +1,9 @@
--- What the words of a command line ask for.
-use Rattle.std.specs.Prelude.{◌≡◌, ◌≢◌, ◌⊎◌, ⊤, ℕ, pos, max, min, true, if◌then◌else◌, List, [], ◌∷◌, Option, Some, None, codes, find, slice_get, option_and_then, option_map}
+-- What the arguments of a command line ask for.
+use Rattle.std.specs.Prelude.{◌≡◌, ◌≢◌, ◌⊎◌, ⊤, ℕ, pos, max, min, true, if◌then◌else◌, List, [], ◌∷◌, Option, Some}
+use Rattle.std.specs.Prelude.{None, codes, find, slice_get, option_and_then, option_map}
 use Rattle.std.specs.Str.{bytes_eq}
-use Rattle.clap.specs.Words.{App, Rule, Shape, Text, IsAmong, Kinds, fault_of, new_app, new_rule, subcommand_of, with_rule, with_subcommand}
+use Rattle.clap.specs.Words.{App, Rule, Shape, Text, IsAmong, Kinds, fault_of, new_app, new_rule, subcommand_of}
+use Rattle.clap.specs.Words.{with_rule, with_subcommand}
 use Rattle.clap.specs.Walk.{Row, byte_or_zero}
 use Rattle.clap.specs.declared.builder.value_parser.ValueParser.TheVariants as vp
 use Rattle.clap.specs.declared.error.kind.ErrorKind.TheVariants as kind
@@ -15,7 +17,8 @@ use Rattle.eve_tool.specs.declared.words.Asked.TheVariants as asked
 
 -- the program wants a subcommand
 abbrev pub program : App
-program = let new = new_app (codes "eve") in record new { top = record new.top { disable_help_subcommand = true; subcommand_required = true } }
+program = let new = new_app (codes "eve") in
+    record new { top = record new.top { disable_help_subcommand = true; subcommand_required = true } }
 
 -- the argument that says how many workers audit
 abbrev pub workers : Rule
@@ -57,7 +60,8 @@ abbrev pub value_in : Text → List Row → Option Text
 value_in id rows = option_and_then (λ r. slice_get r.values 0) (find (λ r. bytes_eq r.id id) rows)
 
 abbrev pub mixer_named : Text → Option Mixer
-mixer_named name = if bytes_eq name (codes "first") then Some First else (if bytes_eq name (codes "whole") then Some Whole else None)
+mixer_named name = if bytes_eq name (codes "first") then Some First else
+    (if bytes_eq name (codes "whole") then Some Whole else None)
 
 -- the mixer that is named among what was found
 abbrev pub mixer_in : List Row → Option Mixer
@@ -75,14 +79,15 @@ workers_in rows = max 1 (min (number_named (value_in (codes "workers") rows)) 16
 abbrev pub subcommand_named : Text × List Row → Option Subcommand
 subcommand_named found =
     if bytes_eq found.0 (codes "audit") then Some Audit
-    else (if bytes_eq found.0 (codes "run") then option_map Run (mixer_in found.1) else (if bytes_eq found.0 (codes "show") then Some Show else None))
+    else (if bytes_eq found.0 (codes "run") then option_map Run (mixer_in found.1) else
+    (if bytes_eq found.0 (codes "show") then Some Show else None))
 
 abbrev pub subcommand_of_call : Call → Subcommand
 subcommand_of_call (call.Audit _) = Audit
 subcommand_of_call (call.Run mixer) = Run mixer
 subcommand_of_call call.Show = Show
 
--- what clap finds wrong with the words, the program's name first, or a request for help
+-- what clap finds wrong with the arguments, the program's name first, or a request for help
 unfoldable pub faults_of : List Text → Kinds
 faults_of words = fault_of eve words
 
@@ -91,7 +96,7 @@ abbrev pub call_unless : Kinds → Option Subcommand → Option Subcommand
 call_unless [] call = call
 call_unless (k ∷ ks) call = None
 
--- the call that the words are
+-- the call that the arguments are
 unfoldable pub call_of : List Text → Option Subcommand
 call_of words = call_unless (faults_of words) (option_and_then subcommand_named (subcommand_of eve words))
 
@@ -99,7 +104,7 @@ call_of words = call_unless (faults_of words) (option_and_then subcommand_named 
 abbrev pub workers_behind : Option (Text × List Row) → Option ℕ
 workers_behind found = option_map (λ f. workers_in f.1) found
 
--- how many workers the words ask for
+-- how many workers the arguments ask for
 unfoldable pub workers_of : List Text → Option ℕ
 workers_of words = workers_behind (subcommand_of eve words)
 
@@ -108,54 +113,55 @@ abbrev pub HasWorkers : Option ℕ → Call → Type 0
 HasWorkers asked_for (call.Audit found) = asked_for ≡ Some found.count
 HasWorkers _ _ = ⊤
 
--- what is answered to words in which clap finds this wrong
+-- what is answered to arguments in which clap finds this wrong
 abbrev pub SaysOf : ErrorKind → Asked → Type 0
 SaysOf k (asked.Call call) = ⊥
 SaysOf k (asked.Help text) = k ≡ kind.DisplayHelp
 SaysOf k (asked.Refused text) = (k ≢ kind.DisplayHelp) × (k ≢ kind.OutOfMemory)
 
--- the words are the call `audit`
+-- the arguments are the call `audit`
 abbrev pub CallsAudit : List Text → Type 0
 CallsAudit words = call_of words ≡ Some Audit
 
--- the words are the call `show`
-abbrev pub CallsShow : List Text → Type 0
-CallsShow words = call_of words ≡ Some Show
-
--- the words are the call `run` with this mixer
-abbrev pub CallsRun : Mixer → List Text → Type 0
-CallsRun mixer words = call_of words ≡ Some (Run mixer)
-
--- the words are a call
+-- the arguments are a call
 abbrev pub CallsSome : List Text → Type 0
 CallsSome words = call_of words ≢ None
 
--- the words are no call
+-- the arguments are no call
 abbrev pub CallsNothing : List Text → Type 0
 CallsNothing words = call_of words ≡ None
 
--- the words ask for help
+-- the arguments ask for help
 abbrev pub AsksForHelp : List Text → Type 0
 AsksForHelp words = IsAmong kind.DisplayHelp (faults_of words)
 
--- something else is wrong with the words
+-- the arguments are no call, but ask for help
+abbrev pub GetsHelp : List Text → Type 0
+GetsHelp words = CallsNothing words × AsksForHelp words
+
+-- the arguments are the call `audit`, by so many workers
+abbrev pub AuditsBy : ℕ → List Text → Type 0
+AuditsBy n words = CallsAudit words × (workers_of words ≡ Some n)
+
+-- something else is wrong with the arguments
 pub record IsWrong (words : List Text) : Type 0 where
   pub what : ErrorKind
   pub found : IsAmong what (faults_of words)
   pub no_help : what ≢ kind.DisplayHelp
 
--- the words are `run` with a mixer that isn't there
+-- the arguments are `run` with a mixer that isn't there
 pub record NamesNoMixer (words : List Text) : Type 0 where
   pub rows : List Row
   pub met : subcommand_of eve words ≡ Some (codes "run", rows)
   pub unknown : mixer_in rows ≡ None
 
--- the words are refused
+-- the arguments are refused
 abbrev pub IsRefused : List Text → Type 0
 IsRefused words = IsWrong words ⊎ NamesNoMixer words
 
--- the answer is the call that the words are, by as many workers as they ask for, help where they ask for it, or a refusal where they are wrong
+-- the answer is the call that the arguments are, by as many workers as they ask for, help where they ask for it, or a
+-- refusal where they are wrong
 abbrev pub Answers : List Text → Asked → Type 0
 Answers words (asked.Call call) = (call_of words ≡ Some (subcommand_of_call call)) × HasWorkers (workers_of words) call
-Answers words (asked.Help text) = CallsNothing words × AsksForHelp words
+Answers words (asked.Help text) = GetsHelp words
 Answers words (asked.Refused text) = CallsNothing words × IsRefused words

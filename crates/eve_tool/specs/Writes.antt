@@ -5,7 +5,8 @@ use Rattle.std.specs.Io.KnownBytes.{Appends}
 use Rattle.eve_streams.specs.Front.{AppendsFront}
 
 -- what is said of the bytes was written
-pub record WritesAll (says : List ℕ → List ℕ → ℕ → Type 0) (bytes : List ℕ) (old new : Option (List ℕ)) (status : ℕ) : Type 0 where
+pub record WritesAll (says : List ℕ → List ℕ → ℕ → Type 0) (bytes : List ℕ) (old new : Option (List ℕ))
+    (status : ℕ) : Type 0 where
   pub text : List ℕ
   pub said : says bytes text status
   pub written : Appends old new text
@@ -18,7 +19,8 @@ pub record WritesFront (says : List ℕ → List ℕ → ℕ → Type 0) (bytes 
   pub written : AppendsFront old new text
 
 -- the same, where the bytes are known
-abbrev pub WritesAllOf : (List ℕ → List ℕ → ℕ → Type 0) → Option (List ℕ) → Option (List ℕ) → Option (List ℕ) → ℕ → Type 0
+abbrev pub WritesAllOf : (List ℕ → List ℕ → ℕ → Type 0) → Option (List ℕ) → Option (List ℕ) → Option (List ℕ) → ℕ
+    → Type 0
 WritesAllOf says known old new status = IfSome known (λ bytes. WritesAll says bytes old new status)
 
 abbrev pub WritesFrontOf : (List ℕ → List ℕ → ℕ → Type 0) → Option (List ℕ) → Option (List ℕ) → Option (List ℕ) → Type 0

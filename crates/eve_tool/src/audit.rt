@@ -6,6 +6,7 @@ ghost use Rattle.eve_streams.specs.Failures.{after_failure};
 ghost use Rattle.eve_tool.specs.Audit.{Audits};
 ghost use Rattle.eve_tool.specs.Calls.{Leaves, StopsSending};
 ghost use Rattle.eve_tool.specs.Lines.{status_of_verdict, verdict_line, yes_line};
+ghost use Rattle.eve_tool.specs.Run.{longest};
 ghost use Rattle.eve_tool.specs.Words.{Audit};
 ghost use Rattle.eve_tool.specs.Writes.{WritesAll, WritesAllOf};
 
@@ -70,7 +71,7 @@ fn audit_bytes<R: Threads + Wait + Sync, O: Sink>(
     ensures all { IfOk result (WritesAll Audits bytes.now (O.written out.old) (O.written out.new)) }
     ensures status { IfOk result (λ status. status < 2) }
     ensures fine { OnOk result (O.failures out.new ≡ O.failures out.old) }
-    ensures left { IfErr result (Leaves O.written O.failures Audit (Some bytes.now) ⊥ out.old out.new) }
+    ensures left { IfErr result (Leaves longest O.written O.failures Audit (Some bytes.now) ⊥ out.old out.new) }
 {
     let verdict = eve_audit::audit(rt, alloc, bytes, workers.get(), random, &OpenGate)?;
     send_verdict(alloc, &verdict, out)
@@ -90,7 +91,7 @@ pub(crate) fn audit<R: AllocGlobal + RandomSource + Threads + Wait + Sync, I: So
     ensures status { IfOk result (λ status. status < 2) }
     ensures fine { OnOk result ((I.failures input.new ≡ I.failures input.old)
         × (O.failures out.new ≡ O.failures out.old)) }
-    ensures left { IfErr result (Leaves O.written O.failures Audit (I.remaining input.old)
+    ensures left { IfErr result (Leaves longest O.written O.failures Audit (I.remaining input.old)
         (I.failures input.new ≡ after_failure (I.failures input.old)) out.old out.new) }
 {
     let alloc = rt.alloc();

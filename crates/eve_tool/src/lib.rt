@@ -14,3 +14,4 @@ mod worker_count;
 
 pub use fault::ToolFault;
 pub use program::{serve, stop};
+pub use run::run_within;

@@ -6,7 +6,9 @@ ghost use Rattle.eve_audit.specs.Verdict.{SpellsAudited};
 ghost use Rattle.eve_streams.specs.Failures.{after_failure};
 ghost use Rattle.eve_tool.specs.Calls.{Calls, Leaves, LeavesHelp, Stops, StopsHelp, Tells, says};
 ghost use Rattle.eve_tool.specs.Fault.{status_of};
-ghost use Rattle.eve_tool.specs.Words.{AsksForHelp, Audit, CallsNothing, CallsSome, IsRefused, Run, Show, Subcommand, workers_of};
+ghost use Rattle.eve_tool.specs.Run.{longest};
+ghost use Rattle.eve_tool.specs.Words.{AsksForHelp, Audit, AuditsBy, CallsNothing, CallsSome, GetsHelp, IsRefused, Run};
+ghost use Rattle.eve_tool.specs.Words.{Show, Subcommand, workers_of};
 ghost use Rattle.eve_workload.specs.declared.mixer.Mixer.{Mixer};
 ghost use Rattle.eve_tool.specs.Writes.{WritesAllOf};
 
@@ -32,7 +34,7 @@ pub fn stop<E: Sink>(fault: ToolFault, err: &mut E) -> u8
     fault.status()
 }
 
-// Does what the words ask for, and answers the exit status.
+// Does what the arguments ask for, and answers the exit status.
 fn answer<
     R: AllocGlobal + RandomSource + Threads + Wait + Sync,
     S: AsStr,
@@ -41,14 +43,14 @@ fn answer<
     E: Sink,
 >(rt: &R, words: &[S], input: &mut I, out: &mut O, err: &mut E) -> Result<u8, ToolFault>
     ensures said { (call : Subcommand) → Calls call (map S.text words.now)
-        → IfOk result (λ status. (status < 2) × WritesAllOf (says call) (I.remaining input.old)
+        → IfOk result (λ status. (status < 2) × WritesAllOf (says longest call) (I.remaining input.old)
         (O.written out.old) (O.written out.new) status) }
     ensures status { CallsSome (map S.text words.now) → IfOk result (λ status. status < 2) }
     ensures fine { CallsSome (map S.text words.now)
         → OnOk result ((I.failures input.new ≡ I.failures input.old)
         × (O.failures out.new ≡ O.failures out.old)) }
     ensures left { (call : Subcommand) → Calls call (map S.text words.now)
-        → IfErr result (Leaves O.written O.failures call (I.remaining input.old)
+        → IfErr result (Leaves longest O.written O.failures call (I.remaining input.old)
         (I.failures input.new ≡ after_failure (I.failures input.old)) out.old out.new) }
     ensures quiet { CallsSome (map S.text words.now) → err.new ≡ err.old }
     ensures unread { CallsNothing (map S.text words.now) → input.new ≡ input.old }
@@ -75,11 +77,11 @@ fn answer<
     }
 }
 
-/// Runs the program: does what the words of the command line ask for, the first of which is the
-/// program's name, and answers the exit status. Memory, the random words and the threads of `audit`
-/// come from `rt`; the words are asked for once the input is read. How many workers audit changes
+/// Runs the program: does what the arguments of the command line ask for, the first of which is the
+/// program's name, and answers the exit status. Memory, the random words and the threads of `audit` and
+/// `run` come from `rt`; random words are asked for once the input is read. How many workers audit changes
 /// nothing of what is said. It returns where the threads that it started do.
-#[tactic(auto, using(crate::proofs::CommandLine::called_audit, crate::proofs::CommandLine::called_with_workers, crate::proofs::CommandLine::one_worker_alone, crate::proofs::CommandLine::called_show, crate::proofs::CommandLine::called_run, crate::proofs::CommandLine::called_run_whole, crate::proofs::CommandLine::asked_help, crate::proofs::Cutting::audited_of))]
+#[tactic(auto, using(crate::proofs::CommandLine::audit_call, crate::proofs::CommandLine::alone, crate::proofs::CommandLine::show_call, crate::proofs::CommandLine::run_call, crate::proofs::CommandLine::whole_call, crate::proofs::Cutting::audited_of))]
 pub fn serve<
     R: AllocGlobal + RandomSource + Threads + Wait + Sync,
     S: AsStr,
@@ -87,29 +89,21 @@ pub fn serve<
     O: Sink,
     E: Sink,
 >(rt: &R, words: &[S], input: &mut I, out: &mut O, err: &mut E) -> u8
-    // `audit`, `run` and `show` are calls, and `--help` asks for help.
-    ensures audit { (name : List ℕ) → map S.text words.now ≡ name ∷ codes "audit" ∷ []
-        → Calls Audit (map S.text words.now) }
-    ensures show { (name : List ℕ) → map S.text words.now ≡ name ∷ codes "show" ∷ []
-        → Calls Show (map S.text words.now) }
-    ensures run { (name : List ℕ) → map S.text words.now ≡ name ∷ codes "run" ∷ []
-        → Calls (Run Mixer.First) (map S.text words.now) }
-    ensures run_whole { (name : List ℕ) → map S.text words.now
-        ≡ name ∷ codes "run" ∷ codes "--mixer" ∷ codes "whole" ∷ []
-        → Calls (Run Mixer.Whole) (map S.text words.now) }
-    // How many workers the words of `audit` ask for: 1 where they name no number.
-    ensures one_worker { (name : List ℕ) → map S.text words.now ≡ name ∷ codes "audit" ∷ []
-        → workers_of (map S.text words.now) ≡ Some 1 }
+    // Which arguments, after the program's name, are calls and ask for help; how many workers those of `audit` ask for.
+    ensures audit { (name : List ℕ) → Calls Audit (name ∷ codes "audit" ∷ []) }
+    ensures show { (name : List ℕ) → Calls Show (name ∷ codes "show" ∷ []) }
+    ensures run { (name : List ℕ) → Calls (Run Mixer.First) (name ∷ codes "run" ∷ []) }
+    ensures run_whole { (name : List ℕ)
+        → Calls (Run Mixer.Whole) (name ∷ codes "run" ∷ codes "--mixer" ∷ codes "whole" ∷ []) }
+    ensures one_worker { (name : List ℕ) → workers_of (name ∷ codes "audit" ∷ []) ≡ Some 1 }
     ensures workers { (name : List ℕ) (n : ℕ) → 1 ≤ n → n ≤ 16
-        → map S.text words.now ≡ name ∷ codes "audit" ∷ codes "--workers" ∷ decimal n ∷ []
-        → Calls Audit (map S.text words.now) × (workers_of (map S.text words.now) ≡ Some n) }
-    ensures help { (name : List ℕ) → map S.text words.now ≡ name ∷ codes "--help" ∷ []
-        → CallsNothing (map S.text words.now) × AsksForHelp (map S.text words.now) }
+        → AuditsBy n (name ∷ codes "audit" ∷ codes "--workers" ∷ decimal n ∷ []) }
+    ensures help { (name : List ℕ) → GetsHelp (name ∷ codes "--help" ∷ []) }
 
     // A call that ends well: all is said, on `out`, and nothing failed. A yes of `audit` is said of bytes alone that
     // spell a trace that is audited.
     ensures said { (call : Subcommand) → Calls call (map S.text words.now) → result < 2
-        → WritesAllOf (says call) (I.remaining input.old) (O.written out.old) (O.written out.new) result }
+        → WritesAllOf (says longest call) (I.remaining input.old) (O.written out.old) (O.written out.new) result }
     ensures fine { CallsSome (map S.text words.now) → result < 2
         → (I.failures input.new ≡ I.failures input.old)
         × (O.failures out.new ≡ O.failures out.old) × (err.new ≡ err.old) }
@@ -121,7 +115,7 @@ pub fn serve<
         → Stops E.written E.failures O.written O.failures call (I.remaining input.old)
         (I.failures input.new ≡ after_failure (I.failures input.old)) err.old err.new out.old out.new result }
 
-    // The words are no call.
+    // The arguments are no call.
     ensures unread { CallsNothing (map S.text words.now) → input.new ≡ input.old }
     ensures helped { CallsNothing (map S.text words.now) → result ≡ 0
         → AsksForHelp (map S.text words.now) }

@@ -8,13 +8,12 @@ ghost use Rattle.eve_write.specs.Data.{trace};
 ghost use Rattle.eve_write.specs.Writable.{HasSpelling};
 ghost use Rattle.eve_write.specs.Writing.{Wrote, Stopped};
 ghost use Rattle.eve_tool.specs.Calls.{Leaves};
-ghost use Rattle.eve_tool.specs.Run.{Runs, IsRunOfText, StopsRun};
+ghost use Rattle.eve_tool.specs.Run.{Runs, IsRunOfText, StopsRun, longest};
 ghost use Rattle.eve_tool.specs.Words.{Run};
 ghost use Rattle.eve_tool.specs.Writes.{WritesAll, WritesAllOf};
 
 use crate::fault::ToolFault;
 use crate::random::random_words;
-use crate::show::LONGEST_TRACE;
 use eve_recorder::OpenGate;
 use eve_replica::eve_workload::{Mixer, Workload};
 use eve_streams::{Sink, Source, read_all};
@@ -24,21 +23,22 @@ use std::random::RandomSource;
 use std::sync::Wait;
 use std::thread::Threads;
 
-// How many bytes a workload has at most.
-const LONGEST_WORKLOAD: u32 = 1 << 30;
+// How many bytes a workload and the trace of its run have at most.
+const LONGEST: u32 = 1 << 30;
 
-// Sends the trace of the parts.
-fn send_trace<O: Sink>(parts: &Parts, out: &mut O) -> Result<(), ToolFault>
-    requires { HasSpelling parts.now }
-    ensures sent { OnOk result ((length_of (trace parts.now) ≤ 2 ^ 30)
+// Sends the trace of the parts, if it has at most so many bytes.
+fn send_trace<O: Sink>(parts: &Parts, limit: u32, out: &mut O) -> Result<(), ToolFault>
+    requires spelled { HasSpelling parts.now }
+    requires limit { limit ≤ 2 ^ 30 }
+    ensures sent { OnOk result ((length_of (trace parts.now) ≤ limit)
         × Wrote O.written O.failures out.old out.new (spelling (trace parts.now))) }
-    ensures long { result ≡ Err ToolFault.TooLong → (2 ^ 30 < length_of (trace parts.now))
+    ensures long { result ≡ Err ToolFault.TooLong → (limit < length_of (trace parts.now))
         × (out.new ≡ out.old) }
-    ensures stopped { result ≡ Err ToolFault.Write → (length_of (trace parts.now) ≤ 2 ^ 30)
+    ensures stopped { result ≡ Err ToolFault.Write → (length_of (trace parts.now) ≤ limit)
         × Stopped O.written O.failures out.old out.new (spelling (trace parts.now)) }
     ensures why { IfErr result (λ e. (e ≡ ToolFault.TooLong) ⊎ (e ≡ ToolFault.Write)) }
 {
-    match gather(parts, LONGEST_TRACE as u64, out) {
+    match gather(parts, limit as u64, out) {
         Ok(_) => Ok(()),
         Err(GatherFault::Write) => Err(ToolFault::Write),
         Err(GatherFault::TooLong) => Err(ToolFault::TooLong),
@@ -61,49 +61,72 @@ fn parts_of<R: RandomSource + Threads + Wait + Sync>(
     Ok(eve_replica::run(rt, alloc, &workload, mixer, random, &OpenGate)?)
 }
 
-// Runs the workload of these bytes and sends the trace, and answers the exit status.
+// Runs the workload of these bytes and sends the trace, of at most so many bytes, and answers the exit status.
 fn run_bytes<R: RandomSource + Threads + Wait + Sync, O: Sink>(
     rt: &R,
     alloc: Global,
     bytes: &[u8],
     mixer: Mixer,
+    limit: u32,
     out: &mut O,
 ) -> Result<u8, ToolFault>
-    requires short { length bytes.now ≤ 2 ^ 30 }
-    ensures all { IfOk result (WritesAll (Runs mixer) bytes.now (O.written out.old)
+    requires short { length bytes.now ≤ limit }
+    requires limit { limit ≤ 2 ^ 30 }
+    ensures all { IfOk result (WritesAll (Runs limit mixer) bytes.now (O.written out.old)
         (O.written out.new)) }
     ensures status { IfOk result (λ status. status ≡ 0) }
     ensures fine { OnOk result (O.failures out.new ≡ O.failures out.old) }
-    ensures left { IfErr result (Leaves O.written O.failures (Run mixer) (Some bytes.now) ⊥ out.old out.new) }
+    ensures left { IfErr result (Leaves limit O.written O.failures (Run mixer) (Some bytes.now) ⊥ out.old out.new) }
 {
     let parts = parts_of(rt, alloc, bytes, mixer)?;
-    send_trace(&parts, out)?;
+    send_trace(&parts, limit, out)?;
     Ok(0)
 }
 
 /// Reads a workload, asks for random words once it is accepted, runs it, and sends the trace, with the
-/// answer 0.
+/// answer 0: as `eve run` does, but of a workload and a trace of at most `limit` bytes.
 ///
-/// docs/TRACE.md, "Workload" and "The deployment's procedure". A workload of more than 2^30 bytes is too long,
-/// and so is one whose trace would be; nothing is sent then, nor where a line of it is bad.
+/// docs/TRACE.md, "Workload" and "The deployment's procedure". A workload of more bytes is too long, and so is
+/// one whose trace would be; nothing is sent then, nor where a line of it is bad. So what is too long can be
+/// tried with little; for `eve run` the limit is 2^30.
+pub fn run_within<R: AllocGlobal + RandomSource + Threads + Wait + Sync, I: Source, O: Sink>(
+    rt: &R,
+    mixer: Mixer,
+    limit: u32,
+    input: &mut I,
+    out: &mut O,
+) -> Result<u8, ToolFault>
+    requires { limit ≤ 2 ^ 30 }
+    ensures all { IfOk result (WritesAllOf (Runs limit mixer) (I.remaining input.old) (O.written out.old)
+        (O.written out.new)) }
+    ensures status { IfOk result (λ status. status ≡ 0) }
+    ensures fine { OnOk result ((I.failures input.new ≡ I.failures input.old)
+        × (O.failures out.new ≡ O.failures out.old)) }
+    ensures left { IfErr result (Leaves limit O.written O.failures (Run mixer) (I.remaining input.old)
+        (I.failures input.new ≡ after_failure (I.failures input.old)) out.old out.new) }
+{
+    let alloc = rt.alloc();
+    let bytes = read_all(alloc, input, limit)?;
+    if bytes.len() > limit as usize {
+        return Err(ToolFault::TooLong);
+    }
+    run_bytes(rt, alloc, bytes.as_slice(), mixer, limit, out)
+}
+
+/// The call `run`: `run_within` the limit of a trace.
 pub(crate) fn run<R: AllocGlobal + RandomSource + Threads + Wait + Sync, I: Source, O: Sink>(
     rt: &R,
     mixer: Mixer,
     input: &mut I,
     out: &mut O,
 ) -> Result<u8, ToolFault>
-    ensures all { IfOk result (WritesAllOf (Runs mixer) (I.remaining input.old) (O.written out.old)
+    ensures all { IfOk result (WritesAllOf (Runs longest mixer) (I.remaining input.old) (O.written out.old)
         (O.written out.new)) }
     ensures status { IfOk result (λ status. status ≡ 0) }
     ensures fine { OnOk result ((I.failures input.new ≡ I.failures input.old)
         × (O.failures out.new ≡ O.failures out.old)) }
-    ensures left { IfErr result (Leaves O.written O.failures (Run mixer) (I.remaining input.old)
+    ensures left { IfErr result (Leaves longest O.written O.failures (Run mixer) (I.remaining input.old)
         (I.failures input.new ≡ after_failure (I.failures input.old)) out.old out.new) }
 {
-    let alloc = rt.alloc();
-    let bytes = read_all(alloc, input, LONGEST_WORKLOAD)?;
-    if bytes.len() > LONGEST_WORKLOAD as usize {
-        return Err(ToolFault::TooLong);
-    }
-    run_bytes(rt, alloc, bytes.as_slice(), mixer, out)
+    run_within(rt, mixer, LONGEST, input, out)
 }

@@ -1,9 +1,10 @@
-//! What the words of a command line ask for.
+//! What the arguments of a command line ask for.
 
 ghost use Rattle.std.specs.Prelude.{◌≡◌, false, IfOk, IfSome, map, option_and_then, option_map};
 ghost use Rattle.clap.specs.Words.{app_of, found_of, kind_of, rule_of, subcommand_rows_of};
 ghost use Rattle.clap.specs.Walk.{rows_of};
-ghost use Rattle.eve_tool.specs.Words.{Answers, HasWorkers, SaysOf, eve, mixer, mixer_in, mixer_named, subcommand_named, subcommand_of_call, workers, workers_behind, workers_in};
+ghost use Rattle.eve_tool.specs.Words.{Answers, HasWorkers, SaysOf, eve, mixer, mixer_in, mixer_named};
+ghost use Rattle.eve_tool.specs.Words.{subcommand_named, subcommand_of_call, workers, workers_behind, workers_in};
 
 use crate::worker_count::WorkerCount;
 use clap::error::ErrorKind;
@@ -23,7 +24,7 @@ pub(crate) enum Call {
     Show,
 }
 
-/// What the words of a command line come to.
+/// What the arguments of a command line come to.
 #[derive(Debug, Drop)]
 pub(crate) enum Asked {
     /// They are a call.
@@ -132,7 +133,8 @@ fn mixer_of(found: &ArgMatches<'_>) -> Option<Mixer>
 
 // The call of the subcommand that was met.
 fn call_in(matches: &ArgMatches<'_>) -> Option<Call>
-    ensures call { option_map subcommand_of_call result ≡ option_and_then subcommand_named (subcommand_rows_of matches.now) }
+    ensures call { option_map subcommand_of_call result
+        ≡ option_and_then subcommand_named (subcommand_rows_of matches.now) }
     ensures workers { IfSome result (HasWorkers (workers_behind (subcommand_rows_of matches.now))) }
 {
     match matches.subcommand_name() {
@@ -157,7 +159,7 @@ fn answer_of(alloc: Global, error: &Error) -> Result<Asked, AllocError>
     }
 }
 
-/// Reads the words of a command line, of which the first is the program's name.
+/// Reads the arguments of a command line, of which the first is the program's name.
 pub(crate) fn read_words<S: AsStr>(alloc: Global, words: &[S]) -> Result<Asked, AllocError>
     ensures { IfOk result (Answers (map S.text words.now)) }
 {

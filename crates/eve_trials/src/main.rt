@@ -1,19 +1,21 @@
-//! Tries the program on streams that fail, and on words that are no call. A line of the input is a trial: what fails,
-//! the file that is read, and the words of the call. It is printed again, and below it what came of it: the number of
-//! the call or byte at which something failed, from the first to the last that came to the same, the exit status, what
-//! stood on out, and what was said on the error stream.
+//! Tries the program on streams that fail, and on arguments that are no call. A line of the input is a trial: what
+//! fails, the file that is read, and the arguments of the call. It is printed again, and below it what came of it: the
+//! number of the call or byte at which something failed, from the first to the last that came to the same, the exit
+//! status, what stood on out, and what was said on the error stream.
 //!
 //! - `nothing`: nothing fails, and all that is said stands below
 //! - `read`, `write`: the first read or write of a byte fails, or the second, and so on until none does
 //! - `word`: the first write to the error stream fails
 //! - `random`: there are no random words
 //! - `rest`: the file ends before its first byte, or before its second, and so on
+//! - `long`: a workload and its trace may have no byte, or one, or two, and so on
 #![tactic(auto)]
 
 use eve_streams::failing::FailsAt;
 use eve_streams::one_byte::OneByte;
 use eve_streams::{SinkOf, SourceOf};
-use eve_tool::serve;
+use eve_tool::{run_within, serve, stop};
+use eve_workload::Mixer;
 use std::alloc::Global;
 use std::io::{ErrorKind, Write};
 use std::random::RandomSource;
@@ -88,6 +90,28 @@ fn said<R: AllocGlobal + RandomSource + Threads + Wait + Sync>(
     })
 }
 
+/// What `eve run` answers where a workload and its trace may have so many bytes.
+fn ran_within<R: AllocGlobal + RandomSource + Threads + Wait + Sync>(
+    rt: &R,
+    bytes: &[u8],
+    limit: usize,
+) -> io::Result<Answer> {
+    let alloc = rt.alloc();
+    let mut input = SourceOf::new(bytes);
+    let mut out = SinkOf::new(Vec::new(alloc));
+    let mut err = SinkOf::new(Vec::new(alloc));
+    let limit = limit.min(MOST) as u32;
+    let status = match run_within(rt, Mixer::First, limit, &mut input, &mut out) {
+        Ok(status) => status,
+        Err(fault) => stop(fault, &mut err),
+    };
+    Ok(Answer {
+        status,
+        out: out.writer().clone()?,
+        err: err.writer().clone()?,
+    })
+}
+
 /// What failures came to, from one number to another: the exit status, what stood on out, and what was said on the
 /// error stream.
 #[derive(Drop)]
@@ -139,9 +163,10 @@ enum Failure {
     Word,
     Random,
     Rest,
+    Long,
 }
 
-/// A trial: what fails, the file that is read, and the words of the call.
+/// A trial: what fails, the file that is read, and the arguments of the call.
 #[derive(Drop)]
 struct Trial<'a> {
     failure: Failure,
@@ -159,6 +184,7 @@ fn trial_of(alloc: Global, line: &str) -> io::Result<Trial<'_>> {
         "word" => Failure::Word,
         "random" => Failure::Random,
         "rest" => Failure::Rest,
+        "long" => Failure::Long,
         _ => return Err(io::Error::from(ErrorKind::InvalidInput)),
     };
     let file = parts.next().unwrap_or("");
@@ -192,6 +218,7 @@ fn tried<R: AllocGlobal + RandomSource + Threads + Wait + Sync>(
             let rest = bytes.get(..at.saturating_sub(1)).unwrap_or(bytes);
             return said(rt, words, rest, NOTHING);
         }
+        Failure::Long => return ran_within(rt, bytes, at.saturating_sub(1)),
         Failure::Random => {
             let no_random = NoRandom {
                 threads: rt,
@@ -264,7 +291,7 @@ fn main(rt: HostRuntime) -> io::Result<()> {
             Failure::Nothing | Failure::Word | Failure::Random => {
                 print_answer(&rt, &tried(&rt, &trial, bytes.as_slice(), 1)?)?;
             }
-            Failure::Read | Failure::Write | Failure::Rest => {
+            Failure::Read | Failure::Write | Failure::Rest | Failure::Long => {
                 for outcome in tried_in_turn(&rt, &trial, bytes.as_slice())?.iter() {
                     print_outcome(&rt, outcome)?;
                 }

@@ -5,8 +5,10 @@ use Rattle.eve_cases.proofs.histories.agreement.Goals as goal
 
 pub equal_balances-requires-clause-histories : goal.equal_balances-requires-clause-histories
 equal_balances-requires-clause-histories c =
-    let two : length (whole c.in_ok-trace.trace).sections ≡ 2 = omega (arith, c.section_count.ensures, c.if-section_count-ne2.false) in
-    both_told (whole c.in_ok-trace.trace) c.in_ok-first.first c.in_ok-second.second two c.in_ok-first.ensures.telling c.in_ok-second.ensures.telling
+    let two : length (whole c.in_ok-trace.trace).sections ≡ 2 =
+    omega (arith, c.section_count.ensures, c.if-section_count-ne2.false) in
+    both_told (whole c.in_ok-trace.trace) c.in_ok-first.first c.in_ok-second.second two
+    c.in_ok-first.ensures.section_history c.in_ok-second.ensures.section_history
 
 pub equal_balances-requires-clause-settled : goal.equal_balances-requires-clause-settled
 equal_balances-requires-clause-settled c =

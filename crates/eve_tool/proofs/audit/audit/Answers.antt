@@ -10,7 +10,10 @@ returns-clause-all g c =
     let known = g.I.Source.remaining c.args.input.now in
     let old = g.O.Sink.written c.args.out.now in
     let new = g.O.Sink.written c.audit_bytes.new.out in
-    IfOk-weaker c.audit_bytes.result _ _ (λ status all. WritesAllOf-cut Audits (2 ^ 30) known _ _ old new status (λ bytes text s. Audits-cut (2 ^ 30) bytes text s (lit≤ tt)) c.as_slice.ensures.value c.in_ok-bytes.ensures.bytes all)
+    IfOk-weaker c.audit_bytes.result _ _
+    (λ status all. WritesAllOf-cut Audits (2 ^ 30) known _ _ old new status
+    (λ bytes text s. Audits-cut (2 ^ 30) bytes text s (lit≤ tt)) c.as_slice.ensures.value
+    c.in_ok-bytes.ensures.bytes all)
     c.audit_bytes.ensures.all
 
 pub returns-clause-left : goal.returns-clause-left
@@ -18,12 +21,17 @@ returns-clause-left g c =
     let known = g.I.Source.remaining c.args.input.now in
     let old = g.O.Sink.written c.args.out.now in
     let new = g.O.Sink.written c.audit_bytes.new.out in
-    IfErr-weaker c.audit_bytes.result _ _ (λ why. audit_left g.O.Sink.written g.O.Sink.failures known _ c.as_slice.result.now c.args.out.now c.audit_bytes.new.out why
-    (λ front. WritesFrontOf-cut Audits (2 ^ 30) known _ _ old new (λ bytes text s. Audits-cut (2 ^ 30) bytes text s (lit≤ tt)) c.as_slice.ensures.value c.in_ok-bytes.ensures.bytes front))
+    IfErr-weaker c.audit_bytes.result _ _
+    (λ why. audit_left g.O.Sink.written g.O.Sink.failures known _ c.as_slice.result.now c.args.out.now
+    c.audit_bytes.new.out why
+    (λ front. WritesFrontOf-cut Audits (2 ^ 30) known _ _ old new
+    (λ bytes text s. Audits-cut (2 ^ 30) bytes text s (lit≤ tt)) c.as_slice.ensures.value
+    c.in_ok-bytes.ensures.bytes front))
     c.audit_bytes.ensures.left
 
 pub returns-in_err-random-clause-left : goal.returns-in_err-random-clause-left
 returns-in_err-random-clause-left g c =
     let why = c.in_err-random.field-0.0 in
     at_err c.from_residual-in_err-random.result _ why c.from_residual-in_err-random.ensures.1
-    (random_left g.O.Sink.written g.O.Sink.failures (g.I.Source.remaining c.args.input.now) _ c.args.out.now why c.in_err-random.ensures)
+    (random_left g.O.Sink.written g.O.Sink.failures (g.I.Source.remaining c.args.input.now) _ c.args.out.now why
+    c.in_err-random.ensures)

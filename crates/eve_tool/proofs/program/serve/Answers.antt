@@ -1,16 +1,26 @@
-use Rattle.std.proofs.Common.{map, arith}
+use Rattle.std.proofs.Common.{arith}
 use Rattle.eve_tool.specs.Words.{Audit}
-use Rattle.eve_tool.proofs.CommandLine.{asked_help}
+use Rattle.eve_tool.proofs.CommandLine.{asks, asks_help}
 use Rattle.eve_tool.proofs.Cutting.{audited_of}
 use Rattle.eve_tool.proofs.program.serve.Goals as goal
 
-pub returns-in-Ok-clause-help : goal.returns-in-Ok-clause-help
-returns-in-Ok-clause-help g c = λ name e. asked_help (map g.S.AsStr.text c.args.words.now) name e
-
 pub returns-in-Ok-clause-yes : goal.returns-in-Ok-clause-yes
 returns-in-Ok-clause-yes g c = λ calls zero.
-    audited_of (g.I.Source.remaining c.args.input.now) (g.O.Sink.written c.args.out.now) (g.O.Sink.written c.answer.new.out) c.in-Ok.status
+    audited_of (g.I.Source.remaining c.args.input.now) (g.O.Sink.written c.args.out.now)
+    (g.O.Sink.written c.answer.new.out) c.in-Ok.status
     (c.in-Ok.ensures.said Audit calls).1 zero
 
 pub returns-in-Ok-clause-stopped : goal.returns-in-Ok-clause-stopped
 returns-in-Ok-clause-stopped g c = λ call calls two. absurd (omega (arith, (c.in-Ok.ensures.said call calls).0))
+
+pub returns-in-Ok-clause-workers : goal.returns-in-Ok-clause-workers
+returns-in-Ok-clause-workers g c = λ name n some most. asks name n some most
+
+pub returns-in-Ok-clause-help : goal.returns-in-Ok-clause-help
+returns-in-Ok-clause-help g c = λ name. asks_help name
+
+pub returns-in-Err-clause-workers : goal.returns-in-Err-clause-workers
+returns-in-Err-clause-workers g c = λ name n some most. asks name n some most
+
+pub returns-in-Err-clause-help : goal.returns-in-Err-clause-help
+returns-in-Err-clause-help g c = λ name. asks_help name

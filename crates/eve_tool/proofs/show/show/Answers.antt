@@ -9,7 +9,10 @@ returns-clause-all g c =
     let known = g.I.Source.remaining c.args.input.now in
     let old = g.O.Sink.written c.args.out.now in
     let new = g.O.Sink.written c.show_bytes.new.out in
-    IfOk-weaker c.show_bytes.result _ _ (λ status all. WritesAllOf-cut Shows (2 ^ 30) known _ _ old new status (λ bytes text s. Shows-cut (2 ^ 30) bytes text s (lit≤ tt)) c.as_slice.ensures.value c.in_ok-bytes.ensures.bytes all)
+    IfOk-weaker c.show_bytes.result _ _
+    (λ status all. WritesAllOf-cut Shows (2 ^ 30) known _ _ old new status
+    (λ bytes text s. Shows-cut (2 ^ 30) bytes text s (lit≤ tt)) c.as_slice.ensures.value c.in_ok-bytes.ensures.bytes
+    all)
     c.show_bytes.ensures.all
 
 pub returns-clause-left : goal.returns-clause-left
@@ -17,6 +20,10 @@ returns-clause-left g c =
     let known = g.I.Source.remaining c.args.input.now in
     let old = g.O.Sink.written c.args.out.now in
     let new = g.O.Sink.written c.show_bytes.new.out in
-    IfErr-weaker c.show_bytes.result _ _ (λ why. show_left g.O.Sink.written g.O.Sink.failures known _ c.as_slice.result.now c.args.out.now c.show_bytes.new.out why
-    (λ front. WritesFrontOf-cut Shows (2 ^ 30) known _ _ old new (λ bytes text s. Shows-cut (2 ^ 30) bytes text s (lit≤ tt)) c.as_slice.ensures.value c.in_ok-bytes.ensures.bytes front))
+    IfErr-weaker c.show_bytes.result _ _
+    (λ why. show_left g.O.Sink.written g.O.Sink.failures known _ c.as_slice.result.now c.args.out.now
+    c.show_bytes.new.out why
+    (λ front. WritesFrontOf-cut Shows (2 ^ 30) known _ _ old new
+    (λ bytes text s. Shows-cut (2 ^ 30) bytes text s (lit≤ tt)) c.as_slice.ensures.value c.in_ok-bytes.ensures.bytes
+    front))
     c.show_bytes.ensures.left

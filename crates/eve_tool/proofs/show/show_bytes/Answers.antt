@@ -9,13 +9,24 @@ pub returns-in_err-send_frames-in-Ok-clause-left : goal.returns-in_err-send_fram
 returns-in_err-send_frames-in-Ok-clause-left g c =
     let why = c.in_err-send_frames-in-Ok.field-0.0 in
     at_err c.from_residual.result _ why c.from_residual.ensures.1
-    (shown_left g.O.Sink.written g.O.Sink.failures c.args.bytes.now (trace_lines c.in-Ok.trace.frames) 0 c.args.out.now c.send_frames.new.out
-    (inl (record { trace = c.in-Ok.trace; spelled = c.in-Ok.ensures.spelled; lines = refl }, refl)) why c.in_err-send_frames-in-Ok.ensures.stopped)
+    (shown_left g.O.Sink.written g.O.Sink.failures c.args.bytes.now (trace_lines c.in-Ok.trace.frames) 0 c.args.out.now
+    c.send_frames.new.out
+    (inl (record { trace = c.in-Ok.trace; spelled = c.in-Ok.ensures.spelled; lines = refl }, refl)) why
+    c.in_err-send_frames-in-Ok.ensures.stopped)
 
 pub returns-in_err-send_fault-in-Err-Found-clause-left : goal.returns-in_err-send_fault-in-Err-Found-clause-left
 returns-in_err-send_fault-in-Err-Found-clause-left g c =
     let why = c.in_err-send_fault-in-Err-Found.field-0.0 in
-    at_err c.from_residual-in_err-send_fault-in-Err-Found.result _ why c.from_residual-in_err-send_fault-in-Err-Found.ensures.1
-    (sent_left g.O.Sink.written g.O.Sink.failures Show c.args.bytes.now (fault_line c.in-Err-Found.fault) 1 c.args.out.now c.send_fault.new.out
-    (inr (record { fault = c.in-Err-Found.fault; least = rw c.in-Err-Found.field-0-is at c.in-Err-Found.ensures.least; line = refl }, refl))
+    at_err c.from_residual-in_err-send_fault-in-Err-Found.result _ why
+    c.from_residual-in_err-send_fault-in-Err-Found.ensures.1
+    (sent_left g.O.Sink.written g.O.Sink.failures Show c.args.bytes.now (fault_line c.in-Err-Found.fault) 1
+    c.args.out.now c.send_fault.new.out
+    (inr (
+      record {
+        fault = c.in-Err-Found.fault;
+        least = rw c.in-Err-Found.field-0-is at c.in-Err-Found.ensures.least;
+        line = refl;
+      },
+      refl,
+    ))
     why c.in_err-send_fault-in-Err-Found.ensures.stopped)

@@ -8,13 +8,17 @@ use Rattle.eve_tool.proofs.words.mixer_of.Goals as goal
 
 pub returns-in-Some : goal.returns-in-Some
 returns-in-Some c =
-    let named : option_map (λ s. s.now) c.get_str.result ≡ value_in (codes "mixer") (rows_of (found_of c.args.found.now)) =
+    let named : option_map (λ s. s.now) c.get_str.result
+    ≡ value_in (codes "mixer") (rows_of (found_of c.args.found.now)) =
     c.get_str.ensures ∙ first_value-rows (found_of c.args.found.now) (codes "mixer") in
     c.mixer_named.ensures
-    ∙ ap (λ o. option_and_then mixer_named (option_map (λ s. s.now) o)) (sym c.in-Some.is) ∙ ap (option_and_then mixer_named) named
+    ∙ ap (λ o. option_and_then mixer_named (option_map (λ s. s.now) o)) (sym c.in-Some.is)
+    ∙ ap (option_and_then mixer_named) named
 
 pub returns-in-None : goal.returns-in-None
 returns-in-None c =
-    let named : option_map (λ s. s.now) c.get_str.result ≡ value_in (codes "mixer") (rows_of (found_of c.args.found.now)) =
+    let named : option_map (λ s. s.now) c.get_str.result
+    ≡ value_in (codes "mixer") (rows_of (found_of c.args.found.now)) =
     c.get_str.ensures ∙ first_value-rows (found_of c.args.found.now) (codes "mixer") in
-    ap (λ o. option_and_then mixer_named (option_map (λ s. s.now) o)) (sym c.in-None.is) ∙ ap (option_and_then mixer_named) named
+    ap (λ o. option_and_then mixer_named (option_map (λ s. s.now) o)) (sym c.in-None.is)
+    ∙ ap (option_and_then mixer_named) named

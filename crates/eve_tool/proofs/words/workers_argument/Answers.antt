@@ -15,8 +15,11 @@ returns-clause-rule c =
     let before : Arg = c.default_value.result in
     let given = c.value_parser-2.ensures.given in
     let made : c.range-parser.result ≡ vp.Signed (pos 1) (pos 16) =
-    (rw c.value_parser.ensures at c.range-parser.ensures) ∙ ap₂ (λ (a b : ℤ). signed_between (int_max (pos 0) a) (int_min (pos 255) b)) c.new.ensures.start c.new.ensures.end in
-    let parser : c.value_parser-2.result.value_parser ≡ Some (vp.Signed (pos 1) (pos 16)) = given.1 ∙ ap (λ (q : ValueParser). Some q) (given.2 ∙ made) in
+    (rw c.value_parser.ensures at c.range-parser.ensures)
+    ∙ ap₂ (λ (a b : ℤ). signed_between (int_max (pos 0) a) (int_min (pos 255) b)) c.new.ensures.start
+    c.new.ensures.end in
+    let parser : c.value_parser-2.result.value_parser ≡ Some (vp.Signed (pos 1) (pos 16)) = given.1
+    ∙ ap (λ (q : ValueParser). Some q) (given.2 ∙ made) in
     let rule : rule_of before ≡ any = search rules in
     let is : c.value_parser-2.result ≡ record before { value_parser = Some (vp.Signed (pos 1) (pos 16)) } =
     c.value_parser-2.ensures.others ∙ ap (λ (q : Option ValueParser). record before { value_parser = q }) parser in

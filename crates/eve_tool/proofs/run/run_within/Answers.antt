@@ -1,0 +1,37 @@
+use Rattle.std.proofs.Common.{◌≤◌, ◌<◌, length, refl, inl, arith}
+use Rattle.std.proofs.lemmas.Result.{IfOk-weaker, IfErr-weaker}
+use Rattle.eve_tool.specs.Run.{Runs}
+use Rattle.eve_tool.specs.Writes.{WritesAll}
+use Rattle.eve_tool.proofs.WholeInput.{IsAll, left_of_all, of_all, short_is_all, some_weaker, too_long}
+use Rattle.eve_tool.proofs.run.run_within.Goals as goal
+
+pub returns-then-len-limit-clause-left : goal.returns-then-len-limit-clause-left
+returns-then-len-limit-clause-left g c =
+    let known = g.I.Source.remaining c.args.input.now in
+    let long : c.args.limit < length c.in_ok-bytes.bytes.items = omega arith in (
+      some_weaker known _ _ (λ k longer. inl longer)
+          (too_long c.args.limit known c.in_ok-bytes.bytes.items c.in_ok-bytes.ensures.bytes long),
+      refl,
+    )
+
+pub returns-clause-all : goal.returns-clause-all
+returns-clause-all g c =
+    let known = g.I.Source.remaining c.args.input.now in
+    let short : length c.in_ok-bytes.bytes.items ≤ c.args.limit = omega arith in
+    let all : IsAll known c.as_slice.result.now = short_is_all c.args.limit known c.in_ok-bytes.bytes.items _
+    c.as_slice.ensures.value c.in_ok-bytes.ensures.bytes short in
+    IfOk-weaker c.run_bytes.result _ _
+    (λ status. of_all all (λ b. WritesAll (Runs c.args.limit c.args.mixer) b (g.O.Sink.written c.args.out.now)
+    (g.O.Sink.written c.run_bytes.new.out) status))
+    c.run_bytes.ensures.all
+
+pub returns-clause-left : goal.returns-clause-left
+returns-clause-left g c =
+    let known = g.I.Source.remaining c.args.input.now in
+    let short : length c.in_ok-bytes.bytes.items ≤ c.args.limit = omega arith in
+    let all : IsAll known c.as_slice.result.now = short_is_all c.args.limit known c.in_ok-bytes.bytes.items _
+    c.as_slice.ensures.value c.in_ok-bytes.ensures.bytes short in
+    IfErr-weaker c.run_bytes.result _ _
+    (λ why. left_of_all c.args.limit g.O.Sink.written g.O.Sink.failures c.args.mixer known _ c.as_slice.result.now
+    c.args.out.now c.run_bytes.new.out why all)
+    c.run_bytes.ensures.left
