@@ -4,7 +4,6 @@ ghost use Rattle.std.specs.Prelude.{◌≡◌, ◌≤◌, ◌<◌, ◌-◌, ◌�
 ghost use Rattle.std.specs.Prelude.{slice_get};
 ghost use Rattle.eve_frames.specs.Views.{attempt_in};
 ghost use Rattle.eve_views.specs.Form.{IfFound, IsLeast, HasNone};
-ghost use Rattle.eve_views.specs.Fronts.{whole};
 ghost use Rattle.eve_views.specs.declared.fault.Fault.{Fault as FaultValue};
 ghost use Rattle.eve_grammar.specs.Trace.{Trace as TraceValue};
 ghost use Rattle.eve_history.specs.SectionHistory.{ExecutedAttempt, SectionHistory, section_histories, IsRightSection};
@@ -34,11 +33,11 @@ pub fn equal_balances(
     histories: &[History<'_>],
     settled: &[Settled<'_>],
 ) -> Result<(), CheckFault>
-    requires histories { histories.now ≡ section_histories (whole trace.now) }
-    requires settled { settled.now ≡ settlings (whole trace.now) }
-    ensures agree { IfOk result (λ _. ReplicasAgree (whole trace.now)) }
-    ensures none { IfOk result (λ _. HasNone (IsOutcomeFault (whole trace.now))) }
-    ensures least { IfErr result (λ why. IfFound why (IsLeast (IsOutcomeFault (whole trace.now)))) }
+    requires histories { histories.now ≡ section_histories trace.now }
+    requires settled { settled.now ≡ settlings trace.now }
+    ensures agree { IfOk result (λ _. ReplicasAgree trace.now) }
+    ensures none { IfOk result (λ _. HasNone (IsOutcomeFault trace.now)) }
+    ensures least { IfErr result (λ why. IfFound why (IsLeast (IsOutcomeFault trace.now))) }
 {
     are_right(histories);
     if histories.len() < 2 {
@@ -112,14 +111,14 @@ fn judge_batch(
     least: Option<Fault>,
 ) -> Option<Fault>
     requires one { 1 ≤ n }
-    requires histories { histories.now ≡ section_histories (whole trace.now) }
-    requires right { (e : ℕ) → IsRightSection (whole trace.now) e }
-    requires after { AreAfter (settlings (whole trace.now)) n all.now }
-    requires law { (e : ℕ) → values_in (settling (whole trace.now) e) n ≡ values_to (whole trace.now) e n }
-    requires stand { Stand (whole trace.now) least }
-    ensures stand { Stand (whole trace.now) result }
+    requires histories { histories.now ≡ section_histories trace.now }
+    requires right { (e : ℕ) → IsRightSection trace.now e }
+    requires after { AreAfter (settlings trace.now) n all.now }
+    requires law { (e : ℕ) → values_in (settling trace.now e) n ≡ values_to trace.now e n }
+    requires stand { Stand trace.now least }
+    ensures stand { Stand trace.now result }
     ensures lowers { Lowers least result }
-    ensures judged { (e : ℕ) → IsJudged (whole trace.now) result e n }
+    ensures judged { (e : ℕ) → IsJudged trace.now result e n }
 {
     let Some(first) = first_to_commit(histories, n) else {
         return least;

@@ -4,7 +4,6 @@ ghost use Rattle.std.specs.Prelude.{◌≡◌, ◌≤◌, ◌<◌, ◌↔◌, �
 ghost use Rattle.eve_frames.specs.Views.{attempt_in};
 ghost use Rattle.eve_token.specs.Token.{token_of};
 ghost use Rattle.eve_views.specs.Form.{IfFound, IsLeast, HasNone};
-ghost use Rattle.eve_views.specs.Fronts.{whole};
 ghost use Rattle.eve_views.specs.declared.fault.Fault.{Fault as FaultValue};
 ghost use Rattle.eve_history.specs.SectionHistory.{section_history, IsRightSection};
 ghost use Rattle.eve_chains.specs.Settling.{settling};
@@ -60,11 +59,11 @@ fn first_wrong(
     last: u32,
     balances: &mut Balances,
 ) -> Option<u64>
-    requires history { history.now ≡ section_history (whole trace.now) history.now.replica }
-    requires settled { settled.now ≡ settling (whole trace.now) history.now.replica }
+    requires history { history.now ≡ section_history trace.now history.now.replica }
+    requires settled { settled.now ≡ settling trace.now history.now.replica }
     requires there { last ≤ length settled.now.batches }
     requires balances { IsAfter settled.now before balances.old }
-    ensures { IsFirstWrong (whole trace.now) history.now.replica before last result }
+    ensures { IsFirstWrong trace.now history.now.replica before last result }
 {
     trace.is_whole();
     history.is_right();
@@ -81,10 +80,10 @@ fn first_wrong(
 
 /// Judges a stretch.
 fn judge(trace: &Trace<'_>, history: &History<'_>, settled: &Settled<'_>, stretch: &mut Stretch)
-    requires history { history.now ≡ section_history (whole trace.now) history.now.replica }
-    requires settled { settled.now ≡ settling (whole trace.now) history.now.replica }
+    requires history { history.now ≡ section_history trace.now history.now.replica }
+    requires settled { settled.now ≡ settling trace.now history.now.replica }
     requires ready { IsReady settled.now stretch.old }
-    ensures { IsJudged (whole trace.now) history.now.replica stretch.old stretch.new }
+    ensures { IsJudged trace.now history.now.replica stretch.old stretch.new }
 {
     stretch.wrong = first_wrong(
         trace,
@@ -148,12 +147,12 @@ fn judge_all<R: Threads + Sync>(
     jobs: u8,
 )
     requires some { 1 ≤ jobs }
-    requires history { history.now ≡ section_history (whole trace.now) history.now.replica }
-    requires settled { settled.now ≡ settling (whole trace.now) history.now.replica }
+    requires history { history.now ≡ section_history trace.now history.now.replica }
+    requires settled { settled.now ≡ settling trace.now history.now.replica }
     requires ready { All (IsReady settled.now) stretches.old }
     ensures len { length stretches.new ≡ length stretches.old }
     ensures judged { (i : ℕ) (d : StretchValue) → i < length stretches.old
-        → IsJudged (whole trace.now) history.now.replica (slice_index_or stretches.old i d)
+        → IsJudged trace.now history.now.replica (slice_index_or stretches.old i d)
         (slice_index_or stretches.new i d) }
 {
     thread::for_each_mut(
@@ -161,9 +160,9 @@ fn judge_all<R: Threads + Sync>(
         stretches,
         jobs as usize,
         &|_: usize, stretch: &mut Stretch|
-            requires { (history.now ≡ section_history (whole trace.now) history.now.replica)
-                × (settled.now ≡ settling (whole trace.now) history.now.replica) × IsReady settled.now stretch.old }
-            ensures { IsJudged (whole trace.entry.now) history.entry.now.replica stretch.old stretch.new }
+            requires { (history.now ≡ section_history trace.now history.now.replica)
+                × (settled.now ≡ settling trace.now history.now.replica) × IsReady settled.now stretch.old }
+            ensures { IsJudged trace.entry.now history.entry.now.replica stretch.old stretch.new }
         { judge(trace, history, settled, stretch) },
     );
 }
@@ -194,12 +193,12 @@ pub fn tokens<R: Threads + Sync>(
     settled: &Settled<'_>,
     jobs: u8,
 ) -> Result<(), CheckFault>
-    requires history { history.now ≡ section_history (whole trace.now) history.now.replica }
-    requires settled { settled.now ≡ settling (whole trace.now) history.now.replica }
+    requires history { history.now ≡ section_history trace.now history.now.replica }
+    requires settled { settled.now ≡ settling trace.now history.now.replica }
     requires some { 1 ≤ jobs }
-    ensures due { IfOk result (λ _. TokensAreDue (whole trace.now) history.now.replica) }
-    ensures none { IfOk result (λ _. HasNone (IsTokenFault (whole trace.now) history.now.replica)) }
-    ensures least { IfErr result (λ why. IfFound why (IsLeast (IsTokenFault (whole trace.now) history.now.replica))) }
+    ensures due { IfOk result (λ _. TokensAreDue trace.now history.now.replica) }
+    ensures none { IfOk result (λ _. HasNone (IsTokenFault trace.now history.now.replica)) }
+    ensures least { IfErr result (λ why. IfFound why (IsLeast (IsTokenFault trace.now history.now.replica))) }
 {
     let mut stretches = cut(alloc, settled, jobs)?;
     judge_all(rt, trace, history, settled, stretches.as_mut_slice(), jobs);

@@ -5,7 +5,6 @@ ghost use Rattle.std.specs.Prelude.{IfSome, IfNone, IfOk, IfErr};
 ghost use Rattle.eve_grammar.specs.Trace.{Step as StepValue};
 ghost use Rattle.eve_frames.specs.Views.{commit_in, rollback_in};
 ghost use Rattle.eve_views.specs.Form.{IsUpTo, IfFound, IsLeast, HasNone};
-ghost use Rattle.eve_views.specs.Fronts.{whole};
 ghost use Rattle.eve_views.specs.StepKinds.{IsStep};
 ghost use Rattle.eve_views.specs.declared.fault.CheckFault.TheVariants.{Memory};
 ghost use Rattle.eve_views.specs.declared.fault.Fault.{Fault as FaultValue};
@@ -72,11 +71,11 @@ fn unbacked(tally: &Tally<'_, '_>, e: u8, step: Step<'_, '_>) -> Option<Fault>
 
 /// The first commit or rollback of a replica that no majority voted for.
 fn first_in(trace: &Trace<'_>, tally: &Tally<'_, '_>, e: u8) -> Option<Fault>
-    requires there { e < length (whole trace.now).sections }
-    requires right { IsRightSection (whole trace.now) e }
-    requires tally { tally.now ≡ whole trace.now }
-    ensures backed { IfNone result (IsBackedSection (whole trace.now) e) }
-    ensures first { IfSome result (IsFirstIn (whole trace.now) e) }
+    requires there { e < length trace.now.sections }
+    requires right { IsRightSection trace.now e }
+    requires tally { tally.now ≡ trace.now }
+    ensures backed { IfNone result (IsBackedSection trace.now e) }
+    ensures first { IfSome result (IsFirstIn trace.now e) }
 {
     trace.is_whole();
     let mut steps = trace.section(e);
@@ -98,11 +97,11 @@ pub fn majorities(
     histories: &[History<'_>],
     tally: &Tally<'_, '_>,
 ) -> Result<(), CheckFault>
-    requires histories { histories.now ≡ section_histories (whole trace.now) }
-    requires tally { tally.now ≡ whole trace.now }
-    ensures backed { IfOk result (λ _. AllAreBacked (whole trace.now)) }
-    ensures none { IfOk result (λ _. HasNone (IsMajorityFault (whole trace.now))) }
-    ensures least { IfErr result (λ why. IfFound why (IsLeast (IsMajorityFault (whole trace.now)))) }
+    requires histories { histories.now ≡ section_histories trace.now }
+    requires tally { tally.now ≡ trace.now }
+    ensures backed { IfOk result (λ _. AllAreBacked trace.now) }
+    ensures none { IfOk result (λ _. HasNone (IsMajorityFault trace.now)) }
+    ensures least { IfErr result (λ why. IfFound why (IsLeast (IsMajorityFault trace.now))) }
     ensures found { IfErr result (λ why. why ≢ Memory) }
 {
     are_right(histories);

@@ -3,7 +3,6 @@
 ghost use Rattle.std.specs.Prelude.{◌≡◌, ◌≤◌, ◌<◌, ◌↔◌, ℕ, IsTrue, IfSome, IfNone, length, map};
 ghost use Rattle.eve_grammar.specs.Limits.{is_batch};
 ghost use Rattle.eve_frames.specs.Views.{attempt_in, batch_in, sent_in};
-ghost use Rattle.eve_views.specs.Fronts.{whole};
 ghost use Rattle.eve_history.specs.Faults.{request_id};
 ghost use Rattle.eve_history.specs.Notes.{requests_said};
 ghost use Rattle.eve_agree.specs.Keeping.{kept, kept_in, IsAnswer, AreOf};
@@ -52,9 +51,9 @@ impl RequestIds {
     /// Turns to a batch of the trace, by its number from 1: reads it, if it isn't the one at hand.
     pub fn turn_to(&mut self, trace: &Trace<'_>, batch: u32)
         requires one { 1 ≤ batch }
-        requires there { batch ≤ length (whole trace.now).batches }
-        requires old { AreOf (whole trace.now) self.old }
-        ensures new { AreOf (whole trace.now) self.new }
+        requires there { batch ≤ length trace.now.batches }
+        requires old { AreOf trace.now self.old }
+        ensures new { AreOf trace.now self.new }
         ensures batch { self.new.batch ≡ batch }
     {
         if self.batch != batch {

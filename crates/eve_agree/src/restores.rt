@@ -7,7 +7,6 @@ ghost use Rattle.eve_smallbank.specs.declared.entry.Entry as noted;
 ghost use Rattle.eve_grammar.specs.Limits.{is_restore, is_rising};
 ghost use Rattle.eve_frames.specs.Views.{rollback_in};
 ghost use Rattle.eve_views.specs.Form.{IfFound, IsLeast, HasNone};
-ghost use Rattle.eve_views.specs.Fronts.{whole};
 ghost use Rattle.eve_views.specs.declared.fault.Fault.{Fault as FaultValue};
 ghost use Rattle.eve_views.specs.declared.fault.CheckFault.TheVariants.{Found};
 ghost use Rattle.eve_views.specs.declared.fault.Code.TheVariants as code;
@@ -85,12 +84,12 @@ pub(crate) fn judge(
     trace: &Trace<'_>,
     history: &History<'_>,
 ) -> Result<(), CheckFault>
-    requires history { history.now ≡ section_history (whole trace.now) history.now.replica }
-    requires right { IsRightSection (whole trace.now) history.now.replica }
-    ensures right { SettledAreSound (whole trace.now) history.now.replica
-        → IfOk result (λ _. RestoresAreRight (whole trace.now) history.now.replica) }
-    ensures least { SettledAreSound (whole trace.now) history.now.replica
-        → IfErr result (λ why. IfFound why (IsLeast (IsRestoreFault (whole trace.now) history.now.replica))) }
+    requires history { history.now ≡ section_history trace.now history.now.replica }
+    requires right { IsRightSection trace.now history.now.replica }
+    ensures right { SettledAreSound trace.now history.now.replica
+        → IfOk result (λ _. RestoresAreRight trace.now history.now.replica) }
+    ensures least { SettledAreSound trace.now history.now.replica
+        → IfErr result (λ why. IfFound why (IsLeast (IsRestoreFault trace.now history.now.replica))) }
 {
     trace.is_whole();
     if history.rollbacks() == 0 {
@@ -130,11 +129,11 @@ pub fn rollbacks(
     history: &History<'_>,
     _settled: &Settled<'_>,
 ) -> Result<(), CheckFault>
-    requires history { history.now ≡ section_history (whole trace.now) history.now.replica }
-    requires sound { SettledAreSound (whole trace.now) history.now.replica }
-    ensures right { IfOk result (λ _. RestoresAreRight (whole trace.now) history.now.replica) }
-    ensures none { IfOk result (λ _. HasNone (IsRestoreFault (whole trace.now) history.now.replica)) }
-    ensures least { IfErr result (λ why. IfFound why (IsLeast (IsRestoreFault (whole trace.now) history.now.replica))) }
+    requires history { history.now ≡ section_history trace.now history.now.replica }
+    requires sound { SettledAreSound trace.now history.now.replica }
+    ensures right { IfOk result (λ _. RestoresAreRight trace.now history.now.replica) }
+    ensures none { IfOk result (λ _. HasNone (IsRestoreFault trace.now history.now.replica)) }
+    ensures least { IfErr result (λ why. IfFound why (IsLeast (IsRestoreFault trace.now history.now.replica))) }
 {
     history.is_right();
     judge(alloc, trace, history)

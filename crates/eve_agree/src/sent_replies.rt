@@ -4,7 +4,6 @@ ghost use Rattle.std.specs.Prelude.{◌≡◌, ◌≢◌, ◌≤◌, ◌↔◌, 
 ghost use Rattle.std.specs.Prelude.{IfSome, IfNone, IfOk, IfErr};
 ghost use Rattle.eve_frames.specs.Views.{attempt_in, sent_in};
 ghost use Rattle.eve_views.specs.Form.{IfFound, IsLeast, HasNone};
-ghost use Rattle.eve_views.specs.Fronts.{whole};
 ghost use Rattle.eve_views.specs.declared.fault.CheckFault.TheVariants.{Memory};
 ghost use Rattle.eve_views.specs.declared.fault.Code.TheVariants as code;
 ghost use Rattle.eve_views.specs.declared.fault.Fault.{Fault as FaultValue};
@@ -23,10 +22,10 @@ use eve_views::{CheckFault, Code, Fault, Trace};
 /// docs/MODEL.md, "Faults". It takes no memory, and never answers want of it. Where replies are sent batch by batch,
 /// each batch is read once.
 pub fn replies(trace: &Trace<'_>, histories: &[History<'_>]) -> Result<(), CheckFault>
-    requires histories { histories.now ≡ section_histories (whole trace.now) }
-    ensures replied { IfOk result (λ _. AllReplied (whole trace.now)) }
-    ensures none { IfOk result (λ _. HasNone (IsReplyFault (whole trace.now))) }
-    ensures least { IfErr result (λ why. IfFound why (IsLeast (IsReplyFault (whole trace.now)))) }
+    requires histories { histories.now ≡ section_histories trace.now }
+    ensures replied { IfOk result (λ _. AllReplied trace.now) }
+    ensures none { IfOk result (λ _. HasNone (IsReplyFault trace.now)) }
+    ensures least { IfErr result (λ why. IfFound why (IsLeast (IsReplyFault trace.now))) }
     ensures found { IfErr result (λ why. why ≢ Memory) }
 {
     trace.is_whole();
@@ -59,12 +58,12 @@ fn is_replied(
     request_ids: &mut RequestIds,
     sent: &SentView<'_>,
 ) -> bool
-    requires history { history.now ≡ section_history (whole trace.now) (sent_in sent.now.bytes.now).replica }
+    requires history { history.now ≡ section_history trace.now (sent_in sent.now.bytes.now).replica }
     requires one { 1 ≤ (sent_in sent.now.bytes.now).seq }
-    requires there { (sent_in sent.now.bytes.now).seq ≤ length (whole trace.now).batches }
-    requires old { AreOf (whole trace.now) request_ids.old }
-    ensures new { AreOf (whole trace.now) request_ids.new }
-    ensures replied { IsTrue result ↔ IsReplied (whole trace.now) (sent_in sent.now.bytes.now) }
+    requires there { (sent_in sent.now.bytes.now).seq ≤ length trace.now.batches }
+    requires old { AreOf trace.now request_ids.old }
+    ensures new { AreOf trace.now request_ids.new }
+    ensures replied { IsTrue result ↔ IsReplied trace.now (sent_in sent.now.bytes.now) }
 {
     match committed(history, sent.seq()) {
         Some(attempt) => {

@@ -2,7 +2,6 @@
 
 ghost use Rattle.std.specs.Prelude.{◌≡◌, ◌≤◌, ℕ, List, IfOk, IfErr, All, length};
 ghost use Rattle.eve_views.specs.Form.{IfFound, HasNone};
-ghost use Rattle.eve_views.specs.Fronts.{whole};
 ghost use Rattle.eve_history.specs.Faults.{IsOrderFault};
 ghost use Rattle.eve_history.specs.SectionHistory.{names_of};
 ghost use Rattle.eve_audit.specs.Accepted.{IsAccepted};
@@ -40,9 +39,9 @@ struct Opened<'a> {
 
 /// Reads a trace and judges its orders.
 fn open<'a>(alloc: Global, bytes: &'a [u8], random: RandomState) -> Result<Opened<'a>, CheckFault>
-    ensures read { IfOk result (λ opened. IsRead bytes.now (whole opened.trace)) }
-    ensures names { IfOk result (λ opened. opened.names.items ≡ names_of (whole opened.trace)) }
-    ensures orders { IfOk result (λ opened. HasNone (IsOrderFault (whole opened.trace))) }
+    ensures read { IfOk result (λ opened. IsRead bytes.now opened.trace) }
+    ensures names { IfOk result (λ opened. opened.names.items ≡ names_of opened.trace) }
+    ensures orders { IfOk result (λ opened. HasNone (IsOrderFault opened.trace)) }
     ensures fault { IfErr result (λ why. IfFound why (λ f. IsAnswer bytes.now (No f))) }
 {
     bytes_spell_one_trace();
@@ -67,13 +66,13 @@ fn judge_trace<'a, R: Threads + Sync>(
     names: &Names<'_>,
     slots: &mut [Slot<'a>],
 ) -> Result<Summary, CheckFault>
-    requires names { names.now.items ≡ names_of (whole trace.now) }
-    requires orders { HasNone (IsOrderFault (whole trace.now)) }
-    requires slots { All (AreTrue (whole trace.now)) slots.old }
-    ensures summary { IfOk result (IsSummary (whole trace.now)) }
-    ensures accepted { IfOk result (λ _. IsAccepted (whole trace.now)) }
-    ensures none { IfOk result (λ _. HasNone (IsTraceFault (whole trace.now))) }
-    ensures first { IfErr result (λ why. IfFound why (IsFirstOf (IsTraceFault (whole trace.now)))) }
+    requires names { names.now.items ≡ names_of trace.now }
+    requires orders { HasNone (IsOrderFault trace.now) }
+    requires slots { All (AreTrue trace.now) slots.old }
+    ensures summary { IfOk result (IsSummary trace.now) }
+    ensures accepted { IfOk result (λ _. IsAccepted trace.now) }
+    ensures none { IfOk result (λ _. HasNone (IsTraceFault trace.now)) }
+    ensures first { IfErr result (λ why. IfFound why (IsFirstOf (IsTraceFault trace.now))) }
 {
     trace.is_whole();
     requests_take_effect_once();
@@ -100,10 +99,10 @@ fn verdict_on<'a, R: Threads + Sync>(
     names: &Names<'_>,
     slots: &mut [Slot<'a>],
 ) -> Result<Verdict, AuditFault>
-    requires names { names.now.items ≡ names_of (whole trace.now) }
-    requires orders { HasNone (IsOrderFault (whole trace.now)) }
-    requires slots { All (AreTrue (whole trace.now)) slots.old }
-    ensures { IfOk result (λ verdict. (bytes : List ℕ) → IsRead bytes (whole trace.now) → IsAnswer bytes verdict) }
+    requires names { names.now.items ≡ names_of trace.now }
+    requires orders { HasNone (IsOrderFault trace.now) }
+    requires slots { All (AreTrue trace.now) slots.old }
+    ensures { IfOk result (λ verdict. (bytes : List ℕ) → IsRead bytes trace.now → IsAnswer bytes verdict) }
 {
     bytes_spell_one_trace();
     faults_lie_within();

@@ -2,7 +2,6 @@
 
 ghost use Rattle.std.specs.Prelude.{◌≡◌, ◌<◌, ◌≤◌, IfOk, IfErr, length};
 ghost use Rattle.eve_views.specs.Form.{IfFound, HasNone};
-ghost use Rattle.eve_views.specs.Fronts.{whole};
 ghost use Rattle.eve_history.specs.Faults.{IsStructureFault};
 ghost use Rattle.eve_history.specs.SectionHistory.{section_history, names_of};
 ghost use Rattle.eve_chains.specs.Settling.{settling};
@@ -36,14 +35,14 @@ fn settle<'a, R: Threads + Sync>(
     history: &History<'a>,
     jobs: u8,
 ) -> Result<Settled<'a>, CheckFault>
-    requires history { history.now ≡ section_history (whole trace.now) history.now.replica }
-    requires none { HasNone (IsStructureFault (whole trace.now) history.now.replica) }
-    requires names { names.now.items ≡ names_of (whole trace.now) }
+    requires history { history.now ≡ section_history trace.now history.now.replica }
+    requires none { HasNone (IsStructureFault trace.now history.now.replica) }
+    requires names { names.now.items ≡ names_of trace.now }
     requires jobs { 1 ≤ jobs }
-    ensures settled { IfOk result (λ settled. settled ≡ settling (whole trace.now) history.now.replica) }
-    ensures sound { IfOk result (λ _. IsSoundReplica (whole trace.now) history.now.replica) }
-    ensures none { IfOk result (λ _. HasNone (IsOwnFault (whole trace.now) history.now.replica)) }
-    ensures first { IfErr result (λ why. IfFound why (IsFirstOf (IsOwnFault (whole trace.now) history.now.replica))) }
+    ensures settled { IfOk result (λ settled. settled ≡ settling trace.now history.now.replica) }
+    ensures sound { IfOk result (λ _. IsSoundReplica trace.now history.now.replica) }
+    ensures none { IfOk result (λ _. HasNone (IsOwnFault trace.now history.now.replica)) }
+    ensures first { IfErr result (λ why. IfFound why (IsFirstOf (IsOwnFault trace.now history.now.replica))) }
 {
     history.is_right();
     let settled = match check(rt, alloc, history, trace, names) {
@@ -71,11 +70,11 @@ pub fn judge_replica<'a, R: Threads + Sync>(
     e: u8,
     jobs: u8,
 ) -> Result<Piece<'a>, CheckFault>
-    requires there { e < length (whole trace.now).sections }
-    requires names { names.now.items ≡ names_of (whole trace.now) }
+    requires there { e < length trace.now.sections }
+    requires names { names.now.items ≡ names_of trace.now }
     requires jobs { 1 ≤ jobs }
-    ensures piece { IfOk result (IsPieceOf (whole trace.now) e) }
-    ensures first { IfErr result (λ why. IfFound why (IsFirstOf (IsOwnFault (whole trace.now) e))) }
+    ensures piece { IfOk result (IsPieceOf trace.now e) }
+    ensures first { IfErr result (λ why. IfFound why (IsFirstOf (IsOwnFault trace.now e))) }
 {
     let history = match History::of(alloc, trace, e) {
         Ok(history) => history,

@@ -2,7 +2,6 @@
 
 ghost use Rattle.std.specs.Prelude.{◌≡◌, ◌++◌, ◌∷◌, [], ℕ, IfOk, IfErr, IfSome, OnOk, ◌<◌, ◌^◌, length, min, All};
 ghost use Rattle.eve_views.specs.Form.{IfFound, HasNone};
-ghost use Rattle.eve_views.specs.Fronts.{whole};
 ghost use Rattle.eve_history.specs.SectionHistory.{names_of, section_histories};
 ghost use Rattle.eve_chains.specs.Settling.{settlings};
 ghost use Rattle.eve_audit.specs.Findings.{AreTrue, IsAnswerOf, IsPieceOf};
@@ -50,9 +49,9 @@ fn take_found<'a>(
     slots: &mut [Slot<'a>],
     e: u8,
 ) -> Option<Result<Piece<'a>, Fault>>
-    requires { All (AreTrue (whole trace.now)) slots.old }
-    ensures answer { IfSome result (IsAnswerOf (whole trace.now) e) }
-    ensures left { All (AreTrue (whole trace.now)) slots.new }
+    requires { All (AreTrue trace.now) slots.old }
+    ensures answer { IfSome result (IsAnswerOf trace.now e) }
+    ensures left { All (AreTrue trace.now) slots.new }
 {
     if slots.is_empty() {
         return None;
@@ -71,12 +70,12 @@ fn judge_missing<'a, R: Threads + Sync>(
     slots: &mut [Slot<'a>],
     e: u8,
 ) -> Result<Piece<'a>, CheckFault>
-    requires there { e < length (whole trace.now).sections }
-    requires names { names.now.items ≡ names_of (whole trace.now) }
-    requires slots { All (AreTrue (whole trace.now)) slots.old }
-    ensures piece { IfOk result (IsPieceOf (whole trace.now) e) }
-    ensures first { IfErr result (λ why. IfFound why (IsFirstOf (IsOwnFault (whole trace.now) e))) }
-    ensures left { All (AreTrue (whole trace.now)) slots.new }
+    requires there { e < length trace.now.sections }
+    requires names { names.now.items ≡ names_of trace.now }
+    requires slots { All (AreTrue trace.now) slots.old }
+    ensures piece { IfOk result (IsPieceOf trace.now e) }
+    ensures first { IfErr result (λ why. IfFound why (IsFirstOf (IsOwnFault trace.now e))) }
+    ensures left { All (AreTrue trace.now) slots.new }
 {
     match take_found(trace, slots, e) {
         Some(Ok(piece)) => Ok(piece),
@@ -94,16 +93,14 @@ pub fn judge_replicas<'a, R: Threads + Sync>(
     names: &Names<'_>,
     slots: &mut [Slot<'a>],
 ) -> Result<Pieces<'a>, CheckFault>
-    requires names { names.now.items ≡ names_of (whole trace.now) }
-    requires slots { All (AreTrue (whole trace.now)) slots.old }
-    ensures histories { IfOk result (λ pieces. pieces.histories.items ≡ section_histories (whole trace.now)) }
-    ensures settled { IfOk result (λ pieces. pieces.settled.items ≡ settlings (whole trace.now)) }
-    ensures committed { IfOk result
-        (λ pieces. IsLeastBelow (whole trace.now) (length (whole trace.now).sections) pieces.committed) }
-    ensures sound { IfOk result (λ _. (e : ℕ) → IsSoundReplica (whole trace.now) e) }
-    ensures none { IfOk result (λ _. HasNone (IsFaultBelow (whole trace.now) (length (whole trace.now).sections))) }
-    ensures first { IfErr result
-        (λ why. IfFound why (IsFirstOf (IsFaultBelow (whole trace.now) (length (whole trace.now).sections)))) }
+    requires names { names.now.items ≡ names_of trace.now }
+    requires slots { All (AreTrue trace.now) slots.old }
+    ensures histories { IfOk result (λ pieces. pieces.histories.items ≡ section_histories trace.now) }
+    ensures settled { IfOk result (λ pieces. pieces.settled.items ≡ settlings trace.now) }
+    ensures committed { IfOk result (λ pieces. IsLeastBelow trace.now (length trace.now.sections) pieces.committed) }
+    ensures sound { IfOk result (λ _. (e : ℕ) → IsSoundReplica trace.now e) }
+    ensures none { IfOk result (λ _. HasNone (IsFaultBelow trace.now (length trace.now.sections))) }
+    ensures first { IfErr result (λ why. IfFound why (IsFirstOf (IsFaultBelow trace.now (length trace.now.sections)))) }
 {
     let mut first: Option<Fault> = None;
     let mut kept = Pieces {

@@ -1,7 +1,6 @@
 //! What was found of replicas before the caller asks for it.
 
 ghost use Rattle.std.specs.Prelude.{◌≡◌, ◌≢◌, ◌∷◌, [], ◌<◌, ◌≤◌, List, IfSome, IsNone, length};
-ghost use Rattle.eve_views.specs.Fronts.{whole};
 ghost use Rattle.eve_history.specs.SectionHistory.{names_of};
 ghost use Rattle.eve_audit.specs.declared.slots.Finding.{Finding as FindingValue};
 ghost use Rattle.eve_audit.specs.Findings.{AreTrue, finding};
@@ -54,11 +53,11 @@ impl<'a> Slot<'a> {
         e: u8,
         jobs: u8,
     )
-        requires there { e < length (whole trace.now).sections }
-        requires names { names.now.items ≡ names_of (whole trace.now) }
-        requires so_far { AreTrue (whole trace.now) self.old }
+        requires there { e < length trace.now.sections }
+        requires names { names.now.items ≡ names_of trace.now }
+        requires so_far { AreTrue trace.now self.old }
         requires jobs { 1 ≤ jobs }
-        ensures { AreTrue (whole trace.now) self.new }
+        ensures { AreTrue trace.now self.new }
     {
         if self.findings.reserve(1).is_err() {
             return;

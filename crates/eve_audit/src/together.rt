@@ -2,7 +2,6 @@
 
 ghost use Rattle.std.specs.Prelude.{◌≡◌, ℕ, IfOk, IfErr};
 ghost use Rattle.eve_views.specs.Form.{IfFound, HasNone};
-ghost use Rattle.eve_views.specs.Fronts.{whole};
 ghost use Rattle.eve_history.specs.SectionHistory.{section_histories};
 ghost use Rattle.eve_chains.specs.Settling.{settlings};
 ghost use Rattle.eve_audit.specs.Verdict.{IsCommonFault};
@@ -23,11 +22,11 @@ pub fn judge_together(
     histories: &[History<'_>],
     settled: &[Settled<'_>],
 ) -> Result<(), CheckFault>
-    requires histories { histories.now ≡ section_histories (whole trace.now) }
-    requires settled { settled.now ≡ settlings (whole trace.now) }
-    ensures sound { IfOk result (λ _. IsSoundTogether (whole trace.now)) }
-    ensures none { IfOk result (λ _. HasNone (IsCommonFault (whole trace.now))) }
-    ensures first { IfErr result (λ why. IfFound why (IsFirstOf (IsCommonFault (whole trace.now)))) }
+    requires histories { histories.now ≡ section_histories trace.now }
+    requires settled { settled.now ≡ settlings trace.now }
+    ensures sound { IfOk result (λ _. IsSoundTogether trace.now) }
+    ensures none { IfOk result (λ _. HasNone (IsCommonFault trace.now)) }
+    ensures first { IfErr result (λ why. IfFound why (IsFirstOf (IsCommonFault trace.now))) }
 {
     let tally = match Tally::of(alloc, trace) {
         Ok(tally) => tally,

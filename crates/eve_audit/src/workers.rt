@@ -2,7 +2,6 @@
 
 ghost use Rattle.std.specs.Prelude.{◌≡◌, ◌<◌, ◌≤◌, ◌*◌, min, [], IfOk, All, length};
 ghost use Rattle.std.specs.Thread.{IsSync};
-ghost use Rattle.eve_views.specs.Fronts.{whole};
 ghost use Rattle.eve_history.specs.SectionHistory.{names_of};
 ghost use Rattle.eve_audit.specs.Findings.{AreTrue};
 
@@ -29,8 +28,8 @@ pub fn judge_side_by_side<'a, R: Threads + Wait + Sync, G: Gate>(
     gate: &G,
 ) -> Result<Vec<Slot<'a>>, AllocError>
     requires some { 1 ≤ workers }
-    requires names { names.now.items ≡ names_of (whole trace.now) }
-    ensures { IfOk result (λ slots. All (AreTrue (whole trace.now)) slots.items) }
+    requires names { names.now.items ≡ names_of trace.now }
+    ensures { IfOk result (λ slots. All (AreTrue trace.now) slots.items) }
 {
     trace.is_whole();
     let replicas = trace.section_count();
@@ -62,10 +61,10 @@ fn judge_share<'a, R: Threads + Wait + Sync, G: Gate>(
     slot: &mut Slot<'a>,
     jobs: u8,
 )
-    requires names { names.now.items ≡ names_of (whole trace.now) }
+    requires names { names.now.items ≡ names_of trace.now }
     requires jobs { 1 ≤ jobs }
-    requires so_far { AreTrue (whole trace.now) slot.old }
-    ensures { AreTrue (whole trace.now) slot.new }
+    requires so_far { AreTrue trace.now slot.old }
+    ensures { AreTrue trace.now slot.new }
 {
     let share = slot.share;
     for e in 0..trace.section_count() {
@@ -98,11 +97,11 @@ fn judge_shares<'a, R: Threads + Wait + Sync, G: Gate>(
     slots: &mut [Slot<'a>],
     jobs: u8,
 )
-    requires names { names.now.items ≡ names_of (whole trace.now) }
+    requires names { names.now.items ≡ names_of trace.now }
     requires jobs { 1 ≤ jobs }
     requires some { 0 < length slots.old }
-    requires so_far { All (AreTrue (whole trace.now)) slots.old }
-    ensures { All (AreTrue (whole trace.now)) slots.new }
+    requires so_far { All (AreTrue trace.now) slots.old }
+    ensures { All (AreTrue trace.now) slots.new }
 {
     let workers = slots.len();
     thread::for_each_mut(
@@ -110,9 +109,9 @@ fn judge_shares<'a, R: Threads + Wait + Sync, G: Gate>(
         slots,
         workers,
         &|_: usize, slot: &mut Slot|
-            requires { IsSync R.row × IsSync G.row × (names.now.items ≡ names_of (whole trace.now)) × (1 ≤ jobs)
-                × AreTrue (whole trace.now) slot.old }
-            ensures { AreTrue (whole trace.entry.now) slot.new }
+            requires { IsSync R.row × IsSync G.row × (names.now.items ≡ names_of trace.now) × (1 ≤ jobs)
+                × AreTrue trace.now slot.old }
+            ensures { AreTrue trace.entry.now slot.new }
         { judge_share(rt, alloc, trace, names, gate, slot, jobs) },
     );
 }

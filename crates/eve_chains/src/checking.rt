@@ -3,7 +3,6 @@
 ghost use Rattle.std.specs.Prelude.{◌≡◌, IfOk, IfErr};
 ghost use Rattle.std.specs.Thread.{IsSync};
 ghost use Rattle.eve_views.specs.Form.{IfFound};
-ghost use Rattle.eve_views.specs.Fronts.{whole};
 ghost use Rattle.eve_history.specs.SectionHistory.{section_history, names_of, IsRightSection};
 ghost use Rattle.eve_chains.specs.Sound.{SettledAreSound};
 ghost use Rattle.eve_chains.specs.Faults.{HasNoFault, IsLeastFault};
@@ -31,11 +30,11 @@ fn judge_both<R: Threads + Sync>(
     trace: &Trace<'_>,
     names: &Names<'_>,
 ) -> (Result<(), CheckFault>, Result<(), CheckFault>)
-    requires history { history.now ≡ section_history (whole trace.now) history.now.replica }
-    requires right { IsRightSection (whole trace.now) history.now.replica }
-    requires names { names.now.items ≡ names_of (whole trace.now) }
-    ensures records { AreRecordsJudged (whole trace.now) history.now.replica result.0 }
-    ensures chains { AreChainsJudged (whole trace.now) history.now.replica result.1 }
+    requires history { history.now ≡ section_history trace.now history.now.replica }
+    requires right { IsRightSection trace.now history.now.replica }
+    requires names { names.now.items ≡ names_of trace.now }
+    ensures records { AreRecordsJudged trace.now history.now.replica result.0 }
+    ensures chains { AreChainsJudged trace.now history.now.replica result.1 }
 {
     if history.attempts() < LEAST_ATTEMPTS {
         let fit = records(rt, alloc, history, trace, names);
@@ -43,14 +42,14 @@ fn judge_both<R: Threads + Sync>(
     } else {
         let fit = move ||
             requires sync { IsSync R.row }
-            requires history { history.now ≡ section_history (whole trace.now) history.now.replica }
-            requires names { names.now.items ≡ names_of (whole trace.now) }
-            ensures { AreRecordsJudged (whole trace.entry.now) history.entry.now.replica result }
+            requires history { history.now ≡ section_history trace.now history.now.replica }
+            requires names { names.now.items ≡ names_of trace.now }
+            ensures { AreRecordsJudged trace.entry.now history.entry.now.replica result }
         { records(rt, alloc, history, trace, names) };
         let see = move ||
-            requires history { history.now ≡ section_history (whole trace.now) history.now.replica }
-            requires right { IsRightSection (whole trace.now) history.now.replica }
-            ensures { AreChainsJudged (whole trace.entry.now) history.entry.now.replica result }
+            requires history { history.now ≡ section_history trace.now history.now.replica }
+            requires right { IsRightSection trace.now history.now.replica }
+            ensures { AreChainsJudged trace.entry.now history.entry.now.replica result }
         { chains(alloc, history, trace) };
         join(rt, fit, see)
     }
@@ -68,12 +67,12 @@ pub fn check<'a, R: Threads + Sync>(
     trace: &Trace<'a>,
     names: &Names<'_>,
 ) -> Result<Settled<'a>, CheckFault>
-    requires history { history.now ≡ section_history (whole trace.now) history.now.replica }
-    requires names { names.now.items ≡ names_of (whole trace.now) }
-    ensures settled { IfOk result (λ settled. settled ≡ settling (whole trace.now) history.now.replica) }
-    ensures sound { IfOk result (λ _. SettledAreSound (whole trace.now) history.now.replica) }
-    ensures none { IfOk result (λ _. HasNoFault (whole trace.now) history.now.replica) }
-    ensures least { IfErr result (λ why. IfFound why (IsLeastFault (whole trace.now) history.now.replica)) }
+    requires history { history.now ≡ section_history trace.now history.now.replica }
+    requires names { names.now.items ≡ names_of trace.now }
+    ensures settled { IfOk result (λ settled. settled ≡ settling trace.now history.now.replica) }
+    ensures sound { IfOk result (λ _. SettledAreSound trace.now history.now.replica) }
+    ensures none { IfOk result (λ _. HasNoFault trace.now history.now.replica) }
+    ensures least { IfErr result (λ why. IfFound why (IsLeastFault trace.now history.now.replica)) }
 {
     history.is_right();
     let (fit, seen) = judge_both(rt, alloc, history, trace, names);

@@ -1,7 +1,6 @@
 //! The balances before the first batch.
 
 ghost use Rattle.std.specs.Prelude.{◌≡◌, IfOk};
-ghost use Rattle.eve_views.specs.Fronts.{whole};
 ghost use Rattle.eve_chains.specs.Visible.{opening_rows};
 
 use eve_accounts::{Balances, Row};
@@ -10,7 +9,7 @@ use std::alloc::{AllocError, Global};
 
 /// The opening balances of all customers, in row order.
 pub fn opening_balances(alloc: Global, trace: &Trace<'_>) -> Result<Balances, AllocError>
-    ensures { IfOk result (λ balances. balances ≡ opening_rows (whole trace.now).customers) }
+    ensures { IfOk result (λ balances. balances ≡ opening_rows trace.now.customers) }
 {
     trace.is_whole();
     let count = trace.customer_count();

@@ -2,7 +2,6 @@
 
 ghost use Rattle.std.specs.Prelude.{◌≡◌, ◌<◌, ◌≤◌, ◌-◌, ◌++◌, Some, IfOk, OnOk, length, take, drop, slice_get};
 ghost use Rattle.eve_smallbank.specs.Access.{balance_at};
-ghost use Rattle.eve_views.specs.Fronts.{whole};
 ghost use Rattle.eve_history.specs.SectionHistory.{ExecutedAttempt, section_history, IsRightSection};
 ghost use Rattle.eve_chains.specs.Along.{all_said};
 ghost use Rattle.eve_chains.specs.Settling.{settling, values_in, AreBankAfter};
@@ -50,8 +49,8 @@ impl<'a> Settled<'a> {
         history: &History<'a>,
         trace: &Trace<'a>,
     ) -> Result<Settled<'a>, AllocError>
-        requires history { history.now ≡ section_history (whole trace.now) history.now.replica }
-        ensures { IfOk result (λ settled. settled ≡ settling (whole trace.now) history.now.replica) }
+        requires history { history.now ≡ section_history trace.now history.now.replica }
+        ensures { IfOk result (λ settled. settled ≡ settling trace.now history.now.replica) }
     {
         trace.is_whole();
         history.is_right();

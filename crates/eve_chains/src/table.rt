@@ -4,7 +4,6 @@ ghost use Rattle.std.specs.Prelude.{◌≡◌, ◌<◌, ◌*◌, IsTrue, IfOk, l
 ghost use Rattle.std.specs.List.{list_all, AllByRecursion};
 ghost use Rattle.eve_smallbank.specs.Chain.{table_after};
 ghost use Rattle.eve_grammar.specs.Limits.{is_entry};
-ghost use Rattle.eve_views.specs.Fronts.{whole};
 ghost use Rattle.eve_chains.specs.Visible.{opening_table};
 ghost use Rattle.eve_chains.specs.Tables.{table_of, undone, IsWrongIn};
 
@@ -37,10 +36,9 @@ impl Model for Table {
 impl Table {
     /// Each customer's rows at version 0, with the opening balances.
     pub fn opening(alloc: Global, trace: &Trace<'_>) -> Result<Table, AllocError>
-        ensures rows { IfOk result (λ table. length table ≡ 2 * length (whole trace.now).customers) }
-        ensures table { IfOk result (λ table. table_of table ≡ opening_table (whole trace.now)) }
+        ensures rows { IfOk result (λ table. length table ≡ 2 * length trace.now.customers) }
+        ensures table { IfOk result (λ table. table_of table ≡ opening_table trace.now) }
     {
-        trace.is_whole();
         let mut rows = Vec::new(alloc);
         for i in 0..trace.head().customers {
             let customer = trace.customer(i);

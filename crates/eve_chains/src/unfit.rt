@@ -4,7 +4,6 @@ ghost use Rattle.std.specs.Prelude.{◌≡◌, ◌<◌, ◌∷◌, [], None, Ok,
 ghost use Rattle.eve_smallbank.specs.SmallBank.{plain};
 ghost use Rattle.eve_frames.specs.Views.{batch_in, access_in};
 ghost use Rattle.eve_views.specs.Form.{IfFound, IsLeast, HasNone};
-ghost use Rattle.eve_views.specs.Fronts.{whole};
 ghost use Rattle.eve_views.specs.declared.fault.Fault.{Fault as FaultValue};
 ghost use Rattle.eve_history.specs.SectionHistory.{ExecutedAttempt, section_history, names_of, IsRightSection};
 ghost use Rattle.eve_chains.specs.Records.{recorded};
@@ -38,11 +37,11 @@ pub fn records<R: Threads + Sync>(
     trace: &Trace<'_>,
     names: &Names<'_>,
 ) -> Result<(), CheckFault>
-    requires history { history.now ≡ section_history (whole trace.now) history.now.replica }
-    requires names { names.now.items ≡ names_of (whole trace.now) }
-    ensures fit { IfOk result (λ _. RecordsFit (whole trace.now) history.now.replica) }
-    ensures none { IfOk result (λ _. HasNone (IsRecordFault (whole trace.now) history.now.replica)) }
-    ensures least { IfErr result (λ why. IfFound why (IsLeast (IsRecordFault (whole trace.now) history.now.replica))) }
+    requires history { history.now ≡ section_history trace.now history.now.replica }
+    requires names { names.now.items ≡ names_of trace.now }
+    ensures fit { IfOk result (λ _. RecordsFit trace.now history.now.replica) }
+    ensures none { IfOk result (λ _. HasNone (IsRecordFault trace.now history.now.replica)) }
+    ensures least { IfErr result (λ why. IfFound why (IsLeast (IsRecordFault trace.now history.now.replica))) }
 {
     trace.is_whole();
     history.is_right();
@@ -64,19 +63,18 @@ fn first_unfit<R: Threads + Sync>(
     trace: &Trace<'_>,
     names: &Names<'_>,
 ) -> Result<Option<u64>, AllocError>
-    requires history { history.now ≡ section_history (whole trace.now) history.now.replica }
-    requires right { IsRightSection (whole trace.now) history.now.replica }
+    requires history { history.now ≡ section_history trace.now history.now.replica }
+    requires right { IsRightSection trace.now history.now.replica }
     ensures { IfOk result (IsLeastUnfit names.now.items
-        (all_records (whole trace.now) history.now.attempts history.now.fates)) }
+        (all_records trace.now history.now.attempts history.now.fates)) }
 {
     (0..history.attempts())
         .into_par_iter()
         .with_min_len(LEAST_ATTEMPTS)
         .map(
             |i: usize| -> Result<Option<u64>, AllocError>
-                requires { CanBeJudged (whole trace.now) history.now i }
-                ensures { IfOk result (IsLeastOfAttempt names.entry.now.items (whole trace.entry.now) history.entry.now
-                    i) }
+                requires { CanBeJudged trace.now history.now i }
+                ensures { IfOk result (IsLeastOfAttempt names.entry.now.items trace.entry.now history.entry.now i) }
             { judge_attempt(alloc, history, i, trace, names) },
         )
         .reduce(
@@ -101,8 +99,8 @@ fn judge_attempt(
     trace: &Trace<'_>,
     names: &Names<'_>,
 ) -> Result<Option<u64>, AllocError>
-    requires { CanBeJudged (whole trace.now) history.now i }
-    ensures { IfOk result (IsLeastOfAttempt names.now.items (whole trace.now) history.now i) }
+    requires { CanBeJudged trace.now history.now i }
+    ensures { IfOk result (IsLeastOfAttempt names.now.items trace.now history.now i) }
 {
     trace.is_whole();
     if !is_settled(history.fate(i)) {

@@ -5,7 +5,6 @@ ghost use Rattle.std.specs.List.{AllByRecursion};
 ghost use Rattle.eve_grammar.specs.Trace.{Step as StepValue};
 ghost use Rattle.eve_grammar.specs.Spelling.{steps_at};
 ghost use Rattle.eve_views.specs.Form.{IfFound, IsLeast};
-ghost use Rattle.eve_views.specs.Fronts.{whole};
 ghost use Rattle.eve_views.specs.StepKinds.{IsStep};
 ghost use Rattle.eve_history.specs.SectionHistory.{section_history, IsRightSection};
 ghost use Rattle.eve_chains.specs.Faults.{IsChainFault};
@@ -124,13 +123,13 @@ impl<'a> Walk<'a> {
         trace: &Trace<'a>,
         step: Step<'_, 'a>,
     ) -> Result<(), AllocError>
-        requires history { history.now ≡ section_history (whole trace.now) history.now.replica }
-        requires right { IsRightSection (whole trace.now) history.now.replica }
+        requires history { history.now ≡ section_history trace.now history.now.replica }
+        requires right { IsRightSection trace.now history.now.replica }
         requires next { (rest : List (ℕ × StepValue)) × (next : ℕ × StepValue)
-            × HasWalked (whole trace.now) history.now.replica (next ∷ rest) self.old × IsStep step next }
+            × HasWalked trace.now history.now.replica (next ∷ rest) self.old × IsStep step next }
         ensures { OnOk result ((rest : List (ℕ × StepValue)) (next : ℕ × StepValue)
-            → HasWalked (whole trace.now) history.now.replica (next ∷ rest) self.old → IsStep step.entry next
-            → HasWalked (whole trace.now) history.now.replica rest self.new) }
+            → HasWalked trace.now history.now.replica (next ∷ rest) self.old → IsStep step.entry next
+            → HasWalked trace.now history.now.replica rest self.new) }
     {
         trace.is_whole();
         match step {
@@ -157,10 +156,10 @@ impl<'a> Walk<'a> {
 /// docs/MODEL.md, "What an entry must see" and "Faults". One walk along the section; a discarded attempt's writes are
 /// taken back row by row. Want of memory decides nothing.
 pub fn chains<'a>(alloc: Global, history: &History<'a>, trace: &Trace<'a>) -> Result<(), CheckFault>
-    requires history { history.now ≡ section_history (whole trace.now) history.now.replica }
-    requires right { IsRightSection (whole trace.now) history.now.replica }
-    ensures see { IfOk result (λ _. AllSettledSee (whole trace.now) history.now.replica) }
-    ensures least { IfErr result (λ why. IfFound why (IsLeast (IsChainFault (whole trace.now) history.now.replica))) }
+    requires history { history.now ≡ section_history trace.now history.now.replica }
+    requires right { IsRightSection trace.now history.now.replica }
+    ensures see { IfOk result (λ _. AllSettledSee trace.now history.now.replica) }
+    ensures least { IfErr result (λ why. IfFound why (IsLeast (IsChainFault trace.now history.now.replica))) }
 {
     trace.is_whole();
     if history.replica() >= trace.section_count() {

@@ -2,7 +2,6 @@
 
 ghost use Rattle.std.specs.Prelude.{◌≡◌, ◌+◌, ◌<◌, ◌≤◌, ◌^◌, ℕ, List, IsTrue, IfOk, length};
 ghost use Rattle.eve_grammar.specs.Limits.{is_attempt, is_batch};
-ghost use Rattle.eve_views.specs.Fronts.{whole};
 ghost use Rattle.eve_write.specs.Data.{attempt as plain_attempt, batch as plain};
 ghost use Rattle.eve_attempts.specs.Closing.{touched_by};
 
@@ -53,7 +52,7 @@ pub fn has_its_batches(alloc: Global, case: &Case) -> Result<bool, AllocError> {
 /// Replays a section on a new ledger, and tells what came of each step. At the end the last batch is committed once
 /// more, and all is rolled back.
 pub fn replay(rt: &HostRuntime, case: &Case, section: u8) -> io::Result<()>
-    requires { section < length (whole case.now.trace.now).sections }
+    requires { section < length case.now.trace.now.sections }
 {
     let mut ledger = ledger_of(rt.alloc(), case)?;
     if case.changes.contains(&Change::Serial) {

@@ -1,7 +1,6 @@
 //! The parts of a trace that was read, copied.
 
 ghost use Rattle.std.specs.Prelude.{◌<◌, length};
-ghost use Rattle.eve_views.specs.Fronts.{whole};
 
 use eve_accounts::Name;
 use eve_frames::{AccessView, AttemptView, BatchView, CommitView, RollbackView};
@@ -122,7 +121,7 @@ fn commit_of(commit: CommitView<'_>) -> CommitData {
 }
 
 fn section_of(alloc: Global, trace: &Trace<'_>, replica: u8) -> Result<Vec<Step>, AllocError>
-    requires { replica < length (whole trace.now).sections }
+    requires { replica < length trace.now.sections }
 {
     let mut seen = trace.section(replica);
     let mut steps = Vec::new(alloc);
@@ -142,7 +141,7 @@ fn section_of(alloc: Global, trace: &Trace<'_>, replica: u8) -> Result<Vec<Step>
 }
 
 fn votes_of(alloc: Global, trace: &Trace<'_>, verifier: u8) -> Result<Vec<VoteData>, AllocError>
-    requires { verifier < length (whole trace.now).verifiers }
+    requires { verifier < length trace.now.verifiers }
 {
     let seen = trace.votes(verifier);
     let mut votes = Vec::new(alloc);

@@ -6,7 +6,6 @@ ghost use Rattle.indexmap.specs.IndexMap.{get};
 ghost use Rattle.eve_grammar.specs.Limits.{is_batch};
 ghost use Rattle.eve_frames.specs.Views.{batch_in};
 ghost use Rattle.eve_views.specs.Form.{IfFound, IsLeast, HasNone};
-ghost use Rattle.eve_views.specs.Fronts.{whole};
 ghost use Rattle.eve_views.specs.declared.fault.Fault.{Fault};
 ghost use Rattle.eve_views.specs.declared.fault.CheckFault.TheVariants.{Found, Memory};
 ghost use Rattle.eve_history.specs.SectionHistory.{names_of};
@@ -70,9 +69,9 @@ fn names_in_order<'a>(
     trace: &Trace<'a>,
     random: RandomState,
 ) -> Result<Names<'a>, CheckFault>
-    ensures names { IfOk result (λ names. names.items ≡ names_of (whole trace.now)) }
-    ensures apart { IfOk result (λ _. HasDistinctNames (whole trace.now)) }
-    ensures fault { IfErr result (λ e. IfFound e (IsLeast (IsOrderFault (whole trace.now)))) }
+    ensures names { IfOk result (λ names. names.items ≡ names_of trace.now) }
+    ensures apart { IfOk result (λ _. HasDistinctNames trace.now) }
+    ensures fault { IfErr result (λ e. IfFound e (IsLeast (IsOrderFault trace.now))) }
 {
     trace.is_whole();
     let count = trace.head().customers;
@@ -135,10 +134,9 @@ fn are_above(
 ///
 /// Where it says no, nothing is known. It keeps one number a client.
 fn numbers_rise(alloc: Global, trace: &Trace<'_>, random: RandomState) -> Result<bool, CheckFault>
-    ensures apart { IfOk result (λ rise. IsTrue rise → HasDistinctRequests (whole trace.now)) }
+    ensures apart { IfOk result (λ rise. IsTrue rise → HasDistinctRequests trace.now) }
     ensures memory { IfErr result (λ e. e ≡ Memory) }
 {
-    trace.is_whole();
     let mut greatest = IndexMap::with_hasher(alloc, KeyedHash::new(&random));
     for n in 0..trace.head().batches {
         let batch = trace.batch(n + 1);
@@ -151,14 +149,13 @@ fn numbers_rise(alloc: Global, trace: &Trace<'_>, random: RandomState) -> Result
 
 /// Whether all requests differ in client or number, or the first batch with one that an earlier request has.
 fn requests_apart(alloc: Global, trace: &Trace<'_>, random: RandomState) -> Result<(), CheckFault>
-    requires { HasDistinctNames (whole trace.now) }
-    ensures apart { IfOk result (λ _. HasDistinctRequests (whole trace.now)) }
-    ensures fault { IfErr result (λ e. IfFound e (IsLeast (IsOrderFault (whole trace.now)))) }
+    requires { HasDistinctNames trace.now }
+    ensures apart { IfOk result (λ _. HasDistinctRequests trace.now) }
+    ensures fault { IfErr result (λ e. IfFound e (IsLeast (IsOrderFault trace.now))) }
 {
     if numbers_rise(alloc, trace, random)? {
         return Ok(());
     }
-    trace.is_whole();
     let mut noted = IndexSet::with_hasher(alloc, random);
     for i in 0..trace.head().batches {
         let batch = trace.batch(i + 1);
@@ -179,9 +176,9 @@ pub fn orders<'a>(
     trace: &Trace<'a>,
     random: RandomState,
 ) -> Result<Names<'a>, CheckFault>
-    ensures names { IfOk result (λ names. names.items ≡ names_of (whole trace.now)) }
-    ensures none { IfOk result (λ _. HasNone (IsOrderFault (whole trace.now))) }
-    ensures least { IfErr result (λ e. IfFound e (IsLeast (IsOrderFault (whole trace.now)))) }
+    ensures names { IfOk result (λ names. names.items ≡ names_of trace.now) }
+    ensures none { IfOk result (λ _. HasNone (IsOrderFault trace.now)) }
+    ensures least { IfErr result (λ e. IfFound e (IsLeast (IsOrderFault trace.now))) }
 {
     let names = names_in_order(alloc, trace, random)?;
     requests_apart(alloc, trace, random)?;

@@ -7,7 +7,6 @@ ghost use Rattle.eve_grammar.specs.Frames.{OfAttempt, OfAccess, OfRollback};
 ghost use Rattle.eve_grammar.specs.Spelling.{frame_text};
 ghost use Rattle.eve_frames.specs.Views.{attempt_in, access_in, rollback_in};
 ghost use Rattle.eve_views.specs.Form.{IfFound, IsLeast, HasNone};
-ghost use Rattle.eve_views.specs.Fronts.{whole};
 ghost use Rattle.eve_views.specs.Lent.{HasBytesAt};
 ghost use Rattle.eve_views.specs.StepKinds.{IsStep};
 ghost use Rattle.eve_views.specs.declared.fault.Fault.{Fault};
@@ -63,19 +62,18 @@ fn take<'a>(
     e: u8,
     step: Step<'_, 'a>,
 ) -> Result<(), CheckFault>
-    requires noted { IsNoted (whole trace.now) notes.old }
+    requires noted { IsNoted trace.now notes.old }
     requires comes { (rest : List (ℕ × StepValue)) × (next : ℕ × StepValue)
-        × HasCome (whole trace.now) e (next ∷ rest) (kept notes.old) × IsStep step next }
+        × HasCome trace.now e (next ∷ rest) (kept notes.old) × IsStep step next }
     ensures taken { OnOk result ((rest : List (ℕ × StepValue)) (next : ℕ × StepValue)
-        → HasCome (whole trace.now) e (next ∷ rest) (kept notes.old) → IsStep step.entry next
-        → HasCome (whole trace.now) e rest (kept notes.new)) }
-    ensures noted { OnOk result (IsNoted (whole trace.now) notes.new) }
+        → HasCome trace.now e (next ∷ rest) (kept notes.old) → IsStep step.entry next
+        → HasCome trace.now e rest (kept notes.new)) }
+    ensures noted { OnOk result (IsNoted trace.now notes.new) }
     ensures wrong { IfErr result
         (λ x. IfFound x (λ f. (rest : List (ℕ × StepValue)) (next : ℕ × StepValue)
-        → HasCome (whole trace.now) e (next ∷ rest) (kept notes.old) → IsStep step.entry next
-        → IsLeast (IsStructureFault (whole trace.now) e) f)) }
+        → HasCome trace.now e (next ∷ rest) (kept notes.old) → IsStep step.entry next
+        → IsLeast (IsStructureFault trace.now e) f)) }
 {
-    trace.is_whole();
     match step {
         Step::Attempt(attempt, accesses) => notes.take_attempt(trace, e, &attempt, &accesses),
         Step::Commit(commit) => notes.take_commit(e, &commit),
@@ -90,12 +88,12 @@ impl<'a> History<'a> {
     /// docs/MODEL.md, "Section state, fate" and "Faults". One pass over the section's frames. Want of memory decides
     /// nothing.
     pub fn of(alloc: Global, trace: &Trace<'a>, e: u8) -> Result<History<'a>, CheckFault>
-        requires { e < length (whole trace.now).sections }
-        ensures section_history { IfOk result (λ history. history ≡ section_history (whole trace.now) e) }
+        requires { e < length trace.now.sections }
+        ensures section_history { IfOk result (λ history. history ≡ section_history trace.now e) }
         ensures replica { IfOk result (λ history. history.replica ≡ e) }
-        ensures right { IfOk result (λ _. IsRightSection (whole trace.now) e) }
-        ensures none { IfOk result (λ _. HasNone (IsStructureFault (whole trace.now) e)) }
-        ensures least { IfErr result (λ x. IfFound x (IsLeast (IsStructureFault (whole trace.now) e))) }
+        ensures right { IfOk result (λ _. IsRightSection trace.now e) }
+        ensures none { IfOk result (λ _. HasNone (IsStructureFault trace.now e)) }
+        ensures least { IfErr result (λ x. IfFound x (IsLeast (IsStructureFault trace.now e))) }
     {
         trace.is_whole();
         let mut notes = Notes::new(alloc, trace.bytes());

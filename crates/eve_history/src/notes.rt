@@ -11,7 +11,6 @@ ghost use Rattle.eve_grammar.specs.Bodies.{limits};
 ghost use Rattle.eve_grammar.specs.Spelling.{accesses_at};
 ghost use Rattle.eve_frames.specs.Views.{attempt_in, access_in, commit_in, rollback_in};
 ghost use Rattle.eve_views.specs.Form.{IfFound, IsLeast};
-ghost use Rattle.eve_views.specs.Fronts.{whole};
 ghost use Rattle.eve_views.specs.StepKinds.{IsStep};
 ghost use Rattle.eve_views.specs.declared.fault.CheckFault.TheVariants.{Found, Memory};
 ghost use Rattle.eve_history.specs.Section.{SectionState, is_due, is_right_commit, is_right_rollback, same_bytes};
@@ -166,7 +165,7 @@ impl<'a> Notes<'a> {
         requires fewer { length (kept self.now).fates ≤ length (kept self.now).attempts }
         requires order { order.now ≡ (attempt_in attempt.now.bytes.now).certificate }
         ensures { (s : SectionState) → StandsAt s (kept self.now)
-            → result ≡ wrong_attempt (whole trace.now) s (attempt_in attempt.now.bytes.now) }
+            → result ≡ wrong_attempt trace.now s (attempt_in attempt.now.bytes.now) }
     {
         trace.is_whole();
         if !self.is_due(&trace.head(), attempt) {
@@ -224,7 +223,7 @@ impl<'a> Notes<'a> {
         requires none { AreMarked [] marks.old }
         ensures wrong { (s : SectionState) (b : Attempt) → StandsAt s (kept self.now) → attempt_in attempt.now.bytes.now
             ≡ without_accesses b → accesses.now ≡ accesses_at attempt.now.offset b
-            → result ≡ wrong_step (whole trace.now) s (attempt.now.offset, Attempts b) }
+            → result ≡ wrong_step trace.now s (attempt.now.offset, Attempts b) }
         ensures marked { IfNone result (AreMarked (accesses_of accesses.now) marks.new) }
     {
         trace.is_whole();
@@ -250,20 +249,20 @@ impl<'a> Notes<'a> {
         attempt: &AttemptView<'_>,
         accesses: &Accesses<'_, '_>,
     ) -> Result<(), CheckFault>
-        requires noted { IsNoted (whole trace.now) self.old }
+        requires noted { IsNoted trace.now self.old }
         requires comes { (rest : List (ℕ × StepValue)) × (b : Attempt)
-            × ComesNext (whole trace.now) e rest b (kept self.old) attempt.now.offset (attempt_in attempt.now.bytes.now)
+            × ComesNext trace.now e rest b (kept self.old) attempt.now.offset (attempt_in attempt.now.bytes.now)
             accesses.now }
         ensures taken { OnOk result ((rest : List (ℕ × StepValue)) (b : Attempt)
-            → ComesNext (whole trace.now) e rest b (kept self.old) attempt.now.offset (attempt_in attempt.now.bytes.now)
+            → ComesNext trace.now e rest b (kept self.old) attempt.now.offset (attempt_in attempt.now.bytes.now)
             accesses.now
-            → HasCome (whole trace.now) e rest (kept self.new)) }
-        ensures noted { OnOk result (IsNoted (whole trace.now) self.new) }
+            → HasCome trace.now e rest (kept self.new)) }
+        ensures noted { OnOk result (IsNoted trace.now self.new) }
         ensures wrong { IfErr result
             (λ x. IfFound x (λ f. (rest : List (ℕ × StepValue)) (b : Attempt)
-            → ComesNext (whole trace.now) e rest b (kept self.old) attempt.now.offset (attempt_in attempt.now.bytes.now)
+            → ComesNext trace.now e rest b (kept self.old) attempt.now.offset (attempt_in attempt.now.bytes.now)
             accesses.now
-            → IsLeast (IsStructureFault (whole trace.now) e) f)) }
+            → IsLeast (IsStructureFault trace.now e) f)) }
     {
         let mut indexes = [0; 256];
         read_order(attempt, &mut indexes);
@@ -318,23 +317,22 @@ impl<'a> Notes<'a> {
         e: u8,
         rollback: &RollbackView<'_>,
     ) -> Result<(), CheckFault>
-        requires noted { IsNoted (whole trace.now) self.old }
+        requires noted { IsNoted trace.now self.old }
         requires comes { (rest : List (ℕ × StepValue))
-            × HasCome (whole trace.now) e ((rollback.now.offset, RollsBack (rollback_in rollback.now.bytes.now)) ∷ rest)
+            × HasCome trace.now e ((rollback.now.offset, RollsBack (rollback_in rollback.now.bytes.now)) ∷ rest)
             (kept self.old) }
         ensures taken { OnOk result
             ((rest : List (ℕ × StepValue))
-            → HasCome (whole trace.now) e ((rollback.now.offset, RollsBack (rollback_in rollback.now.bytes.now)) ∷ rest)
+            → HasCome trace.now e ((rollback.now.offset, RollsBack (rollback_in rollback.now.bytes.now)) ∷ rest)
             (kept self.old)
-            → HasCome (whole trace.now) e rest (kept self.new)) }
-        ensures noted { OnOk result (IsNoted (whole trace.now) self.new) }
+            → HasCome trace.now e rest (kept self.new)) }
+        ensures noted { OnOk result (IsNoted trace.now self.new) }
         ensures wrong { IfErr result
             (λ x. IfFound x (λ f. (rest : List (ℕ × StepValue))
-            → HasCome (whole trace.now) e ((rollback.now.offset, RollsBack (rollback_in rollback.now.bytes.now)) ∷ rest)
+            → HasCome trace.now e ((rollback.now.offset, RollsBack (rollback_in rollback.now.bytes.now)) ∷ rest)
             (kept self.old)
-            → IsLeast (IsStructureFault (whole trace.now) e) f)) }
+            → IsLeast (IsStructureFault trace.now e) f)) }
     {
-        trace.is_whole();
         if !self.rolls_back(&trace.head(), rollback) {
             return Err(fault_in(
                 e,

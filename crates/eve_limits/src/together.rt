@@ -1,7 +1,6 @@
 //! The calls that judge all replicas together, by themselves: also where an audit would stop before them.
 
 ghost use Rattle.std.specs.Prelude.{◌≡◌, ℕ, IfOk};
-ghost use Rattle.eve_views.specs.Fronts.{whole};
 ghost use Rattle.eve_history.specs.SectionHistory.{section_histories, IsRightSection};
 ghost use Rattle.eve_chains.specs.Settling.{settlings};
 
@@ -20,9 +19,9 @@ struct Replicas<'a> {
 
 /// Reads what each replica did, one after another.
 fn read_replicas<'a>(alloc: Global, trace: &Trace<'a>) -> Result<Replicas<'a>, CheckFault>
-    ensures histories { IfOk result (λ told. told.histories.items ≡ section_histories (whole trace.now)) }
-    ensures settled { IfOk result (λ told. told.settled.items ≡ settlings (whole trace.now)) }
-    ensures right { IfOk result (λ _. (e : ℕ) → IsRightSection (whole trace.now) e) }
+    ensures histories { IfOk result (λ told. told.histories.items ≡ section_histories trace.now) }
+    ensures settled { IfOk result (λ told. told.settled.items ≡ settlings trace.now) }
+    ensures right { IfOk result (λ _. (e : ℕ) → IsRightSection trace.now e) }
 {
     trace.is_whole();
     let mut histories = Vec::new(alloc);

@@ -14,6 +14,7 @@ use Rattle.eve_views.specs.Form.{IsFormFault, IsUpTo, StandsInForm, is_sized, Is
 use Rattle.eve_views.specs.declared.fault.Code.{Code}
 use Rattle.eve_views.specs.declared.fault.Code.TheVariants as code
 use Rattle.eve_views.specs.declared.fault.Fault.{Fault}
+use Rattle.eve_views.proofs.WholeTraces.{spells_frames}
 use Rattle.eve_tool.specs.declared.fault.ToolFault.{ToolFault}
 use Rattle.eve_tool.specs.declared.fault.ToolFault.TheVariants as fault
 use Rattle.eve_tool.specs.Audit.{Audits}
@@ -81,7 +82,8 @@ Shows-cut limit bytes text status enough shows =
       cut : (limit : ℕ) (bytes text : List ℕ) (status : ℕ) → 2 ^ 30 ≤ limit → limit + 1 < length bytes
           → Shows (take (limit + 1) bytes) text status → Shows bytes text status
       cut limit bytes text status enough longer (inl trace) =
-          absurd (omega (arith, length-take (limit + 1) bytes, trace.0.spelled.short))
+          let frames = spells_frames (take (limit + 1) bytes) trace.0.trace trace.0.spelled in
+          absurd (omega (arith, length-take (limit + 1) bytes, frames.short))
       cut limit bytes text status enough longer (inr found) =
           let read : 2 ^ 30 < length (take (limit + 1) bytes) = omega (arith, length-take (limit + 1) bytes) in
           let long : 2 ^ 30 < length bytes = omega arith in

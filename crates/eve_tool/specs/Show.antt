@@ -2,10 +2,11 @@
 use Rattle.std.specs.Prelude.{◌≡◌, ℕ, List, ◌++◌, length, codes, ◌⊎◌}
 use Rattle.std.specs.List.{flat_map}
 use Rattle.eve_frames.specs.Kinds.{kind_name}
-use Rattle.eve_grammar.specs.Frames.{Frame, kind_of}
+use Rattle.eve_grammar.specs.Trace.{Trace}
+use Rattle.eve_grammar.specs.Frames.{Frame, kind_of, frames_of}
 use Rattle.eve_grammar.specs.Spelling.{body_text, frame_text, located}
+use Rattle.eve_grammar.specs.Limits.{Spells}
 use Rattle.eve_views.specs.Form.{IsFormFault, IsLeast}
-use Rattle.eve_views.specs.Sequence.{Sequence, SpellsFrames}
 use Rattle.eve_views.specs.declared.fault.Fault.{Fault}
 use Rattle.eve_tool.specs.Lines.{fault_line, frame_line}
 
@@ -22,9 +23,9 @@ trace_lines frames = header_line ++ flat_map line_of (located frame_text 32 fram
 
 -- the bytes are a trace, and the text is its lines
 pub record ShowsTrace (bytes text : List ℕ) : Type 0 where
-  pub trace : Sequence
-  pub spelled : SpellsFrames bytes trace
-  pub lines : text ≡ trace_lines trace.frames
+  pub trace : Trace
+  pub spelled : Spells bytes trace
+  pub lines : text ≡ trace_lines (frames_of trace)
 
 -- the bytes are no trace, and the text is the line of their first fault
 pub record ShowsFault (bytes text : List ℕ) : Type 0 where

@@ -4,7 +4,7 @@ ghost use Rattle.std.specs.Prelude.{◌≡◌, ◌<◌, ℕ, ◌++◌, [], lengt
 ghost use Rattle.std.specs.Prelude.{IfOk, IfErr, OnOk};
 ghost use Rattle.std.specs.String.{string_bytes};
 ghost use Rattle.std.specs.Io.KnownBytes.{Appends};
-ghost use Rattle.eve_grammar.specs.Frames.{Frame};
+ghost use Rattle.eve_grammar.specs.Frames.{Frame, frames_of};
 ghost use Rattle.eve_grammar.specs.Spelling.{frame_text, located};
 ghost use Rattle.eve_streams.specs.Failures.{after_failure};
 ghost use Rattle.eve_tool.specs.Calls.{Leaves, StopsInParts};
@@ -30,8 +30,8 @@ const LONGEST_LINE: usize = 64;
 
 // Appends the line of frame number i.
 fn push_frame(text: &mut String, trace: &Trace<'_>, i: usize) -> Result<(), AllocError>
-    requires { i < length trace.now.frames }
-    ensures { (p : ℕ × Frame) → slice_get (located frame_text 32 trace.now.frames) i ≡ Some p
+    requires { i < length (frames_of trace.now) }
+    ensures { (p : ℕ × Frame) → slice_get (located frame_text 32 (frames_of trace.now)) i ≡ Some p
         → OnOk result (string_bytes text.new ≡ string_bytes text.old ++ line_of p) }
 {
     let frame = trace.frame(i);
@@ -41,10 +41,10 @@ fn push_frame(text: &mut String, trace: &Trace<'_>, i: usize) -> Result<(), Allo
 // Sends the lines of the header and of all frames, many at a time.
 fn send_frames<O: Sink>(alloc: Global, trace: &Trace<'_>, out: &mut O) -> Result<(), ToolFault>
     ensures sent { OnOk result (Appends (O.written out.old) (O.written out.new)
-        (trace_lines trace.now.frames)) }
+        (trace_lines (frames_of trace.now))) }
     ensures fine { OnOk result (O.failures out.new ≡ O.failures out.old) }
     ensures stopped { IfErr result (StopsInParts O.written O.failures out.old out.new
-        (trace_lines trace.now.frames)) }
+        (trace_lines (frames_of trace.now))) }
 {
     let mut text = String::with_capacity(alloc, ROOM)?;
     push_frame_line(&mut text, 0, "Header", 32)?;

@@ -4,7 +4,7 @@ use Rattle.std.proofs.Common.{Option, Some, None, List, [], ◌∷◌, ◌++◌,
 use Rattle.std.specs.Prelude.{IsTrue}
 use Rattle.std.proofs.lemmas.Bool.{cases_Bool, false≢true}
 use Rattle.std.proofs.lemmas.List.{append-nil, length-append}
-use Rattle.eve_grammar.specs.Trace.{Head, Trace}
+use Rattle.eve_grammar.specs.Trace.{Head, Trace, head_of}
 use Rattle.eve_grammar.specs.Frames.{Frame, Place, start}
 use Rattle.eve_grammar.specs.Following.{IsRun}
 use Rattle.eve_grammar.specs.Limits.{Spells}
@@ -13,7 +13,6 @@ use Rattle.eve_grammar.specs.Spelling.{frame_text, frames_text}
 use Rattle.eve_grammar.proofs.Codec.{IsBytes}
 use Rattle.eve_views.specs.Form.{is_sized, has_magic, said_by, SaysHead, IsFormFault, IsLeast}
 use Rattle.eve_views.specs.Header.{IsHeader}
-use Rattle.eve_views.specs.Sequence.{SpellsFrames}
 use Rattle.eve_views.specs.Walk.{frame_at}
 use Rattle.eve_views.specs.Indexing.{kept}
 use Rattle.eve_views.specs.declared.fault.Code.TheVariants as code
@@ -22,7 +21,7 @@ use Rattle.eve_views.proofs.HeaderLaws.{says_head, header_again_of, Sized-from, 
 use Rattle.eve_views.proofs.FormLaws.{refused_at_header, refused_behind}
 use Rattle.eve_views.proofs.Reaching.{Reached, reached_start, step_of, reached_more, split_at, reached_fault}
 use Rattle.eve_views.proofs.WalkLaws.{front_short}
-use Rattle.eve_views.proofs.WholeTraces.{spells_trace, no_trace}
+use Rattle.eve_views.proofs.WholeTraces.{SpellsFrames, spells_trace}
 
 result_cases : {A B C : Type 0} (r : Result A B) → ((x : A) → r ≡ Ok x → C) → ((y : B) → r ≡ Err y → C) → C
 result_cases (Ok x) ok err = ok x refl
@@ -98,7 +97,7 @@ module _ (bytes : List ℕ) (fits : IsBytes bytes) where
       by says short (inr stopped) =
           inl (stopped.fault, (refused_behind bytes h stopped.fault is fits stopped.stands).least)
       by says short (inl found) =
-          let spelled : SpellsFrames bytes (record { head = h; frames = found.frames }) =
+          let spelled : SpellsFrames bytes h found.frames =
           record {
             limits = says.limits;
             run = found.run;
@@ -106,7 +105,7 @@ module _ (bytes : List ℕ) (fits : IsBytes bytes) where
             spelled = header_spelled bytes h
                 (frames_text found.frames) fits is found.text;
           } in
-          inr (_, spells_trace bytes (record { head = h; frames = found.frames }) spelled)
+          inr (_, spells_trace bytes h found.frames spelled)
 
   pub form_found : Found bytes
   form_found = elim (cases_Bool (is_sized bytes)) [
@@ -125,6 +124,5 @@ module _ (bytes : List ℕ) (fits : IsBytes bytes) where
 -- where a fault of form stands nothing is spelled
 pub nothing_spelled : (bytes : List ℕ) (f : Fault) → IsBytes bytes → IsFormFault bytes f → (t : Trace)
     → ¬ Spells bytes t
-nothing_spelled bytes f fits is =
-    no_trace bytes (λ s spelled. (refused_behind bytes s.head f (header_again_of bytes s spelled).0 fits is).none s
-    spelled)
+nothing_spelled bytes f fits is t spelled =
+    (refused_behind bytes (head_of t) f (header_again_of bytes t spelled).0 fits is).none t spelled

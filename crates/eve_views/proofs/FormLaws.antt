@@ -2,15 +2,15 @@
 use Rattle.std.proofs.Common.{◌≡◌, ℕ, suc, ◌<◌, ◌≤◌, true, List, length, drop, Option, Some, None, Ok, Err, refl, sym}
 use Rattle.std.proofs.Common.{ap, subst, ◌∙◌, arith, inl, inr, ◌⊎◌}
 use Rattle.std.proofs.lemmas.List.{length-drop}
-use Rattle.eve_grammar.specs.Trace.{Head}
-use Rattle.eve_grammar.specs.Frames.{Frame, start}
+use Rattle.eve_grammar.specs.Trace.{Trace, Head, head_of}
+use Rattle.eve_grammar.specs.Frames.{Frame, start, frames_of}
+use Rattle.eve_grammar.specs.Limits.{Spells}
 use Rattle.eve_grammar.specs.Spelling.{frames_text}
 use Rattle.eve_grammar.specs.Reading.{header_of}
 use Rattle.eve_views.specs.declared.fault.Code.{Code}
 use Rattle.eve_views.specs.declared.fault.Code.TheVariants as code
 use Rattle.eve_views.specs.declared.fault.Fault.{Fault}
 use Rattle.eve_views.specs.Code.{number_of}
-use Rattle.eve_views.specs.Sequence.{Sequence, SpellsFrames}
 use Rattle.eve_views.specs.Form.{is_sized, has_magic, said_by, IsReached, place_at, StandsInForm, IsFormFault, IsLeast}
 use Rattle.eve_views.specs.Header.{IsHeader, StopsAtHeader}
 use Rattle.eve_views.specs.Walk.{Walked, walk}
@@ -19,6 +19,7 @@ use Rattle.eve_views.proofs.FrameLaws.{StandsHere, true_false}
 use Rattle.eve_views.proofs.WalkLaws.{stopped, StandsBehind, walk_fault, walk_again, front_short}
 use Rattle.eve_views.proofs.Reaching.{split_at}
 use Rattle.eve_views.proofs.HeaderLaws.{says_head, head_said, header_again_of}
+use Rattle.eve_views.proofs.WholeTraces.{spells_frames}
 
 some_none : {A : Type 0} (o : Option A) (x : A) → o ≡ Some x → o ≡ None → ⊥
 some_none (Some y) x e n = cc
@@ -75,10 +76,10 @@ first_at_header code.Magic d bytes at s t = first_at_magic d bytes at s.0 t
 first_at_header code.Head d bytes at s t = first_at_head d bytes at s.0 s.1 t
 first_at_header c d bytes at s t = absurd s
 
-none_at_header : (c : Code) (bytes : List ℕ) (t : Sequence) → StopsAtHeader bytes c → SpellsFrames bytes t → ⊥
+none_at_header : (c : Code) (bytes : List ℕ) (t : Trace) → StopsAtHeader bytes c → Spells bytes t → ⊥
 none_at_header code.Length bytes t s spells = true_false (is_sized bytes) (header_again_of bytes t spells).0.sized s
 none_at_header code.Magic bytes t s spells = true_false (has_magic bytes) (header_again_of bytes t spells).0.magic s.1
-none_at_header code.Head bytes t s spells = some_none (header_of (said_by bytes)) t.head
+none_at_header code.Head bytes t s spells = some_none (header_of (said_by bytes)) (head_of t)
     (header_again_of bytes t spells).0.said s.2
 none_at_header c bytes t s spells = s
 
@@ -146,16 +147,17 @@ one_place c d bytes at to h is fits s t =
     let two = (behind_of d bytes to h t is fits).1 in
     (same.0, omega (arith, ap length same.1, length-drop at bytes, length-drop to bytes, one, two))
 
-none_behind : (c : Code) (bytes : List ℕ) (at : ℕ) (h : Head) (t : Sequence) → IsHeader bytes h → IsBytes bytes
-    → StandsInForm c bytes at → SpellsFrames bytes t → ⊥
+none_behind : (c : Code) (bytes : List ℕ) (at : ℕ) (h : Head) (t : Trace) → IsHeader bytes h → IsBytes bytes
+    → StandsInForm c bytes at → Spells bytes t → ⊥
 none_behind c bytes at h t is fits s spells =
     let a = header_again_of bytes t spells in
-    let same : t.head ≡ h = same_some (header_of (said_by bytes)) t.head h a.0.said is.said in
-    let again : walk (suc (length (drop 32 bytes))) t.head start (drop 32 bytes) ≡ Ok t.frames =
-    ap (λ (b : List ℕ). walk (suc (length b)) t.head start b) a.1
-    ∙ walk_again t.frames (suc (length (frames_text t.frames))) t.head start spells.limits spells.run.follow
-    spells.run.ended (omega (arith, front_short t.frames)) in
-    stop_ok c (drop at bytes) (walk (suc (length (drop 32 bytes))) h start (drop 32 bytes)) t.frames
+    let same : head_of t ≡ h = same_some (header_of (said_by bytes)) (head_of t) h a.0.said is.said in
+    let frames = spells_frames bytes t spells in
+    let again : walk (suc (length (drop 32 bytes))) (head_of t) start (drop 32 bytes)
+    ≡ Ok (frames_of t) = ap (λ (b : List ℕ). walk (suc (length b)) (head_of t) start b) a.1
+    ∙ walk_again (frames_of t) (suc (length (frames_text (frames_of t)))) (head_of t) start frames.limits
+    frames.run.follow frames.run.ended (omega (arith, front_short (frames_of t))) in
+    stop_ok c (drop at bytes) (walk (suc (length (drop 32 bytes))) h start (drop 32 bytes)) (frames_of t)
     (stops_at c bytes at h s is fits)
     (ap (λ (g : Head). walk (suc (length (drop 32 bytes))) g start (drop 32 bytes)) (sym same) ∙ again)
 
@@ -164,7 +166,7 @@ none_behind c bytes at h t is fits s spells =
 -- the fault is the first, nothing is spelled, and it lies within the bytes
 pub record IsRefused (bytes : List ℕ) (f : Fault) : Type 0 where
   pub least : IsLeast (IsFormFault bytes) f
-  pub none : (t : Sequence) → SpellsFrames bytes t → ⊥
+  pub none : (t : Trace) → Spells bytes t → ⊥
   pub within : f.offset ≤ length bytes
 
 abbrev at_header : Code → Fault

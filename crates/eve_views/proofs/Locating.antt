@@ -164,9 +164,9 @@ sent_begin t =
 
 -- ---- all frames
 
-pub all_from : (t : Trace) (fs : List Frame) → frames_of t ≡ fs → frames_from fs 0 ≡ frames_at t
+pub all_from : (t : Trace) → frames_from (frames_of t) 0 ≡ frames_at t
 unfolding frames_from frames_at
-all_from t fs same = ap (located frame_text 32) (sym same)
+all_from t = refl
 
 pub none_from : (fs : List Frame) (at : ℕ) → length fs ≤ at → frames_from fs at ≡ []
 unfolding frames_from

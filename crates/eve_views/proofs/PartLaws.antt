@@ -94,12 +94,13 @@ lent_there t at offset bytes own stands there same = record {
 
 -- ---- customers, batches, replies sent
 
-pub customer_met : (t : Trace) (fs : List Frame) (i offset : ℕ) (f : Frame) → HasLimits t → frames_of t ≡ fs
-    → i < length t.customers → slice_get fs i ≡ Some f → offset ≡ byte_of fs i
+pub customer_met : (t : Trace) (i offset : ℕ) (f : Frame) → HasLimits t → i < length t.customers
+    → slice_get (frames_of t) i ≡ Some f → offset ≡ byte_of (frames_of t) i
     → Met OfCustomer is_customer (customers_at t) i offset f
 unfolding frames_of customers_at
-customer_met t fs i offset f limits same lt got stands = met_in OfCustomer is_customer [] t.customers _ fs i i 32 offset
-    f limits.customers lt refl (sym same) (omega arith) got stands
+customer_met t i offset f limits lt got stands =
+    met_in OfCustomer is_customer [] t.customers _ (frames_of t) i i 32 offset f limits.customers lt refl refl
+    (omega arith) got stands
 
 enumerated : {A : Type 0} (test : A → Bool) (n : ℕ) (xs : List A) → IsTrue (list_all test xs)
     → IsTrue (list_all (λ (x : ℕ × A). test x.1) (enumerate_from n xs))
@@ -118,15 +119,15 @@ of_batch b = OfBatch b.0 b.1
 abbrev pub is_batch_of : ℕ × Batch → Bool
 is_batch_of b = is_batch b.1
 
-pub batch_met : (t : Trace) (fs : List Frame) (n k offset : ℕ) (f : Frame) → HasLimits t → frames_of t ≡ fs
-    → k < length t.batches → n ≡ length t.customers + k → slice_get fs n ≡ Some f → offset ≡ byte_of fs n
+pub batch_met : (t : Trace) (n k offset : ℕ) (f : Frame) → HasLimits t → k < length t.batches
+    → n ≡ length t.customers + k → slice_get (frames_of t) n ≡ Some f → offset ≡ byte_of (frames_of t) n
     → Met of_batch is_batch_of (batches_at t) k offset f
 unfolding frames_of batches_at
-batch_met t fs n k offset f limits same lt number got stands =
+batch_met t n k offset f limits lt number got stands =
     let many : length (before_batches t) ≡ length t.customers = length-map t.customers OfCustomer in
-    met_in of_batch is_batch_of (before_batches t) (batches_of t) _ fs n k (batches_start t) offset f
+    met_in of_batch is_batch_of (before_batches t) (batches_of t) _ (frames_of t) n k (batches_start t) offset f
     (enumerated is_batch 1 t.batches limits.batches)
-    (omega (arith, lt, length-enumerate_from 1 t.batches)) (sym (batches_begin t)) (sym same)
+    (omega (arith, lt, length-enumerate_from 1 t.batches)) (sym (batches_begin t)) refl
     (omega (arith, number, many)) got stands
 
 -- a batch has its place from 1 as its number
@@ -147,13 +148,13 @@ batch_number t k offset b e = counted t.batches 1 (batches_start t) k e
         omega (arith, number)
     counted (c ∷ bs) n at (suc k) e = omega (arith, counted bs (n + 1) (at + length (frame_text (OfBatch n c))) k e)
 
-pub sent_met : (t : Trace) (fs : List Frame) (n i offset : ℕ) (f : Frame) → HasLimits t → frames_of t ≡ fs
-    → i < length t.sent → n ≡ length (before_sent t) + i → slice_get fs n ≡ Some f → offset ≡ byte_of fs n
+pub sent_met : (t : Trace) (n i offset : ℕ) (f : Frame) → HasLimits t → i < length t.sent
+    → n ≡ length (before_sent t) + i → slice_get (frames_of t) n ≡ Some f → offset ≡ byte_of (frames_of t) n
     → Met OfSent (is_sent (length t.sections) (length t.batches)) (sent_at t) i offset f
 unfolding sent_at
-sent_met t fs n i offset f limits same lt number got stands =
-    met_in OfSent (is_sent (length t.sections) (length t.batches)) (before_sent t) t.sent (End ∷ []) fs n i
-    (sent_start t) offset f limits.sent lt (sym (sent_begin t)) (sym same ∙ frames_from_sent t) number got stands
+sent_met t n i offset f limits lt number got stands =
+    met_in OfSent (is_sent (length t.sections) (length t.batches)) (before_sent t) t.sent (End ∷ []) (frames_of t) n i
+    (sent_start t) offset f limits.sent lt (sym (sent_begin t)) (frames_from_sent t) number got stands
 
 -- how many frames there are
 pub frames_many : (t : Trace) → length (frames_of t) ≡ length (before_sent t) + (length t.sent + 1)
@@ -233,22 +234,22 @@ length-accesses fs from to are = ap length (accesses_are fs from to are) ∙ len
 
 -- ---- frames of customers, batches and replies sent, as they are read
 
-pub customers_within : (t : Trace) (fs : List Frame) (i : ℕ) → frames_of t ≡ fs → i < length t.customers → i < length fs
-customers_within t fs i same lt =
+pub customers_within : (t : Trace) (i : ℕ) → i < length t.customers → i < length (frames_of t)
+customers_within t i lt =
     omega (
       arith,
       lt,
       length-map t.customers OfCustomer,
       length-append (map OfCustomer t.customers) (map (λ b. OfBatch b.0 b.1) (batches_of t)),
-      ap length (sym same ∙ frames_from_sections t),
+      ap length (frames_from_sections t),
       length-append (before_sections t)
           (flat_map section_frames (sections_of t) ++
           (flat_map verifier_frames (verifiers_of t) ++ (map OfSent t.sent ++ End ∷ []))),
     )
 
-pub batches_within : (t : Trace) (fs : List Frame) (n k : ℕ) → frames_of t ≡ fs → k < length t.batches
-    → n ≡ length t.customers + k → n < length fs
-batches_within t fs n k same lt number =
+pub batches_within : (t : Trace) (n k : ℕ) → k < length t.batches → n ≡ length t.customers + k
+    → n < length (frames_of t)
+batches_within t n k lt number =
     let own = length-append (map OfCustomer t.customers) (map (λ b. OfBatch b.0 b.1) (batches_of t)) in
     omega (
       arith,
@@ -258,7 +259,7 @@ batches_within t fs n k same lt number =
       length-map (batches_of t) (λ (b : ℕ × Batch). OfBatch b.0 b.1),
       length-enumerate_from 1 t.batches,
       own,
-      ap length (sym same ∙ frames_from_sections t),
+      ap length (frames_from_sections t),
       length-append (before_sections t)
           (flat_map section_frames (sections_of t) ++
           (flat_map verifier_frames (verifiers_of t) ++ (map OfSent t.sent ++ End ∷ []))),
@@ -270,12 +271,12 @@ few_batches t limits = (small_head (head_of t) limits.head).batches
 few_replicas : (t : Trace) → HasLimits t → length t.sections ≤ 8
 few_replicas t limits = (small_head (head_of t) limits.head).replicas
 
-pub batch_said : (t : Trace) (fs : List Frame) (n k offset : ℕ) (f : Frame) (bytes : List ℕ) → HasLimits t → frames_of t
-    ≡ fs → k < length t.batches → n ≡ length t.customers + k → slice_get fs n ≡ Some f
-    → offset ≡ byte_of fs n → bytes ≡ frame_text f → (b : ℕ × Batch) × Says is_batch_frame batch_in bytes b
+pub batch_said : (t : Trace) (n k offset : ℕ) (f : Frame) (bytes : List ℕ) → HasLimits t → k < length t.batches
+    → n ≡ length t.customers + k → slice_get (frames_of t) n ≡ Some f → offset ≡ byte_of (frames_of t) n
+    → bytes ≡ frame_text f → (b : ℕ × Batch) × Says is_batch_frame batch_in bytes b
     × (slice_get (batches_at t) k ≡ Some (offset, b)) × (f ≡ OfBatch b.0 b.1)
-batch_said t fs n k offset f bytes limits same lt number got stands text =
-    let met = batch_met t fs n k offset f limits same lt number got stands in
+batch_said t n k offset f bytes limits lt number got stands text =
+    let met = batch_met t n k offset f limits lt number got stands in
     let few = few_batches t limits in
     let small : met.item.0 < 2 ^ 32 = omega (arith, few, lt, batch_number t k offset met.item met.there) in (
       met.item,
@@ -285,12 +286,12 @@ batch_said t fs n k offset f bytes limits same lt number got stands text =
       met.is,
     )
 
-pub sent_said : (t : Trace) (fs : List Frame) (n i offset : ℕ) (f : Frame) (bytes : List ℕ) → HasLimits t → frames_of t
-    ≡ fs → i < length t.sent → n ≡ length (before_sent t) + i → slice_get fs n ≡ Some f
-    → offset ≡ byte_of fs n → bytes ≡ frame_text f → (s : Sent) × Says is_sent_frame sent_in bytes s
+pub sent_said : (t : Trace) (n i offset : ℕ) (f : Frame) (bytes : List ℕ) → HasLimits t → i < length t.sent
+    → n ≡ length (before_sent t) + i → slice_get (frames_of t) n ≡ Some f → offset ≡ byte_of (frames_of t) n
+    → bytes ≡ frame_text f → (s : Sent) × Says is_sent_frame sent_in bytes s
     × (slice_get (sent_at t) i ≡ Some (offset, s)) × (f ≡ OfSent s)
-sent_said t fs n i offset f bytes limits same lt number got stands text =
-    let met = sent_met t fs n i offset f limits same lt number got stands in (
+sent_said t n i offset f bytes limits lt number got stands text =
+    let met = sent_met t n i offset f limits lt number got stands in (
       met.item,
       says_met is_sent_frame sent_in bytes f (OfSent met.item) met.item text met.is
           (sent_again (length t.sections) (length t.batches) met.item met.right (few_replicas t limits)

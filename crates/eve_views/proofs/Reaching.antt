@@ -12,8 +12,7 @@ use Rattle.eve_grammar.specs.Limits.{is_head, FitsAt}
 use Rattle.eve_grammar.specs.Following.{Follow, after, IsRun}
 use Rattle.eve_views.specs.declared.fault.Code.{Code}
 use Rattle.eve_views.specs.declared.fault.Code.TheVariants as code
-use Rattle.eve_views.specs.Indexing.{Kept}
-use Rattle.eve_views.specs.Sequence.{offsets_of}
+use Rattle.eve_views.specs.Indexing.{Kept, offsets_of}
 use Rattle.eve_views.specs.Form.{SaysHead, IsReached, StandsInForm}
 use Rattle.eve_views.specs.Places.{accesses_in, moved}
 use Rattle.eve_views.specs.Walk.{frame_at}

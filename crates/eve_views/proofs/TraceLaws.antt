@@ -3,50 +3,52 @@ use Rattle.std.proofs.Common.{◌≡◌, ℕ, zero, suc, ◌+◌, ◌-◌, ◌<�
 use Rattle.std.proofs.Common.{Some, refl, sym, ap, subst, ◌∙◌, append_assoc, add-one, arith}
 use Rattle.std.specs.Prelude.{slice_get}
 use Rattle.std.proofs.lemmas.List.{length-append, take_all, take_at, drop_at}
-use Rattle.eve_grammar.specs.Trace.{Head}
-use Rattle.eve_grammar.specs.Frames.{Frame}
+use Rattle.eve_grammar.specs.Trace.{Trace, Head, head_of}
+use Rattle.eve_grammar.specs.Frames.{Frame, frames_of}
+use Rattle.eve_grammar.specs.Limits.{Spells}
+use Rattle.eve_grammar.specs.Gathering.{trace_of}
 use Rattle.eve_grammar.specs.Spelling.{frame_text, frames_text, head_text}
 use Rattle.eve_views.specs.declared.fault.CheckFault.{CheckFault}
 use Rattle.eve_views.specs.declared.fault.CheckFault.TheVariants.{Found, Memory}
 use Rattle.eve_views.specs.declared.walk.Index.{Index}
-use Rattle.eve_views.specs.Sequence.{Sequence, SpellsFrames, offsets_of}
 use Rattle.eve_views.specs.Form.{IsFormFault, IfFound, IsLeast}
 use Rattle.eve_views.specs.Header.{IsHeader}
 use Rattle.eve_views.specs.Walk.{frames_in}
-use Rattle.eve_views.specs.Indexing.{AreStarts, IsIndex}
+use Rattle.eve_views.specs.Indexing.{AreStarts, IsIndex, offsets_of}
+use Rattle.eve_views.specs.Held.{trace_in, IsHeld}
 use Rattle.eve_grammar.proofs.Codec.{IsBytes}
 use Rattle.eve_views.proofs.FrameLaws.{length-frame_text}
 use Rattle.eve_views.proofs.WalkLaws.{run_read}
 use Rattle.eve_views.proofs.HeaderLaws.{says_head, header_spelled, Sized-from}
 use Rattle.eve_grammar.proofs.HeaderParts.{length-head_text}
+use Rattle.eve_grammar.proofs.Rests.{head_of-trace_of, frames_of-trace_of}
+use Rattle.eve_views.proofs.WholeTraces.{SpellsFrames, spells_trace, spells_frames}
 use Rattle.eve_views.proofs.FormLaws.{refused_behind}
 
-abbrev pub read_of : Head → List ℕ → Sequence
-read_of h bytes = record { head = h; frames = frames_in h (drop 32 bytes) }
-
 -- what is held of a trace
-pub record IsHeld (bytes : List ℕ) (h : Head) (i : Index) : Type 0 where
-  pub spells : SpellsFrames bytes (read_of h bytes)
-  pub offsets : i.offsets.items ≡ offsets_of 32 (read_of h bytes).frames
-  pub starts : AreStarts h (read_of h bytes).frames i.starts
-
 pub held_of : (bytes : List ℕ) (h : Head) (i : Index) → IsBytes bytes → IsHeader bytes h → IsIndex h bytes i
-    → IsHeld bytes h i
+    → IsHeld bytes h i (trace_in h bytes)
 held_of bytes h i fits is found =
     let says = says_head bytes h fits is.said in
     let same : frames_in h (drop 32 bytes) ≡ found.frames = ap (frames_in h) found.text
     ∙ run_read h found.frames says.limits found.run in
-    let spells : SpellsFrames bytes (record { head = h; frames = found.frames }) = record {
+    let spells : SpellsFrames bytes h found.frames = record {
       limits = says.limits;
       run = found.run;
       short = (Sized-from bytes is.sized).short;
       spelled = header_spelled bytes h (frames_text found.frames) fits is found.text;
     } in
-    record {
-      spells = subst (λ (fs : List Frame). SpellsFrames bytes (record { head = h; frames = fs })) (sym same) spells;
-      offsets = found.offsets ∙ ap (offsets_of 32) (sym same);
-      starts = subst (λ (fs : List Frame). AreStarts h fs i.starts) (sym same) found.starts;
-    }
+    let head : head_of (trace_of h found.frames) ≡ h = head_of-trace_of h found.frames says.limits found.run in
+    let frames : frames_of (trace_of h found.frames) ≡ found.frames = frames_of-trace_of h found.frames says.limits
+    found.run in
+    let held : IsHeld bytes h i (trace_of h found.frames) = record {
+      spells = spells_trace bytes h found.frames spells;
+      head = head;
+      offsets = found.offsets ∙ ap (offsets_of 32) (sym frames);
+      starts = subst (λ (fs : List Frame). AreStarts (head_of (trace_of h found.frames)) fs i.starts) (sym frames)
+          (subst (λ (g : Head). AreStarts g found.frames i.starts) (sym head) found.starts);
+    } in
+    subst (λ (fs : List Frame). IsHeld bytes h i (trace_of h fs)) (sym same) held
 
 -- ---- a fault
 
@@ -56,7 +58,7 @@ found_least bytes h Memory fits is s = tt
 found_least bytes h (Found f) fits is s = (refused_behind bytes h f is fits s).least
 
 pub found_none : (bytes : List ℕ) (h : Head) (e : CheckFault) → IsBytes bytes → IsHeader bytes h
-    → IfFound e (IsFormFault bytes) → IfFound e (λ _. (t : Sequence) → ¬ SpellsFrames bytes t)
+    → IfFound e (IsFormFault bytes) → IfFound e (λ _. (t : Trace) → ¬ Spells bytes t)
 found_none bytes h Memory fits is s = tt
 found_none bytes h (Found f) fits is s = (refused_behind bytes h f is fits s).none
 
@@ -104,15 +106,16 @@ offsets_at (f ∷ fs) at (suc i) lt = offsets_at fs (at + length (frame_text f))
     ∙ omega (arith, length-append (frame_text f) (frames_text (take i fs)))
 
 -- the end, behind the last frame
-pub end_at : (bytes : List ℕ) (t : Sequence) (i : ℕ) → SpellsFrames bytes t → length t.frames ≤ i → length bytes
-    ≡ 32 + length (frames_text (take i t.frames))
-end_at bytes t i s le =
-    let all : take i t.frames ≡ t.frames = take_all i t.frames le in
+pub end_at : (bytes : List ℕ) (t : Trace) (i : ℕ) → Spells bytes t → length (frames_of t) ≤ i → length bytes
+    ≡ 32 + length (frames_text (take i (frames_of t)))
+end_at bytes t i spells le =
+    let s = spells_frames bytes t spells in
+    let all : take i (frames_of t) ≡ frames_of t = take_all i (frames_of t) le in
     omega (
       arith,
       ap length s.spelled,
-      length-append (head_text t.head (length bytes)) (frames_text t.frames),
-      length-head_text t.head (length bytes),
+      length-append (head_text (head_of t) (length bytes)) (frames_text (frames_of t)),
+      length-head_text (head_of t) (length bytes),
       ap (λ (fs : List Frame). length (frames_text fs)) all,
     )
 
@@ -127,20 +130,22 @@ pub record IsPart (bytes : List ℕ) (fs : List Frame) (i from to : ℕ) : Type 
   pub cut : drop from bytes ≡ frame_text frame ++ behind
   pub long : 5 ≤ to - from
 
-pub part_is : (bytes : List ℕ) (t : Sequence) (i from to : ℕ) → SpellsFrames bytes t → i < length t.frames
-    → from ≡ 32 + length (frames_text (take i t.frames)) → to ≡ 32 + length (frames_text (take (i + 1) t.frames))
-    → IsPart bytes t.frames i from to
-part_is bytes t i from to s lt at_from at_to =
-    let r = frame_of t.frames i lt in
+pub part_is : (bytes : List ℕ) (t : Trace) (i from to : ℕ) → Spells bytes t → i < length (frames_of t)
+    → from ≡ 32 + length (frames_text (take i (frames_of t)))
+    → to ≡ 32 + length (frames_text (take (i + 1) (frames_of t))) → IsPart bytes (frames_of t) i from to
+part_is bytes t i from to spells lt at_from at_to =
+    let s = spells_frames bytes t spells in
+    let fs = frames_of t in
+    let r = frame_of fs i lt in
     let a = r.1.1 in
-    let head = head_text t.head (length bytes) in
-    let front = frames_text (take i t.frames) in
-    let next : to ≡ from + length (frame_text r.0) = at_to ∙ ap (λ (k : ℕ). 32 + length (frames_text (take k t.frames)))
+    let head = head_text (head_of t) (length bytes) in
+    let front = frames_text (take i fs) in
+    let next : to ≡ from + length (frame_text r.0) = at_to ∙ ap (λ (k : ℕ). 32 + length (frames_text (take k fs)))
     (add-one i) ∙ omega (arith, a.next, at_from) in
     let whole : bytes ≡ (head ++ front) ++ (frame_text r.0 ++ r.1.0) = s.spelled
     ∙ ap (λ (b : List ℕ). head ++ b) a.before ∙ sym (append_assoc head front (frame_text r.0 ++ r.1.0)) in
     let before : length (head ++ front) ≡ from =
-    omega (arith, length-append head front, length-head_text t.head (length bytes), at_from) in
+    omega (arith, length-append head front, length-head_text (head_of t) (length bytes), at_from) in
     let long : length bytes ≡ from + (length (frame_text r.0) + length r.1.0) =
     omega (
       arith,

@@ -1,16 +1,14 @@
 -- Public: other crates cite these lemmas. Heads with frames, and the traces that they make up.
 use Rattle.std.proofs.Common.{◌≡◌, ℕ, ◌+◌, ◌^◌, ◌≤◌, List, ◌++◌, length, refl, sym, ap, ◌∙◌, arith, length-append}
+use Rattle.std.specs.Prelude.{IsTrue}
 use Rattle.eve_grammar.specs.Trace.{Trace, Head, head_of}
 use Rattle.eve_grammar.specs.Frames.{Frame, frames_of}
 use Rattle.eve_grammar.specs.Spelling.{frames_text, head_text, length_of, spelling}
-use Rattle.eve_grammar.specs.Limits.{Spells}
+use Rattle.eve_grammar.specs.Limits.{is_head, Spells}
+use Rattle.eve_grammar.specs.Following.{IsRun}
 use Rattle.eve_grammar.specs.Gathering.{trace_of}
 use Rattle.eve_grammar.proofs.Rests.{head_of-trace_of, frames_of-trace_of, limits_of-trace_of}
 use Rattle.eve_grammar.proofs.Runs.{run_of_trace}
-use Rattle.eve_views.specs.declared.fault.CheckFault.{CheckFault}
-use Rattle.eve_views.specs.declared.fault.CheckFault.TheVariants.{Found, Memory}
-use Rattle.eve_views.specs.Form.{IfFound}
-use Rattle.eve_views.specs.Sequence.{Sequence, SpellsFrames}
 use Rattle.eve_grammar.proofs.HeaderParts.{length-head_text}
 
 -- a head and frames, as bytes of this length
@@ -28,31 +26,35 @@ length_of-frames : (t : Trace) → length_of t ≡ 32 + length (frames_text (fra
 unfolding length_of
 length_of-frames t = refl
 
--- bytes that spell a head and its frames spell the trace that these make up
-pub spells_trace : (bytes : List ℕ) (s : Sequence) → SpellsFrames bytes s → Spells bytes (trace_of s.head s.frames)
-spells_trace bytes s is =
-    let t : Trace = trace_of s.head s.frames in
-    let head : head_of t ≡ s.head = head_of-trace_of s.head s.frames is.limits is.run in
-    let frames : frames_of t ≡ s.frames = frames_of-trace_of s.head s.frames is.limits is.run in
-    let long : length bytes ≡ 32 + length (frames_text s.frames) = ap length is.spelled
-    ∙ length-text_of s.head s.frames (length bytes) in
+-- the bytes are a head within the limits and frames that run to the end
+pub record SpellsFrames (bytes : List ℕ) (h : Head) (fs : List Frame) : Type 0 where
+  pub limits : IsTrue (is_head h)
+  pub run : IsRun h fs
+  pub short : length bytes ≤ 2 ^ 30
+  pub spelled : bytes ≡ head_text h (length bytes) ++ frames_text fs
+
+-- such bytes spell the trace that these make up
+pub spells_trace : (bytes : List ℕ) (h : Head) (fs : List Frame) → SpellsFrames bytes h fs
+    → Spells bytes (trace_of h fs)
+spells_trace bytes h fs is =
+    let t : Trace = trace_of h fs in
+    let head : head_of t ≡ h = head_of-trace_of h fs is.limits is.run in
+    let frames : frames_of t ≡ fs = frames_of-trace_of h fs is.limits is.run in
+    let long : length bytes ≡ 32 + length (frames_text fs) = ap length is.spelled
+    ∙ length-text_of h fs (length bytes) in
     let total : length_of t ≡ length bytes = length_of-frames t
-    ∙ ap (λ (fs : List Frame). 32 + length (frames_text fs)) frames ∙ sym long in
+    ∙ ap (λ (gs : List Frame). 32 + length (frames_text gs)) frames ∙ sym long in
     let short : length_of t ≤ 2 ^ 30 = (let few = is.short in omega (arith, total, few)) in
     record {
-      limits = limits_of-trace_of s.head s.frames is.limits is.run;
+      limits = limits_of-trace_of h fs is.limits is.run;
       short = short;
-      spelled = is.spelled ∙ ap (text_of s.head s.frames) (sym total)
-          ∙ ap (λ (fs : List Frame). text_of s.head fs (length_of t)) (sym frames)
-          ∙ ap (λ (h : Head). text_of h (frames_of t) (length_of t)) (sym head) ∙ sym (spelling_of t);
+      spelled = is.spelled ∙ ap (text_of h fs) (sym total)
+          ∙ ap (λ (gs : List Frame). text_of h gs (length_of t)) (sym frames)
+          ∙ ap (λ (g : Head). text_of g (frames_of t) (length_of t)) (sym head) ∙ sym (spelling_of t);
     }
 
--- a trace's head and frames
-abbrev sequence : Trace → Sequence
-sequence t = record { head = head_of t; frames = frames_of t }
-
 -- bytes that spell a trace spell its head and its frames
-spells_frames : (bytes : List ℕ) (t : Trace) → Spells bytes t → SpellsFrames bytes (sequence t)
+pub spells_frames : (bytes : List ℕ) (t : Trace) → Spells bytes t → SpellsFrames bytes (head_of t) (frames_of t)
 spells_frames bytes t is =
     let text : bytes ≡ text_of (head_of t) (frames_of t) (length_of t) = is.spelled ∙ spelling_of t in
     let long : length bytes ≡ length_of t = ap length text ∙ length-text_of (head_of t) (frames_of t) (length_of t)
@@ -64,11 +66,3 @@ spells_frames bytes t is =
       short = short;
       spelled = text ∙ ap (text_of (head_of t) (frames_of t)) (sym long);
     }
-
-pub no_trace : (bytes : List ℕ) → ((s : Sequence) → ¬ SpellsFrames bytes s) → (t : Trace) → ¬ Spells bytes t
-no_trace bytes none t is = none (sequence t) (spells_frames bytes t is)
-
-pub found_no_trace : (bytes : List ℕ) (e : CheckFault) → IfFound e (λ _. (s : Sequence) → ¬ SpellsFrames bytes s)
-    → IfFound e (λ _. (t : Trace) → ¬ Spells bytes t)
-found_no_trace bytes Memory none = tt
-found_no_trace bytes (Found f) none = no_trace bytes none

@@ -1,15 +1,9 @@
--- The trace that a sequence makes up, and which frames stand before its parts.
+-- Which frames stand before the parts of a trace.
 use Rattle.std.specs.Prelude.{ℕ, List, ◌++◌, map, take}
 use Rattle.std.specs.List.{flat_map}
 use Rattle.eve_grammar.specs.Trace.{Trace}
 use Rattle.eve_grammar.specs.Frames.{Frame, OfCustomer, OfBatch, section_frames, verifier_frames, batches_of}
 use Rattle.eve_grammar.specs.Frames.{sections_of, verifiers_of}
-use Rattle.eve_grammar.specs.Gathering.{trace_of}
-use Rattle.eve_views.specs.Sequence.{Sequence}
-
--- the trace that a head and its frames make up
-abbrev pub whole : Sequence → Trace
-whole s = trace_of s.head s.frames
 
 -- the frames before the first batch
 abbrev pub before_batches : Trace → List Frame

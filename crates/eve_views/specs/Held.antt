@@ -1,17 +1,30 @@
 -- What a trace that was read holds.
-use Rattle.std.specs.Prelude.{◌≡◌, drop}
+use Rattle.std.specs.Prelude.{◌≡◌, ℕ, List, drop}
+use Rattle.eve_grammar.specs.Trace.{Trace, Head, head_of}
+use Rattle.eve_grammar.specs.Frames.{frames_of}
+use Rattle.eve_grammar.specs.Limits.{Spells}
 use Rattle.eve_grammar.specs.Bodies.{limits}
-use Rattle.eve_views.specs.Sequence.{Sequence, SpellsFrames, offsets_of}
+use Rattle.eve_grammar.specs.Gathering.{trace_of}
 use Rattle.eve_views.specs.Walk.{frames_in}
-use Rattle.eve_views.specs.Indexing.{AreStarts}
+use Rattle.eve_views.specs.Indexing.{AreStarts, offsets_of}
+use Rattle.eve_views.specs.declared.walk.Index.{Index}
 use Rattle.eve_views.specs.declared.trace.Trace.TheInside.{Inside}
 
--- the head that the header says, and the frames behind it
-abbrev pub sequence_of : Inside → Sequence
-sequence_of t = record { head = limits t.head; frames = frames_in (limits t.head) (drop 32 t.bytes.now) }
+-- the trace that the frames behind the header make up under this head
+abbrev pub trace_in : Head → List ℕ → Trace
+trace_in h bytes = trace_of h (frames_in h (drop 32 bytes))
 
--- the bytes are that trace, and the index is its index
-pub record IsTrace (t : Inside) : Type 0 where
-  pub spells : SpellsFrames t.bytes.now (sequence_of t)
-  pub offsets : t.index.offsets.items ≡ offsets_of 32 (sequence_of t).frames
-  pub starts : AreStarts (limits t.head) (sequence_of t).frames t.index.starts
+-- the bytes spell the trace, under this head, and the index is its index
+pub record IsHeld (bytes : List ℕ) (h : Head) (i : Index) (t : Trace) : Type 0 where
+  pub spells : Spells bytes t
+  pub head : head_of t ≡ h
+  pub offsets : i.offsets.items ≡ offsets_of 32 (frames_of t)
+  pub starts : AreStarts (head_of t) (frames_of t) i.starts
+
+-- the trace that its bytes spell
+abbrev pub trace_held : Inside → Trace
+trace_held x = trace_in (limits x.head) x.bytes.now
+
+-- its bytes, its head and its index are those of that trace
+abbrev pub IsTrace : Inside → Type 0
+IsTrace x = IsHeld x.bytes.now (limits x.head) x.index (trace_held x)

@@ -1,14 +1,13 @@
 -- What the walk finds.
 use Rattle.std.specs.Prelude.{◌≡◌, ◌<◌, ℕ, ◌+◌, Bool, ◌||◌, ◌==◌, if◌then◌else◌, List, [], ◌∷◌, drop, slice_index}
-use Rattle.std.specs.Prelude.{slice_get, Some, Result, Ok, Err}
+use Rattle.std.specs.Prelude.{length, slice_get, Some, Result, Ok, Err}
 use Rattle.byteorder.specs.Endian.{big_number}
 use Rattle.eve_grammar.specs.Trace.{Head}
 use Rattle.eve_grammar.specs.Frames.{Frame, OfReplica, OfVerifier, kind_of}
 use Rattle.eve_grammar.specs.Kinds.{kind_byte}
-use Rattle.eve_grammar.specs.Spelling.{frames_text}
+use Rattle.eve_grammar.specs.Spelling.{frame_text, frames_text}
 use Rattle.eve_grammar.specs.Following.{IsRun}
 use Rattle.eve_views.specs.Places.{accesses_in}
-use Rattle.eve_views.specs.Sequence.{offsets_of}
 use Rattle.eve_views.specs.declared.fault.Code.{Code}
 use Rattle.eve_views.specs.declared.starts.Starts.{Starts}
 use Rattle.eve_views.specs.declared.walk.Framed.{Framed}
@@ -34,6 +33,11 @@ abbrev pub kept : List ℕ → Result (Frame × List ℕ) Code → Result Kept C
 kept bytes (Ok x) =
     Ok (record { kind = slice_index bytes 0; len = 5 + big_number 4 (drop 1 bytes); accesses = accesses_in x.0 })
 kept bytes (Err c) = Err c
+
+-- where each frame begins, the first one's byte offset being given
+abbrev pub offsets_of : ℕ → List Frame → List ℕ
+offsets_of at [] = []
+offsets_of at (f ∷ fs) = at ∷ offsets_of (at + length (frame_text f)) fs
 
 -- a reply sent, or the end
 abbrev pub is_last : Frame → Bool

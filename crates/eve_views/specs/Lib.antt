@@ -2,7 +2,6 @@ pub mod Code
 pub mod Form
 pub mod First
 pub mod Header
-pub mod Sequence
 pub mod Walk
 pub mod Places
 pub mod Starting

@@ -1,7 +1,7 @@
 //! The access frames of an attempt.
 
 ghost use Rattle.std.specs.Prelude.{◌≡◌, ◌<◌, ◌-◌, length, slice_get, Some};
-ghost use Rattle.eve_grammar.specs.Frames.{OfAccess};
+ghost use Rattle.eve_grammar.specs.Frames.{OfAccess, frames_of};
 ghost use Rattle.eve_grammar.specs.Spelling.{frame_text};
 ghost use Rattle.eve_frames.specs.Views.{access_in};
 ghost use Rattle.eve_views.specs.Parts.{accesses_between, AreAccesses};
@@ -23,20 +23,21 @@ pub struct Accesses<'t, 'a> {
 impl<'t, 'a> Model for Accesses<'t, 'a> {
     ghost use Rattle.std.specs.Prelude.{ℕ, ◌-◌, List};
     ghost use Rattle.eve_grammar.specs.Trace.{Access};
+    ghost use Rattle.eve_grammar.specs.Frames.{frames_of};
     ghost use Rattle.eve_views.specs.Parts.{accesses_between, AreAccesses};
 
     ghost Value = { List (ℕ × Access) };
 
-    ghost view = { λ x. accesses_between x.trace.now.frames x.from (x.to - x.from) };
+    ghost view = { λ x. accesses_between (frames_of x.trace.now) x.from (x.to - x.from) };
 
-    ghost invariant = { λ x. AreAccesses x.trace.now.frames x.from x.to };
+    ghost invariant = { λ x. AreAccesses (frames_of x.trace.now) x.from x.to };
 }
 
 impl<'t, 'a> Accesses<'t, 'a> {
     /// The frames between two numbers.
     pub(crate) fn new(trace: &'t Trace<'a>, from: usize, to: usize) -> Accesses<'t, 'a>
-        requires { AreAccesses trace.now.frames from to }
-        ensures { result ≡ accesses_between trace.now.frames from (to - from) }
+        requires { AreAccesses (frames_of trace.now) from to }
+        ensures { result ≡ accesses_between (frames_of trace.now) from (to - from) }
     {
         Accesses { trace, from, to }
     }

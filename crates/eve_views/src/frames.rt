@@ -3,7 +3,6 @@
 ghost use Rattle.std.specs.Prelude.{◌≡◌, ℕ, [], ◌∷◌, drop, IfSome, IfNone};
 ghost use Rattle.eve_grammar.specs.Frames.{Frame};
 ghost use Rattle.eve_grammar.specs.Spelling.{frames_at, frame_text};
-ghost use Rattle.eve_views.specs.Fronts.{whole};
 
 use crate::trace::Trace;
 use eve_frames::FrameView;
@@ -20,22 +19,21 @@ pub struct Frames<'t, 'a> {
 
 impl<'t, 'a> Model for Frames<'t, 'a> {
     ghost use Rattle.std.specs.Prelude.{ℕ, List, ◌≤◌, length};
-    ghost use Rattle.eve_grammar.specs.Frames.{Frame};
+    ghost use Rattle.eve_grammar.specs.Frames.{Frame, frames_of};
     ghost use Rattle.eve_views.specs.Parts.{frames_from};
 
     ghost Value = { List (ℕ × Frame) };
 
-    ghost view = { λ x. frames_from x.trace.now.frames x.at };
+    ghost view = { λ x. frames_from (frames_of x.trace.now) x.at };
 
-    ghost invariant = { λ x. x.at ≤ length x.trace.now.frames };
+    ghost invariant = { λ x. x.at ≤ length (frames_of x.trace.now) };
 }
 
 impl<'t, 'a> Frames<'t, 'a> {
     /// From the first.
     pub(crate) fn new(trace: &'t Trace<'a>) -> Frames<'t, 'a>
-        ensures { result ≡ frames_at (whole trace.now) }
+        ensures { result ≡ frames_at trace.now }
     {
-        trace.is_whole();
         Frames { trace, at: 0 }
     }
 

@@ -2,6 +2,7 @@
 
 ghost use Rattle.std.specs.Prelude.{◌≡◌, ℕ, ◌-◌, [], ◌∷◌, IfSome, IfNone};
 ghost use Rattle.eve_grammar.specs.Trace.{Step as StepValue};
+ghost use Rattle.eve_grammar.specs.Frames.{frames_of};
 ghost use Rattle.eve_views.specs.Parts.{steps_between, AreSteps};
 ghost use Rattle.eve_views.specs.StepKinds.{IsStep};
 ghost use Rattle.eve_views.specs.Lent.{LendsFrame};
@@ -37,20 +38,21 @@ pub struct Steps<'t, 'a> {
 impl<'t, 'a> Model for Steps<'t, 'a> {
     ghost use Rattle.std.specs.Prelude.{ℕ, ◌-◌, List};
     ghost use Rattle.eve_grammar.specs.Trace.{Step};
+    ghost use Rattle.eve_grammar.specs.Frames.{frames_of};
     ghost use Rattle.eve_views.specs.Parts.{steps_between, AreSteps};
 
     ghost Value = { List (ℕ × Step) };
 
-    ghost view = { λ x. steps_between x.trace.now.frames x.at (x.to - x.at) };
+    ghost view = { λ x. steps_between (frames_of x.trace.now) x.at (x.to - x.at) };
 
-    ghost invariant = { λ x. AreSteps x.trace.now.frames x.at x.to };
+    ghost invariant = { λ x. AreSteps (frames_of x.trace.now) x.at x.to };
 }
 
 impl<'t, 'a> Steps<'t, 'a> {
     /// The frames between two numbers.
     pub(crate) fn new(trace: &'t Trace<'a>, at: usize, to: usize) -> Steps<'t, 'a>
-        requires { AreSteps trace.now.frames at to }
-        ensures { result ≡ steps_between trace.now.frames at (to - at) }
+        requires { AreSteps (frames_of trace.now) at to }
+        ensures { result ≡ steps_between (frames_of trace.now) at (to - at) }
     {
         Steps { trace, at, to }
     }

@@ -8,12 +8,10 @@ ghost use Rattle.eve_grammar.specs.Spelling.{batches_at, steps_at, votes_at, sen
 ghost use Rattle.eve_grammar.specs.Trace.{Trace as TraceValue, head_of};
 ghost use Rattle.eve_grammar.specs.Limits.{HasLimits, Spells};
 ghost use Rattle.eve_frames.specs.Views.{customer_in, batch_in, sent_in};
-ghost use Rattle.eve_grammar.specs.Gathering.{trace_of};
 ghost use Rattle.eve_grammar.specs.Bodies.{limits};
-ghost use Rattle.eve_views.specs.Sequence.{Sequence, SpellsFrames};
 ghost use Rattle.eve_views.specs.Form.{IsFormFault, IfFound, IsLeast, HasNone};
 ghost use Rattle.eve_views.specs.declared.fault.Fault.{Fault as FaultValue};
-ghost use Rattle.eve_views.specs.Fronts.{whole, before_section, before_verifier, before_sent};
+ghost use Rattle.eve_views.specs.Fronts.{before_section, before_verifier, before_sent};
 ghost use Rattle.eve_views.specs.Parts.{is_in_section};
 ghost use Rattle.eve_views.specs.Lent.{HasBytesAt};
 
@@ -30,8 +28,8 @@ use std::marker::Model;
 
 /// A trace, borrowed as it stands in memory.
 ///
-/// docs/TRACE.md. Contracts see it as its head and its frames one after another, which make up one trace
-/// (`trace_of`). It takes four bytes for each frame beside the trace's own.
+/// docs/TRACE.md. Contracts see it as the trace that its bytes spell, within the limits of the format. It takes
+/// four bytes for each frame beside the trace's own.
 #[derive(Drop)]
 pub struct Trace<'a> {
     head: Head,
@@ -40,13 +38,12 @@ pub struct Trace<'a> {
 }
 
 impl<'a> Model for Trace<'a> {
-    ghost use Rattle.eve_views.specs.Sequence.{Sequence};
+    ghost use Rattle.eve_grammar.specs.Trace.{Trace as TraceValue};
+    ghost use Rattle.eve_views.specs.Held.{trace_held, IsTrace};
 
-    ghost Value = { Sequence };
+    ghost Value = { TraceValue };
 
-    ghost use Rattle.eve_views.specs.Held.{sequence_of, IsTrace};
-
-    ghost view = { sequence_of };
+    ghost view = { trace_held };
 
     ghost invariant = { IsTrace };
 }
@@ -58,11 +55,9 @@ impl<'a> Trace<'a> {
     /// docs/TRACE.md, "Faults of form". One pass over the bytes, and no memory but for the frames' offsets, as
     /// they come. Want of memory decides nothing.
     pub fn read(alloc: Global, bytes: &'a [u8]) -> Result<Trace<'a>, CheckFault>
-        ensures spelled { IfOk result (SpellsFrames bytes.now) }
-        ensures trace { IfOk result (λ t. Spells bytes.now (trace_of t.head t.frames)) }
+        ensures trace { IfOk result (Spells bytes.now) }
         ensures faultless { IfOk result (λ _. HasNone (IsFormFault bytes.now)) }
         ensures least { IfErr result (λ e. IfFound e (IsLeast (IsFormFault bytes.now))) }
-        ensures none { IfErr result (λ e. IfFound e (λ _. (t : Sequence) → ¬ SpellsFrames bytes.now t)) }
         ensures no_trace { IfErr result (λ e. IfFound e (λ _. (t : TraceValue) → ¬ Spells bytes.now t)) }
         ensures within { IfErr result (λ e. IfFound e (λ f. f.offset ≤ length bytes.now)) }
     {
@@ -84,7 +79,7 @@ impl<'a> Trace<'a> {
 
     /// The limits that the header says.
     pub fn head(&self) -> Head
-        ensures { limits result ≡ self.now.head }
+        ensures { limits result ≡ head_of self.now }
     {
         let head = self.head;
         head
@@ -92,15 +87,15 @@ impl<'a> Trace<'a> {
 
     /// How many frames there are, with the end.
     pub fn frame_count(&self) -> usize
-        ensures { result ≡ length self.now.frames }
+        ensures { result ≡ length (frames_of self.now) }
     {
         self.index.offsets.len()
     }
 
     /// The byte at which a frame begins, or the number of bytes behind the last.
     fn start_of(&self, i: usize) -> usize
-        requires { i ≤ length self.now.frames }
-        ensures { result ≡ 32 + length (frames_text (take i self.now.frames)) }
+        requires { i ≤ length (frames_of self.now) }
+        ensures { result ≡ 32 + length (frames_text (take i (frames_of self.now))) }
     {
         if i < self.index.offsets.len() {
             self.index.offsets[i] as usize
@@ -111,10 +106,10 @@ impl<'a> Trace<'a> {
 
     /// A frame, by its number from 0. The frames stand one behind the other from byte 32 on, up to the last byte.
     pub fn frame(&self, i: usize) -> FrameView<'a>
-        requires { i < length self.now.frames }
-        ensures frame { (f : Frame) × (slice_get self.now.frames i ≡ Some f) × (result.bytes.now ≡ frame_text f) }
-        ensures offset { result.offset ≡ 32 + length (frames_text (take i self.now.frames)) }
-        ensures stands { HasBytesAt (whole self.now) result.offset result.bytes.now }
+        requires { i < length (frames_of self.now) }
+        ensures frame { (f : Frame) × (slice_get (frames_of self.now) i ≡ Some f) × (result.bytes.now ≡ frame_text f) }
+        ensures offset { result.offset ≡ 32 + length (frames_text (take i (frames_of self.now))) }
+        ensures stands { HasBytesAt self.now result.offset result.bytes.now }
     {
         let bytes = self.bytes;
         let from = self.start_of(i);
@@ -127,67 +122,60 @@ impl<'a> Trace<'a> {
 
     /// All frames, one behind the other.
     pub fn frames(&self) -> Frames<'_, 'a>
-        ensures { result ≡ frames_at (whole self.now) }
+        ensures { result ≡ frames_at self.now }
     {
         Frames::new(self)
     }
 
     /// All its bytes, header and frames.
     pub fn bytes(&self) -> &'a [u8]
-        ensures { Spells result.now (whole self.now) }
+        ensures { Spells result.now self.now }
     {
         let all = self.bytes;
         all
     }
 
-    /// What is true of each trace that was read: it is within the limits, and has this header and these frames.
+    /// What is true of each trace that was read: it is within the limits.
     pub fn is_whole(&self)
-        ensures limits { HasLimits (whole self.now) }
-        ensures head { head_of (whole self.now) ≡ self.now.head }
-        ensures frames { frames_of (whole self.now) ≡ self.now.frames }
+        ensures { HasLimits self.now }
     {
         let _head = self.head;
     }
 
     /// How many customers there are.
     pub fn customer_count(&self) -> u32
-        ensures { result ≡ length (whole self.now).customers }
+        ensures { result ≡ length self.now.customers }
     {
-        self.is_whole();
         self.head.customers
     }
 
     /// How many batches there are.
     pub fn batch_count(&self) -> u32
-        ensures { result ≡ length (whole self.now).batches }
+        ensures { result ≡ length self.now.batches }
     {
-        self.is_whole();
         self.head.batches
     }
 
     /// How many replicas there are, each with a section.
     pub fn section_count(&self) -> u8
-        ensures { result ≡ length (whole self.now).sections }
+        ensures { result ≡ length self.now.sections }
     {
-        self.is_whole();
         self.head.replicas
     }
 
     /// How many verifiers there are.
     pub fn verifier_count(&self) -> u8
-        ensures { result ≡ length (whole self.now).verifiers }
+        ensures { result ≡ length self.now.verifiers }
     {
-        self.is_whole();
         self.head.verifiers
     }
 
     /// A customer, by number from 0.
     pub fn customer(&self, i: u32) -> CustomerView<'a>
-        requires { i < length (whole self.now).customers }
-        ensures says { slice_get (customers_at (whole self.now)) i
-            ≡ Some (result.offset, customer_in result.bytes.now) }
+        requires { i < length self.now.customers }
+        ensures says { slice_get (customers_at self.now) i ≡ Some (result.offset, customer_in result.bytes.now) }
         ensures text { result.bytes.now ≡ frame_text (OfCustomer (customer_in result.bytes.now)) }
-        ensures stands { HasBytesAt (whole self.now) result.offset result.bytes.now }
+        ensures stands { HasBytesAt self.now result.offset result.bytes.now }
     {
         self.is_whole();
         let frame = self.frame(i as usize);
@@ -197,24 +185,21 @@ impl<'a> Trace<'a> {
     /// A batch, by its number from 1.
     pub fn batch(&self, n: u32) -> BatchView<'a>
         requires from_one { 1 ≤ n }
-        requires there { n ≤ length (whole self.now).batches }
-        ensures says { slice_get (batches_at (whole self.now)) (n - 1)
-            ≡ Some (result.offset, batch_in result.bytes.now) }
+        requires there { n ≤ length self.now.batches }
+        ensures says { slice_get (batches_at self.now) (n - 1) ≡ Some (result.offset, batch_in result.bytes.now) }
         ensures text { result.bytes.now
             ≡ frame_text (OfBatch (batch_in result.bytes.now).0 (batch_in result.bytes.now).1) }
-        ensures stands { HasBytesAt (whole self.now) result.offset result.bytes.now }
+        ensures stands { HasBytesAt self.now result.offset result.bytes.now }
     {
-        self.is_whole();
         let frame = self.frame(self.head.customers as usize + n as usize - 1);
         BatchView::new(frame.offset, frame.bytes)
     }
 
     /// The number of the frame that begins a section, or of the frame behind the last section.
     fn section_from(&self, e: u8) -> u32
-        requires { e ≤ length (whole self.now).sections }
-        ensures { result ≡ length (before_section (whole self.now) e) }
+        requires { e ≤ length self.now.sections }
+        ensures { result ≡ length (before_section self.now e) }
     {
-        self.is_whole();
         if e < self.head.replicas {
             self.index.starts.sections[e as usize]
         } else {
@@ -224,10 +209,9 @@ impl<'a> Trace<'a> {
 
     /// The number of the frame that begins a verifier's part, or of the frame behind the last.
     fn verifier_from(&self, v: u8) -> u32
-        requires { v ≤ length (whole self.now).verifiers }
-        ensures { result ≡ length (before_verifier (whole self.now) v) }
+        requires { v ≤ length self.now.verifiers }
+        ensures { result ≡ length (before_verifier self.now v) }
     {
-        self.is_whole();
         if v < self.head.verifiers {
             self.index.starts.verifiers[v as usize]
         } else {
@@ -237,16 +221,15 @@ impl<'a> Trace<'a> {
 
     /// The number of the first reply sent, or of the end.
     fn sent_from(&self) -> u32
-        ensures { result ≡ length (before_sent (whole self.now)) }
+        ensures { result ≡ length (before_sent self.now) }
     {
-        self.is_whole();
         self.index.starts.sent
     }
 
     /// What a replica did, by the replica's number from 0, step by step.
     pub fn section(&self, e: u8) -> Steps<'_, 'a>
-        requires { e < length (whole self.now).sections }
-        ensures { result ≡ steps_at (whole self.now) e }
+        requires { e < length self.now.sections }
+        ensures { result ≡ steps_at self.now e }
     {
         self.is_whole();
         let from = self.section_from(e) as usize + 1;
@@ -256,10 +239,9 @@ impl<'a> Trace<'a> {
 
     /// The byte at which a section begins, or the byte behind the last section.
     fn section_begins(&self, e: u8) -> u64
-        requires { e ≤ length (whole self.now).sections }
-        ensures { result ≡ section_start (whole self.now) e }
+        requires { e ≤ length self.now.sections }
+        ensures { result ≡ section_start self.now e }
     {
-        self.is_whole();
         self.start_of(self.section_from(e) as usize) as u64
     }
 
@@ -267,12 +249,11 @@ impl<'a> Trace<'a> {
     ///
     /// `None` for the header, customers, batches, votes, replies sent, the end, and what lies behind it.
     pub fn section_of(&self, offset: u64) -> Option<u8>
-        ensures inside { IfSome result (λ e. (e < length (whole self.now).sections)
-            × IsTrue (is_in_section (whole self.now) e offset)) }
-        ensures outside { IfNone result ((e : ℕ) → e < length (whole self.now).sections
-            → IsFalse (is_in_section (whole self.now) e offset)) }
+        ensures inside { IfSome result (λ e. (e < length self.now.sections)
+            × IsTrue (is_in_section self.now e offset)) }
+        ensures outside { IfNone result ((e : ℕ) → e < length self.now.sections
+            → IsFalse (is_in_section self.now e offset)) }
     {
-        self.is_whole();
         let replicas = self.head.replicas;
         'sections: for e in 0..replicas {
             if self.section_begins(e) <= offset && offset < self.section_begins(e + 1) {
@@ -284,8 +265,8 @@ impl<'a> Trace<'a> {
 
     /// The votes of a verifier, by the verifier's number from 0.
     pub fn votes(&self, v: u8) -> Votes<'_, 'a>
-        requires { v < length (whole self.now).verifiers }
-        ensures { result ≡ votes_at (whole self.now) v }
+        requires { v < length self.now.verifiers }
+        ensures { result ≡ votes_at self.now v }
     {
         self.is_whole();
         let from = self.verifier_from(v) as usize + 1;
@@ -295,18 +276,17 @@ impl<'a> Trace<'a> {
 
     /// How many replies were sent.
     pub fn sent_count(&self) -> usize
-        ensures { result ≡ length (whole self.now).sent }
+        ensures { result ≡ length self.now.sent }
     {
-        self.is_whole();
         self.frame_count() - 1 - self.sent_from() as usize
     }
 
     /// A reply sent, by its place from 0.
     pub fn sent(&self, i: usize) -> SentView<'a>
-        requires { i < length (whole self.now).sent }
-        ensures says { slice_get (sent_at (whole self.now)) i ≡ Some (result.offset, sent_in result.bytes.now) }
+        requires { i < length self.now.sent }
+        ensures says { slice_get (sent_at self.now) i ≡ Some (result.offset, sent_in result.bytes.now) }
         ensures text { result.bytes.now ≡ frame_text (OfSent (sent_in result.bytes.now)) }
-        ensures stands { HasBytesAt (whole self.now) result.offset result.bytes.now }
+        ensures stands { HasBytesAt self.now result.offset result.bytes.now }
     {
         self.is_whole();
         let first = self.frame_count() - 1 - self.sent_count();

@@ -1,7 +1,7 @@
 //! The votes of a verifier.
 
 ghost use Rattle.std.specs.Prelude.{◌≡◌, ◌<◌, ◌-◌, length, slice_get, Some};
-ghost use Rattle.eve_grammar.specs.Frames.{OfVote};
+ghost use Rattle.eve_grammar.specs.Frames.{OfVote, frames_of};
 ghost use Rattle.eve_grammar.specs.Spelling.{frame_text};
 ghost use Rattle.eve_frames.specs.Views.{vote_in};
 ghost use Rattle.eve_views.specs.Parts.{votes_between, AreVotes};
@@ -23,20 +23,21 @@ pub struct Votes<'t, 'a> {
 impl<'t, 'a> Model for Votes<'t, 'a> {
     ghost use Rattle.std.specs.Prelude.{ℕ, ◌-◌, List};
     ghost use Rattle.eve_grammar.specs.Trace.{Vote};
+    ghost use Rattle.eve_grammar.specs.Frames.{frames_of};
     ghost use Rattle.eve_views.specs.Parts.{votes_between, AreVotes};
 
     ghost Value = { List (ℕ × Vote) };
 
-    ghost view = { λ x. votes_between x.trace.now.frames x.from (x.to - x.from) };
+    ghost view = { λ x. votes_between (frames_of x.trace.now) x.from (x.to - x.from) };
 
-    ghost invariant = { λ x. AreVotes x.trace.now.frames x.from x.to };
+    ghost invariant = { λ x. AreVotes (frames_of x.trace.now) x.from x.to };
 }
 
 impl<'t, 'a> Votes<'t, 'a> {
     /// The frames between two numbers.
     pub(crate) fn new(trace: &'t Trace<'a>, from: usize, to: usize) -> Votes<'t, 'a>
-        requires { AreVotes trace.now.frames from to }
-        ensures { result ≡ votes_between trace.now.frames from (to - from) }
+        requires { AreVotes (frames_of trace.now) from to }
+        ensures { result ≡ votes_between (frames_of trace.now) from (to - from) }
     {
         Votes { trace, from, to }
     }

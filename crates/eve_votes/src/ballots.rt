@@ -4,7 +4,6 @@ ghost use Rattle.std.specs.Prelude.{◌≡◌, ◌<◌, Some, length, slice_get}
 ghost use Rattle.eve_grammar.specs.Bodies.{choice as choice_of};
 ghost use Rattle.eve_grammar.specs.Spelling.{votes_at, votes_of};
 ghost use Rattle.eve_frames.specs.Views.{vote_in};
-ghost use Rattle.eve_views.specs.Fronts.{whole};
 ghost use Rattle.eve_votes.specs.Votes.{same_choice, backers};
 ghost use Rattle.eve_votes.specs.Ballots.{is_alike, is_at, is_lower, IsBefore, AreInOrder, IsStart, HasCast};
 
@@ -37,9 +36,9 @@ fn is_lower(ballot: &Ballot, seq: u32, view: u32) -> bool
 
 /// The vote as it stands in the trace.
 pub(crate) fn vote_at<'a>(trace: &Trace<'a>, ballot: Ballot) -> VoteView<'a>
-    requires verifier { ballot.verifier < length (whole trace.now).verifiers }
-    requires place { ballot.place < length (votes_of (whole trace.now) ballot.verifier) }
-    ensures { slice_get (votes_at (whole trace.now) ballot.verifier) ballot.place
+    requires verifier { ballot.verifier < length trace.now.verifiers }
+    requires place { ballot.place < length (votes_of trace.now ballot.verifier) }
+    ensures { slice_get (votes_at trace.now ballot.verifier) ballot.place
         ≡ Some (result.offset, vote_in result.bytes.now) }
 {
     trace.votes(ballot.verifier).get(ballot.place)
@@ -85,10 +84,9 @@ pub(crate) fn backers(
     view: u32,
     choice: Choice<'_>,
 ) -> u8
-    requires { HasCast (whole trace.now) ballots.now }
-    ensures { result ≡ backers (whole trace.now) seq view (choice_of choice.entry) }
+    requires { HasCast trace.now ballots.now }
+    ensures { result ≡ backers trace.now seq view (choice_of choice.entry) }
 {
-    trace.is_whole();
     let verifiers = trace.head().verifiers;
     let mut at = start_of(ballots, seq, view);
     let mut count: u8 = 0;

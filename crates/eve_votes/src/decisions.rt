@@ -6,7 +6,6 @@ ghost use Rattle.eve_grammar.specs.Bodies.{choice as choice_of};
 ghost use Rattle.eve_grammar.specs.Limits.{is_vote};
 ghost use Rattle.eve_grammar.specs.Spelling.{votes_of};
 ghost use Rattle.eve_frames.specs.Views.{vote_in};
-ghost use Rattle.eve_views.specs.Fronts.{whole};
 ghost use Rattle.eve_views.specs.declared.fault.Code.TheVariants.{TwoDecisions};
 ghost use Rattle.eve_votes.specs.Votes.{backers};
 ghost use Rattle.eve_votes.specs.Faults.{StandsInVotes};
@@ -35,10 +34,9 @@ pub(crate) fn is_backed(
     view: u32,
     choice: Choice<'_>,
 ) -> bool
-    requires { HasCast (whole trace.now) ballots.now }
-    ensures { result ≡ nat_le (whole trace.now).quorum (backers (whole trace.now) seq view (choice_of choice.entry)) }
+    requires { HasCast trace.now ballots.now }
+    ensures { result ≡ nat_le trace.now.quorum (backers trace.now seq view (choice_of choice.entry)) }
 {
-    trace.is_whole();
     let votes = backers(trace, ballots, seq, view, choice);
     trace.head().quorum <= votes
 }
@@ -52,13 +50,13 @@ fn judge<'a>(
     vote: VoteView<'a>,
     least: Option<u64>,
 ) -> Option<u64>
-    requires cast { HasCast (whole trace.now) ballots.now }
-    requires right { IsTrue (is_vote (length (whole trace.now).batches) (vote_in vote.bytes.now)) }
-    requires judging { Judging (whole trace.now) decisions.old.items least }
-    ensures judging { Judging (whole trace.now) decisions.new.items result }
+    requires cast { HasCast trace.now ballots.now }
+    requires right { IsTrue (is_vote (length trace.now.batches) (vote_in vote.bytes.now)) }
+    requires judging { Judging trace.now decisions.old.items least }
+    ensures judging { Judging trace.now decisions.new.items result }
     ensures keeps { Keeps decisions.old.items decisions.new.items }
     ensures lowers { Lowers least result }
-    ensures agrees { Agrees (whole trace.now) decisions.new.items result (vote_in vote.entry.bytes.now) }
+    ensures agrees { Agrees trace.now decisions.new.items result (vote_in vote.entry.bytes.now) }
 {
     let Choice::ForCommit(token) = vote.choice() else {
         return least;
@@ -90,13 +88,13 @@ fn judge_votes<'a>(
     verifier: u8,
     least: Option<u64>,
 ) -> Option<u64>
-    requires there { verifier < length (whole trace.now).verifiers }
-    requires cast { HasCast (whole trace.now) ballots.now }
-    requires judging { Judging (whole trace.now) decisions.old.items least }
-    ensures judging { Judging (whole trace.now) decisions.new.items result }
+    requires there { verifier < length trace.now.verifiers }
+    requires cast { HasCast trace.now ballots.now }
+    requires judging { Judging trace.now decisions.old.items least }
+    ensures judging { Judging trace.now decisions.new.items result }
     ensures keeps { Keeps decisions.old.items decisions.new.items }
     ensures lowers { Lowers least result }
-    ensures agrees { All (Agrees (whole trace.now) decisions.new.items result) (votes_of (whole trace.now) verifier) }
+    ensures agrees { All (Agrees trace.now decisions.new.items result) (votes_of trace.now verifier) }
 {
     trace.is_whole();
     let mut least = least;
@@ -116,12 +114,12 @@ pub(crate) fn decide<'a>(
     ballots: &[Ballot],
     decisions: &mut Vec<Option<Decision<'a>>>,
 ) -> Option<u64>
-    requires cast { HasCast (whole trace.now) ballots.now }
-    requires long { length decisions.old.items ≡ length (whole trace.now).batches + 1 }
+    requires cast { HasCast trace.now ballots.now }
+    requires long { length decisions.old.items ≡ length trace.now.batches + 1 }
     requires none { All (λ d. d ≡ None) decisions.old.items }
-    ensures stands { IfSome result (StandsInVotes TwoDecisions (whole trace.now)) }
-    ensures all { IsBelowAll (StandsInVotes TwoDecisions (whole trace.now)) result }
-    ensures decided { IfNone result (AreDecisions (whole trace.now) decisions.new.items) }
+    ensures stands { IfSome result (StandsInVotes TwoDecisions trace.now) }
+    ensures all { IsBelowAll (StandsInVotes TwoDecisions trace.now) result }
+    ensures decided { IfNone result (AreDecisions trace.now decisions.new.items) }
 {
     trace.is_whole();
     let head = trace.head();

@@ -3,7 +3,6 @@
 ghost use Rattle.std.specs.Prelude.{◌≡◌, ◌+◌, ℕ, List, None, Some, length, IfOk, IfErr, IsTrue, ◌↔◌};
 ghost use Rattle.std.specs.List.{All};
 ghost use Rattle.eve_grammar.specs.Trace.{ForCommit};
-ghost use Rattle.eve_views.specs.Fronts.{whole};
 ghost use Rattle.eve_views.specs.Form.{IfFound, IsLeast, HasNone};
 ghost use Rattle.eve_views.specs.declared.fault.Fault.{Fault as FaultValue};
 ghost use Rattle.eve_votes.specs.Votes.{backers, IsDecided, IsRolledBack};
@@ -31,13 +30,12 @@ pub struct Tally<'t, 'a> {
 
 impl<'t, 'a> Model for Tally<'t, 'a> {
     ghost use Rattle.eve_grammar.specs.Trace.{Trace};
-    ghost use Rattle.eve_views.specs.Fronts.{whole};
 
     ghost Value = { Trace };
 
     ghost use Rattle.eve_votes.specs.Held.{IsTally};
 
-    ghost view = { λ x. whole x.trace.now };
+    ghost view = { λ x. x.trace.now };
 
     ghost invariant = { IsTally };
 }
@@ -96,12 +94,11 @@ impl<'t, 'a> Tally<'t, 'a> {
     /// of a batch decided as commit stand at the Batch. The votes are sorted once; then each is looked at once, and
     /// those for a commit are counted with the others on their batch in their view. Want of memory decides nothing.
     pub fn of(alloc: Global, trace: &'t Trace<'a>) -> Result<Tally<'t, 'a>, CheckFault>
-        ensures trace { IfOk result (λ tally. tally ≡ whole trace.now) }
-        ensures sound { IfOk result (λ _. AreVotesSound (whole trace.now)) }
-        ensures none { IfOk result (λ _. HasNone (IsVoteFault (whole trace.now))) }
-        ensures least { IfErr result (λ e. IfFound e (IsLeast (IsVoteFault (whole trace.now)))) }
+        ensures trace { IfOk result (λ tally. tally ≡ trace.now) }
+        ensures sound { IfOk result (λ _. AreVotesSound trace.now) }
+        ensures none { IfOk result (λ _. HasNone (IsVoteFault trace.now)) }
+        ensures least { IfErr result (λ e. IfFound e (IsLeast (IsVoteFault trace.now))) }
     {
-        trace.is_whole();
         let cast = cast(alloc, trace)?;
         let mut ballots = Vec::with_capacity(alloc, cast.len())?;
         let again = sift(trace, &cast, &mut ballots)?;

@@ -1,7 +1,6 @@
 //! The votes as they stand in a trace.
 
 ghost use Rattle.std.specs.Prelude.{◌≡◌, ◌↔◌, ◌<◌, ◌++◌, [], IsTrue, length, IfOk, OnOk, IfSome};
-ghost use Rattle.eve_views.specs.Fronts.{whole};
 ghost use Rattle.eve_views.specs.declared.fault.Code.TheVariants.{TwoVotes};
 ghost use Rattle.eve_grammar.specs.Spelling.{votes_of};
 ghost use Rattle.eve_votes.specs.Faults.{StandsInVotes};
@@ -15,9 +14,9 @@ use std::alloc::{AllocError, Global};
 
 /// Appends the votes of a verifier.
 fn append(trace: &Trace<'_>, ballots: &mut Vec<Ballot>, verifier: u8) -> Result<(), AllocError>
-    requires { verifier < length (whole trace.now).verifiers }
+    requires { verifier < length trace.now.verifiers }
     ensures { OnOk result (ballots.new.items
-        ≡ ballots.old.items ++ ballots_from verifier 0 (votes_of (whole trace.now) verifier)) }
+        ≡ ballots.old.items ++ ballots_from verifier 0 (votes_of trace.now verifier)) }
 {
     let votes = trace.votes(verifier);
     ballots.reserve(votes.len())?;
@@ -35,9 +34,8 @@ fn append(trace: &Trace<'_>, ballots: &mut Vec<Ballot>, verifier: u8) -> Result<
 
 /// The votes of all verifiers.
 fn votes_in(alloc: Global, trace: &Trace<'_>) -> Result<Vec<Ballot>, AllocError>
-    ensures { IfOk result (λ ballots. ballots.items ≡ ballots_of (whole trace.now)) }
+    ensures { IfOk result (λ ballots. ballots.items ≡ ballots_of trace.now) }
 {
-    trace.is_whole();
     let mut ballots = Vec::new(alloc);
     for verifier in 0..trace.head().verifiers {
         append(trace, &mut ballots, verifier)?;
@@ -47,7 +45,7 @@ fn votes_in(alloc: Global, trace: &Trace<'_>) -> Result<Vec<Ballot>, AllocError>
 
 /// The votes of all verifiers, by batch, then by view, then by verifier, then as they stand.
 pub(crate) fn cast(alloc: Global, trace: &Trace<'_>) -> Result<Vec<Ballot>, AllocError>
-    ensures { IfOk result (λ ballots. HasVotes (whole trace.now) ballots.items) }
+    ensures { IfOk result (λ ballots. HasVotes trace.now ballots.items) }
 {
     let mut ballots = votes_in(alloc, trace)?;
     ballots.as_mut_slice().sort_unstable();
@@ -68,11 +66,11 @@ pub(crate) fn sift(
     ballots: &[Ballot],
     only: &mut Vec<Ballot>,
 ) -> Result<Option<u64>, AllocError>
-    requires cast { HasVotes (whole trace.now) ballots.now }
+    requires cast { HasVotes trace.now ballots.now }
     requires none { only.old.items ≡ [] }
-    ensures only { OnOk result (HasCast (whole trace.now) only.new.items) }
-    ensures stands { IfOk result (λ r. IfSome r (StandsInVotes TwoVotes (whole trace.now))) }
-    ensures all { IfOk result (IsBelowAll (StandsInVotes TwoVotes (whole trace.now))) }
+    ensures only { OnOk result (HasCast trace.now only.new.items) }
+    ensures stands { IfOk result (λ r. IfSome r (StandsInVotes TwoVotes trace.now)) }
+    ensures all { IfOk result (IsBelowAll (StandsInVotes TwoVotes trace.now)) }
 {
     let mut least = None;
     for i in 0..ballots.len() {

@@ -1,4 +1,3 @@
-use Rattle.eve_views.specs.Fronts.{whole}
 use Rattle.eve_chains.specs.Settling.{settlings}
 use Rattle.eve_agree.specs.Judging.{AreAfter}
 use Rattle.eve_agree.proofs.Agreeing.{Judged}
@@ -6,6 +5,6 @@ use Rattle.eve_agree.proofs.agreement.equal_balances.Given as goal
 
 abbrev pub invariant-loop-n : goal.invariant-loop-n
 invariant-loop-n l = record {
-  after : AreAfter (settlings (whole l.trace)) l.n l.all.items;
-  judged : Judged (whole l.trace) l.n l.least;
+  after : AreAfter (settlings l.trace) l.n l.all.items;
+  judged : Judged l.trace l.n l.least;
 }

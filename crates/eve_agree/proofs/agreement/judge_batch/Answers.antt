@@ -2,7 +2,6 @@ use Rattle.std.proofs.Common.{◌≡◌, ◌<◌, length, subst, sym, ap, ◌∙
 use Rattle.std.specs.Prelude.{IsTrue}
 use Rattle.std.proofs.lemmas.Option.{slice_get_read, slice_get_within}
 use Rattle.eve_frames.specs.Views.{attempt_in}
-use Rattle.eve_views.specs.Fronts.{whole}
 use Rattle.eve_agree.specs.Agreement.{HaveSameOutcome}
 use Rattle.eve_agree.specs.Judging.{lower}
 use Rattle.eve_agree.proofs.Outcomes.{section_history_is, section_histories_count, settlings_count, last_told}
@@ -15,7 +14,7 @@ use Rattle.eve_agree.proofs.agreement.judge_batch.Goals.{then-n-committed+else-n
 
 pub loop-e-init : goal.loop-e-init
 loop-e-init c =
-    let t = whole c.args.trace.now in
+    let t = c.args.trace.now in
     let there = slice_get_within c.args.histories.now c.in-Some.first _ c.in-Some.ensures.there.1 in
     let count = ap length c.requires.histories ∙ section_histories_count t in
     batch_start t c.args.least c.args.n c.in-Some.first c.args.histories.now c.requires.histories c.requires.right
@@ -24,14 +23,14 @@ loop-e-init c =
 
 pub bounds-all-e : goal.bounds-all-e
 bounds-all-e c =
-    let t = whole c.args.trace.now in
+    let t = c.args.trace.now in
     let count = ap length c.requires.histories ∙ section_histories_count t in
     let many = c.requires.after.as_many ∙ settlings_count t in
     omega (arith, c.loop-e-test.true)
 
 pub bounds-all-first : goal.bounds-all-first
 bounds-all-first c =
-    let t = whole c.args.trace.now in
+    let t = c.args.trace.now in
     let there = slice_get_within c.args.histories.now c.in-Some.first _ c.in-Some.ensures.there.1 in
     let count = ap length c.requires.histories ∙ section_histories_count t in
     let many = c.requires.after.as_many ∙ settlings_count t in
@@ -39,7 +38,7 @@ bounds-all-first c =
 
 pub loop-e-preserved : goal.loop-e-preserved
 loop-e-preserved c =
-    let t = whole c.args.trace.now in
+    let t = c.args.trace.now in
     let hs = c.args.histories.now in
     let e = c.loop-e.e in
     let f = c.in-Some.first in
@@ -110,6 +109,6 @@ loop-e-preserved c =
 
 pub returns-clause-judged : goal.returns-clause-judged
 returns-clause-judged c =
-    let t = whole c.args.trace.now in
+    let t = c.args.trace.now in
     let count = ap length c.requires.histories ∙ section_histories_count t in
     batch_end t c.args.least c.args.n c.loop-e.e c.loop-e.least c.loop-e.invariant (omega (arith, c.loop-e-test.false))

@@ -1,6 +1,5 @@
 use Rattle.std.proofs.Common.{◌≡◌, ◌+◌, ℕ, Some, sym, subst, ◌∙◌, rules, arith, IsTrue}
 use Rattle.eve_frames.specs.Views.{attempt_in}
-use Rattle.eve_views.specs.Fronts.{whole}
 use Rattle.eve_chains.specs.Committed.{values_to}
 use Rattle.eve_chains.specs.Settling.{Settling, settling, values_in}
 use Rattle.eve_agree.specs.Judging.{IsAfter}
@@ -10,13 +9,13 @@ use Rattle.eve_agree.proofs.due_tokens.first_wrong.Goals as goal
 
 pub committed_attempt-attempt-requires-clause-there : goal.committed_attempt-attempt-requires-clause-there
 committed_attempt-attempt-requires-clause-there c =
-    let same = commits_there (whole c.args.trace.now) c.args.history.now.replica c.args.history.now c.args.settled.now
+    let same = commits_there c.args.trace.now c.args.history.now.replica c.args.history.now c.args.settled.now
     c.requires.history c.requires.settled in
     omega (arith, same, c.requires.there, c.loop-n-test.true)
 
 pub returns-then-not-is_due : goal.returns-then-not-is_due
 returns-then-not-is_due c =
-    let t = whole c.args.trace.now in
+    let t = c.args.trace.now in
     let e = c.args.history.now.replica in
     let n = c.loop-n.n in
     let v = c.committed_attempt-attempt.result in
@@ -24,7 +23,7 @@ returns-then-not-is_due c =
     let right = c.is_right.ensures.section t e c.requires.history in
     let law : (m : ℕ) →
     values_in (settling t e) m ≡ values_to t e m =
-    λ m. c.settled_values_are_the_banks.ensures t e m c.is_whole.ensures.limits right in
+    λ m. c.settled_values_are_the_banks.ensures t e m c.is_whole.ensures right in
     let of = of_batch t e n v.offset said c.args.history.now c.requires.history right
     c.committed_attempt-attempt.ensures in
     let after : IsAfter c.args.settled.now (n + 1) c.advance.new.balances =
@@ -39,7 +38,7 @@ returns-then-not-is_due c =
 
 pub loop-n-preserved : goal.loop-n-preserved
 loop-n-preserved c =
-    let t = whole c.args.trace.now in
+    let t = c.args.trace.now in
     let e = c.args.history.now.replica in
     let n = c.loop-n.n in
     let v = c.committed_attempt-attempt.result in
@@ -47,7 +46,7 @@ loop-n-preserved c =
     let right = c.is_right.ensures.section t e c.requires.history in
     let law : (m : ℕ) →
     values_in (settling t e) m ≡ values_to t e m =
-    λ m. c.settled_values_are_the_banks.ensures t e m c.is_whole.ensures.limits right in
+    λ m. c.settled_values_are_the_banks.ensures t e m c.is_whole.ensures right in
     let of = of_batch t e n v.offset said c.args.history.now c.requires.history right
     c.committed_attempt-attempt.ensures in
     let after : IsAfter c.args.settled.now (n + 1) c.advance.new.balances =

@@ -1,5 +1,4 @@
 use Rattle.std.proofs.Common.{None}
-use Rattle.eve_views.specs.Fronts.{whole}
 use Rattle.eve_agree.specs.Judging.{IsAfter}
 use Rattle.eve_agree.specs.DueTokens.{IsFirstWrong}
 use Rattle.eve_agree.proofs.due_tokens.first_wrong.Given as goal
@@ -7,5 +6,5 @@ use Rattle.eve_agree.proofs.due_tokens.first_wrong.Given as goal
 abbrev pub invariant-loop-n : goal.invariant-loop-n
 invariant-loop-n l = record {
   balances : IsAfter l.settled l.n l.balances;
-  due : IsFirstWrong (whole l.trace) l.history.replica l.before l.n None;
+  due : IsFirstWrong l.trace l.history.replica l.before l.n None;
 }

@@ -2,7 +2,6 @@ use Rattle.std.proofs.Common.{◌≡◌, ◌++◌, ◌<◌, ℕ, List, length, t
 use Rattle.std.proofs.Common.{append-nil, arith}
 use Rattle.std.proofs.lemmas.List.{take_all, drop_all}
 use Rattle.eve_grammar.specs.Trace.{Trace}
-use Rattle.eve_views.specs.Fronts.{whole}
 use Rattle.eve_chains.specs.Settling.{Settling}
 use Rattle.eve_agree.specs.DueTokens.{IsFirstWrong}
 use Rattle.eve_agree.specs.Stretches.{IsJudged, AreStretches, first_found}
@@ -31,7 +30,7 @@ found_is t e s xs ys old o cut same value judged is =
 
 pub returns-in-Some-clause-least : goal.returns-in-Some-clause-least
 returns-in-Some-clause-least g c =
-    let t = whole c.args.trace.now in
+    let t = c.args.trace.now in
     let e = c.args.history.now.replica in
     let s = c.args.settled.now in
     let xs = c.in_ok-stretches.stretches.items in
@@ -49,7 +48,7 @@ returns-in-Some-clause-least g c =
 
 pub returns-clause-due : goal.returns-clause-due
 returns-clause-due g c =
-    let t = whole c.args.trace.now in
+    let t = c.args.trace.now in
     let e = c.args.history.now.replica in
     let s = c.args.settled.now in
     let xs = c.in_ok-stretches.stretches.items in
@@ -67,4 +66,4 @@ returns-clause-due g c =
     all_due t e (length s.batches) (omega arith) (subst (IsFirstWrong t e 0 (length s.batches)) c.in-None.is all)
 
 pub returns-clause-none : goal.returns-clause-none
-returns-clause-none g c = no_token_fault (whole c.args.trace.now) c.args.history.now.replica (returns-clause-due g c)
+returns-clause-none g c = no_token_fault c.args.trace.now c.args.history.now.replica (returns-clause-due g c)

@@ -1,6 +1,5 @@
 use Rattle.std.proofs.Common.{◌≡◌, [], sym, subst, rules}
 use Rattle.eve_grammar.specs.Trace.{Trace}
-use Rattle.eve_views.specs.Fronts.{whole}
 use Rattle.eve_agree.specs.Majority.{IsBacked}
 use Rattle.eve_agree.specs.Unbacked.{IsUnbacked}
 use Rattle.eve_agree.proofs.Backing.{AreLeft, left_first, left_next, left_fault}
@@ -8,19 +7,19 @@ use Rattle.eve_agree.proofs.majority.first_in.Goals as goal
 
 pub loop-step-init : goal.loop-step-init
 loop-step-init c =
-    let t = whole c.args.trace.now in
+    let t = c.args.trace.now in
     subst (AreLeft t c.args.e) (sym c.section-steps.ensures)
-    (left_first t c.args.e c.is_whole.ensures.limits c.requires.right)
+    (left_first t c.args.e c.is_whole.ensures c.requires.right)
 
 pub unbacked-requires : goal.unbacked-requires
 unbacked-requires c =
     let some = c.in-Some.ensures.some in
-    let left = subst (AreLeft (whole c.args.trace.now) c.args.e) some.1 c.loop-step.invariant in
+    let left = subst (AreLeft c.args.trace.now c.args.e) some.1 c.loop-step.invariant in
     (some.0, some.2, left.room.0)
 
 pub returns-in-Some-unbacked-clause-first : goal.returns-in-Some-unbacked-clause-first
 returns-in-Some-unbacked-clause-first c =
-    let t = whole c.args.trace.now in
+    let t = c.args.trace.now in
     let e = c.args.e in
     let some = c.in-Some.ensures.some in
     let f = c.in-Some-unbacked.fault in
@@ -33,7 +32,7 @@ loop-step-smaller c = search rules
 
 pub loop-step-preserved : goal.loop-step-preserved
 loop-step-preserved c =
-    let t = whole c.args.trace.now in
+    let t = c.args.trace.now in
     let some = c.in-Some.ensures.some in
     left_next t c.args.e some.0 c.next.new.self (subst (AreLeft t c.args.e) some.1 c.loop-step.invariant)
     (subst (λ (u : Trace). IsBacked u some.0.1) c.requires.tally (c.in_default-unbacked.ensures.backed some.0 some.2))
@@ -41,5 +40,5 @@ loop-step-preserved c =
 pub returns-clause-backed : goal.returns-clause-backed
 returns-clause-backed c =
     let none : c.loop-step.steps ≡ [] = search rules in
-    let left = subst (AreLeft (whole c.args.trace.now) c.args.e) none c.loop-step.invariant in
+    let left = subst (AreLeft c.args.trace.now c.args.e) none c.loop-step.invariant in
     left.backed tt

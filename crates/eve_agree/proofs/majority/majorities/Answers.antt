@@ -1,5 +1,4 @@
 use Rattle.std.proofs.Common.{◌≡◌, ◌+◌, ◌<◌, ◌≤◌, length, sym, subst, ◌∙◌, arith}
-use Rattle.eve_views.specs.Fronts.{whole}
 use Rattle.eve_agree.specs.Majority.{IsBackedSection}
 use Rattle.eve_agree.specs.Unbacked.{IsFirstIn, IsFoundBelow}
 use Rattle.eve_agree.proofs.Replicas.{section_history_count, replica_at}
@@ -8,11 +7,11 @@ use Rattle.eve_agree.proofs.majority.majorities.Goals as goal
 use Rattle.std.specs.Prelude.{IfNone, IfSome}
 
 pub loop-history-init : goal.loop-history-init
-loop-history-init c = none_found (whole c.args.trace.now)
+loop-history-init c = none_found c.args.trace.now
 
 pub first_in-requires-clause-there : goal.first_in-requires-clause-there
 first_in-requires-clause-there c =
-    let t = whole c.args.trace.now in
+    let t = c.args.trace.now in
     let count = section_history_count t c.args.histories.now c.requires.histories in
     let here : c.loop-history.history-index < length t.sections = omega (arith, count, c.loop-history-test.true) in
     let own = replica_at t c.args.histories.now c.loop-history.history-index c.history-item.result c.requires.histories
@@ -21,7 +20,7 @@ first_in-requires-clause-there c =
 
 pub loop-history-preserved : goal.loop-history-preserved
 loop-history-preserved c =
-    let t = whole c.args.trace.now in
+    let t = c.args.trace.now in
     let e = c.loop-history.history-index in
     let count = section_history_count t c.args.histories.now c.requires.histories in
     let here : e < length t.sections = omega (arith, count, c.loop-history-test.true) in
@@ -34,7 +33,7 @@ loop-history-preserved c =
 
 pub returns-in-Some-clause-least : goal.returns-in-Some-clause-least
 returns-in-Some-clause-least c =
-    let t = whole c.args.trace.now in
+    let t = c.args.trace.now in
     let n = c.loop-history.history-index in
     let count = section_history_count t c.args.histories.now c.requires.histories in
     let all : length t.sections ≤ n = omega (arith, count, c.loop-history-test.false) in
@@ -42,7 +41,7 @@ returns-in-Some-clause-least c =
 
 pub returns-in-None-clause-backed : goal.returns-in-None-clause-backed
 returns-in-None-clause-backed c =
-    let t = whole c.args.trace.now in
+    let t = c.args.trace.now in
     let n = c.loop-history.history-index in
     let count = section_history_count t c.args.histories.now c.requires.histories in
     let all : length t.sections ≤ n = omega (arith, count, c.loop-history-test.false) in
@@ -50,7 +49,7 @@ returns-in-None-clause-backed c =
 
 pub returns-in-None-clause-none : goal.returns-in-None-clause-none
 returns-in-None-clause-none c =
-    let t = whole c.args.trace.now in
+    let t = c.args.trace.now in
     let n = c.loop-history.history-index in
     let count = section_history_count t c.args.histories.now c.requires.histories in
     let all : length t.sections ≤ n = omega (arith, count, c.loop-history-test.false) in

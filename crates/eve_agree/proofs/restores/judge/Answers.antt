@@ -7,7 +7,6 @@ use Rattle.eve_grammar.specs.Spelling.{steps_at}
 use Rattle.eve_grammar.specs.Limits.{is_restore}
 use Rattle.eve_frames.specs.Views.{rollback_in}
 use Rattle.eve_views.specs.Form.{IfFound, IsLeast}
-use Rattle.eve_views.specs.Fronts.{whole}
 use Rattle.eve_views.specs.declared.fault.CheckFault.{CheckFault}
 use Rattle.eve_views.specs.declared.fault.CheckFault.TheVariants.{Found}
 use Rattle.eve_views.specs.declared.fault.Code.TheVariants as code
@@ -20,20 +19,20 @@ use Rattle.eve_agree.proofs.RestoresInOrder.{section_told, within_told, attempt_
 use Rattle.eve_agree.proofs.restores.judge.Goals as goal
 
 pub returns-then-rollbacks-eq0-clause-right : goal.returns-then-rollbacks-eq0-clause-right
-returns-then-rollbacks-eq0-clause-right c = λ _. right_told (whole c.args.trace.now) c.args.history.now
+returns-then-rollbacks-eq0-clause-right c = λ _. right_told c.args.trace.now c.args.history.now
     c.requires.history (sym c.rollbacks.ensures ∙ c.if-rollbacks-eq0.true)
 
 pub section-steps-requires : goal.section-steps-requires
 section-steps-requires c =
-    subst (λ (e : ℕ). e < length (whole c.args.trace.now).sections) (sym c.replica.ensures)
-    (section_told (whole c.args.trace.now) c.args.history.now c.requires.history
+    subst (λ (e : ℕ). e < length c.args.trace.now.sections) (sym c.replica.ensures)
+    (section_told c.args.trace.now c.args.history.now c.requires.history
     (λ none. c.if-rollbacks-eq0.false (c.rollbacks.ensures ∙ none)))
 
 pub loop-step-init : goal.loop-step-init
 loop-step-init c = record {
-  judged = subst (λ (xs : List (ℕ × Step)). HasJudged (whole c.args.trace.now) c.args.history.now.replica xs 0 0)
-      (sym (c.section-steps.ensures ∙ ap (steps_at (whole c.args.trace.now)) c.replica.ensures))
-      (judged_start (whole c.args.trace.now) c.args.history.now.replica);
+  judged = subst (λ (xs : List (ℕ × Step)). HasJudged c.args.trace.now c.args.history.now.replica xs 0 0)
+      (sym (c.section-steps.ensures ∙ ap (steps_at c.args.trace.now) c.replica.ensures))
+      (judged_start c.args.trace.now c.args.history.now.replica);
   many = ap length c.in_ok-marks.ensures ∙ length-replicate (2 * c.customer_count.result) None
       ∙ ap (λ (n : ℕ). 2 * n) c.customer_count.ensures;
   none = ap marking_of c.in_ok-marks.ensures ∙ none_marked (2 * c.customer_count.result);
@@ -41,7 +40,7 @@ loop-step-init c = record {
 
 pub prove-unreachable-requires : goal.prove-unreachable-requires
 prove-unreachable-requires c =
-    let t = whole c.args.trace.now in
+    let t = c.args.trace.now in
     let come = on_attempt t c.args.history.now.replica c.loop-step.steps c.next.new.self c.loop-step.first
     c.loop-step.end c.in-Some.step c.in-Attempt.field-0 c.in-Attempt.field-1 c.in-Some.ensures.some c.in-Attempt.is
     c.loop-step.invariant.judged in
@@ -51,7 +50,7 @@ prove-unreachable-requires c =
 
 pub loop-step-preserved-in-Attempt : goal.loop-step-preserved-in-Attempt
 loop-step-preserved-in-Attempt c =
-    let t = whole c.args.trace.now in
+    let t = c.args.trace.now in
     record {
       judged = (on_attempt t c.args.history.now.replica c.loop-step.steps c.next.new.self c.loop-step.first
           c.loop-step.end c.in-Some.step c.in-Attempt.field-0 c.in-Attempt.field-1 c.in-Some.ensures.some c.in-Attempt.is
@@ -62,7 +61,7 @@ loop-step-preserved-in-Attempt c =
 
 pub overflow_add-first : goal.overflow_add-first
 overflow_add-first c =
-    let t = whole c.args.trace.now in
+    let t = c.args.trace.now in
     let less : c.loop-step.first < c.loop-step.end =
     (on_commit t c.args.history.now.replica c.loop-step.steps c.next.new.self c.loop-step.first c.loop-step.end
     c.in-Some.step c.in-Commit.field-0 c.requires.right c.in-Some.ensures.some c.in-Commit.is
@@ -71,7 +70,7 @@ overflow_add-first c =
 
 pub loop-step-preserved-in-Commit : goal.loop-step-preserved-in-Commit
 loop-step-preserved-in-Commit c =
-    let t = whole c.args.trace.now in
+    let t = c.args.trace.now in
     record {
       judged = (on_commit t c.args.history.now.replica c.loop-step.steps c.next.new.self c.loop-step.first
           c.loop-step.end c.in-Some.step c.in-Commit.field-0 c.requires.right c.in-Some.ensures.some c.in-Commit.is
@@ -82,7 +81,7 @@ loop-step-preserved-in-Commit c =
 
 pub is_right-requires-clause-there : goal.is_right-requires-clause-there
 is_right-requires-clause-there c =
-    let t = whole c.args.trace.now in
+    let t = c.args.trace.now in
     let here = on_rollback t c.args.history.now.replica c.loop-step.steps c.next.new.self c.loop-step.first
     c.loop-step.end c.in-Some.step c.in-Rollback.rollback c.in-Some.ensures.some c.in-Rollback.is
     c.loop-step.invariant.judged in
@@ -90,33 +89,33 @@ is_right-requires-clause-there c =
     (rollback_in c.in-Rollback.rollback.bytes.now) c.next.new.self c.loop-step.first c.loop-step.end here
 
 pub is_right-requires-clause-within : goal.is_right-requires-clause-within
-is_right-requires-clause-within c = within_told (whole c.args.trace.now) c.args.history.now c.requires.history
-    (length c.loop-step.marks) c.is_whole.ensures.limits c.loop-step.invariant.many
+is_right-requires-clause-within c = within_told c.args.trace.now c.args.history.now c.requires.history
+    (length c.loop-step.marks) c.is_whole.ensures c.loop-step.invariant.many
 
 pub is_right-requires-clause-rows : goal.is_right-requires-clause-rows
 is_right-requires-clause-rows c =
-    let t = whole c.args.trace.now in
+    let t = c.args.trace.now in
     let r = rollback_in c.in-Rollback.rollback.bytes.now in
     let here = on_rollback t c.args.history.now.replica c.loop-step.steps c.next.new.self c.loop-step.first
     c.loop-step.end c.in-Some.step c.in-Rollback.rollback c.in-Some.ensures.some c.in-Rollback.is
     c.loop-step.invariant.judged in
     subst (λ (n : ℕ). IsTrue (list_all (is_restore n) r.restores)) (sym c.loop-step.invariant.many)
     (restores_fit t c.args.history.now.replica c.in-Rollback.rollback.offset r c.next.new.self c.loop-step.first
-    c.loop-step.end here c.is_whole.ensures.limits).0
+    c.loop-step.end here c.is_whole.ensures).0
 
 pub is_right-requires-clause-restores : goal.is_right-requires-clause-restores
 is_right-requires-clause-restores c =
-    let t = whole c.args.trace.now in
+    let t = c.args.trace.now in
     let r = rollback_in c.in-Rollback.rollback.bytes.now in
     let here = on_rollback t c.args.history.now.replica c.loop-step.steps c.next.new.self c.loop-step.first
     c.loop-step.end c.in-Some.step c.in-Rollback.rollback c.in-Some.ensures.some c.in-Rollback.is
     c.loop-step.invariant.judged in
     (restores_fit t c.args.history.now.replica c.in-Rollback.rollback.offset r c.next.new.self c.loop-step.first
-    c.loop-step.end here c.is_whole.ensures.limits).1
+    c.loop-step.end here c.is_whole.ensures).1
 
 pub returns-then-not-is_right-clause-least : goal.returns-then-not-is_right-clause-least
 returns-then-not-is_right-clause-least c = λ sound.
-    let t = whole c.args.trace.now in
+    let t = c.args.trace.now in
     let h = c.args.history.now in
     let r = rollback_in c.in-Rollback.rollback.bytes.now in
     let o = c.in-Rollback.rollback.offset in
@@ -125,7 +124,7 @@ returns-then-not-is_right-clause-least c = λ sound.
     c.loop-step.end c.in-Some.step c.in-Rollback.rollback c.in-Some.ensures.some c.in-Rollback.is
     c.loop-step.invariant.judged in
     let found = found_told t h c.requires.history o r c.next.new.self c.loop-step.first c.loop-step.end here
-    c.is_right.result c.is_whole.ensures.limits c.requires.right sound c.is_right.ensures.right in
+    c.is_right.result c.is_whole.ensures c.requires.right sound c.is_right.ensures.right in
     let least = wrong_is_least t h.replica o r c.next.new.self c.loop-step.first c.loop-step.end here sound
     (sym found ∙ no) in
     let same : c.wrong.result ≡ Found (record { code = code.Restore; offset = o; replica = Some h.replica }) =
@@ -139,7 +138,7 @@ returns-then-not-is_right-clause-least c = λ sound.
 
 pub loop-step-preserved : goal.loop-step-preserved
 loop-step-preserved c =
-    let t = whole c.args.trace.now in
+    let t = c.args.trace.now in
     let h = c.args.history.now in
     let r = rollback_in c.in-Rollback.rollback.bytes.now in
     let o = c.in-Rollback.rollback.offset in
@@ -150,14 +149,14 @@ loop-step-preserved c =
     record {
       judged = judged_rollback t h.replica o r c.next.new.self c.loop-step.first c.loop-step.end here (λ sound.
           sym (found_told t h c.requires.history o r c.next.new.self c.loop-step.first c.loop-step.end here
-          c.is_right.result c.is_whole.ensures.limits c.requires.right sound c.is_right.ensures.right) ∙ yes);
+          c.is_right.result c.is_whole.ensures c.requires.right sound c.is_right.ensures.right) ∙ yes);
       many = c.is_right.ensures.as_many ∙ c.loop-step.invariant.many;
       none = c.is_right.ensures.none yes;
     }
 
 pub returns-clause-right : goal.returns-clause-right
 returns-clause-right c =
-    let t = whole c.args.trace.now in
+    let t = c.args.trace.now in
     let e = c.args.history.now.replica in
     let none : c.loop-step.steps ≡ [] = search rules in
     judged_end t e c.loop-step.first c.loop-step.end

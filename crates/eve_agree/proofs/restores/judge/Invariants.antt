@@ -1,13 +1,12 @@
 use Rattle.std.proofs.Common.{◌≡◌, ◌*◌, length}
-use Rattle.eve_views.specs.Fronts.{whole}
 use Rattle.eve_agree.specs.Marking.{marking_of, unmarked}
 use Rattle.eve_agree.proofs.RestoresInOrder.{HasJudged}
 use Rattle.eve_agree.proofs.restores.judge.Given as goal
 
 abbrev pub invariant-loop-step : goal.invariant-loop-step
 invariant-loop-step l = record {
-  judged : HasJudged (whole l.trace) l.history.replica l.steps l.first l.end;
-  many : length l.marks ≡ 2 * length (whole l.trace).customers;
+  judged : HasJudged l.trace l.history.replica l.steps l.first l.end;
+  many : length l.marks ≡ 2 * length l.trace.customers;
   none : marking_of l.marks ≡ unmarked;
 }
 

@@ -2,7 +2,6 @@ use Rattle.std.proofs.Common.{◌≡◌, ℕ, ◌-◌, ◌≤◌, None, Some, ma
 use Rattle.std.proofs.lemmas.Bool.{false≢true}
 use Rattle.eve_grammar.specs.Trace.{Sent}
 use Rattle.eve_frames.specs.Views.{attempt_in, sent_in}
-use Rattle.eve_views.specs.Fronts.{whole}
 use Rattle.eve_history.specs.Section.{batch_at}
 use Rattle.eve_history.specs.Faults.{request_id}
 use Rattle.eve_agree.specs.Keeping.{kept}
@@ -11,7 +10,7 @@ use Rattle.eve_agree.proofs.sent_replies.is_replied.Goals as goal
 
 pub returns-in-Some-clause-replied : goal.returns-in-Some-clause-replied
 returns-in-Some-clause-replied c =
-    let t = whole c.args.trace.now in
+    let t = c.args.trace.now in
     let s : Sent = sent_in c.args.sent.now.bytes.now in
     let a = attempt_in c.in-Some.attempt.bytes.now in
     let some = c.in-Some.ensures.some in
@@ -31,7 +30,7 @@ returns-in-Some-clause-replied c =
 
 pub returns-in-None-clause-replied : goal.returns-in-None-clause-replied
 returns-in-None-clause-replied c =
-    let t = whole c.args.trace.now in
+    let t = c.args.trace.now in
     let s : Sent = sent_in c.args.sent.now.bytes.now in
     let none : slice_get c.args.history.now.commits (s.seq - 1) ≡ None =
     ap (λ (n : ℕ). slice_get c.args.history.now.commits (n - 1)) (sym c.seq.ensures) ∙ c.in-None.ensures.none in (

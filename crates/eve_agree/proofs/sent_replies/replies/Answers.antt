@@ -4,7 +4,6 @@ use Rattle.std.proofs.lemmas.Bool.{false≢true}
 use Rattle.std.proofs.lemmas.List.{take_all}
 use Rattle.eve_grammar.specs.Trace.{Sent}
 use Rattle.eve_frames.specs.Views.{sent_in}
-use Rattle.eve_views.specs.Fronts.{whole}
 use Rattle.eve_history.specs.SectionHistory.{SectionHistory}
 use Rattle.eve_agree.specs.SentReplies.{IsReplied}
 use Rattle.eve_agree.proofs.Sending.{sent_there, replied_more, no_fault, first_fault, is_possible, told_as}
@@ -13,9 +12,9 @@ use Rattle.eve_agree.proofs.sent_replies.replies.Goals as goal
 
 pub bounds-histories-replica : goal.bounds-histories-replica
 bounds-histories-replica c =
-    let t = whole c.args.trace.now in
+    let t = c.args.trace.now in
     let s : Sent = sent_in c.sent-sent.result.bytes.now in
-    let own = (is_possible t c.loop-i.i s c.is_whole.ensures.limits
+    let own = (is_possible t c.loop-i.i s c.is_whole.ensures
     (sent_there t c.loop-i.i c.sent-sent.result.offset s c.sent-sent.ensures.says)).replica in
     let many : length c.args.histories.now ≡ length t.sections =
     ap (λ (vs : List SectionHistory). length vs) c.requires.histories ∙ length-section_histories t in
@@ -24,30 +23,30 @@ bounds-histories-replica c =
 
 pub is_replied-requires-clause-history : goal.is_replied-requires-clause-history
 is_replied-requires-clause-history c =
-    let t = whole c.args.trace.now in
+    let t = c.args.trace.now in
     let s : Sent = sent_in c.sent-sent.result.bytes.now in
-    let own = (is_possible t c.loop-i.i s c.is_whole.ensures.limits
+    let own = (is_possible t c.loop-i.i s c.is_whole.ensures
     (sent_there t c.loop-i.i c.sent-sent.result.offset s c.sent-sent.ensures.says)).replica in
     told_as t c.args.histories.now s.replica c.replica.result c.index-histories-replica.result c.requires.histories own
     c.replica.ensures c.index-histories-replica.is
 
 pub is_replied-requires-clause-one : goal.is_replied-requires-clause-one
 is_replied-requires-clause-one c =
-    let t = whole c.args.trace.now in
+    let t = c.args.trace.now in
     let s : Sent = sent_in c.sent-sent.result.bytes.now in
-    (is_possible t c.loop-i.i s c.is_whole.ensures.limits
+    (is_possible t c.loop-i.i s c.is_whole.ensures
     (sent_there t c.loop-i.i c.sent-sent.result.offset s c.sent-sent.ensures.says)).one
 
 pub is_replied-requires-clause-there : goal.is_replied-requires-clause-there
 is_replied-requires-clause-there c =
-    let t = whole c.args.trace.now in
+    let t = c.args.trace.now in
     let s : Sent = sent_in c.sent-sent.result.bytes.now in
-    (is_possible t c.loop-i.i s c.is_whole.ensures.limits
+    (is_possible t c.loop-i.i s c.is_whole.ensures
     (sent_there t c.loop-i.i c.sent-sent.result.offset s c.sent-sent.ensures.says)).there
 
 pub returns-then-not-is_replied-clause-least : goal.returns-then-not-is_replied-clause-least
 returns-then-not-is_replied-clause-least c =
-    let t = whole c.args.trace.now in
+    let t = c.args.trace.now in
     let s : Sent = sent_in c.sent-sent.result.bytes.now in
     let at : slice_get _ c.loop-i.i ≡ Some (c.offset.result, s) = c.sent-sent.ensures.says
     ∙ ap (λ (n : ℕ). Some (n, s)) (sym c.offset.ensures) in
@@ -56,7 +55,7 @@ returns-then-not-is_replied-clause-least c =
 
 pub loop-i-preserved : goal.loop-i-preserved
 loop-i-preserved c =
-    let t = whole c.args.trace.now in
+    let t = c.args.trace.now in
     let s : Sent = sent_in c.sent-sent.result.bytes.now in
     record {
       replied = replied_more t c.loop-i.i s c.loop-i.invariant.replied
@@ -67,6 +66,6 @@ loop-i-preserved c =
 
 pub returns-clause-none : goal.returns-clause-none
 returns-clause-none c =
-    let t = whole c.args.trace.now in
+    let t = c.args.trace.now in
     let through : length t.sent ≤ c.loop-i.i = search rules in
     no_fault t (subst (AllByRecursion (IsReplied t)) (take_all c.loop-i.i t.sent through) c.loop-i.invariant.replied)

@@ -1,5 +1,4 @@
 use Rattle.eve_views.specs.Form.{IsLeast}
-use Rattle.eve_views.specs.Fronts.{whole}
 use Rattle.eve_history.specs.Faults.{IsOrderFault}
 use Rattle.eve_audit.specs.declared.verdict.Verdict.TheVariants.{No}
 use Rattle.eve_audit.specs.Answer.{IsAnswer}
@@ -10,7 +9,7 @@ use Rattle.eve_audit.proofs.judge.open.Goals as goal
 pub returns-clause-fault : goal.returns-clause-fault
 returns-clause-fault c =
     let bytes = c.args.bytes.now in
-    let t = whole c.in-Ok.trace in
+    let t = c.in-Ok.trace in
     found_weaker (IsLeast (IsOrderFault t)) (λ f. IsAnswer bytes (No f)) c.in-Err-orders.why
     (λ f least. no_for bytes t (record { spells = c.in-Ok.ensures.trace; none = c.in-Ok.ensures.faultless })
     (λ u other. c.bytes_spell_one_trace.ensures bytes u t other c.in-Ok.ensures.trace)

@@ -1,16 +1,15 @@
-use Rattle.eve_views.specs.Fronts.{whole}
 use Rattle.eve_audit.proofs.Answering.{no_for, yes_for}
 use Rattle.eve_audit.proofs.judge.verdict_on.Goals as goal
 
 pub returns-in-Ok : goal.returns-in-Ok
 returns-in-Ok g c = λ bytes read.
-    let t = whole c.args.trace.now in
+    let t = c.args.trace.now in
     yes_for bytes t read (λ u other. c.bytes_spell_one_trace.ensures bytes u t other read.spells) c.in-Ok.summary
     c.in-Ok.ensures.summary c.in-Ok.ensures.none (c.accepted_traces_are_audited.ensures t c.in-Ok.ensures.accepted)
 
 pub returns-in-Err-Found : goal.returns-in-Err-Found
 returns-in-Err-Found g c = λ bytes read.
-    let t = whole c.args.trace.now in
+    let t = c.args.trace.now in
     no_for bytes t read (λ u other. c.bytes_spell_one_trace.ensures bytes u t other read.spells)
     (c.faults_lie_within.ensures.orders t)
     (λ e. (

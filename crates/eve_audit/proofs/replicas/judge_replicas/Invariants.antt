@@ -1,10 +1,9 @@
 -- What was found in the replicas so far, and what was kept of them; and what their workers found is true.
 use Rattle.std.proofs.Common.{All}
-use Rattle.eve_views.specs.Fronts.{whole}
 use Rattle.eve_audit.specs.Findings.{AreTrue}
 use Rattle.eve_audit.specs.Pieces.{IsJudgedBelow}
 use Rattle.eve_audit.proofs.replicas.judge_replicas.Given as goal
 
 abbrev pub invariant-replicas : goal.invariant-replicas
-invariant-replicas g l = IsJudgedBelow (whole l.trace) l.e l.first l.kept.histories.items l.kept.settled.items
-    l.kept.committed × All (AreTrue (whole l.trace)) l.slots
+invariant-replicas g l = IsJudgedBelow l.trace l.e l.first l.kept.histories.items l.kept.settled.items
+    l.kept.committed × All (AreTrue l.trace) l.slots

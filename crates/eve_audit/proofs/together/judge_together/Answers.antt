@@ -1,5 +1,4 @@
 use Rattle.eve_views.specs.Form.{IfFound, IsLeast, HasNone}
-use Rattle.eve_views.specs.Fronts.{whole}
 use Rattle.eve_agree.specs.Agreement.{IsOutcomeFault}
 use Rattle.eve_agree.specs.SentReplies.{IsReplyFault}
 use Rattle.eve_audit.specs.Verdict.{IsCommonFault}
@@ -10,21 +9,21 @@ use Rattle.eve_audit.proofs.together.judge_together.Goals as goal
 
 pub returns-in-Err-equal_balances-clause-first : goal.returns-in-Err-equal_balances-clause-first
 returns-in-Err-equal_balances-clause-first c =
-    let t = whole c.args.trace.now in
+    let t = c.args.trace.now in
     found_weaker (IsLeast (IsOutcomeFault t)) (IsFirstOf (IsCommonFault t)) c.in-Err-equal_balances.why
     (λ f least. outcome_first t f c.in-Ok.ensures.none c.in-Ok-majorities.ensures.none least)
     c.in-Err-equal_balances.ensures.least
 
 pub returns-clause-none : goal.returns-clause-none
 returns-clause-none c =
-    let t = whole c.args.trace.now in
+    let t = c.args.trace.now in
     IfOk-weaker c.replies.result (λ _. HasNone (IsReplyFault t)) (λ _. HasNone (IsCommonFault t))
     (λ _ none. none_common t c.in-Ok.ensures.none c.in-Ok-majorities.ensures.none c.in-Ok-equal_balances.ensures.none
     none) c.replies.ensures.none
 
 pub returns-clause-first : goal.returns-clause-first
 returns-clause-first c =
-    let t = whole c.args.trace.now in
+    let t = c.args.trace.now in
     IfErr-weaker c.replies.result (λ why. IfFound why (IsLeast (IsReplyFault t)))
     (λ why. IfFound why (IsFirstOf (IsCommonFault t)))
     (λ why found. found_weaker (IsLeast (IsReplyFault t)) (IsFirstOf (IsCommonFault t)) why

@@ -2,7 +2,6 @@ use Rattle.std.proofs.Common.{◌≡◌, ◌+◌, ◌*◌, length, set, ap, ◌�
 use Rattle.std.proofs.lemmas.List.{length-set}
 use Rattle.eve_frames.specs.Views.{customer_in}
 use Rattle.eve_grammar.specs.Trace.{Customer}
-use Rattle.eve_views.specs.Fronts.{whole}
 use Rattle.eve_chains.proofs.TableLaws.{customer_there}
 use Rattle.eve_chains.proofs.OpeningRows.{opening_more}
 use Rattle.eve_chains.proofs.opening.opening_balances.Goals as goal
@@ -17,8 +16,8 @@ loop-i-preserved c =
     record {
       rows = ap length is ∙ length-set (set c.loop-i.balances (2 * i) z) (2 * i + 1) w
           ∙ length-set c.loop-i.balances (2 * i) z ∙ c.loop-i.invariant.rows;
-      written = rw is (opening_more (whole c.args.trace.now).customers i customer c.loop-i.balances z w
-          (customer_there (whole c.args.trace.now) i c.customer-customer.result.offset customer
+      written = rw is (opening_more c.args.trace.now.customers i customer c.loop-i.balances z w
+          (customer_there c.args.trace.now i c.customer-customer.result.offset customer
           c.customer-customer.ensures.says) c.loop-i.invariant.rows c.loop-i.invariant.written
           c.saving-in-loop-i.ensures c.checking-in-loop-i.ensures);
     }

@@ -2,7 +2,6 @@ use Rattle.std.proofs.Common.{◌≡◌, ◌-◌, ◌∙◌, IfOk, length, ap, s
 use Rattle.std.specs.List.{AllZip, range_with_len}
 use Rattle.rayon.specs.Numbers.{nat_range}
 use Rattle.rayon.proofs.ToStd.{nat_range-All}
-use Rattle.eve_views.specs.Fronts.{whole}
 use Rattle.eve_chains.specs.Unfit.{CanBeJudged, IsLeastOfAttempt}
 use Rattle.eve_chains.proofs.Pieces.{reduced_all}
 use Rattle.eve_chains.proofs.unfit.first_unfit.Goals as goal
@@ -10,7 +9,7 @@ use Rattle.eve_chains.proofs.unfit.first_unfit.Goals as goal
 pub reduce-requires-clause-ready : goal.reduce-requires-clause-ready
 reduce-requires-clause-ready g c κs within =
     let ends = c.into_par_iter.ensures in
-    let t = whole c.args.trace.now in
+    let t = c.args.trace.now in
     let h = c.args.history.now in
     let inside = nat_range-All (CanBeJudged t h) 0 (length h.attempts)
     (λ i low high. record { told = c.requires.history; right = c.requires.right; attempt = high; fate = omega arith })
@@ -21,7 +20,7 @@ reduce-requires-clause-ready g c κs within =
 pub returns : goal.returns
 returns g c =
     let ends = c.into_par_iter.ensures in
-    let t = whole c.args.trace.now in
+    let t = c.args.trace.now in
     let h = c.args.history.now in
     let done = c.reduce.ensures in
     let n = length h.attempts in
@@ -33,7 +32,7 @@ returns g c =
     ∙ c.attempts.ensures.attempts in
     let places : chain.0 ≡ range_with_len 0 n = chain.1 ∙ (λ i. nat_range (from i) (to i))
     ∙ ap (range_with_len 0) all in
-    let found = subst (λ f. AllZip (λ i y. IfOk y (IsLeastOfAttempt f.3.now.items (whole f.2.now) f.1.now i)) chain.0
+    let found = subst (λ f. AllZip (λ i y. IfOk y (IsLeastOfAttempt f.3.now.items f.2.now f.1.now i)) chain.0
     done.0) c.map.ensures.f chain.2 in
     reduced_all _ c.args.names.now.items t h done.0 c.reduce.result fates
     (subst (λ l. AllZip (λ i y. IfOk y (IsLeastOfAttempt c.args.names.now.items t h i)) l done.0) places found)

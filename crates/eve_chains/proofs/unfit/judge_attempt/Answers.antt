@@ -4,7 +4,6 @@ use Rattle.eve_smallbank.specs.Access.{Executed}
 use Rattle.eve_smallbank.specs.SmallBank.{plain}
 use Rattle.eve_grammar.specs.Trace.{Attempt, Batch}
 use Rattle.eve_frames.specs.Views.{batch_in}
-use Rattle.eve_views.specs.Fronts.{whole}
 use Rattle.eve_history.specs.SectionHistory.{ExecutedAttempt}
 use Rattle.eve_chains.proofs.Linked.{some_injective}
 use Rattle.eve_chains.specs.Unfit.{is_settled, records_in, HasRequests, IsLeastUnfit}
@@ -14,7 +13,7 @@ use Rattle.eve_chains.proofs.unfit.judge_attempt.Goals as goal
 pub batch-batch-requires-clause-from_one : goal.batch-batch-requires-clause-from_one
 batch-batch-requires-clause-from_one c =
     let r = c.attempt.ensures.says.0 in
-    let ready = ready_told (whole c.args.trace.now) c.args.history.now.replica c.is_whole.ensures.limits
+    let ready = ready_told c.args.trace.now c.args.history.now.replica c.is_whole.ensures
     c.requires.right c.args.history.now c.args.i r c.fate.result c.requires.told
     c.attempt.ensures.says.1 c.fate.ensures (sym c.is_settled.ensures ∙ c.if-not-is_settled.false) in
     let seq : c.seq.result ≡ r.attempt.seq = c.seq.ensures ∙ ap (λ (a : Attempt). a.seq) c.attempt.ensures.says.3 in
@@ -24,19 +23,19 @@ batch-batch-requires-clause-from_one c =
 pub batch-batch-requires-clause-there : goal.batch-batch-requires-clause-there
 batch-batch-requires-clause-there c =
     let r = c.attempt.ensures.says.0 in
-    let ready = ready_told (whole c.args.trace.now) c.args.history.now.replica c.is_whole.ensures.limits
+    let ready = ready_told c.args.trace.now c.args.history.now.replica c.is_whole.ensures
     c.requires.right c.args.history.now c.args.i r c.fate.result c.requires.told
     c.attempt.ensures.says.1 c.fate.ensures (sym c.is_settled.ensures ∙ c.if-not-is_settled.false) in
     let seq : c.seq.result ≡ r.attempt.seq = c.seq.ensures ∙ ap (λ (a : Attempt). a.seq) c.attempt.ensures.says.3 in
-    let there : r.attempt.seq ≤ length (whole c.args.trace.now).batches = ready.there_is in
+    let there : r.attempt.seq ≤ length c.args.trace.now.batches = ready.there_is in
     omega arith
 
 pub judge_records-requires-clause-requests : goal.judge_records-requires-clause-requests
 judge_records-requires-clause-requests c r at =
-    let t = whole c.args.trace.now in
+    let t = c.args.trace.now in
     let own : c.attempt.ensures.says.0 ≡ r = some_injective c.attempt.ensures.says.0 r
     (sym c.attempt.ensures.says.1 ∙ at) in
-    let ready = ready_told t c.args.history.now.replica c.is_whole.ensures.limits c.requires.right c.args.history.now
+    let ready = ready_told t c.args.history.now.replica c.is_whole.ensures c.requires.right c.args.history.now
     c.args.i r c.fate.result c.requires.told
     at c.fate.ensures (sym c.is_settled.ensures ∙ c.if-not-is_settled.false) in
     let seq : c.seq.result ≡ r.attempt.seq = c.seq.ensures ∙ ap (λ (a : Attempt). a.seq) c.attempt.ensures.says.3
@@ -49,7 +48,7 @@ judge_records-requires-clause-requests c r at =
 
 pub returns : goal.returns
 returns c r fate at its =
-    let t = whole c.args.trace.now in
+    let t = c.args.trace.now in
     let own : c.attempt.ensures.says.0 ≡ r = some_injective c.attempt.ensures.says.0 r
     (sym c.attempt.ensures.says.1 ∙ at) in
     let seq : c.seq.result ≡ r.attempt.seq = c.seq.ensures ∙ ap (λ (a : Attempt). a.seq) c.attempt.ensures.says.3

@@ -1,6 +1,5 @@
 use Rattle.eve_views.specs.Form.{IsLeast}
 use Rattle.std.proofs.Common.{ℕ, sym, subst}
-use Rattle.eve_views.specs.Fronts.{whole}
 use Rattle.eve_chains.specs.Faults.{IsRecordFault}
 use Rattle.eve_chains.specs.Unfit.{IsLeastUnfit}
 use Rattle.eve_chains.proofs.Judged.{judged_of, record_fault, all_fit, no_fault, least_fault, as_told}
@@ -8,32 +7,32 @@ use Rattle.eve_chains.proofs.unfit.records.Goals as goal
 
 pub returns-in-None-clause-fit : goal.returns-in-None-clause-fit
 returns-in-None-clause-fit g c =
-    let t = whole c.args.trace.now in
+    let t = c.args.trace.now in
     let h = c.args.history.now in
     let found = as_told t c.args.names.now.items h c.in_ok-first_unfit.field-0 c.requires.names c.requires.history
     c.in_ok-first_unfit.ensures in
-    all_fit t h.replica c.is_whole.ensures.limits
-    (c.is_right.ensures.section (whole c.args.trace.now) c.args.history.now.replica c.requires.history)
+    all_fit t h.replica c.is_whole.ensures
+    (c.is_right.ensures.section c.args.trace.now c.args.history.now.replica c.requires.history)
     (subst (IsLeastUnfit _ (judged_of t h.replica)) c.in-None.is found)
 
 pub returns-in-None-clause-none : goal.returns-in-None-clause-none
 returns-in-None-clause-none g c =
-    let t = whole c.args.trace.now in
+    let t = c.args.trace.now in
     let h = c.args.history.now in
     let found = as_told t c.args.names.now.items h c.in_ok-first_unfit.field-0 c.requires.names c.requires.history
     c.in_ok-first_unfit.ensures in
-    no_fault t h.replica c.is_whole.ensures.limits
-    (c.is_right.ensures.section (whole c.args.trace.now) c.args.history.now.replica c.requires.history)
+    no_fault t h.replica c.is_whole.ensures
+    (c.is_right.ensures.section c.args.trace.now c.args.history.now.replica c.requires.history)
     (subst (IsLeastUnfit _ (judged_of t h.replica)) c.in-None.is found)
 
 pub returns-in-Some-clause-least : goal.returns-in-Some-clause-least
 returns-in-Some-clause-least g c =
-    let t = whole c.args.trace.now in
+    let t = c.args.trace.now in
     let h = c.args.history.now in
     let found = as_told t c.args.names.now.items h c.in_ok-first_unfit.field-0 c.requires.names c.requires.history
     c.in_ok-first_unfit.ensures in
-    let least = least_fault t h.replica c.is_whole.ensures.limits
-    (c.is_right.ensures.section (whole c.args.trace.now) c.args.history.now.replica c.requires.history)
+    let least = least_fault t h.replica c.is_whole.ensures
+    (c.is_right.ensures.section c.args.trace.now c.args.history.now.replica c.requires.history)
     c.in-Some.offset (subst (IsLeastUnfit _ (judged_of t h.replica)) c.in-Some.is found) in
     subst (λ (e : ℕ). IsLeast (IsRecordFault t h.replica) (record_fault e c.in-Some.offset)) (sym c.replica.ensures)
     least

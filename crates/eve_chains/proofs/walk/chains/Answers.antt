@@ -1,7 +1,6 @@
 use Rattle.std.proofs.Common.{◌≡◌, ℕ, List, [], None, false, refl, sym, subst, ap, ◌∙◌, arith, rules}
 use Rattle.eve_grammar.specs.Trace.{Step}
 use Rattle.eve_grammar.specs.Spelling.{steps_at}
-use Rattle.eve_views.specs.Fronts.{whole}
 use Rattle.eve_chains.specs.declared.walk.Walk.{Walk}
 use Rattle.eve_chains.specs.Walking.{HasWalked}
 use Rattle.eve_chains.proofs.Steps.{none_outside, walked_start, walked_wrong}
@@ -12,11 +11,11 @@ returns-then-replica-section_count-clause-see c =
     let count = c.section_count.ensures in
     let replica = c.replica.ensures in
     let past = c.if-replica-section_count.true in
-    none_outside (whole c.args.trace.now) c.args.history.now.replica (omega arith)
+    none_outside c.args.trace.now c.args.history.now.replica (omega arith)
 
 pub loop-step-init : goal.loop-step-init
 loop-step-init c =
-    let t = whole c.args.trace.now in
+    let t = c.args.trace.now in
     let e = c.args.history.now.replica in
     let w : Walk = record {
       committed = c.in_ok-opening.field-0;
@@ -33,9 +32,9 @@ loop-step-init c =
 
 pub returns-in-Some-first-clause-least : goal.returns-in-Some-first-clause-least
 returns-in-Some-first-clause-least c =
-    let t = whole c.args.trace.now in
+    let t = c.args.trace.now in
     let none : c.loop-step.steps ≡ [] = search rules in
-    walked_wrong t c.args.history.now c.is_whole.ensures.limits c.requires.history c.loop-step.walk
+    walked_wrong t c.args.history.now c.is_whole.ensures c.requires.history c.loop-step.walk
     c.in-Some-first.fault c.requires.right
     (subst (λ (xs : List (ℕ × Step)). HasWalked t c.args.history.now.replica xs c.loop-step.walk) none
     c.loop-step.invariant) c.in-Some-first.is

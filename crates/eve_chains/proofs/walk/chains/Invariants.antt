@@ -1,10 +1,9 @@
 use Rattle.std.proofs.Common.{length}
-use Rattle.eve_views.specs.Fronts.{whole}
 use Rattle.eve_chains.specs.Walking.{HasWalked}
 use Rattle.eve_chains.proofs.walk.chains.Given as goal
 
 abbrev pub invariant-loop-step : goal.invariant-loop-step
-invariant-loop-step l = HasWalked (whole l.trace) l.history.replica l.steps l.walk
+invariant-loop-step l = HasWalked l.trace l.history.replica l.steps l.walk
 
 abbrev pub decreases-loop-step : goal.decreases-loop-step
 decreases-loop-step l = length l.steps

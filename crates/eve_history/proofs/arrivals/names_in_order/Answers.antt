@@ -8,7 +8,6 @@ use Rattle.eve_views.specs.declared.fault.Code.TheVariants as code
 use Rattle.eve_views.specs.declared.fault.CheckFault.{CheckFault}
 use Rattle.eve_views.specs.declared.fault.CheckFault.TheVariants.{Found}
 use Rattle.eve_views.specs.Form.{IfFound, IsLeast}
-use Rattle.eve_views.specs.Fronts.{whole}
 use Rattle.eve_history.specs.Faults.{name_at, IsOrderFault}
 use Rattle.eve_history.proofs.OrderLaws.{naming_start, naming_more, naming_room, is_named, naming_end, naming_apart}
 use Rattle.eve_history.proofs.OrderLaws.{fault, named_again}
@@ -19,14 +18,14 @@ with_name names name = record names { items = names.items ++ name ∷ [] }
 
 pub loop-i-init : goal.loop-i-init
 loop-i-init c =
-    let count : c.head-count.result.customers ≡ length (whole c.args.trace.now).customers =
-    ap (λ (h : Head). h.customers) (c.head-count.ensures ∙ sym c.is_whole.ensures.head) in
-    naming_start (whole c.args.trace.now) c.new-names.result (ap (λ n. n.items) c.new-names.ensures)
+    let count : c.head-count.result.customers ≡ length c.args.trace.now.customers =
+    ap (λ (h : Head). h.customers) c.head-count.ensures in
+    naming_start c.args.trace.now c.new-names.result (ap (λ n. n.items) c.new-names.ensures)
     (ap (λ n. n.limit) c.new-names.ensures ∙ count)
 
 pub returns-in-Err-SameName-clause-fault : goal.returns-in-Err-SameName-clause-fault
 returns-in-Err-SameName-clause-fault c =
-    let t = whole c.args.trace.now in
+    let t = c.args.trace.now in
     let said : ℕ × Customer = (c.customer-customer.result.offset, customer_in c.customer-customer.result.bytes.now) in
     let there : Contains c.loop-i.names.items c.name.result.now =
     (c.in-Err-SameName.ensures.same_name.0 (ap Err c.in-Err-SameName.field-0-is)).1 in
@@ -38,19 +37,19 @@ returns-in-Err-SameName-clause-fault c =
 
 pub unreachable-requires : goal.unreachable-requires
 unreachable-requires c =
-    let t = whole c.args.trace.now in
+    let t = c.args.trace.now in
     let said : ℕ × Customer = (c.customer-customer.result.offset, customer_in c.customer-customer.result.bytes.now) in
     let bad : is_name c.name.result.now ≡ false = c.in-Err-BadName.ensures.bad_name.0
     (ap Err c.in-Err-BadName.field-0-is) in
     let named : is_name c.name.result.now ≡ true = ap is_name c.name.ensures
-    ∙ is_named t c.loop-i.i said c.is_whole.ensures.limits c.customer-customer.ensures.says in
+    ∙ is_named t c.loop-i.i said c.is_whole.ensures c.customer-customer.ensures.says in
     both_ways (is_name c.name.result.now) bad named
 
 pub unreachable-requires-in-Err-Full : goal.unreachable-requires-in-Err-Full
 unreachable-requires-in-Err-Full c =
-    let t = whole c.args.trace.now in
+    let t = c.args.trace.now in
     let count : c.head-count.result.customers ≡ length t.customers =
-    ap (λ (h : Head). h.customers) (c.head-count.ensures ∙ sym c.is_whole.ensures.head) in
+    ap (λ (h : Head). h.customers) c.head-count.ensures in
     let full : length c.loop-i.names.items ≡ c.loop-i.names.limit =
     (c.in-Err-Full.ensures.full.0 (ap Err c.in-Err-Full.field-0-is)).2 in
     let room = naming_room t c.loop-i.i c.loop-i.names c.loop-i.invariant (omega arith) in
@@ -58,7 +57,7 @@ unreachable-requires-in-Err-Full c =
 
 pub loop-i-preserved : goal.loop-i-preserved
 loop-i-preserved c =
-    let t = whole c.args.trace.now in
+    let t = c.args.trace.now in
     let said : ℕ × Customer = (c.customer-customer.result.offset, customer_in c.customer-customer.result.bytes.now) in
     let new : ¬ Contains c.loop-i.names.items (name_at said) =
     subst (λ (n : List ℕ). ¬ Contains c.loop-i.names.items n) c.name.ensures c.in-Ok.ensures.taken.new in
@@ -69,12 +68,12 @@ loop-i-preserved c =
 
 pub returns-clause-names : goal.returns-clause-names
 returns-clause-names c =
-    let count : c.head-count.result.customers ≡ length (whole c.args.trace.now).customers =
-    ap (λ (h : Head). h.customers) (c.head-count.ensures ∙ sym c.is_whole.ensures.head) in
-    naming_end (whole c.args.trace.now) c.loop-i.i c.loop-i.names c.loop-i.invariant (omega arith)
+    let count : c.head-count.result.customers ≡ length c.args.trace.now.customers =
+    ap (λ (h : Head). h.customers) c.head-count.ensures in
+    naming_end c.args.trace.now c.loop-i.i c.loop-i.names c.loop-i.invariant (omega arith)
 
 pub returns-clause-apart : goal.returns-clause-apart
 returns-clause-apart c =
-    let count : c.head-count.result.customers ≡ length (whole c.args.trace.now).customers =
-    ap (λ (h : Head). h.customers) (c.head-count.ensures ∙ sym c.is_whole.ensures.head) in
-    naming_apart (whole c.args.trace.now) c.loop-i.i c.loop-i.names c.loop-i.invariant (omega arith)
+    let count : c.head-count.result.customers ≡ length c.args.trace.now.customers =
+    ap (λ (h : Head). h.customers) c.head-count.ensures in
+    naming_apart c.args.trace.now c.loop-i.i c.loop-i.names c.loop-i.invariant (omega arith)

@@ -1,16 +1,15 @@
-use Rattle.std.proofs.Common.{◌≡◌, ℕ, eqb, length, ap, sym, ◌∙◌, arith}
+use Rattle.std.proofs.Common.{◌≡◌, ℕ, eqb, length, ap, arith}
 use Rattle.indexmap.specs.IndexMap.{get}
 use Rattle.eve_grammar.specs.Trace.{Head, Batch}
 use Rattle.eve_grammar.specs.Spelling.{batches_at}
 use Rattle.eve_frames.specs.Views.{batch_in}
-use Rattle.eve_views.specs.Fronts.{whole}
 use Rattle.eve_history.proofs.OrderLaws.{batch_there}
 use Rattle.eve_history.proofs.Rising.{risen_more, risen_apart}
 use Rattle.eve_history.proofs.arrivals.numbers_rise.Goals as goal
 
 pub loop-n-preserved : goal.loop-n-preserved
 loop-n-preserved c =
-    let t = whole c.args.trace.now in
+    let t = c.args.trace.now in
     let said : ℕ × (ℕ × Batch) = (c.batch-batch.result.offset, batch_in c.batch-batch.result.bytes.now) in
     risen_more t c.loop-n.n (get eqb c.loop-n.greatest) (get eqb c.are_above.new.greatest) said c.loop-n.invariant
     (batch_there (batches_at t) c.loop-n.n said c.batch-batch.ensures.says)
@@ -18,7 +17,7 @@ loop-n-preserved c =
 
 pub returns-clause-apart : goal.returns-clause-apart
 returns-clause-apart c = λ _.
-    let t = whole c.args.trace.now in
+    let t = c.args.trace.now in
     let count : c.head-n-end.result.batches ≡ length t.batches =
-    ap (λ (h : Head). h.batches) (c.head-n-end.ensures ∙ sym c.is_whole.ensures.head) in
+    ap (λ (h : Head). h.batches) c.head-n-end.ensures in
     risen_apart t c.loop-n.n (get eqb c.loop-n.greatest) c.loop-n.invariant (omega arith)

@@ -1,8 +1,7 @@
 use Rattle.std.proofs.Common.{eqb}
 use Rattle.indexmap.specs.IndexMap.{get}
-use Rattle.eve_views.specs.Fronts.{whole}
 use Rattle.eve_history.proofs.Rising.{RisenTo}
 use Rattle.eve_history.proofs.arrivals.numbers_rise.Given as goal
 
 abbrev pub invariant-loop-n : goal.invariant-loop-n
-invariant-loop-n l = RisenTo (whole l.trace) l.n (get eqb l.greatest)
+invariant-loop-n l = RisenTo l.trace l.n (get eqb l.greatest)

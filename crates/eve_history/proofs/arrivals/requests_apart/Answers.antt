@@ -7,7 +7,6 @@ use Rattle.eve_views.specs.declared.fault.Code.TheVariants as code
 use Rattle.eve_views.specs.declared.fault.CheckFault.{CheckFault}
 use Rattle.eve_views.specs.declared.fault.CheckFault.TheVariants.{Found}
 use Rattle.eve_views.specs.Form.{IfFound, IsLeast}
-use Rattle.eve_views.specs.Fronts.{whole}
 use Rattle.eve_history.specs.Faults.{IsOrderFault}
 use Rattle.eve_history.proofs.OrderLaws.{Asking, asking_start, asking_more, asking_apart, asked_again, batch_there}
 use Rattle.eve_history.proofs.OrderLaws.{fault}
@@ -16,11 +15,11 @@ use Rattle.eve_history.proofs.arrivals.requests_apart.Goals as goal
 pub loop-i-init : goal.loop-i-init
 loop-i-init c =
     let none : c.with_hasher-noted.result.keys ≡ [] = search rules in
-    subst (Asking (whole c.args.trace.now) 0) (sym none) (asking_start (whole c.args.trace.now))
+    subst (Asking c.args.trace.now 0) (sym none) (asking_start c.args.trace.now)
 
 pub returns-then-not-branch-clause-fault : goal.returns-then-not-branch-clause-fault
 returns-then-not-branch-clause-fault c =
-    let t = whole c.args.trace.now in
+    let t = c.args.trace.now in
     let said : ℕ × (ℕ × Batch) = (c.batch-batch.result.offset, batch_in c.batch-batch.result.bytes.now) in
     subst (λ (e : CheckFault). IfFound e (IsLeast (IsOrderFault t)))
     (sym (c.outside.ensures ∙ ap (λ (o : ℕ). Found (fault code.SameRequest o)) c.offset.ensures))
@@ -30,7 +29,7 @@ returns-then-not-branch-clause-fault c =
 
 pub loop-i-preserved : goal.loop-i-preserved
 loop-i-preserved c =
-    let t = whole c.args.trace.now in
+    let t = c.args.trace.now in
     let said : ℕ × (ℕ × Batch) = (c.batch-batch.result.offset, batch_in c.batch-batch.result.bytes.now) in
     asking_more t c.loop-i.i c.loop-i.noted.keys c.are_new.new.noted.keys said c.loop-i.invariant
     (batch_there (batches_at t) c.loop-i.i said c.batch-batch.ensures.says)
@@ -38,9 +37,9 @@ loop-i-preserved c =
 
 pub returns-clause-apart : goal.returns-clause-apart
 returns-clause-apart c =
-    let t = whole c.args.trace.now in
+    let t = c.args.trace.now in
     let count : c.head-i-end.result.batches ≡ length t.batches =
-    ap (λ (h : Head). h.batches) (c.head-i-end.ensures ∙ sym c.is_whole.ensures.head) in
+    ap (λ (h : Head). h.batches) c.head-i-end.ensures in
     asking_apart t c.loop-i.i c.loop-i.noted.keys c.loop-i.invariant (omega arith)
 
 pub returns-then-branch-clause-apart : goal.returns-then-branch-clause-apart

@@ -1,7 +1,6 @@
 -- What is told of the replicas so far.
-use Rattle.eve_views.specs.Fronts.{whole}
 use Rattle.eve_limits.specs.SectionHistories.{AreTold}
 use Rattle.eve_limits.proofs.together.read_replicas.Given as goal
 
 abbrev pub invariant-replicas : goal.invariant-replicas
-invariant-replicas l = AreTold (whole l.trace) l.e l.histories.items l.settled.items
+invariant-replicas l = AreTold l.trace l.e l.histories.items l.settled.items

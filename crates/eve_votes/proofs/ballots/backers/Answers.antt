@@ -4,7 +4,6 @@ use Rattle.eve_grammar.specs.Trace.{Head}
 use Rattle.eve_grammar.specs.Bodies.{choice}
 use Rattle.eve_grammar.specs.Spelling.{votes_of}
 use Rattle.eve_frames.specs.Views.{vote_in}
-use Rattle.eve_views.specs.Fronts.{whole}
 use Rattle.eve_votes.specs.Votes.{same_choice}
 use Rattle.eve_votes.specs.Ballots.{IsStart}
 use Rattle.eve_votes.specs.declared.ballots.Ballot.{Ballot}
@@ -25,11 +24,11 @@ vote_at-requires-clause-place c =
     c.if-is_at.true)).0 in
     let b = get_or xs s none in
     let only = c.requires.each s b (slice_get-get_or xs s none there) in
-    slice_get_within (votes_of (whole c.args.trace.now) b.verifier) b.place only.vote only.there
+    slice_get_within (votes_of c.args.trace.now b.verifier) b.place only.vote only.there
 
 pub loop-verifier-preserved : goal.loop-verifier-preserved
 loop-verifier-preserved c =
-    let t = whole c.args.trace.now in
+    let t = c.args.trace.now in
     let xs = c.args.ballots.now in
     let n = c.args.seq in
     let view = c.args.view in
@@ -37,7 +36,7 @@ loop-verifier-preserved c =
     let s = c.loop-verifier.at in
     let ch = choice c.args.choice in
     let many : c.head-verifiers.result.verifiers ≡ length t.verifiers =
-    ap (λ (h : Head). h.verifiers) (c.head-verifiers.ensures ∙ sym c.is_whole.ensures.head) in
+    ap (λ (h : Head). h.verifiers) c.head-verifiers.ensures in
     let there : v < length t.verifiers = omega (arith, many, c.loop-verifier-test.true) in
     elim c.if-is_at.branch [
       | then-is_at w ↦

@@ -1,6 +1,5 @@
 use Rattle.std.proofs.Common.{◌≡◌, take, count_by, filter}
 use Rattle.eve_grammar.specs.Bodies.{choice}
-use Rattle.eve_views.specs.Fronts.{whole}
 use Rattle.eve_votes.specs.Votes.{is_only, is_vote_on}
 use Rattle.eve_votes.specs.Ballots.{IsStart}
 use Rattle.eve_votes.proofs.ballots.backers.Given as goal
@@ -8,6 +7,6 @@ use Rattle.eve_votes.proofs.ballots.backers.Given as goal
 abbrev pub invariant-loop-verifier : goal.invariant-loop-verifier
 invariant-loop-verifier l = record {
   count : l.count ≡ count_by (λ votes. is_only (choice l.choice) (filter (is_vote_on l.seq l.view) votes))
-      (take l.verifier (whole l.trace).verifiers);
+      (take l.verifier l.trace.verifiers);
   start : IsStart l.ballots l.at l.seq l.view l.verifier;
 }

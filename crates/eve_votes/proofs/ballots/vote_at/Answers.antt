@@ -1,12 +1,11 @@
 use Rattle.std.proofs.Common.{length, ap, arith}
-use Rattle.eve_views.specs.Fronts.{whole}
 use Rattle.eve_votes.proofs.Deciding.{vote_count}
 use Rattle.eve_votes.proofs.ballots.vote_at.Goals as goal
 
 pub get-requires : goal.get-requires
 get-requires c = omega (
   arith,
-  vote_count (whole c.args.trace.now) c.args.ballot.verifier,
+  vote_count c.args.trace.now c.args.ballot.verifier,
   ap length c.votes.ensures,
   c.requires.place,
 )

@@ -1,8 +1,7 @@
-use Rattle.std.proofs.Common.{◌≡◌, ℕ, ◌+◌, ◌≤◌, length, sym, ap, ◌∙◌, arith}
+use Rattle.std.proofs.Common.{◌≡◌, ℕ, ◌+◌, ◌≤◌, length, ap, arith}
 use Rattle.std.specs.List.{All}
 use Rattle.eve_grammar.specs.Trace.{Head}
 use Rattle.eve_grammar.specs.Spelling.{votes_of}
-use Rattle.eve_views.specs.Fronts.{whole}
 use Rattle.eve_votes.specs.Decisions.{Agrees, AreDecisions}
 use Rattle.eve_votes.proofs.Deciding.{first_judged, agrees_more, quorum_limits, clashes_below, decisions_exact}
 use Rattle.eve_votes.proofs.Deciding.{IfNone_from}
@@ -10,14 +9,14 @@ use Rattle.eve_votes.proofs.decisions.decide.Goals as goal
 
 pub loop-verifier-init : goal.loop-verifier-init
 loop-verifier-init c = record {
-  judging = first_judged (whole c.args.trace.now) c.args.decisions.now.items c.requires.long c.requires.none;
+  judging = first_judged c.args.trace.now c.args.decisions.now.items c.requires.long c.requires.none;
   agrees = λ u less. absurd (omega (arith, less));
 }
 
 pub loop-verifier-preserved : goal.loop-verifier-preserved
 loop-verifier-preserved c = record {
   judging = c.judge_votes-least.ensures.judging;
-  agrees = agrees_more (whole c.args.trace.now) c.loop-verifier.decisions.items c.judge_votes-least.new.decisions.items
+  agrees = agrees_more c.args.trace.now c.loop-verifier.decisions.items c.judge_votes-least.new.decisions.items
       c.loop-verifier.least c.judge_votes-least.result c.loop-verifier.verifier
       c.judge_votes-least.ensures.keeps c.judge_votes-least.ensures.lowers c.loop-verifier.invariant.agrees
       c.judge_votes-least.ensures.agrees;
@@ -25,12 +24,12 @@ loop-verifier-preserved c = record {
 
 pub returns-clause-all : goal.returns-clause-all
 returns-clause-all c =
-    let t = whole c.args.trace.now in
+    let t = c.args.trace.now in
     let many : c.head-head.result.verifiers ≡ length t.verifiers =
-    ap (λ (h : Head). h.verifiers) (c.head-head.ensures ∙ sym c.is_whole.ensures.head) in
+    ap (λ (h : Head). h.verifiers) c.head-head.ensures in
     let quorum : c.head-head.result.quorum ≡ t.quorum =
-    ap (λ (h : Head). h.quorum) (c.head-head.ensures ∙ sym c.is_whole.ensures.head) in
-    let most = (quorum_limits t c.is_whole.ensures.limits).1 in
+    ap (λ (h : Head). h.quorum) c.head-head.ensures in
+    let most = (quorum_limits t c.is_whole.ensures).1 in
     let some : 1 ≤ t.quorum = omega (arith, most) in
     let all : (v : ℕ) → v + t.quorum ≤ length t.verifiers
     → All (Agrees t c.loop-verifier.decisions.items c.loop-verifier.least) (votes_of t v) =
@@ -39,12 +38,12 @@ returns-clause-all c =
 
 pub returns-clause-decided : goal.returns-clause-decided
 returns-clause-decided c =
-    let t = whole c.args.trace.now in
+    let t = c.args.trace.now in
     let many : c.head-head.result.verifiers ≡ length t.verifiers =
-    ap (λ (h : Head). h.verifiers) (c.head-head.ensures ∙ sym c.is_whole.ensures.head) in
+    ap (λ (h : Head). h.verifiers) c.head-head.ensures in
     let quorum : c.head-head.result.quorum ≡ t.quorum =
-    ap (λ (h : Head). h.quorum) (c.head-head.ensures ∙ sym c.is_whole.ensures.head) in
-    let most = (quorum_limits t c.is_whole.ensures.limits).1 in
+    ap (λ (h : Head). h.quorum) c.head-head.ensures in
+    let most = (quorum_limits t c.is_whole.ensures).1 in
     let some : 1 ≤ t.quorum = omega (arith, most) in
     let all : (v : ℕ) → v + t.quorum ≤ length t.verifiers
     → All (Agrees t c.loop-verifier.decisions.items c.loop-verifier.least) (votes_of t v) =
@@ -55,9 +54,9 @@ returns-clause-decided c =
 
 pub overflow_sub-examined : goal.overflow_sub-examined
 overflow_sub-examined c =
-    let t = whole c.args.trace.now in
+    let t = c.args.trace.now in
     let many : c.head-head.result.verifiers ≡ length t.verifiers =
-    ap (λ (h : Head). h.verifiers) (c.head-head.ensures ∙ sym c.is_whole.ensures.head) in
+    ap (λ (h : Head). h.verifiers) c.head-head.ensures in
     let quorum : c.head-head.result.quorum ≡ t.quorum =
-    ap (λ (h : Head). h.quorum) (c.head-head.ensures ∙ sym c.is_whole.ensures.head) in
-    omega (arith, many, quorum, (quorum_limits t c.is_whole.ensures.limits).0)
+    ap (λ (h : Head). h.quorum) c.head-head.ensures in
+    omega (arith, many, quorum, (quorum_limits t c.is_whole.ensures).0)

@@ -1,7 +1,6 @@
 use Rattle.std.proofs.Common.{ℕ, arith, Option, is_some, refl, sym, ap, ◌∙◌, subst}
 use Rattle.eve_grammar.specs.Bodies.{choice}
 use Rattle.eve_frames.specs.Views.{vote_in}
-use Rattle.eve_views.specs.Fronts.{whole}
 use Rattle.eve_votes.specs.Least.{lower}
 use Rattle.eve_votes.specs.Decisions.{Judging, Agrees}
 use Rattle.eve_votes.specs.declared.decisions.Decision.{Decision}
@@ -11,7 +10,7 @@ use Rattle.eve_votes.proofs.decisions.judge.Goals as goal
 
 pub returns-then-known-view-clause-agrees : goal.returns-then-known-view-clause-agrees
 returns-then-known-view-clause-agrees c =
-    let t = whole c.args.trace.now in
+    let t = c.args.trace.now in
     let ds = c.args.decisions.now.items in
     let w = vote_in c.args.vote.bytes.now in
     let judged = judged_of t ds c.args.least w c.seq-seq.result c.view-view.result c.in-ForCommit.token.now
@@ -22,7 +21,7 @@ returns-then-known-view-clause-agrees c =
 
 pub returns-then-is_backed-clause-judging : goal.returns-then-is_backed-clause-judging
 returns-then-is_backed-clause-judging c =
-    let t = whole c.args.trace.now in
+    let t = c.args.trace.now in
     let ds = c.args.decisions.now.items in
     let w = vote_in c.args.vote.bytes.now in
     let right = right_vote _ w c.requires.right in
@@ -37,7 +36,7 @@ returns-then-is_backed-clause-judging c =
 
 pub returns-then-is_backed-clause-agrees : goal.returns-then-is_backed-clause-agrees
 returns-then-is_backed-clause-agrees c =
-    let t = whole c.args.trace.now in
+    let t = c.args.trace.now in
     let ds = c.args.decisions.now.items in
     let w = vote_in c.args.vote.bytes.now in
     let right = right_vote _ w c.requires.right in
@@ -51,7 +50,7 @@ returns-then-is_backed-clause-agrees c =
 
 pub returns-in-Some-clause-agrees : goal.returns-in-Some-clause-agrees
 returns-in-Some-clause-agrees c =
-    let t = whole c.args.trace.now in
+    let t = c.args.trace.now in
     let ds = c.args.decisions.now.items in
     let w = vote_in c.args.vote.bytes.now in
     let judged = judged_of t ds c.args.least w c.seq-seq.result c.view-view.result c.in-ForCommit.token.now
@@ -62,7 +61,7 @@ returns-in-Some-clause-agrees c =
 
 pub returns-then-not-is_backed-clause-agrees : goal.returns-then-not-is_backed-clause-agrees
 returns-then-not-is_backed-clause-agrees c =
-    let t = whole c.args.trace.now in
+    let t = c.args.trace.now in
     let ds = c.args.decisions.now.items in
     let w = vote_in c.args.vote.bytes.now in
     let judged = judged_of t ds c.args.least w c.seq-seq.result c.view-view.result c.in-ForCommit.token.now
@@ -73,7 +72,7 @@ returns-then-not-is_backed-clause-agrees c =
 
 pub returns-clause-judging : goal.returns-clause-judging
 returns-clause-judging c =
-    let t = whole c.args.trace.now in
+    let t = c.args.trace.now in
     let ds = c.args.decisions.now.items in
     let w = vote_in c.args.vote.bytes.now in
     let right = right_vote _ w c.requires.right in
@@ -87,7 +86,7 @@ returns-clause-judging c =
 
 pub returns-clause-keeps : goal.returns-clause-keeps
 returns-clause-keeps c =
-    let t = whole c.args.trace.now in
+    let t = c.args.trace.now in
     let ds = c.args.decisions.now.items in
     let w = vote_in c.args.vote.bytes.now in
     let d : Decision = record { view = c.view-view.result; token = c.in-ForCommit.token } in
@@ -99,7 +98,7 @@ returns-clause-keeps c =
 
 pub returns-clause-agrees : goal.returns-clause-agrees
 returns-clause-agrees c =
-    let t = whole c.args.trace.now in
+    let t = c.args.trace.now in
     let ds = c.args.decisions.now.items in
     let w = vote_in c.args.vote.bytes.now in
     let d : Decision = record { view = c.view-view.result; token = c.in-ForCommit.token } in

@@ -6,7 +6,6 @@ use Rattle.std.proofs.lemmas.Option.{slice_get_within}
 use Rattle.eve_grammar.specs.Trace.{Vote}
 use Rattle.eve_grammar.specs.Spelling.{votes_of}
 use Rattle.eve_frames.specs.Views.{vote_in}
-use Rattle.eve_views.specs.Fronts.{whole}
 use Rattle.eve_votes.specs.Ballots.{ballot, ballots_from}
 use Rattle.eve_votes.specs.declared.ballots.Ballot.{Ballot}
 use Rattle.eve_votes.proofs.Places.{take_next}
@@ -16,7 +15,7 @@ use Rattle.eve_votes.proofs.voting.append.Goals as goal
 
 pub loop-place-preserved : goal.loop-place-preserved
 loop-place-preserved c =
-    let t = whole c.args.trace.now in
+    let t = c.args.trace.now in
     let v = c.args.verifier in
     let i = c.loop-place.place in
     let w = vote_in c.get-vote.result.bytes.now in
@@ -40,7 +39,7 @@ loop-place-preserved c =
 
 pub returns : goal.returns
 returns c =
-    let t = whole c.args.trace.now in
+    let t = c.args.trace.now in
     let v = c.args.verifier in
     let past : length (votes_of t v) ≤ c.loop-place.place = omega (
       arith,

@@ -1,7 +1,6 @@
 use Rattle.std.proofs.Common.{◌≡◌, ℕ, List, length, take, drop, ◌++◌, sym, subst, ap, ◌∙◌, append-nil, arith}
 use Rattle.std.specs.List.Sorted.{IsPermutation}
 use Rattle.std.proofs.lemmas.List.{take_all, drop_all}
-use Rattle.eve_views.specs.Fronts.{whole}
 use Rattle.eve_votes.specs.Ballots.{ballots_of, HasVotes}
 use Rattle.eve_votes.specs.declared.ballots.Ballot.{Ballot}
 use Rattle.eve_votes.proofs.InOrder.{in_order}
@@ -16,7 +15,7 @@ whole_slice xs ys n same many =
 
 pub returns : goal.returns
 returns c =
-    let t = whole c.args.trace.now in
+    let t = c.args.trace.now in
     let xs = c.in_ok-ballots.ballots.items in
     let ys = c.sort_unstable.new.self in
     let many = c.sort_unstable.ensures.len in

@@ -3,7 +3,6 @@ use Rattle.std.proofs.lemmas.Bool.{false≢true}
 use Rattle.std.proofs.lemmas.Option.{slice_get-get_or, slice_get_within}
 use Rattle.eve_grammar.specs.Spelling.{votes_of}
 use Rattle.eve_frames.specs.Views.{vote_in}
-use Rattle.eve_views.specs.Fronts.{whole}
 use Rattle.eve_votes.specs.Least.{lower}
 use Rattle.eve_votes.specs.Ballots.{Follows}
 use Rattle.eve_votes.specs.declared.ballots.Ballot.{Ballot}
@@ -21,18 +20,18 @@ vote_at-requires-clause-verifier c =
     let b = get_or c.args.ballots.now c.loop-i.i none in
     let is = c.requires.cast.each c.loop-i.i b (slice_get-get_or c.args.ballots.now c.loop-i.i none c.loop-i-test.true)
     in
-    verifier_there (whole c.args.trace.now) b.verifier b.place is.vote is.there
+    verifier_there c.args.trace.now b.verifier b.place is.vote is.there
 
 pub vote_at-requires-clause-place : goal.vote_at-requires-clause-place
 vote_at-requires-clause-place c =
     let b = get_or c.args.ballots.now c.loop-i.i none in
     let is = c.requires.cast.each c.loop-i.i b (slice_get-get_or c.args.ballots.now c.loop-i.i none c.loop-i-test.true)
     in
-    slice_get_within (votes_of (whole c.args.trace.now) b.verifier) b.place is.vote is.there
+    slice_get_within (votes_of c.args.trace.now b.verifier) b.place is.vote is.there
 
 pub loop-i-preserved : goal.loop-i-preserved
 loop-i-preserved c =
-    let t = whole c.args.trace.now in
+    let t = c.args.trace.now in
     let xs = c.args.ballots.now in
     let i = c.loop-i.i in
     let b = get_or xs i none in
@@ -67,9 +66,9 @@ loop-i-preserved c =
     ]
 
 pub returns-clause-only : goal.returns-clause-only
-returns-clause-only c = sifted_cast (whole c.args.trace.now) c.args.ballots.now c.requires.cast c.loop-i.i
+returns-clause-only c = sifted_cast c.args.trace.now c.args.ballots.now c.requires.cast c.loop-i.i
     c.loop-i.only.items c.loop-i.least (omega arith) c.loop-i.invariant
 
 pub returns-clause-all : goal.returns-clause-all
-returns-clause-all c = sifted_all (whole c.args.trace.now) c.args.ballots.now c.requires.cast c.loop-i.i
+returns-clause-all c = sifted_all c.args.trace.now c.args.ballots.now c.requires.cast c.loop-i.i
     c.loop-i.only.items c.loop-i.least (omega arith) c.loop-i.invariant

@@ -1,6 +1,5 @@
-use Rattle.eve_views.specs.Fronts.{whole}
 use Rattle.eve_votes.proofs.Sifting.{Sifted}
 use Rattle.eve_votes.proofs.voting.sift.Given as goal
 
 abbrev pub invariant-loop-i : goal.invariant-loop-i
-invariant-loop-i l = Sifted (whole l.trace) l.ballots l.i l.only.items l.least
+invariant-loop-i l = Sifted l.trace l.ballots l.i l.only.items l.least

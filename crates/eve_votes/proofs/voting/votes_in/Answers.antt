@@ -2,7 +2,6 @@ use Rattle.std.proofs.Common.{◌≡◌, ℕ, ◌+◌, ◌<◌, ◌++◌, List, 
 use Rattle.std.proofs.lemmas.List.{take_more, length-take-le}
 use Rattle.eve_grammar.specs.Trace.{Head}
 use Rattle.eve_grammar.specs.Spelling.{votes_of}
-use Rattle.eve_views.specs.Fronts.{whole}
 use Rattle.eve_votes.specs.Ballots.{ballots_from, ballots_among}
 use Rattle.eve_votes.specs.declared.ballots.Ballot.{Ballot}
 use Rattle.eve_votes.proofs.Gathered.{among_more}
@@ -10,10 +9,10 @@ use Rattle.eve_votes.proofs.voting.votes_in.Goals as goal
 
 pub loop-verifier-preserved : goal.loop-verifier-preserved
 loop-verifier-preserved c =
-    let t = whole c.args.trace.now in
+    let t = c.args.trace.now in
     let v = c.loop-verifier.verifier in
     let many : c.head-verifier-end.result.verifiers ≡ length t.verifiers =
-    ap (λ (h : Head). h.verifiers) (c.head-verifier-end.ensures ∙ sym c.is_whole.ensures.head) in
+    ap (λ (h : Head). h.verifiers) c.head-verifier-end.ensures in
     let there : v < length t.verifiers = omega (arith, many, c.loop-verifier-test.true) in
     let front : length (take v t.verifiers) ≡ v = length-take-le v t.verifiers (omega arith) in
     let number : 0 + length (take v t.verifiers) ≡ v = omega arith in

@@ -1,7 +1,6 @@
 use Rattle.std.proofs.Common.{ℕ, map, sym, ap, ◌∙◌}
 use Rattle.eve_grammar.specs.Trace.{Batch}
 use Rattle.eve_frames.specs.Views.{batch_in}
-use Rattle.eve_views.specs.Fronts.{whole}
 use Rattle.eve_history.specs.Faults.{request_id}
 use Rattle.eve_history.proofs.Finding.{batch_is, batch_fits}
 use Rattle.eve_agree.proofs.request_ids.RequestIds.turn_to.Goals as goal
@@ -9,7 +8,7 @@ use Rattle.eve_agree.proofs.request_ids.RequestIds.turn_to.Goals as goal
 pub read-self-requires : goal.read-self-requires
 read-self-requires c =
     let b : ℕ × (ℕ × Batch) = (c.batch.result.offset, batch_in c.batch.result.bytes.now) in
-    batch_fits (whole c.args.trace.now) c.args.batch b c.is_whole.ensures.limits c.batch.ensures.says
+    batch_fits c.args.trace.now c.args.batch b c.is_whole.ensures c.batch.ensures.says
 
 pub returns-then-self-batch-clause-new : goal.returns-then-self-batch-clause-new
 returns-then-self-batch-clause-new c =
@@ -17,5 +16,5 @@ returns-then-self-batch-clause-new c =
     record {
       few = c.read-self.ensures.few;
       request_ids = λ one. c.read-self.ensures.kept ∙ ap (λ (x : Batch). map request_id x.requests)
-          (sym (batch_is (whole c.args.trace.now) c.args.batch b c.batch.ensures.says));
+          (sym (batch_is c.args.trace.now c.args.batch b c.batch.ensures.says));
     }

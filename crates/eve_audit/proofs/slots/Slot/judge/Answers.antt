@@ -1,5 +1,4 @@
 use Rattle.std.proofs.Common.{subst, sym}
-use Rattle.eve_views.specs.Fronts.{whole}
 use Rattle.eve_audit.specs.Findings.{IsAnswerOf, finding}
 use Rattle.eve_audit.specs.declared.slots.Finding.{Finding}
 use Rattle.eve_audit.proofs.Found.{all_push}
@@ -8,7 +7,7 @@ use Rattle.eve_audit.proofs.slots.Slot.judge.Goals as goal
 
 pub returns : goal.returns
 returns g c =
-    let t = whole c.args.trace.now in
+    let t = c.args.trace.now in
     let answer = c.match-judge_replica.answer in
     let is : IsAnswerOf t c.args.e answer = elim c.match-judge_replica.branch [
       | in-Ok w ↦ subst (IsAnswerOf t c.args.e) (sym w.answer-is) w.in-Ok.ensures.piece

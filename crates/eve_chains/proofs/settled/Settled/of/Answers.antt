@@ -3,7 +3,6 @@ use Rattle.std.proofs.Common.{rules}
 use Rattle.std.proofs.lemmas.List.{length-map}
 use Rattle.eve_grammar.specs.Trace.{head_of}
 use Rattle.eve_grammar.specs.Limits.{row_count}
-use Rattle.eve_views.specs.Fronts.{whole}
 use Rattle.eve_history.specs.declared.fate.Fate.TheVariants.{Committed}
 use Rattle.eve_chains.specs.Along.{said, all_said}
 use Rattle.eve_chains.specs.Settling.{settling}
@@ -14,7 +13,7 @@ use Rattle.eve_chains.proofs.settled.Settled.of.Goals.{then-eq+in_ok-copy_ordere
 
 pub loop-i-preserved : goal.loop-i-preserved
 loop-i-preserved c =
-    let t = whole c.args.trace.now in
+    let t = c.args.trace.now in
     let v = c.args.history.now in
     let i = c.loop-i.i in
     let rows = row_count (head_of t) in
@@ -30,7 +29,7 @@ loop-i-preserved c =
           ∙ sym (length-map w.copy_ordered.new.records.items said) in
           rw (w.records-is, w.ends-is)
           (copied_more t v.replica v i rows (all_said c.loop-i.records.items) ys c.loop-i.ends.items
-          w.push.new.self.items c.fate.result r.item c.is_whole.ensures.limits c.requires.history refl
+          w.push.new.self.items c.fate.result r.item c.is_whole.ensures c.requires.history refl
           c.loop-i.invariant c.fate.ensures is r.at (w.in_ok-copy_ordered.ensures r.item r.at)
           (last ∙ ap (λ (n : ℕ). c.loop-i.ends.items ++ n ∷ []) long))
       | else-eq w ↦
@@ -42,21 +41,21 @@ loop-i-preserved c =
 
 pub invariant_of-result : goal.invariant_of-result
 invariant_of-result c =
-    let t = whole c.args.trace.now in
+    let t = c.args.trace.now in
     let v = c.args.history.now in
     let attempts : length v.attempts ≤ c.loop-i.i = search rules in
     let fates : length v.fates ≤ c.loop-i.i = search rules in
     let small : c.committed.result < 2 ^ 32 = search rules in
     let last : c.committed.result ≡ v.committed = search rules in
     all_kept t v.replica v c.loop-i.i (row_count (head_of t)) c.in_ok-opening.opening (all_said c.loop-i.records.items)
-    c.loop-i.ends.items (c.is_right.ensures.section (whole c.args.trace.now) c.args.history.now.replica
+    c.loop-i.ends.items (c.is_right.ensures.section c.args.trace.now c.args.history.now.replica
     c.requires.history) c.requires.history attempts fates
     c.loop-i.invariant (sym (ap length c.in_ok-opening.ensures ∙ length-opening_rows t.customers)) (omega arith)
 
 pub returns : goal.returns
 unfolding settling
 returns c =
-    let t = whole c.args.trace.now in
+    let t = c.args.trace.now in
     let v = c.args.history.now in
     let attempts : length v.attempts ≤ c.loop-i.i = search rules in
     let fates : length v.fates ≤ c.loop-i.i = search rules in

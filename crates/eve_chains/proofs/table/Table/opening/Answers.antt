@@ -1,9 +1,8 @@
-use Rattle.std.proofs.Common.{◌≡◌, ◌++◌, ◌∷◌, [], length, sym, ap, ◌∙◌, arith}
+use Rattle.std.proofs.Common.{◌≡◌, ◌++◌, ◌∷◌, [], length, ap, ◌∙◌, arith}
 use Rattle.std.proofs.lemmas.List.{take_all}
 use Rattle.eve_frames.specs.Views.{customer_in}
 use Rattle.eve_smallbank.specs.Chain.{Versioned}
 use Rattle.eve_grammar.specs.Trace.{Customer, Head}
-use Rattle.eve_views.specs.Fronts.{whole}
 use Rattle.eve_chains.specs.Tables.{table_of}
 use Rattle.eve_chains.proofs.TableLaws.{at_opening, opened, opened_more, length-opened, table_of-opened, customer_there}
 use Rattle.eve_chains.proofs.table.Table.opening.Goals as goal
@@ -12,9 +11,9 @@ use Rattle.eve_chains.proofs.table.Table.opening.Goals.{After-loop-i}
 pub loop-i-preserved : goal.loop-i-preserved
 loop-i-preserved c =
     let customer : Customer = customer_in c.customer-customer.result.bytes.now in
-    opened_more (whole c.args.trace.now).customers c.loop-i.i customer c.loop-i.rows.items c.push.new.self.items
+    opened_more c.args.trace.now.customers c.loop-i.i customer c.loop-i.rows.items c.push.new.self.items
     c.push-in-loop-i.new.self.items
-    (customer_there (whole c.args.trace.now) c.loop-i.i c.customer-customer.result.offset customer
+    (customer_there c.args.trace.now c.loop-i.i c.customer-customer.result.offset customer
     c.customer-customer.ensures.says) c.loop-i.invariant
     (c.in_ok-push.ensures.items ∙ ap (λ (v : Versioned). c.loop-i.rows.items ++ v ∷ [])
     (c.new.ensures ∙ ap at_opening c.saving.ensures))
@@ -22,15 +21,15 @@ loop-i-preserved c =
     (c.new-in-loop-i.ensures ∙ ap at_opening c.checking.ensures))
 
 -- the loop went through all customers
-all_opened : (c : After-loop-i) → c.loop-i.rows.items ≡ opened (whole c.args.trace.now).customers
+all_opened : (c : After-loop-i) → c.loop-i.rows.items ≡ opened c.args.trace.now.customers
 all_opened c =
-    let many : c.head-i-end.result.customers ≡ length (whole c.args.trace.now).customers =
-    ap (λ (h : Head). h.customers) (c.head-i-end.ensures ∙ sym c.is_whole.ensures.head) in
-    let through : c.loop-i.i ≡ length (whole c.args.trace.now).customers = omega arith in
-    c.loop-i.invariant ∙ ap opened (take_all c.loop-i.i (whole c.args.trace.now).customers (omega arith))
+    let many : c.head-i-end.result.customers ≡ length c.args.trace.now.customers =
+    ap (λ (h : Head). h.customers) c.head-i-end.ensures in
+    let through : c.loop-i.i ≡ length c.args.trace.now.customers = omega arith in
+    c.loop-i.invariant ∙ ap opened (take_all c.loop-i.i c.args.trace.now.customers (omega arith))
 
 pub returns-clause-rows : goal.returns-clause-rows
-returns-clause-rows c = ap length (all_opened c) ∙ length-opened (whole c.args.trace.now).customers
+returns-clause-rows c = ap length (all_opened c) ∙ length-opened c.args.trace.now.customers
 
 pub returns-clause-table : goal.returns-clause-table
-returns-clause-table c = ap table_of (all_opened c) ∙ table_of-opened (whole c.args.trace.now)
+returns-clause-table c = ap table_of (all_opened c) ∙ table_of-opened c.args.trace.now

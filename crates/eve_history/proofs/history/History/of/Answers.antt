@@ -6,7 +6,6 @@ use Rattle.eve_grammar.specs.Trace.{Step}
 use Rattle.eve_grammar.specs.Limits.{Spells}
 use Rattle.eve_history.specs.Standing.{IsAttemptAt, IsAccessAt, IsRollbackAt}
 use Rattle.eve_grammar.specs.Spelling.{steps_at}
-use Rattle.eve_views.specs.Fronts.{whole}
 use Rattle.eve_views.specs.StepKinds.{IsStep}
 use Rattle.eve_views.specs.declared.fault.Fault.{Fault}
 use Rattle.eve_history.specs.Faults.{IsStructureFault}
@@ -17,11 +16,11 @@ use Rattle.eve_history.proofs.history.History.of.Goals as goal
 
 pub loop-step-init : goal.loop-step-init
 loop-step-init c =
-    let t = whole c.args.trace.now in
+    let t = c.args.trace.now in
     let e = c.args.e in (
       subst (λ (xs : List (ℕ × Step)). HasCome t e xs (kept c.new-notes.result)) (sym c.section-steps.ensures)
           (subst (λ (k : Kept). HasCome t e (steps_at t e) k) (sym c.new-notes.ensures.kept)
-          (come_start t e c.is_whole.ensures.limits)),
+          (come_start t e c.is_whole.ensures)),
       record {
         spelled = subst (λ (b : List ℕ). Spells b t) (sym c.new-notes.ensures.bytes) c.bytes.ensures;
         framed = record {
@@ -41,13 +40,13 @@ take-requires-clause-noted c = c.loop-step.invariant.1
 pub invariant_of-result : goal.invariant_of-result
 invariant_of-result c =
     let none : c.loop-step.steps ≡ [] = search rules in
-    let come = subst (λ (xs : List (ℕ × Step)). HasCome (whole c.args.trace.now) c.args.e xs (kept c.loop-step.notes))
+    let come = subst (λ (xs : List (ℕ × Step)). HasCome c.args.trace.now c.args.e xs (kept c.loop-step.notes))
     none c.loop-step.invariant.0 in
     record { kept = come.is_kept; framed = c.loop-step.invariant.1.framed }
 
 pub returns-in_err-take-clause-least : goal.returns-in_err-take-clause-least
 returns-in_err-take-clause-least c =
-    let t = whole c.args.trace.now in
+    let t = c.args.trace.now in
     let e = c.args.e in
     let some = c.in-Some.ensures.some in
     let come = subst (λ (xs : List (ℕ × Step)). HasCome t e xs (kept c.loop-step.notes)) some.1 c.loop-step.invariant.0
@@ -62,14 +61,14 @@ returns-in_err-take-clause-least c =
 
 pub returns-clause-section_history : goal.returns-clause-section_history
 returns-clause-section_history c =
-    let t = whole c.args.trace.now in
+    let t = c.args.trace.now in
     let none : c.loop-step.steps ≡ [] = search rules in
     come_told t c.args.e (kept c.loop-step.notes)
     (subst (λ (xs : List (ℕ × Step)). HasCome t c.args.e xs (kept c.loop-step.notes)) none c.loop-step.invariant.0)
 
 pub returns-clause-none : goal.returns-clause-none
 returns-clause-none c =
-    let t = whole c.args.trace.now in
+    let t = c.args.trace.now in
     let none : c.loop-step.steps ≡ [] = search rules in
     come_faultless t c.args.e (kept c.loop-step.notes)
     (subst (λ (xs : List (ℕ × Step)). HasCome t c.args.e xs (kept c.loop-step.notes)) none c.loop-step.invariant.0)
@@ -77,6 +76,6 @@ returns-clause-none c =
 pub loop-step-preserved : goal.loop-step-preserved
 loop-step-preserved c =
     let some = c.in-Some.ensures.some in
-    let come = subst (λ (xs : List (ℕ × Step)). HasCome (whole c.args.trace.now) c.args.e xs (kept c.loop-step.notes))
+    let come = subst (λ (xs : List (ℕ × Step)). HasCome c.args.trace.now c.args.e xs (kept c.loop-step.notes))
     some.1 c.loop-step.invariant.0 in
     (c.in_ok-take.ensures.taken c.next.new.self some.0 come some.2, c.in_ok-take.ensures.noted)

@@ -8,7 +8,6 @@ use Rattle.eve_frames.specs.Views.{attempt_in}
 use Rattle.eve_views.specs.declared.fault.Fault.{Fault}
 use Rattle.eve_views.specs.declared.fault.CheckFault.{CheckFault}
 use Rattle.eve_views.specs.Form.{IfFound, IsLeast}
-use Rattle.eve_views.specs.Fronts.{whole}
 use Rattle.eve_history.specs.declared.notes.Attempted.{Attempted}
 use Rattle.eve_history.specs.Section.{start, state_after}
 use Rattle.eve_history.specs.SectionHistory.{ordered, access_with}
@@ -26,13 +25,13 @@ judge-requires-clause-many c =
     let said = attempt_in c.args.attempt.now.bytes.now in
     let order : take c.len.result c.read_order.new.order ≡ said.certificate =
     ap (λ (n : ℕ). take n c.read_order.new.order) c.len.ensures.certificate ∙ c.read_order.ensures in
-    its_records_count (whole c.args.trace.now) c.args.e c.requires.comes.0 c.requires.comes.1
+    its_records_count c.args.trace.now c.args.e c.requires.comes.0 c.requires.comes.1
     (kept c.args.self.now) c.args.attempt.now.offset said c.args.accesses.now c.requires.comes.2
     ∙ ap length (sym order)
 
 pub returns-in-Some-clause-wrong : goal.returns-in-Some-clause-wrong
 returns-in-Some-clause-wrong c =
-    let t = whole c.args.trace.now in
+    let t = c.args.trace.now in
     let e = c.args.e in
     let k = kept c.args.self.now in
     let at = c.args.attempt.now.offset in
@@ -48,7 +47,7 @@ returns-in-Some-clause-wrong c =
 
 pub keep_records-requires-clause-there : goal.keep_records-requires-clause-there
 keep_records-requires-clause-there c =
-    let t = whole c.args.trace.now in
+    let t = c.args.trace.now in
     let at = c.args.attempt.now.offset in
     let said = attempt_in c.args.attempt.now.bytes.now in
     let xs = c.args.accesses.now in
@@ -63,7 +62,7 @@ keep_records-requires-clause-there c =
 
 pub overflow_cast-offset : goal.overflow_cast-offset
 overflow_cast-offset c =
-    let there = attempt_there c.args.self.now.bytes.now (whole c.args.trace.now) c.args.e c.requires.comes.0
+    let there = attempt_there c.args.self.now.bytes.now c.args.trace.now c.args.e c.requires.comes.0
     (kept c.args.self.now) c.args.attempt.now.offset c.requires.comes.1 c.requires.noted.spelled
     c.requires.comes.2.come in
     let small = there.1.framed.small in
@@ -71,7 +70,7 @@ overflow_cast-offset c =
 
 pub returns-clause-taken : goal.returns-clause-taken
 returns-clause-taken c = λ rest b comes.
-    let t = whole c.args.trace.now in
+    let t = c.args.trace.now in
     let n = c.args.self.now in
     let k = kept n in
     let at = c.args.attempt.now.offset in
@@ -123,12 +122,12 @@ keep_records-requires-clause-small c =
     let said = attempt_in c.args.attempt.now.bytes.now in
     let xs = c.args.accesses.now in
     all_small n.bytes.now xs
-    (all_seen n.bytes.now (whole c.args.trace.now) c.args.e c.requires.comes.0 c.requires.comes.1
+    (all_seen n.bytes.now c.args.trace.now c.args.e c.requires.comes.0 c.requires.comes.1
     (kept n) c.args.attempt.now.offset said xs c.requires.noted.spelled c.requires.comes.2)
 
 pub returns-clause-noted : goal.returns-clause-noted
 returns-clause-noted c =
-    let t = whole c.args.trace.now in
+    let t = c.args.trace.now in
     let n = c.args.self.now in
     let at = c.args.attempt.now.offset in
     let said = attempt_in c.args.attempt.now.bytes.now in

@@ -9,7 +9,6 @@ use Rattle.eve_views.specs.declared.fault.Fault.{Fault}
 use Rattle.eve_views.specs.declared.fault.CheckFault.{CheckFault}
 use Rattle.eve_views.specs.declared.fault.CheckFault.TheVariants.{Found}
 use Rattle.eve_views.specs.Form.{IfFound, IsLeast}
-use Rattle.eve_views.specs.Fronts.{whole}
 use Rattle.eve_history.specs.declared.fate.Fate.TheVariants.{Discarded}
 use Rattle.eve_history.specs.Standing.{frame_in, IsRollbackAt}
 use Rattle.eve_history.specs.Section.{start, state_after}
@@ -23,7 +22,7 @@ use Rattle.eve_history.proofs.notes.Notes.take_rollback.Goals as goal
 
 pub returns-then-not-rolls_back-clause-wrong : goal.returns-then-not-rolls_back-clause-wrong
 returns-then-not-rolls_back-clause-wrong c =
-    let t = whole c.args.trace.now in
+    let t = c.args.trace.now in
     let e = c.args.e in
     let k = kept c.args.self.now in
     let at = c.args.rollback.now.offset in
@@ -37,11 +36,11 @@ returns-then-not-rolls_back-clause-wrong c =
     come_wrong t e (at, RollsBack said) rest k (record { code = code.Rollback; offset = at }) come
     (rollback_wrong t (state_after start come.front) at said
     (sym (c.rolls_back.ensures t (state_after start come.front) come.stands
-    (c.head.ensures ∙ sym c.is_whole.ensures.head)) ∙ c.if-not-rolls_back.true)))
+    c.head.ensures) ∙ c.if-not-rolls_back.true)))
 
 pub overflow_cast-offset : goal.overflow_cast-offset
 overflow_cast-offset c =
-    let there = rollback_there c.args.self.now.bytes.now (whole c.args.trace.now) c.args.e c.requires.comes.0
+    let there = rollback_there c.args.self.now.bytes.now c.args.trace.now c.args.e c.requires.comes.0
     (kept c.args.self.now) c.args.rollback.now.offset (rollback_in c.args.rollback.now.bytes.now)
     c.requires.noted.spelled c.requires.comes.1 in
     let small = there.1.framed.small in
@@ -49,7 +48,7 @@ overflow_cast-offset c =
 
 pub returns-clause-taken : goal.returns-clause-taken
 returns-clause-taken c = λ rest come.
-    let t = whole c.args.trace.now in
+    let t = c.args.trace.now in
     let e = c.args.e in
     let n = c.args.self.now in
     let k = kept n in
@@ -82,12 +81,12 @@ returns-clause-taken c = λ rest come.
     (come_rollback t e at said rest k come
     (rollback_right t (state_after start come.front) at said
     (sym (c.rolls_back.ensures t (state_after start come.front) come.stands
-    (c.head.ensures ∙ sym c.is_whole.ensures.head)) ∙ c.if-not-rolls_back.false)))
+    c.head.ensures) ∙ c.if-not-rolls_back.false)))
 
 pub returns-clause-noted : goal.returns-clause-noted
 returns-clause-noted c =
     let n = c.args.self.now in
-    let there = rollback_there n.bytes.now (whole c.args.trace.now) c.args.e c.requires.comes.0
+    let there = rollback_there n.bytes.now c.args.trace.now c.args.e c.requires.comes.0
     (kept n) c.args.rollback.now.offset (rollback_in c.args.rollback.now.bytes.now) c.requires.noted.spelled
     c.requires.comes.1 in
     record {

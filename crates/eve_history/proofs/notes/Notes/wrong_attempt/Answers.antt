@@ -2,7 +2,6 @@ use Rattle.std.proofs.Common.{◌≡◌, ℕ, ◌-◌, true, false, length, slic
 use Rattle.eve_grammar.specs.Trace.{Batch}
 use Rattle.eve_grammar.specs.Spelling.{batches_at}
 use Rattle.eve_frames.specs.Views.{attempt_in, batch_in}
-use Rattle.eve_views.specs.Fronts.{whole}
 use Rattle.eve_history.specs.Section.{is_due}
 use Rattle.eve_grammar.specs.Certificate.{is_certificate}
 use Rattle.eve_history.proofs.Finding.{batch_is, batch_fits, wrong_count, wrong_certificate, right_attempt}
@@ -10,30 +9,30 @@ use Rattle.eve_history.proofs.notes.Notes.wrong_attempt.Goals as goal
 
 pub returns-then-order-len : goal.returns-then-order-len
 returns-then-order-len c = λ s stands.
-    let t = whole c.args.trace.now in
+    let t = c.args.trace.now in
     let a = attempt_in c.args.attempt.now.bytes.now in
     let b : ℕ × (ℕ × Batch) = (c.batch-batch.result.offset, batch_in c.batch-batch.result.bytes.now) in
     let at : slice_get (batches_at t) (a.seq - 1) ≡ Some b = ap (λ (n : ℕ). slice_get (batches_at t) (n - 1))
     (sym c.seq.ensures) ∙ c.batch-batch.ensures.says in
-    let due : is_due t s a ≡ true = sym (c.is_due.ensures.due t s stands (c.head.ensures ∙ sym c.is_whole.ensures.head))
+    let due : is_due t s a ≡ true = sym (c.is_due.ensures.due t s stands c.head.ensures)
     ∙ c.if-not-is_due.false in
     wrong_count t s a b.1.1 (batch_is t a.seq b at) due
     (λ e. c.if-order-len.true (ap length c.requires.order ∙ e ∙ sym c.len.ensures))
 
 pub is_certificate-requires-clause-whole : goal.is_certificate-requires-clause-whole
 is_certificate-requires-clause-whole c =
-    let t = whole c.args.trace.now in
+    let t = c.args.trace.now in
     let b : ℕ × (ℕ × Batch) = (c.batch-batch.result.offset, batch_in c.batch-batch.result.bytes.now) in
-    batch_fits t c.seq.result b c.is_whole.ensures.limits c.batch-batch.ensures.says
+    batch_fits t c.seq.result b c.is_whole.ensures c.batch-batch.ensures.says
 
 pub returns-then-not-is_certificate : goal.returns-then-not-is_certificate
 returns-then-not-is_certificate c = λ s stands.
-    let t = whole c.args.trace.now in
+    let t = c.args.trace.now in
     let a = attempt_in c.args.attempt.now.bytes.now in
     let b : ℕ × (ℕ × Batch) = (c.batch-batch.result.offset, batch_in c.batch-batch.result.bytes.now) in
     let at : slice_get (batches_at t) (a.seq - 1) ≡ Some b = ap (λ (n : ℕ). slice_get (batches_at t) (n - 1))
     (sym c.seq.ensures) ∙ c.batch-batch.ensures.says in
-    let due : is_due t s a ≡ true = sym (c.is_due.ensures.due t s stands (c.head.ensures ∙ sym c.is_whole.ensures.head))
+    let due : is_due t s a ≡ true = sym (c.is_due.ensures.due t s stands c.head.ensures)
     ∙ c.if-not-is_due.false in
     let count : length a.certificate ≡ length b.1.1.requests = sym (ap length c.requires.order) ∙ c.if-order-len.false
     ∙ c.len.ensures in
@@ -44,12 +43,12 @@ returns-then-not-is_certificate c = λ s stands.
 
 pub returns : goal.returns
 returns c = λ s stands.
-    let t = whole c.args.trace.now in
+    let t = c.args.trace.now in
     let a = attempt_in c.args.attempt.now.bytes.now in
     let b : ℕ × (ℕ × Batch) = (c.batch-batch.result.offset, batch_in c.batch-batch.result.bytes.now) in
     let at : slice_get (batches_at t) (a.seq - 1) ≡ Some b = ap (λ (n : ℕ). slice_get (batches_at t) (n - 1))
     (sym c.seq.ensures) ∙ c.batch-batch.ensures.says in
-    let due : is_due t s a ≡ true = sym (c.is_due.ensures.due t s stands (c.head.ensures ∙ sym c.is_whole.ensures.head))
+    let due : is_due t s a ≡ true = sym (c.is_due.ensures.due t s stands c.head.ensures)
     ∙ c.if-not-is_due.false in
     let count : length a.certificate ≡ length b.1.1.requests = sym (ap length c.requires.order) ∙ c.if-order-len.false
     ∙ c.len.ensures in

@@ -1,7 +1,7 @@
 use Rattle.std.proofs.Common.{◌≡◌, ◌<◌, ◌-◌, ◌^◌, ℕ, List, length, sym, ap, ◌∙◌, arith, rules}
 use Rattle.std.specs.Prelude.{slice_get}
 use Rattle.eve_grammar.specs.Trace.{Access}
-use Rattle.eve_grammar.specs.Frames.{OfAccess}
+use Rattle.eve_grammar.specs.Frames.{OfAccess, frames_of}
 use Rattle.eve_frames.specs.Views.{is_access_frame, access_in}
 use Rattle.eve_frames.proofs.Rereading.{access_again}
 use Rattle.eve_views.specs.Parts.{accesses_between}
@@ -10,24 +10,27 @@ use Rattle.eve_views.proofs.accesses.Accesses.get.Goals as goal
 
 pub overflow_add-self-inside : goal.overflow_add-self-inside
 overflow_add-self-inside c =
+    let fs = frames_of c.self.inside.trace.now in
     let many : length c.args.self.now ≡ c.self.inside.to - c.self.inside.from = sym (ap length c.self.view_is)
-    ∙ length-accesses c.self.inside.trace.now.frames c.self.inside.from c.self.inside.to c.self.invariant in
+    ∙ length-accesses fs c.self.inside.from c.self.inside.to c.self.invariant in
     let small : c.self.inside.to < 2 ^ 64 = search rules in
     record { fits = omega (arith, many, small, c.requires) }
 
 pub frame-frame-requires : goal.frame-frame-requires
 frame-frame-requires c =
+    let fs = frames_of c.self.inside.trace.now in
     let many : length c.args.self.now ≡ c.self.inside.to - c.self.inside.from = sym (ap length c.self.view_is)
-    ∙ length-accesses c.self.inside.trace.now.frames c.self.inside.from c.self.inside.to c.self.invariant in
+    ∙ length-accesses fs c.self.inside.from c.self.inside.to c.self.invariant in
     let within = c.self.invariant.within in
     omega (arith, many, within, c.requires)
 
 pub new-requires : goal.new-requires
 new-requires c =
+    let fs = frames_of c.self.inside.trace.now in
     let many : length c.args.self.now ≡ c.self.inside.to - c.self.inside.from = sym (ap length c.self.view_is)
-    ∙ length-accesses c.self.inside.trace.now.frames c.self.inside.from c.self.inside.to c.self.invariant in
+    ∙ length-accesses fs c.self.inside.from c.self.inside.to c.self.invariant in
     let f = c.frame-frame.ensures.frame in
-    let met = access_met c.self.inside.trace.now.frames c.self.inside.from c.self.inside.to c.args.i
+    let met = access_met fs c.self.inside.from c.self.inside.to c.args.i
     c.frame-frame.result.offset f.0 c.self.invariant (omega (arith, many, c.requires)) f.1
     c.frame-frame.ensures.offset in
     (says_met is_access_frame access_in c.frame-frame.result.bytes.now f.0 (OfAccess met.item) met.item f.2 met.is
@@ -35,27 +38,29 @@ new-requires c =
 
 pub returns-clause-says : goal.returns-clause-says
 returns-clause-says c =
+    let fs = frames_of c.self.inside.trace.now in
     let many : length c.args.self.now ≡ c.self.inside.to - c.self.inside.from = sym (ap length c.self.view_is)
-    ∙ length-accesses c.self.inside.trace.now.frames c.self.inside.from c.self.inside.to c.self.invariant in
+    ∙ length-accesses fs c.self.inside.from c.self.inside.to c.self.invariant in
     let f = c.frame-frame.ensures.frame in
-    let met = access_met c.self.inside.trace.now.frames c.self.inside.from c.self.inside.to c.args.i
+    let met = access_met fs c.self.inside.from c.self.inside.to c.args.i
     c.frame-frame.result.offset f.0 c.self.invariant (omega (arith, many, c.requires)) f.1
     c.frame-frame.ensures.offset in
     let says = says_met is_access_frame access_in c.frame-frame.result.bytes.now f.0 (OfAccess met.item) met.item f.2
     met.is (access_again c.self.invariant.rows met.item met.right c.self.invariant.few) in
-    let list : accesses_between c.self.inside.trace.now.frames c.self.inside.from
+    let list : accesses_between fs c.self.inside.from
     (c.self.inside.to - c.self.inside.from) ≡ c.args.self.now = c.self.view_is in
     ap (λ (xs : List (ℕ × Access)). slice_get xs c.args.i) (sym list)
-    ∙ returned access_in (accesses_between c.self.inside.trace.now.frames c.self.inside.from
+    ∙ returned access_in (accesses_between fs c.self.inside.from
     (c.self.inside.to - c.self.inside.from)) c.args.i c.frame-frame.result.offset c.new.result.offset met.item
     c.frame-frame.result.bytes.now c.new.result.bytes.now met.there says.1 c.new.ensures.offset c.new.ensures.bytes
 
 pub returns-clause-text : goal.returns-clause-text
 returns-clause-text c =
+    let fs = frames_of c.self.inside.trace.now in
     let many : length c.args.self.now ≡ c.self.inside.to - c.self.inside.from = sym (ap length c.self.view_is)
-    ∙ length-accesses c.self.inside.trace.now.frames c.self.inside.from c.self.inside.to c.self.invariant in
+    ∙ length-accesses fs c.self.inside.from c.self.inside.to c.self.invariant in
     let f = c.frame-frame.ensures.frame in
-    let met = access_met c.self.inside.trace.now.frames c.self.inside.from c.self.inside.to c.args.i
+    let met = access_met fs c.self.inside.from c.self.inside.to c.args.i
     c.frame-frame.result.offset f.0 c.self.invariant (omega (arith, many, c.requires)) f.1
     c.frame-frame.ensures.offset in
     let says = says_met is_access_frame access_in c.frame-frame.result.bytes.now f.0 (OfAccess met.item) met.item f.2

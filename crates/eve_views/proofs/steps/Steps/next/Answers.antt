@@ -1,7 +1,7 @@
 use Rattle.std.proofs.Common.{◌≡◌, ◌≢◌, ◌<◌, ◌+◌, ◌^◌, ℕ, List, length, sym, ap, ◌∙◌, arith, rules}
 use Rattle.std.specs.Prelude.{slice_index}
 use Rattle.eve_grammar.specs.Trace.{Attempt, Attempts, Commits, RollsBack}
-use Rattle.eve_grammar.specs.Frames.{OfAttempt, OfCommit, OfRollback}
+use Rattle.eve_grammar.specs.Frames.{OfAttempt, OfCommit, OfRollback, frames_of}
 use Rattle.eve_grammar.specs.Spelling.{frame_text}
 use Rattle.eve_frames.specs.Views.{attempt_in, commit_in, rollback_in}
 use Rattle.eve_views.specs.Parts.{byte_of}
@@ -10,13 +10,13 @@ use Rattle.eve_views.proofs.steps.Steps.next.Goals as goal
 
 pub returns-then-self-clause-none : goal.returns-then-self-clause-none
 returns-then-self-clause-none c = sym c.self.view_is
-    ∙ none_left c.self.inside.trace.now.frames c.self.inside.at c.self.inside.to c.self.invariant c.if-self.true
+    ∙ none_left (frames_of c.self.inside.trace.now) c.self.inside.at c.self.inside.to c.self.invariant c.if-self.true
 
 -- ---- an attempt
 
 pub new-attempt-requires : goal.new-attempt-requires
 new-attempt-requires c =
-    let fs = c.self.inside.trace.now.frames in
+    let fs = frames_of c.self.inside.trace.now in
     let f = c.frame-frame.ensures.frame in
     let is = met_of fs c.self.inside.at c.self.inside.to f.0 c.self.invariant c.if-self.false f.1 in
     let met = attempt_met fs c.self.inside.at c.self.inside.to f.0 c.frame-frame.result.bytes.now is
@@ -25,7 +25,7 @@ new-attempt-requires c =
 
 pub overflow_add-self : goal.overflow_add-self
 overflow_add-self c =
-    let fs = c.self.inside.trace.now.frames in
+    let fs = frames_of c.self.inside.trace.now in
     let f = c.frame-frame.ensures.frame in
     let is = met_of fs c.self.inside.at c.self.inside.to f.0 c.self.invariant c.if-self.false f.1 in
     let met = attempt_met fs c.self.inside.at c.self.inside.to f.0 c.frame-frame.result.bytes.now is
@@ -41,7 +41,7 @@ overflow_add-self c =
 
 pub new-accesses-requires : goal.new-accesses-requires
 new-accesses-requires c =
-    let fs = c.self.inside.trace.now.frames in
+    let fs = frames_of c.self.inside.trace.now in
     let f = c.frame-frame.ensures.frame in
     let is = met_of fs c.self.inside.at c.self.inside.to f.0 c.self.invariant c.if-self.false f.1 in
     let met = attempt_met fs c.self.inside.at c.self.inside.to f.0 c.frame-frame.result.bytes.now is
@@ -55,7 +55,7 @@ new-accesses-requires c =
 
 pub invariant_of-self : goal.invariant_of-self
 invariant_of-self c =
-    let fs = c.self.inside.trace.now.frames in
+    let fs = frames_of c.self.inside.trace.now in
     let f = c.frame-frame.ensures.frame in
     let is = met_of fs c.self.inside.at c.self.inside.to f.0 c.self.invariant c.if-self.false f.1 in
     let met = attempt_met fs c.self.inside.at c.self.inside.to f.0 c.frame-frame.result.bytes.now is
@@ -69,7 +69,7 @@ invariant_of-self c =
 
 pub returns-then-first-byte-clause-some : goal.returns-then-first-byte-clause-some
 returns-then-first-byte-clause-some c =
-    let fs = c.self.inside.trace.now.frames in
+    let fs = frames_of c.self.inside.trace.now in
     let f = c.frame-frame.ensures.frame in
     let is = met_of fs c.self.inside.at c.self.inside.to f.0 c.self.invariant c.if-self.false f.1 in
     let met = attempt_met fs c.self.inside.at c.self.inside.to f.0 c.frame-frame.result.bytes.now is
@@ -90,7 +90,7 @@ returns-then-first-byte-clause-some c =
 
 pub returns-then-first-byte-clause-text : goal.returns-then-first-byte-clause-text
 returns-then-first-byte-clause-text c =
-    let fs = c.self.inside.trace.now.frames in
+    let fs = frames_of c.self.inside.trace.now in
     let f = c.frame-frame.ensures.frame in
     let is = met_of fs c.self.inside.at c.self.inside.to f.0 c.self.invariant c.if-self.false f.1 in
     let met = attempt_met fs c.self.inside.at c.self.inside.to f.0 c.frame-frame.result.bytes.now is
@@ -102,7 +102,7 @@ returns-then-first-byte-clause-text c =
 
 pub new-requires : goal.new-requires
 new-requires c =
-    let fs = c.self.inside.trace.now.frames in
+    let fs = frames_of c.self.inside.trace.now in
     let f = c.frame-frame.ensures.frame in
     let is = met_of fs c.self.inside.at c.self.inside.to f.0 c.self.invariant c.if-self.false f.1 in
     let met = commit_met fs c.self.inside.at c.self.inside.to f.0 c.frame-frame.result.bytes.now is
@@ -112,7 +112,7 @@ new-requires c =
 
 pub invariant_of-self-then-first-byte-2 : goal.invariant_of-self-then-first-byte-2
 invariant_of-self-then-first-byte-2 c =
-    let fs = c.self.inside.trace.now.frames in
+    let fs = frames_of c.self.inside.trace.now in
     let f = c.frame-frame.ensures.frame in
     let is = met_of fs c.self.inside.at c.self.inside.to f.0 c.self.invariant c.if-self.false f.1 in
     let met = commit_met fs c.self.inside.at c.self.inside.to f.0 c.frame-frame.result.bytes.now is
@@ -122,7 +122,7 @@ invariant_of-self-then-first-byte-2 c =
 
 pub returns-then-first-byte-2-clause-some : goal.returns-then-first-byte-2-clause-some
 returns-then-first-byte-2-clause-some c =
-    let fs = c.self.inside.trace.now.frames in
+    let fs = frames_of c.self.inside.trace.now in
     let f = c.frame-frame.ensures.frame in
     let is = met_of fs c.self.inside.at c.self.inside.to f.0 c.self.invariant c.if-self.false f.1 in
     let met = commit_met fs c.self.inside.at c.self.inside.to f.0 c.frame-frame.result.bytes.now is
@@ -135,7 +135,7 @@ returns-then-first-byte-2-clause-some c =
 
 pub returns-then-first-byte-2-clause-text : goal.returns-then-first-byte-2-clause-text
 returns-then-first-byte-2-clause-text c =
-    let fs = c.self.inside.trace.now.frames in
+    let fs = frames_of c.self.inside.trace.now in
     let f = c.frame-frame.ensures.frame in
     let is = met_of fs c.self.inside.at c.self.inside.to f.0 c.self.invariant c.if-self.false f.1 in
     let met = commit_met fs c.self.inside.at c.self.inside.to f.0 c.frame-frame.result.bytes.now is
@@ -148,7 +148,7 @@ returns-then-first-byte-2-clause-text c =
 
 pub new-requires-else-first-byte-2 : goal.new-requires-else-first-byte-2
 new-requires-else-first-byte-2 c =
-    let fs = c.self.inside.trace.now.frames in
+    let fs = frames_of c.self.inside.trace.now in
     let f = c.frame-frame.ensures.frame in
     let is = met_of fs c.self.inside.at c.self.inside.to f.0 c.self.invariant c.if-self.false f.1 in
     let not_17 : slice_index c.frame-frame.result.bytes.now 0 ≢ 17 =
@@ -162,7 +162,7 @@ new-requires-else-first-byte-2 c =
 
 pub invariant_of-self-else-first-byte-2 : goal.invariant_of-self-else-first-byte-2
 invariant_of-self-else-first-byte-2 c =
-    let fs = c.self.inside.trace.now.frames in
+    let fs = frames_of c.self.inside.trace.now in
     let f = c.frame-frame.ensures.frame in
     let is = met_of fs c.self.inside.at c.self.inside.to f.0 c.self.invariant c.if-self.false f.1 in
     let not_17 : slice_index c.frame-frame.result.bytes.now 0 ≢ 17 =
@@ -176,7 +176,7 @@ invariant_of-self-else-first-byte-2 c =
 
 pub returns-else-first-byte-2-clause-some : goal.returns-else-first-byte-2-clause-some
 returns-else-first-byte-2-clause-some c =
-    let fs = c.self.inside.trace.now.frames in
+    let fs = frames_of c.self.inside.trace.now in
     let f = c.frame-frame.ensures.frame in
     let is = met_of fs c.self.inside.at c.self.inside.to f.0 c.self.invariant c.if-self.false f.1 in
     let not_17 : slice_index c.frame-frame.result.bytes.now 0 ≢ 17 =
@@ -196,7 +196,7 @@ returns-else-first-byte-2-clause-some c =
 
 pub returns-else-first-byte-2-clause-text : goal.returns-else-first-byte-2-clause-text
 returns-else-first-byte-2-clause-text c =
-    let fs = c.self.inside.trace.now.frames in
+    let fs = frames_of c.self.inside.trace.now in
     let f = c.frame-frame.ensures.frame in
     let is = met_of fs c.self.inside.at c.self.inside.to f.0 c.self.invariant c.if-self.false f.1 in
     let not_17 : slice_index c.frame-frame.result.bytes.now 0 ≢ 17 =

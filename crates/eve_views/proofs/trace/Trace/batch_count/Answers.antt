@@ -1,6 +1,7 @@
 use Rattle.std.proofs.Common.{sym, ap, ◌∙◌}
-use Rattle.eve_grammar.specs.Trace.{Head}
+use Rattle.eve_grammar.specs.Trace.{Head, Trace, head_of}
 use Rattle.eve_views.proofs.trace.Trace.batch_count.Goals as goal
 
 pub returns : goal.returns
-returns c = ap (λ s. s.head.batches) c.self.view_is ∙ sym (ap (λ (h : Head). h.batches) c.is_whole.ensures.head)
+returns c = sym (ap (λ (h : Head). h.batches) c.self.invariant.head)
+    ∙ ap (λ (t : Trace). (head_of t).batches) c.self.view_is

@@ -3,14 +3,10 @@ use Rattle.eve_grammar.specs.Bodies.{limits}
 use Rattle.eve_views.proofs.HeaderLaws.{says_head}
 use Rattle.eve_views.proofs.FormLaws.{refused_at_header, refused_behind}
 use Rattle.eve_views.proofs.TraceLaws.{held_of, found_least, found_none, found_within}
-use Rattle.eve_views.proofs.WholeTraces.{spells_trace, no_trace, found_no_trace}
 use Rattle.eve_views.proofs.trace.Trace.read.Goals as goal
 
 pub returns-in-Err-clause-least : goal.returns-in-Err-clause-least
 returns-in-Err-clause-least c = (refused_at_header c.in-Err.code c.args.bytes.now c.in-Err.ensures.fault).least
-
-pub returns-in-Err-clause-none : goal.returns-in-Err-clause-none
-returns-in-Err-clause-none c = (refused_at_header c.in-Err.code c.args.bytes.now c.in-Err.ensures.fault).none
 
 pub index_of-requires-clause-says : goal.index_of-requires-clause-says
 index_of-requires-clause-says c =
@@ -18,12 +14,11 @@ index_of-requires-clause-says c =
 
 pub invariant_of-result : goal.invariant_of-result
 invariant_of-result c =
-    let held = held_of c.args.bytes.now (limits c.in-Ok.head) c.in-Ok-index_of.index
-    (λ i. omega (arith, c.type_inv.bytes i)) c.in-Ok.ensures.head c.in-Ok-index_of.ensures.found in
-    record { spells = held.spells; offsets = held.offsets; starts = held.starts }
+    held_of c.args.bytes.now (limits c.in-Ok.head) c.in-Ok-index_of.index (λ i. omega (arith, c.type_inv.bytes i))
+    c.in-Ok.ensures.head c.in-Ok-index_of.ensures.found
 
-pub returns-in-Ok-index_of-clause-spelled : goal.returns-in-Ok-index_of-clause-spelled
-returns-in-Ok-index_of-clause-spelled c =
+pub returns-in-Ok-index_of-clause-trace : goal.returns-in-Ok-index_of-clause-trace
+returns-in-Ok-index_of-clause-trace c =
     (held_of c.args.bytes.now (limits c.in-Ok.head) c.in-Ok-index_of.index (λ i. omega (arith, c.type_inv.bytes i))
     c.in-Ok.ensures.head c.in-Ok-index_of.ensures.found).spells
 
@@ -32,8 +27,8 @@ returns-in-Err-index_of-clause-least c =
     found_least c.args.bytes.now (limits c.in-Ok.head) c.in-Err-index_of.fault (λ i. omega (arith, c.type_inv.bytes i))
     c.in-Ok.ensures.head c.in-Err-index_of.ensures.fault
 
-pub returns-in-Err-index_of-clause-none : goal.returns-in-Err-index_of-clause-none
-returns-in-Err-index_of-clause-none c =
+pub returns-in-Err-index_of-clause-no_trace : goal.returns-in-Err-index_of-clause-no_trace
+returns-in-Err-index_of-clause-no_trace c =
     found_none c.args.bytes.now (limits c.in-Ok.head) c.in-Err-index_of.fault (λ i. omega (arith, c.type_inv.bytes i))
     c.in-Ok.ensures.head c.in-Err-index_of.ensures.fault
 
@@ -42,21 +37,9 @@ returns-in-Err-index_of-clause-within c =
     found_within c.args.bytes.now (limits c.in-Ok.head) c.in-Err-index_of.fault (λ i. omega (arith, c.type_inv.bytes i))
     c.in-Ok.ensures.head c.in-Err-index_of.ensures.fault
 
-pub returns-in-Ok-index_of-clause-trace : goal.returns-in-Ok-index_of-clause-trace
-returns-in-Ok-index_of-clause-trace c =
-    spells_trace c.args.bytes.now _
-    (held_of c.args.bytes.now (limits c.in-Ok.head) c.in-Ok-index_of.index (λ i. omega (arith, c.type_inv.bytes i))
-    c.in-Ok.ensures.head c.in-Ok-index_of.ensures.found).spells
-
 pub returns-in-Err-clause-no_trace : goal.returns-in-Err-clause-no_trace
 returns-in-Err-clause-no_trace c =
-    no_trace c.args.bytes.now (refused_at_header c.in-Err.code c.args.bytes.now c.in-Err.ensures.fault).none
-
-pub returns-in-Err-index_of-clause-no_trace : goal.returns-in-Err-index_of-clause-no_trace
-returns-in-Err-index_of-clause-no_trace c =
-    found_no_trace c.args.bytes.now c.in-Err-index_of.fault
-    (found_none c.args.bytes.now (limits c.in-Ok.head) c.in-Err-index_of.fault (λ i. omega (arith, c.type_inv.bytes i))
-    c.in-Ok.ensures.head c.in-Err-index_of.ensures.fault)
+    (refused_at_header c.in-Err.code c.args.bytes.now c.in-Err.ensures.fault).none
 
 pub returns-in-Ok-index_of-clause-faultless : goal.returns-in-Ok-index_of-clause-faultless
 returns-in-Ok-index_of-clause-faultless c = λ f stands.

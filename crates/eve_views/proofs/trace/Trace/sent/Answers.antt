@@ -1,75 +1,59 @@
-use Rattle.std.proofs.Common.{◌≡◌, ◌+◌, ◌-◌, ap, arith, length}
-use Rattle.eve_grammar.specs.Frames.{OfSent, frames_of}
+use Rattle.std.proofs.Common.{◌≡◌, ◌+◌, ◌-◌, arith, length}
+use Rattle.eve_grammar.specs.Frames.{OfSent}
 use Rattle.eve_grammar.specs.Spelling.{sent_at}
 use Rattle.eve_frames.specs.Views.{sent_in}
-use Rattle.eve_views.specs.Fronts.{whole, before_sent}
+use Rattle.eve_views.specs.Fronts.{before_sent}
 use Rattle.eve_views.proofs.PartLaws.{frames_many, sent_said, returned, lent_text, lent_there}
 use Rattle.eve_views.proofs.trace.Trace.sent.Goals as goal
 
 pub overflow_sub-first : goal.overflow_sub-first
 overflow_sub-first c =
-    let all : length (frames_of (whole c.args.self.now)) ≡ length c.args.self.now.frames =
-    ap length c.is_whole.ensures.frames in
-    omega (arith, frames_many (whole c.args.self.now), all, c.frame_count.ensures)
+    omega (arith, frames_many c.args.self.now, c.frame_count.ensures)
 
 pub overflow_sub-first-2 : goal.overflow_sub-first-2
 overflow_sub-first-2 c =
-    let all : length (frames_of (whole c.args.self.now)) ≡ length c.args.self.now.frames =
-    ap length c.is_whole.ensures.frames in
-    omega (arith, frames_many (whole c.args.self.now), all, c.frame_count.ensures, c.sent_count.ensures)
+    omega (arith, frames_many c.args.self.now, c.frame_count.ensures, c.sent_count.ensures)
 
 pub frame-frame-requires : goal.frame-frame-requires
 frame-frame-requires c =
-    let all : length (frames_of (whole c.args.self.now)) ≡ length c.args.self.now.frames =
-    ap length c.is_whole.ensures.frames in
-    omega (arith, frames_many (whole c.args.self.now), all, c.frame_count.ensures, c.sent_count.ensures, c.requires)
+    omega (arith, frames_many c.args.self.now, c.frame_count.ensures, c.sent_count.ensures, c.requires)
 
 pub new-requires : goal.new-requires
 new-requires c =
-    let t = whole c.args.self.now in
     let f = c.frame-frame.ensures.frame in
-    let all : length (frames_of (whole c.args.self.now)) ≡ length c.args.self.now.frames =
-    ap length c.is_whole.ensures.frames in
     let number : c.frame_count.result - 1 - c.sent_count.result + c.args.i
-    ≡ length (before_sent (whole c.args.self.now)) + c.args.i =
-    omega (arith, frames_many (whole c.args.self.now), all, c.frame_count.ensures, c.sent_count.ensures) in
-    let said = sent_said (whole c.args.self.now) c.args.self.now.frames
-    (c.frame_count.result - 1 - c.sent_count.result + c.args.i) c.args.i c.frame-frame.result.offset f.0
-    c.frame-frame.result.bytes.now c.is_whole.ensures.limits c.is_whole.ensures.frames
-    c.requires number f.1 c.frame-frame.ensures.offset f.2 in
+    ≡ length (before_sent c.args.self.now) + c.args.i =
+    omega (arith, frames_many c.args.self.now, c.frame_count.ensures, c.sent_count.ensures) in
+    let said = sent_said c.args.self.now (c.frame_count.result - 1 - c.sent_count.result + c.args.i) c.args.i
+    c.frame-frame.result.offset f.0 c.frame-frame.result.bytes.now c.is_whole.ensures c.requires number f.1
+    c.frame-frame.ensures.offset f.2 in
     said.1.0
 
 pub returns-clause-says : goal.returns-clause-says
 returns-clause-says c =
     let f = c.frame-frame.ensures.frame in
-    let all : length (frames_of (whole c.args.self.now)) ≡ length c.args.self.now.frames =
-    ap length c.is_whole.ensures.frames in
     let number : c.frame_count.result - 1 - c.sent_count.result + c.args.i
-    ≡ length (before_sent (whole c.args.self.now)) + c.args.i =
-    omega (arith, frames_many (whole c.args.self.now), all, c.frame_count.ensures, c.sent_count.ensures) in
-    let said = sent_said (whole c.args.self.now) c.args.self.now.frames
-    (c.frame_count.result - 1 - c.sent_count.result + c.args.i) c.args.i c.frame-frame.result.offset f.0
-    c.frame-frame.result.bytes.now c.is_whole.ensures.limits c.is_whole.ensures.frames
-    c.requires number f.1 c.frame-frame.ensures.offset f.2 in
-    returned sent_in (sent_at (whole c.args.self.now)) c.args.i c.frame-frame.result.offset c.new.result.offset said.0
+    ≡ length (before_sent c.args.self.now) + c.args.i =
+    omega (arith, frames_many c.args.self.now, c.frame_count.ensures, c.sent_count.ensures) in
+    let said = sent_said c.args.self.now (c.frame_count.result - 1 - c.sent_count.result + c.args.i) c.args.i
+    c.frame-frame.result.offset f.0 c.frame-frame.result.bytes.now c.is_whole.ensures c.requires number f.1
+    c.frame-frame.ensures.offset f.2 in
+    returned sent_in (sent_at c.args.self.now) c.args.i c.frame-frame.result.offset c.new.result.offset said.0
     c.frame-frame.result.bytes.now c.new.result.bytes.now said.2 said.1.1 c.new.ensures.offset c.new.ensures.bytes
 
 pub returns-clause-text : goal.returns-clause-text
 returns-clause-text c =
     let f = c.frame-frame.ensures.frame in
-    let all : length (frames_of (whole c.args.self.now)) ≡ length c.args.self.now.frames =
-    ap length c.is_whole.ensures.frames in
     let number : c.frame_count.result - 1 - c.sent_count.result + c.args.i
-    ≡ length (before_sent (whole c.args.self.now)) + c.args.i =
-    omega (arith, frames_many (whole c.args.self.now), all, c.frame_count.ensures, c.sent_count.ensures) in
-    let said = sent_said (whole c.args.self.now) c.args.self.now.frames
-    (c.frame_count.result - 1 - c.sent_count.result + c.args.i) c.args.i c.frame-frame.result.offset f.0
-    c.frame-frame.result.bytes.now c.is_whole.ensures.limits c.is_whole.ensures.frames
-    c.requires number f.1 c.frame-frame.ensures.offset f.2 in
+    ≡ length (before_sent c.args.self.now) + c.args.i =
+    omega (arith, frames_many c.args.self.now, c.frame_count.ensures, c.sent_count.ensures) in
+    let said = sent_said c.args.self.now (c.frame_count.result - 1 - c.sent_count.result + c.args.i) c.args.i
+    c.frame-frame.result.offset f.0 c.frame-frame.result.bytes.now c.is_whole.ensures c.requires number f.1
+    c.frame-frame.ensures.offset f.2 in
     lent_text OfSent sent_in c.frame-frame.result.bytes.now c.new.result.bytes.now f.0 said.0 f.2 said.3 said.1.1
     c.new.ensures.bytes
 
 pub returns-clause-stands : goal.returns-clause-stands
 returns-clause-stands c =
-    lent_there (whole c.args.self.now) c.frame-frame.result.offset c.new.result.offset c.frame-frame.result.bytes.now
+    lent_there c.args.self.now c.frame-frame.result.offset c.new.result.offset c.frame-frame.result.bytes.now
     c.new.result.bytes.now c.frame-frame.ensures.stands c.new.ensures.offset c.new.ensures.bytes

@@ -1,6 +1,5 @@
 use Rattle.eve_views.specs.Form.{IsLeast}
 use Rattle.std.proofs.Common.{◌≡◌, Option, Some, None, IfSome, IfNone, sym, ◌∙◌, subst}
-use Rattle.eve_views.specs.Fronts.{whole}
 use Rattle.eve_views.specs.declared.fault.Fault.{Fault}
 use Rattle.eve_votes.specs.Faults.{IsVoteFault}
 use Rattle.eve_votes.specs.Decisions.{AreDecisions}
@@ -13,7 +12,7 @@ IfNone_at (Some x) P e given = absurd cc
 
 pub returns-in-Some-clause-least : goal.returns-in-Some-clause-least
 returns-in-Some-clause-least c =
-    let t = whole c.args.trace.now in
+    let t = c.args.trace.now in
     let found : Found t c.in_ok-again.again c.decide-apart.result = record {
       again_stands = c.in_ok-again.ensures.stands;
       again_least = c.in_ok-again.ensures.all;
@@ -25,7 +24,7 @@ returns-in-Some-clause-least c =
 
 pub returns-clause-sound : goal.returns-clause-sound
 returns-clause-sound c =
-    let t = whole c.args.trace.now in
+    let t = c.args.trace.now in
     let found : Found t c.in_ok-again.again c.decide-apart.result = record {
       again_stands = c.in_ok-again.ensures.stands;
       again_least = c.in_ok-again.ensures.all;
@@ -40,7 +39,7 @@ returns-clause-sound c =
 
 pub returns-clause-none : goal.returns-clause-none
 returns-clause-none c =
-    let t = whole c.args.trace.now in
+    let t = c.args.trace.now in
     let found : Found t c.in_ok-again.again c.decide-apart.result = record {
       again_stands = c.in_ok-again.ensures.stands;
       again_least = c.in_ok-again.ensures.all;

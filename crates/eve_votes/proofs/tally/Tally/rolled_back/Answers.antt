@@ -2,13 +2,12 @@ use Rattle.std.proofs.Common.{◌≡◌, leb, sym, ◌∙◌, subst}
 use Rattle.std.specs.Prelude.{◌↔◌, IsTrue}
 use Rattle.std.proofs.lemmas.Bool.{leb-true, le-leb}
 use Rattle.eve_grammar.specs.Trace.{ForRollback, Trace}
-use Rattle.eve_views.specs.Fronts.{whole}
 use Rattle.eve_votes.specs.Votes.{backers, IsRolledBack}
 use Rattle.eve_votes.proofs.tally.Tally.rolled_back.Goals as goal
 
 pub returns : goal.returns
 returns c =
-    let t = whole c.self.inside.trace.now in
+    let t = c.self.inside.trace.now in
     let same : t ≡ c.args.self.now = c.self.view_is in
     let told : c.is_backed.result ≡ leb t.quorum (backers t c.args.n c.args.view ForRollback) = c.is_backed.ensures in
     subst (λ (u : Trace). IsTrue c.is_backed.result ↔ IsRolledBack u c.args.n c.args.view) same (
