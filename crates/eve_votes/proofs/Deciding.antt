@@ -1,42 +1,34 @@
--- Public: other crates cite these lemmas. What was decided, vote by vote.
-use Rattle.std.proofs.Common.{◌≡◌, ◌≢◌, ℕ, ◌+◌, ◌-◌, ◌*◌, ◌<◌, ◌≤◌, true, false, List, [], length, get_or, set, take}
+-- Public: other crates cite these lemmas. What was decided, batch by batch and view by view.
+use Rattle.std.proofs.Common.{◌≡◌, ◌≢◌, ℕ, ◌+◌, ◌-◌, ◌*◌, ◌<◌, ◌≤◌, Bool, true, false, filter}
+use Rattle.std.proofs.Common.{List, [], ◌∷◌, length, get_or, set}
 use Rattle.std.proofs.Common.{Option, Some, None, is_some, IfSome, IfNone, refl, sym, ap, subst, ◌∙◌, arith, ◌⊎◌, inl}
 use Rattle.std.proofs.Common.{inr}
 use Rattle.std.specs.Prelude.{◌==◌, ◌&&◌, slice_get, IsTrue, nat_le, nat_lt}
 use Rattle.std.specs.List.{All, list_all}
 use Rattle.std.specs.Option.{option_map}
-use Rattle.std.proofs.lemmas.Bool.{and_parts, leb-true, leb-false, ltb-true, eqb-true, cases_eq, cases_lt}
+use Rattle.std.proofs.lemmas.Bool.{and_parts, leb-true, ltb-true, eqb-true, cases_eq, cases_lt}
 use Rattle.std.proofs.lemmas.List.{get_or-set_same, get_or-set_other, get_or_read, length-set, get_or_past}
-use Rattle.std.proofs.lemmas.List.Elements.{All-more, All-weaker}
-use Rattle.std.proofs.lemmas.Option.{get_or_from_slice_get, slice_get_within, slice_get-get_or}
-use Rattle.eve_grammar.specs.Trace.{ForCommit, Vote, Batch, Trace, head_of}
+use Rattle.std.proofs.lemmas.Option.{slice_get_within, slice_get-get_or}
+use Rattle.eve_grammar.specs.Trace.{Choice, ForCommit, Vote, Batch, Trace, head_of}
 use Rattle.eve_grammar.specs.Frames.{OfVote, OfVerifier}
 use Rattle.eve_grammar.specs.Spelling.{votes_of, votes_at, batches_at, batches_start, batch_text, frame_text}
 use Rattle.eve_grammar.specs.Spelling.{verifier_start}
 use Rattle.eve_grammar.specs.Limits.{HasLimits, is_vote, is_between, is_number, is_choice, is_token}
 use Rattle.eve_views.specs.declared.fault.Code.TheVariants as code
-use Rattle.eve_votes.specs.Votes.{backers, IsDecided}
+use Rattle.eve_votes.specs.Votes.{is_vote_on, is_only, IsDecided}
 use Rattle.eve_votes.specs.Faults.{HasTwoDecisions, StandsInVotes}
 use Rattle.eve_votes.specs.Least.{lower, IsBelow, IsBelowAll, Lowers}
+use Rattle.eve_votes.specs.Ballots.{Continues, IsAmong, HasCast}
+use Rattle.eve_votes.specs.declared.ballots.Ballot.{Ballot}
 use Rattle.eve_votes.specs.Decisions.{said, decision_in, IsKnown, Judging, Keeps, IsBatchAt, IsClash, IsFound, Agrees}
 use Rattle.eve_votes.specs.Decisions.{AreDecisions}
 use Rattle.eve_votes.specs.declared.decisions.Decision.{Decision}
 use Rattle.eve_votes.proofs.Places.{place_at, get_place, all_at, located_get, length_located, numbered}
+use Rattle.eve_votes.proofs.InOrder.{fellow_is}
 use Rattle.eve_votes.proofs.Casting.{lower_at, lower_stands}
-use Rattle.eve_votes.proofs.Counting.{decided_backs, one_token}
+use Rattle.eve_votes.proofs.Counting.{counted, decided_backs, one_token}
 
 -- ---- the votes of a trace
-
--- a vote of a verifier is within the limits
-pub vote_right : (t : Trace) (v i o : ℕ) (w : Vote) → HasLimits t → v < length t.verifiers → slice_get (votes_at t v) i
-    ≡ Some (o, w) → IsTrue (is_vote (length t.batches) w)
-unfolding votes_at
-vote_right t v i o w limits there got =
-    let votes : slice_get t.verifiers v ≡ Some (votes_of t v) = slice_get-get_or t.verifiers v [] there in
-    let mine = all_at (list_all (is_vote (length t.batches))) t.verifiers v (votes_of t v) limits.votes votes in
-    all_at (is_vote (length t.batches)) (votes_of t v) i w mine
-    (located_get (λ w. frame_text (OfVote w)) (verifier_start t v + length (frame_text (OfVerifier v)))
-    (votes_of t v) i o w got)
 
 pub vote_got : (t : Trace) (v i o : ℕ) (w : Vote) → slice_get (votes_at t v) i ≡ Some (o, w)
     → slice_get (votes_of t v) i ≡ Some w
@@ -114,194 +106,151 @@ pub decision_set_other : (ds : Table) (n m : ℕ) (d : Decision) → m ≢ n →
 unfolding decision_in
 decision_set_other ds n m d apart = ap (option_map said) (get_or-set_other ds n m (Some d) None apart)
 
--- ---- a vote that is judged
+-- ---- a decision that is noted
 
--- what was read of the vote and of the table
-pub record Judged (ds : Table) (w : Vote) (seq view : ℕ) (token : List ℕ) (x : Option Decision) : Type 0 where
-  pub seq_is : seq ≡ w.seq
-  pub view_is : view ≡ w.view
-  pub commit : w.choice ≡ ForCommit token
-  pub there : seq < length ds
-  pub read : x ≡ get_or ds seq x
-
-there_of : (t : Trace) (ds : Table) (least : Option ℕ) (w : Vote) → Judging t ds least → IsRight (length t.batches) w
-    → w.seq < length ds
-there_of t ds least w judging right = (let long = judging.long in let high = right.high in omega arith)
-
-pub judged_of : (t : Trace) (ds : Table) (least : Option ℕ) (w : Vote) (seq view : ℕ) (token : List ℕ)
-    (x : Option Decision) → IsRight (length t.batches) w → Judging t ds least → seq ≡ w.seq → view ≡ w.view
-    → w.choice ≡ ForCommit token → x ≡ get_or ds seq x → Judged ds w seq view token x
-judged_of t ds least w seq view token x right judging same_seq same_view commit read = record {
-  seq_is = same_seq;
-  view_is = same_view;
-  commit = commit;
-  there = subst (λ (s : ℕ). s < length ds) (sym same_seq) (there_of t ds least w judging right);
-  read = read;
+-- it is known
+pub found_known : (t : Trace) (ds : Table) (least : Option ℕ) (n view : ℕ) (x : Option Decision) (known : Decision)
+    → n < length ds → x ≡ get_or ds n x → x ≡ Some known → known.view ≡ view → IsFound t ds least n view
+found_known t ds least n view x known there read is same = record {
+  found = said known;
+  is = decision_at ds n x there read ∙ ap (option_map said) is;
+  same = inl same;
 }
 
--- from the words read to those of the vote
-found_at : (t : Trace) (ds : Table) (least : Option ℕ) (w : Vote) (seq view : ℕ) → seq ≡ w.seq → view ≡ w.view
-    → IsFound t ds least seq view → IsFound t ds least w.seq w.view
-found_at t ds least w seq view e f found = subst (λ (s : ℕ). IsFound t ds least s w.view) e
-    (subst (λ (v : ℕ). IsFound t ds least seq v) f found)
-
-commit_same : (w : Vote) (a b : List ℕ) → w.choice ≡ ForCommit a → w.choice ≡ ForCommit b → a ≡ b
-commit_same w a b e f = (let both = sym e ∙ f in cc)
-
-decided_at : (t : Trace) (ds : Table) (w : Vote) (seq view : ℕ) (token other : List ℕ) (x : Option Decision)
-    → Judged ds w seq view token x → w.choice ≡ ForCommit other → IsDecided t w.seq w.view other
-    → IsDecided t seq view token
-decided_at t ds w seq view token other x judged e decided =
-    subst (λ (s : ℕ). IsDecided t s view token) (sym judged.seq_is)
-    (subst (λ (v : ℕ). IsDecided t w.seq v token) (sym judged.view_is)
-    (subst (IsDecided t w.seq w.view) (commit_same w other token e judged.commit) decided))
-
--- the view is known
-pub agrees_known : (t : Trace) (ds : Table) (least : Option ℕ) (w : Vote) (seq view : ℕ) (token : List ℕ)
-    (x : Option Decision) (known : Decision) → Judged ds w seq view token x → x ≡ Some known → known.view ≡ view
-    → Agrees t ds least w
-agrees_known t ds least w seq view token x known judged is same other e decided =
-    found_at t ds least w seq view judged.seq_is judged.view_is
-    (record {
-      found = said known;
-      is = decision_at ds seq x judged.there judged.read ∙ ap (option_map said) is;
-      same = inl same;
-    })
-
--- it isn't decided
-pub agrees_undecided : (t : Trace) (ds : Table) (least : Option ℕ) (w : Vote) (seq view : ℕ) (token : List ℕ)
-    (x : Option Decision) → Judged ds w seq view token x
-    → nat_le t.quorum (backers t seq view (ForCommit token)) ≡ false → Agrees t ds least w
-agrees_undecided t ds least w seq view token x judged not other e decided =
-    let backed = decided_at t ds w seq view token other x judged e decided in
-    absurd (omega (arith, backed, leb-false t.quorum (backers t seq view (ForCommit token)) not))
-
--- another view is known, and this one is decided
-pub clash_judging : (t : Trace) (ds : Table) (least : Option ℕ) (w : Vote) (seq view offset : ℕ) (b : ℕ × Batch)
-    (token : List ℕ) (x : Option Decision) (known : Decision) → Judged ds w seq view token x
-    → x ≡ Some known → known.view ≢ view → nat_le t.quorum (backers t seq view (ForCommit token)) ≡ true → 1 ≤ seq
-    → slice_get (batches_at t) (seq - 1) ≡ Some (offset, b)
+-- another view is known
+pub clash_judging : (t : Trace) (ds : Table) (least : Option ℕ) (n offset : ℕ) (b : ℕ × Batch) (d known : Decision)
+    (x : Option Decision) → n < length ds → x ≡ get_or ds n x → x ≡ Some known → known.view ≢ d.view
+    → IsDecided t n d.view d.token.now → 1 ≤ n → slice_get (batches_at t) (n - 1) ≡ Some (offset, b)
     → Judging t ds least → Judging t ds (lower least offset)
-clash_judging t ds least w seq view offset b token x known judged is apart backed low got judging =
-    let found : decision_in ds seq ≡ Some (said known) = decision_at ds seq x judged.there judged.read
-    ∙ ap (option_map said) is in
-    let earlier : IsKnown t seq (said known) = subst (λ (o : Option (ℕ × List ℕ)). IfSome o (IsKnown t seq)) found
-    (judging.known seq) in
-    let two : HasTwoDecisions t seq = record {
+clash_judging t ds least n offset b d known x there read is apart decided low got judging =
+    let found : decision_in ds n ≡ Some (said known) = decision_at ds n x there read ∙ ap (option_map said) is in
+    let earlier : IsKnown t n (said known) = subst (λ (o : Option (ℕ × List ℕ)). IfSome o (IsKnown t n)) found
+    (judging.known n) in
+    let two : HasTwoDecisions t n = record {
       view = known.view;
-      other = view;
+      other = d.view;
       token = known.token.now;
-      other_token = token;
+      other_token = d.token.now;
       apart = apart;
       decided = earlier.decided;
-      other_decided = leb-true t.quorum (backers t seq view (ForCommit token)) backed;
+      other_decided = decided;
     } in
     record {
       long = judging.long;
       known = judging.known;
       stands = lower_stands (StandsInVotes code.TwoDecisions t) least offset judging.stands
-          (decisions_stand t seq offset b low got two);
+          (decisions_stand t n offset b low got two);
     }
 
-pub agrees_clash : (t : Trace) (ds : Table) (least : Option ℕ) (w : Vote) (seq view offset : ℕ) (b : ℕ × Batch)
-    (token : List ℕ) (x : Option Decision) (known : Decision) → Judged ds w seq view token x
-    → x ≡ Some known → 1 ≤ seq → slice_get (batches_at t) (seq - 1) ≡ Some (offset, b)
-    → Agrees t ds (lower least offset) w
-agrees_clash t ds least w seq view offset b token x known judged is low got other e decided =
-    let clash : IsClash t seq (lower least offset) =
+pub found_clash : (t : Trace) (ds : Table) (least : Option ℕ) (n view offset : ℕ) (b : ℕ × Batch) (known : Decision)
+    (x : Option Decision) → n < length ds → x ≡ get_or ds n x → x ≡ Some known → 1 ≤ n
+    → slice_get (batches_at t) (n - 1) ≡ Some (offset, b) → IsFound t ds (lower least offset) n view
+found_clash t ds least n view offset b known x there read is low got =
+    let clash : IsClash t n (lower least offset) =
     record {
       offset = offset;
-      only = λ at s. batch_offset t seq offset b at low got s;
+      only = λ at s. batch_offset t n offset b at low got s;
       below = lower_at least offset;
     } in
-    found_at t ds (lower least offset) w seq view judged.seq_is judged.view_is
-    (record {
+    record {
       found = said known;
-      is = decision_at ds seq x judged.there judged.read ∙ ap (option_map said) is;
+      is = decision_at ds n x there read ∙ ap (option_map said) is;
       same = inr clash;
-    })
+    }
 
--- nothing is known yet, and it is decided
-pub first_judging : (t : Trace) (ds : Table) (least : Option ℕ) (w : Vote) (seq view : ℕ) (d : Decision)
-    (x : Option Decision) → Judged ds w seq view d.token.now x
-    → d.view ≡ view → nat_le t.quorum (backers t seq view (ForCommit d.token.now)) ≡ true → length d.token.now ≡ 32
-    → Judging t ds least → Judging t (set ds seq (Some d)) least
-first_judging t ds least w seq view d x judged same backed size judging = record {
-  long = length-set ds seq (Some d) ∙ judging.long;
-  known = λ n. at_number n (cases_eq n seq);
+-- nothing is known yet
+pub first_judging : (t : Trace) (ds : Table) (least : Option ℕ) (n : ℕ) (d : Decision) → n < length ds
+    → IsDecided t n d.view d.token.now → length d.token.now ≡ 32 → Judging t ds least
+    → Judging t (set ds n (Some d)) least
+first_judging t ds least n d there decided size judging = record {
+  long = length-set ds n (Some d) ∙ judging.long;
+  known = λ m. at_number m (cases_eq m n);
   stands = judging.stands;
 }
   where
-    here : IsKnown t seq (said d)
-    here = record {
-      decided = subst (λ (v : ℕ). IsDecided t seq v d.token.now) (sym same)
-          (leb-true t.quorum (backers t seq view (ForCommit d.token.now)) backed);
-      token = size;
-    }
+    here : IsKnown t n (said d)
+    here = record { decided = decided; token = size }
 
-    at_number : (n : ℕ) → (n ≡ seq) ⊎ (n ≡ seq → ⊥) → IfSome (decision_in (set ds seq (Some d)) n) (IsKnown t n)
-    at_number n (inl e) = subst (λ (m : ℕ). IfSome (decision_in (set ds seq (Some d)) m) (IsKnown t m)) (sym e)
-        (subst (λ (o : Option (ℕ × List ℕ)). IfSome o (IsKnown t seq)) (sym (decision_set_here ds seq d judged.there))
-        here)
-    at_number n (inr apart) = subst (λ (o : Option (ℕ × List ℕ)). IfSome o (IsKnown t n))
-        (sym (decision_set_other ds seq n d apart)) (judging.known n)
+    at_number : (m : ℕ) → (m ≡ n) ⊎ (m ≡ n → ⊥) → IfSome (decision_in (set ds n (Some d)) m) (IsKnown t m)
+    at_number m (inl e) = subst (λ (k : ℕ). IfSome (decision_in (set ds n (Some d)) k) (IsKnown t k)) (sym e)
+        (subst (λ (o : Option (ℕ × List ℕ)). IfSome o (IsKnown t n)) (sym (decision_set_here ds n d there)) here)
+    at_number m (inr apart) = subst (λ (o : Option (ℕ × List ℕ)). IfSome o (IsKnown t m))
+        (sym (decision_set_other ds n m d apart)) (judging.known m)
 
-pub first_keeps : (ds : Table) (w : Vote) (seq view : ℕ) (token : List ℕ) (d : Decision) (x : Option Decision)
-    → Judged ds w seq view token x → is_some x ≡ false → Keeps ds (set ds seq (Some d))
-first_keeps ds w seq view token d x judged none n y is = at_number (cases_eq n seq)
+pub first_keeps : (ds : Table) (n : ℕ) (d : Decision) (x : Option Decision) → n < length ds → x ≡ get_or ds n x
+    → is_some x ≡ false → Keeps ds (set ds n (Some d))
+first_keeps ds n d x there read none m y is = at_number (cases_eq m n)
   where
     nothing : (o : Option Decision) → is_some o ≡ false → option_map said o ≡ None
     nothing None e = refl
     nothing (Some z) e = absurd cc
 
-    at_number : (n ≡ seq) ⊎ (n ≡ seq → ⊥) → decision_in (set ds seq (Some d)) n ≡ Some y
+    at_number : (m ≡ n) ⊎ (m ≡ n → ⊥) → decision_in (set ds n (Some d)) m ≡ Some y
     at_number (inl e) =
-        let none_there : decision_in ds n ≡ None = ap (decision_in ds) e ∙ decision_at ds seq x judged.there judged.read
+        let none_there : decision_in ds m ≡ None = ap (decision_in ds) e ∙ decision_at ds n x there read
         ∙ nothing x none in
         absurd (let clash = sym is ∙ none_there in cc)
-    at_number (inr apart) = decision_set_other ds seq n d apart ∙ is
+    at_number (inr apart) = decision_set_other ds n m d apart ∙ is
 
-pub agrees_first : (t : Trace) (ds : Table) (least : Option ℕ) (w : Vote) (seq view : ℕ) (d : Decision)
-    (x : Option Decision) → Judged ds w seq view d.token.now x → d.view ≡ view → Agrees t (set ds seq (Some d)) least w
-agrees_first t ds least w seq view d x judged same other e decided =
-    found_at t (set ds seq (Some d)) least w seq view judged.seq_is judged.view_is
-    (record { found = said d; is = decision_set_here ds seq d judged.there; same = inl same })
+pub found_first : (t : Trace) (ds : Table) (least : Option ℕ) (n : ℕ) (d : Decision) → n < length ds
+    → IsFound t (set ds n (Some d)) least n d.view
+found_first t ds least n d there = record { found = said d; is = decision_set_here ds n d there; same = inl refl }
 
 -- ---- further on
 
--- what was found for a vote stays so
-pub agrees_later : (t : Trace) (ds es : Table) (least now : Option ℕ) → Keeps ds es → Lowers least now → (w : Vote)
-    → Agrees t ds least w → Agrees t es now w
-agrees_later t ds es least now keeps lowers w agrees token e decided =
-    let found = agrees token e decided in
-    record {
-      found = found.found;
-      is = keeps w.seq found.found found.is;
-      same = elim found.same [
-        | inl same ↦ inl same
-        | inr clash
-            ↦ inr (record { offset = clash.offset; only = clash.only; below = lowers clash.offset clash.below })
-      ];
-    }
+-- what was found stays so
+pub found_later : (t : Trace) (ds es : Table) (least now : Option ℕ) (n view : ℕ) → Keeps ds es → Lowers least now
+    → IsFound t ds least n view → IsFound t es now n view
+found_later t ds es least now n view keeps lowers found = record {
+  found = found.found;
+  is = keeps n found.found found.is;
+  same = elim found.same [
+    | inl same ↦ inl same
+    | inr clash
+        ↦ inr (record { offset = clash.offset; only = clash.only; below = lowers clash.offset clash.below })
+  ];
+}
 
-pub agrees_next : (t : Trace) (ds es : Table) (least now : Option ℕ) (ws : List Vote) (i : ℕ) (w : Vote)
-    → slice_get ws i ≡ Some w → Keeps ds es → Lowers least now → All (Agrees t ds least) (take i ws) → Agrees t es now w
-    → All (Agrees t es now) (take (i + 1) ws)
-agrees_next t ds es least now ws i w got keeps lowers all here =
-    All-more (Agrees t es now) ws i w (slice_get_within ws i w got)
-    (All-weaker (Agrees t ds least) (Agrees t es now) (agrees_later t ds es least now keeps lowers) (take i ws) all)
-    (subst (Agrees t es now) (sym (get_or_from_slice_get ws i w w got)) here)
+-- the votes before this place agree
+abbrev pub AgreeBefore : Trace → List Ballot → ℕ → Table → Option ℕ → Type 0
+AgreeBefore t xs i ds least = (j : ℕ) (b : Ballot) → j < i → slice_get xs j ≡ Some b → Agrees t ds least b.seq b.view
 
-pub agrees_more : (t : Trace) (ds es : Table) (least now : Option ℕ) (v : ℕ) → Keeps ds es → Lowers least now
-    → ((u : ℕ) → u < v → All (Agrees t ds least) (votes_of t u)) → All (Agrees t es now) (votes_of t v)
-    → (u : ℕ) → u < v + 1 → All (Agrees t es now) (votes_of t u)
-agrees_more t ds es least now v keeps lowers all here u less = by_order (cases_lt u v)
+pub agrees_later : (t : Trace) (ds es : Table) (least now : Option ℕ) (n view : ℕ) → Keeps ds es → Lowers least now
+    → Agrees t ds least n view → Agrees t es now n view
+agrees_later t ds es least now n view keeps lowers agrees token decided =
+    found_later t ds es least now n view keeps lowers (agrees token decided)
+
+-- those of a batch in a view begin at this place, and were judged
+pub agree_judged : (t : Trace) (xs : List Ballot) (i : ℕ) (b : Ballot) (ds es : Table) (least now : Option ℕ)
+    → slice_get xs i ≡ Some b → Keeps ds es → Lowers least now → Agrees t es now b.seq b.view
+    → AgreeBefore t xs i ds least → AgreeBefore t xs (i + 1) es now
+agree_judged t xs i b ds es least now got keeps lowers agrees before j c less at_c = by (cases_lt j i)
   where
-    by_order : (u < v) ⊎ (v ≤ u) → All (Agrees t es now) (votes_of t u)
-    by_order (inl below) = All-weaker (Agrees t ds least) (Agrees t es now)
-        (agrees_later t ds es least now keeps lowers) (votes_of t u) (all u below)
-    by_order (inr past) = (let same : v ≡ u = omega arith in subst (λ (z : ℕ). All (Agrees t es now) (votes_of t z))
-        same here)
+    by : (j < i) ⊎ (i ≤ j) → Agrees t es now c.seq c.view
+    by (inl earlier) = agrees_later t ds es least now c.seq c.view keeps lowers (before j c earlier at_c)
+    by (inr past) =
+        let same : i ≡ j = omega arith in
+        let is : Some b ≡ Some c = sym got ∙ ap (slice_get xs) same ∙ at_c in
+        let equal : b ≡ c = cc in
+        subst (λ (x : Ballot). Agrees t es now x.seq x.view) equal agrees
+
+-- the one before this place is on the same
+pub agree_continues : (t : Trace) (xs : List Ballot) (i : ℕ) (ds : Table) (least : Option ℕ) → Continues xs i
+    → AgreeBefore t xs i ds least → AgreeBefore t xs (i + 1) ds least
+agree_continues t xs i ds least h before j c less at_c = by (cases_lt j i)
+  where
+    by : (j < i) ⊎ (i ≤ j) → Agrees t ds least c.seq c.view
+    by (inl earlier) = before j c earlier at_c
+    by (inr past) =
+        let some = h.some in
+        let same : i ≡ j = omega arith in
+        let is : Some h.later ≡ Some c = sym h.later_is ∙ ap (slice_get xs) same ∙ at_c in
+        let equal : h.later ≡ c = cc in
+        let both = fellow_is h.former h.later h.alike in
+        subst (λ (x : Ballot). Agrees t ds least x.seq x.view) equal
+        (subst (λ (s : ℕ). Agrees t ds least s h.later.view) both.0
+        (subst (λ (v : ℕ). Agrees t ds least h.former.seq v) both.1
+        (before (i - 1) h.former (omega arith) h.former_is)))
 
 -- nothing is known at first
 pub none_known : (ds : Table) → All (λ d. d ≡ None) ds → (n : ℕ) → decision_in ds n ≡ None
@@ -346,31 +295,81 @@ quorum_limits t limits =
     (is_between 1 8 h.workers && (is_between 1 4096 h.customers && nat_le h.batches 65535))) quorum.1 in
     (leb-true h.quorum h.verifiers quorum.0, ltb-true h.verifiers (2 * h.quorum) most.0)
 
+-- ---- what is decided
+
+votes_right : (t : Trace) → HasLimits t → (v : ℕ) → v < length t.verifiers
+    → All (IsRight (length t.batches)) (votes_of t v)
+votes_right t limits v there k d lt =
+    let own : IsTrue (list_all (is_vote (length t.batches)) (votes_of t v)) =
+    all_at (list_all (is_vote (length t.batches))) t.verifiers v (votes_of t v) limits.votes
+    (slice_get-get_or t.verifiers v [] there) in
+    right_vote (length t.batches) (get_or (votes_of t v) k d)
+    (all_at (is_vote (length t.batches)) (votes_of t v) k (get_or (votes_of t v) k d) own
+    (slice_get-get_or (votes_of t v) k d lt))
+
+-- the batch is there, and the token has 32 bytes
+pub record IsWithin (t : Trace) (n : ℕ) (token : List ℕ) : Type 0 where
+  pub low : 1 ≤ n
+  pub high : n ≤ length t.batches
+  pub size : length token ≡ 32
+
+pub decided_within : (t : Trace) → HasLimits t → (n view : ℕ) (token : List ℕ) → IsDecided t n view token
+    → IsWithin t n token
+decided_within t limits n view token decided =
+    let most = (quorum_limits t limits).1 in
+    let some : 1 ≤ t.quorum = omega (arith, most) in
+    let back = decided_backs t (IsRight (length t.batches)) n view token some
+    (λ v early. votes_right t limits v (omega (arith, some, early))) decided in
+    record {
+      low = subst (λ (m : ℕ). 1 ≤ m) back.seq back.holds.low;
+      high = subst (λ (m : ℕ). m ≤ length t.batches) back.seq back.holds.high;
+      size = back.holds.token token back.commit;
+    }
+
+pub within_table : {t : Trace} {ds : Table} {least : Option ℕ} {n : ℕ} {token : List ℕ} → Judging t ds least
+    → IsWithin t n token → n < length ds
+within_table judging within = (let long = judging.long in let high = within.high in omega arith)
+
+-- a verifier's only vote is for it
+pub decided_among : (t : Trace) (xs : List Ballot) (n view : ℕ) (token : List ℕ) → HasCast t xs → 1 ≤ t.quorum
+    → IsDecided t n view token → (v : ℕ) × IsAmong xs n view v
+decided_among t xs n view token cast some decided =
+    let p : List Vote → Bool = λ votes. is_only (ForCommit token) (filter (is_vote_on n view) votes) in
+    let one = counted p t.quorum t.verifiers some decided in
+    let alone = single (ForCommit token) (filter (is_vote_on n view) (votes_of t one.place)) (one.is []) in
+    (one.place, cast.all n view one.place alone.0 alone.1)
+  where
+    single : (c : Choice) (ws : List Vote) → is_only c ws ≡ true → (w : Vote) × (ws ≡ w ∷ [])
+    single c [] e = absurd cc
+    single c (w ∷ []) e = (w, refl)
+    single c (w ∷ x ∷ ws) e = absurd cc
+
 -- ---- in the end
 
 -- each decision was found
-pub all_found : (t : Trace) (ds : Table) (least : Option ℕ) → 1 ≤ t.quorum
-    → ((v : ℕ) → v + t.quorum ≤ length t.verifiers → All (Agrees t ds least) (votes_of t v))
-    → (n view : ℕ) (token : List ℕ) → IsDecided t n view token
-    → IsFound t ds least n view
-all_found t ds least some all n view token decided =
-    let back = decided_backs t (Agrees t ds least) n view token some all decided in
-    let there : IsDecided t back.vote.seq back.vote.view token =
-    subst (λ (s : ℕ). IsDecided t s back.vote.view token) (sym back.seq)
-    (subst (λ (v : ℕ). IsDecided t n v token) (sym back.in_view) decided) in
-    subst (λ (s : ℕ). IsFound t ds least s view) back.seq
-    (subst (λ (v : ℕ). IsFound t ds least back.vote.seq v) back.in_view (back.holds token back.commit there))
+abbrev pub AllFound : Trace → Table → Option ℕ → Type 0
+AllFound t ds least = (n view : ℕ) (token : List ℕ) → IsDecided t n view token → IsFound t ds least n view
 
-pub clashes_below : (t : Trace) (ds : Table) (least : Option ℕ) → 1 ≤ t.quorum
-    → ((v : ℕ) → v + t.quorum ≤ length t.verifiers → All (Agrees t ds least) (votes_of t v))
+pub all_found : (t : Trace) (xs : List Ballot) (ds : Table) (least : Option ℕ) → HasLimits t → HasCast t xs
+    → AgreeBefore t xs (length xs) ds least → AllFound t ds least
+all_found t xs ds least limits cast agree n view token decided =
+    let most = (quorum_limits t limits).1 in
+    let found = (decided_among t xs n view token cast (omega (arith, most)) decided).1 in
+    let b = found.1 in
+    let there : IsDecided t b.seq b.view token = subst (λ (s : ℕ). IsDecided t s b.view token) (sym found.3)
+    (subst (λ (v : ℕ). IsDecided t n v token) (sym found.4) decided) in
+    let is = agree found.0 b (slice_get_within xs found.0 b found.2) found.2 token there in
+    subst (λ (s : ℕ). IsFound t ds least s view) found.3 (subst (λ (v : ℕ). IsFound t ds least b.seq v) found.4 is)
+
+pub clashes_below : (t : Trace) (ds : Table) (least : Option ℕ) → AllFound t ds least
     → IsBelowAll (StandsInVotes code.TwoDecisions t) least
-clashes_below t ds least some all at s =
+clashes_below t ds least all at s =
     let n = s.item.1.0 in
     let two = s.holds.1 in
     let place : IsBatchAt t n at =
     record { before = s.before; item = s.item; rest = s.rest; is = s.is; holds = (s.holds.0, refl) } in
-    let first = all_found t ds least some all n two.view two.token two.decided in
-    let second = all_found t ds least some all n two.other two.other_token two.other_decided in
+    let first = all n two.view two.token two.decided in
+    let second = all n two.other two.other_token two.other_decided in
     let same : first.found.0 ≡ second.found.0 = ap (λ (o : Option (ℕ × List ℕ)). view_of o) (sym first.is ∙ second.is)
     in
     let clashed : IsClash t n least → IsBelow least at = λ (c : IsClash t n least). subst (IsBelow least)
@@ -384,13 +383,12 @@ clashes_below t ds least some all at s =
     view_of None = 0
     view_of (Some d) = d.0
 
-pub decisions_exact : (t : Trace) (ds : Table) (least : Option ℕ) → 1 ≤ t.quorum → length t.verifiers < 2 * t.quorum
-    → ((v : ℕ) → v + t.quorum ≤ length t.verifiers → All (Agrees t ds least) (votes_of t v)) → Judging t ds least
-    → least ≡ None → AreDecisions t ds
-decisions_exact t ds least some most all judging none = record {
+pub decisions_exact : (t : Trace) (ds : Table) (least : Option ℕ) → HasLimits t → AllFound t ds least
+    → Judging t ds least → least ≡ None → AreDecisions t ds
+decisions_exact t ds least limits all judging none = record {
   known = judging.known;
   all = λ n view token decided.
-      let found = all_found t ds least some all n view token decided in
+      let found = all n view token decided in
       let known : IsKnown t n found.found = subst (λ (o : Option (ℕ × List ℕ)). IfSome o (IsKnown t n)) found.is
       (judging.known n) in
       let in_view : found.found.0 ≡ view =
@@ -399,7 +397,8 @@ decisions_exact t ds least some most all judging none = record {
         | inr c
             ↦ absurd (let below = subst (λ (o : Option ℕ). IsBelow o c.offset) none c.below in below)
       ] in
-      let token_is : found.found.1 ≡ token = one_token t n view found.found.1 token most
+      let token_is : found.found.1 ≡ token = one_token t n view found.found.1 token
+      (quorum_limits t limits).1
       (subst (λ (v : ℕ). IsDecided t n v found.found.1) in_view known.decided) decided in
       found.is ∙ ap (λ (v : ℕ). Some (v, found.found.1)) in_view ∙ ap (λ (d : List ℕ). Some (view, d)) token_is;
 }

@@ -8,7 +8,8 @@ use Rattle.std.specs.List.Sorted.{IsPartitionedBy}
 use Rattle.std.proofs.lemmas.Bool.{ltb-true, ltb-false, eqb-true, eqb-false, eq-eqb, lt-ltb, and_parts, and_from}
 use Rattle.std.proofs.lemmas.Bool.{false≢true, cases_lt}
 use Rattle.std.proofs.lemmas.Option.{slice_get-get_or, slice_get_within, get_or_from_slice_get}
-use Rattle.eve_votes.specs.Ballots.{is_alike, is_at, is_lower, IsBefore, IsNotAfter, AreInOrder, IsStart}
+use Rattle.eve_votes.specs.Ballots.{is_alike, is_fellow, is_at, is_lower, IsBefore, IsNotAfter, AreInOrder, IsStart}
+use Rattle.eve_votes.specs.Ballots.{Continues}
 use Rattle.eve_votes.specs.declared.ballots.Ballot.{Ballot}
 
 abbrev pub at : ℕ → ℕ → ℕ → Ballot
@@ -115,6 +116,83 @@ start_is n view xs s low high = record {
   behind = λ i b ge got. not_lower_behind n view b (ap (is_lower n view) (sym (get_or_from_slice_get xs i b b got)) ∙
       high i b ge (slice_get_within xs i b got));
 }
+
+-- ---- from one batch or view to the next
+
+pub fellow_is : (a b : Ballot) → is_fellow a b ≡ true → (a.seq ≡ b.seq) × (a.view ≡ b.view)
+fellow_is a b h =
+    let parts = and_parts (a.seq == b.seq) (a.view == b.view) h in
+    (eqb-true a.seq b.seq parts.0, eqb-true a.view b.view parts.1)
+
+pub is_fellow_from : (a b : Ballot) → a.seq ≡ b.seq → a.view ≡ b.view → is_fellow a b ≡ true
+is_fellow_from a b e f = and_from (a.seq == b.seq) (a.view == b.view) (eq-eqb a.seq b.seq e) (eq-eqb a.view b.view f)
+
+-- where the vote before isn't on the same, those on its batch in its view begin
+pub begins : (xs : List Ballot) (i : ℕ) (b : Ballot) → AreInOrder IsBefore xs → slice_get xs i ≡ Some b
+    → (Continues xs i → ⊥) → IsStart xs i b.seq b.view 0
+begins xs i b order got none = record {
+  before = λ j a less at_j. (
+      let h = order j i a b less at_j got in
+      record {
+        seq = h.seq;
+        view = h.view;
+        verifier = λ le more. absurd (none (continuing j a less at_j le more (cases_lt j (i - 1))));
+      });
+  behind = λ j c ge at_j. by j c at_j (cases_lt i j) ge;
+}
+  where
+    by : (j : ℕ) (c : Ballot) → slice_get xs j ≡ Some c → (i < j) ⊎ (j ≤ i) → i ≤ j → IsNotAfter (at b.seq b.view 0) c
+    by j c at_j (inl less) ge =
+        let h = order i j b c less got at_j in
+        record { seq = h.seq; view = h.view; verifier = λ le more. omega arith; place = λ le more most. omega arith }
+    by j c at_j (inr le) ge =
+        let same : j ≡ i = omega arith in
+        let is : Some c ≡ Some b = sym at_j ∙ ap (slice_get xs) same ∙ got in
+        let equal : b ≡ c = cc in
+        subst (IsNotAfter (at b.seq b.view 0)) equal (record {
+          seq = omega arith;
+          view = λ le. omega arith;
+          verifier = λ le more. omega arith;
+          place = λ le more most. omega arith;
+        })
+
+    continuing : (j : ℕ) (a : Ballot) → j < i → slice_get xs j ≡ Some a → b.seq ≤ a.seq → b.view ≤ a.view
+        → (j < i - 1) ⊎ (i - 1 ≤ j) → Continues xs i
+    continuing j a less at_j le more (inl between) =
+        let there : i - 1 < length xs = (let lt = slice_get_within xs i b got in omega arith) in
+        let c = get_or xs (i - 1) b in
+        let at_c = slice_get-get_or xs (i - 1) b there in
+        let ac = order j (i - 1) a c between at_j at_c in
+        let cb = order (i - 1) i c b (omega arith) at_c got in
+        let s = ac.seq in
+        let u = cb.seq in
+        let seq : c.seq ≡ b.seq = omega arith in
+        let x = ac.view (omega arith) in
+        let y = cb.view (omega arith) in
+        let view : c.view ≡ b.view = omega arith in
+        record {
+          some = omega arith;
+          former = c;
+          later = b;
+          former_is = at_c;
+          later_is = got;
+          alike = is_fellow_from c b seq view;
+        }
+    continuing j a less at_j le more (inr past) =
+        let same : j ≡ i - 1 = omega arith in
+        let h = order j i a b less at_j got in
+        let s = h.seq in
+        let seq : a.seq ≡ b.seq = omega arith in
+        let y = h.view (omega arith) in
+        let view : a.view ≡ b.view = omega arith in
+        record {
+          some = omega arith;
+          former = a;
+          later = b;
+          former_is = ap (slice_get xs) (sym same) ∙ at_j;
+          later_is = got;
+          alike = is_fellow_from a b seq view;
+        }
 
 -- ---- to the next verifier
 

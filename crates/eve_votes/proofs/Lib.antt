@@ -5,5 +5,6 @@ pub mod Deciding
 pub mod Tallying
 pub mod InOrder
 pub mod Backing
+pub mod Leading
 pub mod Gathered
 pub mod Sifting

@@ -27,6 +27,10 @@ ballots_of t = ballots_among 0 t.verifiers
 abbrev pub is_alike : Ballot → Ballot → Bool
 is_alike a b = (a.seq == b.seq) && ((a.view == b.view) && (a.verifier == b.verifier))
 
+-- both are on one batch in one view
+abbrev pub is_fellow : Ballot → Ballot → Bool
+is_fellow a b = (a.seq == b.seq) && (a.view == b.view)
+
 -- there is one at this place, and it is alike
 abbrev pub is_at : List Ballot → ℕ → Ballot → Bool
 is_at xs i b = nat_lt i (length xs) && is_alike (slice_index_or xs i b) b
@@ -59,14 +63,22 @@ pub record IsStart (xs : List Ballot) (start n view v : ℕ) : Type 0 where
   pub behind : (i : ℕ) (b : Ballot) → start ≤ i → slice_get xs i ≡ Some b →
       IsNotAfter (record { seq = n; view = view; verifier = v; place = 0 }) b
 
--- the vote at this place and the one before it are a verifier's on one batch in one view
-pub record Follows (xs : List Ballot) (i : ℕ) : Type 0 where
+-- the vote at this place and the one before it stand so to each other
+pub record Adjoin (test : Ballot → Ballot → Bool) (xs : List Ballot) (i : ℕ) : Type 0 where
   pub some : 1 ≤ i
   pub former : Ballot
   pub later : Ballot
   pub former_is : slice_get xs (i - 1) ≡ Some former
   pub later_is : slice_get xs i ≡ Some later
-  pub alike : IsTrue (is_alike former later)
+  pub alike : IsTrue (test former later)
+
+-- they are a verifier's on one batch in one view
+abbrev pub Follows : List Ballot → ℕ → Type 0
+Follows xs i = Adjoin is_alike xs i
+
+-- they are on one batch in one view
+abbrev pub Continues : List Ballot → ℕ → Type 0
+Continues xs i = Adjoin is_fellow xs i
 
 -- it is one of the votes of the trace
 pub record IsVoteOf (t : Trace) (b : Ballot) : Type 0 where

@@ -1,7 +1,7 @@
 -- What was found to be decided as commit.
 use Rattle.std.specs.Prelude.{◌≡◌, ℕ, ◌+◌, List, length, Option, Some, None, IfSome, slice_index_or, ◌⊎◌}
 use Rattle.std.specs.Option.{option_map}
-use Rattle.eve_grammar.specs.Trace.{ForCommit, Vote, Trace}
+use Rattle.eve_grammar.specs.Trace.{Trace}
 use Rattle.eve_grammar.specs.Spelling.{batches_at}
 use Rattle.eve_views.specs.declared.fault.Code.TheVariants as code
 use Rattle.eve_votes.specs.Votes.{IsDecided}
@@ -49,10 +49,9 @@ pub record IsFound (t : Trace) (ds : List (Option Decision)) (least : Option ℕ
   pub is : decision_in ds n ≡ Some found
   pub same : (found.0 ≡ view) ⊎ IsClash t n least
 
--- what the vote is for was found, if it is decided as commit
-abbrev pub Agrees : Trace → List (Option Decision) → Option ℕ → Vote → Type 0
-Agrees t ds least w = (token : List ℕ) → w.choice ≡ ForCommit token → IsDecided t w.seq w.view token
-    → IsFound t ds least w.seq w.view
+-- what is decided for the batch in this view was found
+abbrev pub Agrees : Trace → List (Option Decision) → Option ℕ → ℕ → ℕ → Type 0
+Agrees t ds least n view = (token : List ℕ) → IsDecided t n view token → IsFound t ds least n view
 
 -- the decisions are those of the trace
 pub record AreDecisions (t : Trace) (ds : List (Option Decision)) : Type 0 where

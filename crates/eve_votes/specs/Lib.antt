@@ -3,5 +3,6 @@ pub mod Faults
 pub mod Least
 pub mod First
 pub mod Ballots
+pub mod Majority
 pub mod Decisions
 pub mod Held

@@ -5,7 +5,7 @@ ghost use Rattle.eve_grammar.specs.Bodies.{choice as choice_of};
 ghost use Rattle.eve_grammar.specs.Spelling.{votes_at, votes_of};
 ghost use Rattle.eve_frames.specs.Views.{vote_in};
 ghost use Rattle.eve_votes.specs.Votes.{same_choice, backers};
-ghost use Rattle.eve_votes.specs.Ballots.{is_alike, is_at, is_lower, IsBefore, AreInOrder, IsStart, HasCast};
+ghost use Rattle.eve_votes.specs.Ballots.{is_alike, is_fellow, is_at, is_lower, IsBefore, AreInOrder, IsStart, HasCast};
 
 use eve_frames::VoteView;
 use eve_grammar::Choice;
@@ -25,6 +25,13 @@ pub(crate) fn is_alike(a: &Ballot, b: &Ballot) -> bool
     ensures { result ≡ is_alike a.now b.now }
 {
     a.seq == b.seq && a.view == b.view && a.verifier == b.verifier
+}
+
+/// Whether two votes are on one batch in one view.
+pub(crate) fn is_fellow(a: &Ballot, b: &Ballot) -> bool
+    ensures { result ≡ is_fellow a.now b.now }
+{
+    a.seq == b.seq && a.view == b.view
 }
 
 /// Whether a vote is on an earlier batch, or on the same in an earlier view.
@@ -57,7 +64,7 @@ fn start_of(ballots: &[Ballot], seq: u32, view: u32) -> usize
 }
 
 /// Whether the vote at this place is of the same verifier as another, on the same batch in the same view.
-fn is_at(ballots: &[Ballot], at: usize, ballot: Ballot) -> bool
+pub(crate) fn is_at(ballots: &[Ballot], at: usize, ballot: Ballot) -> bool
     ensures { result ≡ is_at ballots.now at ballot }
 {
     at < ballots.len() && is_alike(&ballots[at], &ballot)
@@ -76,19 +83,23 @@ fn is_same(a: Choice<'_>, b: Choice<'_>) -> bool
     }
 }
 
-/// How many verifiers have exactly one vote on the batch in this view, and it is for this.
-pub(crate) fn backers(
+/// How many verifiers have exactly one vote on the batch in this view, and it is for this. The votes on the batch in
+/// this view begin at this place.
+pub(crate) fn backers_from(
     trace: &Trace<'_>,
     ballots: &[Ballot],
+    start: usize,
     seq: u32,
     view: u32,
     choice: Choice<'_>,
 ) -> u8
-    requires { HasCast trace.now ballots.now }
+    requires cast { HasCast trace.now ballots.now }
+    requires start { IsStart ballots.now start seq view 0 }
     ensures { result ≡ backers trace.now seq view (choice_of choice.entry) }
 {
+    trace.is_whole();
     let verifiers = trace.head().verifiers;
-    let mut at = start_of(ballots, seq, view);
+    let mut at = start;
     let mut count: u8 = 0;
     for verifier in 0..verifiers {
         let wanted = Ballot {
@@ -105,4 +116,25 @@ pub(crate) fn backers(
         }
     }
     count
+}
+
+/// How many verifiers have exactly one vote on the batch in this view, and it is for this.
+pub(crate) fn backers(
+    trace: &Trace<'_>,
+    ballots: &[Ballot],
+    seq: u32,
+    view: u32,
+    choice: Choice<'_>,
+) -> u8
+    requires { HasCast trace.now ballots.now }
+    ensures { result ≡ backers trace.now seq view (choice_of choice.entry) }
+{
+    backers_from(
+        trace,
+        ballots,
+        start_of(ballots, seq, view),
+        seq,
+        view,
+        choice,
+    )
 }

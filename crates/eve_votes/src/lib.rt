@@ -4,6 +4,7 @@
 mod ballots;
 mod decisions;
 mod least;
+mod majority;
 mod tally;
 mod voting;
 

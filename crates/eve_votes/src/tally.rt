@@ -10,7 +10,8 @@ ghost use Rattle.eve_votes.specs.Faults.{IsVoteFault, AreVotesSound};
 ghost use Rattle.eve_votes.specs.First.{first_fault, outside};
 
 use crate::ballots::{Ballot, backers};
-use crate::decisions::{Decision, decide, is_backed};
+use crate::decisions::{Decision, decide};
+use crate::majority::is_quorum;
 use crate::voting::{cast, sift};
 use eve_grammar::Choice;
 use eve_views::{CheckFault, Code, Fault, Trace};
@@ -91,8 +92,9 @@ impl<'t, 'a> Tally<'t, 'a> {
     /// Counts the votes, or finds the first fault of votes.
     ///
     /// docs/MODEL.md, "Faults": a further vote of a verifier on a batch in a view stands at that Vote, two views
-    /// of a batch decided as commit stand at the Batch. The votes are sorted once; then each is looked at once, and
-    /// those for a commit are counted with the others on their batch in their view. Want of memory decides nothing.
+    /// of a batch decided as commit stand at the Batch. The votes are sorted once; then those on a batch in a view are
+    /// looked at once for the token that leads, and once more where it may have a quorum. Want of memory decides
+    /// nothing.
     pub fn of(alloc: Global, trace: &'t Trace<'a>) -> Result<Tally<'t, 'a>, CheckFault>
         ensures trace { IfOk result (λ tally. tally ≡ trace.now) }
         ensures sound { IfOk result (λ _. AreVotesSound trace.now) }
@@ -140,6 +142,7 @@ impl<'t, 'a> Tally<'t, 'a> {
     pub fn rolled_back(&self, n: u32, view: u32) -> bool
         ensures { IsTrue result ↔ IsRolledBack self.now n view }
     {
-        is_backed(self.trace, &self.ballots, n, view, Choice::ForRollback)
+        let votes = backers(self.trace, &self.ballots, n, view, Choice::ForRollback);
+        is_quorum(self.trace, votes)
     }
 }

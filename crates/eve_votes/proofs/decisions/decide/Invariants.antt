@@ -1,12 +1,9 @@
-use Rattle.std.proofs.Common.{ℕ, ◌<◌}
-use Rattle.std.specs.List.{All}
-use Rattle.eve_grammar.specs.Spelling.{votes_of}
-use Rattle.eve_votes.specs.Decisions.{Judging, Agrees}
+use Rattle.eve_votes.specs.Decisions.{Judging}
+use Rattle.eve_votes.proofs.Deciding.{AgreeBefore}
 use Rattle.eve_votes.proofs.decisions.decide.Given as goal
 
-abbrev pub invariant-loop-verifier : goal.invariant-loop-verifier
-invariant-loop-verifier l = record {
+abbrev pub invariant-loop-i : goal.invariant-loop-i
+invariant-loop-i l = record {
   judging : Judging l.trace l.decisions.items l.least;
-  agrees : (u : ℕ) → u < l.verifier → All (Agrees l.trace l.decisions.items l.least)
-      (votes_of l.trace u);
+  agree : AgreeBefore l.trace l.ballots l.i l.decisions.items l.least;
 }

@@ -1,4 +1,4 @@
-use Rattle.std.proofs.Common.{◌≡◌, leb, sym, ◌∙◌, subst}
+use Rattle.std.proofs.Common.{◌≡◌, leb, sym, ap, ◌∙◌, subst}
 use Rattle.std.specs.Prelude.{◌↔◌, IsTrue}
 use Rattle.std.proofs.lemmas.Bool.{leb-true, le-leb}
 use Rattle.eve_grammar.specs.Trace.{ForRollback, Trace}
@@ -9,8 +9,9 @@ pub returns : goal.returns
 returns c =
     let t = c.self.inside.trace.now in
     let same : t ≡ c.args.self.now = c.self.view_is in
-    let told : c.is_backed.result ≡ leb t.quorum (backers t c.args.n c.args.view ForRollback) = c.is_backed.ensures in
-    subst (λ (u : Trace). IsTrue c.is_backed.result ↔ IsRolledBack u c.args.n c.args.view) same (
+    let told : c.is_quorum.result ≡ leb t.quorum (backers t c.args.n c.args.view ForRollback) =
+    c.is_quorum.ensures ∙ ap (leb t.quorum) c.backers-votes.ensures in
+    subst (λ (u : Trace). IsTrue c.is_quorum.result ↔ IsRolledBack u c.args.n c.args.view) same (
       λ given. leb-true t.quorum (backers t c.args.n c.args.view ForRollback) (sym told ∙ given),
       λ backed. told
           ∙ le-leb t.quorum (backers t c.args.n c.args.view ForRollback) backed,

@@ -10,8 +10,8 @@ use Rattle.eve_votes.specs.declared.ballots.Ballot.{Ballot}
 use Rattle.eve_votes.proofs.Deciding.{vote_got}
 use Rattle.eve_votes.proofs.InOrder.{at, here, nowhere, start_hit, start_miss}
 use Rattle.eve_votes.proofs.Backing.{backs, backs_here, backs_nowhere, one_more, none_more}
-use Rattle.eve_votes.proofs.ballots.backers.Goals as goal
-use Rattle.eve_votes.proofs.ballots.backers.Goals.{then-is_at, else-is_at, then-is_same, else-is_same}
+use Rattle.eve_votes.proofs.ballots.backers_from.Goals as goal
+use Rattle.eve_votes.proofs.ballots.backers_from.Goals.{then-is_at, else-is_at, then-is_same, else-is_same}
 
 abbrev none : Ballot
 none = record { seq = 0; view = 0; verifier = 0; place = 0 }
@@ -23,7 +23,7 @@ vote_at-requires-clause-place c =
     let there = (here xs s (at c.args.seq c.args.view c.loop-verifier.verifier) (sym c.is_at.ensures ∙
     c.if-is_at.true)).0 in
     let b = get_or xs s none in
-    let only = c.requires.each s b (slice_get-get_or xs s none there) in
+    let only = c.requires.cast.each s b (slice_get-get_or xs s none there) in
     slice_get_within (votes_of c.args.trace.now b.verifier) b.place only.vote only.there
 
 pub loop-verifier-preserved : goal.loop-verifier-preserved
@@ -44,7 +44,7 @@ loop-verifier-preserved c =
           let b = get_or xs s none in
           let got = slice_get-get_or xs s none parts.0 in
           let alike = parts.1 none in
-          let only = c.requires.each s b got in
+          let only = c.requires.cast.each s b got in
           let vote = vote_in w.vote_at.result.bytes.now in
           let is : backs n view ch (votes_of t v) ≡ same_choice vote.choice ch =
           backs_here t n view v ch b vote only alike
@@ -52,7 +52,7 @@ loop-verifier-preserved c =
           let same : w.is_same.result ≡ same_choice vote.choice ch = w.is_same.ensures ∙
           ap (λ x. same_choice x ch) w.choice.ensures in
           let start = subst (λ k. IsStart xs k n view (v + 1)) (sym w.at-is)
-          (start_hit xs c.requires.order s n view v c.loop-verifier.invariant.start b got alike) in
+          (start_hit xs c.requires.cast.order s n view v c.loop-verifier.invariant.start b got alike) in
           elim w.if-is_same.branch [
             | then-is_same u ↦ record {
               count = w.count-is ∙ u.count-is ∙ ap (λ k. k + 1) c.loop-verifier.invariant.count ∙
@@ -67,11 +67,11 @@ loop-verifier-preserved c =
           ]
       | else-is_at w ↦
           let none_here = nowhere xs s (at n view v) (sym c.is_at.ensures ∙ w.if-is_at.false) in
-          let start = start_miss xs c.requires.order s n view v c.loop-verifier.invariant.start none_here in
+          let start = start_miss xs c.requires.cast.order s n view v c.loop-verifier.invariant.start none_here in
           record {
             count = w.count-is ∙ c.loop-verifier.invariant.count ∙
                 sym (none_more t n view v ch there
-                (backs_nowhere t xs s n view v ch c.requires c.loop-verifier.invariant.start none_here));
+                (backs_nowhere t xs s n view v ch c.requires.cast c.loop-verifier.invariant.start none_here));
             start = subst (λ k. IsStart xs k n view (v + 1)) (sym w.at-is) start;
           }
     ]

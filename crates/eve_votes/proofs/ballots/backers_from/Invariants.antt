@@ -2,7 +2,7 @@ use Rattle.std.proofs.Common.{◌≡◌, take, count_by, filter}
 use Rattle.eve_grammar.specs.Bodies.{choice}
 use Rattle.eve_votes.specs.Votes.{is_only, is_vote_on}
 use Rattle.eve_votes.specs.Ballots.{IsStart}
-use Rattle.eve_votes.proofs.ballots.backers.Given as goal
+use Rattle.eve_votes.proofs.ballots.backers_from.Given as goal
 
 abbrev pub invariant-loop-verifier : goal.invariant-loop-verifier
 invariant-loop-verifier l = record {
