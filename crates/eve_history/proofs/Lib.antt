@@ -11,6 +11,9 @@ pub mod Positions
 pub mod Structure
 pub mod RequestIds
 pub mod Rising
+pub mod Counted
+pub mod Sorting
+pub mod Arriving
 pub mod FrameTexts
 pub mod Standing
 pub mod Lent

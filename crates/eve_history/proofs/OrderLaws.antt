@@ -209,7 +209,7 @@ pub batch_there : (t : List (ℕ × (ℕ × Batch))) (i : ℕ) (b : ℕ × (ℕ 
     → slice_get t i ≡ Some b
 batch_there t i b e = let same : i + 1 - 1 ≡ i = omega arith in subst (λ (k : ℕ). slice_get t k ≡ Some b) same e
 
-batch_count : (t : Trace) → length (batches_at t) ≡ length t.batches
+pub batch_count : (t : Trace) → length (batches_at t) ≡ length t.batches
 unfolding batches_at
 batch_count t = length-located batch_text (batches_start t) (batches_of t) ∙ length-enumerate_from 1 t.batches
 

@@ -8,3 +8,4 @@ pub mod Marking
 pub mod Standing
 pub mod Coming
 pub mod Rising
+pub mod Repeats

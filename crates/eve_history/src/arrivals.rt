@@ -1,9 +1,7 @@
 //! Customers and requests, in the order in which they came.
 
-ghost use Rattle.std.specs.Prelude.{◌≡◌, ◌≤◌, ◌++◌, ◌∷◌, [], List, Contains, IfOk, IfErr, MatchBool, IsTrue, map};
-ghost use Rattle.std.specs.Prelude.{length, nat_eq};
+ghost use Rattle.std.specs.Prelude.{◌≡◌, ◌++◌, ◌∷◌, [], List, Contains, IfOk, IfErr, IsTrue, map, nat_eq};
 ghost use Rattle.indexmap.specs.IndexMap.{get};
-ghost use Rattle.eve_grammar.specs.Limits.{is_batch};
 ghost use Rattle.eve_frames.specs.Views.{batch_in};
 ghost use Rattle.eve_views.specs.Form.{IfFound, IsLeast, HasNone};
 ghost use Rattle.eve_views.specs.declared.fault.Fault.{Fault};
@@ -11,12 +9,13 @@ ghost use Rattle.eve_views.specs.declared.fault.CheckFault.TheVariants.{Found, M
 ghost use Rattle.eve_history.specs.SectionHistory.{names_of};
 ghost use Rattle.eve_history.specs.Faults.{IsOrderFault, RequestId, request_id};
 ghost use Rattle.eve_history.specs.Rising.{AreReached, HaveRisen};
-ghost use Rattle.eve_history.specs.Notes.{AreNoted, IsRepeated, requests_said, HasDistinctNames, HasDistinctRequests};
+ghost use Rattle.eve_history.specs.Notes.{requests_said, HasDistinctNames, HasDistinctRequests};
 
+use crate::repeats::first_repeat;
 use eve_accounts::{KeyedHash, NameFault, Names};
 use eve_frames::BatchView;
 use eve_views::{CheckFault, Code, Fault, Trace};
-use indexmap::{IndexMap, IndexSet};
+use indexmap::IndexMap;
 use std::alloc::Global;
 use std::hash::RandomState;
 
@@ -29,38 +28,6 @@ fn outside(code: Code, offset: u64) -> CheckFault
         offset,
         replica: None,
     })
-}
-
-/// Notes a request's client and the client's number for it: whether they are new.
-fn is_new(
-    noted: &mut IndexSet<(u32, u64), RandomState>,
-    request_id: (u32, u64),
-) -> Result<bool, CheckFault>
-    ensures new { IfOk result (λ new. MatchBool new
-        ((¬ Contains noted.old.keys request_id) × (noted.new.keys ≡ noted.old.keys ++ request_id ∷ []))
-        (Contains noted.old.keys request_id)) }
-    ensures memory { IfErr result (λ e. e ≡ Memory) }
-{
-    let is_new = noted.insert(request_id)?;
-    Ok(is_new)
-}
-
-/// Notes the requests of a batch: whether all are new.
-fn are_new(
-    noted: &mut IndexSet<(u32, u64), RandomState>,
-    batch: &BatchView<'_>,
-) -> Result<bool, CheckFault>
-    ensures new { IfOk result (λ new. MatchBool new
-        (AreNoted noted.old.keys (map request_id (requests_said batch.now.bytes.now)) noted.new.keys)
-        (IsRepeated noted.old.keys (map request_id (requests_said batch.now.bytes.now)))) }
-    ensures memory { IfErr result (λ e. e ≡ Memory) }
-{
-    for asked in batch.requests() {
-        if !is_new(noted, (asked.client, asked.number))? {
-            return Ok(false);
-        }
-    }
-    Ok(true)
 }
 
 /// The customers' names, in order, or the first customer whose name an earlier one has.
@@ -156,21 +123,17 @@ fn requests_apart(alloc: Global, trace: &Trace<'_>, random: RandomState) -> Resu
     if numbers_rise(alloc, trace, random)? {
         return Ok(());
     }
-    let mut noted = IndexSet::with_hasher(alloc, random);
-    for i in 0..trace.head().batches {
-        let batch = trace.batch(i + 1);
-        if !are_new(&mut noted, &batch)? {
-            return Err(outside(Code::SameRequest, batch.offset()));
-        }
+    match first_repeat(alloc, trace)? {
+        None => Ok(()),
+        Some(n) => Err(outside(Code::SameRequest, trace.batch(n).offset())),
     }
-    Ok(())
 }
 
 /// The customers' names, in order, where no two customers share a name and no two requests share client and
 /// number; else the first fault of orders.
 ///
-/// docs/MODEL.md, "Faults". One look-up for each customer and each request, and one more for each request where some
-/// client's numbers don't rise. Want of memory decides nothing.
+/// docs/MODEL.md, "Faults". One look-up for each customer and each request. Where some client's numbers don't rise, or
+/// there are more than 4,096 clients, the requests are sorted, in 16 bytes each. Want of memory decides nothing.
 pub fn orders<'a>(
     alloc: Global,
     trace: &Trace<'a>,

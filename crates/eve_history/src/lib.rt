@@ -10,6 +10,7 @@ mod history;
 pub mod laws;
 mod marks;
 mod notes;
+mod repeats;
 mod wrong;
 
 pub use arrivals::orders;

@@ -1,0 +1,8 @@
+use Rattle.std.proofs.Common.{◌≡◌, take}
+use Rattle.std.specs.List.{flat_map}
+use Rattle.eve_grammar.specs.Spelling.{batches_at}
+use Rattle.eve_history.specs.Repeats.{arrivals_at}
+use Rattle.eve_history.proofs.repeats.arrivals_in.Given as goal
+
+abbrev pub invariant-loop-i : goal.invariant-loop-i
+invariant-loop-i l = l.arrivals.items ≡ flat_map arrivals_at (take l.i (batches_at l.trace))
