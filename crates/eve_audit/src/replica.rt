@@ -45,7 +45,7 @@ fn settle<'a, R: Threads + Sync>(
     ensures first { IfErr result (λ why. IfFound why (IsFirstOf (IsOwnFault trace.now history.now.replica))) }
 {
     history.is_right();
-    let settled = match check(rt, alloc, history, trace, names) {
+    let settled = match check(rt, alloc, history, trace, names, jobs) {
         Ok(settled) => settled,
         Err(why) => return Err(why),
     };
@@ -60,8 +60,8 @@ fn settle<'a, R: Threads + Sync>(
     Ok(settled)
 }
 
-/// What a replica did and committed, or the first of its own faults, by the replica's number from 0. Its tokens are
-/// judged in up to so many threads as there are jobs, from 1 on.
+/// What a replica did and committed, or the first of its own faults, by the replica's number from 0. Its records, its
+/// chains and its tokens are judged in up to so many threads as there are jobs, from 1 on; of one job none is started.
 pub fn judge_replica<'a, R: Threads + Sync>(
     rt: &R,
     alloc: Global,

@@ -61,7 +61,7 @@ fn take_found<'a>(
 }
 
 // What a replica did and committed, or the first of its own faults: as was found before, or else as it is judged here,
-// which starts no thread for its tokens and takes no memory for one.
+// which starts no thread and takes no memory for one.
 fn judge_missing<'a, R: Threads + Sync>(
     rt: &R,
     alloc: Global,

@@ -16,9 +16,10 @@ use std::thread;
 use std::thread::Threads;
 
 /// What workers find of the replicas, side by side, each replica judged by itself. Worker e mod `workers` judges
-/// replica e, and enters the gate with e first. Where there are more workers than replicas, each replica's tokens are
-/// judged in as many threads as its part of them. A worker that can't be started is run by the caller; where a worker
-/// has no memory for a replica, nothing is found of it.
+/// replica e, and enters the gate with e first. Where there are more workers than replicas, each replica is judged in
+/// up to as many threads as its part of them: no more threads than workers work at once, and with one worker none is
+/// started. A worker that can't be started is run by the caller; where a worker has no memory for a replica, nothing is
+/// found of it.
 pub fn judge_side_by_side<'a, R: Threads + Wait + Sync, G: Gate>(
     rt: &R,
     alloc: Global,
@@ -39,7 +40,7 @@ pub fn judge_side_by_side<'a, R: Threads + Wait + Sync, G: Gate>(
     Ok(slots)
 }
 
-// In how many threads a replica's tokens are judged, so that there are no more than workers.
+// In how many threads a replica is judged, so that there are no more than workers.
 fn jobs_of_each(workers: u8, replicas: u8) -> u8
     requires { 1 ≤ workers }
     ensures some { 1 ≤ result }

@@ -26,9 +26,10 @@ pub mod Nearest
 pub mod Least
 pub mod Attempts
 pub mod Judged
-pub mod Pieces
+pub mod Stretches
 mod PartsInOrder
 mod Committed
 mod Copying
 mod AdvancingBanks
 mod OpeningRows
+pub mod ShortLists

@@ -8,6 +8,7 @@ pub mod Tables
 pub mod Records
 pub mod Along
 pub mod Unfit
+pub mod Stretches
 pub mod Settling
 pub mod Checking
 pub mod Parts

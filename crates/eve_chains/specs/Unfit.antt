@@ -2,7 +2,7 @@
 -- docs/MODEL.md, "A record fits its request".
 use Rattle.std.specs.Prelude.{◌≡◌, ℕ, ◌<◌, ◌≤◌, nat_lt, Bool, true, false, if◌then◌else◌, List, [], ◌∷◌, ◌++◌, map}
 use Rattle.std.specs.Prelude.{length, Option, Some, None, Result, Ok, Err, slice_get, slice_index_or}
-use Rattle.std.specs.List.{AllByRecursion}
+use Rattle.std.specs.List.{AllByRecursion, slice_range}
 use Rattle.eve_smallbank.specs.declared.request.Reply.{Reply}
 use Rattle.eve_smallbank.specs.declared.request.Reply.TheVariants.{Done}
 use Rattle.eve_smallbank.specs.SmallBank.{Request, Balance}
@@ -46,6 +46,10 @@ all_records t [] fates = []
 all_records t (r ∷ rs) [] = []
 all_records t (r ∷ rs) (fate ∷ fates) = records_of t r fate ++ all_records t rs fates
 
+-- of those from one place up to another
+abbrev pub records_between : Trace → SectionHistory → ℕ → ℕ → List (ℕ × Executed)
+records_between t h from to = all_records t (slice_range h.attempts from to) (slice_range h.fates from to)
+
 -- ---- the first that doesn't fit
 
 -- each fits its request, or this is the least offset of those that don't
@@ -72,8 +76,8 @@ lesser None other = other
 lesser (Some m) None = Some m
 lesser (Some m) (Some n) = if nat_lt n m then Some n else Some m
 
--- the last is the lesser of two that were found
-abbrev pub IsLesser : {E : Type 0} → Result (Option ℕ) E → Result (Option ℕ) E → Option ℕ → Type 0
-IsLesser (Ok first) (Ok other) least = least ≡ lesser first other
-IsLesser (Ok first) (Err why) least = ⊥
-IsLesser (Err why) other least = ⊥
+-- the lesser of two that were found, where the memory was there for both
+abbrev pub lesser_found : {E : Type 0} → Result (Option ℕ) E → Result (Option ℕ) E → Result (Option ℕ) E
+lesser_found (Ok first) (Ok other) = Ok (lesser first other)
+lesser_found (Ok first) (Err why) = Err why
+lesser_found (Err why) other = Err why

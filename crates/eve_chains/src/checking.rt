@@ -1,6 +1,6 @@
 //! The judgement of a replica's settled attempts.
 
-ghost use Rattle.std.specs.Prelude.{◌≡◌, IfOk, IfErr};
+ghost use Rattle.std.specs.Prelude.{◌≡◌, ◌≤◌, IfOk, IfErr};
 ghost use Rattle.std.specs.Thread.{IsSync};
 ghost use Rattle.eve_views.specs.Form.{IfFound};
 ghost use Rattle.eve_history.specs.SectionHistory.{section_history, names_of, IsRightSection};
@@ -21,31 +21,36 @@ use std::thread::{Threads, join};
 /// How few attempts are worth a thread of their own.
 const LEAST_ATTEMPTS: usize = 32;
 
-/// What judging the records gives, and what judging the chains gives: neither waits for the other, and the records are
-/// judged in more threads.
+/// What judging the records gives, and what judging the chains gives: one after the other on this thread, where there
+/// is one job or there are few attempts; else the chains in one thread, and the records in as many as are left. Neither
+/// waits for the other.
 fn judge_both<R: Threads + Sync>(
     rt: &R,
     alloc: Global,
     history: &History<'_>,
     trace: &Trace<'_>,
     names: &Names<'_>,
+    jobs: u8,
 ) -> (Result<(), CheckFault>, Result<(), CheckFault>)
     requires history { history.now ≡ section_history trace.now history.now.replica }
     requires right { IsRightSection trace.now history.now.replica }
     requires names { names.now.items ≡ names_of trace.now }
+    requires jobs { 1 ≤ jobs }
     ensures records { AreRecordsJudged trace.now history.now.replica result.0 }
     ensures chains { AreChainsJudged trace.now history.now.replica result.1 }
 {
-    if history.attempts() < LEAST_ATTEMPTS {
-        let fit = records(rt, alloc, history, trace, names);
+    if jobs == 1 || history.attempts() < LEAST_ATTEMPTS {
+        let fit = records(rt, alloc, history, trace, names, 1);
         (fit, chains(alloc, history, trace))
     } else {
+        let others = jobs - 1;
         let fit = move ||
             requires sync { IsSync R.row }
             requires history { history.now ≡ section_history trace.now history.now.replica }
             requires names { names.now.items ≡ names_of trace.now }
+            requires jobs { 1 ≤ others }
             ensures { AreRecordsJudged trace.entry.now history.entry.now.replica result }
-        { records(rt, alloc, history, trace, names) };
+        { records(rt, alloc, history, trace, names, others) };
         let see = move ||
             requires history { history.now ≡ section_history trace.now history.now.replica }
             requires right { IsRightSection trace.now history.now.replica }
@@ -58,24 +63,27 @@ fn judge_both<R: Threads + Sync>(
 /// Judges a replica's settled attempts: each record fits its request by itself, and each entry sees what its path
 /// left; else the first fault, those of records before those of chains, then by offset, then by number.
 ///
-/// docs/MODEL.md, "A record fits its request", "What an entry must see" and "Faults". Want of memory decides nothing.
-/// The time is linear in the entries.
+/// docs/MODEL.md, "A record fits its request", "What an entry must see" and "Faults". It works in up to so many threads
+/// as there are jobs, from 1 on; of one job none is started. What is found doesn't rest on which ends first. Want of
+/// memory decides nothing. The time is linear in the entries.
 pub fn check<'a, R: Threads + Sync>(
     rt: &R,
     alloc: Global,
     history: &History<'a>,
     trace: &Trace<'a>,
     names: &Names<'_>,
+    jobs: u8,
 ) -> Result<Settled<'a>, CheckFault>
     requires history { history.now ≡ section_history trace.now history.now.replica }
     requires names { names.now.items ≡ names_of trace.now }
+    requires jobs { 1 ≤ jobs }
     ensures settled { IfOk result (λ settled. settled ≡ settling trace.now history.now.replica) }
     ensures sound { IfOk result (λ _. SettledAreSound trace.now history.now.replica) }
     ensures none { IfOk result (λ _. HasNoFault trace.now history.now.replica) }
     ensures least { IfErr result (λ why. IfFound why (IsLeastFault trace.now history.now.replica)) }
 {
     history.is_right();
-    let (fit, seen) = judge_both(rt, alloc, history, trace, names);
+    let (fit, seen) = judge_both(rt, alloc, history, trace, names, jobs);
     if let Err(why) = fit {
         return Err(why);
     }

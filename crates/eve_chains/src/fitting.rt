@@ -27,9 +27,11 @@ pub fn fits(request: &Request, names: &Names, reply: Reply, access: &AccessView<
 fn entries_of(access: &AccessView<'_>) -> UpToThree<Entry>
     ensures { result ≡ (access_in access.now.bytes.now).entries }
 {
-    let mut entries = UpToThree::new();
-    for place in 0..access.len() {
-        entries.push(access.entry(place));
+    match access.len() {
+        0 => UpToThree::new(),
+        1 => UpToThree::one(access.entry(0)),
+        2 => UpToThree::two(access.entry(0), access.entry(1)),
+        3 => UpToThree::three(access.entry(0), access.entry(1), access.entry(2)),
+        _ => unreachable!(),
     }
-    entries
 }

@@ -1,6 +1,7 @@
 //! The faults of records.
 
-ghost use Rattle.std.specs.Prelude.{◌≡◌, ◌<◌, ◌∷◌, [], None, Ok, Some, OnOk, IfOk, IfErr, length, map, slice_get};
+ghost use Rattle.std.specs.Prelude.{◌≡◌, ◌≤◌, ◌<◌, ◌∷◌, [], ℕ, All, None, Ok, Some, OnOk, IfOk, IfErr, length, map};
+ghost use Rattle.std.specs.Prelude.{slice_get, slice_index_or};
 ghost use Rattle.eve_smallbank.specs.SmallBank.{plain};
 ghost use Rattle.eve_frames.specs.Views.{batch_in, access_in};
 ghost use Rattle.eve_views.specs.Form.{IfFound, IsLeast, HasNone};
@@ -10,7 +11,9 @@ ghost use Rattle.eve_chains.specs.Records.{recorded};
 ghost use Rattle.eve_chains.specs.Sound.{RecordsFit};
 ghost use Rattle.eve_chains.specs.Faults.{IsRecordFault};
 ghost use Rattle.eve_chains.specs.Unfit.{is_settled, recorded_of, all_records, HasRequests, IsLeastUnfit, CanBeJudged};
-ghost use Rattle.eve_chains.specs.Unfit.{IsLeastOfAttempt, lesser, IsLesser};
+ghost use Rattle.eve_chains.specs.Unfit.{IsLeastOfAttempt, records_between, lesser, lesser_found};
+ghost use Rattle.eve_chains.specs.Stretches.{IsWithin, IsJudged, AreStretches, least_found};
+ghost use Rattle.eve_chains.specs.declared.unfit.Stretch.{Stretch as StretchValue};
 
 use crate::fits;
 use eve_accounts::Names;
@@ -18,34 +21,48 @@ use eve_frames::{AccessView, BatchView};
 use eve_history::{Fate, History};
 use eve_smallbank::{Reply, Request};
 use eve_views::{CheckFault, Code, Fault, Trace};
-use rayon::prelude::*;
 use std::alloc::{AllocError, Global};
+use std::thread;
 use std::thread::Threads;
 
 /// How few attempts are worth a thread of their own: one has up to 256 records.
 const LEAST_ATTEMPTS: usize = 16;
 
+/// Attempts of a replica that stand behind one another, whose records are judged by themselves.
+#[derive(Drop)]
+struct Stretch {
+    /// The place of the first of them.
+    from: usize,
+    /// The place behind the last of them.
+    to: usize,
+    /// Once they were judged, the least offset of their records that don't fit, where the memory was there.
+    found: Result<Option<u64>, AllocError>,
+}
+
 /// Judges the records of a replica's settled attempts one by one: each fits its request, or the first that does not is
 /// named.
 ///
-/// docs/MODEL.md, "A record fits its request" and "Faults". The attempts are judged in as many threads as there are
-/// processors, and what is kept of one is the requests of its batch. Want of memory decides nothing.
+/// docs/MODEL.md, "A record fits its request" and "Faults". The attempts are cut into up to so many stretches as there
+/// are jobs, from 1 on, and judged in as many threads; of one job none is started. What is kept of an attempt is the
+/// requests of its batch. What is found doesn't rest on which ends first. Want of memory decides nothing.
 pub fn records<R: Threads + Sync>(
     rt: &R,
     alloc: Global,
     history: &History<'_>,
     trace: &Trace<'_>,
     names: &Names<'_>,
+    jobs: u8,
 ) -> Result<(), CheckFault>
     requires history { history.now ≡ section_history trace.now history.now.replica }
     requires names { names.now.items ≡ names_of trace.now }
+    requires jobs { 1 ≤ jobs }
     ensures fit { IfOk result (λ _. RecordsFit trace.now history.now.replica) }
     ensures none { IfOk result (λ _. HasNone (IsRecordFault trace.now history.now.replica)) }
     ensures least { IfErr result (λ why. IfFound why (IsLeast (IsRecordFault trace.now history.now.replica))) }
 {
     trace.is_whole();
     history.is_right();
-    match first_unfit(rt, alloc, history, trace, names)? {
+    match first_unfit(rt, alloc, history, trace, names, jobs)? {
         None => Ok(()),
         Some(offset) => Err(CheckFault::Found(Fault {
             code: Code::Record,
@@ -55,40 +72,139 @@ pub fn records<R: Threads + Sync>(
     }
 }
 
-/// The least offset of the settled attempts' records that don't fit.
+/// The least offset of the settled attempts' records that don't fit, by up to so many jobs.
 fn first_unfit<R: Threads + Sync>(
     rt: &R,
     alloc: Global,
     history: &History<'_>,
     trace: &Trace<'_>,
     names: &Names<'_>,
+    jobs: u8,
 ) -> Result<Option<u64>, AllocError>
     requires history { history.now ≡ section_history trace.now history.now.replica }
     requires right { IsRightSection trace.now history.now.replica }
+    requires jobs { 1 ≤ jobs }
     ensures { IfOk result (IsLeastUnfit names.now.items
         (all_records trace.now history.now.attempts history.now.fates)) }
 {
-    (0..history.attempts())
-        .into_par_iter()
-        .with_min_len(LEAST_ATTEMPTS)
-        .map(
-            |i: usize| -> Result<Option<u64>, AllocError>
-                requires { CanBeJudged trace.now history.now i }
-                ensures { IfOk result (IsLeastOfAttempt names.entry.now.items trace.entry.now history.entry.now i) }
-            { judge_attempt(alloc, history, i, trace, names) },
-        )
-        .reduce(
-            rt,
-            || -> Result<Option<u64>, AllocError>
-                ensures { result ≡ Ok None }
-            { Ok(None) },
-            |first: Result<Option<u64>, AllocError>, other: Result<
-                Option<u64>,
-                AllocError,
-            >| -> Result<Option<u64>, AllocError>
-                ensures { IfOk result (IsLesser first other) }
-            { lesser_found(first, other) },
-        )
+    let mut stretches = cut(alloc, history.attempts(), jobs)?;
+    judge_all(
+        rt,
+        alloc,
+        history,
+        trace,
+        names,
+        stretches.as_mut_slice(),
+        jobs,
+    );
+    least_of_all(&stretches)
+}
+
+/// Cuts attempts into stretches, each as long as one of so many that are alike, but no shorter than is worth a thread.
+fn cut(alloc: Global, attempts: usize, jobs: u8) -> Result<Vec<Stretch>, AllocError>
+    requires { 1 ≤ jobs }
+    ensures { IfOk result (λ stretches. AreStretches attempts stretches.items) }
+{
+    let size = attempts.div_ceil(usize::from(jobs)).max(LEAST_ATTEMPTS);
+    let mut stretches = Vec::new(alloc);
+    let mut from = 0;
+    while attempts - from > size {
+        stretches.push(Stretch {
+            from,
+            to: from + size,
+            found: Ok(None),
+        })?;
+        from += size;
+    }
+    stretches.push(Stretch {
+        from,
+        to: attempts,
+        found: Ok(None),
+    })?;
+    Ok(stretches)
+}
+
+/// Judges the stretches, up to so many of them side by side.
+fn judge_all<R: Threads + Sync>(
+    rt: &R,
+    alloc: Global,
+    history: &History<'_>,
+    trace: &Trace<'_>,
+    names: &Names<'_>,
+    stretches: &mut [Stretch],
+    jobs: u8,
+)
+    requires jobs { 1 ≤ jobs }
+    requires history { history.now ≡ section_history trace.now history.now.replica }
+    requires right { IsRightSection trace.now history.now.replica }
+    requires within { All (IsWithin (length history.now.attempts)) stretches.old }
+    ensures len { length stretches.new ≡ length stretches.old }
+    ensures judged { (i : ℕ) (d : StretchValue) → i < length stretches.old
+        → IsJudged names.now.items trace.now history.now (slice_index_or stretches.old i d)
+        (slice_index_or stretches.new i d) }
+{
+    thread::for_each_mut(
+        rt,
+        stretches,
+        jobs as usize,
+        &|_: usize, stretch: &mut Stretch|
+            requires { (history.now ≡ section_history trace.now history.now.replica)
+                × IsRightSection trace.now history.now.replica
+                × IsWithin (length history.now.attempts) stretch.old }
+            ensures { IsJudged names.entry.now.items trace.entry.now history.entry.now stretch.old stretch.new }
+        { judge_stretch(alloc, history, trace, names, stretch) },
+    );
+}
+
+/// Judges a stretch.
+fn judge_stretch(
+    alloc: Global,
+    history: &History<'_>,
+    trace: &Trace<'_>,
+    names: &Names<'_>,
+    stretch: &mut Stretch,
+)
+    requires history { history.now ≡ section_history trace.now history.now.replica }
+    requires right { IsRightSection trace.now history.now.replica }
+    requires within { IsWithin (length history.now.attempts) stretch.old }
+    ensures { IsJudged names.now.items trace.now history.now stretch.old stretch.new }
+{
+    stretch.found = judge_between(alloc, history, trace, names, stretch.from, stretch.to);
+}
+
+/// The least offset of the records that don't fit, of the attempts from one place up to another.
+fn judge_between(
+    alloc: Global,
+    history: &History<'_>,
+    trace: &Trace<'_>,
+    names: &Names<'_>,
+    from: usize,
+    to: usize,
+) -> Result<Option<u64>, AllocError>
+    requires history { history.now ≡ section_history trace.now history.now.replica }
+    requires right { IsRightSection trace.now history.now.replica }
+    requires rising { from ≤ to }
+    requires within { to ≤ length history.now.attempts }
+    ensures { IfOk result (IsLeastUnfit names.now.items (records_between trace.now history.now from to)) }
+{
+    prove!(to <= history.attempts());
+    let mut least = None;
+    for i in from..to {
+        let found = judge_attempt(alloc, history, i, trace, names)?;
+        least = lesser(least, found);
+    }
+    Ok(least)
+}
+
+/// The least that was found in any of the stretches, where the memory was there for each.
+fn least_of_all(stretches: &[Stretch]) -> Result<Option<u64>, AllocError>
+    ensures { result ≡ least_found (Ok None) stretches.now }
+{
+    let mut least = Ok(None);
+    for stretch in stretches {
+        least = lesser_found(least, stretch.found);
+    }
+    least
 }
 
 /// The least offset of an attempt's records that don't fit. Those of an open attempt are not judged.
@@ -184,7 +300,7 @@ fn lesser_found(
     first: Result<Option<u64>, AllocError>,
     other: Result<Option<u64>, AllocError>,
 ) -> Result<Option<u64>, AllocError>
-    ensures { IfOk result (IsLesser first other) }
+    ensures { result ≡ lesser_found first other }
 {
     Ok(lesser(first?, other?))
 }

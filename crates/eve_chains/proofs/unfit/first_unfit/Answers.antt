@@ -1,39 +1,34 @@
-use Rattle.std.proofs.Common.{◌≡◌, ◌-◌, ◌∙◌, IfOk, length, ap, subst, arith}
-use Rattle.std.specs.List.{AllZip, range_with_len}
-use Rattle.rayon.specs.Numbers.{nat_range}
-use Rattle.rayon.proofs.ToStd.{nat_range-All}
-use Rattle.eve_chains.specs.Unfit.{CanBeJudged, IsLeastOfAttempt}
-use Rattle.eve_chains.proofs.Pieces.{reduced_all}
+use Rattle.std.proofs.Common.{◌≡◌, ◌++◌, ◌<◌, ℕ, List, length, take, drop, get_or, IfOk, sym, subst, ap, ◌∙◌}
+use Rattle.std.proofs.Common.{None, Ok, append-nil, arith}
+use Rattle.std.proofs.lemmas.List.{take_all, drop_all}
+use Rattle.eve_chains.specs.Unfit.{all_records, IsLeastUnfit}
+use Rattle.eve_chains.specs.Stretches.{IsJudged, AreStretches, least_found}
+use Rattle.eve_chains.specs.declared.unfit.Stretch.{Stretch}
+use Rattle.eve_chains.proofs.Stretches.{found_in_all}
 use Rattle.eve_chains.proofs.unfit.first_unfit.Goals as goal
 
-pub reduce-requires-clause-ready : goal.reduce-requires-clause-ready
-reduce-requires-clause-ready g c κs within =
-    let ends = c.into_par_iter.ensures in
-    let t = c.args.trace.now in
-    let h = c.args.history.now in
-    let inside = nat_range-All (CanBeJudged t h) 0 (length h.attempts)
-    (λ i low high. record { told = c.requires.history; right = c.requires.right; attempt = high; fate = omega arith })
-    in
-    rw (c.map.ensures.base, c.map.ensures.f, c.with_min_len.ensures.base, ends.0, ends.1, c.attempts.ensures.attempts)
-    (λ k d lt. (inside k d lt, λ y p. tt))
+whole_slice : {A : Type 0} (xs ys : List A) (n : ℕ) → length ys ≡ length xs → n ≡ length xs
+    → take n (ys ++ drop (length ys) xs) ≡ ys
+whole_slice xs ys n same many =
+    ap (λ (zs : List _). take n (ys ++ zs)) (drop_all (length ys) xs (omega arith)) ∙ ap (take n) (append-nil ys)
+    ∙ take_all n ys (omega arith)
 
 pub returns : goal.returns
 returns g c =
-    let ends = c.into_par_iter.ensures in
     let t = c.args.trace.now in
     let h = c.args.history.now in
-    let done = c.reduce.ensures in
-    let n = length h.attempts in
-    let all : n - 0 ≡ n = omega arith in
-    let fates : length h.fates ≡ n = omega arith in
-    let chain = done.1 in
-    let from = ap (λ m. m.base.start) c.map.ensures.base ∙ ap (λ it. it.start) c.with_min_len.ensures.base ∙ ends.0 in
-    let to = ap (λ m. m.base.end) c.map.ensures.base ∙ ap (λ it. it.end) c.with_min_len.ensures.base ∙ ends.1
-    ∙ c.attempts.ensures.attempts in
-    let places : chain.0 ≡ range_with_len 0 n = chain.1 ∙ (λ i. nat_range (from i) (to i))
-    ∙ ap (range_with_len 0) all in
-    let found = subst (λ f. AllZip (λ i y. IfOk y (IsLeastOfAttempt f.3.now.items f.2.now f.1.now i)) chain.0
-    done.0) c.map.ensures.f chain.2 in
-    reduced_all _ c.args.names.now.items t h done.0 c.reduce.result fates
-    (subst (λ l. AllZip (λ i y. IfOk y (IsLeastOfAttempt c.args.names.now.items t h i)) l done.0) places found)
-    done.2
+    let names = c.args.names.now.items in
+    let xs = c.in_ok-stretches.stretches.items in
+    let ys = c.judge_all.new.stretches in
+    let value = c.as_mut_slice.ensures.value in
+    let same = c.judge_all.ensures.len in
+    let many : length c.as_mut_slice.result.now ≡ length xs = ap (λ (zs : List Stretch). length zs) value in
+    let judged : (i : ℕ) (d : Stretch) → i < length xs → IsJudged names t h (get_or xs i d) (get_or ys i d) =
+    subst (λ (zs : List Stretch). (i : ℕ) (d : Stretch) → i < length zs
+    → IsJudged names t h (get_or zs i d) (get_or ys i d)) value c.judge_all.ensures.judged in
+    let found : c.least_of_all.result ≡ least_found (Ok None) ys =
+    c.least_of_all.ensures ∙ ap (least_found (Ok None)) (c.deref.ensures.value
+    ∙ whole_slice xs ys c.in_ok-stretches.stretches.len (omega arith) (omega (arith, c.as_mut_slice.ensures.len))) in
+    subst (λ (r : _). IfOk r (IsLeastUnfit names (all_records t h.attempts h.fates))) (sym found)
+    (found_in_all t h names xs ys (same ∙ many) (omega arith)
+    (subst (λ (n : ℕ). AreStretches n xs) c.attempts.ensures.attempts c.in_ok-stretches.ensures) judged)

@@ -1,0 +1,159 @@
+-- What is found in stretches of attempts, put together, is what is found in all of them.
+use Rattle.std.proofs.Common.{◌≡◌, ℕ, zero, suc, ◌+◌, ◌-◌, ◌<◌, ◌≤◌, List, [], ◌∷◌, ◌++◌, length, take, drop, get_or}
+use Rattle.std.proofs.Common.{slice_get, Option, None, Some, Result, Ok, Err, IfOk, refl, sym, subst, ap, ◌∙◌, arith}
+use Rattle.std.proofs.Common.{append-nil, append_assoc, drop-drop}
+use Rattle.std.specs.Prelude.{All}
+use Rattle.std.specs.declared.alloc.AllocError.{AllocError}
+use Rattle.std.proofs.lemmas.List.{take_all}
+use Rattle.eve_grammar.specs.Trace.{Trace}
+use Rattle.eve_history.specs.declared.fate.Fate.{Fate}
+use Rattle.eve_history.specs.SectionHistory.{ExecutedAttempt, SectionHistory}
+use Rattle.eve_chains.specs.Unfit.{records_of, all_records, records_between, IsLeastUnfit, IsLeastOfAttempt, lesser}
+use Rattle.eve_chains.specs.Unfit.{lesser_found}
+use Rattle.eve_chains.specs.Stretches.{IsWithin, IsJudged, Reaches, AreStretches, least_found}
+use Rattle.eve_chains.specs.declared.unfit.Stretch.{Stretch}
+use Rattle.eve_chains.proofs.Least.{least_append}
+
+-- ---- one behind another
+
+-- one more stretch
+pub reaches_more : (from mid : ℕ) (xs : List Stretch) (x : Stretch) → Reaches from mid xs → x.from ≡ mid
+    → Reaches from x.to (xs ++ x ∷ [])
+reaches_more from mid [] x same at = (at ∙ sym same, refl)
+reaches_more from mid (y ∷ xs) x reaches at = (reaches.0, reaches_more y.to mid xs x reaches.1 at)
+
+-- ---- the records of attempts
+
+none_here : (t : Trace) (n : ℕ) (fates : List Fate) → all_records t (take n []) fates ≡ []
+none_here t zero fates = refl
+none_here t (suc n) fates = refl
+
+no_fates : (t : Trace) (n : ℕ) (rs : List ExecutedAttempt) → all_records t rs (take n []) ≡ []
+no_fates t n [] = refl
+no_fates t zero (r ∷ rs) = refl
+no_fates t (suc n) (r ∷ rs) = refl
+
+-- of so many attempts, and of so many behind them
+front_and_back : (t : Trace) (m n : ℕ) (rs : List ExecutedAttempt) (fates : List Fate)
+    → all_records t (take (m + n) rs) (take (m + n) fates)
+    ≡ all_records t (take m rs) (take m fates) ++ all_records t (take n (drop m rs)) (take n (drop m fates))
+front_and_back t zero n rs fates =
+    let same : 0 + n ≡ n = omega arith in ap (λ (k : ℕ). all_records t (take k rs) (take k fates)) same
+front_and_back t (suc m) n [] fates =
+    none_here t (suc m + n) (take (suc m + n) fates) ∙ sym (none_here t n (take n (drop (suc m) fates)))
+front_and_back t (suc m) n (r ∷ rs) [] =
+    no_fates t (suc m + n) (take (suc m + n) (r ∷ rs)) ∙ sym (no_fates t n (take n (drop m rs)))
+front_and_back t (suc m) n (r ∷ rs) (fate ∷ fates) =
+    let same : suc m + n ≡ suc (m + n) = omega arith in
+    ap (λ (k : ℕ). all_records t (take k (r ∷ rs)) (take k (fate ∷ fates))) same
+    ∙ ap (λ (l : List _). records_of t r fate ++ l) (front_and_back t m n rs fates)
+    ∙ sym (append_assoc (records_of t r fate) (all_records t (take m rs) (take m fates))
+    (all_records t (take n (drop m rs)) (take n (drop m fates))))
+
+from_on : {A : Type 0} (xs : List A) (i : ℕ) (x : A) → slice_get xs i ≡ Some x → drop i xs ≡ x ∷ drop (suc i) xs
+from_on [] i x at = absurd cc
+from_on (y ∷ xs) zero x at = (let same : y ≡ x = cc in ap (λ (z : _). z ∷ xs) same)
+from_on (y ∷ xs) (suc i) x at = from_on xs i x at
+
+item_at : {A : Type 0} (xs : List A) (i : ℕ) → i < length xs → (x : A) × (slice_get xs i ≡ Some x)
+item_at [] i less = absurd (omega arith)
+item_at (x ∷ xs) zero less = (x, refl)
+item_at (x ∷ xs) (suc i) less = item_at xs i (omega arith)
+
+module _ (t : Trace) (h : SectionHistory) where
+  between_joined : (from mid to : ℕ) → from ≤ mid → mid ≤ to
+      → records_between t h from mid ++ records_between t h mid to ≡ records_between t h from to
+  between_joined from mid to low high =
+      let m = mid - from in
+      let n = to - mid in
+      let sum : m + n ≡ to - from = omega arith in
+      let at : from + m ≡ mid = omega arith in
+      let rs : drop mid h.attempts ≡ drop m (drop from h.attempts) =
+      sym (drop-drop m from h.attempts ∙ ap (λ (k : ℕ). drop k h.attempts) at) in
+      let fates : drop mid h.fates ≡ drop m (drop from h.fates) =
+      sym (drop-drop m from h.fates ∙ ap (λ (k : ℕ). drop k h.fates) at) in
+      (λ k. records_between t h from mid ++ all_records t (take n (rs k)) (take n (fates k)))
+      ∙ sym (front_and_back t m n (drop from h.attempts) (drop from h.fates))
+      ∙ ap (λ (k : ℕ). all_records t (take k (drop from h.attempts)) (take k (drop from h.fates))) sum
+
+  none_between : (i : ℕ) → records_between t h i i ≡ []
+  none_between i =
+      let none : i - i ≡ 0 = omega arith in
+      ap (λ (k : ℕ). all_records t (take k (drop i h.attempts)) (take k (drop i h.fates))) none
+
+  one_between : (i : ℕ) (r : ExecutedAttempt) (fate : Fate) → slice_get h.attempts i ≡ Some r
+      → slice_get h.fates i ≡ Some fate → records_of t r fate ≡ records_between t h i (i + 1)
+  one_between i r fate at its =
+      let one : 1 ≡ i + 1 - i = omega arith in
+      let rs : r ∷ drop (suc i) h.attempts ≡ drop i h.attempts = sym (from_on h.attempts i r at) in
+      let fates : fate ∷ drop (suc i) h.fates ≡ drop i h.fates = sym (from_on h.fates i fate its) in
+      sym (append-nil (records_of t r fate))
+      ∙ (λ k. all_records t (take 1 (rs k)) (take 1 (fates k)))
+      ∙ ap (λ (k : ℕ). all_records t (take k (drop i h.attempts)) (take k (drop i h.fates))) one
+
+  pub all_between : length h.fates ≡ length h.attempts
+      → records_between t h 0 (length h.attempts) ≡ all_records t h.attempts h.fates
+  all_between long =
+      let n = length h.attempts in
+      let all : n - 0 ≡ n = omega arith in
+      ap (λ (k : ℕ). all_records t (take k h.attempts) (take k h.fates)) all
+      ∙ (λ k. all_records t (take_all n h.attempts (omega arith) k) (take_all n h.fates (omega arith) k))
+
+  -- ---- what is found among them
+
+  module _ (names : List (List ℕ)) where
+    pub none_judged : (i : ℕ) → IsLeastUnfit names (records_between t h i i) None
+    none_judged i = subst (λ (xs : List _). IsLeastUnfit names xs None) (sym (none_between i)) tt
+
+    joined : (from mid to : ℕ) (first other : Option ℕ) → from ≤ mid → mid ≤ to
+        → IsLeastUnfit names (records_between t h from mid) first
+        → IsLeastUnfit names (records_between t h mid to) other
+        → IsLeastUnfit names (records_between t h from to) (lesser first other)
+    joined from mid to first other low high is rest =
+        subst (λ (xs : List _). IsLeastUnfit names xs (lesser first other)) (between_joined from mid to low high)
+        (least_append names (records_between t h from mid) (records_between t h mid to) first other is rest)
+
+    -- one more attempt
+    pub one_judged : (from i : ℕ) (least found : Option ℕ) → from ≤ i → i < length h.attempts → i < length h.fates
+        → IsLeastUnfit names (records_between t h from i) least → IsLeastOfAttempt names t h i found
+        → IsLeastUnfit names (records_between t h from (i + 1)) (lesser least found)
+    one_judged from i least found low there fate is its =
+        let a = item_at h.attempts i there in
+        let f = item_at h.fates i fate in
+        joined from i (i + 1) least found low (omega arith) is
+        (subst (λ (xs : List _). IsLeastUnfit names xs found) (one_between i a.0 f.0 a.1 f.1) (its a.0 f.0 a.1 f.1))
+
+    abbrev IsFoundTo : ℕ → Result (Option ℕ) AllocError → Type 0
+    IsFoundTo to found = IfOk found (IsLeastUnfit names (records_between t h 0 to))
+
+    -- one more stretch
+    found_more : (from to : ℕ) (first other : Result (Option ℕ) AllocError) → from ≤ to → IsFoundTo from first
+        → IfOk other (IsLeastUnfit names (records_between t h from to)) → IsFoundTo to (lesser_found first other)
+    found_more from to (Ok first) (Ok other) rising is rest =
+        joined 0 from to first other (omega arith) rising is rest
+    found_more from to (Ok first) (Err why) rising is rest = tt
+    found_more from to (Err why) other rising is rest = tt
+
+    -- of stretches that follow one another, each judged
+    found_all : (from last : ℕ) (xs ys : List Stretch) (first : Result (Option ℕ) AllocError) → length ys ≡ length xs
+        → Reaches from last xs → All (IsWithin last) xs
+        → ((i : ℕ) (d : Stretch) → i < length xs → IsJudged names t h (get_or xs i d) (get_or ys i d))
+        → IsFoundTo from first → IsFoundTo last (least_found first ys)
+    found_all from last [] [] first same reaches within judged is =
+        subst (λ (n : ℕ). IsFoundTo n first) reaches is
+    found_all from last [] (y ∷ ys) first same reaches within judged is = absurd (omega (arith, same))
+    found_all from last (x ∷ xs) [] first same reaches within judged is = absurd (omega (arith, same))
+    found_all from last (x ∷ xs) (y ∷ ys) first same reaches within judged is =
+        found_all x.to last xs ys (lesser_found first y.found) (omega (arith, same)) reaches.1
+        (λ i d less. within (suc i) d (omega arith)) (λ i d less. judged (suc i) d (omega arith))
+        (found_more x.from x.to first y.found (within 0 x (omega arith)).rising
+        (subst (λ (n : ℕ). IsFoundTo n first) (sym reaches.0) is) (judged 0 x (omega arith)).found)
+
+    -- the least of what is found in each is that of all
+    pub found_in_all : (xs ys : List Stretch) → length ys ≡ length xs → length h.fates ≡ length h.attempts
+        → AreStretches (length h.attempts) xs
+        → ((i : ℕ) (d : Stretch) → i < length xs → IsJudged names t h (get_or xs i d) (get_or ys i d))
+        → IfOk (least_found (Ok None) ys) (IsLeastUnfit names (all_records t h.attempts h.fates))
+    found_in_all xs ys same long cut judged =
+        subst (λ (rs : List _). IfOk (least_found (Ok None) ys) (IsLeastUnfit names rs)) (all_between long)
+        (found_all 0 (length h.attempts) xs ys (Ok None) same cut.reaches cut.within judged (none_judged 0))
