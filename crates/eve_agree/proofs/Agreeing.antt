@@ -177,16 +177,16 @@ module _ (t : Trace) where
   }
 
   -- nothing was found, up to the last number of all
-  pub all_judged : (hs : List SectionHistory) (n : ℕ) (least : Option Fault) → hs ≡ section_histories t
-      → ((e : ℕ) → IsRightSection t e) → ((e : ℕ) (h : SectionHistory) → slice_get hs e ≡ Some h → h.committed ≤ n)
-      → Judged t n least
+  pub all_judged : (hs : List SectionHistory) (n most : ℕ) (least : Option Fault) → hs ≡ section_histories t
+      → ((e : ℕ) → IsRightSection t e)
+      → ((e : ℕ) (h : SectionHistory) → slice_get hs e ≡ Some h → h.committed ≤ most) → most ≤ n → Judged t n least
       → (e m : ℕ) → IsJudged t least e m
-  all_judged hs n least told right most known e zero p at = none≢some p at
-  all_judged hs n least told right most known e (suc m) p at =
+  all_judged hs n most least told right none_past end known e zero p at = none≢some p at
+  all_judged hs n most least told right none_past end known e (suc m) p at =
       let there = replica_there t e (suc m) p at in
       let low = committed_low t e (suc m) p (right e) at in
       let last = last_told t e (section_history t e) refl in
-      let le = most e (section_history t e) (ap (λ (xs : List SectionHistory). slice_get xs e) told
+      let le = none_past e (section_history t e) (ap (λ (xs : List SectionHistory). slice_get xs e) told
       ∙ section_history_at t e there) in
       known.judged e (suc m) (omega arith) (omega arith) p at
 

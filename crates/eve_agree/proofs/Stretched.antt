@@ -167,7 +167,7 @@ module _ (t : Trace) (e : ℕ) where
   mapped_at (p ∷ ps) (suc i) r e = mapped_at ps i r e
 
   -- this offset, number, replies and token are those of replica e's attempt of batch n
-  pub record IsOfBatch (n offset : ℕ) (said : Attempt) : Type 0 where
+  record IsOfBatch (n offset : ℕ) (said : Attempt) : Type 0 where
     pub item : Placed
     pub at : committed_at t e n ≡ Some item
     pub offset_is : offset ≡ item.offset
@@ -176,15 +176,14 @@ module _ (t : Trace) (e : ℕ) where
     pub token : said.token ≡ item.attempt.token
     pub number : item.attempt.seq ≡ n
 
-  pub of_batch : (n offset : ℕ) (said : Attempt) (h : SectionHistory) → h ≡ section_history t e → IsRightSection t e
-      → (r : ExecutedAttempt) × (slice_get h.commits (n + 1 - 1) ≡ Some r) × (offset ≡ r.offset) × (said ≡ r.attempt) →
+  of_batch : (n offset : ℕ) (said : Attempt) (h : SectionHistory) → h ≡ section_history t e → IsRightSection t e
+      → (r : ExecutedAttempt) × (slice_get h.commits n ≡ Some r) × (offset ≡ r.offset) × (said ≡ r.attempt) →
       IsOfBatch (suc n) offset said
   of_batch n offset said h is right got =
-      let less : n + 1 - 1 ≡ n = omega arith in
       let r = got.0 in
       let here : slice_get (map (λ p. executed_attempt (placed_at p)) (history t e).committed) n ≡ Some r =
       ap (λ (rs : List ExecutedAttempt). slice_get rs n) (sym (commits_told t e)) ∙
-      ap (λ (x : SectionHistory). slice_get x.commits n) (sym is) ∙ ap (slice_get h.commits) (sym less) ∙ got.1 in
+      ap (λ (x : SectionHistory). slice_get x.commits n) (sym is) ∙ got.1 in
       let found = mapped_at (history t e).committed n r here in
       let own : said ≡ (executed_attempt (placed_at found.0)).attempt = got.3
       ∙ sym (ap (λ (x : ExecutedAttempt). x.attempt) found.2) in
@@ -199,7 +198,7 @@ module _ (t : Trace) (e : ℕ) where
       }
 
   -- the token that is due, of what was read
-  pub batch_due : (n offset : ℕ) (said : Attempt) (b : List ℤ) (of : IsOfBatch (suc n) offset said) →
+  batch_due : (n offset : ℕ) (said : Attempt) (b : List ℤ) (of : IsOfBatch (suc n) offset said) →
       IsAfter (settling t e) (n + 1) b → ((m : ℕ) → values_in (settling t e) m ≡ values_to t e m)
       → token_of 1 said.seq b said.replies ≡ due_token t e of.item
   batch_due n offset said b of after law =
@@ -215,23 +214,17 @@ module _ (t : Trace) (e : ℕ) where
       length-map (history t e).committed (λ p. executed_attempt (placed_at p))
       ∙ sym (ap (λ (x : Settling). length x.batches) settled ∙ batches_told t e)
 
-  -- ---- one more batch
+  one_due : (n offset : ℕ) (said : Attempt) (of : IsOfBatch (suc n) offset said) → said.token ≡ due_token t e of.item
+      → IsFirstWrong t e n (n + 1) None
+  one_due n offset said of due m above below p at =
+      let same : m ≡ suc n = omega arith in
+      let here : Some p ≡ Some of.item = sym at ∙ ap (committed_at t e) same ∙ of.at in
+      let equal : p ≡ of.item = cc in
+      subst (λ (q : Placed). q.attempt.token ≡ due_token t e q) (sym equal) (sym of.token ∙ due)
 
-  pub one_due : (before n : ℕ) (offset : ℕ) (said : Attempt) (of : IsOfBatch (suc n) offset said) →
-      said.token ≡ due_token t e of.item → IsFirstWrong t e before n None → IsFirstWrong t e before (n + 1) None
-  one_due before n offset said of due all m above below p at = elim (cases_lt n m) [
-    | inl lt ↦
-        let same : m ≡ suc n = omega arith in
-        let here : Some p ≡ Some of.item = sym at ∙ ap (committed_at t e) same ∙ of.at in
-        let equal : p ≡ of.item = cc in
-        subst (λ (q : Placed). q.attempt.token ≡ due_token t e q) (sym equal) (sym of.token ∙ due)
-    | inr ge ↦ all m above ge p at
-  ]
-
-  pub one_wrong : (before n last offset : ℕ) (said : Attempt) (of : IsOfBatch (suc n) offset said) → before ≤ n →
-      n < last → (said.token ≡ due_token t e of.item → ⊥) → IsFirstWrong t e before n None
-      → IsFirstWrong t e before last (Some offset)
-  one_wrong before n last offset said of low high wrong all = record {
+  one_wrong : (n offset : ℕ) (said : Attempt) (of : IsOfBatch (suc n) offset said)
+      → (said.token ≡ due_token t e of.item → ⊥) → IsFirstWrong t e n (n + 1) (Some offset)
+  one_wrong n offset said of wrong = record {
     n = suc n;
     low = omega arith;
     high = omega arith;
@@ -239,5 +232,33 @@ module _ (t : Trace) (e : ℕ) where
     is = of.at;
     offset = of.offset_is;
     wrong = λ due. wrong (of.token ∙ due);
-    early = λ m above below p at. all m above (omega arith) p at;
+    early = λ m above below. absurd (omega arith);
   }
+
+  -- what is said of the token of batch n, from 1
+  pub one_judged : (n offset : ℕ) (said : Attempt) (h : SectionHistory) (s : Settling) (b : List ℤ)
+      → h ≡ section_history t e → s ≡ settling t e → IsRightSection t e
+      → ((m : ℕ) → values_in (settling t e) m ≡ values_to t e m) → 1 ≤ n
+      → (r : ExecutedAttempt) × (slice_get h.commits (n - 1) ≡ Some r) × (offset ≡ r.offset) × (said ≡ r.attempt)
+      → IsAfter s n b
+      → (said.token ≡ token_of 1 said.seq b said.replies → IsFirstWrong t e (n - 1) n None)
+      × ((said.token ≡ token_of 1 said.seq b said.replies → ⊥) → IsFirstWrong t e (n - 1) n (Some offset))
+  one_judged n offset said h s b is settled right law low got after =
+      let last : n - 1 + 1 ≡ n = omega arith in
+      let of = of_batch (n - 1) offset said h is right got in
+      let ready : IsAfter (settling t e) (n - 1 + 1) b =
+      subst (λ (m : ℕ). IsAfter (settling t e) m b) (sym last)
+      (subst (λ (x : Settling). IsAfter x n b) settled after) in
+      let due = batch_due (n - 1) offset said b of ready law in (
+        λ same. subst (λ (m : ℕ). IsFirstWrong t e (n - 1) m None) last (one_due (n - 1) offset said of (same ∙ due)),
+        λ wrong. subst (λ (m : ℕ). IsFirstWrong t e (n - 1) m (Some offset)) last
+            (one_wrong (n - 1) offset said of (λ same. wrong (same ∙ sym due))),
+      )
+
+  -- one batch more
+  pub one_more : (before n : ℕ) (o : Option ℕ) → before ≤ n → IsFirstWrong t e before n None
+      → IsFirstWrong t e (n + 1 - 1) (n + 1) o → IsFirstWrong t e before (n + 1) o
+  one_more before n o low due next =
+      let here : n + 1 - 1 ≡ n = omega arith in
+      wrong_later before n (n + 1) o low (omega arith) due
+      (subst (λ (m : ℕ). IsFirstWrong t e m (n + 1) o) here next)

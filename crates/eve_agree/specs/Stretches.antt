@@ -1,10 +1,16 @@
 -- Stretches of a replica's committed batches, each judged by itself.
 use Rattle.std.specs.Prelude.{◌≡◌, ℕ, ◌≤◌, List, [], ◌∷◌, length, Option, Some, None, All}
 use Rattle.eve_grammar.specs.Trace.{Trace}
-use Rattle.eve_chains.specs.Settling.{Settling}
+use Rattle.eve_history.specs.SectionHistory.{SectionHistory, section_history}
+use Rattle.eve_chains.specs.Settling.{Settling, settling}
 use Rattle.eve_agree.specs.Judging.{IsAfter}
 use Rattle.eve_agree.specs.DueTokens.{IsFirstWrong}
 use Rattle.eve_agree.specs.declared.due_tokens.Stretch.{Stretch}
+
+-- the history is that of one of the trace's sections, and these are its settled values
+pub record AreOfSection (t : Trace) (h : SectionHistory) (s : Settling) : Type 0 where
+  pub history : h ≡ section_history t h.replica
+  pub settled : s ≡ settling t h.replica
 
 -- it has the balances at its start, and its batches are there
 pub record IsReady (s : Settling) (x : Stretch) : Type 0 where

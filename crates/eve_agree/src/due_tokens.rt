@@ -1,6 +1,6 @@
 //! The faults of tokens.
 
-ghost use Rattle.std.specs.Prelude.{◌≡◌, ◌≤◌, ◌<◌, ◌↔◌, ℕ, All, IsTrue, IfOk, IfErr, length, slice_index_or};
+ghost use Rattle.std.specs.Prelude.{◌≡◌, ◌≤◌, ◌<◌, ◌-◌, ◌↔◌, ℕ, All, IsTrue, IfOk, IfErr, length, slice_index_or};
 ghost use Rattle.eve_frames.specs.Views.{attempt_in};
 ghost use Rattle.eve_token.specs.Token.{token_of};
 ghost use Rattle.eve_views.specs.Form.{IfFound, IsLeast, HasNone};
@@ -9,7 +9,7 @@ ghost use Rattle.eve_history.specs.SectionHistory.{section_history, IsRightSecti
 ghost use Rattle.eve_chains.specs.Settling.{settling};
 ghost use Rattle.eve_agree.specs.DueTokens.{TokensAreDue, IsTokenFault, IsFirstWrong};
 ghost use Rattle.eve_agree.specs.Judging.{IsAfter};
-ghost use Rattle.eve_agree.specs.Stretches.{IsReady, IsJudged, AreStretches, first_found};
+ghost use Rattle.eve_agree.specs.Stretches.{AreOfSection, IsReady, IsJudged, AreStretches, first_found};
 ghost use Rattle.eve_agree.specs.declared.due_tokens.Stretch.{Stretch as StretchValue};
 
 use crate::agreement::committed_attempt;
@@ -49,8 +49,33 @@ struct Stretch {
     wrong: Option<u64>,
 }
 
+/// The offset of the attempt of batch n, from 1, if its token is not the one that is due of the balances after it.
+fn wrong_at(
+    trace: &Trace<'_>,
+    history: &History<'_>,
+    settled: &Settled<'_>,
+    n: u32,
+    balances: &Balances,
+) -> Option<u64>
+    requires section { AreOfSection trace.now history.now settled.now }
+    requires one { 1 ≤ n }
+    requires there { n ≤ length settled.now.batches }
+    requires after { IsAfter settled.now n balances.now }
+    ensures { IsFirstWrong trace.now history.now.replica (n - 1) n result }
+{
+    trace.is_whole();
+    history.is_right();
+    settled_values_are_the_banks();
+    let attempt = committed_attempt(history, n);
+    if is_due(&attempt, balances) {
+        return None;
+    }
+    Some(attempt.offset())
+}
+
 /// The offset of the first of a replica's attempts with a token that is not due, of the batches behind the first
 /// `before` up to the last.
+#[tactic(auto, using(crate::proofs::Stretched::one_more, crate::proofs::Stretched::wrong_first))]
 fn first_wrong(
     trace: &Trace<'_>,
     history: &History<'_>,
@@ -59,20 +84,16 @@ fn first_wrong(
     last: u32,
     balances: &mut Balances,
 ) -> Option<u64>
-    requires history { history.now ≡ section_history trace.now history.now.replica }
-    requires settled { settled.now ≡ settling trace.now history.now.replica }
+    requires section { AreOfSection trace.now history.now settled.now }
     requires there { last ≤ length settled.now.batches }
     requires balances { IsAfter settled.now before balances.old }
     ensures { IsFirstWrong trace.now history.now.replica before last result }
 {
-    trace.is_whole();
-    history.is_right();
-    settled_values_are_the_banks();
     for n in before..last {
-        settled.advance(n + 1, balances);
-        let attempt = committed_attempt(history, n + 1);
-        if !is_due(&attempt, balances) {
-            return Some(attempt.offset());
+        go_on(settled, n, n + 1, balances);
+        let wrong = wrong_at(trace, history, settled, n + 1, balances);
+        if wrong.is_some() {
+            return wrong;
         }
     }
     None
@@ -80,8 +101,7 @@ fn first_wrong(
 
 /// Judges a stretch.
 fn judge(trace: &Trace<'_>, history: &History<'_>, settled: &Settled<'_>, stretch: &mut Stretch)
-    requires history { history.now ≡ section_history trace.now history.now.replica }
-    requires settled { settled.now ≡ settling trace.now history.now.replica }
+    requires section { AreOfSection trace.now history.now settled.now }
     requires ready { IsReady settled.now stretch.old }
     ensures { IsJudged trace.now history.now.replica stretch.old stretch.new }
 {
@@ -96,7 +116,7 @@ fn judge(trace: &Trace<'_>, history: &History<'_>, settled: &Settled<'_>, stretc
 }
 
 /// Goes from the balances after one number of batches to those after another.
-fn skip(settled: &Settled<'_>, from: u32, to: u32, balances: &mut Balances)
+fn go_on(settled: &Settled<'_>, from: u32, to: u32, balances: &mut Balances)
     requires there { to ≤ length settled.now.batches }
     requires rising { from ≤ to }
     requires before { IsAfter settled.now from balances.old }
@@ -125,7 +145,7 @@ fn cut(alloc: Global, settled: &Settled<'_>, jobs: u8) -> Result<Vec<Stretch>, A
             balances: balances.copy(alloc)?,
             wrong: None,
         })?;
-        skip(settled, before, before + size, &mut balances);
+        go_on(settled, before, before + size, &mut balances);
         before += size;
     }
     stretches.push(Stretch {
@@ -147,8 +167,7 @@ fn judge_all<R: Threads + Sync>(
     jobs: u8,
 )
     requires some { 1 ≤ jobs }
-    requires history { history.now ≡ section_history trace.now history.now.replica }
-    requires settled { settled.now ≡ settling trace.now history.now.replica }
+    requires section { AreOfSection trace.now history.now settled.now }
     requires ready { All (IsReady settled.now) stretches.old }
     ensures len { length stretches.new ≡ length stretches.old }
     ensures judged { (i : ℕ) (d : StretchValue) → i < length stretches.old
@@ -160,8 +179,7 @@ fn judge_all<R: Threads + Sync>(
         stretches,
         jobs as usize,
         &|_: usize, stretch: &mut Stretch|
-            requires { (history.now ≡ section_history trace.now history.now.replica)
-                × (settled.now ≡ settling trace.now history.now.replica) × IsReady settled.now stretch.old }
+            requires { AreOfSection trace.now history.now settled.now × IsReady settled.now stretch.old }
             ensures { IsJudged trace.entry.now history.entry.now.replica stretch.old stretch.new }
         { judge(trace, history, settled, stretch) },
     );
@@ -177,6 +195,24 @@ fn first_of_all(stretches: &[Stretch]) -> Option<u64>
         }
     }
     None
+}
+
+/// The offset of the first of a replica's attempts with a token that is not due, of all its committed batches.
+fn first_in<R: Threads + Sync>(
+    rt: &R,
+    alloc: Global,
+    trace: &Trace<'_>,
+    history: &History<'_>,
+    settled: &Settled<'_>,
+    jobs: u8,
+) -> Result<Option<u64>, AllocError>
+    requires section { AreOfSection trace.now history.now settled.now }
+    requires some { 1 ≤ jobs }
+    ensures { IfOk result (IsFirstWrong trace.now history.now.replica 0 (length settled.now.batches)) }
+{
+    let mut stretches = cut(alloc, settled, jobs)?;
+    judge_all(rt, trace, history, settled, stretches.as_mut_slice(), jobs);
+    Ok(first_of_all(&stretches))
 }
 
 /// Judges the tokens of a replica's committed attempts: each is that of the balances after its batch and of its
@@ -200,9 +236,7 @@ pub fn tokens<R: Threads + Sync>(
     ensures none { IfOk result (λ _. HasNone (IsTokenFault trace.now history.now.replica)) }
     ensures least { IfErr result (λ why. IfFound why (IsLeast (IsTokenFault trace.now history.now.replica))) }
 {
-    let mut stretches = cut(alloc, settled, jobs)?;
-    judge_all(rt, trace, history, settled, stretches.as_mut_slice(), jobs);
-    match first_of_all(&stretches) {
+    match first_in(rt, alloc, trace, history, settled, jobs)? {
         Some(offset) => Err(CheckFault::Found(Fault {
             code: Code::Token,
             offset,

@@ -1,4 +1,4 @@
-use Rattle.std.proofs.Common.{◌+◌, ◌≤◌, ℕ, length, None, sym, subst, refl, arith}
+use Rattle.std.proofs.Common.{◌+◌, ◌≤◌, ℕ, List, length, None, sym, subst, refl, arith}
 use Rattle.std.specs.Prelude.{All}
 use Rattle.std.proofs.lemmas.List.Elements.{All-push}
 use Rattle.eve_agree.specs.Judging.{IsAfter}
@@ -27,10 +27,10 @@ loop-before-preserved c =
     } in
     record {
       there = there;
-      balances = c.skip.ensures;
-      reaches = subst (Reaches 0 (b + size)) (sym c.in_ok-push.ensures.items)
+      balances = c.go_on.ensures;
+      reaches = subst (Reaches 0 (b + size)) (sym {A = List Stretch} c.in_ok-push.ensures.items)
           (reaches_more 0 b xs x c.loop-before.invariant.reaches refl);
-      ready = subst (All (IsReady s)) (sym c.in_ok-push.ensures.items)
+      ready = subst (All (IsReady s)) (sym {A = List Stretch} c.in_ok-push.ensures.items)
           (All-push (IsReady s) xs x c.loop-before.invariant.ready ready);
     }
 
@@ -48,8 +48,8 @@ returns c =
     } in
     record {
       reaches = subst (λ (n : ℕ). Reaches 0 n c.push-2.new.self.items) c.committed-committed.ensures
-          (subst (Reaches 0 last) (sym c.in_ok-push-2.ensures.items)
+          (subst (Reaches 0 last) (sym {A = List Stretch} c.in_ok-push-2.ensures.items)
           (reaches_more 0 b xs x c.loop-before.invariant.reaches refl));
-      ready = subst (All (IsReady s)) (sym c.in_ok-push-2.ensures.items)
+      ready = subst (All (IsReady s)) (sym {A = List Stretch} c.in_ok-push-2.ensures.items)
           (All-push (IsReady s) xs x c.loop-before.invariant.ready ready);
     }

@@ -1,0 +1,41 @@
+use Rattle.std.proofs.Common.{◌≡◌, ◌++◌, ◌<◌, ℕ, List, length, take, drop, get_or, Option, sym, subst, ap, ◌∙◌}
+use Rattle.std.proofs.Common.{append-nil, arith}
+use Rattle.std.proofs.lemmas.List.{take_all, drop_all}
+use Rattle.eve_grammar.specs.Trace.{Trace}
+use Rattle.eve_chains.specs.Settling.{Settling}
+use Rattle.eve_agree.specs.DueTokens.{IsFirstWrong}
+use Rattle.eve_agree.specs.Stretches.{IsJudged, AreStretches, first_found}
+use Rattle.eve_agree.specs.declared.due_tokens.Stretch.{Stretch}
+use Rattle.eve_agree.proofs.Stretched.{all_judged}
+use Rattle.eve_agree.proofs.due_tokens.first_in.Goals as goal
+
+whole_slice : {A : Type 0} (xs ys : List A) (n : ℕ) → length ys ≡ length xs → n ≡ length xs →
+    take n (ys ++ drop (length ys) xs) ≡ ys
+whole_slice xs ys n same many =
+    ap (λ (zs : List _). take n (ys ++ zs)) (drop_all (length ys) xs (omega arith)) ∙ ap (take n) (append-nil ys) ∙
+    take_all n ys (omega arith)
+
+-- what was found in all of them
+found_is : (t : Trace) (e : ℕ) (s : Settling) (xs ys old : List Stretch) (o : Option ℕ) → AreStretches s 0 xs →
+    length ys ≡ length old → old ≡ xs
+    → ((i : ℕ) (d : Stretch) → i < length old → IsJudged t e (get_or old i d) (get_or ys i d)) → o ≡ first_found ys →
+    IsFirstWrong t e 0 (length s.batches) o
+found_is t e s xs ys old o cut same value judged is =
+    let mine : (i : ℕ) (d : Stretch) → i < length xs → IsJudged t e (get_or xs i d) (get_or ys i d) =
+    subst (λ (zs : List Stretch). (i : ℕ) (d : Stretch) → i < length zs →
+    IsJudged t e (get_or zs i d) (get_or ys i d)) value judged in
+    subst (IsFirstWrong t e 0 (length s.batches)) (sym is) (all_judged t e s 0 xs ys (same ∙
+    ap (λ (zs : List Stretch). length zs) value) cut.reaches cut.ready mine).1
+
+pub returns : goal.returns
+returns g c =
+    let xs = c.in_ok-stretches.stretches.items in
+    let ys = c.judge_all.new.stretches in
+    let value = c.as_mut_slice.ensures.value in
+    let same = c.judge_all.ensures.len in
+    let many : length c.as_mut_slice.result.now ≡ length xs = ap (λ (zs : List Stretch). length zs) value in
+    let found : c.first_of_all.result ≡ first_found ys =
+    c.first_of_all.ensures ∙ ap first_found (c.deref.ensures.value ∙
+    whole_slice xs ys c.in_ok-stretches.stretches.len (omega arith) (omega (arith, c.as_mut_slice.ensures.len))) in
+    found_is c.args.trace.now c.args.history.now.replica c.args.settled.now xs ys c.as_mut_slice.result.now
+    c.first_of_all.result c.in_ok-stretches.ensures same value c.judge_all.ensures.judged found
