@@ -7,6 +7,7 @@ use Rattle.std.proofs.lemmas.Bool.{and_parts, and_from, eq-eqb, lt-ltb, ltb-true
 use Rattle.std.proofs.lemmas.List.{length-map, length-replicate}
 use Rattle.std.proofs.lemmas.List.Sums.{sum_by-cons}
 use Rattle.std.proofs.lemmas.List.Folds.{list_all-append}
+use Rattle.eve_smallbank.specs.declared.entry.Entry.{Entry}
 use Rattle.eve_smallbank.specs.declared.request.Reply.{Reply}
 use Rattle.eve_smallbank.specs.declared.request.Reply.TheVariants.{Done}
 use Rattle.eve_smallbank.specs.declared.rows.Touched.{Touched}
@@ -123,8 +124,20 @@ module _ (front : AttemptFront) (b : Batch) (touched : List Touched) (records : 
 
 -- ---- the ledger
 
-module _ (old new : Ledger) (o : Opened) (rows : Rows)
-    (is : new ≡ record old { rows = rows; opened = old.opened ++ o ∷ []; is_next_serial = false })
+-- what is kept of an attempt while it is open
+abbrev pub kept_as : AttemptFront → List ℕ → List Entry → Opened
+kept_as front token written = record { view = front.view; token = token; written = written }
+
+-- with these rows, and with these attempts open
+abbrev pub with_open : Ledger → Rows → List Opened → Ledger
+with_open s rows opened = record s { rows = rows; opened = opened; is_next_serial = false }
+
+pub one_more_open : (s : Ledger) (rows : Rows) (o : Opened) (kept opened : List Opened) → opened ≡ kept ++ o ∷ []
+    → kept ≡ s.opened → with_open s rows opened ≡ with_open s rows (s.opened ++ o ∷ [])
+one_more_open s rows o kept opened pushed same =
+    ap (with_open s rows) (pushed ∙ ap (λ (os : List Opened). os ++ o ∷ []) same)
+
+module _ (old new : Ledger) (o : Opened) (rows : Rows) (is : new ≡ with_open old rows (old.opened ++ o ∷ []))
     (many : length rows.balances ≡ row_count old)
     (back : undone (table_of rows) o.written ≡ rows_now old) where
   pub committed_stays : rows_committed new ≡ rows_committed old

@@ -183,25 +183,31 @@ noted_as is_there also t u e there same noted = record {
   fresh = λ writes. ap (λ v. nat_le version_limit v.version) (sym same) ∙ noted.fresh writes;
 }
 
-pub noted_within : (first second : Stripe) (es : List Entry)
+-- of the first stripe's rows, in a stripe that is the first
+pub noted_within : (first second s : Stripe) (es own : List Entry) → s ≡ first → own ≡ entries_within first es
     → AllByRecursion (IsNoted (has_row_in_two first second) (rows_in_two first second)) es
-    → AllByRecursion (IsNoted (has_row first) (rows_now first)) (entries_within first es)
-noted_within first second es noted =
-    all_filtered (IsNoted (has_row_in_two first second) (rows_in_two first second))
+    → AllByRecursion (IsNoted (has_row s) (rows_now s)) own
+noted_within first second s es own same is noted =
+    subst (λ (q : Stripe). AllByRecursion (IsNoted (has_row q) (rows_now q)) own) (sym same)
+    (subst (AllByRecursion (IsNoted (has_row first) (rows_now first))) (sym is)
+    (all_filtered (IsNoted (has_row_in_two first second) (rows_in_two first second))
     (IsNoted (has_row first) (rows_now first)) (λ (e : Entry). has_row first e.row) es
     (λ e here. noted_as (has_row_in_two first second) (has_row first) (rows_in_two first second) (rows_now first) e here
-    (ap (λ b. cond b (rows_now first e.row) (rows_now second e.row)) here)) noted
+    (ap (λ b. cond b (rows_now first e.row) (rows_now second e.row)) here)) noted))
 
-pub noted_outside : (first second : Stripe) (es : List Entry)
+-- of the other rows, in a stripe that is the second
+pub noted_outside : (first second s : Stripe) (es own : List Entry) → s ≡ second → own ≡ entries_outside first es
     → AllByRecursion (IsNoted (has_row_in_two first second) (rows_in_two first second)) es
-    → AllByRecursion (IsNoted (has_row second) (rows_now second)) (entries_outside first es)
-noted_outside first second es noted =
-    all_filtered (IsNoted (has_row_in_two first second) (rows_in_two first second))
+    → AllByRecursion (IsNoted (has_row s) (rows_now s)) own
+noted_outside first second s es own same is noted =
+    subst (λ (q : Stripe). AllByRecursion (IsNoted (has_row q) (rows_now q)) own) (sym same)
+    (subst (AllByRecursion (IsNoted (has_row second) (rows_now second))) (sym is)
+    (all_filtered (IsNoted (has_row_in_two first second) (rows_in_two first second))
     (IsNoted (has_row second) (rows_now second)) (λ (e : Entry). not (has_row first e.row)) es
     (λ e out h. let not_there = not-true (has_row first e.row) out in
     noted_as (has_row_in_two first second) (has_row second) (rows_in_two first second) (rows_now second) e
     (ap (λ b. b || has_row second e.row) (sym not_there) ∙ h.there)
-    (ap (λ b. cond b (rows_now first e.row) (rows_now second e.row)) not_there) h) noted
+    (ap (λ b. cond b (rows_now first e.row) (rows_now second e.row)) not_there) h) noted))
 
 -- ---- settled
 

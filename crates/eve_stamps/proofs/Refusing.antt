@@ -1,6 +1,7 @@
 -- Why a request is refused, from what was found.
 use Rattle.std.proofs.Common.{◌≡◌, ℕ, zero, suc, ◌≤◌, nat_le, Bool, true, false, cond, ◌&&◌, List, [], ◌∷◌, map, length}
 use Rattle.std.proofs.Common.{slice_get, Option, Some, None, Ok, Err, refl, sym, subst, ap, ap₂, ◌∙◌}
+use Rattle.std.specs.Prelude.{IfSome}
 use Rattle.std.specs.List.{list_all}
 use Rattle.std.proofs.lemmas.Bool.{or_left, or_right, and_left, and_right, le-leb, and_from}
 use Rattle.std.proofs.lemmas.List.{length-map}
@@ -12,12 +13,8 @@ use Rattle.eve_grammar.specs.Limits.{version_limit}
 use Rattle.eve_stamps.specs.declared.fault.StampFault.{StampFault}
 use Rattle.eve_stamps.specs.declared.fault.StampFault.TheVariants as fault
 use Rattle.eve_stamps.specs.Stripes.{row_in}
-use Rattle.eve_stamps.specs.Stamping.{is_worn, refused_for, IsRefusedFor}
+use Rattle.eve_stamps.specs.Stamping.{seen_of, is_worn, refused_for, IsRefusedFor}
 use Rattle.eve_stamps.proofs.RowLaws.{some_injective, none≢some}
-
--- what is seen of rows, where all are there
-abbrev pub seen_of : (ℕ → Bool) → Table → Rows → Option (List Restore)
-seen_of is_there now rows = cond (list_all (λ r. is_there r.0) rows) (Some (map (λ r. row_in now r.0) rows)) None
 
 pub record IsSeen (is_there : ℕ → Bool) (now : Table) (rows : Rows) (seen : List Restore) : Type 0 where
   pub there : list_all (λ r. is_there r.0) rows ≡ true
@@ -40,6 +37,12 @@ seen_is is_there now rows found seen same told =
 pub length-seen : (is_there : ℕ → Bool) (now : Table) (rows : Rows) (seen : List Restore)
     → IsSeen is_there now rows seen → length seen ≡ length rows
 length-seen is_there now rows seen is = ap length is.as_now ∙ length-map rows (λ r. row_in now r.0)
+
+pub many_seen : (is_there : ℕ → Bool) (now : Table) (rows found : Rows) (seen : Option (List Restore)) → found ≡ rows
+    → seen ≡ seen_of is_there now found → IfSome seen (λ held. length held ≡ length rows)
+many_seen is_there now rows found None same told = tt
+many_seen is_there now rows found (Some held) same told =
+    length-seen is_there now rows held (seen_is is_there now rows found held same told)
 
 pub refused_late : (A : Type 0) (is_there : ℕ → Bool) (is_new : Bool) (now : Table) (rows : Rows) (seen : List Restore)
     → IsSeen is_there now rows seen → is_new ≡ false

@@ -1,14 +1,21 @@
 -- What a request does to the stripes that it is lent, and why it is refused. docs/MODEL.md, "Stripe".
-use Rattle.std.specs.Prelude.{◌≡◌, ℕ, nat_le, Bool, not, ◌&&◌, ◌||◌, if◌then◌else◌, List, filter, Option, Some, None}
-use Rattle.std.specs.Prelude.{Result, Err, IfErr}
-use Rattle.std.specs.List.{list_all, list_any}
+use Rattle.std.specs.Prelude.{◌≡◌, ℕ, nat_le, Bool, not, ◌&&◌, ◌||◌, if◌then◌else◌, List, map, filter, Option, Some}
+use Rattle.std.specs.Prelude.{None, Result, Err, IfOk, IfErr}
+use Rattle.std.specs.List.{AllByRecursion, list_all, list_any}
 use Rattle.eve_smallbank.specs.declared.entry.Entry.{Entry}
-use Rattle.eve_smallbank.specs.Access.{Rows, is_write}
+use Rattle.eve_smallbank.specs.declared.request.Reply.{Reply}
+use Rattle.eve_smallbank.specs.declared.rows.Touched.{Touched}
+use Rattle.eve_smallbank.specs.SmallBank.{Request}
+use Rattle.eve_smallbank.specs.Access.{Rows, Fits, is_write}
 use Rattle.eve_smallbank.specs.Chain.{Table}
+use Rattle.eve_smallbank.specs.Touch.{touched_of, rows_in}
+use Rattle.eve_smallbank.specs.Execution.{executed_on}
+use Rattle.eve_grammar.specs.declared.restore.Restore.{Restore}
 use Rattle.eve_grammar.specs.Limits.{version_limit}
 use Rattle.eve_stamps.specs.declared.fault.StampFault.{StampFault}
 use Rattle.eve_stamps.specs.declared.fault.StampFault.TheVariants as fault
-use Rattle.eve_stamps.specs.Stripes.{Stripe, has_row, rows_now, is_above}
+use Rattle.eve_stamps.specs.Stripes.{Stripe, has_row, row_in, rows_now, is_above}
+use Rattle.eve_stamps.specs.Holding.{IsNoted}
 
 -- ---- two stripes as one; a row that lies in both is the first's
 
@@ -25,6 +32,13 @@ entries_within s entries = filter (λ e. has_row s e.row) entries
 -- the entries of other rows
 abbrev pub entries_outside : Stripe → List Entry → List Entry
 entries_outside s entries = filter (λ e. not (has_row s e.row)) entries
+
+-- ---- what is seen
+
+-- these rows as the table has them, where all are there
+abbrev pub seen_of : (ℕ → Bool) → Table → Rows → Option (List Restore)
+seen_of is_there now rows =
+    if list_all (λ r. is_there r.0) rows then Some (map (λ r. row_in now r.0) rows) else None
 
 -- ---- refusals
 
@@ -53,3 +67,17 @@ refusal_of_two first second tick rows =
 abbrev pub IsRefusedFor : {A : Type 0} → Option StampFault → Result A StampFault → Type 0
 IsRefusedFor (Some why) result = result ≡ Err why
 IsRefusedFor None result = IfErr result (λ why. why ≡ fault.Memory)
+
+-- ---- a request that is run
+
+-- Its reply and entries are those of executing it on the table, whoever the customers are, and a journal can take them;
+-- or it is refused for the reason that there is.
+pub record IsRun (is_there : ℕ → Bool) (now : Table) (is_new : Bool) (request : Request) (touched : Touched)
+    (result : Result (Reply × List Entry) StampFault) : Type 0 where
+  pub exact : (names : List (List ℕ)) → touched ≡ touched_of names request → IfOk result (λ x.
+      record { request = request; reply = x.0; entries = x.1 } ≡ executed_on names now request)
+  pub fits : (names : List (List ℕ)) → touched ≡ touched_of names request → IfOk result (λ x.
+      Fits names (record { request = request; reply = x.0; entries = x.1 }))
+  pub noted : IfOk result (λ x. AllByRecursion (IsNoted is_there now) x.1)
+  pub taken : IfOk result (λ _. refused_for is_there is_new now (rows_in touched) ≡ None)
+  pub refused : IfErr result (λ why. refused_for is_there is_new now (rows_in touched) ≡ Some why)

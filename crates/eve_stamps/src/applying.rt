@@ -1,8 +1,8 @@
 //! A request on the stripes that it is lent.
 
-ghost use Rattle.std.specs.Prelude.{◌≡◌, ◌<◌, ◌≤◌, ◌+◌, ℕ, List, IfOk, OnOk, OnErr, ◌&&◌, not, map, length};
-ghost use Rattle.std.specs.Prelude.{if◌then◌else◌, [], ◌∷◌, ◌++◌, vec_len, vec_capacity};
-ghost use Rattle.std.specs.List.{list_all, AllByRecursion};
+ghost use Rattle.std.specs.Prelude.{◌≡◌, ◌<◌, ◌≤◌, ◌+◌, ℕ, Bool, List, IsTrue, IfSome, IfOk, OnOk, OnErr, ◌&&◌};
+ghost use Rattle.std.specs.Prelude.{not, map, if◌then◌else◌, [], ◌∷◌, ◌++◌, length, vec_len, vec_capacity};
+ghost use Rattle.std.specs.List.{AllByRecursion};
 ghost use Rattle.eve_smallbank.specs.SmallBank.{plain};
 ghost use Rattle.eve_smallbank.specs.Access.{Fits};
 ghost use Rattle.eve_smallbank.specs.Chain.{Table, Sees};
@@ -11,7 +11,8 @@ ghost use Rattle.eve_smallbank.specs.Execution.{executed_on};
 ghost use Rattle.eve_stamps.specs.Applied.{noted_of, executed_by};
 ghost use Rattle.eve_stamps.specs.Stripes.{has_row, row_in, rows_now, is_above, noted_in};
 ghost use Rattle.eve_stamps.specs.Stamping.{has_row_in_two, rows_in_two, entries_within, entries_outside, is_worn};
-ghost use Rattle.eve_stamps.specs.Stamping.{refusal, refusal_of_two, IsRefusedFor};
+ghost use Rattle.eve_stamps.specs.Stamping.{seen_of, refusal, refusal_of_two, IsRefusedFor, IsRun};
+ghost use Rattle.eve_stamps.specs.Holding.{stripe_of, IsHeld, IsNoted};
 
 use crate::executing::executed;
 use crate::journal::Journaled;
@@ -19,7 +20,7 @@ use crate::rows::write;
 use crate::{AccessRecord, StampFault, Stripe};
 use eve_accounts::Row;
 use eve_grammar::Restore;
-use eve_smallbank::{Entry, Kind, Request, Touched, UpToThree, laws};
+use eve_smallbank::{Entry, Kind, Reply, Request, Touched, UpToThree, laws};
 use std::alloc::AllocError;
 
 /// No row is written at this version.
@@ -55,23 +56,20 @@ pub fn apply(
     ensures refused { IsRefusedFor (refusal stripe.old tick (rows_in touched.now)) result }
     ensures kept { OnErr result (stripe.new ≡ stripe.old) }
 {
-    laws::requests_fit();
     let rows = touched.rows();
-    let Some(seen) = seen_in(stripe, &rows) else {
-        return Err(StampFault::NoRow);
-    };
-    if !stripe.is_above(tick) {
-        return Err(StampFault::TickOrder);
-    }
-    if are_worn(&rows, &seen) {
-        return Err(StampFault::Worn);
-    }
-    let (reply, entries) = executed(request, touched, &seen);
+    let seen = seen_in(stripe, &rows);
+    let (reply, entries) = run(request, touched, &rows, seen, stripe.is_above(tick))?;
     if stripe.journal.reserve(1).is_err() {
         return Err(StampFault::Memory);
     }
-    write(&mut stripe.rows, &entries);
-    stripe.journal.push_reserved(Journaled { tick, entries });
+    note(
+        &stripe.base,
+        &mut stripe.rows,
+        &mut stripe.journal,
+        stripe.greatest,
+        tick,
+        entries,
+    );
     stripe.greatest = Some(tick);
     Ok(AccessRecord::new(worker, place, index, tick, reply, entries))
 }
@@ -111,41 +109,92 @@ pub fn apply_two(
     ensures first_kept { OnErr result (first.new ≡ first.old) }
     ensures second_kept { OnErr result (second.new ≡ second.old) }
 {
-    laws::requests_fit();
     let rows = touched.rows();
-    let Some(seen) = seen_in_two(first, second, &rows) else {
-        return Err(StampFault::NoRow);
-    };
-    if !are_above(first, second, tick) {
-        return Err(StampFault::TickOrder);
-    }
-    if are_worn(&rows, &seen) {
-        return Err(StampFault::Worn);
-    }
-    let (reply, entries) = executed(request, touched, &seen);
+    let seen = seen_in_two(first, second, &rows);
+    let (reply, entries) = run(
+        request,
+        touched,
+        &rows,
+        seen,
+        are_above(first, second, tick),
+    )?;
     let (within, outside) = split(first, &entries);
     if reserve_in_both(&mut first.journal, &mut second.journal).is_err() {
         return Err(StampFault::Memory);
     }
-    write(&mut first.rows, &within);
-    first.journal.push_reserved(Journaled {
+    note(
+        &first.base,
+        &mut first.rows,
+        &mut first.journal,
+        first.greatest,
         tick,
-        entries: within,
-    });
+        within,
+    );
     first.greatest = Some(tick);
-    write(&mut second.rows, &outside);
-    second.journal.push_reserved(Journaled {
+    note(
+        &second.base,
+        &mut second.rows,
+        &mut second.journal,
+        second.greatest,
         tick,
-        entries: outside,
-    });
+        outside,
+    );
     second.greatest = Some(tick);
     Ok(AccessRecord::new(worker, place, index, tick, reply, entries))
 }
 
+/// Runs the request on the rows that were seen: its reply and its entries, or why it is refused.
+fn run(
+    request: &Request,
+    touched: &Touched,
+    rows: &UpToThree<(Row, Kind)>,
+    seen: Option<UpToThree<Restore>>,
+    is_new: bool,
+) -> Result<(Reply, UpToThree<Entry>), StampFault>
+    requires touched { (names : List (List ℕ)) × (touched.now ≡ touched_of names (plain request.now)) }
+    requires rows { rows.now ≡ rows_in touched.now }
+    requires seen { IfSome seen (λ held. length held ≡ length (rows_in touched.now)) }
+    ensures new { IfOk result (λ _. IsTrue is_new) }
+    ensures run { (is_there : ℕ → Bool) (now : Table) → seen ≡ seen_of is_there now (rows_in touched.now)
+        → IsRun is_there now is_new (plain request.now) touched.now result }
+{
+    laws::requests_fit();
+    let Some(seen) = seen else {
+        return Err(StampFault::NoRow);
+    };
+    if !is_new {
+        return Err(StampFault::TickOrder);
+    }
+    if are_worn(rows, &seen) {
+        return Err(StampFault::Worn);
+    }
+    Ok(executed(request, touched, &seen))
+}
+
+/// Takes the writes of one more request, and journals its entries.
+fn note(
+    base: &[Restore],
+    rows: &mut [Restore],
+    journal: &mut Vec<Journaled>,
+    greatest: Option<u64>,
+    tick: u64,
+    entries: UpToThree<Entry>,
+)
+    requires held { IsHeld base.now rows.old journal.old.items greatest }
+    requires room { vec_len journal.old + 1 ≤ vec_capacity journal.old }
+    requires above { IsTrue (is_above tick greatest) }
+    requires noted { AllByRecursion (IsNoted (has_row (stripe_of base.now journal.old.items greatest))
+        (rows_now (stripe_of base.now journal.old.items greatest))) entries }
+    ensures held { IsHeld base.now rows.new journal.new.items (Some tick) }
+    ensures journal { journal.new.items ≡ journal.old.items ++ record { tick = tick; entries = entries } ∷ [] }
+{
+    write(rows, &entries);
+    journal.push_reserved(Journaled { tick, entries });
+}
+
 /// The rows as they are now, where all lie in the stripe.
 fn seen_in(stripe: &Stripe, rows: &UpToThree<(Row, Kind)>) -> Option<UpToThree<Restore>>
-    ensures { result ≡ (if list_all (λ r. has_row stripe.now r.0) rows.now then Some
-        (map (λ r. row_in (rows_now stripe.now) r.0) rows.now) else None) }
+    ensures { result ≡ seen_of (has_row stripe.now) (rows_now stripe.now) rows.now }
 {
     let mut seen = UpToThree::new();
     for place in 0..rows.len() {
@@ -163,8 +212,7 @@ fn seen_in_two(
     second: &Stripe,
     rows: &UpToThree<(Row, Kind)>,
 ) -> Option<UpToThree<Restore>>
-    ensures { result ≡ (if list_all (λ r. has_row_in_two first.now second.now r.0) rows.now then Some
-        (map (λ r. row_in (rows_in_two first.now second.now) r.0) rows.now) else None) }
+    ensures { result ≡ seen_of (has_row_in_two first.now second.now) (rows_in_two first.now second.now) rows.now }
 {
     let mut seen = UpToThree::new();
     for place in 0..rows.len() {

@@ -1,282 +1,53 @@
-use Rattle.std.proofs.Common.{◌≡◌, true, false, ◌&&◌, List, [], ◌∷◌, ◌++◌, rules, sym, subst, ap, ◌∙◌}
-use Rattle.std.specs.List.{AllByRecursion}
-use Rattle.std.specs.Vec.{with_items}
-use Rattle.std.proofs.lemmas.Bool.{not-true, not-false, and_parts}
-use Rattle.std.proofs.lemmas.List.{with_items_is}
-use Rattle.eve_smallbank.specs.declared.entry.Entry.{Entry}
-use Rattle.eve_smallbank.specs.SmallBank.{plain}
-use Rattle.eve_smallbank.specs.Access.{Executed, Fits}
-use Rattle.eve_smallbank.specs.Chain.{Sees, table_after}
+use Rattle.std.proofs.Common.{List, ap, ap₂, sym, ◌∙◌}
+use Rattle.std.proofs.lemmas.Bool.{and_parts}
 use Rattle.eve_smallbank.specs.Touch.{rows_in}
 use Rattle.eve_grammar.specs.declared.restore.Restore.{Restore}
 use Rattle.eve_stamps.specs.declared.journal.Journaled.{Journaled}
-use Rattle.eve_stamps.specs.Applied.{Applied, noted_of, executed_by}
-use Rattle.eve_stamps.specs.Stripes.{Stripe, has_row, rows_now, is_above, table_in, rows_in_table}
-use Rattle.eve_stamps.specs.Stamping.{is_worn, has_row_in_two, rows_in_two}
-use Rattle.eve_stamps.specs.Holding.{stripe_of, IsNoted}
-use Rattle.eve_stamps.proofs.Refusing.{IsSeen, seen_is, length-seen, refused_late, refused_worn, refused_memory}
-use Rattle.eve_stamps.proofs.Refusing.{taken_on, worn_told}
-use Rattle.eve_stamps.proofs.Versions.{all_sees}
-use Rattle.eve_stamps.proofs.Keeping.{rows_rise, entries_in_rows, held_noted, noted_within, noted_outside}
+use Rattle.eve_stamps.specs.Stripes.{Stripe, is_above}
+use Rattle.eve_stamps.specs.Stamping.{has_row_in_two, rows_in_two, seen_of}
+use Rattle.eve_stamps.specs.Holding.{stripe_of}
+use Rattle.eve_stamps.proofs.Refusing.{many_seen}
+use Rattle.eve_stamps.proofs.Keeping.{noted_within, noted_outside}
 use Rattle.eve_stamps.proofs.applying.apply_two.Goals as goal
 
-pub returns-then-not-are_above-clause-refused : goal.returns-then-not-are_above-clause-refused
-returns-then-not-are_above-clause-refused c =
-    let is : IsSeen (has_row_in_two c.args.first.now c.args.second.now) (rows_in_two c.args.first.now c.args.second.now)
-    (rows_in c.args.touched.now) c.in-Some.seen = seen_is (has_row_in_two c.args.first.now c.args.second.now)
-    (rows_in_two c.args.first.now c.args.second.now) (rows_in c.args.touched.now) c.rows-rows.result c.in-Some.seen
-    c.rows-rows.ensures c.in-Some.ensures in
-    refused_late _ (has_row_in_two c.args.first.now c.args.second.now)
-    (is_above c.args.tick c.args.first.now.greatest && is_above c.args.tick c.args.second.now.greatest)
-    (rows_in_two c.args.first.now c.args.second.now) (rows_in c.args.touched.now) c.in-Some.seen is
-    (sym c.are_above.ensures ∙ search (rules, not-true))
+pub run-requires-clause-seen : goal.run-requires-clause-seen
+run-requires-clause-seen c =
+    many_seen (has_row_in_two c.args.first.now c.args.second.now) (rows_in_two c.args.first.now c.args.second.now)
+    (rows_in c.args.touched.now) c.rows-rows.result c.seen_in_two-seen.result c.rows-rows.ensures
+    c.seen_in_two-seen.ensures
 
-pub returns-then-are_worn-clause-refused : goal.returns-then-are_worn-clause-refused
-returns-then-are_worn-clause-refused c =
-    let is : IsSeen (has_row_in_two c.args.first.now c.args.second.now) (rows_in_two c.args.first.now c.args.second.now)
-    (rows_in c.args.touched.now) c.in-Some.seen = seen_is (has_row_in_two c.args.first.now c.args.second.now)
-    (rows_in_two c.args.first.now c.args.second.now) (rows_in c.args.touched.now) c.rows-rows.result c.in-Some.seen
-    c.rows-rows.ensures c.in-Some.ensures in
-    let timely : is_above c.args.tick c.args.first.now.greatest && is_above c.args.tick c.args.second.now.greatest
-    ≡ true = sym c.are_above.ensures ∙ search (rules, not-false) in
-    let worn : is_worn (rows_in_two c.args.first.now c.args.second.now) (rows_in c.args.touched.now) ≡ true =
-    sym (worn_told (has_row_in_two c.args.first.now c.args.second.now)
-    (rows_in_two c.args.first.now c.args.second.now) (rows_in c.args.touched.now) c.rows-rows.result c.in-Some.seen
-    c.are_worn.result is c.rows-rows.ensures c.are_worn.ensures) ∙ c.if-are_worn.true in
-    refused_worn _ (has_row_in_two c.args.first.now c.args.second.now)
-    (is_above c.args.tick c.args.first.now.greatest && is_above c.args.tick c.args.second.now.greatest)
-    (rows_in_two c.args.first.now c.args.second.now) (rows_in c.args.touched.now) c.in-Some.seen is timely worn
-
-pub executed-reply-requires-clause-seen : goal.executed-reply-requires-clause-seen
-executed-reply-requires-clause-seen c =
-    let is : IsSeen (has_row_in_two c.args.first.now c.args.second.now) (rows_in_two c.args.first.now c.args.second.now)
-    (rows_in c.args.touched.now) c.in-Some.seen = seen_is (has_row_in_two c.args.first.now c.args.second.now)
-    (rows_in_two c.args.first.now c.args.second.now) (rows_in c.args.touched.now) c.rows-rows.result c.in-Some.seen
-    c.rows-rows.ensures c.in-Some.ensures in
-    length-seen (has_row_in_two c.args.first.now c.args.second.now) (rows_in_two c.args.first.now c.args.second.now)
-    (rows_in c.args.touched.now) c.in-Some.seen is
-
-pub returns-then-is_err-clause-refused : goal.returns-then-is_err-clause-refused
-returns-then-is_err-clause-refused c =
-    let is : IsSeen (has_row_in_two c.args.first.now c.args.second.now) (rows_in_two c.args.first.now c.args.second.now)
-    (rows_in c.args.touched.now) c.in-Some.seen = seen_is (has_row_in_two c.args.first.now c.args.second.now)
-    (rows_in_two c.args.first.now c.args.second.now) (rows_in c.args.touched.now) c.rows-rows.result c.in-Some.seen
-    c.rows-rows.ensures c.in-Some.ensures in
-    let timely : is_above c.args.tick c.args.first.now.greatest && is_above c.args.tick c.args.second.now.greatest
-    ≡ true = sym c.are_above.ensures ∙ search (rules, not-false) in
-    let fresh : is_worn (rows_in_two c.args.first.now c.args.second.now) (rows_in c.args.touched.now) ≡ false =
-    sym (worn_told (has_row_in_two c.args.first.now c.args.second.now)
-    (rows_in_two c.args.first.now c.args.second.now) (rows_in c.args.touched.now) c.rows-rows.result c.in-Some.seen
-    c.are_worn.result is c.rows-rows.ensures c.are_worn.ensures) ∙ c.if-are_worn.false in
-    refused_memory _ (has_row_in_two c.args.first.now c.args.second.now)
-    (is_above c.args.tick c.args.first.now.greatest && is_above c.args.tick c.args.second.now.greatest)
-    (rows_in_two c.args.first.now c.args.second.now) (rows_in c.args.touched.now) c.in-Some.seen is timely fresh
-
-pub write-requires-clause-rise : goal.write-requires-clause-rise
-write-requires-clause-rise c =
-    rw c.deref_mut.ensures.value
-    (rows_rise c.first.inside.base.items c.first.inside.rows.items c.first.inside.journal.items
-    c.first.inside.greatest c.first.invariant)
-
-pub write-requires-clause-entries : goal.write-requires-clause-entries
-write-requires-clause-entries c =
-    let is : IsSeen (has_row_in_two c.args.first.now c.args.second.now) (rows_in_two c.args.first.now c.args.second.now)
-    (rows_in c.args.touched.now) c.in-Some.seen = seen_is (has_row_in_two c.args.first.now c.args.second.now)
-    (rows_in_two c.args.first.now c.args.second.now) (rows_in c.args.touched.now) c.rows-rows.result c.in-Some.seen
-    c.rows-rows.ensures c.in-Some.ensures in
-    let fresh : is_worn (rows_in_two c.args.first.now c.args.second.now) (rows_in c.args.touched.now) ≡ false =
-    sym (worn_told (has_row_in_two c.args.first.now c.args.second.now)
-    (rows_in_two c.args.first.now c.args.second.now) (rows_in c.args.touched.now) c.rows-rows.result c.in-Some.seen
-    c.are_worn.result is c.rows-rows.ensures c.are_worn.ensures) ∙ c.if-are_worn.false in
-    let noted : AllByRecursion
-    (IsNoted (has_row_in_two c.args.first.now c.args.second.now) (rows_in_two c.args.first.now c.args.second.now))
-    c.executed-reply.result.1 = c.executed-reply.ensures.noted (has_row_in_two c.args.first.now c.args.second.now)
-    (rows_in_two c.args.first.now c.args.second.now) is.as_now is.there fresh in
-    let own : AllByRecursion
-    (IsNoted (has_row (stripe_of c.first.inside.base.items c.first.inside.journal.items c.first.inside.greatest))
-    (rows_now (stripe_of c.first.inside.base.items c.first.inside.journal.items c.first.inside.greatest)))
-    c.split-within.result.0 =
-    subst (λ (s : Stripe). AllByRecursion (IsNoted (has_row s) (rows_now s)) c.split-within.result.0)
-    (sym c.first.view_is) (subst
-    (λ (es : List Entry). AllByRecursion (IsNoted (has_row c.args.first.now) (rows_now c.args.first.now)) es)
-    (sym c.split-within.ensures.within)
-    (noted_within c.args.first.now c.args.second.now c.executed-reply.result.1 noted)) in
-    rw c.deref_mut.ensures.value
-    (entries_in_rows c.first.inside.base.items c.first.inside.rows.items c.first.inside.journal.items
-    c.first.inside.greatest c.split-within.result.0 c.first.invariant own)
-
-pub invariant_of-first-2 : goal.invariant_of-first-2
-invariant_of-first-2 c =
-    let is : IsSeen (has_row_in_two c.args.first.now c.args.second.now) (rows_in_two c.args.first.now c.args.second.now)
-    (rows_in c.args.touched.now) c.in-Some.seen = seen_is (has_row_in_two c.args.first.now c.args.second.now)
-    (rows_in_two c.args.first.now c.args.second.now) (rows_in c.args.touched.now) c.rows-rows.result c.in-Some.seen
-    c.rows-rows.ensures c.in-Some.ensures in
-    let timely : is_above c.args.tick c.args.first.now.greatest && is_above c.args.tick c.args.second.now.greatest
-    ≡ true = sym c.are_above.ensures ∙ search (rules, not-false) in
-    let fresh : is_worn (rows_in_two c.args.first.now c.args.second.now) (rows_in c.args.touched.now) ≡ false =
-    sym (worn_told (has_row_in_two c.args.first.now c.args.second.now)
-    (rows_in_two c.args.first.now c.args.second.now) (rows_in c.args.touched.now) c.rows-rows.result c.in-Some.seen
-    c.are_worn.result is c.rows-rows.ensures c.are_worn.ensures) ∙ c.if-are_worn.false in
-    let noted : AllByRecursion
-    (IsNoted (has_row_in_two c.args.first.now c.args.second.now) (rows_in_two c.args.first.now c.args.second.now))
-    c.executed-reply.result.1 = c.executed-reply.ensures.noted (has_row_in_two c.args.first.now c.args.second.now)
-    (rows_in_two c.args.first.now c.args.second.now) is.as_now is.there fresh in
-    let own : AllByRecursion
-    (IsNoted (has_row (stripe_of c.first.inside.base.items c.first.inside.journal.items c.first.inside.greatest))
-    (rows_now (stripe_of c.first.inside.base.items c.first.inside.journal.items c.first.inside.greatest)))
-    c.split-within.result.0 =
-    subst (λ (s : Stripe). AllByRecursion (IsNoted (has_row s) (rows_now s)) c.split-within.result.0)
-    (sym c.first.view_is) (subst
-    (λ (es : List Entry). AllByRecursion (IsNoted (has_row c.args.first.now) (rows_now c.args.first.now)) es)
-    (sym c.split-within.ensures.within)
-    (noted_within c.args.first.now c.args.second.now c.executed-reply.result.1 noted)) in
-    let above : is_above c.args.tick c.first.inside.greatest ≡ true =
+pub note-requires-clause-above : goal.note-requires-clause-above
+note-requires-clause-above c =
     ap (λ (s : Stripe). is_above c.args.tick s.greatest) c.first.view_is
     ∙ (and_parts (is_above c.args.tick c.args.first.now.greatest) (is_above c.args.tick c.args.second.now.greatest)
-    timely).0 in
-    let written : (with_items c.first.inside.rows c.write.new.rows).items
-    ≡ rows_in_table (table_after (table_in c.first.inside.rows.items) c.split-within.result.0)
-    c.first.inside.rows.items = with_items_is c.first.inside.rows c.write.new.rows
-    (c.write.auto.rows ∙ c.deref_mut.ensures.len) ∙ c.write.ensures
-    ∙ ap (λ (rs : List Restore). rows_in_table (table_after (table_in rs) c.split-within.result.0) rs)
-    c.deref_mut.ensures.value in
-    let pushed : c.push_reserved.new.self.items ≡ c.first.inside.journal.items ++ record
-    { tick = c.args.tick; entries = c.split-within.result.0 } ∷ [] = c.push_reserved.ensures.items
-    ∙ ap (λ (js : List Journaled). js ++ record { tick = c.args.tick; entries = c.split-within.result.0 } ∷ [])
-    c.reserve_in_both.ensures.first_items in
-    held_noted c.first.inside.base.items c.first.inside.rows.items
-    (with_items c.first.inside.rows c.write.new.rows).items c.first.inside.journal.items
-    c.push_reserved.new.self.items c.first.inside.greatest c.args.tick c.split-within.result.0 c.first.invariant
-    above own written pushed
+    (sym c.are_above.ensures ∙ c.in_ok-reply.ensures.new)).0
 
-pub write-requires-2-clause-rise : goal.write-requires-2-clause-rise
-write-requires-2-clause-rise c =
-    rw c.deref_mut-2.ensures.value
-    (rows_rise c.second.inside.base.items c.second.inside.rows.items c.second.inside.journal.items
-    c.second.inside.greatest c.second.invariant)
-
-pub write-requires-2-clause-entries : goal.write-requires-2-clause-entries
-write-requires-2-clause-entries c =
-    let is : IsSeen (has_row_in_two c.args.first.now c.args.second.now) (rows_in_two c.args.first.now c.args.second.now)
-    (rows_in c.args.touched.now) c.in-Some.seen = seen_is (has_row_in_two c.args.first.now c.args.second.now)
-    (rows_in_two c.args.first.now c.args.second.now) (rows_in c.args.touched.now) c.rows-rows.result c.in-Some.seen
-    c.rows-rows.ensures c.in-Some.ensures in
-    let fresh : is_worn (rows_in_two c.args.first.now c.args.second.now) (rows_in c.args.touched.now) ≡ false =
-    sym (worn_told (has_row_in_two c.args.first.now c.args.second.now)
-    (rows_in_two c.args.first.now c.args.second.now) (rows_in c.args.touched.now) c.rows-rows.result c.in-Some.seen
-    c.are_worn.result is c.rows-rows.ensures c.are_worn.ensures) ∙ c.if-are_worn.false in
-    let noted : AllByRecursion
-    (IsNoted (has_row_in_two c.args.first.now c.args.second.now) (rows_in_two c.args.first.now c.args.second.now))
-    c.executed-reply.result.1 = c.executed-reply.ensures.noted (has_row_in_two c.args.first.now c.args.second.now)
-    (rows_in_two c.args.first.now c.args.second.now) is.as_now is.there fresh in
-    let own : AllByRecursion
-    (IsNoted (has_row (stripe_of c.second.inside.base.items c.second.inside.journal.items c.second.inside.greatest))
-    (rows_now (stripe_of c.second.inside.base.items c.second.inside.journal.items c.second.inside.greatest)))
-    c.split-within.result.1 =
-    subst (λ (s : Stripe). AllByRecursion (IsNoted (has_row s) (rows_now s)) c.split-within.result.1)
-    (sym c.second.view_is) (subst
-    (λ (es : List Entry). AllByRecursion (IsNoted (has_row c.args.second.now) (rows_now c.args.second.now)) es)
-    (sym c.split-within.ensures.outside)
-    (noted_outside c.args.first.now c.args.second.now c.executed-reply.result.1 noted)) in
-    rw c.deref_mut-2.ensures.value
-    (entries_in_rows c.second.inside.base.items c.second.inside.rows.items c.second.inside.journal.items
-    c.second.inside.greatest c.split-within.result.1 c.second.invariant own)
-
-pub invariant_of-second-2 : goal.invariant_of-second-2
-invariant_of-second-2 c =
-    let is : IsSeen (has_row_in_two c.args.first.now c.args.second.now) (rows_in_two c.args.first.now c.args.second.now)
-    (rows_in c.args.touched.now) c.in-Some.seen = seen_is (has_row_in_two c.args.first.now c.args.second.now)
-    (rows_in_two c.args.first.now c.args.second.now) (rows_in c.args.touched.now) c.rows-rows.result c.in-Some.seen
-    c.rows-rows.ensures c.in-Some.ensures in
-    let timely : is_above c.args.tick c.args.first.now.greatest && is_above c.args.tick c.args.second.now.greatest
-    ≡ true = sym c.are_above.ensures ∙ search (rules, not-false) in
-    let fresh : is_worn (rows_in_two c.args.first.now c.args.second.now) (rows_in c.args.touched.now) ≡ false =
-    sym (worn_told (has_row_in_two c.args.first.now c.args.second.now)
-    (rows_in_two c.args.first.now c.args.second.now) (rows_in c.args.touched.now) c.rows-rows.result c.in-Some.seen
-    c.are_worn.result is c.rows-rows.ensures c.are_worn.ensures) ∙ c.if-are_worn.false in
-    let noted : AllByRecursion
-    (IsNoted (has_row_in_two c.args.first.now c.args.second.now) (rows_in_two c.args.first.now c.args.second.now))
-    c.executed-reply.result.1 = c.executed-reply.ensures.noted (has_row_in_two c.args.first.now c.args.second.now)
-    (rows_in_two c.args.first.now c.args.second.now) is.as_now is.there fresh in
-    let own : AllByRecursion
-    (IsNoted (has_row (stripe_of c.second.inside.base.items c.second.inside.journal.items c.second.inside.greatest))
-    (rows_now (stripe_of c.second.inside.base.items c.second.inside.journal.items c.second.inside.greatest)))
-    c.split-within.result.1 =
-    subst (λ (s : Stripe). AllByRecursion (IsNoted (has_row s) (rows_now s)) c.split-within.result.1)
-    (sym c.second.view_is) (subst
-    (λ (es : List Entry). AllByRecursion (IsNoted (has_row c.args.second.now) (rows_now c.args.second.now)) es)
-    (sym c.split-within.ensures.outside)
-    (noted_outside c.args.first.now c.args.second.now c.executed-reply.result.1 noted)) in
-    let above : is_above c.args.tick c.second.inside.greatest ≡ true =
+pub note-requires-2-clause-above : goal.note-requires-2-clause-above
+note-requires-2-clause-above c =
     ap (λ (s : Stripe). is_above c.args.tick s.greatest) c.second.view_is
     ∙ (and_parts (is_above c.args.tick c.args.first.now.greatest) (is_above c.args.tick c.args.second.now.greatest)
-    timely).1 in
-    let written : (with_items c.second.inside.rows c.write-2.new.rows).items
-    ≡ rows_in_table (table_after (table_in c.second.inside.rows.items) c.split-within.result.1)
-    c.second.inside.rows.items = with_items_is c.second.inside.rows c.write-2.new.rows
-    (c.write-2.auto.rows ∙ c.deref_mut-2.ensures.len) ∙ c.write-2.ensures
-    ∙ ap (λ (rs : List Restore). rows_in_table (table_after (table_in rs) c.split-within.result.1) rs)
-    c.deref_mut-2.ensures.value in
-    let pushed : c.push_reserved-2.new.self.items ≡ c.second.inside.journal.items ++ record
-    { tick = c.args.tick; entries = c.split-within.result.1 } ∷ [] = c.push_reserved-2.ensures.items
-    ∙ ap (λ (js : List Journaled). js ++ record { tick = c.args.tick; entries = c.split-within.result.1 } ∷ [])
-    c.reserve_in_both.ensures.second_items in
-    held_noted c.second.inside.base.items c.second.inside.rows.items
-    (with_items c.second.inside.rows c.write-2.new.rows).items c.second.inside.journal.items
-    c.push_reserved-2.new.self.items c.second.inside.greatest c.args.tick c.split-within.result.1 c.second.invariant
-    above own written pushed
+    (sym c.are_above.ensures ∙ c.in_ok-reply.ensures.new)).1
 
-pub returns-clause-exact : goal.returns-clause-exact
-returns-clause-exact c names same =
-    let is : IsSeen (has_row_in_two c.args.first.now c.args.second.now) (rows_in_two c.args.first.now c.args.second.now)
-    (rows_in c.args.touched.now) c.in-Some.seen = seen_is (has_row_in_two c.args.first.now c.args.second.now)
-    (rows_in_two c.args.first.now c.args.second.now) (rows_in c.args.touched.now) c.rows-rows.result c.in-Some.seen
-    c.rows-rows.ensures c.in-Some.ensures in
-    c.new.ensures ∙ ap (noted_of c.args.worker c.args.place c.args.index c.args.tick)
-    (sym (c.executed-reply.ensures.exact names (rows_in_two c.args.first.now c.args.second.now) same is.as_now))
+pub note-requires-clause-noted : goal.note-requires-clause-noted
+note-requires-clause-noted c =
+    let is_there = has_row_in_two c.args.first.now c.args.second.now in
+    let now = rows_in_two c.args.first.now c.args.second.now in
+    noted_within c.args.first.now c.args.second.now
+    (stripe_of c.deref.result.now c.reserve_in_both.new.first.items c.first.inside.greatest)
+    c.in_ok-reply.entries c.split-within.result.0
+    (ap₂ (λ (bs : List Restore) (js : List Journaled). stripe_of bs js c.first.inside.greatest)
+    c.deref.ensures.value c.reserve_in_both.ensures.first_items ∙ c.first.view_is) c.split-within.ensures.within
+    (c.in_ok-reply.ensures.run is_there now
+    (c.seen_in_two-seen.ensures ∙ ap (seen_of is_there now) c.rows-rows.ensures)).noted
 
-pub returns-clause-fits : goal.returns-clause-fits
-returns-clause-fits c names same =
-    let is : IsSeen (has_row_in_two c.args.first.now c.args.second.now) (rows_in_two c.args.first.now c.args.second.now)
-    (rows_in c.args.touched.now) c.in-Some.seen = seen_is (has_row_in_two c.args.first.now c.args.second.now)
-    (rows_in_two c.args.first.now c.args.second.now) (rows_in c.args.touched.now) c.rows-rows.result c.in-Some.seen
-    c.rows-rows.ensures c.in-Some.ensures in
-    subst (λ (r : Applied). Fits names (executed_by (plain c.args.request.now) r)) (sym c.new.ensures)
-    (subst (λ (x : Executed). Fits names x)
-    (c.executed-reply.ensures.exact names (rows_in_two c.args.first.now c.args.second.now) same is.as_now)
-    (c.requests_fit.ensures names (rows_in_two c.args.first.now c.args.second.now) (plain c.args.request.now)))
-
-pub returns-clause-sees : goal.returns-clause-sees
-returns-clause-sees c =
-    let is : IsSeen (has_row_in_two c.args.first.now c.args.second.now) (rows_in_two c.args.first.now c.args.second.now)
-    (rows_in c.args.touched.now) c.in-Some.seen = seen_is (has_row_in_two c.args.first.now c.args.second.now)
-    (rows_in_two c.args.first.now c.args.second.now) (rows_in c.args.touched.now) c.rows-rows.result c.in-Some.seen
-    c.rows-rows.ensures c.in-Some.ensures in
-    let fresh : is_worn (rows_in_two c.args.first.now c.args.second.now) (rows_in c.args.touched.now) ≡ false =
-    sym (worn_told (has_row_in_two c.args.first.now c.args.second.now)
-    (rows_in_two c.args.first.now c.args.second.now) (rows_in c.args.touched.now) c.rows-rows.result c.in-Some.seen
-    c.are_worn.result is c.rows-rows.ensures c.are_worn.ensures) ∙ c.if-are_worn.false in
-    let noted : AllByRecursion
-    (IsNoted (has_row_in_two c.args.first.now c.args.second.now) (rows_in_two c.args.first.now c.args.second.now))
-    c.executed-reply.result.1 = c.executed-reply.ensures.noted (has_row_in_two c.args.first.now c.args.second.now)
-    (rows_in_two c.args.first.now c.args.second.now) is.as_now is.there fresh in
-    subst (λ (r : Applied). AllByRecursion (Sees (rows_in_two c.args.first.now c.args.second.now)) r.entries)
-    (sym c.new.ensures) (all_sees (has_row_in_two c.args.first.now c.args.second.now)
-    (rows_in_two c.args.first.now c.args.second.now) c.executed-reply.result.1 noted)
-
-pub returns-clause-refused : goal.returns-clause-refused
-returns-clause-refused c =
-    let is : IsSeen (has_row_in_two c.args.first.now c.args.second.now) (rows_in_two c.args.first.now c.args.second.now)
-    (rows_in c.args.touched.now) c.in-Some.seen = seen_is (has_row_in_two c.args.first.now c.args.second.now)
-    (rows_in_two c.args.first.now c.args.second.now) (rows_in c.args.touched.now) c.rows-rows.result c.in-Some.seen
-    c.rows-rows.ensures c.in-Some.ensures in
-    let timely : is_above c.args.tick c.args.first.now.greatest && is_above c.args.tick c.args.second.now.greatest
-    ≡ true = sym c.are_above.ensures ∙ search (rules, not-false) in
-    let fresh : is_worn (rows_in_two c.args.first.now c.args.second.now) (rows_in c.args.touched.now) ≡ false =
-    sym (worn_told (has_row_in_two c.args.first.now c.args.second.now)
-    (rows_in_two c.args.first.now c.args.second.now) (rows_in c.args.touched.now) c.rows-rows.result c.in-Some.seen
-    c.are_worn.result is c.rows-rows.ensures c.are_worn.ensures) ∙ c.if-are_worn.false in
-    taken_on (has_row_in_two c.args.first.now c.args.second.now)
-    (is_above c.args.tick c.args.first.now.greatest && is_above c.args.tick c.args.second.now.greatest)
-    (rows_in_two c.args.first.now c.args.second.now) (rows_in c.args.touched.now) c.in-Some.seen c.new.result is
-    timely fresh
+pub note-requires-2-clause-noted : goal.note-requires-2-clause-noted
+note-requires-2-clause-noted c =
+    let is_there = has_row_in_two c.args.first.now c.args.second.now in
+    let now = rows_in_two c.args.first.now c.args.second.now in
+    noted_outside c.args.first.now c.args.second.now
+    (stripe_of c.deref-2.result.now c.reserve_in_both.new.second.items c.second.inside.greatest)
+    c.in_ok-reply.entries c.split-within.result.1
+    (ap₂ (λ (bs : List Restore) (js : List Journaled). stripe_of bs js c.second.inside.greatest)
+    c.deref-2.ensures.value c.reserve_in_both.ensures.second_items ∙ c.second.view_is) c.split-within.ensures.outside
+    (c.in_ok-reply.ensures.run is_there now
+    (c.seen_in_two-seen.ensures ∙ ap (seen_of is_there now) c.rows-rows.ensures)).noted

@@ -1,4 +1,4 @@
-use Rattle.std.proofs.Common.{◌≡◌, ℕ, ℤ, ◌+◌, false, List, [], ◌∷◌, ◌++◌, length, refl, sym, subst, ap, ap₂, ◌∙◌, arith}
+use Rattle.std.proofs.Common.{◌≡◌, ℕ, ℤ, ◌+◌, List, [], ◌∷◌, ◌++◌, length, refl, sym, subst, ap, ap₂, ◌∙◌, arith}
 use Rattle.std.proofs.lemmas.Bool.{false≢true}
 use Rattle.eve_smallbank.specs.declared.entry.Entry.{Entry}
 use Rattle.eve_smallbank.specs.declared.request.Reply.{Reply}
@@ -14,7 +14,8 @@ use Rattle.eve_attempts.specs.Ordering.{Key, records_in, AreSeenAlong, table_alo
 use Rattle.eve_attempts.specs.Holding.{ledger_of}
 use Rattle.eve_attempts.proofs.Takings.{length_order, order_rises, one_with}
 use Rattle.eve_attempts.proofs.TableLaws.{table_along-writes, table_along-executed, seen_chained, chained_seen}
-use Rattle.eve_attempts.proofs.Closings.{attempt_of, is_attempt_of, committed_stays, ledger_further}
+use Rattle.eve_attempts.proofs.Closings.{attempt_of, is_attempt_of, kept_as, with_open, one_more_open, committed_stays}
+use Rattle.eve_attempts.proofs.Closings.{ledger_further}
 use Rattle.eve_attempts.proofs.ledger.Ledger.close.Goals as goal
 
 pub invariant_of-self : goal.invariant_of-self
@@ -51,19 +52,10 @@ invariant_of-self-2 c =
     let s : Ledger = ledger_of c.self.inside in
     let rs = c.args.records.now in
     let mine = records_in rs c.as_slice-order.result.now in
-    let o : Opened = record {
-      view = c.args.front.view;
-      token = c.token-token.result;
-      written = c.write_along.new.written.items;
-    } in
-    let new : Ledger = record s {
-      rows = c.write_along.new.rows;
-      opened = c.push_reserved.new.self.items;
-      is_next_serial = false;
-    } in
-    let is : new ≡ record s { rows = c.write_along.new.rows; opened = s.opened ++ o ∷ []; is_next_serial = false } =
-    ap (λ (os : List Opened). record s { rows = c.write_along.new.rows; opened = os; is_next_serial = false })
-    (c.push_reserved.ensures.items ∙ ap (λ (os : List Opened). os ++ o ∷ []) c.reserve.ensures.items) in
+    let o = kept_as c.args.front c.token-token.result c.write_along.new.written.items in
+    let new = with_open s c.write_along.new.rows c.push_reserved.new.self.items in
+    let is = one_more_open s c.write_along.new.rows o c.reserve.new.self.items c.push_reserved.new.self.items
+    c.push_reserved.ensures.items c.reserve.ensures.items in
     let last : s.committed + 1 + length s.opened ≡ c.args.self.now.committed + 1 + length c.args.self.now.opened =
     ap (λ (l : Ledger). l.committed + 1 + length l.opened) c.self.view_is in
     ledger_further s new o c.write_along.new.rows is c.if-not-write_along.ensures.as_many
@@ -81,19 +73,10 @@ returns-clause-closed c =
     let mine = records_in rs t.order.items in
     let at : records_in rs c.as_slice-order.result.now ≡ mine = ap (records_in rs) c.as_slice-order.ensures.value in
     let a : Attempt = attempt_of c.args.front t c.token-token.result in
-    let o : Opened = record {
-      view = c.args.front.view;
-      token = c.token-token.result;
-      written = c.write_along.new.written.items;
-    } in
-    let new : Ledger = record s {
-      rows = c.write_along.new.rows;
-      opened = c.push_reserved.new.self.items;
-      is_next_serial = false;
-    } in
-    let is : new ≡ record s { rows = c.write_along.new.rows; opened = s.opened ++ o ∷ []; is_next_serial = false } =
-    ap (λ (os : List Opened). record s { rows = c.write_along.new.rows; opened = os; is_next_serial = false })
-    (c.push_reserved.ensures.items ∙ ap (λ (os : List Opened). os ++ o ∷ []) c.reserve.ensures.items) in
+    let o = kept_as c.args.front c.token-token.result c.write_along.new.written.items in
+    let new = with_open s c.write_along.new.rows c.push_reserved.new.self.items in
+    let is = one_more_open s c.write_along.new.rows o c.reserve.new.self.items c.push_reserved.new.self.items
+    c.push_reserved.ensures.items c.reserve.ensures.items in
     let rows_is : c.len-rows.result ≡ row_count s = c.len-rows.ensures.balances in
     let workers_is : c.workers_for-workers.result ≡ worker_count s c.args.front.serial = c.workers_for-workers.ensures
     ∙ ap (λ (l : Ledger). worker_count l c.args.front.serial) (sym c.self.view_is) in
@@ -120,13 +103,8 @@ returns-clause-closed c =
           c.requires.batch noted taken c.in_ok-taken.ensures.order c.write_along.new.rows.balances
           c.token-token.result c.requires.last c.view_fits.ensures c.token_fits.ensures tells);
       opens = record {
-        changed = is ∙ ap (λ (ws : List Entry). record s {
-          rows = c.write_along.new.rows;
-          opened = s.opened ++ record
-              { view = c.args.front.view; token = c.token-token.result; written = ws } ∷ [];
-          is_next_serial = false;
-        })
-            written;
+        changed = is ∙ ap (λ (ws : List Entry). with_open s c.write_along.new.rows
+            (s.opened ++ kept_as c.args.front c.token-token.result ws ∷ [])) written;
         as_many = c.if-not-write_along.ensures.as_many;
         rows = c.if-not-write_along.ensures.table ∙ ap (λ (ps : List Applied). table_along (rows_now s) ps) at
             ∙ table_along-executed b (rows_now s) mine;
