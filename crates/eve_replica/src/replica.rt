@@ -80,15 +80,17 @@ impl<'n> Replica<'n> {
         ensures { let ledger = opening balances.now workers window in
             IfOk result (λ r. r ≡ record { names = names.now.items; ledger = ledger; is_broken = false }) }
     {
-        let (ticks, all) = Tickets::new(alloc, workers, TICKS)?;
-        let seats = Vec::with_capacity(alloc, workers as usize)?;
+        let settles = Vec::with_capacity(alloc, window as usize)?;
+        let (ticks, seats) = seated(alloc, workers)?;
+        let floor = Floor::new(alloc, names, balances)?;
+        let ledger = Ledger::new(alloc, balances, workers, window)?;
         Ok(Replica {
             names,
-            floor: Floor::new(alloc, names, balances)?,
-            ledger: Ledger::new(alloc, balances, workers, window)?,
-            seats: seats_of(&ticks, all, workers, seats),
+            floor,
+            ledger,
             ticks,
-            settles: Vec::with_capacity(alloc, window as usize)?,
+            seats,
+            settles,
             window,
             is_broken: false,
         })
@@ -398,6 +400,18 @@ impl<'n> Replica<'n> {
     }
 }
 
+// The tickets of ticks for so many workers, and a seat for each.
+fn seated(alloc: Global, workers: u8) -> Result<(Tickets, Vec<TicketSeat>), AllocError>
+    requires { workers ≤ 8 }
+    ensures own { IfOk result (λ r. AreTickets r.0 r.1.items) }
+    ensures many { IfOk result (λ r. vec_len r.1 ≡ workers) }
+{
+    let seats = Vec::with_capacity(alloc, workers as usize)?;
+    let (ticks, all) = Tickets::new(alloc, workers, TICKS)?;
+    let seats = seats_of(&ticks, all, workers, seats);
+    Ok((ticks, seats))
+}
+
 // The seats of so many workers.
 fn seats_of(
     tickets: &Tickets,
@@ -418,6 +432,7 @@ fn seats_of(
             None => unreachable!(),
         }
     }
+    drop(all);
     seats
 }
 

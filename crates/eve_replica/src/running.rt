@@ -190,10 +190,18 @@ fn sections_of(alloc: Global, servers: Vec<Server>) -> Result<Vec<Vec<Step>>, Al
 {
     let mut sections = Vec::with_capacity(alloc, servers.len())?;
     for server in servers {
-        let Server { steps, .. } = server;
-        sections.push(steps)?;
+        sections.push(steps_of(server))?;
     }
     Ok(sections)
+}
+
+// What the replica did.
+fn steps_of(server: Server) -> Vec<Step>
+    ensures { result ≡ server.entry.steps }
+{
+    let Server { replica, steps, .. } = server;
+    drop(replica);
+    steps
 }
 
 fn copies_of(alloc: Global, votes: &[VoteData], count: u8) -> Result<Vec<Vec<VoteData>>, AllocError>

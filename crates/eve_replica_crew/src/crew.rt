@@ -72,35 +72,39 @@ pub(crate) fn muster(
     ensures rest { vec_len ticks.new + crew ≡ vec_len ticks.old }
     ensures capacity { vec_capacity ticks.new ≡ vec_capacity ticks.old }
 {
-    for k in 0..crew {
-        let member = enlist(stage, crew - 1 - k, places, claims, ticks);
+    let mut left = crew;
+    while left > 0 {
+        let member = enlist(stage, left, places, claims, ticks);
         members.push_reserved(member);
+        left -= 1;
     }
     members
 }
 
-// The worker with this number takes its seats.
+// The last of so many workers that are left takes its seats.
 fn enlist(
     stage: &Stage,
-    number: u8,
+    left: u8,
     places: &mut Seats,
     claims: &mut TicketSeats,
     ticks: &mut Vec<TicketSeat>,
 ) -> Member
-    requires places { AreNoters stage.now.recorder.now.recorder (number + 1) places.old.seats }
+    requires left { 0 < left }
+    requires places { AreNoters stage.now.recorder.now.recorder left places.old.seats }
     requires claims { claims.old.tickets ≡ stage.now.claims.now }
-    requires there { AreThere (number + 1) claims.old.places }
+    requires there { AreThere left claims.old.places }
     requires ticks { AreTickets stage.now.ticks.now ticks.old.items }
     requires some { 0 < vec_len ticks.old }
     ensures ready { IsReady stage.now result }
-    ensures places { AreNoters stage.now.recorder.now.recorder number places.new.seats }
+    ensures places { AreNoters stage.now.recorder.now.recorder (left - 1) places.new.seats }
     ensures taker { places.new.taker ≡ places.old.taker }
     ensures claims { claims.new.tickets ≡ stage.now.claims.now }
-    ensures there { AreThere number claims.new.places }
+    ensures there { AreThere (left - 1) claims.new.places }
     ensures ticks { AreTickets stage.now.ticks.now ticks.new.items }
     ensures rest { vec_len ticks.new + 1 ≡ vec_len ticks.old }
     ensures capacity { vec_capacity ticks.new ≡ vec_capacity ticks.old }
 {
+    let number = left - 1;
     let Some(seat) = places.worker(number) else {
         unreachable!()
     };

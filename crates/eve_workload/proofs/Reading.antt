@@ -10,7 +10,7 @@ use Rattle.eve_workload.specs.declared.draft.Draft.{Draft}
 use Rattle.eve_workload.specs.Lines.{Line, HeadLine, CustomerLine, BatchLine, RequestLine, line_words, line_text}
 use Rattle.eve_workload.specs.Steps.{customers_in, requests_in, batches_in, last_requests, may_follow, may_end}
 use Rattle.eve_workload.specs.Steps.{AreRight, text_before, IsBadLine}
-use Rattle.eve_workload.specs.Drafts.{IsSmall, Keeps, TakesLine}
+use Rattle.eve_workload.specs.Drafts.{IsSmall, Keeps, KeepsAll, TakesLine}
 use Rattle.eve_workload.proofs.Drafting.{batches_are}
 use Rattle.eve_workload.proofs.Splitting.{up_to}
 
@@ -109,6 +109,12 @@ read_more text at len d next read (line, front, within, some, keeps) =
     take_plus n m xs =
         let size : (n + m) - n ≡ m = omega arith in
         up_to xs n (n + m) (omega arith) ∙ ap (λ k. take n xs ++ take k (drop n xs)) size
+
+pub read_all : (text : List ℕ) (at : ℕ) (d : Draft) → (read : IsRead text at d) → length text ≤ at
+    → may_end read.before ≡ true → KeepsAll d text
+read_all text at d read whole ends =
+    let is = sym read.text_is ∙ take_all at text whole in
+    record { before = read.before; keeps = read.keeps; ends = ends; text_is = is }
 
 pub read_bad : (text : List ℕ) (at number : ℕ) (d next : Draft) → (read : IsRead text at d)
     → number ≡ length read.before + 1 → at < length text → TakesLine next read.before (drop at text) None

@@ -1,6 +1,6 @@
 -- What a draft keeps of the lines that it has taken. Of the lines before, the nearest stands first.
 use Rattle.std.specs.Prelude.{◌≡◌, ℕ, ◌*◌, ◌<◌, ◌≤◌, Bool, take, List, [], ◌∷◌, ◌++◌, map, length, Option, Some, None}
-use Rattle.std.specs.Prelude.{IfSome, MatchBool}
+use Rattle.std.specs.Prelude.{IfSome, IsTrue, MatchBool}
 use Rattle.std.specs.List.{list_any}
 use Rattle.std.specs.Ordering.{nat_cmp, is_eq, ordering_then}
 use Rattle.std.specs.Borrow.{Bor}
@@ -15,6 +15,7 @@ use Rattle.eve_workload.specs.declared.draft.Draft.{Draft}
 use Rattle.eve_workload.specs.Workload.{names_of}
 use Rattle.eve_workload.specs.Lines.{Line, HeadLine, CustomerLine, BatchLine, RequestLine, line_text}
 use Rattle.eve_workload.specs.Steps.{customers_in, requests_in, last_requests, IsRightBehind, AreRight}
+use Rattle.eve_workload.specs.Steps.{text_before, may_end}
 
 -- what the last line is
 abbrev pub last_in : List Line → Last
@@ -89,3 +90,10 @@ TakesLine new before text (Some len) =
     (line : Line) × (take len text ≡ line_text line) × (len ≤ length text) × (0 < len) × Keeps new (line ∷ before)
 TakesLine new before text None = (line : Line) (behind : List ℕ) → text ≡ line_text line ++ behind
     → ¬ IsRightBehind before line
+
+-- the draft keeps all lines of the text, which may end behind them
+pub record KeepsAll (d : Draft) (text : List ℕ) : Type 0 where
+  pub before : List Line
+  pub keeps : Keeps d before
+  pub ends : IsTrue (may_end before)
+  pub text_is : text_before before ≡ text

@@ -28,9 +28,12 @@ pub(crate) fn first_fit(alloc: Global, touched: &[Touched]) -> Result<Groups, Al
     for request in touched {
         cut.place(&request.rows())?;
     }
-    let order = in_order(alloc, cut.sizes.as_slice(), cut.seats.as_slice())?;
-    Ok(Groups {
-        sizes: cut.sizes,
-        order,
-    })
+    let Cut {
+        marks,
+        sizes,
+        seats,
+    } = cut;
+    drop(marks);
+    let order = in_order(alloc, sizes.as_slice(), seats.as_slice())?;
+    Ok(Groups { sizes, order })
 }

@@ -111,8 +111,8 @@ struct Six<'a> {
 
 fn six_of<'a>(words: &[&'a [u8]]) -> Six<'a>
     requires { length words.now ≡ 6 }
-    ensures { bytes_of words.now ≡
-        result.kind.now ∷ result.replicas.now ∷ result.verifiers.now ∷ result.quorum.now ∷ result.window.now ∷ result.workers.now ∷ [] }
+    ensures { bytes_of words.now ≡ result.kind.now ∷ result.replicas.now ∷ result.verifiers.now ∷ result.quorum.now
+        ∷ result.window.now ∷ result.workers.now ∷ [] }
 {
     Six {
         kind: words[0],

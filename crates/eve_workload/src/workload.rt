@@ -9,7 +9,7 @@ ghost use Rattle.eve_write.specs.Data.{customer, asked};
 ghost use Rattle.eve_workload.specs.Workload.{IsWorkload, head_of, names_of};
 ghost use Rattle.eve_workload.specs.Lines.{Line, workload_text};
 ghost use Rattle.eve_workload.specs.Steps.{text_before, may_end, IsBadLine};
-ghost use Rattle.eve_workload.specs.Drafts.{Keeps};
+ghost use Rattle.eve_workload.specs.Drafts.{Keeps, KeepsAll};
 
 use crate::deployment::Deployment;
 use crate::draft::Draft;
@@ -54,19 +54,7 @@ impl Workload {
         ensures right { IfOk result IsWorkload }
         ensures bad { (number : ℕ) → result ≡ Err (WorkloadFault.Line number) → IsBadLine text.now number }
     {
-        let mut draft = Draft::new(alloc);
-        let mut words = Vec::new(alloc);
-        let mut at = 0;
-        while at < text.len() {
-            let number = draft.next_line();
-            match draft.take_line(&text[at..], &mut words)? {
-                Some(len) => at += len,
-                None => return Err(WorkloadFault::Line(number)),
-            }
-        }
-        if !draft.last.may_end() {
-            return Err(WorkloadFault::Line(draft.next_line()));
-        }
+        let draft = lines_of(alloc, text)?;
         Ok(whole(draft))
     }
 
@@ -116,6 +104,27 @@ impl Workload {
         let to = end_of(starts, place, requests.len());
         part(requests, from, to)
     }
+}
+
+// All lines of the text, one after another, if it may end behind them.
+fn lines_of<'a>(alloc: Global, text: &'a [u8]) -> Result<Draft<'a>, WorkloadFault>
+    ensures lines { IfOk result (λ draft. KeepsAll draft text.entry.now) }
+    ensures bad { (number : ℕ) → result ≡ Err (WorkloadFault.Line number) → IsBadLine text.entry.now number }
+{
+    let mut draft = Draft::new(alloc);
+    let mut words = Vec::new(alloc);
+    let mut at = 0;
+    while at < text.len() {
+        let number = draft.next_line();
+        match draft.take_line(&text[at..], &mut words)? {
+            Some(len) => at += len,
+            None => return Err(WorkloadFault::Line(number)),
+        }
+    }
+    if !draft.last.may_end() {
+        return Err(WorkloadFault::Line(draft.next_line()));
+    }
+    Ok(draft)
 }
 
 // The workload of lines behind which the text may end.

@@ -1,6 +1,6 @@
 use Rattle.std.proofs.Common.{◌-◌, length}
 use Rattle.eve_workload.proofs.Reading.{IsRead}
-use Rattle.eve_workload.proofs.workload.Workload.read.Given as goal
+use Rattle.eve_workload.proofs.workload.lines_of.Given as goal
 
 abbrev pub invariant-loop-at : goal.invariant-loop-at
 invariant-loop-at l = IsRead l.text l.at l.draft
