@@ -8,7 +8,7 @@ ghost use Rattle.eve_tool.specs.Calls.{Calls, Leaves, LeavesHelp, Stops, StopsHe
 ghost use Rattle.eve_tool.specs.Fault.{status_of};
 ghost use Rattle.eve_tool.specs.Run.{longest};
 ghost use Rattle.eve_tool.specs.Words.{AsksForHelp, Audit, AuditsBy, CallsNothing, CallsSome, GetsHelp, IsRefused, Run};
-ghost use Rattle.eve_tool.specs.Words.{Show, Subcommand, workers_of};
+ghost use Rattle.eve_tool.specs.Words.{Show, Subcommand, subcommand_of_call, workers_of};
 ghost use Rattle.eve_workload.specs.declared.mixer.Mixer.{Mixer};
 ghost use Rattle.eve_tool.specs.Writes.{WritesAllOf};
 
@@ -32,6 +32,28 @@ pub fn stop<E: Sink>(fault: ToolFault, err: &mut E) -> u8
     let line = fault.line();
     let _ = send_all(err, line.as_str().as_bytes());
     fault.status()
+}
+
+// Does what the call asks for, and answers the exit status.
+fn answer_call<R: AllocGlobal + RandomSource + Threads + Wait + Sync, I: Source, O: Sink>(
+    rt: &R,
+    call: Call,
+    input: &mut I,
+    out: &mut O,
+) -> Result<u8, ToolFault>
+    ensures said { IfOk result (WritesAllOf (says longest (subcommand_of_call call)) (I.remaining input.old)
+        (O.written out.old) (O.written out.new)) }
+    ensures status { IfOk result (λ status. status < 2) }
+    ensures fine { OnOk result ((I.failures input.new ≡ I.failures input.old)
+        × (O.failures out.new ≡ O.failures out.old)) }
+    ensures left { IfErr result (Leaves longest O.written O.failures (subcommand_of_call call) (I.remaining input.old)
+        (I.failures input.new ≡ after_failure (I.failures input.old)) out.old out.new) }
+{
+    match call {
+        Call::Audit(workers) => audit(rt, workers, input, out),
+        Call::Run(mixer) => run(rt, mixer, input, out),
+        Call::Show => show(rt.alloc(), input, out),
+    }
 }
 
 // Does what the arguments ask for, and answers the exit status.
@@ -63,9 +85,7 @@ fn answer<
     ensures silent { IfErr result (λ e. status_of e ≡ 2 → out.new ≡ out.old) }
 {
     match read_words(rt.alloc(), words)? {
-        Asked::Call(Call::Audit(workers)) => audit(rt, workers, input, out),
-        Asked::Call(Call::Run(mixer)) => run(rt, mixer, input, out),
-        Asked::Call(Call::Show) => show(rt.alloc(), input, out),
+        Asked::Call(call) => answer_call(rt, call, input, out),
         Asked::Help(text) => {
             send_all(out, text.as_str().as_bytes())?;
             Ok(0)
@@ -81,7 +101,6 @@ fn answer<
 /// program's name, and answers the exit status. Memory, the random words and the threads of `audit` and
 /// `run` come from `rt`; random words are asked for once the input is read. How many workers audit changes
 /// nothing of what is said. It returns where the threads that it started do.
-#[tactic(auto, using(crate::proofs::CommandLine::audit_call, crate::proofs::CommandLine::alone, crate::proofs::CommandLine::show_call, crate::proofs::CommandLine::run_call, crate::proofs::CommandLine::whole_call, crate::proofs::Cutting::audited_of))]
 pub fn serve<
     R: AllocGlobal + RandomSource + Threads + Wait + Sync,
     S: AsStr,

@@ -51,7 +51,9 @@ fn workers_argument<'a>(alloc: Global) -> Arg<'a>
     Arg::new(alloc, "workers")
         .long("workers")
         .value_name("N")
-        .help("How many threads judge the replicas side by side, 1 to 16")
+        .help(
+            "How many workers judge the replicas side by side, 1 to 16; with one, no thread is started",
+        )
         .default_value("1")
         .value_parser(parser)
 }

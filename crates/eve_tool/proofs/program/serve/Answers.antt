@@ -1,6 +1,6 @@
 use Rattle.std.proofs.Common.{arith}
 use Rattle.eve_tool.specs.Words.{Audit}
-use Rattle.eve_tool.proofs.CommandLine.{asks, asks_help}
+use Rattle.eve_tool.proofs.CommandLine.{alone, asks, asks_help, audit_call, run_call, show_call, whole_call}
 use Rattle.eve_tool.proofs.Cutting.{audited_of}
 use Rattle.eve_tool.proofs.program.serve.Goals as goal
 
@@ -24,3 +24,33 @@ returns-in-Err-clause-workers g c = λ name n some most. asks name n some most
 
 pub returns-in-Err-clause-help : goal.returns-in-Err-clause-help
 returns-in-Err-clause-help g c = λ name. asks_help name
+
+pub returns-in-Ok-clause-audit : goal.returns-in-Ok-clause-audit
+returns-in-Ok-clause-audit g c = audit_call
+
+pub returns-in-Ok-clause-show : goal.returns-in-Ok-clause-show
+returns-in-Ok-clause-show g c = show_call
+
+pub returns-in-Ok-clause-run : goal.returns-in-Ok-clause-run
+returns-in-Ok-clause-run g c = run_call
+
+pub returns-in-Ok-clause-run_whole : goal.returns-in-Ok-clause-run_whole
+returns-in-Ok-clause-run_whole g c = whole_call
+
+pub returns-in-Ok-clause-one_worker : goal.returns-in-Ok-clause-one_worker
+returns-in-Ok-clause-one_worker g c = alone
+
+pub returns-in-Err-clause-audit : goal.returns-in-Err-clause-audit
+returns-in-Err-clause-audit g c = audit_call
+
+pub returns-in-Err-clause-show : goal.returns-in-Err-clause-show
+returns-in-Err-clause-show g c = show_call
+
+pub returns-in-Err-clause-run : goal.returns-in-Err-clause-run
+returns-in-Err-clause-run g c = run_call
+
+pub returns-in-Err-clause-run_whole : goal.returns-in-Err-clause-run_whole
+returns-in-Err-clause-run_whole g c = whole_call
+
+pub returns-in-Err-clause-one_worker : goal.returns-in-Err-clause-one_worker
+returns-in-Err-clause-one_worker g c = alone
