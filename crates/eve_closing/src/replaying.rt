@@ -51,26 +51,25 @@ pub fn has_its_batches(alloc: Global, case: &Case) -> Result<bool, AllocError> {
 
 /// Replays a section on a new ledger, and tells what came of each step. At the end the last batch is committed once
 /// more, and all is rolled back.
-pub fn replay(rt: &HostRuntime, case: &Case, section: u8) -> io::Result<()>
+pub fn replay(rt: &HostRuntime, case: &Case, ledger: &mut Ledger, section: u8) -> io::Result<()>
     requires { section < length case.now.trace.now.sections }
 {
-    let mut ledger = ledger_of(rt.alloc(), case)?;
     if case.changes.contains(&Change::Serial) {
-        roll_back(rt.alloc(), &mut ledger)?;
+        roll_back(rt.alloc(), ledger)?;
     }
     let mut steps = case.trace.section(section);
     for _ in 0..case.trace.frame_count() {
         match steps.next() {
             Some(Step::Attempt(frame, accesses)) => {
                 let is_first = ledger.committed() == 0 && ledger.opened() == 0;
-                replay_attempt(rt, case, &mut ledger, &frame, &accesses, is_first)?;
+                replay_attempt(rt, case, ledger, &frame, &accesses, is_first)?;
             }
-            Some(Step::Commit(frame)) => replay_commit(rt, case, &mut ledger, &frame)?,
-            Some(Step::Rollback(frame)) => replay_rollback(rt, &mut ledger, &frame)?,
+            Some(Step::Commit(frame)) => replay_commit(rt, case, ledger, &frame)?,
+            Some(Step::Rollback(frame)) => replay_rollback(rt, ledger, &frame)?,
             None => break,
         }
     }
-    end(rt, &mut ledger)
+    end(rt, ledger)
 }
 
 fn replay_attempt(
@@ -127,7 +126,8 @@ fn end(rt: &HostRuntime, ledger: &mut Ledger) -> io::Result<()> {
     out.write_all(b";")
 }
 
-fn ledger_of(alloc: Global, case: &Case) -> Result<Ledger, AllocError> {
+/// A new ledger of the workload's customers.
+pub fn ledger_of(alloc: Global, case: &Case) -> Result<Ledger, AllocError> {
     let head = case.workload.head();
     let customers = case.workload.customers();
     let known = if case.changes.contains(&Change::FewerRows) {
@@ -153,18 +153,37 @@ fn close(
         return Ok("without room");
     }
     let batch = batch_of(alloc, case.workload, number, case.names, case.mixer)?;
-    let touched = touched_in(alloc, case.names, &batch)?;
-    let Some(records) = records_of(alloc, case, &batch, frame, accesses, changes)? else {
-        return Ok("without records");
-    };
+    match records_of(alloc, case, &batch, frame, accesses, changes)? {
+        Some(records) => close_records(
+            alloc,
+            case,
+            ledger,
+            &batch,
+            records.as_slice(),
+            frame,
+            accesses,
+        ),
+        None => Ok("without records"),
+    }
+}
+
+/// Closes these records of the batch that is due.
+fn close_records(
+    alloc: Global,
+    case: &Case,
+    ledger: &mut Ledger,
+    batch: &BatchData,
+    records: &[AccessRecord],
+    frame: &AttemptView,
+    accesses: &Accesses,
+) -> Result<&'static str, AllocError>
+    requires last { ledger.old.committed + 1 + length ledger.old.opened ≤ 65535 }
+    requires room { length ledger.old.opened < ledger.old.window }
+    requires batch { IsTrue (is_batch (plain batch.now)) }
+{
+    let touched = touched_in(alloc, case.names, batch)?;
     let before = Shown::of(alloc, ledger)?;
-    match close_due(
-        alloc,
-        ledger,
-        &batch,
-        touched.as_slice(),
-        records.as_slice(),
-    ) {
+    match close_due(alloc, ledger, batch, touched.as_slice(), records) {
         Ok(attempt) if is_attempt_of(alloc, &attempt, frame, accesses)? => Ok("as written"),
         Ok(attempt) if has_token_of(&attempt, frame) => Ok("with its token"),
         Ok(_) => Ok("otherwise"),

@@ -120,6 +120,14 @@ fn commit_of(commit: CommitView<'_>) -> CommitData {
     }
 }
 
+fn step_of(alloc: Global, seen: Seen<'_, '_>) -> Result<Step, AllocError> {
+    Ok(match seen {
+        Seen::Attempt(attempt, accesses) => Step::Attempt(attempt_of(alloc, attempt, &accesses)?),
+        Seen::Commit(commit) => Step::Commit(commit_of(commit)),
+        Seen::Rollback(rollback) => Step::Rollback(rollback_of(alloc, rollback)?),
+    })
+}
+
 fn section_of(alloc: Global, trace: &Trace<'_>, replica: u8) -> Result<Vec<Step>, AllocError>
     requires { replica < length trace.now.sections }
 {
@@ -127,13 +135,7 @@ fn section_of(alloc: Global, trace: &Trace<'_>, replica: u8) -> Result<Vec<Step>
     let mut steps = Vec::new(alloc);
     for _ in 0..trace.frame_count() {
         match seen.next() {
-            Some(Seen::Attempt(attempt, accesses)) => {
-                steps.push(Step::Attempt(attempt_of(alloc, attempt, &accesses)?))?;
-            }
-            Some(Seen::Commit(commit)) => steps.push(Step::Commit(commit_of(commit)))?,
-            Some(Seen::Rollback(rollback)) => {
-                steps.push(Step::Rollback(rollback_of(alloc, rollback)?))?;
-            }
+            Some(step) => steps.push(step_of(alloc, step)?)?,
             None => break,
         }
     }
@@ -189,29 +191,47 @@ fn sent_of(alloc: Global, trace: &Trace<'_>) -> Result<Vec<SentData>, AllocError
     Ok(all)
 }
 
-/// All parts of a trace.
-pub(crate) fn parts_of(alloc: Global, trace: &Trace<'_>) -> Result<Parts, AllocError> {
-    let head = trace.head();
+fn batches_of(alloc: Global, trace: &Trace<'_>) -> Result<Vec<BatchData>, AllocError> {
     let mut batches = Vec::new(alloc);
     for batch in 0..trace.batch_count() {
         batches.push(batch_of(alloc, trace.batch(batch + 1))?)?;
     }
+    Ok(batches)
+}
+
+fn sections_of(alloc: Global, trace: &Trace<'_>) -> Result<Vec<Vec<Step>>, AllocError> {
     let mut sections = Vec::new(alloc);
     for replica in 0..trace.section_count() {
         sections.push(section_of(alloc, trace, replica)?)?;
     }
+    Ok(sections)
+}
+
+fn verifiers_of(alloc: Global, trace: &Trace<'_>) -> Result<Vec<Vec<VoteData>>, AllocError> {
     let mut verifiers = Vec::new(alloc);
     for verifier in 0..trace.verifier_count() {
         verifiers.push(votes_of(alloc, trace, verifier)?)?;
     }
-    Ok(Parts {
+    Ok(verifiers)
+}
+
+/// All parts of a trace.
+pub(crate) fn parts_of(alloc: Global, trace: &Trace<'_>) -> Result<Parts, AllocError> {
+    let head = trace.head();
+    let mut parts = Parts {
         quorum: head.quorum,
         window: head.window,
         workers: head.workers,
-        customers: customers_of(alloc, trace)?,
-        batches,
-        sections,
-        verifiers,
-        sent: sent_of(alloc, trace)?,
-    })
+        customers: Vec::new(alloc),
+        batches: Vec::new(alloc),
+        sections: Vec::new(alloc),
+        verifiers: Vec::new(alloc),
+        sent: Vec::new(alloc),
+    };
+    parts.customers = customers_of(alloc, trace)?;
+    parts.batches = batches_of(alloc, trace)?;
+    parts.sections = sections_of(alloc, trace)?;
+    parts.verifiers = verifiers_of(alloc, trace)?;
+    parts.sent = sent_of(alloc, trace)?;
+    Ok(parts)
 }

@@ -78,22 +78,42 @@ fn is_shaped(alloc: Global, mut parts: Parts) -> io::Result<bool> {
     Ok(gather(&parts, 0, &mut out) == Err(GatherFault::Shape) && out.writer().is_empty())
 }
 
+/// What is wrong with the writing of these parts, if it isn't that of these bytes.
+fn wrong_of(alloc: Global, parts: &Parts, bytes: &[u8]) -> io::Result<Option<&'static str>> {
+    if !is_written(alloc, parts, bytes)? {
+        Ok(Some("other bytes"))
+    } else if !is_limited(alloc, parts, bytes.len() as u64) {
+        Ok(Some("another limit"))
+    } else if !stops_at_each_byte(alloc, parts, bytes) {
+        Ok(Some("goes on where the sink failed"))
+    } else {
+        Ok(None)
+    }
+}
+
+/// What comes of a shape that has no spelling, made of these parts.
+fn came_of_shape(alloc: Global, parts: Parts) -> io::Result<&'static str> {
+    Ok(if is_shaped(alloc, parts)? {
+        "the same"
+    } else {
+        "a shape that has no spelling is written"
+    })
+}
+
+/// What came of the copy of a trace that was read from these bytes.
+fn came_of_trace(alloc: Global, trace: &Trace, bytes: &[u8]) -> io::Result<&'static str> {
+    let parts = parts_of(alloc, trace)?;
+    match wrong_of(alloc, &parts, bytes)? {
+        Some(wrong) => Ok(wrong),
+        None => came_of_shape(alloc, parts),
+    }
+}
+
 /// What came of the copy of a trace.
 fn came_of(alloc: Global, bytes: &[u8]) -> io::Result<&'static str> {
-    let Ok(trace) = Trace::read(alloc, bytes) else {
-        return Ok("no trace");
-    };
-    let parts = parts_of(alloc, &trace)?;
-    if !is_written(alloc, &parts, bytes)? {
-        Ok("other bytes")
-    } else if !is_limited(alloc, &parts, bytes.len() as u64) {
-        Ok("another limit")
-    } else if !stops_at_each_byte(alloc, &parts, bytes) {
-        Ok("goes on where the sink failed")
-    } else if !is_shaped(alloc, parts)? {
-        Ok("a shape that has no spelling is written")
-    } else {
-        Ok("the same")
+    match Trace::read(alloc, bytes) {
+        Ok(trace) => came_of_trace(alloc, &trace, bytes),
+        Err(_) => Ok("no trace"),
     }
 }
 

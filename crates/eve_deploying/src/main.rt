@@ -11,7 +11,7 @@ mod world;
 
 use crate::gates::Turn;
 use crate::misses::Misses;
-use crate::replicas::{attempt_and_close, broken_until_rollback, gates_held, rolled_back};
+use crate::replicas::{Part, of_part};
 use crate::runs::{Ran, run_knots, run_whole};
 use crate::world::{names_of, workload_of};
 use eve_accounts::Names;
@@ -19,6 +19,7 @@ use eve_audit::Verdict;
 use eve_recorder::OpenGate;
 use eve_replica::eve_workload::Workload;
 use std::alloc::Global;
+use std::fs::Files;
 use std::hash::RandomState;
 use std::random::RandomSource;
 use std::sync::Wait;
@@ -69,10 +70,13 @@ fn of_names<R: Threads + Wait + Sync>(
     trace: &[u8],
 ) -> io::Result<Misses> {
     match name {
-        "replica-attempt-and-close" => attempt_and_close(rt, alloc, workload, names, trace),
-        "gates-held" => gates_held(rt, alloc, workload, names),
-        "rollback" => rolled_back(rt, alloc, workload, names),
-        _ => broken_until_rollback(rt, alloc, workload, names),
+        "replica-attempt-and-close" => {
+            let attempted = of_part(rt, alloc, Part::Attempted, workload, names, trace)?;
+            Ok(attempted.and(of_part(rt, alloc, Part::Closed, workload, names, trace)?))
+        }
+        "gates-held" => of_part(rt, alloc, Part::GatesHeld, workload, names, trace),
+        "rollback" => of_part(rt, alloc, Part::RolledBack, workload, names, trace),
+        _ => of_part(rt, alloc, Part::Broken, workload, names, trace),
     }
 }
 
@@ -94,26 +98,55 @@ fn of_run<R: AllocGlobal + RandomSource + Threads + Wait + Sync>(
     run_knots(rt, rt.alloc(), workload, turns)
 }
 
+// The workload of the file with this name.
+fn workload_in<R: AllocGlobal + Files>(rt: &R, file: &str) -> io::Result<Workload> {
+    let path = format!(in rt.alloc(); "{file}.in")?;
+    let text = fs::read(rt, path.as_str())?;
+    workload_of(rt.alloc(), text.as_slice())
+}
+
+// Prints what of a case of a replica isn't as it is due.
+fn tell_replica<R: AllocGlobal + Files + Print + RandomSource + Threads + Wait + Sync>(
+    rt: &R,
+    name: &str,
+    workload: &Workload,
+) -> io::Result<()> {
+    let random = RandomState::new(rt)?;
+    let trace = fs::read(rt, "deposit-committed.trace")?;
+    let misses = of_workload(rt, rt.alloc(), name, workload, random, trace.as_slice())?;
+    println!(rt; "{name}: {misses}")
+}
+
+// Prints what a run came to: where the case has no file of its own, what each replica did, too.
+fn tell_run<R: AllocGlobal + Print + RandomSource + Threads + Wait + Sync>(
+    rt: &R,
+    name: &str,
+    workload: &Workload,
+) -> io::Result<()> {
+    let Ran { sections, verdict } = of_run(rt, name, workload)?;
+    match verdict {
+        Verdict::Yes(_) if file_of(name) == name => println!(rt; "{name}: accepted"),
+        _ => println!(rt; "{name}: {sections}{verdict:?}"),
+    }
+}
+
+// Prints the line of a case.
+fn tell<R: AllocGlobal + Files + Print + RandomSource + Threads + Wait + Sync>(
+    rt: &R,
+    name: &str,
+) -> io::Result<()> {
+    let workload = workload_in(rt, file_of(name))?;
+    if is_of_replica(name) {
+        tell_replica(rt, name, &workload)
+    } else {
+        tell_run(rt, name, &workload)
+    }
+}
+
 fn main(rt: HostRuntime) -> io::Result<()> {
     for line in rt.lines(rt.alloc()) {
         let line = line?;
-        let name = line.as_str();
-        let file = file_of(name);
-        let path = format!(in rt.alloc(); "{file}.in")?;
-        let text = fs::read(&rt, path.as_str())?;
-        let workload = workload_of(rt.alloc(), text.as_slice())?;
-        if is_of_replica(name) {
-            let trace = fs::read(&rt, "deposit-committed.trace")?;
-            let random = RandomState::new(&rt)?;
-            let misses = of_workload(&rt, rt.alloc(), name, &workload, random, trace.as_slice())?;
-            println!(rt; "{name}: {misses}")?;
-            continue;
-        }
-        let Ran { sections, verdict } = of_run(&rt, name, &workload)?;
-        match verdict {
-            Verdict::Yes(_) if file == name => println!(rt; "{name}: accepted")?,
-            _ => println!(rt; "{name}: {sections}{verdict:?}")?,
-        }
+        tell(&rt, line.as_str())?;
     }
     Ok(())
 }

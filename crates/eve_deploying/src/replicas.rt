@@ -38,36 +38,90 @@ fn sees_opening(attempt: &AttemptData) -> bool {
     all
 }
 
-/// `replica-attempt-and-close`: ann's deposit, attempted and committed; then once more, of records that were taken by
-/// hand. Each gives the trace that is wanted.
-pub fn attempt_and_close<'n, R: Threads + Wait + Sync>(
-    rt: &R,
-    alloc: Global,
-    workload: &Workload,
-    names: &'n Names<'n>,
-    wanted: &[u8],
-) -> io::Result<Misses> {
-    let attempted = attempt_and_commit(rt, alloc, workload, names, wanted)?;
-    Ok(attempted.and(close_records(alloc, workload, names, wanted)?))
+/// What is done with a new replica.
+#[derive(Clone, Copy)]
+pub enum Part {
+    /// `replica-attempt-and-close`: ann's deposit, attempted and committed, gives the trace that is wanted.
+    Attempted,
+    /// Once more, of records that were taken by hand.
+    Closed,
+    /// The replica's part of `gates-held`: two deposits in one parallelBatch, by two workers, each held until the other
+    /// has entered.
+    GatesHeld,
+    /// `rollback`: it puts the stripes back, so that the serial attempt sees version 0 again.
+    RolledBack,
+    /// `broken-until-rollback`, and that rows that only the failed attempt wrote are put back and not listed. Ann's
+    /// deposit is closed of a record that was taken by hand, so that the stripes don't have it, and an attempt over her
+    /// row fails. Where one request for memory is refused, wherever that is, the same holds.
+    Broken,
 }
 
-fn attempt_and_commit<'n, R: Threads + Wait + Sync>(
+/// What isn't as it is due, of this part of a case.
+pub fn of_part<'n, R: Threads + Wait + Sync>(
     rt: &R,
     alloc: Global,
+    part: Part,
     workload: &Workload,
     names: &'n Names<'n>,
     wanted: &[u8],
 ) -> io::Result<Misses> {
-    let mut misses = Misses::none();
     let mut replica = replica_of(alloc, names)?;
-    misses.want(is_not_open(&mut replica), "nothing is open at first");
-    let trace = trace_of_attempt(rt, alloc, workload, names, &mut replica)?;
-    misses.want(trace.as_slice() == wanted, "the trace of the attempt");
-    misses.want(is_not_open(&mut replica), "what is committed isn't open");
-    let rollback = roll_back(alloc, &mut replica)?;
-    let has_none = rollback.restores.is_empty() && rollback.to == 1;
-    misses.want(has_none, "nothing to restore");
+    of_replica(rt, alloc, part, workload, names, wanted, &mut replica)
+}
+
+// The same, of a replica of which nothing was asked yet.
+fn of_replica<R: Threads + Wait + Sync>(
+    rt: &R,
+    alloc: Global,
+    part: Part,
+    workload: &Workload,
+    names: &Names,
+    wanted: &[u8],
+    replica: &mut Replica,
+) -> io::Result<Misses> {
+    match part {
+        Part::Attempted => attempt_and_commit(rt, alloc, workload, names, wanted, replica),
+        Part::Closed => close_records(alloc, workload, names, wanted, replica),
+        Part::GatesHeld => gates_held(rt, alloc, workload, names, replica),
+        Part::RolledBack => rolled_back(rt, alloc, workload, names, replica),
+        Part::Broken => broken_until_rollback(rt, alloc, workload, names, replica),
+    }
+}
+
+fn attempt_and_commit<R: Threads + Wait + Sync>(
+    rt: &R,
+    alloc: Global,
+    workload: &Workload,
+    names: &Names,
+    wanted: &[u8],
+    replica: &mut Replica,
+) -> io::Result<Misses> {
+    let mut misses = Misses::none();
+    misses.want(is_not_open(replica), "nothing is open at first");
+    let is_wanted = attempt_gives(rt, alloc, workload, names, wanted, replica)?;
+    misses.want(is_wanted, "the trace of the attempt");
+    misses.want(is_not_open(replica), "what is committed isn't open");
+    misses.want(restores_nothing(alloc, replica)?, "nothing to restore");
     Ok(misses)
+}
+
+// Whether a deployment that attempts ann's deposit and commits it has this trace.
+fn attempt_gives<R: Threads + Wait + Sync>(
+    rt: &R,
+    alloc: Global,
+    workload: &Workload,
+    names: &Names,
+    wanted: &[u8],
+    replica: &mut Replica,
+) -> io::Result<bool> {
+    let trace = trace_of_attempt(rt, alloc, workload, names, replica)?;
+    Ok(trace.as_slice() == wanted)
+}
+
+// Whether a rollback behind the first batch restores nothing.
+fn restores_nothing(alloc: Global, replica: &mut Replica) -> io::Result<bool> {
+    let rollback = roll_back(alloc, replica)?;
+    Ok(rollback.restores.is_empty() && rollback.to == 1)
 }
 
 fn is_not_open(replica: &mut Replica) -> bool {
@@ -99,31 +153,40 @@ fn trace_with(
     trace_of(alloc, workload, fit, made, commit)
 }
 
-fn close_records<'n>(
+fn close_records(
     alloc: Global,
     workload: &Workload,
-    names: &'n Names<'n>,
+    names: &Names,
     wanted: &[u8],
+    replica: &mut Replica,
 ) -> io::Result<Misses> {
-    let mut replica = replica_of(alloc, names)?;
-    let refused = records_refused(alloc, workload, names, &mut replica)?;
-    let made = records_made(alloc, workload, names, &mut replica, wanted)?;
+    let refused = records_refused(alloc, workload, names, replica)?;
+    let made = records_made(alloc, workload, names, replica, wanted)?;
     Ok(refused.and(made))
 }
 
-// No records are no attempt, and neither is one that saw another version.
 fn records_refused(
     alloc: Global,
     workload: &Workload,
     names: &Names,
     replica: &mut Replica,
 ) -> io::Result<Misses> {
-    let mut misses = Misses::none();
     let batch = batch_of(alloc, workload, 1, names)?;
-    let none = is_mismatch(close(alloc, replica, &batch, &[]))?;
+    refused_for(alloc, &batch, names, replica)
+}
+
+// No records are no attempt of the batch, and neither is one that saw another version.
+fn refused_for(
+    alloc: Global,
+    batch: &Fit,
+    names: &Names,
+    replica: &mut Replica,
+) -> io::Result<Misses> {
+    let mut misses = Misses::none();
+    let none = is_mismatch(close(alloc, replica, batch, &[]))?;
     misses.want(none, "no records are no attempt");
     let later = record_at(alloc, names, 1)?;
-    let at_one = is_mismatch(close(alloc, replica, &batch, &[later]))?;
+    let at_one = is_mismatch(close(alloc, replica, batch, &[later]))?;
     misses.want(at_one, "the row isn't at version 1");
     Ok(misses)
 }
@@ -163,35 +226,32 @@ fn trace_of_record(
     trace_with(alloc, workload, replica, batch, made)
 }
 
-/// The replica's part of `gates-held`: two deposits in one parallelBatch, by two workers, each held until the other has
-/// entered.
-pub fn gates_held<'n, R: Threads + Wait + Sync>(
+fn gates_held<R: Threads + Wait + Sync>(
     rt: &R,
     alloc: Global,
     workload: &Workload,
-    names: &'n Names<'n>,
+    names: &Names,
+    replica: &mut Replica,
 ) -> io::Result<Misses> {
     let mut misses = Misses::none();
     let batch = batch_of(alloc, workload, 2, names)?;
-    let mut replica = replica_of(alloc, names)?;
     let gate = MeetingGate::new();
-    let made = attempt(rt, alloc, &mut replica, &batch, &gate);
+    let made = attempt(rt, alloc, replica, &batch, &gate);
     misses.want(made.is_ok(), "an attempt");
     misses.want(gate.have_met(), "both inside at one moment");
     Ok(misses)
 }
 
-/// A rollback puts the stripes back: the serial attempt sees version 0 again.
-pub fn rolled_back<'n, R: Threads + Wait + Sync>(
+fn rolled_back<R: Threads + Wait + Sync>(
     rt: &R,
     alloc: Global,
     workload: &Workload,
-    names: &'n Names<'n>,
+    names: &Names,
+    replica: &mut Replica,
 ) -> io::Result<Misses> {
-    let mut replica = replica_of(alloc, names)?;
-    let first = first_attempt(rt, alloc, workload, names, &mut replica)?;
-    let back = one_row_back(alloc, &mut replica)?;
-    let again = serial_again(rt, alloc, workload, 1, names, &mut replica)?;
+    let first = first_attempt(rt, alloc, workload, names, replica)?;
+    let back = one_row_back(alloc, replica)?;
+    let again = serial_again(rt, alloc, workload, 1, names, replica)?;
     Ok(first.and(back).and(again))
 }
 
@@ -256,21 +316,18 @@ fn restores_one_row(rollback: &RollbackData) -> bool {
     rollback.restores.as_slice() == [opening_row()].as_slice()
 }
 
-/// `broken-until-rollback`, and that rows that only the failed attempt wrote are put back and not listed. Ann's deposit
-/// is closed of a record that was taken by hand, so that the stripes don't have it, and an attempt over her row fails.
-/// Where one request for memory is refused, wherever that is, the same holds.
-pub fn broken_until_rollback<'n, R: Threads + Wait + Sync>(
+fn broken_until_rollback<R: Threads + Wait + Sync>(
     rt: &R,
     alloc: Global,
     workload: &Workload,
-    names: &'n Names<'n>,
+    names: &Names,
+    replica: &mut Replica,
 ) -> io::Result<Misses> {
-    let mut replica = replica_of(alloc, names)?;
-    close_one(alloc, workload, names, &mut replica)?;
-    let failed = attempt_fails(rt, alloc, workload, names, &mut replica)?;
-    let refused = while_broken(rt, alloc, workload, names, &mut replica)?;
-    let back = back_at_last(alloc, &mut replica)?;
-    let again = serial_again(rt, alloc, workload, 2, names, &mut replica)?;
+    close_one(alloc, workload, names, replica)?;
+    let failed = attempt_fails(rt, alloc, workload, names, replica)?;
+    let refused = while_broken(rt, alloc, workload, names, replica)?;
+    let back = back_at_last(alloc, replica)?;
+    let again = serial_again(rt, alloc, workload, 2, names, replica)?;
     Ok(failed.and(refused).and(back).and(again))
 }
 

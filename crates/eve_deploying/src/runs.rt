@@ -28,20 +28,44 @@ pub fn run_whole<R: RandomSource + Threads + Wait + Sync, G: Gate>(
     workload: &Workload,
     gate: &G,
 ) -> io::Result<Ran> {
-    let random = RandomState::new(rt)?;
-    let parts = match run(rt, alloc, workload, Mixer::Whole, random, gate) {
+    let parts = match run(
+        rt,
+        alloc,
+        workload,
+        Mixer::Whole,
+        RandomState::new(rt)?,
+        gate,
+    ) {
         Ok(parts) => parts,
         Err(RunFault::Memory) => return Err(AllocError.into()),
         Err(RunFault::Broken) => return Err(io::Error::other("broken")),
     };
-    let bytes = bytes_of(alloc, &parts)?;
-    let Ok(verdict) = audit_one(rt, alloc, bytes.as_slice(), RandomState::new(rt)?) else {
-        return Err(AllocError.into());
-    };
-    Ok(Ran {
-        sections: sections_of(alloc, &parts)?,
-        verdict,
-    })
+    ran_of(rt, alloc, &parts)
+}
+
+// What a run of these parts came to.
+fn ran_of<R: RandomSource + Threads + Wait + Sync>(
+    rt: &R,
+    alloc: Global,
+    parts: &Parts,
+) -> io::Result<Ran> {
+    let verdict = verdict_on(rt, alloc, parts)?;
+    let sections = sections_of(alloc, parts)?;
+    Ok(Ran { sections, verdict })
+}
+
+// The verdict on a trace of these parts.
+fn verdict_on<R: RandomSource + Threads + Wait + Sync>(
+    rt: &R,
+    alloc: Global,
+    parts: &Parts,
+) -> io::Result<Verdict> {
+    let random = RandomState::new(rt)?;
+    let bytes = bytes_of(alloc, parts)?;
+    match audit_one(rt, alloc, bytes.as_slice(), random) {
+        Ok(verdict) => Ok(verdict),
+        Err(_) => Err(AllocError.into()),
+    }
 }
 
 // What each replica did, one thing after another.

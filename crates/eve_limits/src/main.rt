@@ -134,15 +134,21 @@ fn tell<R: AllocGlobal + RandomSource + Threads + Wait + Sync>(
 ) -> io::Result<()> {
     let place = ending(rt.alloc(), spot)?;
     for workers in ["1", "3", "16"] {
-        let line = audited(rt, trace, workers)?;
         write!(out, "{name}, by {workers}: ")?;
-        match line.as_slice().strip_suffix(place.as_slice()) {
-            Some(front) => {
-                out.extend_from_slice(front)?;
-                out.extend_from_slice(b" there\n")?;
-            }
-            None => out.extend_from_slice(line.as_slice())?,
+        let line = audited(rt, trace, workers)?;
+        tell_line(out, line.as_slice(), place.as_slice())?;
+    }
+    Ok(())
+}
+
+/// Writes the line of an audit, with the word `there` where it ends with this place.
+fn tell_line(out: &mut Vec<u8>, line: &[u8], place: &[u8]) -> io::Result<()> {
+    match line.strip_suffix(place) {
+        Some(front) => {
+            out.extend_from_slice(front)?;
+            out.extend_from_slice(b" there\n")?;
         }
+        None => out.extend_from_slice(line)?,
     }
     Ok(())
 }
@@ -154,16 +160,25 @@ fn tell_call(
     found: &Result<(), CheckFault>,
     spot: Spot,
 ) -> io::Result<()> {
-    match found {
-        Ok(()) => write!(out, "{name}: no fault\n")?,
+    let (what, place) = match found {
+        Ok(()) => ("no fault", ""),
         Err(CheckFault::Found(fault)) => {
             let is_there = fault.offset == spot.at && fault.replica == spot.replica;
-            let place = if is_there { "there" } else { "elsewhere" };
-            write!(out, "{name}: {} {place}\n", fault.code.name())?;
+            let place = if is_there { " there" } else { " elsewhere" };
+            (fault.code.name(), place)
         }
-        Err(CheckFault::Memory) => write!(out, "{name}: no memory\n")?,
-    }
-    Ok(())
+        Err(CheckFault::Memory) => ("no memory", ""),
+    };
+    write!(out, "{name}: {what}{place}\n")
+}
+
+/// The trace of a run of this size.
+fn run_of<R: AllocGlobal + RandomSource + Threads + Wait + Sync>(
+    rt: &R,
+    size: &Size,
+) -> io::Result<Vec<u8>> {
+    let text = workload(rt.alloc(), size)?;
+    ran(rt, text.as_slice())
 }
 
 /// Runs at the greatest sizes.
@@ -172,8 +187,7 @@ fn tell_runs<R: AllocGlobal + RandomSource + Threads + Wait + Sync>(
     out: &mut Vec<u8>,
 ) -> io::Result<()> {
     for (name, size) in [("greatest", GREATEST), ("longest", LONGEST)] {
-        let text = workload(rt.alloc(), &size)?;
-        let trace = ran(rt, text.as_slice())?;
+        let trace = run_of(rt, &size)?;
         tell(rt, out, name, trace.as_slice(), NOWHERE)?;
     }
     Ok(())
@@ -185,9 +199,25 @@ fn tell_reruns<R: AllocGlobal + RandomSource + Threads + Wait + Sync>(
     out: &mut Vec<u8>,
 ) -> io::Result<()> {
     let text = workload(rt.alloc(), &WINDOW)?;
-    let right = rerun(rt, text.as_slice(), 7, 0)?;
-    tell(rt, out, "rolled back", right.as_slice(), NOWHERE)?;
-    let wrong = rerun(rt, text.as_slice(), 7, 1)?;
+    tell_right(rt, out, text.as_slice())?;
+    tell_left_out(rt, out, text.as_slice())
+}
+
+fn tell_right<R: AllocGlobal + RandomSource + Threads + Wait + Sync>(
+    rt: &R,
+    out: &mut Vec<u8>,
+    text: &[u8],
+) -> io::Result<()> {
+    let right = rerun(rt, text, 7, 0)?;
+    tell(rt, out, "rolled back", right.as_slice(), NOWHERE)
+}
+
+fn tell_left_out<R: AllocGlobal + RandomSource + Threads + Wait + Sync>(
+    rt: &R,
+    out: &mut Vec<u8>,
+    text: &[u8],
+) -> io::Result<()> {
+    let wrong = rerun(rt, text, 7, 1)?;
     let at = rollback_of(rt, wrong.as_slice(), 7)?;
     let spot = Spot {
         at,
@@ -202,10 +232,26 @@ fn tell_balances<R: AllocGlobal + RandomSource + Threads + Wait + Sync>(
     out: &mut Vec<u8>,
     trace: &[u8],
 ) -> io::Result<()> {
-    let alloc = rt.alloc();
-    let found = judge_outcomes(alloc, trace);
+    let found = judge_outcomes(rt.alloc(), trace);
     tell_call(out, "the same balances, by themselves", &found, NOWHERE)?;
     let place = record_of(rt, trace, 7, 252)?;
+    let Some(at) = usize::try_from(place.access)
+        .ok()
+        .and_then(|at| at.checked_add(LAST_OF_AFTER))
+    else {
+        return Ok(());
+    };
+    let other = altered(rt.alloc(), trace, at)?;
+    tell_other_balance(rt, out, other.as_slice(), place)
+}
+
+/// A balance is changed in the record at this place.
+fn tell_other_balance<R: AllocGlobal + RandomSource + Threads + Wait + Sync>(
+    rt: &R,
+    out: &mut Vec<u8>,
+    other: &[u8],
+    place: Place,
+) -> io::Result<()> {
     let record = Spot {
         at: place.access,
         replica: Some(7),
@@ -214,69 +260,75 @@ fn tell_balances<R: AllocGlobal + RandomSource + Threads + Wait + Sync>(
         at: place.attempt,
         replica: Some(7),
     };
-    let Some(at) = usize::try_from(place.access)
-        .ok()
-        .and_then(|at| at.checked_add(LAST_OF_AFTER))
-    else {
-        return Ok(());
-    };
-    let other = altered(alloc, trace, at)?;
-    tell(rt, out, "another balance", other.as_slice(), record)?;
-    let found = judge_outcomes(alloc, other.as_slice());
+    tell(rt, out, "another balance", other, record)?;
+    let found = judge_outcomes(rt.alloc(), other);
     tell_call(out, "another balance, by itself", &found, attempt)
 }
 
-/// The last reply is changed, and replies are sent again, in a trace of several megabytes.
-fn tell_replies<R: AllocGlobal + RandomSource + Threads + Wait + Sync>(
+/// The last reply is changed, in a trace of several megabytes.
+fn tell_other_reply<R: AllocGlobal + RandomSource + Threads + Wait + Sync>(
     rt: &R,
     out: &mut Vec<u8>,
     trace: &[u8],
 ) -> io::Result<()> {
-    let alloc = rt.alloc();
     let at = last_sent(trace);
     let spot = Spot {
         at: at as u64,
         replica: None,
     };
-    let other = altered(alloc, trace, at.saturating_add(LAST_OF_SENT))?;
+    let other = altered(rt.alloc(), trace, at.saturating_add(LAST_OF_SENT))?;
     tell(rt, out, "another reply", other.as_slice(), spot)?;
-    let found = judge_replies(alloc, other.as_slice());
-    tell_call(out, "another reply, by itself", &found, spot)?;
-    let twice = sent_again(alloc, trace, 1)?;
-    tell(rt, out, "a reply sent twice", twice.as_slice(), NOWHERE)?;
-    let all = sent_again(alloc, trace, 8 * 28 * 256)?;
-    tell(rt, out, "all replies sent twice", all.as_slice(), NOWHERE)?;
-    let found = judge_replies(alloc, all.as_slice());
-    tell_call(
-        out,
-        "all replies sent twice, by themselves",
-        &found,
-        NOWHERE,
-    )
+    let found = judge_replies(rt.alloc(), other.as_slice());
+    tell_call(out, "another reply, by itself", &found, spot)
 }
 
-/// A trace of several megabytes, and what is changed in it.
-fn tell_changes<R: AllocGlobal + RandomSource + Threads + Wait + Sync>(
+/// The last reply is sent again, in a trace of several megabytes.
+fn tell_twice<R: AllocGlobal + RandomSource + Threads + Wait + Sync>(
     rt: &R,
     out: &mut Vec<u8>,
+    trace: &[u8],
 ) -> io::Result<()> {
-    let text = workload(rt.alloc(), &WIDEST)?;
-    let trace = ran(rt, text.as_slice())?;
+    let twice = sent_again(rt.alloc(), trace, 1)?;
+    tell(rt, out, "a reply sent twice", twice.as_slice(), NOWHERE)
+}
+
+/// All replies are sent again, in a trace of several megabytes.
+fn tell_all_twice<R: AllocGlobal + RandomSource + Threads + Wait + Sync>(
+    rt: &R,
+    out: &mut Vec<u8>,
+    trace: &[u8],
+) -> io::Result<()> {
+    let all = sent_again(rt.alloc(), trace, 8 * 28 * 256)?;
+    tell(rt, out, "all replies sent twice", all.as_slice(), NOWHERE)?;
+    let found = judge_replies(rt.alloc(), all.as_slice());
+    let name = "all replies sent twice, by themselves";
+    tell_call(out, name, &found, NOWHERE)
+}
+
+/// What is said of a trace of several megabytes, and of what is changed in it.
+fn tell_widest<R: AllocGlobal + RandomSource + Threads + Wait + Sync>(
+    rt: &R,
+    out: &mut Vec<u8>,
+    trace: &[u8],
+) -> io::Result<()> {
     let size = if trace.len() > 4 << 20 {
         "more than"
     } else {
         "no"
     };
     write!(out, "widest: {size} 4 MiB\n")?;
-    tell(rt, out, "widest", trace.as_slice(), NOWHERE)?;
-    tell_balances(rt, out, trace.as_slice())?;
-    tell_replies(rt, out, trace.as_slice())
+    tell(rt, out, "widest", trace, NOWHERE)?;
+    tell_balances(rt, out, trace)?;
+    tell_other_reply(rt, out, trace)?;
+    tell_twice(rt, out, trace)?;
+    tell_all_twice(rt, out, trace)
 }
 
 fn main(rt: HostRuntime) -> io::Result<()> {
     let mut out = Vec::new(rt.alloc());
     tell_runs(&rt, &mut out)?;
     tell_reruns(&rt, &mut out)?;
-    tell_changes(&rt, &mut out)?;
+    let trace = run_of(&rt, &WIDEST)?;
+    tell_widest(&rt, &mut out, trace.as_slice())?;
     io::writer(&rt).write_all(out.as_slice())
 }

@@ -10,7 +10,6 @@ use std::alloc::{AllocError, Global};
 use std::hash::RandomState;
 use std::io;
 use std::io::ErrorKind;
-use std::mem::replace;
 use std::random::RandomSource;
 use std::sync::Wait;
 use std::thread::Threads;
@@ -114,6 +113,60 @@ fn rerun_votes(alloc: Global, votes: Vec<VoteData>) -> Result<Vec<VoteData>, All
     Ok(again)
 }
 
+/// The sections of all replicas; one of them leaves so many of its restores out.
+fn rerun_sections(
+    alloc: Global,
+    discarded: Vec<Vec<Step>>,
+    committed: Vec<Vec<Step>>,
+    wrong: usize,
+    left_out: usize,
+) -> Result<Vec<Vec<Step>>, AllocError> {
+    let mut sections = Vec::new(alloc);
+    for (e, (first, again)) in discarded.into_iter().zip(committed).enumerate() {
+        let left_out = if e == wrong { left_out } else { 0 };
+        sections.push(rerun_section(alloc, first, again, left_out)?)?;
+    }
+    Ok(sections)
+}
+
+/// The votes of all verifiers.
+fn rerun_verifiers(
+    alloc: Global,
+    verifiers: Vec<Vec<VoteData>>,
+) -> Result<Vec<Vec<VoteData>>, AllocError> {
+    let mut again = Vec::new(alloc);
+    for votes in verifiers {
+        again.push(rerun_votes(alloc, votes)?)?;
+    }
+    Ok(again)
+}
+
+/// The bytes of a trace's parts.
+fn bytes_of(alloc: Global, parts: &Parts) -> io::Result<Vec<u8>> {
+    let mut out = SinkOf::new(Vec::new(alloc));
+    match gather(parts, LONGEST, &mut out) {
+        Ok(_) => Ok(out.writer().clone()?),
+        Err(_) => Err(io::Error::from(ErrorKind::InvalidData)),
+    }
+}
+
+/// The parts of a run, behind one whose sections were discarded.
+fn rerun_parts(
+    alloc: Global,
+    discarded: Vec<Vec<Step>>,
+    parts: Parts,
+    wrong: usize,
+    left_out: usize,
+) -> Result<Parts, AllocError> {
+    let sections = rerun_sections(alloc, discarded, parts.sections, wrong, left_out)?;
+    let verifiers = rerun_verifiers(alloc, parts.verifiers)?;
+    Ok(Parts {
+        sections,
+        verifiers,
+        ..parts
+    })
+}
+
 /// The trace of a run of the workload, whose batches are one window: all replicas roll back, and execute and commit all
 /// batches behind that. One replica leaves so many of its restores out.
 pub fn rerun<R: AllocGlobal + RandomSource + Threads + Wait + Sync>(
@@ -123,22 +176,11 @@ pub fn rerun<R: AllocGlobal + RandomSource + Threads + Wait + Sync>(
     left_out: usize,
 ) -> io::Result<Vec<u8>> {
     let alloc = rt.alloc();
-    let discarded = parts_of(rt, workload)?;
-    let mut parts = parts_of(rt, workload)?;
-    let committed = replace(&mut parts.sections, Vec::new(alloc));
-    for (e, (first, again)) in discarded.sections.into_iter().zip(committed).enumerate() {
-        let left_out = if e == wrong { left_out } else { 0 };
-        parts
-            .sections
-            .push(rerun_section(alloc, first, again, left_out)?)?;
-    }
-    let verifiers = replace(&mut parts.verifiers, Vec::new(alloc));
-    for votes in verifiers {
-        parts.verifiers.push(rerun_votes(alloc, votes)?)?;
-    }
-    let mut out = SinkOf::new(Vec::new(alloc));
-    match gather(&parts, LONGEST, &mut out) {
-        Ok(_) => Ok(out.writer().clone()?),
-        Err(_) => Err(io::Error::from(ErrorKind::InvalidData)),
-    }
+    let Parts {
+        sections: discarded,
+        ..
+    } = parts_of(rt, workload)?;
+    let parts = parts_of(rt, workload)?;
+    let again = rerun_parts(alloc, discarded, parts, wrong, left_out)?;
+    bytes_of(alloc, &again)
 }

@@ -38,13 +38,21 @@ fn read_replicas<'a>(alloc: Global, trace: &Trace<'a>) -> Result<Replicas<'a>, C
 /// Whether the replicas agree.
 pub fn judge_outcomes(alloc: Global, bytes: &[u8]) -> Result<(), CheckFault> {
     let trace = Trace::read(alloc, bytes)?;
-    let told = read_replicas(alloc, &trace)?;
-    equal_balances(alloc, &trace, &told.histories, &told.settled)
+    judge_balances_of(alloc, &trace)
+}
+
+fn judge_balances_of(alloc: Global, trace: &Trace) -> Result<(), CheckFault> {
+    let told = read_replicas(alloc, trace)?;
+    equal_balances(alloc, trace, &told.histories, &told.settled)
 }
 
 /// Whether the replies that were sent are those that were committed.
 pub fn judge_replies(alloc: Global, bytes: &[u8]) -> Result<(), CheckFault> {
     let trace = Trace::read(alloc, bytes)?;
-    let told = read_replicas(alloc, &trace)?;
-    replies(&trace, &told.histories)
+    judge_replies_of(alloc, &trace)
+}
+
+fn judge_replies_of(alloc: Global, trace: &Trace) -> Result<(), CheckFault> {
+    let told = read_replicas(alloc, trace)?;
+    replies(trace, &told.histories)
 }

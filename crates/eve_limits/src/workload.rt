@@ -29,6 +29,13 @@ pub struct Size {
 /// The text of a workload: each request is of the customer behind the one before, and the kinds take turns.
 pub fn workload(alloc: Global, size: &Size) -> io::Result<Vec<u8>> {
     let mut text = Vec::new(alloc);
+    write_head(&mut text, size)?;
+    write_batches(&mut text, size)?;
+    Ok(text)
+}
+
+/// Writes the numbers of a workload, and its customers.
+fn write_head(text: &mut Vec<u8>, size: &Size) -> io::Result<()> {
     let Size {
         replicas,
         verifiers,
@@ -48,18 +55,23 @@ pub fn workload(alloc: Global, size: &Size) -> io::Result<Vec<u8>> {
             u64::from(customer) + 1
         )?;
     }
+    Ok(())
+}
+
+/// Writes the batches of a workload.
+fn write_batches(text: &mut Vec<u8>, size: &Size) -> io::Result<()> {
     let mut customer = 0;
     for batch in 0..size.batches {
         text.write_all(b"batch\n")?;
         for request in 0..size.requests {
-            write_request(&mut text, batch, request, customer)?;
+            write_request(text, batch, request, customer)?;
             customer = customer.saturating_add(1);
             if customer >= size.customers {
                 customer = 0;
             }
         }
     }
-    Ok(text)
+    Ok(())
 }
 
 /// Writes a request of a customer.

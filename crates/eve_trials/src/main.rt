@@ -1,7 +1,12 @@
-//! Tries the program on streams that fail, and on arguments that are no call. A line of the input is a trial: what
-//! fails, the file that is read, and the arguments of the call. It is printed again, and below it what came of it: the
-//! number of the call or byte at which something failed, from the first to the last that came to the same, the exit
-//! status, what stood on out, and what was said on the error stream.
+//! Tries the program on workloads that it runs, on streams that fail, and on arguments that are no call.
+//!
+//! A line `run NAME WORD..` of the input names a workload and, if any, further arguments for `eve run`. What stands
+//! behind `run` is printed again with the exit status, and with what was said where there was no run. The trace of a
+//! run is compared with the file of the same name that ends in `.trace`, where there is one, and audited.
+//!
+//! Every other line is a trial: what fails, the file that is read, and the arguments of the call. It is printed again,
+//! and below it what came of it: the number of the call or byte at which something failed, from the first to the last
+//! that came to the same, the exit status, what stood on out, and what was said on the error stream.
 //!
 //! - `nothing`: nothing fails, and all that is said stands below
 //! - `read`, `write`: the first read or write of a byte fails, or the second, and so on until none does
@@ -11,12 +16,16 @@
 //! - `long`: a workload and its trace may have no byte, or one, or two, and so on
 #![tactic(auto)]
 
+mod runs;
+
+use crate::runs::tell_run;
 use eve_streams::failing::FailsAt;
 use eve_streams::one_byte::OneByte;
 use eve_streams::{SinkOf, SourceOf};
 use eve_tool::{run_within, serve, stop};
 use eve_workload::Mixer;
-use std::alloc::Global;
+use std::alloc::{AllocError, Global};
+use std::fs::Files;
 use std::io::{ErrorKind, Write};
 use std::random::RandomSource;
 use std::sync::Wait;
@@ -70,6 +79,13 @@ struct Answer {
     err: Vec<u8>,
 }
 
+/// An answer with copies of these bytes.
+fn answer_of(status: u8, out: &Vec<u8>, err: &Vec<u8>) -> Result<Answer, AllocError> {
+    let out = out.clone()?;
+    let err = err.clone()?;
+    Ok(Answer { status, out, err })
+}
+
 /// What `eve` answers, by streams that move one byte a call.
 fn said<R: AllocGlobal + RandomSource + Threads + Wait + Sync>(
     rt: &R,
@@ -83,11 +99,8 @@ fn said<R: AllocGlobal + RandomSource + Threads + Wait + Sync>(
     let mut out = FailsAt::new(memory, failing.write);
     let mut err = FailsAt::new(SinkOf::new(Vec::new(alloc)), failing.word);
     let status = serve(rt, words, &mut input, &mut out, &mut err);
-    Ok(Answer {
-        status,
-        out: out.stream().stream().writer().clone()?,
-        err: err.stream().writer().clone()?,
-    })
+    let (said, told) = (out.stream().stream().writer(), err.stream().writer());
+    Ok(answer_of(status, said, told)?)
 }
 
 /// What `eve run` answers where a workload and its trace may have so many bytes.
@@ -105,11 +118,7 @@ fn ran_within<R: AllocGlobal + RandomSource + Threads + Wait + Sync>(
         Ok(status) => status,
         Err(fault) => stop(fault, &mut err),
     };
-    Ok(Answer {
-        status,
-        out: out.writer().clone()?,
-        err: err.writer().clone()?,
-    })
+    Ok(answer_of(status, out.writer(), err.writer())?)
 }
 
 /// What failures came to, from one number to another: the exit status, what stood on out, and what was said on the
@@ -174,25 +183,36 @@ struct Trial<'a> {
     words: Vec<&'a str>,
 }
 
+/// What the word of a trial lets fail.
+fn failure_of(word: &str) -> io::Result<Failure> {
+    match word {
+        "nothing" => Ok(Failure::Nothing),
+        "read" => Ok(Failure::Read),
+        "write" => Ok(Failure::Write),
+        "word" => Ok(Failure::Word),
+        "random" => Ok(Failure::Random),
+        "rest" => Ok(Failure::Rest),
+        "long" => Ok(Failure::Long),
+        _ => Err(io::Error::from(ErrorKind::InvalidInput)),
+    }
+}
+
+/// The arguments of the call that a line asks for: those behind what fails and the file, behind the program's name.
+fn words_of(alloc: Global, line: &str) -> Result<Vec<&str>, AllocError> {
+    let mut words = Vec::new(alloc);
+    words.push("eve")?;
+    for word in line.split(' ').skip(2) {
+        words.push(word)?;
+    }
+    Ok(words)
+}
+
 /// The trial that a line asks for.
 fn trial_of(alloc: Global, line: &str) -> io::Result<Trial<'_>> {
     let mut parts = line.split(' ');
-    let failure = match parts.next().unwrap_or("") {
-        "nothing" => Failure::Nothing,
-        "read" => Failure::Read,
-        "write" => Failure::Write,
-        "word" => Failure::Word,
-        "random" => Failure::Random,
-        "rest" => Failure::Rest,
-        "long" => Failure::Long,
-        _ => return Err(io::Error::from(ErrorKind::InvalidInput)),
-    };
+    let failure = failure_of(parts.next().unwrap_or(""))?;
     let file = parts.next().unwrap_or("");
-    let mut words = Vec::new(alloc);
-    words.push("eve")?;
-    for word in parts {
-        words.push(word)?;
-    }
+    let words = words_of(alloc, line)?;
     Ok(Trial {
         failure,
         file,
@@ -233,23 +253,40 @@ fn tried<R: AllocGlobal + RandomSource + Threads + Wait + Sync>(
 // How many failures a trial tries at most.
 const MOST: usize = 10_000;
 
-/// Lets each number fail in turn, until the failure changes nothing.
+/// Notes what a failure came to: with the one before, where they came to the same.
+fn note(outcomes: &mut Vec<Outcome>, next: Outcome) -> Result<(), AllocError> {
+    match outcomes.last_mut() {
+        Some(last) if last.is_like(&next) => last.to = next.to,
+        _ => outcomes.push(next)?,
+    }
+    Ok(())
+}
+
+/// Lets this number fail, and notes what that came to. Whether it changes nothing of `whole`.
+fn is_without_change<R: AllocGlobal + RandomSource + Threads + Wait + Sync>(
+    rt: &R,
+    trial: &Trial<'_>,
+    bytes: &[u8],
+    at: usize,
+    whole: &Answer,
+    outcomes: &mut Vec<Outcome>,
+) -> io::Result<bool> {
+    let answer = tried(rt, trial, bytes, at)?;
+    let is_whole = answer == *whole;
+    note(outcomes, outcome_of(at, answer, whole.out.as_slice()))?;
+    Ok(is_whole)
+}
+
+/// Lets each number fail in turn, until the failure changes nothing of `whole`.
 fn tried_in_turn<R: AllocGlobal + RandomSource + Threads + Wait + Sync>(
     rt: &R,
     trial: &Trial<'_>,
     bytes: &[u8],
+    whole: &Answer,
 ) -> io::Result<Vec<Outcome>> {
-    let whole = said(rt, trial.words.as_slice(), bytes, NOTHING)?;
-    let mut outcomes: Vec<Outcome> = Vec::new(rt.alloc());
+    let mut outcomes = Vec::new(rt.alloc());
     for at in 1..MOST {
-        let answer = tried(rt, trial, bytes, at)?;
-        let is_whole = answer == whole;
-        let next = outcome_of(at, answer, whole.out.as_slice());
-        match outcomes.last_mut() {
-            Some(last) if last.is_like(&next) => last.to = at,
-            _ => outcomes.push(next)?,
-        }
-        if is_whole {
+        if is_without_change(rt, trial, bytes, at, whole, &mut outcomes)? {
             break;
         }
     }
@@ -257,7 +294,7 @@ fn tried_in_turn<R: AllocGlobal + RandomSource + Threads + Wait + Sync>(
 }
 
 /// Prints what failures came to.
-fn print_outcome(rt: &HostRuntime, outcome: &Outcome) -> io::Result<()> {
+fn print_outcome<R: Print>(rt: &R, outcome: &Outcome) -> io::Result<()> {
     let mut out = io::writer(rt);
     let (from, to, status, said) = (outcome.from, outcome.to, outcome.status, outcome.out);
     if from == to {
@@ -273,7 +310,7 @@ fn print_outcome(rt: &HostRuntime, outcome: &Outcome) -> io::Result<()> {
 }
 
 /// Prints all that is said.
-fn print_answer(rt: &HostRuntime, answer: &Answer) -> io::Result<()> {
+fn print_answer<R: Print>(rt: &R, answer: &Answer) -> io::Result<()> {
     let mut out = io::writer(rt);
     let status = answer.status;
     writeln!(out, "  {status}")?;
@@ -281,22 +318,71 @@ fn print_answer(rt: &HostRuntime, answer: &Answer) -> io::Result<()> {
     out.write_all(answer.err.as_slice())
 }
 
+/// Prints all that is said where the first fails.
+fn tell_answer<R: AllocGlobal + Print + RandomSource + Threads + Wait + Sync>(
+    rt: &R,
+    trial: &Trial<'_>,
+    bytes: &[u8],
+) -> io::Result<()> {
+    let answer = tried(rt, trial, bytes, 1)?;
+    print_answer(rt, &answer)
+}
+
+/// Prints what came of each failure in turn, where `whole` is what is said where nothing fails.
+fn tell_in_turn<R: AllocGlobal + Print + RandomSource + Threads + Wait + Sync>(
+    rt: &R,
+    trial: &Trial<'_>,
+    bytes: &[u8],
+    whole: &Answer,
+) -> io::Result<()> {
+    let outcomes = tried_in_turn(rt, trial, bytes, whole)?;
+    for outcome in &outcomes {
+        print_outcome(rt, outcome)?;
+    }
+    Ok(())
+}
+
+/// Prints what came of a trial over the bytes of its file.
+fn tell<R: AllocGlobal + Print + RandomSource + Threads + Wait + Sync>(
+    rt: &R,
+    trial: &Trial<'_>,
+    bytes: &[u8],
+) -> io::Result<()> {
+    match trial.failure {
+        Failure::Nothing | Failure::Word | Failure::Random => tell_answer(rt, trial, bytes),
+        Failure::Read | Failure::Write | Failure::Rest | Failure::Long => {
+            let whole = said(rt, trial.words.as_slice(), bytes, NOTHING)?;
+            tell_in_turn(rt, trial, bytes, &whole)
+        }
+    }
+}
+
+/// Prints what came of a line.
+fn tell_line<R: AllocGlobal + Files + Print + RandomSource + Threads + Wait + Sync>(
+    rt: &R,
+    line: &str,
+) -> io::Result<()> {
+    match line.split_once(' ') {
+        Some(("run", named)) => tell_run(rt, named),
+        _ => tell_trial(rt, line),
+    }
+}
+
+/// Prints the line of a trial, and what came of it.
+fn tell_trial<R: AllocGlobal + Files + Print + RandomSource + Threads + Wait + Sync>(
+    rt: &R,
+    line: &str,
+) -> io::Result<()> {
+    rt.println(line)?;
+    let trial = trial_of(rt.alloc(), line)?;
+    let bytes = fs::read(rt, trial.file)?;
+    tell(rt, &trial, bytes.as_slice())
+}
+
 fn main(rt: HostRuntime) -> io::Result<()> {
     for line in rt.lines(rt.alloc()) {
         let line = line?;
-        rt.println(line.as_str())?;
-        let trial = trial_of(rt.alloc(), line.as_str())?;
-        let bytes = fs::read(&rt, trial.file)?;
-        match trial.failure {
-            Failure::Nothing | Failure::Word | Failure::Random => {
-                print_answer(&rt, &tried(&rt, &trial, bytes.as_slice(), 1)?)?;
-            }
-            Failure::Read | Failure::Write | Failure::Rest | Failure::Long => {
-                for outcome in tried_in_turn(&rt, &trial, bytes.as_slice())?.iter() {
-                    print_outcome(&rt, outcome)?;
-                }
-            }
-        }
+        tell_line(&rt, line.as_str())?;
     }
     Ok(())
 }

@@ -75,10 +75,16 @@ pub fn told<R: Wait>(
 ) -> Result<Text, AllocError> {
     let mut case = case_of(alloc, names, &script.plan)?;
     case.play(rt, script.acts);
-    Ok(case.text)
+    Ok(case.into_text())
 }
 
 impl<'n> Case<'n> {
+    /// What is told of the case.
+    pub fn into_text(self) -> Text {
+        let Case { text, .. } = self;
+        text
+    }
+
     /// Does these things, one after another.
     pub fn play<R: Wait>(&mut self, rt: &R, acts: &[Act]) {
         for act in acts {

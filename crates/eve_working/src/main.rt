@@ -181,18 +181,16 @@ fn waiting_record<R: Threads + Wait + Sync>(
         room: 1,
         limit: 8,
     };
-    let case = case_of(alloc, names, &plan)?;
-    let met = at_once(rt, alloc, case, &OpenGate)?;
-    if !met.had_memory() {
-        return Err(AllocError);
-    }
-    let Met {
-        mut case,
-        first,
-        second,
-    } = met;
-    case.text.say_whether(first.is_ok() != second.is_ok());
-    if first.is_ok() {
+    let mut met = met_of(rt, alloc, names, &plan, &OpenGate)?;
+    let (first, second) = met.answers()?;
+    play_waiting(rt, &mut met.case, first, second);
+    Ok(met.into_text())
+}
+
+// What follows, where these of the two deposits were noted.
+fn play_waiting<R: Wait>(rt: &R, case: &mut Case, first: bool, second: bool) {
+    case.text.say_whether(first != second);
+    if first {
         case.crew.turn();
     }
     case.play(rt, &[Act::Run(2)]);
@@ -204,7 +202,18 @@ fn waiting_record<R: Threads + Wait + Sync>(
     if let Some(record) = case.crew.take(rt) {
         case.text.say_entries(&record);
     }
-    Ok(case.text)
+}
+
+// The case of a plan, after its first two requests were executed at once.
+fn met_of<'n, R: Threads + Wait + Sync, G: Watched>(
+    rt: &R,
+    alloc: Global,
+    names: &'n Names<'n>,
+    plan: &Plan,
+    gate: &G,
+) -> Result<Met<'n>, AllocError> {
+    let case = case_of(alloc, names, plan)?;
+    at_once(rt, alloc, case, gate)
 }
 
 // Two requests that are to be run at once.
@@ -249,12 +258,8 @@ fn answers<R: Threads + Wait + Sync, G: Watched>(
     asks: &[Ask],
     gate: &G,
 ) -> Result<(bool, bool), AllocError> {
-    let case = case_of(alloc, names, &pair_of(asks))?;
-    let met = at_once(rt, alloc, case, gate)?;
-    if !met.had_memory() {
-        return Err(AllocError);
-    }
-    Ok((met.first.is_ok(), met.second.is_ok()))
+    let met = met_of(rt, alloc, names, &pair_of(asks), gate)?;
+    met.answers()
 }
 
 // Whether each of the pairs of requests comes to what is asked of it.
@@ -278,30 +283,34 @@ fn say_each<R: Threads + Wait + Sync>(
     Ok(())
 }
 
+/// Pairs of requests of different stripes.
+const APART: [[Ask<'static>; 2]; 5] = [
+    [Ask::Deposit(b"a"), Ask::Deposit(b"b")],
+    [Ask::Move(b"a", b"q"), Ask::Deposit(b"b")],
+    [Ask::Move(b"a", b"b"), Ask::Deposit(b"c")],
+    [Ask::Move(b"a", b"z"), Ask::Deposit(b"a")],
+    [Ask::Deposit(b"a"), Ask::Move(b"a", b"z")],
+];
+
+/// Pairs of requests that share a stripe.
+const SHARED: [[Ask<'static>; 2]; 5] = [
+    [Ask::Deposit(b"a"), Ask::Deposit(b"a")],
+    [Ask::Deposit(b"a"), Ask::Deposit(b"q")],
+    [Ask::Move(b"a", b"b"), Ask::Deposit(b"a")],
+    [Ask::Move(b"a", b"b"), Ask::Deposit(b"b")],
+    [Ask::Move(b"a", b"b"), Ask::Move(b"b", b"a")],
+];
+
 /// Requests of different stripes don't wait for one another, and those that share a stripe do.
 fn gates_held<R: Threads + Wait + Sync>(
     rt: &R,
     alloc: Global,
     names: &Names,
 ) -> Result<Text, AllocError> {
-    let apart = [
-        [Ask::Deposit(b"a"), Ask::Deposit(b"b")],
-        [Ask::Move(b"a", b"q"), Ask::Deposit(b"b")],
-        [Ask::Move(b"a", b"b"), Ask::Deposit(b"c")],
-        [Ask::Move(b"a", b"z"), Ask::Deposit(b"a")],
-        [Ask::Deposit(b"a"), Ask::Move(b"a", b"z")],
-    ];
-    let shared = [
-        [Ask::Deposit(b"a"), Ask::Deposit(b"a")],
-        [Ask::Deposit(b"a"), Ask::Deposit(b"q")],
-        [Ask::Move(b"a", b"b"), Ask::Deposit(b"a")],
-        [Ask::Move(b"a", b"b"), Ask::Deposit(b"b")],
-        [Ask::Move(b"a", b"b"), Ask::Move(b"b", b"a")],
-    ];
     let mut text = Text::new(alloc, "gates-held:");
-    say_each(rt, alloc, names, &mut text, &apart, false)?;
+    say_each(rt, alloc, names, &mut text, &APART, false)?;
     text.say("; meet:");
-    say_each(rt, alloc, names, &mut text, &shared, true)?;
+    say_each(rt, alloc, names, &mut text, &SHARED, true)?;
     Ok(text)
 }
 
@@ -326,9 +335,18 @@ fn tell_one_by_one<R: Print + Wait>(rt: &R, alloc: Global, names: &Names) -> io:
     tell(rt, waiting_worker(rt, alloc, names))
 }
 
+// Prints the cases of two threads.
+fn tell_at_once<R: Print + Threads + Wait + Sync>(
+    rt: &R,
+    alloc: Global,
+    names: &Names,
+) -> io::Result<()> {
+    tell(rt, waiting_record(rt, alloc, names))?;
+    tell(rt, gates_held(rt, alloc, names))
+}
+
 fn main(rt: HostRuntime) -> io::Result<()> {
     let names = customers(rt.alloc(), RandomState::new(&rt)?)?;
     tell_one_by_one(&rt, rt.alloc(), &names)?;
-    tell(&rt, waiting_record(&rt, rt.alloc(), &names))?;
-    tell(&rt, gates_held(&rt, rt.alloc(), &names))
+    tell_at_once(&rt, rt.alloc(), &names)
 }

@@ -6,6 +6,7 @@ ghost use Rattle.eve_floor.specs.Executing.{IsAt};
 use crate::cases::Case;
 use crate::crew::{Crew, may_execute};
 use crate::gates::Watched;
+use crate::telling::Text;
 use eve_floor::{ExecFault, Floor, Worker, execute};
 use eve_recorder::{Recorder, TakerSeat, Tickets};
 use eve_write::BatchData;
@@ -30,9 +31,18 @@ pub struct Met<'n> {
 }
 
 impl<'n> Met<'n> {
-    /// Whether neither was refused memory.
-    pub fn had_memory(&self) -> bool {
-        self.first != Err(ExecFault::Memory) && self.second != Err(ExecFault::Memory)
+    /// Whether each executed its request, where neither was refused memory.
+    pub fn answers(&self) -> Result<(bool, bool), AllocError> {
+        if self.first == Err(ExecFault::Memory) || self.second == Err(ExecFault::Memory) {
+            return Err(AllocError);
+        }
+        Ok((self.first.is_ok(), self.second.is_ok()))
+    }
+
+    /// What is told of the case.
+    pub fn into_text(self) -> Text {
+        let Met { case, .. } = self;
+        case.into_text()
     }
 }
 
@@ -43,13 +53,42 @@ pub fn at_once<'n, R: Threads + Wait + Sync, G: Watched>(
     case: Case<'n>,
     gate: &G,
 ) -> Result<Met<'n>, AllocError> {
-    let mut turns = Vec::with_capacity(alloc, 2)?;
     let Case {
         floor,
         batch,
         crew,
         text,
     } = case;
+    let ran = crew_at_once(rt, alloc, &floor, crew, &batch, gate)?;
+    Ok(Met {
+        case: Case {
+            floor,
+            batch,
+            crew: ran.crew,
+            text,
+        },
+        first: ran.first,
+        second: ran.second,
+    })
+}
+
+/// Two workers, and what executing their requests answered.
+#[derive(Drop)]
+struct Ran {
+    crew: Crew,
+    first: Result<(), ExecFault>,
+    second: Result<(), ExecFault>,
+}
+
+fn crew_at_once<R: Threads + Wait + Sync, G: Watched>(
+    rt: &R,
+    alloc: Global,
+    floor: &Floor,
+    crew: Crew,
+    batch: &BatchData,
+    gate: &G,
+) -> Result<Ran, AllocError> {
+    let mut turns = Vec::with_capacity(alloc, 2)?;
     let Crew {
         recorder,
         tickets,
@@ -59,7 +98,7 @@ pub fn at_once<'n, R: Threads + Wait + Sync, G: Watched>(
     } = crew;
     turns.push_reserved(turn_of(hand, 0));
     turns.push_reserved(turn_of(other, 1));
-    let mut turns = take_turns(rt, &floor, &recorder, &tickets, turns, &batch, gate);
+    let mut turns = take_turns(rt, floor, &recorder, &tickets, turns, batch, gate);
     let (Some(second), Some(first)) = (
         last_turn(&recorder, &tickets, &mut turns),
         last_turn(&recorder, &tickets, &mut turns),
@@ -67,13 +106,8 @@ pub fn at_once<'n, R: Threads + Wait + Sync, G: Watched>(
         return Err(AllocError);
     };
     let crew = crew_again(recorder, tickets, taker, first.worker, second.worker);
-    Ok(Met {
-        case: Case {
-            floor,
-            batch,
-            crew,
-            text,
-        },
+    Ok(Ran {
+        crew,
         first: first.answer,
         second: second.answer,
     })
