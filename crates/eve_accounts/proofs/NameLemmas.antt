@@ -111,7 +111,7 @@ IsNameList-taken names name is can = record {
   small = is.small;
 }
 
--- ---- names behind references, as a set keeps them
+-- ---- names after references, as a set keeps them
 
 -- the name that a key refers to
 abbrev pub text : NameKey → List ℕ

@@ -14,7 +14,7 @@ is_printable byte = nat_le 33 byte && nat_le byte 126
 abbrev pub is_name : List ℕ → Bool
 is_name name = nat_le 1 (length name) && (nat_le (length name) 24 && list_all is_printable name)
 
--- the bytes of a name, and zeros behind them up to the 24 that a name may have
+-- the bytes of a name, and zeros after them up to the 24 that a name may have
 abbrev pub padded : List ℕ → List ℕ
 padded name = name ++ replicate (24 - length name) 0
 

@@ -14,7 +14,7 @@ const MOST_BYTES: usize = 24;
 /// docs/MODEL.md, "Names". Contracts see it as the list of its bytes.
 #[derive(Clone, Copy)]
 pub struct Name {
-    // The name, and zeros behind it.
+    // The name, and zeros after it.
     bytes: [u8; MOST_BYTES],
     len: u8,
 }
@@ -68,7 +68,7 @@ impl Name {
     }
 }
 
-// The bytes, and zeros behind them.
+// The bytes, and zeros after them.
 fn padded(bytes: &[u8]) -> [u8; MOST_BYTES]
     requires { length bytes.now ≤ 24 }
     ensures { result ≡ padded bytes.now }

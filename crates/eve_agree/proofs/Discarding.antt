@@ -120,7 +120,7 @@ stays_discarded s ((at, Commits c) ∷ steps) p i = stays_discarded (committing 
 stays_discarded s ((at, RollsBack r) ∷ steps) p i = stays_discarded (next s (at, RollsBack r)) steps p
     (in_front s.pending i)
 
--- behind these steps a rollback comes
+-- after these steps a rollback comes
 module _ (t : Trace) (e : ℕ) (front : List (ℕ × Step)) (at : ℕ) (r : Rollback) (rest : List (ℕ × Step))
     (split : steps_at t e ≡ front ++ (at, RollsBack r) ∷ rest) where
   -- the open attempts get settled

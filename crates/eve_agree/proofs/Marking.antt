@@ -152,7 +152,7 @@ taken-more marks r rs = fun_ext (λ row. exchange (r.row == row) (has_row row rs
     exchange false true m = refl
     exchange false false m = refl
 
--- the rows behind are others
+-- the rows after are others
 still_marked : (marks : Marking) (r : Restore) (rs : List Restore) → list_all (λ q. nat_lt r.row q.row) rs ≡ true
     → list_all (λ q. is_marked (taken marks (r ∷ []) q.row) q) rs ≡ list_all (λ q. is_marked (marks q.row) q) rs
 still_marked marks r [] rising = refl

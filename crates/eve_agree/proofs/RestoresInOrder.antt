@@ -72,7 +72,7 @@ rightly-push t s (y ∷ xs) x all own =
     and_from (restores_rightly t s y.1) (all_restore_rightly t (next s y) (xs ++ x ∷ [])) parts.0
     (rightly-push t (next s y) xs x parts.1 own)
 
--- a step that was met, and the steps behind it
+-- a step that was met, and the steps after it
 abbrev pub ComesNext : met.Step → List (ℕ × Step) → List (ℕ × Step) → Type 0
 ComesNext s steps rest = (step : ℕ × Step) × (steps ≡ step ∷ rest) × IsStep s step
 

@@ -23,7 +23,7 @@ use Rattle.eve_agree.specs.declared.due_tokens.Stretch.{Stretch}
 use Rattle.eve_agree.proofs.Outcomes.{balances_are, commits_told}
 use Rattle.eve_agree.proofs.TokensInOrder.{batches_told, first_version, IsWrong, first_committed}
 
--- ---- one behind another
+-- ---- one after another
 
 -- one more stretch
 pub reaches_more : (before mid : ℕ) (xs : List Stretch) (x : Stretch) → Reaches before mid xs → x.before ≡ mid →

@@ -36,7 +36,7 @@ pub record IsTokenFault (t : Trace) (e : ℕ) (f : Fault) : Type 0 where
 abbrev pub IsDueIn : Trace → ℕ → ℕ → Type 0
 IsDueIn t e n = (p : Placed) → committed_at t e n ≡ Some p → p.attempt.token ≡ due_token t e p
 
--- batch n is the first, behind those up to `before`, whose attempt has another token, and stands at this offset
+-- batch n is the first, after those up to `before`, whose attempt has another token, and stands at this offset
 pub record IsWrongIn (t : Trace) (e before last at : ℕ) : Type 0 where
   pub n : ℕ
   pub low : before < n

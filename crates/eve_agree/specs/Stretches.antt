@@ -24,7 +24,7 @@ pub record IsJudged (t : Trace) (e : ℕ) (old new : Stretch) : Type 0 where
   pub last : new.last ≡ old.last
   pub wrong : IsFirstWrong t e old.before old.last new.wrong
 
--- the stretches follow one another, the first behind so many batches, and reach to the last
+-- the stretches follow one another, the first after so many batches, and reach to the last
 abbrev pub Reaches : ℕ → ℕ → List Stretch → Type 0
 Reaches before last [] = before ≡ last
 Reaches before last (x ∷ xs) = (x.before ≡ before) × Reaches x.last last xs

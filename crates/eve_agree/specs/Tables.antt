@@ -40,7 +40,7 @@ working_table t e k = worked t (opening_table t) (take k (steps_at t e))
 unfoldable pub committed_table : Trace → ℕ → ℕ → Table
 committed_table t e k = committed_rows t (state_after start (take k (steps_at t e)))
 
--- the step with this number, from 0, is a rollback, and behind it the replica works on what is committed
+-- the step with this number, from 0, is a rollback, and after it the replica works on what is committed
 abbrev pub IsRestored : Trace → ℕ → ℕ → Type 0
 IsRestored t e k = (at : ℕ) (r : Rollback) → slice_get (steps_at t e) k ≡ Some (at, RollsBack r)
     → working_table t e (suc k) ≡ committed_table t e (suc k)

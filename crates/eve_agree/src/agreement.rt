@@ -25,7 +25,7 @@ use std::alloc::{AllocError, Global};
 /// the lowest-numbered replica that committed it; else the first attempt where it differs.
 ///
 /// docs/MODEL.md, "Faults". Balances and replies are compared themselves. It keeps the balances of each replica once,
-/// and goes with all of them from batch to batch; of one replica alone nothing is asked. Want of memory decides
+/// and goes with all of them from batch to batch; of one replica alone nothing is asked. Refused memory decides
 /// nothing.
 pub fn equal_balances(
     alloc: Global,

@@ -36,7 +36,7 @@ fn is_due(attempt: &AttemptView<'_>, balances: &Balances) -> bool
 /// How few batches are worth a thread of their own.
 const LEAST_BATCHES: u32 = 16;
 
-/// Committed batches of a replica that stand behind one another, to be judged by themselves.
+/// Committed batches of a replica one after another, to be judged by themselves.
 #[derive(Drop)]
 struct Stretch {
     /// How many batches stand before them.
@@ -73,7 +73,7 @@ fn wrong_at(
     Some(attempt.offset())
 }
 
-/// The offset of the first of a replica's attempts with a token that is not due, of the batches behind the first
+/// The offset of the first of a replica's attempts with a token that is not due, of the batches after the first
 /// `before` up to the last.
 #[tactic(auto, using(crate::proofs::Stretched::one_more, crate::proofs::Stretched::wrong_first))]
 fn first_wrong(
@@ -220,7 +220,7 @@ fn first_in<R: Threads + Sync>(
 ///
 /// docs/MODEL.md, "Faults"; docs/TRACE.md, "Token". It hashes each batch's balances once. The batches are cut into up
 /// to so many stretches as there are jobs, from 1 on, each with the balances at its start, and judged in as many
-/// threads; of one job none is started. What is found doesn't rest on which ends first. Want of memory decides nothing.
+/// threads; of one job none is started. What is found doesn't rest on which ends first. Refused memory decides nothing.
 pub fn tokens<R: Threads + Sync>(
     rt: &R,
     alloc: Global,

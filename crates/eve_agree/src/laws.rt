@@ -5,7 +5,7 @@ ghost use Rattle.eve_grammar.specs.Trace.{Trace};
 ghost use Rattle.eve_history.specs.SectionHistory.{IsRightSection};
 ghost use Rattle.eve_agree.specs.Tables.{IsRestored, RestoresAreRight};
 
-/// In a right section whose rollbacks restore what they must, the replica works on what is committed behind each of
+/// In a right section whose rollbacks restore what they must, the replica works on what is committed after each of
 /// them, versions too.
 ///
 /// docs/MODEL.md, "The audit theorem".

@@ -30,7 +30,7 @@ fn is_decided(tally: &Tally<'_, '_>, commit: &CommitView<'_>) -> bool
     }
 }
 
-/// Whether a majority rolled back the batch behind the one that a rollback goes back to, in the view before.
+/// Whether a majority rolled back the batch after the one that a rollback goes back to, in the view before.
 fn is_rolled_back(tally: &Tally<'_, '_>, rollback: &RollbackView<'_>) -> bool
     requires next { (rollback_in rollback.now.bytes.now).to + 1 < 2 ^ 32 }
     requires view { 1 ≤ (rollback_in rollback.now.bytes.now).view }

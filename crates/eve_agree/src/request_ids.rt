@@ -25,7 +25,7 @@ pub struct RequestIds {
     batch: u32,
     /// How many requests it has.
     count: usize,
-    /// The index behind the one that was found last.
+    /// The index after the one that was found last.
     next: usize,
     /// By index; those from the count on are none of the batch.
     items: [RequestId; 256],
@@ -65,7 +65,7 @@ impl RequestIds {
     }
 
     /// Whether an attempt's reply to the request that a sent reply answers is the one that was sent. The request is
-    /// looked for first behind the one that was found last.
+    /// looked for first after the one that was found last.
     pub fn find(&mut self, attempt: &AttemptView<'_>, sent: &SentView<'_>) -> bool
         requires { self.old.count ≤ 256 }
         ensures answer { IsTrue result

@@ -122,7 +122,7 @@ pub(crate) fn judge(
 ///
 /// docs/MODEL.md, "Faults". The replica's attempts were judged before: `sound` is what `check` ensures, under the same
 /// name, where it gives `settled`. The time is linear in what discarded attempts wrote; the memory is a mark for each
-/// row, and none where there is no rollback. Want of memory decides nothing.
+/// row, and none where there is no rollback. Refused memory decides nothing.
 pub fn rollbacks(
     alloc: Global,
     trace: &Trace<'_>,

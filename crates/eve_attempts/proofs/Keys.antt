@@ -24,7 +24,7 @@ longer : (front rs : List Applied) (r : Applied) → length front < length (fron
 longer [] rs r = omega arith
 longer (x ∷ front) rs r = let h = longer front rs r in omega arith
 
--- the records of the keys of the records behind a front
+-- the records of the keys of the records after a front
 pub records_of_keys : (front rs : List Applied) → records_in (front ++ rs) (keys_from (length front) rs) ≡ rs
 records_of_keys front [] = refl
 records_of_keys front (r ∷ rs) =

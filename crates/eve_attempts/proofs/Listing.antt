@@ -24,7 +24,7 @@ place_within [] i x e = absurd (none≢some x e)
 place_within (y ∷ xs) zero x e = omega arith
 place_within (y ∷ xs) (suc i) x e = let h = place_within xs i x e in omega arith
 
--- the item at a place and those behind it
+-- the item at a place and those after it
 pub drop_at : {A : Type 0} (xs : List A) (i : ℕ) (x : A) → slice_get xs i ≡ Some x → drop i xs ≡ x ∷ drop (i + 1) xs
 drop_at xs i x e = drop_more xs i x (place_within xs i x e)
     ∙ ap (λ (y : _). y ∷ drop (i + 1) xs) (sym (at_place xs i x x e))

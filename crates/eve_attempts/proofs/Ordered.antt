@@ -51,7 +51,7 @@ before_not_after r q h = elim (before_parts r q h) [
   | inr same ↦ let e = same.0 in let f = same.1 in record { tick = omega arith; index = λ le. omega arith }
 ]
 
--- a record that comes before another doesn't come behind it too
+-- a record that comes before another doesn't come after it too
 pub before_clash : (r q : Applied) → IsTrue (is_before r q) → IsNotAfter q r → ⊥
 before_clash r q h back = elim (before_parts r q h) [
   | inl lt ↦ let t = back.tick in omega arith
@@ -135,7 +135,7 @@ distinct_rest r rs distinct i = by (r.index == i) (distinct i)
     by true h = omega arith
     by false h = h
 
--- the first has no index that one behind it has
+-- the first has no index that one after it has
 distinct_first : (r : Applied) (rs : List Applied) (q : Applied) → AreDistinct (r ∷ rs) → In q rs → r.index ≢ q.index
 distinct_first r rs q distinct i same =
     let some = occurs q rs i in

@@ -163,7 +163,7 @@ saw_base base row (e ∷ es) all = (here, saw_base base row es all.1)
         let same : e.row ≡ row = eqb-true e.row row (and_parts (is_write e.kind) (e.row == row) is).1 in
         ap₂ (λ (v : ℕ) (m : ℤ). record { version = v; value = m }) all.0.version all.0.value ∙ ap base same
 
--- entries that all saw one table, undone behind themselves, give it again
+-- entries that all saw one table, undone one after the other, the last first, give it again
 pub undone_seen : (base : Table) (es : List Entry) → AllByRecursion (Sees base) es → undone (table_after base es) es
     ≡ base
 undone_seen base es all = fun_ext (λ row. undone_at (table_after base es) (base row) row es (saw_base base row es all)
@@ -215,7 +215,7 @@ undone_further base now written es back all =
     undone-append (table_after now es) written (writes_among es)
     ∙ ap (λ (t : Table). undone t written) (undone-writes (table_after now es) es ∙ undone_seen now es all) ∙ back
 
--- all that executed requests noted, undone behind their writes, gives the table that they found
+-- all that executed requests noted, undone after their writes, gives the table that they found
 pub chain_undone : (table : Table) (xs : List Executed) → Follows table xs
     → undone (table_after_all table xs) (flat_map (λ x. x.entries) xs) ≡ table
 chain_undone table [] follows = refl

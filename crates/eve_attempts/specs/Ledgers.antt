@@ -57,7 +57,7 @@ table_of rows row = record { version = slice_index_or rows.versions row 0; value
 abbrev pub rows_now : Ledger → Table
 rows_now s = table_of s.rows
 
--- What each row had before these entries were written, the first of them first, where this is what it has behind them:
+-- What each row had before these entries were written, the first of them first, where this is what it has after them:
 -- what the first write of it saw.
 abbrev pub undone : Table → List Entry → Table
 undone table [] row = table row
@@ -82,7 +82,7 @@ rows_committed s = undone (rows_now s) (open_writes s)
 abbrev pub is_write_in : ℕ → Entry → Bool
 is_write_in rows e = is_write e.kind && is_entry rows e
 
--- each attempt's writes, undone behind it, give the table that it found; the last leaves this one
+-- each attempt's writes, undone after it, give the table that it found; the last leaves this one
 abbrev pub AreLaid : Table → List Opened → Table → Type 0
 AreLaid base [] now = base ≡ now
 AreLaid base (o ∷ opened) now =

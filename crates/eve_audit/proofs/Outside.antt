@@ -1,4 +1,4 @@
--- What stands before the sections, or behind them, lies in none.
+-- What stands before the sections, or after them, lies in none.
 use Rattle.std.proofs.Common.{◌≡◌, ℕ, ◌+◌, ◌<◌, ◌≤◌, List, ◌∷◌, ◌++◌, length, subst, arith}
 use Rattle.std.specs.List.{flat_map}
 use Rattle.eve_grammar.specs.Trace.{Customer, Batch, Vote, Sent, Trace}
@@ -15,7 +15,7 @@ use Rattle.eve_audit.proofs.Sections.{LiesIn}
 use Rattle.eve_audit.proofs.Where.{Between, at_place, all_located, frame_has_text}
 use Rattle.eve_audit.proofs.Within.{fewer}
 
--- before the first section, or behind the last
+-- before the first section, or after the last
 pub data IsOutside (t : Trace) (at : ℕ) : Type 0 where
   early : at < sections_start t → IsOutside t at
   late : verifiers_start t ≤ at → IsOutside t at

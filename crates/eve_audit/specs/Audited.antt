@@ -27,7 +27,7 @@ pub record IsAudited (t : Trace) : Type 0 where
   -- replicas that committed a batch have the same bank after it, and the same replies by request index
   pub agree : (e f n : ℕ) (p q : Placed) → committed_at t e n ≡ Some p → committed_at t f n ≡ Some q
       → (bank_after t e n ≡ bank_after t f n) × (p.attempt.replies ≡ q.attempt.replies)
-  -- behind each rollback a replica works on what is committed
+  -- after each rollback a replica works on what is committed
   pub restored : (e k : ℕ) → IsRestored t e k
   -- no request took effect twice
   pub once : (e : ℕ) → AreDistinct (committed_request_ids t e)

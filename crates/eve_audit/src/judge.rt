@@ -120,7 +120,7 @@ fn verdict_on<'a, R: Threads + Sync>(
 /// first fault stands within the bytes, or at their end, and names the replica in whose section it lies, if it lies in
 /// one.
 ///
-/// docs/MODEL.md, "Verdict" and "The audit theorem". Nothing recorded is trusted. Want of memory decides nothing. The
+/// docs/MODEL.md, "Verdict" and "The audit theorem". Nothing recorded is trusted. Refused memory decides nothing. The
 /// time is linear in the trace, but for the tokens, which hash all balances once a batch. It waits for nobody.
 pub fn audit_one<R: Threads + Sync>(
     rt: &R,

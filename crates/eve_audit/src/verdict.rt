@@ -27,6 +27,6 @@ pub enum Verdict {
 /// Why an audit answers nothing.
 #[derive(Clone, Copy, Debug, PartialEq, Eq)]
 pub enum AuditFault {
-    /// Want of memory, which decides nothing.
+    /// Memory was refused, which decides nothing.
     Memory,
 }

@@ -15,7 +15,7 @@ use Rattle.eve_chains.specs.Committed.{batch_request_ids, AreDistinct}
 use Rattle.eve_chains.proofs.Distinct.{Distinct, in_cons, in_left, in_right}
 use Rattle.eve_chains.proofs.Once.{place_in, distinct_pairs}
 
--- ---- each is new behind those before
+-- ---- each is new after those before
 
 abbrev Fresh : List RequestId → List RequestId → Type 0
 Fresh before [] = ⊤

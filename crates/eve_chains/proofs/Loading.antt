@@ -80,7 +80,7 @@ at_front : (earlier : List (ℕ × Attempt)) (p : Placed) (more : List (ℕ × A
 at_front [] p more = refl
 at_front (x ∷ earlier) p more = at_front earlier p more
 
--- the first of those behind the earlier ones
+-- the first of those after the earlier ones
 pub records_first : (h : SectionHistory) (earlier : List (ℕ × Attempt)) (p : Placed) (more : List (ℕ × Attempt))
     → h.attempts
     ≡ map executed_attempt (earlier ++ placed_at p ∷ more) → records_of h (length earlier) ≡ own p
@@ -181,7 +181,7 @@ within_section t e limits =
     within_steps (row_count (head_of t)) (section_start t e + length (frame_text (OfReplica e))) (steps_of t e)
     (each_section (row_count (head_of t)) t.sections e limits.sections)
 
--- those that stand behind the earlier ones
+-- those that stand after the earlier ones
 pub within_behind : (rows : ℕ) (earlier : List (ℕ × Attempt)) (ps : List Placed) (more : List (ℕ × Attempt))
     → AllByRecursion (IsWithin rows) (earlier ++ (map placed_at ps ++ more))
     → AllByRecursion (λ p. IsWithin rows (placed_at p)) ps

@@ -273,7 +273,7 @@ order_front (x ∷ xs) ys order = (front xs order.0, order_front xs ys order.1)
 
 -- ---- an attempt among those told
 
--- what is known of the one behind these
+-- what is known of the one after these
 pub counting_at : (done before : List Fated) (x : Fated) (after : List Fated) → AreCounting done (before ++ x ∷ after)
     → AreCounting (done ++ before) (x ∷ after)
 counting_at done [] x after known = subst (λ ys. AreCounting ys (x ∷ after)) (sym (append-nil done)) known
@@ -339,7 +339,7 @@ module _ (t : Trace) (e : ℕ) (limits : HasLimits t) (right : IsRightSection t 
             (subst (In y) (sym is) (in_left before (x ∷ after) (from_filter (counts_in (view_of x)) before j)))
             (all_in (λ z. settles z ≡ true) settle j)) i
 
-    -- what the row's walk meets behind the attempts before it and some of its own records
+    -- what the row's walk meets after the attempts before it and some of its own records
     pub meets_visible : (xs : List (ℕ × Access)) (row : ℕ) (n : Noted) → n.view ≡ view_of x
         → met_by (pair_after (opening_table t row)
         (of_row row (all_noted before ++ flat_map (noted_by (view_of x) (is_committed x.fate)) xs))) n

@@ -100,7 +100,7 @@ in_order rs order z permutes i =
 abbrev request_ids_from : Trace → ℕ → List RequestId
 request_ids_from t n = flat_map (λ b. map request_id b.requests) (drop n t.batches)
 
--- the batch of the attempt that stands behind these others
+-- the batch of the attempt that stands after these others
 module _ (t : Trace) (before : List Attempt) (p : Placed) (linked : IsLinked t before p) where
   batch_is : batch_at t p.attempt.seq ≡ get_or t.batches (length before) no_batch
   batch_is = ap (λ n. get_or t.batches n no_batch) (down p.attempt.seq (length before) linked.number)

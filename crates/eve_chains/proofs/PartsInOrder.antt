@@ -82,14 +82,14 @@ part_behind from end xs ys up inside =
     ap (take (end - from)) (drop-append-le from xs ys (omega arith))
     ∙ take_front (end - from) (drop from xs) ys (omega arith)
 
--- records behind the last end change no part
+-- records after the last end change no part
 parts_behind : (from : ℕ) (xs ys : List (ℕ × Access)) (ends : List ℕ) → DoRise from ends (length xs)
     → parts from (xs ++ ys) ends ≡ parts from xs ends
 parts_behind from xs ys [] rise = refl
 parts_behind from xs ys (e ∷ ends) rise =
     λ i. part_behind from e xs ys rise.0 (rise_up e ends (length xs) rise.1) i ∷ parts_behind e xs ys ends rise.1 i
 
--- and one that ends behind them is they
+-- and one that ends after them is they
 pub parts_more : (from : ℕ) (xs ys : List (ℕ × Access)) (ends : List ℕ) → DoRise from ends (length xs)
     → parts from (xs ++ ys) (ends ++ length (xs ++ ys) ∷ []) ≡ parts from xs ends ++ ys ∷ []
 parts_more from xs ys [] rise =

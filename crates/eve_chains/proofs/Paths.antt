@@ -258,7 +258,7 @@ module _ (t : Trace) where
 
   -- ---- all of them
 
-  -- what settles is behind nothing open
+  -- what settles is after nothing open
   settles_before : (rest : List (ℕ × Step)) (m n : ℕ) → m ≤ n
       → (is_committed (fate_in rest n) || is_discarded (fate_in rest n)) ≡ true
       → (is_committed (fate_in rest m) || is_discarded (fate_in rest m)) ≡ true

@@ -235,7 +235,7 @@ module _ (t : Trace) (h : SectionHistory) (limits : HasLimits t) (tells : h ≡ 
   abbrev e : ℕ
   e = h.replica
 
-  -- what is known of the attempts that come behind the settled ones
+  -- what is known of the attempts that come after the settled ones
   attempts_there : (rest : List (ℕ × Step)) (w : Walk) (known : HasWalked t e rest w) → h.attempts
       ≡ map executed_attempt (known.earlier ++ (map placed_at known.state.pending ++ attempts_among rest))
   attempts_there rest w known = told t h tells ∙ ap (map executed_attempt) known.attempts

@@ -14,7 +14,7 @@ use Rattle.eve_chains.specs.Stretches.{IsWithin, IsJudged, Reaches, AreStretches
 use Rattle.eve_chains.specs.declared.unfit.Stretch.{Stretch}
 use Rattle.eve_chains.proofs.Least.{least_append}
 
--- ---- one behind another
+-- ---- one after another
 
 -- one more stretch
 pub reaches_more : (from mid : ℕ) (xs : List Stretch) (x : Stretch) → Reaches from mid xs → x.from ≡ mid
@@ -33,7 +33,7 @@ no_fates t n [] = refl
 no_fates t zero (r ∷ rs) = refl
 no_fates t (suc n) (r ∷ rs) = refl
 
--- of so many attempts, and of so many behind them
+-- of so many attempts, and of so many after them
 front_and_back : (t : Trace) (m n : ℕ) (rs : List ExecutedAttempt) (fates : List Fate)
     → all_records t (take (m + n) rs) (take (m + n) fates)
     ≡ all_records t (take m rs) (take m fates) ++ all_records t (take n (drop m rs)) (take n (drop m fates))

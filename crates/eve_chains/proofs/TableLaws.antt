@@ -146,7 +146,7 @@ taken_rest from table e es =
 abbrev SeesVersion : Table → Entry → Type 0
 SeesVersion table e = e.version ≡ (table e.row).version
 
--- a place further behind
+-- a place further after
 further : {A : Type 0} {P : A → Type 0} (x : A) (xs : List A) → SomePlace xs (λ _ y. P y)
     → SomePlace (x ∷ xs) (λ _ y. P y)
 further x xs p = record {

@@ -21,7 +21,7 @@ pub record Fated : Type 0 where
   pub placed : Placed
   pub fate : Fate
 
--- the attempts that come in these steps, behind this state
+-- the attempts that come in these steps, after this state
 abbrev pub to_come : SectionState → List (ℕ × Step) → List Fated
 to_come s [] = []
 to_come s ((at, Attempts a) ∷ rest) =
@@ -72,7 +72,7 @@ of_row row ns = filter (λ n. n.entry.row == row) ns
 
 -- ---- one row walked by itself
 
--- what the row has: behind the committed attempts, and with those of the view that are open
+-- what the row has: after the committed attempts, and with those of the view that are open
 pub record Pair : Type 0 where
   pub view : ℕ
   pub committed : Versioned

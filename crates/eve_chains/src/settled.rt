@@ -112,7 +112,7 @@ impl<'a> Settled<'a> {
     }
 }
 
-/// Copies the records of an attempt behind the others, in its certificate's order.
+/// Copies the records of an attempt after the others, in its certificate's order.
 fn copy_ordered<'a>(
     records: &mut Vec<AccessView<'a>>,
     history: &History<'a>,

@@ -28,12 +28,12 @@ use std::thread::Threads;
 /// How few attempts are worth a thread of their own: one has up to 256 records.
 const LEAST_ATTEMPTS: usize = 16;
 
-/// Attempts of a replica that stand behind one another, whose records are judged by themselves.
+/// Attempts of a replica that stand after one another, whose records are judged by themselves.
 #[derive(Drop)]
 struct Stretch {
     /// The place of the first of them.
     from: usize,
-    /// The place behind the last of them.
+    /// The place after the last of them.
     to: usize,
     /// Once they were judged, the least offset of their records that don't fit, where the memory was there.
     found: Result<Option<u64>, AllocError>,
@@ -44,7 +44,7 @@ struct Stretch {
 ///
 /// docs/MODEL.md, "A record fits its request" and "Faults". The attempts are cut into up to so many stretches as there
 /// are jobs, from 1 on, and judged in as many threads; of one job none is started. What is kept of an attempt is the
-/// requests of its batch. What is found doesn't rest on which ends first. Want of memory decides nothing.
+/// requests of its batch. What is found doesn't rest on which ends first. Refused memory decides nothing.
 pub fn records<R: Threads + Sync>(
     rt: &R,
     alloc: Global,

@@ -21,7 +21,7 @@ use std::alloc::{AllocError, Global};
 /// Where a walk has come to.
 #[derive(Drop)]
 pub struct Walk<'a> {
-    /// What each row has behind the committed attempts.
+    /// What each row has after the committed attempts.
     pub committed: Table,
     /// Where it stands apart, the same, except while the attempts are judged that a rollback discards.
     pub working: Table,
@@ -99,7 +99,7 @@ impl<'a> Walk<'a> {
         Ok(())
     }
 
-    /// Gives the rows that the open attempts write what they have behind the committed ones.
+    /// Gives the rows that the open attempts write what they have after the committed ones.
     fn undo(&mut self, history: &History<'a>) -> Result<(), AllocError>
         requires open { self.old.settled ≤ self.old.come }
         requires come { self.old.come ≤ length history.now.attempts }
@@ -154,7 +154,7 @@ impl<'a> Walk<'a> {
 /// chains, by offset and then by number.
 ///
 /// docs/MODEL.md, "What an entry must see" and "Faults". One walk along the section; a discarded attempt's writes are
-/// taken back row by row. Want of memory decides nothing.
+/// taken back row by row. Refused memory decides nothing.
 pub fn chains<'a>(alloc: Global, history: &History<'a>, trace: &Trace<'a>) -> Result<(), CheckFault>
     requires history { history.now ≡ section_history trace.now history.now.replica }
     requires right { IsRightSection trace.now history.now.replica }

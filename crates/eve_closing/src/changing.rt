@@ -15,17 +15,17 @@ pub enum Change {
     OnceMore,
     /// The last record is of the first record's request, and has its index.
     Twice,
-    /// The last record has the index behind the last request.
+    /// The last record has the index after the last request.
     IndexPast,
     /// The last record is of the first record's request, and has its own index.
     OtherRequest,
-    /// The last record is of the worker behind the last.
+    /// The last record is of the worker after the last.
     WorkerPast,
     /// The last record is the first of worker 1.
     SecondWorker,
-    /// The last record has the place behind its own.
+    /// The last record has the place after its own.
     PlaceSkipped,
-    /// The entry at this place of the last record sees the version behind its own.
+    /// The entry at this place of the last record sees the version after its own.
     OtherVersion(usize),
     /// The entry at this place of the last record sees one cent more.
     OtherValue(usize),

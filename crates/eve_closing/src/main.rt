@@ -4,7 +4,7 @@
 //! What the access frames of an attempt say becomes records again, at ticks in the order of the certificate. The ledger
 //! closes them, commits and rolls back as the steps say, and what it answers is compared, byte by byte, with the frames
 //! of the trace. With a change the records of a section's first attempt are handed in with that change; where they are
-//! refused, the ledger is compared with what it was, and then they are handed in as they are. Behind the steps the last
+//! refused, the ledger is compared with what it was, and then they are handed in as they are. After the steps the last
 //! batch is committed once more, and all is rolled back.
 #![tactic(auto)]
 
@@ -32,7 +32,7 @@ fn file_of(rt: &HostRuntime, name: &str, ending: &str) -> io::Result<Vec<u8>> {
     fs::read(rt, path.as_str())
 }
 
-/// The changes that a line asks for, behind the trace, the workload and the mixer.
+/// The changes that a line asks for, after the trace, the workload and the mixer.
 fn changes_of(alloc: Global, line: &str) -> Result<Vec<Change>, AllocError> {
     let mut changes = Vec::new(alloc);
     for word in line.split(' ').skip(3) {

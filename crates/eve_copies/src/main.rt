@@ -23,7 +23,7 @@ fn memory(alloc: Global) -> SinkOf<Vec<u8>> {
     SinkOf::new(Vec::new(alloc))
 }
 
-/// Whether the parts are written as these bytes, behind a buffer too, and only within the limit.
+/// Whether the parts are written as these bytes, after a buffer too, and only within the limit.
 fn is_written(alloc: Global, parts: &Parts, bytes: &[u8]) -> io::Result<bool> {
     let mut out = memory(alloc);
     let written = gather(parts, LONGEST, &mut out);

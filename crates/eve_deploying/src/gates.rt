@@ -76,7 +76,7 @@ const KNOT: u64 = 5;
 /// all the rest.
 ///
 /// Attempts come one after another, so that they are told apart by counting entries: the first seven have a turn each,
-/// and those behind them aren't held.
+/// and those after them aren't held.
 #[derive(Drop)]
 pub struct KnotGate {
     turns: [Turn; 7],

@@ -118,7 +118,7 @@ fn attempt_gives<R: Threads + Wait + Sync>(
     Ok(trace.as_slice() == wanted)
 }
 
-// Whether a rollback behind the first batch restores nothing.
+// Whether a rollback after the first batch restores nothing.
 fn restores_nothing(alloc: Global, replica: &mut Replica) -> io::Result<bool> {
     let rollback = roll_back(alloc, replica)?;
     Ok(rollback.restores.is_empty() && rollback.to == 1)
@@ -204,7 +204,7 @@ fn records_made(
     Ok(misses)
 }
 
-// Whether the records were refused, and not for want of memory.
+// Whether the records were refused, and not for lack of memory.
 fn is_mismatch(answer: Result<AttemptData, CloseFault>) -> io::Result<bool> {
     match answer {
         Err(CloseFault::Memory) => Err(AllocError.into()),
@@ -280,7 +280,7 @@ fn one_row_back(alloc: Global, replica: &mut Replica) -> io::Result<Misses> {
     Ok(misses)
 }
 
-// The attempt behind a rollback, of the batch with this number: it sees the opening rows again.
+// The attempt after a rollback, of the batch with this number: it sees the opening rows again.
 fn serial_again<R: Threads + Wait + Sync>(
     rt: &R,
     alloc: Global,

@@ -21,7 +21,7 @@ use std::io;
 use std::sync::Wait;
 use std::thread::Threads;
 
-/// Why a case can't go on, where it isn't for want of memory.
+/// Why a case can't go on, where it isn't for lack of memory.
 pub fn stopped() -> io::Error {
     io::Error::other("the case can't go on")
 }

@@ -1,4 +1,4 @@
--- Values of one length that stand one behind the other.
+-- Values of one length that stand one after the other.
 use Rattle.std.proofs.Common.{◌≡◌, ℕ, zero, suc, ◌+◌, ◌-◌, ◌*◌, ◌<◌, ◌≤◌, false, List, [], ◌∷◌, length, get_or, take}
 use Rattle.std.proofs.Common.{drop, Option, Some, None, is_some, refl, sym, ap, subst, ◌∙◌, arith}
 use Rattle.std.specs.Prelude.{IsTrue, slice_get}
@@ -40,7 +40,7 @@ many_takes {A = A} m one fixed (suc n) bytes x e =
 pub Takes-many : {A : Type 0} (m : ℕ) (one : Reader A) → Takes m one → (n : ℕ) → Takes (m * n) (many_at one n)
 Takes-many m one fixed n = record { by = many_takes m one fixed n }
 
--- the i-th value stands behind the i before it
+-- the i-th value stands after the i before it
 item : {A : Type 0} (m : ℕ) (one : Reader A) → Takes m one → (n i : ℕ) (bytes : List ℕ) (x : List A × List ℕ)
     (other : A) → many_at one n bytes ≡ Some x → i < n
     → (rest : List ℕ) × (one (drop (m * i) bytes) ≡ Some (get_or x.0 i other, rest))
@@ -150,7 +150,7 @@ pub stand_passes : {A : Type 0} (m n at : ℕ) (one : Reader A) (bytes : List �
 stand_passes m n at one bytes xs stand k place same where_is =
     passes_from one n place k at bytes stand.rest xs stand.read same where_is
 
--- the first of them, and those behind it
+-- the first of them, and those after it
 pub record Steps {A : Type 0} (one : Reader A) (n : ℕ) (bytes : List ℕ) (x : A) (rest : List ℕ) : Type 0 where
   pub there : IsTrue (are_there one (n - 1) rest)
   pub list : list_in one n bytes ≡ x ∷ list_in one (n - 1) rest
@@ -215,7 +215,7 @@ goes_on can always s t x y e = record {
   rests = λ _. tt;
 }
 
--- what is left behind values that were passed over
+-- what is left after values that were passed over
 skipped : {A B : Type 0} (view : A → B) (xs : List A) (s t u : List B) (x : A)
     → Yields (YieldsFirstBy view (λ rest. rest)) s xs t → t ≡ view x ∷ u → slice_get s (length xs) ≡ Some (view x)
 skipped view [] s t u x e f = ap (λ l. slice_get l 0) (e ∙ f)

@@ -38,7 +38,7 @@ guard_none false o y e = (refl, e)
 pub record Takes {A : Type 0} (m : ℕ) (one : Reader A) : Type 0 where
   pub by : (bytes : List ℕ) (x : A × List ℕ) → one bytes ≡ Some x → (m ≤ length bytes) × (x.1 ≡ drop m bytes)
 
--- a number, and what stands behind it
+-- a number, and what stands after it
 pub number_some : (n : ℕ) (bytes : List ℕ) (x : ℕ × List ℕ) → number_at n bytes ≡ Some x → (n ≤ length bytes)
     × (x.0 ≡ big_number n bytes) × (x.1 ≡ drop n bytes)
 number_some n bytes x e =
@@ -91,7 +91,7 @@ only_some {A = A} test one bytes x e =
     let same = some_is a.0 x g.1 in
     (a.1 ∙ g.1, ap (λ (y : A × List ℕ). test y.0) (sym same) ∙ g.0)
 
--- the whole is read, and nothing stands behind it
+-- the whole is read, and nothing stands after it
 pub whole_some : {A : Type 0} (one : Reader A) (bytes : List ℕ) (x : A) → whole one bytes ≡ Some x → (rest : List ℕ)
     × (one bytes ≡ Some (x, rest)) × (length rest ≡ 0)
 whole_some {A = A} one bytes x e =

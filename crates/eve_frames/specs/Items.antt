@@ -1,4 +1,4 @@
--- What stands in front of bytes, one behind the other.
+-- What stands in front of bytes, one after the other.
 use Rattle.std.specs.Prelude.{ℕ, Bool, List, is_some}
 use Rattle.eve_grammar.specs.Reading.{Reader, many_at}
 

@@ -1,4 +1,4 @@
--- What frames say, by their bytes: a body of the kind stands behind the five bytes of the head.
+-- What frames say, by their bytes: a body of the kind stands after the five bytes of the head.
 use Rattle.std.specs.Prelude.{ℕ, pos, Bool, false, IsTrue, ◌≡◌, List, [], drop, is_some, unwrap_or, ◌<◌, get_or}
 use Rattle.eve_smallbank.specs.declared.request.Reply.TheVariants.{Done}
 use Rattle.eve_grammar.specs.Trace.{Customer, Batch, Attempt, Access, Commit, Rollback, ForRollback, Vote, Sent}
@@ -6,7 +6,7 @@ use Rattle.eve_grammar.specs.declared.limits.TheConstants.{MOST_ROWS, MOST_REPLI
 use Rattle.eve_grammar.specs.Reading.{customer_of, batch_of, attempt_of, access_of, commit_of, rollback_of, vote_of}
 use Rattle.eve_grammar.specs.Reading.{sent_of}
 
--- behind a frame's kind and length
+-- after a frame's kind and length
 abbrev pub body_in : List ℕ → List ℕ
 body_in bytes = drop 5 bytes
 

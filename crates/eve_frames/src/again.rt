@@ -10,7 +10,7 @@ use eve_accounts::Amount;
 use eve_grammar::{Asked, u8_at, u32_at, u64_at};
 use eve_smallbank::Request;
 
-/// The name that stands in front, and the bytes behind it.
+/// The name that stands in front, and the bytes after it.
 #[inline(always)]
 #[tactic(auto, unfolding(eve_grammar::specs::Reading::name_at))]
 fn name_again(bytes: &[u8]) -> (&[u8], &[u8])
@@ -23,7 +23,7 @@ fn name_again(bytes: &[u8]) -> (&[u8], &[u8])
     rest.split_at(len as usize)
 }
 
-/// The name and the amount that stand in front, and the bytes behind them.
+/// The name and the amount that stand in front, and the bytes after them.
 #[inline(always)]
 #[tactic(auto, unfolding(eve_grammar::specs::Reading::move_at, eve_grammar::specs::Reading::amount_at))]
 fn move_again(bytes: &[u8]) -> ((&[u8], Amount), &[u8])
@@ -37,7 +37,7 @@ fn move_again(bytes: &[u8]) -> ((&[u8], Amount), &[u8])
     }
 }
 
-/// What stands behind the code of a request.
+/// What stands after the code of a request.
 #[inline(always)]
 #[tactic(auto, unfolding(eve_grammar::specs::Reading::coded_at))]
 fn coded_again(code: u8, bytes: &[u8]) -> (Request<'_>, &[u8])
@@ -70,7 +70,7 @@ fn coded_again(code: u8, bytes: &[u8]) -> (Request<'_>, &[u8])
     }
 }
 
-/// The request that stands in front, with who sent it, and the bytes behind it.
+/// The request that stands in front, with who sent it, and the bytes after it.
 #[inline(always)]
 #[tactic(auto, unfolding(eve_grammar::specs::Reading::asked_at, eve_grammar::specs::Reading::request_at))]
 pub(crate) fn asked_again(bytes: &[u8]) -> (Asked<'_>, &[u8])

@@ -23,7 +23,7 @@ fn replies_of(frame: &[u8], count: usize) -> &[u8]
     &frame[at..at + 9 * count]
 }
 
-/// An Attempt frame, where it stands. Its accesses have frames of their own behind it.
+/// An Attempt frame, where it stands. Its accesses have frames of their own after it.
 ///
 /// docs/TRACE.md, "Frames".
 #[derive(Clone, Copy, Debug)]

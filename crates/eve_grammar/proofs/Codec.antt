@@ -94,7 +94,7 @@ pub Codec-both : {A B : Type 0} (ta : A → List ℕ) (fa : A → Bool) (ra : Re
     (both_by ra (λ a. rb))
 Codec-both ta fa ra tb fb rb one two = Codec-both_by ta fa ra tb (λ a. fb) (λ a. rb) one (λ a. two)
 
--- a field that is known from the one behind it
+-- a field that is known from the one after it
 pub Codec-led_by : {A B : Type 0} (ta : A → List ℕ) (fa : A → Bool) (ra : Reader A) (tb : B → List ℕ)
     (fb : A → B → Bool) (rb : A → Reader B) (key : B → A)
     → ((a : A) (b : B) → IsTrue (fb a b) → key b ≡ a) → Codec ta fa ra → ((a : A) → Codec tb (fb a) (rb a))

@@ -23,7 +23,7 @@ occurrences-append i (x ∷ xs) ys = by (x == i) (occurrences-append i xs ys)
     by true e = omega arith
     by false e = e
 
--- a number that stands behind one that is the same
+-- a number that stands after one that is the same
 pub twice : (i : ℕ) (xs : List ℕ) (k : ℕ) → k < length xs → get_or xs k 0 ≡ i → 0 < occurrences i (take k xs)
     → 1 < occurrences i xs
 twice i xs k within here before =

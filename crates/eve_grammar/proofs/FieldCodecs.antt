@@ -251,7 +251,7 @@ pub Codec-move : Codec move_text is_move move_at
 unfolding move_at
 Codec-move = Codec-both name_text is_name name_at money_text is_amount amount_at Codec-name Codec-amount
 
--- ---- a field behind a number that is always the same
+-- ---- a field after a number that is always the same
 
 pub Codec-behind : {A : Type 0} (n number : ℕ) (ta : A → List ℕ) (fa : A → Bool) (ra : Reader A)
     → Codec (big_bytes n) (is_number n) (number_at n) → IsTrue (is_number n number) → Codec ta fa ra

@@ -294,7 +294,7 @@ replica_room h p e = ltb-true p.replicas h.replicas
     by false false false false false u r false true e = absurd cc
     by false false false false false u r false false e = absurd cc
 
--- so may a verifier's frame, also behind the last replica
+-- so may a verifier's frame, also after the last replica
 verifier_room : (h : Head) (p : Place) → is_allowed h p 32 ≡ true → (p.verifiers ≡ 0) ⊎ (p.verifiers < h.verifiers)
 verifier_room h p e =
     elim (by p.ended (ltb p.customers h.customers) (ltb p.batches h.batches) (ltb 0 p.accesses) (eqb p.verifiers 0)

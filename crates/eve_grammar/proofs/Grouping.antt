@@ -119,7 +119,7 @@ sum_more (x ∷ sizes) (suc g) size e =
     let end = sum-cons x (take (suc g) sizes) in
     omega (arith, sum_more sizes g size e)
 
--- so many indexes have their parallelBatch in the table; the next lies in this one, which ends here, or behind it
+-- so many indexes have their parallelBatch in the table; the next lies in this one, which ends here, or after it
 pub record Grouping (sizes : List ℕ) (index group end : ℕ) (table : List ℕ) : Type 0 where
   pub within : group < length sizes
   pub from : sum (take group sizes) ≤ index

@@ -8,7 +8,7 @@ use Rattle.eve_grammar.specs.Trace.{Head}
 use Rattle.eve_grammar.specs.Spelling.{head_text}
 use Rattle.eve_grammar.proofs.FrameLaws.{limits_text, head_text_parts}
 
--- a header, and the bytes behind it
+-- a header, and the bytes after it
 abbrev pub in_parts : Head → ℕ → List ℕ → List ℕ
 in_parts h total rest = codes "EVESBK" ++ (limits_text h ++ (big_bytes 8 total ++ rest))
 

@@ -91,7 +91,7 @@ same_frames h p (f ∷ fs) (g ∷ gs) right one other one_ends other_ends e =
 
 -- ---- the header
 
--- a header in three parts, and what stands behind it
+-- a header in three parts, and what stands after it
 same_head : (h k : Head) (n m : ℕ) (rest more : List ℕ) → IsTrue (is_head h) → IsTrue (is_head k) → in_parts h n rest
     ≡ in_parts k m more → h ≡ k
 same_head h k n m rest more h_right k_right e =

@@ -41,7 +41,7 @@ code_of (TransactSaving n v) = 3
 code_of (Amalgamate n m) = 4
 code_of (WriteCheck n v) = 5
 
--- what stands behind the code
+-- what stands after the code
 abbrev coded_text : Request → List ℕ
 coded_text (Balance n) = name_text n
 coded_text (DepositChecking n v) = name_text n ++ money_text v

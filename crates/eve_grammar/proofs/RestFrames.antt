@@ -25,7 +25,7 @@ frames_from p g =
     (map OfVote g.votes ++ (flat_map verifier_frames (enumerate_from p.verifiers g.verifiers)
     ++ (map OfSent g.sent ++ End ∷ [])))))))
 
--- customers and batches are behind
+-- customers and batches are past
 record IsLate (g : Gathered) : Type 0 where
   customers : g.customers ≡ []
   batches : g.batches ≡ []

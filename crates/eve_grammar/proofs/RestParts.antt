@@ -32,7 +32,7 @@ counted_more (OfAccess x) h p g some t n = let here = of_access h p t in (n.0, n
 counted_more (OfVerifier number) h p g some t n = let here = of_verifier h p some t in (n.0, n.1, n.2, n.3, omega arith)
 counted_more _ h p g some t n = n
 
--- ---- no replica comes behind the first verifier
+-- ---- no replica comes after the first verifier
 
 abbrev pub HasAllReplicas : Head → Place → Type 0
 HasAllReplicas h p = 0 < p.verifiers → h.replicas ≤ p.replicas
@@ -53,7 +53,7 @@ all_replicas_more _ h p some t all = all
 
 -- ---- what belongs to no frame from here on
 
--- steps before the first replica or behind the first verifier, votes before this or behind a reply sent: none
+-- steps before the first replica or after the first verifier, votes before this or after a reply sent: none
 abbrev pub IsOwned : Place → Gathered → Type 0
 IsOwned p g = (p.replicas ≡ 0 → g.steps ≡ []) × (0 < p.verifiers → g.steps ≡ []) × (p.verifiers ≡ 0 → g.votes ≡ [])
     × (p.sending ≡ true → g.votes ≡ [])

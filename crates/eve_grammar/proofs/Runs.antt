@@ -46,11 +46,11 @@ place c b r x v = record {
   ended = false;
 }
 
--- behind the customers and batches, in the sections
+-- after the customers and batches, in the sections
 abbrev in_section : Head → ℕ → ℕ → Place
 in_section h r x = place h.customers h.batches r x 0
 
--- behind the sections
+-- after the sections
 abbrev behind_sections : Head → ℕ → Bool → Place
 behind_sections h v sending =
     record {

@@ -34,7 +34,7 @@ rest_is {A = A} one (suc n) bytes = first (one bytes) (rest_is one n)
     first None before = refl
     first (Some x) before = before x.1 ∙ tail x.0 (many_at one n x.1)
 
--- what was read where something stands behind
+-- what was read where something stands after
 pub rest_some : {A : Type 0} (one : Reader A) (n : ℕ) (bytes rest : List ℕ) → rest_at one n bytes ≡ Some rest
     → (xs : List A) × (many_at one n bytes ≡ Some (xs, rest))
 rest_some {A = A} one n bytes rest e = by (many_at one n bytes) (sym (rest_is one n bytes) ∙ e)
@@ -197,7 +197,7 @@ rising-cons least r restores =
     (and_from (leb least r.row) (list_all (λ q. leb least q.row) restores) p.0
     (above_more least (suc r.row) restores (omega arith) q.0)) s)
 
--- what stands behind, if the restores rise
+-- what stands after, if the restores rise
 abbrev pub risen : ℕ → Option (List Restore × List ℕ) → Option (List ℕ)
 risen least m = m >>= λ x. cond (is_rising_from least x.0) (Some x.1) None
 

@@ -22,7 +22,7 @@ use Rattle.eve_grammar.proofs.PartCodecs.{Codec-entry_fields, is_restored, resto
 use Rattle.eve_grammar.proofs.Scans.{rest_some, rest_none, many_length, many_only, many_in_place, many_numbers, summed}
 use Rattle.eve_grammar.proofs.Scans.{total_is, risen, rising_is, is_rising_from, rising_from_zero}
 
--- what stands behind a number
+-- what stands after a number
 number_rest : (n k : ℕ) (bytes rest : List ℕ) → IsBytes bytes → number_at n bytes ≡ Some (k, rest) → IsBytes rest
 number_rest n k bytes rest fits e =
     let there : ℕ × List ℕ = (big_number n bytes, drop n bytes) in

@@ -28,7 +28,7 @@ or_second : (x y : Bool) → x ≡ false → IsTrue (x || y) → IsTrue y
 or_second true y e t = absurd (both_ways true e refl)
 or_second false y e t = t
 
--- what the tests in the sections, behind them, and in either come to for a kind that stands elsewhere
+-- what the tests in the sections, after them, and in either come to for a kind that stands elsewhere
 sections_none : (q : Bool) → ((q && false) || false) ≡ false
 sections_none true = refl
 sections_none false = refl
@@ -63,7 +63,7 @@ of_batch h p t =
           (if_first (nat_lt p.batches h.batches) true _ none customers.1).0,
     )
 
--- ---- behind the customers and batches
+-- ---- after the customers and batches
 
 pub record IsBehind (h : Head) (p : Place) : Type 0 where
   pub customers : h.customers ≤ p.customers
@@ -93,7 +93,7 @@ of_access h p t =
           (late_none (p.verifiers == 0) (nat_lt 0 p.replicas) p.sending (p.verifiers == h.verifiers)) b.1).0,
     )
 
--- ---- and behind the accesses of the last attempt
+-- ---- and after the accesses of the last attempt
 
 pub record IsSettled (h : Head) (p : Place) : Type 0 where
   pub behind : IsBehind h p
@@ -144,7 +144,7 @@ of_commit h p t = in_section h p (settled h p 19 refl refl refl t)
 pub of_rollback : (h : Head) (p : Place) → IsTrue (is_allowed h p 20) → InSection h p
 of_rollback h p t = in_section h p (settled h p 20 refl refl refl t)
 
--- ---- verifiers: the first behind the last replica, the others behind votes
+-- ---- verifiers: the first after the last replica, the others after votes
 
 verifier_first : (h : Head) (p : Place) → 0 < h.verifiers → p.verifiers ≡ 0 → IsTrue (is_allowed_in_sections h p 32)
     → (p.verifiers < h.verifiers) × (p.verifiers ≡ 0 → h.replicas ≤ p.replicas)
@@ -173,7 +173,7 @@ of_verifier h p some t =
     let v = verifier_at h p (p.verifiers == 0) refl some s.1 in
     (s.0, v.0, v.1)
 
--- ---- behind the sections
+-- ---- after the sections
 
 pub record InVotes (h : Head) (p : Place) : Type 0 where
   pub settled : IsSettled h p
@@ -210,7 +210,7 @@ of_sent h p t = all_verifiers h p (settled h p 48 refl refl refl t)
 pub of_end : (h : Head) (p : Place) → IsTrue (is_allowed h p 127) → InVotes h p × (p.verifiers ≡ h.verifiers)
 of_end h p t = all_verifiers h p (settled h p 127 refl refl refl t)
 
--- ---- behind the end
+-- ---- after the end
 
 -- where frames may stand the end has not come
 pub not_ended : (h : Head) (p : Place) (kind : ℕ) → IsTrue (is_allowed h p kind) → p.ended ≡ false

@@ -241,7 +241,7 @@ head_if bytes = cond (is_head (head_in bytes)) (Some (head_in bytes)) None
 abbrev pub header_in : List ℕ → Option Head
 header_in bytes = cond (eqb (number_in 2 0 bytes) 1) (cond (eqb (number_in 3 7 bytes) 0) (head_if bytes) None) None
 
--- a byte and what is read behind it
+-- a byte and what is read after it
 byte_then : {A : Type 0} (two : Reader A) (k : ℕ) (bytes rest : List ℕ) (a : A) → k + 1 ≤ length bytes
     → two (drop (k + 1) bytes) ≡ Some (a, rest) → both (number_at 1) two (drop k bytes)
     ≡ Some ((get_or bytes k 0, a), rest)

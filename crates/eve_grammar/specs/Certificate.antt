@@ -22,7 +22,7 @@ abbrev pub group_of : List ℕ → ℕ → ℕ
 group_of [] index = 0
 group_of (size ∷ sizes) index = if nat_lt index size then 0 else suc (group_of sizes (index - size))
 
--- no index stands behind one of a later parallelBatch
+-- no index stands after one of a later parallelBatch
 abbrev pub is_grouped : List ℕ → List ℕ → Bool
 is_grouped sizes [] = true
 is_grouped sizes (i ∷ order) =

@@ -9,7 +9,7 @@ abbrev pub Follow : Head → Place → List Frame → Type 0
 Follow h p [] = Unit {0}
 Follow h p (f ∷ fs) = FitsAt h p f × Follow h (next p f) fs
 
--- the place behind frames
+-- the place after frames
 abbrev pub after : Place → List Frame → Place
 after p [] = p
 after p (f ∷ fs) = after (next p f) fs

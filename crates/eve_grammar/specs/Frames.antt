@@ -6,7 +6,7 @@ use Rattle.eve_grammar.specs.Trace.{Customer, Batch, Access, Attempt, Commit, Ro
 use Rattle.eve_grammar.specs.Trace.{RollsBack, Vote, Sent, Trace, Head}
 
 -- A frame with what it says. Batches, replicas and verifiers say their own number; an attempt's frame
--- says nothing of its accesses, which have frames of their own behind it.
+-- says nothing of its accesses, which have frames of their own after it.
 pub data Frame : Type 0 where
   OfCustomer : Customer → Frame
   OfBatch : (number : ℕ) → Batch → Frame
@@ -91,7 +91,7 @@ pub record Place : Type 0 where
 abbrev pub start : Place
 start = record { customers = 0; batches = 0; replicas = 0; accesses = 0; verifiers = 0; sending = false; ended = false }
 
--- behind a frame; commits, rollbacks and votes count nothing
+-- after a frame; commits, rollbacks and votes count nothing
 abbrev pub next : Place → Frame → Place
 next p (OfCustomer c) = record p { customers = p.customers + 1 }
 next p (OfBatch n b) = record p { batches = p.batches + 1 }
@@ -103,14 +103,14 @@ next p (OfSent s) = record p { sending = true }
 next p End = record p { ended = true }
 next p _ = p
 
--- in the sections: the next replica, a step of this one, or behind the last replica the first verifier
+-- in the sections: the next replica, a step of this one, or after the last replica the first verifier
 abbrev pub is_allowed_in_sections : Head → Place → ℕ → Bool
 is_allowed_in_sections h p kind =
     ((kind == 16) && nat_lt p.replicas h.replicas)
     || ((nat_lt 0 p.replicas && ((kind == 17) || ((kind == 19) || (kind == 20))))
     || ((kind == 32) && (p.replicas == h.replicas)))
 
--- behind them: the next verifier, a vote of this one, or behind the last verifier a reply sent or the end
+-- after them: the next verifier, a vote of this one, or after the last verifier a reply sent or the end
 abbrev pub is_allowed_behind_sections : Head → Place → ℕ → Bool
 is_allowed_behind_sections h p kind =
     (not p.sending && (((kind == 32) && nat_lt p.verifiers h.verifiers) || (kind == 33)))

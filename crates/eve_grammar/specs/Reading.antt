@@ -1,4 +1,4 @@
--- Reading from left to right. A field is a value and the bytes behind it.
+-- Reading from left to right. A field is a value and the bytes after it.
 use Rattle.std.specs.Prelude.{◌≡◌, ℕ, ℤ, pos, zero, suc, ◌+◌, Bool, true, false, ◌&&◌, nat_le, nat_lt, ◌==◌}
 use Rattle.std.specs.Prelude.{if◌then◌else◌, List, [], ◌∷◌, length, take, drop, sum, Option, Some, None}
 use Rattle.std.specs.Int.{w64, cast_signed}
@@ -24,7 +24,7 @@ use Rattle.eve_grammar.specs.Limits.{is_between, is_entry, is_restore, is_rising
 -- ---- how readers are put together
 
 infixl 10 ◌>>=◌
--- a step behind a step that found something
+-- a step after a step that found something
 abbrev pub ◌>>=◌ : {A B : Type 0} → Option A → (A → Option B) → Option B
 (Some x) >>= f = f x
 None >>= f = None
@@ -34,7 +34,7 @@ abbrev pub Gives : {X Y : Type 0} → (X → Y) → Option X → Option Y → Ty
 Gives view (Some x) read = read ≡ Some (view x)
 Gives view None read = read ≡ None
 
--- a value at the front of bytes, and the bytes behind it
+-- a value at the front of bytes, and the bytes after it
 abbrev pub Reader : Type 0 → Type 0
 Reader A = List ℕ → Option (A × List ℕ)
 
@@ -70,15 +70,15 @@ made_if to one bytes = one bytes >>= λ x. to x.0 >>= λ y. Some (y, x.1)
 abbrev pub only : {A : Type 0} → (A → Bool) → Reader A → Reader A
 only test one bytes = one bytes >>= λ x. if test x.0 then Some x else None
 
--- a field behind this number of n bytes
+-- a field after this number of n bytes
 abbrev pub behind : {A : Type 0} → ℕ → ℕ → Reader A → Reader A
 behind n number one bytes = number_at n bytes >>= λ x. if x.0 == number then one x.1 else None
 
--- a field, and nothing behind it
+-- a field, and nothing after it
 abbrev pub whole : {A : Type 0} → Reader A → List ℕ → Option A
 whole one bytes = one bytes >>= λ x. if length x.1 == 0 then Some x.0 else None
 
--- this many of a field, one behind the other
+-- this many of a field, one after the other
 unfoldable pub many_at : {A : Type 0} → Reader A → ℕ → Reader (List A)
 many_at one zero bytes = Some ([], bytes)
 many_at one (suc n) bytes = one bytes >>= λ x. many_at one n x.1 >>= λ y. Some (x.0 ∷ y.0, y.1)
@@ -115,7 +115,7 @@ token_at = bytes_at 32
 unfoldable pub move_at : Reader (List ℕ × ℤ)
 move_at = both name_at amount_at
 
--- what stands behind a request's code
+-- what stands after a request's code
 unfoldable pub coded_at : ℕ → Reader Request
 coded_at code bytes =
     if code == 1 then made Balance name_at bytes
@@ -125,7 +125,7 @@ coded_at code bytes =
     else if code == 5 then made (λ m. WriteCheck m.0 m.1) move_at bytes
     else None
 
--- a code, and what stands behind it
+-- a code, and what stands after it
 unfoldable pub request_at : Reader Request
 request_at = led_by (number_at 1) coded_at
 
@@ -202,7 +202,7 @@ customer_of = whole (made customer_from (both name_at (both saving_at balance_at
 abbrev pub are_sizes : List ℕ → Bool
 are_sizes sizes = nat_le 1 (length sizes) && (list_all (nat_le 1) sizes && nat_le (sum sizes) MOST_REQUESTS)
 
--- the sizes of parallelBatches, behind their count
+-- the sizes of parallelBatches, after their count
 unfoldable pub sizes_at : Reader (List ℕ)
 sizes_at = only are_sizes (led_by (number_at 2) (many_at (number_at 2)))
 
@@ -222,7 +222,7 @@ number_of = whole (number_at 1)
 abbrev pub serial_from : ℕ → Option Bool
 serial_from mode = if mode == 0 then Some false else if mode == 1 then Some true else None
 
--- the certificate and as many replies, behind their count
+-- the certificate and as many replies, after their count
 unfoldable pub certified_at : Reader (List ℕ × List Reply)
 certified_at = led_by (only (is_between 1 MOST_REQUESTS) (number_at 2))
     (λ count. both (many_at (number_at 2) count) (many_at reply_at count))
@@ -249,7 +249,7 @@ attempt_of = whole (made attempt_from
 abbrev pub access_from : ℕ × (ℕ × (ℕ × List Entry)) → Access
 access_from p = record { worker = p.0; place = p.1.0; index = p.1.1.0; entries = p.1.1.1 }
 
--- three entries at most, behind their count
+-- three entries at most, after their count
 unfoldable pub entries_at : ℕ → Reader (List Entry)
 entries_at rows = led_by (only (λ count. nat_le count MOST_ENTRIES) (number_at 1)) (many_at (entry_at rows))
 
@@ -266,7 +266,7 @@ commit_from p = record { seq = p.0; view = p.1.0; token = p.1.1 }
 unfoldable pub commit_of : List ℕ → Option Commit
 commit_of = whole (made commit_from (both (number_at 4) (both (number_at 4) token_at)))
 
--- restores of rising rows, behind their count
+-- restores of rising rows, after their count
 unfoldable pub restores_at : ℕ → Reader (List Restore)
 restores_at rows = only is_rising (led_by (number_at 4) (many_at (restore_at rows)))
 

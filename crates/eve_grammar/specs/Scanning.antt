@@ -8,12 +8,12 @@ total_at zero bytes = Some (0, bytes)
 total_at (suc n) bytes =
     number_at 2 bytes >>= λ x. if nat_le 1 x.0 then (total_at n x.1 >>= λ y. Some (x.0 + y.0, y.1)) else None
 
--- what stands behind this many of a field
+-- what stands after this many of a field
 unfoldable pub rest_at : {A : Type 0} → Reader A → ℕ → List ℕ → Option (List ℕ)
 rest_at one zero bytes = Some bytes
 rest_at one (suc n) bytes = one bytes >>= λ x. rest_at one n x.1
 
--- what stands behind this many restores of rising rows, the first of this row or above
+-- what stands after this many restores of rising rows, the first of this row or above
 unfoldable pub rising_at : ℕ → ℕ → ℕ → List ℕ → Option (List ℕ)
 rising_at rows least zero bytes = Some bytes
 rising_at rows least (suc n) bytes =

@@ -54,7 +54,7 @@ choice_text (ForCommit token) = 1 ∷ token
 
 -- ---- frames
 
--- what stands behind the kind and the length
+-- what stands after the kind and the length
 abbrev pub body_text : Frame → List ℕ
 body_text (OfCustomer c) = name_text c.name ++ (money_text c.saving ++ money_text c.checking)
 body_text (OfBatch number b) =
@@ -82,7 +82,7 @@ body_text End = []
 abbrev pub frame_text : Frame → List ℕ
 frame_text f = kind_of f ∷ (big_bytes 4 (length (body_text f)) ++ body_text f)
 
--- one behind the other
+-- one after the other
 abbrev pub frames_text : List Frame → List ℕ
 frames_text fs = flat_map frame_text fs
 
@@ -106,7 +106,7 @@ spelling t = head_text (head_of t) (length_of t) ++ frames_text (frames_of t)
 
 -- ---- where the parts stand
 
--- the bytes of each part: its frames, one behind the other
+-- the bytes of each part: its frames, one after the other
 abbrev pub step_text : Step → List ℕ
 step_text step = frames_text (step_frames step)
 
@@ -183,7 +183,7 @@ accesses_at at a = located (λ x. frame_text (OfAccess x)) (at + length (frame_t
 abbrev pub votes_of : Trace → ℕ → List Vote
 votes_of t v = slice_index_or t.verifiers v []
 
--- the votes of verifier v, behind the verifier's own frame
+-- the votes of verifier v, after the verifier's own frame
 unfoldable pub votes_at : Trace → ℕ → List (ℕ × Vote)
 votes_at t v =
     located (λ w. frame_text (OfVote w)) (verifier_start t v + length (frame_text (OfVerifier v))) (votes_of t v)

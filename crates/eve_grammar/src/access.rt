@@ -22,7 +22,7 @@ pub struct AccessBody<'a> {
     pub entries: &'a [u8],
 }
 
-/// What stands behind this many entries.
+/// What stands after this many entries.
 #[tactic(auto, unfolding(crate::specs::Scanning::rest_at))]
 fn behind_entries(rows: u32, count: u8, bytes: &[u8]) -> Option<&[u8]>
     requires { rows ≤ MOST_NAMED_ROWS }
@@ -38,7 +38,7 @@ fn behind_entries(rows: u32, count: u8, bytes: &[u8]) -> Option<&[u8]>
     Some(rest)
 }
 
-/// A count of `MOST_ENTRIES` at most and as many entries: their bytes, and what stands behind them.
+/// A count of `MOST_ENTRIES` at most and as many entries: their bytes, and what stands after them.
 #[tactic(auto, unfolding(crate::specs::Reading::entries_at))]
 fn entries_at(rows: u32, bytes: &[u8]) -> Option<(&[u8], &[u8])>
     requires { rows ≤ MOST_NAMED_ROWS }

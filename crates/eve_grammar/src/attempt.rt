@@ -43,7 +43,7 @@ fn serial_from(mode: u8) -> Option<bool>
     }
 }
 
-/// What stands behind this many replies.
+/// What stands after this many replies.
 #[tactic(auto, unfolding(crate::specs::Scanning::rest_at))]
 fn behind_replies(count: u16, bytes: &[u8]) -> Option<&[u8]>
     ensures { Gives (λ x. x.now) result (rest_at reply_at count bytes.now) }

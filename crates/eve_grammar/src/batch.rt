@@ -27,7 +27,7 @@ struct Sizes<'a> {
     total: u32,
 }
 
-/// The sum of sizes, if none is 0, and what stands behind them.
+/// The sum of sizes, if none is 0, and what stands after them.
 #[tactic(auto, unfolding(crate::specs::Scanning::total_at))]
 fn total_at(count: u16, bytes: &[u8]) -> Option<(u32, &[u8])>
     ensures { Gives (λ x. (x.0, x.1.now)) result (total_at count bytes.now) }
@@ -45,7 +45,7 @@ fn total_at(count: u16, bytes: &[u8]) -> Option<(u32, &[u8])>
     Some((total, rest))
 }
 
-/// What stands behind this many requests.
+/// What stands after this many requests.
 #[tactic(auto, unfolding(crate::specs::Scanning::rest_at))]
 fn behind_requests(count: u32, bytes: &[u8]) -> Option<&[u8]>
     ensures { Gives (λ x. x.now) result (rest_at asked_at count bytes.now) }
@@ -79,7 +79,7 @@ fn sizes_at(bytes: &[u8]) -> Option<(Sizes<'_>, &[u8])>
     Some((Sizes { sizes, total }, behind))
 }
 
-/// This many requests: their bytes, and what stands behind them.
+/// This many requests: their bytes, and what stands after them.
 fn requests_at(count: u32, bytes: &[u8]) -> Option<(&[u8], &[u8])>
     ensures { Gives (λ x. (requests_in count x.0.now, x.1.now)) result (many_at asked_at count bytes.now) }
 {

@@ -23,7 +23,7 @@ pub fn is_permutation(order: &[u16]) -> bool
     true
 }
 
-/// Whether no index stands behind one of a later parallelBatch, where those are the indexes' parallelBatches.
+/// Whether no index stands after one of a later parallelBatch, where those are the indexes' parallelBatches.
 fn is_grouped(groups: &[u8; MOST_REQUESTS], order: &[u16]) -> bool
     requires { AllByRecursion (λ i. i < MOST_REQUESTS) order.now }
     ensures { (sizes : List ℕ) → AreGroups sizes order.now groups.now → result ≡ is_grouped sizes order.now }

@@ -1,6 +1,6 @@
 //! Numbers, names, money and tokens at the front of a slice.
 //!
-//! Each reader gives the value and the bytes behind it, or `None` where no such value stands in front.
+//! Each reader gives the value and the bytes after it, or `None` where no such value stands in front.
 
 ghost use Rattle.std.specs.Prelude.{◌≡◌};
 ghost use Rattle.eve_accounts.specs.Names.{is_name};

@@ -54,7 +54,7 @@ impl Head {
     /// The limits in the 18 bytes of a header from the version to the batches; `None` where they aren't
     /// version 1, the limits and zeros.
     ///
-    /// docs/TRACE.md, "Header". The six bytes before them and the length behind them are not looked at here.
+    /// docs/TRACE.md, "Header". The six bytes before them and the length after them are not looked at here.
     pub fn read(bytes: &[u8]) -> Option<Head>
         ensures { Gives limits result (header_of bytes.now) }
     {

@@ -21,7 +21,7 @@ pub struct Asked<'a> {
     pub request: Request<'a>,
 }
 
-/// What stands behind the code of a request.
+/// What stands after the code of a request.
 #[tactic(auto, unfolding(crate::specs::Reading::coded_at))]
 fn coded_at(code: u8, bytes: &[u8]) -> Option<(Request<'_>, &[u8])>
     ensures { Gives (λ x. (plain x.0, x.1.now)) result (coded_at code bytes.now) }

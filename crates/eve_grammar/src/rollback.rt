@@ -20,7 +20,7 @@ pub struct RollbackBody<'a> {
     pub restores: &'a [u8],
 }
 
-/// What stands behind this many restores of rising rows.
+/// What stands after this many restores of rising rows.
 #[tactic(auto, unfolding(crate::specs::Scanning::rising_at))]
 fn behind_restores(rows: u32, count: u32, bytes: &[u8]) -> Option<&[u8]>
     requires { rows ≤ MOST_NAMED_ROWS }
@@ -42,7 +42,7 @@ fn behind_restores(rows: u32, count: u32, bytes: &[u8]) -> Option<&[u8]>
     Some(rest)
 }
 
-/// A count and as many restores of rising rows: their bytes, and what stands behind them.
+/// A count and as many restores of rising rows: their bytes, and what stands after them.
 #[tactic(auto, unfolding(crate::specs::Reading::restores_at))]
 fn restores_at(rows: u32, bytes: &[u8]) -> Option<(&[u8], &[u8])>
     requires { rows ≤ MOST_NAMED_ROWS }

@@ -191,7 +191,7 @@ one_more_there : (n place : ℕ) (places : List ℕ) → place < n → AllByRecu
 one_more_there n place [] lt there = (lt, tt)
 one_more_there n place (p ∷ places) lt there = (there.0, one_more_there n place places lt there.1)
 
--- what stands first behind so many
+-- what stands first after so many
 first_behind : (rs : List ExecutedAttempt) (n : ℕ) (r : ExecutedAttempt) (rest : List ExecutedAttempt)
     → r ∷ rest ≡ drop n rs → executed_attempt_at rs n ≡ r
 first_behind [] n r rest e = absurd (none n e)
@@ -545,7 +545,7 @@ module _ (t : Trace) (e at : ℕ) (r : Rollback) (rest : List (ℕ × Step)) (k 
     fit = rest_fits t e (at, RollsBack r) rest k come right;
   }
 
--- ---- behind the last step
+-- ---- after the last step
 
 module _ (t : Trace) (e : ℕ) (k : Kept) (come : HasCome t e [] k) where
   all_came : steps_at t e ≡ come.front

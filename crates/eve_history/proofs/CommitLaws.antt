@@ -10,7 +10,7 @@ use Rattle.eve_history.specs.Section.{Placed, SectionState, start, path_of, comm
 use Rattle.eve_history.specs.Section.{is_right_attempt, is_right_certificate, are_right_accesses, is_right, are_right}
 use Rattle.eve_history.specs.SectionHistory.{executed_attempt, placed_at, section_history, history, IsRightSection}
 
--- one behind the other, from the number behind n on
+-- one after the other, from the number after n on
 abbrev AreNumbered : ℕ → List Placed → Type 0
 AreNumbered n [] = ⊤
 AreNumbered n (p ∷ ps) = (p.attempt.seq ≡ suc n) × AreNumbered (suc n) ps

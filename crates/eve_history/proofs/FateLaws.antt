@@ -33,7 +33,7 @@ picked-all test fate [] xs fates passes = refl
 picked-all test fate (p ∷ ps) xs fates passes =
     rw passes (ap (λ (ys : List (ℕ × Attempt)). placed_at p ∷ ys) (picked-all test fate ps xs fates passes))
 
--- none is settled behind the last step
+-- none is settled after the last step
 at_end : (test : Fate → Bool) (ps : List Placed) → test Open ≡ false → picked_from test ps [] ≡ []
 at_end test ps fails = ap (λ (fs : List Fate). picked test (map placed_at ps ++ []) (fs ++ [])) (open_end 0 (length ps))
     ∙ picked-same test Open ps [] [] fails ∙ refl

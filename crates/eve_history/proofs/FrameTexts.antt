@@ -19,7 +19,7 @@ nested [] = refl
 nested (s ∷ steps) = flat_map-append frame_text (step_frames s) (flat_map step_frames steps)
     ∙ ap (λ (b : List ℕ). step_text s ++ b) (nested steps)
 
--- behind the last section there are none
+-- after the last section there are none
 pub no_steps : (place : ℕ) (xs : List (List Step)) → length xs ≤ place → slice_index_or xs place [] ≡ []
 no_steps place [] le = refl
 no_steps zero (x ∷ xs) le = absurd (omega arith)

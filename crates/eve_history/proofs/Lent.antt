@@ -77,7 +77,7 @@ votes_text_stands t v lt =
       );
     }
 
--- behind the last verifier there are none
+-- after the last verifier there are none
 no_votes : (place : ℕ) (xs : List (List Vote)) → length xs ≤ place → slice_index_or xs place [] ≡ []
 no_votes place [] le = refl
 no_votes zero (x ∷ xs) le = absurd (omega (arith, le))

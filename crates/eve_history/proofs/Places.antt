@@ -50,7 +50,7 @@ place_cases {A = A} P x xs place = by place.before place.is place.holds
           holds = subst (λ (w : A). P (w ∷ b) place.item) (sym (first x z xs (b ++ place.item ∷ place.rest) e)) h;
         })
 
--- in the front, or behind it
+-- in the front, or after it
 pub place_split : {A : Type 0} (P : List A → A → Type 0) (xs ys : List A) → SomePlace (xs ++ ys) P → SomePlace xs P
     ⊎ SomePlace ys (λ b y. P (xs ++ b) y)
 place_split P [] ys place = inr place
@@ -104,7 +104,7 @@ cut_at {A = A} (y ∷ xs) (suc i) x e = ap (λ (zs : List A). y ∷ zs) (cut_at 
 
 -- ---- offsets
 
--- each offset is up to those behind it
+-- each offset is up to those after it
 abbrev pub Rising : {A : Type 0} → ℕ → List (ℕ × A) → Type 0
 Rising low [] = Unit {0}
 Rising low (x ∷ xs) = (low ≤ x.0) × Rising x.0 xs

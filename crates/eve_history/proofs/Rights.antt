@@ -26,7 +26,7 @@ module _ {A : Type 0} where
   none_beyond zero (x ∷ xs) le = absurd (omega (arith, le))
   none_beyond (suc place) (x ∷ xs) le = none_beyond place xs (omega (arith, le))
 
--- behind the last replica there are no steps
+-- after the last replica there are no steps
 pub none_at : (t : Trace) (e : ℕ) → length t.sections ≤ e → steps_at t e ≡ []
 unfolding steps_at
 none_at t e le = ap (located step_text (section_start t e + length (frame_text (OfReplica e))))

@@ -188,7 +188,7 @@ first_stands {at = at} f fs stands = record {
   offset = stands.offset;
 }
 
--- the access frames behind an attempt's own
+-- the access frames after an attempt's own
 pub access_stands : {bytes : List ℕ} (at : ℕ) (b : Attempt) (i : ℕ) (x : ℕ × Access)
     → StandsIn bytes at (step_text (Attempts b)) → slice_get (accesses_at at b) i ≡ Some x
     → StandsIn bytes x.0 (frame_text (OfAccess x.1))

@@ -119,7 +119,7 @@ pub record StandsAt (s : SectionState) (k : Kept) : Type 0 where
       ≡ drop (length k.fates) (map (λ a. a.attempt) k.attempts)
   pub fewer : length k.fates ≤ length k.attempts
 
--- Of these attempts the ones behind the settled ones are open, and those at these places are committed.
+-- Of these attempts the ones after the settled ones are open, and those at these places are committed.
 pub record AreSettled (s : SectionState) (rs : List ExecutedAttempt) (settled : ℕ) (places : List ℕ) : Type 0 where
   pub pending : map (λ p. executed_attempt (placed_at p)) s.pending ≡ drop settled rs
   pub committed : map (executed_attempt_at rs) places ≡ map (λ p. executed_attempt (placed_at p)) s.committed

@@ -20,7 +20,7 @@ abbrev pub first_of : Option Wrong → Option Wrong → Option Wrong
 first_of (Some w) later = Some w
 first_of None later = later
 
--- what is wrong with an access record behind those before it, of so many workers and indexes
+-- what is wrong with an access record after those before it, of so many workers and indexes
 abbrev pub wrong_access : ℕ → ℕ → List Access → Access → Option Code
 wrong_access workers count before x =
     if is_new_access workers count before x then (if is_right_place before x then None else Some code.WorkerOrder) else
@@ -54,7 +54,7 @@ wrong_step t s (at, Attempts a) = found_or at (wrong_attempt t s a) (wrong_recor
 wrong_step t s (at, Commits c) = found_or at (wrong_commit s c) None
 wrong_step t s (at, RollsBack r) = found_or at (wrong_rollback t s r) None
 
--- in these steps, behind others that are right
+-- in these steps, after others that are right
 abbrev pub first_wrong : Trace → SectionState → List (ℕ × Step) → Option Wrong
 first_wrong t s [] = None
 first_wrong t s (step ∷ steps) = first_of (wrong_step t s step) (first_wrong t (next s step) steps)

@@ -14,7 +14,7 @@ requests_said bytes = (batch_in bytes).1.requests
 abbrev pub IsRepeated : List RequestId → List RequestId → Type 0
 IsRepeated noted own = SomePlace own (λ earlier t. Contains (noted ++ earlier) t)
 
--- none does, and they are noted behind the others
+-- none does, and they are noted after the others
 pub record AreNoted (before own after : List RequestId) : Type 0 where
   pub new : ¬ IsRepeated before own
   pub noted : after ≡ before ++ own

@@ -35,7 +35,7 @@ pub record IsNotAfter (a b : Arrival) : Type 0 where
   pub client : b.number ≤ a.number → a.client ≤ b.client
   pub batch : b.number ≤ a.number → b.client ≤ a.client → a.batch ≤ b.batch
 
--- each stands so to each that is behind it
+-- each stands so to each that is after it
 abbrev pub AreInOrder : List Arrival → Type 0
 AreInOrder xs = (i j : ℕ) (a b : Arrival) → i < j → slice_get xs i ≡ Some a → slice_get xs j ≡ Some b → IsNotAfter a b
 

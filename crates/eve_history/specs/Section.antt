@@ -38,7 +38,7 @@ abbrev pub committing : SectionState → List Placed → SectionState
 committing s [] = s
 committing s (p ∷ pending) = record s { last = s.last + 1; committed = s.committed ++ p ∷ []; pending = pending }
 
--- behind a step, which has its frame's offset
+-- after a step, which has its frame's offset
 abbrev pub next : SectionState → ℕ × Step → SectionState
 next s (at, Attempts a) =
     record s { pending = s.pending ++ record { offset = at; attempt = a; path = path_of s } ∷ []; rolled_back = false }
@@ -102,7 +102,7 @@ is_right_commit s c = (c.seq == s.last + 1) && commits_first s.pending c
 abbrev pub is_right_rollback : Trace → SectionState → Rollback → Bool
 is_right_rollback t s r = (r.to == s.last) && (nat_lt s.last (length t.batches) && (r.view == s.view + 1))
 
--- each access is right behind those before it
+-- each access is right after those before it
 abbrev pub are_right_accesses : Trace → Attempt → List Access → List Access → Bool
 are_right_accesses t a before [] = true
 are_right_accesses t a before (x ∷ xs) =
@@ -114,7 +114,7 @@ is_right t s (Attempts a) =
 is_right t s (Commits c) = is_right_commit s c
 is_right t s (RollsBack r) = is_right_rollback t s r
 
--- each step is right behind those before it
+-- each step is right after those before it
 abbrev pub are_right : Trace → SectionState → List (ℕ × Step) → Bool
 are_right t s [] = true
 are_right t s (step ∷ steps) = is_right t s step.1 && are_right t (next s step) steps

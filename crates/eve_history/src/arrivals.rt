@@ -133,7 +133,7 @@ fn requests_apart(alloc: Global, trace: &Trace<'_>, random: RandomState) -> Resu
 /// number; else the first fault of orders.
 ///
 /// docs/MODEL.md, "Faults". One look-up for each customer and each request. Where some client's numbers don't rise, or
-/// there are more than 4,096 clients, the requests are sorted, in 16 bytes each. Want of memory decides nothing.
+/// there are more than 4,096 clients, the requests are sorted, in 16 bytes each. Refused memory decides nothing.
 pub fn orders<'a>(
     alloc: Global,
     trace: &Trace<'a>,

@@ -85,7 +85,7 @@ impl<'a> History<'a> {
     /// What a replica did, by the replica's number from 0, where its section is right; else the first fault of
     /// structure in it.
     ///
-    /// docs/MODEL.md, "Section state, fate" and "Faults". One pass over the section's frames. Want of memory decides
+    /// docs/MODEL.md, "Section state, fate" and "Faults". One pass over the section's frames. Refused memory decides
     /// nothing.
     pub fn of(alloc: Global, trace: &Trace<'a>, e: u8) -> Result<History<'a>, CheckFault>
         requires { e < length trace.now.sections }

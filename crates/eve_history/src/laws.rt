@@ -39,7 +39,7 @@ pub fn faults_lie_within()
     ensures structure { (t : Trace) (e : ℕ) (f : Fault) → IsStructureFault t e f → f.offset ≤ length_of t }
 {}
 
-/// Each step of a section stands in the trace's bytes at its offset, its frames one behind another; and so does each
+/// Each step of a section stands in the trace's bytes at its offset, its frames one after another; and so does each
 /// access frame of an attempt, and each vote, at its own.
 ///
 /// docs/TRACE.md, "Frames".

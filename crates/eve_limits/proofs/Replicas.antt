@@ -61,7 +61,7 @@ module _ (t : Trace) where
         ];
       }
 
-  -- behind the last replica there are no steps
+  -- after the last replica there are no steps
   none_beyond : (place : ℕ) (xs : List (List Step)) → length xs ≤ place → slice_index_or xs place [] ≡ []
   none_beyond place [] le = refl
   none_beyond zero (x ∷ xs) le = absurd (omega (arith, le))

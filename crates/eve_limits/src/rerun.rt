@@ -150,7 +150,7 @@ fn bytes_of(alloc: Global, parts: &Parts) -> io::Result<Vec<u8>> {
     }
 }
 
-/// The parts of a run, behind one whose sections were discarded.
+/// The parts of a run, after one whose sections were discarded.
 fn rerun_parts(
     alloc: Global,
     discarded: Vec<Vec<Step>>,
@@ -168,7 +168,7 @@ fn rerun_parts(
 }
 
 /// The trace of a run of the workload, whose batches are one window: all replicas roll back, and execute and commit all
-/// batches behind that. One replica leaves so many of its restores out.
+/// batches after that. One replica leaves so many of its restores out.
 pub fn rerun<R: AllocGlobal + RandomSource + Threads + Wait + Sync>(
     rt: &R,
     workload: &[u8],

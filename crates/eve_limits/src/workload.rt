@@ -26,7 +26,7 @@ pub struct Size {
     pub requests: u32,
 }
 
-/// The text of a workload: each request is of the customer behind the one before, and the kinds take turns.
+/// The text of a workload: each request is of the customer after the one before, and the kinds take turns.
 pub fn workload(alloc: Global, size: &Size) -> io::Result<Vec<u8>> {
     let mut text = Vec::new(alloc);
     write_head(&mut text, size)?;

@@ -98,7 +98,7 @@ whose_is n xs ys x h = dite (dec_le n x.worker)
 come_front : (n : ℕ) (xs ys : List Applied) → ComeFrom n (xs ++ ys) → (w : ℕ) → n ≤ w → of_worker w xs ≡ []
 come_front n xs ys h w le = nothing (of_worker w xs) (of_worker w ys) (sym (of_worker-append w xs ys) ∙ h w le)
 
--- and those behind it are of these too
+-- and those after it are of these too
 pub come_rest : (n : ℕ) (x : Applied) (xs : List Applied) → ComeFrom n (x ∷ xs) → ComeFrom n xs
 come_rest n x xs h w le = nothing_behind (of_worker w (x ∷ [])) (of_worker w xs) (sym (of_worker-append w (x ∷ []) xs)
     ∙ h w le)

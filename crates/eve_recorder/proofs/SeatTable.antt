@@ -59,7 +59,7 @@ seated_by P f own (suc (suc (suc (suc (suc (suc (suc zero))))))) x e =
 seated_by P f own (suc (suc (suc (suc (suc (suc (suc (suc k)))))))) x e =
     absurd (let h : None ≡ Some (Some x) = e in cc)
 
--- what was gathered before a seat is joined, with what lies there and behind it, is what is gathered after it with the
+-- what was gathered before a seat is joined, with what lies there and after it, is what is gathered after it with the
 -- rest
 gathered : {S A : Type 0} (on : S → List A) (before after : List A) (s : S) (rest : List S) → after ≡ before ++ on s
     → before ++ flat_map on (s ∷ rest) ≡ after ++ flat_map on rest

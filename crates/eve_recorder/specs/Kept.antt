@@ -94,7 +94,7 @@ KnowsOf v w = StandsFor v w ⊎ (v.workers ≤ w)
 abbrev pub TakesFront : Ledger → Type 0
 TakesFront v = (w : ℕ) → KnowsOf v w → IsPrefix (of_worker w v.taken) (of_worker w v.noted)
 
--- What a worker sees of a full queue: behind some taken records it holds what the worker noted, and all these are of
+-- What a worker sees of a full queue: after some taken records it holds what the worker noted, and all these are of
 -- workers that are there.
 abbrev pub SeesSome : Ledger → List Applied → Type 0
 SeesSome v queued =
@@ -102,7 +102,7 @@ SeesSome v queued =
     × ((w : ℕ) → StandsFor v w
     → (of_worker w v.noted ≡ of_worker w (taken ++ queued)) × ComeFrom v.workers (taken ++ queued))
 
--- what the taker sees of an empty queue: behind what it took the queue holds what was noted
+-- what the taker sees of an empty queue: after what it took the queue holds what was noted
 abbrev pub SeesAll : Ledger → List Applied → Type 0
 SeesAll v queued =
     IsOrderly (v.taken ++ queued) × ((w : ℕ) → KnowsOf v w → of_worker w v.noted ≡ of_worker w (v.taken ++ queued))

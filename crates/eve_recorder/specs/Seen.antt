@@ -80,7 +80,7 @@ fresh_places recorder = record {
   taker = Some record { recorder = recorder; taken = [] };
 }
 
--- At one moment the queue was full, of records of workers that are there; and behind some taken records, each worker's
+-- At one moment the queue was full, of records of workers that are there; and after some taken records, each worker's
 -- in their places, it held what was noted on this seat.
 abbrev pub WasFull : Desk → Noter → Type 0
 WasFull desk seat =

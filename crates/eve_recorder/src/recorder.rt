@@ -188,7 +188,7 @@ fn cut(queue: &Queue, main: &mut QueuePass, w: u8, workers: u8) -> Option<Worker
     })
 }
 
-// Joins the seat of worker `w`, if there is one, behind those of the workers before it.
+// Joins the seat of worker `w`, if there is one, after those of the workers before it.
 fn put_back(queue: &Queue, main: &mut QueuePass, seat: Option<WorkerSeat>, w: u8, workers: u8)
     requires queue { IsPassOf queue.now main.old }
     requires main { view main.old ≡ ledger false [] workers 0 (min workers w) (view main.old).noted }

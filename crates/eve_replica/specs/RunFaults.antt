@@ -4,7 +4,7 @@ use Rattle.eve_replica.specs.declared.fault.AttemptFault.TheVariants as attempt
 use Rattle.eve_replica.specs.declared.fault.RunFault.{RunFault}
 use Rattle.eve_replica.specs.declared.fault.RunFault.TheVariants as run
 
--- want of memory stays what it is, and every other fault breaks the run
+-- refused memory stays what it is, and every other fault breaks the run
 abbrev pub fault_of_run : AttemptFault → RunFault
 fault_of_run attempt.Memory = run.Memory
 fault_of_run attempt.TickOrder = run.Broken

@@ -59,7 +59,7 @@ table_in-journal rows js own =
     table_in-whole (table_after_journal (table_in rows) js) rows
     (λ row out. journal_outside rows (table_in rows) js row own out ∙ table_in-outside rows row out)
 
--- ---- up to a tick, and behind it
+-- ---- up to a tick, and after it
 
 abbrev pub up_to : ℕ → Journaled → Bool
 up_to tick j = nat_le j.tick tick
@@ -76,7 +76,7 @@ all_kept P p (x ∷ xs) all = step (p x) (all_kept P p xs all.1)
     step true rest = (all.0, rest)
     step false rest = rest
 
--- behind a tick that is behind, all are
+-- after a tick that is after, all are
 none_up_to : (tick above : ℕ) (js : List Journaled) → tick < above → AllByRecursion (λ k. above < k.tick) js
     → filter (up_to tick) js ≡ []
 none_up_to tick above [] less rise = refl
@@ -92,7 +92,7 @@ all_behind tick above (j ∷ js) less rise =
     (lt-ltb tick j.tick (omega (arith, rise.0)))
     ∙ ap (λ (ks : List Journaled). j ∷ ks) (all_behind tick above js less rise.1)
 
--- a journal that rises is what is up to the tick, and then what is behind it
+-- a journal that rises is what is up to the tick, and then what is after it
 pub split_at_tick : (tick : ℕ) (js : List Journaled) → JournalRises js
     → filter (up_to tick) js ++ filter (behind tick) js ≡ js
 split_at_tick tick [] rise = refl

@@ -63,7 +63,7 @@ refusal_of_two first second tick rows =
     refused_for (has_row_in_two first second) (is_above tick first.greatest && is_above tick second.greatest)
     (rows_in_two first second) rows
 
--- it is refused for this reason, and for want of memory alone where there is none
+-- it is refused for this reason, and for lack of memory alone where there is none
 abbrev pub IsRefusedFor : {A : Type 0} → Option StampFault → Result A StampFault → Type 0
 IsRefusedFor (Some why) result = result ≡ Err why
 IsRefusedFor None result = IfErr result (λ why. why ≡ fault.Memory)

@@ -1,4 +1,4 @@
--- What holds of a schedule behind a step.
+-- What holds of a schedule after a step.
 use Rattle.std.proofs.Common.{◌≡◌, ℕ, ◌+◌, ◌<◌, ◌≤◌, Bool, true, false, nat_lt, ◌&&◌, cond, List, [], ◌∷◌, ◌++◌, length}
 use Rattle.std.proofs.Common.{get_or, set, Option, Some, None, is_none, is_some, refl, sym, subst, ap, ◌∙◌, inl, inr}
 use Rattle.std.proofs.Common.{arith}
@@ -455,7 +455,7 @@ fresh_rows s count is row =
 
 -- ---- what is made
 
--- the stripes behind a record
+-- the stripes after a record
 pub record IsMadeOn (s : Schedule) (v i n : ℕ) (x : Applied) (ss : List Stripe) : Type 0 where
   pub long : length ss ≡ length s.stripes
   pub exact : x ≡ made (plan_of s) (world_of s) v i n

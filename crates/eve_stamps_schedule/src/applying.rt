@@ -19,7 +19,7 @@ use eve_smallbank::{Request, Touched, touched};
 use eve_stamps::{AccessRecord, Span, StampFault, Stripe, apply, apply_two, span_of, untouched};
 
 /// The record of the request, applied to the stripes that it needs. They have had no tick above this one, and no row is
-/// at the greatest version. For want of memory it is not applied, and the stripes are as they were.
+/// at the greatest version. For lack of memory it is not applied, and the stripes are as they were.
 pub fn applied_on(
     stripes: &mut [Stripe],
     names: &Names,

@@ -10,7 +10,7 @@ use std::io;
 /// The names of all customers, one letter each.
 const LETTERS: &[u8] = b"abcdefghijklmnopqrst";
 
-/// Why a case can't go on, where it isn't for want of memory.
+/// Why a case can't go on, where it isn't for lack of memory.
 pub(crate) fn stopped() -> io::Error {
     io::Error::other("the case can't go on")
 }

@@ -68,7 +68,7 @@ pub fn cut<W: Write>(alloc: Global, out: &mut W, name: &str, text: &[u8]) -> io:
     writeln!(out, "{name}, {from} to {} bytes: {said}", text.len())
 }
 
-/// The customers' names. Those of a workload differ, so want of memory alone keeps one out.
+/// The customers' names. Those of a workload differ, so lack of memory alone keeps one out.
 pub fn names_of<'a>(rt: &HostRuntime, customers: &'a [CustomerData]) -> io::Result<Names<'a>> {
     let mut names = Names::new(rt.alloc(), RandomState::new(rt)?, 4096);
     for customer in customers {

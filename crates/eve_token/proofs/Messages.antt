@@ -14,7 +14,7 @@ low-bytes n =
     let d : n % 4294967296 % 256 ≡ n % 256 = omega arith in
     rw (a, b, c, d)
 
--- a leaf's message: behind a first byte the number and the text, and what the array holds past them
+-- a leaf's message: after a first byte the number and the text, and what the array holds past them
 pub leaf-message : (number len : ℕ) (head rest out more post text : List ℕ)
     → head ≡ big_bytes 4 (number % 4294967296) ++ rest → out ≡ text ++ more → len ≡ length text
     → take (5 + len) (0 ∷ (take 4 (head ++ []) ++ (out ++ post))) ≡ 0 ∷ (big_bytes 4 number ++ text)
@@ -28,7 +28,7 @@ leaf-message number len head rest out more post text is written long =
     ∙ ap (λ t. 0 ∷ (big_bytes 4 (number % 4294967296) ++ t)) tail
     ∙ ap (λ b. 0 ∷ (b ++ text)) (low-bytes number)
 
--- two hashes one behind the other, in the last 64 bytes of an array
+-- two hashes one after the other, in the last 64 bytes of an array
 filled : (left right first second other : List ℕ) → first ≡ left → second ≡ right → length left ≡ 32 → length other ≡ 32
     → take 32 (first ++ other) ++ (second ++ drop 32 (drop 32 (first ++ other))) ≡ left ++ right
 filled left right first second other one two long rest =

@@ -32,7 +32,7 @@ pub(crate) trait Spell {
     // A block holds at least one.
     ghost fits: { (0 < LEN) × (LEN ≤ BLOCK) };
 
-    // A leaf's message holds it behind the byte and the number.
+    // A leaf's message holds it after the byte and the number.
     ghost short: { LEN ≤ 9 };
 }
 

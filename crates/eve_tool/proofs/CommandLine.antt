@@ -166,7 +166,7 @@ answers_with_fault words k (asked.Refused text) (inl e) says = absurd (says.1 e)
 answers_with_fault words k (asked.Refused text) (inr among) says =
     (no_call words k among, inl (record { what = k; found = among; no_help = says.0 }))
 
--- ---- plain words, behind the program's name
+-- ---- plain words, after the program's name
 
 pub audit_call : (name : Text) → call_of (name ∷ codes "audit" ∷ []) ≡ Some Audit
 unfolding call_of faults_of clap_on_literals

@@ -207,7 +207,7 @@ length-frame_text f = omega (
       (body_text f),
 )
 
--- the body of a frame is what stands behind its kind and its length
+-- the body of a frame is what stands after its kind and its length
 pub length-body : (f : Frame) → length (frame_text f) - 5 ≡ length (body_text f)
 length-body f = omega (arith, length-frame_text f)
 

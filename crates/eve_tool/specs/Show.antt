@@ -17,7 +17,7 @@ line_of located = frame_line located.0 (kind_name (kind_of located.1)) (length (
 abbrev pub header_line : List ℕ
 header_line = frame_line 0 (codes "Header") 32
 
--- the lines of the header and of the frames behind it
+-- the lines of the header and of the frames after it
 unfoldable pub trace_lines : List Frame → List ℕ
 trace_lines frames = header_line ++ flat_map line_of (located frame_text 32 frames)
 

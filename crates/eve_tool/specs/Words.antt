@@ -100,7 +100,7 @@ call_unless (k ∷ ks) call = None
 unfoldable pub call_of : List Text → Option Subcommand
 call_of words = call_unless (faults_of words) (option_and_then subcommand_named (subcommand_of eve words))
 
--- how many workers are named behind the subcommand that was met
+-- how many workers are named after the subcommand that was met
 abbrev pub workers_behind : Option (Text × List Row) → Option ℕ
 workers_behind found = option_map (λ f. workers_in f.1) found
 

@@ -1,7 +1,7 @@
 //! Tries the program on workloads that it runs, on streams that fail, and on arguments that are no call.
 //!
 //! A line `run NAME WORD..` of the input names a workload and, if any, further arguments for `eve run`. What stands
-//! behind `run` is printed again with the exit status, and with what was said where there was no run. The trace of a
+//! after `run` is printed again with the exit status, and with what was said where there was no run. The trace of a
 //! run is compared with the file of the same name that ends in `.trace`, where there is one, and audited.
 //!
 //! Every other line is a trial: what fails, the file that is read, and the arguments of the call. It is printed again,
@@ -197,7 +197,7 @@ fn failure_of(word: &str) -> io::Result<Failure> {
     }
 }
 
-/// The arguments of the call that a line asks for: those behind what fails and the file, behind the program's name.
+/// The arguments of the call that a line asks for: those after what fails and the file, after the program's name.
 fn words_of(alloc: Global, line: &str) -> Result<Vec<&str>, AllocError> {
     let mut words = Vec::new(alloc);
     words.push("eve")?;

@@ -8,7 +8,7 @@ use std::sync::Wait;
 use std::thread::Threads;
 use std::{fs, io};
 
-/// The arguments of the call that a line asks for: behind the file's name, further arguments.
+/// The arguments of the call that a line asks for: after the file's name, further arguments.
 fn words_of<'a, R: AllocGlobal>(rt: &R, line: &'a str) -> io::Result<Vec<&'a str>> {
     let mut words = Vec::new(rt.alloc());
     words.push("eve")?;

@@ -58,7 +58,7 @@ cut_part {X = X} frames xs k d lt =
 
 -- ---- a section
 
--- a part behind its own first frame: what stands before it, the part, and what stands behind
+-- a part after its own first frame: what stands before it, the part, and what stands after
 pub record IsPart (fs before part next : List Frame) (first : Frame) : Type 0 where
   pub rest : List Frame
   pub whole : fs ≡ before ++ (first ∷ (part ++ rest))
@@ -131,7 +131,7 @@ between fs before part next first from to p at_from at_to =
       many = many;
     }
 
--- the byte behind a part's first frame
+-- the byte after a part's first frame
 pub byte_behind : (fs before part next : List Frame) (first : Frame) (from : ℕ) → IsPart fs before part next first
     → from ≡ length before + 1
     → byte_of fs from ≡ 32 + length (frames_text before) + length (frame_text first)

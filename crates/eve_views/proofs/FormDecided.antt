@@ -27,7 +27,7 @@ result_cases : {A B C : Type 0} (r : Result A B) → ((x : A) → r ≡ Ok x →
 result_cases (Ok x) ok err = ok x refl
 result_cases (Err y) ok err = err y refl
 
--- the bytes behind the header are the frames of a trace
+-- the bytes after the header are the frames of a trace
 record IsEnded (h : Head) (bytes : List ℕ) : Type 0 where
   frames : List Frame
   run : IsRun h frames

@@ -100,7 +100,7 @@ behind_frames c bytes at h r same s = (
   r.within,
 )
 
--- where the header is right a fault stands behind frames that are right
+-- where the header is right a fault stands after frames that are right
 behind_of : (c : Code) (bytes : List ℕ) (at : ℕ) (h : Head) → StandsInForm c bytes at → IsHeader bytes h → IsBytes bytes
     → StandsBehind c h (drop 32 bytes) (drop at bytes) × (at ≤ length bytes)
 behind_of code.Length bytes at h s is fits = absurd (true_false (is_sized bytes) is.sized s.1)

@@ -11,7 +11,7 @@ use Rattle.eve_grammar.specs.Frames.{batches_of, sections_of, verifiers_of, fram
 use Rattle.eve_views.specs.Indexing.{sent_from}
 use Rattle.eve_views.specs.Fronts.{before_sections, before_section, before_verifiers, before_verifier, before_sent}
 
--- ---- items of two lists, one behind the other
+-- ---- items of two lists, one after the other
 
 pub slice_get-behind : {X : Type 0} (xs ys : List X) (i : ℕ) → slice_get (xs ++ ys) (length xs + i) ≡ slice_get ys i
 slice_get-behind [] ys i = (let none : 0 + i ≡ i = omega arith in ap (slice_get ys) none)
@@ -60,7 +60,7 @@ plain_at number (g ∷ fs) zero n f p e m =
     no_number (sym p.0 ∙ ap number same ∙ m)
 plain_at number (g ∷ fs) (suc i) n f p e m = plain_at number fs i n f p.1 e m
 
--- a frame with a number stands behind those without
+-- a frame with a number stands after those without
 behind_plain : (number : Frame → Option ℕ) (before fs : List Frame) (i n : ℕ) (f : Frame) → Plain number before
     → slice_get (before ++ fs) i ≡ Some f → number f ≡ Some n
     → (k : ℕ) × (i ≡ length before + k) × (slice_get fs k ≡ Some f)

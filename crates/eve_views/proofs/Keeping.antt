@@ -157,7 +157,7 @@ kept_right h p bytes kind len accesses rest front allowed le e =
         rw (front.kind_is, front.len_is, same) refl
     by None e = absurd cc
 
--- ---- the place behind it
+-- ---- the place after it
 
 pub next_moved : (p : Place) (f : Frame) → next p f ≡ moved p (kind_of f) (accesses_in f)
 next_moved p (OfCustomer c) = refl

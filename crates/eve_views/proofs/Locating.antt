@@ -48,7 +48,7 @@ item_within (x ∷ xs) (suc i) lt = item_within xs i (omega arith)
 some_same : {X : Type 0} (x y : X) → Some x ≡ Some y → x ≡ y
 some_same x y e = cc
 
--- Of the frames of one kind, behind others, the i-th: what it says, and where it stands.
+-- Of the frames of one kind, after others, the i-th: what it says, and where it stands.
 pub record IsPlaced {A : Type 0} (frame : A → Frame) (xs : List A) (i at offset : ℕ) (f : Frame) : Type 0 where
   pub item : A
   pub got : slice_get xs i ≡ Some item
@@ -87,7 +87,7 @@ placed {A = A} frame before xs rest i at offset f lt begins got stands =
 
 -- ---- where the parts begin
 
--- the text of lists of frames, one behind the other
+-- the text of lists of frames, one after the other
 pub frames_text-flat_map : {A : Type 0} (frames : A → List Frame) (xs : List A) → frames_text (flat_map frames xs)
     ≡ flat_map (λ x. frames_text (frames x)) xs
 frames_text-flat_map frames [] = refl

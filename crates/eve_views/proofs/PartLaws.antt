@@ -47,7 +47,7 @@ pub record Met {A : Type 0} (frame : A → Frame) (test : A → Bool) (list : Li
   pub right : IsTrue (test item)
   pub there : slice_get list i ≡ Some (offset, item)
 
--- the same where the frames are the front, the part and what is behind it
+-- the same where the frames are the front, the part and what is after it
 placed_in : {A : Type 0} (frame : A → Frame) (before : List Frame) (xs : List A) (rest fs : List Frame)
     (n i at offset : ℕ) (f : Frame) → i < length xs → at ≡ 32 + length (frames_text before)
     → fs ≡ before ++ (map frame xs ++ rest) → n ≡ length before + i → slice_get fs n ≡ Some f → offset ≡ byte_of fs n

@@ -97,7 +97,7 @@ pub length-offsets_of : (fs : List Frame) (at : ℕ) → length (offsets_of at f
 length-offsets_of [] at = refl
 length-offsets_of (f ∷ fs) at = ap suc (length-offsets_of fs (at + length (frame_text f)))
 
--- there are no more frames than bytes behind the header
+-- there are no more frames than bytes after the header
 pub few_offsets : (h : Head) (bytes : List ℕ) (at : ℕ) (p : Place) (offsets : List ℕ) → Reached h bytes at p offsets
     → length offsets + 32 ≤ at
 few_offsets h bytes at p offsets r =
@@ -141,7 +141,7 @@ reached_more h bytes at p offsets k r s =
 
 -- ---- the end, or a fault
 
--- what stands behind the front is what stands behind the place
+-- what stands after the front is what stands after the place
 pub split_at : (at : ℕ) (bytes text : List ℕ) → at ≡ 32 + length text → at ≤ length bytes → take at bytes
     ≡ take 32 bytes ++ text → drop 32 bytes ≡ text ++ drop at bytes
 split_at at bytes text at_is le before =

@@ -11,7 +11,7 @@ use Rattle.eve_views.specs.Fronts.{before_sections, before_section, before_verif
 use Rattle.eve_views.specs.Indexing.{AreStarts}
 use Rattle.eve_views.proofs.Fronting.{replica_at, verifier_at, sent_begins_at}
 
--- behind the last section the first verifier stands
+-- after the last section the first verifier stands
 sections_end : (t : Trace) → before_section t (length t.sections) ≡ before_verifier t 0
 unfolding before_section before_verifier
 sections_end t =

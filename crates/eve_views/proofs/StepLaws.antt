@@ -1,4 +1,4 @@
--- The next step of a section: its frames, and those behind them.
+-- The next step of a section: its frames, and those after them.
 use Rattle.std.proofs.Common.{◌≡◌, ◌≢◌, ℕ, ◌+◌, ◌-◌, ◌≤◌, List, [], ◌∷◌, ◌++◌, map, length, take, drop, Some, refl, sym}
 use Rattle.std.proofs.Common.{ap, subst, ◌∙◌, append_assoc, arith}
 use Rattle.std.specs.Prelude.{slice_get, IsTrue, ◌&&◌, ◌==◌}
@@ -23,7 +23,7 @@ use Rattle.eve_views.proofs.CutLaws.{steps_are}
 
 -- ---- frames at a place
 
--- the frames from a place on, and what they make of the places behind them
+-- the frames from a place on, and what they make of the places after them
 record IsAt (fs part : List Frame) (at : ℕ) : Type 0 where
   there : frames_between fs at (length part) ≡ part
   first : (f : Frame) (others : List Frame) → part ≡ f ∷ others → slice_get fs at ≡ Some f
@@ -56,7 +56,7 @@ is_at fs part behind at le cut =
 
 -- ---- the first of the steps
 
--- a step, and those behind it
+-- a step, and those after it
 record IsNext (fs : List Frame) (at to rows : ℕ) (s : Step) : Type 0 where
   right : IsTrue (is_step rows s)
   is : IsAt fs (step_frames s) at
@@ -170,7 +170,7 @@ none_left fs at to are e = by are.steps refl
 
 -- ---- by kind
 
--- an attempt is met: what its frame says, its accesses, and the steps behind them
+-- an attempt is met: what its frame says, its accesses, and the steps after them
 pub record IsAttemptMet (fs : List Frame) (at to : ℕ) (bytes : List ℕ) : Type 0 where
   pub attempt : Attempt
   pub says : Says is_attempt_frame attempt_in bytes (without_accesses attempt)

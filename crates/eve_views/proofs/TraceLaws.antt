@@ -105,7 +105,7 @@ offsets_at (f ∷ fs) at zero lt = omega arith
 offsets_at (f ∷ fs) at (suc i) lt = offsets_at fs (at + length (frame_text f)) i (omega arith)
     ∙ omega (arith, length-append (frame_text f) (frames_text (take i fs)))
 
--- the end, behind the last frame
+-- the end, after the last frame
 pub end_at : (bytes : List ℕ) (t : Trace) (i : ℕ) → Spells bytes t → length (frames_of t) ≤ i → length bytes
     ≡ 32 + length (frames_text (take i (frames_of t)))
 end_at bytes t i spells le =

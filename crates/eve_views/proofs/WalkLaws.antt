@@ -25,7 +25,7 @@ ended_or : (b c : Bool) → cond b false c ≡ true → b ≡ false
 ended_or true c e = absurd cc
 ended_or false c e = refl
 
--- no frame may stand behind the end
+-- no frame may stand after the end
 pub allowed_open : (h : Head) (p : Place) (kind : ℕ) → is_allowed h p kind ≡ true → p.ended ≡ false
 allowed_open h p kind e = ended_or p.ended _ e
 
@@ -115,7 +115,7 @@ walk_stop : (n : ℕ) (c : Code) (h : Head) (p : Place) (rest : List ℕ) → (p
 unfolding walk
 walk_stop n c h p rest on e = rw (on, e) refl
 
--- frames that may stand where they stand, and behind them a fault
+-- frames that may stand where they stand, and after them a fault
 pub record StandsBehind (c : Code) (h : Head) (bytes rest : List ℕ) : Type 0 where
   pub front : List Frame
   pub right : Follow h start front

@@ -13,7 +13,7 @@ before_batches t = map OfCustomer t.customers
 abbrev pub before_sections : Trace → List Frame
 before_sections t = before_batches t ++ map (λ b. OfBatch b.0 b.1) (batches_of t)
 
--- before the section of replica e, or behind the last
+-- before the section of replica e, or after the last
 unfoldable pub before_section : Trace → ℕ → List Frame
 before_section t e = before_sections t ++ flat_map section_frames (take e (sections_of t))
 
@@ -21,7 +21,7 @@ before_section t e = before_sections t ++ flat_map section_frames (take e (secti
 abbrev pub before_verifiers : Trace → List Frame
 before_verifiers t = before_sections t ++ flat_map section_frames (sections_of t)
 
--- before the part of verifier v, or behind the last
+-- before the part of verifier v, or after the last
 unfoldable pub before_verifier : Trace → ℕ → List Frame
 before_verifier t v = before_verifiers t ++ flat_map verifier_frames (take v (verifiers_of t))
 

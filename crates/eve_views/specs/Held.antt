@@ -10,7 +10,7 @@ use Rattle.eve_views.specs.Indexing.{AreStarts, offsets_of}
 use Rattle.eve_views.specs.declared.walk.Index.{Index}
 use Rattle.eve_views.specs.declared.trace.Trace.TheInside.{Inside}
 
--- the trace that the frames behind the header make up under this head
+-- the trace that the frames after the header make up under this head
 abbrev pub trace_in : Head → List ℕ → Trace
 trace_in h bytes = trace_of h (frames_in h (drop 32 bytes))
 

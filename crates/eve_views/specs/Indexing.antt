@@ -54,7 +54,7 @@ pub record AreStarts (h : Head) (fs : List Frame) (s : Starts) : Type 0 where
   pub verifiers : (v : ℕ) → v < h.verifiers → slice_get fs (slice_index s.verifiers v) ≡ Some (OfVerifier v)
   pub sent : s.sent ≡ sent_from fs
 
--- these are the frames behind the header, up to the end
+-- these are the frames after the header, up to the end
 pub record IsIndex (h : Head) (bytes : List ℕ) (i : Index) : Type 0 where
   pub frames : List Frame
   pub run : IsRun h frames

@@ -21,7 +21,7 @@ abbrev pub accesses_in : Frame → ℕ
 accesses_in (OfAttempt a) = length a.certificate
 accesses_in _ = 0
 
--- the place behind a frame of that kind, which so many access frames have to follow
+-- the place after a frame of that kind, which so many access frames have to follow
 abbrev pub moved : Place → ℕ → ℕ → Place
 moved p kind accesses =
     if kind == 1 then record p { customers = p.customers + 1 }

@@ -7,7 +7,7 @@ use Rattle.eve_frames.specs.Views.{attempt_in, commit_in, rollback_in}
 use Rattle.eve_views.specs.declared.steps.Step as met
 use Rattle.eve_views.specs.declared.steps.Step.TheVariants as of
 
--- its frame stands at this byte offset, and an attempt's access frames behind it
+-- its frame stands at this byte offset, and an attempt's access frames after it
 abbrev pub IsStep : met.Step → ℕ × Step → Type 0
 IsStep (of.Attempt a accesses) (at, Attempts b) = (a.offset ≡ at) × (attempt_in a.bytes.now ≡ without_accesses b)
     × (accesses ≡ accesses_at at b)

@@ -34,7 +34,7 @@ abbrev pub behind : Frame → Walked → Walked
 behind f (Ok fs) = Ok (f ∷ fs)
 behind f (Err e) = Err e
 
--- goes on behind a frame, and stops at what is wrong
+-- goes on after a frame, and stops at what is wrong
 abbrev pub step : List ℕ → Result (Frame × List ℕ) Code → (Frame → List ℕ → Walked) → Walked
 step bytes (Ok x) go = behind x.0 (go x.0 x.1)
 step bytes (Err c) go = Err (c, bytes)

@@ -94,7 +94,7 @@ impl Code {
         }
     }
 
-    /// The number that is printed for it behind an F.
+    /// The number that is printed for it after an F.
     pub fn number(self) -> u8
         ensures { result ≡ number_of self }
     {
@@ -163,7 +163,7 @@ pub struct Fault {
 pub enum CheckFault {
     /// The first fault of those that the check looks for.
     Found(Fault),
-    /// Want of memory, which decides nothing.
+    /// Memory was refused, which decides nothing.
     Memory,
 }
 

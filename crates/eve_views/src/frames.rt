@@ -1,4 +1,4 @@
-//! The frames of a trace, one behind the other.
+//! The frames of a trace, one after the other.
 
 ghost use Rattle.std.specs.Prelude.{◌≡◌, ℕ, [], ◌∷◌, drop, IfSome, IfNone};
 ghost use Rattle.eve_grammar.specs.Frames.{Frame};

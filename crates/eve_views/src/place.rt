@@ -47,7 +47,7 @@ impl Place {
         }
     }
 
-    /// Whether a frame of the kind may stand here, behind customers and batches, and before the first verifier.
+    /// Whether a frame of the kind may stand here, after customers and batches, and before the first verifier.
     fn allows_in_sections(&self, kind: FrameKind) -> bool
         ensures { result ≡ is_allowed_in_sections (limits self.now.head) (place self.now) (kind_byte kind) }
     {
@@ -59,7 +59,7 @@ impl Place {
         }
     }
 
-    /// Whether a frame of the kind may stand here, behind the first verifier.
+    /// Whether a frame of the kind may stand here, after the first verifier.
     fn allows_behind_sections(&self, kind: FrameKind) -> bool
         ensures { result ≡ is_allowed_behind_sections (limits self.now.head) (place self.now) (kind_byte kind) }
     {
@@ -92,7 +92,7 @@ impl Place {
         }
     }
 
-    /// Goes on behind a frame of a kind that may stand here; an attempt has to have that many access frames.
+    /// Goes on after a frame of a kind that may stand here; an attempt has to have that many access frames.
     pub fn pass(&mut self, kind: FrameKind, accesses: usize)
         requires { IsTrue (is_allowed (limits self.old.head) (place self.old) (kind_byte kind)) }
         ensures head { self.new.head ≡ self.old.head }

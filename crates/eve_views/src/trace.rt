@@ -53,7 +53,7 @@ impl<'a> Trace<'a> {
     /// the one with the least number.
     ///
     /// docs/TRACE.md, "Faults of form". One pass over the bytes, and no memory but for the frames' offsets, as
-    /// they come. Want of memory decides nothing.
+    /// they come. Refused memory decides nothing.
     pub fn read(alloc: Global, bytes: &'a [u8]) -> Result<Trace<'a>, CheckFault>
         ensures trace { IfOk result (Spells bytes.now) }
         ensures faultless { IfOk result (λ _. HasNone (IsFormFault bytes.now)) }
@@ -92,7 +92,7 @@ impl<'a> Trace<'a> {
         self.index.offsets.len()
     }
 
-    /// The byte at which a frame begins, or the number of bytes behind the last.
+    /// The byte at which a frame begins, or the number of bytes after the last.
     fn start_of(&self, i: usize) -> usize
         requires { i ≤ length (frames_of self.now) }
         ensures { result ≡ 32 + length (frames_text (take i (frames_of self.now))) }
@@ -104,7 +104,7 @@ impl<'a> Trace<'a> {
         }
     }
 
-    /// A frame, by its number from 0. The frames stand one behind the other from byte 32 on, up to the last byte.
+    /// A frame, by its number from 0. The frames stand one after the other from byte 32 on, up to the last byte.
     pub fn frame(&self, i: usize) -> FrameView<'a>
         requires { i < length (frames_of self.now) }
         ensures frame { (f : Frame) × (slice_get (frames_of self.now) i ≡ Some f) × (result.bytes.now ≡ frame_text f) }
@@ -120,7 +120,7 @@ impl<'a> Trace<'a> {
         }
     }
 
-    /// All frames, one behind the other.
+    /// All frames, one after the other.
     pub fn frames(&self) -> Frames<'_, 'a>
         ensures { result ≡ frames_at self.now }
     {
@@ -195,7 +195,7 @@ impl<'a> Trace<'a> {
         BatchView::new(frame.offset, frame.bytes)
     }
 
-    /// The number of the frame that begins a section, or of the frame behind the last section.
+    /// The number of the frame that begins a section, or of the frame after the last section.
     fn section_from(&self, e: u8) -> u32
         requires { e ≤ length self.now.sections }
         ensures { result ≡ length (before_section self.now e) }
@@ -207,7 +207,7 @@ impl<'a> Trace<'a> {
         }
     }
 
-    /// The number of the frame that begins a verifier's part, or of the frame behind the last.
+    /// The number of the frame that begins a verifier's part, or of the frame after the last.
     fn verifier_from(&self, v: u8) -> u32
         requires { v ≤ length self.now.verifiers }
         ensures { result ≡ length (before_verifier self.now v) }
@@ -237,7 +237,7 @@ impl<'a> Trace<'a> {
         Steps::new(self, from, to)
     }
 
-    /// The byte at which a section begins, or the byte behind the last section.
+    /// The byte at which a section begins, or the byte after the last section.
     fn section_begins(&self, e: u8) -> u64
         requires { e ≤ length self.now.sections }
         ensures { result ≡ section_start self.now e }
@@ -247,7 +247,7 @@ impl<'a> Trace<'a> {
 
     /// The replica in whose section this byte of the trace lies; a section begins with its replica's own frame.
     ///
-    /// `None` for the header, customers, batches, votes, replies sent, the end, and what lies behind it.
+    /// `None` for the header, customers, batches, votes, replies sent, the end, and what lies after it.
     pub fn section_of(&self, offset: u64) -> Option<u8>
         ensures inside { IfSome result (λ e. (e < length self.now.sections)
             × IsTrue (is_in_section self.now e offset)) }

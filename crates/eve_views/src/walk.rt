@@ -60,7 +60,7 @@ pub struct Index {
     pub starts: Starts,
 }
 
-/// Finds the frames behind a header, or the first fault among them.
+/// Finds the frames after a header, or the first fault among them.
 pub fn index_of(alloc: Global, head: Head, bytes: &[u8]) -> Result<Index, CheckFault>
     requires says { SaysHead bytes.now (limits head) }
     requires header { 32 ≤ length bytes.now }

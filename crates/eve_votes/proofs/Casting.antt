@@ -44,7 +44,7 @@ lower_stands P (Some l) at before here = by_test (nat_le l at)
 
 -- ---- verifiers
 
--- behind the last verifier there are no votes
+-- after the last verifier there are no votes
 pub none_behind : (t : Trace) (v at : ℕ) → length t.verifiers ≤ v → IsFurtherAt (votes_at t v) at → ⊥
 unfolding votes_at
 none_behind t v at past s =

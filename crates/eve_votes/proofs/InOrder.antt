@@ -231,7 +231,7 @@ module _ (xs : List Ballot) (order : AreInOrder IsBefore xs) (s n view v : ℕ) 
           let g : c.verifier ≡ v = ap (λ (x : Ballot). x.verifier) same_ballot ∙ alike.verifier in
           record { seq = omega arith; view = λ le. omega arith; verifier = λ le more. omega arith }
 
-  -- what is behind, where this verifier's vote isn't here
+  -- what is after, where this verifier's vote isn't here
   behind_later : ((b : Ballot) → slice_get xs s ≡ Some b → Alike b (at n view v) → ⊥) → (i : ℕ) (c : Ballot) → s ≤ i →
       slice_get xs i ≡ Some c
       → n ≡ c.seq → view ≡ c.view → v < c.verifier

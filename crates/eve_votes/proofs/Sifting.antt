@@ -191,7 +191,7 @@ pub record Sifted (t : Trace) (xs : List Ballot) (i : ℕ) (only : List Ballot) 
       (j : ℕ) × (slice_get only j ≡ Some b)
 
 module _ (t : Trace) (xs : List Ballot) (votes : HasVotes t xs) where
-  -- where two are alike, the later follows, and the one behind the first
+  -- where two are alike, the later follows, and the one after the first
   later_follows : (i j : ℕ) (a b : Ballot) → i < j → slice_get xs i ≡ Some a → slice_get xs j ≡ Some b → Alike a b →
       Follows xs j
   later_follows i j a b less e f h = by (cases_lt i (j - 1))

@@ -52,7 +52,7 @@ pub record IsNotAfter (a b : Ballot) : Type 0 where
   pub verifier : b.seq ≤ a.seq → b.view ≤ a.view → a.verifier ≤ b.verifier
   pub place : b.seq ≤ a.seq → b.view ≤ a.view → b.verifier ≤ a.verifier → a.place ≤ b.place
 
--- each stands so to each that is behind it
+-- each stands so to each that is after it
 abbrev pub AreInOrder : (Ballot → Ballot → Type 0) → List Ballot → Type 0
 AreInOrder R xs = (i j : ℕ) (a b : Ballot) → i < j → slice_get xs i ≡ Some a → slice_get xs j ≡ Some b → R a b
 

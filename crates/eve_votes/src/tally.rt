@@ -93,7 +93,7 @@ impl<'t, 'a> Tally<'t, 'a> {
     ///
     /// docs/MODEL.md, "Faults": a further vote of a verifier on a batch in a view stands at that Vote, two views
     /// of a batch decided as commit stand at the Batch. The votes are sorted once; then those on a batch in a view are
-    /// looked at once for the token that leads, and once more where it may have a quorum. Want of memory decides
+    /// looked at once for the token that leads, and once more where it may have a quorum. Refused memory decides
     /// nothing.
     pub fn of(alloc: Global, trace: &'t Trace<'a>) -> Result<Tally<'t, 'a>, CheckFault>
         ensures trace { IfOk result (λ tally. tally ≡ trace.now) }

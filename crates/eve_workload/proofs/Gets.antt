@@ -14,7 +14,7 @@ module _ {A : Type 0} where
   get_behind (x ∷ xs) ys zero k is = absurd (omega arith)
   get_behind (x ∷ xs) ys (suc n) k is = get_behind xs ys n k (omega arith)
 
-  -- an element stands in the front, or behind it
+  -- an element stands in the front, or after it
   pub get_either : (xs ys : List A) (n : ℕ) (x : A) → slice_get (xs ++ ys) n ≡ Some x → (slice_get xs n ≡ Some x)
       ⊎ ((k : ℕ) × (n ≡ length xs + k) × (slice_get ys k ≡ Some x))
   get_either [] ys n x at = inr (n, omega arith, at)

@@ -22,7 +22,7 @@ use Rattle.eve_workload.specs.Marks.{bars, bars_at, place_of, is_barred, spot_of
 
 -- ---- places
 
--- a row that is none of them has the place behind them
+-- a row that is none of them has the place after them
 pub absent_place : (rows : List ℕ) (row : ℕ) → list_any (nat_eq row) rows ≡ false → place_of rows row ≡ length rows
 absent_place [] row h = refl
 absent_place (x ∷ rows) row h =
@@ -50,7 +50,7 @@ present_place (x ∷ rows) row h =
     by true rest = omega arith
     by false rest = omega (arith, rest)
 
--- rows behind leave the places of those in front
+-- rows after leave the places of those in front
 pub front_place : (rows more : List ℕ) (row : ℕ) → place_of rows row < length rows → place_of (rows ++ more) row
     ≡ place_of rows row
 front_place [] more row there = absurd (omega arith)
@@ -62,7 +62,7 @@ front_place (x ∷ rows) more row there = by (nat_eq row x) there (front_place r
     by true h rest = refl
     by false h rest = ap (λ n. 1 + n) (rest (omega arith))
 
--- a row that is none of those in front stands behind them, if at all
+-- a row that is none of those in front stands after them, if at all
 pub behind_place : (rows more : List ℕ) (row : ℕ) → length rows ≤ place_of rows row
     → length rows ≤ place_of (rows ++ more) row
 behind_place [] more row past = omega arith
@@ -74,7 +74,7 @@ behind_place (x ∷ rows) more row past = by (nat_eq row x) past (behind_place r
     by true h rest = absurd (omega arith)
     by false h rest = let later = rest (omega arith) in omega (arith, later)
 
--- a row that is added has the place behind the others
+-- a row that is added has the place after the others
 pub added_place : (rows : List ℕ) (row : ℕ) → list_any (nat_eq row) rows ≡ false → place_of (rows ++ row ∷ []) row
     ≡ length rows
 added_place [] row h = by (nat_eq row row) (eq-eqb row row refl)

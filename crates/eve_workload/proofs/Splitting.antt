@@ -11,7 +11,7 @@ use Rattle.std.proofs.lemmas.List.Concat.{flat_map-append}
 use Rattle.eve_workload.specs.Lines.{text_of_words}
 use Rattle.eve_workload.specs.Words.{is_inside, IsFirstLine}
 
--- each word with a space behind it
+-- each word with a space after it
 abbrev pub spaced : List (List ℕ) → List ℕ
 spaced words = flat_map (λ word. word ++ 32 ∷ []) words
 
@@ -60,7 +60,7 @@ text-push (w ∷ v ∷ words) word =
     ∙ sym (append_assoc (w ++ 32 ∷ []) (spaced (v ∷ words)) (word ++ 10 ∷ [])
     ∙ append_assoc w (32 ∷ []) (spaced (v ∷ words) ++ (word ++ 10 ∷ [])))
 
--- a byte behind the last word
+-- a byte after the last word
 with_byte : (text : List ℕ) (words : List (List ℕ)) (from at byte : ℕ) → IsSplit text words from at → at < length text
     → get_or text at 0 ≡ byte → take (at + 1) text ≡ spaced words ++ (take (at - from) (drop from text) ++ byte ∷ [])
 with_byte text words from at byte split there is =
@@ -105,7 +105,7 @@ split_space text words word from at split there is word_is =
       none = none_more text at split.none (λ feed. omega (arith, feed, is));
     }
 
--- the byte behind a word, where it is no line feed
+-- the byte after a word, where it is no line feed
 pub space_here : (byte : ℕ) → is_inside byte ≡ false → byte ≢ 10 → byte ≡ 32
 space_here byte outside no_feed =
     elim (and_cases (not (byte == 32)) (not (byte == 10)) outside) [

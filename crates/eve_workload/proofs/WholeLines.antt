@@ -1,4 +1,4 @@
--- The lines of a workload are right one behind another, and its text has no bad line.
+-- The lines of a workload are right one after another, and its text has no bad line.
 use Rattle.std.proofs.Common.{◌≡◌, ◌≢◌, IsTrue, ℕ, ◌+◌, ◌≤◌, true, nat_le, List, [], ◌∷◌, ◌++◌, map, length, AllPairs}
 use Rattle.std.proofs.Common.{Contains, inl, inr, refl, sym, ap, subst, ◌∙◌, arith, length-append, append_assoc}
 use Rattle.std.specs.List.{list_all, flat_map, join_with_byte}
@@ -14,7 +14,7 @@ use Rattle.eve_workload.specs.Steps.{is_deployment, IsRightBehind, AreRight, tex
 use Rattle.eve_workload.proofs.Deployments.{other_counts, few_batches, some_customers}
 use Rattle.eve_workload.proofs.OneAnswer.{same_lines, follows_fewer}
 
--- lines with more lines behind them; the nearest first
+-- lines with more lines after them; the nearest first
 abbrev pub onto : List Line → List Line → List Line
 onto before [] = before
 onto before (line ∷ lines) = onto (line ∷ before) lines

@@ -234,7 +234,7 @@ deployment_there (BatchLine ∷ (line ∷ before)) right some = deployment_there
 deployment_there (RequestLine a ∷ []) right some = absurd (false≢true right.0.follows)
 deployment_there (RequestLine a ∷ (line ∷ before)) right some = deployment_there (line ∷ before) right.1 (omega arith)
 
--- whether a line behind the head is there
+-- whether a line after the head is there
 abbrev past_head : List Line → Bool
 past_head [] = false
 past_head (HeadLine d ∷ before) = false

@@ -41,7 +41,7 @@ starts_in (CustomerLine c ∷ before) = starts_in before
 starts_in (BatchLine ∷ before) = starts_in before ++ length (requests_in before) ∷ []
 starts_in (RequestLine a ∷ before) = starts_in before
 
--- the number of the line behind the head, or of the head
+-- the number of the line after the head, or of the head
 abbrev pub next_of : List Line → ℕ
 next_of [] = 1
 next_of (line ∷ before) = 2
@@ -80,18 +80,18 @@ pub record Keeps (d : Draft) (before : List Line) : Type 0 where
   pub names : (name : List ℕ) → has_name d.names.keys name ≡ list_any (same_name name) (names_of (customers_in before))
   pub pairs : (pair : Pair) → has_pair d.pairs.keys pair ≡ list_any (same_pair pair) (map key_of (requests_in before))
 
--- the line was taken, or it may not stand behind these
+-- the line was taken, or it may not stand after these
 abbrev pub Takes : Draft → List Line → Line → Bool → Type 0
 Takes new before line taken = MatchBool taken (Keeps new (line ∷ before)) (¬ IsRightBehind before line)
 
--- so many bytes in front of the text are a line that was taken, or none that may stand behind these is there
+-- so many bytes in front of the text are a line that was taken, or none that may stand after these is there
 abbrev pub TakesLine : Draft → List Line → List ℕ → Option ℕ → Type 0
 TakesLine new before text (Some len) =
     (line : Line) × (take len text ≡ line_text line) × (len ≤ length text) × (0 < len) × Keeps new (line ∷ before)
 TakesLine new before text None = (line : Line) (behind : List ℕ) → text ≡ line_text line ++ behind
     → ¬ IsRightBehind before line
 
--- the draft keeps all lines of the text, which may end behind them
+-- the draft keeps all lines of the text, which may end after them
 pub record KeepsAll (d : Draft) (text : List ℕ) : Type 0 where
   pub before : List Line
   pub keeps : Keeps d before

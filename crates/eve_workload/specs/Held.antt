@@ -10,7 +10,7 @@ cut_at items [] = []
 cut_at items (start ∷ []) = drop start items ∷ []
 cut_at items (start ∷ next ∷ starts) = take (next - start) (drop start items) ∷ cut_at items (next ∷ starts)
 
--- where parts start in the list of all, behind so many items
+-- where parts start in the list of all, after so many items
 abbrev pub starts_from : {A : Type 0} → ℕ → List (List A) → List ℕ
 starts_from behind [] = []
 starts_from behind (part ∷ parts) = behind ∷ starts_from (behind + length part) parts

@@ -1,4 +1,4 @@
--- Which line may stand behind which, and the first that may not. Of the lines before, the nearest stands first.
+-- Which line may stand after which, and the first that may not. Of the lines before, the nearest stands first.
 use Rattle.std.specs.Prelude.{◌≡◌, ℕ, ◌+◌, nat_lt, Bool, true, false, IsTrue, List, [], ◌∷◌, ◌++◌, ⊤, map, length}
 use Rattle.std.specs.Prelude.{Contains}
 use Rattle.eve_grammar.specs.Trace.{Customer, Asked}
@@ -31,7 +31,7 @@ batches_in (CustomerLine c ∷ before) = batches_in before
 batches_in (BatchLine ∷ before) = batches_in before + 1
 batches_in (RequestLine a ∷ before) = batches_in before
 
--- how many requests stand behind the last line that isn't one
+-- how many requests stand after the last line that isn't one
 abbrev pub last_requests : List Line → ℕ
 last_requests [] = 0
 last_requests (HeadLine d ∷ before) = 0
@@ -62,7 +62,7 @@ may_follow (RequestLine a ∷ before) (CustomerLine c) = false
 may_follow (RequestLine a ∷ before) BatchLine = true
 may_follow (RequestLine a ∷ before) (RequestLine b) = true
 
--- whether the text may end behind the lines: a customer is there, and the last batch has a request
+-- whether the text may end after the lines: a customer is there, and the last batch has a request
 abbrev pub may_end : List Line → Bool
 may_end [] = false
 may_end (HeadLine d ∷ before) = false
@@ -95,14 +95,14 @@ IsNew before (CustomerLine c) = ¬ Contains (names_of (customers_in before)) c.n
 IsNew before BatchLine = ⊤
 IsNew before (RequestLine a) = ¬ Contains (map pair_of (requests_in before)) (pair_of a)
 
--- the line may stand behind these
+-- the line may stand after these
 pub record IsRightBehind (before : List Line) (line : Line) : Type 0 where
   pub follows : IsTrue (may_follow before line)
   pub ranges : IsTrue (is_line line)
   pub room : IsTrue (has_room before line)
   pub new : IsNew before line
 
--- each line may stand behind those before it
+-- each line may stand after those before it
 abbrev pub AreRight : List Line → Type 0
 AreRight [] = ⊤
 AreRight (line ∷ before) = IsRightBehind before line × AreRight before
@@ -112,7 +112,7 @@ abbrev pub text_before : List Line → List ℕ
 text_before [] = []
 text_before (line ∷ before) = text_before before ++ line_text line
 
--- The first line that isn't right, counted from 1: those before it are complete and right one behind another,
+-- The first line that isn't right, counted from 1: those before it are complete and right one after another,
 -- no complete line that may stand there follows, and the text may not end there.
 pub record IsBadLine (bytes : List ℕ) (number : ℕ) : Type 0 where
   pub before : List Line

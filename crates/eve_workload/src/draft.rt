@@ -236,14 +236,14 @@ impl Last {
         matches!(self, Last::Batch | Last::Request)
     }
 
-    /// Whether a text may end behind this line.
+    /// Whether a text may end after this line.
     pub(crate) fn may_end(self) -> bool
         ensures { (before : List LineValue) → self ≡ last_in before → result ≡ may_end before }
     {
         matches!(self, Last::Customer | Last::Request)
     }
 
-    // The number of the line behind the head, or of the head.
+    // The number of the line after the head, or of the head.
     fn next_line(self) -> u32
         ensures next { (before : List LineValue) → self ≡ last_in before → result ≡ next_of before }
         ensures small { result ≤ 2 }

@@ -41,7 +41,7 @@ fn begins_as_number(word: &[u8]) -> bool
     }
 }
 
-// The number with one more digit behind it.
+// The number with one more digit after it.
 fn with_digit(value: u64, digit: u8) -> Option<u64>
     ensures more { IfSome result (λ n. (48 ≤ digit) × (digit ≤ 57) × (n ≡ value * 10 + (digit - 48)) × (n < 2 ^ 64)) }
     ensures none { IfNone result (48 ≤ digit → digit ≤ 57 → 2 ^ 64 ≤ value * 10 + (digit - 48)) }
@@ -88,7 +88,7 @@ pub(crate) fn balance(word: &[u8]) -> Option<Cents>
     }
 }
 
-// What stands behind a minus sign.
+// What stands after a minus sign.
 fn behind_minus(word: &[u8]) -> Option<&[u8]>
     ensures some { IfSome result (λ digits. word.now ≡ 45 ∷ digits.now) }
     ensures none { IfNone result (slice_index word.now 0 ≢ 45) }
@@ -99,7 +99,7 @@ fn behind_minus(word: &[u8]) -> Option<&[u8]>
     }
 }
 
-// The balance with these digits behind a minus sign.
+// The balance with these digits after a minus sign.
 fn negative(digits: &[u8]) -> Option<Cents>
     ensures spelled { IfSome result (λ n. 45 ∷ digits.now ≡ signed_decimal n) }
     ensures none { IfNone result ((z : ℤ) → IsTrue (is_balance z) → 45 ∷ digits.now ≢ signed_decimal z) }

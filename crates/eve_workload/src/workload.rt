@@ -48,7 +48,7 @@ impl Workload {
     /// Reads a workload, or finds the first line that isn't right, counted from 1.
     ///
     /// docs/TRACE.md, "Workload". One pass over the text; what tells requests apart is kept in a tree, so the
-    /// time is that of a sort, whatever the text. Want of memory decides nothing.
+    /// time is that of a sort, whatever the text. Refused memory decides nothing.
     pub fn read(alloc: Global, text: &[u8]) -> Result<Workload, WorkloadFault>
         ensures read { IfOk result (λ w. text.now ≡ workload_text w) }
         ensures right { IfOk result IsWorkload }
@@ -106,7 +106,7 @@ impl Workload {
     }
 }
 
-// All lines of the text, one after another, if it may end behind them.
+// All lines of the text, one after another, if it may end after them.
 fn lines_of<'a>(alloc: Global, text: &'a [u8]) -> Result<Draft<'a>, WorkloadFault>
     ensures lines { IfOk result (λ draft. KeepsAll draft text.entry.now) }
     ensures bad { (number : ℕ) → result ≡ Err (WorkloadFault.Line number) → IsBadLine text.entry.now number }
@@ -127,7 +127,7 @@ fn lines_of<'a>(alloc: Global, text: &'a [u8]) -> Result<Draft<'a>, WorkloadFaul
     Ok(draft)
 }
 
-// The workload of lines behind which the text may end.
+// The workload of lines after which the text may end.
 fn whole(draft: Draft<'_>) -> Workload
     requires { (before : List Line) × Keeps draft before × IsTrue (may_end before) }
     ensures text { (before : List Line) → Keeps draft.entry before → IsTrue (may_end before) → text_before before

@@ -85,15 +85,15 @@ Writes-then written failures a b c xs ys (Err e) one two = Stopped-later one two
 
 -- ---- equal texts
 
--- equal texts, and equal ones behind them
+-- equal texts, and equal ones after them
 pub app : {a b c d : List ℕ} → a ≡ b → c ≡ d → (a ++ c) ≡ (b ++ d)
 app {b = b} {c = c} front rest = ap (λ x. x ++ c) front ∙ ap (λ x. b ++ x) rest
 
--- equal texts, and the same behind them
+-- equal texts, and the same after them
 pub onto : (t : List ℕ) {a b : List ℕ} → a ≡ b → (a ++ t) ≡ (b ++ t)
 onto t front = ap (λ x. x ++ t) front
 
--- equal texts behind the same byte
+-- equal texts after the same byte
 pub led : (byte : ℕ) {a b : List ℕ} → a ≡ b → (byte ∷ a) ≡ (byte ∷ b)
 led byte rest = ap (λ x. byte ∷ x) rest
 
@@ -138,7 +138,7 @@ flat_map-flat_map f g [] = refl
 flat_map-flat_map f g (x ∷ xs) =
     flat_map-append f (g x) (flat_map g xs) ∙ ap (λ t. flat_map f (g x) ++ t) (flat_map-flat_map f g xs)
 
--- ---- pieces of a frame, one behind the other
+-- ---- pieces of a frame, one after the other
 
 -- x was appended, and then y
 pub Puts-then : {r s t x y : List ℕ} → Puts r s x → Puts s t y → Puts r t (x ++ y)

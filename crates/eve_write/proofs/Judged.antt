@@ -13,7 +13,7 @@ numbers_fit n [] below = refl
 numbers_fit n (x ∷ xs) below =
     and_from (ltb x n) (list_all (λ x. ltb x n) xs) (lt-ltb x n (below 0)) (numbers_fit n xs (λ i. below (suc i)))
 
--- a test behind one that holds
+-- a test after one that holds
 pub and_true : (a b : Bool) → a ≡ true → (a && b) ≡ b
 and_true a b holds = ap (λ x. x && b) holds
 

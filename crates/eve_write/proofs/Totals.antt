@@ -18,7 +18,7 @@ use Rattle.eve_write.specs.declared.parts.Parts.{Parts}
 use Rattle.eve_write.specs.Passes.{front_text, rest_text, step_size, vote_size}
 use Rattle.eve_write.proofs.Joined.{flat_map-flat_map}
 
--- what stands behind the header, part by part
+-- what stands after the header, part by part
 pub parts_text : Trace → List ℕ
 parts_text t =
     flat_map customer_text t.customers ++ (flat_map batch_text (batches_of t) ++ (flat_map section_text (sections_of t)

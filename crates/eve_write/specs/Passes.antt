@@ -50,7 +50,7 @@ front_text p total =
     head_text (head_of (trace p)) total ++
     (flat_map customer_text (trace p).customers ++ flat_map batch_text (batches_of (trace p)))
 
--- what stands behind them
+-- what stands after them
 abbrev pub rest_text : Parts → List ℕ
 rest_text p =
     flat_map section_text (sections_of (trace p)) ++ (flat_map votes_text (verifiers_of (trace p))

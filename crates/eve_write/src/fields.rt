@@ -178,7 +178,7 @@ pub(crate) fn put_entries<const N: usize>(frame: &mut ArrayVec<u8, N>, entries: 
     }
 }
 
-// Appends a name behind its length.
+// Appends a name after its length.
 fn put_name<const N: usize>(frame: &mut ArrayVec<u8, N>, name: &[u8])
     requires short { length name.now ≤ 24 }
     requires room { array_vec_len frame.old + 1 + length name.now ≤ N }
@@ -211,7 +211,7 @@ fn put_pair<const N: usize>(frame: &mut ArrayVec<u8, N>, code: u8, from: &[u8], 
     put_name(frame, to);
 }
 
-/// Appends a request behind its client and number, of at most 51 bytes.
+/// Appends a request after its client and number, of at most 51 bytes.
 pub(crate) fn put_request<const N: usize>(frame: &mut ArrayVec<u8, N>, request: Request<'_>)
     requires right { IsTrue (is_request (plain request)) }
     requires room { array_vec_len frame.old + 51 ≤ N }
