@@ -9,25 +9,25 @@ use copy::parts_of;
 use eve_streams::failing::FailsAt;
 use eve_streams::one_byte::OneByte;
 use eve_streams::{Buffered, SinkOf};
-use eve_views::Trace;
+use eve_views::{CheckFault, Trace};
 use eve_write::{ChoiceData, GatherFault, Parts, VoteData, gather};
-use std::alloc::Global;
+use std::alloc::{AllocError, Global};
 use std::io::{ErrorKind, Write};
 use std::{fs, io};
 
 // How many bytes a trace has at most.
 const LONGEST: u64 = 1 << 30;
 
-/// A sink in memory.
-fn memory(alloc: Global) -> SinkOf<Vec<u8>> {
-    SinkOf::new(Vec::new(alloc))
+/// A sink in memory that has room for so many bytes: it fails for lack of memory here, and not where it is written to.
+fn memory(alloc: Global, room: usize) -> io::Result<SinkOf<Vec<u8>>> {
+    Ok(SinkOf::new(Vec::with_capacity(alloc, room)?))
 }
 
 /// Whether the parts are written as these bytes, after a buffer too, and only within the limit.
 fn is_written(alloc: Global, parts: &Parts, bytes: &[u8]) -> io::Result<bool> {
-    let mut out = memory(alloc);
+    let mut out = memory(alloc, bytes.len())?;
     let written = gather(parts, LONGEST, &mut out);
-    let mut buffered = Buffered::new(alloc, memory(alloc))?;
+    let mut buffered = Buffered::new(alloc, memory(alloc, bytes.len())?)?;
     let held = gather(parts, LONGEST, &mut buffered);
     let flushed = buffered.flush();
     Ok(
@@ -40,27 +40,30 @@ fn is_written(alloc: Global, parts: &Parts, bytes: &[u8]) -> io::Result<bool> {
 }
 
 /// Whether the parts are written within this limit, and not within one that is a byte lower.
-fn is_limited(alloc: Global, parts: &Parts, limit: u64) -> bool {
-    let mut out = memory(alloc);
-    let within = gather(parts, limit.min(LONGEST), &mut memory(alloc));
+fn is_limited(alloc: Global, parts: &Parts, limit: usize) -> io::Result<bool> {
+    let mut out = memory(alloc, limit)?;
+    let limit = limit as u64;
     let beyond = gather(parts, limit.saturating_sub(1).min(LONGEST), &mut out);
-    within == Ok(limit) && beyond == Err(GatherFault::TooLong) && out.writer().is_empty()
+    let is_empty = out.writer().is_empty();
+    let within = gather(parts, limit.min(LONGEST), &mut out);
+    Ok(within == Ok(limit) && beyond == Err(GatherFault::TooLong) && is_empty)
 }
 
 /// Whether a sink that fails at one byte has those before it, and no more.
-fn stops_at_each_byte(alloc: Global, parts: &Parts, bytes: &[u8]) -> bool {
+fn stops_at_each_byte(alloc: Global, parts: &Parts, bytes: &[u8]) -> io::Result<bool> {
     for call in 1..=bytes.len() {
-        let mut out = FailsAt::new(OneByte::new(memory(alloc)), call as u64);
+        let sink = memory(alloc, call)?;
+        let mut out = FailsAt::new(OneByte::new(sink), call as u64);
         let stopped = gather(parts, LONGEST, &mut out);
         let sent = out.stream().stream().writer().as_slice();
         if stopped != Err(GatherFault::Write)
             || sent.len() + 1 != call
             || !bytes.starts_with(sent)
         {
-            return false;
+            return Ok(false);
         }
     }
-    true
+    Ok(true)
 }
 
 /// Whether the parts are refused, before a byte is written, once a vote for a rollback has a token.
@@ -74,7 +77,7 @@ fn is_shaped(alloc: Global, mut parts: Parts) -> io::Result<bool> {
     })?;
     parts.quorum = parts.verifiers.len().min(16) as u8 + 1;
     parts.verifiers.push(votes)?;
-    let mut out = memory(alloc);
+    let mut out = memory(alloc, 0)?;
     Ok(gather(&parts, 0, &mut out) == Err(GatherFault::Shape) && out.writer().is_empty())
 }
 
@@ -82,9 +85,9 @@ fn is_shaped(alloc: Global, mut parts: Parts) -> io::Result<bool> {
 fn wrong_of(alloc: Global, parts: &Parts, bytes: &[u8]) -> io::Result<Option<&'static str>> {
     if !is_written(alloc, parts, bytes)? {
         Ok(Some("other bytes"))
-    } else if !is_limited(alloc, parts, bytes.len() as u64) {
+    } else if !is_limited(alloc, parts, bytes.len())? {
         Ok(Some("another limit"))
-    } else if !stops_at_each_byte(alloc, parts, bytes) {
+    } else if !stops_at_each_byte(alloc, parts, bytes)? {
         Ok(Some("goes on where the sink failed"))
     } else {
         Ok(None)
@@ -113,7 +116,8 @@ fn came_of_trace(alloc: Global, trace: &Trace, bytes: &[u8]) -> io::Result<&'sta
 fn came_of(alloc: Global, bytes: &[u8]) -> io::Result<&'static str> {
     match Trace::read(alloc, bytes) {
         Ok(trace) => came_of_trace(alloc, &trace, bytes),
-        Err(_) => Ok("no trace"),
+        Err(CheckFault::Memory) => Err(AllocError)?,
+        Err(CheckFault::Found(_)) => Ok("no trace"),
     }
 }
 
