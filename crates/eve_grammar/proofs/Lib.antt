@@ -6,7 +6,7 @@ pub mod FrameLaws
 pub mod Straight
 pub mod Scans
 pub mod Loops
-pub mod Slices
+pub mod Passing
 pub mod Standing
 pub mod RestParts
 pub mod RestFrames

@@ -25,14 +25,6 @@ total_more count i k n bytes more all lt read big so_far =
     rw (left, read, test) (plus-plus k n (total_at (count - (i + 1)) more)) in
     sym one ∙ so_far
 
-pub total_short : (count i k : ℕ) (bytes : List ℕ) (all : Option (ℕ × List ℕ)) → i < count → number_at 2 bytes ≡ None
-    → plus k (total_at (count - i) bytes) ≡ all → all ≡ None
-unfolding total_at
-total_short count i k bytes all lt read so_far =
-    let left : count - i ≡ suc (count - (i + 1)) = omega arith in
-    let one : plus k (total_at (count - i) bytes) ≡ None = rw (left, read) refl in
-    sym so_far ∙ one
-
 pub rest_more : {A : Type 0} (one : Reader A) (count i : ℕ) (bytes more : List ℕ) (a : A) (all : Option (List ℕ))
     → i < count → one bytes ≡ Some (a, more)
     → rest_at one (count - i) bytes ≡ all → rest_at one (count - (i + 1)) more ≡ all

@@ -1,18 +1,17 @@
 -- Reading that keeps no values finds the same as reading that does.
 use Rattle.std.proofs.Common.{◌≡◌, ℕ, zero, suc, ◌+◌, ◌*◌, ◌≤◌, Bool, true, false, ◌&&◌, cond, ltb, leb, List, [], ◌∷◌}
-use Rattle.std.proofs.Common.{length, take, drop, sum, Option, Some, None, refl, sym, ap, subst, ◌∙◌, arith}
+use Rattle.std.proofs.Common.{length, drop, sum, Option, Some, None, refl, sym, ap, subst, ◌∙◌, arith}
 use Rattle.std.specs.Prelude.{IsTrue}
 use Rattle.std.specs.List.{flat_map, list_all}
 use Rattle.std.proofs.lemmas.Bool.{and_parts, and_from, le-ltb, leb-true, le-leb}
-use Rattle.std.proofs.lemmas.List.{length-append, take_at, drop_at, append-nil, length-drop, drop-drop}
+use Rattle.std.proofs.lemmas.List.{length-append, length-drop, drop-drop}
 use Rattle.std.proofs.lemmas.List.Sums.{sum_by-cons}
 use Rattle.byteorder.specs.Endian.{big_number}
 use Rattle.eve_grammar.specs.Trace.{Restore}
 use Rattle.eve_grammar.specs.Limits.{is_rising}
-use Rattle.eve_grammar.specs.Reading.{◌>>=◌, Reader, number_at, only, many_at, restore_at}
+use Rattle.eve_grammar.specs.Reading.{◌>>=◌, Reader, number_at, many_at, restore_at}
 use Rattle.eve_grammar.specs.Scanning.{total_at, rest_at, rising_at}
-use Rattle.eve_grammar.specs.Bodies.{values, list_in}
-use Rattle.eve_grammar.proofs.Codec.{IsBytes, bind_some, guard_some, some_is, Codec, Codec-many}
+use Rattle.eve_grammar.proofs.Codec.{bind_some, some_is}
 
 -- ---- this many of a field
 
@@ -62,51 +61,12 @@ many_length {A = A} one (suc n) bytes x e =
     let there : List A × List ℕ = (a.0.0 ∷ b.0.0, b.0.1) in
     ap (λ (y : List A × List ℕ). length y.0) (sym (some_is there x b.2)) ∙ ap suc (many_length one n a.0.1 b.0 b.1)
 
--- what passes a test is read without it
-pub many_only : {A : Type 0} (test : A → Bool) (one : Reader A) (n : ℕ) (bytes : List ℕ) (x : List A × List ℕ)
-    → many_at (only test one) n bytes ≡ Some x → many_at one n bytes ≡ Some x
-unfolding many_at
-many_only test one zero bytes x e = e
-many_only {A = A} test one (suc n) bytes x e =
-    let a = bind_some (only test one bytes) (λ a. many_at (only test one) n a.1 >>= λ y. Some (a.0 ∷ y.0, y.1)) x e in
-    let b = bind_some (many_at (only test one) n a.0.1) (λ y. Some (a.0.0 ∷ y.0, y.1)) x a.2 in
-    let c = bind_some (one bytes) (λ a. cond (test a.0) (Some a) None) a.0 a.1 in
-    let g = guard_some (test c.0.0) (Some c.0) a.0 c.2 in
-    let first : one bytes ≡ Some a.0 = c.1 ∙ g.1 in
-    rw (first, many_only test one n a.0.1 b.0 b.1) b.2
-
 -- ---- of a fixed length
 
 pub text_length : {A : Type 0} (m : ℕ) (ta : A → List ℕ) → ((a : A) → length (ta a) ≡ m) → (xs : List A)
     → length (flat_map ta xs) ≡ m * length xs
 text_length m ta len [] = omega arith
 text_length m ta len (x ∷ xs) = omega (arith, len x, text_length m ta len xs, length-append (ta x) (flat_map ta xs))
-
--- this many values take their bytes, and what stands in those gives them again
-pub record InPlace {A : Type 0} (m n : ℕ) (one : Reader A) (bytes : List ℕ) (x : List A × List ℕ) : Type 0 where
-  pub long : m * n ≤ length bytes
-  pub rest : x.1 ≡ drop (m * n) bytes
-  pub again : list_in one n (take (m * n) bytes) ≡ x.0
-
-pub many_in_place : {A : Type 0} (m : ℕ) (ta : A → List ℕ) (fa : A → Bool) (one : Reader A) → Codec ta fa one
-    → ((a : A) → length (ta a) ≡ m)
-    → (n : ℕ) (bytes : List ℕ) (x : List A × List ℕ) → IsBytes bytes → many_at one n bytes ≡ Some x
-    → InPlace m n one bytes x
-many_in_place {A = A} m ta fa one codec len n bytes x fits e =
-    let many = Codec-many ta fa one codec n in
-    let t = many.takes bytes x fits e in
-    let count : length x.0 ≡ n = many_length one n bytes x e in
-    let size : length (flat_map ta x.0) ≡ m * n = text_length m ta len x.0 ∙ ap (λ (k : ℕ). m * k) count in
-    let front : take (m * n) bytes ≡ flat_map ta x.0 = ap (take (m * n)) t.0.parts
-    ∙ take_at (flat_map ta x.0) x.1 (m * n) size in
-    let back : drop (m * n) bytes ≡ x.1 = ap (drop (m * n)) t.0.parts ∙ drop_at (flat_map ta x.0) x.1 (m * n) size in
-    let read : many_at one n (flat_map ta x.0) ≡ Some (x.0, []) =
-    ap (many_at one n) (sym (append-nil (flat_map ta x.0))) ∙ many.again x.0 [] t.1 in
-    record {
-      long = omega (arith, size, ap length t.0.parts, length-append (flat_map ta x.0) x.1);
-      rest = sym back;
-      again = ap (list_in one n) front ∙ ap values read;
-    }
 
 -- numbers of two bytes are there where the bytes are
 pub many_numbers : (n : ℕ) (bytes : List ℕ) → 2 * n ≤ length bytes → (xs : List ℕ)

@@ -1,6 +1,17 @@
 -- Reading that keeps no values.
-use Rattle.std.specs.Prelude.{ℕ, zero, suc, ◌+◌, List, Option, Some, None, nat_le, if◌then◌else◌}
+use Rattle.std.specs.Prelude.{◌≡◌, ℕ, zero, suc, ◌+◌, List, Option, Some, None, nat_le, if◌then◌else◌}
 use Rattle.eve_grammar.specs.Reading.{◌>>=◌, Reader, number_at, restore_at}
+
+-- a function returned what stands after a part, seen by view, and None where reading finds no such part
+abbrev pub Passes : {X A : Type 0} → (X → List ℕ) → Option X → Option (A × List ℕ) → Type 0
+Passes {A = A} view (Some x) read = (part : A) × (read ≡ Some (part, view x))
+Passes view None read = read ≡ None
+
+-- the same with a measure of the part, as its sum or its length, and what stands after it
+abbrev pub Measures : {X A : Type 0} → (X → ℕ × List ℕ) → (A → ℕ) → Option X → Option (A × List ℕ) → Type 0
+Measures {A = A} view measure (Some x) read =
+    (part : A) × (read ≡ Some (part, (view x).1)) × (measure part ≡ (view x).0)
+Measures view measure None read = read ≡ None
 
 -- the sum of this many sizes, if none is 0
 unfoldable pub total_at : ℕ → Reader ℕ

@@ -1,4 +1,5 @@
-//! The grammar of traces: what a trace is, its one spelling, and exact readers of every field and body.
+//! The grammar of traces: what a trace is, its one spelling, and exact readers of every field and tests of every
+//! body.
 #![tactic(auto)]
 
 mod access;
@@ -21,12 +22,12 @@ mod rollback;
 mod sent;
 mod vote;
 
-pub use access::AccessBody;
-pub use attempt::AttemptBody;
-pub use batch::BatchBody;
+pub use access::is_access_body;
+pub use attempt::certificate_len;
+pub use batch::batch_number;
 pub use certificate::{is_certificate, is_permutation};
-pub use commit::CommitBody;
-pub use customer::CustomerBody;
+pub use commit::is_commit_body;
+pub use customer::is_customer_body;
 pub use entry::{entry_at, row_of};
 pub use fields::{number_of, u8_at, u16_at, u32_at, u64_at};
 pub use frame_kind::FrameKind;
@@ -39,6 +40,6 @@ pub use limits::{
 pub use reply::reply_at;
 pub use request::{Asked, asked_at};
 pub use restore::{Restore, restore_at};
-pub use rollback::RollbackBody;
-pub use sent::SentBody;
-pub use vote::{Choice, VoteBody};
+pub use rollback::is_rollback_body;
+pub use sent::is_sent_body;
+pub use vote::{Choice, is_vote_body};

@@ -10,28 +10,11 @@ use Rattle.eve_grammar.specs.Trace.{Head}
 use Rattle.eve_grammar.specs.Frames.{Frame, OfCustomer, OfBatch, OfReplica, OfAttempt, OfAccess, OfCommit, OfRollback}
 use Rattle.eve_grammar.specs.Frames.{OfVerifier, OfVote, OfSent, End, Place, next, kind_of, is_allowed}
 use Rattle.eve_grammar.specs.Reading.{number_at, many_at, body_of}
-use Rattle.eve_grammar.specs.Bodies.{numbers_in}
 use Rattle.eve_views.specs.declared.fault.Code.TheVariants as code
 use Rattle.eve_views.specs.Form.{is_framed}
 use Rattle.eve_views.specs.Places.{accesses_in, moved}
 use Rattle.eve_views.specs.Walk.{with_rest, frame_at}
 use Rattle.eve_views.specs.Indexing.{kept}
-
--- ---- numbers of two bytes
-
-many_numbers : (n : ℕ) (bytes : List ℕ) → 2 * n ≤ length bytes → (x : List ℕ × List ℕ)
-    × (many_at (number_at 2) n bytes ≡ Some x) × (length x.0 ≡ n)
-unfolding many_at
-many_numbers zero bytes le = (([], bytes), refl, refl)
-many_numbers (suc n) bytes le =
-    let long : ltb (length bytes) 2 ≡ false = le-ltb _ _ (omega arith) in
-    let rest = many_numbers n (drop 2 bytes) (omega (arith, length-drop 2 bytes)) in
-    ((big_number 2 bytes ∷ rest.0.0, rest.0.1), rw (long, rest.1) refl, ap suc rest.2)
-
--- there are half as many as bytes
-pub length-numbers_in : (bytes : List ℕ) → length (numbers_in bytes) ≡ length bytes / 2
-unfolding numbers_in
-length-numbers_in bytes = let r = many_numbers (length bytes / 2) bytes (omega arith) in rw r.1 r.2
 
 -- ---- the front of bytes
 

@@ -10,8 +10,8 @@ ghost use Rattle.eve_views.specs.Places.{place, accesses_in};
 
 use crate::place::Place;
 use eve_grammar::{
-    AccessBody, AttemptBody, BatchBody, CommitBody, CustomerBody, FrameKind, MOST_NAMES,
-    RollbackBody, SentBody, VoteBody, number_of,
+    FrameKind, MOST_NAMES, batch_number, certificate_len, is_access_body, is_commit_body,
+    is_customer_body, is_rollback_body, is_sent_body, is_vote_body, number_of,
 };
 
 /// Whether the body is right for a frame of this kind, other than an attempt, that stands here.
@@ -23,18 +23,18 @@ fn is_body(at: &Place, kind: FrameKind, body: &[u8]) -> bool
 {
     let rows = 2 * at.head.customers;
     match kind {
-        FrameKind::Customer => CustomerBody::read(body).is_some(),
-        FrameKind::Batch => match BatchBody::read(body) {
-            Some(batch) => batch.number.checked_sub(1) == Some(at.batches),
+        FrameKind::Customer => is_customer_body(body),
+        FrameKind::Batch => match batch_number(body) {
+            Some(number) => number.checked_sub(1) == Some(at.batches),
             None => false,
         },
         FrameKind::Replica => number_of(body) == Some(at.replicas),
-        FrameKind::Access => AccessBody::read(rows, body).is_some(),
-        FrameKind::Commit => CommitBody::read(body).is_some(),
-        FrameKind::Rollback => RollbackBody::read(rows, body).is_some(),
+        FrameKind::Access => is_access_body(rows, body),
+        FrameKind::Commit => is_commit_body(body),
+        FrameKind::Rollback => is_rollback_body(rows, body),
         FrameKind::Verifier => number_of(body) == Some(at.verifiers),
-        FrameKind::Vote => VoteBody::read(at.head.batches, body).is_some(),
-        FrameKind::Sent => SentBody::read(at.head.replicas, at.head.batches, body).is_some(),
+        FrameKind::Vote => is_vote_body(at.head.batches, body),
+        FrameKind::Sent => is_sent_body(at.head.replicas, at.head.batches, body),
         FrameKind::End => body.is_empty(),
         FrameKind::Attempt => false,
     }
@@ -47,8 +47,8 @@ pub fn accesses_behind(at: &Place, kind: FrameKind, body: &[u8]) -> Option<usize
     ensures { result ≡ option_map accesses_in (body_of (limits at.now.head) (place at.now) (kind_byte kind) body.now) }
 {
     match kind {
-        FrameKind::Attempt => match AttemptBody::read(body) {
-            Some(attempt) => Some(attempt.certificate.len() / 2),
+        FrameKind::Attempt => match certificate_len(body) {
+            Some(len) => Some(len as usize),
             None => None,
         },
         _ => {

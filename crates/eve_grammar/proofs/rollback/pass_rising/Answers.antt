@@ -2,7 +2,7 @@ use Rattle.std.proofs.Common.{◌≤◌, arith}
 use Rattle.eve_grammar.specs.Bodies.{restore}
 use Rattle.eve_grammar.specs.Scanning.{rising_at}
 use Rattle.eve_grammar.proofs.Loops.{rising_more}
-use Rattle.eve_grammar.proofs.rollback.behind_restores.Goals as goal
+use Rattle.eve_grammar.proofs.rollback.pass_rising.Goals as goal
 
 pub loop-preserved : goal.loop-preserved
 loop-preserved c =

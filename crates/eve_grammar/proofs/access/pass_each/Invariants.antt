@@ -1,7 +1,7 @@
 use Rattle.std.proofs.Common.{◌≡◌, ◌-◌}
 use Rattle.eve_grammar.specs.Reading.{entry_at}
 use Rattle.eve_grammar.specs.Scanning.{rest_at}
-use Rattle.eve_grammar.proofs.access.behind_entries.Given as goal
+use Rattle.eve_grammar.proofs.access.pass_each.Given as goal
 
 abbrev pub invariant-loop : goal.invariant-loop
 invariant-loop l = rest_at (entry_at l.rows) (l.count - l.counter) l.rest ≡ rest_at (entry_at l.rows) l.count l.bytes

@@ -1,7 +1,7 @@
 use Rattle.std.proofs.Common.{◌≡◌, ◌-◌}
 use Rattle.eve_grammar.specs.Reading.{asked_at}
 use Rattle.eve_grammar.specs.Scanning.{rest_at}
-use Rattle.eve_grammar.proofs.batch.behind_requests.Given as goal
+use Rattle.eve_grammar.proofs.batch.pass_requests.Given as goal
 
 abbrev pub invariant-loop : goal.invariant-loop
 invariant-loop l = rest_at asked_at (l.count - l.counter) l.rest ≡ rest_at asked_at l.count l.bytes

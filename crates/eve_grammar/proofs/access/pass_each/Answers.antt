@@ -1,0 +1,19 @@
+use Rattle.eve_grammar.specs.Reading.{entry_at}
+use Rattle.eve_grammar.specs.Scanning.{rest_at}
+use Rattle.eve_grammar.proofs.Loops.{rest_more}
+use Rattle.eve_grammar.proofs.Passing.{all_passed, one_missing}
+use Rattle.eve_grammar.proofs.access.pass_each.Goals as goal
+
+pub loop-preserved : goal.loop-preserved
+loop-preserved c =
+    rest_more (entry_at c.args.rows) c.args.count c.loop.counter c.loop.rest.now c.in-Some.more.now (c.in-Some._entry)
+    (rest_at (entry_at c.args.rows) c.args.count c.args.bytes.now) c.loop-test.true c.in-Some.ensures
+    c.loop.invariant
+
+pub returns-in_default : goal.returns-in_default
+returns-in_default c = one_missing (entry_at c.args.rows) c.args.count c.loop.counter c.args.bytes.now c.loop.rest.now
+    c.loop-test.true c.in_default.ensures c.loop.invariant
+
+pub returns : goal.returns
+returns c = all_passed (entry_at c.args.rows) c.args.count c.loop.counter c.args.bytes.now c.loop.rest.now
+    c.loop-test.false c.loop.invariant
