@@ -17,6 +17,3 @@ pub use name::Name;
 pub use names::{NameFault, Names, is_name};
 pub use row::Row;
 pub use set_row::SetRow;
-
-#[cfg(test)]
-mod tests;

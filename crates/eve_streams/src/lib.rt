@@ -16,6 +16,3 @@ pub use sink::{SendFault, Sink, a_failure_shows, send_all};
 pub use sink_of::SinkOf;
 pub use source::{FetchFault, Source};
 pub use source_of::SourceOf;
-
-#[cfg(test)]
-mod tests;

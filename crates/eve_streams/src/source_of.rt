@@ -32,8 +32,8 @@ impl<R: Read + Drop> SourceOf<R> {
         SourceOf::within(reader, MOST_READS)
     }
 
-    // The same, of a reader that is read so often.
-    pub(crate) fn within(reader: R, reads: u32) -> SourceOf<R>
+    /// The same, of a reader that is read `reads` times at most.
+    pub fn within(reader: R, reads: u32) -> SourceOf<R>
         ensures reader { reader_of result ≡ reader }
         ensures fine { failures_of result ≡ 0 }
         ensures reads { reads_left_of result ≡ reads }

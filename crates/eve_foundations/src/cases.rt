@@ -1,4 +1,4 @@
-//! How the lines of the input say numbers, balances and replies.
+//! How the lines of the input say bytes, numbers, balances and replies.
 
 use eve_accounts::{Balances, Cents, Row};
 use eve_smallbank::{Abort, Reply};
@@ -9,6 +9,56 @@ use std::io::ErrorKind;
 /// A number that isn't negative.
 pub(crate) fn number_of(word: &str) -> io::Result<u32> {
     Ok(word.parse().ok().ok_or(ErrorKind::InvalidData)?)
+}
+
+/// The number of a call, from 1; 0 is none.
+pub(crate) fn call_of(word: &str) -> io::Result<u64> {
+    Ok(word.parse().ok().ok_or(ErrorKind::InvalidData)?)
+}
+
+/// Bytes as they are written: those in braces are in hexadecimal.
+pub(crate) fn bytes_of(alloc: Global, written: &str) -> io::Result<Vec<u8>> {
+    let mut bytes = Vec::new(alloc);
+    let mut at = Place::Outside;
+    for byte in written.as_bytes() {
+        let (next, done) = after(at, *byte)?;
+        at = next;
+        if let Some(byte) = done {
+            bytes.push(byte)?;
+        }
+    }
+    Ok(bytes)
+}
+
+/// Where in a word a byte stands: outside of braces, inside of them, or after the first digit of a byte.
+#[derive(Clone, Copy)]
+enum Place {
+    Outside,
+    Inside,
+    After(u8),
+}
+
+/// Where the next byte of a word stands, and the byte that ends with this one, if one does.
+fn after(at: Place, byte: u8) -> io::Result<(Place, Option<u8>)> {
+    Ok(match (at, byte) {
+        (Place::Outside, b'{') => (Place::Inside, None),
+        (Place::Outside, byte) => (Place::Outside, Some(byte)),
+        (Place::Inside, b'}') => (Place::Outside, None),
+        (Place::Inside, digit) => (Place::After(digit_of(digit)?), None),
+        (Place::After(high), digit) => {
+            let low = digit_of(digit)?;
+            (Place::Inside, Some(high.wrapping_mul(16).wrapping_add(low)))
+        }
+    })
+}
+
+/// What a hexadecimal digit stands for.
+fn digit_of(digit: u8) -> io::Result<u8> {
+    match digit {
+        b'0'..=b'9' => Ok(digit - b'0'),
+        b'a'..=b'f' => Ok(digit - b'a' + 10),
+        _ => Err(ErrorKind::InvalidData)?,
+    }
 }
 
 /// A balance: so many cents.

@@ -1,0 +1,180 @@
+//! Sinks and sources over a device that does what it is told.
+
+ghost use Rattle.std.specs.Prelude.{IfOk, ◌≤◌};
+
+use crate::cases::{bytes_of, number_of};
+use crate::streams::read_of;
+use eve_streams::{SinkOf, Source, SourceOf, send_all};
+use std::alloc::{AllocError, Global};
+use std::io;
+use std::io::{Error, ErrorKind, Read, Write};
+
+/// What a call of a device does.
+#[derive(Clone, Copy)]
+enum Turn {
+    Moves(usize),
+    Interrupted,
+    Fails,
+}
+
+/// A device that does what it is told, and then moves nothing.
+#[derive(Drop)]
+struct Device<'a> {
+    turns: &'a [Turn],
+    moved: usize,
+}
+
+impl Device<'_> {
+    fn next(&mut self, most: usize) -> io::Result<usize>
+        ensures { IfOk result (λ n. n ≤ most) }
+    {
+        let Some((turn, rest)) = self.turns.split_first() else {
+            return Ok(0);
+        };
+        self.turns = rest;
+        match turn {
+            Turn::Moves(n) => {
+                let n = (*n).min(most);
+                self.moved = self.moved.wrapping_add(n);
+                Ok(n)
+            }
+            Turn::Interrupted => Err(Error::new(ErrorKind::Interrupted, "again")),
+            Turn::Fails => Err(Error::other("broken")),
+        }
+    }
+}
+
+impl Write for Device<'_> {
+    fn write(&mut self, bytes: &[u8]) -> io::Result<usize> {
+        self.next(bytes.len())
+    }
+
+    fn flush(&mut self) -> io::Result<()> {
+        Ok(())
+    }
+}
+
+impl Read for Device<'_> {
+    fn read(&mut self, buffer: &mut [u8]) -> io::Result<usize> {
+        self.next(buffer.len())
+    }
+}
+
+/// Turns, separated by commas.
+fn turns_of(alloc: Global, words: &str) -> io::Result<Vec<Turn>> {
+    let mut turns = Vec::new(alloc);
+    for word in words.split(',') {
+        turns.push(match word {
+            "again" => Turn::Interrupted,
+            "fails" => Turn::Fails,
+            number => Turn::Moves(number_of(number)? as usize),
+        })?;
+    }
+    Ok(turns)
+}
+
+/// Tells what a line about a device asks for.
+pub(crate) fn tell(
+    alloc: Global,
+    line: &str,
+    what: &str,
+    words: &[&str],
+    said: &mut String,
+) -> io::Result<()> {
+    write!(said, "{line}:")?;
+    match (what, words) {
+        ("write-to", [turns, bytes]) => {
+            let bytes = bytes_of(alloc, bytes)?;
+            tell_write(alloc, turns, bytes.as_slice(), said)
+        }
+        ("tries", [count, turns, bytes]) => {
+            let bytes = bytes_of(alloc, bytes)?;
+            tell_tries(alloc, number_of(count)?, turns, bytes.as_slice(), said)
+        }
+        ("read-from", [turns, limit]) => tell_device_read(alloc, turns, number_of(limit)?, said),
+        ("reads", [count, turns, limit]) => {
+            tell_reads(alloc, number_of(count)?, turns, number_of(limit)?, said)
+        }
+        _ => Err(ErrorKind::InvalidData)?,
+    }
+}
+
+/// Sends bytes to a device.
+fn tell_write(alloc: Global, turns: &str, bytes: &[u8], said: &mut String) -> io::Result<()> {
+    let turns = turns_of(alloc, turns)?;
+    let device = Device {
+        turns: turns.as_slice(),
+        moved: 0,
+    };
+    let mut sink = SinkOf::new(device);
+    let sent = send_all(&mut sink, bytes);
+    let (failed, moved) = (sink.failures(), sink.writer().moved);
+    Ok(write!(said, " {sent:?}, {failed} failed, {moved} moved")?)
+}
+
+/// Sends bytes once to a device, which is called so often at most.
+fn tell_tries(
+    alloc: Global,
+    count: u32,
+    turns: &str,
+    bytes: &[u8],
+    said: &mut String,
+) -> io::Result<()> {
+    let turns = turns_of(alloc, turns)?;
+    let device = Device {
+        turns: turns.as_slice(),
+        moved: 0,
+    };
+    let mut sink = SinkOf::new(device);
+    let sent = sink.send_within(bytes, count);
+    let (failed, moved) = (sink.failures(), sink.writer().moved);
+    Ok(write!(said, " {sent:?}, {failed} failed, {moved} moved")?)
+}
+
+/// Reads a device to its end, or to a limit.
+fn tell_device_read(alloc: Global, turns: &str, limit: u32, said: &mut String) -> io::Result<()> {
+    let turns = turns_of(alloc, turns)?;
+    let device = Device {
+        turns: turns.as_slice(),
+        moved: 0,
+    };
+    let mut source = SourceOf::new(device);
+    Ok(tell_source(alloc, &mut source, limit, said)?)
+}
+
+/// Reads a device to its end, or to a limit, calling it so often at most.
+fn tell_reads(
+    alloc: Global,
+    count: u32,
+    turns: &str,
+    limit: u32,
+    said: &mut String,
+) -> io::Result<()> {
+    let turns = turns_of(alloc, turns)?;
+    let device = Device {
+        turns: turns.as_slice(),
+        moved: 0,
+    };
+    let mut source = SourceOf::within(device, count);
+    Ok(tell_source(alloc, &mut source, limit, said)?)
+}
+
+/// Reads a source, and fetches once more.
+fn tell_source(
+    alloc: Global,
+    source: &mut SourceOf<Device<'_>>,
+    limit: u32,
+    said: &mut String,
+) -> Result<(), AllocError> {
+    match read_of(alloc, source, limit)? {
+        Some(bytes) => write!(said, " {} bytes,", bytes.len())?,
+        None => write!(said, " Read,")?,
+    }
+    write!(
+        said,
+        " {} failed, {} moved",
+        source.failures(),
+        source.reader().moved
+    )?;
+    write!(said, "; {:?}", source.fetch(&mut [0; 1]))
+}

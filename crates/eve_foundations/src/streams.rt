@@ -1,0 +1,129 @@
+//! Sinks and sources that move a byte a call, or fail at one.
+
+use crate::cases::{bytes_of, call_of, number_of};
+use eve_streams::failing::FailsAt;
+use eve_streams::one_byte::OneByte;
+use eve_streams::{ReadFault, Sink, SinkOf, Source, SourceOf, read_all, send_all};
+use std::alloc::{AllocError, Global};
+use std::io::ErrorKind;
+use std::{fmt, io};
+
+/// Bytes, which are printed as the characters that they are, in quotes.
+#[derive(Clone, Copy)]
+pub(crate) struct Shown<'a>(pub &'a [u8]);
+
+impl fmt::Display for Shown<'_> {
+    fn fmt<W: fmt::Write>(&self, f: &mut fmt::Formatter<W>) -> fmt::Result {
+        write!(f, "\"")?;
+        for byte in self.0 {
+            write!(f, "{}", char::from(*byte))?;
+        }
+        write!(f, "\"")
+    }
+}
+
+/// A sink in memory that has room for so many bytes: where there is none, that is told here, and not as a fault of the
+/// sink.
+pub(crate) fn memory(alloc: Global, room: usize) -> Result<SinkOf<Vec<u8>>, AllocError> {
+    Ok(SinkOf::new(Vec::with_capacity(alloc, room)?))
+}
+
+/// All that is read of a source up to a limit; None where the source fails.
+pub(crate) fn read_of<S: Source>(
+    alloc: Global,
+    source: &mut S,
+    limit: u32,
+) -> Result<Option<Vec<u8>>, AllocError> {
+    match read_all(alloc, source, limit) {
+        Ok(bytes) => Ok(Some(bytes)),
+        Err(ReadFault::Read) => Ok(None),
+        Err(ReadFault::Memory) => Err(AllocError),
+    }
+}
+
+/// Tells what a line about streams asks for.
+pub(crate) fn tell(
+    alloc: Global,
+    line: &str,
+    what: &str,
+    words: &[&str],
+    said: &mut String,
+) -> io::Result<()> {
+    write!(said, "{line}:")?;
+    match (what, words) {
+        ("send", [call, parts @ ..]) => tell_send(alloc, call_of(call)?, parts, line.len(), said),
+        ("fetch", [call, limit, bytes]) => {
+            let bytes = bytes_of(alloc, bytes)?;
+            Ok(tell_fetch(
+                alloc,
+                call_of(call)?,
+                number_of(limit)?,
+                bytes.as_slice(),
+                said,
+            )?)
+        }
+        ("read", [limit, bytes]) => {
+            let bytes = bytes_of(alloc, bytes)?;
+            Ok(tell_read(alloc, number_of(limit)?, bytes.as_slice(), said)?)
+        }
+        _ => Err(ErrorKind::InvalidData)?,
+    }
+}
+
+/// Sends each part to a sink with so much room, of which one call fails.
+fn tell_send(
+    alloc: Global,
+    call: u64,
+    parts: &[&str],
+    room: usize,
+    said: &mut String,
+) -> io::Result<()> {
+    let mut sink = FailsAt::new(OneByte::new(memory(alloc, room)?), call);
+    send_parts(alloc, &mut sink, parts, said)?;
+    let taken = Shown(sink.stream().stream().writer().as_slice());
+    Ok(write!(said, " {} failed, taken {taken}", sink.failures())?)
+}
+
+/// Sends each part, and tells what that answers.
+fn send_parts<S: Sink>(
+    alloc: Global,
+    sink: &mut S,
+    parts: &[&str],
+    said: &mut String,
+) -> io::Result<()> {
+    for part in parts {
+        let bytes = bytes_of(alloc, part)?;
+        write!(said, " {:?},", send_all(sink, bytes.as_slice()))?;
+    }
+    Ok(())
+}
+
+/// Tells the bytes that were read, or that the source failed.
+fn tell_bytes(read: &Option<Vec<u8>>, said: &mut String) -> Result<(), AllocError> {
+    match read {
+        Some(bytes) => write!(said, " read {},", Shown(bytes.as_slice())),
+        None => write!(said, " Read,"),
+    }
+}
+
+/// Reads a source of which one call fails.
+fn tell_fetch(
+    alloc: Global,
+    call: u64,
+    limit: u32,
+    bytes: &[u8],
+    said: &mut String,
+) -> Result<(), AllocError> {
+    let mut source = FailsAt::new(OneByte::new(SourceOf::new(bytes)), call);
+    tell_bytes(&read_of(alloc, &mut source, limit)?, said)?;
+    let left = Shown(*source.stream().stream().reader());
+    write!(said, " {} failed, left {left}", source.failures())
+}
+
+/// Reads a source.
+fn tell_read(alloc: Global, limit: u32, bytes: &[u8], said: &mut String) -> Result<(), AllocError> {
+    let mut source = SourceOf::new(bytes);
+    tell_bytes(&read_of(alloc, &mut source, limit)?, said)?;
+    let left = Shown(*source.reader());
+    write!(said, " {} failed, left {left}", source.failures())
+}
