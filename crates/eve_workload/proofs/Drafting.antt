@@ -1,13 +1,12 @@
 -- What a draft keeps, line by line.
 use Rattle.std.proofs.Common.{◌≡◌, ℕ, zero, suc, ◌+◌, ◌<◌, ◌≤◌, Bool, true, false, not, IsTrue, List, [], ◌∷◌, ◌++◌}
-use Rattle.std.proofs.Common.{map, length, Contains, Vec, inl, inr, refl, sym, ap, ◌∙◌, arith, length-append}
+use Rattle.std.proofs.Common.{map, length, Contains, Vec, inl, inr, refl, sym, subst, ap, ◌∙◌, arith, length-append}
 use Rattle.std.specs.Prelude.{◌||◌, if◌then◌else◌}
 use Rattle.std.specs.List.{list_any}
 use Rattle.std.specs.Borrow.{Bor}
 use Rattle.std.specs.declared.alloc.Global.{Global}
 use Rattle.std.specs.Cmp.Lexicographic.{same_text, other_text}
 use Rattle.std.proofs.lemmas.Bool.{lt-ltb, ltb-true, or_cases, cases_Bool, false≢true}
-use Rattle.std.proofs.lemmas.Bool.Decides.{nat_tests}
 use Rattle.std.specs.BTreeSet.{BTreeSet}
 use Rattle.std.proofs.lemmas.List.{length-map, map_push}
 use Rattle.std.proofs.lemmas.List.Folds.{list_any-append}
@@ -20,13 +19,15 @@ use Rattle.eve_write.specs.declared.customer.CustomerData.{CustomerData}
 use Rattle.eve_write.specs.declared.request.RequestData.{RequestData}
 use Rattle.eve_workload.specs.declared.deployment.Deployment.{Deployment}
 use Rattle.eve_workload.specs.declared.draft.Last.TheVariants as last
-use Rattle.eve_workload.specs.declared.draft.Pair.{Pair}
+use Rattle.eve_workload.specs.declared.pairs.Pairs.{Pairs}
 use Rattle.eve_workload.specs.declared.draft.Draft.{Draft}
 use Rattle.eve_workload.specs.Workload.{names_of, pair_of}
 use Rattle.eve_workload.specs.Lines.{Line, HeadLine, CustomerLine, BatchLine, RequestLine}
 use Rattle.eve_workload.specs.Steps.{customers_in, requests_in, batches_in, last_requests, may_follow, is_deployment}
 use Rattle.eve_workload.specs.Steps.{IsRightBehind, AreRight}
-use Rattle.eve_workload.specs.Drafts.{starts_in, next_of, has_name, has_pair, same_pair, key_of, Keeps}
+use Rattle.eve_workload.specs.Pairs.{same_pair, key_of, AreMet}
+use Rattle.eve_workload.specs.Drafts.{starts_in, next_of, has_name, Keeps}
+use Rattle.eve_workload.proofs.Pairing.{same_pair-true, same_pair-itself, last_or}
 
 -- ---- names and pairs that are known
 
@@ -58,12 +59,6 @@ name_known (first ∷ names) name any =
       | inl same ↦ (0, omega arith, sym (same_name-true name first same))
       | inr later ↦ let (k, there, is) = name_known names name later in (suc k, omega arith, is)
     ]
-
-same_pair-true : (p q : Pair) → same_pair p q ≡ true → (p.client ≡ q.client) × (p.number ≡ q.number)
-same_pair-true p q h = (grind (arith, nat_tests), grind (arith, nat_tests))
-
-same_pair-itself : (p q : Pair) → p.client ≡ q.client → p.number ≡ q.number → same_pair p q ≡ true
-same_pair-itself p q e f = grind (arith, nat_tests)
 
 known_pair : (requests : List Asked) (a : Asked) → Contains (map pair_of requests) (pair_of a)
     → list_any (same_pair (key_of a)) (map key_of requests) ≡ true
@@ -158,24 +153,6 @@ same_name_back a b =
           ]
     ]
 
-same_pair_back : (p q : Pair) → same_pair p q ≡ same_pair q p
-same_pair_back p q =
-    elim (cases_Bool (same_pair p q)) [
-      | inl same ↦ let parts = same_pair-true p q same in same ∙ sym (same_pair-itself q p (sym parts.0) (sym parts.1))
-      | inr other ↦
-          elim (cases_Bool (same_pair q p)) [
-            | inl back ↦ let parts = same_pair-true q p back in
-                absurd (false≢true (sym other ∙ same_pair-itself p q (sym parts.0) (sym parts.1)))
-            | inr also ↦ other ∙ sym also
-          ]
-    ]
-
-last_or : (same old : Bool) → (if same then true else old) ≡ (old || (same || false))
-last_or true true = refl
-last_or true false = refl
-last_or false true = refl
-last_or false false = refl
-
 more_names : (known : List (List ℕ)) (name other : List ℕ) (new old : Bool)
     → new ≡ (if same_name name other then true else old) → old ≡ list_any (same_name other) known
     → new ≡ list_any (same_name other) (known ++ name ∷ [])
@@ -183,14 +160,6 @@ more_names known name other new old is was =
     is ∙ (λ k. if same_name_back name other k then true else was k)
     ∙ last_or (same_name other name) (list_any (same_name other) known)
     ∙ sym (list_any-append (same_name other) known (name ∷ []))
-
-more_pairs : (known : List Pair) (pair other : Pair) (new old : Bool)
-    → new ≡ (if same_pair pair other then true else old) → old ≡ list_any (same_pair other) known
-    → new ≡ list_any (same_pair other) (known ++ pair ∷ [])
-more_pairs known pair other new old is was =
-    is ∙ (λ k. if same_pair_back pair other k then true else was k)
-    ∙ last_or (same_pair other pair) (list_any (same_pair other) known)
-    ∙ sym (list_any-append (same_pair other) known (pair ∷ []))
 
 no_requests : (before : List Line) (c : Customer) → IsTrue (may_follow before (CustomerLine c)) → last_requests before
     ≡ 0
@@ -249,22 +218,21 @@ pub name_refused : (d : Draft) (c : Customer) (before : List Line) → has_name 
 name_refused d c before known keeps right =
     right.new (name_known (names_of (customers_in before)) c.name (sym (keeps.names c.name) ∙ known))
 
-pub request_taken : (d : Draft) (requests : Vec RequestData Global) (pairs : BTreeSet Pair) (count : ℕ) (a : Asked)
+pub request_taken : (d : Draft) (requests : Vec RequestData Global) (pairs : Pairs) (count : ℕ) (a : Asked)
     (before : List Line) → map asked requests.items ≡ map asked d.requests.items ++ a ∷ [] → count ≡ d.count + 1
     → d.count < 256 → IsTrue (is_asked a) → IsTrue (may_follow before (RequestLine a))
-    → has_pair d.pairs.keys (key_of a) ≡ false
-    → ((other : Pair) → has_pair pairs.keys other
-    ≡ (if same_pair (key_of a) other then true else has_pair d.pairs.keys other)) → Keeps d before
+    → list_any (same_pair (key_of a)) (map key_of (requests_in before)) ≡ false
+    → AreMet pairs (map key_of (requests_in before) ++ key_of a ∷ []) → Keeps d before
     → Keeps (record d { last = last.Request; requests = requests; pairs = pairs; count = count })
     (RequestLine a ∷ before)
-request_taken d requests pairs count a before added counted room ranges follows fresh kept keeps =
+request_taken d requests pairs count a before added counted room ranges follows fresh met keeps =
     record {
       right = (
         record {
           follows = follows;
           ranges = ranges;
           room = lt-ltb (last_requests before) 256 (omega (arith, keeps.count));
-          new = λ known. false≢true (sym fresh ∙ keeps.pairs (key_of a) ∙ known_pair (requests_in before) a known);
+          new = λ known. false≢true (sym fresh ∙ known_pair (requests_in before) a known);
         },
         keeps.right,
       );
@@ -275,19 +243,16 @@ request_taken d requests pairs count a before added counted room ranges follows 
       starts = keeps.starts;
       count = counted ∙ ap (λ n. n + 1) keeps.count;
       names = keeps.names;
-      pairs = λ other. more_pairs (map key_of (requests_in before)) (key_of a) other (has_pair pairs.keys other)
-          (has_pair d.pairs.keys other) (kept other) (keeps.pairs other)
-          ∙ ap (list_any (same_pair other)) (sym (map_push key_of (requests_in before) a));
+      pairs = subst (AreMet pairs) (sym (map_push key_of (requests_in before) a)) met;
     }
 
 pub request_refused : (d : Draft) (a : Asked) (before : List Line) → 256 ≤ d.count → Keeps d before
     → ¬ IsRightBehind before (RequestLine a)
 request_refused d a before full keeps right = omega (arith, ltb-true (last_requests before) 256 right.room, keeps.count)
 
-pub pair_refused : (d : Draft) (a : Asked) (before : List Line) → has_pair d.pairs.keys (key_of a) ≡ true
-    → Keeps d before → ¬ IsRightBehind before (RequestLine a)
-pair_refused d a before known keeps right =
-    right.new (pair_known (requests_in before) a (sym (keeps.pairs (key_of a)) ∙ known))
+pub pair_refused : (a : Asked) (before : List Line)
+    → list_any (same_pair (key_of a)) (map key_of (requests_in before)) ≡ true → ¬ IsRightBehind before (RequestLine a)
+pair_refused a before known right = right.new (pair_known (requests_in before) a known)
 
 -- how many lines there are
 pub line_count : (before : List Line) → AreRight before → length before + 1

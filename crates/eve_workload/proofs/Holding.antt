@@ -181,7 +181,8 @@ module _ (w : Inside) (value : Workload) (starts : List ℕ) (requests : List Re
             ∙ ap Some (rw (← ends_so, drop-map asked, take-map asked, are) refl)
 
         pub batch_listed : (part : List RequestData)
-            → part ≡ take (to - get_or starts i 0) (drop (get_or starts i 0) requests) → IsTrue (is_listed (map asked part))
+            → part ≡ take (to - get_or starts i 0) (drop (get_or starts i 0) requests)
+            → IsTrue (is_listed (map asked part))
         batch_listed part are = all_get is_listed value.batches i (map asked part) (rw (← is) held.workload.batches)
             (batch_found part are)
 

@@ -13,6 +13,7 @@ mod Mixed
 mod OneAnswer
 mod OneWorkload
 mod Options
+mod Pairing
 mod Parts
 mod Placing
 mod Ranges

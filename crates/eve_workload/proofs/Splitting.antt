@@ -1,9 +1,9 @@
 -- A line that is split into words.
-use Rattle.std.proofs.Common.{◌≡◌, ◌≢◌, ℕ, ◌+◌, ◌-◌, ◌<◌, ◌≤◌, ◌==◌, true, false, not, inl, inr, ◌&&◌, IsTrue, List, []}
+use Rattle.std.proofs.Common.{◌≡◌, ◌≢◌, ℕ, zero, suc, ◌+◌, ◌-◌, ◌<◌, ◌≤◌, ◌==◌, true, false, not, inl, inr, ◌&&◌, IsTrue}
 use Rattle.std.proofs.Common.{◌∷◌, ◌++◌, length, take, drop, get_or, sym, ap, subst, ◌∙◌, refl, arith, append_assoc}
-use Rattle.std.proofs.Common.{length-append, below_more}
+use Rattle.std.proofs.Common.{length-append, below_more, List, []}
 use Rattle.std.specs.List.{list_all, flat_map, join_with_byte}
-use Rattle.std.proofs.lemmas.Bool.{and_from, and_parts, and_cases, eqb-true, eqb-false, not-true, not-false}
+use Rattle.std.proofs.lemmas.Bool.{cases_lt, and_from, and_parts, and_cases, eqb-true, eqb-false, not-true, not-false}
 use Rattle.std.proofs.lemmas.List.{take_more, take-append-drop, take-take, drop-take, get_or_at, append-nil}
 use Rattle.std.proofs.lemmas.List.{length-drop, get_or-drop}
 use Rattle.std.proofs.lemmas.List.Folds.{list_all-append}
@@ -144,3 +144,24 @@ split_none text words from at split whole front behind is =
     let long = ap length is ∙ length-append front (10 ∷ behind) in
     split.none (length front) (omega arith) (ap (λ t. get_or t (length front) 0) is
     ∙ get_or_at front 10 behind 0 (length front) refl)
+
+-- the bytes of a word, one after another
+pub split_word : (text : List ℕ) (words : List (List ℕ)) (from to : ℕ) → IsSplit text words from from → from ≤ to
+    → to ≤ length text → ((k : ℕ) → from ≤ k → k < to → is_inside (get_or text k 0) ≡ true)
+    → IsSplit text words from to
+split_word text words from zero split order within inside =
+    let none : from ≡ 0 = omega arith in
+    subst (IsSplit text words from) none split
+split_word text words from (suc to) split order within inside =
+    elim (cases_lt to from) [
+      | inl less ↦
+          let same : from ≡ suc to = omega arith in
+          subst (IsSplit text words from) same split
+      | inr most ↦
+          let before : from ≤ to = most in
+          let split' = split_word text words from to split before (omega arith)
+          (λ k low high. inside k low (omega arith)) in
+          let more : to + 1 ≡ suc to = omega arith in
+          subst (IsSplit text words from) more
+          (split_inside text words from to split' (omega arith) (inside to before (omega arith)))
+    ]

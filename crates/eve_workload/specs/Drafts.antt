@@ -2,20 +2,18 @@
 use Rattle.std.specs.Prelude.{◌≡◌, ℕ, ◌*◌, ◌<◌, ◌≤◌, Bool, take, List, [], ◌∷◌, ◌++◌, map, length, Option, Some, None}
 use Rattle.std.specs.Prelude.{IfSome, IsTrue, MatchBool}
 use Rattle.std.specs.List.{list_any}
-use Rattle.std.specs.Ordering.{nat_cmp, is_eq, ordering_then}
 use Rattle.std.specs.Borrow.{Bor}
 use Rattle.eve_accounts.specs.Names.{same_name}
-use Rattle.eve_grammar.specs.Trace.{Asked}
 use Rattle.eve_write.specs.Data.{customer, asked}
 use Rattle.eve_workload.specs.declared.deployment.Deployment.{Deployment}
 use Rattle.eve_workload.specs.declared.draft.Last.{Last}
 use Rattle.eve_workload.specs.declared.draft.Last.TheVariants as last
-use Rattle.eve_workload.specs.declared.draft.Pair.{Pair}
 use Rattle.eve_workload.specs.declared.draft.Draft.{Draft}
 use Rattle.eve_workload.specs.Workload.{names_of}
 use Rattle.eve_workload.specs.Lines.{Line, HeadLine, CustomerLine, BatchLine, RequestLine, line_text}
 use Rattle.eve_workload.specs.Steps.{customers_in, requests_in, last_requests, IsRightBehind, AreRight}
 use Rattle.eve_workload.specs.Steps.{text_before, may_end}
+use Rattle.eve_workload.specs.Pairs.{key_of, AreMet}
 
 -- what the last line is
 abbrev pub last_in : List Line → Last
@@ -50,18 +48,6 @@ next_of (line ∷ before) = 2
 abbrev pub has_name : List (Bor (List ℕ)) → List ℕ → Bool
 has_name keys name = list_any (λ key. same_name name key.now) keys
 
--- whether two pairs are the same
-abbrev pub same_pair : Pair → Pair → Bool
-same_pair p q = is_eq (ordering_then (nat_cmp p.client q.client) (nat_cmp p.number q.number))
-
--- whether a pair is among keys
-abbrev pub has_pair : List Pair → Pair → Bool
-has_pair keys pair = list_any (same_pair pair) keys
-
--- a request's pair
-abbrev pub key_of : Asked → Pair
-key_of a = record { client = a.client; number = a.number }
-
 -- few enough that their counts fit
 pub record IsSmall (d : Draft) : Type 0 where
   pub customers : length d.customers.items ≤ 4096
@@ -78,7 +64,7 @@ pub record Keeps (d : Draft) (before : List Line) : Type 0 where
   pub starts : d.starts.items ≡ starts_in before
   pub count : d.count ≡ last_requests before
   pub names : (name : List ℕ) → has_name d.names.keys name ≡ list_any (same_name name) (names_of (customers_in before))
-  pub pairs : (pair : Pair) → has_pair d.pairs.keys pair ≡ list_any (same_pair pair) (map key_of (requests_in before))
+  pub pairs : AreMet d.pairs (map key_of (requests_in before))
 
 -- the line was taken, or it may not stand after these
 abbrev pub Takes : Draft → List Line → Line → Bool → Type 0

@@ -4,21 +4,21 @@ ghost use Rattle.std.specs.Prelude.{◌≡◌, ◌≤◌, ℕ, ◌+◌, List, []
 ghost use Rattle.eve_accounts.specs.Names.{same_name};
 ghost use Rattle.eve_grammar.specs.Trace.{Customer, Asked as AskedValue};
 ghost use Rattle.eve_grammar.specs.Limits.{is_customer, is_asked};
-ghost use Rattle.eve_grammar.specs.Bodies.{customer as borrowed_customer, asked as borrowed_asked};
+ghost use Rattle.eve_grammar.specs.Bodies.{asked as borrowed_asked};
 ghost use Rattle.eve_workload.specs.declared.deployment.Deployment.{Deployment as DeploymentValue};
-ghost use Rattle.eve_workload.specs.declared.draft.Pair.{Pair as PairValue};
 ghost use Rattle.eve_workload.specs.Lines.{Line as LineValue, HeadLine, CustomerLine, BatchLine, RequestLine};
 ghost use Rattle.eve_workload.specs.Steps.{may_follow, may_end, is_deployment, is_line};
-ghost use Rattle.eve_workload.specs.Said.{said};
-ghost use Rattle.eve_workload.specs.Drafts.{last_in, next_of, has_name, has_pair, same_pair, IsSmall, Keeps, Takes};
+ghost use Rattle.eve_workload.specs.Said.{customer as borrowed_customer, said};
+ghost use Rattle.eve_workload.specs.Drafts.{last_in, next_of, has_name, IsSmall, Keeps, Takes};
 ghost use Rattle.eve_workload.specs.Drafts.{TakesLine};
 
 use crate::deployment::Deployment;
-use crate::line::{Line, line_of};
+use crate::line::{CustomerFields, Line, line_of};
+use crate::pairs::{Pair, Pairs};
 use crate::requests::add_owned;
 use crate::words::split_line;
 use eve_accounts::Name;
-use eve_grammar::{Asked, CustomerBody};
+use eve_grammar::Asked;
 use eve_write::{CustomerData, RequestData};
 use std::alloc::{AllocError, Global};
 use std::collections::BTreeSet;
@@ -40,13 +40,6 @@ pub(crate) enum Last {
     Request,
 }
 
-/// What tells one request from another.
-#[derive(Clone, Copy, PartialEq, Eq, PartialOrd, Ord)]
-pub(crate) struct Pair {
-    pub client: u32,
-    pub number: u64,
-}
-
 /// What the lines that were read say.
 #[derive(Drop)]
 pub(crate) struct Draft<'a> {
@@ -55,7 +48,7 @@ pub(crate) struct Draft<'a> {
     pub customers: Vec<CustomerData>,
     pub names: BTreeSet<&'a [u8]>,
     pub requests: Vec<RequestData>,
-    pub pairs: BTreeSet<Pair>,
+    pub pairs: Pairs,
     // Where each batch starts among the requests.
     pub starts: Vec<u32>,
     // How many requests the last batch has.
@@ -79,7 +72,7 @@ impl<'a> Draft<'a> {
             customers: Vec::new(alloc),
             names: BTreeSet::new(alloc),
             requests: Vec::new(alloc),
-            pairs: BTreeSet::new(alloc),
+            pairs: Pairs::new(alloc),
             starts: Vec::new(alloc),
             count: 0,
         }
@@ -133,7 +126,7 @@ impl<'a> Draft<'a> {
         true
     }
 
-    fn take_customer(&mut self, customer: &CustomerBody<'a>) -> Result<bool, AllocError>
+    fn take_customer(&mut self, customer: &CustomerFields<'a>) -> Result<bool, AllocError>
         requires { IsTrue (is_customer (borrowed_customer customer.now)) }
         ensures { IfOk result (λ taken. (before : List LineValue) → Keeps self.old before
             → Takes self.new before (CustomerLine (borrowed_customer customer.now)) taken) }
@@ -189,7 +182,7 @@ impl<'a> Draft<'a> {
             client: asked.client,
             number: asked.number,
         };
-        if !add_pair(&mut self.pairs, pair)? {
+        if !self.pairs.add(pair, self.requests.as_slice())? {
             return Ok(false);
         }
         add_owned(&mut self.requests, asked)?;
@@ -259,16 +252,8 @@ impl Last {
 fn add_name<'a>(names: &mut BTreeSet<&'a [u8]>, name: &'a [u8]) -> Result<bool, AllocError>
     ensures new { IfOk result (λ new. new ≡ not (has_name names.old.keys name.entry.now)) }
     ensures kept { IfOk result (λ new. (other : List ℕ) →
-        has_name names.new.keys other ≡ (if same_name name.entry.now other then true else has_name names.old.keys other)) }
+        has_name names.new.keys other ≡ (if same_name name.entry.now other then true
+        else has_name names.old.keys other)) }
 {
     Ok(names.insert(name)?)
-}
-
-// Adds a pair; whether it is new.
-fn add_pair(pairs: &mut BTreeSet<Pair>, pair: Pair) -> Result<bool, AllocError>
-    ensures new { IfOk result (λ new. new ≡ not (has_pair pairs.old.keys pair)) }
-    ensures kept { IfOk result (λ new. (other : PairValue) →
-        has_pair pairs.new.keys other ≡ (if same_pair pair other then true else has_pair pairs.old.keys other)) }
-{
-    Ok(pairs.insert(pair)?)
 }

@@ -13,6 +13,7 @@ mod lookups;
 mod marks;
 mod mixer;
 mod numbers;
+mod pairs;
 mod requests;
 mod seats;
 mod words;

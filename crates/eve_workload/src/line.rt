@@ -14,15 +14,23 @@ ghost use Rattle.eve_workload.specs.Said.{said};
 use crate::deployment::Deployment;
 use crate::numbers::{amount, balance, byte_number, number, saving, small_number};
 use crate::words::says;
-use eve_accounts::is_name;
-use eve_grammar::{Asked, CustomerBody};
+use eve_accounts::{Cents, is_name};
+use eve_grammar::Asked;
 use eve_smallbank::Request;
+
+/// What the line of a customer says.
+#[derive(Clone, Copy)]
+pub(crate) struct CustomerFields<'a> {
+    pub name: &'a [u8],
+    pub saving: Cents,
+    pub checking: Cents,
+}
 
 /// What a line says. Contracts see it by `said`.
 #[derive(Clone, Copy)]
 pub(crate) enum Line<'a> {
     Head(Deployment),
-    Customer(CustomerBody<'a>),
+    Customer(CustomerFields<'a>),
     Batch,
     Request(Asked<'a>),
 }
@@ -147,7 +155,8 @@ fn head_line<'a>(
         (line_words (said l) ≡ kind.now ∷ replicas.now ∷ verifiers.now ∷ quorum.now ∷ window.now ∷ workers.now ∷ [])
         × IsTrue (is_line (said l))) }
     ensures none { IfNone result ((d : DeploymentValue) → IsTrue (is_deployment d) →
-        line_words (HeadLine d) ≢ kind.now ∷ replicas.now ∷ verifiers.now ∷ quorum.now ∷ window.now ∷ workers.now ∷ []) }
+        line_words (HeadLine d) ≢ kind.now ∷ replicas.now ∷ verifiers.now ∷ quorum.now ∷ window.now
+        ∷ workers.now ∷ []) }
 {
     if !says(kind, b"eve") {
         return None;
@@ -176,7 +185,7 @@ fn customer_line<'a>(name: &'a [u8], saved: &[u8], checked: &[u8]) -> Option<Lin
     if !is_name(name) {
         return None;
     }
-    Some(Line::Customer(CustomerBody {
+    Some(Line::Customer(CustomerFields {
         name,
         saving: saving(saved)?,
         checking: balance(checked)?,

@@ -1,6 +1,7 @@
 //! Words of a line.
 
-ghost use Rattle.std.specs.Prelude.{◌≡◌, ◌≢◌, ◌↔◌, ℕ, List, ◌∷◌, ◌++◌, IfOk, IfSome, IfNone, IsTrue};
+ghost use Rattle.std.specs.Prelude.{◌≡◌, ◌≢◌, ◌↔◌, ℕ, ◌<◌, ◌≤◌, true, false, List, ◌∷◌, ◌++◌, length, slice_index};
+ghost use Rattle.std.specs.Prelude.{IfOk, IfSome, IfNone, IsTrue};
 ghost use Rattle.eve_workload.specs.Words.{is_inside, bytes_of, IsFirstLine};
 
 use std::alloc::AllocError;
@@ -20,17 +21,34 @@ pub(crate) fn split_line<'a>(
 {
     words.clear();
     let mut from = 0;
-    for at in 0..text.len() {
-        let byte = text[at];
-        if !is_inside(byte) {
-            words.push(&text[from..at])?;
-            if byte == LINE_FEED {
-                return Ok(Some(at + 1));
-            }
-            from = at + 1;
+    while from < text.len() {
+        let to = word_end(text, from);
+        if to == text.len() {
+            return Ok(None);
         }
+        words.push(&text[from..to])?;
+        if text[to] == LINE_FEED {
+            return Ok(Some(to + 1));
+        }
+        from = to + 1;
     }
     Ok(None)
+}
+
+// Where the word ends that begins here: at a byte that may not stand in it, or where the text ends.
+fn word_end(text: &[u8], from: usize) -> usize
+    requires { from ≤ length text.now }
+    ensures order { from ≤ result }
+    ensures within { result ≤ length text.now }
+    ensures inside { (at : ℕ) → from ≤ at → at < result → is_inside (slice_index text.now at) ≡ true }
+    ensures ends { result < length text.now → is_inside (slice_index text.now result) ≡ false }
+{
+    for at in from..text.len() {
+        if !is_inside(text[at]) {
+            return at;
+        }
+    }
+    text.len()
 }
 
 // Whether the byte may stand in a word.

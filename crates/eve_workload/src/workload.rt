@@ -47,8 +47,9 @@ impl Model for Workload {
 impl Workload {
     /// Reads a workload, or finds the first line that isn't right, counted from 1.
     ///
-    /// docs/TRACE.md, "Workload". One pass over the text; what tells requests apart is kept in a tree, so the
-    /// time is that of a sort, whatever the text. Refused memory decides nothing.
+    /// docs/TRACE.md, "Workload". One pass over the text. While the requests' numbers rise, for each of 256 places of
+    /// clients by themselves, the last numbers tell requests apart; from the first that doesn't rise on they are kept
+    /// in a tree, so the time is that of a sort, whatever the text. Refused memory decides nothing.
     pub fn read(alloc: Global, text: &[u8]) -> Result<Workload, WorkloadFault>
         ensures read { IfOk result (λ w. text.now ≡ workload_text w) }
         ensures right { IfOk result IsWorkload }

@@ -1,36 +1,38 @@
-use Rattle.std.proofs.Common.{ℕ, ◌+◌, List, Vec, Bor, get_or, refl, sym, subst, ap, ◌∙◌, arith}
-use Rattle.std.specs.declared.alloc.Global.{Global}
+use Rattle.std.proofs.Common.{ℕ, ◌+◌, ◌<◌, List, Bor, get_or, length, refl, sym, subst, ap, ◌∙◌, arith}
 use Rattle.std.proofs.lemmas.List.{map_push}
 use Rattle.eve_workload.specs.Words.{bytes_of, IsFirstLine}
-use Rattle.eve_workload.proofs.Splitting.{split_end, split_space, split_inside, split_none, space_here}
+use Rattle.eve_workload.proofs.Splitting.{IsSplit, split_end, split_space, split_word, split_none, space_here}
 use Rattle.eve_workload.proofs.words.split_line.Goals as goal
-use Rattle.eve_workload.proofs.words.split_line.Goals.{then-not-is_inside+in_ok-push+else-byte-eq-LINE_FEED}
-use Rattle.eve_workload.proofs.words.split_line.Goals.{else-not-is_inside}
 
 pub returns-clause-none : goal.returns-clause-none
-returns-clause-none c = split_none c.args.text.now _ _ _ c.loop-at.invariant (omega arith)
+returns-clause-none c = split_none c.args.text.now _ _ _ c.loop-from.invariant (omega arith)
 
-pub returns-then-byte-eq-LINE_FEED-clause-found : goal.returns-then-byte-eq-LINE_FEED-clause-found
-returns-then-byte-eq-LINE_FEED-clause-found c =
+pub returns-then-to-text-clause-none : goal.returns-then-to-text-clause-none
+returns-then-to-text-clause-none c =
+    split_none c.args.text.now _ _ c.word_end-to.result
+    (split_word c.args.text.now _ c.loop-from.from c.word_end-to.result c.loop-from.invariant
+    c.word_end-to.ensures.order c.word_end-to.ensures.within c.word_end-to.ensures.inside)
+    (omega arith)
+
+pub returns-then-text-to-eq-LINE_FEED-clause-found : goal.returns-then-text-to-eq-LINE_FEED-clause-found
+returns-then-text-to-eq-LINE_FEED-clause-found c =
     let pushed = ap bytes_of c.in_ok-push.ensures.items
-    ∙ map_push (λ (word : Bor (List ℕ)). word.now) c.loop-at.words.items _ in
-    subst (λ words. IsFirstLine c.args.text.now words (c.loop-at.at + 1)) (sym pushed)
-    (split_end c.args.text.now _ _ _ c.loop-at.at c.loop-at.invariant (omega arith) c.if-byte-eq-LINE_FEED.true refl)
+    ∙ map_push (λ (word : Bor (List ℕ)). word.now) c.loop-from.words.items _ in
+    let there : c.word_end-to.result < length c.args.text.now = omega arith in
+    let word = split_word c.args.text.now _ c.loop-from.from c.word_end-to.result c.loop-from.invariant
+    c.word_end-to.ensures.order c.word_end-to.ensures.within c.word_end-to.ensures.inside in
+    subst (λ words. IsFirstLine c.args.text.now words (c.word_end-to.result + 1)) (sym pushed)
+    (split_end c.args.text.now _ _ _ c.word_end-to.result word there c.if-text-to-eq-LINE_FEED.true refl)
 
-pub loop-at-preserved : goal.loop-at-preserved
-loop-at-preserved c =
-    elim c.if-not-is_inside.branch [
-      | then-not-is_inside+in_ok-push+else-byte-eq-LINE_FEED w ↦
-          let pushed = ap (λ (v : Vec (Bor (List ℕ)) Global). bytes_of v.items) w.words-is
-          ∙ ap bytes_of w.in_ok-push.ensures.items
-          ∙ map_push (λ (word : Bor (List ℕ)). word.now) c.loop-at.words.items _ in
-          let space = space_here (get_or c.args.text.now c.loop-at.at 0)
-          (sym c.is_inside.ensures ∙ w.if-not-is_inside.true) w.if-byte-eq-LINE_FEED.false in
-          let split = split_space c.args.text.now _ _ _ c.loop-at.at c.loop-at.invariant (omega arith) space refl in
-          (rw (pushed, w.from-is) split)
-      | else-not-is_inside w ↦
-          let same = ap (λ (v : Vec (Bor (List ℕ)) Global). bytes_of v.items) w.words-is in
-          let split = split_inside c.args.text.now _ _ c.loop-at.at c.loop-at.invariant (omega arith)
-          (sym c.is_inside.ensures ∙ w.if-not-is_inside.false) in
-          (rw (same, w.from-is) split)
-    ]
+pub loop-from-preserved : goal.loop-from-preserved
+loop-from-preserved c =
+    let to = c.word_end-to.result in
+    let pushed = ap bytes_of c.in_ok-push.ensures.items
+    ∙ map_push (λ (word : Bor (List ℕ)). word.now) c.loop-from.words.items _ in
+    let there : c.word_end-to.result < length c.args.text.now = omega arith in
+    let word = split_word c.args.text.now _ c.loop-from.from to c.loop-from.invariant
+    c.word_end-to.ensures.order c.word_end-to.ensures.within c.word_end-to.ensures.inside in
+    let space = space_here (get_or c.args.text.now to 0) (c.word_end-to.ensures.ends there)
+    c.if-text-to-eq-LINE_FEED.false in
+    subst (λ words. IsSplit c.args.text.now words (to + 1) (to + 1)) (sym pushed)
+    (split_space c.args.text.now _ _ _ to word there space refl)

@@ -1,5 +1,5 @@
 use Rattle.std.proofs.Common.{◌≡◌, length, sym, ◌∙◌, arith, rules}
-use Rattle.eve_grammar.specs.Bodies.{customer}
+use Rattle.eve_workload.specs.Said.{customer}
 use Rattle.eve_workload.proofs.Drafting.{customer_taken, name_refused, is_known, is_fresh}
 use Rattle.eve_workload.proofs.draft.Draft.take_customer.Goals as goal
 
