@@ -1,5 +1,3 @@
-mod CommandLine
-mod FoundValues
 mod Cutting
 mod SentLines
 mod WholeInput

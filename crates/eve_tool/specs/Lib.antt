@@ -1,6 +1,5 @@
 pub mod Fault
 pub mod Lines
-pub mod Words
 pub mod Writes
 pub mod Show
 pub mod Audit

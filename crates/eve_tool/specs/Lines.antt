@@ -12,7 +12,8 @@ line_feed = 10 ∷ []
 
 -- a frame: where it begins, its kind, how many bytes its body has
 unfoldable pub frame_line : ℕ → List ℕ → ℕ → List ℕ
-frame_line offset name body_len = decimal offset ++ (codes " " ++ (name ++ (codes " " ++ (decimal body_len ++ line_feed))))
+frame_line offset name body_len =
+    decimal offset ++ (codes " " ++ (name ++ (codes " " ++ (decimal body_len ++ line_feed))))
 
 -- the replica in whose section a fault stands
 abbrev pub replica_text : Option ℕ → List ℕ
@@ -21,11 +22,15 @@ replica_text None = []
 
 -- a fault: its code, where it stands, and in whose section
 unfoldable pub fault_line : Fault → List ℕ
-fault_line f = codes "no: F" ++ (decimal (number_of f.code) ++ (codes " " ++ (name_of f.code ++ (codes " at byte " ++ (decimal f.offset ++ (replica_text f.replica ++ line_feed))))))
+fault_line f =
+    codes "no: F" ++ (decimal (number_of f.code) ++ (codes " " ++ (name_of f.code ++ (codes " at byte "
+    ++ (decimal f.offset ++ (replica_text f.replica ++ line_feed))))))
 
 -- a trace without a fault: how many replicas and batches, and what all replicas have committed
 unfoldable pub yes_line : Summary → List ℕ
-yes_line s = codes "yes: " ++ (decimal s.replicas ++ (codes " replicas, " ++ (decimal s.batches ++ (codes " batches, " ++ (decimal s.committed ++ (codes " committed" ++ line_feed))))))
+yes_line s =
+    codes "yes: " ++ (decimal s.replicas ++ (codes " replicas, " ++ (decimal s.batches
+    ++ (codes " batches, " ++ (decimal s.committed ++ (codes " committed" ++ line_feed))))))
 
 -- a verdict: the fault, or yes
 abbrev pub verdict_line : Verdict → List ℕ

@@ -9,8 +9,6 @@ mod random;
 mod run;
 mod sending;
 mod show;
-mod words;
-mod worker_count;
 
 pub use fault::ToolFault;
 pub use program::{serve, stop};

@@ -71,6 +71,7 @@ pub returns-clause-stopped : goal.returns-clause-stopped
 returns-clause-stopped g c =
     last_part_left g.O.Sink.written g.O.Sink.failures c.args.out.now c.frames.out c.send_text-2.new.out _ _
     c.send_text-2.result c.frames.invariant.1
-    (on_err_weaker c.send_text-2.result (front_of_held _ _ _ _ (frames_of c.args.trace.now) c.frames.i c.frames.invariant.0)
+    (on_err_weaker c.send_text-2.result (front_of_held _ _ _ _ (frames_of c.args.trace.now)
+    c.frames.i c.frames.invariant.0)
     c.send_text-2.ensures.front)
     c.send_text-2.ensures.stopped

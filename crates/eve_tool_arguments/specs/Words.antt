@@ -10,10 +10,10 @@ use Rattle.clap.specs.declared.error.kind.ErrorKind.TheVariants as kind
 use Rattle.clap.specs.declared.error.kind.ErrorKind.{ErrorKind}
 use Rattle.eve_workload.specs.declared.mixer.Mixer.{Mixer}
 use Rattle.eve_workload.specs.declared.mixer.Mixer.TheVariants.{First, Whole}
-use Rattle.eve_tool.specs.declared.words.Call.{Call}
-use Rattle.eve_tool.specs.declared.words.Call.TheVariants as call
-use Rattle.eve_tool.specs.declared.words.Asked.{Asked}
-use Rattle.eve_tool.specs.declared.words.Asked.TheVariants as asked
+use Rattle.eve_tool_arguments.specs.declared.words.Call.{Call}
+use Rattle.eve_tool_arguments.specs.declared.words.Call.TheVariants as call
+use Rattle.eve_tool_arguments.specs.declared.words.Asked.{Asked}
+use Rattle.eve_tool_arguments.specs.declared.words.Asked.TheVariants as asked
 
 -- the program wants a subcommand
 abbrev pub program : App
@@ -110,7 +110,7 @@ workers_of words = workers_behind (subcommand_of eve words)
 
 -- the call has so many workers, if it is one that has any
 abbrev pub HasWorkers : Option ℕ → Call → Type 0
-HasWorkers asked_for (call.Audit found) = asked_for ≡ Some found.count
+HasWorkers asked_for (call.Audit found) = asked_for ≡ Some found
 HasWorkers _ _ = ⊤
 
 -- what is answered to arguments in which clap finds this wrong

@@ -4,12 +4,13 @@ use Rattle.clap.specs.Walk.{Row}
 use Rattle.std.proofs.lemmas.Result.{IfOk-weaker}
 use Rattle.clap.specs.Words.{App, HasKind, HasMatchesOf, Text, fault_of, is_simple_and_free, kind_of, subcommand_of}
 use Rattle.clap.specs.Words.{subcommand_rows_of}
-use Rattle.eve_tool.specs.Words.{Answers, HasWorkers, SaysOf, call_of, eve, subcommand_named, subcommand_of_call}
-use Rattle.eve_tool.specs.Words.{workers_behind, workers_of}
-use Rattle.eve_tool.specs.declared.words.Call.{Call}
-use Rattle.eve_tool.proofs.CommandLine.{answers_with_fault, call_without_faults, eve_is_free, eve_is_simple}
-use Rattle.eve_tool.proofs.CommandLine.{mixer_without_faults}
-use Rattle.eve_tool.proofs.words.read_words.Goals as goal
+use Rattle.eve_tool_arguments.specs.Words.{Answers, HasWorkers, SaysOf, call_of, eve, subcommand_named}
+use Rattle.eve_tool_arguments.specs.Words.{subcommand_of_call}
+use Rattle.eve_tool_arguments.specs.Words.{workers_behind, workers_of}
+use Rattle.eve_tool_arguments.specs.declared.words.Call.{Call}
+use Rattle.eve_tool_arguments.proofs.CommandLine.{answers_with_fault, call_without_faults, eve_is_free, eve_is_simple}
+use Rattle.eve_tool_arguments.proofs.CommandLine.{mixer_without_faults}
+use Rattle.eve_tool_arguments.proofs.words.read_words.Goals as goal
 
 behind : (words : List Text) (found : Option (Text × List Row)) (call : Call) → found ≡ subcommand_of eve words
     → HasWorkers (workers_behind found) call

@@ -3,19 +3,20 @@
 ghost use Rattle.std.specs.Prelude.{◌≡◌, false, IfOk, IfSome, map, option_and_then, option_map};
 ghost use Rattle.clap.specs.Words.{app_of, found_of, kind_of, rule_of, subcommand_rows_of};
 ghost use Rattle.clap.specs.Walk.{rows_of};
-ghost use Rattle.eve_tool.specs.Words.{Answers, HasWorkers, SaysOf, eve, mixer, mixer_in, mixer_named};
-ghost use Rattle.eve_tool.specs.Words.{subcommand_named, subcommand_of_call, workers, workers_behind, workers_in};
+ghost use Rattle.eve_tool_arguments.specs.Words.{Answers, HasWorkers, SaysOf, eve, mixer, mixer_in, mixer_named};
+ghost use Rattle.eve_tool_arguments.specs.Words.{subcommand_named, subcommand_of_call, workers, workers_behind};
+ghost use Rattle.eve_tool_arguments.specs.Words.{workers_in};
 
 use crate::worker_count::WorkerCount;
 use clap::error::ErrorKind;
 use clap::{Arg, ArgMatches, Command, Error, value_parser};
-use eve_replica::eve_workload::Mixer;
+use eve_workload::Mixer;
 use std::alloc::{AllocError, Global};
 use std::convert::AsStr;
 
 /// A call of the program, one for each subcommand.
 #[derive(Clone, Copy, Debug, PartialEq, Eq)]
-pub(crate) enum Call {
+pub enum Call {
     /// Prints the verdict on a trace, found by this many workers.
     Audit(WorkerCount),
     /// Runs a workload, whose batches this mixer cuts, and prints the trace.
@@ -26,7 +27,7 @@ pub(crate) enum Call {
 
 /// What the arguments of a command line come to.
 #[derive(Debug, Drop)]
-pub(crate) enum Asked {
+pub enum Asked {
     /// They are a call.
     Call(Call),
     /// They ask for help, which is this text.
@@ -101,7 +102,7 @@ fn command<'a>(alloc: Global) -> Result<Command<'a>, AllocError>
 
 // How many workers were named.
 fn workers_of(found: &ArgMatches<'_>) -> WorkerCount
-    ensures { result.count ≡ workers_in (rows_of (found_of found.now)) }
+    ensures { result ≡ workers_in (rows_of (found_of found.now)) }
 {
     let named = match found.get_str("workers") {
         Some(text) => text.parse::<u8>().unwrap_or(0),
@@ -162,7 +163,7 @@ fn answer_of(alloc: Global, error: &Error) -> Result<Asked, AllocError>
 }
 
 /// Reads the arguments of a command line, of which the first is the program's name.
-pub(crate) fn read_words<S: AsStr>(alloc: Global, words: &[S]) -> Result<Asked, AllocError>
+pub fn read_words<S: AsStr>(alloc: Global, words: &[S]) -> Result<Asked, AllocError>
     ensures { IfOk result (Answers (map S.text words.now)) }
 {
     let command = command(alloc)?;

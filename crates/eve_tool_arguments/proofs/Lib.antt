@@ -1,0 +1,3 @@
+mod CommandLine
+mod FoundValues
+pub mod PlainWords

@@ -1,0 +1,131 @@
+-- What plain words after the program's name ask for. These lemmas are public: contracts of crates above say the same.
+use Rattle.std.proofs.Common.{◌≡◌, ◌⊎◌, ℕ, suc, ◌≤◌, ◌<◌, inl, inr, arith, subst, refl, List, [], ◌∷◌, Some, codes}
+use Rattle.clap.specs.Words.{Text}
+use Rattle.std.specs.Fmt.{decimal, digits}
+use Rattle.std.proofs.lemmas.Bool.{cases_lt}
+use Rattle.clap.proofs.OnLiterals.{clap_on_literals}
+use Rattle.eve_tool_arguments.specs.Words.{AsksForHelp, AuditsBy, GetsHelp, Audit, Run, Show, call_of, faults_of}
+use Rattle.eve_tool_arguments.specs.Words.{workers_of}
+use Rattle.clap.specs.declared.error.kind.ErrorKind.TheVariants as kind
+use Rattle.eve_workload.specs.declared.mixer.Mixer.TheVariants.{First, Whole}
+use Rattle.eve_tool_arguments.proofs.CommandLine.{no_call}
+
+pub audit_call : (name : Text) → call_of (name ∷ codes "audit" ∷ []) ≡ Some Audit
+unfolding call_of faults_of clap_on_literals
+audit_call name = refl
+
+pub run_call : (name : Text) → call_of (name ∷ codes "run" ∷ []) ≡ Some (Run First)
+unfolding call_of faults_of clap_on_literals
+run_call name = refl
+
+pub whole_call : (name : Text) → call_of (name ∷ codes "run" ∷ codes "--mixer" ∷ codes "whole" ∷ []) ≡ Some (Run Whole)
+unfolding call_of faults_of clap_on_literals
+whole_call name = refl
+
+pub show_call : (name : Text) → call_of (name ∷ codes "show" ∷ []) ≡ Some Show
+unfolding call_of faults_of clap_on_literals
+show_call name = refl
+
+help_fault : (name : Text) → faults_of (name ∷ codes "--help" ∷ []) ≡ kind.DisplayHelp ∷ []
+unfolding faults_of clap_on_literals
+help_fault name = refl
+
+pub asks_help : (name : Text) → GetsHelp (name ∷ codes "--help" ∷ [])
+asks_help name =
+    let words = name ∷ codes "--help" ∷ [] in
+    let among : AsksForHelp words = rw (help_fault name) (inl refl) in (no_call words kind.DisplayHelp among, among)
+
+-- ---- workers that are named
+
+-- what is so of the numbers from 1 on below k + 1, and of k + 1
+up_to : {P : ℕ → Type 0} (k : ℕ) → ((n : ℕ) → 1 ≤ n → n ≤ k → P n) → P (suc k) → (n : ℕ) → 1 ≤ n → n ≤ suc k → P n
+up_to {P} k before last n some most = by (cases_lt n (suc k))
+  where
+    by : (n < suc k) ⊎ (suc k ≤ n) → P n
+    by (inl less) = before n some (omega (arith, less))
+    by (inr reached) = let is : suc k ≡ n = omega (arith, reached, most) in subst P is last
+
+-- the arguments that ask for this number of workers
+abbrev pub asking : Text → ℕ → List Text
+asking name n = name ∷ codes "audit" ∷ codes "--workers" ∷ decimal n ∷ []
+
+abbrev pub Asks : Text → ℕ → Type 0
+Asks name n = AuditsBy n (asking name n)
+
+asks_1 : (name : Text) → Asks name 1
+unfolding call_of faults_of workers_of clap_on_literals digits
+asks_1 name = (refl, refl)
+
+asks_2 : (name : Text) → Asks name 2
+unfolding call_of faults_of workers_of clap_on_literals digits
+asks_2 name = (refl, refl)
+
+asks_3 : (name : Text) → Asks name 3
+unfolding call_of faults_of workers_of clap_on_literals digits
+asks_3 name = (refl, refl)
+
+asks_4 : (name : Text) → Asks name 4
+unfolding call_of faults_of workers_of clap_on_literals digits
+asks_4 name = (refl, refl)
+
+asks_5 : (name : Text) → Asks name 5
+unfolding call_of faults_of workers_of clap_on_literals digits
+asks_5 name = (refl, refl)
+
+asks_6 : (name : Text) → Asks name 6
+unfolding call_of faults_of workers_of clap_on_literals digits
+asks_6 name = (refl, refl)
+
+asks_7 : (name : Text) → Asks name 7
+unfolding call_of faults_of workers_of clap_on_literals digits
+asks_7 name = (refl, refl)
+
+asks_8 : (name : Text) → Asks name 8
+unfolding call_of faults_of workers_of clap_on_literals digits
+asks_8 name = (refl, refl)
+
+asks_9 : (name : Text) → Asks name 9
+unfolding call_of faults_of workers_of clap_on_literals digits
+asks_9 name = (refl, refl)
+
+asks_10 : (name : Text) → Asks name 10
+unfolding call_of faults_of workers_of clap_on_literals digits
+asks_10 name = (refl, refl)
+
+asks_11 : (name : Text) → Asks name 11
+unfolding call_of faults_of workers_of clap_on_literals digits
+asks_11 name = (refl, refl)
+
+asks_12 : (name : Text) → Asks name 12
+unfolding call_of faults_of workers_of clap_on_literals digits
+asks_12 name = (refl, refl)
+
+asks_13 : (name : Text) → Asks name 13
+unfolding call_of faults_of workers_of clap_on_literals digits
+asks_13 name = (refl, refl)
+
+asks_14 : (name : Text) → Asks name 14
+unfolding call_of faults_of workers_of clap_on_literals digits
+asks_14 name = (refl, refl)
+
+asks_15 : (name : Text) → Asks name 15
+unfolding call_of faults_of workers_of clap_on_literals digits
+asks_15 name = (refl, refl)
+
+asks_16 : (name : Text) → Asks name 16
+unfolding call_of faults_of workers_of clap_on_literals digits
+asks_16 name = (refl, refl)
+
+pub asks : (name : Text) (n : ℕ) → 1 ≤ n → n ≤ 16 → Asks name n
+asks name = up_to 15 (up_to 14
+    (up_to 13 (up_to 12 (up_to 11
+    (up_to 10 (up_to 9 (up_to 8
+    (up_to 7 (up_to 6 (up_to 5
+    (up_to 4 (up_to 3 (up_to 2 (up_to 1 (up_to 0 (λ n some most. absurd (omega (arith, some, most))) (asks_1 name))
+    (asks_2 name)) (asks_3 name)) (asks_4 name)) (asks_5 name)) (asks_6 name)) (asks_7 name)) (asks_8 name))
+    (asks_9 name)) (asks_10 name)) (asks_11 name)) (asks_12 name)) (asks_13 name)) (asks_14 name)) (asks_15 name))
+    (asks_16 name)
+
+pub alone : (name : Text) → workers_of (name ∷ codes "audit" ∷ []) ≡ Some 1
+unfolding workers_of clap_on_literals
+alone name = refl
