@@ -6,7 +6,7 @@ use Rattle.std.proofs.Common.{inr}
 use Rattle.std.specs.Prelude.{◌==◌, ◌&&◌, slice_get, IsTrue, nat_le, nat_lt}
 use Rattle.std.specs.List.{All, list_all}
 use Rattle.std.specs.Option.{option_map}
-use Rattle.std.proofs.lemmas.Bool.{and_parts, leb-true, ltb-true, eqb-true, cases_eq, cases_lt}
+use Rattle.std.proofs.lemmas.Bool.{and_parts, leb-true, ltb-true, eqb-true, cases_eq, cases_lt, false≢true}
 use Rattle.std.proofs.lemmas.List.{get_or-set_same, get_or-set_other, get_or_read, length-set, get_or_past}
 use Rattle.std.proofs.lemmas.Option.{slice_get_within, slice_get-get_or}
 use Rattle.eve_grammar.specs.Trace.{Choice, ForCommit, Vote, Batch, Trace, head_of}
@@ -18,10 +18,10 @@ use Rattle.eve_views.specs.declared.fault.Code.TheVariants as code
 use Rattle.eve_votes.specs.Votes.{is_vote_on, is_only, IsDecided}
 use Rattle.eve_votes.specs.Faults.{HasTwoDecisions, StandsInVotes}
 use Rattle.eve_votes.specs.Least.{lower, IsBelow, IsBelowAll, Lowers}
-use Rattle.eve_votes.specs.Ballots.{Continues, IsAmong, HasCast}
+use Rattle.eve_votes.specs.Ballots.{IsStart, Continues, IsAmong, HasCast}
 use Rattle.eve_votes.specs.declared.ballots.Ballot.{Ballot}
-use Rattle.eve_votes.specs.Decisions.{said, decision_in, IsKnown, Judging, Keeps, IsBatchAt, IsClash, IsFound, Agrees}
-use Rattle.eve_votes.specs.Decisions.{AreDecisions}
+use Rattle.eve_votes.specs.Decisions.{said, decision_in, IsKnown, Judging, IsUnnoted, Notes, IsBatchAt, IsClash}
+use Rattle.eve_votes.specs.Decisions.{IsFound, Agrees, AreDecisions}
 use Rattle.eve_votes.specs.declared.decisions.Decision.{Decision}
 use Rattle.eve_votes.proofs.Places.{place_at, get_place, all_at, located_get, length_located, numbered}
 use Rattle.eve_votes.proofs.InOrder.{fellow_is}
@@ -108,30 +108,25 @@ decision_set_other ds n m d apart = ap (option_map said) (get_or-set_other ds n 
 
 -- ---- a decision that is noted
 
--- it is known
-pub found_known : (t : Trace) (ds : Table) (least : Option ℕ) (n view : ℕ) (x : Option Decision) (known : Decision)
-    → n < length ds → x ≡ get_or ds n x → x ≡ Some known → known.view ≡ view → IsFound t ds least n view
-found_known t ds least n view x known there read is same = record {
-  found = said known;
-  is = decision_at ds n x there read ∙ ap (option_map said) is;
-  same = inl same;
-}
+-- one is known
+pub known_at : (ds : Table) (n : ℕ) (x : Option Decision) → n < length ds → x ≡ get_or ds n x → is_some x ≡ true
+    → (known : ℕ × List ℕ) × (decision_in ds n ≡ Some known)
+known_at ds n None there read some = absurd (false≢true some)
+known_at ds n (Some known) there read some = (said known, decision_at ds n (Some known) there read)
 
--- another view is known
-pub clash_judging : (t : Trace) (ds : Table) (least : Option ℕ) (n offset : ℕ) (b : ℕ × Batch) (d known : Decision)
-    (x : Option Decision) → n < length ds → x ≡ get_or ds n x → x ≡ Some known → known.view ≢ d.view
-    → IsDecided t n d.view d.token.now → 1 ≤ n → slice_get (batches_at t) (n - 1) ≡ Some (offset, b)
-    → Judging t ds least → Judging t ds (lower least offset)
-clash_judging t ds least n offset b d known x there read is apart decided low got judging =
-    let found : decision_in ds n ≡ Some (said known) = decision_at ds n x there read ∙ ap (option_map said) is in
-    let earlier : IsKnown t n (said known) = subst (λ (o : Option (ℕ × List ℕ)). IfSome o (IsKnown t n)) found
-    (judging.known n) in
+-- it is of another view
+pub clash_judging : (t : Trace) (ds : Table) (least : Option ℕ) (n view offset : ℕ) (token : List ℕ) (b : ℕ × Batch)
+    (known : ℕ × List ℕ) → decision_in ds n ≡ Some known → IsUnnoted ds n view → IsDecided t n view token → 1 ≤ n
+    → slice_get (batches_at t) (n - 1) ≡ Some (offset, b) → Judging t ds least → Judging t ds (lower least offset)
+clash_judging t ds least n view offset token b known is unnoted decided low got judging =
+    let earlier : IsKnown t n known = subst (λ (o : Option (ℕ × List ℕ)). IfSome o (IsKnown t n)) is (judging.known n)
+    in
     let two : HasTwoDecisions t n = record {
-      view = known.view;
-      other = d.view;
-      token = known.token.now;
-      other_token = d.token.now;
-      apart = apart;
+      view = known.0;
+      other = view;
+      token = known.1;
+      other_token = token;
+      apart = unnoted known is;
       decided = earlier.decided;
       other_decided = decided;
     } in
@@ -142,21 +137,19 @@ clash_judging t ds least n offset b d known x there read is apart decided low go
           (decisions_stand t n offset b low got two);
     }
 
-pub found_clash : (t : Trace) (ds : Table) (least : Option ℕ) (n view offset : ℕ) (b : ℕ × Batch) (known : Decision)
-    (x : Option Decision) → n < length ds → x ≡ get_or ds n x → x ≡ Some known → 1 ≤ n
-    → slice_get (batches_at t) (n - 1) ≡ Some (offset, b) → IsFound t ds (lower least offset) n view
-found_clash t ds least n view offset b known x there read is low got =
-    let clash : IsClash t n (lower least offset) =
-    record {
+pub found_clash : (t : Trace) (ds : Table) (least : Option ℕ) (n view offset : ℕ) (b : ℕ × Batch) (known : ℕ × List ℕ)
+    → decision_in ds n ≡ Some known → 1 ≤ n → slice_get (batches_at t) (n - 1) ≡ Some (offset, b)
+    → IsFound t ds (lower least offset) n view
+found_clash t ds least n view offset b known is low got =
+    let clash : IsClash t n (lower least offset) = record {
       offset = offset;
       only = λ at s. batch_offset t n offset b at low got s;
       below = lower_at least offset;
     } in
-    record {
-      found = said known;
-      is = decision_at ds n x there read ∙ ap (option_map said) is;
-      same = inr clash;
-    }
+    record { found = known; is = is; same = inr clash }
+
+pub none_noted : (ds : Table) (n view : ℕ) → Notes ds ds n view
+none_noted ds n view = record { keeps = λ m d is. is; adds = λ m d is. inl is }
 
 -- nothing is known yet
 pub first_judging : (t : Trace) (ds : Table) (least : Option ℕ) (n : ℕ) (d : Decision) → n < length ds
@@ -177,20 +170,35 @@ first_judging t ds least n d there decided size judging = record {
     at_number m (inr apart) = subst (λ (o : Option (ℕ × List ℕ)). IfSome o (IsKnown t m))
         (sym (decision_set_other ds n m d apart)) (judging.known m)
 
-pub first_keeps : (ds : Table) (n : ℕ) (d : Decision) (x : Option Decision) → n < length ds → x ≡ get_or ds n x
-    → is_some x ≡ false → Keeps ds (set ds n (Some d))
-first_keeps ds n d x there read none m y is = at_number (cases_eq m n)
+pub first_noted : (ds : Table) (n : ℕ) (d : Decision) (x : Option Decision) → n < length ds → x ≡ get_or ds n x
+    → is_some x ≡ false → Notes ds (set ds n (Some d)) n d.view
+first_noted ds n d x there read none = record {
+  keeps = λ m y is. kept m y is (cases_eq m n);
+  adds = λ m y is. added m y is (cases_eq m n);
+}
   where
     nothing : (o : Option Decision) → is_some o ≡ false → option_map said o ≡ None
     nothing None e = refl
     nothing (Some z) e = absurd cc
 
-    at_number : (m ≡ n) ⊎ (m ≡ n → ⊥) → decision_in (set ds n (Some d)) m ≡ Some y
-    at_number (inl e) =
+    kept : (m : ℕ) (y : ℕ × List ℕ) → decision_in ds m ≡ Some y → (m ≡ n) ⊎ (m ≡ n → ⊥)
+        → decision_in (set ds n (Some d)) m ≡ Some y
+    kept m y is (inl e) =
         let none_there : decision_in ds m ≡ None = ap (decision_in ds) e ∙ decision_at ds n x there read
         ∙ nothing x none in
         absurd (let clash = sym is ∙ none_there in cc)
-    at_number (inr apart) = decision_set_other ds n m d apart ∙ is
+    kept m y is (inr apart) = decision_set_other ds n m d apart ∙ is
+
+    added : (m : ℕ) (y : ℕ × List ℕ) → decision_in (set ds n (Some d)) m ≡ Some y → (m ≡ n) ⊎ (m ≡ n → ⊥)
+        → (decision_in ds m ≡ Some y) ⊎ ((m ≡ n) × (y.0 ≡ d.view))
+    added m y is (inl e) =
+        let noted = ap (decision_in (set ds n (Some d))) e ∙ decision_set_here ds n d there in
+        let here : Some (said d) ≡ Some y = sym noted ∙ is in
+        inr (e, view_of here)
+      where
+        view_of : Some (said d) ≡ Some y → y.0 ≡ d.view
+        view_of same = (let equal : y ≡ said d = cc in ap (λ (z : ℕ × List ℕ). z.0) equal)
+    added m y is (inr apart) = inl (sym (decision_set_other ds n m d apart) ∙ is)
 
 pub found_first : (t : Trace) (ds : Table) (least : Option ℕ) (n : ℕ) (d : Decision) → n < length ds
     → IsFound t (set ds n (Some d)) least n d.view
@@ -199,11 +207,11 @@ found_first t ds least n d there = record { found = said d; is = decision_set_he
 -- ---- further on
 
 -- what was found stays so
-pub found_later : (t : Trace) (ds es : Table) (least now : Option ℕ) (n view : ℕ) → Keeps ds es → Lowers least now
-    → IsFound t ds least n view → IsFound t es now n view
-found_later t ds es least now n view keeps lowers found = record {
+found_later : (t : Trace) (ds es : Table) (least now : Option ℕ) (m u n view : ℕ) → Notes ds es m u
+    → Lowers least now → IsFound t ds least n view → IsFound t es now n view
+found_later t ds es least now m u n view notes lowers found = record {
   found = found.found;
-  is = keeps n found.found found.is;
+  is = notes.keeps n found.found found.is;
   same = elim found.same [
     | inl same ↦ inl same
     | inr clash
@@ -211,37 +219,83 @@ found_later t ds es least now n view keeps lowers found = record {
   ];
 }
 
--- the votes before this place agree
-abbrev pub AgreeBefore : Trace → List Ballot → ℕ → Table → Option ℕ → Type 0
-AgreeBefore t xs i ds least = (j : ℕ) (b : Ballot) → j < i → slice_get xs j ≡ Some b → Agrees t ds least b.seq b.view
+-- a vote on the batch in this view stands before this place
+pub record IsVotedOnBefore (xs : List Ballot) (i n u : ℕ) : Type 0 where
+  pub place : ℕ
+  pub vote : Ballot
+  pub early : place < i
+  pub there : slice_get xs place ≡ Some vote
+  pub seq : vote.seq ≡ n
+  pub view : vote.view ≡ u
 
-pub agrees_later : (t : Trace) (ds es : Table) (least now : Option ℕ) (n view : ℕ) → Keeps ds es → Lowers least now
-    → Agrees t ds least n view → Agrees t es now n view
-agrees_later t ds es least now n view keeps lowers agrees token decided =
-    found_later t ds es least now n view keeps lowers (agrees token decided)
+-- the votes before this place agree, and what was found was found at them
+pub record AreJudged (t : Trace) (xs : List Ballot) (i : ℕ) (ds : Table) (least : Option ℕ) : Type 0 where
+  pub agree : (j : ℕ) (b : Ballot) → j < i → slice_get xs j ≡ Some b → Agrees t ds least b.seq b.view
+  pub found : (n : ℕ) (d : ℕ × List ℕ) → decision_in ds n ≡ Some d → IsVotedOnBefore xs i n d.0
 
--- those of a batch in a view begin at this place, and were judged
-pub agree_judged : (t : Trace) (xs : List Ballot) (i : ℕ) (b : Ballot) (ds es : Table) (least now : Option ℕ)
-    → slice_get xs i ≡ Some b → Keeps ds es → Lowers least now → Agrees t es now b.seq b.view
-    → AgreeBefore t xs i ds least → AgreeBefore t xs (i + 1) es now
-agree_judged t xs i b ds es least now got keeps lowers agrees before j c less at_c = by (cases_lt j i)
+-- those of a batch in a view begin at this place, so nothing was found of it before
+pub unnoted_there : (t : Trace) (xs : List Ballot) (i n view : ℕ) (ds : Table) (least : Option ℕ)
+    → IsStart xs i n view 0 → AreJudged t xs i ds least → IsUnnoted ds n view
+unnoted_there t xs i n view ds least start judged d is same =
+    let at = judged.found n d is in
+    let before = start.before at.place at.vote at.early at.there in
+    let seq = at.seq in
+    let of_view = at.view in
+    let past = before.verifier (omega arith) (omega arith) in
+    omega arith
+
+later : (xs : List Ballot) (i n view : ℕ) → IsVotedOnBefore xs i n view → IsVotedOnBefore xs (i + 1) n view
+later xs i n view at = record {
+  place = at.place;
+  vote = at.vote;
+  early = (let early = at.early in omega arith);
+  there = at.there;
+  seq = at.seq;
+  view = at.view;
+}
+
+-- and were judged
+pub judged_there : (t : Trace) (xs : List Ballot) (i : ℕ) (b : Ballot) (ds es : Table) (least now : Option ℕ)
+    → slice_get xs i ≡ Some b → Notes ds es b.seq b.view → Lowers least now → Agrees t es now b.seq b.view
+    → AreJudged t xs i ds least → AreJudged t xs (i + 1) es now
+judged_there t xs i b ds es least now got notes lowers agrees before = record {
+  agree = λ j c less at_c. agreeing j c less at_c (cases_lt j i);
+  found = λ n d is. elim (notes.adds n d is) [
+    | inl old ↦ later xs i n d.0 (before.found n d old)
+    | inr new ↦ record {
+      place = i;
+      vote = b;
+      early = omega arith;
+      there = got;
+      seq = sym new.0;
+      view = sym new.1;
+    }
+  ];
+}
   where
-    by : (j < i) ⊎ (i ≤ j) → Agrees t es now c.seq c.view
-    by (inl earlier) = agrees_later t ds es least now c.seq c.view keeps lowers (before j c earlier at_c)
-    by (inr past) =
+    agreeing : (j : ℕ) (c : Ballot) → j < i + 1 → slice_get xs j ≡ Some c → (j < i) ⊎ (i ≤ j)
+        → Agrees t es now c.seq c.view
+    agreeing j c less at_c (inl earlier) = λ token decided.
+        found_later t ds es least now b.seq b.view c.seq c.view notes lowers
+        (before.agree j c earlier at_c token decided)
+    agreeing j c less at_c (inr past) =
         let same : i ≡ j = omega arith in
         let is : Some b ≡ Some c = sym got ∙ ap (slice_get xs) same ∙ at_c in
         let equal : b ≡ c = cc in
         subst (λ (x : Ballot). Agrees t es now x.seq x.view) equal agrees
 
 -- the one before this place is on the same
-pub agree_continues : (t : Trace) (xs : List Ballot) (i : ℕ) (ds : Table) (least : Option ℕ) → Continues xs i
-    → AgreeBefore t xs i ds least → AgreeBefore t xs (i + 1) ds least
-agree_continues t xs i ds least h before j c less at_c = by (cases_lt j i)
+pub judged_further : (t : Trace) (xs : List Ballot) (i : ℕ) (ds : Table) (least : Option ℕ) → Continues xs i
+    → AreJudged t xs i ds least → AreJudged t xs (i + 1) ds least
+judged_further t xs i ds least h before = record {
+  agree = λ j c less at_c. agreeing j c less at_c (cases_lt j i);
+  found = λ n d is. later xs i n d.0 (before.found n d is);
+}
   where
-    by : (j < i) ⊎ (i ≤ j) → Agrees t ds least c.seq c.view
-    by (inl earlier) = before j c earlier at_c
-    by (inr past) =
+    agreeing : (j : ℕ) (c : Ballot) → j < i + 1 → slice_get xs j ≡ Some c → (j < i) ⊎ (i ≤ j)
+        → Agrees t ds least c.seq c.view
+    agreeing j c less at_c (inl earlier) = before.agree j c earlier at_c
+    agreeing j c less at_c (inr past) =
         let some = h.some in
         let same : i ≡ j = omega arith in
         let is : Some h.later ≡ Some c = sym h.later_is ∙ ap (slice_get xs) same ∙ at_c in
@@ -250,7 +304,7 @@ agree_continues t xs i ds least h before j c less at_c = by (cases_lt j i)
         subst (λ (x : Ballot). Agrees t ds least x.seq x.view) equal
         (subst (λ (s : ℕ). Agrees t ds least s h.later.view) both.0
         (subst (λ (v : ℕ). Agrees t ds least h.former.seq v) both.1
-        (before (i - 1) h.former (omega arith) h.former_is)))
+        (before.agree (i - 1) h.former (omega arith) h.former_is)))
 
 -- nothing is known at first
 pub none_known : (ds : Table) → All (λ d. d ≡ None) ds → (n : ℕ) → decision_in ds n ≡ None
@@ -260,6 +314,12 @@ none_known ds none n = by_order (cases_lt n (length ds))
     by_order : (n < length ds) ⊎ (length ds ≤ n) → option_map said (get_or ds n None) ≡ None
     by_order (inl there) = ap (option_map said) (none n None there)
     by_order (inr past) = ap (option_map said) (get_or_past ds n None past)
+
+pub start_judged : (t : Trace) (xs : List Ballot) (ds : Table) → All (λ d. d ≡ None) ds → AreJudged t xs 0 ds None
+start_judged t xs ds none = record {
+  agree = λ j b less got. absurd (omega arith);
+  found = λ n d is. absurd (let clash = sym is ∙ none_known ds none n in cc);
+}
 
 pub first_judged : (t : Trace) (ds : Table) → length ds ≡ length t.batches + 1 → All (λ d. d ≡ None) ds
     → Judging t ds None
@@ -351,14 +411,14 @@ abbrev pub AllFound : Trace → Table → Option ℕ → Type 0
 AllFound t ds least = (n view : ℕ) (token : List ℕ) → IsDecided t n view token → IsFound t ds least n view
 
 pub all_found : (t : Trace) (xs : List Ballot) (ds : Table) (least : Option ℕ) → HasLimits t → HasCast t xs
-    → AgreeBefore t xs (length xs) ds least → AllFound t ds least
-all_found t xs ds least limits cast agree n view token decided =
+    → AreJudged t xs (length xs) ds least → AllFound t ds least
+all_found t xs ds least limits cast judged n view token decided =
     let most = (quorum_limits t limits).1 in
     let found = (decided_among t xs n view token cast (omega (arith, most)) decided).1 in
     let b = found.1 in
     let there : IsDecided t b.seq b.view token = subst (λ (s : ℕ). IsDecided t s b.view token) (sym found.3)
     (subst (λ (v : ℕ). IsDecided t n v token) (sym found.4) decided) in
-    let is = agree found.0 b (slice_get_within xs found.0 b found.2) found.2 token there in
+    let is = judged.agree found.0 b (slice_get_within xs found.0 b found.2) found.2 token there in
     subst (λ (s : ℕ). IsFound t ds least s view) found.3 (subst (λ (v : ℕ). IsFound t ds least b.seq v) found.4 is)
 
 pub clashes_below : (t : Trace) (ds : Table) (least : Option ℕ) → AllFound t ds least

@@ -9,7 +9,7 @@ use Rattle.std.proofs.lemmas.Bool.{ltb-true, ltb-false, eqb-true, eqb-false, eq-
 use Rattle.std.proofs.lemmas.Bool.{false≢true, cases_lt}
 use Rattle.std.proofs.lemmas.Option.{slice_get-get_or, slice_get_within, get_or_from_slice_get}
 use Rattle.eve_votes.specs.Ballots.{is_alike, is_fellow, is_at, is_lower, IsBefore, IsNotAfter, AreInOrder, IsStart}
-use Rattle.eve_votes.specs.Ballots.{Continues}
+use Rattle.eve_votes.specs.Ballots.{Adjoin, Continues}
 use Rattle.eve_votes.specs.declared.ballots.Ballot.{Ballot}
 
 abbrev pub at : ℕ → ℕ → ℕ → Ballot
@@ -37,9 +37,6 @@ is_alike_from a b h =
     and_from (a.seq == b.seq) ((a.view == b.view) && (a.verifier == b.verifier)) (eq-eqb a.seq b.seq h.seq)
     (and_from (a.view == b.view) (a.verifier == b.verifier) (eq-eqb a.view b.view h.view)
     (eq-eqb a.verifier b.verifier h.verifier))
-
-pub not_alike : (a b : Ballot) → is_alike a b ≡ false → Alike a b → ⊥
-not_alike a b other h = false≢true (sym other ∙ is_alike_from a b h)
 
 -- ---- lower
 
@@ -117,6 +114,71 @@ start_is n view xs s low high = record {
       high i b ge (slice_get_within xs i b got));
 }
 
+-- ---- neighbours
+
+-- where one stands before another so, and so does all that lies between, the other and the one before it adjoin
+pub adjoin_later : {R : Ballot → Ballot → Type 0} {xs : List Ballot} (test : Ballot → Ballot → Bool) → AreInOrder R xs
+    → (i j : ℕ) (a b : Ballot) → i < j → slice_get xs i ≡ Some a → slice_get xs j ≡ Some b
+    → ((c : Ballot) → R a c → R c b → test c b ≡ true) → test a b ≡ true → Adjoin test xs j
+adjoin_later {R} {xs} test order i j a b less e f between own = by (cases_lt i (j - 1))
+  where
+    by : (i < j - 1) ⊎ (j - 1 ≤ i) → Adjoin test xs j
+    by (inl lt) =
+        let there : j - 1 < length xs = (let within = slice_get_within xs j b f in omega arith) in
+        let c = get_or xs (j - 1) a in
+        let got = slice_get-get_or xs (j - 1) a there in
+        record {
+          some = omega arith;
+          former = c;
+          later = b;
+          former_is = got;
+          later_is = f;
+          alike = between c (order i (j - 1) a c lt e got) (order (j - 1) j c b (omega arith) got f);
+        }
+    by (inr ge) =
+        let same : i ≡ j - 1 = omega arith in
+        record {
+          some = omega arith;
+          former = a;
+          later = b;
+          former_is = ap (slice_get xs) (sym same) ∙ e;
+          later_is = f;
+          alike = own;
+        }
+
+-- the same of the one and the one after it
+pub adjoin_next : {R : Ballot → Ballot → Type 0} {xs : List Ballot} (test : Ballot → Ballot → Bool) → AreInOrder R xs
+    → (i j : ℕ) (a b : Ballot) → i < j → slice_get xs i ≡ Some a → slice_get xs j ≡ Some b
+    → ((c : Ballot) → R a c → R c b → test a c ≡ true) → test a b ≡ true → Adjoin test xs (i + 1)
+adjoin_next {R} {xs} test order i j a b less e f between own = by (cases_lt (i + 1) j)
+  where
+    back : i ≡ i + 1 - 1
+    back = omega arith
+
+    by : (i + 1 < j) ⊎ (j ≤ i + 1) → Adjoin test xs (i + 1)
+    by (inl lt) =
+        let there : i + 1 < length xs = (let within = slice_get_within xs j b f in omega arith) in
+        let c = get_or xs (i + 1) a in
+        let got = slice_get-get_or xs (i + 1) a there in
+        record {
+          some = omega arith;
+          former = a;
+          later = c;
+          former_is = ap (slice_get xs) (sym back) ∙ e;
+          later_is = got;
+          alike = between c (order i (i + 1) a c (omega arith) e got) (order (i + 1) j c b lt got f);
+        }
+    by (inr ge) =
+        let same : i + 1 ≡ j = omega arith in
+        record {
+          some = omega arith;
+          former = a;
+          later = b;
+          former_is = ap (slice_get xs) (sym back) ∙ e;
+          later_is = ap (slice_get xs) same ∙ f;
+          alike = own;
+        }
+
 -- ---- from one batch or view to the next
 
 pub fellow_is : (a b : Ballot) → is_fellow a b ≡ true → (a.seq ≡ b.seq) × (a.view ≡ b.view)
@@ -136,7 +198,7 @@ begins xs i b order got none = record {
       record {
         seq = h.seq;
         view = h.view;
-        verifier = λ le more. absurd (none (continuing j a less at_j le more (cases_lt j (i - 1))));
+        verifier = λ le more. absurd (none (continuing j a less at_j le more));
       });
   behind = λ j c ge at_j. by j c at_j (cases_lt i j) ge;
 }
@@ -157,42 +219,22 @@ begins xs i b order got none = record {
         })
 
     continuing : (j : ℕ) (a : Ballot) → j < i → slice_get xs j ≡ Some a → b.seq ≤ a.seq → b.view ≤ a.view
-        → (j < i - 1) ⊎ (i - 1 ≤ j) → Continues xs i
-    continuing j a less at_j le more (inl between) =
-        let there : i - 1 < length xs = (let lt = slice_get_within xs i b got in omega arith) in
-        let c = get_or xs (i - 1) b in
-        let at_c = slice_get-get_or xs (i - 1) b there in
-        let ac = order j (i - 1) a c between at_j at_c in
-        let cb = order (i - 1) i c b (omega arith) at_c got in
-        let s = ac.seq in
+        → Continues xs i
+    continuing j a less at_j le more = adjoin_later is_fellow order j i a b less at_j got
+        (λ c ac cb.
+        (let s = ac.seq in
         let u = cb.seq in
         let seq : c.seq ≡ b.seq = omega arith in
         let x = ac.view (omega arith) in
         let y = cb.view (omega arith) in
         let view : c.view ≡ b.view = omega arith in
-        record {
-          some = omega arith;
-          former = c;
-          later = b;
-          former_is = at_c;
-          later_is = got;
-          alike = is_fellow_from c b seq view;
-        }
-    continuing j a less at_j le more (inr past) =
-        let same : j ≡ i - 1 = omega arith in
-        let h = order j i a b less at_j got in
+        is_fellow_from c b seq view))
+        (let h = order j i a b less at_j got in
         let s = h.seq in
         let seq : a.seq ≡ b.seq = omega arith in
         let y = h.view (omega arith) in
         let view : a.view ≡ b.view = omega arith in
-        record {
-          some = omega arith;
-          former = a;
-          later = b;
-          former_is = ap (slice_get xs) (sym same) ∙ at_j;
-          later_is = got;
-          alike = is_fellow_from a b seq view;
-        }
+        is_fellow_from a b seq view)
 
 -- ---- to the next verifier
 

@@ -62,7 +62,8 @@ one_more_for t n view v token there is = record {
 
 -- all have voted
 pub all_lead : (t : Trace) (n view v : ℕ) (lead : Lead) → length t.verifiers ≡ v
-    → Leads (votes_before t n view v) v lead → Leads (λ token. backers t n view (ForCommit token)) (length t.verifiers) lead
+    → Leads (votes_before t n view v) v lead
+    → Leads (λ token. backers t n view (ForCommit token)) (length t.verifiers) lead
 all_lead t n view v lead many leads =
     subst (λ (voters : List (List Vote)). Leads (λ token. count_by (backs n view (ForCommit token)) voters)
     (length t.verifiers) lead) (take_all v t.verifiers (omega arith))

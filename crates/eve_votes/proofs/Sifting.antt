@@ -12,14 +12,14 @@ use Rattle.eve_grammar.specs.Spelling.{votes_of, votes_at}
 use Rattle.eve_views.specs.declared.fault.Code.TheVariants as code
 use Rattle.eve_votes.specs.Votes.{is_vote_on}
 use Rattle.eve_votes.specs.Faults.{IsFurther, IsFurtherAt, StandsInVotes}
-use Rattle.eve_votes.specs.Least.{lower, IsBelow, IsBelowAll}
-use Rattle.eve_votes.specs.Ballots.{ballot, IsBefore, IsNotAfter, AreInOrder, Follows, IsVoteOf, HasVotes, IsOnly}
-use Rattle.eve_votes.specs.Ballots.{HasCast}
+use Rattle.eve_votes.specs.Least.{lower, IsBelow, IsLowest}
+use Rattle.eve_votes.specs.Ballots.{ballot, is_alike, IsBefore, IsNotAfter, AreInOrder, Follows, IsVoteOf, HasVotes}
+use Rattle.eve_votes.specs.Ballots.{IsOnly, HasCast}
 use Rattle.eve_votes.specs.declared.ballots.Ballot.{Ballot}
 use Rattle.eve_votes.proofs.Places.{place_at, get_place}
 use Rattle.eve_votes.proofs.Casting.{lower_lowers, lower_at, lower_stands}
 use Rattle.eve_votes.proofs.Deciding.{vote_got}
-use Rattle.eve_votes.proofs.InOrder.{Alike, alike_is, is_alike_from}
+use Rattle.eve_votes.proofs.InOrder.{Alike, alike_is, is_alike_from, adjoin_later, adjoin_next}
 
 -- ---- lists
 
@@ -194,68 +194,13 @@ module _ (t : Trace) (xs : List Ballot) (votes : HasVotes t xs) where
   -- where two are alike, the later follows, and the one after the first
   later_follows : (i j : ℕ) (a b : Ballot) → i < j → slice_get xs i ≡ Some a → slice_get xs j ≡ Some b → Alike a b →
       Follows xs j
-  later_follows i j a b less e f h = by (cases_lt i (j - 1))
-    where
-      by : (i < j - 1) ⊎ (j - 1 ≤ i) → Follows xs j
-      by (inl between) =
-          let there : j - 1 < length xs = (let lt = slice_get_within xs j b f in omega arith) in
-          let c = get_or xs (j - 1) a in
-          let got = slice_get-get_or xs (j - 1) a there in
-          record {
-            some = omega arith;
-            former = c;
-            later = b;
-            former_is = got;
-            later_is = f;
-            alike = is_alike_from c b
-                (between_last a c b (votes.order i (j - 1) a c between e got)
-                (votes.order (j - 1) j c b (omega arith) got f) h);
-          }
-      by (inr ge) =
-          let same : i ≡ j - 1 = omega arith in
-          record {
-            some = omega arith;
-            former = a;
-            later = b;
-            former_is = ap (slice_get xs) (sym same) ∙
-                e;
-            later_is = f;
-            alike = is_alike_from a b h;
-          }
+  later_follows i j a b less e f h = adjoin_later is_alike votes.order i j a b less e f
+      (λ c ac cb. is_alike_from c b (between_last a c b ac cb h)) (is_alike_from a b h)
 
   next_follows : (i j : ℕ) (a b : Ballot) → i < j → slice_get xs i ≡ Some a → slice_get xs j ≡ Some b → Alike a b →
       Follows xs (i + 1)
-  next_follows i j a b less e f h = by (cases_lt (i + 1) j)
-    where
-      back : i ≡ i + 1 - 1
-      back = omega arith
-
-      by : (i + 1 < j) ⊎ (j ≤ i + 1) → Follows xs (i + 1)
-      by (inl between) =
-          let there : i + 1 < length xs = (let lt = slice_get_within xs j b f in omega arith) in
-          let c = get_or xs (i + 1) a in
-          let got = slice_get-get_or xs (i + 1) a there in
-          record {
-            some = omega arith;
-            former = a;
-            later = c;
-            former_is = ap (slice_get xs) (sym back) ∙ e;
-            later_is = got;
-            alike = is_alike_from a c
-                (between_first a c b (votes.order i (i + 1) a c (omega arith) e got)
-                (votes.order (i + 1) j c b between got f) h);
-          }
-      by (inr ge) =
-          let same : i + 1 ≡ j = omega arith in
-          record {
-            some = omega arith;
-            former = a;
-            later = b;
-            former_is = ap (slice_get xs) (sym back) ∙
-                e;
-            later_is = ap (slice_get xs) same ∙ f;
-            alike = is_alike_from a b h;
-          }
+  next_follows i j a b less e f h = adjoin_next is_alike votes.order i j a b less e f
+      (λ c ac cb. is_alike_from a c (between_first a c b ac cb h)) (is_alike_from a b h)
 
   -- ---- a further vote
 
@@ -538,9 +483,12 @@ module _ (t : Trace) (xs : List Ballot) (votes : HasVotes t xs) where
     order = sifted.order;
   }
 
-  pub sifted_all : (i : ℕ) (only : List Ballot) (least : Option ℕ) → length xs ≤ i → Sifted t xs i only least →
-      IsBelowAll (StandsInVotes code.TwoVotes t) least
-  sifted_all i only least past sifted at s =
-      let found = further_follows s.0 at s.1 in
-      let lt = slice_get_within xs found.0 found.1 found.4 in
-      sifted.below found.0 found.1 at found.2 (omega arith) found.3 found.4 found.5
+  pub sifted_lowest : (i : ℕ) (only : List Ballot) (least : Option ℕ) → length xs ≤ i → Sifted t xs i only least →
+      IsLowest (StandsInVotes code.TwoVotes t) least
+  sifted_lowest i only least past sifted = record {
+    stands = sifted.stands;
+    below = λ at s. (
+        let found = further_follows s.0 at s.1 in
+        let lt = slice_get_within xs found.0 found.1 found.4 in
+        sifted.below found.0 found.1 at found.2 (omega arith) found.3 found.4 found.5);
+  }

@@ -1,9 +1,8 @@
 -- Public: other crates cite these lemmas. From what was found to the tally.
-use Rattle.eve_views.specs.Form.{IsLeast}
 use Rattle.std.proofs.Common.{◌≡◌, ℕ, ◌+◌, ◌<◌, ◌≤◌, Bool, true, false, cond, List, [], ◌∷◌, ◌++◌, length, get_or}
-use Rattle.std.proofs.Common.{filter, Option, Some, None, IfSome, refl, sym, ap, subst, ◌∙◌, append_assoc, arith, ◌⊎◌}
-use Rattle.std.proofs.Common.{inl, inr}
-use Rattle.std.specs.Prelude.{◌==◌, ◌||◌, nat_lt, ◌↔◌, IsTrue}
+use Rattle.std.proofs.Common.{filter, Option, Some, None, IfSome, IfNone, refl, sym, ap, subst, ◌∙◌, append_assoc}
+use Rattle.std.proofs.Common.{arith, ◌⊎◌, inl, inr}
+use Rattle.std.specs.Prelude.{◌==◌, ◌||◌, nat_lt, ◌↔◌, IsTrue, if◌then◌else◌}
 use Rattle.std.specs.List.{list_any}
 use Rattle.std.specs.Option.{option_map}
 use Rattle.std.proofs.lemmas.Bool.{ltb-true, ltb-false, cases_lt, and_parts, eqb-true}
@@ -12,14 +11,15 @@ use Rattle.std.proofs.lemmas.List.Folds.{list_any-append}
 use Rattle.eve_grammar.specs.Trace.{Vote, Trace}
 use Rattle.eve_grammar.specs.Frames.{OfVote, OfVerifier}
 use Rattle.eve_grammar.specs.Spelling.{votes_of, votes_at, frame_text, verifier_start}
-use Rattle.eve_views.specs.Code.{number_of}
+use Rattle.eve_views.specs.Form.{IsUpTo, IsLeast, HasNone}
+use Rattle.eve_views.specs.First.{is_before, first_of}
 use Rattle.eve_views.specs.declared.fault.Code.{Code}
 use Rattle.eve_views.specs.declared.fault.Code.TheVariants as code
 use Rattle.eve_views.specs.declared.fault.Fault.{Fault}
 use Rattle.eve_votes.specs.Votes.{is_vote_on, IsDecided}
-use Rattle.eve_votes.specs.Faults.{IsFurther, IsFurtherAt, StandsInVotes, IsVoteFault, AreVotesSound}
-use Rattle.eve_votes.specs.Least.{IsBelow, IsBelowAll}
-use Rattle.eve_votes.specs.First.{first_fault, outside}
+use Rattle.eve_views.proofs.Firsts.{before_precedes, behind_precedes, precedes-refl, up_to_from, first_of_two}
+use Rattle.eve_votes.specs.Faults.{IsFurther, IsFurtherAt, StandsInVotes, outside, IsVoteFault, AreVotesSound}
+use Rattle.eve_votes.specs.Least.{IsBelow, IsBelowAll, IsLowest}
 use Rattle.eve_votes.specs.Decisions.{said, decision_in, IsKnown, AreDecisions}
 use Rattle.eve_votes.specs.declared.decisions.Decision.{Decision}
 use Rattle.eve_votes.proofs.Places.{located_values}
@@ -28,80 +28,80 @@ use Rattle.eve_votes.proofs.Deciding.{decision_at}
 
 -- ---- the first fault
 
-after : (at b m n : ℕ) → at ≤ b → m ≤ n → (at < b) ⊎ ((at ≡ b) × (m ≤ n))
-after at b m n below numbers = by_order (cases_lt at b)
+-- what comes no later than a fault comes no later than one of its code at a later offset
+up_to_later : (f : Fault) (c : Code) (at b : ℕ) → IsUpTo f (outside c at) → at ≤ b → IsUpTo f (outside c b)
+up_to_later f c at b (inl less) up = inl (omega (arith, less, up))
+up_to_later f c at b (inr same) up = by_order (cases_lt at b)
   where
-    by_order : (at < b) ⊎ (b ≤ at) → (at < b) ⊎ ((at ≡ b) × (m ≤ n))
-    by_order (inl less) = inl less
-    by_order (inr past) = inr (omega arith, numbers)
+    by_order : (at < b) ⊎ (b ≤ at) → IsUpTo f (outside c b)
+    by_order (inl less) = inl (omega (arith, same.0, less))
+    by_order (inr past) = inr (omega (arith, same.0, up, past), same.1)
 
-abbrev IsAfter : Code → ℕ → Code → ℕ → Type 0
-IsAfter first at c b = (at < b) ⊎ ((at ≡ b) × (number_of first ≤ number_of c))
-
-two_votes_first : (t : Trace) (at : ℕ) → ((b : ℕ) → StandsInVotes code.TwoVotes t b → at ≤ b)
-    → ((b : ℕ) → StandsInVotes code.TwoDecisions t b → at ≤ b) → (c : Code) (b : ℕ) → StandsInVotes c t b
-    → IsAfter code.TwoVotes at c b
-two_votes_first t at votes decisions code.TwoVotes b s = after at b 70 70 (votes b s) (omega arith)
-two_votes_first t at votes decisions code.TwoDecisions b s = after at b 70 71 (decisions b s) (omega arith)
-two_votes_first t at votes decisions _ b s = absurd s
-
-two_decisions_first : (t : Trace) (at : ℕ) → ((b : ℕ) → StandsInVotes code.TwoVotes t b → at < b)
-    → ((b : ℕ) → StandsInVotes code.TwoDecisions t b → at ≤ b) → (c : Code) (b : ℕ) → StandsInVotes c t b
-    → IsAfter code.TwoDecisions at c b
-two_decisions_first t at votes decisions code.TwoVotes b s = inl (votes b s)
-two_decisions_first t at votes decisions code.TwoDecisions b s = after at b 71 71 (decisions b s) (omega arith)
-two_decisions_first t at votes decisions _ b s = absurd s
-
-least_votes : (t : Trace) (at : ℕ) → StandsInVotes code.TwoVotes t at
-    → ((b : ℕ) → StandsInVotes code.TwoVotes t b → at ≤ b) → ((b : ℕ) → StandsInVotes code.TwoDecisions t b → at ≤ b)
-    → IsLeast (IsVoteFault t) (outside code.TwoVotes at)
-least_votes t at stands votes decisions = record {
-  is = record { stands = stands; outside = refl };
-  least = λ g fault. two_votes_first t at votes decisions g.code g.offset fault.stands;
-}
-
-least_decisions : (t : Trace) (at : ℕ) → StandsInVotes code.TwoDecisions t at
-    → ((b : ℕ) → StandsInVotes code.TwoVotes t b → at < b) → ((b : ℕ) → StandsInVotes code.TwoDecisions t b → at ≤ b)
-    → IsLeast (IsVoteFault t) (outside code.TwoDecisions at)
-least_decisions t at stands votes decisions = record {
-  is = record { stands = stands; outside = refl };
-  least = λ g fault. two_decisions_first t at votes decisions g.code g.offset fault.stands;
-}
-
--- what was found of further votes, and of two decisions
-pub record Found (t : Trace) (again apart : Option ℕ) : Type 0 where
-  pub again_stands : IfSome again (StandsInVotes code.TwoVotes t)
-  pub again_least : IsBelowAll (StandsInVotes code.TwoVotes t) again
-  pub apart_stands : IfSome apart (StandsInVotes code.TwoDecisions t)
-  pub apart_least : IsBelowAll (StandsInVotes code.TwoDecisions t) apart
-
-pub first_is_least : (t : Trace) (again apart : Option ℕ) → Found t again apart
-    → IfSome (first_fault again apart) (IsLeast (IsVoteFault t))
-first_is_least t None None found = tt
-first_is_least t (Some a) None found = least_votes t a found.again_stands found.again_least
-    (λ b s. absurd (found.apart_least b s))
-first_is_least t None (Some d) found = least_decisions t d found.apart_stands (λ b s. absurd (found.again_least b s))
-    found.apart_least
-first_is_least t (Some a) (Some d) found = by_test (nat_lt d a) refl
+up_to_own : (c : Code) (at b : ℕ) → at ≤ b → IsUpTo (outside c at) (outside c b)
+up_to_own c at b up = up_to_later f c at b (up_to_from f f refl (precedes-refl f)) up
   where
-    by_test : (x : Bool) → nat_lt d a ≡ x
-        → IfSome (cond x (Some (outside code.TwoDecisions d)) (Some (outside code.TwoVotes a)))
-        (IsLeast (IsVoteFault t))
-    by_test true e = least_decisions t d found.apart_stands
-        (λ b s. omega (arith, ltb-true d a e, found.again_least b s)) found.apart_least
-    by_test false e = least_votes t a found.again_stands found.again_least
-        (λ b s. omega (arith, ltb-false d a e, found.apart_least b s))
+    f : Fault
+    f = outside c at
+
+least_fault : (t : Trace) (c : Code) (at : ℕ) → StandsInVotes c t at
+    → ((b : ℕ) → StandsInVotes code.TwoVotes t b → IsUpTo (outside c at) (outside code.TwoVotes b))
+    → ((b : ℕ) → StandsInVotes code.TwoDecisions t b → IsUpTo (outside c at) (outside code.TwoDecisions b))
+    → IsLeast (IsVoteFault t) (outside c at)
+least_fault t c at stands votes decisions = record {
+  is = record { stands = stands; outside = refl };
+  least = λ g fault. by g.code g.offset fault.stands;
+}
+  where
+    by : (d : Code) (b : ℕ) → StandsInVotes d t b → IsUpTo (outside c at) (outside d b)
+    by code.TwoVotes b s = votes b s
+    by code.TwoDecisions b s = decisions b s
+    by _ b s = absurd s
+
+-- the first of further votes and of two decisions
+abbrev pub first_of_both : Option ℕ → Option ℕ → Option Fault
+first_of_both again apart = first_of (option_map (outside code.TwoVotes) again)
+    (option_map (outside code.TwoDecisions) apart)
+
+pub first_is_least : (t : Trace) (again apart : Option ℕ) → IsLowest (StandsInVotes code.TwoVotes t) again
+    → IsLowest (StandsInVotes code.TwoDecisions t) apart
+    → IfSome (first_of_both again apart) (IsLeast (IsVoteFault t))
+first_is_least t None None votes decisions = tt
+first_is_least t (Some a) None votes decisions = least_fault t code.TwoVotes a votes.stands
+    (λ b s. up_to_own code.TwoVotes a b (votes.below b s)) (λ b s. absurd (decisions.below b s))
+first_is_least t None (Some d) votes decisions = least_fault t code.TwoDecisions d decisions.stands
+    (λ b s. absurd (votes.below b s)) (λ b s. up_to_own code.TwoDecisions d b (decisions.below b s))
+first_is_least t (Some a) (Some d) votes decisions = by_test (is_before g f) refl
+  where
+    f : Fault
+    f = outside code.TwoVotes a
+
+    g : Fault
+    g = outside code.TwoDecisions d
+
+    by_test : (x : Bool) → is_before g f ≡ x → IfSome (if x then Some g else Some f) (IsLeast (IsVoteFault t))
+    by_test true is = least_fault t code.TwoDecisions d decisions.stands
+        (λ b s. up_to_later g code.TwoVotes a b (up_to_from g f refl (before_precedes g f is)) (votes.below b s))
+        (λ b s. up_to_own code.TwoDecisions d b (decisions.below b s))
+    by_test false is = least_fault t code.TwoVotes a votes.stands
+        (λ b s. up_to_own code.TwoVotes a b (votes.below b s))
+        (λ b s. up_to_later f code.TwoDecisions d b (up_to_from f g refl (behind_precedes g f is))
+        (decisions.below b s))
 
 -- where there is no first fault nothing was found
-pub none_found : (again apart : Option ℕ) → first_fault again apart ≡ None → (again ≡ None) × (apart ≡ None)
+none_found : (again apart : Option ℕ) → first_of_both again apart ≡ None → (again ≡ None) × (apart ≡ None)
 none_found None None e = (refl, refl)
 none_found (Some a) None e = absurd cc
 none_found None (Some d) e = absurd cc
-none_found (Some a) (Some d) e = absurd (by_test (nat_lt d a) e)
+none_found (Some a) (Some d) e =
+    let two = first_of_two (outside code.TwoVotes a) (outside code.TwoDecisions d) in
+    absurd (let clash = sym two.1 ∙ e in cc)
+
+pub not_apart : (again apart : Option ℕ) (P : Type 0) → first_of_both again apart ≡ None → IfNone apart P → P
+not_apart again apart P none given = at apart (none_found again apart none).1 given
   where
-    by_test : (x : Bool) → cond x (Some (outside code.TwoDecisions d)) (Some (outside code.TwoVotes a)) ≡ None → ⊥
-    by_test true e = cc
-    by_test false e = cc
+    at : (o : Option ℕ) → o ≡ None → IfNone o P → P
+    at None e given = given
+    at (Some x) e given = absurd cc
 
 no_fault : (t : Trace) → ((b : ℕ) → StandsInVotes code.TwoVotes t b → ⊥)
     → ((b : ℕ) → StandsInVotes code.TwoDecisions t b → ⊥) → (c : Code) (b : ℕ) → StandsInVotes c t b → ⊥
@@ -112,12 +112,12 @@ no_fault t votes decisions _ b s = absurd s
 none_below : (P : ℕ → Type 0) (least : Option ℕ) → least ≡ None → IsBelowAll P least → (b : ℕ) → P b → ⊥
 none_below P least none all b p = (let below = subst (λ (o : Option ℕ). IsBelow o b) none (all b p) in absurd below)
 
-pub none_stands : (t : Trace) (again apart : Option ℕ) → Found t again apart → first_fault again apart ≡ None
-    → (f : Fault) → IsVoteFault t f → ⊥
-none_stands t again apart found none f fault =
+pub none_stands : (t : Trace) (again apart : Option ℕ) → IsLowest (StandsInVotes code.TwoVotes t) again
+    → IsLowest (StandsInVotes code.TwoDecisions t) apart → first_of_both again apart ≡ None → HasNone (IsVoteFault t)
+none_stands t again apart votes decisions none f fault =
     let both = none_found again apart none in
-    no_fault t (none_below (StandsInVotes code.TwoVotes t) again both.0 found.again_least)
-    (none_below (StandsInVotes code.TwoDecisions t) apart both.1 found.apart_least) f.code f.offset fault.stands
+    no_fault t (none_below (StandsInVotes code.TwoVotes t) again both.0 votes.below)
+    (none_below (StandsInVotes code.TwoDecisions t) apart both.1 decisions.below) f.code f.offset fault.stands
 
 -- ---- where each votes once
 
@@ -196,12 +196,13 @@ votes_once t none v n view = by_order (cases_lt 1 (length (filter (is_vote_on n 
         let further = two_further n view [] (votes_at t v) two in
         absurd (none further.0 (v, further.1))
 
-pub votes_sound : (t : Trace) (ds : List (Option Decision)) (again apart : Option ℕ) → Found t again apart
-    → first_fault again apart ≡ None → AreDecisions t ds → AreVotesSound t
-votes_sound t ds again apart found none are =
+pub votes_sound : (t : Trace) (ds : List (Option Decision)) (again apart : Option ℕ)
+    → IsLowest (StandsInVotes code.TwoVotes t) again → first_of_both again apart ≡ None
+    → AreDecisions t ds → AreVotesSound t
+votes_sound t ds again apart votes none are =
     let both = none_found again apart none in
     record {
-      once = votes_once t (none_below (StandsInVotes code.TwoVotes t) again both.0 found.again_least);
+      once = votes_once t (none_below (StandsInVotes code.TwoVotes t) again both.0 votes.below);
       one_view = λ n view other token other_token d e. ap view_of
           (sym (are.all n view token d) ∙ are.all n other other_token e);
       one_token = λ n view other token other_token d e. ap token_in

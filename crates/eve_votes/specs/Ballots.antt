@@ -1,9 +1,9 @@
 -- The votes of a trace, by batch, view and verifier.
-use Rattle.std.specs.Prelude.{◌≡◌, ◌≢◌, ℕ, ◌<◌, ◌≤◌, ◌-◌, ◌+◌, ◌==◌, nat_lt, Bool, ◌&&◌, ◌||◌, List, [], ◌∷◌, ◌++◌}
-use Rattle.std.specs.Prelude.{filter, Some, slice_get, slice_index_or, length, IsTrue}
-use Rattle.eve_grammar.specs.Trace.{Vote, Trace}
+use Rattle.std.specs.Prelude.{◌≡◌, ◌≢◌, ℕ, ◌<◌, ◌≤◌, ◌-◌, ◌+◌, ◌==◌, nat_lt, Bool, false, ◌&&◌, ◌||◌, List, [], ◌∷◌}
+use Rattle.std.specs.Prelude.{◌++◌, filter, Option, Some, None, slice_get, slice_index_or, length, IsTrue}
+use Rattle.eve_grammar.specs.Trace.{Choice, Vote, Trace}
 use Rattle.eve_grammar.specs.Spelling.{votes_of}
-use Rattle.eve_votes.specs.Votes.{is_vote_on}
+use Rattle.eve_votes.specs.Votes.{same_choice, is_vote_on}
 use Rattle.eve_votes.specs.declared.ballots.Ballot.{Ballot}
 
 abbrev pub ballot : ℕ → ℕ → Vote → Ballot
@@ -38,6 +38,11 @@ is_at xs i b = nat_lt i (length xs) && is_alike (slice_index_or xs i b) b
 -- on an earlier batch, or on the same in an earlier view
 abbrev pub is_lower : ℕ → ℕ → Ballot → Bool
 is_lower n view b = nat_lt b.seq n || ((b.seq == n) && nat_lt b.view view)
+
+-- there is a vote, and it is for this
+abbrev pub is_for : Choice → Option Choice → Bool
+is_for choice None = false
+is_for choice (Some vote) = same_choice vote choice
 
 -- the one comes before the other: by batch, then by view, then by verifier
 pub record IsBefore (a b : Ballot) : Type 0 where

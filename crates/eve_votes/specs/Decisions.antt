@@ -1,5 +1,5 @@
 -- What was found to be decided as commit.
-use Rattle.std.specs.Prelude.{◌≡◌, ℕ, ◌+◌, List, length, Option, Some, None, IfSome, slice_index_or, ◌⊎◌}
+use Rattle.std.specs.Prelude.{◌≡◌, ◌≢◌, ℕ, ◌+◌, List, length, Option, Some, None, IfSome, slice_index_or, ◌⊎◌}
 use Rattle.std.specs.Option.{option_map}
 use Rattle.eve_grammar.specs.Trace.{Trace}
 use Rattle.eve_grammar.specs.Spelling.{batches_at}
@@ -29,9 +29,15 @@ pub record Judging (t : Trace) (ds : List (Option Decision)) (least : Option ℕ
   pub known : (n : ℕ) → IfSome (decision_in ds n) (IsKnown t n)
   pub stands : IfSome least (StandsInVotes code.TwoDecisions t)
 
--- what was found stays
-abbrev pub Keeps : List (Option Decision) → List (Option Decision) → Type 0
-Keeps before after = (n : ℕ) (d : ℕ × List ℕ) → decision_in before n ≡ Some d → decision_in after n ≡ Some d
+-- nothing was found for the batch in this view
+abbrev pub IsUnnoted : List (Option Decision) → ℕ → ℕ → Type 0
+IsUnnoted ds n view = (d : ℕ × List ℕ) → decision_in ds n ≡ Some d → d.0 ≢ view
+
+-- what was found stays, and what is new is of the batch in this view
+pub record Notes (before after : List (Option Decision)) (n view : ℕ) : Type 0 where
+  pub keeps : (m : ℕ) (d : ℕ × List ℕ) → decision_in before m ≡ Some d → decision_in after m ≡ Some d
+  pub adds : (m : ℕ) (d : ℕ × List ℕ) → decision_in after m ≡ Some d
+      → (decision_in before m ≡ Some d) ⊎ ((m ≡ n) × (d.0 ≡ view))
 
 -- the batch of this number stands at this offset
 abbrev pub IsBatchAt : Trace → ℕ → ℕ → Type 0

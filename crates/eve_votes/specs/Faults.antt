@@ -33,6 +33,10 @@ StandsInVotes code.TwoVotes t at = (v : ℕ) × IsFurtherAt (votes_at t v) at
 StandsInVotes code.TwoDecisions t at = SomePlace (batches_at t) (λ _ b. (b.0 ≡ at) × HasTwoDecisions t b.1.0)
 StandsInVotes _ t at = ⊥
 
+-- a fault outside the sections, at this offset
+abbrev pub outside : Code → ℕ → Fault
+outside c at = record { code = c; offset = at; replica = None }
+
 -- the fault is one of votes; it lies outside the sections
 pub record IsVoteFault (t : Trace) (f : Fault) : Type 0 where
   pub stands : StandsInVotes f.code t f.offset

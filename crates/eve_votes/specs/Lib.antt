@@ -1,7 +1,6 @@
 pub mod Votes
 pub mod Faults
 pub mod Least
-pub mod First
 pub mod Ballots
 pub mod Majority
 pub mod Decisions

@@ -1,11 +1,14 @@
 //! The votes of a trace, by batch, view and verifier.
 
-ghost use Rattle.std.specs.Prelude.{◌≡◌, ◌<◌, Some, length, slice_get};
+ghost use Rattle.std.specs.Prelude.{◌≡◌, ◌<◌, ◌+◌, Some, length, slice_get, filter};
+ghost use Rattle.std.specs.Option.{option_map};
+ghost use Rattle.eve_grammar.specs.Trace.{Choice as ChoiceValue};
 ghost use Rattle.eve_grammar.specs.Bodies.{choice as choice_of};
 ghost use Rattle.eve_grammar.specs.Spelling.{votes_at, votes_of};
-ghost use Rattle.eve_frames.specs.Views.{vote_in};
-ghost use Rattle.eve_votes.specs.Votes.{same_choice, backers};
-ghost use Rattle.eve_votes.specs.Ballots.{is_alike, is_fellow, is_at, is_lower, IsBefore, AreInOrder, IsStart, HasCast};
+ghost use Rattle.eve_frames.specs.Said.{vote_said};
+ghost use Rattle.eve_votes.specs.Votes.{same_choice, is_vote_on, is_only, backers};
+ghost use Rattle.eve_votes.specs.Ballots.{is_alike, is_fellow, is_at, is_lower, is_for, IsBefore, AreInOrder, IsStart};
+ghost use Rattle.eve_votes.specs.Ballots.{HasCast};
 
 use eve_frames::VoteView;
 use eve_grammar::Choice;
@@ -46,7 +49,7 @@ pub(crate) fn vote_at<'a>(trace: &Trace<'a>, ballot: Ballot) -> VoteView<'a>
     requires verifier { ballot.verifier < length trace.now.verifiers }
     requires place { ballot.place < length (votes_of trace.now ballot.verifier) }
     ensures { slice_get (votes_at trace.now ballot.verifier) ballot.place
-        ≡ Some (result.offset, vote_in result.bytes.now) }
+        ≡ Some (result.offset, vote_said result) }
 {
     trace.votes(ballot.verifier).get(ballot.place)
 }
@@ -64,7 +67,7 @@ fn start_of(ballots: &[Ballot], seq: u32, view: u32) -> usize
 }
 
 /// Whether the vote at this place is of the same verifier as another, on the same batch in the same view.
-pub(crate) fn is_at(ballots: &[Ballot], at: usize, ballot: Ballot) -> bool
+fn is_at(ballots: &[Ballot], at: usize, ballot: Ballot) -> bool
     ensures { result ≡ is_at ballots.now at ballot }
 {
     at < ballots.len() && is_alike(&ballots[at], &ballot)
@@ -83,6 +86,36 @@ fn is_same(a: Choice<'_>, b: Choice<'_>) -> bool
     }
 }
 
+/// What a verifier's only vote on the batch in this view is for, if it has one. The votes of this verifier and of those
+/// after it begin at this place, which passes such a vote.
+pub(crate) fn next_choice<'a>(
+    trace: &Trace<'a>,
+    ballots: &[Ballot],
+    at: &mut usize,
+    seq: u32,
+    view: u32,
+    verifier: u8,
+) -> Option<Choice<'a>>
+    requires cast { HasCast trace.now ballots.now }
+    requires start { IsStart ballots.now at.old seq view verifier }
+    ensures start { IsStart ballots.now at.new seq view (verifier + 1) }
+    ensures only { (choice : ChoiceValue) → is_only choice (filter (is_vote_on seq view) (votes_of trace.now verifier))
+        ≡ is_for choice (option_map choice_of result) }
+{
+    let wanted = Ballot {
+        seq,
+        view,
+        verifier,
+        place: 0,
+    };
+    if !is_at(ballots, *at, wanted) {
+        return None;
+    }
+    let vote = vote_at(trace, ballots[*at]);
+    *at += 1;
+    Some(vote.choice())
+}
+
 /// How many verifiers have exactly one vote on the batch in this view, and it is for this. The votes on the batch in
 /// this view begin at this place.
 pub(crate) fn backers_from(
@@ -98,21 +131,13 @@ pub(crate) fn backers_from(
     ensures { result ≡ backers trace.now seq view (choice_of choice.entry) }
 {
     trace.is_whole();
-    let verifiers = trace.head().verifiers;
     let mut at = start;
     let mut count: u8 = 0;
-    for verifier in 0..verifiers {
-        let wanted = Ballot {
-            seq,
-            view,
-            verifier,
-            place: 0,
-        };
-        if is_at(ballots, at, wanted) {
-            if is_same(vote_at(trace, ballots[at]).choice(), choice) {
+    for verifier in 0..trace.head().verifiers {
+        if let Some(vote) = next_choice(trace, ballots, &mut at, seq, view, verifier) {
+            if is_same(vote, choice) {
                 count += 1;
             }
-            at += 1;
         }
     }
     count

@@ -1,13 +1,13 @@
 //! What was decided as commit.
 
-ghost use Rattle.std.specs.Prelude.{◌≡◌, ◌<◌, ◌+◌, ◌↔◌, ℕ, None, Some, length, slice_get, IfNone, IfSome, IsTrue};
+ghost use Rattle.std.specs.Prelude.{◌≡◌, ◌<◌, ◌+◌, ◌↔◌, ℕ, None, Some, length, slice_get, IfNone, IsTrue};
 ghost use Rattle.std.specs.List.{All};
 ghost use Rattle.eve_views.specs.declared.fault.Code.TheVariants.{TwoDecisions};
 ghost use Rattle.eve_votes.specs.Votes.{IsDecided};
 ghost use Rattle.eve_votes.specs.Faults.{StandsInVotes};
-ghost use Rattle.eve_votes.specs.Least.{Lowers, IsBelowAll};
+ghost use Rattle.eve_votes.specs.Least.{Lowers, IsLowest};
 ghost use Rattle.eve_votes.specs.Ballots.{IsStart, Continues, HasCast};
-ghost use Rattle.eve_votes.specs.Decisions.{Judging, Keeps, IsFound, Agrees, AreDecisions};
+ghost use Rattle.eve_votes.specs.Decisions.{Judging, IsUnnoted, Notes, IsFound, Agrees, AreDecisions};
 
 use crate::ballots::{Ballot, is_fellow};
 use crate::least::lower;
@@ -22,7 +22,7 @@ pub(crate) struct Decision<'a> {
 }
 
 /// Notes a decision, where none was noted for the batch. Gives the least offset of those found so far and of the
-/// batch, where another view was noted.
+/// batch, where one was noted: that is another view's, since each view is judged once.
 fn note<'a>(
     trace: &Trace<'a>,
     decisions: &mut Vec<Option<Decision<'a>>>,
@@ -31,22 +31,20 @@ fn note<'a>(
     least: Option<u64>,
 ) -> Option<u64>
     requires decided { IsDecided trace.now seq decision.view decision.token.now }
+    requires unnoted { IsUnnoted decisions.old.items seq decision.view }
     requires judging { Judging trace.now decisions.old.items least }
     ensures judging { Judging trace.now decisions.new.items result }
-    ensures keeps { Keeps decisions.old.items decisions.new.items }
+    ensures notes { Notes decisions.old.items decisions.new.items seq decision.entry.view }
     ensures lowers { Lowers least result }
     ensures found { IsFound trace.now decisions.new.items result seq decision.entry.view }
 {
     trace.is_whole();
     let place = seq as usize;
-    let Some(known) = decisions[place] else {
-        decisions[place] = Some(decision);
-        return least;
-    };
-    if known.view == decision.view {
-        return least;
+    if decisions[place].is_some() {
+        return lower(least, trace.batch(seq).offset());
     }
-    lower(least, trace.batch(seq).offset())
+    decisions[place] = Some(decision);
+    least
 }
 
 /// Whether the vote at this place is on the batch and in the view of the one before it.
@@ -67,9 +65,10 @@ fn judge<'a>(
 ) -> Option<u64>
     requires cast { HasCast trace.now ballots.now }
     requires start { IsStart ballots.now start ballot.seq ballot.view 0 }
+    requires unnoted { IsUnnoted decisions.old.items ballot.seq ballot.view }
     requires judging { Judging trace.now decisions.old.items least }
     ensures judging { Judging trace.now decisions.new.items result }
-    ensures keeps { Keeps decisions.old.items decisions.new.items }
+    ensures notes { Notes decisions.old.items decisions.new.items ballot.seq ballot.view }
     ensures lowers { Lowers least result }
     ensures agrees { Agrees trace.now decisions.new.items result ballot.seq ballot.view }
 {
@@ -89,8 +88,7 @@ pub(crate) fn decide<'a>(
     requires cast { HasCast trace.now ballots.now }
     requires long { length decisions.old.items ≡ length trace.now.batches + 1 }
     requires none { All (λ d. d ≡ None) decisions.old.items }
-    ensures stands { IfSome result (StandsInVotes TwoDecisions trace.now) }
-    ensures all { IsBelowAll (StandsInVotes TwoDecisions trace.now) result }
+    ensures least { IsLowest (StandsInVotes TwoDecisions trace.now) result }
     ensures decided { IfNone result (AreDecisions trace.now decisions.new.items) }
 {
     trace.is_whole();

@@ -7,7 +7,7 @@ ghost use Rattle.eve_votes.specs.Votes.{backers, IsDecided};
 ghost use Rattle.eve_votes.specs.Ballots.{IsStart, HasCast};
 ghost use Rattle.eve_votes.specs.Majority.{Leads, IsOneMore};
 
-use crate::ballots::{Ballot, backers_from, is_at, vote_at};
+use crate::ballots::{Ballot, backers_from, next_choice};
 use eve_grammar::Choice;
 use eve_views::Trace;
 
@@ -46,21 +46,13 @@ fn leader<'a>(trace: &Trace<'a>, ballots: &[Ballot], start: usize, seq: u32, vie
     ensures { Leads (λ token. backers trace.now seq view (ForCommit token)) (length trace.now.verifiers) result }
 {
     trace.is_whole();
-    let verifiers = trace.head().verifiers;
     let mut at = start;
     let mut lead = Lead { token: &[], by: 0 };
-    for verifier in 0..verifiers {
-        let wanted = Ballot {
-            seq,
-            view,
-            verifier,
-            place: 0,
-        };
-        if is_at(ballots, at, wanted) {
-            if let Choice::ForCommit(token) = vote_at(trace, ballots[at]).choice() {
-                lead = counted(lead, token);
-            }
-            at += 1;
+    for verifier in 0..trace.head().verifiers {
+        match next_choice(trace, ballots, &mut at, seq, view, verifier) {
+            Some(Choice::ForCommit(token)) => lead = counted(lead, token),
+            Some(Choice::ForRollback) => {}
+            None => {}
         }
     }
     lead

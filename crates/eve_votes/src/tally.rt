@@ -2,19 +2,19 @@
 
 ghost use Rattle.std.specs.Prelude.{◌≡◌, ◌+◌, ℕ, List, None, Some, length, IfOk, IfErr, IsTrue, ◌↔◌};
 ghost use Rattle.std.specs.List.{All};
+ghost use Rattle.std.specs.Option.{option_map};
 ghost use Rattle.eve_grammar.specs.Trace.{ForCommit};
 ghost use Rattle.eve_views.specs.Form.{IfFound, IsLeast, HasNone};
 ghost use Rattle.eve_views.specs.declared.fault.Fault.{Fault as FaultValue};
 ghost use Rattle.eve_votes.specs.Votes.{backers, IsDecided, IsRolledBack};
-ghost use Rattle.eve_votes.specs.Faults.{IsVoteFault, AreVotesSound};
-ghost use Rattle.eve_votes.specs.First.{first_fault, outside};
+ghost use Rattle.eve_votes.specs.Faults.{outside, IsVoteFault, AreVotesSound};
 
 use crate::ballots::{Ballot, backers};
 use crate::decisions::{Decision, decide};
 use crate::majority::is_quorum;
 use crate::voting::{cast, sift};
 use eve_grammar::Choice;
-use eve_views::{CheckFault, Code, Fault, Trace};
+use eve_views::{CheckFault, Code, Fault, Trace, first_of};
 use std::alloc::{AllocError, Global};
 use std::marker::Model;
 
@@ -61,30 +61,17 @@ fn none_decided<'a>(alloc: Global, batches: u32) -> Result<Vec<Option<Decision<'
     Ok(decisions)
 }
 
-/// The first of the two faults: the one at the lower offset, and at one offset the one with the lower number.
-fn first_fault(again: Option<u64>, apart: Option<u64>) -> Option<Fault>
-    ensures { result ≡ first_fault again apart }
+/// The fault outside the sections, where an offset was found.
+fn outside(code: Code, found: Option<u64>) -> Option<Fault>
+    ensures { result ≡ option_map (outside code) found }
 {
-    match (again, apart) {
-        (None, None) => None,
-        (Some(offset), None) => Some(outside(Code::TwoVotes, offset)),
-        (None, Some(offset)) => Some(outside(Code::TwoDecisions, offset)),
-        (Some(again), Some(apart)) => Some(if apart < again {
-            outside(Code::TwoDecisions, apart)
-        } else {
-            outside(Code::TwoVotes, again)
+    match found {
+        Some(offset) => Some(Fault {
+            code,
+            offset,
+            replica: None,
         }),
-    }
-}
-
-/// A fault outside the sections.
-fn outside(code: Code, offset: u64) -> Fault
-    ensures { result ≡ outside code offset }
-{
-    Fault {
-        code,
-        offset,
-        replica: None,
+        None => None,
     }
 }
 
@@ -106,7 +93,10 @@ impl<'t, 'a> Tally<'t, 'a> {
         let again = sift(trace, &cast, &mut ballots)?;
         let mut decisions = none_decided(alloc, trace.head().batches)?;
         let apart = decide(trace, &ballots, &mut decisions);
-        match first_fault(again, apart) {
+        match first_of(
+            outside(Code::TwoVotes, again),
+            outside(Code::TwoDecisions, apart),
+        ) {
             Some(fault) => Err(CheckFault::Found(fault)),
             None => Ok(Tally {
                 trace,

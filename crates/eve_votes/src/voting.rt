@@ -1,10 +1,10 @@
 //! The votes as they stand in a trace.
 
-ghost use Rattle.std.specs.Prelude.{◌≡◌, ◌↔◌, ◌<◌, ◌++◌, [], IsTrue, length, IfOk, OnOk, IfSome};
+ghost use Rattle.std.specs.Prelude.{◌≡◌, ◌↔◌, ◌<◌, ◌++◌, [], IsTrue, length, IfOk, OnOk};
 ghost use Rattle.eve_views.specs.declared.fault.Code.TheVariants.{TwoVotes};
 ghost use Rattle.eve_grammar.specs.Spelling.{votes_of};
 ghost use Rattle.eve_votes.specs.Faults.{StandsInVotes};
-ghost use Rattle.eve_votes.specs.Least.{IsBelowAll};
+ghost use Rattle.eve_votes.specs.Least.{IsLowest};
 ghost use Rattle.eve_votes.specs.Ballots.{ballots_from, ballots_of, Follows, HasVotes, HasCast};
 
 use crate::ballots::{Ballot, is_alike, vote_at};
@@ -69,8 +69,7 @@ pub(crate) fn sift(
     requires cast { HasVotes trace.now ballots.now }
     requires none { only.old.items ≡ [] }
     ensures only { OnOk result (HasCast trace.now only.new.items) }
-    ensures stands { IfOk result (λ r. IfSome r (StandsInVotes TwoVotes trace.now)) }
-    ensures all { IfOk result (IsBelowAll (StandsInVotes TwoVotes trace.now)) }
+    ensures least { IfOk result (IsLowest (StandsInVotes TwoVotes trace.now)) }
 {
     let mut least = None;
     for i in 0..ballots.len() {

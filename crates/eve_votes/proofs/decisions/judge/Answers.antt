@@ -1,5 +1,6 @@
 use Rattle.std.proofs.Common.{ℕ, List, Bor, sym, ap, ◌∙◌}
 use Rattle.std.specs.Option.{option_map}
+use Rattle.eve_votes.proofs.Deciding.{none_noted}
 use Rattle.eve_votes.proofs.decisions.judge.Goals as goal
 
 pub note-requires-clause-decided : goal.note-requires-clause-decided
@@ -10,3 +11,6 @@ pub returns-in-None-clause-agrees : goal.returns-in-None-clause-agrees
 returns-in-None-clause-agrees c token decided =
     let found = (c.decided_in.ensures token).0 decided in
     absurd (let none = sym found ∙ ap (option_map (λ (r : Bor (List ℕ)). r.now)) c.in-None.is in cc)
+
+pub returns-in-None-clause-notes : goal.returns-in-None-clause-notes
+returns-in-None-clause-notes c = none_noted c.args.decisions.now.items c.args.ballot.seq c.args.ballot.view

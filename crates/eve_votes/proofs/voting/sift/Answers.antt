@@ -7,7 +7,7 @@ use Rattle.eve_votes.specs.Least.{lower}
 use Rattle.eve_votes.specs.Ballots.{Follows}
 use Rattle.eve_votes.specs.declared.ballots.Ballot.{Ballot}
 use Rattle.eve_votes.proofs.Gathered.{verifier_there}
-use Rattle.eve_votes.proofs.Sifting.{Sifted, sifted_further, sifted_past, sifted_only, sifted_cast, sifted_all}
+use Rattle.eve_votes.proofs.Sifting.{Sifted, sifted_further, sifted_past, sifted_only, sifted_cast, sifted_lowest}
 use Rattle.eve_votes.proofs.voting.sift.Goals as goal
 use Rattle.eve_votes.proofs.voting.sift.Goals.{then-follows, else-follows+then-not-follows+in_ok-push}
 use Rattle.eve_votes.proofs.voting.sift.Goals.{else-follows+else-not-follows}
@@ -69,6 +69,6 @@ pub returns-clause-only : goal.returns-clause-only
 returns-clause-only c = sifted_cast c.args.trace.now c.args.ballots.now c.requires.cast c.loop-i.i
     c.loop-i.only.items c.loop-i.least (omega arith) c.loop-i.invariant
 
-pub returns-clause-all : goal.returns-clause-all
-returns-clause-all c = sifted_all c.args.trace.now c.args.ballots.now c.requires.cast c.loop-i.i
+pub returns-clause-least : goal.returns-clause-least
+returns-clause-least c = sifted_lowest c.args.trace.now c.args.ballots.now c.requires.cast c.loop-i.i
     c.loop-i.only.items c.loop-i.least (omega arith) c.loop-i.invariant

@@ -1,49 +1,51 @@
+use Rattle.std.proofs.Common.{◌≡◌, Option, IfSome, sym, ◌∙◌, subst}
 use Rattle.eve_views.specs.Form.{IsLeast}
-use Rattle.std.proofs.Common.{◌≡◌, Option, Some, None, IfSome, IfNone, sym, ◌∙◌, subst}
+use Rattle.eve_views.specs.First.{first_of}
 use Rattle.eve_views.specs.declared.fault.Fault.{Fault}
 use Rattle.eve_votes.specs.Faults.{IsVoteFault}
 use Rattle.eve_votes.specs.Decisions.{AreDecisions}
-use Rattle.eve_votes.proofs.Tallying.{Found, first_is_least, none_found, none_stands, votes_sound}
+use Rattle.eve_votes.proofs.Tallying.{first_of_both, first_is_least, not_apart, none_stands, votes_sound}
 use Rattle.eve_votes.proofs.tally.Tally.of.Goals as goal
-
-IfNone_at : {A : Type 0} (o : Option A) (P : Type 0) → o ≡ None → IfNone o P → P
-IfNone_at None P e given = given
-IfNone_at (Some x) P e given = absurd cc
 
 pub returns-in-Some-clause-least : goal.returns-in-Some-clause-least
 returns-in-Some-clause-least c =
     let t = c.args.trace.now in
-    let found : Found t c.in_ok-again.again c.decide-apart.result = record {
-      again_stands = c.in_ok-again.ensures.stands;
-      again_least = c.in_ok-again.ensures.all;
-      apart_stands = c.decide-apart.ensures.stands;
-      apart_least = c.decide-apart.ensures.all;
-    } in
-    subst (λ (o : Option Fault). IfSome o (IsLeast (IsVoteFault t))) (sym c.first_fault.ensures ∙ c.in-Some.is)
-    (first_is_least t c.in_ok-again.again c.decide-apart.result found)
+    let again = c.in_ok-again.again in
+    let apart = c.decide-apart.result in
+    let told : c.first_of.result ≡ first_of_both again apart =
+    c.first_of.ensures ∙ (λ k. first_of (c.outside.ensures k) (c.outside-2.ensures k)) in
+    subst (λ (o : Option Fault). IfSome o (IsLeast (IsVoteFault t))) (sym told ∙ c.in-Some.is)
+    (first_is_least t again apart c.in_ok-again.ensures.least c.decide-apart.ensures.least)
+
+pub invariant_of-result : goal.invariant_of-result
+invariant_of-result c =
+    let again = c.in_ok-again.again in
+    let apart = c.decide-apart.result in
+    let told : c.first_of.result ≡ first_of_both again apart =
+    c.first_of.ensures ∙ (λ k. first_of (c.outside.ensures k) (c.outside-2.ensures k)) in
+    record {
+      cast = c.in_ok-again.ensures.only;
+      decisions = not_apart again apart (AreDecisions c.args.trace.now c.decide-apart.new.decisions.items)
+          (sym told ∙ c.in-None.is) c.decide-apart.ensures.decided;
+    }
 
 pub returns-clause-sound : goal.returns-clause-sound
 returns-clause-sound c =
     let t = c.args.trace.now in
-    let found : Found t c.in_ok-again.again c.decide-apart.result = record {
-      again_stands = c.in_ok-again.ensures.stands;
-      again_least = c.in_ok-again.ensures.all;
-      apart_stands = c.decide-apart.ensures.stands;
-      apart_least = c.decide-apart.ensures.all;
-    } in
-    let none = sym c.first_fault.ensures ∙ c.in-None.is in
-    let both = none_found c.in_ok-again.again c.decide-apart.result none in
-    votes_sound t c.decide-apart.new.decisions.items c.in_ok-again.again c.decide-apart.result found none
-    (IfNone_at c.decide-apart.result (AreDecisions t c.decide-apart.new.decisions.items) both.1
-    c.decide-apart.ensures.decided)
+    let ds = c.decide-apart.new.decisions.items in
+    let again = c.in_ok-again.again in
+    let apart = c.decide-apart.result in
+    let told : c.first_of.result ≡ first_of_both again apart =
+    c.first_of.ensures ∙ (λ k. first_of (c.outside.ensures k) (c.outside-2.ensures k)) in
+    let none = sym told ∙ c.in-None.is in
+    votes_sound t ds again apart c.in_ok-again.ensures.least none
+    (not_apart again apart (AreDecisions t ds) none c.decide-apart.ensures.decided)
 
 pub returns-clause-none : goal.returns-clause-none
 returns-clause-none c =
-    let t = c.args.trace.now in
-    let found : Found t c.in_ok-again.again c.decide-apart.result = record {
-      again_stands = c.in_ok-again.ensures.stands;
-      again_least = c.in_ok-again.ensures.all;
-      apart_stands = c.decide-apart.ensures.stands;
-      apart_least = c.decide-apart.ensures.all;
-    } in
-    none_stands t c.in_ok-again.again c.decide-apart.result found (sym c.first_fault.ensures ∙ c.in-None.is)
+    let again = c.in_ok-again.again in
+    let apart = c.decide-apart.result in
+    let told : c.first_of.result ≡ first_of_both again apart =
+    c.first_of.ensures ∙ (λ k. first_of (c.outside.ensures k) (c.outside-2.ensures k)) in
+    none_stands c.args.trace.now again apart c.in_ok-again.ensures.least c.decide-apart.ensures.least
+    (sym told ∙ c.in-None.is)
