@@ -1,9 +1,11 @@
 -- Entries one after another.
-use Rattle.std.proofs.Common.{◌≡◌, ℕ, ◌<◌, nat_lt, List, ◌∷◌, subst, IsTrue}
+use Rattle.std.proofs.Common.{◌≡◌, ℕ, zero, suc, ◌+◌, ◌<◌, nat_lt, List, [], ◌∷◌, Some, slice_get, drop, ap, subst}
+use Rattle.std.proofs.Common.{refl, ◌∙◌, IsTrue, arith}
 use Rattle.std.proofs.lemmas.Bool.{and_parts, ltb-true}
 use Rattle.std.specs.List.{list_all}
 use Rattle.eve_smallbank.specs.declared.entry.Entry.{Entry}
 use Rattle.eve_grammar.specs.Limits.{is_entry}
+use Rattle.eve_chains.proofs.Linked.{some_injective, none≢some}
 
 both : (rows : ℕ) (es : List Entry) (e : Entry) (rest : List Entry) → es ≡ e ∷ rest
     → IsTrue (list_all (is_entry rows) es) → IsTrue (is_entry rows e) × IsTrue (list_all (is_entry rows) rest)
@@ -23,3 +25,24 @@ rest_right rows es e rest is right = (both rows es e rest is right).1
 -- its row is there
 pub row_there : (rows : ℕ) (e : Entry) → IsTrue (is_entry rows e) → e.row < rows
 row_there rows e right = ltb-true e.row rows (and_parts (nat_lt e.row rows) _ right).0
+
+-- ---- by their places
+
+from_place : (es : List Entry) (k : ℕ) (e : Entry) → slice_get es k ≡ Some e → drop k es ≡ e ∷ drop (suc k) es
+from_place [] k e at = none≢some e at
+from_place (x ∷ es) zero e at = ap (λ (y : Entry). y ∷ es) (some_injective x e at)
+from_place (x ∷ es) (suc k) e at = from_place es k e at
+
+-- the entries from a place on are the one that stands there and those after it
+pub from_entry : (es : List Entry) (k : ℕ) (e : Entry) → slice_get es k ≡ Some e → drop k es ≡ e ∷ drop (k + 1) es
+from_entry es k e at =
+    let next : suc k ≡ k + 1 = omega arith in
+    from_place es k e at ∙ ap (λ (n : ℕ). e ∷ drop n es) next
+
+-- the one that stands there is within the limits
+pub right_there : (rows : ℕ) (es : List Entry) (k : ℕ) (e : Entry) → slice_get es k ≡ Some e
+    → IsTrue (list_all (is_entry rows) es) → IsTrue (is_entry rows e)
+right_there rows [] k e at right = none≢some e at
+right_there rows (x ∷ es) zero e at right = subst (λ (y : Entry). IsTrue (is_entry rows y)) (some_injective x e at)
+    (both rows (x ∷ es) x es refl right).0
+right_there rows (x ∷ es) (suc k) e at right = right_there rows es k e at (both rows (x ∷ es) x es refl right).1

@@ -1,7 +1,11 @@
 -- What is found in stretches of attempts, put together, is what is found in all of them.
 use Rattle.std.proofs.Common.{◌≡◌, ℕ, zero, suc, ◌+◌, ◌-◌, ◌<◌, ◌≤◌, List, [], ◌∷◌, ◌++◌, length, take, drop, get_or}
 use Rattle.std.proofs.Common.{slice_get, Option, None, Some, Result, Ok, Err, IfOk, refl, sym, subst, ap, ◌∙◌, arith}
-use Rattle.std.proofs.Common.{append-nil, append_assoc, drop-drop}
+use Rattle.std.proofs.Common.{append-nil, append_assoc, drop-drop, ◌*◌, ◌/◌, ◌%◌, min, mul-le-mul_right, mul_comm}
+use Rattle.std.proofs.Common.{suc-mul}
+use Rattle.std.proofs.Common.{inl, inr}
+use Rattle.std.proofs.lemmas.Bool.{cases_lt}
+use Rattle.std.proofs.lemmas.Grind.{div_ceil_times}
 use Rattle.std.specs.Prelude.{All}
 use Rattle.std.specs.declared.alloc.AllocError.{AllocError}
 use Rattle.std.proofs.lemmas.List.{take_all}
@@ -10,8 +14,8 @@ use Rattle.eve_history.specs.declared.fate.Fate.{Fate}
 use Rattle.eve_history.specs.SectionHistory.{ExecutedAttempt, SectionHistory}
 use Rattle.eve_chains.specs.Unfit.{records_of, all_records, records_between, IsLeastUnfit, IsLeastOfAttempt, lesser}
 use Rattle.eve_chains.specs.Unfit.{lesser_found}
-use Rattle.eve_chains.specs.Stretches.{IsWithin, IsJudged, Reaches, AreStretches, least_found}
-use Rattle.eve_chains.specs.declared.unfit.Stretch.{Stretch}
+use Rattle.eve_chains.specs.Stretches.{IsWithin, IsFoundIn, Reaches, AreStretches, least_found}
+use Rattle.eve_chains.specs.declared.stretch.Stretch.{Stretch}
 use Rattle.eve_chains.proofs.Least.{least_append}
 
 -- ---- one after another
@@ -21,6 +25,25 @@ pub reaches_more : (from mid : ℕ) (xs : List Stretch) (x : Stretch) → Reache
     → Reaches from x.to (xs ++ x ∷ [])
 reaches_more from mid [] x same at = (at ∙ sym same, refl)
 reaches_more from mid (y ∷ xs) x reaches at = (reaches.0, reaches_more y.to mid xs x reaches.1 at)
+
+-- ---- how many there are
+
+-- each as long as one of so many that are alike, or longer
+pub enough_for_all : (attempts jobs size : ℕ) → 0 < jobs → attempts / jobs + min 1 (attempts % jobs) ≤ size
+    → attempts ≤ jobs * size
+enough_for_all attempts jobs size some large =
+    omega (arith, (div_ceil_times attempts jobs some).0, mul-le-mul_right jobs large, mul_comm size jobs)
+
+-- where attempts reach beyond one more stretch, there is a job for yet another
+pub one_left : (attempts jobs size count from : ℕ) → attempts ≤ jobs * size → from ≡ count * size
+    → size < attempts - from → suc count < jobs
+one_left attempts jobs size count from enough at more =
+    elim (cases_lt (suc count) jobs) [
+      | inl fewer ↦ fewer
+      | inr many ↦
+          let far : jobs * size ≤ suc count * size = mul-le-mul_right size many in
+          absurd (omega (arith, suc-mul count size, far, at, more, enough))
+    ]
 
 -- ---- the records of attempts
 
@@ -59,6 +82,9 @@ item_at : {A : Type 0} (xs : List A) (i : ℕ) → i < length xs → (x : A) × 
 item_at [] i less = absurd (omega arith)
 item_at (x ∷ xs) zero less = (x, refl)
 item_at (x ∷ xs) (suc i) less = item_at xs i (omega arith)
+
+abbrev Found : Type 0
+Found = Result (Option ℕ) AllocError
 
 module _ (t : Trace) (h : SectionHistory) where
   between_joined : (from mid to : ℕ) → from ≤ mid → mid ≤ to
@@ -135,24 +161,24 @@ module _ (t : Trace) (h : SectionHistory) where
     found_more from to (Err why) other rising is rest = tt
 
     -- of stretches that follow one another, each judged
-    found_all : (from last : ℕ) (xs ys : List Stretch) (first : Result (Option ℕ) AllocError) → length ys ≡ length xs
+    found_all : (from last : ℕ) (xs : List Stretch) (ys : List Found) (first : Found) → length ys ≡ length xs
         → Reaches from last xs → All (IsWithin last) xs
-        → ((i : ℕ) (d : Stretch) → i < length xs → IsJudged names t h (get_or xs i d) (get_or ys i d))
+        → ((i : ℕ) (x : Stretch) (y : Found) → i < length xs → IsFoundIn names t h (get_or xs i x) (get_or ys i y))
         → IsFoundTo from first → IsFoundTo last (least_found first ys)
     found_all from last [] [] first same reaches within judged is =
         subst (λ (n : ℕ). IsFoundTo n first) reaches is
     found_all from last [] (y ∷ ys) first same reaches within judged is = absurd (omega (arith, same))
     found_all from last (x ∷ xs) [] first same reaches within judged is = absurd (omega (arith, same))
     found_all from last (x ∷ xs) (y ∷ ys) first same reaches within judged is =
-        found_all x.to last xs ys (lesser_found first y.found) (omega (arith, same)) reaches.1
-        (λ i d less. within (suc i) d (omega arith)) (λ i d less. judged (suc i) d (omega arith))
-        (found_more x.from x.to first y.found (within 0 x (omega arith)).rising
-        (subst (λ (n : ℕ). IsFoundTo n first) (sym reaches.0) is) (judged 0 x (omega arith)).found)
+        found_all x.to last xs ys (lesser_found first y) (omega (arith, same)) reaches.1
+        (λ i d less. within (suc i) d (omega arith)) (λ i d e less. judged (suc i) d e (omega arith))
+        (found_more x.from x.to first y (within 0 x (omega arith)).rising
+        (subst (λ (n : ℕ). IsFoundTo n first) (sym reaches.0) is) (judged 0 x y (omega arith)))
 
     -- the least of what is found in each is that of all
-    pub found_in_all : (xs ys : List Stretch) → length ys ≡ length xs → length h.fates ≡ length h.attempts
-        → AreStretches (length h.attempts) xs
-        → ((i : ℕ) (d : Stretch) → i < length xs → IsJudged names t h (get_or xs i d) (get_or ys i d))
+    pub found_in_all : (xs : List Stretch) (ys : List Found) → length ys ≡ length xs
+        → length h.fates ≡ length h.attempts → AreStretches (length h.attempts) xs
+        → ((i : ℕ) (x : Stretch) (y : Found) → i < length xs → IsFoundIn names t h (get_or xs i x) (get_or ys i y))
         → IfOk (least_found (Ok None) ys) (IsLeastUnfit names (all_records t h.attempts h.fates))
     found_in_all xs ys same long cut judged =
         subst (λ (rs : List _). IfOk (least_found (Ok None) ys) (IsLeastUnfit names rs)) (all_between long)

@@ -5,7 +5,7 @@ use Rattle.eve_smallbank.specs.declared.entry.Entry.{Entry}
 use Rattle.eve_smallbank.specs.Chain.{Table, Sees, table_after}
 use Rattle.eve_grammar.specs.Trace.{Access, Trace}
 use Rattle.eve_grammar.specs.Limits.{is_entry}
-use Rattle.eve_frames.specs.Views.{access_in}
+use Rattle.eve_frames.specs.Said.{access_said}
 use Rattle.eve_frames.specs.declared.access.AccessView.{AccessView}
 use Rattle.eve_views.specs.Form.{IsUpTo, SomePlace}
 use Rattle.eve_views.specs.declared.fault.Code.{Code}
@@ -17,7 +17,7 @@ use Rattle.eve_chains.specs.Visible.{table_along}
 
 -- what an access frame says, with its offset
 abbrev pub said : AccessView → ℕ × Access
-said v = (v.offset, access_in v.bytes.now)
+said v = (v.offset, access_said v)
 
 abbrev pub all_said : List AccessView → List (ℕ × Access)
 all_said views = map said views

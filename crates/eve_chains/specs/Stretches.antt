@@ -4,18 +4,16 @@ use Rattle.std.specs.declared.alloc.AllocError.{AllocError}
 use Rattle.eve_grammar.specs.Trace.{Trace}
 use Rattle.eve_history.specs.SectionHistory.{SectionHistory}
 use Rattle.eve_chains.specs.Unfit.{records_between, IsLeastUnfit, lesser_found}
-use Rattle.eve_chains.specs.declared.unfit.Stretch.{Stretch}
+use Rattle.eve_chains.specs.declared.stretch.Stretch.{Stretch}
 
 -- its attempts are among so many
 pub record IsWithin (attempts : ℕ) (x : Stretch) : Type 0 where
   pub rising : x.from ≤ x.to
   pub there : x.to ≤ attempts
 
--- it was judged
-pub record IsJudged (names : List (List ℕ)) (t : Trace) (h : SectionHistory) (old new : Stretch) : Type 0 where
-  pub from : new.from ≡ old.from
-  pub to : new.to ≡ old.to
-  pub found : IfOk new.found (IsLeastUnfit names (records_between t h old.from old.to))
+-- what was found in it: the least offset of its records that don't fit, where the memory was there
+abbrev pub IsFoundIn : List (List ℕ) → Trace → SectionHistory → Stretch → Result (Option ℕ) AllocError → Type 0
+IsFoundIn names t h x found = IfOk found (IsLeastUnfit names (records_between t h x.from x.to))
 
 -- the stretches follow one another, from one place up to another
 abbrev pub Reaches : ℕ → ℕ → List Stretch → Type 0
@@ -28,6 +26,7 @@ pub record AreStretches (attempts : ℕ) (xs : List Stretch) : Type 0 where
   pub within : All (IsWithin attempts) xs
 
 -- the least of this and of what was found in each of them, where the memory was there for all
-abbrev pub least_found : Result (Option ℕ) AllocError → List Stretch → Result (Option ℕ) AllocError
+abbrev pub least_found
+    : Result (Option ℕ) AllocError → List (Result (Option ℕ) AllocError) → Result (Option ℕ) AllocError
 least_found so_far [] = so_far
-least_found so_far (x ∷ xs) = least_found (lesser_found so_far x.found) xs
+least_found so_far (found ∷ rest) = least_found (lesser_found so_far found) rest

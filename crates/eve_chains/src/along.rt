@@ -7,6 +7,7 @@ ghost use Rattle.eve_views.specs.First.{first_of};
 ghost use Rattle.eve_chains.specs.Tables.{table_of, undone};
 ghost use Rattle.eve_chains.specs.Along.{all_said, entries_along, AreWithin, IsFirstAlong, fault_of};
 
+use crate::noted::entries_of;
 use crate::table::Table;
 use crate::written::write_values;
 use eve_accounts::Balances;
@@ -25,8 +26,7 @@ pub fn judge_along(table: &mut Table, replica: u8, ordered: &[AccessView<'_>]) -
 {
     let mut first = None;
     for access in ordered {
-        let wrong = table.wrong_in(access.entries());
-        table.write(access.entries());
+        let wrong = table.meet(&entries_of(access));
         first = first_with(first, replica, access.offset(), wrong);
     }
     first
@@ -39,7 +39,7 @@ pub fn write_along(table: &mut Table, ordered: &[AccessView<'_>])
     ensures table { table_of table.new ≡ table_after (table_of table.old) (entries_along (all_said ordered.now)) }
 {
     for access in ordered {
-        table.write(access.entries());
+        table.write(&entries_of(access));
     }
 }
 

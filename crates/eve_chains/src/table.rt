@@ -10,7 +10,7 @@ ghost use Rattle.eve_chains.specs.Tables.{table_of, undone, IsWrongIn};
 use crate::versioned::Versioned;
 use eve_accounts::{Cents, Row};
 use eve_frames::Entries;
-use eve_smallbank::{Entry, Kind};
+use eve_smallbank::{Entry, Kind, UpToThree};
 use eve_views::{Code, Trace};
 use std::alloc::{AllocError, Global};
 use std::marker::Model;
@@ -74,14 +74,29 @@ impl Table {
         self.rows[row.number() as usize]
     }
 
-    /// What is wrong with what a request's entries see: `Version` where one sees another version than its row
-    /// has, else `Value` where one sees another value.
-    pub fn wrong_in(&self, entries: Entries<'_>) -> Option<Code>
-        requires { IsTrue (list_all (is_entry (length self.now)) entries) }
-        ensures { IsWrongIn (table_of self.now) entries.entry result }
+    /// Meets what a request noted: judges what each entry sees by what the rows have before the request, also where an
+    /// earlier entry of the same request writes its row, and takes the writes, also where something is wrong.
+    ///
+    /// What is wrong is `Version` where some entry sees another version than its row has, else `Value` where one sees
+    /// another value.
+    pub fn meet(&mut self, entries: &UpToThree<Entry>) -> Option<Code>
+        requires { IsTrue (list_all (is_entry (length self.old)) entries.now) }
+        ensures as_many { length self.new ≡ length self.old }
+        ensures table { table_of self.new ≡ table_after (table_of self.old) entries.now }
+        ensures wrong { IsWrongIn (table_of self.old) entries.now result }
+    {
+        let wrong = self.wrong_in(entries);
+        self.write(entries);
+        wrong
+    }
+
+    fn wrong_in(&self, entries: &UpToThree<Entry>) -> Option<Code>
+        requires { IsTrue (list_all (is_entry (length self.now)) entries.now) }
+        ensures { IsWrongIn (table_of self.now) entries.now result }
     {
         let mut wrong = None;
-        for entry in entries {
+        for place in 0..entries.len() {
+            let entry = entries.at(place);
             let row = self.see(entry.row);
             if entry.version != row.version() {
                 return Some(Code::Version);
@@ -94,13 +109,13 @@ impl Table {
     }
 
     /// Takes the writes among the entries: each raises the version that it saw by one.
-    pub fn write(&mut self, entries: Entries<'_>)
-        requires { IsTrue (list_all (is_entry (length self.old)) entries) }
+    pub fn write(&mut self, entries: &UpToThree<Entry>)
+        requires { IsTrue (list_all (is_entry (length self.old)) entries.now) }
         ensures as_many { length self.new ≡ length self.old }
-        ensures table { table_of self.new ≡ table_after (table_of self.old) entries.entry }
+        ensures table { table_of self.new ≡ table_after (table_of self.old) entries.now }
     {
-        for entry in entries {
-            self.write_one(&entry);
+        for place in 0..entries.len() {
+            self.write_one(&entries.at(place));
         }
     }
 

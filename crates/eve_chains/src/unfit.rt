@@ -3,7 +3,7 @@
 ghost use Rattle.std.specs.Prelude.{◌≡◌, ◌≤◌, ◌<◌, ◌∷◌, [], ℕ, All, None, Ok, Some, OnOk, IfOk, IfErr, length, map};
 ghost use Rattle.std.specs.Prelude.{slice_get, slice_index_or};
 ghost use Rattle.eve_smallbank.specs.SmallBank.{plain};
-ghost use Rattle.eve_frames.specs.Views.{batch_in, access_in};
+ghost use Rattle.eve_frames.specs.Said.{access_said, batch_said};
 ghost use Rattle.eve_views.specs.Form.{IfFound, IsLeast, HasNone};
 ghost use Rattle.eve_views.specs.declared.fault.Fault.{Fault as FaultValue};
 ghost use Rattle.eve_history.specs.SectionHistory.{ExecutedAttempt, section_history, names_of, IsRightSection};
@@ -11,11 +11,12 @@ ghost use Rattle.eve_chains.specs.Records.{recorded};
 ghost use Rattle.eve_chains.specs.Sound.{RecordsFit};
 ghost use Rattle.eve_chains.specs.Faults.{IsRecordFault};
 ghost use Rattle.eve_chains.specs.Unfit.{is_settled, recorded_of, all_records, HasRequests, IsLeastUnfit, CanBeJudged};
-ghost use Rattle.eve_chains.specs.Unfit.{IsLeastOfAttempt, records_between, lesser, lesser_found};
-ghost use Rattle.eve_chains.specs.Stretches.{IsWithin, IsJudged, AreStretches, least_found};
-ghost use Rattle.eve_chains.specs.declared.unfit.Stretch.{Stretch as StretchValue};
+ghost use Rattle.eve_chains.specs.Unfit.{IsLeastOfAttempt, lesser, lesser_found};
+ghost use Rattle.eve_chains.specs.Stretches.{IsWithin, IsFoundIn, AreStretches, least_found};
+ghost use Rattle.eve_chains.specs.declared.stretch.Stretch.{Stretch as StretchValue};
 
 use crate::fits;
+use crate::stretch::Stretch;
 use eve_accounts::Names;
 use eve_frames::{AccessView, BatchView};
 use eve_history::{Fate, History};
@@ -25,19 +26,8 @@ use std::alloc::{AllocError, Global};
 use std::thread;
 use std::thread::Threads;
 
-/// How few attempts are worth a thread of their own: one has up to 256 records.
-const LEAST_ATTEMPTS: usize = 16;
-
-/// Attempts of a replica that stand after one another, whose records are judged by themselves.
-#[derive(Drop)]
-struct Stretch {
-    /// The place of the first of them.
-    from: usize,
-    /// The place after the last of them.
-    to: usize,
-    /// Once they were judged, the least offset of their records that don't fit, where the memory was there.
-    found: Result<Option<u64>, AllocError>,
-}
+/// What is found in a stretch: the least offset of its records that don't fit, where the memory was there.
+type Found = Result<Option<u64>, AllocError>;
 
 /// Judges the records of a replica's settled attempts one by one: each fits its request, or the first that does not is
 /// named.
@@ -87,109 +77,58 @@ fn first_unfit<R: Threads + Sync>(
     ensures { IfOk result (IsLeastUnfit names.now.items
         (all_records trace.now history.now.attempts history.now.fates)) }
 {
-    let mut stretches = cut(alloc, history.attempts(), jobs)?;
-    judge_all(
-        rt,
-        alloc,
-        history,
-        trace,
-        names,
-        stretches.as_mut_slice(),
-        jobs,
-    );
-    least_of_all(&stretches)
+    let stretches = Stretch::cut(alloc, history.attempts(), jobs)?;
+    let found = judge_all(rt, alloc, history, trace, names, stretches)?;
+    least_of_all(&found)
 }
 
-/// Cuts attempts into stretches, each as long as one of so many that are alike, but no shorter than is worth a thread.
-fn cut(alloc: Global, attempts: usize, jobs: u8) -> Result<Vec<Stretch>, AllocError>
-    requires { 1 ≤ jobs }
-    ensures { IfOk result (λ stretches. AreStretches attempts stretches.items) }
-{
-    let size = attempts.div_ceil(usize::from(jobs)).max(LEAST_ATTEMPTS);
-    let mut stretches = Vec::new(alloc);
-    let mut from = 0;
-    while attempts - from > size {
-        stretches.push(Stretch {
-            from,
-            to: from + size,
-            found: Ok(None),
-        })?;
-        from += size;
-    }
-    stretches.push(Stretch {
-        from,
-        to: attempts,
-        found: Ok(None),
-    })?;
-    Ok(stretches)
-}
-
-/// Judges the stretches, up to so many of them side by side.
+/// What is found in each of the stretches: judged side by side in as many threads as there are, and a single one by the
+/// caller.
 fn judge_all<R: Threads + Sync>(
     rt: &R,
     alloc: Global,
     history: &History<'_>,
     trace: &Trace<'_>,
     names: &Names<'_>,
-    stretches: &mut [Stretch],
-    jobs: u8,
-)
-    requires jobs { 1 ≤ jobs }
+    stretches: Vec<Stretch>,
+) -> Result<Vec<Found>, AllocError>
     requires history { history.now ≡ section_history trace.now history.now.replica }
     requires right { IsRightSection trace.now history.now.replica }
-    requires within { All (IsWithin (length history.now.attempts)) stretches.old }
-    ensures len { length stretches.new ≡ length stretches.old }
-    ensures judged { (i : ℕ) (d : StretchValue) → i < length stretches.old
-        → IsJudged names.now.items trace.now history.now (slice_index_or stretches.old i d)
-        (slice_index_or stretches.new i d) }
+    requires within { All (IsWithin (length history.now.attempts)) stretches.items }
+    ensures len { IfOk result (λ found. length found.items ≡ length stretches.items) }
+    ensures each { IfOk result (λ found. (i : ℕ) (x : StretchValue) (d : _) → i < length stretches.items
+        → IsFoundIn names.now.items trace.now history.now (slice_index_or stretches.items i x)
+        (slice_index_or found.items i d)) }
 {
-    thread::for_each_mut(
+    thread::map_vec(
         rt,
         stretches,
-        jobs as usize,
-        &|_: usize, stretch: &mut Stretch|
+        &|stretch: Stretch|
             requires { (history.now ≡ section_history trace.now history.now.replica)
                 × IsRightSection trace.now history.now.replica
-                × IsWithin (length history.now.attempts) stretch.old }
-            ensures { IsJudged names.entry.now.items trace.entry.now history.entry.now stretch.old stretch.new }
+                × IsWithin (length history.now.attempts) stretch }
+            ensures { IsFoundIn names.entry.now.items trace.entry.now history.entry.now stretch result }
         { judge_stretch(alloc, history, trace, names, stretch) },
-    );
+    )
 }
 
-/// Judges a stretch.
+/// The least offset of the records that don't fit, of a stretch of attempts.
 fn judge_stretch(
     alloc: Global,
     history: &History<'_>,
     trace: &Trace<'_>,
     names: &Names<'_>,
-    stretch: &mut Stretch,
-)
+    stretch: Stretch,
+) -> Found
     requires history { history.now ≡ section_history trace.now history.now.replica }
     requires right { IsRightSection trace.now history.now.replica }
-    requires within { IsWithin (length history.now.attempts) stretch.old }
-    ensures { IsJudged names.now.items trace.now history.now stretch.old stretch.new }
+    requires within { IsWithin (length history.now.attempts) stretch }
+    ensures { IsFoundIn names.now.items trace.now history.now stretch result }
 {
-    stretch.found = judge_between(alloc, history, trace, names, stretch.from, stretch.to);
-}
-
-/// The least offset of the records that don't fit, of the attempts from one place up to another.
-fn judge_between(
-    alloc: Global,
-    history: &History<'_>,
-    trace: &Trace<'_>,
-    names: &Names<'_>,
-    from: usize,
-    to: usize,
-) -> Result<Option<u64>, AllocError>
-    requires history { history.now ≡ section_history trace.now history.now.replica }
-    requires right { IsRightSection trace.now history.now.replica }
-    requires rising { from ≤ to }
-    requires within { to ≤ length history.now.attempts }
-    ensures { IfOk result (IsLeastUnfit names.now.items (records_between trace.now history.now from to)) }
-{
+    let to = stretch.to;
     prove!(to <= history.attempts());
     let mut least = None;
-    for i in from..to {
+    for i in stretch.from..to {
         let found = judge_attempt(alloc, history, i, trace, names)?;
         least = lesser(least, found);
     }
@@ -197,12 +136,12 @@ fn judge_between(
 }
 
 /// The least that was found in any of the stretches, where the memory was there for each.
-fn least_of_all(stretches: &[Stretch]) -> Result<Option<u64>, AllocError>
-    ensures { result ≡ least_found (Ok None) stretches.now }
+fn least_of_all(found: &[Found]) -> Found
+    ensures { result ≡ least_found (Ok None) found.now }
 {
     let mut least = Ok(None);
-    for stretch in stretches {
-        least = lesser_found(least, stretch.found);
+    for one in found {
+        least = lesser_found(least, *one);
     }
     least
 }
@@ -245,7 +184,7 @@ fn read_requests<'a>(
 ) -> Result<(), AllocError>
     requires { requests.old.items ≡ [] }
     ensures { OnOk result (map plain requests.new.items
-        ≡ map (λ a. a.request) (batch_in batch.now.bytes.now).1.requests) }
+        ≡ map (λ a. a.request) (batch_said batch.now).1.requests) }
 {
     for asked in batch.requests() {
         requests.reserve(1)?;
@@ -286,7 +225,7 @@ fn judge_record(
     access: &AccessView<'_>,
 ) -> Option<u64>
     ensures { IsLeastUnfit names.now.items
-        ((access.now.offset, recorded (plain request.now) reply (access_in access.now.bytes.now).entries) ∷ []) result }
+        ((access.now.offset, recorded (plain request.now) reply (access_said access.now).entries) ∷ []) result }
 {
     if fits(request, names, reply, access) {
         None
@@ -296,10 +235,7 @@ fn judge_record(
 }
 
 /// The lesser of two offsets that were found, where the memory was there.
-fn lesser_found(
-    first: Result<Option<u64>, AllocError>,
-    other: Result<Option<u64>, AllocError>,
-) -> Result<Option<u64>, AllocError>
+fn lesser_found(first: Found, other: Found) -> Found
     ensures { result ≡ lesser_found first other }
 {
     Ok(lesser(first?, other?))

@@ -1,35 +1,9 @@
-use Rattle.std.proofs.Common.{refl, IsTrue, List, length, ap, subst, sym, ◌∙◌}
-use Rattle.std.specs.List.{list_all}
-use Rattle.eve_smallbank.specs.declared.entry.Entry.{Entry}
-use Rattle.eve_smallbank.specs.Chain.{Table, table_after}
+use Rattle.std.proofs.Common.{IsTrue, length, subst, sym}
 use Rattle.eve_grammar.specs.Limits.{is_entry}
-use Rattle.eve_chains.specs.Tables.{table_of}
-use Rattle.eve_chains.proofs.Entries.{first_right, rest_right}
+use Rattle.eve_chains.proofs.Entries.{right_there}
 use Rattle.eve_chains.proofs.table.Table.write.Goals as goal
-
-pub loop-entry-init : goal.loop-entry-init
-loop-entry-init c = record {
-  as_many = refl;
-  right = subst (λ (es : List Entry). IsTrue (list_all (is_entry (length c.args.self.now)) es))
-      (sym c.into_iter-entry-iterator.ensures.into_iter_gives) c.requires;
-  table = ap (table_after (table_of c.args.self.now)) c.into_iter-entry-iterator.ensures.into_iter_gives;
-}
 
 pub write_one-requires : goal.write_one-requires
 write_one-requires c =
-    subst (λ n. IsTrue (is_entry n c.in-Some.entry)) (sym c.loop-entry.invariant.as_many)
-    (first_right (length c.args.self.now) c.loop-entry.entry-iterator c.in-Some.entry c.next.new.self
-    c.in-Some.ensures.steps c.loop-entry.invariant.right)
-
-pub loop-entry-preserved : goal.loop-entry-preserved
-loop-entry-preserved c = record {
-  as_many = c.write_one.ensures.as_many ∙ c.loop-entry.invariant.as_many;
-  right = rest_right (length c.args.self.now) c.loop-entry.entry-iterator c.in-Some.entry c.next.new.self
-      c.in-Some.ensures.steps c.loop-entry.invariant.right;
-  table = ap (λ (table : Table). table_after table c.next.new.self) c.write_one.ensures.table
-      ∙ ap (table_after (table_of c.loop-entry.self)) (sym c.in-Some.ensures.steps) ∙ c.loop-entry.invariant.table;
-}
-
-pub returns-clause-table : goal.returns-clause-table
-returns-clause-table c = ap (table_after (table_of c.loop-entry.self)) (sym c.in-None.ensures.steps.0)
-    ∙ c.loop-entry.invariant.table
+    subst (λ n. IsTrue (is_entry n c.at.result)) (sym c.loop-place.invariant.as_many)
+    (right_there (length c.args.self.now) c.args.entries.now c.loop-place.place c.at.result c.at.ensures c.requires)

@@ -1,13 +1,10 @@
-use Rattle.std.proofs.Common.{◌≡◌, IsTrue, length}
-use Rattle.std.specs.List.{list_all}
+use Rattle.std.proofs.Common.{◌≡◌, length, drop}
 use Rattle.eve_smallbank.specs.Chain.{table_after}
-use Rattle.eve_grammar.specs.Limits.{is_entry}
 use Rattle.eve_chains.specs.Tables.{table_of}
 use Rattle.eve_chains.proofs.table.Table.write.Given as goal
 
-abbrev pub invariant-loop-entry : goal.invariant-loop-entry
-invariant-loop-entry l = record {
+abbrev pub invariant-loop-place : goal.invariant-loop-place
+invariant-loop-place l = record {
   as_many : length l.self ≡ length l.fn.self;
-  right : IsTrue (list_all (is_entry (length l.fn.self)) l.entry-iterator);
-  table : table_after (table_of l.self) l.entry-iterator ≡ table_after (table_of l.fn.self) l.fn.entries;
+  table : table_after (table_of l.self) (drop l.place l.entries) ≡ table_after (table_of l.fn.self) l.entries;
 }

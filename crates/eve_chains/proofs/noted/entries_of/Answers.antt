@@ -1,7 +1,7 @@
 use Rattle.std.proofs.Common.{sym, ◌∙◌}
 use Rattle.eve_frames.specs.Views.{access_in}
 use Rattle.eve_chains.proofs.ShortLists.{one_item, two_items, three_items}
-use Rattle.eve_chains.proofs.fitting.entries_of.Goals as goal
+use Rattle.eve_chains.proofs.noted.entries_of.Goals as goal
 
 pub returns-in-1 : goal.returns-in-1
 returns-in-1 c =
