@@ -2,7 +2,7 @@
 
 ghost use Rattle.std.specs.Prelude.{◌≡◌, ◌≤◌, ◌<◌, ◌-◌, ◌↔◌, ℕ, IsTrue, IfOk, IfErr, IfSome, IfNone, Some, length};
 ghost use Rattle.std.specs.Prelude.{slice_get};
-ghost use Rattle.eve_frames.specs.Views.{attempt_in};
+ghost use Rattle.eve_frames.specs.Said.{attempt_said};
 ghost use Rattle.eve_views.specs.Form.{IfFound, IsLeast, HasNone};
 ghost use Rattle.eve_views.specs.declared.fault.Fault.{Fault as FaultValue};
 ghost use Rattle.eve_grammar.specs.Trace.{Trace as TraceValue};
@@ -157,7 +157,7 @@ pub(crate) fn committed_attempt<'a>(history: &History<'a>, n: u32) -> AttemptVie
     requires one { 1 ≤ n }
     requires there { n ≤ length history.now.commits }
     ensures { (r : ExecutedAttempt) × (slice_get history.now.commits (n - 1) ≡ Some r) × (result.offset ≡ r.offset)
-        × (attempt_in result.bytes.now ≡ r.attempt) }
+        × (attempt_said result ≡ r.attempt) }
 {
     history.attempt(history.committed_attempt(n))
 }
@@ -171,7 +171,7 @@ fn is_same(
 ) -> bool
     ensures { IsTrue result ↔
         ((balances.now ≡ others.now)
-        × ((attempt_in attempt.now.bytes.now).replies ≡ (attempt_in other.now.bytes.now).replies)) }
+        × ((attempt_said attempt.now).replies ≡ (attempt_said other.now).replies)) }
 {
     let replies = have_same_replies(attempt, other);
     replies && are_same(balances, others)
@@ -186,7 +186,7 @@ fn are_same(balances: &Balances, others: &Balances) -> bool
 
 /// Whether two attempts have the same replies, by request index.
 fn have_same_replies(attempt: &AttemptView<'_>, other: &AttemptView<'_>) -> bool
-    ensures { IsTrue result ↔ ((attempt_in attempt.now.bytes.now).replies ≡ (attempt_in other.now.bytes.now).replies) }
+    ensures { IsTrue result ↔ ((attempt_said attempt.now).replies ≡ (attempt_said other.now).replies) }
 {
     if attempt.len() != other.len() {
         return false;

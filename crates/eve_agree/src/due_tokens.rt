@@ -1,7 +1,7 @@
 //! The faults of tokens.
 
 ghost use Rattle.std.specs.Prelude.{◌≡◌, ◌≤◌, ◌<◌, ◌-◌, ◌↔◌, ℕ, All, IsTrue, IfOk, IfErr, length, slice_index_or};
-ghost use Rattle.eve_frames.specs.Views.{attempt_in};
+ghost use Rattle.eve_frames.specs.Said.{attempt_said};
 ghost use Rattle.eve_token.specs.Token.{token_of};
 ghost use Rattle.eve_views.specs.Form.{IfFound, IsLeast, HasNone};
 ghost use Rattle.eve_views.specs.declared.fault.Fault.{Fault as FaultValue};
@@ -26,8 +26,8 @@ use std::thread::Threads;
 
 /// Whether the attempt has the token of these balances and of its replies.
 fn is_due(attempt: &AttemptView<'_>, balances: &Balances) -> bool
-    ensures { IsTrue result ↔ ((attempt_in attempt.now.bytes.now).token
-        ≡ token_of 1 (attempt_in attempt.now.bytes.now).seq balances.now (attempt_in attempt.now.bytes.now).replies) }
+    ensures { IsTrue result ↔ ((attempt_said attempt.now).token
+        ≡ token_of 1 (attempt_said attempt.now).seq balances.now (attempt_said attempt.now).replies) }
 {
     let due = token_of_spelled(attempt.seq(), balances, attempt.reply_bytes());
     attempt.token() == due.as_slice()

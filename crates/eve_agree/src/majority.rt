@@ -3,7 +3,7 @@
 ghost use Rattle.std.specs.Prelude.{◌≡◌, ◌≢◌, ◌<◌, ◌≤◌, ◌+◌, ◌-◌, ◌^◌, ℕ, ◌⊎◌, ◌↔◌, IsTrue, IsFalse, length};
 ghost use Rattle.std.specs.Prelude.{IfSome, IfNone, IfOk, IfErr};
 ghost use Rattle.eve_grammar.specs.Trace.{Step as StepValue};
-ghost use Rattle.eve_frames.specs.Views.{commit_in, rollback_in};
+ghost use Rattle.eve_frames.specs.Said.{commit_said, rollback_said};
 ghost use Rattle.eve_views.specs.Form.{IsUpTo, IfFound, IsLeast, HasNone};
 ghost use Rattle.eve_views.specs.StepKinds.{IsStep};
 ghost use Rattle.eve_views.specs.declared.fault.CheckFault.TheVariants.{Memory};
@@ -20,8 +20,8 @@ use eve_votes::Tally;
 
 /// Whether a majority decided what is committed: the batch, in that view, with that token.
 fn is_decided(tally: &Tally<'_, '_>, commit: &CommitView<'_>) -> bool
-    ensures { IsTrue result ↔ IsDecided tally.now (commit_in commit.now.bytes.now).seq
-        (commit_in commit.now.bytes.now).view (commit_in commit.now.bytes.now).token }
+    ensures { IsTrue result ↔ IsDecided tally.now (commit_said commit.now).seq
+        (commit_said commit.now).view (commit_said commit.now).token }
 {
     let decided = tally.decided(commit.seq());
     match &decided {
@@ -32,10 +32,10 @@ fn is_decided(tally: &Tally<'_, '_>, commit: &CommitView<'_>) -> bool
 
 /// Whether a majority rolled back the batch after the one that a rollback goes back to, in the view before.
 fn is_rolled_back(tally: &Tally<'_, '_>, rollback: &RollbackView<'_>) -> bool
-    requires next { (rollback_in rollback.now.bytes.now).to + 1 < 2 ^ 32 }
-    requires view { 1 ≤ (rollback_in rollback.now.bytes.now).view }
-    ensures { IsTrue result ↔ IsRolledBack tally.now ((rollback_in rollback.now.bytes.now).to + 1)
-        ((rollback_in rollback.now.bytes.now).view - 1) }
+    requires next { (rollback_said rollback.now).to + 1 < 2 ^ 32 }
+    requires view { 1 ≤ (rollback_said rollback.now).view }
+    ensures { IsTrue result ↔ IsRolledBack tally.now ((rollback_said rollback.now).to + 1)
+        ((rollback_said rollback.now).view - 1) }
 {
     tally.rolled_back(rollback.to() + 1, rollback.view() - 1)
 }

@@ -2,7 +2,7 @@
 
 ghost use Rattle.std.specs.Prelude.{◌≡◌, ◌≤◌, ◌<◌, ◌↔◌, ℕ, IsTrue, IfSome, IfNone, length, map};
 ghost use Rattle.eve_grammar.specs.Limits.{is_batch};
-ghost use Rattle.eve_frames.specs.Views.{attempt_in, batch_in, sent_in};
+ghost use Rattle.eve_frames.specs.Said.{attempt_said, batch_said, sent_said};
 ghost use Rattle.eve_history.specs.Faults.{request_id};
 ghost use Rattle.eve_history.specs.Notes.{requests_said};
 ghost use Rattle.eve_agree.specs.Keeping.{kept, kept_in, IsAnswer, AreOf};
@@ -69,8 +69,8 @@ impl RequestIds {
     pub fn find(&mut self, attempt: &AttemptView<'_>, sent: &SentView<'_>) -> bool
         requires { self.old.count ≤ 256 }
         ensures answer { IsTrue result
-            ↔ ((i : ℕ) × IsAnswer (kept self.old) (attempt_in attempt.now.bytes.now).replies
-            (sent_in sent.now.bytes.now) i) }
+            ↔ ((i : ℕ) × IsAnswer (kept self.old) (attempt_said attempt.now).replies
+            (sent_said sent.now) i) }
         ensures batch { self.new.batch ≡ self.old.batch }
         ensures count { self.new.count ≡ self.old.count }
         ensures kept { kept self.new ≡ kept self.old }
@@ -89,10 +89,10 @@ impl RequestIds {
         requires { self.now.count ≤ 256 }
         ensures below { IfSome result (λ i. i < 256) }
         ensures found { IfSome result
-            (λ i. IsAnswer (kept self.now) (attempt_in attempt.now.bytes.now).replies (sent_in sent.now.bytes.now) i) }
+            (λ i. IsAnswer (kept self.now) (attempt_said attempt.now).replies (sent_said sent.now) i) }
         ensures none { IfNone result
-            ((i : ℕ) → ¬ IsAnswer (kept self.now) (attempt_in attempt.now.bytes.now).replies
-            (sent_in sent.now.bytes.now) i) }
+            ((i : ℕ) → ¬ IsAnswer (kept self.now) (attempt_said attempt.now).replies
+            (sent_said sent.now) i) }
     {
         if self.is_answer(attempt, sent, self.next) {
             return Some(self.next);
@@ -109,8 +109,8 @@ impl RequestIds {
     fn is_answer(&self, attempt: &AttemptView<'_>, sent: &SentView<'_>, i: usize) -> bool
         requires { self.now.count ≤ 256 }
         ensures below { IsTrue result → i < 256 }
-        ensures answer { IsTrue result ↔ IsAnswer (kept self.now) (attempt_in attempt.now.bytes.now).replies
-            (sent_in sent.now.bytes.now) i }
+        ensures answer { IsTrue result ↔ IsAnswer (kept self.now) (attempt_said attempt.now).replies
+            (sent_said sent.now) i }
     {
         if i >= self.count || i >= attempt.len() {
             return false;
@@ -124,7 +124,7 @@ impl RequestIds {
 
 /// Reads the client and the number of each request of a batch: how many there are.
 fn read(batch: &BatchView<'_>, items: &mut [RequestId; 256]) -> usize
-    requires { IsTrue (is_batch (batch_in batch.now.bytes.now).1) }
+    requires { IsTrue (is_batch (batch_said batch.now).1) }
     ensures few { result ≤ 256 }
     ensures kept { kept_in items.new result ≡ map request_id (requests_said batch.now.bytes.now) }
 {

@@ -5,7 +5,7 @@ ghost use Rattle.std.specs.List.{list_all, AllByRecursion};
 ghost use Rattle.eve_smallbank.specs.Chain.{Table};
 ghost use Rattle.eve_smallbank.specs.declared.entry.Entry as noted;
 ghost use Rattle.eve_grammar.specs.Limits.{is_restore, is_rising};
-ghost use Rattle.eve_frames.specs.Views.{rollback_in};
+ghost use Rattle.eve_frames.specs.Said.{rollback_said};
 ghost use Rattle.eve_views.specs.Form.{IfFound, IsLeast, HasNone};
 ghost use Rattle.eve_views.specs.declared.fault.Fault.{Fault as FaultValue};
 ghost use Rattle.eve_views.specs.declared.fault.CheckFault.TheVariants.{Found};
@@ -63,14 +63,14 @@ fn is_right(
     requires rising { first ≤ end }
     requires there { end ≤ length history.now.attempts }
     requires within { AllByRecursion (λ r. AreWithin (length marks.old) r.ordered) history.now.attempts }
-    requires rows { IsTrue (list_all (is_restore (length marks.old)) (rollback_in rollback.now.bytes.now).restores) }
-    requires restores { IsTrue (is_rising (rollback_in rollback.now.bytes.now).restores) }
+    requires rows { IsTrue (list_all (is_restore (length marks.old)) (rollback_said rollback.now).restores) }
+    requires restores { IsTrue (is_rising (rollback_said rollback.now).restores) }
     requires none { marking_of marks.old ≡ unmarked }
     ensures as_many { length marks.new ≡ length marks.old }
     ensures right { (table : Table) → marked unmarked (noted_between history.now.attempts first end)
         ≡ written_in table (noted_between history.now.attempts first end)
         → result ≡ are_written_in table (noted_between history.now.attempts first end)
-        (rollback_in rollback.now.bytes.now).restores }
+        (rollback_said rollback.now).restores }
     ensures none { IsTrue result → marking_of marks.new ≡ unmarked }
 {
     note_attempts(marks, history, first, end);

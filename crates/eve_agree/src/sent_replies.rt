@@ -2,7 +2,7 @@
 
 ghost use Rattle.std.specs.Prelude.{◌≡◌, ◌≢◌, ◌≤◌, ◌↔◌, ◌-◌, ℕ, IsTrue, None, Some, length, slice_get};
 ghost use Rattle.std.specs.Prelude.{IfSome, IfNone, IfOk, IfErr};
-ghost use Rattle.eve_frames.specs.Views.{attempt_in, sent_in};
+ghost use Rattle.eve_frames.specs.Said.{attempt_said, sent_said};
 ghost use Rattle.eve_views.specs.Form.{IfFound, IsLeast, HasNone};
 ghost use Rattle.eve_views.specs.declared.fault.CheckFault.TheVariants.{Memory};
 ghost use Rattle.eve_views.specs.declared.fault.Code.TheVariants as code;
@@ -58,12 +58,12 @@ fn is_replied(
     request_ids: &mut RequestIds,
     sent: &SentView<'_>,
 ) -> bool
-    requires history { history.now ≡ section_history trace.now (sent_in sent.now.bytes.now).replica }
-    requires one { 1 ≤ (sent_in sent.now.bytes.now).seq }
-    requires there { (sent_in sent.now.bytes.now).seq ≤ length trace.now.batches }
+    requires history { history.now ≡ section_history trace.now (sent_said sent.now).replica }
+    requires one { 1 ≤ (sent_said sent.now).seq }
+    requires there { (sent_said sent.now).seq ≤ length trace.now.batches }
     requires old { AreOf trace.now request_ids.old }
     ensures new { AreOf trace.now request_ids.new }
-    ensures replied { IsTrue result ↔ IsReplied trace.now (sent_in sent.now.bytes.now) }
+    ensures replied { IsTrue result ↔ IsReplied trace.now (sent_said sent.now) }
 {
     match committed(history, sent.seq()) {
         Some(attempt) => {
@@ -78,7 +78,7 @@ fn is_replied(
 fn committed<'a>(history: &History<'a>, batch: u32) -> Option<AttemptView<'a>>
     requires { 1 ≤ batch }
     ensures some { IfSome result (λ a. (r : ExecutedAttempt) × (slice_get history.now.commits (batch - 1) ≡ Some r)
-        × (attempt_in a.bytes.now ≡ r.attempt)) }
+        × (attempt_said a ≡ r.attempt)) }
     ensures none { IfNone result (slice_get history.now.commits (batch - 1) ≡ None) }
 {
     if batch > history.committed() {

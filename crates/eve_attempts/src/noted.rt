@@ -10,11 +10,10 @@ ghost use Rattle.eve_attempts.specs.Closing.{touched_by, access_of, executed, Ar
 
 use crate::accesses::are_right_accesses;
 use crate::groups::count_of;
+use eve_grammar::MOST_VERSIONS;
 use eve_smallbank::{Entry, Touched, UpToThree, fits};
 use eve_stamps::AccessRecord;
 use eve_write::BatchData;
-
-const MOST_VERSIONS: u64 = 1 << 40;
 
 /// Whether the entry is of one of so many rows, at a version within the limit, and leaves what it saw if it is a read.
 fn is_entry(entry: &Entry, rows: usize) -> bool

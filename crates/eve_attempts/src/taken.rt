@@ -64,7 +64,8 @@ pub fn take(
     ensures taken { IfOk result (IsTakenOf records.now) }
     ensures noted { OnOk result (AreNoted workers rows (plain batch.now) touched.now records.now) }
     ensures order { IfOk result (λ t.
-        IsTrue (is_certificate (plain batch.now).sizes (length (plain batch.now).requests) serial t.certificate.items)) }
+        IsTrue (is_certificate (plain batch.now).sizes (length (plain batch.now).requests) serial
+        t.certificate.items)) }
     ensures mismatch { result ≡ Err CloseFault.Mismatch → (ordered : List Applied) → IsByTicks records.now ordered
         → AreNoted workers rows (plain batch.now) touched.now records.now
         → ¬ IsTrue (is_certificate (plain batch.now).sizes (length (plain batch.now).requests) serial

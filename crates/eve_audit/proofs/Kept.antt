@@ -132,9 +132,11 @@ pub sound_more : (t : Trace) (e : ℕ) (first : Option Fault) (tells more_tells 
 sound_more t e first tells more_tells settles more_settles c m told wrote judged lt told_is wrote_is sound none tells_is
     settles_is least small = record {
       found = none_more t e first judged.found none;
-      kept = λ is. kept_more t e tells more_tells settles more_settles told wrote lt (judged.kept is) tells_is settles_is
+      kept = λ is. kept_more t e tells more_tells settles more_settles told wrote lt (judged.kept is)
+          tells_is settles_is
           told_is wrote_is sound;
-      least = λ is. least_more t e c told.committed m (judged.least is) (ap (λ (x : SectionHistory). x.committed) told_is
+      least = λ is. least_more t e c told.committed m (judged.least is)
+          (ap (λ (x : SectionHistory). x.committed) told_is
           ∙ last_told t e) small least;
     }
 

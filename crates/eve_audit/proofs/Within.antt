@@ -147,9 +147,11 @@ module _ (t : Trace) where
       own_fault_within e f (of_structure is) = section_within e f.offset (structure_lies t e f.code f.offset is.stands)
       own_fault_within e f (of_records is) =
           section_within e f.offset (record_lies t e (fates e) f.code f.offset is.stands)
-      own_fault_within e f (of_chains is) = section_within e f.offset (chain_lies t e (fates e) f.code f.offset is.stands)
+      own_fault_within e f (of_chains is) =
+          section_within e f.offset (chain_lies t e (fates e) f.code f.offset is.stands)
       own_fault_within e f (of_restores is) = section_within e f.offset (restore_lies t e f.code f.offset is.stands)
-      own_fault_within e f (of_tokens is) = section_within e f.offset (token_lies t e (fates e) f.code f.offset is.stands)
+      own_fault_within e f (of_tokens is) =
+          section_within e f.offset (token_lies t e (fates e) f.code f.offset is.stands)
 
       pub trace_fault_within : (f : Fault) → IsTraceFault t f → f.offset ≤ length_of t
       trace_fault_within f (in_orders is) = orders f is

@@ -4,14 +4,12 @@ ghost use Rattle.std.specs.Prelude.{◌≡◌, ◌<◌, ◌≤◌};
 
 use eve_accounts::Names;
 use eve_frames::{AccessView, AttemptView};
-use eve_grammar::Restore;
+use eve_grammar::{MOST_VERSIONS, Restore};
 use eve_smallbank::{Reply, UpToThree, touched};
 use eve_stamps::{AccessRecord, StampFault, Stripe, apply, untouched};
 use eve_views::Accesses;
 use eve_write::BatchData;
 use std::alloc::{AllocError, Global};
-
-const MOST_VERSIONS: u64 = 1 << 40;
 
 /// The worker, its place among what it notes, the request that it ran, and the index and the tick that it noted with
 /// it; what the request was told, and what it saw of the rows that it touches.

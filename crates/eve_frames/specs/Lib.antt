@@ -1,3 +1,4 @@
 pub mod Items
 pub mod Kinds
+pub mod Said
 pub mod Views

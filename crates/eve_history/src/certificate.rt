@@ -3,15 +3,15 @@
 ghost use Rattle.std.specs.Prelude.{◌≡◌, ◌≤◌, ◌<◌, ℕ, IsTrue, length, take, slice_index};
 ghost use Rattle.eve_grammar.specs.Limits.{is_batch};
 ghost use Rattle.eve_grammar.specs.Certificate.{group_of, is_certificate};
-ghost use Rattle.eve_frames.specs.Views.{attempt_in, batch_in};
+ghost use Rattle.eve_frames.specs.Said.{attempt_said, batch_said};
 
 use eve_frames::{AttemptView, BatchView};
 
 /// The indexes of a certificate, in its order.
 pub fn read_order(attempt: &AttemptView<'_>, order: &mut [u16; 256])
-    requires { length (attempt_in attempt.now.bytes.now).certificate ≤ 256 }
-    ensures { take (length (attempt_in attempt.now.bytes.now).certificate) order.new
-        ≡ (attempt_in attempt.now.bytes.now).certificate }
+    requires { length (attempt_said attempt.now).certificate ≤ 256 }
+    ensures { take (length (attempt_said attempt.now).certificate) order.new
+        ≡ (attempt_said attempt.now).certificate }
 {
     for place in 0..attempt.len() {
         order[place] = attempt.index_at(place);
@@ -20,9 +20,9 @@ pub fn read_order(attempt: &AttemptView<'_>, order: &mut [u16; 256])
 
 /// The parallelBatch of each index of a batch, from 0.
 fn groups_of(batch: &BatchView<'_>) -> [u8; 256]
-    requires { IsTrue (is_batch (batch_in batch.now.bytes.now).1) }
-    ensures { (i : ℕ) → i < length (batch_in batch.now.bytes.now).1.requests → slice_index result i
-        ≡ group_of (batch_in batch.now.bytes.now).1.sizes i }
+    requires { IsTrue (is_batch (batch_said batch.now).1) }
+    ensures { (i : ℕ) → i < length (batch_said batch.now).1.requests → slice_index result i
+        ≡ group_of (batch_said batch.now).1.sizes i }
 {
     let mut groups = [0; 256];
     let mut group: u8 = 0;
@@ -41,10 +41,10 @@ fn groups_of(batch: &BatchView<'_>) -> [u8; 256]
 ///
 /// docs/MODEL.md, "Certificate order, keeps the groups" and "Section state, fate".
 pub fn is_certificate(batch: &BatchView<'_>, serial: bool, order: &[u16]) -> bool
-    requires whole { IsTrue (is_batch (batch_in batch.now.bytes.now).1) }
-    requires count { length order.now ≡ length (batch_in batch.now.bytes.now).1.requests }
-    ensures { result ≡ is_certificate (batch_in batch.now.bytes.now).1.sizes
-        (length (batch_in batch.now.bytes.now).1.requests) serial order.now }
+    requires whole { IsTrue (is_batch (batch_said batch.now).1) }
+    requires count { length order.now ≡ length (batch_said batch.now).1.requests }
+    ensures { result ≡ is_certificate (batch_said batch.now).1.sizes
+        (length (batch_said batch.now).1.requests) serial order.now }
 {
     eve_grammar::is_certificate(&groups_of(batch), serial, order)
 }

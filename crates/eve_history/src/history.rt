@@ -5,7 +5,7 @@ ghost use Rattle.std.specs.Prelude.{slice_get};
 ghost use Rattle.eve_grammar.specs.Trace.{Step as StepValue, Trace as TraceValue};
 ghost use Rattle.eve_grammar.specs.Frames.{OfAttempt, OfAccess, OfRollback};
 ghost use Rattle.eve_grammar.specs.Spelling.{frame_text};
-ghost use Rattle.eve_frames.specs.Views.{attempt_in, access_in, rollback_in};
+ghost use Rattle.eve_frames.specs.Said.{access_said, attempt_said, rollback_said};
 ghost use Rattle.eve_views.specs.Form.{IfFound, IsLeast, HasNone};
 ghost use Rattle.eve_views.specs.Lent.{HasBytesAt};
 ghost use Rattle.eve_views.specs.StepKinds.{IsStep};
@@ -151,8 +151,8 @@ impl<'a> History<'a> {
     pub fn attempt(&self, i: usize) -> AttemptView<'a>
         requires { i < length self.now.attempts }
         ensures says { (r : ExecutedAttempt) × (slice_get self.now.attempts i ≡ Some r) × (result.offset ≡ r.offset)
-            × (attempt_in result.bytes.now ≡ r.attempt) × (length r.ordered ≡ length r.attempt.certificate) }
-        ensures text { result.bytes.now ≡ frame_text (OfAttempt (attempt_in result.bytes.now)) }
+            × (attempt_said result ≡ r.attempt) × (length r.ordered ≡ length r.attempt.certificate) }
+        ensures text { result.bytes.now ≡ frame_text (OfAttempt (attempt_said result)) }
         ensures stands { (t : TraceValue) (e : ℕ) → self.now ≡ section_history t e
             → HasBytesAt t result.offset result.bytes.now }
     {
@@ -176,8 +176,8 @@ impl<'a> History<'a> {
         requires attempt { i < length self.now.attempts }
         requires place { (r : ExecutedAttempt) → slice_get self.now.attempts i ≡ Some r → place < length r.ordered }
         ensures says { (r : ExecutedAttempt) × (slice_get self.now.attempts i ≡ Some r)
-            × (slice_get r.ordered place ≡ Some (result.offset, access_in result.bytes.now)) }
-        ensures text { result.bytes.now ≡ frame_text (OfAccess (access_in result.bytes.now)) }
+            × (slice_get r.ordered place ≡ Some (result.offset, access_said result)) }
+        ensures text { result.bytes.now ≡ frame_text (OfAccess (access_said result)) }
     {
         let from = self.notes.attempts[i].from;
         let at = self.notes.records[from + place];
@@ -194,8 +194,8 @@ impl<'a> History<'a> {
     /// A rollback.
     pub fn rollback(&self, i: usize) -> RollbackView<'a>
         requires { i < length self.now.rollbacks }
-        ensures says { slice_get self.now.rollbacks i ≡ Some (result.offset, rollback_in result.bytes.now) }
-        ensures text { result.bytes.now ≡ frame_text (OfRollback (rollback_in result.bytes.now)) }
+        ensures says { slice_get self.now.rollbacks i ≡ Some (result.offset, rollback_said result) }
+        ensures text { result.bytes.now ≡ frame_text (OfRollback (rollback_said result)) }
         ensures stands { (t : TraceValue) (e : ℕ) → self.now ≡ section_history t e
             → HasBytesAt t result.offset result.bytes.now }
     {

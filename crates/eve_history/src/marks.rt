@@ -2,7 +2,7 @@
 
 ghost use Rattle.std.specs.Prelude.{◌≡◌, ◌≤◌, ◌<◌, [], ◌∷◌, ◌++◌, List, length, slice_index};
 ghost use Rattle.eve_grammar.specs.Trace.{Access};
-ghost use Rattle.eve_frames.specs.Views.{access_in};
+ghost use Rattle.eve_frames.specs.Said.{access_said};
 ghost use Rattle.eve_history.specs.Marking.{AreMarked, IsJudged, AreJudged};
 
 use crate::wrong::Wrong;
@@ -54,7 +54,7 @@ impl Marks {
         requires count { count ≤ 256 }
         requires marked { (before : List Access) × AreMarked before self.old × (number ≡ length before) }
         ensures { (before : List Access) → AreMarked before self.old → number ≡ length before
-            → IsJudged workers count before (access_in access.now.bytes.now) result self.new }
+            → IsJudged workers count before (access_said access.now) result self.new }
     {
         let worker = access.worker();
         let index = access.index() as usize;

@@ -9,7 +9,8 @@ ghost use Rattle.eve_grammar.specs.Frames.{without_accesses};
 ghost use Rattle.eve_grammar.specs.Limits.{is_attempt};
 ghost use Rattle.eve_grammar.specs.Bodies.{limits};
 ghost use Rattle.eve_grammar.specs.Spelling.{accesses_at};
-ghost use Rattle.eve_frames.specs.Views.{attempt_in, access_in, commit_in, rollback_in};
+ghost use Rattle.eve_frames.specs.Views.{access_in};
+ghost use Rattle.eve_frames.specs.Said.{attempt_said, commit_said, rollback_said};
 ghost use Rattle.eve_views.specs.Form.{IfFound, IsLeast};
 ghost use Rattle.eve_views.specs.StepKinds.{IsStep};
 ghost use Rattle.eve_views.specs.declared.fault.CheckFault.TheVariants.{Found, Memory};
@@ -75,8 +76,8 @@ fn fault_in(e: u8, wrong: Wrong) -> CheckFault
 
 /// Whether the commit has the attempt's view and token.
 fn is_of(commit: &CommitView<'_>, attempt: &AttemptView<'_>) -> bool
-    ensures { result ≡ (((attempt_in attempt.now.bytes.now).view == (commit_in commit.now.bytes.now).view) && same_bytes
-        (attempt_in attempt.now.bytes.now).token (commit_in commit.now.bytes.now).token) }
+    ensures { result ≡ (((attempt_said attempt.now).view == (commit_said commit.now).view) && same_bytes
+        (attempt_said attempt.now).token (commit_said commit.now).token) }
 {
     attempt.view() == commit.view() && attempt.token() == commit.token()
 }
@@ -140,9 +141,9 @@ impl<'a> Notes<'a> {
     fn is_due(&self, head: &Head, attempt: &AttemptView<'_>) -> bool
         requires { length (kept self.now).fates ≤ length (kept self.now).attempts }
         ensures due { (t : TraceValue) (s : SectionState) → StandsAt s (kept self.now) → limits head.now ≡ head_of t
-            → result ≡ is_due t s (attempt_in attempt.now.bytes.now) }
-        ensures from_one { IsTrue result → 1 ≤ (attempt_in attempt.now.bytes.now).seq }
-        ensures there { IsTrue result → (attempt_in attempt.now.bytes.now).seq ≤ head.now.batches }
+            → result ≡ is_due t s (attempt_said attempt.now) }
+        ensures from_one { IsTrue result → 1 ≤ (attempt_said attempt.now).seq }
+        ensures there { IsTrue result → (attempt_said attempt.now).seq ≤ head.now.batches }
     {
         let seq = attempt.seq();
         let open = self.attempts.len() - self.fates.len();
@@ -163,9 +164,9 @@ impl<'a> Notes<'a> {
         order: &[u16],
     ) -> Option<Code>
         requires fewer { length (kept self.now).fates ≤ length (kept self.now).attempts }
-        requires order { order.now ≡ (attempt_in attempt.now.bytes.now).certificate }
+        requires order { order.now ≡ (attempt_said attempt.now).certificate }
         ensures { (s : SectionState) → StandsAt s (kept self.now)
-            → result ≡ wrong_attempt trace.now s (attempt_in attempt.now.bytes.now) }
+            → result ≡ wrong_attempt trace.now s (attempt_said attempt.now) }
     {
         trace.is_whole();
         if !self.is_due(&trace.head(), attempt) {
@@ -185,7 +186,7 @@ impl<'a> Notes<'a> {
     fn commits_first(&self, commit: &CommitView<'_>) -> bool
         requires { AreFramed self.now }
         ensures { (s : SectionState) → StandsAt s (kept self.now)
-            → result ≡ is_right_commit s (commit_in commit.now.bytes.now) }
+            → result ≡ is_right_commit s (commit_said commit.now) }
     {
         let settled = self.fates.len();
         if settled >= self.attempts.len() {
@@ -200,7 +201,7 @@ impl<'a> Notes<'a> {
     /// Whether the rollback is to the last committed number, of a batch that is still to come, and in the next view.
     fn rolls_back(&self, head: &Head, rollback: &RollbackView<'_>) -> bool
         ensures { (t : TraceValue) (s : SectionState) → StandsAt s (kept self.now) → limits head.now ≡ head_of t
-            → result ≡ is_right_rollback t s (rollback_in rollback.now.bytes.now) }
+            → result ≡ is_right_rollback t s (rollback_said rollback.now) }
     {
         rollback.to() == self.last
             && self.last < head.batches
@@ -217,11 +218,11 @@ impl<'a> Notes<'a> {
         marks: &mut Marks,
     ) -> Option<Wrong>
         requires fewer { length (kept self.now).fates ≤ length (kept self.now).attempts }
-        requires order { order.now ≡ (attempt_in attempt.now.bytes.now).certificate }
+        requires order { order.now ≡ (attempt_said attempt.now).certificate }
         requires few { length order.now ≤ 256 }
         requires many { length accesses.now ≡ length order.now }
         requires none { AreMarked [] marks.old }
-        ensures wrong { (s : SectionState) (b : Attempt) → StandsAt s (kept self.now) → attempt_in attempt.now.bytes.now
+        ensures wrong { (s : SectionState) (b : Attempt) → StandsAt s (kept self.now) → attempt_said attempt.now
             ≡ without_accesses b → accesses.now ≡ accesses_at attempt.now.offset b
             → result ≡ wrong_step trace.now s (attempt.now.offset, Attempts b) }
         ensures marked { IfNone result (AreMarked (accesses_of accesses.now) marks.new) }
@@ -251,16 +252,16 @@ impl<'a> Notes<'a> {
     ) -> Result<(), CheckFault>
         requires noted { IsNoted trace.now self.old }
         requires comes { (rest : List (ℕ × StepValue)) × (b : Attempt)
-            × ComesNext trace.now e rest b (kept self.old) attempt.now.offset (attempt_in attempt.now.bytes.now)
+            × ComesNext trace.now e rest b (kept self.old) attempt.now.offset (attempt_said attempt.now)
             accesses.now }
         ensures taken { OnOk result ((rest : List (ℕ × StepValue)) (b : Attempt)
-            → ComesNext trace.now e rest b (kept self.old) attempt.now.offset (attempt_in attempt.now.bytes.now)
+            → ComesNext trace.now e rest b (kept self.old) attempt.now.offset (attempt_said attempt.now)
             accesses.now
             → HasCome trace.now e rest (kept self.new)) }
         ensures noted { OnOk result (IsNoted trace.now self.new) }
         ensures wrong { IfErr result
             (λ x. IfFound x (λ f. (rest : List (ℕ × StepValue)) (b : Attempt)
-            → ComesNext trace.now e rest b (kept self.old) attempt.now.offset (attempt_in attempt.now.bytes.now)
+            → ComesNext trace.now e rest b (kept self.old) attempt.now.offset (attempt_said attempt.now)
             accesses.now
             → IsLeast (IsStructureFault trace.now e) f)) }
     {
@@ -285,12 +286,12 @@ impl<'a> Notes<'a> {
     pub fn take_commit(&mut self, e: u8, commit: &CommitView<'_>) -> Result<(), CheckFault>
         requires { AreFramed self.old }
         ensures taken { OnOk result ((t : TraceValue) (rest : List (ℕ × StepValue))
-            → HasCome t e ((commit.now.offset, Commits (commit_in commit.now.bytes.now)) ∷ rest) (kept self.old)
+            → HasCome t e ((commit.now.offset, Commits (commit_said commit.now)) ∷ rest) (kept self.old)
             → HasCome t e rest (kept self.new)) }
         ensures noted { OnOk result ((t : TraceValue) → IsNoted t self.old → IsNoted t self.new) }
         ensures wrong { IfErr result
             (λ x. IfFound x (λ f. (t : TraceValue) (rest : List (ℕ × StepValue))
-            → HasCome t e ((commit.now.offset, Commits (commit_in commit.now.bytes.now)) ∷ rest) (kept self.old)
+            → HasCome t e ((commit.now.offset, Commits (commit_said commit.now)) ∷ rest) (kept self.old)
             → IsLeast (IsStructureFault t e) f)) }
     {
         if !self.commits_first(commit) {
@@ -319,17 +320,17 @@ impl<'a> Notes<'a> {
     ) -> Result<(), CheckFault>
         requires noted { IsNoted trace.now self.old }
         requires comes { (rest : List (ℕ × StepValue))
-            × HasCome trace.now e ((rollback.now.offset, RollsBack (rollback_in rollback.now.bytes.now)) ∷ rest)
+            × HasCome trace.now e ((rollback.now.offset, RollsBack (rollback_said rollback.now)) ∷ rest)
             (kept self.old) }
         ensures taken { OnOk result
             ((rest : List (ℕ × StepValue))
-            → HasCome trace.now e ((rollback.now.offset, RollsBack (rollback_in rollback.now.bytes.now)) ∷ rest)
+            → HasCome trace.now e ((rollback.now.offset, RollsBack (rollback_said rollback.now)) ∷ rest)
             (kept self.old)
             → HasCome trace.now e rest (kept self.new)) }
         ensures noted { OnOk result (IsNoted trace.now self.new) }
         ensures wrong { IfErr result
             (λ x. IfFound x (λ f. (rest : List (ℕ × StepValue))
-            → HasCome trace.now e ((rollback.now.offset, RollsBack (rollback_in rollback.now.bytes.now)) ∷ rest)
+            → HasCome trace.now e ((rollback.now.offset, RollsBack (rollback_said rollback.now)) ∷ rest)
             (kept self.old)
             → IsLeast (IsStructureFault trace.now e) f)) }
     {

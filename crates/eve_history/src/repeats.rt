@@ -1,7 +1,7 @@
 //! The first batch with a request that occurs earlier, found by sorting.
 
 ghost use Rattle.std.specs.Prelude.{◌≡◌, ◌++◌, length, IfOk, OnOk, IfSome, IfNone};
-ghost use Rattle.eve_frames.specs.Views.{batch_in};
+ghost use Rattle.eve_frames.specs.Said.{batch_said};
 ghost use Rattle.eve_history.specs.Notes.{HasDistinctRequests};
 ghost use Rattle.eve_history.specs.Repeats.{arrivals_at, arrivals_of, is_same, earlier};
 ghost use Rattle.eve_history.specs.Repeats.{AreInOrder, NoneOccursTwice, IsFirstTwice, IsFirstRepeat};
@@ -35,7 +35,7 @@ fn request_count(trace: &Trace<'_>) -> usize
 /// Notes the requests of a batch, in their order.
 fn note(arrivals: &mut Vec<Arrival>, batch: &BatchView<'_>) -> Result<(), AllocError>
     ensures { OnOk result (arrivals.new.items
-        ≡ arrivals.old.items ++ arrivals_at (batch.now.offset, batch_in batch.now.bytes.now)) }
+        ≡ arrivals.old.items ++ arrivals_at (batch.now.offset, batch_said batch.now)) }
 {
     let batch_number = batch.seq();
     for asked in batch.requests() {

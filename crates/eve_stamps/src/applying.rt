@@ -19,12 +19,9 @@ use crate::journal::Journaled;
 use crate::rows::write;
 use crate::{AccessRecord, StampFault, Stripe};
 use eve_accounts::Row;
-use eve_grammar::Restore;
+use eve_grammar::{MOST_VERSIONS, Restore};
 use eve_smallbank::{Entry, Kind, Reply, Request, Touched, UpToThree, laws};
 use std::alloc::AllocError;
-
-/// No row is written at this version.
-const VERSION_LIMIT: u64 = 1 << 40;
 
 /// Runs the request on the stripe's rows as they are now, and notes it in the stripe's journal.
 ///
@@ -261,7 +258,7 @@ fn are_worn(rows: &UpToThree<(Row, Kind)>, seen: &UpToThree<Restore>) -> bool
     ensures { (now : Table) → seen.now ≡ map (λ r. row_in now r.0) rows.now → result ≡ is_worn now rows.now }
 {
     for place in 0..rows.len() {
-        if rows.at(place).1.is_write() && VERSION_LIMIT <= seen.at(place).version {
+        if rows.at(place).1.is_write() && MOST_VERSIONS <= seen.at(place).version {
             return true;
         }
     }

@@ -25,9 +25,23 @@ impl Model for AccessRecord {
 
     ghost Value = { Applied };
 
-    ghost view = { λ r. record { worker = r.worker; place = r.place; index = r.index; tick = r.tick; reply = r.reply; entries = r.entries } };
+    ghost view = { λ r. record {
+      worker = r.worker;
+      place = r.place;
+      index = r.index;
+      tick = r.tick;
+      reply = r.reply;
+      entries = r.entries;
+    } };
 
-    ghost inverse = { λ x. record { worker = x.worker; place = x.place; index = x.index; tick = x.tick; reply = x.reply; entries = x.entries } };
+    ghost inverse = { λ x. record {
+      worker = x.worker;
+      place = x.place;
+      index = x.index;
+      tick = x.tick;
+      reply = x.reply;
+      entries = x.entries;
+    } };
 }
 
 impl AccessRecord {

@@ -3,7 +3,7 @@ use Rattle.std.specs.Prelude.{◌≡◌, ℕ, List, ◌++◌, drop}
 use Rattle.eve_grammar.specs.Trace.{Trace}
 use Rattle.eve_grammar.specs.Frames.{OfAttempt, OfCommit, OfRollback}
 use Rattle.eve_grammar.specs.Spelling.{frame_text, spelling}
-use Rattle.eve_frames.specs.Views.{attempt_in, commit_in, rollback_in}
+use Rattle.eve_frames.specs.Said.{attempt_said, commit_said, rollback_said}
 use Rattle.eve_views.specs.declared.steps.Step as met
 use Rattle.eve_views.specs.declared.steps.Step.TheVariants as of
 
@@ -14,6 +14,6 @@ pub record HasBytesAt (t : Trace) (offset : ℕ) (bytes : List ℕ) : Type 0 whe
 
 -- the view of the step's own frame lends the frame's whole text and no more
 abbrev pub LendsFrame : met.Step → Type 0
-LendsFrame (of.Attempt a accesses) = a.bytes.now ≡ frame_text (OfAttempt (attempt_in a.bytes.now))
-LendsFrame (of.Commit c) = c.bytes.now ≡ frame_text (OfCommit (commit_in c.bytes.now))
-LendsFrame (of.Rollback r) = r.bytes.now ≡ frame_text (OfRollback (rollback_in r.bytes.now))
+LendsFrame (of.Attempt a accesses) = a.bytes.now ≡ frame_text (OfAttempt (attempt_said a))
+LendsFrame (of.Commit c) = c.bytes.now ≡ frame_text (OfCommit (commit_said c))
+LendsFrame (of.Rollback r) = r.bytes.now ≡ frame_text (OfRollback (rollback_said r))

@@ -7,7 +7,7 @@ ghost use Rattle.eve_grammar.specs.Spelling.{frame_text, frames_text, frames_at,
 ghost use Rattle.eve_grammar.specs.Spelling.{batches_at, steps_at, votes_at, sent_at};
 ghost use Rattle.eve_grammar.specs.Trace.{Trace as TraceValue, head_of};
 ghost use Rattle.eve_grammar.specs.Limits.{HasLimits, Spells};
-ghost use Rattle.eve_frames.specs.Views.{customer_in, batch_in, sent_in};
+ghost use Rattle.eve_frames.specs.Said.{batch_said, customer_said, sent_said};
 ghost use Rattle.eve_grammar.specs.Bodies.{limits};
 ghost use Rattle.eve_views.specs.Form.{IsFormFault, IfFound, IsLeast, HasNone};
 ghost use Rattle.eve_views.specs.declared.fault.Fault.{Fault as FaultValue};
@@ -173,8 +173,8 @@ impl<'a> Trace<'a> {
     /// A customer, by number from 0.
     pub fn customer(&self, i: u32) -> CustomerView<'a>
         requires { i < length self.now.customers }
-        ensures says { slice_get (customers_at self.now) i ≡ Some (result.offset, customer_in result.bytes.now) }
-        ensures text { result.bytes.now ≡ frame_text (OfCustomer (customer_in result.bytes.now)) }
+        ensures says { slice_get (customers_at self.now) i ≡ Some (result.offset, customer_said result) }
+        ensures text { result.bytes.now ≡ frame_text (OfCustomer (customer_said result)) }
         ensures stands { HasBytesAt self.now result.offset result.bytes.now }
     {
         self.is_whole();
@@ -186,9 +186,9 @@ impl<'a> Trace<'a> {
     pub fn batch(&self, n: u32) -> BatchView<'a>
         requires from_one { 1 ≤ n }
         requires there { n ≤ length self.now.batches }
-        ensures says { slice_get (batches_at self.now) (n - 1) ≡ Some (result.offset, batch_in result.bytes.now) }
+        ensures says { slice_get (batches_at self.now) (n - 1) ≡ Some (result.offset, batch_said result) }
         ensures text { result.bytes.now
-            ≡ frame_text (OfBatch (batch_in result.bytes.now).0 (batch_in result.bytes.now).1) }
+            ≡ frame_text (OfBatch (batch_said result).0 (batch_said result).1) }
         ensures stands { HasBytesAt self.now result.offset result.bytes.now }
     {
         let frame = self.frame(self.head.customers as usize + n as usize - 1);
@@ -284,8 +284,8 @@ impl<'a> Trace<'a> {
     /// A reply sent, by its place from 0.
     pub fn sent(&self, i: usize) -> SentView<'a>
         requires { i < length self.now.sent }
-        ensures says { slice_get (sent_at self.now) i ≡ Some (result.offset, sent_in result.bytes.now) }
-        ensures text { result.bytes.now ≡ frame_text (OfSent (sent_in result.bytes.now)) }
+        ensures says { slice_get (sent_at self.now) i ≡ Some (result.offset, sent_said result) }
+        ensures text { result.bytes.now ≡ frame_text (OfSent (sent_said result)) }
         ensures stands { HasBytesAt self.now result.offset result.bytes.now }
     {
         self.is_whole();

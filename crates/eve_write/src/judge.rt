@@ -6,7 +6,7 @@ ghost use Rattle.eve_grammar.specs.Trace.{Head};
 ghost use Rattle.eve_grammar.specs.Limits.{row_count, is_entry, is_restore, is_reply};
 ghost use Rattle.eve_grammar.specs.Bodies.{limits, restore};
 
-use eve_grammar::{Head, Restore};
+use eve_grammar::{Head, MOST_VERSIONS, Restore};
 use eve_smallbank::{Entry, Reply};
 
 /// What a trace under a header may hold or not.
@@ -37,8 +37,6 @@ fn row_count(head: &Head) -> u64
 {
     2 * head.customers as u64
 }
-
-const MOST_VERSIONS: u64 = 1 << 40;
 
 impl Judge for Entry {
     ghost right = { λ h e. is_entry (row_count h) e };

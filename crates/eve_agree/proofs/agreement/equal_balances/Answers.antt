@@ -15,7 +15,8 @@ pub returns-clause-agree : goal.returns-clause-agree
 returns-clause-agree c =
     let t = c.args.trace.now in
     let right = c.are_right.ensures t c.requires.histories in
-    they_agree t right (all_judged t c.args.histories.now c.loop-n.n c.last_of_all-n-end.result None c.requires.histories
+    they_agree t right
+    (all_judged t c.args.histories.now c.loop-n.n c.last_of_all-n-end.result None c.requires.histories
     right c.last_of_all-n-end.ensures (omega (arith, c.loop-n-test.false))
     (subst (Judged t c.loop-n.n) c.in-None.is c.loop-n.invariant.judged))
 
@@ -23,7 +24,8 @@ pub returns-clause-none : goal.returns-clause-none
 returns-clause-none c =
     let t = c.args.trace.now in
     let right = c.are_right.ensures t c.requires.histories in
-    none_stands t right (all_judged t c.args.histories.now c.loop-n.n c.last_of_all-n-end.result None c.requires.histories
+    none_stands t right
+    (all_judged t c.args.histories.now c.loop-n.n c.last_of_all-n-end.result None c.requires.histories
     right c.last_of_all-n-end.ensures (omega (arith, c.loop-n-test.false))
     (subst (Judged t c.loop-n.n) c.in-None.is c.loop-n.invariant.judged))
 

@@ -18,7 +18,8 @@ returns-then-is_due c =
     let v = c.committed_attempt-attempt.result in
     let right = c.is_right.ensures.section t e c.requires.section.history in
     (one_judged t e c.args.n v.offset (attempt_in v.bytes.now) c.args.history.now c.args.settled.now c.args.balances.now
-    c.requires.section.history c.requires.section.settled right (λ m. c.settled_values_are_the_banks.ensures t e m c.is_whole.ensures right)
+    c.requires.section.history c.requires.section.settled right
+    (λ m. c.settled_values_are_the_banks.ensures t e m c.is_whole.ensures right)
     c.requires.one c.committed_attempt-attempt.ensures c.requires.after).0 (c.is_due.ensures.0 c.if-is_due.true)
 
 pub returns : goal.returns

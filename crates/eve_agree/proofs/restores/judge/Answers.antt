@@ -53,7 +53,8 @@ loop-step-preserved-in-Attempt c =
     let t = c.args.trace.now in
     record {
       judged = (on_attempt t c.args.history.now.replica c.loop-step.steps c.next.new.self c.loop-step.first
-          c.loop-step.end c.in-Some.step c.in-Attempt.field-0 c.in-Attempt.field-1 c.in-Some.ensures.some c.in-Attempt.is
+          c.loop-step.end c.in-Some.step c.in-Attempt.field-0 c.in-Attempt.field-1
+          c.in-Some.ensures.some c.in-Attempt.is
           c.loop-step.invariant.judged).0;
       many = c.loop-step.invariant.many;
       none = c.loop-step.invariant.none;

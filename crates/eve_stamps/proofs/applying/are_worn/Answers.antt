@@ -2,8 +2,8 @@ use Rattle.std.proofs.Common.{sym, ◌∙◌, arith}
 use Rattle.eve_stamps.proofs.Refusing.{worn_at}
 use Rattle.eve_stamps.proofs.applying.are_worn.Goals as goal
 
-pub returns-then-at-ge-VERSION_LIMIT : goal.returns-then-at-ge-VERSION_LIMIT
-returns-then-at-ge-VERSION_LIMIT c now so =
+pub returns-then-at-ge-MOST_VERSIONS : goal.returns-then-at-ge-MOST_VERSIONS
+returns-then-at-ge-MOST_VERSIONS c now so =
     sym (worn_at now c.args.rows.now c.args.seen.now c.loop-place.place c.at.result c.at-then-is_write.result
     c.at.ensures c.at-then-is_write.ensures so
     (sym c.is_write.ensures ∙ c.if-is_write.true) (omega arith))
