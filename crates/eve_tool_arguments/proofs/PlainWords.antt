@@ -1,4 +1,4 @@
--- What plain words after the program's name ask for. These lemmas are public: contracts of crates above say the same.
+-- Public: other crates cite these lemmas. What plain words after the program's name ask for.
 use Rattle.std.proofs.Common.{◌≡◌, ◌⊎◌, ℕ, suc, ◌≤◌, ◌<◌, inl, inr, arith, subst, refl, List, [], ◌∷◌, Some, codes}
 use Rattle.clap.specs.Words.{Text}
 use Rattle.std.specs.Fmt.{decimal, digits}

@@ -9,6 +9,7 @@ use Rattle.eve_write.specs.Data.{asked}
 use Rattle.eve_write.specs.declared.request.RequestData.{RequestData}
 use Rattle.eve_workload.specs.declared.pairs.Pair.{Pair}
 use Rattle.eve_workload.specs.declared.pairs.Pairs.{Pairs}
+use Rattle.eve_workload.specs.declared.pairs.TheConstants.{PLACES}
 
 -- whether two pairs are the same
 abbrev pub same_pair : Pair → Pair → Bool
@@ -32,7 +33,7 @@ Lists table met = (pair : Pair) → has_pair table.keys pair ≡ list_any (same_
 
 -- the last number of a client's place
 abbrev pub at_place : List (Option ℕ) → ℕ → Option ℕ
-at_place last client = slice_index_or last (client % 256) None
+at_place last client = slice_index_or last (client % PLACES) None
 
 -- the number is the first of a place, or above the last there
 abbrev pub Follows : Option ℕ → ℕ → Type 0
