@@ -3,11 +3,28 @@
 
 use eve_streams::{Buffered, Sink, SinkOf, SourceOf};
 use eve_tool::{ToolFault, serve, stop};
+use std::alloc::{AllocError, Global};
 use std::process::ExitCode;
 use std::{env, io};
 
-fn words_of(rt: &HostRuntime) -> io::Result<Vec<String>> {
+// Words that are no call.
+fn no_call(alloc: Global) -> Result<Vec<String>, AllocError> {
+    let mut words = Vec::with_capacity(alloc, 2)?;
+    words.push_reserved("eve".to_string(alloc)?);
+    words.push_reserved("\u{fffd}".to_string(alloc)?);
+    Ok(words)
+}
+
+fn given_words(rt: &HostRuntime) -> io::Result<Vec<String>> {
     Ok(env::args(rt)?.collect(rt.alloc())?)
+}
+
+// The arguments. Those that aren't text are no call.
+fn words_of(rt: &HostRuntime) -> io::Result<Vec<String>> {
+    match given_words(rt) {
+        Err(e) if e.kind() != io::ErrorKind::OutOfMemory => Ok(no_call(rt.alloc())?),
+        words => words,
+    }
 }
 
 // Sends on what was said and is still held, where the call came to its end.
@@ -26,9 +43,7 @@ fn main(rt: HostRuntime) -> ExitCode {
     };
     let status = match words_of(&rt) {
         Ok(words) => serve(&rt, words.as_slice(), &mut input, &mut out, &mut err),
-        Err(e) if e.kind() == io::ErrorKind::OutOfMemory => stop(ToolFault::Memory, &mut err),
-        // Arguments that aren't text are no call.
-        Err(_) => serve(&rt, &["eve", "\u{fffd}"], &mut input, &mut out, &mut err),
+        Err(_) => stop(ToolFault::Memory, &mut err),
     };
     ExitCode::from(finish(status, &mut out, &mut err))
 }

@@ -3,6 +3,7 @@
 
 mod balances;
 mod keyed_hash;
+mod limits;
 mod money;
 mod name;
 mod name_key;
@@ -12,6 +13,7 @@ mod set_row;
 
 pub use balances::Balances;
 pub use keyed_hash::KeyedHash;
+pub use limits::{MOST_NAME_BYTES, MOST_NAMED_ROWS, MOST_NAMES};
 pub use money::{Amount, Cents};
 pub use name::Name;
 pub use names::{NameFault, Names, is_name};

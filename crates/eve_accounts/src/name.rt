@@ -3,11 +3,9 @@
 ghost use Rattle.std.specs.Prelude.{◌≡◌, ◌↔◌, ◌≤◌, IfSome, IsSome, IsTrue, length, take};
 ghost use Rattle.eve_accounts.specs.Names.{is_name, padded};
 
+use crate::limits::MOST_NAME_BYTES;
 use crate::names::is_name;
 use std::marker::Model;
-
-// A name has at most so many bytes.
-const MOST_BYTES: usize = 24;
 
 /// A name, 1 to 24 bytes of printed ASCII with no space, held in place: it takes no memory, and is copied as it stands.
 ///
@@ -15,7 +13,7 @@ const MOST_BYTES: usize = 24;
 #[derive(Clone, Copy)]
 pub struct Name {
     // The name, and zeros after it.
-    bytes: [u8; MOST_BYTES],
+    bytes: [u8; MOST_NAME_BYTES],
     len: u8,
 }
 
@@ -69,11 +67,11 @@ impl Name {
 }
 
 // The bytes, and zeros after them.
-fn padded(bytes: &[u8]) -> [u8; MOST_BYTES]
-    requires { length bytes.now ≤ 24 }
+fn padded(bytes: &[u8]) -> [u8; MOST_NAME_BYTES]
+    requires { length bytes.now ≤ MOST_NAME_BYTES }
     ensures { result ≡ padded bytes.now }
 {
-    let mut all = [0; MOST_BYTES];
+    let mut all = [0; MOST_NAME_BYTES];
     for place in 0..bytes.len() {
         all[place] = bytes[place];
     }

@@ -6,13 +6,12 @@ ghost use Rattle.std.specs.List.{list_all};
 ghost use Rattle.eve_accounts.specs.Names.{NameList, IsNameList, CanTake, is_printable, is_name, customer_of};
 
 use crate::keyed_hash::KeyedHash;
+use crate::limits::{MOST_NAME_BYTES, MOST_NAMES};
 use crate::name_key::NameKey;
 use indexmap::IndexSet;
 use std::alloc::Global;
 use std::hash::RandomState;
 use std::marker::Model;
-
-const MAX_NAME_LEN: usize = 24;
 
 /// Whether the bytes are a name: 1 to 24 bytes of printed ASCII with no space, 0x21 to 0x7E.
 ///
@@ -20,7 +19,7 @@ const MAX_NAME_LEN: usize = 24;
 pub fn is_name(bytes: &[u8]) -> bool
     ensures { result ≡ is_name bytes.now }
 {
-    !bytes.is_empty() && bytes.len() <= MAX_NAME_LEN && are_printable(bytes)
+    !bytes.is_empty() && bytes.len() <= MOST_NAME_BYTES && are_printable(bytes)
 }
 
 // Whether each byte is printed ASCII, and no space.
@@ -67,7 +66,7 @@ impl<'a> Model for Names<'a> {
 impl<'a> Names<'a> {
     /// No names yet, and room for `limit` of them. It takes no memory.
     pub fn new(alloc: Global, random: RandomState, limit: u32) -> Names<'a>
-        requires { limit ≤ 65536 }
+        requires { limit ≤ MOST_NAMES }
         ensures { result ≡ record { items = []; limit = limit } }
     {
         Names {
@@ -83,7 +82,7 @@ impl<'a> Names<'a> {
     pub fn add(&mut self, name: &'a [u8]) -> Result<u32, NameFault>
         ensures added { OnOk result (self.new ≡ record self.old { items = self.old.items ++ name.now ∷ [] }) }
         ensures number { IfOk result (λ n. n ≡ length self.old.items) }
-        ensures small { IfOk result (λ n. n < 65536) }
+        ensures small { IfOk result (λ n. n < MOST_NAMES) }
         ensures taken { OnOk result (CanTake self.old name.now) }
 
         // Each fault comes exactly where it is due, but for the memory, which may run out only where no other fault is
@@ -122,7 +121,7 @@ impl<'a> Names<'a> {
         ensures place { (n : ℕ) → (result ≡ Some n) ↔ (slice_get self.now.items n ≡ Some name.now) }
         ensures absent { IfNone result (¬ Contains self.now.items name.now) }
         ensures within { IfSome result (λ n. n < length self.now.items) }
-        ensures small { IfSome result (λ n. n < 65536) }
+        ensures small { IfSome result (λ n. n < MOST_NAMES) }
     {
         self.set
             .get_index_of(&NameKey { bytes: name })

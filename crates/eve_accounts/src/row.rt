@@ -3,6 +3,7 @@
 ghost use Rattle.std.specs.Prelude.{◌≡◌, ◌<◌};
 ghost use Rattle.eve_accounts.specs.Rows.{saving_row, checking_row};
 
+use crate::limits::{MOST_NAMED_ROWS, MOST_NAMES};
 use std::marker::Model;
 
 /// The row of one balance: customer c, counted from 0, has the saving row 2c and the checking row 2c + 1.
@@ -15,12 +16,13 @@ pub struct Row {
 
 impl Model for Row {
     ghost use Rattle.std.specs.Prelude.{ℕ, ◌<◌};
+    ghost use Rattle.eve_accounts.specs.declared.limits.TheConstants.{MOST_NAMED_ROWS};
 
     ghost Value = { ℕ };
 
     ghost view = { λ r. r.number };
 
-    ghost invariant = { λ r. r.number < 131072 };
+    ghost invariant = { λ r. r.number < MOST_NAMED_ROWS };
 
     ghost inverse = { λ n. record { number = n } };
 }
@@ -28,7 +30,7 @@ impl Model for Row {
 impl Row {
     /// The row of the customer's saving balance.
     pub fn saving(customer: u32) -> Row
-        requires { customer < 65536 }
+        requires { customer < MOST_NAMES }
         ensures { result ≡ saving_row customer }
     {
         Row {
@@ -38,7 +40,7 @@ impl Row {
 
     /// The row of the customer's checking balance.
     pub fn checking(customer: u32) -> Row
-        requires { customer < 65536 }
+        requires { customer < MOST_NAMES }
         ensures { result ≡ checking_row customer }
     {
         Row {
@@ -49,7 +51,7 @@ impl Row {
     /// Its number, from 0.
     pub fn number(self) -> u32
         ensures number { result ≡ self }
-        ensures range { result < 131072 }
+        ensures range { result < MOST_NAMED_ROWS }
     {
         self.number
     }

@@ -30,6 +30,7 @@ use Rattle.eve_agree.specs.Unbacked.{HasRoom, lacks, IsUnbacked, IsUnbackedIn, I
 use Rattle.eve_views.specs.First.{first_of}
 use Rattle.eve_views.proofs.Firsts.{first_of_two, up_to_from}
 use Rattle.eve_history.proofs.Rights.{none_at}
+use Rattle.eve_views.proofs.Firsts.{up_to-trans}
 
 -- ---- faults of majorities are steps that lack a majority
 
@@ -245,12 +246,6 @@ left_fault t e step left f are wrong = record {
 
 below_more : (k e : ℕ) → k < e + 1 → (k < e) ⊎ (k ≡ e)
 below_more k e lt = elim (cases_lt k e) [ inl less ↦ inl less | inr le ↦ inr (omega (arith, lt, le)) ]
-
-up_to-trans : (f g h : Fault) → IsUpTo f g → IsUpTo g h → IsUpTo f h
-up_to-trans f g h (inl a) (inl b) = inl (omega (arith, a, b))
-up_to-trans f g h (inl a) (inr b) = inl (omega (arith, a, b.0))
-up_to-trans f g h (inr a) (inl b) = inl (omega (arith, a.0, b))
-up_to-trans f g h (inr a) (inr b) = inr (omega (arith, a.0, b.0), omega (arith, a.1, b.1))
 
 pub none_found : (t : Trace) → IsFoundBelow t 0 None
 none_found t = λ e lt. absurd (omega (arith, lt))

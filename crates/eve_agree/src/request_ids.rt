@@ -8,6 +8,7 @@ ghost use Rattle.eve_history.specs.Notes.{requests_said};
 ghost use Rattle.eve_agree.specs.Keeping.{kept, kept_in, IsAnswer, AreOf};
 
 use eve_frames::{AttemptView, BatchView, SentView};
+use eve_grammar::MOST_REQUESTS;
 use eve_views::Trace;
 
 /// A request's client, and the client's number for it.
@@ -28,13 +29,13 @@ pub struct RequestIds {
     /// The index after the one that was found last.
     next: usize,
     /// By index; those from the count on are none of the batch.
-    items: [RequestId; 256],
+    items: [RequestId; MOST_REQUESTS],
 }
 
 impl RequestIds {
     /// Of no batch.
     pub fn new() -> RequestIds
-        ensures few { result.count ≤ 256 }
+        ensures few { result.count ≤ MOST_REQUESTS }
         ensures none { result.batch ≡ 0 }
     {
         RequestIds {
@@ -44,7 +45,7 @@ impl RequestIds {
             items: [RequestId {
                 client: 0,
                 number: 0,
-            }; 256],
+            }; MOST_REQUESTS],
         }
     }
 
@@ -67,7 +68,7 @@ impl RequestIds {
     /// Whether an attempt's reply to the request that a sent reply answers is the one that was sent. The request is
     /// looked for first after the one that was found last.
     pub fn find(&mut self, attempt: &AttemptView<'_>, sent: &SentView<'_>) -> bool
-        requires { self.old.count ≤ 256 }
+        requires { self.old.count ≤ MOST_REQUESTS }
         ensures answer { IsTrue result
             ↔ ((i : ℕ) × IsAnswer (kept self.old) (attempt_said attempt.now).replies
             (sent_said sent.now) i) }
@@ -86,8 +87,8 @@ impl RequestIds {
 
     /// The index at which an attempt's reply is the sent one, to the request that it answers.
     fn index_of(&self, attempt: &AttemptView<'_>, sent: &SentView<'_>) -> Option<usize>
-        requires { self.now.count ≤ 256 }
-        ensures below { IfSome result (λ i. i < 256) }
+        requires { self.now.count ≤ MOST_REQUESTS }
+        ensures below { IfSome result (λ i. i < MOST_REQUESTS) }
         ensures found { IfSome result
             (λ i. IsAnswer (kept self.now) (attempt_said attempt.now).replies (sent_said sent.now) i) }
         ensures none { IfNone result
@@ -107,8 +108,8 @@ impl RequestIds {
 
     /// Whether an attempt's reply at an index is the sent one, to the request that it answers.
     fn is_answer(&self, attempt: &AttemptView<'_>, sent: &SentView<'_>, i: usize) -> bool
-        requires { self.now.count ≤ 256 }
-        ensures below { IsTrue result → i < 256 }
+        requires { self.now.count ≤ MOST_REQUESTS }
+        ensures below { IsTrue result → i < MOST_REQUESTS }
         ensures answer { IsTrue result ↔ IsAnswer (kept self.now) (attempt_said attempt.now).replies
             (sent_said sent.now) i }
     {
@@ -123,9 +124,9 @@ impl RequestIds {
 }
 
 /// Reads the client and the number of each request of a batch: how many there are.
-fn read(batch: &BatchView<'_>, items: &mut [RequestId; 256]) -> usize
+fn read(batch: &BatchView<'_>, items: &mut [RequestId; MOST_REQUESTS]) -> usize
     requires { IsTrue (is_batch (batch_said batch.now).1) }
-    ensures few { result ≤ 256 }
+    ensures few { result ≤ MOST_REQUESTS }
     ensures kept { kept_in items.new result ≡ map request_id (requests_said batch.now.bytes.now) }
 {
     let mut count = 0;

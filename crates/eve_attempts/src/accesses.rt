@@ -3,6 +3,7 @@
 ghost use Rattle.std.specs.Prelude.{◌≡◌, ◌≤◌, [], map, length};
 ghost use Rattle.eve_attempts.specs.Closing.{access_of, are_right_accesses};
 
+use eve_grammar::MOST_REQUESTS;
 use eve_stamps::AccessRecord;
 
 /// Whether each record is of one of so many workers and of one of so many indexes, has an index that none before it
@@ -10,12 +11,12 @@ use eve_stamps::AccessRecord;
 ///
 /// docs/MODEL.md, "Section state, fate".
 pub fn are_right_accesses(workers: u8, count: usize, records: &[AccessRecord]) -> bool
-    requires few { length records.now ≤ 256 }
-    requires count { count ≤ 256 }
+    requires few { length records.now ≤ MOST_REQUESTS }
+    requires count { count ≤ MOST_REQUESTS }
     ensures { result ≡ are_right_accesses workers count [] (map access_of records.now) }
 {
-    let mut seen = [false; 256];
-    let mut places = [0; 256];
+    let mut seen = [false; MOST_REQUESTS];
+    let mut places = [0; MOST_REQUESTS];
     for record in records {
         let worker = record.worker() as usize;
         let index = record.index() as usize;

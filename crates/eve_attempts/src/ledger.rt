@@ -17,6 +17,7 @@ use crate::rows::Rows;
 use crate::taken::take;
 use crate::walk::write_along;
 use eve_accounts::Balances;
+use eve_grammar::MOST_BATCHES;
 use eve_smallbank::Touched;
 use eve_stamps::AccessRecord;
 use eve_token::token;
@@ -163,7 +164,7 @@ impl Ledger {
         records: &[AccessRecord],
     ) -> Result<AttemptData, CloseFault>
         requires seq { front.seq ≡ self.old.committed + 1 + length self.old.opened }
-        requires last { front.seq ≤ 65535 }
+        requires last { front.seq ≤ MOST_BATCHES }
         requires room { length self.old.opened < self.old.window }
         requires view { front.view ≡ self.old.view }
         requires serial { front.serial ≡ self.old.is_next_serial }

@@ -5,6 +5,7 @@ ghost use Rattle.std.specs.List.{AllByRecursion};
 ghost use Rattle.std.specs.List.Sorted.{IsPermutation, IsSorted};
 ghost use Rattle.eve_attempts.specs.Ordering.{keys_from, IsKeyOf, records_in, TicksDontFall};
 
+use eve_grammar::MOST_REQUESTS;
 use eve_stamps::AccessRecord;
 use std::alloc::{AllocError, Global};
 
@@ -13,7 +14,7 @@ pub type Key = (u64, u16, u16);
 
 /// The keys of the records, in their order.
 fn keys_of(alloc: Global, records: &[AccessRecord]) -> Result<Vec<Key>, AllocError>
-    requires { length records.now ≤ 256 }
+    requires { length records.now ≤ MOST_REQUESTS }
     ensures { IfOk result (λ keys. keys.items ≡ keys_from 0 records.now) }
 {
     let mut keys = Vec::with_capacity(alloc, records.len())?;
@@ -25,7 +26,7 @@ fn keys_of(alloc: Global, records: &[AccessRecord]) -> Result<Vec<Key>, AllocErr
 
 /// The keys of the records by rising tick, equal ticks by index.
 pub fn order_of(alloc: Global, records: &[AccessRecord]) -> Result<Vec<Key>, AllocError>
-    requires { length records.now ≤ 256 }
+    requires { length records.now ≤ MOST_REQUESTS }
     ensures same { IfOk result (λ keys. IsPermutation records.now (records_in records.now keys.items)) }
     ensures rising { IfOk result (λ keys. TicksDontFall (records_in records.now keys.items)) }
     ensures there { IfOk result (λ keys. AllByRecursion (IsKeyOf records.now) keys.items) }

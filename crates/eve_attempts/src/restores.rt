@@ -10,15 +10,15 @@ ghost use Rattle.eve_attempts.specs.Restoring.{rows_of, rising_from};
 
 use crate::opened::OpenAttempt;
 use crate::rows::Rows;
-use eve_grammar::{Restore, row_of};
+use eve_grammar::{MOST_NAMED_ROWS, Restore, row_of};
 use eve_smallbank::Entry;
 use std::alloc::{AllocError, Global};
 
 /// Appends the rows of the entries.
 fn append_rows(rows: &mut Vec<u32>, written: &[Entry]) -> Result<(), AllocError>
-    requires { AllByRecursion (λ row. row < 131072) rows.old.items }
+    requires { AllByRecursion (λ row. row < MOST_NAMED_ROWS) rows.old.items }
     ensures rows { OnOk result (rows.new.items ≡ rows.old.items ++ rows_of written.now) }
-    ensures small { OnOk result (AllByRecursion (λ row. row < 131072) rows.new.items) }
+    ensures small { OnOk result (AllByRecursion (λ row. row < MOST_NAMED_ROWS) rows.new.items) }
 {
     rows.reserve(written.len())?;
     for entry in written {
@@ -31,7 +31,7 @@ fn append_rows(rows: &mut Vec<u32>, written: &[Entry]) -> Result<(), AllocError>
 pub fn written_rows(alloc: Global, opened: &[OpenAttempt]) -> Result<Vec<u32>, AllocError>
     ensures rows { IfOk result (λ rows. IsPermutation (rows_of (writes_in opened.now)) rows.items) }
     ensures rising { IfOk result (λ rows. IsNonDecreasing rows.items) }
-    ensures small { IfOk result (λ rows. AllByRecursion (λ row. row < 131072) rows.items) }
+    ensures small { IfOk result (λ rows. AllByRecursion (λ row. row < MOST_NAMED_ROWS) rows.items) }
 {
     let mut rows = Vec::new(alloc);
     for open in opened {
@@ -58,7 +58,7 @@ pub fn undo_all(rows: &mut Rows, opened: &[OpenAttempt])
 /// Appends each of the rows once, as it is now, where they rise.
 pub fn restore_all(rows: &Rows, numbers: &[u32], restores: &mut Vec<Restore>)
     requires there { AllByRecursion (λ row. row < length rows.now.balances) numbers.now }
-    requires small { AllByRecursion (λ row. row < 131072) numbers.now }
+    requires small { AllByRecursion (λ row. row < MOST_NAMED_ROWS) numbers.now }
     requires none { restores.old.items ≡ [] }
     requires empty { vec_len restores.old ≡ 0 }
     requires room { length numbers.now ≤ vec_capacity restores.old }

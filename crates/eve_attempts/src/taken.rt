@@ -14,7 +14,7 @@ use crate::groups::groups_of;
 use crate::noted::are_noted;
 use crate::order::{Key, certificate_of, order_of};
 use crate::replies::{accesses_of, replies_of};
-use eve_grammar::is_certificate;
+use eve_grammar::{MOST_REQUESTS, is_certificate};
 use eve_smallbank::{Entry, Reply, Touched};
 use eve_stamps::AccessRecord;
 use eve_write::{AccessData, BatchData};
@@ -32,7 +32,7 @@ pub struct Taken {
 }
 
 fn gather(alloc: Global, records: &[AccessRecord]) -> Result<Taken, AllocError>
-    requires few { length records.now ≤ 256 }
+    requires few { length records.now ≤ MOST_REQUESTS }
     requires indexes { AllByRecursion (λ r. r.index < length records.now) records.now }
     ensures { IfOk result (IsTakenOf records.now) }
 {

@@ -1,17 +1,37 @@
 -- What was found of replicas stays true as it is kept and taken.
 use Rattle.std.proofs.Common.{◌≡◌, Option, Some, None, List, [], ◌∷◌, ◌++◌, All, IfSome, IsNone, refl, sym, ap, subst}
-use Rattle.std.proofs.Common.{◌∙◌, ℕ, suc, ◌+◌, arith, length, length-append}
+use Rattle.std.proofs.Common.{◌∙◌, ℕ, suc, ◌+◌, arith, length, length-append, inl, inr}
 use Rattle.std.specs.Prelude.{Result}
+use Rattle.std.proofs.lemmas.Bool.{cases_lt}
+use Rattle.std.proofs.lemmas.List.{get_or_append_left, get_or_push}
 use Rattle.std.proofs.lemmas.List.Elements.{All-append, All-cons, All-nil}
 use Rattle.eve_grammar.specs.Trace.{Trace}
 use Rattle.eve_views.specs.declared.fault.Fault.{Fault}
 use Rattle.eve_audit.specs.declared.replica.Piece.{Piece}
 use Rattle.eve_audit.specs.declared.slots.Finding.{Finding}
 use Rattle.eve_audit.specs.declared.slots.Slot.{Slot}
-use Rattle.eve_audit.specs.Findings.{AreTrue, IsAnswerOf, finding}
+use Rattle.eve_audit.specs.Findings.{AreDealt, AreTrue, IsAnswerOf, finding}
 
 pub one_longer : {A : Type 0} (xs more : List A) (x : A) → more ≡ xs ++ x ∷ [] → length more ≡ length xs + 1
 one_longer xs more x added = ap length added ∙ length-append xs (x ∷ [])
+
+-- a slot more, of the worker with the next number
+pub dealt_push : (workers : ℕ) (xs room more : List Slot) (x : Slot) → AreDealt workers xs
+    → x.share.worker ≡ length xs → x.share.workers ≡ workers → room ≡ xs → more ≡ room ++ x ∷ [] → AreDealt workers more
+dealt_push workers xs room more x dealt worker of same added =
+    subst (AreDealt workers) (sym (added ∙ ap (λ (ys : List Slot). ys ++ x ∷ []) same)) all
+  where
+    IsShareOf : ℕ → Slot → Type 0
+    IsShareOf w slot = (slot.share.worker ≡ w) × (slot.share.workers ≡ workers)
+
+    all : AreDealt workers (xs ++ x ∷ [])
+    all w d lt =
+        elim (cases_lt w (length xs)) [
+          | inl before ↦ subst (IsShareOf w) (sym (get_or_append_left xs (x ∷ []) d w before)) (dealt w d before)
+          | inr last ↦ (
+            let here : length xs ≡ w = omega (arith, lt, last, length-append xs (x ∷ [])) in
+            subst (IsShareOf w) (sym (get_or_push xs x d w here)) (worker ∙ here, of))
+        ]
 
 module _ {A : Type 0} (P : A → Type 0) where
   -- one more at the end

@@ -3,18 +3,13 @@ use Rattle.std.proofs.Common.{◌≡◌, ℕ, ◌+◌, ◌-◌, ◌^◌, ◌<◌
 use Rattle.std.proofs.Common.{subst}
 use Rattle.std.proofs.lemmas.Bool.{cases_lt}
 use Rattle.eve_grammar.specs.Trace.{Trace}
-use Rattle.eve_views.specs.Form.{IsUpTo, HasNone, Precedes}
+use Rattle.eve_views.specs.Form.{HasNone, Precedes}
 use Rattle.eve_views.specs.declared.fault.Fault.{Fault}
 use Rattle.eve_audit.specs.Verdict.{IsOwnFault, IsFaultBelow}
 use Rattle.eve_audit.specs.Pieces.{IsFirstOf, IsFoundBelow, IsLeastBelow, last_of}
+use Rattle.eve_views.proofs.Firsts.{up_to-trans}
 
 -- ---- the order of faults
-
-up_to-trans : (f g h : Fault) → IsUpTo f g → IsUpTo g h → IsUpTo f h
-up_to-trans f g h (inl a) (inl b) = inl (omega (arith, a, b))
-up_to-trans f g h (inl a) (inr b) = inl (omega (arith, a, b.0))
-up_to-trans f g h (inr a) (inl b) = inl (omega (arith, a.0, b))
-up_to-trans f g h (inr a) (inr b) = inr (omega (arith, a.0, b.0), omega (arith, a.1, b.1))
 
 precedes-trans : (f g h : Fault) → Precedes f g → Precedes g h → Precedes f h
 precedes-trans f g h (inl a) (inl b) = inl (omega (arith, a, b))

@@ -19,7 +19,8 @@ use Rattle.eve_chains.specs.Committed.{balances_to}
 use Rattle.eve_chains.proofs.Linked.{some_injective, none≢some}
 use Rattle.eve_votes.specs.Votes.{IsDecided, backers}
 use Rattle.eve_votes.specs.Faults.{HasTwoDecisions, IsVoteFault, AreVotesSound}
-use Rattle.eve_votes.proofs.Places.{all_at, length_located}
+use Rattle.eve_grammar.proofs.Grouping.{all_at}
+use Rattle.eve_views.proofs.Locating.{length-located}
 use Rattle.eve_votes.proofs.Counting.{decided_backs, one_token}
 use Rattle.eve_votes.proofs.Deciding.{IsRight, right_vote, quorum_limits, decisions_stand}
 use Rattle.eve_votes.proofs.Tallying.{votes_once}
@@ -57,7 +58,7 @@ length-enumerated n (x ∷ xs) = ap suc (length-enumerated (n + 1) xs)
 
 batch_count : (t : Trace) → length (batches_at t) ≡ length t.batches
 unfolding batches_at
-batch_count t = length_located batch_text (batches_start t) (batches_of t) ∙ length-enumerated 1 t.batches
+batch_count t = length-located batch_text (batches_start t) (batches_of t) ∙ length-enumerated 1 t.batches
 
 module _ (t : Trace) (limits : HasLimits t) where
   module _ (none : HasNone (IsVoteFault t)) where

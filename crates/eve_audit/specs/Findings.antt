@@ -1,5 +1,5 @@
 -- What was found of replicas by themselves.
-use Rattle.std.specs.Prelude.{◌≡◌, ℕ, Result, MatchResult, All}
+use Rattle.std.specs.Prelude.{◌≡◌, ◌<◌, ℕ, List, length, slice_index_or, Result, MatchResult, All}
 use Rattle.eve_grammar.specs.Trace.{Trace}
 use Rattle.eve_views.specs.declared.fault.Fault.{Fault}
 use Rattle.eve_history.specs.SectionHistory.{section_history}
@@ -28,3 +28,8 @@ finding e answer = record { replica = e; answer = answer }
 -- each finding is of the replica that it names
 abbrev pub AreTrue : Trace → Slot → Type 0
 AreTrue t slot = All (λ f. IsAnswerOf t f.replica f.answer) slot.findings.items
+
+-- each slot has the share of the worker with its number, of so many workers
+abbrev pub AreDealt : ℕ → List Slot → Type 0
+AreDealt workers slots = (w : ℕ) (d : Slot) → w < length slots
+    → ((slice_index_or slots w d).share.worker ≡ w) × ((slice_index_or slots w d).share.workers ≡ workers)

@@ -20,6 +20,7 @@ use crate::verdict::{AuditFault, Summary, Verdict};
 use crate::workers::judge_side_by_side;
 use eve_accounts::Names;
 use eve_chains::laws::requests_take_effect_once;
+use eve_grammar::MOST_AUDIT_WORKERS;
 use eve_grammar::laws::bytes_spell_one_trace;
 use eve_history::laws::{fates_are_as_the_section_ends, faults_lie_within};
 use eve_history::orders;
@@ -140,8 +141,8 @@ pub fn audit_one<R: Threads + Sync>(
     }
 }
 
-/// Audits the bytes of a trace as `audit_one` does, the replicas side by side on up to 16 workers: the same verdict,
-/// for every number of workers and every order in which they end.
+/// Audits the bytes of a trace as `audit_one` does, the replicas side by side on up to `MOST_AUDIT_WORKERS` workers:
+/// the same verdict, for every number of workers and every order in which they end.
 ///
 /// docs/MODEL.md, "Verdict" and "The audit theorem". Worker e mod `workers` judges replica e by itself, and enters the
 /// gate with e first. No more threads than workers work at once: with one worker no thread is started, and a replica
@@ -156,7 +157,7 @@ pub fn audit<R: Threads + Wait + Sync, G: Gate>(
     random: RandomState,
     gate: &G,
 ) -> Result<Verdict, AuditFault>
-    requires { (1 ≤ workers) × (workers ≤ 16) }
+    requires { (1 ≤ workers) × (workers ≤ MOST_AUDIT_WORKERS) }
     ensures verdict { IfOk result (IsVerdict bytes.now) }
     ensures yes { IfOk result (IsYesOfAudited bytes.now) }
     ensures within { IfOk result (λ v. IfNo v (λ f. f.offset ≤ length bytes.now)) }

@@ -34,7 +34,8 @@ pub struct Slot<'a> {
 impl<'a> Slot<'a> {
     /// A worker's before it has judged a replica.
     pub fn new(alloc: Global, share: Share) -> Self
-        ensures { result.findings.items ≡ [] }
+        ensures share { result.share ≡ share }
+        ensures none { result.findings.items ≡ [] }
     {
         Slot {
             share,
@@ -57,7 +58,8 @@ impl<'a> Slot<'a> {
         requires names { names.now.items ≡ names_of trace.now }
         requires so_far { AreTrue trace.now self.old }
         requires jobs { 1 ≤ jobs }
-        ensures { AreTrue trace.now self.new }
+        ensures found { AreTrue trace.now self.new }
+        ensures share { self.new.share ≡ self.old.share }
     {
         if self.findings.reserve(1).is_err() {
             return;

@@ -3,7 +3,7 @@
 ghost use Rattle.std.specs.Prelude.{◌≡◌, ◌<◌, ◌≤◌, ◌*◌, min, [], IfOk, All, length};
 ghost use Rattle.std.specs.Thread.{IsSync};
 ghost use Rattle.eve_history.specs.SectionHistory.{names_of};
-ghost use Rattle.eve_audit.specs.Findings.{AreTrue};
+ghost use Rattle.eve_audit.specs.Findings.{AreDealt, AreTrue};
 
 use crate::share::Share;
 use crate::slots::Slot;
@@ -30,7 +30,9 @@ pub fn judge_side_by_side<'a, R: Threads + Wait + Sync, G: Gate>(
 ) -> Result<Vec<Slot<'a>>, AllocError>
     requires some { 1 ≤ workers }
     requires names { names.now.items ≡ names_of trace.now }
-    ensures { IfOk result (λ slots. All (AreTrue trace.now) slots.items) }
+    ensures found { IfOk result (λ slots. All (AreTrue trace.now) slots.items) }
+    ensures shares { IfOk result (λ slots. AreDealt (length slots.items) slots.items) }
+    ensures workers { IfOk result (λ slots. length slots.items ≡ min workers (length trace.now.sections)) }
 {
     trace.is_whole();
     let replicas = trace.section_count();
@@ -65,7 +67,8 @@ fn judge_share<'a, R: Threads + Wait + Sync, G: Gate>(
     requires names { names.now.items ≡ names_of trace.now }
     requires jobs { 1 ≤ jobs }
     requires so_far { AreTrue trace.now slot.old }
-    ensures { AreTrue trace.now slot.new }
+    ensures found { AreTrue trace.now slot.new }
+    ensures share { slot.new.share ≡ slot.old.share }
 {
     let share = slot.share;
     for e in 0..trace.section_count() {
@@ -79,6 +82,7 @@ fn judge_share<'a, R: Threads + Wait + Sync, G: Gate>(
 // A slot for each worker that has a replica to judge.
 fn empty_slots<'a>(alloc: Global, workers: u8) -> Result<Vec<Slot<'a>>, AllocError>
     ensures len { IfOk result (λ slots. length slots.items ≡ workers) }
+    ensures shares { IfOk result (λ slots. AreDealt workers slots.items) }
     ensures empty { IfOk result (λ slots. All (λ slot. slot.findings.items ≡ []) slots.items) }
 {
     let mut slots = Vec::with_capacity(alloc, workers as usize)?;
@@ -102,7 +106,10 @@ fn judge_shares<'a, R: Threads + Wait + Sync, G: Gate>(
     requires jobs { 1 ≤ jobs }
     requires some { 0 < length slots.old }
     requires so_far { All (AreTrue trace.now) slots.old }
-    ensures { All (AreTrue trace.now) slots.new }
+    requires shares { AreDealt (length slots.old) slots.old }
+    ensures found { All (AreTrue trace.now) slots.new }
+    ensures len { length slots.new ≡ length slots.old }
+    ensures shares { AreDealt (length slots.new) slots.new }
 {
     let workers = slots.len();
     thread::for_each_mut(
@@ -112,7 +119,7 @@ fn judge_shares<'a, R: Threads + Wait + Sync, G: Gate>(
         &|_: usize, slot: &mut Slot|
             requires { IsSync R.row × IsSync G.row × (names.now.items ≡ names_of trace.now) × (1 ≤ jobs)
                 × AreTrue trace.now slot.old }
-            ensures { AreTrue trace.entry.now slot.new }
+            ensures { AreTrue trace.entry.now slot.new × (slot.new.share ≡ slot.old.share) }
         { judge_share(rt, alloc, trace, names, gate, slot, jobs) },
     );
 }

@@ -2,7 +2,7 @@
 
 use crate::histories::push_balances;
 use crate::texts::{push_reply, push_request};
-use eve_accounts::{Balances, Cents, Names, Row};
+use eve_accounts::{Balances, Cents, MOST_NAMES, Names, Row};
 use eve_history::orders;
 use eve_smallbank::{Kind, Request, Touched, UpToThree, apply, decide, touched};
 use eve_views::{CheckFault, Trace};
@@ -23,7 +23,7 @@ fn opening_of(alloc: Global, trace: &Trace) -> Result<Balances, AllocError> {
     let mut balances = Balances::new(alloc, 2 * customers as usize)?;
     for customer in 0..customers {
         let view = trace.customer(customer);
-        if customer >= 65_536 {
+        if customer >= MOST_NAMES {
             break;
         }
         open_row(&mut balances, Row::saving(customer), view.saving());

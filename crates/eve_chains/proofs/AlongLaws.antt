@@ -29,7 +29,7 @@ use Rattle.eve_chains.specs.Along.{IsFirstAlong, fault_of}
 use Rattle.eve_chains.proofs.Linked.{some_injective, none≢some}
 use Rattle.eve_chains.proofs.Faultless.{in_place}
 use Rattle.eve_views.specs.First.{is_before, first_of}
-use Rattle.eve_views.proofs.Firsts.{before_precedes, behind_precedes, up_to_from}
+use Rattle.eve_views.proofs.Firsts.{before_precedes, behind_precedes, up_to_from, up_to-trans}
 
 -- ---- one list of entries after another
 
@@ -175,7 +175,7 @@ no_other code.Version table es all place = place.holds (all_in (Sees table) all 
 no_other code.Value table es all place = place.holds (all_in (Sees table) all (in_place es place)).value
 no_other _ table es all place = absurd place
 
-nothing_wrong : (e : ℕ) (table : Table) (xs : List (ℕ × Access)) (g : Fault) → AllSee table xs
+pub nothing_wrong : (e : ℕ) (table : Table) (xs : List (ℕ × Access)) (g : Fault) → AllSee table xs
     → IsWrongAlong e table xs g → ⊥
 nothing_wrong e table xs g all wrong =
     no_other g.code (table_after table (entries_along wrong.stands.before)) wrong.stands.item.1.entries
@@ -264,13 +264,6 @@ before_up f g one other before = up_to_from f g (one ∙ sym other) (before_prec
 pub not_before_up : (f g : Fault) → phase_of f.code ≡ 5 → phase_of g.code ≡ 5 → is_before f g ≡ false → IsUpTo g f
 not_before_up f g one other behind = up_to_from g f (other ∙ sym one) (behind_precedes f g behind)
 
-up_through : (f g h : Fault) → IsUpTo f g → IsUpTo g h → IsUpTo f h
-up_through f g h (inl a) (inl b) = inl (omega arith)
-up_through f g h (inl a) (inr b) = let e : g.offset ≡ h.offset = b.0 in inl (omega arith)
-up_through f g h (inr a) (inl b) = let e : f.offset ≡ g.offset = a.0 in inl (omega arith)
-up_through f g h (inr a) (inr b) = let m : number_of f.code ≤ number_of g.code =
-    a.1 in let n : number_of g.code ≤ number_of h.code = b.1 in inr (a.0 ∙ b.0, omega arith)
-
 -- ---- what was found of one record
 
 found_other : (c : Code) (table : Table) (es : List Entry) → IsWrongIn table es (Some c) → SeesOther c table es
@@ -312,7 +305,7 @@ module _ (e : ℕ) (table : Table) (xs : List (ℕ × Access)) (x : ℕ × Acces
   choose f c first wrong true before = (
     wrong_last e table xs x c (found_other c now x.1.entries wrong),
     λ g own. elim (wrong_split e table xs x g own) [
-      | inl front ↦ up_through (last_fault e x c) f g
+      | inl front ↦ up_to-trans (last_fault e x c) f g
           (before_up (last_fault e x c) f (last_phase c wrong) (wrong_phase e table xs f first.0) before)
           (first.1 g front)
       | inr last ↦ last_up e now x c g wrong last
@@ -322,7 +315,7 @@ module _ (e : ℕ) (table : Table) (xs : List (ℕ × Access)) (x : ℕ × Acces
     wrong_front e table xs x f first.0,
     λ g own. elim (wrong_split e table xs x g own) [
       | inl front ↦ first.1 g front
-      | inr last ↦ up_through f (last_fault e x c) g
+      | inr last ↦ up_to-trans f (last_fault e x c) g
           (not_before_up (last_fault e x c) f (last_phase c wrong) (wrong_phase e table xs f first.0) behind)
           (last_up e now x c g wrong last)
     ],

@@ -1,4 +1,4 @@
--- Entries one after another.
+-- Public: other crates cite these lemmas. Entries one after another.
 use Rattle.std.proofs.Common.{◌≡◌, ℕ, zero, suc, ◌+◌, ◌<◌, nat_lt, List, [], ◌∷◌, Some, slice_get, drop, ap, subst}
 use Rattle.std.proofs.Common.{refl, ◌∙◌, IsTrue, arith}
 use Rattle.std.proofs.lemmas.Bool.{and_parts, ltb-true}

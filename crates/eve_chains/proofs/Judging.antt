@@ -1,56 +1,22 @@
 -- What is found in settled attempts, one after another.
-use Rattle.std.proofs.Common.{◌≡◌, ℕ, ◌≤◌, Bool, true, false, cond, List, [], ◌∷◌, ◌++◌, map, Option, Some, None, refl}
-use Rattle.std.proofs.Common.{sym, subst, ap, ◌∙◌, inl, inr, ◌⊎◌, append_assoc, append-nil, arith}
+use Rattle.std.proofs.Common.{◌≡◌, ℕ, Bool, true, false, cond, List, [], ◌∷◌, ◌++◌, map, Option, Some, None, refl}
+use Rattle.std.proofs.Common.{sym, subst, ap, ◌∙◌, inl, inr, ◌⊎◌, append_assoc, append-nil}
 use Rattle.std.specs.List.{AllByRecursion}
-use Rattle.eve_smallbank.specs.declared.entry.Entry.{Entry}
-use Rattle.eve_smallbank.specs.Chain.{Table, Sees as SeesEntry, table_after}
+use Rattle.eve_smallbank.specs.Chain.{Table, table_after}
 use Rattle.eve_smallbank.proofs.Members.{all_in, in_middle, in_around, in_cases}
 use Rattle.eve_grammar.specs.Trace.{Access, Attempt, Trace}
-use Rattle.eve_views.specs.Code.{number_of, phase_of}
-use Rattle.eve_views.specs.Form.{IsUpTo, SomePlace}
-use Rattle.eve_views.specs.declared.fault.Code.{Code}
-use Rattle.eve_views.specs.declared.fault.Code.TheVariants as code
+use Rattle.eve_views.specs.Code.{phase_of}
+use Rattle.eve_views.specs.Form.{SomePlace}
 use Rattle.eve_views.specs.declared.fault.Fault.{Fault}
 use Rattle.eve_history.specs.Section.{Placed}
 use Rattle.eve_chains.specs.Visible.{table_along}
-use Rattle.eve_chains.specs.Along.{entries_along, SeesOther, IsWrongAlong, AllSee, IsFirstAlong}
-use Rattle.eve_chains.proofs.AlongLaws.{table_after-append, wrong_phase, before_up, not_before_up}
+use Rattle.eve_chains.specs.Along.{entries_along, IsFirstAlong}
+use Rattle.eve_chains.proofs.AlongLaws.{nothing_wrong, table_after-append, wrong_phase, before_up, not_before_up}
 use Rattle.eve_chains.proofs.Faultless.{in_place, place_of}
 use Rattle.eve_chains.specs.Walking.{entries_of, AreJudged, Sees, IsWrongIn, IsFirstIn, ArePlaced}
 use Rattle.eve_chains.proofs.Loading.{own}
 use Rattle.eve_views.specs.First.{is_before, first_of}
-
--- ---- what sees what it must is not wrong
-
-sees_at : (table : Table) (before : List (ℕ × Access)) (y : ℕ × Access) (rest : List (ℕ × Access))
-    → AllSee table (before ++ y ∷ rest) → AllByRecursion (SeesEntry (table_after table (entries_along before)))
-    y.1.entries
-sees_at table [] y rest all = all.0
-sees_at table (x ∷ before) y rest all =
-    subst (λ (t : Table). AllByRecursion (SeesEntry t) y.1.entries)
-    (sym (table_after-append table x.1.entries (entries_along before)))
-    (sees_at (table_after table x.1.entries) before y rest all.1)
-
-no_other : (c : Code) (table : Table) (es : List Entry) → AllByRecursion (SeesEntry table) es → SeesOther c table es → ⊥
-no_other code.Version table es all place = place.holds (all_in (SeesEntry table) all (in_place es place)).version
-no_other code.Value table es all place = place.holds (all_in (SeesEntry table) all (in_place es place)).value
-no_other _ table es all place = absurd place
-
-nothing_wrong : (e : ℕ) (table : Table) (xs : List (ℕ × Access)) (g : Fault) → AllSee table xs
-    → IsWrongAlong e table xs g → ⊥
-nothing_wrong e table xs g all wrong =
-    no_other g.code (table_after table (entries_along wrong.stands.before)) wrong.stands.item.1.entries
-    (sees_at table wrong.stands.before wrong.stands.item wrong.stands.rest (subst (AllSee table) wrong.stands.is all))
-    wrong.stands.holds.1
-
--- ---- the order of faults
-
-up_through : (f g h : Fault) → IsUpTo f g → IsUpTo g h → IsUpTo f h
-up_through f g h (inl a) (inl b) = inl (omega arith)
-up_through f g h (inl a) (inr b) = let e : g.offset ≡ h.offset = b.0 in inl (omega arith)
-up_through f g h (inr a) (inl b) = let e : f.offset ≡ g.offset = a.0 in inl (omega arith)
-up_through f g h (inr a) (inr b) = let m : number_of f.code ≤ number_of g.code =
-    a.1 in let n : number_of g.code ≤ number_of h.code = b.1 in inr (a.0 ∙ b.0, omega arith)
+use Rattle.eve_views.proofs.Firsts.{up_to-trans}
 
 -- ---- one attempt more
 
@@ -93,14 +59,14 @@ module _ (t : Trace) (e : ℕ) (ps : List Placed) (p : Placed) (qs : List Placed
     middle g found.0,
     λ k place. elim (which k place) [
       | inl wrong ↦ found.1 k wrong
-      | inr other ↦ up_through g f k (before_up g f (found_phase g found) (first_phase f first) before)
+      | inr other ↦ up_to-trans g f k (before_up g f (found_phase g found) (first_phase f first) before)
           (first.1 k other)
     ],
   )
   choose f g first found false behind = (
     around f first.0,
     λ k place. elim (which k place) [
-      | inl wrong ↦ up_through f g k (not_before_up g f (found_phase g found) (first_phase f first) behind)
+      | inl wrong ↦ up_to-trans f g k (not_before_up g f (found_phase g found) (first_phase f first) behind)
           (found.1 k wrong)
       | inr other ↦ first.1 k other
     ],

@@ -164,7 +164,8 @@ within_steps rows at (Commits c ∷ steps) h = within_steps rows (at + length (s
 within_steps rows at (RollsBack r ∷ steps) h = within_steps rows (at + length (step_text (RollsBack r))) steps
     (and_parts (is_step rows (RollsBack r)) (list_all (is_step rows) steps) h).1
 
-each_section : (rows : ℕ) (sections : List (List Step)) (e : ℕ) → IsTrue (list_all (list_all (is_step rows)) sections)
+pub each_section : (rows : ℕ) (sections : List (List Step)) (e : ℕ)
+    → IsTrue (list_all (list_all (is_step rows)) sections)
     → IsTrue (list_all (is_step rows) (slice_index_or sections e []))
 each_section rows [] e h = refl
 each_section rows (s ∷ sections) zero h =

@@ -1,12 +1,13 @@
 -- Two permutations of the same indexes list the same things in another order.
-use Rattle.std.proofs.Common.{◌≡◌, ℕ, zero, suc, ◌≤◌, ◌<◌, Bool, true, false, cond, ◌==◌, nat_lt, List, [], ◌∷◌, ◌++◌}
+use Rattle.std.proofs.Common.{◌≡◌, ℕ, suc, ◌≤◌, ◌<◌, Bool, true, false, cond, ◌==◌, nat_lt, List, [], ◌∷◌, ◌++◌}
 use Rattle.std.proofs.Common.{map, refl, sym, subst, ap, ◌∙◌, inl, inr, arith}
-use Rattle.std.proofs.lemmas.Bool.{cases_Bool, cases_lt, cases_eq, and_parts, eqb-true, eq-eqb, ne_eqb, ltb-true}
+use Rattle.std.proofs.lemmas.Bool.{cases_Bool, cases_lt, and_parts, eqb-true, eq-eqb, ne_eqb, ltb-true}
 use Rattle.std.proofs.lemmas.Bool.{cond-true, cond-false}
 use Rattle.std.proofs.lemmas.List.{map-append}
 use Rattle.std.specs.List.{list_all}
 use Rattle.eve_grammar.specs.Certificate.{occurrences, all_below, is_permutation}
 use Rattle.eve_smallbank.specs.Conflict.{IsReordering}
+use Rattle.eve_grammar.proofs.Counting.{all_below_at}
 
 -- ---- from counts
 
@@ -62,15 +63,6 @@ reordering_from_counts (x ∷ xs) ys h =
     )
 
 -- ---- the counts of a permutation
-
-pub all_below_at : (n : ℕ) (test : ℕ → Bool) (i : ℕ) → all_below n test ≡ true → i < n → test i ≡ true
-all_below_at zero test i h k = absurd (omega arith)
-all_below_at (suc n) test i h k =
-    let parts = and_parts (test n) (all_below n test) h in
-    elim (cases_eq i n) [
-      | inl e ↦ ap test e ∙ parts.0
-      | inr e ↦ all_below_at n test i parts.1 (omega arith)
-    ]
 
 pub none_above : (r i : ℕ) (xs : List ℕ) → list_all (λ j. nat_lt j r) xs ≡ true → r ≤ i → occurrences i xs ≡ 0
 none_above r i [] h k = refl

@@ -1,5 +1,5 @@
 -- What holds of each attempt among a section's steps holds of each that is settled.
-use Rattle.std.proofs.Common.{◌≡◌, ℕ, zero, suc, ◌+◌, ◌&&◌, ◌==◌, List, [], ◌∷◌, ◌++◌, length, slice_index_or, refl}
+use Rattle.std.proofs.Common.{◌≡◌, ℕ, ◌+◌, ◌&&◌, ◌==◌, List, [], ◌∷◌, ◌++◌, length}
 use Rattle.std.proofs.Common.{IsTrue}
 use Rattle.std.specs.Prelude.{⊤}
 use Rattle.std.proofs.lemmas.Bool.{and_parts, eqb-true}
@@ -12,6 +12,7 @@ use Rattle.eve_history.specs.Section.{Placed, SectionState, start, path_of, comm
 use Rattle.eve_history.specs.Section.{request_count, is_due, is_right_attempt, is_right_certificate, are_right_accesses}
 use Rattle.eve_history.specs.Section.{is_right, are_right}
 use Rattle.eve_history.specs.SectionHistory.{history, IsRightSection}
+use Rattle.eve_chains.proofs.Loading.{each_section}
 
 -- ---- of any fact on attempts
 
@@ -122,15 +123,6 @@ complete_steps rows at [] h = tt
 complete_steps rows at (step ∷ steps) h =
     let parts = and_parts (is_step rows step) (list_all (is_step rows) steps) h in
     (complete_step rows step parts.0, complete_steps rows (at + length (step_text step)) steps parts.1)
-
-each_section : (rows : ℕ) (sections : List (List Step)) (e : ℕ) → IsTrue (list_all (list_all (is_step rows)) sections)
-    → IsTrue (list_all (is_step rows) (slice_index_or sections e []))
-each_section rows [] e h = refl
-each_section rows (s ∷ sections) zero h =
-    (and_parts (list_all (is_step rows) s) (list_all (list_all (is_step rows)) sections) h).0
-each_section rows (s ∷ sections) (suc e) h =
-    each_section rows sections e
-    (and_parts (list_all (is_step rows) s) (list_all (list_all (is_step rows)) sections) h).1
 
 complete_section : (t : Trace) (e : ℕ) → HasLimits t → AllByRecursion (λ step. IfAttempt step.1 IsComplete)
     (steps_at t e)

@@ -13,7 +13,6 @@ use Rattle.eve_smallbank.specs.declared.entry.Entry.{Entry}
 use Rattle.eve_smallbank.specs.Access.{Executed}
 use Rattle.eve_smallbank.specs.Chain.{Table, visible_at, before_next, before_rest, table_after}
 use Rattle.eve_smallbank.proofs.Members.{In, here, there}
-use Rattle.eve_smallbank.proofs.Chains.{visible_at-before_next}
 use Rattle.eve_grammar.specs.Trace.{Access, Attempt, Commit, Rollback, Step, Attempts, Commits, RollsBack, Trace}
 use Rattle.eve_grammar.specs.Trace.{head_of}
 use Rattle.eve_grammar.specs.Frames.{OfReplica}
@@ -37,9 +36,9 @@ use Rattle.eve_chains.specs.Tables.{table_of, undone}
 use Rattle.eve_chains.specs.Along.{entries_along, AreWithin, IsFirstAlong, AllSettledSee}
 use Rattle.eve_chains.specs.Faults.{IsChainFault}
 use Rattle.eve_chains.proofs.Distinct.{in_split, in_left, in_right}
-use Rattle.eve_chains.proofs.AlongLaws.{table_after-append, undone_is_before}
-use Rattle.eve_chains.proofs.Walks.{record_at, same_entries, right_one, complete_one, chain_fault_along}
-use Rattle.eve_chains.proofs.Walks.{chain_fault_somewhere}
+use Rattle.eve_chains.proofs.AlongLaws.{undone_is_before}
+use Rattle.eve_chains.proofs.Walks.{table_between, record_at, same_entries, right_one, complete_one, chain_fault_along}
+use Rattle.eve_chains.proofs.Walks.{table_between, chain_fault_somewhere}
 use Rattle.eve_chains.specs.declared.walk.Walk.{Walk}
 use Rattle.eve_chains.specs.Walking.{records_of, records_from, entries_of, AreJudged, Sees, IsFirstIn, IsCommitted}
 use Rattle.eve_chains.specs.Walking.{AreTried, AreUndone, ArePlaced, HasWalked}
@@ -73,17 +72,6 @@ stays s [] i = i
 stays s (step ∷ steps) i = stays (next s step) steps (stays_next s step i)
 
 -- ---- what an attempt leaves
-
-table_between : (base : Table) (f : ℕ → Executed) (g : ℕ → ℕ × Access) (before : List Entry) (order : List ℕ)
-    → ((i : ℕ) → In i order → (g i).1.entries ≡ (f i).entries)
-    → table_after (visible_at base before) (entries_along (map g order))
-    ≡ visible_at base (before_rest before (map f order))
-table_between base f g before [] same = refl
-table_between base f g before (i ∷ order) same =
-    table_after-append (visible_at base before) (g i).1.entries (entries_along (map g order))
-    ∙ ap (λ (table : Table). table_after table (entries_along (map g order)))
-    (ap (table_after (visible_at base before)) (same i here) ∙ sym (visible_at-before_next base before (f i).entries))
-    ∙ table_between base f g (before_next before (f i).entries) order (λ j k. same j (there k))
 
 before_rest-append : (before : List Entry) (xs ys : List Executed) → before_rest before (xs ++ ys)
     ≡ before_rest (before_rest before xs) ys

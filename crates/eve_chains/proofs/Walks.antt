@@ -58,7 +58,7 @@ located_in at (x ∷ xs) (there i) = let rest = located_in (at + length (frame_t
 -- ---- the table between the records
 
 -- along indexes whose records have these entries
-table_between : (base : Table) (f : ℕ → Executed) (g : ℕ → ℕ × Access) (before : List Entry) (order : List ℕ)
+pub table_between : (base : Table) (f : ℕ → Executed) (g : ℕ → ℕ × Access) (before : List Entry) (order : List ℕ)
     → ((i : ℕ) → In i order → (g i).1.entries ≡ (f i).entries)
     → table_after (visible_at base before) (entries_along (map g order))
     ≡ visible_at base (before_rest before (map f order))

@@ -4,7 +4,7 @@ ghost use Rattle.std.specs.Prelude.{IsTrue};
 ghost use Rattle.eve_grammar.specs.Limits.{is_attempt, is_batch};
 ghost use Rattle.eve_write.specs.Data.{attempt as plain, batch as plain_batch};
 
-use eve_accounts::Balances;
+use eve_accounts::{Balances, MOST_NAMED_ROWS};
 use eve_attempts::Ledger;
 use eve_frames::{AttemptView, BatchView, CommitView, RollbackView};
 use eve_streams::SinkOf;
@@ -72,7 +72,7 @@ pub fn is_rollback_of(
     rollback: &RollbackData,
     frame: &RollbackView,
 ) -> Result<bool, AllocError> {
-    if rollback.restores.len() > 131_072 {
+    if rollback.restores.len() > MOST_NAMED_ROWS as usize {
         return Ok(false);
     }
     let mut out = SinkOf::new(Vec::with_capacity(alloc, frame.bytes().len())?);

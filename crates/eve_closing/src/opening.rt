@@ -6,6 +6,7 @@ ghost use Rattle.eve_write.specs.Data.{batch as plain};
 ghost use Rattle.eve_attempts.specs.Closing.{touched_by};
 
 use eve_accounts::{Balances, Names, Row};
+use eve_grammar::MOST_CUSTOMERS;
 use eve_smallbank::{Touched, touched};
 use eve_workload::{Mixer, Workload, mix};
 use eve_write::{BatchData, CustomerData};
@@ -18,7 +19,7 @@ pub fn names_of<'w>(
     customers: &'w [CustomerData],
     random: RandomState,
 ) -> Result<Names<'w>, AllocError> {
-    let mut names = Names::new(alloc, random, 4096);
+    let mut names = Names::new(alloc, random, MOST_CUSTOMERS);
     for customer in customers {
         if names.add(customer.name.as_slice()).is_err() {
             return Err(AllocError);
@@ -29,7 +30,7 @@ pub fn names_of<'w>(
 
 /// The customers' opening balances, by row.
 pub fn balances_of(alloc: Global, customers: &[CustomerData]) -> Result<Balances, AllocError>
-    requires { length customers.now ≤ 4096 }
+    requires { length customers.now ≤ MOST_CUSTOMERS }
 {
     let mut balances = Balances::new(alloc, 2 * customers.len())?;
     for place in 0..customers.len() {

@@ -1,6 +1,6 @@
 //! A section's steps, on a ledger.
 
-ghost use Rattle.std.specs.Prelude.{◌≡◌, ◌+◌, ◌<◌, ◌≤◌, ◌^◌, ℕ, List, IsTrue, IfOk, length};
+ghost use Rattle.std.specs.Prelude.{◌≡◌, ◌+◌, ◌<◌, ◌≤◌, ℕ, List, IsTrue, IfOk, length};
 ghost use Rattle.eve_grammar.specs.Limits.{is_attempt, is_batch};
 ghost use Rattle.eve_write.specs.Data.{attempt as plain_attempt, batch as plain};
 ghost use Rattle.eve_attempts.specs.Closing.{touched_by};
@@ -14,6 +14,7 @@ use crate::opening::{balances_of, batch_of, touched_in};
 use eve_accounts::Names;
 use eve_attempts::{AttemptFront, CloseFault, Ledger};
 use eve_frames::{AttemptView, CommitView, RollbackView};
+use eve_grammar::MOST_BATCHES;
 use eve_smallbank::Touched;
 use eve_stamps::AccessRecord;
 use eve_views::{Accesses, Step, Trace};
@@ -177,7 +178,7 @@ fn close_records(
     frame: &AttemptView,
     accesses: &Accesses,
 ) -> Result<&'static str, AllocError>
-    requires last { ledger.old.committed + 1 + length ledger.old.opened ≤ 65535 }
+    requires last { ledger.old.committed + 1 + length ledger.old.opened ≤ MOST_BATCHES }
     requires room { length ledger.old.opened < ledger.old.window }
     requires batch { IsTrue (is_batch (plain batch.now)) }
 {
@@ -201,7 +202,7 @@ fn close_due(
     touched: &[Touched],
     records: &[AccessRecord],
 ) -> Result<AttemptData, CloseFault>
-    requires last { ledger.old.committed + 1 + length ledger.old.opened ≤ 65535 }
+    requires last { ledger.old.committed + 1 + length ledger.old.opened ≤ MOST_BATCHES }
     requires room { length ledger.old.opened < ledger.old.window }
     requires batch { IsTrue (is_batch (plain batch.now)) }
     requires touched { (names : List (List ℕ)) × (touched.now ≡ touched_by names (plain batch.now)) }

@@ -6,6 +6,7 @@
 mod copy;
 
 use copy::parts_of;
+use eve_grammar::MOST_BYTES;
 use eve_streams::failing::FailsAt;
 use eve_streams::one_byte::OneByte;
 use eve_streams::{Buffered, SinkOf};
@@ -16,7 +17,7 @@ use std::io::{ErrorKind, Write};
 use std::{fs, io};
 
 // How many bytes a trace has at most.
-const LONGEST: u64 = 1 << 30;
+const LONGEST: u64 = MOST_BYTES as u64;
 
 /// A sink in memory that has room for so many bytes: it fails for lack of memory here, and not where it is written to.
 fn memory(alloc: Global, room: usize) -> io::Result<SinkOf<Vec<u8>>> {

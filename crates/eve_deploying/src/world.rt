@@ -5,7 +5,7 @@ ghost use Rattle.eve_grammar.specs.Limits.{is_batch};
 ghost use Rattle.eve_write.specs.Data.{batch as plain};
 
 use eve_accounts::{Amount, Balances, Cents, Names, Row};
-use eve_grammar::Restore;
+use eve_grammar::{MOST_BATCHES, MOST_BYTES, MOST_CUSTOMERS, Restore};
 use eve_recorder::Gate;
 use eve_replica::eve_workload::{Mixer, Workload, mix};
 use eve_replica::{AttemptFault, CloseFault, CommitFault, Replica};
@@ -40,7 +40,7 @@ pub fn names_of<'w>(
     workload: &'w Workload,
     random: RandomState,
 ) -> io::Result<Names<'w>> {
-    let mut names = Names::new(alloc, random, 4096);
+    let mut names = Names::new(alloc, random, MOST_CUSTOMERS);
     for customer in workload.customers() {
         if names.add(customer.name.as_slice()).is_err() {
             return Err(stopped());
@@ -79,7 +79,7 @@ pub fn attempt<R: Threads + Wait + Sync, G: Gate>(
     fit: &Fit,
     gate: &G,
 ) -> Result<AttemptData, AttemptFault> {
-    if !replica.has_room() || replica.next_number() > 65535 {
+    if !replica.has_room() || replica.next_number() > MOST_BATCHES {
         return Err(AttemptFault::Full);
     }
     let view = replica.view();
@@ -95,7 +95,7 @@ pub fn close(
     records: &[AccessRecord],
 ) -> Result<AttemptData, CloseFault> {
     let seq = replica.next_number();
-    if !replica.has_room() || seq > 65535 {
+    if !replica.has_room() || seq > MOST_BATCHES {
         return Err(CloseFault::Memory);
     }
     let view = replica.view();
@@ -206,7 +206,7 @@ pub fn trace_of(
 /// The bytes of the parts of a trace.
 pub fn bytes_of(alloc: Global, parts: &Parts) -> io::Result<Vec<u8>> {
     let mut out = SinkOf::new(Vec::new(alloc));
-    if gather(parts, 1 << 30, &mut out).is_err() {
+    if gather(parts, MOST_BYTES as u64, &mut out).is_err() {
         return Err(stopped());
     }
     Ok(out.writer().clone()?)

@@ -10,6 +10,7 @@ use crate::applying::{Task, applied};
 use crate::{ExecFault, Floor, Worker};
 use eve_recorder::{Gate, NoteFault, Recorder, Tickets};
 use eve_smallbank::{Request, Touched, touched};
+use eve_stamps::MOST_PLACES;
 use eve_write::BatchData;
 use std::sync::Wait;
 
@@ -36,7 +37,7 @@ pub fn execute<R: Wait, G: Gate>(
 ) -> Result<(), ExecFault>
     requires seats { IsAt recorder.now tickets.now worker.old }
     requires index { index < length batch.now.requests.items }
-    requires place { length worker.old.seat.noted < 65536 }
+    requires place { length worker.old.seat.noted < MOST_PLACES }
     ensures executes { let request = request_at (plain_batch batch.now) index in
         Executes recorder.now floor.now request index worker.old worker.new result }
     ensures seats { KeepsSeats worker.old worker.new }
@@ -65,7 +66,7 @@ pub fn execute_touched<R: Wait, G: Gate>(
 ) -> Result<(), ExecFault>
     requires seats { IsAt recorder.now tickets.now worker.old }
     requires touched { reached.now ≡ touched_of floor.now (plain request.now) }
-    requires place { length worker.old.seat.noted < 65536 }
+    requires place { length worker.old.seat.noted < MOST_PLACES }
     ensures executes { Executes recorder.now floor.now (plain request.now) index worker.old worker.new result }
     ensures seats { KeepsSeats worker.old worker.new }
 {

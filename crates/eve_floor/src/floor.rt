@@ -21,12 +21,13 @@ pub struct Floor<'n> {
 
 impl<'n> Model for Floor<'n> {
     ghost use Rattle.std.specs.Prelude.{◌≡◌, ℕ, List, vec_len};
+    ghost use Rattle.eve_stamps.specs.declared.limits.TheConstants.{STRIPES};
 
     ghost Value = { List (List ℕ) };
 
     ghost view = { λ f. f.names.now.items };
 
-    ghost invariant = { λ f. vec_len f.stripes ≡ 16 };
+    ghost invariant = { λ f. vec_len f.stripes ≡ STRIPES };
 }
 
 impl<'n> Floor<'n> {

@@ -1,6 +1,6 @@
 //! How the lines of the input say bytes, numbers, balances and replies.
 
-use eve_accounts::{Balances, Cents, Row};
+use eve_accounts::{Balances, Cents, MOST_NAMES, Row};
 use eve_smallbank::{Abort, Reply};
 use std::alloc::Global;
 use std::io;
@@ -70,7 +70,7 @@ pub(crate) fn cents_of(word: &str) -> io::Result<Cents> {
 /// The row with this number, if one can have it.
 pub(crate) fn row_at(number: u32) -> Option<Row> {
     let customer = number / 2;
-    if customer >= 65_536 {
+    if customer >= MOST_NAMES {
         None
     } else if number % 2 == 0 {
         Some(Row::saving(customer))

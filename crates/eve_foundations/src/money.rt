@@ -3,7 +3,7 @@
 ghost use Rattle.std.specs.Prelude.{◌≡◌, ◌<◌, length};
 
 use crate::cases::{cents_of, number_of, row_at};
-use eve_accounts::{Amount, Balances, Cents, Row};
+use eve_accounts::{Amount, Balances, Cents, MOST_NAMES, Row};
 use std::alloc::{AllocError, Global};
 use std::io;
 use std::io::ErrorKind;
@@ -49,7 +49,7 @@ fn tell_amount(number: i64, said: &mut String) -> Result<(), AllocError> {
 }
 
 fn tell_rows(customer: u32, said: &mut String) -> io::Result<()> {
-    if customer >= 65_536 {
+    if customer >= MOST_NAMES {
         return Err(ErrorKind::InvalidData)?;
     }
     let (saving, checking) = (Row::saving(customer), Row::checking(customer));

@@ -1,7 +1,7 @@
 //! Names, one by one and in a list with a limit.
 
 use crate::cases::{bytes_of, number_of};
-use eve_accounts::{Name, NameFault, Names, is_name};
+use eve_accounts::{MOST_NAMES, Name, NameFault, Names, is_name};
 use std::alloc::{AllocError, Global};
 use std::hash::RandomState;
 use std::io;
@@ -58,7 +58,7 @@ fn added<'a>(names: &mut Names<'a>, name: &'a [u8]) -> io::Result<Result<u32, Na
 
 /// Tells what comes of adding these names, one after another.
 fn tell_names(rt: &HostRuntime, limit: u32, all: &[Vec<u8>], said: &mut String) -> io::Result<()> {
-    if limit > 65_536 {
+    if limit > MOST_NAMES {
         return Err(ErrorKind::InvalidData)?;
     }
     let mut names = Names::new(rt.alloc(), RandomState::new(rt)?, limit);

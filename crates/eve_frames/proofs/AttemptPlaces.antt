@@ -17,7 +17,8 @@ use Rattle.eve_grammar.proofs.Codec.{IsBytes, IsBytes-drop, Codec-many}
 use Rattle.eve_grammar.proofs.PartCodecs.{reply_length, Codec-reply}
 use Rattle.eve_grammar.proofs.Scans.{many_length, text_length}
 use Rattle.eve_frames.specs.Views.{is_attempt_frame, attempt_in}
-use Rattle.eve_frames.proofs.Places.{found, number_from, some_is, number_some, bytes_some, made_some, made_if_some}
+use Rattle.eve_frames.proofs.Places.{found, number_from, number_some, bytes_some, made_some, made_if_some}
+use Rattle.eve_grammar.proofs.Codec.{some_is}
 use Rattle.eve_frames.proofs.Places.{only_some, whole_some, both_some, both_any, led_some, Takes-number, Takes-only}
 use Rattle.eve_frames.proofs.Places.{Takes-made_if, byte_at}
 use Rattle.eve_frames.proofs.Lists.{Takes-many, Stand}

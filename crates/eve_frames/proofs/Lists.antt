@@ -10,7 +10,8 @@ use Rattle.byteorder.specs.Endian.{big_number}
 use Rattle.eve_grammar.specs.Reading.{◌>>=◌, Reader, number_at, many_at}
 use Rattle.eve_grammar.specs.Bodies.{values, list_in}
 use Rattle.eve_frames.specs.Items.{are_there}
-use Rattle.eve_frames.proofs.Places.{Takes, bind_some, some_is, number_some}
+use Rattle.eve_frames.proofs.Places.{Takes, number_some}
+use Rattle.eve_grammar.proofs.Codec.{bind_some, some_is}
 
 many_takes : {A : Type 0} (m : ℕ) (one : Reader A) → Takes m one → (n : ℕ) (bytes : List ℕ) (x : List A × List ℕ)
     → many_at one n bytes ≡ Some x → (m * n ≤ length bytes) × (x.1 ≡ drop (m * n) bytes)

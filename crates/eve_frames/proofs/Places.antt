@@ -8,29 +8,12 @@ use Rattle.std.proofs.lemmas.List.{take_rest, length-drop, drop-drop, get_or-dro
 use Rattle.byteorder.specs.Endian.{big_number}
 use Rattle.eve_grammar.specs.Reading.{◌>>=◌, Reader, number_at, bytes_at, signed_at, both, both_by, led_by, made}
 use Rattle.eve_grammar.specs.Reading.{made_if, only, whole}
+use Rattle.eve_grammar.proofs.Codec.{bind_some, guard_none, guard_some, some_is}
 
 -- what was found, and not the value for what wasn't
 pub found : {A : Type 0} (o : Option A) (other : A) → IsTrue (is_some o) → o ≡ Some (unwrap_or o other)
 found (Some x) other there = refl
 found None other there = absurd cc
-
-pub some_is : {A : Type 0} (x y : A) → Some x ≡ Some y → x ≡ y
-some_is x y e = cc
-
--- the value of a step that did not fail
-pub bind_some : {A B : Type 0} (r : Option A) (f : A → Option B) (y : B) → (r >>= f) ≡ Some y → (x : A) × (r ≡ Some x)
-    × (f x ≡ Some y)
-bind_some (Some x) f y e = (x, refl, e)
-bind_some None f y e = absurd cc
-
--- a test that did not fail
-pub guard_some : {A : Type 0} (b : Bool) (o : Option A) (y : A) → cond b o None ≡ Some y → (b ≡ true) × (o ≡ Some y)
-guard_some true o y e = (refl, e)
-guard_some false o y e = absurd cc
-
-pub guard_none : {A : Type 0} (b : Bool) (o : Option A) (y : A) → cond b None o ≡ Some y → (b ≡ false) × (o ≡ Some y)
-guard_none true o y e = absurd cc
-guard_none false o y e = (refl, e)
 
 -- ---- fields of a fixed length
 

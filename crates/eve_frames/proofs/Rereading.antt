@@ -1,4 +1,4 @@
--- What fits a trace's own limits is spelled by a frame that says it.
+-- Public: other crates cite these lemmas. What fits a trace's own limits is spelled by a frame that says it.
 use Rattle.std.proofs.Common.{◌≡◌, ℕ, ◌^◌, ◌<◌, ◌≤◌, Bool, true, ◌&&◌, ltb, leb, List, [], ◌∷◌, length, drop, Option}
 use Rattle.std.proofs.Common.{Some, is_some, unwrap_or, refl, ap, arith}
 use Rattle.std.specs.Prelude.{IsTrue}

@@ -10,7 +10,8 @@ use Rattle.eve_grammar.specs.Trace.{Choice, ForRollback, ForCommit, Vote}
 use Rattle.eve_grammar.specs.Limits.{is_between}
 use Rattle.eve_grammar.specs.Reading.{number_at, both, made, made_if, only, choice_from, vote_from, token_at, vote_of}
 use Rattle.eve_frames.specs.Views.{most_batches, is_vote_frame, vote_in}
-use Rattle.eve_frames.proofs.Places.{found, some_is, number_some, bytes_some, made_some, made_if_some, only_some}
+use Rattle.eve_frames.proofs.Places.{found, number_some, bytes_some, made_some, made_if_some, only_some}
+use Rattle.eve_grammar.proofs.Codec.{some_is}
 use Rattle.eve_frames.proofs.Places.{whole_some, both_some, Takes-number, Takes-only, byte_at}
 
 abbrev pub choice_at : List ℕ → Choice

@@ -1,4 +1,5 @@
--- What `body_of` reads is spelled so, and what fits at a place is read back; the same of the header.
+-- Public: other crates cite these lemmas. What `body_of` reads is spelled so, and what fits at a place is read back;
+-- the same of the header.
 use Rattle.std.proofs.Common.{◌≡◌, ℕ, ◌+◌, ◌*◌, ◌^◌, ◌<◌, ◌≤◌, Bool, true, false, not, ◌&&◌, ◌||◌, cond, ltb, leb, eqb}
 use Rattle.std.proofs.Common.{◌⊎◌, List, ◌++◌, length, Some, None, refl, sym, subst, arith, inl, inr}
 use Rattle.std.specs.Prelude.{IsTrue, codes}

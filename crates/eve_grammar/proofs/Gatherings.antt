@@ -1,4 +1,4 @@
--- What is gathered of the frames of a trace is the trace.
+-- Public: other crates cite these lemmas. What is gathered of the frames of a trace is the trace.
 use Rattle.std.proofs.Common.{◌≡◌, ℕ, ◌+◌, List, [], ◌∷◌, ◌++◌, map, refl, sym, ap, ◌∙◌, append_assoc, append-nil}
 use Rattle.std.specs.List.{flat_map, enumerate_from}
 use Rattle.eve_grammar.specs.Trace.{Customer, Batch, Access, Attempt, Step, Attempts, Commits, RollsBack, Vote, Sent}

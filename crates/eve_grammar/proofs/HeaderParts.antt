@@ -1,4 +1,5 @@
--- A header in three parts: the first six bytes, the limits, the length of the whole.
+-- Public: other crates cite these lemmas. A header in three parts: the first six bytes, the limits, the length of the
+-- whole.
 use Rattle.std.proofs.Common.{◌≡◌, ℕ, List, ◌++◌, length, drop, refl, sym, ap, ◌∙◌, append_assoc, arith}
 use Rattle.std.specs.Prelude.{codes}
 use Rattle.std.proofs.lemmas.List.{drop_at, drop-drop, length-append}

@@ -1,4 +1,4 @@
--- Bytes that no kind of frame begins with. Public: eve_frames and eve_views cite it.
+-- Public: other crates cite these lemmas. Bytes that no kind of frame begins with.
 use Rattle.std.proofs.Common.{◌≡◌, ℕ, Bool, true, false, ◌&&◌, ◌||◌, cond, refl, sym}
 use Rattle.std.specs.Prelude.{◌==◌, nat_lt}
 use Rattle.std.proofs.lemmas.Bool.{ne_eqb}

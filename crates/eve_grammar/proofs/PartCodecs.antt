@@ -1,4 +1,4 @@
--- Requests, replies, entries and restores are codecs.
+-- Public: other crates cite these lemmas. Requests, replies, entries and restores are codecs.
 use Rattle.std.proofs.Common.{◌≡◌, ℕ, ℤ, pos, ◌^◌, ◌≤◌, Bool, true, false, ◌&&◌, cond, ltb, leb, eqb, ◌⊎◌, List, ◌++◌}
 use Rattle.std.proofs.Common.{length, Some, refl, sym, ap, subst, ◌∙◌, arith, inl, inr}
 use Rattle.std.specs.Prelude.{IsTrue}

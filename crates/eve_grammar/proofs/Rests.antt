@@ -1,4 +1,4 @@
--- Frames that run are those of the trace that they make up.
+-- Public: other crates cite these lemmas. Frames that run are those of the trace that they make up.
 use Rattle.std.proofs.Common.{◌≡◌, ℕ, ◌<◌, ◌⊎◌, true, false, List, [], ◌∷◌, length, refl, sym, inl, inr, subst, arith}
 use Rattle.std.specs.Prelude.{IsTrue}
 use Rattle.std.specs.List.{list_all}

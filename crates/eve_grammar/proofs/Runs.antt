@@ -1,4 +1,4 @@
--- The frames of a trace within its limits run from the first to the end.
+-- Public: other crates cite these lemmas. The frames of a trace within its limits run from the first to the end.
 use Rattle.std.proofs.Common.{◌≡◌, ℕ, zero, suc, ◌+◌, ◌-◌, ◌^◌, ◌<◌, ◌≤◌, Bool, true, false, not, ◌&&◌, ◌||◌, List, []}
 use Rattle.std.proofs.Common.{◌∷◌, ◌++◌, map, length, refl, sym, subst, append_assoc, arith, lt-ltb, le-ltb, eq-eqb}
 use Rattle.std.proofs.Common.{eqb-true, ne_eqb, length-append}

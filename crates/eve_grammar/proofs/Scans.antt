@@ -1,4 +1,4 @@
--- Reading that keeps no values finds the same as reading that does.
+-- Public: other crates cite these lemmas. Reading that keeps no values finds the same as reading that does.
 use Rattle.std.proofs.Common.{◌≡◌, ℕ, zero, suc, ◌+◌, ◌*◌, ◌≤◌, Bool, true, false, ◌&&◌, cond, ltb, leb, List, [], ◌∷◌}
 use Rattle.std.proofs.Common.{length, drop, sum, Option, Some, None, refl, sym, ap, subst, ◌∙◌, arith}
 use Rattle.std.specs.Prelude.{IsTrue}

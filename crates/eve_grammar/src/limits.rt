@@ -2,7 +2,7 @@
 //!
 //! docs/MODEL.md, "Limits". The definitions in specs/Limits.antt cite these very numbers.
 
-pub use eve_smallbank::MOST_NAMES;
+pub use eve_accounts::{MOST_NAMED_ROWS, MOST_NAMES};
 
 /// Replicas of a trace.
 pub const MOST_REPLICAS: u8 = 8;
@@ -16,14 +16,14 @@ pub const MOST_WINDOW: u8 = 8;
 /// Workers of a replica.
 pub const MOST_WORKERS: u8 = 8;
 
+/// Workers of an audit.
+pub const MOST_AUDIT_WORKERS: u8 = 16;
+
 /// Customers of a trace.
 pub const MOST_CUSTOMERS: u32 = 4096;
 
 /// Rows of a trace: two for each customer.
 pub const MOST_ROWS: u32 = 2 * MOST_CUSTOMERS;
-
-/// Rows of as many customers as there may ever be: below it lies the row of each customer's number.
-pub const MOST_NAMED_ROWS: u32 = 2 * MOST_NAMES;
 
 /// Batches of a trace.
 pub const MOST_BATCHES: u32 = 65_535;

@@ -21,6 +21,7 @@ use Rattle.eve_history.specs.Faults.{name_at, RequestId, request_ids_at, IsNamed
 use Rattle.eve_history.specs.Faults.{IsOrderFault}
 use Rattle.eve_history.specs.Notes.{IsRepeated, AreNoted, HasDistinctNames, HasDistinctRequests}
 use Rattle.eve_grammar.proofs.Grouping.{all_at}
+use Rattle.eve_views.proofs.Locating.{length-located}
 use Rattle.eve_history.proofs.Places.{no_place, place_push, cut_at, Rising, located_rising, first_place, from_low}
 use Rattle.eve_history.proofs.Places.{located_within, weaker_place}
 
@@ -49,10 +50,6 @@ of_located {A = A} text at (y ∷ xs) zero x e = ap Some (same (at, y) x e)
         inside : (v w : ℕ × A) → Some v ≡ Some w → v ≡ w
         inside v w e = cc
 of_located text at (y ∷ xs) (suc i) x e = of_located text (at + length (text y)) xs i x e
-
-pub length-located : {A : Type 0} (text : A → List ℕ) (at : ℕ) (xs : List A) → length (located text at xs) ≡ length xs
-length-located text at [] = refl
-length-located text at (x ∷ xs) = ap suc (length-located text (at + length (text x)) xs)
 
 up_to : (f g : Fault) → f.offset ≤ g.offset → number_of f.code ≤ number_of g.code → IsUpTo f g
 up_to f g le number = elim (cases_lt f.offset g.offset) [

@@ -1,16 +1,17 @@
 -- Requests in order of number, client and batch: the first batch up to which one occurs twice is that of a neighbour.
-use Rattle.std.proofs.Common.{◌≡◌, ℕ, zero, suc, ◌+◌, ◌-◌, ◌<◌, ◌≤◌, Bool, true, false, cond, is_lt, ltb, nat_cmp, List}
+use Rattle.std.proofs.Common.{◌≡◌, ℕ, ◌+◌, ◌-◌, ◌<◌, ◌≤◌, Bool, true, false, cond, is_lt, ltb, nat_cmp, List}
 use Rattle.std.proofs.Common.{length, get_or, Option, Some, None, IfSome, refl, sym, ap, subst, ◌∙◌, arith, inl, inr}
 use Rattle.std.specs.Prelude.{◌==◌, ◌&&◌, nat_le, slice_get, IfNone}
 use Rattle.std.specs.declared.cmp.Ordering.TheVariants.{Less, Equal, Greater}
 use Rattle.std.specs.Ordering.{ordering_then}
 use Rattle.std.proofs.lemmas.Bool.{ltb-false, leb-true, leb-false, le-leb, eqb-true, eqb-false, eq-eqb, and_parts}
 use Rattle.std.proofs.lemmas.Bool.{and_from, cases_lt, false≢true}
-use Rattle.std.proofs.lemmas.Option.{slice_get-get_or, slice_get_within, get_or_from_slice_get}
+use Rattle.std.proofs.lemmas.Option.{slice_get-get_or, slice_get_within}
 use Rattle.eve_history.specs.Faults.{RequestId}
 use Rattle.eve_history.specs.Repeats.{is_same, earlier, IsNotAfter, AreInOrder, is_by, OccursTwice, NoneOccursTwice}
 use Rattle.eve_history.specs.Repeats.{IsFirstTwice}
 use Rattle.eve_history.specs.declared.repeats.Arrival.{Arrival}
+use Rattle.eve_views.proofs.Lists.{all_after}
 use Rattle.eve_history.proofs.Counted.{two_there, two_found}
 
 -- ---- sorted
@@ -74,26 +75,8 @@ not_after_trans a b c ab bc = record {
 
 pub in_order : (xs : List Arrival) → ((k : ℕ) (d : Arrival) → k + 1 < length xs
     → not_less (get_or xs k d) (get_or xs (k + 1) d) ≡ false) → AreInOrder xs
-in_order xs sorted i j a b less e f = subst (λ (x : Arrival). IsNotAfter a x) (get_or_from_slice_get xs j b a f)
-    (subst (λ (x : Arrival). IsNotAfter x (get_or xs j a)) (get_or_from_slice_get xs i a a e)
-    (reach j less (slice_get_within xs j b f)))
-  where
-    step : (k : ℕ) → k + 1 < length xs → IsNotAfter (get_or xs k a) (get_or xs (k + 1) a)
-    step k lt = not_after (get_or xs k a) (get_or xs (k + 1) a) (sorted k a lt)
-
-    far : (m : ℕ) → i + 1 + m < length xs → IsNotAfter (get_or xs i a) (get_or xs (i + 1 + m) a)
-    far zero lt = (let same : i + 1 + 0 ≡ i + 1 = omega arith in
-        subst (λ (n : ℕ). IsNotAfter (get_or xs i a) (get_or xs n a)) (sym same) (step i (omega arith)))
-    far (suc m) lt =
-        let same : i + 1 + suc m ≡ i + 1 + m + 1 = omega arith in
-        subst (λ (n : ℕ). IsNotAfter (get_or xs i a) (get_or xs n a)) (sym same)
-        (not_after_trans (get_or xs i a) (get_or xs (i + 1 + m) a) (get_or xs (i + 1 + m + 1) a) (far m (omega arith))
-        (step (i + 1 + m) (omega arith)))
-
-    reach : (n : ℕ) → i < n → n < length xs → IsNotAfter (get_or xs i a) (get_or xs n a)
-    reach n lt there =
-        let same : i + 1 + (n - (i + 1)) ≡ n = omega arith in
-        subst (λ (m : ℕ). IsNotAfter (get_or xs i a) (get_or xs m a)) same (far (n - (i + 1)) (omega arith))
+in_order xs sorted = all_after IsNotAfter not_after_trans xs
+    (λ k d lt. not_after (get_or xs k d) (get_or xs (k + 1) d) (sorted k d lt))
 
 -- ---- the same request
 

@@ -29,7 +29,7 @@ use Rattle.eve_history.specs.Faults.{accesses_of}
 use Rattle.eve_history.specs.FirstWrong.{wrong_step}
 use Rattle.eve_history.specs.Coming.{Kept, HasCome, ComesNext}
 use Rattle.eve_history.proofs.Structure.{accesses_of-at}
-use Rattle.eve_history.proofs.OrderLaws.{length-located}
+use Rattle.eve_views.proofs.Locating.{length-located}
 use Rattle.eve_history.proofs.Records.{all_there, attempt_fits}
 
 pub weaker_found : (x : CheckFault) (P Q : Fault → Type 0) → ((f : Fault) → P f → Q f) → IfFound x P → IfFound x Q

@@ -6,10 +6,11 @@ ghost use Rattle.eve_grammar.specs.Certificate.{group_of, is_certificate};
 ghost use Rattle.eve_frames.specs.Said.{attempt_said, batch_said};
 
 use eve_frames::{AttemptView, BatchView};
+use eve_grammar::MOST_REQUESTS;
 
 /// The indexes of a certificate, in its order.
-pub fn read_order(attempt: &AttemptView<'_>, order: &mut [u16; 256])
-    requires { length (attempt_said attempt.now).certificate ≤ 256 }
+pub fn read_order(attempt: &AttemptView<'_>, order: &mut [u16; MOST_REQUESTS])
+    requires { length (attempt_said attempt.now).certificate ≤ MOST_REQUESTS }
     ensures { take (length (attempt_said attempt.now).certificate) order.new
         ≡ (attempt_said attempt.now).certificate }
 {
@@ -19,12 +20,12 @@ pub fn read_order(attempt: &AttemptView<'_>, order: &mut [u16; 256])
 }
 
 /// The parallelBatch of each index of a batch, from 0.
-fn groups_of(batch: &BatchView<'_>) -> [u8; 256]
+fn groups_of(batch: &BatchView<'_>) -> [u8; MOST_REQUESTS]
     requires { IsTrue (is_batch (batch_said batch.now).1) }
     ensures { (i : ℕ) → i < length (batch_said batch.now).1.requests → slice_index result i
         ≡ group_of (batch_said batch.now).1.sizes i }
 {
-    let mut groups = [0; 256];
+    let mut groups = [0; MOST_REQUESTS];
     let mut group: u8 = 0;
     let mut end = batch.group(0) as usize;
     for index in 0..batch.len() {

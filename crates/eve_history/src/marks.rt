@@ -7,17 +7,18 @@ ghost use Rattle.eve_history.specs.Marking.{AreMarked, IsJudged, AreJudged};
 
 use crate::wrong::Wrong;
 use eve_frames::AccessView;
+use eve_grammar::{MOST_REQUESTS, MOST_WORKERS};
 use eve_views::{Accesses, Code};
 
 /// Which access records of an attempt have come, and how many of each worker.
 #[derive(Drop)]
 pub struct Marks {
     /// Whether the record of an index has come.
-    seen: [bool; 256],
+    seen: [bool; MOST_REQUESTS],
     /// Its number in frame order, from 0.
-    numbers: [u8; 256],
+    numbers: [u8; MOST_REQUESTS],
     /// How many records of a worker have come.
-    places: [u16; 8],
+    places: [u16; MOST_WORKERS as usize],
 }
 
 impl Marks {
@@ -26,15 +27,15 @@ impl Marks {
         ensures { AreMarked [] result }
     {
         Marks {
-            seen: [false; 256],
-            numbers: [0; 256],
-            places: [0; 8],
+            seen: [false; MOST_REQUESTS],
+            numbers: [0; MOST_REQUESTS],
+            places: [0; MOST_WORKERS as usize],
         }
     }
 
     /// The number of the record of an index, in frame order.
     pub fn number(&self, index: u16) -> u8
-        requires { index < 256 }
+        requires { index < MOST_REQUESTS }
         ensures { result ≡ slice_index self.now.numbers index }
     {
         self.numbers[index as usize]
@@ -50,8 +51,8 @@ impl Marks {
         number: u8,
         access: &AccessView<'_>,
     ) -> Option<Code>
-        requires workers { workers ≤ 8 }
-        requires count { count ≤ 256 }
+        requires workers { workers ≤ MOST_WORKERS }
+        requires count { count ≤ MOST_REQUESTS }
         requires marked { (before : List Access) × AreMarked before self.old × (number ≡ length before) }
         ensures { (before : List Access) → AreMarked before self.old → number ≡ length before
             → IsJudged workers count before (access_said access.now) result self.new }
@@ -77,9 +78,9 @@ impl Marks {
         count: usize,
         accesses: &Accesses<'_, '_>,
     ) -> Option<Wrong>
-        requires workers { workers ≤ 8 }
-        requires count { count ≤ 256 }
-        requires few { length accesses.now ≤ 256 }
+        requires workers { workers ≤ MOST_WORKERS }
+        requires count { count ≤ MOST_REQUESTS }
+        requires few { length accesses.now ≤ MOST_REQUESTS }
         requires none { AreMarked [] self.old }
         ensures { AreJudged workers count accesses.now result self.new }
     {

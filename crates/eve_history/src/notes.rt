@@ -27,7 +27,7 @@ use crate::frame::attempt_at;
 use crate::marks::Marks;
 use crate::wrong::Wrong;
 use eve_frames::{AttemptView, CommitView, RollbackView};
-use eve_grammar::Head;
+use eve_grammar::{Head, MOST_REQUESTS};
 use eve_views::{Accesses, CheckFault, Code, Fault, Trace};
 use std::alloc::Global;
 
@@ -90,8 +90,8 @@ fn keep_records(
     marks: &Marks,
 ) -> Result<(), CheckFault>
     requires marked { AreMarked (accesses_of accesses.now) marks.now }
-    requires there { AllByRecursion (λ i. (i < 256) × IsTrue (list_any (λ y. y.index == i) (accesses_of accesses.now)))
-        order.now }
+    requires there { AllByRecursion
+        (λ i. (i < MOST_REQUESTS) × IsTrue (list_any (λ y. y.index == i) (accesses_of accesses.now))) order.now }
     requires small { AllByRecursion (λ x. x.0 < 2 ^ 32) accesses.now }
     ensures kept { OnOk result
         (records.new.items ≡ records.old.items ++ map (λ i. (access_with accesses.now i).0) order.now) }
@@ -219,7 +219,7 @@ impl<'a> Notes<'a> {
     ) -> Option<Wrong>
         requires fewer { length (kept self.now).fates ≤ length (kept self.now).attempts }
         requires order { order.now ≡ (attempt_said attempt.now).certificate }
-        requires few { length order.now ≤ 256 }
+        requires few { length order.now ≤ MOST_REQUESTS }
         requires many { length accesses.now ≡ length order.now }
         requires none { AreMarked [] marks.old }
         ensures wrong { (s : SectionState) (b : Attempt) → StandsAt s (kept self.now) → attempt_said attempt.now
@@ -265,7 +265,7 @@ impl<'a> Notes<'a> {
             accesses.now
             → IsLeast (IsStructureFault trace.now e) f)) }
     {
-        let mut indexes = [0; 256];
+        let mut indexes = [0; MOST_REQUESTS];
         read_order(attempt, &mut indexes);
         let order = &indexes[..attempt.len()];
         let mut marks = Marks::new();

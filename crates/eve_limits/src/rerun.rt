@@ -1,6 +1,6 @@
 //! A run whose first window is rolled back and then executed again, made of the parts of two runs of one workload.
 
-use eve_grammar::Restore;
+use eve_grammar::{MOST_BYTES, Restore};
 use eve_recorder::OpenGate;
 use eve_replica::eve_workload::{Mixer, Workload};
 use eve_replica::run;
@@ -15,7 +15,7 @@ use std::sync::Wait;
 use std::thread::Threads;
 
 /// How many bytes a trace has at most.
-const LONGEST: u64 = 1 << 30;
+const LONGEST: u64 = MOST_BYTES as u64;
 
 /// The parts of a run of the workload.
 fn parts_of<R: AllocGlobal + RandomSource + Threads + Wait + Sync>(

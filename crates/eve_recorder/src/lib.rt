@@ -5,6 +5,7 @@
 mod drawn;
 mod gate;
 mod ledger;
+mod limits;
 mod recorder;
 mod row;
 mod seats;
@@ -16,6 +17,7 @@ mod tickets;
 mod worker_seat;
 
 pub use gate::{Gate, OpenGate};
+pub use limits::{MOST_DRAWN, MOST_QUEUED, MOST_SEATS};
 pub use recorder::{NoteFault, Recorder};
 pub use seats::Seats;
 pub use taken::Taken;

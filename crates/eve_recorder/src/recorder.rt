@@ -9,6 +9,7 @@ ghost use Rattle.eve_recorder.specs.Seen.{Desk, Noter, Taker, Places, Gathered, 
 ghost use Rattle.eve_recorder.specs.Seen.{noted_on, IsNoterOf, IsWhole, WasFull, WasEmpty};
 
 use crate::ledger::{AbsentCut, Notes, Queue, QueuePass, TakerCut, Takes, WorkerCut};
+use crate::limits::{MOST_QUEUED, MOST_SEATS};
 use crate::row::Row;
 use crate::seats::Seats;
 use crate::taken::Taken;
@@ -51,8 +52,8 @@ impl Model for Recorder {
 impl Recorder {
     /// A recorder with room for so many queued records, and its seats: one for each worker, and the taker's.
     pub fn new(alloc: Global, workers: u8, room: usize) -> Result<(Recorder, Seats), AllocError>
-        requires workers { (1 ≤ workers) × (workers ≤ 8) }
-        requires room { (1 ≤ room) × (room ≤ 256) }
+        requires workers { (1 ≤ workers) × (workers ≤ MOST_SEATS) }
+        requires room { (1 ≤ room) × (room ≤ MOST_QUEUED) }
         ensures workers { IfOk result (λ r. r.0.recorder.workers ≡ workers) }
         ensures room { IfOk result (λ r. r.0.room ≡ room) }
         ensures seats { IfOk result (λ r. r.1 ≡ fresh_places r.0.recorder) }
@@ -171,7 +172,7 @@ impl Recorder {
 fn cut(queue: &Queue, main: &mut QueuePass, w: u8, workers: u8) -> Option<WorkerSeat>
     requires queue { IsPassOf queue.now main.old }
     requires main { view main.old ≡ ledger true [] (max workers (w + 1)) 0 (w + 1) [] }
-    requires few { (workers ≤ 8) × (w < 8) }
+    requires few { (workers ≤ MOST_SEATS) × (w < MOST_SEATS) }
     ensures queue { IsSamePass main.old main.new }
     ensures main { view main.new ≡ ledger true [] (max workers w) 0 w [] }
     ensures seat { result ≡ fresh_noter (recorder_id queue.now.table.shared.table_id workers) w }

@@ -3,6 +3,8 @@
 ghost use Rattle.std.specs.Prelude.{◌≡◌, ◌<◌, ◌↔◌, IsTrue, IsSome, None, Some, slice_set, slice_index_or};
 ghost use Rattle.eve_recorder.specs.Rows.{row_of, HasBelow};
 
+use crate::limits::MOST_SEATS;
+
 /// What lies at each place, from 0.
 #[derive(Drop)]
 pub struct Row<T> {
@@ -37,7 +39,7 @@ impl<T: Drop> Row<T> {
 
     /// Puts a seat at the place.
     pub fn put(&mut self, place: u8, seat: T)
-        requires { place < 8 }
+        requires { place < MOST_SEATS }
         ensures { row_of self.new ≡ slice_set (row_of self.old) place (Some seat) }
     {
         match place {

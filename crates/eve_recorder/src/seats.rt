@@ -26,6 +26,7 @@ impl Model for Seats {
     ghost use Rattle.eve_recorder.specs.Seen.{Places, recorder_id, IsSeated, IsAt};
     ghost use Rattle.eve_recorder.specs.Rows.{row_of};
     ghost use Rattle.eve_recorder.specs.Kept.{ledger};
+    ghost use Rattle.eve_recorder.specs.declared.limits.TheConstants.{MOST_SEATS};
 
     ghost Value = { Places };
 
@@ -36,7 +37,7 @@ impl Model for Seats {
     } };
 
     ghost invariant = { λ s. let recorder = recorder_id s.main.table_id s.workers in
-        (s.main.me.1 ≡ []) × (view_of s.main ≡ ledger false [] s.workers 0 0 []) × (s.workers ≤ 8)
+        (s.main.me.1 ≡ []) × (view_of s.main ≡ ledger false [] s.workers 0 0 []) × (s.workers ≤ MOST_SEATS)
         × IsSeated recorder (row_of s.row) × IsAt recorder s.taker };
 }
 

@@ -18,8 +18,9 @@ pub struct TicketSeat {
 }
 
 impl Model for TicketSeat {
-    ghost use Rattle.std.specs.Prelude.{◌≡◌, ◌+◌, ◌^◌, ◌<◌, ◌≤◌, [], length};
+    ghost use Rattle.std.specs.Prelude.{◌≡◌, ◌+◌, ◌<◌, ◌≤◌, [], length};
     ghost use Rattle.eve_recorder.specs.Drawing.{Drawer, source};
+    ghost use Rattle.eve_recorder.specs.declared.limits.TheConstants.{MOST_DRAWN, MOST_SEATS};
 
     ghost Value = { Drawer };
 
@@ -30,6 +31,6 @@ impl Model for TicketSeat {
     } };
 
     ghost invariant = { λ s. (s.place.me.1 ≡ []) × (s.place.me.0.parts ≡ 1)
-        × (s.number < s.seats) × (s.seats ≤ 8)
-        × (s.left + length s.place.me.0.numbers ≡ s.limit) × (s.limit ≤ 2 ^ 40) };
+        × (s.number < s.seats) × (s.seats ≤ MOST_SEATS)
+        × (s.left + length s.place.me.0.numbers ≡ s.limit) × (s.limit ≤ MOST_DRAWN) };
 }

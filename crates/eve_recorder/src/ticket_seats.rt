@@ -22,10 +22,11 @@ pub struct TicketSeats {
 }
 
 impl Model for TicketSeats {
-    ghost use Rattle.std.specs.Prelude.{◌≡◌, ◌-◌, ◌^◌, ◌≤◌, []};
+    ghost use Rattle.std.specs.Prelude.{◌≡◌, ◌-◌, ◌≤◌, []};
     ghost use Rattle.eve_recorder.specs.Dealt.{drawn, all_parts};
     ghost use Rattle.eve_recorder.specs.Rows.{row_of};
     ghost use Rattle.eve_recorder.specs.Drawing.{Drawers, IsSeated, source};
+    ghost use Rattle.eve_recorder.specs.declared.limits.TheConstants.{MOST_DRAWN, MOST_SEATS};
 
     ghost Value = { Drawers };
 
@@ -35,7 +36,7 @@ impl Model for TicketSeats {
     } };
 
     ghost invariant = { λ s. (s.rest.me.1 ≡ []) × (s.rest.me.0 ≡ drawn (all_parts - s.seats) [])
-        × (s.seats ≤ 8) × (s.limit ≤ 2 ^ 40)
+        × (s.seats ≤ MOST_SEATS) × (s.limit ≤ MOST_DRAWN)
         × IsSeated (source s.rest.table_id s.seats s.limit) (row_of s.row) };
 }
 

@@ -1,12 +1,13 @@
 //! The counter, and what draws from it.
 
-ghost use Rattle.std.specs.Prelude.{◌≡◌, ◌+◌, ◌-◌, ◌^◌, ◌<◌, ◌≤◌, ◌↔◌, [], ◌∷◌, ◌++◌, length, min, All, IfNone, IfOk};
+ghost use Rattle.std.specs.Prelude.{◌≡◌, ◌+◌, ◌-◌, ◌<◌, ◌≤◌, ◌↔◌, [], ◌∷◌, ◌++◌, length, min, All, IfNone, IfOk};
 ghost use Rattle.std.specs.Prelude.{IfSome, IsNone, IsPermutation, IsSome};
 ghost use Rattle.std.specs.List.{range_with_len};
 ghost use Rattle.eve_recorder.specs.Dealt.{drawn, all_parts};
 ghost use Rattle.eve_recorder.specs.Drawing.{Drawer, Source, all_drawn, drawn_on, fresh_seat, fresh_seats, IsWhole};
 
 use crate::drawn::{Counter, Draw, OnePart, Place};
+use crate::limits::{MOST_DRAWN, MOST_SEATS};
 use crate::row::Row;
 use crate::ticket_seat::TicketSeat;
 use crate::ticket_seats::TicketSeats;
@@ -25,23 +26,24 @@ pub struct Tickets {
 }
 
 impl Model for Tickets {
-    ghost use Rattle.std.specs.Prelude.{◌≡◌, ◌^◌, ◌≤◌};
+    ghost use Rattle.std.specs.Prelude.{◌≡◌, ◌≤◌};
     ghost use Rattle.eve_recorder.specs.Drawing.{Source, source};
+    ghost use Rattle.eve_recorder.specs.declared.limits.TheConstants.{MOST_DRAWN, MOST_SEATS};
 
     ghost Value = { Source };
 
     ghost view = { λ t. source t.counter.shared.table_id t.seats t.limit };
 
     ghost invariant = { λ t. (t.counter.shared.table_id.words ≡ 1)
-        × (t.counter.shared.table_id.slots ≡ 0) × (t.seats ≤ 8) × (t.limit ≤ 2 ^ 40) };
+        × (t.counter.shared.table_id.slots ≡ 0) × (t.seats ≤ MOST_SEATS) × (t.limit ≤ MOST_DRAWN) };
 }
 
 impl Tickets {
-    /// Tickets with so many seats, at most 8, each of which may draw `limit` numbers, at most 2^40; and
-    /// the seats. Nothing is drawn yet.
+    /// Tickets with so many seats, at most `MOST_SEATS`, each of which may draw `limit` numbers, at most `MOST_DRAWN`;
+    /// and the seats. Nothing is drawn yet.
     pub fn new(alloc: Global, seats: u8, limit: u64) -> Result<(Tickets, TicketSeats), AllocError>
-        requires seats { seats ≤ 8 }
-        requires limit { limit ≤ 2 ^ 40 }
+        requires seats { seats ≤ MOST_SEATS }
+        requires limit { limit ≤ MOST_DRAWN }
         ensures seats { IfOk result (λ r. r.0.seats ≡ seats) }
         ensures limit { IfOk result (λ r. r.0.limit ≡ limit) }
         ensures fresh { IfOk result (λ r. r.1 ≡ fresh_seats r.0) }
@@ -127,7 +129,7 @@ impl Tickets {
     fn split_off(&self, rest: &mut Place, number: u8) -> Option<TicketSeat>
         requires table { rest.old.table_id ≡ self.now.table }
         requires rest { rest.old.me ≡ (drawn (all_parts - min self.now.seats number) [], []) }
-        requires number { number < 8 }
+        requires number { number < MOST_SEATS }
         ensures table { rest.new.table_id ≡ rest.old.table_id }
         ensures rest { rest.new.me ≡ (drawn (all_parts - min self.now.seats (number + 1)) [], []) }
         ensures seat { result ≡ fresh_seat self.now number }

@@ -7,9 +7,9 @@ ghost use Rattle.eve_replica.specs.Serving.{attempting, committing, rolling_back
 
 use crate::fault::RunFault;
 use crate::server::Server;
-use crate::standing::Standing;
+use crate::standing::{MOST_VIEWS, Standing};
 use crate::votes::{vote_for_commit, vote_for_rollback};
-use eve_grammar::Head;
+use eve_grammar::{Head, MOST_BATCHES};
 use eve_recorder::Gate;
 use eve_workload::MixedBatch;
 use eve_write::VoteData;
@@ -41,7 +41,7 @@ impl<'n, 'b> Deployment<'n, 'b> {
         requires under_way { IsUnderWay self.old }
         requires none_open { self.old.standing.opened ≡ 0 }
         requires left { self.old.standing.committed < length self.old.batches.now }
-        requires view { self.old.standing.view < 131072 }
+        requires view { self.old.standing.view < MOST_VIEWS }
         ensures under_way { OnOk result (IsUnderWay self.new) }
         ensures none_open { OnOk result (self.new.standing.opened ≡ 0) }
         ensures same { OnOk result (IsSameRun self.old self.new) }
@@ -112,7 +112,7 @@ impl<'n, 'b> Deployment<'n, 'b> {
     fn roll_back(&mut self, alloc: Global) -> Result<(), AllocError>
         requires under_way { IsUnderWay self.old }
         requires open { 0 < self.old.standing.opened }
-        requires view { self.old.standing.view < 131072 }
+        requires view { self.old.standing.view < MOST_VIEWS }
         ensures under_way { OnOk result (IsUnderWay self.new) }
         ensures same { OnOk result (IsSameRun self.old self.new) }
         ensures standing { OnOk result (self.new.standing ≡ rolling_back self.old.standing) }
@@ -139,7 +139,7 @@ fn attempt_all<R: Threads + Wait + Sync, G: Gate>(
 ) -> Result<(), RunFault>
     requires serve { (names : List (List ℕ)) × (room : ℕ) × All (IsMixed names) window.now
         × All (Serves names room standing) servers.old × (standing.opened + length window.now ≤ room)
-        × (standing.committed + standing.opened + length window.now ≤ 65535) }
+        × (standing.committed + standing.opened + length window.now ≤ MOST_BATCHES) }
     ensures { (names : List (List ℕ)) (room : ℕ) → All (Serves names room standing) servers.old
         → OnOk result (All (Serves names room (attempting (length window.now) standing)) servers.new) }
 {
@@ -172,7 +172,7 @@ fn commit_all(servers: &mut [Server], seq: u32, token: [u8; 32]) -> Result<(), A
 // Each live replica rolls back.
 fn roll_back_all(servers: &mut [Server], alloc: Global) -> Result<(), AllocError>
     requires { (names : List (List ℕ)) × (room : ℕ) × (at : Standing) × All (Serves names room at) servers.old
-        × (at.view < 131072) }
+        × (at.view < MOST_VIEWS) }
     ensures { (names : List (List ℕ)) (room : ℕ) (at : Standing) → All (Serves names room at) servers.old
         → OnOk result (All (Serves names room (rolling_back at)) servers.new) }
 {

@@ -11,6 +11,7 @@ ghost use Rattle.eve_replica.specs.Run.{batches_cut};
 ghost use Rattle.eve_replica.specs.Serving.{IsMixed};
 
 use eve_accounts::{Balances, Names, Row};
+use eve_grammar::{MOST_BATCHES, MOST_CUSTOMERS};
 use eve_workload::{MixedBatch, Mixer, Workload, mix_touched};
 use eve_write::CustomerData;
 use std::alloc::{AllocError, Global};
@@ -22,12 +23,12 @@ pub(crate) fn names_of<'w>(
     customers: &'w [CustomerData],
     random: RandomState,
 ) -> Result<Names<'w>, AllocError>
-    requires few { length customers.now ≤ 4096 }
+    requires few { length customers.now ≤ MOST_CUSTOMERS }
     requires right { IsTrue (list_all is_customer (map customer customers.now)) }
     requires differ { AllPairs (λ a b. a ≢ b) (names_of (map customer customers.now)) }
     ensures { IfOk result (λ names. names.items ≡ names_of (map customer customers.now)) }
 {
-    let mut names = Names::new(alloc, random, 4096);
+    let mut names = Names::new(alloc, random, MOST_CUSTOMERS);
     for customer in customers {
         if names.add(customer.name.as_slice()).is_err() {
             return Err(AllocError);
@@ -38,7 +39,7 @@ pub(crate) fn names_of<'w>(
 
 /// The customers' opening balances, by row.
 pub(crate) fn balances_of(alloc: Global, customers: &[CustomerData]) -> Result<Balances, AllocError>
-    requires { length customers.now ≤ 4096 }
+    requires { length customers.now ≤ MOST_CUSTOMERS }
     ensures { IfOk result (λ balances. length balances ≡ 2 * length customers.now) }
 {
     let mut balances = Balances::new(alloc, 2 * customers.len())?;
@@ -78,7 +79,7 @@ fn cut_batch(
 ) -> Result<MixedBatch, AllocError>
     requires names { names.now.items ≡ names_of workload.now.customers }
     requires there { place < length workload.now.batches }
-    requires few { place < 65535 }
+    requires few { place < MOST_BATCHES }
     ensures cut { let requests = slice_index_or workload.now.batches place [] in
         IfOk result (λ m. plain m.batch ≡ batch_of (cut (names_of workload.now.customers) mixer requests)) }
     ensures mixed { IfOk result (IsMixed names.now.items) }

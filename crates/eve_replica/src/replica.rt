@@ -17,7 +17,8 @@ use crate::fault::{AttemptFault, CloseFault, CommitFault, fault_of};
 use eve_accounts::{Balances, Names};
 use eve_attempts::{AttemptFront, CloseFault as Unclosed, Ledger};
 use eve_floor::Floor;
-use eve_recorder::{Gate, TicketSeat, TicketSeats, Tickets};
+use eve_grammar::{MOST_BATCHES, MOST_WINDOW, MOST_WORKERS};
+use eve_recorder::{Gate, MOST_DRAWN, TicketSeat, TicketSeats, Tickets};
 use eve_replica_crew::{crew_size, run_batch};
 use eve_smallbank::{Touched, touched};
 use eve_stamps::AccessRecord;
@@ -26,9 +27,6 @@ use std::alloc::{AllocError, Global};
 use std::marker::Model;
 use std::sync::Wait;
 use std::thread::Threads;
-
-/// How many ticks a worker may draw.
-const TICKS: u64 = 1 << 40;
 
 /// One replica: rows in stripes that its workers lock, and its own account of these rows, by which what the workers
 /// noted becomes an attempt or is refused.
@@ -54,12 +52,14 @@ impl<'n> Model for Replica<'n> {
     ghost use Rattle.eve_attempts.specs.Ledgers.{row_count};
     ghost use Rattle.eve_replica_crew.specs.Crews.{AreTickets};
     ghost use Rattle.eve_replica.specs.Replicas as model;
+    ghost use Rattle.eve_grammar.specs.declared.limits.TheConstants.{MOST_WORKERS};
 
     ghost Value = { model.Replica };
 
     ghost view = { λ r. record { names = r.names.now.items; ledger = r.ledger; is_broken = r.is_broken } };
 
-    ghost invariant = { λ r. AreTickets r.ticks r.seats.items × (1 ≤ vec_len r.seats) × (vec_len r.seats ≤ 8)
+    ghost invariant = { λ r. AreTickets r.ticks r.seats.items
+        × (1 ≤ vec_len r.seats) × (vec_len r.seats ≤ MOST_WORKERS)
         × (r.floor ≡ r.names.now.items) × (vec_len r.settles ≡ length r.ledger.opened) × (r.ledger.window ≡ r.window)
         × (row_count r.ledger ≡ 2 * length r.names.now.items) };
 }
@@ -75,8 +75,8 @@ impl<'n> Replica<'n> {
         window: u8,
     ) -> Result<Replica<'n>, AllocError>
         requires rows { length balances.now ≡ 2 * length names.now.items }
-        requires workers { (1 ≤ workers) × (workers ≤ 8) }
-        requires window { (1 ≤ window) × (window ≤ 8) }
+        requires workers { (1 ≤ workers) × (workers ≤ MOST_WORKERS) }
+        requires window { (1 ≤ window) × (window ≤ MOST_WINDOW) }
         ensures { let ledger = opening balances.now workers window in
             IfOk result (λ r. r ≡ record { names = names.now.items; ledger = ledger; is_broken = false }) }
     {
@@ -172,7 +172,7 @@ impl<'n> Replica<'n> {
         serial: bool,
         gate: &G,
     ) -> Result<AttemptData, AttemptFault>
-        requires last { self.old.ledger.committed + 1 + length self.old.ledger.opened ≤ 65535 }
+        requires last { self.old.ledger.committed + 1 + length self.old.ledger.opened ≤ MOST_BATCHES }
         requires room { length self.old.ledger.opened < self.old.ledger.window }
         requires view { view ≡ self.old.ledger.view }
         requires serial { serial ≡ self.old.ledger.is_next_serial }
@@ -203,7 +203,7 @@ impl<'n> Replica<'n> {
         serial: bool,
         gate: &G,
     ) -> Result<AttemptData, AttemptFault>
-        requires last { self.old.ledger.committed + 1 + length self.old.ledger.opened ≤ 65535 }
+        requires last { self.old.ledger.committed + 1 + length self.old.ledger.opened ≤ MOST_BATCHES }
         requires room { length self.old.ledger.opened < self.old.ledger.window }
         requires view { view ≡ self.old.ledger.view }
         requires serial { serial ≡ self.old.ledger.is_next_serial }
@@ -248,7 +248,7 @@ impl<'n> Replica<'n> {
         records: &[AccessRecord],
     ) -> Result<AttemptData, CloseFault>
         requires seq { seq ≡ self.old.ledger.committed + 1 + length self.old.ledger.opened }
-        requires last { seq ≤ 65535 }
+        requires last { seq ≤ MOST_BATCHES }
         requires room { length self.old.ledger.opened < self.old.ledger.window }
         requires view { view ≡ self.old.ledger.view }
         requires serial { serial ≡ self.old.ledger.is_next_serial }
@@ -329,7 +329,7 @@ impl<'n> Replica<'n> {
         gate: &G,
     ) -> Result<AttemptData, AttemptFault>
         requires seq { front.seq ≡ self.old.ledger.committed + 1 + length self.old.ledger.opened }
-        requires last { front.seq ≤ 65535 }
+        requires last { front.seq ≤ MOST_BATCHES }
         requires room { length self.old.ledger.opened < self.old.ledger.window }
         requires view { front.view ≡ self.old.ledger.view }
         requires serial { front.serial ≡ self.old.ledger.is_next_serial }
@@ -374,7 +374,7 @@ impl<'n> Replica<'n> {
         tick: Option<u64>,
     ) -> Result<AttemptData, Unclosed>
         requires seq { front.seq ≡ self.old.ledger.committed + 1 + length self.old.ledger.opened }
-        requires last { front.seq ≤ 65535 }
+        requires last { front.seq ≤ MOST_BATCHES }
         requires room { length self.old.ledger.opened < self.old.ledger.window }
         requires view { front.view ≡ self.old.ledger.view }
         requires serial { front.serial ≡ self.old.ledger.is_next_serial }
@@ -402,12 +402,12 @@ impl<'n> Replica<'n> {
 
 // The tickets of ticks for so many workers, and a seat for each.
 fn seated(alloc: Global, workers: u8) -> Result<(Tickets, Vec<TicketSeat>), AllocError>
-    requires { workers ≤ 8 }
+    requires { workers ≤ MOST_WORKERS }
     ensures own { IfOk result (λ r. AreTickets r.0 r.1.items) }
     ensures many { IfOk result (λ r. vec_len r.1 ≡ workers) }
 {
     let seats = Vec::with_capacity(alloc, workers as usize)?;
-    let (ticks, all) = Tickets::new(alloc, workers, TICKS)?;
+    let (ticks, all) = Tickets::new(alloc, workers, MOST_DRAWN)?;
     let seats = seats_of(&ticks, all, workers, seats);
     Ok((ticks, seats))
 }
@@ -421,7 +421,7 @@ fn seats_of(
 ) -> Vec<TicketSeat>
     requires tickets { tickets.now.seats ≡ workers }
     requires all { all ≡ fresh_seats tickets.now }
-    requires few { workers ≤ 8 }
+    requires few { workers ≤ MOST_WORKERS }
     requires room { (vec_len seats ≡ 0) × (workers ≤ vec_capacity seats) }
     ensures own { AreTickets tickets.now result.items }
     ensures many { vec_len result ≡ workers }

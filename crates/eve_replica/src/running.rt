@@ -14,7 +14,7 @@ use crate::sending::replies_of;
 use crate::server::Server;
 use crate::standing::Standing;
 use eve_accounts::{Balances, Names};
-use eve_grammar::Head;
+use eve_grammar::{Head, MOST_BATCHES, MOST_WINDOW, MOST_WORKERS};
 use eve_recorder::Gate;
 use eve_workload::{MixedBatch, Mixer, Workload};
 use eve_write::{BatchData, CustomerData, Parts, Step, VoteData};
@@ -91,9 +91,9 @@ fn run_windows<'n, 'b, R: Threads + Wait + Sync, G: Gate>(
     gate: &G,
 ) -> Result<Deployment<'n, 'b>, RunFault>
     requires rows { length balances.now ≡ 2 * length names.now.items }
-    requires workers { (1 ≤ head.now.workers) × (head.now.workers ≤ 8) }
-    requires window { (1 ≤ head.now.window) × (head.now.window ≤ 8) }
-    requires few { length batches.now ≤ 65535 }
+    requires workers { (1 ≤ head.now.workers) × (head.now.workers ≤ MOST_WORKERS) }
+    requires window { (1 ≤ head.now.window) × (head.now.window ≤ MOST_WINDOW) }
+    requires few { length batches.now ≤ MOST_BATCHES }
     requires mixed { All (IsMixed names.now.items) batches.now }
     requires customers { length names.now.items ≡ head.now.customers }
     ensures under_way { IfOk result IsUnderWay }
@@ -131,8 +131,8 @@ fn servers_of<'n>(
     balances: &Balances,
 ) -> Result<Vec<Server<'n>>, AllocError>
     requires rows { length balances.now ≡ 2 * length names.now.items }
-    requires workers { (1 ≤ head.now.workers) × (head.now.workers ≤ 8) }
-    requires window { (1 ≤ head.now.window) × (head.now.window ≤ 8) }
+    requires workers { (1 ≤ head.now.workers) × (head.now.workers ≤ MOST_WORKERS) }
+    requires window { (1 ≤ head.now.window) × (head.now.window ≤ MOST_WINDOW) }
     ensures many { IfOk result (λ servers. vec_len servers ≡ head.now.replicas) }
     ensures serve { IfOk result (λ servers. All (Serves names.now.items head.now.window at_first) servers.items) }
 {
@@ -161,8 +161,8 @@ fn server_of<'n>(
     balances: &Balances,
 ) -> Result<Server<'n>, AllocError>
     requires rows { length balances.now ≡ 2 * length names.now.items }
-    requires workers { (1 ≤ head.now.workers) × (head.now.workers ≤ 8) }
-    requires window { (1 ≤ head.now.window) × (head.now.window ≤ 8) }
+    requires workers { (1 ≤ head.now.workers) × (head.now.workers ≤ MOST_WORKERS) }
+    requires window { (1 ≤ head.now.window) × (head.now.window ≤ MOST_WINDOW) }
     ensures { IfOk result (Serves names.now.items head.now.window at_first) }
 {
     Ok(Server {

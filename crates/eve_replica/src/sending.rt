@@ -5,6 +5,7 @@ ghost use Rattle.eve_replica.specs.Serving.{AreReplies};
 
 use crate::fits::sent_fits;
 use crate::server::Server;
+use eve_grammar::MOST_REPLICAS;
 use eve_smallbank::Reply;
 use eve_workload::MixedBatch;
 use eve_write::{AttemptData, RequestData, SentData, Step};
@@ -18,7 +19,7 @@ pub(crate) fn replies_of(
     servers: &[Server],
     batches: &[MixedBatch],
 ) -> Result<Vec<SentData>, AllocError>
-    requires few { length servers.now ≤ 8 }
+    requires few { length servers.now ≤ MOST_REPLICAS }
     ensures { IfOk result (λ replies. AreReplies (length servers.now) (length batches.now) replies.items) }
 {
     let mut replies = Vec::new(alloc);

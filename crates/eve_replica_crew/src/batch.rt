@@ -11,6 +11,7 @@ use crate::crew::{dismiss, muster, run_shares};
 use crate::progress::Progress;
 use crate::stage::{Stage, starts_of};
 use eve_floor::{ExecFault, Floor};
+use eve_grammar::{MOST_REQUESTS, MOST_WORKERS};
 use eve_recorder::{Gate, Recorder, Seats, TakerSeat, TicketSeat, TicketSeats, Tickets};
 use eve_smallbank::Touched;
 use eve_stamps::AccessRecord;
@@ -36,7 +37,7 @@ pub fn run_batch<R: Threads + Wait + Sync, G: Gate>(
 ) -> Result<Vec<AccessRecord>, ExecFault>
     requires batch { IsTrue (is_batch (plain batch.now)) }
     requires touched { IsLookedUp floor.now (plain batch.now) touched.now }
-    requires crew { (1 ≤ crew) × (crew ≤ 8) × (crew ≤ vec_len seats.old) }
+    requires crew { (1 ≤ crew) × (crew ≤ MOST_WORKERS) × (crew ≤ vec_len seats.old) }
     requires seats { AreTickets ticks.now seats.old.items }
     ensures seats { AreTickets ticks.now seats.new.items }
     ensures many { vec_len seats.new ≡ vec_len seats.old }
@@ -79,7 +80,7 @@ fn run_on<R: Threads + Wait + Sync, G: Gate>(
     gate: &G,
 ) -> Result<Vec<AccessRecord>, ExecFault>
     requires stage { IsSet stage.now }
-    requires crew { (1 ≤ crew) × (crew ≤ 8) × (crew ≤ vec_len ticks.old) }
+    requires crew { (1 ≤ crew) × (crew ≤ MOST_WORKERS) × (crew ≤ vec_len ticks.old) }
     requires workers { stage.now.recorder.now.recorder.workers ≡ crew }
     requires places { places.old ≡ fresh_places stage.now.recorder.now.recorder }
     requires claims { claims.old ≡ fresh_seats stage.now.claims.now }
@@ -106,7 +107,7 @@ fn run_on<R: Threads + Wait + Sync, G: Gate>(
 fn count_of(batch: &BatchData) -> usize
     requires { IsTrue (is_batch (plain batch.now)) }
     ensures is { result ≡ length batch.now.requests.items }
-    ensures range { (1 ≤ result) × (result ≤ 256) }
+    ensures range { (1 ≤ result) × (result ≤ MOST_REQUESTS) }
 {
     batch.requests.len()
 }

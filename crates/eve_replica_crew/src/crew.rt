@@ -9,6 +9,7 @@ ghost use Rattle.eve_replica_crew.specs.Crews.{AreNoters, AreThere, AreTickets, 
 use crate::stage::Stage;
 use crate::work::run_share;
 use eve_floor::{ExecFault, Worker};
+use eve_grammar::MOST_WORKERS;
 use eve_recorder::{Gate, Seats, TicketSeat, TicketSeats};
 use std::sync::Wait;
 use std::thread;
@@ -58,7 +59,7 @@ pub(crate) fn muster(
     claims: &mut TicketSeats,
     ticks: &mut Vec<TicketSeat>,
 ) -> Vec<Member>
-    requires crew { (crew ≤ 8) × (crew ≤ vec_len ticks.old) }
+    requires crew { (crew ≤ MOST_WORKERS) × (crew ≤ vec_len ticks.old) }
     requires room { (vec_len members ≡ 0) × (crew ≤ vec_capacity members) }
     requires workers { stage.now.recorder.now.recorder.workers ≡ crew }
     requires places { places.old ≡ fresh_places stage.now.recorder.now.recorder }

@@ -11,6 +11,7 @@ use crate::stage::Stage;
 use eve_floor::{execute_touched, request_at};
 use eve_recorder::Gate;
 use eve_smallbank::Touched;
+use eve_stamps::MOST_PLACES;
 use std::sync::Wait;
 
 /// Claims requests of the batch and runs them, one after another, until they run out. A request waits until all of the
@@ -62,7 +63,7 @@ fn run_one<R: Wait, G: Gate>(
 ) -> bool
     requires set { IsSet stage.now }
     requires there { index < length stage.now.batch.now.requests.items }
-    requires place { length member.old.worker.seat.noted < 65536 }
+    requires place { length member.old.worker.seat.noted < MOST_PLACES }
     requires own { IsOn stage.now member.old }
     ensures own { IsOn stage.now member.new }
     ensures noted { IsTrue result → length member.new.worker.seat.noted ≡ length member.old.worker.seat.noted + 1 }

@@ -1,4 +1,4 @@
--- What a request makes of a table fits it.
+-- Public: other crates cite these lemmas. What a request makes of a table fits it.
 use Rattle.std.proofs.Common.{◌≡◌, ℕ, ℤ, pos, zero, suc, ◌+◌, ◌*◌, ◌/◌, ◌%◌, ◌==◌, ◌+ℤ◌, ◌-ℤ◌, int_lt, Bool, true}
 use Rattle.std.proofs.Common.{false, cond, List, [], ◌∷◌, map, get_or, Option, Some, None, option_map, refl, sym, subst}
 use Rattle.std.proofs.Common.{ap, ap₂, ◌∙◌, inl, inr, ◌⊎◌, ◌≤◌, zero-add, arith}

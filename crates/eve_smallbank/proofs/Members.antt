@@ -1,4 +1,4 @@
--- Members of a list, and lists in another order.
+-- Public: other crates cite these lemmas. Members of a list, and lists in another order.
 use Rattle.std.proofs.Common.{◌≡◌, Bool, false, List, [], ◌∷◌, ◌++◌, refl, sym, subst, ◌⊎◌, inl, inr}
 use Rattle.std.specs.List.{AllByRecursion, list_any}
 use Rattle.std.proofs.lemmas.Bool.{or_from, or_parts}

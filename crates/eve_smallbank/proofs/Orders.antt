@@ -1,4 +1,5 @@
--- Requests that conflict stand in one order along a chain. Those that don't may be exchanged.
+-- Public: other crates cite these lemmas. Requests that conflict stand in one order along a chain. Those that don't may
+-- be exchanged.
 use Rattle.std.proofs.Common.{◌≡◌, ℕ, ◌+◌, ◌≤◌, Bool, true, false, cond, not, ◌&&◌, ◌||◌, ◌==◌, nat_lt, List, [], ◌∷◌}
 use Rattle.std.proofs.Common.{◌++◌, refl, sym, subst, ap, ◌∙◌, inl, inr, le_refl, arith}
 use mathlib.Core.Path.{fun_ext}

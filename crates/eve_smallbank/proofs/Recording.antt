@@ -1,10 +1,9 @@
 -- Entries beside what was decided for their request.
-use Rattle.std.proofs.Common.{◌≡◌, ◌≢◌, ℕ, ℤ, zero, suc, ◌+◌, ◌<◌, Bool, true, false, List, [], ◌∷◌, ◌++◌, map, length}
-use Rattle.std.proofs.Common.{take, set, slice_get, Option, Some, None, refl, sym, subst, ap, ap₂, ◌∙◌, inl, inr, arith}
+use Rattle.std.proofs.Common.{◌≡◌, ◌≢◌, ℕ, ℤ, zero, suc, ◌+◌, ◌<◌, Bool, true, false, List, [], ◌∷◌, map, length}
+use Rattle.std.proofs.Common.{take, slice_get, Option, Some, None, refl, sym, subst, ap, ap₂, ◌∙◌, inl, inr, arith}
 use Rattle.std.specs.Bool.{Decides}
 use Rattle.std.proofs.lemmas.Bool.{cases_eq, false≢true}
-use Rattle.std.proofs.lemmas.List.{length-map, map_more, take_more_set}
-use Rattle.std.proofs.lemmas.Option.{get_or_from_slice_get, slice_get_within}
+use Rattle.std.proofs.lemmas.List.{length-map}
 use Rattle.eve_smallbank.specs.declared.request.Reply.{Reply}
 use Rattle.eve_smallbank.specs.declared.entry.Kind.{Kind}
 use Rattle.eve_smallbank.specs.declared.entry.Entry.{Entry}
@@ -30,14 +29,27 @@ recorded request reply entries = record { request = request; reply = reply; entr
 
 -- ---- the values seen
 
-pub seen_more : (values : List ℤ) (es : List Entry) (k : ℕ) (e : Entry) → k < length values → slice_get es k ≡ Some e
-    → take k values ≡ map (λ e. e.seen) (take k es)
-    → take (k + 1) (set values k e.seen) ≡ map (λ e. e.seen) (take (k + 1) es)
-seen_more values es k e room at so =
-    take_more_set values k e.seen room
-    ∙ ap₂ (λ (xs : List ℤ) (x : ℤ). xs ++ x ∷ []) so
-    (sym (ap (λ (d : Entry). d.seen) (get_or_from_slice_get es k e e at)))
-    ∙ sym (map_more (λ e. e.seen) es k e (slice_get_within es k e at))
+pub seen_by_one : (es : List Entry) (a : Entry) (rest : List ℤ) → length es ≡ 1 → slice_get es 0 ≡ Some a
+    → take (length es) (a.seen ∷ rest) ≡ map (λ e. e.seen) es
+seen_by_one [] a rest n at = absurd (omega (arith, n))
+seen_by_one (d ∷ []) a rest n at = ap (λ (e : Entry). e.seen ∷ []) (sym (some_injective d a at))
+seen_by_one (d ∷ e ∷ es) a rest n at = absurd (omega (arith, n))
+
+pub seen_by_two : (es : List Entry) (a b : Entry) (rest : List ℤ) → length es ≡ 2 → slice_get es 0 ≡ Some a
+    → slice_get es 1 ≡ Some b → take (length es) (a.seen ∷ b.seen ∷ rest) ≡ map (λ e. e.seen) es
+seen_by_two [] a b rest n at next = absurd (omega (arith, n))
+seen_by_two (d ∷ es) a b rest n at next =
+    let few : length es ≡ 1 = omega (arith, n) in
+    ap₂ (λ (e : Entry) (xs : List ℤ). e.seen ∷ xs) (sym (some_injective d a at)) (seen_by_one es b rest few next)
+
+pub seen_by_three : (es : List Entry) (a b c : Entry) → length es ≡ 3 → slice_get es 0 ≡ Some a
+    → slice_get es 1 ≡ Some b → slice_get es 2 ≡ Some c
+    → take (length es) (a.seen ∷ b.seen ∷ c.seen ∷ []) ≡ map (λ e. e.seen) es
+seen_by_three [] a b c n at next last = absurd (omega (arith, n))
+seen_by_three (d ∷ es) a b c n at next last =
+    let few : length es ≡ 2 = omega (arith, n) in
+    ap₂ (λ (e : Entry) (xs : List ℤ). e.seen ∷ xs) (sym (some_injective d a at))
+    (seen_by_two es b c [] few next last)
 
 -- ---- entries beside rows and effects
 

@@ -1,4 +1,4 @@
--- The one record that fits the values seen.
+-- Public: other crates cite these lemmas. The one record that fits the values seen.
 use Rattle.std.proofs.Common.{◌≡◌, ℕ, ℤ, pos, ◌+ℤ◌, ◌-ℤ◌, ◌==◌, int_lt, Bool, true, false, cond, ◌&&◌, List, [], ◌∷◌}
 use Rattle.std.proofs.Common.{map, length, Option, Some, None, is_some, refl, sym, subst, ap, ap₂, ◌∙◌, arith}
 use Rattle.std.specs.List.{AllByRecursion}

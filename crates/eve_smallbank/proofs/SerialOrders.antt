@@ -1,4 +1,4 @@
--- Serial order from version chains.
+-- Public: other crates cite these lemmas. Serial order from version chains.
 use Rattle.std.proofs.Common.{◌≡◌, ℕ, List, map, sym, ap, ◌∙◌}
 use Rattle.std.specs.List.{AllByRecursion}
 use Rattle.eve_smallbank.specs.declared.entry.Entry.{Entry}

@@ -1,4 +1,4 @@
--- A record that fits is what its request makes of a table that it saw.
+-- Public: other crates cite these lemmas. A record that fits is what its request makes of a table that it saw.
 use Rattle.std.proofs.Common.{◌≡◌, ℕ, ℤ, ◌+◌, ◌*◌, ◌==◌, false, cond, List, [], ◌∷◌, map, length, ◌<◌, Option, Some}
 use Rattle.std.proofs.Common.{None, refl, sym, subst, ap, ap₂, ◌∙◌, inl, inr, arith}
 use Rattle.std.specs.Prelude.{⊤}

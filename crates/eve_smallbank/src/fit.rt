@@ -39,11 +39,12 @@ fn is_same(reply: Reply, other: Reply) -> bool
 fn values_seen(entries: &UpToThree<Entry>) -> [Cents; 3]
     ensures { take (length entries.now) result ≡ map (λ e. e.seen) entries.now }
 {
-    let mut values = [Cents::ZERO; 3];
-    for place in 0..entries.len() {
-        values[place] = entries.at(place).seen;
+    match entries.len() {
+        0 => [Cents::ZERO; 3],
+        1 => [entries.at(0).seen, Cents::ZERO, Cents::ZERO],
+        2 => [entries.at(0).seen, entries.at(1).seen, Cents::ZERO],
+        _ => [entries.at(0).seen, entries.at(1).seen, entries.at(2).seen],
     }
-    values
 }
 
 /// Whether the entries are of these rows with these effects, one for each.

@@ -18,7 +18,7 @@ pub use decision::{Decision, Effect, decide};
 pub use entry::{Entry, Kind};
 pub use few::UpToThree;
 pub use fit::fits;
-pub use limits::{MOST_NAMES, PENALTY};
+pub use limits::PENALTY;
 pub use request::{Abort, Reply, Request};
 pub use rows::Touched;
 pub use touch::touched;

@@ -5,8 +5,8 @@ ghost use Rattle.eve_smallbank.specs.SmallBank.{plain};
 ghost use Rattle.eve_smallbank.specs.Access.{amalgamated_rows};
 ghost use Rattle.eve_smallbank.specs.Touch.{touched_of};
 
-use crate::{Abort, Kind, MOST_NAMES, Request, Touched, UpToThree};
-use eve_accounts::{Names, Row};
+use crate::{Abort, Kind, Request, Touched, UpToThree};
+use eve_accounts::{MOST_NAMES, Names, Row};
 
 /// The rows that the request touches, or why it is refused whatever the balances are.
 ///

@@ -6,6 +6,7 @@ mod executing;
 mod fault;
 mod journal;
 pub mod laws;
+mod limits;
 mod opening;
 mod record;
 mod rows;
@@ -14,7 +15,8 @@ mod stripe;
 
 pub use applying::{apply, apply_two};
 pub use fault::StampFault;
+pub use limits::{MOST_PLACES, STRIPES};
 pub use opening::opening_stripe;
 pub use record::{AccessRecord, untouched};
-pub use span::{STRIPES, Span, span_of};
+pub use span::{Span, span_of};
 pub use stripe::Stripe;

@@ -4,8 +4,8 @@ ghost use Rattle.std.specs.Prelude.{◌≡◌, ◌*◌, ◌≤◌, ◌<◌, IfOk
 ghost use Rattle.eve_stamps.specs.Opening.{opening_row, opening_rows};
 
 use crate::Stripe;
-use crate::span::STRIPES;
-use eve_accounts::{Balances, Row};
+use crate::limits::STRIPES;
+use eve_accounts::{Balances, MOST_NAMES, Row};
 use eve_grammar::Restore;
 use std::alloc::{AllocError, Global};
 
@@ -16,7 +16,7 @@ pub fn opening_stripe(
     stripe: u32,
     customers: u32,
 ) -> Result<Stripe, AllocError>
-    requires few { customers ≤ 65536 }
+    requires few { customers ≤ MOST_NAMES }
     requires rows { length balances.now ≡ 2 * customers }
     ensures { IfOk result (λ s.
         s ≡ record { base = opening_rows balances.now stripe customers; journal = []; greatest = None }) }
@@ -32,7 +32,7 @@ fn opening_rows(
     stripe: u32,
     customers: u32,
 ) -> Result<Vec<Restore>, AllocError>
-    requires few { customers ≤ 65536 }
+    requires few { customers ≤ MOST_NAMES }
     requires rows { length balances.now ≡ 2 * customers }
     ensures { IfOk result (λ rows. rows.items ≡ opening_rows balances.now stripe customers) }
 {

@@ -5,16 +5,14 @@ ghost use Rattle.eve_smallbank.specs.SmallBank.{Request};
 ghost use Rattle.eve_smallbank.specs.Touch.{touched_of, rows_in};
 ghost use Rattle.eve_stamps.specs.Opening.{stripe_of, touches};
 
+use crate::limits::STRIPES;
 use eve_accounts::Row;
 use eve_smallbank::{Kind, UpToThree};
-
-/// How many stripes the rows of all customers lie in.
-pub const STRIPES: u32 = 16;
 
 /// The stripe in which the row lies: that of its customer.
 fn stripe_of(row: Row) -> usize
     ensures stripe { result ≡ stripe_of row }
-    ensures range { result < 16 }
+    ensures range { result < STRIPES }
 {
     (row.number() / 2 % STRIPES) as usize
 }
@@ -34,7 +32,7 @@ pub struct Span {
 /// docs/MODEL.md, "Schedule".
 pub fn span_of(rows: &UpToThree<(Row, Kind)>) -> Span
     ensures rising { result.first ≤ result.last }
-    ensures range { result.last < 16 }
+    ensures range { result.last < STRIPES }
     ensures exact { (names : List (List ℕ)) (request : Request) → rows.now ≡ rows_in (touched_of names request)
         → 0 < length rows.now → (stripe : ℕ)
         → touches rows.now stripe ≡ (result.first == stripe || result.last == stripe) }

@@ -5,7 +5,7 @@ ghost use Rattle.std.specs.List.{range_with_len};
 ghost use Rattle.eve_stamps.specs.Opening.{opening_rows, stripe_count};
 
 use crate::Stage;
-use eve_accounts::Balances;
+use eve_accounts::{Balances, MOST_NAMES};
 use eve_stamps::{AccessRecord, STRIPES, Stripe, opening_stripe};
 use std::alloc::{AllocError, Global};
 
@@ -15,7 +15,7 @@ pub fn opening_stripes(
     balances: &Balances,
     customers: u32,
 ) -> Result<Vec<Stripe>, AllocError>
-    requires few { customers ≤ 65536 }
+    requires few { customers ≤ MOST_NAMES }
     requires rows { length balances.now ≡ 2 * customers }
     ensures { IfOk result (λ stripes. stripes.items
         ≡ map (λ i. record { base = opening_rows balances.now i customers; journal = []; greatest = None })

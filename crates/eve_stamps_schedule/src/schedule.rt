@@ -9,7 +9,7 @@ ghost use Rattle.eve_stamps_schedule.specs.Schedule.{opening_plan, plan_of, worl
 use crate::opening::{all_idle, no_owners, no_records, opening_stripes};
 use crate::{Event, Stage, StepFault};
 use eve_accounts::{Balances, Names};
-use eve_stamps::{AccessRecord, Stripe};
+use eve_stamps::{AccessRecord, MOST_PLACES, Stripe};
 use eve_write::BatchData;
 use std::alloc::{AllocError, Global};
 use std::marker::Model;
@@ -55,7 +55,7 @@ impl<'s> Schedule<'s> {
         batch: &'s BatchData,
         workers: u8,
     ) -> Result<Schedule<'s>, AllocError>
-        requires requests { length batch.now.requests.items < 65536 }
+        requires requests { length batch.now.requests.items < MOST_PLACES }
         requires rows { length balances.now ≡ 2 * length names.now.items }
         ensures plan { IfOk result (λ s. plan_of s
             ≡ opening_plan names.now.items balances.now (plain batch.now) workers) }

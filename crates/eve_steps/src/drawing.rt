@@ -3,7 +3,7 @@
 ghost use Rattle.std.specs.Prelude.{◌≡◌, ◌≤◌};
 
 use crate::seen::Seen;
-use eve_recorder::{TicketSeat, TicketSeats, Tickets};
+use eve_recorder::{MOST_DRAWN, MOST_SEATS, TicketSeat, TicketSeats, Tickets};
 use std::alloc::{AllocError, Global};
 use std::thread::{Threads, join};
 
@@ -15,10 +15,10 @@ struct Counter {
     ghost own: { seats.tickets ≡ tickets },
 }
 
-/// Tickets with so many seats, at most 8, and so many numbers for each, at most 256. Where memory is refused, it is
-/// asked for once more.
+/// Tickets with so many seats, at most `MOST_SEATS`, and so many numbers for each, at most `MOST_DRAWN`. Where memory
+/// is refused, it is asked for once more.
 fn counter_of(alloc: Global, seats: u8, limit: u64) -> Result<Counter, AllocError> {
-    if 8 < seats || 256 < limit {
+    if MOST_SEATS < seats || MOST_DRAWN < limit {
         return Err(AllocError);
     }
     match fresh_counter(alloc, seats, limit) {
@@ -28,7 +28,7 @@ fn counter_of(alloc: Global, seats: u8, limit: u64) -> Result<Counter, AllocErro
 }
 
 fn fresh_counter(alloc: Global, seats: u8, limit: u64) -> Result<Counter, AllocError>
-    requires { (seats ≤ 8) × (limit ≤ 256) }
+    requires { (seats ≤ MOST_SEATS) × (limit ≤ MOST_DRAWN) }
 {
     let (tickets, seats) = Tickets::new(alloc, seats, limit)?;
     Ok(Counter { tickets, seats })

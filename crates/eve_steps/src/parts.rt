@@ -1,6 +1,7 @@
 //! Customers and batches, in few words.
 
 use eve_accounts::{Amount, Balances, Cents, Name, Names, Row};
+use eve_stamps::MOST_PLACES;
 use eve_stamps_schedule::Schedule;
 use eve_write::{BatchData, RequestData, TransactionData};
 use std::alloc::{AllocError, Global};
@@ -135,7 +136,7 @@ pub(crate) fn opened<'s>(
     batch: &'s BatchData,
     workers: u8,
 ) -> io::Result<Schedule<'s>> {
-    if 65536 <= batch.requests.len() {
+    if MOST_PLACES <= batch.requests.len() {
         return Err(stopped());
     }
     if balances.len() != 2 * names.len() {

@@ -3,7 +3,7 @@
 ghost use Rattle.std.specs.Prelude.{◌≡◌, ◌≤◌, ◌∷◌, ◌++◌, [], All, IfOk, IfSome, length};
 
 use crate::seen::Seen;
-use eve_recorder::{NoteFault, Recorder, Seats, TakerSeat, WorkerSeat};
+use eve_recorder::{MOST_QUEUED, MOST_SEATS, NoteFault, Recorder, Seats, TakerSeat, WorkerSeat};
 use eve_smallbank::Abort;
 use eve_stamps::{AccessRecord, untouched};
 use std::alloc::{AllocError, Global};
@@ -18,10 +18,10 @@ struct Desk {
     ghost own: { seats.recorder ≡ recorder.recorder },
 }
 
-/// A recorder for so many workers, at most 8, with so much room, at most 256. Where memory is refused, it is asked for
-/// once more.
+/// A recorder for so many workers, at most `MOST_SEATS`, with so much room, at most `MOST_QUEUED`. Where memory is
+/// refused, it is asked for once more.
 fn desk_of(alloc: Global, workers: u8, room: usize) -> Result<Desk, AllocError> {
-    if workers < 1 || 8 < workers || room < 1 || 256 < room {
+    if workers < 1 || MOST_SEATS < workers || room < 1 || MOST_QUEUED < room {
         return Err(AllocError);
     }
     match fresh_desk(alloc, workers, room) {
@@ -31,8 +31,8 @@ fn desk_of(alloc: Global, workers: u8, room: usize) -> Result<Desk, AllocError> 
 }
 
 fn fresh_desk(alloc: Global, workers: u8, room: usize) -> Result<Desk, AllocError>
-    requires workers { (1 ≤ workers) × (workers ≤ 8) }
-    requires room { (1 ≤ room) × (room ≤ 256) }
+    requires workers { (1 ≤ workers) × (workers ≤ MOST_SEATS) }
+    requires room { (1 ≤ room) × (room ≤ MOST_QUEUED) }
 {
     let (recorder, seats) = Recorder::new(alloc, workers, room)?;
     Ok(Desk { recorder, seats })

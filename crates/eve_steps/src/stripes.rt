@@ -4,7 +4,7 @@
 use crate::parts::{amount, cents, name_of};
 use crate::seen::Seen;
 use eve_accounts::{Names, Row};
-use eve_grammar::Restore;
+use eve_grammar::{MOST_VERSIONS, Restore};
 use eve_smallbank::{Abort, Entry, Kind, Reply, Request, UpToThree, touched};
 use eve_stamps::{AccessRecord, StampFault, Stripe, apply, apply_two, untouched};
 use std::alloc::{AllocError, Global};
@@ -35,8 +35,8 @@ fn of_one(
 
 fn stripe_of(alloc: Global, saving: Restore, checking: Restore) -> Result<Stripe, AllocError> {
     if checking.row.number() <= saving.row.number()
-        || 1 << 40 < saving.version
-        || 1 << 40 < checking.version
+        || MOST_VERSIONS < saving.version
+        || MOST_VERSIONS < checking.version
     {
         return Err(AllocError);
     }
@@ -181,11 +181,11 @@ pub fn settled_and_went_back(alloc: Global, names: &Names) -> io::Result<Seen> {
 pub fn worn_and_untouched(alloc: Global, names: &Names) -> io::Result<Seen> {
     let mut seen = Seen::nothing();
     let deposit = Request::DepositChecking(name_of(0), amount(500)?);
-    let mut worn = of_one(alloc, 0, 0, 0, 1 << 40)?;
+    let mut worn = of_one(alloc, 0, 0, 0, MOST_VERSIONS)?;
     let answer = run(&mut worn, names, &deposit, 5);
     seen.want(answer == Err(StampFault::Worn), "the row is worn");
-    let mut last = of_one(alloc, 0, 0, 0, (1 << 40) - 1)?;
-    let wanted = UpToThree::one(written(Row::checking(0), (1 << 40) - 1, 0, 500)?);
+    let mut last = of_one(alloc, 0, 0, 0, MOST_VERSIONS - 1)?;
+    let wanted = UpToThree::one(written(Row::checking(0), MOST_VERSIONS - 1, 0, 500)?);
     let made = run(&mut last, names, &deposit, 5);
     seen.want(is_made(made, 5, wanted), "a version before, it isn't");
     let refused = untouched(Abort::BadAmount, 6, 0, 0, 0);

@@ -1,8 +1,9 @@
 -- What `run` says of bytes.
-use Rattle.std.specs.Prelude.{◌≡◌, ℕ, ◌^◌, ◌<◌, ◌≤◌, List, length, ◌⊎◌, ⊤}
+use Rattle.std.specs.Prelude.{◌≡◌, ℕ, ◌<◌, ◌≤◌, List, length, ◌⊎◌, ⊤}
 use Rattle.eve_grammar.specs.Trace.{Trace, head_of}
 use Rattle.eve_grammar.specs.Spelling.{length_of}
 use Rattle.eve_grammar.specs.Limits.{HasLimits, Spells}
+use Rattle.eve_grammar.specs.declared.limits.TheConstants.{MOST_BYTES}
 use Rattle.eve_workload.specs.declared.mixer.Mixer.{Mixer}
 use Rattle.eve_workload.specs.Workload.{Workload, IsWorkload}
 use Rattle.eve_workload.specs.Workload.{head_of as head_asked}
@@ -36,7 +37,7 @@ pub record IsRunOfText (mixer : Mixer) (bytes : List ℕ) (parts : Parts) : Type
 
 -- how many bytes a workload and the trace of its run have at most
 abbrev pub longest : ℕ
-longest = 2 ^ 30
+longest = MOST_BYTES
 
 -- the bytes are a workload, and the text spells a trace of it, of `limit` bytes at most both; the exit status is 0
 pub record Runs (limit : ℕ) (mixer : Mixer) (bytes text : List ℕ) (status : ℕ) : Type 0 where

@@ -14,8 +14,8 @@ use crate::fault::ToolFault;
 use crate::lines::push_yes_line;
 use crate::random::random_words;
 use crate::sending::{send_fault, send_text};
-use crate::show::LONGEST_TRACE;
 use eve_audit::{Summary, Verdict};
+use eve_grammar::MOST_BYTES;
 use eve_recorder::OpenGate;
 use eve_streams::{Sink, Source, read_all};
 use eve_tool_arguments::WorkerCount;
@@ -95,7 +95,7 @@ pub(crate) fn audit<R: AllocGlobal + RandomSource + Threads + Wait + Sync, I: So
         (I.failures input.new ≡ after_failure (I.failures input.old)) out.old out.new) }
 {
     let alloc = rt.alloc();
-    let bytes = read_all(alloc, input, LONGEST_TRACE)?;
+    let bytes = read_all(alloc, input, MOST_BYTES as u32)?;
     let random = random_words(rt)?;
     audit_bytes(rt, alloc, bytes.as_slice(), workers, random, out)
 }

@@ -17,6 +17,7 @@ use crate::audit::audit;
 use crate::fault::ToolFault;
 use crate::run::run;
 use crate::show::show;
+use eve_grammar::MOST_AUDIT_WORKERS;
 use eve_streams::{Sink, Source, send_all};
 use eve_tool_arguments::{Asked, Call, read_words};
 use std::convert::AsStr;
@@ -116,7 +117,7 @@ pub fn serve<
     ensures run_whole { (name : List ℕ)
         → Calls (Run Mixer.Whole) (name ∷ codes "run" ∷ codes "--mixer" ∷ codes "whole" ∷ []) }
     ensures one_worker { (name : List ℕ) → workers_of (name ∷ codes "audit" ∷ []) ≡ Some 1 }
-    ensures workers { (name : List ℕ) (n : ℕ) → 1 ≤ n → n ≤ 16
+    ensures workers { (name : List ℕ) (n : ℕ) → 1 ≤ n → n ≤ MOST_AUDIT_WORKERS
         → AuditsBy n (name ∷ codes "audit" ∷ codes "--workers" ∷ decimal n ∷ []) }
     ensures help { (name : List ℕ) → GetsHelp (name ∷ codes "--help" ∷ []) }
 

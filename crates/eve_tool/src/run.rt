@@ -1,6 +1,6 @@
 //! The call `run`: a deployment serves a workload, and the trace of the run is written.
 
-ghost use Rattle.std.specs.Prelude.{◌≡◌, ◌≤◌, ◌<◌, ◌^◌, ◌⊎◌, Some, Err, length};
+ghost use Rattle.std.specs.Prelude.{◌≡◌, ◌≤◌, ◌<◌, ◌⊎◌, Some, Err, length};
 ghost use Rattle.std.specs.Prelude.{IfOk, IfErr, OnOk};
 ghost use Rattle.eve_grammar.specs.Spelling.{length_of, spelling};
 ghost use Rattle.eve_streams.specs.Failures.{after_failure};
@@ -14,6 +14,7 @@ ghost use Rattle.eve_tool.specs.Writes.{WritesAll, WritesAllOf};
 
 use crate::fault::ToolFault;
 use crate::random::random_words;
+use eve_grammar::MOST_BYTES;
 use eve_recorder::OpenGate;
 use eve_replica::eve_workload::{Mixer, Workload};
 use eve_streams::{Sink, Source, read_all};
@@ -23,13 +24,10 @@ use std::random::RandomSource;
 use std::sync::Wait;
 use std::thread::Threads;
 
-// How many bytes a workload and the trace of its run have at most.
-const LONGEST: u32 = 1 << 30;
-
 // Sends the trace of the parts, if it has at most so many bytes.
 fn send_trace<O: Sink>(parts: &Parts, limit: u32, out: &mut O) -> Result<(), ToolFault>
     requires spelled { HasSpelling parts.now }
-    requires limit { limit ≤ 2 ^ 30 }
+    requires limit { limit ≤ MOST_BYTES }
     ensures sent { OnOk result ((length_of (trace parts.now) ≤ limit)
         × Wrote O.written O.failures out.old out.new (spelling (trace parts.now))) }
     ensures long { result ≡ Err ToolFault.TooLong → (limit < length_of (trace parts.now))
@@ -71,7 +69,7 @@ fn run_bytes<R: RandomSource + Threads + Wait + Sync, O: Sink>(
     out: &mut O,
 ) -> Result<u8, ToolFault>
     requires short { length bytes.now ≤ limit }
-    requires limit { limit ≤ 2 ^ 30 }
+    requires limit { limit ≤ MOST_BYTES }
     ensures all { IfOk result (WritesAll (Runs limit mixer) bytes.now (O.written out.old)
         (O.written out.new)) }
     ensures status { IfOk result (λ status. status ≡ 0) }
@@ -96,7 +94,7 @@ pub fn run_within<R: AllocGlobal + RandomSource + Threads + Wait + Sync, I: Sour
     input: &mut I,
     out: &mut O,
 ) -> Result<u8, ToolFault>
-    requires { limit ≤ 2 ^ 30 }
+    requires { limit ≤ MOST_BYTES }
     ensures all { IfOk result (WritesAllOf (Runs limit mixer) (I.remaining input.old) (O.written out.old)
         (O.written out.new)) }
     ensures status { IfOk result (λ status. status ≡ 0) }
@@ -128,5 +126,5 @@ pub(crate) fn run<R: AllocGlobal + RandomSource + Threads + Wait + Sync, I: Sour
     ensures left { IfErr result (Leaves longest O.written O.failures (Run mixer) (I.remaining input.old)
         (I.failures input.new ≡ after_failure (I.failures input.old)) out.old out.new) }
 {
-    run_within(rt, mixer, LONGEST, input, out)
+    run_within(rt, mixer, MOST_BYTES as u32, input, out)
 }

@@ -16,12 +16,10 @@ ghost use Rattle.eve_tool.specs.Writes.{WritesAll, WritesAllOf};
 use crate::fault::ToolFault;
 use crate::lines::push_frame_line;
 use crate::sending::{send_fault, send_text};
+use eve_grammar::MOST_BYTES;
 use eve_streams::{Sink, Source, read_all};
 use eve_views::{CheckFault, Trace};
 use std::alloc::{AllocError, Global};
-
-// How many bytes a trace has at most.
-pub(crate) const LONGEST_TRACE: u32 = 1 << 30;
 
 // How many bytes of lines are sent together, about, and how many a line has at most.
 const ROOM: usize = 64 * 1024;
@@ -91,6 +89,6 @@ pub(crate) fn show<I: Source, O: Sink>(
     ensures left { IfErr result (Leaves longest O.written O.failures Show (I.remaining input.old)
         (I.failures input.new ≡ after_failure (I.failures input.old)) out.old out.new) }
 {
-    let bytes = read_all(alloc, input, LONGEST_TRACE)?;
+    let bytes = read_all(alloc, input, MOST_BYTES as u32)?;
     show_bytes(alloc, bytes.as_slice(), out)
 }

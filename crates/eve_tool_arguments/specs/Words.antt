@@ -14,6 +14,7 @@ use Rattle.eve_tool_arguments.specs.declared.words.Call.{Call}
 use Rattle.eve_tool_arguments.specs.declared.words.Call.TheVariants as call
 use Rattle.eve_tool_arguments.specs.declared.words.Asked.{Asked}
 use Rattle.eve_tool_arguments.specs.declared.words.Asked.TheVariants as asked
+use Rattle.eve_grammar.specs.declared.limits.TheConstants.{MOST_AUDIT_WORKERS}
 
 -- the program wants a subcommand
 abbrev pub program : App
@@ -26,7 +27,7 @@ workers = record (new_rule (codes "workers")) {
   long = Some (codes "workers");
   value_names = 1;
   defaults = codes "1" ∷ [];
-  parser = Some (vp.Signed (pos 1) (pos 16));
+  parser = Some (vp.Signed (pos 1) (pos MOST_AUDIT_WORKERS));
 }
 
 abbrev pub audit : Shape
@@ -72,9 +73,9 @@ abbrev pub number_named : Option Text → ℕ
 number_named (Some text) = byte_or_zero text
 number_named None = 0
 
--- how many workers are named among what was found: 1 to 16, since clap lets no other number pass
+-- how many workers are named among what was found: 1 to `MOST_AUDIT_WORKERS`, since clap lets no other number pass
 abbrev pub workers_in : List Row → ℕ
-workers_in rows = max 1 (min (number_named (value_in (codes "workers") rows)) 16)
+workers_in rows = max 1 (min (number_named (value_in (codes "workers") rows)) MOST_AUDIT_WORKERS)
 
 abbrev pub subcommand_named : Text × List Row → Option Subcommand
 subcommand_named found =

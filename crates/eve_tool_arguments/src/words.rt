@@ -10,6 +10,7 @@ ghost use Rattle.eve_tool_arguments.specs.Words.{workers_in};
 use crate::worker_count::WorkerCount;
 use clap::error::ErrorKind;
 use clap::{Arg, ArgMatches, Command, Error, value_parser};
+use eve_grammar::MOST_AUDIT_WORKERS;
 use eve_workload::Mixer;
 use std::alloc::{AllocError, Global};
 use std::convert::AsStr;
@@ -48,7 +49,7 @@ fn workers_argument<'a>(alloc: Global) -> Arg<'a>
     ensures rule { rule_of result ≡ workers }
     ensures local { result.global ≡ false }
 {
-    let parser = value_parser!(u8).range(1..=16);
+    let parser = value_parser!(u8).range(1..=MOST_AUDIT_WORKERS as i64);
     Arg::new(alloc, "workers")
         .long("workers")
         .value_name("N")

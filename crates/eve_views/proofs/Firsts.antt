@@ -37,6 +37,12 @@ not_less_or a b q h =
 
 -- ---- the order of faults
 
+pub up_to-trans : (f g h : Fault) → IsUpTo f g → IsUpTo g h → IsUpTo f h
+up_to-trans f g h (inl a) (inl b) = inl (omega (arith, a, b))
+up_to-trans f g h (inl a) (inr b) = inl (omega (arith, a, b.0))
+up_to-trans f g h (inr a) (inl b) = inl (omega (arith, a.0, b))
+up_to-trans f g h (inr a) (inr b) = inr (omega (arith, a.0, b.0), omega (arith, a.1, b.1))
+
 pub before_precedes : (f g : Fault) → is_before f g ≡ true → Precedes f g
 before_precedes f g h =
     elim (less_or (phase_of f.code) (phase_of g.code) (is_before_in_phase f g) h) [

@@ -15,4 +15,5 @@ pub mod CutLaws
 pub mod StartsAt
 pub mod StepLaws
 pub mod Firsts
+pub mod Lists
 pub mod FormDecided

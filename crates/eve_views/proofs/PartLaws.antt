@@ -13,6 +13,7 @@ use Rattle.eve_grammar.specs.Spelling.{sent_start, batches_start}
 use Rattle.eve_grammar.specs.Limits.{HasLimits, is_customer, is_batch, is_sent, is_vote, is_access}
 use Rattle.eve_grammar.specs.Gathering.{Gathered, nothing, gathered}
 use Rattle.eve_grammar.proofs.Gatherings.{gathered-votes, gathered-accesses, with_votes, with_accesses}
+use Rattle.eve_grammar.proofs.Grouping.{all_at}
 use Rattle.eve_frames.specs.Views.{is_batch_frame, is_sent_frame, batch_in, sent_in, Says}
 use Rattle.eve_frames.proofs.Rereading.{batch_again, sent_again}
 use Rattle.eve_grammar.proofs.FrameLaws.{small_head}
@@ -23,21 +24,6 @@ use Rattle.eve_views.proofs.Fronting.{frames_from_sections, frames_from_sent}
 use Rattle.eve_views.proofs.Locating.{IsPlaced, placed, length-located, batches_begin, sent_begin}
 
 -- ---- single items
-
-pub all_at : {A : Type 0} (test : A → Bool) (xs : List A) (i : ℕ) (x : A) → IsTrue (list_all test xs) → slice_get xs i
-    ≡ Some x → IsTrue (test x)
-all_at test [] i x all e = cc
-all_at test (y ∷ xs) zero x all e =
-    (let same : y ≡ x = cc in subst (λ z. IsTrue (test z)) same (and_first (test y) (list_all test xs) all))
-  where
-    and_first : (a b : Bool) → IsTrue (a && b) → IsTrue a
-    and_first true b t = refl
-    and_first false b t = absurd cc
-all_at test (y ∷ xs) (suc i) x all e = all_at test xs i x (and_second (test y) (list_all test xs) all) e
-  where
-    and_second : (a b : Bool) → IsTrue (a && b) → IsTrue b
-    and_second true b t = t
-    and_second false b t = absurd cc
 
 -- an item of a part, met at its frame
 pub record Met {A : Type 0} (frame : A → Frame) (test : A → Bool) (list : List (ℕ × A)) (i offset : ℕ)

@@ -1,4 +1,4 @@
--- Public: other crates cite these lemmas. The walk over the frames of a trace.
+-- The walk over the frames of a trace.
 use Rattle.std.proofs.Common.{◌≡◌, ℕ, suc, ◌+◌, ◌-◌, ◌<◌, ◌≤◌, true, List, [], ◌∷◌, ◌++◌, length, take, drop, Result}
 use Rattle.std.proofs.Common.{Ok, Err, refl, sym, ap, subst, ◌∙◌, append_assoc, add-zero, arith}
 use Rattle.std.specs.Prelude.{IsTrue, slice_index}

@@ -23,10 +23,12 @@ use Rattle.eve_votes.specs.declared.ballots.Ballot.{Ballot}
 use Rattle.eve_votes.specs.Decisions.{said, decision_in, IsKnown, Judging, IsUnnoted, Notes, IsBatchAt, IsClash}
 use Rattle.eve_votes.specs.Decisions.{IsFound, Agrees, AreDecisions}
 use Rattle.eve_votes.specs.declared.decisions.Decision.{Decision}
-use Rattle.eve_votes.proofs.Places.{place_at, get_place, all_at, located_get, length_located, numbered}
+use Rattle.eve_votes.proofs.Places.{place_at, get_place, located_get, numbered}
 use Rattle.eve_votes.proofs.InOrder.{fellow_is}
 use Rattle.eve_votes.proofs.Casting.{lower_at, lower_stands}
 use Rattle.eve_votes.proofs.Counting.{counted, decided_backs, one_token}
+use Rattle.eve_grammar.proofs.Grouping.{all_at}
+use Rattle.eve_views.proofs.Locating.{length-located}
 
 -- ---- the votes of a trace
 
@@ -38,7 +40,7 @@ vote_got t v i o w got = located_get (λ w. frame_text (OfVote w))
 
 pub vote_count : (t : Trace) (v : ℕ) → length (votes_at t v) ≡ length (votes_of t v)
 unfolding votes_at
-vote_count t v = length_located (λ w. frame_text (OfVote w)) (verifier_start t v + length (frame_text (OfVerifier v)))
+vote_count t v = length-located (λ w. frame_text (OfVote w)) (verifier_start t v + length (frame_text (OfVerifier v)))
     (votes_of t v)
 
 -- a vote within the limits: its batch is there, and a commit's token has 32 bytes

@@ -1,5 +1,5 @@
 -- Votes in order, and where those on a batch in a view begin.
-use Rattle.std.proofs.Common.{◌≡◌, ℕ, zero, suc, ◌+◌, ◌-◌, ◌<◌, ◌≤◌, Bool, true, false, cond, ltb, is_lt, nat_cmp, List}
+use Rattle.std.proofs.Common.{◌≡◌, ℕ, ◌+◌, ◌-◌, ◌<◌, ◌≤◌, Bool, true, false, cond, ltb, is_lt, nat_cmp, List}
 use Rattle.std.proofs.Common.{length, get_or, Some, refl, sym, ap, subst, ◌∙◌, arith, ◌⊎◌, inl, inr}
 use Rattle.std.specs.Prelude.{◌==◌, ◌&&◌, ◌||◌, slice_get}
 use Rattle.std.specs.declared.cmp.Ordering.TheVariants.{Less, Equal, Greater}
@@ -11,6 +11,7 @@ use Rattle.std.proofs.lemmas.Option.{slice_get-get_or, slice_get_within, get_or_
 use Rattle.eve_votes.specs.Ballots.{is_alike, is_fellow, is_at, is_lower, IsBefore, IsNotAfter, AreInOrder, IsStart}
 use Rattle.eve_votes.specs.Ballots.{Adjoin, Continues}
 use Rattle.eve_votes.specs.declared.ballots.Ballot.{Ballot}
+use Rattle.eve_views.proofs.Lists.{all_after}
 
 abbrev pub at : ℕ → ℕ → ℕ → Ballot
 at n view v = record { seq = n; view = view; verifier = v; place = 0 }
@@ -442,23 +443,5 @@ not_after_trans a b c ab bc = record {
 
 pub in_order : (xs : List Ballot) → ((k : ℕ) (d : Ballot) → k + 1 < length xs →
     not_less (get_or xs k d) (get_or xs (k + 1) d) ≡ false) → AreInOrder IsNotAfter xs
-in_order xs sorted i j a b less e f = subst (λ (x : Ballot). IsNotAfter a x) (get_or_from_slice_get xs j b a f)
-    (subst (λ (x : Ballot). IsNotAfter x (get_or xs j a)) (get_or_from_slice_get xs i a a e)
-    (reach j less (slice_get_within xs j b f)))
-  where
-    step : (k : ℕ) → k + 1 < length xs → IsNotAfter (get_or xs k a) (get_or xs (k + 1) a)
-    step k lt = not_after (get_or xs k a) (get_or xs (k + 1) a) (sorted k a lt)
-
-    far : (m : ℕ) → i + 1 + m < length xs → IsNotAfter (get_or xs i a) (get_or xs (i + 1 + m) a)
-    far zero lt = (let same : i + 1 + 0 ≡ i + 1 = omega arith in
-        subst (λ (n : ℕ). IsNotAfter (get_or xs i a) (get_or xs n a)) (sym same) (step i (omega arith)))
-    far (suc m) lt =
-        let same : i + 1 + suc m ≡ i + 1 + m + 1 = omega arith in
-        subst (λ (n : ℕ). IsNotAfter (get_or xs i a) (get_or xs n a)) (sym same)
-        (not_after_trans (get_or xs i a) (get_or xs (i + 1 + m) a) (get_or xs (i + 1 + m + 1) a) (far m (omega arith))
-        (step (i + 1 + m) (omega arith)))
-
-    reach : (n : ℕ) → i < n → n < length xs → IsNotAfter (get_or xs i a) (get_or xs n a)
-    reach n lt there =
-        let same : i + 1 + (n - (i + 1)) ≡ n = omega arith in
-        subst (λ (m : ℕ). IsNotAfter (get_or xs i a) (get_or xs m a)) same (far (n - (i + 1)) (omega arith))
+in_order xs sorted = all_after IsNotAfter not_after_trans xs
+    (λ k d lt. not_after (get_or xs k d) (get_or xs (k + 1) d) (sorted k d lt))

@@ -1,8 +1,8 @@
--- Public: other crates cite these lemmas. Places of a list, and what stands there.
-use Rattle.std.proofs.Common.{◌≡◌, ℕ, zero, suc, ◌+◌, Bool, true, false, List, [], ◌∷◌, ◌++◌, map, length, take, drop}
+-- Places of a list, and what stands there.
+use Rattle.std.proofs.Common.{◌≡◌, ℕ, zero, suc, ◌+◌, List, [], ◌∷◌, ◌++◌, map, length, take, drop}
 use Rattle.std.proofs.Common.{Option, Some, refl, sym, ap, subst, ◌∙◌, arith, ◌⊎◌, inl, inr, length-append, add-one}
-use Rattle.std.specs.Prelude.{slice_get, IsTrue, ◌&&◌}
-use Rattle.std.specs.List.{list_all, enumerate_from}
+use Rattle.std.specs.Prelude.{slice_get}
+use Rattle.std.specs.List.{enumerate_from}
 use Rattle.std.specs.Option.{option_map}
 use Rattle.eve_grammar.specs.Trace.{Batch}
 use Rattle.eve_grammar.specs.Spelling.{located}
@@ -67,21 +67,6 @@ take_next xs i x e = rw add-one (next xs i x e)
     next (y ∷ ys) zero x e = (let same : y ≡ x = cc in ap (λ z. z ∷ []) same)
     next (y ∷ ys) (suc i) x e = ap (λ (zs : List _). y ∷ zs) (next ys i x e)
 
-pub all_at : {A : Type 0} (test : A → Bool) (xs : List A) (i : ℕ) (x : A) → IsTrue (list_all test xs) → slice_get xs i
-    ≡ Some x → IsTrue (test x)
-all_at test [] i x all e = absurd cc
-all_at test (y ∷ xs) zero x all e =
-    (let same : y ≡ x = cc in subst (λ z. IsTrue (test z)) same (and_first (test y) (list_all test xs) all))
-  where
-    and_first : (a b : Bool) → IsTrue (a && b) → IsTrue a
-    and_first true b t = refl
-    and_first false b t = absurd cc
-all_at test (y ∷ xs) (suc i) x all e = all_at test xs i x (and_second (test y) (list_all test xs) all) e
-  where
-    and_second : (a b : Bool) → IsTrue (a && b) → IsTrue b
-    and_second true b t = t
-    and_second false b t = absurd cc
-
 -- ---- lists with byte offsets
 
 pub located_values : {A : Type 0} (text : A → List ℕ) (at : ℕ) (xs : List A) → map (λ w. w.1) (located text at xs) ≡ xs
@@ -93,10 +78,6 @@ pub located_get : {A : Type 0} (text : A → List ℕ) (at : ℕ) (xs : List A) 
 located_get text at [] i offset x e = absurd cc
 located_get {A} text at (y ∷ ys) zero offset x e = ap (λ (o : Option (ℕ × A)). option_map (λ (p : ℕ × A). p.1) o) e
 located_get text at (y ∷ ys) (suc i) offset x e = located_get text (at + length (text y)) ys i offset x e
-
-pub length_located : {A : Type 0} (text : A → List ℕ) (at : ℕ) (xs : List A) → length (located text at xs) ≡ length xs
-length_located text at [] = refl
-length_located text at (x ∷ xs) = ap suc (length_located text (at + length (text x)) xs)
 
 -- numbered batches
 pub numbered : (text : ℕ × Batch → List ℕ) (at first : ℕ) (bs : List Batch) (i : ℕ) (b : ℕ × (ℕ × Batch))

@@ -4,8 +4,10 @@ ghost use Rattle.std.specs.Prelude.{◌≡◌, ◌<◌, ◌≤◌, IsTrue, lengt
 ghost use Rattle.eve_floor.specs.Executing.{IsAt};
 
 use eve_floor::{ExecFault, Floor, Worker, execute, flush};
-use eve_recorder::{OpenGate, Recorder, TakerSeat, TicketSeat, Tickets, WorkerSeat};
-use eve_stamps::AccessRecord;
+use eve_recorder::{
+    MOST_DRAWN, MOST_QUEUED, OpenGate, Recorder, TakerSeat, TicketSeat, Tickets, WorkerSeat,
+};
+use eve_stamps::{AccessRecord, MOST_PLACES};
 use eve_write::BatchData;
 use std::alloc::{AllocError, Global};
 use std::mem;
@@ -37,7 +39,7 @@ struct Desk {
 }
 
 fn desk_of(alloc: Global, room: usize) -> Result<Desk, AllocError>
-    requires { (1 ≤ room) × (room ≤ 256) }
+    requires { (1 ≤ room) × (room ≤ MOST_QUEUED) }
 {
     let (recorder, mut seats) = Recorder::new(alloc, 2, room)?;
     let (Some(first), Some(second), Some(taker)) = (seats.worker(0), seats.worker(1), seats.taker())
@@ -63,7 +65,7 @@ struct Drawers {
 }
 
 fn drawers_of(alloc: Global, limit: u64) -> Result<Drawers, AllocError>
-    requires { limit ≤ 256 }
+    requires { limit ≤ MOST_DRAWN }
 {
     let (tickets, mut seats) = Tickets::new(alloc, 2, limit)?;
     let (Some(first), Some(second)) = (seats.seat(0), seats.seat(1)) else {
@@ -76,10 +78,10 @@ fn drawers_of(alloc: Global, limit: u64) -> Result<Drawers, AllocError>
     })
 }
 
-/// Workers 0 and 1, the first of them at hand: a queue with so much room, from 1 to 256, and so many numbers for each,
-/// at most 256.
+/// Workers 0 and 1, the first of them at hand: a queue with so much room, from 1 to `MOST_QUEUED`, and so many
+/// numbers for each, at most `MOST_DRAWN`.
 pub fn crew_of(alloc: Global, room: usize, limit: u64) -> Result<Crew, AllocError> {
-    if room < 1 || 256 < room || 256 < limit {
+    if room < 1 || MOST_QUEUED < room || MOST_DRAWN < limit {
         return Err(AllocError);
     }
     let desk = desk_of(alloc, room)?;
@@ -141,7 +143,7 @@ impl Crew {
 
 /// Whether the request is there, and the worker has a place for it.
 pub fn may_execute(worker: &Worker, batch: &BatchData, index: u16) -> bool
-    ensures { IsTrue result → (length worker.now.seat.noted < 65536) × (index < length batch.now.requests.items) }
+    ensures { IsTrue result → (length worker.now.seat.noted < MOST_PLACES) × (index < length batch.now.requests.items) }
 {
-    worker.place() < 65536 && usize::from(index) < batch.requests.len()
+    (worker.place() as usize) < MOST_PLACES && usize::from(index) < batch.requests.len()
 }

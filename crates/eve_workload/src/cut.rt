@@ -9,6 +9,7 @@ ghost use Rattle.eve_workload.specs.Cut.{one_more, IsCut};
 use crate::marks::RowMarks;
 use crate::seats::Seat;
 use eve_accounts::Row;
+use eve_grammar::MOST_REQUESTS;
 use eve_smallbank::{Kind, UpToThree};
 use std::alloc::{AllocError, Global};
 
@@ -37,7 +38,7 @@ impl Cut {
     /// Puts the next request, which touches these rows, into the first group that holds none in conflict with it, or
     /// into a new one at the end.
     pub(crate) fn place(&mut self, touched: &UpToThree<(Row, Kind)>) -> Result<(), AllocError>
-        requires few { length self.old.seats.items < 256 }
+        requires few { length self.old.seats.items < MOST_REQUESTS }
         requires cut { (rows : ℕ → Rows) × (groups : List (List ℕ)) ×
             (rows (length self.old.seats.items) ≡ touched.now) × IsCut self.old rows groups }
         ensures count { OnOk result (length self.new.seats.items ≡ length self.old.seats.items + 1) }
@@ -57,7 +58,7 @@ impl Cut {
 // Counts one more item in a group, or in a new one at the end, and says how many it had.
 fn add_to(sizes: &mut Vec<u16>, group: u16) -> Result<u16, AllocError>
     requires there { group ≤ length sizes.old.items }
-    requires small { slice_index sizes.old.items group < 256 }
+    requires small { slice_index sizes.old.items group < MOST_REQUESTS }
     ensures sizes { OnOk result (sizes.new.items ≡ one_more sizes.old.items group) }
     ensures had { IfOk result (λ had. had ≡ slice_index sizes.old.items group) }
 {

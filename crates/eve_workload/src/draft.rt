@@ -18,17 +18,10 @@ use crate::pairs::{Pair, Pairs};
 use crate::requests::add_owned;
 use crate::words::split_line;
 use eve_accounts::Name;
-use eve_grammar::Asked;
+use eve_grammar::{Asked, MOST_BATCHES, MOST_CUSTOMERS, MOST_REQUESTS};
 use eve_write::{CustomerData, RequestData};
 use std::alloc::{AllocError, Global};
 use std::collections::BTreeSet;
-
-const MOST_CUSTOMERS: usize = 4096;
-
-const MOST_BATCHES: usize = 65535;
-
-// Of one batch.
-const MOST_REQUESTS: u32 = 256;
 
 /// What the last line was.
 #[derive(Clone, Copy)]
@@ -134,7 +127,7 @@ impl<'a> Draft<'a> {
         if !self.last.takes_customer() {
             return Ok(false);
         }
-        if self.customers.len() >= MOST_CUSTOMERS {
+        if self.customers.len() >= MOST_CUSTOMERS as usize {
             return Ok(false);
         }
         let name = customer.name;
@@ -158,7 +151,7 @@ impl<'a> Draft<'a> {
         if !self.last.takes_batch() {
             return Ok(false);
         }
-        if self.starts.len() >= MOST_BATCHES {
+        if self.starts.len() >= MOST_BATCHES as usize {
             return Ok(false);
         }
         self.starts.push(self.requests.len() as u32)?;
@@ -175,7 +168,7 @@ impl<'a> Draft<'a> {
         if !self.last.takes_request() {
             return Ok(false);
         }
-        if self.count >= MOST_REQUESTS {
+        if self.count as usize >= MOST_REQUESTS {
             return Ok(false);
         }
         let pair = Pair {

@@ -3,6 +3,8 @@
 ghost use Rattle.std.specs.Prelude.{◌≡◌, ◌<◌, ◌==◌, ◌||◌, ℕ, true, false};
 ghost use Rattle.eve_workload.specs.GroupSets.{has};
 
+use eve_grammar::MOST_REQUESTS;
+
 /// Some of 256 groups, which are numbered from 0: a bit for each.
 #[derive(Clone, Copy)]
 pub(crate) struct GroupSet {
@@ -19,7 +21,7 @@ impl GroupSet {
 
     /// Takes a group in.
     pub(crate) fn add(&mut self, group: u16)
-        requires { group < 256 }
+        requires { group < MOST_REQUESTS }
         ensures { (other : ℕ) → has self.new other ≡ (has self.old other || (other == group)) }
     {
         self.words[group as usize / 64] |= 1 << (group % 64);

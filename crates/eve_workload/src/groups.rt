@@ -7,6 +7,7 @@ ghost use Rattle.eve_workload.specs.Groups.{rows_at, share_at, AreGroups};
 
 use crate::cut::Cut;
 use crate::seats::in_order;
+use eve_grammar::MOST_REQUESTS;
 use eve_smallbank::Touched;
 use std::alloc::{AllocError, Global};
 
@@ -19,7 +20,7 @@ pub(crate) struct Groups {
 
 /// Each request in the first group that holds none in conflict with it, or in a new one at the end.
 pub(crate) fn first_fit(alloc: Global, touched: &[Touched]) -> Result<Groups, AllocError>
-    requires { length touched.now ≤ 256 }
+    requires { length touched.now ≤ MOST_REQUESTS }
     ensures groups { IfOk result (λ g. AreGroups g.sizes.items g.order.items
         (first_fit (share_at (rows_at touched.now)) [] (range_with_len 0 (length touched.now)))) }
     ensures within { IfOk result (λ g. All (λ i. i < length touched.now) g.order.items) }

@@ -9,6 +9,7 @@ ghost use Rattle.eve_workload.specs.Marks.{bars_at, place_of, is_barred, IsEven,
 
 use crate::group_set::GroupSet;
 use eve_accounts::Row;
+use eve_grammar::MOST_REQUESTS;
 use eve_smallbank::{Kind, UpToThree};
 use indexmap::IndexSet;
 use std::alloc::{AllocError, Global};
@@ -117,7 +118,7 @@ impl RowMarks {
 
     /// Marks the rows at these spots as touched, or as written, in a group.
     pub(crate) fn mark(&mut self, spots: &UpToThree<Spot>, group: u16)
-        requires small { group < 256 }
+        requires small { group < MOST_REQUESTS }
         requires there { All (λ spot. spot.place < length self.old.marks.items) spots.now }
         ensures rows { self.new.rows ≡ self.old.rows }
         ensures len { length self.new.marks.items ≡ length self.old.marks.items }
@@ -132,7 +133,7 @@ impl RowMarks {
     }
 
     fn mark_at(&mut self, spot: Spot, group: u16)
-        requires small { group < 256 }
+        requires small { group < MOST_REQUESTS }
         requires there { spot.place < length self.old.marks.items }
         ensures rows { self.new.rows ≡ self.old.rows }
         ensures len { length self.new.marks.items ≡ length self.old.marks.items }

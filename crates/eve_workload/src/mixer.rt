@@ -13,6 +13,7 @@ use crate::groups::first_fit;
 use crate::lookups::{look_up, pick};
 use crate::requests::listed;
 use eve_accounts::Names;
+use eve_grammar::MOST_REQUESTS;
 use eve_smallbank::Touched;
 use eve_write::{BatchData, RequestData};
 use std::alloc::{AllocError, Global};
@@ -47,7 +48,7 @@ pub fn mix(
     mixer: Mixer,
 ) -> Result<BatchData, AllocError>
     requires some { 1 ≤ length requests.now }
-    requires few { length requests.now ≤ 256 }
+    requires few { length requests.now ≤ MOST_REQUESTS }
     ensures batch { IfOk result (λ b. batch b ≡ batch_of (cut names.now.items mixer (map asked requests.now))) }
     ensures each_once { IfOk result (λ b. IsPermutation (map asked requests.now) (batch b).requests) }
     ensures right { IfOk result (λ b.
@@ -68,7 +69,7 @@ pub fn mix_touched(
     mixer: Mixer,
 ) -> Result<MixedBatch, AllocError>
     requires some { 1 ≤ length requests.now }
-    requires few { length requests.now ≤ 256 }
+    requires few { length requests.now ≤ MOST_REQUESTS }
     ensures batch { IfOk result (λ m. batch m.batch ≡ batch_of (cut names.now.items mixer (map asked requests.now))) }
     ensures touched { IfOk result (λ m.
         m.touched.items ≡ map (λ a. touched_of names.now.items a.request) (batch m.batch).requests) }
@@ -87,7 +88,7 @@ fn cut_by(
     touched: Vec<Touched>,
     mixer: Mixer,
 ) -> Result<MixedBatch, AllocError>
-    requires few { length requests.now ≤ 256 }
+    requires few { length requests.now ≤ MOST_REQUESTS }
     requires each { length touched.items ≡ length requests.now }
     ensures { IfOk result (λ m. (names : List (List ℕ)) →
         touched.items ≡ map (touched_by names) (map asked requests.now) →
@@ -105,7 +106,7 @@ fn cut_first(
     requests: &[RequestData],
     touched: &[Touched],
 ) -> Result<MixedBatch, AllocError>
-    requires few { length touched.now ≤ 256 }
+    requires few { length touched.now ≤ MOST_REQUESTS }
     requires each { length touched.now ≡ length requests.now }
     ensures { IfOk result (λ m. (names : List (List ℕ)) →
         touched.now ≡ map (touched_by names) (map asked requests.now) →
@@ -129,7 +130,7 @@ fn cut_whole(
     requests: &[RequestData],
     touched: Vec<Touched>,
 ) -> Result<MixedBatch, AllocError>
-    requires few { length requests.now ≤ 256 }
+    requires few { length requests.now ≤ MOST_REQUESTS }
     ensures { IfOk result (λ m. (names : List (List ℕ)) →
         touched.items ≡ map (touched_by names) (map asked requests.now) →
         IsMixed names (map asked requests.now ∷ []) m) }

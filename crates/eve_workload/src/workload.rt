@@ -14,7 +14,7 @@ ghost use Rattle.eve_workload.specs.Drafts.{Keeps, KeepsAll};
 use crate::deployment::Deployment;
 use crate::draft::Draft;
 use crate::fault::WorkloadFault;
-use eve_grammar::Head;
+use eve_grammar::{Head, MOST_BATCHES, MOST_CUSTOMERS, MOST_REQUESTS};
 use eve_write::{CustomerData, RequestData};
 use std::alloc::Global;
 use std::marker::Model;
@@ -74,7 +74,7 @@ impl Workload {
     pub fn customers(&self) -> &[CustomerData]
         ensures customers { map customer result.now ≡ self.now.customers }
         ensures some { 1 ≤ length result.now }
-        ensures few { length result.now ≤ 4096 }
+        ensures few { length result.now ≤ MOST_CUSTOMERS }
         ensures right { IsTrue (list_all is_customer (map customer result.now)) }
         ensures differ { AllPairs (λ a b. a ≢ b) (names_of (map customer result.now)) }
     {
@@ -84,7 +84,7 @@ impl Workload {
     /// How many batches there are, at most 65,535.
     pub fn batches(&self) -> u32
         ensures batches { result ≡ length self.now.batches }
-        ensures few { result ≤ 65535 }
+        ensures few { result ≤ MOST_BATCHES }
     {
         self.starts.len() as u32
     }
@@ -95,7 +95,7 @@ impl Workload {
         requires there { n ≤ length self.now.batches }
         ensures batch { slice_get self.now.batches (n - 1) ≡ Some (map asked result.now) }
         ensures some { 1 ≤ length result.now }
-        ensures few { length result.now ≤ 256 }
+        ensures few { length result.now ≤ MOST_REQUESTS }
         ensures right { IsTrue (list_all is_asked (map asked result.now)) }
     {
         let starts = self.starts.as_slice();

@@ -20,7 +20,7 @@ use crate::measure::len_of_each;
 use crate::pieces::{put, send};
 use crate::spell::write_each;
 use arrayvec::ArrayVec;
-use eve_grammar::Head;
+use eve_grammar::{Head, MOST_REQUESTS};
 use eve_smallbank::Reply;
 use eve_streams::{SendFault, Sink};
 
@@ -92,7 +92,7 @@ impl AttemptData {
 }
 
 // How many bytes an Attempt frame has at most.
-const LONGEST_ATTEMPT: usize = 48 + 11 * 256;
+const LONGEST_ATTEMPT: usize = 48 + 11 * MOST_REQUESTS;
 
 /// Writes an Attempt frame, without the frames of its accesses.
 ///
@@ -137,7 +137,7 @@ impl AttemptData {
         indices_fit(self.certificate.as_slice());
         let count = self.certificate.len();
         1 <= count
-            && count <= 256
+            && count <= MOST_REQUESTS
             && self.replies.len() == count
             && all_right(self.replies.as_slice(), head)
     }

@@ -13,7 +13,7 @@ use crate::judge::{Judge, all_right};
 use crate::measure::Measure;
 use crate::request::{RequestData, len_of_requests};
 use crate::spell::{send_texts, write_each};
-use eve_grammar::Head;
+use eve_grammar::{Head, MOST_REQUESTS};
 use eve_streams::{SendFault, Sink};
 
 /// A batch of requests, in parallelBatches. Its number is its place among the batches, from 1.
@@ -95,7 +95,10 @@ impl Judge for BatchData {
     fn is_right(&self, head: &Head) -> bool {
         let sizes = self.sizes.as_slice();
         let total = total_of(sizes);
-        if sizes.is_empty() || total > 256 || self.requests.len() != total as usize {
+        if sizes.is_empty()
+            || total as usize > MOST_REQUESTS
+            || self.requests.len() != total as usize
+        {
             return false;
         }
         none_is_empty(sizes) && all_right(self.requests.as_slice(), head)

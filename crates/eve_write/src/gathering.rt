@@ -1,6 +1,6 @@
 //! Whole traces.
 
-ghost use Rattle.std.specs.Prelude.{◌≡◌, ◌≤◌, ◌<◌, ◌^◌, IfOk};
+ghost use Rattle.std.specs.Prelude.{◌≡◌, ◌≤◌, ◌<◌, IfOk};
 ghost use Rattle.eve_grammar.specs.Trace.{head_of};
 ghost use Rattle.eve_grammar.specs.Spelling.{length_of, spelling};
 ghost use Rattle.eve_grammar.specs.Bodies.{limits};
@@ -14,7 +14,7 @@ use crate::marks::write_end;
 use crate::parts::Parts;
 use crate::sections::{write_batches, write_sections, write_verifiers};
 use crate::spell::write_each;
-use eve_grammar::Head;
+use eve_grammar::{Head, MOST_BYTES};
 use eve_streams::{SendFault, Sink};
 
 /// Why parts were not written.
@@ -74,7 +74,7 @@ fn write_parts<W: Sink>(
 /// `Write` a front of the trace has been taken, and not all of it. The sink gets many small sends:
 /// `eve_streams::Buffered` gathers them.
 pub fn gather<W: Sink>(parts: &Parts, limit: u64, out: &mut W) -> Result<u64, GatherFault>
-    requires { limit ≤ 2 ^ 30 }
+    requires { limit ≤ MOST_BYTES }
     ensures length { IfOk result (λ n. (n ≡ length_of (trace parts.now)) × (n ≤ limit)) }
     ensures right { IfOk result (λ _. HasSpelling parts.now) }
     ensures written { IfOk result

@@ -16,7 +16,7 @@ use crate::measure::len_of_each;
 use crate::sent::SentData;
 use crate::step::Step;
 use crate::vote::VoteData;
-use eve_grammar::Head;
+use eve_grammar::{Head, MOST_BATCHES, MOST_CUSTOMERS, MOST_REPLICAS, MOST_VERIFIERS};
 
 /// All parts of a trace. What a header counts is how many there are of each here. Contracts see
 /// them by `trace`.
@@ -24,9 +24,9 @@ use eve_grammar::Head;
 pub struct Parts {
     /// How many votes decide: more than half of the verifiers, at most all.
     pub quorum: u8,
-    /// How many batches are attempted before the first is decided, 1 to 8.
+    /// How many batches are attempted before the first is decided, 1 to `MOST_WINDOW`.
     pub window: u8,
-    /// Workers of a replica, 1 to 8.
+    /// Workers of a replica, 1 to `MOST_WORKERS`.
     pub workers: u8,
     /// The customers.
     pub customers: Vec<CustomerData>,
@@ -47,10 +47,10 @@ impl Parts {
         ensures right { IfSome result (λ h. IsTrue (is_head (limits h))) }
         ensures wrong { IfNone result (is_head (head_of (trace self.now)) ≡ false) }
     {
-        if self.sections.len() > 8
-            || self.verifiers.len() > 16
-            || self.customers.len() > 4096
-            || self.batches.len() > 65535
+        if self.sections.len() > MOST_REPLICAS as usize
+            || self.verifiers.len() > MOST_VERIFIERS as usize
+            || self.customers.len() > MOST_CUSTOMERS as usize
+            || self.batches.len() > MOST_BATCHES as usize
         {
             return None;
         }

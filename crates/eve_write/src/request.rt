@@ -13,7 +13,7 @@ use crate::pieces::{put, send};
 use crate::spell::Spell;
 use arrayvec::ArrayVec;
 use eve_accounts::{Amount, Name};
-use eve_grammar::Head;
+use eve_grammar::{Head, MOST_REQUESTS};
 use eve_smallbank::Request;
 use eve_streams::{SendFault, Sink};
 
@@ -100,9 +100,9 @@ fn len_of_request(request: &RequestData) -> u32
     }
 }
 
-/// How long at most 256 requests are together in bytes.
+/// How long at most `MOST_REQUESTS` requests are together in bytes.
 pub(crate) fn len_of_requests(requests: &[RequestData]) -> u32
-    requires few { length requests.now ≤ 256 }
+    requires few { length requests.now ≤ MOST_REQUESTS }
     requires right { IsTrue (list_all (λ r. is_asked (asked r)) requests.now) }
     ensures len { result ≡ length (flat_map (λ r. asked_text (asked r)) requests.now) }
     ensures small { result ≤ 65536 }

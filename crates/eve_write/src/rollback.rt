@@ -11,7 +11,7 @@ ghost use Rattle.eve_write.specs.Writing.{Writes};
 
 use crate::judge::{Judge, all_right};
 use crate::spell::{send_texts, write_each};
-use eve_grammar::{Head, Restore};
+use eve_grammar::{Head, MOST_NAMED_ROWS, Restore};
 use eve_streams::{SendFault, Sink};
 
 /// The replica goes back to a committed number and on in the next view. Contracts see it by `rollback`.
@@ -28,7 +28,7 @@ pub struct RollbackData {
 impl RollbackData {
     // How long the body of its frame is.
     pub(crate) fn body_len(&self) -> u32
-        requires { length self.now.restores.items ≤ 131072 }
+        requires { length self.now.restores.items ≤ MOST_NAMED_ROWS }
         ensures { result ≡ length (body_text (OfRollback (plain self.now))) }
     {
         12 + 20 * self.restores.len() as u32
@@ -36,7 +36,7 @@ impl RollbackData {
 
     // Writes what stands before the restores.
     fn write_front<W: Sink>(&self, out: &mut W) -> Result<(), SendFault>
-        requires { length self.now.restores.items ≤ 131072 }
+        requires { length self.now.restores.items ≤ MOST_NAMED_ROWS }
         ensures { Writes W.written W.failures out.old out.new result
             (20 ∷ (big_bytes 4 (length (body_text (OfRollback (plain self.now))))
             ++ (big_bytes 4 self.now.to ++ (big_bytes 4 self.now.view
@@ -54,7 +54,7 @@ impl RollbackData {
 ///
 /// docs/TRACE.md, "Frames". After a fault a front of the frame has been taken, and not all of it.
 pub fn write_rollback<W: Sink>(out: &mut W, rollback: &RollbackData) -> Result<(), SendFault>
-    requires { length rollback.now.restores.items ≤ 131072 }
+    requires { length rollback.now.restores.items ≤ MOST_NAMED_ROWS }
     ensures { Writes W.written W.failures out.old out.new result (frame_text (OfRollback (plain rollback.now))) }
 {
     rollback.write_front(out)?;

@@ -18,12 +18,12 @@ use crate::measure::{Measure, len_of_each};
 use crate::spell::write_each;
 use crate::step::Step;
 use crate::vote::VoteData;
-use eve_grammar::Head;
+use eve_grammar::{Head, MOST_BATCHES, MOST_REPLICAS, MOST_VERIFIERS};
 use eve_streams::{SendFault, Sink};
 
 /// Writes batches, numbered from 1.
 pub(crate) fn write_batches<W: Sink>(out: &mut W, batches: &[BatchData]) -> Result<(), SendFault>
-    requires few { length batches.now ≤ 65535 }
+    requires few { length batches.now ≤ MOST_BATCHES }
     requires right { IsTrue (list_all (λ b. is_batch (batch b)) batches.now) }
     ensures { Writes W.written W.failures out.old out.new result
         (flat_map batch_text (enumerate_from 1 (map batch batches.now))) }
@@ -45,7 +45,7 @@ fn write_section<W: Sink>(out: &mut W, number: u8, steps: &[Step]) -> Result<(),
 
 /// Writes sections, numbered from 0.
 pub(crate) fn write_sections<W: Sink>(out: &mut W, sections: &[Vec<Step>]) -> Result<(), SendFault>
-    requires few { length sections.now ≤ 8 }
+    requires few { length sections.now ≤ MOST_REPLICAS }
     requires right { IsTrue (list_all (λ s. list_all fits_step s.items) sections.now) }
     ensures { Writes W.written W.failures out.old out.new result
         (flat_map section_text (enumerate_from 0 (map section sections.now))) }
@@ -70,7 +70,7 @@ pub(crate) fn write_verifiers<W: Sink>(
     out: &mut W,
     verifiers: &[Vec<VoteData>],
 ) -> Result<(), SendFault>
-    requires few { length verifiers.now ≤ 16 }
+    requires few { length verifiers.now ≤ MOST_VERIFIERS }
     requires right { IsTrue (list_all (λ v. list_all fits_vote v.items) verifiers.now) }
     ensures { Writes W.written W.failures out.old out.new result
         (flat_map votes_text (enumerate_from 0 (map votes verifiers.now))) }

@@ -5,8 +5,8 @@ use Rattle.eve_audit.proofs.Found.{all_push}
 use Rattle.eve_audit.proofs.slots.Slot.judge.Goals.{in-Ok, in-Err-Found}
 use Rattle.eve_audit.proofs.slots.Slot.judge.Goals as goal
 
-pub returns : goal.returns
-returns g c =
+pub returns-clause-found : goal.returns-clause-found
+returns-clause-found g c =
     let t = c.args.trace.now in
     let answer = c.match-judge_replica.answer in
     let is : IsAnswerOf t c.args.e answer = elim c.match-judge_replica.branch [

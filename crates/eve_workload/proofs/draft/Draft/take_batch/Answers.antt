@@ -2,8 +2,8 @@ use Rattle.std.proofs.Common.{◌≡◌, [], ◌∷◌, ◌++◌, length, ap, �
 use Rattle.eve_workload.proofs.Drafting.{batch_taken, batch_refused}
 use Rattle.eve_workload.proofs.draft.Draft.take_batch.Goals as goal
 
-pub returns-then-len-ge-MOST_BATCHES : goal.returns-then-len-ge-MOST_BATCHES
-returns-then-len-ge-MOST_BATCHES c = λ before keeps.
+pub returns-then-len : goal.returns-then-len
+returns-then-len c = λ before keeps.
     let count : c.len.result ≡ length c.args.self.now.starts.items = search rules in
     batch_refused c.args.self.now before (omega arith) keeps
 
