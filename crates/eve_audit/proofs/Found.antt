@@ -29,8 +29,8 @@ dealt_push workers xs room more x dealt worker of same added =
         elim (cases_lt w (length xs)) [
           | inl before ↦ subst (IsShareOf w) (sym (get_or_append_left xs (x ∷ []) d w before)) (dealt w d before)
           | inr last ↦ (
-            let here : length xs ≡ w = omega (arith, lt, last, length-append xs (x ∷ [])) in
-            subst (IsShareOf w) (sym (get_or_push xs x d w here)) (worker ∙ here, of))
+              let here : length xs ≡ w = omega (arith, lt, last, length-append xs (x ∷ [])) in
+              subst (IsShareOf w) (sym (get_or_push xs x d w here)) (worker ∙ here, of))
         ]
 
 module _ {A : Type 0} (P : A → Type 0) where
