@@ -13,7 +13,8 @@ use Rattle.std.proofs.lemmas.Option.{same_Some, slice_get_within, get_or_from_sl
 use Rattle.std.specs.Cmp.Lexicographic.{pointwise, same_text, other_text}
 use Rattle.std.specs.List.{list_any, position_or_len}
 use Rattle.eve_accounts.specs.declared.name_key.NameKey.{NameKey}
-use Rattle.eve_accounts.specs.Names.{is_name, same_name, customer_from, customer_of, NameList, IsNameList, CanTake}
+use Rattle.eve_accounts.specs.Names.{is_name, same_name, customer_named_from, customer_named, NameList, IsNameList}
+use Rattle.eve_accounts.specs.Names.{CanTake}
 
 -- ---- names that are the same
 
@@ -35,28 +36,30 @@ no_number : (n : ℕ) → ◌≡◌ {A = Option ℕ} None (Some n) → ⊥
 no_number n e = cc
 
 -- the number of a name is its place
-place_from : (c n : ℕ) (names : List (List ℕ)) (name : List ℕ) → customer_from c names name ≡ Some n → (i : ℕ)
+place_from : (c n : ℕ) (names : List (List ℕ)) (name : List ℕ) → customer_named_from c names name ≡ Some n → (i : ℕ)
     × (n ≡ c + i) × (slice_get names i ≡ Some name)
 place_from c n [] name e = absurd (no_number n e)
 place_from c n (first ∷ names) name e = by (same_name name first) refl (place_from (c + 1) n names name)
   where
     by : (b : Bool) → same_name name first ≡ b
-        → (customer_from (c + 1) names name ≡ Some n → (i : ℕ) × (n ≡ c + 1 + i) × (slice_get names i ≡ Some name))
+        → (customer_named_from (c + 1) names name ≡ Some n → (i : ℕ) × (n ≡ c + 1 + i)
+        × (slice_get names i ≡ Some name))
         → (i : ℕ) × (n ≡ c + i) × (slice_get (first ∷ names) i ≡ Some name)
     by true h rest =
         let is : ◌≡◌ {A = Option ℕ} (Some c) (Some n) =
-        sym (cond-true (same_name name first) (Some c) (customer_from (c + 1) names name) h) ∙ e in
+        sym (cond-true (same_name name first) (Some c) (customer_named_from (c + 1) names name) h) ∙ e in
         let same : c ≡ n = cc in
         (0, omega arith, ap Some (sym (same_name-true name first h)))
     by false h rest =
-        let later = rest (sym (cond-false (same_name name first) (Some c) (customer_from (c + 1) names name) h) ∙ e) in
+        let later = rest (sym (cond-false (same_name name first) (Some c) (customer_named_from (c + 1) names name) h)
+        ∙ e) in
         let i : ℕ = later.0 in
         let is : n ≡ c + 1 + i = later.1 in
         (suc i, omega arith, later.2)
 
-pub place_of_customer : (names : List (List ℕ)) (name : List ℕ) (n : ℕ) → customer_of names name ≡ Some n
+pub place_of_customer : (names : List (List ℕ)) (name : List ℕ) (n : ℕ) → customer_named names name ≡ Some n
     → slice_get names n ≡ Some name
-unfolding customer_of
+unfolding customer_named
 place_of_customer names name n e =
     let p = place_from 0 n names name e in
     let same : p.0 ≡ n = omega arith in
@@ -64,17 +67,17 @@ place_of_customer names name n e =
 
 -- where the names are distinct, the place of a name is its number
 number_from : (c i : ℕ) (names : List (List ℕ)) (name : List ℕ) → AllPairs (λ a b. a ≢ b) names → slice_get names i
-    ≡ Some name → customer_from c names name ≡ Some (c + i)
+    ≡ Some name → customer_named_from c names name ≡ Some (c + i)
 number_from c i [] name distinct e = absurd (no_name name e)
   where
     no_name : (name : List ℕ) → ◌≡◌ {A = Option (List ℕ)} None (Some name) → ⊥
     no_name name h = cc
 number_from c zero (first ∷ names) name distinct e =
-    cond-true (same_name name first) (Some c) (customer_from (c + 1) names name)
+    cond-true (same_name name first) (Some c) (customer_named_from (c + 1) names name)
     (same_name-itself name first (sym (same_Some first name e)))
     ∙ ap Some (sym (add-zero c))
 number_from c (suc i) (first ∷ names) name distinct e =
-    cond-false (same_name name first) (Some c) (customer_from (c + 1) names name)
+    cond-false (same_name name first) (Some c) (customer_named_from (c + 1) names name)
     (same_name-other name first (later (slice_get_within names i name e)))
     ∙ number_from (c + 1) i names name (λ j k d l m. distinct (suc j) (suc k) d (omega arith) (omega arith)) e
     ∙ ap Some (moved c i)
@@ -87,13 +90,13 @@ number_from c (suc i) (first ∷ names) name distinct e =
         (sym same ∙ sym (get_or_from_slice_get names i name name e))
 
 pub customer_at_place : (names : List (List ℕ)) (name : List ℕ) (n : ℕ) → AllPairs (λ a b. a ≢ b) names
-    → slice_get names n ≡ Some name → customer_of names name ≡ Some n
-unfolding customer_of
+    → slice_get names n ≡ Some name → customer_named names name ≡ Some n
+unfolding customer_named
 customer_at_place names name n distinct e = number_from 0 n names name distinct e ∙ ap Some (zero-add n)
 
 -- what an answer that is the customer's number says of the places
 pub number_is_place : (names : List (List ℕ)) (name : List ℕ) (result : Option ℕ) → AllPairs (λ a b. a ≢ b) names
-    → result ≡ customer_of names name
+    → result ≡ customer_named names name
     → (n : ℕ) → (result ≡ Some n) ↔ (slice_get names n ≡ Some name)
 number_is_place names name result distinct is n =
     (λ e. place_of_customer names name n (sym is ∙ e), λ e. is ∙ customer_at_place names name n distinct e)
@@ -123,13 +126,13 @@ is_key name key = pointwise nat_eq name (text key)
 
 -- the set's index of a name is the customer's number
 number_by_index : (c : ℕ) (keys : List NameKey) (name : List ℕ)
-    → customer_from c (map text keys) name ≡ cond (nat_lt (position_or_len (is_key name) keys) (length keys))
+    → customer_named_from c (map text keys) name ≡ cond (nat_lt (position_or_len (is_key name) keys) (length keys))
     (Some (c + position_or_len (is_key name) keys)) None
 number_by_index c [] name = refl
 number_by_index c (key ∷ keys) name =
-    ap (λ b. cond b (Some c) (customer_from (c + 1) (map text keys) name)) (is_eq-slice_cmp name (text key))
+    ap (λ b. cond b (Some c) (customer_named_from (c + 1) (map text keys) name)) (is_eq-slice_cmp name (text key))
     ∙ by (is_key name key) (position_or_len (is_key name) keys) (length keys)
-    (customer_from (c + 1) (map text keys) name) (number_by_index (c + 1) keys name)
+    (customer_named_from (c + 1) (map text keys) name) (number_by_index (c + 1) keys name)
   where
     moved : (c p : ℕ) → c + 1 + p ≡ c + (1 + p)
     moved c p = omega arith
@@ -145,10 +148,10 @@ number_by_index c (key ∷ keys) name =
           ∙ sym (cond-false (nat_lt (1 + p) (suc n)) (Some (c + (1 + p))) None (le-ltb (1 + p) (suc n) (omega arith)))
     ]
 
-pub customer_of-keys : (keys : List NameKey) (name : List ℕ) → customer_of (map text keys) name
+pub customer_named-keys : (keys : List NameKey) (name : List ℕ) → customer_named (map text keys) name
     ≡ position (is_key name) keys
-unfolding customer_of
-customer_of-keys keys name = number_by_index 0 keys name
+unfolding customer_named
+customer_named-keys keys name = number_by_index 0 keys name
     ∙ ap (λ n. cond (nat_lt (position_or_len (is_key name) keys) (length keys)) (Some n) None)
     (zero-add (position_or_len (is_key name) keys))
 

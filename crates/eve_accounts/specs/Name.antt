@@ -12,6 +12,6 @@ abbrev pub held : List ℕ → Inside
 held name = record { bytes = padded name; len = length name }
 
 -- what is true of every name that is held
-pub record IsHeld (n : Inside) : Type 0 where
+pub record IsHeldName (n : Inside) : Type 0 where
   pub name : IsTrue (is_name (name_of n))
   pub is : held (name_of n) ≡ n

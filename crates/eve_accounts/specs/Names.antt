@@ -5,6 +5,7 @@ use Rattle.std.specs.List.{list_all}
 use Rattle.std.specs.declared.cmp.Ordering.{Ordering}
 use Rattle.std.specs.Ordering.{nat_cmp, is_eq}
 use Rattle.std.specs.Cmp.Lexicographic.{slice_cmp}
+use Rattle.eve_accounts.specs.declared.limits.TheConstants.{MOST_NAMES, MOST_NAME_BYTES}
 
 -- a byte of printed ASCII, not a space
 abbrev pub is_printable : ℕ → Bool
@@ -12,11 +13,11 @@ is_printable byte = nat_le 33 byte && nat_le byte 126
 
 -- 1 to 24 printable bytes
 abbrev pub is_name : List ℕ → Bool
-is_name name = nat_le 1 (length name) && (nat_le (length name) 24 && list_all is_printable name)
+is_name name = nat_le 1 (length name) && (nat_le (length name) MOST_NAME_BYTES && list_all is_printable name)
 
 -- the bytes of a name, and zeros after them up to the 24 that a name may have
 abbrev pub padded : List ℕ → List ℕ
-padded name = name ++ replicate (24 - length name) 0
+padded name = name ++ replicate (MOST_NAME_BYTES - length name) 0
 
 -- the order of names, byte by byte
 abbrev pub name_cmp : List ℕ → List ℕ → Ordering
@@ -27,14 +28,14 @@ abbrev pub same_name : List ℕ → List ℕ → Bool
 same_name a b = is_eq (name_cmp a b)
 
 -- the number of the first customer of the name, of the customers from this number on
-abbrev pub customer_from : ℕ → List (List ℕ) → List ℕ → Option ℕ
-customer_from customer [] name = None
-customer_from customer (first ∷ names) name =
-    if same_name name first then Some customer else customer_from (customer + 1) names name
+abbrev pub customer_named_from : ℕ → List (List ℕ) → List ℕ → Option ℕ
+customer_named_from customer [] name = None
+customer_named_from customer (first ∷ names) name =
+    if same_name name first then Some customer else customer_named_from (customer + 1) names name
 
 -- a customer's number: the place of the name, from 0
-unfoldable pub customer_of : List (List ℕ) → List ℕ → Option ℕ
-customer_of names name = customer_from 0 names name
+unfoldable pub customer_named : List (List ℕ) → List ℕ → Option ℕ
+customer_named names name = customer_named_from 0 names name
 
 -- customers by number, and how many there may be
 pub record NameList : Type 0 where
@@ -46,7 +47,7 @@ pub record IsNameList (names : NameList) : Type 0 where
   pub named : All (λ name. IsTrue (is_name name)) names.items
   pub distinct : AllPairs (λ a b. a ≢ b) names.items
   pub within : length names.items ≤ names.limit
-  pub small : names.limit ≤ 65536
+  pub small : names.limit ≤ MOST_NAMES
 
 -- the name may be added: it is one, no customer has it, and there is room
 pub record CanTake (names : NameList) (name : List ℕ) : Type 0 where

@@ -22,11 +22,11 @@ impl Model for Name {
 
     ghost Value = { List ℕ };
 
-    ghost use Rattle.eve_accounts.specs.Name.{IsHeld, held, name_of};
+    ghost use Rattle.eve_accounts.specs.Name.{IsHeldName, held, name_of};
 
     ghost view = { name_of };
 
-    ghost invariant = { IsHeld };
+    ghost invariant = { IsHeldName };
 
     ghost inverse = { held };
 

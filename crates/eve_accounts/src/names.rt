@@ -3,7 +3,7 @@
 ghost use Rattle.std.specs.Prelude.{◌≡◌, ◌≤◌, ◌<◌, ◌↔◌, ◌++◌, ◌∷◌, [], ℕ, length, slice_get, Contains, IsTrue, IfSome};
 ghost use Rattle.std.specs.Prelude.{IfNone, IfOk, OnOk, OnErr, Err, Some, false};
 ghost use Rattle.std.specs.List.{list_all};
-ghost use Rattle.eve_accounts.specs.Names.{NameList, IsNameList, CanTake, is_printable, is_name, customer_of};
+ghost use Rattle.eve_accounts.specs.Names.{NameList, IsNameList, CanTake, is_printable, is_name, customer_named};
 
 use crate::keyed_hash::KeyedHash;
 use crate::limits::{MOST_NAME_BYTES, MOST_NAMES};
@@ -117,7 +117,7 @@ impl<'a> Names<'a> {
 
     /// The number of the name, or `None` where it is not there.
     pub fn number(&self, name: &[u8]) -> Option<u32>
-        ensures number { result ≡ customer_of self.now.items name.now }
+        ensures number { result ≡ customer_named self.now.items name.now }
         ensures place { (n : ℕ) → (result ≡ Some n) ↔ (slice_get self.now.items n ≡ Some name.now) }
         ensures absent { IfNone result (¬ Contains self.now.items name.now) }
         ensures within { IfSome result (λ n. n < length self.now.items) }

@@ -10,7 +10,7 @@ use Rattle.eve_views.specs.declared.fault.Code.{Code}
 use Rattle.eve_views.specs.declared.fault.Code.TheVariants as code
 use Rattle.eve_views.specs.declared.fault.Fault.{Fault}
 use Rattle.eve_views.specs.Form.{IsUpTo, IsLeast}
-use Rattle.eve_views.specs.Code.{number_of}
+use Rattle.eve_views.specs.Code.{code_number}
 use Rattle.eve_history.specs.Section.{Placed}
 use Rattle.eve_history.specs.SectionHistory.{SectionHistory, section_history, section_histories, history, committed_at}
 use Rattle.eve_history.specs.SectionHistory.{IsRightSection}
@@ -19,13 +19,14 @@ use Rattle.eve_chains.proofs.Linked.{last_committed, some_injective, none≢some
 use Rattle.eve_agree.proofs.TokensInOrder.{get_at_seam}
 use Rattle.eve_agree.specs.Agreement.{first_to_commit, HaveSameOutcome, ReplicasAgree, StandsInAgreement}
 use Rattle.eve_agree.specs.Agreement.{IsOutcomeFault}
-use Rattle.eve_agree.specs.Judging.{NoneBefore, Stand, IsUpToAt, Lowers, IsJudged, outcome_fault, lower}
+use Rattle.eve_agree.specs.Judging.{NoneBefore, Stand, IsUpToAt, KeepsFound, AgreesOrIsFound, outcome_fault}
+use Rattle.eve_agree.specs.Judging.{lower_outcome}
 use Rattle.eve_agree.proofs.Outcomes.{IsOf, last_told, section_history_at, committed_low, replica_there, first_there}
 use Rattle.eve_agree.proofs.Outcomes.{section_histories_count}
 
 -- ---- the lesser of two
 
-pub lower_lowers : (least : Option Fault) (at e : ℕ) → Lowers least (lower least at e)
+pub lower_lowers : (least : Option Fault) (at e : ℕ) → KeepsFound least (lower_outcome least at e)
 lower_lowers None at e to up = absurd up
 lower_lowers (Some f) at e to up = by (nat_le f.offset at) refl
   where
@@ -33,7 +34,7 @@ lower_lowers (Some f) at e to up = by (nat_le f.offset at) refl
     by true le = up
     by false le = (let more = leb-false f.offset at le in let is : f.offset ≤ to = up in omega arith)
 
-pub lower_here : (least : Option Fault) (at e : ℕ) → IsUpToAt (lower least at e) at
+pub lower_here : (least : Option Fault) (at e : ℕ) → IsUpToAt (lower_outcome least at e) at
 lower_here None at e = omega arith
 lower_here (Some f) at e = by (nat_le f.offset at) refl
   where
@@ -42,7 +43,7 @@ lower_here (Some f) at e = by (nat_le f.offset at) refl
     by false le = omega arith
 
 pub lower_stands : (t : Trace) (least : Option Fault) (at e : ℕ) → Stand t least → IsOutcomeFault t (outcome_fault at e)
-    → Stand t (lower least at e)
+    → Stand t (lower_outcome least at e)
 lower_stands t None at e stand is = (refl, is)
 lower_stands t (Some f) at e stand is = by (nat_le f.offset at)
   where
@@ -50,8 +51,8 @@ lower_stands t (Some f) at e stand is = by (nat_le f.offset at)
     by true = stand
     by false = (refl, is)
 
-pub judged_later : (t : Trace) (least now : Option Fault) (e n : ℕ) → Lowers least now → IsJudged t least e n
-    → IsJudged t now e n
+pub judged_later : (t : Trace) (least now : Option Fault) (e n : ℕ) → KeepsFound least now → AgreesOrIsFound t least e n
+    → AgreesOrIsFound t now e n
 judged_later t least now e n lowers judged p at =
     elim (judged p at) [ inl same ↦ inl same | inr up ↦ inr (lowers p.offset up) ]
 
@@ -91,24 +92,24 @@ differs t e f n at rs own first apart = by n own.item own.at own.offset_is first
         }
 
 pub judged_same : (t : Trace) (least : Option Fault) (e f n : ℕ) → first_to_commit t n ≡ Some f
-    → HaveSameOutcome t e f n → IsJudged t least e n
+    → HaveSameOutcome t e f n → AgreesOrIsFound t least e n
 judged_same t least e f n first same p at =
     inl (subst (λ (o : Option ℕ). IfSome o (λ g. HaveSameOutcome t e g n)) (sym first) same)
 
 pub judged_apart : (t : Trace) (least : Option Fault) (e n at : ℕ) (rs : List Reply) → IsOf t e n at rs
-    → IsJudged t (lower least at e) e n
+    → AgreesOrIsFound t (lower_outcome least at e) e n
 judged_apart t least e n at rs own p here =
     let same : p ≡ own.item = some_injective p own.item (sym here ∙ own.at) in
-    inr (subst (IsUpToAt (lower least at e)) (own.offset_is ∙ sym (ap (λ (q : Placed). q.offset) same))
+    inr (subst (IsUpToAt (lower_outcome least at e)) (own.offset_is ∙ sym (ap (λ (q : Placed). q.offset) same))
     (lower_here least at e))
 
 -- it didn't commit the batch
 pub judged_none : (t : Trace) (least : Option Fault) (e n : ℕ) → IsRightSection t e → (history t e).last < n
-    → IsJudged t least e n
+    → AgreesOrIsFound t least e n
 judged_none t least e n right less p at = absurd (let low = committed_low t e n p right at in omega arith)
 
 -- it is not there
-pub judged_missing : (t : Trace) (least : Option Fault) (e n : ℕ) → length t.sections ≤ e → IsJudged t least e n
+pub judged_missing : (t : Trace) (least : Option Fault) (e n : ℕ) → length t.sections ≤ e → AgreesOrIsFound t least e n
 judged_missing t least e n past p at = absurd (let there = replica_there t e n p at in omega arith)
 
 -- ---- one batch
@@ -116,8 +117,8 @@ judged_missing t least e n past p at = absurd (let there = replica_there t e n p
 -- of the replicas below this one, the batch is judged
 pub record InBatch (t : Trace) (before : Option Fault) (n e : ℕ) (least : Option Fault) : Type 0 where
   pub stand : Stand t least
-  pub lowers : Lowers before least
-  pub judged : (i : ℕ) → i < e → IsJudged t least i n
+  pub lowers : KeepsFound before least
+  pub judged : (i : ℕ) → i < e → AgreesOrIsFound t least i n
 
 module _ (t : Trace) (before : Option Fault) (n : ℕ) where
   pub batch_start : (f : ℕ) (hs : List SectionHistory) → hs ≡ section_histories t → ((e : ℕ) → IsRightSection t e)
@@ -139,19 +140,19 @@ module _ (t : Trace) (before : Option Fault) (n : ℕ) where
     ];
   }
 
-  pub batch_more : (e : ℕ) (least now : Option Fault) → InBatch t before n e least → Stand t now → Lowers least now
-      → IsJudged t now e n → InBatch t before n (e + 1) now
+  pub batch_more : (e : ℕ) (least now : Option Fault) → InBatch t before n e least → Stand t now → KeepsFound least now
+      → AgreesOrIsFound t now e n → InBatch t before n (e + 1) now
   batch_more e least now known stand lowers here = record {
     stand = stand;
     lowers = λ at up. lowers at (known.lowers at up);
     judged = λ i lt. elim (cases_lt i e) [
       | inl early ↦ judged_later t least now i n lowers (known.judged i early)
-      | inr late ↦ let same : i ≡ e = omega arith in subst (λ (j : ℕ). IsJudged t now j n) (sym same) here
+      | inr late ↦ let same : i ≡ e = omega arith in subst (λ (j : ℕ). AgreesOrIsFound t now j n) (sym same) here
     ];
   }
 
   pub batch_end : (e : ℕ) (least : Option Fault) → InBatch t before n e least → length t.sections ≤ e → (i : ℕ)
-      → IsJudged t least i n
+      → AgreesOrIsFound t least i n
   batch_end e least known past i =
       elim (cases_lt i e) [ inl there ↦ known.judged i there | inr missing ↦ judged_missing t least i n (omega arith) ]
 
@@ -160,19 +161,20 @@ module _ (t : Trace) (before : Option Fault) (n : ℕ) where
 -- the batches up to this one are judged
 pub record Judged (t : Trace) (n : ℕ) (least : Option Fault) : Type 0 where
   pub stand : Stand t least
-  pub judged : (e m : ℕ) → 1 ≤ m → m ≤ n → IsJudged t least e m
+  pub judged : (e m : ℕ) → 1 ≤ m → m ≤ n → AgreesOrIsFound t least e m
 
 module _ (t : Trace) where
   pub judged_start : Judged t 0 None
   judged_start = record { stand = tt; judged = λ e m one none. absurd (omega arith) }
 
-  pub judged_more : (n : ℕ) (least now : Option Fault) → Judged t n least → Stand t now → Lowers least now
-      → ((e : ℕ) → IsJudged t now e (n + 1)) → Judged t (n + 1) now
+  pub judged_more : (n : ℕ) (least now : Option Fault) → Judged t n least → Stand t now → KeepsFound least now
+      → ((e : ℕ) → AgreesOrIsFound t now e (n + 1)) → Judged t (n + 1) now
   judged_more n least now known stand lowers here = record {
     stand = stand;
     judged = λ e m one le. elim (cases_lt m (n + 1)) [
       | inl early ↦ judged_later t least now e m lowers (known.judged e m one (omega arith))
-      | inr late ↦ let same : m ≡ n + 1 = omega arith in subst (λ (k : ℕ). IsJudged t now e k) (sym same) (here e)
+      | inr late ↦ let same : m ≡ n + 1 = omega arith in subst (λ (k : ℕ). AgreesOrIsFound t now e k) (sym same)
+          (here e)
     ];
   }
 
@@ -180,7 +182,7 @@ module _ (t : Trace) where
   pub all_judged : (hs : List SectionHistory) (n most : ℕ) (least : Option Fault) → hs ≡ section_histories t
       → ((e : ℕ) → IsRightSection t e)
       → ((e : ℕ) (h : SectionHistory) → slice_get hs e ≡ Some h → h.committed ≤ most) → most ≤ n → Judged t n least
-      → (e m : ℕ) → IsJudged t least e m
+      → (e m : ℕ) → AgreesOrIsFound t least e m
   all_judged hs n most least told right none_past end known e zero p at = none≢some p at
   all_judged hs n most least told right none_past end known e (suc m) p at =
       let there = replica_there t e (suc m) p at in
@@ -195,7 +197,7 @@ module _ (t : Trace) where
   got_within (x ∷ xs) zero lt = (x, refl)
   got_within (x ∷ xs) (suc i) lt = got_within xs i (omega arith)
 
-  pub they_agree : ((e : ℕ) → IsRightSection t e) → ((e m : ℕ) → IsJudged t None e m) → ReplicasAgree t
+  pub they_agree : ((e : ℕ) → IsRightSection t e) → ((e m : ℕ) → AgreesOrIsFound t None e m) → ReplicasAgree t
   they_agree right judged e zero has = absurd (let one = has.0 in omega arith)
   they_agree right judged e (suc m) has =
       let le = has.1 in
@@ -209,7 +211,8 @@ module _ (t : Trace) where
   same_and_not (Some g) P same apart f is = apart same
 
   -- what was found is up to each place at which the outcome differs
-  up_to_each : (least : Option Fault) (e at : ℕ) → ((e : ℕ) → IsRightSection t e) → ((e m : ℕ) → IsJudged t least e m)
+  up_to_each : (least : Option Fault) (e at : ℕ) → ((e : ℕ) → IsRightSection t e)
+      → ((e m : ℕ) → AgreesOrIsFound t least e m)
       → StandsInAgreement code.Outcome t e at → IsUpToAt least at
   up_to_each least e at right judged place =
       let n = suc (length place.before) in
@@ -225,7 +228,7 @@ module _ (t : Trace) where
         | inr up ↦ subst (IsUpToAt least) place.holds.0 up
       ]
 
-  pub none_stands : ((e : ℕ) → IsRightSection t e) → ((e m : ℕ) → IsJudged t None e m) → (f : Fault)
+  pub none_stands : ((e : ℕ) → IsRightSection t e) → ((e m : ℕ) → AgreesOrIsFound t None e m) → (f : Fault)
       → ¬ IsOutcomeFault t f
   none_stands right judged f is = by f.code is.stands
     where
@@ -233,7 +236,8 @@ module _ (t : Trace) where
       by code.Outcome stands = up_to_each None is.replica f.offset right judged stands
       by c stands = absurd stands
 
-  pub is_least : (f : Fault) → ((e : ℕ) → IsRightSection t e) → ((e m : ℕ) → IsJudged t (Some f) e m) → Stand t (Some f)
+  pub is_least : (f : Fault) → ((e : ℕ) → IsRightSection t e) → ((e m : ℕ) → AgreesOrIsFound t (Some f) e m)
+      → Stand t (Some f)
       → IsLeast (IsOutcomeFault t) f
   is_least f right judged stand =
       record { is = stand.1; least = λ g is. by g.code g.offset g.replica is.replica is.stands }
@@ -242,7 +246,7 @@ module _ (t : Trace) where
           → IsUpTo f (record { code = c; offset = at; replica = r })
       by code.Outcome at r e stands =
           let le : f.offset ≤ at = up_to_each (Some f) e at right judged stands in
-          let number : number_of f.code ≡ number_of code.Outcome = ap number_of stand.0 in
+          let number : code_number f.code ≡ code_number code.Outcome = ap code_number stand.0 in
           elim (cases_lt f.offset at) [ inl lt ↦ inl lt | inr ge ↦ inr (omega arith, omega arith) ]
       by c at r e stands = absurd stands
 
@@ -260,7 +264,7 @@ only_first test (x ∷ y ∷ ys) f few is = absurd (omega arith)
 
 -- it is the first that committed what it committed
 pub alone_judged : (t : Trace) (hs : List SectionHistory) → hs ≡ section_histories t → length hs < 2 → (e n : ℕ)
-    → IsJudged t None e n
+    → AgreesOrIsFound t None e n
 alone_judged t hs told few e n p at = inl (by (first_to_commit t n) refl)
   where
     sections : length t.sections < 2

@@ -10,7 +10,7 @@ use Rattle.eve_history.specs.Faults.{RequestId, request_id}
 use Rattle.eve_chains.proofs.Linked.{some_injective, none≢some}
 use Rattle.eve_agree.specs.declared.request_ids.RequestId.{RequestId as Item}
 use Rattle.eve_agree.specs.SentReplies.{IsReplied}
-use Rattle.eve_agree.specs.Keeping.{request_id_of, kept_in, IsAnswer}
+use Rattle.eve_agree.specs.Keeping.{request_id_of, first_ids, AnswersAt}
 
 -- ---- places of lists
 
@@ -39,7 +39,7 @@ source f (x ∷ xs) (suc i) y at = let rest = source f xs i y at in
 
 -- ---- one index
 
-kept_past : (items : List Item) (count i : ℕ) (x : RequestId) → count ≤ i → slice_get (kept_in items count) i ≡ Some x
+kept_past : (items : List Item) (count i : ℕ) (x : RequestId) → count ≤ i → slice_get (first_ids items count) i ≡ Some x
     → ⊥
 kept_past items zero i x le at = none≢some x at
 kept_past [] (suc count) i x le at = none≢some x at
@@ -48,15 +48,15 @@ kept_past (y ∷ items) (suc count) (suc i) x le at = kept_past items count i x 
 
 -- an index past the requests, or past the replies, is no answer's
 pub past_requests : (items : List Item) (count i : ℕ) (replies : List Reply) (s : Sent) → count ≤ i
-    → ¬ IsAnswer (kept_in items count) replies s i
+    → ¬ AnswersAt (first_ids items count) replies s i
 past_requests items count i replies s le answer = kept_past items count i (s.client, s.number) le answer.request_id
 
 pub past_replies : (request_ids : List RequestId) (i : ℕ) (replies : List Reply) (s : Sent) → length replies ≤ i
-    → ¬ IsAnswer request_ids replies s i
+    → ¬ AnswersAt request_ids replies s i
 past_replies request_ids i replies s le answer = get_past replies i s.reply le answer.reply
 
 pub kept_at : (items : List Item) (count i : ℕ) (x : Item) → i < count → slice_get items i ≡ Some x
-    → slice_get (kept_in items count) i ≡ Some (request_id_of x)
+    → slice_get (first_ids items count) i ≡ Some (request_id_of x)
 kept_at items zero i x lt at = absurd (omega arith)
 kept_at [] (suc count) i x lt at = none≢some x at
 kept_at (y ∷ items) (suc count) zero x lt at = ap (λ (z : Item). Some (request_id_of z)) (some_injective y x at)
@@ -64,24 +64,24 @@ kept_at (y ∷ items) (suc count) (suc i) x lt at = kept_at items count i x (ome
 
 pub answer_here : (request_ids : List RequestId) (replies : List Reply) (s : Sent) (i : ℕ) (x : Item) (r : Reply)
     → slice_get request_ids i ≡ Some (request_id_of x) → slice_get replies i ≡ Some r
-    → x.client ≡ s.client → x.number ≡ s.number → r ≡ s.reply → IsAnswer request_ids replies s i
+    → x.client ≡ s.client → x.number ≡ s.number → r ≡ s.reply → AnswersAt request_ids replies s i
 answer_here request_ids replies s i x r at reply client number same = record {
   request_id = at ∙ (λ j. Some (client j, number j));
   reply = reply ∙ ap (λ (q : Reply). Some q) same;
 }
 
 pub client_of : (request_ids : List RequestId) (replies : List Reply) (s : Sent) (i : ℕ) (x : Item)
-    → slice_get request_ids i ≡ Some (request_id_of x) → IsAnswer request_ids replies s i → x.client ≡ s.client
+    → slice_get request_ids i ≡ Some (request_id_of x) → AnswersAt request_ids replies s i → x.client ≡ s.client
 client_of request_ids replies s i x at answer =
     ap (λ (y : ℕ × ℕ). y.0) (some_injective (request_id_of x) (s.client, s.number) (sym at ∙ answer.request_id))
 
 pub number_of : (request_ids : List RequestId) (replies : List Reply) (s : Sent) (i : ℕ) (x : Item)
-    → slice_get request_ids i ≡ Some (request_id_of x) → IsAnswer request_ids replies s i → x.number ≡ s.number
+    → slice_get request_ids i ≡ Some (request_id_of x) → AnswersAt request_ids replies s i → x.number ≡ s.number
 number_of request_ids replies s i x at answer =
     ap (λ (y : ℕ × ℕ). y.1) (some_injective (request_id_of x) (s.client, s.number) (sym at ∙ answer.request_id))
 
 pub reply_of : (request_ids : List RequestId) (replies : List Reply) (s : Sent) (i : ℕ) (r : Reply)
-    → slice_get replies i ≡ Some r → IsAnswer request_ids replies s i → r ≡ s.reply
+    → slice_get replies i ≡ Some r → AnswersAt request_ids replies s i → r ≡ s.reply
 reply_of request_ids replies s i r at answer = some_injective r s.reply (sym at ∙ answer.reply)
 
 -- ---- one reply sent
@@ -124,7 +124,7 @@ is_committed t e (suc n) v r a one is at same =
 
 pub replied_from : (t : Trace) (s : Sent) (replies : List Reply) (request_ids : List RequestId) (i : ℕ)
     → IsCommitted t s.replica s.seq replies → request_ids ≡ map request_id (batch_at t s.seq).requests
-    → IsAnswer request_ids replies s i → IsReplied t s
+    → AnswersAt request_ids replies s i → IsReplied t s
 replied_from t s replies request_ids i committed is answer =
     let a = source request_id (batch_at t s.seq).requests i (s.client, s.number)
     (ap (λ (xs : List RequestId). slice_get xs i) (sym is) ∙ answer.request_id) in
@@ -141,7 +141,7 @@ replied_from t s replies request_ids i committed is answer =
 
 pub answer_from : (t : Trace) (s : Sent) (replies : List Reply) (request_ids : List RequestId)
     → IsCommitted t s.replica s.seq replies → request_ids ≡ map request_id (batch_at t s.seq).requests
-    → IsReplied t s → (i : ℕ) × IsAnswer request_ids replies s i
+    → IsReplied t s → (i : ℕ) × AnswersAt request_ids replies s i
 answer_from t s replies request_ids committed is replied =
     let same : replied.placed ≡ committed.placed = some_injective replied.placed committed.placed
     (sym replied.committed ∙ committed.at) in (

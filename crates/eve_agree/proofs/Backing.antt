@@ -15,7 +15,7 @@ use Rattle.eve_frames.specs.declared.rollback.RollbackView.{RollbackView}
 use Rattle.eve_views.specs.StepKinds.{IsStep}
 use Rattle.eve_views.specs.declared.steps.Step as met
 use Rattle.eve_views.specs.declared.steps.Step.TheVariants as of
-use Rattle.eve_views.specs.Code.{number_of, phase_of}
+use Rattle.eve_views.specs.Code.{code_number, phase_of}
 use Rattle.eve_views.specs.Form.{IsUpTo, SomePlace, IsLeast}
 use Rattle.eve_views.specs.declared.fault.Code.{Code}
 use Rattle.eve_views.specs.declared.fault.Code.TheVariants as code
@@ -26,7 +26,8 @@ use Rattle.eve_history.specs.Faults.{OfCommit, OfRollback}
 use Rattle.eve_votes.specs.Votes.{IsDecided, IsRolledBack}
 use Rattle.eve_history.proofs.Places.{place_here, place_later, no_place, place_cases, located_rising, from_low}
 use Rattle.eve_agree.specs.Majority.{IsBacked, IsBackedSection, AllAreBacked, StandsInMajorities, IsMajorityFault}
-use Rattle.eve_agree.specs.Unbacked.{HasRoom, lacks, IsUnbacked, IsUnbackedIn, IsFirstIn, IsFirstBelow, IsFoundBelow}
+use Rattle.eve_agree.specs.Unbacked.{HasRoom, lacks, IsUnbacked, IsUnbackedIn, IsFirstUnbackedIn, IsFirstBelow}
+use Rattle.eve_agree.specs.Unbacked.{IsFirstUnbackedBelow}
 use Rattle.eve_views.specs.First.{first_of}
 use Rattle.eve_views.proofs.Firsts.{first_of_two, up_to_from}
 use Rattle.eve_history.proofs.Rights.{none_at}
@@ -214,15 +215,16 @@ left_next t e step left are backed =
       from = λ f place. are.from f (place_later (λ _ s. IsUnbacked t e s f) step left place);
     }
 
-same_code : (step : Step) (c d : Code) → lacks step c → lacks step d → number_of c ≤ number_of d
+same_code : (step : Step) (c d : Code) → lacks step c → lacks step d → code_number c ≤ code_number d
 same_code (Attempts a) c d one two = absurd one
-same_code (Commits x) c d one two = (let same : number_of c ≡ number_of d = ap number_of (one ∙ sym two) in omega arith)
+same_code (Commits x) c d one two =
+    (let same : code_number c ≡ code_number d = ap code_number (one ∙ sym two) in omega arith)
 same_code (RollsBack r) c d one two =
-    (let same : number_of c ≡ number_of d = ap number_of (one ∙ sym two) in omega arith)
+    (let same : code_number c ≡ code_number d = ap code_number (one ∙ sym two) in omega arith)
 
 -- one that isn't is the first fault
 pub left_fault : (t : Trace) (e : ℕ) (step : ℕ × Step) (left : List (ℕ × Step)) (f : Fault) → AreLeft t e (step ∷ left)
-    → IsUnbacked t e step f → IsFirstIn t e f
+    → IsUnbacked t e step f → IsFirstUnbackedIn t e f
 left_fault t e step left f are wrong = record {
   is = are.from f (place_here (λ _ s. IsUnbacked t e s f) step left wrong);
   first = λ g place. elim (place_cases (λ _ s. IsUnbacked t e s g) step left (are.to g place)) [
@@ -247,12 +249,12 @@ left_fault t e step left f are wrong = record {
 below_more : (k e : ℕ) → k < e + 1 → (k < e) ⊎ (k ≡ e)
 below_more k e lt = elim (cases_lt k e) [ inl less ↦ inl less | inr le ↦ inr (omega (arith, lt, le)) ]
 
-pub none_found : (t : Trace) → IsFoundBelow t 0 None
+pub none_found : (t : Trace) → IsFirstUnbackedBelow t 0 None
 none_found t = λ e lt. absurd (omega (arith, lt))
 
 -- this replica's section is backed
-pub none_more : (t : Trace) (e : ℕ) (first : Option Fault) → IsFoundBelow t e first → IsBackedSection t e
-    → IsFoundBelow t (e + 1) first
+pub none_more : (t : Trace) (e : ℕ) (first : Option Fault) → IsFirstUnbackedBelow t e first → IsBackedSection t e
+    → IsFirstUnbackedBelow t (e + 1) first
 none_more t e None found backed =
     λ k lt. elim (below_more k e lt) [
       | inl less ↦ found k less
@@ -270,7 +272,8 @@ none_more t e (Some f) found backed = record {
 }
 
 -- it has the first fault
-pub first_more : (t : Trace) (e : ℕ) (f : Fault) → IsFoundBelow t e None → IsFirstIn t e f → IsFirstBelow t (e + 1) f
+pub first_more : (t : Trace) (e : ℕ) (f : Fault) → IsFirstUnbackedBelow t e None → IsFirstUnbackedIn t e f
+    → IsFirstBelow t (e + 1) f
 first_more t e f none first = record {
   replica = e;
   below = omega arith;
@@ -282,7 +285,7 @@ first_more t e f none first = record {
 }
 
 -- it has one beside an earlier replica's
-pub both_more : (t : Trace) (e : ℕ) (f g h : Fault) → IsFirstBelow t e g → IsFirstIn t e f → (h ≡ g) ⊎ (h ≡ f)
+pub both_more : (t : Trace) (e : ℕ) (f g h : Fault) → IsFirstBelow t e g → IsFirstUnbackedIn t e f → (h ≡ g) ⊎ (h ≡ f)
     → IsUpTo h g → IsUpTo h f → IsFirstBelow t (e + 1) h
 both_more t e f g h found own which before after = by which
   where
@@ -317,9 +320,9 @@ unbacked_phase : (t : Trace) (e : ℕ) (f : Fault) → IsUnbackedIn t e f → ph
 unbacked_phase t e f place = lacking_phase place.item.1 f.code place.holds.lacking
 
 -- the first so far, with what was found in this replica's section
-pub found_more : (t : Trace) (e : ℕ) (first found : Option Fault) → IsFoundBelow t e first
-    → IfNone found (IsBackedSection t e) → IfSome found (IsFirstIn t e)
-    → IsFoundBelow t (e + 1) (first_of first found)
+pub found_more : (t : Trace) (e : ℕ) (first found : Option Fault) → IsFirstUnbackedBelow t e first
+    → IfNone found (IsBackedSection t e) → IfSome found (IsFirstUnbackedIn t e)
+    → IsFirstUnbackedBelow t (e + 1) (first_of first found)
 found_more t e None None before backed own = none_more t e None before backed
 found_more t e None (Some f) before backed own = first_more t e f before own
 found_more t e (Some g) None before backed own = none_more t e (Some g) before backed
@@ -333,13 +336,13 @@ found_more t e (Some g) (Some f) before backed own =
       | inr same
           ↦ ap (λ (x : Fault). phase_of x.code) same ∙ other
     ] in
-    subst (IsFoundBelow t (e + 1)) (sym two.1)
+    subst (IsFirstUnbackedBelow t (e + 1)) (sym two.1)
     (both_more t e f g two.0 before own two.2.one (up_to_from two.0 g (its ∙ sym one) two.2.before)
     (up_to_from two.0 f (its ∙ sym other) two.2.and_before))
 
 -- ---- all sections
 
-pub all_backed : (t : Trace) (n : ℕ) → length t.sections ≤ n → IsFoundBelow t n None → AllAreBacked t
+pub all_backed : (t : Trace) (n : ℕ) → length t.sections ≤ n → IsFirstUnbackedBelow t n None → AllAreBacked t
 all_backed t n many found e = elim (cases_lt e n) [
   | inl lt ↦ found e lt
   | inr ge ↦ subst (AllByRecursion (λ s. IsBacked t s.1)) (sym (none_at t e (omega arith))) tt

@@ -19,7 +19,7 @@ use Rattle.eve_grammar.specs.Limits.{is_rising}
 use Rattle.eve_chains.proofs.AlongLaws.{undone_is_before}
 use Rattle.eve_agree.specs.Tables.{entries_of}
 use Rattle.eve_agree.specs.Marking.{Marking, marking_of, unmarked, marked_count, seen_by, marked_once, marked}
-use Rattle.eve_agree.specs.Marking.{written_in, is_marked, has_row, taken, are_written_in}
+use Rattle.eve_agree.specs.Marking.{written_in, is_marked, restores_row, taken, are_written_in}
 
 some≢none : {A : Type 0} (x : A) → ◌≡◌ {A = Option A} (Some x) None → ⊥
 some≢none x e = cc
@@ -144,7 +144,7 @@ first_writes table xs follows = marked_requests table table [] xs (λ row none. 
 
 taken-more : (marks : Marking) (r : Restore) (rs : List Restore) → taken (taken marks (r ∷ [])) rs
     ≡ taken marks (r ∷ rs)
-taken-more marks r rs = fun_ext (λ row. exchange (r.row == row) (has_row row rs) (marks row))
+taken-more marks r rs = fun_ext (λ row. exchange (r.row == row) (restores_row row rs) (marks row))
   where
     exchange : (b c : Bool) (m : Option Versioned) → cond c None (cond (b || false) None m) ≡ cond (b || c) None m
     exchange true true m = refl
@@ -200,13 +200,14 @@ taking_next old now then all r rest taking is e =
 -- ---- exactly the rows that are written
 
 abbrev pub is_covered : List Restore → Entry → Bool
-is_covered rs e = not (is_write e.kind) || has_row e.row rs
+is_covered rs e = not (is_write e.kind) || restores_row e.row rs
 
 written_by : (e : Entry) → is_write e.kind ≡ true → writes_row e.row e ≡ true
 written_by e writes = and_from (is_write e.kind) (e.row == e.row) writes (eq-eqb e.row e.row refl)
 
 covered : (rs : List Restore) (es : List Entry)
-    → ((row : ℕ) → list_any (writes_row row) es ≡ true → has_row row rs ≡ true) → list_all (is_covered rs) es ≡ true
+    → ((row : ℕ) → list_any (writes_row row) es ≡ true → restores_row row rs ≡ true) → list_all (is_covered rs) es
+    ≡ true
 covered rs [] h = refl
 covered rs (e ∷ es) h = and_from (is_covered rs e) (list_all (is_covered rs) es)
     (elim (cases_Bool (is_write e.kind)) [
@@ -219,14 +220,15 @@ covered rs (e ∷ es) h = and_from (is_covered rs e) (list_all (is_covered rs) e
     either true c h = refl
     either false c h = h
 
-pub not_covered : (rs : List Restore) (row : ℕ) (es : List Entry) → has_row row rs ≡ false
+pub not_covered : (rs : List Restore) (row : ℕ) (es : List Entry) → restores_row row rs ≡ false
     → list_any (writes_row row) es ≡ true → list_all (is_covered rs) es ≡ false
 not_covered rs row [] none some = absurd (false≢true some)
 not_covered rs row (e ∷ es) none some = elim (or_cases (writes_row row e) (list_any (writes_row row) es) some) [
   | inl here ↦
       let parts = and_parts (is_write e.kind) (e.row == row) here in
       and_left (is_covered rs e) (list_all (is_covered rs) es)
-      (ap (λ (b : Bool). not b || has_row e.row rs) parts.0 ∙ ap (λ (n : ℕ). has_row n rs) (eqb-true e.row row parts.1)
+      (ap (λ (b : Bool). not b || restores_row e.row rs) parts.0 ∙ ap (λ (n : ℕ). restores_row n rs)
+      (eqb-true e.row row parts.1)
       ∙ none)
   | inr there ↦ and_right (is_covered rs e) (list_all (is_covered rs) es) (not_covered rs row es none there)
 ]
@@ -258,9 +260,10 @@ module _ (table : Table) (es : List Entry) where
   pub left_out : (rs : List Restore) (row : ℕ) → taken (written_in table es) rs row ≢ None → are_written_in table es rs
       ≡ false
   left_out rs row still = and_right (list_all is_written rs) (list_all (is_covered rs) es)
-      (by (has_row row rs) (list_any (writes_row row) es) refl refl)
+      (by (restores_row row rs) (list_any (writes_row row) es) refl refl)
     where
-      by : (b c : Bool) → has_row row rs ≡ b → list_any (writes_row row) es ≡ c → list_all (is_covered rs) es ≡ false
+      by : (b c : Bool) → restores_row row rs ≡ b → list_any (writes_row row) es ≡ c → list_all (is_covered rs) es
+          ≡ false
       by true c f g = absurd (still (ap (λ (x : Bool). cond x None (written_in table es row)) f))
       by false true f g = not_covered rs row es f g
       by false false f g = absurd
@@ -271,9 +274,10 @@ module _ (table : Table) (es : List Entry) where
   pub all_right : (rs : List Restore) → are_marked (written_in table es) rs ≡ true → taken (written_in table es) rs
       ≡ unmarked → are_written_in table es rs ≡ true
   all_right rs right none = and_from (list_all is_written rs) (list_all (is_covered rs) es)
-      (sym (all_written rs) ∙ right) (covered rs es (λ row some. by row (has_row row rs) refl some))
+      (sym (all_written rs) ∙ right) (covered rs es (λ row some. by row (restores_row row rs) refl some))
     where
-      by : (row : ℕ) (b : Bool) → has_row row rs ≡ b → list_any (writes_row row) es ≡ true → has_row row rs ≡ true
+      by : (row : ℕ) (b : Bool) → restores_row row rs ≡ b → list_any (writes_row row) es ≡ true
+          → restores_row row rs ≡ true
       by row true f g = f
       by row false f g = absurd (some≢none (table row)
           (ap (λ (x : Bool). cond x (Some (table row)) None) (sym g)

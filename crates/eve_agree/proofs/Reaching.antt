@@ -3,7 +3,7 @@ use Rattle.std.proofs.Common.{◌≡◌, ℕ, zero, suc, ◌+◌, ◌-◌, ◌<�
 use Rattle.std.proofs.Common.{set, Some, refl, sym, ap, subst, ◌∙◌, inl, inr, arith, get_or-set_same, get_or-set_other}
 use Rattle.std.proofs.lemmas.Bool.{cases_lt, cases_eq}
 use Rattle.std.proofs.lemmas.List.{length-set, length-append}
-use Rattle.eve_smallbank.specs.Access.{balance_at}
+use Rattle.eve_smallbank.specs.Access.{balance_of_row}
 use Rattle.eve_chains.proofs.Linked.{some_injective, none≢some}
 use Rattle.eve_chains.specs.Settling.{Settling, values_in}
 use Rattle.eve_agree.specs.Judging.{IsAfter, AreAfter}
@@ -28,7 +28,8 @@ pub opened_start : (settled : List Settling) → Opened settled 0 []
 opened_start settled = record { as_many = refl; each = λ e s lt got. absurd (omega arith) }
 
 pub opened_more : (settled : List Settling) (i : ℕ) (all after : List (List ℤ)) (s : Settling) (b : List ℤ)
-    → Opened settled i all → slice_get settled i ≡ Some s → length b ≡ length s.opening → balance_at b ≡ values_in s 0
+    → Opened settled i all → slice_get settled i ≡ Some s → length b ≡ length s.opening
+    → balance_of_row b ≡ values_in s 0
     → after ≡ all ++ b ∷ [] → Opened settled (i + 1) after
 opened_more settled i all after s b opened got rows values is = record {
   as_many = ap length is ∙ length-append all (b ∷ []) ∙ ap (λ (n : ℕ). n + 1) opened.as_many;

@@ -7,11 +7,11 @@ use Rattle.eve_grammar.specs.Limits.{is_batch}
 use Rattle.eve_history.specs.Faults.{RequestId, request_id}
 use Rattle.eve_grammar.proofs.Grouping.{few_requests}
 use Rattle.eve_agree.specs.declared.request_ids.RequestId.{RequestId as Item}
-use Rattle.eve_agree.specs.Keeping.{request_id_of, kept_in}
+use Rattle.eve_agree.specs.Keeping.{request_id_of, first_ids}
 
 -- what was read, and then what is still to come, are the requests
 pub record IsReading (own rest : List Asked) (items : List Item) (count : ℕ) : Type 0 where
-  pub kept : kept_in items count ++ map request_id rest ≡ map request_id own
+  pub kept : first_ids items count ++ map request_id rest ≡ map request_id own
   pub few : count + length rest ≤ 256
   pub long : length items ≡ 256
 
@@ -30,17 +30,17 @@ pub reading_more : (own rest : List Asked) (a : Asked) (items next : List Item) 
 reading_more own rest a items next count x m reading is set_is so long =
     let few : count + length (a ∷ rest) ≤ 256 = reading.few in
     let many : length items ≡ 256 = reading.long in
-    let step : kept_in next m ≡ kept_in items count ++ request_id a ∷ [] =
-    (λ i. kept_in (set_is i) (so i)) ∙ ap (map request_id_of) (take_more_set items count x (omega arith))
+    let step : first_ids next m ≡ first_ids items count ++ request_id a ∷ [] =
+    (λ i. first_ids (set_is i) (so i)) ∙ ap (map request_id_of) (take_more_set items count x (omega arith))
     ∙ map-append request_id_of (take count items) (x ∷ [])
-    ∙ ap (λ (y : ℕ × ℕ). kept_in items count ++ y ∷ []) is in
+    ∙ ap (λ (y : ℕ × ℕ). first_ids items count ++ y ∷ []) is in
     record {
       kept = ap (λ (ys : List RequestId). ys ++ map request_id rest) step
-          ∙ append_assoc (kept_in items count) (request_id a ∷ []) (map request_id rest) ∙ reading.kept;
+          ∙ append_assoc (first_ids items count) (request_id a ∷ []) (map request_id rest) ∙ reading.kept;
       few = omega arith;
       long = long;
     }
 
 pub reading_end : (own : List Asked) (items : List Item) (count : ℕ) → IsReading own [] items count
-    → kept_in items count ≡ map request_id own
-reading_end own items count reading = sym (append-nil (kept_in items count)) ∙ reading.kept
+    → first_ids items count ≡ map request_id own
+reading_end own items count reading = sym (append-nil (first_ids items count)) ∙ reading.kept

@@ -21,7 +21,7 @@ use Rattle.eve_frames.specs.declared.rollback.RollbackView.{RollbackView}
 use Rattle.eve_views.specs.StepKinds.{IsStep}
 use Rattle.eve_views.specs.declared.steps.Step as met
 use Rattle.eve_views.specs.declared.steps.Step.TheVariants as of
-use Rattle.eve_views.specs.Code.{number_of}
+use Rattle.eve_views.specs.Code.{code_number}
 use Rattle.eve_views.specs.Form.{IsUpTo, SomePlace, IsLeast}
 use Rattle.eve_views.specs.declared.fault.Code.{Code}
 use Rattle.eve_views.specs.declared.fault.Code.TheVariants as code
@@ -384,8 +384,8 @@ wrong_is_least t e at r rest first end judged sound wrong = record {
         (subst (Rising low) judged.split (steps_rising t e))
         (none_wrong t start judged.front (judged.rightly sound))
         (subst (λ (xs : List (ℕ × Step)). SomePlace xs (At g.offset (IsWrong t start))) judged.split stands) in
-        let same : number_of code.Restore ≤ number_of g.code =
-        subst (λ (d : Code). number_of code.Restore ≤ number_of d) (sym is) (omega arith) in
+        let same : code_number code.Restore ≤ code_number g.code =
+        subst (λ (d : Code). code_number code.Restore ≤ code_number d) (sym is) (omega arith) in
         elim (lesser at g.offset le) [ inl lt ↦ inl lt | inr eq ↦ inr (eq, same) ]
     by g _ is stands = absurd stands
 

@@ -17,7 +17,7 @@ use Rattle.eve_grammar.specs.Spelling.{steps_at}
 use Rattle.eve_history.specs.Section.{Placed, SectionState, start, path_of, committing, next, state_after}
 use Rattle.eve_chains.specs.Visible.{opening_table, execution, executions}
 use Rattle.eve_chains.specs.Committed.{attempts_of}
-use Rattle.eve_agree.specs.Marking.{has_row}
+use Rattle.eve_agree.specs.Marking.{restores_row}
 use Rattle.eve_agree.specs.Tables.{restored, worked, committed_rows, working_table, committed_table, IsRestored}
 use Rattle.eve_agree.specs.Tables.{entries_of, open_entries, is_right_restore, are_right_restores, all_restore_rightly}
 use Rattle.eve_agree.specs.Tables.{RestoresAreRight}
@@ -32,26 +32,26 @@ list_all_at p (x ∷ xs) h here = (and_parts (p x) (list_all p xs) h).0
 list_all_at p (y ∷ xs) h (there i) = list_all_at p xs (and_parts (p y) (list_all p xs) h).1 i
 
 -- a row that is not restored
-restored_not : (table : Table) (row : ℕ) (rs : List Restore) → has_row row rs ≡ false → restored table rs row
+restored_not : (table : Table) (row : ℕ) (rs : List Restore) → restores_row row rs ≡ false → restored table rs row
     ≡ table row
 restored_not table row [] h = refl
 restored_not table row (r ∷ rs) h =
-    let parts = or_parts (r.row == row) (has_row row rs) h in
+    let parts = or_parts (r.row == row) (restores_row row rs) h in
     restored_not (λ q. cond (r.row == q) (record { version = r.version; value = r.value }) (table q)) row rs parts.1
     ∙ ap (λ b. cond b (record { version = r.version; value = r.value }) (table row)) parts.0
 
 -- a restored row has what some restore of it says
-restored_row : (table : Table) (row : ℕ) (rs : List Restore) → has_row row rs ≡ true
+restored_row : (table : Table) (row : ℕ) (rs : List Restore) → restores_row row rs ≡ true
     → (r : Restore) × In r rs × (r.row ≡ row)
     × (restored table rs row ≡ record { version = r.version; value = r.value })
 restored_row table row [] h = absurd (false≢true h)
 restored_row table row (r ∷ rs) h =
     let set : Table = λ q. cond (r.row == q) (record { version = r.version; value = r.value }) (table q) in
-    elim (cases_Bool (has_row row rs)) [
+    elim (cases_Bool (restores_row row rs)) [
       | inl later ↦
           let rest = restored_row set row rs later in
           (rest.0, there rest.1, rest.2, rest.3)
-      | inr none ↦ elim (or_cases (r.row == row) (has_row row rs) h) [
+      | inr none ↦ elim (or_cases (r.row == row) (restores_row row rs) h) [
         | inl same ↦ (
           r,
           here,
@@ -83,7 +83,7 @@ module _ (t : Trace) (s : SectionState) (rs : List Restore) (right : are_right_r
   covers = (and_parts (list_all (is_right_restore t s) rs) (list_all (is_covered rs) (open_entries t s)) right).1
 
   -- a row without a restore was not written
-  not_written : (row : ℕ) → has_row row rs ≡ false → list_any (writes_row row) (open_entries t s) ≡ false
+  not_written : (row : ℕ) → restores_row row rs ≡ false → list_any (writes_row row) (open_entries t s) ≡ false
   not_written row none = elim (cases_Bool (list_any (writes_row row) (open_entries t s))) [
     | inl some ↦ absurd (false≢true (sym (not_covered rs row (open_entries t s) none some) ∙ covers))
     | inr nowhere ↦ nowhere
@@ -93,7 +93,7 @@ module _ (t : Trace) (s : SectionState) (rs : List Restore) (right : are_right_r
       ≡ committed_rows t s
   restored_rows = fun_ext (λ row.
       let work : Table = table_after_all (committed_rows t s) (executions t (attempts_of s.pending)) in
-      elim (cases_Bool (has_row row rs)) [
+      elim (cases_Bool (restores_row row rs)) [
         | inl some ↦
             let found = restored_row work row rs some in
             let own = and_parts (found.0.version == (committed_rows t s found.0.row).version)

@@ -8,7 +8,7 @@ use Rattle.eve_grammar.specs.Trace.{Sent, Step, Trace}
 use Rattle.eve_grammar.specs.Frames.{OfSent}
 use Rattle.eve_grammar.specs.Spelling.{frame_text, located, sent_start, sent_at}
 use Rattle.eve_grammar.specs.Limits.{is_sent, HasLimits}
-use Rattle.eve_views.specs.Code.{number_of}
+use Rattle.eve_views.specs.Code.{code_number}
 use Rattle.eve_views.specs.declared.fault.Code.{Code}
 use Rattle.eve_views.specs.declared.fault.Code.TheVariants as code
 use Rattle.eve_views.specs.declared.fault.Fault.{Fault}
@@ -98,7 +98,7 @@ first_fault t i o s f all at not is = subst (IsLeast (IsReplyFault t)) (sym is) 
         (subst (λ (xs : List (ℕ × Sent)). SomePlace xs (IsUnreplied t))
         (take_located (λ s. frame_text (OfSent s)) (sent_start t) i t.sent) place)
 
-    by : (to : ℕ) (c : Code) → StandsInReplies c t to → (o < to) ⊎ ((o ≡ to) × (90 ≤ number_of c))
+    by : (to : ℕ) (c : Code) → StandsInReplies c t to → (o < to) ⊎ ((o ≡ to) × (90 ≤ code_number c))
     by to code.Reply stands =
         let cut : sent_at t ≡ take i (sent_at t) ++ (o, s) ∷ drop (suc i) (sent_at t) =
         cut_at (sent_at t) i (o, s) at in

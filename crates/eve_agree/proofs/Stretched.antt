@@ -18,7 +18,7 @@ use Rattle.eve_chains.specs.Settling.{Settling, settling, values_in}
 use Rattle.eve_chains.proofs.Linked.{committed_number}
 use Rattle.eve_agree.specs.Judging.{IsAfter}
 use Rattle.eve_agree.specs.DueTokens.{due_token, TokensAreDue, StandsInTokens, IsTokenFault, IsDueIn, IsFirstWrong}
-use Rattle.eve_agree.specs.Stretches.{IsReady, IsJudged, Reaches, or_else, first_found}
+use Rattle.eve_agree.specs.Stretches.{IsReadyStretch, IsJudgedStretch, ReachesBatch, or_else, first_found}
 use Rattle.eve_agree.specs.declared.due_tokens.Stretch.{Stretch}
 use Rattle.eve_agree.proofs.Outcomes.{balances_are, commits_told}
 use Rattle.eve_agree.proofs.TokensInOrder.{batches_told, first_version, IsWrong, first_committed}
@@ -26,8 +26,8 @@ use Rattle.eve_agree.proofs.TokensInOrder.{batches_told, first_version, IsWrong,
 -- ---- one after another
 
 -- one more stretch
-pub reaches_more : (before mid : ℕ) (xs : List Stretch) (x : Stretch) → Reaches before mid xs → x.before ≡ mid →
-    Reaches before x.last (xs ++ x ∷ [])
+pub reaches_more : (before mid : ℕ) (xs : List Stretch) (x : Stretch) → ReachesBatch before mid xs → x.before ≡ mid →
+    ReachesBatch before x.last (xs ++ x ∷ [])
 reaches_more before mid [] x same at = (at ∙ sym same, refl)
 reaches_more before mid (y ∷ xs) x reaches at = (reaches.0, reaches_more y.last mid xs x reaches.1 at)
 
@@ -67,8 +67,8 @@ module _ (t : Trace) (e : ℕ) where
 
   -- of stretches that follow one another, each judged, the first that was found
   pub all_judged : (s : Settling) (before : ℕ) (xs ys : List Stretch) → length ys ≡ length xs →
-      Reaches before (length s.batches) xs → All (IsReady s) xs
-      → ((i : ℕ) (d : Stretch) → i < length xs → IsJudged t e (get_or xs i d) (get_or ys i d)) →
+      ReachesBatch before (length s.batches) xs → All (IsReadyStretch s) xs
+      → ((i : ℕ) (d : Stretch) → i < length xs → IsJudgedStretch t e (get_or xs i d) (get_or ys i d)) →
       (before ≤ length s.batches) × IsFirstWrong t e before (length s.batches) (first_found ys)
   all_judged s before [] [] same follow ready judged = (
     (let at = follow in omega arith),

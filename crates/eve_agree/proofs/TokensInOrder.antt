@@ -4,7 +4,7 @@ use Rattle.std.proofs.Common.{◌++◌, map, length, take, slice_get, Some, refl
 use Rattle.std.proofs.Common.{add-one, take_all}
 use Rattle.std.specs.List.{AllByRecursion}
 use Rattle.std.proofs.lemmas.List.{length-map, map-append, take_more}
-use Rattle.eve_smallbank.specs.Access.{balance_at}
+use Rattle.eve_smallbank.specs.Access.{balance_of_row}
 use Rattle.eve_smallbank.specs.declared.request.Reply.{Reply}
 use Rattle.eve_grammar.specs.Trace.{Customer, Attempt, Step, Attempts, Commits, RollsBack, Trace}
 use Rattle.eve_grammar.specs.Frames.{OfReplica}
@@ -70,14 +70,14 @@ get_at_seam (y ∷ xs) x ys = get_at_seam xs x ys
 
 -- ---- all balances
 
-rows_to : (b : List ℤ) (n : ℕ) → n ≤ length b → take n b ≡ first_rows n (balance_at b)
+rows_to : (b : List ℤ) (n : ℕ) → n ≤ length b → take n b ≡ first_rows n (balance_of_row b)
 rows_to b zero le = refl
 rows_to b (suc n) le =
     ap (λ (m : ℕ). take m b) (sym (add-one n)) ∙ take_more b n (pos 0) (omega arith)
-    ∙ ap (λ (xs : List ℤ). xs ++ balance_at b n ∷ []) (rows_to b n (omega arith))
+    ∙ ap (λ (xs : List ℤ). xs ++ balance_of_row b n ∷ []) (rows_to b n (omega arith))
 
 -- a list of balances is that of its rows
-pub rows_are : (b : List ℤ) → b ≡ first_rows (length b) (balance_at b)
+pub rows_are : (b : List ℤ) → b ≡ first_rows (length b) (balance_of_row b)
 rows_are b = sym (take_all (length b) b (omega arith)) ∙ rows_to b (length b) (omega arith)
 
 opening_length : (customers : List Customer) → length (opening_rows customers) ≡ 2 * length customers

@@ -37,7 +37,7 @@ abbrev pub IsDueIn : Trace → ℕ → ℕ → Type 0
 IsDueIn t e n = (p : Placed) → committed_at t e n ≡ Some p → p.attempt.token ≡ due_token t e p
 
 -- batch n is the first, after those up to `before`, whose attempt has another token, and stands at this offset
-pub record IsWrongIn (t : Trace) (e before last at : ℕ) : Type 0 where
+pub record IsFirstWrongToken (t : Trace) (e before last at : ℕ) : Type 0 where
   pub n : ℕ
   pub low : before < n
   pub high : n ≤ last
@@ -50,4 +50,4 @@ pub record IsWrongIn (t : Trace) (e before last at : ℕ) : Type 0 where
 -- where replica e's first wrong token of these batches stands, if there is one
 abbrev pub IsFirstWrong : Trace → ℕ → ℕ → ℕ → Option ℕ → Type 0
 IsFirstWrong t e before last None = (n : ℕ) → before < n → n ≤ last → IsDueIn t e n
-IsFirstWrong t e before last (Some at) = IsWrongIn t e before last at
+IsFirstWrong t e before last (Some at) = IsFirstWrongToken t e before last at

@@ -1,7 +1,7 @@
 -- What is kept while the batches are judged one after another.
 use Rattle.std.specs.Prelude.{◌≡◌, ℕ, ℤ, ◌≤◌, ◌<◌, nat_le, if◌then◌else◌, List, [], length, Option, Some, None, IfSome}
 use Rattle.std.specs.Prelude.{slice_get, slice_index_or, ◌⊎◌}
-use Rattle.eve_smallbank.specs.Access.{balance_at}
+use Rattle.eve_smallbank.specs.Access.{balance_of_row}
 use Rattle.eve_grammar.specs.Trace.{Trace}
 use Rattle.eve_views.specs.declared.fault.Code.TheVariants as code
 use Rattle.eve_views.specs.declared.fault.Fault.{Fault}
@@ -13,7 +13,7 @@ use Rattle.eve_agree.specs.Agreement.{first_to_commit, HaveSameOutcome, IsOutcom
 -- the balances are those after the first n batches of the replica, or after all where it has fewer
 pub record IsAfter (s : Settling) (n : ℕ) (balances : List ℤ) : Type 0 where
   pub rows : length balances ≡ length s.opening
-  pub values : balance_at balances ≡ values_in s n
+  pub values : balance_of_row balances ≡ values_in s n
 
 -- those of each replica are
 pub record AreAfter (settled : List Settling) (n : ℕ) (all : List (List ℤ)) : Type 0 where
@@ -34,12 +34,12 @@ IsUpToAt None at = ⊥
 IsUpToAt (Some f) at = f.offset ≤ at
 
 -- what was found stays found, or something before it
-abbrev pub Lowers : Option Fault → Option Fault → Type 0
-Lowers least now = (at : ℕ) → IsUpToAt least at → IsUpToAt now at
+abbrev pub KeepsFound : Option Fault → Option Fault → Type 0
+KeepsFound least now = (at : ℕ) → IsUpToAt least at → IsUpToAt now at
 
 -- where replica e committed batch n it has the outcome of the first that did, or something was found there or before
-abbrev pub IsJudged : Trace → Option Fault → ℕ → ℕ → Type 0
-IsJudged t least e n = (p : Placed) → committed_at t e n ≡ Some p
+abbrev pub AgreesOrIsFound : Trace → Option Fault → ℕ → ℕ → Type 0
+AgreesOrIsFound t least e n = (p : Placed) → committed_at t e n ≡ Some p
     → IfSome (first_to_commit t n) (λ f. HaveSameOutcome t e f n) ⊎ IsUpToAt least p.offset
 
 -- a fault of replica e at this offset
@@ -47,6 +47,6 @@ abbrev pub outcome_fault : ℕ → ℕ → Fault
 outcome_fault at e = record { code = code.Outcome; offset = at; replica = Some e }
 
 -- the lesser of what was found and a fault of replica e at this offset
-abbrev pub lower : Option Fault → ℕ → ℕ → Option Fault
-lower None at e = Some (outcome_fault at e)
-lower (Some f) at e = if nat_le f.offset at then Some f else Some (outcome_fault at e)
+abbrev pub lower_outcome : Option Fault → ℕ → ℕ → Option Fault
+lower_outcome None at e = Some (outcome_fault at e)
+lower_outcome (Some f) at e = if nat_le f.offset at then Some f else Some (outcome_fault at e)

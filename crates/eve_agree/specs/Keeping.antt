@@ -1,6 +1,7 @@
 -- The requests of one batch, as they are kept, and what a reply is to one of them.
 use Rattle.std.specs.Prelude.{◌≡◌, ℕ, ◌≤◌, List, map, take, Some, slice_get}
 use Rattle.eve_smallbank.specs.declared.request.Reply.{Reply}
+use Rattle.eve_grammar.specs.declared.limits.TheConstants.{MOST_REQUESTS}
 use Rattle.eve_grammar.specs.Trace.{Sent, Trace}
 use Rattle.eve_history.specs.Section.{batch_at}
 use Rattle.eve_history.specs.Faults.{RequestId, request_id}
@@ -11,18 +12,18 @@ abbrev pub request_id_of : Item → RequestId
 request_id_of x = (x.client, x.number)
 
 -- the clients and numbers of the first so many
-abbrev pub kept_in : List Item → ℕ → List RequestId
-kept_in items count = map request_id_of (take count items)
+abbrev pub first_ids : List Item → ℕ → List RequestId
+first_ids items count = map request_id_of (take count items)
 
-abbrev pub kept : RequestIds → List RequestId
-kept k = kept_in k.items k.count
+abbrev pub kept_ids : RequestIds → List RequestId
+kept_ids k = first_ids k.items k.count
 
 -- at this index stands the request that is answered, and the reply that was sent
-pub record IsAnswer (request_ids : List RequestId) (replies : List Reply) (s : Sent) (index : ℕ) : Type 0 where
+pub record AnswersAt (request_ids : List RequestId) (replies : List Reply) (s : Sent) (index : ℕ) : Type 0 where
   pub request_id : slice_get request_ids index ≡ Some (s.client, s.number)
   pub reply : slice_get replies index ≡ Some s.reply
 
 -- what is kept is what the requests of the batch at hand say, if there is one
 pub record AreOf (t : Trace) (k : RequestIds) : Type 0 where
-  pub few : k.count ≤ 256
-  pub request_ids : 1 ≤ k.batch → kept k ≡ map request_id (batch_at t k.batch).requests
+  pub few : k.count ≤ MOST_REQUESTS
+  pub request_ids : 1 ≤ k.batch → kept_ids k ≡ map request_id (batch_at t k.batch).requests

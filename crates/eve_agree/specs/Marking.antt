@@ -56,16 +56,16 @@ abbrev pub is_marked : Option Versioned → Restore → Bool
 is_marked None r = false
 is_marked (Some v) r = (r.version == v.version) && int_eq r.value v.value
 
-abbrev pub has_row : ℕ → List Restore → Bool
-has_row row rs = list_any (λ r. r.row == row) rs
+abbrev pub restores_row : ℕ → List Restore → Bool
+restores_row row rs = list_any (λ r. r.row == row) rs
 
 -- without the rows of these restores
 abbrev pub taken : Marking → List Restore → Marking
-taken marks rs row = if has_row row rs then None else marks row
+taken marks rs row = if restores_row row rs then None else marks row
 
 -- the restores are the rows that these entries write, each with what it has in the table
 abbrev pub are_written_in : Table → List Entry → List Restore → Bool
 are_written_in table es rs =
     list_all (λ r. list_any (writes_row r.row) es &&
     ((r.version == (table r.row).version) && int_eq r.value (table r.row).value)) rs
-    && list_all (λ e. not (is_write e.kind) || has_row e.row rs) es
+    && list_all (λ e. not (is_write e.kind) || restores_row e.row rs) es

@@ -13,25 +13,25 @@ pub record AreOfSection (t : Trace) (h : SectionHistory) (s : Settling) : Type 0
   pub settled : s ≡ settling t h.replica
 
 -- it has the balances at its start, and its batches are there
-pub record IsReady (s : Settling) (x : Stretch) : Type 0 where
+pub record IsReadyStretch (s : Settling) (x : Stretch) : Type 0 where
   pub rising : x.before ≤ x.last
   pub there : x.last ≤ length s.batches
   pub balances : IsAfter s x.before x.balances
 
 -- it was judged
-pub record IsJudged (t : Trace) (e : ℕ) (old new : Stretch) : Type 0 where
+pub record IsJudgedStretch (t : Trace) (e : ℕ) (old new : Stretch) : Type 0 where
   pub before : new.before ≡ old.before
   pub last : new.last ≡ old.last
   pub wrong : IsFirstWrong t e old.before old.last new.wrong
 
 -- the stretches follow one another, the first after so many batches, and reach to the last
-abbrev pub Reaches : ℕ → ℕ → List Stretch → Type 0
-Reaches before last [] = before ≡ last
-Reaches before last (x ∷ xs) = (x.before ≡ before) × Reaches x.last last xs
+abbrev pub ReachesBatch : ℕ → ℕ → List Stretch → Type 0
+ReachesBatch before last [] = before ≡ last
+ReachesBatch before last (x ∷ xs) = (x.before ≡ before) × ReachesBatch x.last last xs
 
-pub record AreStretches (s : Settling) (before : ℕ) (xs : List Stretch) : Type 0 where
-  pub reaches : Reaches before (length s.batches) xs
-  pub ready : All (IsReady s) xs
+pub record AreReadyStretches (s : Settling) (before : ℕ) (xs : List Stretch) : Type 0 where
+  pub reaches : ReachesBatch before (length s.batches) xs
+  pub ready : All (IsReadyStretch s) xs
 
 abbrev pub or_else : Option ℕ → Option ℕ → Option ℕ
 or_else None other = other

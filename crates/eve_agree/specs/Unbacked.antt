@@ -31,7 +31,7 @@ abbrev pub IsUnbackedIn : Trace → ℕ → Fault → Type 0
 IsUnbackedIn t e f = SomePlace (steps_at t e) (λ _ step. IsUnbacked t e step f)
 
 -- it is the first in replica e's section
-pub record IsFirstIn (t : Trace) (e : ℕ) (f : Fault) : Type 0 where
+pub record IsFirstUnbackedIn (t : Trace) (e : ℕ) (f : Fault) : Type 0 where
   pub is : IsUnbackedIn t e f
   pub first : (g : Fault) → IsUnbackedIn t e g → IsUpTo f g
 
@@ -43,6 +43,6 @@ pub record IsFirstBelow (t : Trace) (n : ℕ) (f : Fault) : Type 0 where
   pub first : (e : ℕ) (g : Fault) → e < n → IsUnbackedIn t e g → IsUpTo f g
 
 -- what was found in those sections, if anything was
-abbrev pub IsFoundBelow : Trace → ℕ → Option Fault → Type 0
-IsFoundBelow t n (Some f) = IsFirstBelow t n f
-IsFoundBelow t n None = (e : ℕ) → e < n → IsBackedSection t e
+abbrev pub IsFirstUnbackedBelow : Trace → ℕ → Option Fault → Type 0
+IsFirstUnbackedBelow t n (Some f) = IsFirstBelow t n f
+IsFirstUnbackedBelow t n None = (e : ℕ) → e < n → IsBackedSection t e

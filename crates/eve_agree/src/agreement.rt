@@ -10,7 +10,8 @@ ghost use Rattle.eve_history.specs.SectionHistory.{ExecutedAttempt, SectionHisto
 ghost use Rattle.eve_chains.specs.Settling.{settling, settlings, values_in};
 ghost use Rattle.eve_chains.specs.Committed.{values_to};
 ghost use Rattle.eve_agree.specs.Agreement.{first_to_commit, ReplicasAgree, IsOutcomeFault};
-ghost use Rattle.eve_agree.specs.Judging.{NoneBefore, IsAfter, AreAfter, Stand, Lowers, IsJudged, lower};
+ghost use Rattle.eve_agree.specs.Judging.{NoneBefore, IsAfter, AreAfter, Stand, KeepsFound, AgreesOrIsFound};
+ghost use Rattle.eve_agree.specs.Judging.{lower_outcome};
 
 use eve_accounts::Balances;
 use eve_chains::Settled;
@@ -117,8 +118,8 @@ fn judge_batch(
     requires law { (e : ℕ) → values_in (settling trace.now e) n ≡ values_to trace.now e n }
     requires stand { Stand trace.now least }
     ensures stand { Stand trace.now result }
-    ensures lowers { Lowers least result }
-    ensures judged { (e : ℕ) → IsJudged trace.now result e n }
+    ensures lowers { KeepsFound least result }
+    ensures judged { (e : ℕ) → AgreesOrIsFound trace.now result e n }
 {
     let Some(first) = first_to_commit(histories, n) else {
         return least;
@@ -210,7 +211,7 @@ fn is_reply(own: Reply, its: Reply) -> bool
 
 /// The lesser of a fault and the one at this offset, by offset.
 fn lower(least: Option<Fault>, offset: u64, replica: u8) -> Option<Fault>
-    ensures { result ≡ lower least offset replica }
+    ensures { result ≡ lower_outcome least offset replica }
 {
     match least {
         Some(fault) if fault.offset <= offset => Some(fault),

@@ -9,7 +9,8 @@ ghost use Rattle.eve_history.specs.SectionHistory.{section_history, IsRightSecti
 ghost use Rattle.eve_chains.specs.Settling.{settling};
 ghost use Rattle.eve_agree.specs.DueTokens.{TokensAreDue, IsTokenFault, IsFirstWrong};
 ghost use Rattle.eve_agree.specs.Judging.{IsAfter};
-ghost use Rattle.eve_agree.specs.Stretches.{AreOfSection, IsReady, IsJudged, AreStretches, first_found};
+ghost use Rattle.eve_agree.specs.Stretches.{AreOfSection, IsReadyStretch, IsJudgedStretch, AreReadyStretches};
+ghost use Rattle.eve_agree.specs.Stretches.{first_found};
 ghost use Rattle.eve_agree.specs.declared.due_tokens.Stretch.{Stretch as StretchValue};
 
 use crate::agreement::committed_attempt;
@@ -102,8 +103,8 @@ fn first_wrong(
 /// Judges a stretch.
 fn judge(trace: &Trace<'_>, history: &History<'_>, settled: &Settled<'_>, stretch: &mut Stretch)
     requires section { AreOfSection trace.now history.now settled.now }
-    requires ready { IsReady settled.now stretch.old }
-    ensures { IsJudged trace.now history.now.replica stretch.old stretch.new }
+    requires ready { IsReadyStretch settled.now stretch.old }
+    ensures { IsJudgedStretch trace.now history.now.replica stretch.old stretch.new }
 {
     stretch.wrong = first_wrong(
         trace,
@@ -131,7 +132,7 @@ fn go_on(settled: &Settled<'_>, from: u32, to: u32, balances: &mut Balances)
 /// than is worth a thread.
 fn cut(alloc: Global, settled: &Settled<'_>, jobs: u8) -> Result<Vec<Stretch>, AllocError>
     requires { 1 ≤ jobs }
-    ensures { IfOk result (λ stretches. AreStretches settled.now 0 stretches.items) }
+    ensures { IfOk result (λ stretches. AreReadyStretches settled.now 0 stretches.items) }
 {
     let committed = settled.committed();
     let size = committed.div_ceil(u32::from(jobs)).max(LEAST_BATCHES);
@@ -168,10 +169,10 @@ fn judge_all<R: Threads + Sync>(
 )
     requires some { 1 ≤ jobs }
     requires section { AreOfSection trace.now history.now settled.now }
-    requires ready { All (IsReady settled.now) stretches.old }
+    requires ready { All (IsReadyStretch settled.now) stretches.old }
     ensures len { length stretches.new ≡ length stretches.old }
     ensures judged { (i : ℕ) (d : StretchValue) → i < length stretches.old
-        → IsJudged trace.now history.now.replica (slice_index_or stretches.old i d)
+        → IsJudgedStretch trace.now history.now.replica (slice_index_or stretches.old i d)
         (slice_index_or stretches.new i d) }
 {
     thread::for_each_mut(
@@ -179,8 +180,8 @@ fn judge_all<R: Threads + Sync>(
         stretches,
         jobs as usize,
         &|_: usize, stretch: &mut Stretch|
-            requires { AreOfSection trace.now history.now settled.now × IsReady settled.now stretch.old }
-            ensures { IsJudged trace.entry.now history.entry.now.replica stretch.old stretch.new }
+            requires { AreOfSection trace.now history.now settled.now × IsReadyStretch settled.now stretch.old }
+            ensures { IsJudgedStretch trace.entry.now history.entry.now.replica stretch.old stretch.new }
         { judge(trace, history, settled, stretch) },
     );
 }

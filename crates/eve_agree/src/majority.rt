@@ -11,7 +11,7 @@ ghost use Rattle.eve_views.specs.declared.fault.Fault.{Fault as FaultValue};
 ghost use Rattle.eve_history.specs.SectionHistory.{section_histories, IsRightSection};
 ghost use Rattle.eve_votes.specs.Votes.{IsDecided, IsRolledBack};
 ghost use Rattle.eve_agree.specs.Majority.{IsBacked, IsBackedSection, AllAreBacked, IsMajorityFault};
-ghost use Rattle.eve_agree.specs.Unbacked.{HasRoom, IsUnbacked, IsFirstIn};
+ghost use Rattle.eve_agree.specs.Unbacked.{HasRoom, IsUnbacked, IsFirstUnbackedIn};
 
 use eve_frames::{CommitView, RollbackView};
 use eve_history::{History, are_right};
@@ -75,7 +75,7 @@ fn first_in(trace: &Trace<'_>, tally: &Tally<'_, '_>, e: u8) -> Option<Fault>
     requires right { IsRightSection trace.now e }
     requires tally { tally.now ≡ trace.now }
     ensures backed { IfNone result (IsBackedSection trace.now e) }
-    ensures first { IfSome result (IsFirstIn trace.now e) }
+    ensures first { IfSome result (IsFirstUnbackedIn trace.now e) }
 {
     trace.is_whole();
     let mut steps = trace.section(e);

@@ -5,7 +5,7 @@ ghost use Rattle.eve_grammar.specs.Limits.{is_batch};
 ghost use Rattle.eve_frames.specs.Said.{attempt_said, batch_said, sent_said};
 ghost use Rattle.eve_history.specs.Faults.{request_id};
 ghost use Rattle.eve_history.specs.Notes.{requests_said};
-ghost use Rattle.eve_agree.specs.Keeping.{kept, kept_in, IsAnswer, AreOf};
+ghost use Rattle.eve_agree.specs.Keeping.{kept_ids, first_ids, AnswersAt, AreOf};
 
 use eve_frames::{AttemptView, BatchView, SentView};
 use eve_grammar::MOST_REQUESTS;
@@ -70,11 +70,11 @@ impl RequestIds {
     pub fn find(&mut self, attempt: &AttemptView<'_>, sent: &SentView<'_>) -> bool
         requires { self.old.count ≤ MOST_REQUESTS }
         ensures answer { IsTrue result
-            ↔ ((i : ℕ) × IsAnswer (kept self.old) (attempt_said attempt.now).replies
+            ↔ ((i : ℕ) × AnswersAt (kept_ids self.old) (attempt_said attempt.now).replies
             (sent_said sent.now) i) }
         ensures batch { self.new.batch ≡ self.old.batch }
         ensures count { self.new.count ≡ self.old.count }
-        ensures kept { kept self.new ≡ kept self.old }
+        ensures kept { kept_ids self.new ≡ kept_ids self.old }
     {
         match self.index_of(attempt, sent) {
             Some(i) => {
@@ -90,9 +90,9 @@ impl RequestIds {
         requires { self.now.count ≤ MOST_REQUESTS }
         ensures below { IfSome result (λ i. i < MOST_REQUESTS) }
         ensures found { IfSome result
-            (λ i. IsAnswer (kept self.now) (attempt_said attempt.now).replies (sent_said sent.now) i) }
+            (λ i. AnswersAt (kept_ids self.now) (attempt_said attempt.now).replies (sent_said sent.now) i) }
         ensures none { IfNone result
-            ((i : ℕ) → ¬ IsAnswer (kept self.now) (attempt_said attempt.now).replies
+            ((i : ℕ) → ¬ AnswersAt (kept_ids self.now) (attempt_said attempt.now).replies
             (sent_said sent.now) i) }
     {
         if self.is_answer(attempt, sent, self.next) {
@@ -110,7 +110,7 @@ impl RequestIds {
     fn is_answer(&self, attempt: &AttemptView<'_>, sent: &SentView<'_>, i: usize) -> bool
         requires { self.now.count ≤ MOST_REQUESTS }
         ensures below { IsTrue result → i < MOST_REQUESTS }
-        ensures answer { IsTrue result ↔ IsAnswer (kept self.now) (attempt_said attempt.now).replies
+        ensures answer { IsTrue result ↔ AnswersAt (kept_ids self.now) (attempt_said attempt.now).replies
             (sent_said sent.now) i }
     {
         if i >= self.count || i >= attempt.len() {
@@ -127,7 +127,7 @@ impl RequestIds {
 fn read(batch: &BatchView<'_>, items: &mut [RequestId; MOST_REQUESTS]) -> usize
     requires { IsTrue (is_batch (batch_said batch.now).1) }
     ensures few { result ≤ MOST_REQUESTS }
-    ensures kept { kept_in items.new result ≡ map request_id (requests_said batch.now.bytes.now) }
+    ensures kept { first_ids items.new result ≡ map request_id (requests_said batch.now.bytes.now) }
 {
     let mut count = 0;
     for asked in batch.requests() {

@@ -22,13 +22,14 @@ use Rattle.eve_write.specs.Data.{access}
 use Rattle.eve_token.specs.Token.{token_of}
 use Rattle.eve_attempts.specs.declared.front.AttemptFront.{AttemptFront}
 use Rattle.eve_attempts.specs.declared.taken.Taken.{Taken}
-use Rattle.eve_attempts.specs.Ledgers.{Opened, Rows, Ledger, row_count, table_of, rows_now, undone, writes_in}
+use Rattle.eve_attempts.specs.Ledgers.{Opened, Rows, Ledger, ledger_rows, table_of_rows, table_now, values_before}
+use Rattle.eve_attempts.specs.Ledgers.{writes_in}
 use Rattle.eve_attempts.specs.Ledgers.{open_writes, rows_committed, is_write_in, AreLaid, IsLedger}
-use Rattle.eve_attempts.specs.Closing.{access_of, AreNoted, IsAttemptOf}
+use Rattle.eve_attempts.specs.Closing.{access_noted, AreNoted, IsAttemptOf}
 use Rattle.eve_attempts.specs.Ordering.{records_in}
 use Rattle.eve_attempts.specs.Taking.{IsTakenOf}
 use Rattle.eve_attempts.proofs.Noting.{length-placed, all_placed}
-use Rattle.eve_attempts.proofs.TableLaws.{undone-append, writes_in-append, laid_further}
+use Rattle.eve_attempts.proofs.TableLaws.{values_before-append, writes_in-append, laid_further}
 use Rattle.eve_attempts.proofs.Takings.{length_certificate, few_records}
 
 -- ---- the limits
@@ -88,7 +89,7 @@ module _ (front : AttemptFront) (b : Batch) (touched : List Touched) (records : 
       let small : list_all (λ i. ltb i (length b.requests)) t.certificate.items ≡ true =
       (and_parts (list_all (λ i. ltb i (length b.requests)) t.certificate.items) _ permutes).0 in
       let accesses : length (map access t.accesses.items) ≡ length records =
-      ap (λ (xs : List Access). length xs) taken.accesses ∙ length-map records access_of in
+      ap (λ (xs : List Access). length xs) taken.accesses ∙ length-map records access_noted in
       and_from (is_attempt (attempt_of front t token)) _
       (and_from (is_number 4 front.seq) _ (lt-ltb front.seq 4294967296 (omega arith))
       (and_from (is_number 4 front.view) _ view
@@ -138,20 +139,21 @@ one_more_open s rows o kept opened pushed same =
     ap (with_open s rows) (pushed ∙ ap (λ (os : List Opened). os ++ o ∷ []) same)
 
 module _ (old new : Ledger) (o : Opened) (rows : Rows) (is : new ≡ with_open old rows (old.opened ++ o ∷ []))
-    (many : length rows.balances ≡ row_count old)
-    (back : undone (table_of rows) o.written ≡ rows_now old) where
+    (many : length rows.balances ≡ ledger_rows old)
+    (back : values_before (table_of_rows rows) o.written ≡ table_now old) where
   pub committed_stays : rows_committed new ≡ rows_committed old
   committed_stays =
       ap (λ (n : Ledger). rows_committed n) is
-      ∙ ap (undone (table_of rows)) (writes_in-append old.opened (o ∷ []))
-      ∙ undone-append (table_of rows) (open_writes old) (writes_in (o ∷ []))
-      ∙ ap (λ (t : Table). undone t (open_writes old)) (one o ∙ back)
+      ∙ ap (values_before (table_of_rows rows)) (writes_in-append old.opened (o ∷ []))
+      ∙ values_before-append (table_of_rows rows) (open_writes old) (writes_in (o ∷ []))
+      ∙ ap (λ (t : Table). values_before t (open_writes old)) (one o ∙ back)
     where
-      one : (p : Opened) → undone (table_of rows) (writes_in (p ∷ [])) ≡ undone (table_of rows) p.written
-      one p = ap (undone (table_of rows)) (append-nil p.written)
+      one : (p : Opened) → values_before (table_of_rows rows) (writes_in (p ∷ [])) ≡ values_before
+          (table_of_rows rows) p.written
+      one p = ap (values_before (table_of_rows rows)) (append-nil p.written)
 
-  pub ledger_further : IsLedger old → old.committed + 1 + length old.opened ≤ 65535 → table_of rows
-      ≡ table_after (rows_now old) o.written → list_all (is_write_in (length rows.balances)) o.written ≡ true
+  pub ledger_further : IsLedger old → old.committed + 1 + length old.opened ≤ 65535 → table_of_rows rows
+      ≡ table_after (table_now old) o.written → list_all (is_write_in (length rows.balances)) o.written ≡ true
       → IsLedger new
   ledger_further l last table right = subst IsLedger (sym is) (record {
     counted = let h = pushed old.opened in omega arith;
@@ -160,9 +162,9 @@ module _ (old new : Ledger) (o : Opened) (rows : Rows) (is : new ≡ with_open o
         ∙ and_from (list_all (is_write_in (length rows.balances)) (open_writes old)) _
         (ap (λ n. list_all (is_write_in n) (open_writes old)) many ∙ l.written)
         (ap (list_all (is_write_in (length rows.balances))) (append-nil o.written) ∙ right);
-    laid = subst (λ (t : Table). AreLaid t (old.opened ++ o ∷ []) (table_of rows))
+    laid = subst (λ (t : Table). AreLaid t (old.opened ++ o ∷ []) (table_of_rows rows))
         (sym (sym (ap (λ (n : Ledger). rows_committed n) is) ∙ committed_stays))
-        (laid_further (rows_committed old) old.opened (rows_now old) (table_of rows) o l.laid back table);
+        (laid_further (rows_committed old) old.opened (table_now old) (table_of_rows rows) o l.laid back table);
   })
     where
       pushed : (os : List Opened) → length (os ++ o ∷ []) ≡ length os + 1

@@ -9,7 +9,7 @@ use Rattle.std.proofs.lemmas.Bool.{ltb-false, eqb-false, false≢true}
 use Rattle.std.specs.List.{AllByRecursion}
 use Rattle.std.proofs.lemmas.List.{drop_all, take_all}
 use Rattle.eve_stamps.specs.Applied.{Applied}
-use Rattle.eve_attempts.specs.Ordering.{Key, keys_from, no_record, record_of, records_in, IsKeyOf, IsNotAfter}
+use Rattle.eve_attempts.specs.Ordering.{Key, keys_from, no_record, record_of, records_in, IsKeyOf, IsNoLaterRecord}
 use Rattle.eve_attempts.specs.Ordering.{TicksDontFall}
 
 at_middle : (front rs : List Applied) (r d : Applied) → get_or (front ++ r ∷ rs) (length front) d ≡ r
@@ -127,7 +127,7 @@ sorted_keys keys d each =
     (step_of (get_or keys i d) (get_or keys (i + 1) d) (each i (omega arith)))))
 
 not_after : (records : List Applied) (k j : Key) → IsKeyOf records k → IsKeyOf records j → KeyLe k j
-    → IsNotAfter (record_of records k) (record_of records j)
+    → IsNoLaterRecord (record_of records k) (record_of records j)
 not_after records k j a b le = record {
   tick = omega (arith, a.tick, b.tick, le.tick);
   index = λ back. let h = le.index (omega (arith, a.tick, b.tick)) in omega (arith, a.index, b.index);
@@ -135,7 +135,7 @@ not_after records k j a b le = record {
 
 all_not_after : (records : List Applied) (k : Key) (keys : List Key) → IsKeyOf records k
     → AllByRecursion (IsKeyOf records) keys → AllByRecursion (KeyLe k) keys
-    → AllByRecursion (IsNotAfter (record_of records k)) (records_in records keys)
+    → AllByRecursion (IsNoLaterRecord (record_of records k)) (records_in records keys)
 all_not_after records k [] a all le = tt
 all_not_after records k (j ∷ keys) a all le =
     (not_after records k j a all.0 le.0, all_not_after records k keys a all.1 le.1)

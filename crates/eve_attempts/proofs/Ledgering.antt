@@ -15,10 +15,11 @@ use Rattle.eve_smallbank.specs.Access.{is_write, writes_row}
 use Rattle.eve_smallbank.specs.Chain.{Table, table_after}
 use Rattle.eve_grammar.specs.Trace.{Restore, Rollback}
 use Rattle.eve_grammar.specs.Limits.{is_entry, is_restore, is_rising, is_rollback, is_number, version_limit}
-use Rattle.eve_attempts.specs.Ledgers.{Opened, Rows, Ledger, row_count, table_of, rows_now, undone, writes_in}
+use Rattle.eve_attempts.specs.Ledgers.{Opened, Rows, Ledger, ledger_rows, table_of_rows, table_now, values_before}
+use Rattle.eve_attempts.specs.Ledgers.{writes_in}
 use Rattle.eve_attempts.specs.Ledgers.{open_writes, rows_committed, is_write_in, AreLaid, IsLedger}
 use Rattle.eve_attempts.specs.Discarding.{restore_in, AreRestores, RollsBack}
-use Rattle.eve_attempts.specs.Restoring.{rows_of, rising_from}
+use Rattle.eve_attempts.specs.Restoring.{entry_rows, rising_from}
 use Rattle.eve_attempts.proofs.Ordered.{In, here, there, in_split, all_in, all_from_in, all_moved}
 use Rattle.eve_attempts.proofs.TableLaws.{laid_undone}
 
@@ -31,20 +32,20 @@ opened_split [] first others some is rest = absurd (omega arith)
 opened_split (o ∷ os) first others some is rest = ap₂ (λ (p : Opened) (ps : List Opened). p ∷ ps) (sym is) (sym rest)
 
 module _ (s : Ledger) (first : Opened) (others : List Opened) (is : s.opened ≡ first ∷ others) (l : IsLedger s) where
-  laid : AreLaid (rows_committed s) (first ∷ others) (rows_now s)
-  laid = subst (λ (os : List Opened). AreLaid (rows_committed s) os (rows_now s)) is l.laid
+  laid : AreLaid (rows_committed s) (first ∷ others) (table_now s)
+  laid = subst (λ (os : List Opened). AreLaid (rows_committed s) os (table_now s)) is l.laid
 
-  pub committed_next : undone (rows_now s) (writes_in others) ≡ table_after (rows_committed s) first.written
-  committed_next = laid_undone (table_after (rows_committed s) first.written) others (rows_now s) laid.1
+  pub committed_next : values_before (table_now s) (writes_in others) ≡ table_after (rows_committed s) first.written
+  committed_next = laid_undone (table_after (rows_committed s) first.written) others (table_now s) laid.1
 
   pub ledger_next : IsLedger (record s { opened = others; committed = s.committed + 1 })
   ledger_next = record {
     counted = let h : length s.opened ≡ length (first ∷ others) = ap (λ (os : List Opened). length os) is in
         omega (arith, l.counted);
-    written = (and_parts (list_all (is_write_in (row_count s)) first.written) _
-        (sym (list_all-append (is_write_in (row_count s)) first.written (writes_in others))
-        ∙ ap (λ (os : List Opened). list_all (is_write_in (row_count s)) (writes_in os)) (sym is) ∙ l.written)).1;
-    laid = subst (λ (t : Table). AreLaid t others (rows_now s)) (sym committed_next) laid.1;
+    written = (and_parts (list_all (is_write_in (ledger_rows s)) first.written) _
+        (sym (list_all-append (is_write_in (ledger_rows s)) first.written (writes_in others))
+        ∙ ap (λ (os : List Opened). list_all (is_write_in (ledger_rows s)) (writes_in os)) (sym is) ∙ l.written)).1;
+    laid = subst (λ (t : Table). AreLaid t others (table_now s)) (sym committed_next) laid.1;
   }
 
 -- ---- rows that rise
@@ -133,13 +134,13 @@ dont_fall (n ∷ ns) up = (
     all_from (m ∷ ms) each = (each 0 (omega arith), all_from ms (λ i lt. each (suc i) (omega arith)))
 
 -- an entry that writes a row
-some_write : (rows row : ℕ) (es : List Entry) → list_all (is_write_in rows) es ≡ true → In row (rows_of es)
+some_write : (rows row : ℕ) (es : List Entry) → list_all (is_write_in rows) es ≡ true → In row (entry_rows es)
     → list_any (writes_row row) es ≡ true
 some_write rows row [] all i = elim i [ ]
-some_write rows row (e ∷ es) all i = by (in_split row e.row (rows_of es) i)
+some_write rows row (e ∷ es) all i = by (in_split row e.row (entry_rows es) i)
     (some_write rows row es (and_parts (is_write_in rows e) (list_all (is_write_in rows) es) all).1)
   where
-    by : (row ≡ e.row) ⊎ In row (rows_of es) → (In row (rows_of es) → list_any (writes_row row) es ≡ true)
+    by : (row ≡ e.row) ⊎ In row (entry_rows es) → (In row (entry_rows es) → list_any (writes_row row) es ≡ true)
         → (writes_row row e || list_any (writes_row row) es) ≡ true
     by (inl same) rest = or_left (writes_row row e) (list_any (writes_row row) es)
         (and_from (is_write e.kind) (e.row == row)
@@ -149,19 +150,19 @@ some_write rows row (e ∷ es) all i = by (in_split row e.row (rows_of es) i)
 
 -- a row that was written is there, and what the first write of it saw lies within the limits
 restore_fits : (rows : ℕ) (table : Table) (row : ℕ) (es : List Entry) → list_all (is_write_in rows) es ≡ true
-    → list_any (writes_row row) es ≡ true → is_restore rows (restore_in (undone table es) row) ≡ true
+    → list_any (writes_row row) es ≡ true → is_restore rows (restore_in (values_before table es) row) ≡ true
 restore_fits rows table row [] all some = absurd (false≢true some)
 restore_fits rows table row (e ∷ es) all some =
     by (writes_row row e) refl some
     (λ h. restore_fits rows table row es (and_parts (is_write_in rows e) (list_all (is_write_in rows) es) all).1 h)
   where
     by : (b : Bool) → writes_row row e ≡ b → (b || list_any (writes_row row) es) ≡ true
-        → (list_any (writes_row row) es ≡ true → is_restore rows (restore_in (undone table es) row) ≡ true)
+        → (list_any (writes_row row) es ≡ true → is_restore rows (restore_in (values_before table es) row) ≡ true)
         → is_restore rows (record {
           row = row;
           version = (cond b (record { version = e.version; value = e.seen })
-              (undone table es row)).version;
-          value = (cond b (record { version = e.version; value = e.seen }) (undone table es row)).value;
+              (values_before table es row)).version;
+          value = (cond b (record { version = e.version; value = e.seen }) (values_before table es row)).value;
         }) ≡ true
     by true is some rest =
         let right = (and_parts (is_write e.kind) (is_entry rows e)
@@ -174,16 +175,16 @@ restore_fits rows table row (e ∷ es) all some =
         (and_from (leb e.version version_limit) (is_balance e.seen) two.0 three.0)
     by false is some rest = rest some
 
-rows_in : (P : ℕ → Type 0) (es : List Entry) → ((e : Entry) → In e es → P e.row) → AllByRecursion P (rows_of es)
+rows_in : (P : ℕ → Type 0) (es : List Entry) → ((e : Entry) → In e es → P e.row) → AllByRecursion P (entry_rows es)
 rows_in P [] each = tt
 rows_in P (e ∷ es) each = (each e here, rows_in P es (λ d i. each d (there i)))
 
-row_in_rows : (e : Entry) (es : List Entry) → In e es → In e.row (rows_of es)
+row_in_rows : (e : Entry) (es : List Entry) → In e es → In e.row (entry_rows es)
 row_in_rows e [] i = elim i [ ]
 row_in_rows e (d ∷ es) i = by (in_split e d es i) (row_in_rows e es)
   where
-    by : (e ≡ d) ⊎ In e es → (In e es → In e.row (rows_of es)) → In e.row (d.row ∷ rows_of es)
-    by (inl same) rest = subst (λ (x : Entry). In e.row (x.row ∷ rows_of es)) same here
+    by : (e ≡ d) ⊎ In e es → (In e es → In e.row (entry_rows es)) → In e.row (d.row ∷ entry_rows es)
+    by (inl same) rest = subst (λ (x : Entry). In e.row (x.row ∷ entry_rows es)) same here
     by (inr j) rest = there (rest j)
 
 all_test_in : (p : Entry → Bool) (es : List Entry) (e : Entry) → list_all p es ≡ true → In e es → p e ≡ true
@@ -217,21 +218,21 @@ tests_restores p table [] all = refl
 tests_restores p table (n ∷ ns) all = and_from (p (restore_in table n)) _ all.0 (tests_restores p table ns all.1)
 
 -- the numbers are the rows that the open attempts wrote
-module _ (s : Ledger) (l : IsLedger s) (numbers : List ℕ) (moved : IsPermutation (rows_of (open_writes s)) numbers)
+module _ (s : Ledger) (l : IsLedger s) (numbers : List ℕ) (moved : IsPermutation (entry_rows (open_writes s)) numbers)
     (up : IsNonDecreasing numbers) where
   were_written : AllByRecursion (λ n. IsTrue (list_any (writes_row n) (open_writes s))) numbers
-  were_written = all_moved (λ (n : ℕ). IsTrue (list_any (writes_row n) (open_writes s))) (rows_of (open_writes s))
+  were_written = all_moved (λ (n : ℕ). IsTrue (list_any (writes_row n) (open_writes s))) (entry_rows (open_writes s))
       numbers moved
       (rows_in (λ n. IsTrue (list_any (writes_row n) (open_writes s))) (open_writes s)
-      (λ e i. some_write (row_count s) e.row (open_writes s) l.written (row_in_rows e (open_writes s) i)))
+      (λ e i. some_write (ledger_rows s) e.row (open_writes s) l.written (row_in_rows e (open_writes s) i)))
 
-  pub are_there : AllByRecursion (λ n. n < row_count s) numbers
-  are_there = all_moved (λ (n : ℕ). n < row_count s) (rows_of (open_writes s)) numbers moved
-      (rows_in (λ n. n < row_count s) (open_writes s)
-      (λ e i. ltb-true e.row (row_count s)
-      (and_parts (ltb e.row (row_count s)) _
-      (and_parts (is_write e.kind) (is_entry (row_count s) e)
-      (all_test_in (is_write_in (row_count s)) (open_writes s) e l.written i)).1).0))
+  pub are_there : AllByRecursion (λ n. n < ledger_rows s) numbers
+  are_there = all_moved (λ (n : ℕ). n < ledger_rows s) (entry_rows (open_writes s)) numbers moved
+      (rows_in (λ n. n < ledger_rows s) (open_writes s)
+      (λ e i. ltb-true e.row (ledger_rows s)
+      (and_parts (ltb e.row (ledger_rows s)) _
+      (and_parts (is_write e.kind) (is_entry (ledger_rows s) e)
+      (all_test_in (is_write_in (ledger_rows s)) (open_writes s) e l.written i)).1).0))
 
   pub are_restores : AreRestores s (restores_of (rows_committed s) (rising_from 0 numbers))
   are_restores = record {
@@ -243,8 +244,8 @@ module _ (s : Ledger) (l : IsLedger s) (numbers : List ℕ) (moved : IsPermutati
         (λ e i. some_restore (rows_committed s) e.row (rising_from 0 numbers)
         (kept 0 numbers (dont_fall numbers up) e.row
         (all_in (λ n. In n numbers)
-        (all_moved (λ n. In n numbers) numbers (rows_of (open_writes s))
-        (IsPermutation-sym (rows_of (open_writes s)) numbers moved)
+        (all_moved (λ n. In n numbers) numbers (entry_rows (open_writes s))
+        (IsPermutation-sym (entry_rows (open_writes s)) numbers moved)
         (all_from_in (λ n. In n numbers) numbers (λ n j. j))) (row_in_rows e (open_writes s) i)) (omega arith)));
     committed = all_restores (λ r. r ≡ restore_in (rows_committed s) r.row) (rows_committed s) (rising_from 0 numbers)
         (all_from_in (λ n. restore_in (rows_committed s) n ≡ restore_in (rows_committed s) n) (rising_from 0 numbers)
@@ -252,17 +253,17 @@ module _ (s : Ledger) (l : IsLedger s) (numbers : List ℕ) (moved : IsPermutati
   }
 
   pub whole_rollback : (r : Rollback) → r.to < 4294967296 → r.view < 4294967296 → r.restores
-      ≡ restores_of (rows_committed s) (rising_from 0 numbers) → IsTrue (is_rollback (row_count s) r)
+      ≡ restores_of (rows_committed s) (rising_from 0 numbers) → IsTrue (is_rollback (ledger_rows s) r)
   whole_rollback r to view are =
       and_from (is_number 4 r.to) _ (lt-ltb r.to 4294967296 to)
       (and_from (is_number 4 r.view) _ (lt-ltb r.view 4294967296 view)
-      (subst (λ (rs : List Restore). (is_rising rs && list_all (is_restore (row_count s)) rs) ≡ true) (sym are)
+      (subst (λ (rs : List Restore). (is_rising rs && list_all (is_restore (ledger_rows s)) rs) ≡ true) (sym are)
       (and_from (is_rising (restores_of (rows_committed s) (rising_from 0 numbers))) _
       (rising_restores (rows_committed s) 0 numbers)
-      (tests_restores (is_restore (row_count s)) (rows_committed s) (rising_from 0 numbers)
-      (all_rising (λ n. is_restore (row_count s) (restore_in (rows_committed s) n) ≡ true) 0 numbers
-      (all_from_in (λ n. is_restore (row_count s) (restore_in (rows_committed s) n) ≡ true) numbers
-      (λ n i. restore_fits (row_count s) (rows_now s) n (open_writes s) l.written
+      (tests_restores (is_restore (ledger_rows s)) (rows_committed s) (rising_from 0 numbers)
+      (all_rising (λ n. is_restore (ledger_rows s) (restore_in (rows_committed s) n) ≡ true) 0 numbers
+      (all_from_in (λ n. is_restore (ledger_rows s) (restore_in (rows_committed s) n) ≡ true) numbers
+      (λ n i. restore_fits (ledger_rows s) (table_now s) n (open_writes s) l.written
       (all_in (λ m. IsTrue (list_any (writes_row m) (open_writes s))) were_written i))))))))
 
 -- with nothing open
@@ -271,10 +272,10 @@ pub ledger_empty : (s : Ledger) (rows : Rows) (view : ℕ) (serial : Bool) → I
 ledger_empty s rows view serial l = record { counted = let h = l.counted in omega arith; written = refl; laid = refl }
 
 pub rolled_back : (s : Ledger) (l : IsLedger s) (numbers : List ℕ)
-    (moved : IsPermutation (rows_of (open_writes s)) numbers) (up : IsNonDecreasing numbers) (new : Ledger)
+    (moved : IsPermutation (entry_rows (open_writes s)) numbers) (up : IsNonDecreasing numbers) (new : Ledger)
     (rows : Rows) (restores : List Restore)
     → new ≡ record s { rows = rows; opened = []; view = s.view + 1; is_next_serial = true } → length rows.balances
-    ≡ row_count s → table_of rows ≡ rows_committed s
+    ≡ ledger_rows s → table_of_rows rows ≡ rows_committed s
     → restores ≡ restores_of (rows_committed s) (rising_from 0 numbers) → s.committed < 4294967296
     → s.view + 1 < 4294967296
     → RollsBack s new (record { to = s.committed; view = s.view + 1; restores = restores })
@@ -286,6 +287,6 @@ rolled_back s l numbers moved up new rows restores is many table are to view = r
       view are;
   changed = is ∙ ap (λ (r : Rows). record s { rows = r; opened = []; view = s.view + 1; is_next_serial = true })
       (sym (ap (λ (n : Ledger). n.rows) is));
-  as_many = ap (λ (n : Ledger). row_count n) is ∙ many;
-  rows = ap (λ (n : Ledger). rows_now n) is ∙ table;
+  as_many = ap (λ (n : Ledger). ledger_rows n) is ∙ many;
+  rows = ap (λ (n : Ledger). table_now n) is ∙ table;
 }

@@ -12,7 +12,7 @@ use Rattle.std.proofs.lemmas.List.Sums.{sum_by_push, count_by-le-length}
 use Rattle.eve_grammar.specs.Trace.{Access}
 use Rattle.eve_grammar.specs.Accesses.{is_new_access, is_right_place}
 use Rattle.eve_stamps.specs.Applied.{Applied}
-use Rattle.eve_attempts.specs.Closing.{access_of, are_right_accesses}
+use Rattle.eve_attempts.specs.Closing.{access_noted, are_right_records}
 use Rattle.eve_attempts.proofs.Listing.{drop_read}
 
 -- the indexes and the workers of the records are marked
@@ -86,8 +86,8 @@ pub record Marking (workers count : ℕ) (records : List Applied) (k : ℕ) (see
     pub before : List Access
     pub many : length before ≡ k
     pub marked : AreMarked before seen places
-    pub rest : are_right_accesses workers count before (map access_of (drop k records))
-        ≡ are_right_accesses workers count [] (map access_of records)
+    pub rest : are_right_records workers count before (map access_noted (drop k records))
+        ≡ are_right_records workers count [] (map access_noted records)
 
 pub marking_start : (workers count : ℕ) (records : List Applied) → Marking workers count records 0 (replicate 256 false)
     (replicate 256 0)
@@ -96,32 +96,32 @@ marking_start workers count records = record { before = []; many = refl; marked 
 module _ (workers count : ℕ) (records : List Applied) (k : ℕ) (seen : List Bool) (places : List ℕ)
     (m : Marking workers count records k seen places) (r : Applied) (within : k < length records)
     (is : r ≡ get_or records k r) where
-  next_is : are_right_accesses workers count [] (map access_of records)
-      ≡ (is_new_access workers count m.before (access_of r) &&
-      (is_right_place m.before (access_of r) && are_right_accesses workers count (m.before ++ access_of r ∷ [])
-      (map access_of (drop (k + 1) records))))
-  next_is = sym m.rest ∙ ap (λ (rs : List Applied). are_right_accesses workers count m.before (map access_of rs))
+  next_is : are_right_records workers count [] (map access_noted records)
+      ≡ (is_new_access workers count m.before (access_noted r) &&
+      (is_right_place m.before (access_noted r) && are_right_records workers count (m.before ++ access_noted r ∷ [])
+      (map access_noted (drop (k + 1) records))))
+  next_is = sym m.rest ∙ ap (λ (rs : List Applied). are_right_records workers count m.before (map access_noted rs))
       (drop_read records k r within is)
 
-  stop : is_new_access workers count m.before (access_of r) ≡ false
-      → false ≡ are_right_accesses workers count [] (map access_of records)
+  stop : is_new_access workers count m.before (access_noted r) ≡ false
+      → false ≡ are_right_records workers count [] (map access_noted records)
   stop wrong = sym (next_is ∙ and_left _ _ wrong)
 
-  pub stop_worker : workers ≤ r.worker → false ≡ are_right_accesses workers count [] (map access_of records)
+  pub stop_worker : workers ≤ r.worker → false ≡ are_right_records workers count [] (map access_noted records)
   stop_worker le = stop (and_left (ltb r.worker workers) _ (le-ltb r.worker workers le))
 
-  pub stop_index : count ≤ r.index → false ≡ are_right_accesses workers count [] (map access_of records)
+  pub stop_index : count ≤ r.index → false ≡ are_right_records workers count [] (map access_noted records)
   stop_index le = stop (and_right (ltb r.worker workers) _ (and_left (ltb r.index count) _ (le-ltb r.index count le)))
 
   pub stop_again : r.index < 256 → get_or seen r.index false ≡ true
-      → false ≡ are_right_accesses workers count [] (map access_of records)
+      → false ≡ are_right_records workers count [] (map access_noted records)
   stop_again lt old =
       stop (and_right (ltb r.worker workers) _
       (and_right (ltb r.index count) _
       (not_from_true (list_any (λ y. y.index == r.index) m.before) (sym (m.marked.seen r.index lt) ∙ old))))
 
   new : r.worker < workers → r.index < count → r.index < 256 → get_or seen r.index false ≡ false
-      → is_new_access workers count m.before (access_of r) ≡ true
+      → is_new_access workers count m.before (access_noted r) ≡ true
   new worker index lt fresh =
       and_from (ltb r.worker workers) _ (lt-ltb r.worker workers worker)
       (and_from (ltb r.index count) _ (lt-ltb r.index count index)
@@ -129,10 +129,10 @@ module _ (workers count : ℕ) (records : List Applied) (k : ℕ) (seen : List B
 
   pub stop_place : r.worker < workers → r.index < count → r.index < 256 → r.worker < 256 → get_or seen r.index false
       ≡ false → r.place ≢ get_or places r.worker 0
-      → false ≡ are_right_accesses workers count [] (map access_of records)
+      → false ≡ are_right_records workers count [] (map access_noted records)
   stop_place worker index lt small fresh other =
-      sym (next_is ∙ and_right (is_new_access workers count m.before (access_of r)) _
-      (and_left (is_right_place m.before (access_of r)) _
+      sym (next_is ∙ and_right (is_new_access workers count m.before (access_noted r)) _
+      (and_left (is_right_place m.before (access_noted r)) _
       (ne_eqb r.place (count_by (λ y. y.worker == r.worker) m.before)
       (λ e. other (e ∙ sym (m.marked.places r.worker small))))))
 
@@ -141,15 +141,15 @@ module _ (workers count : ℕ) (records : List Applied) (k : ℕ) (seen : List B
       → Marking workers count records (k + 1) (set seen r.index true)
       (set places r.worker (get_or places r.worker 0 + 1))
   marking_more worker index lt small fresh same = record {
-    before = m.before ++ access_of r ∷ [];
-    many = pushed m.before (access_of r) ∙ ap (λ (n : ℕ). n + 1) m.many;
-    marked = marked_one m.before seen places (access_of r) m.marked lt small;
+    before = m.before ++ access_noted r ∷ [];
+    many = pushed m.before (access_noted r) ∙ ap (λ (n : ℕ). n + 1) m.many;
+    marked = marked_one m.before seen places (access_noted r) m.marked lt small;
     rest = sym (next_is ∙ ap
-        (λ b. b && (is_right_place m.before (access_of r) && are_right_accesses workers count
-        (m.before ++ access_of r ∷ []) (map access_of (drop (k + 1) records))))
+        (λ b. b && (is_right_place m.before (access_noted r) && are_right_records workers count
+        (m.before ++ access_noted r ∷ []) (map access_noted (drop (k + 1) records))))
         (new worker index lt fresh)
-        ∙ ap (λ b. b && are_right_accesses workers count (m.before ++ access_of r ∷ [])
-        (map access_of (drop (k + 1) records)))
+        ∙ ap (λ b. b && are_right_records workers count (m.before ++ access_noted r ∷ [])
+        (map access_noted (drop (k + 1) records)))
         (eq-eqb r.place (count_by (λ y. y.worker == r.worker) m.before) (same ∙ m.marked.places r.worker small)));
   }
     where
@@ -163,7 +163,7 @@ module _ (workers count : ℕ) (records : List Applied) (k : ℕ) (seen : List B
 
 pub marking_end : (workers count : ℕ) (records : List Applied) (k : ℕ) (seen : List Bool) (places : List ℕ)
     → Marking workers count records k seen places → length records ≤ k
-    → true ≡ are_right_accesses workers count [] (map access_of records)
+    → true ≡ are_right_records workers count [] (map access_noted records)
 marking_end workers count records k seen places m all =
-    sym (sym m.rest ∙ ap (λ (rs : List Applied). are_right_accesses workers count m.before (map access_of rs))
+    sym (sym m.rest ∙ ap (λ (rs : List Applied). are_right_records workers count m.before (map access_noted rs))
     (drop_all k records all))

@@ -11,43 +11,44 @@ use Rattle.eve_smallbank.specs.declared.request.Reply.TheVariants.{Done}
 use Rattle.eve_smallbank.specs.declared.rows.Touched.{Touched}
 use Rattle.eve_smallbank.specs.Access.{Fits}
 use Rattle.eve_smallbank.specs.Touch.{touched_of}
-use Rattle.eve_grammar.specs.Trace.{Access, Asked, Batch}
+use Rattle.eve_grammar.specs.Trace.{Access, Asked, Batch, no_request}
 use Rattle.eve_grammar.specs.Limits.{is_access}
 use Rattle.eve_grammar.specs.Accesses.{is_new_access, is_right_place}
 use Rattle.eve_write.specs.declared.batch.BatchData.{BatchData}
 use Rattle.eve_write.specs.declared.request.RequestData.{RequestData}
 use Rattle.eve_write.specs.Data.{batch as plain, asked}
 use Rattle.eve_stamps.specs.Applied.{Applied}
-use Rattle.eve_attempts.specs.Closing.{touched_by, no_request, request_at, access_of, executed, are_right_accesses}
+use Rattle.eve_attempts.specs.Closing.{touched_in_batch, request_with, access_noted, executed}
+use Rattle.eve_attempts.specs.Closing.{are_right_records}
 use Rattle.eve_attempts.specs.Closing.{AreNoted}
 use Rattle.eve_attempts.specs.Ordering.{replies_placed}
 use Rattle.eve_attempts.proofs.Listing.{mapped_at}
 
 pub accesses_below : (workers count : ℕ) (before : List Access) (rs : List Applied)
-    → are_right_accesses workers count before (map access_of rs) ≡ true → AllByRecursion (λ r. r.index < count) rs
+    → are_right_records workers count before (map access_noted rs) ≡ true → AllByRecursion (λ r. r.index < count) rs
 accesses_below workers count before [] right = tt
 accesses_below workers count before (r ∷ rs) right =
-    let one = and_parts (is_new_access workers count before (access_of r)) _ right in
-    let two = and_parts (is_right_place before (access_of r)) _ one.1 in
+    let one = and_parts (is_new_access workers count before (access_noted r)) _ right in
+    let two = and_parts (is_right_place before (access_noted r)) _ one.1 in
     let parts = and_parts (ltb r.worker workers) _ one.0 in
     let small = and_parts (ltb r.index count) _ parts.1 in
-    (ltb-true r.index count small.0, accesses_below workers count (before ++ access_of r ∷ []) rs two.1)
+    (ltb-true r.index count small.0, accesses_below workers count (before ++ access_noted r ∷ []) rs two.1)
 
 -- no record has the index of an access before it
 apart : (workers count : ℕ) (x : Access) (front back : List Access) (rs : List Applied)
-    → are_right_accesses workers count (front ++ x ∷ back) (map access_of rs) ≡ true
+    → are_right_records workers count (front ++ x ∷ back) (map access_noted rs) ≡ true
     → AllByRecursion (λ r. r.index ≢ x.index) rs
 apart workers count x front back [] right = tt
 apart workers count x front back (r ∷ rs) right =
-    let one = and_parts (is_new_access workers count (front ++ x ∷ back) (access_of r)) _ right in
-    let two = and_parts (is_right_place (front ++ x ∷ back) (access_of r)) _ one.1 in
+    let one = and_parts (is_new_access workers count (front ++ x ∷ back) (access_noted r)) _ right in
+    let two = and_parts (is_right_place (front ++ x ∷ back) (access_noted r)) _ one.1 in
     let parts = and_parts (ltb r.worker workers) _ one.0 in
     let small = and_parts (ltb r.index count) _ parts.1 in
     let new = not-true (list_any (λ (y : Access). y.index == r.index) (front ++ x ∷ back)) small.1 in (
       other r.index front new,
-      apart workers count x front (back ++ access_of r ∷ []) rs
-          (subst (λ (b : List Access). are_right_accesses workers count b (map access_of rs) ≡ true)
-          (append_assoc front (x ∷ back) (access_of r ∷ [])) two.1),
+      apart workers count x front (back ++ access_noted r ∷ []) rs
+          (subst (λ (b : List Access). are_right_records workers count b (map access_noted rs) ≡ true)
+          (append_assoc front (x ∷ back) (access_noted r ∷ [])) two.1),
     )
   where
     other : (i : ℕ) (ys : List Access) → list_any (λ (y : Access). y.index == i) (ys ++ x ∷ back) ≡ false → i ≢ x.index
@@ -84,28 +85,28 @@ length-placed replies (r ∷ rs) = length-placed (set replies r.index r.reply) r
 
 -- each reply stands at its index
 pub all_placed : (workers count : ℕ) (before : List Access) (replies : List Reply) (rs : List Applied)
-    → are_right_accesses workers count before (map access_of rs) ≡ true → count ≡ length replies
+    → are_right_records workers count before (map access_noted rs) ≡ true → count ≡ length replies
     → AllByRecursion (λ r. slice_get (replies_placed replies rs) r.index ≡ Some r.reply) rs
 all_placed workers count before replies [] right many = tt
 all_placed workers count before replies (r ∷ rs) right many =
-    let one = and_parts (is_new_access workers count before (access_of r)) _ right in
-    let two = and_parts (is_right_place before (access_of r)) _ one.1 in
+    let one = and_parts (is_new_access workers count before (access_noted r)) _ right in
+    let two = and_parts (is_right_place before (access_noted r)) _ one.1 in
     let small = (accesses_below workers count before (r ∷ rs) right).0 in (
-      kept_reply (set replies r.index r.reply) r.index rs (apart workers count (access_of r) before [] rs two.1)
+      kept_reply (set replies r.index r.reply) r.index rs (apart workers count (access_noted r) before [] rs two.1)
           ∙ set_there replies r.index r.reply (omega arith),
-      all_placed workers count (before ++ access_of r ∷ []) (set replies r.index r.reply) rs two.1
+      all_placed workers count (before ++ access_noted r ∷ []) (set replies r.index r.reply) rs two.1
           (many ∙ sym (long_set replies r.index r.reply)),
     )
 
 -- ---- a batch and what its requests touch
 
 pub request_found : (b : BatchData) (i : ℕ) (x : RequestData) → i < length b.requests.items
-    → x ≡ get_or b.requests.items i x → request_at (plain b) i ≡ (asked x).request
+    → x ≡ get_or b.requests.items i x → request_with (plain b) i ≡ (asked x).request
 request_found b i x within is =
     ap (λ (a : Asked). a.request) (mapped_at asked b.requests.items i x no_request within is)
 
 pub touched_found : (names : List (List ℕ)) (b : BatchData) (touched : List Touched) (i : ℕ) (x : RequestData)
-    (t : Touched) → touched ≡ touched_by names (plain b) → i < length b.requests.items
+    (t : Touched) → touched ≡ touched_in_batch names (plain b) → i < length b.requests.items
     → x ≡ get_or b.requests.items i x → t ≡ get_or touched i t → t ≡ touched_of names (asked x).request
 touched_found names b touched i x t by within is at =
     at ∙ ap (λ (ts : List Touched). get_or ts i t) by
@@ -116,10 +117,10 @@ touched_found names b touched i x t by within is at =
 -- ---- what is decided of records whatever their order
 
 module _ (workers rows : ℕ) (b : Batch) (touched : List Touched) (records : List Applied)
-    (known : (names : List (List ℕ)) × (touched ≡ touched_by names b)) (many : length records ≡ length b.requests)
-    (accesses : are_right_accesses workers (length b.requests) [] (map access_of records) ≡ true) where
-  pub decides_noted : (f : Bool) → list_all (is_access rows) (map access_of records) ≡ true
-      → ((names : List (List ℕ)) → touched ≡ touched_by names b
+    (known : (names : List (List ℕ)) × (touched ≡ touched_in_batch names b)) (many : length records ≡ length b.requests)
+    (accesses : are_right_records workers (length b.requests) [] (map access_noted records) ≡ true) where
+  pub decides_noted : (f : Bool) → list_all (is_access rows) (map access_noted records) ≡ true
+      → ((names : List (List ℕ)) → touched ≡ touched_in_batch names b
       → Decides f (AllByRecursion (Fits names) (map (executed b) records)))
       → Decides f (AreNoted workers rows b touched records)
   decides_noted f limits fit = (

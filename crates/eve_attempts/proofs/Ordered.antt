@@ -12,8 +12,8 @@ use Rattle.std.proofs.lemmas.List.Sorted.{All-permutation, IsPermutation-sym, Is
 use Rattle.eve_grammar.specs.Certificate.{occurrences, all_below, is_permutation}
 use Rattle.eve_grammar.proofs.Counting.{all_below_at}
 use Rattle.eve_stamps.specs.Applied.{Applied}
-use Rattle.eve_attempts.specs.Closing.{is_before, TicksRise, indexes_of}
-use Rattle.eve_attempts.specs.Ordering.{IsNotAfter, TicksDontFall}
+use Rattle.eve_attempts.specs.Closing.{is_earlier_record, TicksRise, indexes_of}
+use Rattle.eve_attempts.specs.Ordering.{IsNoLaterRecord, TicksDontFall}
 
 -- ---- members
 
@@ -35,7 +35,8 @@ all_from_in P (x ∷ xs) h = (h x here, all_from_in P xs (λ y i. h y (there i))
 
 -- ---- before and not after
 
-before_parts : (r q : Applied) → IsTrue (is_before r q) → (r.tick < q.tick) ⊎ ((r.tick ≡ q.tick) × (r.index < q.index))
+before_parts : (r q : Applied) → IsTrue (is_earlier_record r q) → (r.tick < q.tick)
+    ⊎ ((r.tick ≡ q.tick) × (r.index < q.index))
 before_parts r q h = by (ltb r.tick q.tick) (r.tick == q.tick) (ltb r.index q.index) refl refl refl h
   where
     by : (a b d : Bool) → ltb r.tick q.tick ≡ a → (r.tick == q.tick) ≡ b → ltb r.index q.index ≡ d → (a || (b && d))
@@ -45,20 +46,20 @@ before_parts r q h = by (ltb r.tick q.tick) (r.tick == q.tick) (ltb r.index q.in
     by false true false e f g t = absurd (false≢true t)
     by false false d e f g t = absurd (false≢true t)
 
-pub before_not_after : (r q : Applied) → IsTrue (is_before r q) → IsNotAfter r q
+pub before_not_after : (r q : Applied) → IsTrue (is_earlier_record r q) → IsNoLaterRecord r q
 before_not_after r q h = elim (before_parts r q h) [
   | inl lt ↦ record { tick = omega arith; index = λ le. absurd (omega arith) }
   | inr same ↦ let e = same.0 in let f = same.1 in record { tick = omega arith; index = λ le. omega arith }
 ]
 
 -- a record that comes before another doesn't come after it too
-pub before_clash : (r q : Applied) → IsTrue (is_before r q) → IsNotAfter q r → ⊥
+pub before_clash : (r q : Applied) → IsTrue (is_earlier_record r q) → IsNoLaterRecord q r → ⊥
 before_clash r q h back = elim (before_parts r q h) [
   | inl lt ↦ let t = back.tick in omega arith
   | inr same ↦ let e = same.0 in let f = same.1 in let i = back.index (omega arith) in omega arith
 ]
 
-not_after_before : (r q : Applied) → IsNotAfter r q → r.index ≢ q.index → IsTrue (is_before r q)
+not_after_before : (r q : Applied) → IsNoLaterRecord r q → r.index ≢ q.index → IsTrue (is_earlier_record r q)
 not_after_before r q h other = elim (cases_lt r.tick q.tick) [
   | inl lt ↦ ap (λ a. a || ((r.tick == q.tick) && ltb r.index q.index)) (lt-ltb r.tick q.tick lt)
   | inr ge ↦
@@ -148,8 +149,8 @@ distinct_first r rs q distinct i same =
 pub rises : (rs : List Applied) → TicksDontFall rs → AreDistinct rs → TicksRise rs
 rises [] up distinct = tt
 rises (r ∷ rs) up distinct = (
-  all_from_in (λ q. IsTrue (is_before r q)) rs
-      (λ q i. not_after_before r q (all_in (IsNotAfter r) up.0 i) (distinct_first r rs q distinct i)),
+  all_from_in (λ q. IsTrue (is_earlier_record r q)) rs
+      (λ q i. not_after_before r q (all_in (IsNoLaterRecord r) up.0 i) (distinct_first r rs q distinct i)),
   rises rs up.1 (distinct_rest r rs distinct),
 )
 
@@ -167,14 +168,14 @@ same_first x y xs ys up uq one two = by (in_split x y ys (one x here)) (in_split
     by (inl e) j = e
     by (inr i) (inl e) = sym e
     by (inr i) (inr j) = absurd
-        (before_clash x y (all_in (λ q. IsTrue (is_before x q)) up.0 j)
-        (before_not_after y x (all_in (λ q. IsTrue (is_before y q)) uq.0 i)))
+        (before_clash x y (all_in (λ q. IsTrue (is_earlier_record x q)) up.0 j)
+        (before_not_after y x (all_in (λ q. IsTrue (is_earlier_record y q)) uq.0 i)))
 
 among_rest : (x : Applied) (xs ys : List Applied) → TicksRise (x ∷ xs) → AreAmong (x ∷ xs) (x ∷ ys) → AreAmong xs ys
 among_rest x xs ys up one z i = by (in_split z x ys (one z (there i)))
   where
     by : (z ≡ x) ⊎ In z ys → In z ys
-    by (inl e) = absurd (before_clash x z (all_in (λ q. IsTrue (is_before x q)) up.0 i)
+    by (inl e) = absurd (before_clash x z (all_in (λ q. IsTrue (is_earlier_record x q)) up.0 i)
         (record {
           tick = let h = ap (λ (r : Applied). r.tick) e in omega arith;
           index = λ le. let h = ap

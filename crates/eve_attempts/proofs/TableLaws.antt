@@ -16,9 +16,9 @@ use Rattle.eve_smallbank.proofs.Chains.{Follows, chain_follows, follows_chain}
 use Rattle.eve_grammar.specs.Trace.{Batch}
 use Rattle.eve_grammar.specs.Limits.{is_entry}
 use Rattle.eve_stamps.specs.Applied.{Applied}
-use Rattle.eve_attempts.specs.Ledgers.{Rows, Opened, table_of, undone, writes_in, is_write_in, AreLaid}
-use Rattle.eve_attempts.specs.Closing.{executed, entries_along, writes_along}
-use Rattle.eve_attempts.specs.Ordering.{AreSeenAlong, table_along}
+use Rattle.eve_attempts.specs.Ledgers.{Rows, Opened, table_of_rows, values_before, writes_in, is_write_in, AreLaid}
+use Rattle.eve_attempts.specs.Closing.{executed, entries_in_order, writes_along}
+use Rattle.eve_attempts.specs.Ordering.{AreSeenAlong, table_after_records}
 
 -- ---- rows as tables
 
@@ -31,7 +31,7 @@ same_list (x ∷ xs) (y ∷ ys) d many same =
     ap₂ (λ (z : _) (zs : List _). z ∷ zs) (same 0) (same_list xs ys d (omega arith) (λ i. same (suc i)))
 
 pub same_rows : (a b : Rows) → length a.versions ≡ length b.versions → length a.balances ≡ length b.balances
-    → table_of a ≡ table_of b → a ≡ b
+    → table_of_rows a ≡ table_of_rows b → a ≡ b
 same_rows a b versions balances same =
     ap₂ (λ (v : List ℕ) (m : List ℤ). record { versions = v; balances = m })
     (same_list a.versions b.versions 0 versions (λ i. ap (λ (t : Table). (t i).version) same))
@@ -50,11 +50,12 @@ abbrev set_both : Rows → ℕ → ℕ → ℤ → Rows
 set_both rows row version value =
     record { versions = set rows.versions row version; balances = set rows.balances row value }
 
-table_of-set : (rows : Rows) (at version : ℕ) (value : ℤ) (row : ℕ) → at < length rows.versions
+table_of_rows-set : (rows : Rows) (at version : ℕ) (value : ℤ) (row : ℕ) → at < length rows.versions
     → at < length rows.balances
-    → table_of (set_both rows at version value) row ≡ cond (at == row) (record { version = version; value = value })
-    (table_of rows row)
-table_of-set rows at version value row one two =
+    → table_of_rows (set_both rows at version value) row ≡ cond (at == row)
+    (record { version = version; value = value })
+    (table_of_rows rows row)
+table_of_rows-set rows at version value row one two =
     ap₂ (λ (v : ℕ) (m : ℤ). record { version = v; value = m }) (get_or-set rows.versions at version 0 one row)
     (get_or-set rows.balances at value (pos 0) two row)
     ∙ exchange (at == row)
@@ -63,23 +64,23 @@ table_of-set rows at version value row one two =
       version = cond b version (get_or rows.versions row 0);
       value = cond b value (get_or rows.balances row (pos 0));
     }
-        ≡ cond b (record { version = version; value = value }) (table_of rows row)
+        ≡ cond b (record { version = version; value = value }) (table_of_rows rows row)
     exchange true = refl
     exchange false = refl
 
 pub write_left : (rows : Rows) (e : Entry) → e.row < length rows.versions → e.row < length rows.balances
     → is_write e.kind ≡ true
-    → table_of (set_both rows e.row (e.version + 1) e.after) ≡ table_after (table_of rows) (e ∷ [])
+    → table_of_rows (set_both rows e.row (e.version + 1) e.after) ≡ table_after (table_of_rows rows) (e ∷ [])
 write_left rows e one two written =
-    fun_ext (λ row. table_of-set rows e.row (e.version + 1) e.after row one two
-    ∙ ap (λ b. cond (b && (e.row == row)) (left_by e) (table_of rows row)) (sym written))
+    fun_ext (λ row. table_of_rows-set rows e.row (e.version + 1) e.after row one two
+    ∙ ap (λ b. cond (b && (e.row == row)) (left_by e) (table_of_rows rows row)) (sym written))
 
 pub seen_left : (rows : Rows) (e : Entry) → e.row < length rows.versions → e.row < length rows.balances
     → is_write e.kind ≡ true
-    → table_of (set_both rows e.row e.version e.seen) ≡ undone (table_of rows) (e ∷ [])
+    → table_of_rows (set_both rows e.row e.version e.seen) ≡ values_before (table_of_rows rows) (e ∷ [])
 seen_left rows e one two written =
-    fun_ext (λ row. table_of-set rows e.row e.version e.seen row one two
-    ∙ ap (λ b. cond (b && (e.row == row)) (record { version = e.version; value = e.seen }) (table_of rows row))
+    fun_ext (λ row. table_of_rows-set rows e.row e.version e.seen row one two
+    ∙ ap (λ b. cond (b && (e.row == row)) (record { version = e.version; value = e.seen }) (table_of_rows rows row))
     (sym written))
 
 -- the row of an entry is there
@@ -102,33 +103,34 @@ module _ (now : Rows) (versions : List ℕ) (balances after : List ℤ) (e : Ent
   there = let h = (write_there (length now.balances) e right).1 in let k : length balances ≡ length now.balances =
       ap (λ (r : Rows). length r.balances) is in omega arith
 
-  pub write_held : after ≡ set balances e.row e.after → table_of (held (set versions n (e.version + 1)) after)
-      ≡ table_after (table_of now) (e ∷ [])
+  pub write_held : after ≡ set balances e.row e.after → table_of_rows (held (set versions n (e.version + 1)) after)
+      ≡ table_after (table_of_rows now) (e ∷ [])
   write_held set_is =
       let h = there in
-      ap₂ (λ (m : ℕ) (b : List ℤ). table_of (held (set versions m (e.version + 1)) b)) at set_is
+      ap₂ (λ (m : ℕ) (b : List ℤ). table_of_rows (held (set versions m (e.version + 1)) b)) at set_is
       ∙ write_left (held versions balances) e (omega arith) h (write_there (length now.balances) e right).0
-      ∙ ap (λ (r : Rows). table_after (table_of r) (e ∷ [])) is
+      ∙ ap (λ (r : Rows). table_after (table_of_rows r) (e ∷ [])) is
 
-  pub seen_held : after ≡ set balances e.row e.seen → table_of (held (set versions n e.version) after)
-      ≡ undone (table_of now) (e ∷ [])
+  pub seen_held : after ≡ set balances e.row e.seen → table_of_rows (held (set versions n e.version) after)
+      ≡ values_before (table_of_rows now) (e ∷ [])
   seen_held set_is =
       let h = there in
-      ap₂ (λ (m : ℕ) (b : List ℤ). table_of (held (set versions m e.version) b)) at set_is
+      ap₂ (λ (m : ℕ) (b : List ℤ). table_of_rows (held (set versions m e.version) b)) at set_is
       ∙ seen_left (held versions balances) e (omega arith) h (write_there (length now.balances) e right).0
-      ∙ ap (λ (r : Rows). undone (table_of r) (e ∷ [])) is
+      ∙ ap (λ (r : Rows). values_before (table_of_rows r) (e ∷ [])) is
 
 -- ---- going back
 
-pub undone-cons : (table : Table) (e : Entry) (es : List Entry) → undone table (e ∷ es)
-    ≡ undone (undone table es) (e ∷ [])
-undone-cons table e es = refl
+pub values_before-cons : (table : Table) (e : Entry) (es : List Entry) → values_before table (e ∷ es)
+    ≡ values_before (values_before table es) (e ∷ [])
+values_before-cons table e es = refl
 
-pub undone-append : (table : Table) (xs ys : List Entry) → undone table (xs ++ ys) ≡ undone (undone table ys) xs
-undone-append table [] ys = refl
-undone-append table (e ∷ xs) ys =
+pub values_before-append : (table : Table) (xs ys : List Entry) → values_before table (xs ++ ys) ≡ values_before
+    (values_before table ys) xs
+values_before-append table [] ys = refl
+values_before-append table (e ∷ xs) ys =
     ap (λ (t : Table). λ row. cond (writes_row row e) (record { version = e.version; value = e.seen }) (t row))
-    (undone-append table xs ys)
+    (values_before-append table xs ys)
 
 -- what an entry saw
 abbrev saw : Entry → Versioned
@@ -136,12 +138,13 @@ saw e = record { version = e.version; value = e.seen }
 
 undone_at : (table : Table) (v : Versioned) (row : ℕ) (es : List Entry)
     → AllByRecursion (λ e. writes_row row e ≡ true → saw e ≡ v) es
-    → undone table es row ≡ cond (list_any (writes_row row) es) v (table row)
+    → values_before table es row ≡ cond (list_any (writes_row row) es) v (table row)
 undone_at table v row [] all = refl
 undone_at table v row (e ∷ es) all = by (writes_row row e) all.0 (undone_at table v row es all.1)
   where
-    by : (b : Bool) → (b ≡ true → saw e ≡ v) → undone table es row ≡ cond (list_any (writes_row row) es) v (table row)
-        → cond b (saw e) (undone table es row) ≡ cond (b || list_any (writes_row row) es) v (table row)
+    by : (b : Bool) → (b ≡ true → saw e ≡ v) → values_before table es row ≡ cond (list_any (writes_row row) es) v
+        (table row)
+        → cond b (saw e) (values_before table es row) ≡ cond (b || list_any (writes_row row) es) v (table row)
     by true is rest = is refl
     by false is rest = rest
 
@@ -164,7 +167,8 @@ saw_base base row (e ∷ es) all = (here, saw_base base row es all.1)
         ap₂ (λ (v : ℕ) (m : ℤ). record { version = v; value = m }) all.0.version all.0.value ∙ ap base same
 
 -- entries that all saw one table, undone one after the other, the last first, give it again
-pub undone_seen : (base : Table) (es : List Entry) → AllByRecursion (Sees base) es → undone (table_after base es) es
+pub undone_seen : (base : Table) (es : List Entry) → AllByRecursion (Sees base) es
+    → values_before (table_after base es) es
     ≡ base
 undone_seen base es all = fun_ext (λ row. undone_at (table_after base es) (base row) row es (saw_base base row es all)
     ∙ by row)
@@ -180,15 +184,16 @@ undone_seen base es all = fun_ext (λ row. undone_at (table_after base es) (base
 abbrev pub writes_among : List Entry → List Entry
 writes_among es = filter (λ e. is_write e.kind) es
 
-pub undone-writes : (table : Table) (es : List Entry) → undone table (writes_among es) ≡ undone table es
-undone-writes table [] = refl
-undone-writes table (e ∷ es) = by (is_write e.kind) refl (undone-writes table es)
+pub values_before-writes : (table : Table) (es : List Entry) → values_before table (writes_among es)
+    ≡ values_before table es
+values_before-writes table [] = refl
+values_before-writes table (e ∷ es) = by (is_write e.kind) refl (values_before-writes table es)
   where
-    by : (b : Bool) → is_write e.kind ≡ b → undone table (writes_among es) ≡ undone table es
-        → undone table (cond b (e ∷ writes_among es) (writes_among es)) ≡ undone table (e ∷ es)
+    by : (b : Bool) → is_write e.kind ≡ b → values_before table (writes_among es) ≡ values_before table es
+        → values_before table (cond b (e ∷ writes_among es) (writes_among es)) ≡ values_before table (e ∷ es)
     by true is rest = fun_ext (λ row. ap (λ (t : Table). cond (writes_row row e) (saw e) (t row)) rest)
     by false is rest = rest ∙ fun_ext
-        (λ row. ap (λ b. cond (b && (e.row == row)) (saw e) (undone table es row)) (sym is))
+        (λ row. ap (λ b. cond (b && (e.row == row)) (saw e) (values_before table es row)) (sym is))
 
 pub table_after-writes : (table : Table) (es : List Entry) → table_after table (writes_among es) ≡ table_after table es
 table_after-writes table [] = refl
@@ -208,42 +213,44 @@ table_after-append table [] ys = refl
 table_after-append table (e ∷ xs) ys = table_after-append (λ row. cond (writes_row row e) (left_by e) (table row)) xs ys
 
 -- one more request that sees what there is
-pub undone_further : (base now : Table) (written es : List Entry) → undone now written ≡ base
+pub undone_further : (base now : Table) (written es : List Entry) → values_before now written ≡ base
     → AllByRecursion (Sees now) es
-    → undone (table_after now es) (written ++ writes_among es) ≡ base
+    → values_before (table_after now es) (written ++ writes_among es) ≡ base
 undone_further base now written es back all =
-    undone-append (table_after now es) written (writes_among es)
-    ∙ ap (λ (t : Table). undone t written) (undone-writes (table_after now es) es ∙ undone_seen now es all) ∙ back
+    values_before-append (table_after now es) written (writes_among es)
+    ∙ ap (λ (t : Table). values_before t written) (values_before-writes (table_after now es) es
+    ∙ undone_seen now es all) ∙ back
 
 -- all that executed requests noted, undone after their writes, gives the table that they found
 pub chain_undone : (table : Table) (xs : List Executed) → Follows table xs
-    → undone (table_after_all table xs) (flat_map (λ x. x.entries) xs) ≡ table
+    → values_before (table_after_all table xs) (flat_map (λ x. x.entries) xs) ≡ table
 chain_undone table [] follows = refl
 chain_undone table (x ∷ xs) follows =
-    undone-append (table_after_all (table_after table x.entries) xs) x.entries (flat_map (λ y. y.entries) xs)
-    ∙ ap (λ (t : Table). undone t x.entries) (chain_undone (table_after table x.entries) xs follows.1)
+    values_before-append (table_after_all (table_after table x.entries) xs) x.entries (flat_map (λ y. y.entries) xs)
+    ∙ ap (λ (t : Table). values_before t x.entries) (chain_undone (table_after table x.entries) xs follows.1)
     ∙ undone_seen table x.entries follows.0
 
 pub chained_undone : (table : Table) (xs : List Executed) → IsChained table [] xs
-    → undone (table_after_all table xs) (flat_map (λ x. x.entries) xs) ≡ table
+    → values_before (table_after_all table xs) (flat_map (λ x. x.entries) xs) ≡ table
 chained_undone table xs chained = chain_undone table xs (follows_chain table [] xs chained)
 
 -- ---- along an attempt
 
-pub table_along-entries : (table : Table) (rs : List Applied) → table_along table rs
-    ≡ table_after table (entries_along rs)
-table_along-entries table [] = refl
-table_along-entries table (r ∷ rs) = table_along-entries (table_after table r.entries) rs
-    ∙ sym (table_after-append table r.entries (entries_along rs))
+pub table_after_records-entries : (table : Table) (rs : List Applied) → table_after_records table rs
+    ≡ table_after table (entries_in_order rs)
+table_after_records-entries table [] = refl
+table_after_records-entries table (r ∷ rs) = table_after_records-entries (table_after table r.entries) rs
+    ∙ sym (table_after-append table r.entries (entries_in_order rs))
 
-pub table_along-writes : (table : Table) (rs : List Applied) → table_along table rs
+pub table_after_records-writes : (table : Table) (rs : List Applied) → table_after_records table rs
     ≡ table_after table (writes_along rs)
-table_along-writes table rs = table_along-entries table rs ∙ sym (table_after-writes table (entries_along rs))
+table_after_records-writes table rs = table_after_records-entries table rs
+    ∙ sym (table_after-writes table (entries_in_order rs))
 
-pub table_along-executed : (b : Batch) (table : Table) (rs : List Applied) → table_along table rs
+pub table_after_records-executed : (b : Batch) (table : Table) (rs : List Applied) → table_after_records table rs
     ≡ table_after_all table (map (executed b) rs)
-table_along-executed b table [] = refl
-table_along-executed b table (r ∷ rs) = table_along-executed b (table_after table r.entries) rs
+table_after_records-executed b table [] = refl
+table_after_records-executed b table (r ∷ rs) = table_after_records-executed b (table_after table r.entries) rs
 
 pub seen_follows : (b : Batch) (table : Table) (rs : List Applied) → AreSeenAlong table rs
     → Follows table (map (executed b) rs)
@@ -272,18 +279,19 @@ writes_in-append (o ∷ xs) ys = ap (λ (es : List Entry). o.written ++ es) (wri
 
 -- what the open attempts wrote, undone, is what stood before them
 pub laid_undone : (base : Table) (opened : List Opened) (now : Table) → AreLaid base opened now
-    → undone now (writes_in opened) ≡ base
+    → values_before now (writes_in opened) ≡ base
 laid_undone base [] now laid = sym laid
 laid_undone base (o ∷ opened) now laid =
-    undone-append now o.written (writes_in opened)
-    ∙ ap (λ (t : Table). undone t o.written) (laid_undone (table_after base o.written) opened now laid.1) ∙ laid.0
+    values_before-append now o.written (writes_in opened)
+    ∙ ap (λ (t : Table). values_before t o.written) (laid_undone (table_after base o.written) opened now laid.1)
+    ∙ laid.0
 
 pub laid_further : (base : Table) (opened : List Opened) (now next : Table) (o : Opened) → AreLaid base opened now
-    → undone next o.written ≡ now → next ≡ table_after now o.written
+    → values_before next o.written ≡ now → next ≡ table_after now o.written
     → AreLaid base (opened ++ o ∷ []) next
 laid_further base [] now next o laid back is = (
-  subst (λ (t : Table). undone (table_after t o.written) o.written ≡ t) (sym laid)
-      (ap (λ (t : Table). undone t o.written) (sym is) ∙ back),
+  subst (λ (t : Table). values_before (table_after t o.written) o.written ≡ t) (sym laid)
+      (ap (λ (t : Table). values_before t o.written) (sym is) ∙ back),
   ap (λ (t : Table). table_after t o.written) laid
       ∙ sym is,
 )

@@ -11,9 +11,10 @@ use Rattle.eve_smallbank.specs.Access.{is_write}
 use Rattle.eve_smallbank.specs.Chain.{Table, Sees, table_after}
 use Rattle.eve_grammar.specs.Limits.{is_number, is_entry, is_access}
 use Rattle.eve_stamps.specs.Applied.{Applied}
-use Rattle.eve_attempts.specs.Ledgers.{undone, is_write_in}
-use Rattle.eve_attempts.specs.Closing.{access_of, entries_along, writes_along}
-use Rattle.eve_attempts.specs.Ordering.{Key, record_of, records_in, no_record, IsKeyOf, AreSeenAlong, table_along}
+use Rattle.eve_attempts.specs.Ledgers.{values_before, is_write_in}
+use Rattle.eve_attempts.specs.Closing.{access_noted, entries_in_order, writes_along}
+use Rattle.eve_attempts.specs.Ordering.{Key, record_of, records_in, no_record, IsKeyOf, AreSeenAlong}
+use Rattle.eve_attempts.specs.Ordering.{table_after_records}
 use Rattle.eve_attempts.proofs.Listing.{filter-append, mapped_at, all_read, all_fact}
 use Rattle.eve_attempts.proofs.TableLaws.{writes_among, undone_further}
 
@@ -22,9 +23,9 @@ pub record Walking (base : Table) (all : List Applied) (now : Table) (rest : Lis
     0 where
   pub to : AreSeenAlong base all → AreSeenAlong now rest
   pub from : AreSeenAlong now rest → AreSeenAlong base all
-  pub table : table_along now rest ≡ table_along base all
+  pub table : table_after_records now rest ≡ table_after_records base all
   pub noted : written ++ writes_along rest ≡ writes_along all
-  pub back : undone now written ≡ base
+  pub back : values_before now written ≡ base
 
 pub walking_start : (base : Table) (all : List Applied) (written : List Entry) → written ≡ []
     → Walking base all base all written
@@ -33,7 +34,7 @@ walking_start base all written none = record {
   from = λ h. h;
   table = refl;
   noted = ap (λ (ws : List Entry). ws ++ writes_along all) none;
-  back = ap (undone base) none;
+  back = ap (values_before base) none;
 }
 
 pub walking_more : (base : Table) (all : List Applied) (now next : Table) (r : Applied) (rest : List Applied)
@@ -43,12 +44,12 @@ pub walking_more : (base : Table) (all : List Applied) (now next : Table) (r : A
 walking_more base all now next r rest written more w seen is are = record {
   to = λ h. subst (λ (t : Table). AreSeenAlong t rest) (sym is) (w.to h).1;
   from = λ h. w.from (seen, subst (λ (t : Table). AreSeenAlong t rest) is h);
-  table = ap (λ (t : Table). table_along t rest) is ∙ w.table;
+  table = ap (λ (t : Table). table_after_records t rest) is ∙ w.table;
   noted = ap (λ (ws : List Entry). ws ++ writes_along rest) are
       ∙ append_assoc written (writes_among r.entries) (writes_along rest)
       ∙ ap (λ (ws : List Entry). written ++ ws)
-      (sym (filter-append (λ e. is_write e.kind) r.entries (entries_along rest))) ∙ w.noted;
-  back = ap (λ (t : Table). undone t more) is ∙ ap (undone (table_after now r.entries)) are
+      (sym (filter-append (λ e. is_write e.kind) r.entries (entries_in_order rest))) ∙ w.noted;
+  back = ap (λ (t : Table). values_before t more) is ∙ ap (values_before (table_after now r.entries)) are
       ∙ undone_further base now written r.entries w.back seen;
 }
 
@@ -69,7 +70,7 @@ record_read records k r key is = sym (ap (λ (xs : List Applied). get_or xs k.2 
 
 -- ---- the limits
 
-pub access_parts : (n : ℕ) (r : Applied) → is_access n (access_of r) ≡ true → (length r.entries ≤ 3)
+pub access_parts : (n : ℕ) (r : Applied) → is_access n (access_noted r) ≡ true → (length r.entries ≤ 3)
     × (list_all (is_entry n) r.entries ≡ true)
 access_parts n r right =
     let one = and_parts (is_number 1 r.worker) _ right in
@@ -78,12 +79,13 @@ access_parts n r right =
     let four = and_parts (leb (length r.entries) 3) _ three.1 in
     (leb-true (length r.entries) 3 four.0, four.1)
 
-pub limits_at : (n : ℕ) (records : List Applied) (i : ℕ) (r : Applied) → list_all (is_access n) (map access_of records)
+pub limits_at : (n : ℕ) (records : List Applied) (i : ℕ) (r : Applied)
+    → list_all (is_access n) (map access_noted records)
     ≡ true → i < length records → r ≡ get_or records i r
     → (length r.entries ≤ 3) × (list_all (is_entry n) r.entries ≡ true)
 limits_at n records i r all within is =
-    access_parts n r (all_read (λ (x : Applied). is_access n (access_of x)) records i r
-    (sym (list_all-map (is_access n) access_of records) ∙ all) within is)
+    access_parts n r (all_read (λ (x : Applied). is_access n (access_noted x)) records i r
+    (sym (list_all-map (is_access n) access_noted records) ∙ all) within is)
 
 writes_right : (n : ℕ) (es : List Entry) → list_all (is_entry n) es ≡ true → list_all (is_write_in n) (writes_among es)
     ≡ true
@@ -117,7 +119,7 @@ module _ (records : List Applied) (order : List Key) (i : ℕ) (r : Applied)
       ∙ ap (λ (q : Applied). q ∷ records_in records (drop (i + 1) order))
       (sym (record_read records (get_or order i (0, 0, 0)) r key_at is))
 
-  pub limits_in : (n : ℕ) (es : List Entry) → list_all (is_access n) (map access_of records) ≡ true → es ≡ r.entries
+  pub limits_in : (n : ℕ) (es : List Entry) → list_all (is_access n) (map access_noted records) ≡ true → es ≡ r.entries
       → (length es ≤ 3) × (list_all (is_entry n) es ≡ true)
   limits_in n es limits are =
       subst (λ (ds : List Entry). (length ds ≤ 3) × (list_all (is_entry n) ds ≡ true)) (sym are)

@@ -5,42 +5,38 @@ use Rattle.std.specs.List.{AllByRecursion, flat_map, list_all}
 use Rattle.std.specs.List.Sorted.{IsPermutation}
 use Rattle.eve_smallbank.specs.declared.entry.Entry.{Entry}
 use Rattle.eve_smallbank.specs.declared.rows.Touched.{Touched}
-use Rattle.eve_smallbank.specs.SmallBank.{Request, Balance}
+use Rattle.eve_smallbank.specs.SmallBank.{Request}
 use Rattle.eve_smallbank.specs.Access.{Executed, Fits, is_write}
 use Rattle.eve_smallbank.specs.Chain.{IsChained, table_after_all}
 use Rattle.eve_smallbank.specs.Touch.{touched_of}
-use Rattle.eve_grammar.specs.Trace.{Asked, Batch, Access, Attempt}
+use Rattle.eve_grammar.specs.Trace.{Asked, Batch, Access, Attempt, no_request}
 use Rattle.eve_grammar.specs.Limits.{is_access, is_whole_attempt}
 use Rattle.eve_grammar.specs.Certificate.{is_certificate}
 use Rattle.eve_grammar.specs.Accesses.{is_new_access, is_right_place}
-use Rattle.eve_stamps.specs.Applied.{Applied, executed_by}
+use Rattle.eve_stamps.specs.Applied.{Applied, executed_as}
 use Rattle.eve_token.specs.Token.{token_of}
 use Rattle.eve_attempts.specs.declared.front.AttemptFront.{AttemptFront}
-use Rattle.eve_attempts.specs.Ledgers.{Opened, Ledger, row_count, rows_now, rows_committed}
+use Rattle.eve_attempts.specs.Ledgers.{Opened, Ledger, ledger_rows, table_now, rows_committed}
 
 -- ---- the batch
 
 -- what its requests touch, where the customers have these names
-abbrev pub touched_by : List (List ℕ) → Batch → List Touched
-touched_by names b = map (λ a. touched_of names a.request) b.requests
-
--- what stands where no request does
-abbrev pub no_request : Asked
-no_request = record { client = 0; number = 0; request = Balance [] }
+abbrev pub touched_in_batch : List (List ℕ) → Batch → List Touched
+touched_in_batch names b = map (λ a. touched_of names a.request) b.requests
 
 -- the request with this index
-abbrev pub request_at : Batch → ℕ → Request
-request_at b index = (slice_index_or b.requests index no_request).request
+abbrev pub request_with : Batch → ℕ → Request
+request_with b index = (slice_index_or b.requests index no_request).request
 
 -- ---- the records
 
 -- at a lesser tick, and of equal ticks with the lesser index
-abbrev pub is_before : Applied → Applied → Bool
-is_before r q = nat_lt r.tick q.tick || ((r.tick == q.tick) && nat_lt r.index q.index)
+abbrev pub is_earlier_record : Applied → Applied → Bool
+is_earlier_record r q = nat_lt r.tick q.tick || ((r.tick == q.tick) && nat_lt r.index q.index)
 
 abbrev pub TicksRise : List Applied → Type 0
 TicksRise [] = ⊤
-TicksRise (r ∷ rs) = AllByRecursion (λ q. IsTrue (is_before r q)) rs × TicksRise rs
+TicksRise (r ∷ rs) = AllByRecursion (λ q. IsTrue (is_earlier_record r q)) rs × TicksRise rs
 
 -- the records in the order of their ticks
 pub record IsByTicks (records ordered : List Applied) : Type 0 where
@@ -48,20 +44,20 @@ pub record IsByTicks (records ordered : List Applied) : Type 0 where
   pub rising : TicksRise ordered
 
 -- a record as its access frame has it
-abbrev pub access_of : Applied → Access
-access_of r = record { worker = r.worker; place = r.place; index = r.index; entries = r.entries }
+abbrev pub access_noted : Applied → Access
+access_noted r = record { worker = r.worker; place = r.place; index = r.index; entries = r.entries }
 
 -- the batch's request of a record, as it was executed
 abbrev pub executed : Batch → Applied → Executed
-executed b r = executed_by (request_at b r.index) r
+executed b r = executed_as (request_with b r.index) r
 
 -- what all records note, one after another
-abbrev pub entries_along : List Applied → List Entry
-entries_along ordered = flat_map (λ r. r.entries) ordered
+abbrev pub entries_in_order : List Applied → List Entry
+entries_in_order ordered = flat_map (λ r. r.entries) ordered
 
 -- what all records write
 abbrev pub writes_along : List Applied → List Entry
-writes_along ordered = filter (λ e. is_write e.kind) (entries_along ordered)
+writes_along ordered = filter (λ e. is_write e.kind) (entries_in_order ordered)
 
 -- the indexes
 abbrev pub indexes_of : List Applied → List ℕ
@@ -71,32 +67,32 @@ indexes_of ordered = map (λ r. r.index) ordered
 
 -- each is of one of so many workers and one of so many indexes, has an index that none before it has, and has its
 -- worker's next place
-abbrev pub are_right_accesses : ℕ → ℕ → List Access → List Access → Bool
-are_right_accesses workers count before [] = true
-are_right_accesses workers count before (x ∷ xs) =
+abbrev pub are_right_records : ℕ → ℕ → List Access → List Access → Bool
+are_right_records workers count before [] = true
+are_right_records workers count before (x ∷ xs) =
     is_new_access workers count before x
-    && (is_right_place before x && are_right_accesses workers count (before ++ x ∷ []) xs)
+    && (is_right_place before x && are_right_records workers count (before ++ x ∷ []) xs)
 
 -- in serial mode worker 0 is alone
-abbrev pub worker_count : Ledger → Bool → ℕ
-worker_count s serial = if serial then 1 else s.workers
+abbrev pub worker_limit : Ledger → Bool → ℕ
+worker_limit s serial = if serial then 1 else s.workers
 
 -- One record for each request, whatever their order. Each has entries of rows that are there, at versions within the
 -- limit, and fits its request.
 pub record AreNoted (workers rows : ℕ) (b : Batch) (touched : List Touched) (records : List Applied) : Type 0 where
   pub many : length records ≡ length b.requests
-  pub accesses : IsTrue (are_right_accesses workers (length b.requests) [] (map access_of records))
-  pub limits : IsTrue (list_all (is_access rows) (map access_of records))
-  pub fit : (names : List (List ℕ)) → touched ≡ touched_by names b
+  pub accesses : IsTrue (are_right_records workers (length b.requests) [] (map access_noted records))
+  pub limits : IsTrue (list_all (is_access rows) (map access_noted records))
+  pub fit : (names : List (List ℕ)) → touched ≡ touched_in_batch names b
       → AllByRecursion (Fits names) (map (executed b) records)
 
 -- And the order of their ticks keeps the groups, and in it each entry sees what the open attempts and the records
 -- before it left.
 pub record AreRight (s : Ledger) (serial : Bool) (b : Batch) (touched : List Touched) (records ordered : List Applied) :
     Type 0 where
-  pub noted : AreNoted (worker_count s serial) (row_count s) b touched records
+  pub noted : AreNoted (worker_limit s serial) (ledger_rows s) b touched records
   pub certificate : IsTrue (is_certificate b.sizes (length b.requests) serial (indexes_of ordered))
-  pub chained : IsChained (rows_now s) [] (map (executed b) ordered)
+  pub chained : IsChained (table_now s) [] (map (executed b) ordered)
 
 -- ---- the attempt
 
@@ -111,7 +107,7 @@ pub record IsAttemptOf (front : AttemptFront) (rows : ℕ) (balances : List ℤ)
   pub many : length a.replies ≡ length records
   pub replies : AllByRecursion (λ r. slice_get a.replies r.index ≡ Some r.reply) records
   pub token : a.token ≡ token_of 1 a.seq balances a.replies
-  pub accesses : a.accesses ≡ map access_of records
+  pub accesses : a.accesses ≡ map access_noted records
   pub whole : IsTrue (is_whole_attempt rows a)
 
 -- what is kept of an attempt while it is open
@@ -125,8 +121,8 @@ pub record Opens (old new : Ledger) (b : Batch) (ordered : List Applied) (a : At
     opened = old.opened ++ opened_as a ordered ∷ [];
     is_next_serial = false;
   }
-  pub as_many : row_count new ≡ row_count old
-  pub rows : rows_now new ≡ table_after_all (rows_now old) (map (executed b) ordered)
+  pub as_many : ledger_rows new ≡ ledger_rows old
+  pub rows : table_now new ≡ table_after_all (table_now old) (map (executed b) ordered)
   pub committed : rows_committed new ≡ rows_committed old
 
 -- The records of a batch became an attempt.
@@ -135,7 +131,7 @@ pub record Closes (front : AttemptFront) (old new : Ledger) (b : Batch) (touched
   pub ordered : List Applied
   pub by_ticks : IsByTicks records ordered
   pub right : AreRight old front.serial b touched records ordered
-  pub attempt : IsAttemptOf front (row_count old) new.rows.balances records ordered a
+  pub attempt : IsAttemptOf front (ledger_rows old) new.rows.balances records ordered a
   pub opens : Opens old new b ordered a
 
 -- In no order of their ticks are the records an attempt.

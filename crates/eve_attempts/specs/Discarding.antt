@@ -6,7 +6,7 @@ use Rattle.eve_smallbank.specs.Access.{writes_row}
 use Rattle.eve_smallbank.specs.Chain.{Table, table_after}
 use Rattle.eve_grammar.specs.Trace.{Commit, Restore, Rollback}
 use Rattle.eve_grammar.specs.Limits.{is_rollback}
-use Rattle.eve_attempts.specs.Ledgers.{Opened, Ledger, row_count, rows_now, open_writes, rows_committed}
+use Rattle.eve_attempts.specs.Ledgers.{Opened, Ledger, ledger_rows, table_now, open_writes, rows_committed}
 
 -- the first open attempt is committed, and its writes with it
 pub record Commits (old new : Ledger) (c : Commit) : Type 0 where
@@ -33,7 +33,7 @@ pub record RollsBack (old new : Ledger) (r : Rollback) : Type 0 where
   pub to : r.to ≡ old.committed
   pub view : r.view ≡ old.view + 1
   pub restores : AreRestores old r.restores
-  pub whole : IsTrue (is_rollback (row_count old) r)
+  pub whole : IsTrue (is_rollback (ledger_rows old) r)
   pub changed : new ≡ record old { rows = new.rows; opened = []; view = old.view + 1; is_next_serial = true }
-  pub as_many : row_count new ≡ row_count old
-  pub rows : rows_now new ≡ rows_committed old
+  pub as_many : ledger_rows new ≡ ledger_rows old
+  pub rows : table_now new ≡ rows_committed old

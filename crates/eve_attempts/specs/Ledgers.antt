@@ -3,8 +3,9 @@ use Rattle.std.specs.Prelude.{◌≡◌, ℕ, ℤ, ◌+◌, ◌≤◌, Bool, fal
 use Rattle.std.specs.Prelude.{replicate, slice_index_or}
 use Rattle.std.specs.List.{flat_map, list_all}
 use Rattle.eve_smallbank.specs.declared.entry.Entry.{Entry}
-use Rattle.eve_smallbank.specs.Access.{is_write, writes_row, balance_at}
+use Rattle.eve_smallbank.specs.Access.{is_write, writes_row, balance_of_row}
 use Rattle.eve_smallbank.specs.Chain.{Table, table_after}
+use Rattle.eve_grammar.specs.declared.limits.TheConstants.{MOST_BATCHES}
 use Rattle.eve_grammar.specs.Limits.{is_entry}
 
 -- An open attempt: its view, its token, and what its records wrote, in its certificate's order.
@@ -30,13 +31,13 @@ pub record Ledger : Type 0 where
   pub window : ℕ
 
 -- all rows at version 0
-abbrev pub opening_rows : List ℤ → Rows
-opening_rows balances = record { versions = replicate (length balances) 0; balances = balances }
+abbrev pub rows_at_first : List ℤ → Rows
+rows_at_first balances = record { versions = replicate (length balances) 0; balances = balances }
 
 -- and nothing open or committed
 abbrev pub opening : List ℤ → ℕ → ℕ → Ledger
 opening balances workers window = record {
-  rows = opening_rows balances;
+  rows = rows_at_first balances;
   opened = [];
   view = 0;
   committed = 0;
@@ -45,23 +46,27 @@ opening balances workers window = record {
   window = window;
 }
 
-abbrev pub row_count : Ledger → ℕ
-row_count s = length s.rows.balances
+abbrev pub ledger_rows : Ledger → ℕ
+ledger_rows s = length s.rows.balances
 
 -- ---- rows
 
 -- what each row has
-abbrev pub table_of : Rows → Table
-table_of rows row = record { version = slice_index_or rows.versions row 0; value = balance_at rows.balances row }
+abbrev pub table_of_rows : Rows → Table
+table_of_rows rows row = record {
+  version = slice_index_or rows.versions row 0;
+  value = balance_of_row rows.balances row;
+}
 
-abbrev pub rows_now : Ledger → Table
-rows_now s = table_of s.rows
+abbrev pub table_now : Ledger → Table
+table_now s = table_of_rows s.rows
 
 -- What each row had before these entries were written, the first of them first, where this is what it has after them:
 -- what the first write of it saw.
-abbrev pub undone : Table → List Entry → Table
-undone table [] row = table row
-undone table (e ∷ es) row = if writes_row row e then record { version = e.version; value = e.seen } else undone table es
+abbrev pub values_before : Table → List Entry → Table
+values_before table [] row = table row
+values_before table (e ∷ es) row = if writes_row row e then record { version = e.version; value = e.seen }
+    else values_before table es
     row
 
 -- the writes of attempts, one attempt after another
@@ -74,7 +79,7 @@ open_writes s = writes_in s.opened
 
 -- what each row has as it is committed
 abbrev pub rows_committed : Ledger → Table
-rows_committed s = undone (rows_now s) (open_writes s)
+rows_committed s = values_before (table_now s) (open_writes s)
 
 -- ---- what holds of every ledger
 
@@ -86,9 +91,9 @@ is_write_in rows e = is_write e.kind && is_entry rows e
 abbrev pub AreLaid : Table → List Opened → Table → Type 0
 AreLaid base [] now = base ≡ now
 AreLaid base (o ∷ opened) now =
-    (undone (table_after base o.written) o.written ≡ base) × AreLaid (table_after base o.written) opened now
+    (values_before (table_after base o.written) o.written ≡ base) × AreLaid (table_after base o.written) opened now
 
 pub record IsLedger (s : Ledger) : Type 0 where
-  pub counted : s.committed + length s.opened ≤ 65535
-  pub written : IsTrue (list_all (is_write_in (row_count s)) (open_writes s))
-  pub laid : AreLaid (rows_committed s) s.opened (rows_now s)
+  pub counted : s.committed + length s.opened ≤ MOST_BATCHES
+  pub written : IsTrue (list_all (is_write_in (ledger_rows s)) (open_writes s))
+  pub laid : AreLaid (rows_committed s) s.opened (table_now s)

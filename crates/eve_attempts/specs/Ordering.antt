@@ -34,13 +34,13 @@ abbrev pub records_in : List Applied → List Key → List Applied
 records_in records keys = map (record_of records) keys
 
 -- the one doesn't come after the other: its tick is no greater, and where the ticks are equal its index isn't
-pub record IsNotAfter (r q : Applied) : Type 0 where
+pub record IsNoLaterRecord (r q : Applied) : Type 0 where
   pub tick : r.tick ≤ q.tick
   pub index : q.tick ≤ r.tick → r.index ≤ q.index
 
 abbrev pub TicksDontFall : List Applied → Type 0
 TicksDontFall [] = ⊤
-TicksDontFall (r ∷ rs) = AllByRecursion (IsNotAfter r) rs × TicksDontFall rs
+TicksDontFall (r ∷ rs) = AllByRecursion (IsNoLaterRecord r) rs × TicksDontFall rs
 
 -- each record's entries see what the table and the records before it leave
 abbrev pub AreSeenAlong : Table → List Applied → Type 0
@@ -48,9 +48,9 @@ AreSeenAlong table [] = ⊤
 AreSeenAlong table (r ∷ rs) = AllByRecursion (Sees table) r.entries × AreSeenAlong (table_after table r.entries) rs
 
 -- what they leave
-abbrev pub table_along : Table → List Applied → Table
-table_along table [] = table
-table_along table (r ∷ rs) = table_along (table_after table r.entries) rs
+abbrev pub table_after_records : Table → List Applied → Table
+table_after_records table [] = table
+table_after_records table (r ∷ rs) = table_after_records (table_after table r.entries) rs
 
 -- replies with those of the records at their indexes
 abbrev pub replies_placed : List Reply → List Applied → List Reply

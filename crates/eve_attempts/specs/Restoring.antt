@@ -3,8 +3,8 @@ use Rattle.std.specs.Prelude.{ℕ, ◌+◌, nat_le, if◌then◌else◌, List, [
 use Rattle.eve_smallbank.specs.declared.entry.Entry.{Entry}
 
 -- the rows of entries
-abbrev pub rows_of : List Entry → List ℕ
-rows_of es = map (λ e. e.row) es
+abbrev pub entry_rows : List Entry → List ℕ
+entry_rows es = map (λ e. e.row) es
 
 -- numbers without those that are below this one, or not above one before them
 abbrev pub rising_from : ℕ → List ℕ → List ℕ

@@ -7,7 +7,7 @@ use Rattle.eve_grammar.specs.Limits.{is_reply}
 use Rattle.eve_write.specs.Data.{access}
 use Rattle.eve_stamps.specs.Applied.{Applied}
 use Rattle.eve_attempts.specs.declared.taken.Taken.{Taken}
-use Rattle.eve_attempts.specs.Closing.{access_of, indexes_of}
+use Rattle.eve_attempts.specs.Closing.{access_noted, indexes_of}
 use Rattle.eve_attempts.specs.Ordering.{IsKeyOf, records_in, TicksDontFall, replies_placed}
 
 -- the keys are those of the records in the order of their ticks, and the parts are the records'
@@ -18,7 +18,7 @@ pub record IsTakenOf (records : List Applied) (t : Taken) : Type 0 where
   pub certificate : t.certificate.items ≡ indexes_of (records_in records t.order.items)
   pub replies : t.replies.items ≡ replies_placed (replicate (length records) Done) records
   pub limits : IsTrue (list_all is_reply t.replies.items)
-  pub accesses : map access t.accesses.items ≡ map access_of records
+  pub accesses : map access t.accesses.items ≡ map access_noted records
   pub none : t.written.items ≡ []
   pub empty : vec_len t.written ≡ 0
   pub room : 3 * length records ≤ vec_capacity t.written

@@ -1,7 +1,7 @@
 //! Whether records may stand as an attempt's access frames.
 
 ghost use Rattle.std.specs.Prelude.{◌≡◌, ◌≤◌, [], map, length};
-ghost use Rattle.eve_attempts.specs.Closing.{access_of, are_right_accesses};
+ghost use Rattle.eve_attempts.specs.Closing.{access_noted, are_right_records};
 
 use eve_grammar::MOST_REQUESTS;
 use eve_stamps::AccessRecord;
@@ -13,7 +13,7 @@ use eve_stamps::AccessRecord;
 pub fn are_right_accesses(workers: u8, count: usize, records: &[AccessRecord]) -> bool
     requires few { length records.now ≤ MOST_REQUESTS }
     requires count { count ≤ MOST_REQUESTS }
-    ensures { result ≡ are_right_accesses workers count [] (map access_of records.now) }
+    ensures { result ≡ are_right_records workers count [] (map access_noted records.now) }
 {
     let mut seen = [false; MOST_REQUESTS];
     let mut places = [0; MOST_REQUESTS];

@@ -5,7 +5,7 @@ ghost use Rattle.std.specs.Prelude.{Some, IsTrue, IfOk, OnErr, IsOk, Err};
 ghost use Rattle.eve_grammar.specs.Limits.{is_batch};
 ghost use Rattle.eve_write.specs.Data.{batch as plain, attempt, commit, rollback};
 ghost use Rattle.eve_attempts.specs.Ledgers.{IsLedger, opening};
-ghost use Rattle.eve_attempts.specs.Closing.{touched_by, worker_count, Closes, AreMismatched};
+ghost use Rattle.eve_attempts.specs.Closing.{touched_in_batch, worker_limit, Closes, AreMismatched};
 ghost use Rattle.eve_attempts.specs.Discarding.{Commits, RollsBack};
 
 use crate::fault::{CloseFault, NotOpen};
@@ -142,7 +142,7 @@ impl Ledger {
 
     /// How many workers an attempt may have: worker 0 alone in serial mode.
     fn workers_for(&self, serial: bool) -> u8
-        ensures { result ≡ worker_count self.now serial }
+        ensures { result ≡ worker_limit self.now serial }
     {
         if serial { 1 } else { self.workers }
     }
@@ -169,7 +169,7 @@ impl Ledger {
         requires view { front.view ≡ self.old.view }
         requires serial { front.serial ≡ self.old.is_next_serial }
         requires batch { IsTrue (is_batch (plain batch.now)) }
-        requires touched { (names : List (List ℕ)) × (touched.now ≡ touched_by names (plain batch.now)) }
+        requires touched { (names : List (List ℕ)) × (touched.now ≡ touched_in_batch names (plain batch.now)) }
         ensures closed { IfOk result (λ a.
             Closes front self.old self.new (plain batch.now) touched.now records.now (attempt a)) }
         ensures mismatch { result ≡ Err CloseFault.Mismatch

@@ -6,7 +6,7 @@ ghost use Rattle.std.specs.List.{list_all, AllByRecursion};
 ghost use Rattle.eve_smallbank.specs.Access.{Fits};
 ghost use Rattle.eve_grammar.specs.Limits.{is_entry, is_access, is_batch};
 ghost use Rattle.eve_write.specs.Data.{batch as plain};
-ghost use Rattle.eve_attempts.specs.Closing.{touched_by, access_of, executed, AreNoted};
+ghost use Rattle.eve_attempts.specs.Closing.{touched_in_batch, access_noted, executed, AreNoted};
 
 use crate::accesses::are_right_accesses;
 use crate::groups::count_of;
@@ -38,7 +38,7 @@ fn are_entries(entries: &UpToThree<Entry>, rows: usize) -> bool
 
 /// Whether the record lies within the limits of the format.
 fn is_access(taken: &AccessRecord, rows: usize) -> bool
-    ensures { result ≡ is_access rows (access_of taken.now) }
+    ensures { result ≡ is_access rows (access_noted taken.now) }
 {
     let _worker = taken.worker();
     let _place = taken.place();
@@ -49,7 +49,7 @@ fn is_access(taken: &AccessRecord, rows: usize) -> bool
 }
 
 fn are_accesses(records: &[AccessRecord], rows: usize) -> bool
-    ensures { result ≡ list_all (is_access rows) (map access_of records.now) }
+    ensures { result ≡ list_all (is_access rows) (map access_noted records.now) }
 {
     for record in records {
         if !is_access(record, rows) {
@@ -61,9 +61,9 @@ fn are_accesses(records: &[AccessRecord], rows: usize) -> bool
 
 /// Whether the record fits the request of its index.
 fn is_fitting(batch: &BatchData, touched: &[Touched], taken: &AccessRecord) -> bool
-    requires touched { (names : List (List ℕ)) × (touched.now ≡ touched_by names (plain batch.now)) }
+    requires touched { (names : List (List ℕ)) × (touched.now ≡ touched_in_batch names (plain batch.now)) }
     requires index { taken.now.index < length (plain batch.now).requests }
-    ensures { (names : List (List ℕ)) → touched.now ≡ touched_by names (plain batch.now)
+    ensures { (names : List (List ℕ)) → touched.now ≡ touched_in_batch names (plain batch.now)
         → Decides result (Fits names (executed (plain batch.now) taken.now)) }
 {
     let index = taken.index() as usize;
@@ -77,9 +77,9 @@ fn is_fitting(batch: &BatchData, touched: &[Touched], taken: &AccessRecord) -> b
 }
 
 fn are_fitting(batch: &BatchData, touched: &[Touched], records: &[AccessRecord]) -> bool
-    requires touched { (names : List (List ℕ)) × (touched.now ≡ touched_by names (plain batch.now)) }
+    requires touched { (names : List (List ℕ)) × (touched.now ≡ touched_in_batch names (plain batch.now)) }
     requires indexes { AllByRecursion (λ r. r.index < length (plain batch.now).requests) records.now }
-    ensures { (names : List (List ℕ)) → touched.now ≡ touched_by names (plain batch.now)
+    ensures { (names : List (List ℕ)) → touched.now ≡ touched_in_batch names (plain batch.now)
         → Decides result (AllByRecursion (Fits names) (map (executed (plain batch.now)) records.now)) }
 {
     for record in records {
@@ -101,7 +101,7 @@ pub fn are_noted(
     records: &[AccessRecord],
 ) -> bool
     requires batch { IsTrue (is_batch (plain batch.now)) }
-    requires touched { (names : List (List ℕ)) × (touched.now ≡ touched_by names (plain batch.now)) }
+    requires touched { (names : List (List ℕ)) × (touched.now ≡ touched_in_batch names (plain batch.now)) }
     ensures { Decides result (AreNoted workers rows (plain batch.now) touched.now records.now) }
 {
     let count = count_of(batch);

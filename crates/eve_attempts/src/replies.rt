@@ -5,7 +5,7 @@ ghost use Rattle.std.specs.List.{list_all, AllByRecursion};
 ghost use Rattle.eve_smallbank.specs.declared.request.Reply.TheVariants.{Done};
 ghost use Rattle.eve_grammar.specs.Limits.{is_number, is_reply, is_token};
 ghost use Rattle.eve_write.specs.Data.{access};
-ghost use Rattle.eve_attempts.specs.Closing.{access_of};
+ghost use Rattle.eve_attempts.specs.Closing.{access_noted};
 ghost use Rattle.eve_attempts.specs.Ordering.{replies_placed};
 
 use eve_smallbank::Reply;
@@ -42,7 +42,7 @@ pub fn replies_of(alloc: Global, records: &[AccessRecord]) -> Result<Vec<Reply>,
 
 /// The records as access frames have them.
 pub fn accesses_of(alloc: Global, records: &[AccessRecord]) -> Result<Vec<AccessData>, AllocError>
-    ensures { IfOk result (λ accesses. map access accesses.items ≡ map access_of records.now) }
+    ensures { IfOk result (λ accesses. map access accesses.items ≡ map access_noted records.now) }
 {
     let mut accesses = Vec::with_capacity(alloc, records.len())?;
     for record in records {

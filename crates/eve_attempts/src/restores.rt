@@ -4,9 +4,9 @@ ghost use Rattle.std.specs.Prelude.{◌≡◌, ◌<◌, ◌≤◌, ◌++◌, [],
 ghost use Rattle.std.specs.List.{list_all, AllByRecursion};
 ghost use Rattle.std.specs.List.Sorted.{IsPermutation, IsNonDecreasing};
 ghost use Rattle.eve_grammar.specs.Bodies.{restore};
-ghost use Rattle.eve_attempts.specs.Ledgers.{table_of, undone, is_write_in, writes_in};
+ghost use Rattle.eve_attempts.specs.Ledgers.{table_of_rows, values_before, is_write_in, writes_in};
 ghost use Rattle.eve_attempts.specs.Discarding.{restore_in};
-ghost use Rattle.eve_attempts.specs.Restoring.{rows_of, rising_from};
+ghost use Rattle.eve_attempts.specs.Restoring.{entry_rows, rising_from};
 
 use crate::opened::OpenAttempt;
 use crate::rows::Rows;
@@ -17,7 +17,7 @@ use std::alloc::{AllocError, Global};
 /// Appends the rows of the entries.
 fn append_rows(rows: &mut Vec<u32>, written: &[Entry]) -> Result<(), AllocError>
     requires { AllByRecursion (λ row. row < MOST_NAMED_ROWS) rows.old.items }
-    ensures rows { OnOk result (rows.new.items ≡ rows.old.items ++ rows_of written.now) }
+    ensures rows { OnOk result (rows.new.items ≡ rows.old.items ++ entry_rows written.now) }
     ensures small { OnOk result (AllByRecursion (λ row. row < MOST_NAMED_ROWS) rows.new.items) }
 {
     rows.reserve(written.len())?;
@@ -29,7 +29,7 @@ fn append_rows(rows: &mut Vec<u32>, written: &[Entry]) -> Result<(), AllocError>
 
 /// The rows that attempts wrote, rising, each as often as it was written.
 pub fn written_rows(alloc: Global, opened: &[OpenAttempt]) -> Result<Vec<u32>, AllocError>
-    ensures rows { IfOk result (λ rows. IsPermutation (rows_of (writes_in opened.now)) rows.items) }
+    ensures rows { IfOk result (λ rows. IsPermutation (entry_rows (writes_in opened.now)) rows.items) }
     ensures rising { IfOk result (λ rows. IsNonDecreasing rows.items) }
     ensures small { IfOk result (λ rows. AllByRecursion (λ row. row < MOST_NAMED_ROWS) rows.items) }
 {
@@ -45,7 +45,7 @@ pub fn written_rows(alloc: Global, opened: &[OpenAttempt]) -> Result<Vec<u32>, A
 pub fn undo_all(rows: &mut Rows, opened: &[OpenAttempt])
     requires { IsTrue (list_all (is_write_in (length rows.old.balances)) (writes_in opened.now)) }
     ensures as_many { length rows.new.balances ≡ length rows.old.balances }
-    ensures table { table_of rows.new ≡ undone (table_of rows.old) (writes_in opened.now) }
+    ensures table { table_of_rows rows.new ≡ values_before (table_of_rows rows.old) (writes_in opened.now) }
 {
     let mut end = opened.len();
     while end > 0 {
@@ -62,7 +62,7 @@ pub fn restore_all(rows: &Rows, numbers: &[u32], restores: &mut Vec<Restore>)
     requires none { restores.old.items ≡ [] }
     requires empty { vec_len restores.old ≡ 0 }
     requires room { length numbers.now ≤ vec_capacity restores.old }
-    ensures { map restore restores.new.items ≡ map (restore_in (table_of rows.now)) (rising_from 0 numbers.now) }
+    ensures { map restore restores.new.items ≡ map (restore_in (table_of_rows rows.now)) (rising_from 0 numbers.now) }
 {
     let mut least = 0;
     for number in numbers {

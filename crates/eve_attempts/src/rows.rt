@@ -6,7 +6,7 @@ ghost use Rattle.std.specs.List.{list_all, AllByRecursion};
 ghost use Rattle.eve_smallbank.specs.Chain.{Sees, table_after};
 ghost use Rattle.eve_grammar.specs.Bodies.{restore};
 ghost use Rattle.eve_grammar.specs.Limits.{is_entry};
-ghost use Rattle.eve_attempts.specs.Ledgers.{opening_rows, table_of, undone, is_write_in};
+ghost use Rattle.eve_attempts.specs.Ledgers.{rows_at_first, table_of_rows, values_before, is_write_in};
 ghost use Rattle.eve_attempts.specs.Discarding.{restore_in};
 
 use eve_accounts::{Balances, Row};
@@ -15,7 +15,7 @@ use eve_smallbank::{Entry, UpToThree};
 use std::alloc::{AllocError, Global};
 use std::marker::Model;
 
-/// Version and balance of each row, by number. Contracts see the lists of both, and `table_of` of them.
+/// Version and balance of each row, by number. Contracts see the lists of both, and `table_of_rows` of them.
 #[derive(Drop)]
 pub struct Rows {
     versions: Vec<u64>,
@@ -36,7 +36,7 @@ impl Model for Rows {
 impl Rows {
     /// All rows at version 0 with these balances.
     pub fn new(alloc: Global, balances: &Balances) -> Result<Rows, AllocError>
-        ensures { IfOk result (λ rows. rows ≡ opening_rows balances.now) }
+        ensures { IfOk result (λ rows. rows ≡ rows_at_first balances.now) }
     {
         let versions = vec![in alloc; 0; balances.len()]?;
         Ok(Rows {
@@ -63,7 +63,7 @@ impl Rows {
     /// Whether the entry saw what its row has.
     fn is_seen(&self, entry: &Entry) -> bool
         requires { IsTrue (is_entry (length self.now.balances) entry.now) }
-        ensures { Decides result (Sees (table_of self.now) entry.now) }
+        ensures { Decides result (Sees (table_of_rows self.now) entry.now) }
     {
         entry.version == self.versions[entry.row.number() as usize]
             && entry.seen == self.balances.get(entry.row)
@@ -72,7 +72,7 @@ impl Rows {
     /// Whether each of the entries saw what its row has.
     pub fn are_seen(&self, entries: &UpToThree<Entry>) -> bool
         requires { IsTrue (list_all (is_entry (length self.now.balances)) entries.now) }
-        ensures { Decides result (AllByRecursion (Sees (table_of self.now)) entries.now) }
+        ensures { Decides result (AllByRecursion (Sees (table_of_rows self.now)) entries.now) }
     {
         for place in 0..entries.len() {
             if !self.is_seen(&entries.at(place)) {
@@ -87,7 +87,7 @@ impl Rows {
         requires { IsTrue (is_write_in (length self.old.balances) entry.now) }
         ensures as_many { length self.new.balances ≡ length self.old.balances }
         ensures versions { length self.new.versions ≡ length self.old.versions }
-        ensures table { table_of self.new ≡ table_after (table_of self.old) (entry.now ∷ []) }
+        ensures table { table_of_rows self.new ≡ table_after (table_of_rows self.old) (entry.now ∷ []) }
     {
         self.versions[entry.row.number() as usize] = entry.version + 1;
         self.balances.set(entry.row, entry.after);
@@ -98,7 +98,7 @@ impl Rows {
         requires { IsTrue (is_write_in (length self.old.balances) entry.now) }
         ensures as_many { length self.new.balances ≡ length self.old.balances }
         ensures versions { length self.new.versions ≡ length self.old.versions }
-        ensures table { table_of self.new ≡ undone (table_of self.old) (entry.now ∷ []) }
+        ensures table { table_of_rows self.new ≡ values_before (table_of_rows self.old) (entry.now ∷ []) }
     {
         self.versions[entry.row.number() as usize] = entry.version;
         self.balances.set(entry.row, entry.seen);
@@ -109,7 +109,7 @@ impl Rows {
         requires { IsTrue (list_all (is_write_in (length self.old.balances)) written.now) }
         ensures as_many { length self.new.balances ≡ length self.old.balances }
         ensures versions { length self.new.versions ≡ length self.old.versions }
-        ensures table { table_of self.new ≡ undone (table_of self.old) written.now }
+        ensures table { table_of_rows self.new ≡ values_before (table_of_rows self.old) written.now }
     {
         let mut end = written.len();
         while end > 0 {
@@ -121,7 +121,7 @@ impl Rows {
     /// A row, as it is now.
     pub fn restore_of(&self, row: Row) -> Restore
         requires { row < length self.now.balances }
-        ensures { restore result ≡ restore_in (table_of self.now) row }
+        ensures { restore result ≡ restore_in (table_of_rows self.now) row }
     {
         Restore {
             row,

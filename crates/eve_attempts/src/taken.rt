@@ -6,7 +6,7 @@ ghost use Rattle.eve_grammar.specs.Limits.{is_batch};
 ghost use Rattle.eve_grammar.specs.Certificate.{is_certificate};
 ghost use Rattle.eve_write.specs.Data.{batch as plain};
 ghost use Rattle.eve_stamps.specs.Applied.{Applied};
-ghost use Rattle.eve_attempts.specs.Closing.{touched_by, indexes_of, AreNoted, IsByTicks};
+ghost use Rattle.eve_attempts.specs.Closing.{touched_in_batch, indexes_of, AreNoted, IsByTicks};
 ghost use Rattle.eve_attempts.specs.Taking.{IsTakenOf};
 
 use crate::fault::CloseFault;
@@ -60,7 +60,7 @@ pub fn take(
     records: &[AccessRecord],
 ) -> Result<Taken, CloseFault>
     requires batch { IsTrue (is_batch (plain batch.now)) }
-    requires touched { (names : List (List ℕ)) × (touched.now ≡ touched_by names (plain batch.now)) }
+    requires touched { (names : List (List ℕ)) × (touched.now ≡ touched_in_batch names (plain batch.now)) }
     ensures taken { IfOk result (IsTakenOf records.now) }
     ensures noted { OnOk result (AreNoted workers rows (plain batch.now) touched.now records.now) }
     ensures order { IfOk result (λ t.

@@ -7,9 +7,9 @@ ghost use Rattle.std.specs.List.{list_all, AllByRecursion};
 ghost use Rattle.eve_smallbank.specs.Access.{is_write};
 ghost use Rattle.eve_smallbank.specs.Chain.{table_after};
 ghost use Rattle.eve_grammar.specs.Limits.{is_entry, is_access};
-ghost use Rattle.eve_attempts.specs.Ledgers.{table_of, is_write_in, undone};
-ghost use Rattle.eve_attempts.specs.Closing.{access_of, writes_along};
-ghost use Rattle.eve_attempts.specs.Ordering.{IsKeyOf, records_in, AreSeenAlong, table_along};
+ghost use Rattle.eve_attempts.specs.Ledgers.{table_of_rows, is_write_in, values_before};
+ghost use Rattle.eve_attempts.specs.Closing.{access_noted, writes_along};
+ghost use Rattle.eve_attempts.specs.Ordering.{IsKeyOf, records_in, AreSeenAlong, table_after_records};
 
 use crate::order::Key;
 use crate::rows::Rows;
@@ -22,7 +22,7 @@ fn write_one(rows: &mut Rows, entry: &Entry, written: &mut Vec<Entry>)
     requires room { vec_len written.old < vec_capacity written.old }
     ensures as_many { length rows.new.balances ≡ length rows.old.balances }
     ensures versions { length rows.new.versions ≡ length rows.old.versions }
-    ensures table { table_of rows.new ≡ table_after (table_of rows.old) (entry.now ∷ []) }
+    ensures table { table_of_rows rows.new ≡ table_after (table_of_rows rows.old) (entry.now ∷ []) }
     ensures written { written.new.items ≡ written.old.items ++ filter (λ e. is_write e.kind) (entry.now ∷ []) }
     ensures len { vec_len written.new ≤ vec_len written.old + 1 }
     ensures capacity { vec_capacity written.new ≡ vec_capacity written.old }
@@ -39,7 +39,7 @@ fn write_all(rows: &mut Rows, entries: &UpToThree<Entry>, written: &mut Vec<Entr
     requires room { vec_len written.old + length entries.now ≤ vec_capacity written.old }
     ensures as_many { length rows.new.balances ≡ length rows.old.balances }
     ensures versions { length rows.new.versions ≡ length rows.old.versions }
-    ensures table { table_of rows.new ≡ table_after (table_of rows.old) entries.now }
+    ensures table { table_of_rows rows.new ≡ table_after (table_of_rows rows.old) entries.now }
     ensures written { written.new.items ≡ written.old.items ++ filter (λ e. is_write e.kind) entries.now }
     ensures len { vec_len written.new ≤ vec_len written.old + length entries.now }
     ensures capacity { vec_capacity written.new ≡ vec_capacity written.old }
@@ -61,18 +61,18 @@ pub fn write_along(
 ) -> bool
     requires paired { length rows.old.versions ≡ length rows.old.balances }
     requires there { AllByRecursion (IsKeyOf records.now) order.now }
-    requires limits { IsTrue (list_all (is_access (length rows.old.balances)) (map access_of records.now)) }
+    requires limits { IsTrue (list_all (is_access (length rows.old.balances)) (map access_noted records.now)) }
     requires none { written.old.items ≡ [] }
     requires empty { vec_len written.old ≡ 0 }
     requires room { 3 * length order.now ≤ vec_capacity written.old }
-    ensures seen { Decides result (AreSeenAlong (table_of rows.old) (records_in records.now order.now)) }
+    ensures seen { Decides result (AreSeenAlong (table_of_rows rows.old) (records_in records.now order.now)) }
     ensures as_many { length rows.new.balances ≡ length rows.old.balances }
     ensures versions { length rows.new.versions ≡ length rows.old.versions }
     ensures table { OnTrue result
-        (table_of rows.new ≡ table_along (table_of rows.old) (records_in records.now order.now)) }
+        (table_of_rows rows.new ≡ table_after_records (table_of_rows rows.old) (records_in records.now order.now)) }
     ensures written { OnTrue result (written.new.items ≡ writes_along (records_in records.now order.now)) }
     ensures right { OnTrue result (IsTrue (list_all (is_write_in (length rows.new.balances)) written.new.items)) }
-    ensures undone { OnTrue result (undone (table_of rows.new) written.new.items ≡ table_of rows.old) }
+    ensures undone { OnTrue result (values_before (table_of_rows rows.new) written.new.items ≡ table_of_rows rows.old) }
     ensures kept { OnFalse result (rows.new ≡ rows.old) }
 {
     for key in order {

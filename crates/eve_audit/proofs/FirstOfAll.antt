@@ -8,7 +8,7 @@ use Rattle.eve_grammar.specs.Trace.{Trace}
 use Rattle.eve_grammar.specs.Frames.{sections_of}
 use Rattle.eve_grammar.specs.Limits.{HasLimits}
 use Rattle.eve_grammar.specs.Spelling.{section_text, sections_start, section_start, verifiers_start, length_of}
-use Rattle.eve_views.specs.Code.{number_of, phase_of}
+use Rattle.eve_views.specs.Code.{code_number, phase_of}
 use Rattle.eve_views.specs.declared.fault.Code.{Code}
 use Rattle.eve_views.specs.declared.fault.Code.TheVariants as code
 use Rattle.eve_views.specs.declared.fault.Fault.{Fault}
@@ -67,7 +67,7 @@ first_below P decided (suc n) = elim (first_below P decided n) [
 
 -- ---- the first by phase, offset and number
 
-number-few : (c : Code) → number_of c < 91
+number-few : (c : Code) → code_number c < 91
 number-few code.Length = omega arith
 number-few c = omega arith
 
@@ -79,19 +79,19 @@ module _ (S : Code → ℕ → Type 0) (decided : (c : Code) (at : ℕ) → Deci
     (within : (c : Code) (at : ℕ) → S c at → at ≤ end) where
   -- at this place
   abbrev Here : ℕ → ℕ → ℕ → Type 0
-  Here phase at number = (phase_of (code_with number) ≡ phase) × (number_of (code_with number) ≡ number)
+  Here phase at number = (phase_of (code_with number) ≡ phase) × (code_number (code_with number) ≡ number)
       × S (code_with number) at
 
   here : (phase at number : ℕ) → Decided (Here phase at number)
   here phase at number =
       decided_as (λ all. (all.0.0, all.0.1, all.1)) (λ all. ((all.0, all.1), all.2))
       (decided_both (decided_both (numbers (phase_of (code_with number)) phase)
-      (numbers (number_of (code_with number)) number)) (decided (code_with number) at))
+      (numbers (code_number (code_with number)) number)) (decided (code_with number) at))
 
-  here_from : (c : Code) (at : ℕ) → S c at → Here (phase_of c) at (number_of c)
+  here_from : (c : Code) (at : ℕ) → S c at → Here (phase_of c) at (code_number c)
   here_from c at stands =
       let same = sym (with_its_number c) in
-      (ap phase_of (with_its_number c), ap number_of (with_its_number c), subst (λ (d : Code). S d at) same stands)
+      (ap phase_of (with_its_number c), ap code_number (with_its_number c), subst (λ (d : Code). S d at) same stands)
 
   abbrev AtOffset : ℕ → ℕ → Type 0
   AtOffset phase at = (number : ℕ) × (number < 91) × Here phase at number
@@ -106,7 +106,7 @@ module _ (S : Code → ℕ → Type 0) (decided : (c : Code) (at : ℕ) → Deci
   in_phase phase = below_or_none (AtOffset phase) (at_offset phase) (end + 1)
 
   offset_from : (c : Code) (at : ℕ) → S c at → AtOffset (phase_of c) at
-  offset_from c at stands = (number_of c, number-few c, here_from c at stands)
+  offset_from c at stands = (code_number c, number-few c, here_from c at stands)
 
   phase_from : (c : Code) (at : ℕ) → S c at → InPhase (phase_of c)
   phase_from c at stands = let le = within c at stands in (at, omega (arith, le), offset_from c at stands)
@@ -118,7 +118,7 @@ module _ (S : Code → ℕ → Type 0) (decided : (c : Code) (at : ℕ) → Deci
     pub stands : S kind offset
     pub first : (c : Code) (at : ℕ) → S c at
         → (phase_of kind < phase_of c)
-        ⊎ ((phase_of kind ≡ phase_of c) × ((offset < at) ⊎ ((offset ≡ at) × (number_of kind ≤ number_of c))))
+        ⊎ ((phase_of kind ≡ phase_of c) × ((offset < at) ⊎ ((offset ≡ at) × (code_number kind ≤ code_number c))))
 
   made : (phase at number : ℕ) → ((p : ℕ) → p < phase → ¬ InPhase p) → ((o : ℕ) → o < at → ¬ AtOffset phase o)
       → ((k : ℕ) → k < number → ¬ Here phase at k) → Here phase at number → IsFirstHere
@@ -129,27 +129,27 @@ module _ (S : Code → ℕ → Type 0) (decided : (c : Code) (at : ℕ) → Deci
     first = λ c o stands. by c o stands (cases_lt phase (phase_of c)) (cases_lt (phase_of c) phase);
   }
     where
-      lowest : (c : Code) → phase ≡ phase_of c → S c at → (number_of c < number) ⊎ (number ≤ number_of c)
-          → number_of (code_with number) ≤ number_of c
+      lowest : (c : Code) → phase ≡ phase_of c → S c at → (code_number c < number) ⊎ (number ≤ code_number c)
+          → code_number (code_with number) ≤ code_number c
       lowest c same stands (inr le) = omega (arith, is.1, le)
       lowest c same stands (inl lt) =
-          absurd (no_number (number_of c) lt
-          (subst (λ (p : ℕ). Here p at (number_of c)) (sym same) (here_from c at stands)))
+          absurd (no_number (code_number c) lt
+          (subst (λ (p : ℕ). Here p at (code_number c)) (sym same) (here_from c at stands)))
 
       up_to : (c : Code) (o : ℕ) → phase ≡ phase_of c → S c o → (at < o) ⊎ (o ≤ at) → (o < at) ⊎ (at ≤ o) → (at < o)
-          ⊎ ((at ≡ o) × (number_of (code_with number) ≤ number_of c))
+          ⊎ ((at ≡ o) × (code_number (code_with number) ≤ code_number c))
       up_to c o same stands (inl lt) other = inl lt
       up_to c o same stands (inr le) (inl lt) =
           absurd (no_offset o lt (subst (λ (p : ℕ). AtOffset p o) (sym same) (offset_from c o stands)))
       up_to c o same stands (inr le) (inr ge) =
           let equal : at ≡ o = omega (arith, le, ge) in
-          inr (equal, lowest c same (subst (S c) (sym equal) stands) (cases_lt (number_of c) number))
+          inr (equal, lowest c same (subst (S c) (sym equal) stands) (cases_lt (code_number c) number))
 
       by : (c : Code) (o : ℕ) → S c o → (phase < phase_of c) ⊎ (phase_of c ≤ phase) → (phase_of c < phase)
           ⊎ (phase ≤ phase_of c)
           → (phase_of (code_with number) < phase_of c)
           ⊎ ((phase_of (code_with number) ≡ phase_of c)
-          × ((at < o) ⊎ ((at ≡ o) × (number_of (code_with number) ≤ number_of c))))
+          × ((at < o) ⊎ ((at ≡ o) × (code_number (code_with number) ≤ code_number c))))
       by c o stands (inl lt) other = inl (omega (arith, is.0, lt))
       by c o stands (inr le) (inl lt) = absurd (no_phase (phase_of c) lt (phase_from c o stands))
       by c o stands (inr le) (inr ge) =
@@ -329,7 +329,7 @@ module _ (t : Trace) (fates : (e : ℕ) → FatesAreAsItEnds t e) where
             (found : IsAt t first.kind first.offset) (g : Fault)
             → (phase_of first.kind < phase_of g.code)
             ⊎ ((phase_of first.kind ≡ phase_of g.code)
-            × ((first.offset < g.offset) ⊎ ((first.offset ≡ g.offset) × (number_of first.kind ≤ number_of g.code))))
+            × ((first.offset < g.offset) ⊎ ((first.offset ≡ g.offset) × (code_number first.kind ≤ code_number g.code))))
             → Precedes found.fault g
         by first found g (inl lt) = inl (omega (arith, ap phase_of found.kind, lt))
         by first found g (inr (same, inl lt)) =
@@ -338,5 +338,5 @@ module _ (t : Trace) (fates : (e : ℕ) → FatesAreAsItEnds t e) where
             inr (
               ap phase_of found.kind
                   ∙ same,
-              inr (found.offset ∙ low.0, omega (arith, ap number_of found.kind, low.1)),
+              inr (found.offset ∙ low.0, omega (arith, ap code_number found.kind, low.1)),
             )

@@ -3,7 +3,7 @@ use Rattle.std.proofs.Common.{◌≡◌, ℕ, inl, inr, List, Some, refl, sym, a
 use Rattle.std.specs.Prelude.{if◌then◌else◌, ◌==◌, Option, true, false}
 use Rattle.eve_grammar.specs.Trace.{Trace}
 use Rattle.eve_grammar.specs.Limits.{Spells}
-use Rattle.eve_views.specs.Code.{number_of, phase_of}
+use Rattle.eve_views.specs.Code.{code_number, phase_of}
 use Rattle.eve_views.specs.Form.{IsUpTo, Precedes}
 use Rattle.eve_views.specs.declared.fault.Code.{Code}
 use Rattle.eve_views.specs.declared.fault.Code.TheVariants as code
@@ -50,12 +50,12 @@ code_with n =
     else if n == 80 then code.Outcome
     else code.Reply
 
-pub with_its_number : (c : Code) → code_with (number_of c) ≡ c
+pub with_its_number : (c : Code) → code_with (code_number c) ≡ c
 unfolding code_with
 with_its_number code.Length = refl
 with_its_number c = refl
 
-one_number : (c d : Code) → number_of c ≡ number_of d → c ≡ d
+one_number : (c d : Code) → code_number c ≡ code_number d → c ≡ d
 one_number c d same = sym (with_its_number c) ∙ ap code_with same ∙ with_its_number d
 
 -- faults that precede one another stand at one place under one code

@@ -1,7 +1,7 @@
 //! The verdict on the bytes of a trace.
 #![tactic(auto)]
 
-mod judge;
+mod auditing;
 pub mod laws;
 mod replica;
 mod replicas;
@@ -11,5 +11,5 @@ mod together;
 mod verdict;
 mod workers;
 
-pub use judge::{audit, audit_one};
+pub use auditing::{audit, audit_one};
 pub use verdict::{AuditFault, Summary, Verdict};

@@ -4,7 +4,7 @@ use Rattle.std.proofs.Common.{Some, None, refl, sym, subst, ap, ◌∙◌, appen
 use Rattle.std.specs.List.{flat_map}
 use Rattle.std.proofs.lemmas.Grind.{flat_map-append}
 use Rattle.eve_smallbank.specs.declared.entry.Entry.{Entry}
-use Rattle.eve_smallbank.specs.Access.{balance_at, bank_of, values_after}
+use Rattle.eve_smallbank.specs.Access.{balance_of_row, bank_of, values_after}
 use Rattle.eve_frames.specs.declared.access.AccessView.{AccessView}
 use Rattle.eve_grammar.specs.Trace.{Access, Trace}
 use Rattle.eve_grammar.specs.Limits.{HasLimits}
@@ -25,14 +25,14 @@ use Rattle.eve_chains.proofs.PartsInOrder.{part_within, length-parts}
 
 one_more : (opening : List ℤ) (batches : List (List (ℕ × Access))) (n : ℕ) (ys : List (ℕ × Access))
     → slice_get batches n ≡ Some ys
-    → values_after (balance_at opening) (flat_map entries_along (take (suc n) batches))
-    ≡ values_after (values_after (balance_at opening) (flat_map entries_along (take n batches))) (entries_along ys)
+    → values_after (balance_of_row opening) (flat_map entries_along (take (suc n) batches))
+    ≡ values_after (values_after (balance_of_row opening) (flat_map entries_along (take n batches))) (entries_along ys)
 one_more opening batches n ys at =
-    ap (values_after (balance_at opening))
+    ap (values_after (balance_of_row opening))
     (ap (flat_map entries_along) (take_one_more batches n ys at) ∙ flat_map-append entries_along (take n batches)
     (ys ∷ [])
     ∙ ap (λ (es : List Entry). flat_map entries_along (take n batches) ++ es) (append-nil (entries_along ys)))
-    ∙ values_after-append (balance_at opening) (flat_map entries_along (take n batches)) (entries_along ys)
+    ∙ values_after-append (balance_of_row opening) (flat_map entries_along (take n batches)) (entries_along ys)
 
 pub values_next : (s : Settling) (n : ℕ) (ys : List (ℕ × Access)) → slice_get s.batches n ≡ Some ys
     → values_in s (suc n) ≡ values_after (values_in s n) (entries_along ys)
@@ -48,7 +48,7 @@ values_then s n ys old new le at so step =
     step ∙ ap (λ (values : ℕ → ℤ). values_after values (entries_along ys)) so ∙ sym (values_next s (n - 1) ys at)
     ∙ ap (values_in s) is
 
-pub values_opening : (s : Settling) → balance_at s.opening ≡ values_in s 0
+pub values_opening : (s : Settling) → balance_of_row s.opening ≡ values_in s 0
 unfolding values_in
 values_opening s = refl
 
@@ -100,7 +100,7 @@ map_no_more f (x ∷ xs) zero none = none≢some x (sym none)
 map_no_more f (x ∷ xs) (suc n) none = ap (λ ys. f x ∷ ys) (map_no_more f xs n none)
 
 abbrev values_settled : Trace → ℕ → ℕ → ℕ → ℤ
-values_settled t e n = values_after (balance_at (opening_rows t.customers))
+values_settled t e n = values_after (balance_of_row (opening_rows t.customers))
     (flat_map entries_along (take n (map (λ p. ordered p.offset p.attempt) (history t e).committed)))
 
 stays : (t : Trace) (e n : ℕ) → slice_get (history t e).committed n ≡ None → values_to t e (suc n) ≡ values_to t e n
@@ -112,7 +112,7 @@ one_settled : (t : Trace) (e n : ℕ) → HasLimits t → IsRightSection t e →
     → (o : Option Placed) → slice_get (history t e).committed n ≡ o
     → values_settled t e (suc n) ≡ values_to t e (suc n)
 one_settled t e n limits right before None none =
-    ap (λ (xs : List (List (ℕ × Access))). values_after (balance_at (opening_rows t.customers))
+    ap (λ (xs : List (List (ℕ × Access))). values_after (balance_of_row (opening_rows t.customers))
     (flat_map entries_along xs))
     (map_no_more (λ p. ordered p.offset p.attempt) (history t e).committed n none)
     ∙ before ∙ sym (stays t e n none)
@@ -134,7 +134,7 @@ unfolding values_in settling
 settled_values t e n limits right = settled_are t e n limits right
 
 -- balances with those values are the bank after batch n
-pub banks_are : (s : Settling) (n : ℕ) (balances : List ℤ) → balance_at balances ≡ values_in s n
+pub banks_are : (s : Settling) (n : ℕ) (balances : List ℤ) → balance_of_row balances ≡ values_in s n
     → AreBankAfter s n balances
 unfolding bank_after
 banks_are s n balances values = λ t e limits right is.

@@ -18,14 +18,14 @@ use Rattle.eve_grammar.specs.Trace.{Access}
 use Rattle.eve_grammar.specs.Limits.{is_entry}
 use Rattle.eve_frames.specs.Views.{access_in}
 use Rattle.eve_frames.specs.declared.access.AccessView.{AccessView}
-use Rattle.eve_views.specs.Code.{number_of, phase_of}
+use Rattle.eve_views.specs.Code.{code_number, phase_of}
 use Rattle.eve_views.specs.Form.{IsUpTo}
 use Rattle.eve_views.specs.declared.fault.Code.{Code}
 use Rattle.eve_views.specs.declared.fault.Code.TheVariants as code
 use Rattle.eve_views.specs.declared.fault.Fault.{Fault}
-use Rattle.eve_chains.specs.Tables.{undone, IsWrongIn}
-use Rattle.eve_chains.specs.Along.{said, all_said, entries_along, AreWithin, SeesOther, IsWrongAlong, AllSee}
-use Rattle.eve_chains.specs.Along.{IsFirstAlong, fault_of}
+use Rattle.eve_chains.specs.Tables.{undone, IsFirstMismatch}
+use Rattle.eve_chains.specs.Along.{said_at, all_said, entries_along, AreWithin, SeesOther, IsWrongAlong, AllSee}
+use Rattle.eve_chains.specs.Along.{IsFirstAlong, fault_if}
 use Rattle.eve_chains.proofs.Linked.{some_injective, none≢some}
 use Rattle.eve_chains.proofs.Faultless.{in_place}
 use Rattle.eve_views.specs.First.{is_before, first_of}
@@ -65,7 +65,7 @@ unwritten table (e ∷ es) row h =
     unwritten (λ r. cond (writes_row r e) (left_by e) (table r)) es row parts.1
     ∙ ap (λ b. cond b (left_by e) (table row)) parts.0
 
--- rows taken back from the table before the writes
+-- rows undone from the table before the writes
 pub undone_is_before : (table : Table) (es : List Entry) → undone table (table_after table es) es ≡ table
 undone_is_before table es =
     fun_ext (λ row. elim (cases_Bool (list_any (writes_row row) es)) [
@@ -76,11 +76,11 @@ undone_is_before table es =
 -- ---- one record more
 
 pub all_said_more : (views : List AccessView) (k : ℕ) (v : AccessView) → slice_get views k ≡ Some v
-    → all_said (take (k + 1) views) ≡ all_said (take k views) ++ said v ∷ []
+    → all_said (take (k + 1) views) ≡ all_said (take k views) ++ said_at v ∷ []
 all_said_more views k v at =
     ap all_said (take_more views k v (slice_get_within views k v at) ∙ ap (λ (x : AccessView). take k views ++ x ∷ [])
     (get_or_from_slice_get views k v v at))
-    ∙ map-append said (take k views) (v ∷ [])
+    ∙ map-append said_at (take k views) (v ∷ [])
 
 pub entries_along-push : (xs : List (ℕ × Access)) (x : ℕ × Access) → entries_along (xs ++ x ∷ [])
     ≡ entries_along xs ++ x.1.entries
@@ -92,7 +92,7 @@ pub entries_more : (views : List AccessView) (k : ℕ) (v : AccessView) → slic
     → entries_along (all_said (take (k + 1) views)) ≡ entries_along (all_said (take k views)) ++
     (access_in v.bytes.now).entries
 entries_more views k v at = ap entries_along (all_said_more views k v at)
-    ∙ entries_along-push (all_said (take k views)) (said v)
+    ∙ entries_along-push (all_said (take k views)) (said_at v)
 
 pub within_at : (rows : ℕ) (views : List AccessView) (k : ℕ) (v : AccessView) → AreWithin rows (all_said views)
     → slice_get views k ≡ Some v → IsTrue (list_all (is_entry rows) (access_in v.bytes.now).entries)
@@ -266,14 +266,14 @@ not_before_up f g one other behind = up_to_from g f (other ∙ sym one) (behind_
 
 -- ---- what was found of one record
 
-found_other : (c : Code) (table : Table) (es : List Entry) → IsWrongIn table es (Some c) → SeesOther c table es
+found_other : (c : Code) (table : Table) (es : List Entry) → IsFirstMismatch table es (Some c) → SeesOther c table es
 found_other code.Version table es wrong = wrong
 found_other code.Value table es wrong = wrong.1
 found_other _ table es wrong = absurd wrong
 
 -- and nothing with a lesser number
-found_least : (c d : Code) (table : Table) (es : List Entry) → IsWrongIn table es (Some c) → SeesOther d table es
-    → number_of c ≤ number_of d
+found_least : (c d : Code) (table : Table) (es : List Entry) → IsFirstMismatch table es (Some c) → SeesOther d table es
+    → code_number c ≤ code_number d
 found_least code.Version code.Version table es wrong other = omega arith
 found_least code.Version code.Value table es wrong other = omega arith
 found_least code.Value code.Version table es wrong other =
@@ -283,7 +283,7 @@ found_least code.Version _ table es wrong other = absurd other
 found_least code.Value _ table es wrong other = absurd other
 found_least _ d table es wrong other = absurd wrong
 
-last_up : (e : ℕ) (table : Table) (x : ℕ × Access) (c : Code) (g : Fault) → IsWrongIn table x.1.entries (Some c)
+last_up : (e : ℕ) (table : Table) (x : ℕ × Access) (c : Code) (g : Fault) → IsFirstMismatch table x.1.entries (Some c)
     → (x.0 ≡ g.offset) × SeesOther g.code table x.1.entries → IsUpTo (last_fault e x c) g
 unfolding last_fault
 last_up e table x c g wrong other = inr (other.0, found_least c g.code table x.1.entries wrong other.1)
@@ -294,12 +294,12 @@ module _ (e : ℕ) (table : Table) (xs : List (ℕ × Access)) (x : ℕ × Acces
   abbrev now : Table
   now = table_after table (entries_along xs)
 
-  last_phase : (c : Code) → IsWrongIn now x.1.entries (Some c) → phase_of (last_fault e x c).code ≡ 5
+  last_phase : (c : Code) → IsFirstMismatch now x.1.entries (Some c) → phase_of (last_fault e x c).code ≡ 5
   unfolding last_fault
   last_phase c wrong = other_phase c now x.1.entries (found_other c now x.1.entries wrong)
 
   choose : (f : Fault) (c : Code) → IsWrongAlong e table xs f × ((g : Fault) → IsWrongAlong e table xs g → IsUpTo f g)
-      → IsWrongIn now x.1.entries (Some c)
+      → IsFirstMismatch now x.1.entries (Some c)
       → (b : Bool) → is_before (last_fault e x c) f ≡ b
       → IsFirstAlong e table (xs ++ x ∷ []) (cond b (Some (last_fault e x c)) (Some f))
   choose f c first wrong true before = (
@@ -322,7 +322,7 @@ module _ (e : ℕ) (table : Table) (xs : List (ℕ × Access)) (x : ℕ × Acces
   )
 
   pub first_more : (o : Option Fault) (found : Option Code) → IsFirstAlong e table xs o
-      → IsWrongIn now x.1.entries found → IsFirstAlong e table (xs ++ x ∷ []) (first_of o (fault_of e x.0 found))
+      → IsFirstMismatch now x.1.entries found → IsFirstAlong e table (xs ++ x ∷ []) (first_of o (fault_if e x.0 found))
   unfolding last_fault
   first_more None None first wrong = all_see_more table xs x first wrong
   first_more None (Some c) first wrong = (
@@ -346,13 +346,13 @@ pub first_next : (e : ℕ) (base : Table) (views : List AccessView) (k : ℕ) (v
     (es : List Entry) (o : Option Fault) (found : Option Code) (offset : ℕ) (fault result : Option Fault)
     → slice_get views k ≡ Some v → now ≡ table_after base (entries_along (all_said (take k views)))
     → es ≡ (access_in v.bytes.now).entries
-    → IsFirstAlong e base (all_said (take k views)) o → IsWrongIn now es found → offset ≡ v.offset
-    → fault ≡ fault_of e offset found → result ≡ first_of o fault
+    → IsFirstAlong e base (all_said (take k views)) o → IsFirstMismatch now es found → offset ≡ v.offset
+    → fault ≡ fault_if e offset found → result ≡ first_of o fault
     → IsFirstAlong e base (all_said (take (k + 1) views)) result
 first_next e base views k v now es o found offset fault result at so same first wrong where_it_is fault_is result_is =
     subst (λ (xs : List (ℕ × Access)). IsFirstAlong e base xs result) (sym (all_said_more views k v at))
-    (subst (IsFirstAlong e base (all_said (take k views) ++ said v ∷ []))
-    (sym (result_is ∙ ap (first_of o) (fault_is ∙ ap (λ (n : ℕ). fault_of e n found) where_it_is)))
-    (first_more e base (all_said (take k views)) (said v) o found first
-    (subst (λ (t : Table). IsWrongIn t (access_in v.bytes.now).entries found) so
-    (subst (λ (xs : List Entry). IsWrongIn now xs found) same wrong))))
+    (subst (IsFirstAlong e base (all_said (take k views) ++ said_at v ∷ []))
+    (sym (result_is ∙ ap (first_of o) (fault_is ∙ ap (λ (n : ℕ). fault_if e n found) where_it_is)))
+    (first_more e base (all_said (take k views)) (said_at v) o found first
+    (subst (λ (t : Table). IsFirstMismatch t (access_in v.bytes.now).entries found) so
+    (subst (λ (xs : List Entry). IsFirstMismatch now xs found) same wrong))))

@@ -19,7 +19,7 @@ use Rattle.eve_history.specs.SectionHistory.{history, is_committed, picked, plac
 use Rattle.eve_history.proofs.FateLaws.{committed_are_picked}
 use Rattle.eve_chains.specs.Along.{AreWithin}
 use Rattle.eve_chains.proofs.Linked.{some_injective, none≢some, last_committed}
-use Rattle.eve_chains.specs.Parts.{parts, DoRise, AreKept}
+use Rattle.eve_chains.specs.Parts.{parts, DoRise, ArePartsOf}
 use Rattle.eve_chains.proofs.PartsInOrder.{length-parts, parts_more, rise_more, within_both}
 
 -- the records of those that were committed, each in its certificate's order
@@ -239,7 +239,7 @@ all_copied t e v i rows xs ends is attempts fates copied =
 
 pub all_kept : (t : Trace) (e : ℕ) (v : SectionHistory) (i rows : ℕ) (opening : List ℤ) (xs : List (ℕ × Access))
     (ends : List ℕ) → IsRightSection t e → v ≡ section_history t e → length v.attempts ≤ i → length v.fates ≤ i
-    → AreCopied v i rows xs ends → rows ≡ length opening → v.committed < 2 ^ 32 → AreKept opening xs ends
+    → AreCopied v i rows xs ends → rows ≡ length opening → v.committed < 2 ^ 32 → ArePartsOf opening xs ends
 unfolding section_history history
 all_kept t e v i rows opening xs ends right is attempts fates copied many small =
     let count : length ends ≡ length (history t e).committed =

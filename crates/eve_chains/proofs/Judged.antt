@@ -12,11 +12,11 @@ use Rattle.eve_smallbank.specs.declared.request.Reply.TheVariants.{Done}
 use Rattle.eve_smallbank.specs.SmallBank.{Request, plain}
 use Rattle.eve_smallbank.specs.Access.{Executed, Fits}
 use Rattle.eve_smallbank.proofs.Members.{In, here, there, all_in, all_from_in}
-use Rattle.eve_grammar.specs.Trace.{Access, Asked, Attempt, Batch, Trace}
+use Rattle.eve_grammar.specs.Trace.{Access, Asked, Attempt, Batch, Trace, no_request}
 use Rattle.eve_grammar.specs.Frames.{OfAttempt, without_accesses}
 use Rattle.eve_grammar.specs.Limits.{HasLimits}
 use Rattle.eve_grammar.specs.Spelling.{frame_text, batches_at, steps_at, accesses_at}
-use Rattle.eve_views.specs.Code.{number_of}
+use Rattle.eve_views.specs.Code.{code_number}
 use Rattle.eve_views.specs.Form.{IsUpTo, SomePlace, IsLeast}
 use Rattle.eve_views.specs.declared.fault.Code.{Code}
 use Rattle.eve_views.specs.declared.fault.Code.TheVariants as code
@@ -25,7 +25,7 @@ use Rattle.eve_history.specs.declared.fate.Fate.{Fate}
 use Rattle.eve_history.specs.declared.fate.Fate.TheVariants.{Committed, Discarded, Open}
 use Rattle.eve_history.specs.Section.{Placed, settled, batch_at, request_count}
 use Rattle.eve_history.specs.Fates.{fates_from}
-use Rattle.eve_history.specs.SectionHistory.{ExecutedAttempt, executed_attempt, SectionHistory, no_request, ordered}
+use Rattle.eve_history.specs.SectionHistory.{ExecutedAttempt, executed_attempt, SectionHistory, ordered}
 use Rattle.eve_history.specs.SectionHistory.{attempts_among, section_history, history}
 use Rattle.eve_history.specs.SectionHistory.{IsRightSection, names_of, placed_at, picked, is_committed, is_discarded}
 use Rattle.eve_history.proofs.Finding.{batch_is}
@@ -37,7 +37,8 @@ use Rattle.eve_chains.proofs.Distinct.{in_map, in_source, in_cons, in_left, in_r
 use Rattle.eve_chains.proofs.Walks.{right_one, complete_one}
 use Rattle.eve_chains.proofs.Faultless.{in_place, place_of}
 use Rattle.eve_chains.proofs.Linked.{some_injective, none≢some}
-use Rattle.eve_chains.specs.Unfit.{is_settled, recorded_of, records_in, records_of, HasRequests, all_records}
+use Rattle.eve_chains.specs.Unfit.{is_settled, recorded_of, records_along, records_if_settled, HasRequests}
+use Rattle.eve_chains.specs.Unfit.{settled_records}
 use Rattle.eve_chains.specs.Unfit.{IsLeastUnfit}
 use Rattle.eve_chains.proofs.Attempts.{located_in, in_ordered, from_ordered, ordered_below, batch_there, as_settled}
 use Rattle.eve_chains.proofs.Attempts.{from_settled, in_picked}
@@ -59,30 +60,32 @@ discarded_settled Open e = e
 
 records_there : (t : Trace) (test : Fate → Bool) (only : (f : Fate) → test f ≡ true → is_settled f ≡ true)
     (xs : List (ℕ × Attempt)) (fates : List Fate) {y : ℕ × Attempt} {z : ℕ × Executed}
-    → In y (picked test xs fates) → In z (records_in t (executed_attempt y))
-    → In z (all_records t (map executed_attempt xs) fates)
+    → In y (picked test xs fates) → In z (records_along t (executed_attempt y))
+    → In z (settled_records t (map executed_attempt xs) fates)
 records_there t test only [] fates i j = elim i [ ]
 records_there t test only (x ∷ xs) [] i j = elim i [ ]
 records_there t test only (x ∷ xs) (f ∷ fates) {y} {z} i j =
     by (test f) refl (λ k. records_there t test only xs fates k j) i
   where
     own : test f ≡ true → y ≡ x
-        → In z (records_of t (executed_attempt x) f ++ all_records t (map executed_attempt xs) fates)
+        → In z (records_if_settled t (executed_attempt x) f ++ settled_records t (map executed_attempt xs) fates)
     own passes e =
-        in_left (records_of t (executed_attempt x) f) (all_records t (map executed_attempt xs) fates)
+        in_left (records_if_settled t (executed_attempt x) f) (settled_records t (map executed_attempt xs) fates)
         (subst (λ (zs : List (ℕ × Executed)). In z zs)
-        (sym (cond-true (is_settled f) (records_in t (executed_attempt x)) [] (only f passes)))
-        (subst (λ (w : ℕ × Attempt). In z (records_in t (executed_attempt w))) e j))
+        (sym (cond-true (is_settled f) (records_along t (executed_attempt x)) [] (only f passes)))
+        (subst (λ (w : ℕ × Attempt). In z (records_along t (executed_attempt w))) e j))
 
-    by : (b : Bool) → test f ≡ b → (In y (picked test xs fates) → In z (all_records t (map executed_attempt xs) fates))
+    by : (b : Bool) → test f ≡ b
+        → (In y (picked test xs fates) → In z (settled_records t (map executed_attempt xs) fates))
         → In y (cond b (x ∷ picked test xs fates) (picked test xs fates))
-        → In z (records_of t (executed_attempt x) f ++ all_records t (map executed_attempt xs) fates)
+        → In z (records_if_settled t (executed_attempt x) f ++ settled_records t (map executed_attempt xs) fates)
     by true passes rest k = elim (in_cons (picked test xs fates) k) [
       | inl e ↦ own passes e
-      | inr m ↦ in_right (records_of t (executed_attempt x) f) (all_records t (map executed_attempt xs) fates) (rest m)
+      | inr m ↦ in_right (records_if_settled t (executed_attempt x) f)
+          (settled_records t (map executed_attempt xs) fates) (rest m)
     ]
-    by false fails rest k = in_right (records_of t (executed_attempt x) f)
-        (all_records t (map executed_attempt xs) fates) (rest k)
+    by false fails rest k = in_right (records_if_settled t (executed_attempt x) f)
+        (settled_records t (map executed_attempt xs) fates) (rest k)
 
 -- of an attempt one later
 later : (test : Fate → Bool) (x y : ℕ × Attempt) (xs : List (ℕ × Attempt)) (f : Fate) (fates : List Fate)
@@ -102,7 +105,7 @@ later_picked x y xs f fates (inr i) = inr (later is_discarded x y xs f fates i)
 record Whose (t : Trace) (xs : List (ℕ × Attempt)) (fates : List Fate) (z : ℕ × Executed) : Type 0 where
   item : ℕ × Attempt
   picks : IsPicked xs fates item
-  within : In z (records_in t (executed_attempt item))
+  within : In z (records_along t (executed_attempt item))
 
 whose_later : (t : Trace) (x : ℕ × Attempt) (xs : List (ℕ × Attempt)) (f : Fate) (fates : List Fate) (z : ℕ × Executed)
     → Whose t xs fates z → Whose t (x ∷ xs) (f ∷ fates) z
@@ -110,16 +113,16 @@ whose_later t x xs f fates z w =
     record { item = w.item; picks = later_picked x w.item xs f fates w.picks; within = w.within }
 
 whose : (t : Trace) (xs : List (ℕ × Attempt)) (fates : List Fate) (z : ℕ × Executed)
-    → In z (all_records t (map executed_attempt xs) fates) → Whose t xs fates z
+    → In z (settled_records t (map executed_attempt xs) fates) → Whose t xs fates z
 whose t [] fates z i = elim i [ ]
 whose t (x ∷ xs) [] z i = elim i [ ]
 whose t (x ∷ xs) (Committed ∷ fates) z i =
-    elim (in_split (records_in t (executed_attempt x)) (all_records t (map executed_attempt xs) fates) i) [
+    elim (in_split (records_along t (executed_attempt x)) (settled_records t (map executed_attempt xs) fates) i) [
       | inl j ↦ record { item = x; picks = inl here; within = j }
       | inr j ↦ whose_later t x xs Committed fates z (whose t xs fates z j)
     ]
 whose t (x ∷ xs) (Discarded ∷ fates) z i =
-    elim (in_split (records_in t (executed_attempt x)) (all_records t (map executed_attempt xs) fates) i) [
+    elim (in_split (records_along t (executed_attempt x)) (settled_records t (map executed_attempt xs) fates) i) [
       | inl j ↦ record { item = x; picks = inr here; within = j }
       | inr j ↦ whose_later t x xs Discarded fates z (whose t xs fates z j)
     ]
@@ -157,10 +160,10 @@ pub record IsReady (t : Trace) (r : ExecutedAttempt) : Type 0 where
 
 -- the records that are judged in replica e's section
 unfoldable pub judged_of : Trace → ℕ → List (ℕ × Executed)
-judged_of t e = all_records t (map executed_attempt (attempts_among (steps_at t e))) (fates_from 0 (steps_at t e))
+judged_of t e = settled_records t (map executed_attempt (attempts_among (steps_at t e))) (fates_from 0 (steps_at t e))
 
 -- they are those of what is told
-pub judged_all : (t : Trace) (e : ℕ) → all_records t (section_history t e).attempts (section_history t e).fates
+pub judged_all : (t : Trace) (e : ℕ) → settled_records t (section_history t e).attempts (section_history t e).fates
     ≡ judged_of t e
 unfolding section_history judged_of
 judged_all t e = refl
@@ -185,7 +188,7 @@ module _ (t : Trace) (r : ExecutedAttempt) (n : ℕ) (b : ℕ × (ℕ × Batch))
   own_requests : map plain requests ≡ map (λ a. a.request) (batch_at t r.attempt.seq).requests
   own_requests = read ∙ ap (λ (c : Batch). map (λ a. a.request) c.requests) its_batch
 
-  pub as_recorded : map (recorded_of (map plain requests) r.attempt.replies) r.ordered ≡ records_in t r
+  pub as_recorded : map (recorded_of (map plain requests) r.attempt.replies) r.ordered ≡ records_along t r
   as_recorded =
       ap (λ (asked : List Request). map (recorded_of asked r.attempt.replies) r.ordered) own_requests
       ∙ ap (λ (f : ℕ × Access → ℕ × Executed). map f r.ordered) (fun_ext (λ x i. (
@@ -239,8 +242,9 @@ module _ (t : Trace) (e : ℕ) (limits : HasLimits t) (right : IsRightSection t 
       (ordered p.offset p.attempt) k)
     where
       by : {z : ℕ × Executed} → IsPicked (attempts_among (steps_at t e)) (fates_from 0 (steps_at t e)) (placed_at p)
-          → In z (records_in t (executed_attempt (placed_at p)))
-          → In z (all_records t (map executed_attempt (attempts_among (steps_at t e))) (fates_from 0 (steps_at t e)))
+          → In z (records_along t (executed_attempt (placed_at p)))
+          → In z (settled_records t (map executed_attempt (attempts_among (steps_at t e)))
+          (fates_from 0 (steps_at t e)))
       by (inl a) m = records_there t is_committed committed_settled (attempts_among (steps_at t e))
           (fates_from 0 (steps_at t e)) a m
       by (inr a) m = records_there t is_discarded discarded_settled (attempts_among (steps_at t e))
@@ -259,8 +263,8 @@ module _ (t : Trace) (e : ℕ) (limits : HasLimits t) (right : IsRightSection t 
   judged_from z i =
       let w = whose t (attempts_among (steps_at t e)) (fates_from 0 (steps_at t e)) z i in
       let s = as_settled t e w.item w.picks in
-      let own : In z (records_in t (executed_attempt (placed_at s.placed))) =
-      subst (λ (x : ℕ × Attempt). In z (records_in t (executed_attempt x))) s.is w.within in
+      let own : In z (records_along t (executed_attempt (placed_at s.placed))) =
+      subst (λ (x : ℕ × Attempt). In z (records_along t (executed_attempt x))) s.is w.within in
       let x = in_source (λ (y : ℕ × Access). (y.0, executed_by t (without_accesses s.placed.attempt) y.1))
       (ordered s.placed.offset s.placed.attempt) own in
       record {
@@ -295,7 +299,7 @@ module _ (t : Trace) (e : ℕ) (limits : HasLimits t) (right : IsRightSection t 
     there_is : In record_is (judged_of t e)
     at_is : record_is.0 ≡ f.offset
     unfit : ¬ Fits (names_of t) record_is.1
-    number : number_of code.Record ≤ number_of f.code
+    number : code_number code.Record ≤ code_number f.code
 
   unfit_at : (f : Fault) → IsRecordFault t e f → UnfitAt f
   unfit_at f is = by f.code is.stands refl
@@ -305,7 +309,7 @@ module _ (t : Trace) (e : ℕ) (limits : HasLimits t) (right : IsRightSection t 
           let p = stands.item in
           let i = in_place (settled (history t e)) stands in
           let x = stands.holds.item in
-          let number : number_of f.code ≡ number_of code.Record = ap number_of same in
+          let number : code_number f.code ≡ code_number code.Record = ap code_number same in
           record {
             record_is = (x.0, executed_by t p.attempt x.1);
             there_is = judged_there p i x (in_place (accesses_at p.offset p.attempt) stands.holds);
@@ -340,7 +344,7 @@ module _ (t : Trace) (e : ℕ) (limits : HasLimits t) (right : IsRightSection t 
         u.number;
   }
     where
-      up_to : (g : Fault) {n : ℕ} → at ≤ n → n ≡ g.offset → number_of code.Record ≤ number_of g.code
+      up_to : (g : Fault) {n : ℕ} → at ≤ n → n ≡ g.offset → code_number code.Record ≤ code_number g.code
           → IsUpTo (record_fault e at) g
       up_to g {n} up same number = elim (cases_lt at g.offset) [
         | inl less ↦ inl less
@@ -352,8 +356,8 @@ module _ (t : Trace) (e : ℕ) (limits : HasLimits t) (right : IsRightSection t 
 -- as a history tells it
 pub as_told : (t : Trace) (names : List (List ℕ)) (h : SectionHistory) (o : Option ℕ) → names ≡ names_of t
     → h ≡ section_history t h.replica
-    → IsLeastUnfit names (all_records t h.attempts h.fates) o → IsLeastUnfit (names_of t) (judged_of t h.replica) o
+    → IsLeastUnfit names (settled_records t h.attempts h.fates) o → IsLeastUnfit (names_of t) (judged_of t h.replica) o
 as_told t names h o named is found =
     subst (λ (xs : List (ℕ × Executed)). IsLeastUnfit (names_of t) xs o)
-    (ap (λ (k : SectionHistory). all_records t k.attempts k.fates) is ∙ judged_all t h.replica)
-    (subst (λ (ns : List (List ℕ)). IsLeastUnfit ns (all_records t h.attempts h.fates) o) named found)
+    (ap (λ (k : SectionHistory). settled_records t k.attempts k.fates) is ∙ judged_all t h.replica)
+    (subst (λ (ns : List (List ℕ)). IsLeastUnfit ns (settled_records t h.attempts h.fates) o) named found)

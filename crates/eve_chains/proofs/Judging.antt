@@ -13,7 +13,7 @@ use Rattle.eve_chains.specs.Visible.{table_along}
 use Rattle.eve_chains.specs.Along.{entries_along, IsFirstAlong}
 use Rattle.eve_chains.proofs.AlongLaws.{nothing_wrong, table_after-append, wrong_phase, before_up, not_before_up}
 use Rattle.eve_chains.proofs.Faultless.{in_place, place_of}
-use Rattle.eve_chains.specs.Walking.{entries_of, AreJudged, Sees, IsWrongIn, IsFirstIn, ArePlaced}
+use Rattle.eve_chains.specs.Walking.{entries_along_all, AreJudgedAlong, SeesItsPath, IsWrongIn, IsFirstIn, ArePlaced}
 use Rattle.eve_chains.proofs.Loading.{own}
 use Rattle.eve_views.specs.First.{is_before, first_of}
 use Rattle.eve_views.proofs.Firsts.{up_to-trans}
@@ -42,9 +42,9 @@ module _ (t : Trace) (e : ℕ) (ps : List Placed) (p : Placed) (qs : List Placed
         | inr i ↦ inr (place_of (IsWrongIn t e g) (ps ++ qs) i place.holds)
       ]
 
-  nowhere : (g : Fault) → AllByRecursion (Sees t) (ps ++ qs) → Somewhere (ps ++ qs) g → ⊥
+  nowhere : (g : Fault) → AllByRecursion (SeesItsPath t) (ps ++ qs) → Somewhere (ps ++ qs) g → ⊥
   nowhere g all place = nothing_wrong e (table_along t place.item.path) (own place.item) g
-      (all_in (Sees t) all (in_place (ps ++ qs) place)) place.holds
+      (all_in (SeesItsPath t) all (in_place (ps ++ qs) place)) place.holds
 
   found_phase : (g : Fault) → IsFirstAlong e (table_along t p.path) (own p) (Some g) → phase_of g.code ≡ 5
   found_phase g found = wrong_phase e (table_along t p.path) (own p) g found.0
@@ -74,7 +74,7 @@ module _ (t : Trace) (e : ℕ) (ps : List Placed) (p : Placed) (qs : List Placed
 
   pub first_with : (o found : Option Fault) → IsFirstIn t e (ps ++ qs) o
       → IsFirstAlong e (table_along t p.path) (own p) found → IsFirstIn t e (ps ++ p ∷ qs) (first_of o found)
-  first_with None None first one = all_around (Sees t) ps p qs first one
+  first_with None None first one = all_around (SeesItsPath t) ps p qs first one
   first_with None (Some g) first one = (
     middle g one.0,
     λ k place. elim (which k place) [
@@ -95,15 +95,16 @@ module _ (t : Trace) (e : ℕ) (ps : List Placed) (p : Placed) (qs : List Placed
 
 -- the last of them
 pub judged_more : (e : ℕ) (table : Table) (xss : List (List (ℕ × Access))) (xs : List (ℕ × Access))
-    (before mid found : Option Fault) → AreJudged e table xss before mid
-    → IsFirstAlong e (table_after table (entries_of xss)) xs found
-    → AreJudged e table (xss ++ xs ∷ []) before (first_of mid found)
+    (before mid found : Option Fault) → AreJudgedAlong e table xss before mid
+    → IsFirstAlong e (table_after table (entries_along_all xss)) xs found
+    → AreJudgedAlong e table (xss ++ xs ∷ []) before (first_of mid found)
 judged_more e table [] xs before mid found judged one = (found, one, ap (λ (o : Option Fault). first_of o found) judged)
 judged_more e table (ys ∷ xss) xs before mid found judged one = (
   judged.0,
   judged.1,
   judged_more e (table_after table (entries_along ys)) xss xs (first_of before judged.0) mid found judged.2
-      (subst (λ (u : Table). IsFirstAlong e u xs found) (table_after-append table (entries_along ys) (entries_of xss))
+      (subst (λ (u : Table). IsFirstAlong e u xs found)
+      (table_after-append table (entries_along ys) (entries_along_all xss))
       one),
 )
 
@@ -117,7 +118,7 @@ Advances t before (p ∷ ps) =
 -- all of them
 pub first_with_all : (t : Trace) (e : ℕ) (done ps : List Placed) (before : List Attempt) (table : Table)
     (o last : Option Fault) → ArePlaced before ps → Advances t before ps
-    → table ≡ table_along t before → AreJudged e table (map own ps) o last → IsFirstIn t e done o
+    → table ≡ table_along t before → AreJudgedAlong e table (map own ps) o last → IsFirstIn t e done o
     → IsFirstIn t e (done ++ ps) last
 first_with_all t e done [] before table o last placed advances so judged first =
     subst (λ (ps : List Placed). IsFirstIn t e ps last) (sym (append-nil done))

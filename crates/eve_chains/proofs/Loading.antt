@@ -15,7 +15,7 @@ use Rattle.eve_frames.specs.declared.access.AccessView.{AccessView}
 use Rattle.eve_history.specs.Section.{Placed}
 use Rattle.eve_history.specs.SectionHistory.{ExecutedAttempt, executed_attempt, SectionHistory, access_with, ordered}
 use Rattle.eve_history.specs.SectionHistory.{attempts_among, placed_at}
-use Rattle.eve_chains.specs.Along.{said, all_said, AreWithin}
+use Rattle.eve_chains.specs.Along.{said_at, all_said, AreWithin}
 use Rattle.eve_chains.proofs.Linked.{some_injective, none≢some}
 use Rattle.eve_chains.specs.Walking.{records_of, records_from}
 
@@ -34,14 +34,15 @@ records_is h i r e = at_mapped h.attempts i r e
 pub load_more : (h : SectionHistory) (i place : ℕ) (r : ExecutedAttempt) (v : AccessView) (old new : List AccessView)
     → all_said old
     ≡ take place (records_of h i) → slice_get h.attempts i ≡ Some r
-    → slice_get r.ordered place ≡ Some (said v) → new ≡ old ++ v ∷ [] → all_said new ≡ take (place + 1) (records_of h i)
+    → slice_get r.ordered place ≡ Some (said_at v) → new ≡ old ++ v ∷ []
+    → all_said new ≡ take (place + 1) (records_of h i)
 load_more h i place r v old new so there at is =
     let own : records_of h i ≡ r.ordered = records_is h i r there in
-    ap all_said is ∙ map-append said old (v ∷ []) ∙ ap (λ (xs : List (ℕ × Access)). xs ++ said v ∷ [])
+    ap all_said is ∙ map-append said_at old (v ∷ []) ∙ ap (λ (xs : List (ℕ × Access)). xs ++ said_at v ∷ [])
     (so ∙ ap (take place) own)
     ∙ ap (λ (x : ℕ × Access). take place r.ordered ++ x ∷ [])
-    (sym (get_or_from_slice_get r.ordered place (said v) (said v) at))
-    ∙ sym (take_more r.ordered place (said v) (slice_get_within r.ordered place (said v) at))
+    (sym (get_or_from_slice_get r.ordered place (said_at v) (said_at v) at))
+    ∙ sym (take_more r.ordered place (said_at v) (slice_get_within r.ordered place (said_at v) at))
     ∙ ap (take (place + 1)) (sym own)
 
 pub load_all : (h : SectionHistory) (i n place : ℕ) (r : ExecutedAttempt) (items : List AccessView) → all_said items

@@ -6,10 +6,10 @@ use Rattle.std.proofs.lemmas.Bool.{and_parts}
 use Rattle.std.proofs.lemmas.List.{length-map}
 use Rattle.std.proofs.Math.ListN.{get_or-map}
 use Rattle.std.specs.List.{flat_map}
-use Rattle.eve_grammar.specs.Trace.{Asked, Batch, Attempt, Trace}
+use Rattle.eve_grammar.specs.Trace.{Asked, Batch, Attempt, Trace, no_request}
 use Rattle.eve_grammar.specs.Certificate.{is_permutation, keeps_groups, KeepsGroups}
 use Rattle.eve_history.specs.Section.{Placed, no_batch, batch_at, request_count}
-use Rattle.eve_history.specs.SectionHistory.{no_request, history, committed_at, IsRightSection}
+use Rattle.eve_history.specs.SectionHistory.{history, committed_at, IsRightSection}
 use Rattle.eve_history.specs.Faults.{RequestId, request_id}
 use Rattle.eve_smallbank.proofs.Members.{In, here, there}
 use Rattle.eve_chains.specs.Committed.{attempts_of, request_ids_in, committed_request_ids, batch_request_ids}

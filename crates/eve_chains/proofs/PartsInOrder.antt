@@ -8,7 +8,7 @@ use Rattle.std.proofs.Math.Seq.{drop-append_seam}
 use Rattle.eve_frames.specs.declared.access.AccessView.{AccessView}
 use Rattle.eve_grammar.specs.Trace.{Access}
 use Rattle.eve_grammar.specs.Limits.{is_entry}
-use Rattle.eve_chains.specs.Along.{said, all_said, AreWithin}
+use Rattle.eve_chains.specs.Along.{said_at, all_said, AreWithin}
 use Rattle.eve_chains.proofs.Linked.{some_injective, none≢some}
 use Rattle.eve_chains.specs.Parts.{begin, parts, DoRise}
 
@@ -66,7 +66,7 @@ lies_within from (e ∷ ends) to (suc i) end rise at = lies_within e ends to i e
 
 pub said_between : (views : List AccessView) (from n : ℕ) → all_said (take n (drop from views))
     ≡ take n (drop from (all_said views))
-said_between views from n = sym (take-map said n (drop from views)) ∙ ap (take n) (sym (drop-map said from views))
+said_between views from n = sym (take-map said_at n (drop from views)) ∙ ap (take n) (sym (drop-map said_at from views))
 
 -- ---- one part more
 

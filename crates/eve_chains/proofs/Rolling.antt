@@ -1,4 +1,4 @@
--- The open attempts, one after another: judged, and taken back.
+-- The open attempts, one after another: judged, and undone.
 use Rattle.std.proofs.Common.{◌≡◌, ℕ, zero, suc, ◌+◌, ◌-◌, ◌<◌, ◌≤◌, List, [], ◌∷◌, ◌++◌, length, Option, refl, sym}
 use Rattle.std.proofs.Common.{subst, ap, ◌∙◌, append-nil, arith}
 use mathlib.Core.Path.{fun_ext}
@@ -13,7 +13,7 @@ use Rattle.eve_chains.specs.Tables.{table_of, undone}
 use Rattle.eve_chains.specs.Along.{entries_along, AreWithin, IsFirstAlong}
 use Rattle.eve_chains.proofs.AlongLaws.{table_after-append, undone-append}
 use Rattle.eve_chains.specs.declared.walk.Walk.{Walk}
-use Rattle.eve_chains.specs.Walking.{records_of, records_from, entries_of, AreJudged, AreTried, AreUndone}
+use Rattle.eve_chains.specs.Walking.{records_of, records_from, entries_along_all, AreJudgedAlong, AreTried, AreUndone}
 use Rattle.eve_chains.proofs.Loading.{from_more}
 use Rattle.eve_chains.proofs.Judging.{judged_more}
 use Rattle.eve_views.specs.First.{first_of}
@@ -66,9 +66,10 @@ more_records h from i xs up is =
     back : from + (i - from) ≡ i
     back = omega arith
 
-entries_push : (xss : List (List (ℕ × Access))) (xs : List (ℕ × Access)) → entries_of (xss ++ xs ∷ [])
-    ≡ entries_of xss ++ entries_along xs
-entries_push xss xs = flat_map-append entries_along xss (xs ∷ []) ∙ ap (λ (es : List Entry). entries_of xss ++ es)
+entries_push : (xss : List (List (ℕ × Access))) (xs : List (ℕ × Access)) → entries_along_all (xss ++ xs ∷ [])
+    ≡ entries_along_all xss ++ entries_along xs
+entries_push xss xs = flat_map-append entries_along xss (xs ∷ [])
+    ∙ ap (λ (es : List Entry). entries_along_all xss ++ es)
     (append-nil (entries_along xs))
 
 none_yet : (n : ℕ) → 0 ≡ n - n
@@ -96,13 +97,14 @@ tried_more h i w v new found xs up tried is settled come committed apart rows wo
       apart = apart ∙ tried.apart;
       rows = rows ∙ tried.rows;
       working = working ∙ ap (λ (table : Table). table_after table (entries_along xs)) tried.working
-          ∙ sym (table_after-append (table_of w.working) (entries_of (records_from h w.settled (i - w.settled)))
+          ∙ sym (table_after-append (table_of w.working) (entries_along_all (records_from h w.settled (i - w.settled)))
           (entries_along xs))
           ∙ ap (table_after (table_of w.working))
-          (sym (ap entries_of all ∙ entries_push (records_from h w.settled (i - w.settled)) xs));
-      first = subst (λ (xss : List (List (ℕ × Access))). AreJudged h.replica (table_of w.working) xss w.first new.first)
+          (sym (ap entries_along_all all ∙ entries_push (records_from h w.settled (i - w.settled)) xs));
+      first = subst (λ (xss : List (List (ℕ × Access))). AreJudgedAlong h.replica (table_of w.working) xss w.first
+          new.first)
           (sym all)
-          (subst (AreJudged h.replica (table_of w.working) (records_from h w.settled (i - w.settled) ++ xs ∷ [])
+          (subst (AreJudgedAlong h.replica (table_of w.working) (records_from h w.settled (i - w.settled) ++ xs ∷ [])
           w.first)
           (sym first)
           (judged_more h.replica (table_of w.working) (records_from h w.settled (i - w.settled)) xs w.first v.first
@@ -114,7 +116,7 @@ tried_more h i w v new found xs up tried is settled come committed apart rows wo
     all : records_from h w.settled (suc (i - w.settled)) ≡ records_from h w.settled (i - w.settled) ++ xs ∷ []
     all = more_records h w.settled i xs up is
 
--- ---- taken back
+-- ---- undone
 
 pub taken_start : (h : SectionHistory) (w : Walk) → AreUndone h (w.settled - w.settled) w w
 taken_start h w =
@@ -147,9 +149,9 @@ taken_more h i w v new xs up taken is settled come committed apart first rows wo
           (ap table_of taken.committed)
           ∙ ap (λ (table : Table). undone (table_of w.committed) table (entries_along xs)) taken.working
           ∙ sym (undone-append (table_of w.committed) (table_of w.working)
-          (entries_of (records_from h w.settled (i - w.settled))) (entries_along xs))
+          (entries_along_all (records_from h w.settled (i - w.settled))) (entries_along xs))
           ∙ ap (undone (table_of w.committed) (table_of w.working))
-          (sym (ap entries_of all ∙ entries_push (records_from h w.settled (i - w.settled)) xs));
+          (sym (ap entries_along_all all ∙ entries_push (records_from h w.settled (i - w.settled)) xs));
     })
   where
     all : records_from h w.settled (suc (i - w.settled)) ≡ records_from h w.settled (i - w.settled) ++ xs ∷ []

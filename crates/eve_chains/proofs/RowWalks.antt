@@ -9,7 +9,7 @@ use Rattle.eve_smallbank.specs.declared.entry.Entry.{Entry}
 use Rattle.eve_smallbank.specs.Access.{is_write, writes_row}
 use Rattle.eve_smallbank.specs.Chain.{Versioned, Table, after_own, left_by, table_after}
 use Rattle.eve_chains.proofs.SettledAttempts.{all-append}
-use Rattle.eve_chains.specs.Rows.{Noted, Pair, met_by, step, at_first, pair_after}
+use Rattle.eve_chains.specs.Rows.{Noted, Pair, met_by, next_pair, at_first, pair_after}
 
 -- ---- what counts
 
@@ -101,7 +101,7 @@ module _ (base : Versioned) where
       by false = ap (λ ms. after_all base (entries ms)) (append-nil (filter test done))
 
   stepped : (done : List Noted) (p : Pair) (n : Noted) → HasPair done p → p.view ≤ n.view
-      → HasPair (done ++ n ∷ []) (step p n)
+      → HasPair (done ++ n ∷ []) (next_pair p n)
   stepped done p n known up = record {
     committed = ap (λ (v : Versioned). cond n.commits (after_own v n.entry) v) known.committed
         ∙ sym (after_more (λ m. m.commits) done n);
@@ -118,11 +118,11 @@ module _ (base : Versioned) where
       own false = eq-eqb n.view n.view refl
 
   walked : (done ns : List Noted) (p : Pair) → HasPair done p → AllByRecursion (λ n. p.view ≤ n.view) ns → AreRising ns
-      → HasPair (done ++ ns) (fold step p ns)
+      → HasPair (done ++ ns) (fold next_pair p ns)
   walked done [] p known up rising = subst (λ ms. HasPair ms p) (sym (append-nil done)) known
   walked done (n ∷ ns) p known up rising =
-      subst (λ ms. HasPair ms (fold step (step p n) ns)) (append_assoc done (n ∷ []) ns)
-      (walked (done ++ n ∷ []) ns (step p n) (stepped done p n known up.0) rising.0 rising.1)
+      subst (λ ms. HasPair ms (fold next_pair (next_pair p n) ns)) (append_assoc done (n ∷ []) ns)
+      (walked (done ++ n ∷ []) ns (next_pair p n) (stepped done p n known up.0) rising.0 rising.1)
 
   from_zero : (ns : List Noted) → AllByRecursion (λ n. 0 ≤ n.view) ns
   from_zero [] = tt
@@ -133,9 +133,9 @@ module _ (base : Versioned) where
       (from_zero ns) rising
 
   view_reached : (ns : List Noted) (p : Pair) (view : ℕ) → p.view ≤ view → AllByRecursion (λ m. m.view ≤ view) ns
-      → (fold step p ns).view ≤ view
+      → (fold next_pair p ns).view ≤ view
   view_reached [] p view up all = up
-  view_reached (n ∷ ns) p view up all = view_reached ns (step p n) view all.0 all.1
+  view_reached (n ∷ ns) p view up all = view_reached ns (next_pair p n) view all.0 all.1
 
   -- what an entry of the row meets is what counts in its view of the row's entries before it
   pub meets_what_counts : (ns : List Noted) (n : Noted) → AreRising ns → AllByRecursion (λ m. m.view ≤ n.view) ns

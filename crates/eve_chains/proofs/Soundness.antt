@@ -17,7 +17,7 @@ use Rattle.eve_grammar.specs.Accesses.{is_right_place}
 use Rattle.eve_history.specs.Section.{Placed, settled, batch_at, request_count, is_right_certificate, is_right_access}
 use Rattle.eve_history.specs.Section.{are_right_accesses}
 use Rattle.eve_history.specs.SectionHistory.{history, IsRightSection, names_of}
-use Rattle.eve_chains.specs.Visible.{opening_table, entries_at, executed_with, executed_at, executed_by, execution}
+use Rattle.eve_chains.specs.Visible.{opening_table, entries_with, executed_with, executed_at, executed_by, execution}
 use Rattle.eve_chains.specs.Visible.{entries_before, before_index, visible_to}
 use Rattle.eve_chains.specs.Sound.{RecordsFit, EntriesSee, IsSoundAlong, SettledAreSound}
 use Rattle.eve_chains.proofs.Distinct.{Distinct, Source, in_map, in_source, distinct_permutation, below_permutation}
@@ -77,13 +77,13 @@ index_below t a before (y ∷ xs) x right here =
 index_below t a before (y ∷ xs) x right (there i) = index_below t a (before ++ y ∷ []) xs x
     (rest_right t a before y xs right) i
 
-entries_of_access : (xs : List Access) (x : Access) → Distinct (indexes_of xs) → In x xs → entries_at xs x.index
+entries_of_access : (xs : List Access) (x : Access) → Distinct (indexes_of xs) → In x xs → entries_with xs x.index
     ≡ x.entries
 entries_of_access [] x d i = elim i [ ]
-entries_of_access (y ∷ xs) x d here = cond-true (y.index == y.index) y.entries (entries_at xs y.index)
+entries_of_access (y ∷ xs) x d here = cond-true (y.index == y.index) y.entries (entries_with xs y.index)
     (eq-eqb y.index y.index refl)
 entries_of_access (y ∷ xs) x d (there i) =
-    cond-false (y.index == x.index) y.entries (entries_at xs x.index)
+    cond-false (y.index == x.index) y.entries (entries_with xs x.index)
     (ne_eqb y.index x.index (λ e. d.0
     (subst (λ j. In j (indexes_of xs)) (sym e) (in_map (λ (z : Access). z.index) xs i))))
     ∙ entries_of_access xs x d.1 i

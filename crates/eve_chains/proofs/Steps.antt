@@ -40,7 +40,8 @@ use Rattle.eve_chains.proofs.AlongLaws.{undone_is_before}
 use Rattle.eve_chains.proofs.Walks.{table_between, record_at, same_entries, right_one, complete_one, chain_fault_along}
 use Rattle.eve_chains.proofs.Walks.{table_between, chain_fault_somewhere}
 use Rattle.eve_chains.specs.declared.walk.Walk.{Walk}
-use Rattle.eve_chains.specs.Walking.{records_of, records_from, entries_of, AreJudged, Sees, IsFirstIn, IsCommitted}
+use Rattle.eve_chains.specs.Walking.{records_of, records_from, entries_along_all, AreJudgedAlong, SeesItsPath}
+use Rattle.eve_chains.specs.Walking.{IsFirstIn, IsCommitted}
 use Rattle.eve_chains.specs.Walking.{AreTried, AreUndone, ArePlaced, HasWalked}
 use Rattle.eve_chains.specs.Walking.{parted}
 use Rattle.eve_chains.proofs.Loading.{own, IsWithin, records_first, records_behind, within_section, within_behind}
@@ -114,7 +115,7 @@ told t h is = ap (λ (x : SectionHistory). x.attempts) is
 pub none_outside : (t : Trace) (e : ℕ) → length t.sections ≤ e → AllSettledSee t e
 unfolding history steps_at
 none_outside t e past =
-    subst (λ (xs : List Step). AllByRecursion (Sees t)
+    subst (λ (xs : List Step). AllByRecursion (SeesItsPath t)
     (settled (state_after start (located step_text (section_start t e + length (frame_text (OfReplica e))) xs))))
     (sym (get_or_past t.sections e [] past)) tt
 
@@ -466,7 +467,7 @@ module _ (t : Trace) (h : SectionHistory) (limits : HasLimits t) (tells : h ≡ 
         (first_with_all t e (s.committed ++ s.discarded) s.pending (attempts_of s.committed)
         (table_of w.working) w.first u.first known.placed
         (lead_all t e (attempts_of s.committed) s.pending limits right settles) (known.working apart ∙ known.committed)
-        (subst (λ (xss : List (List (ℕ × Access))). AreJudged e (table_of w.working) xss w.first u.first)
+        (subst (λ (xss : List (List (ℕ × Access))). AreJudgedAlong e (table_of w.working) xss w.first u.first)
         (open_records ((at, RollsBack r) ∷ rest) w known) tried.first) known.first));
   })
     where
@@ -491,11 +492,11 @@ module _ (t : Trace) (h : SectionHistory) (limits : HasLimits t) (tells : h ≡ 
       nothing n = omega arith
 
       entries : List Entry
-      entries = entries_of (records_from h w.settled (w.come - w.settled))
+      entries = entries_along_all (records_from h w.settled (w.come - w.settled))
 
-      same : entries_of (records_from h u.settled (u.come - u.settled)) ≡ entries
-      same = ap (λ (n : ℕ). entries_of (records_from h n (u.come - n))) tried.settled
-          ∙ ap (λ (n : ℕ). entries_of (records_from h w.settled (n - w.settled))) tried.come
+      same : entries_along_all (records_from h u.settled (u.come - u.settled)) ≡ entries
+      same = ap (λ (n : ℕ). entries_along_all (records_from h n (u.come - n))) tried.settled
+          ∙ ap (λ (n : ℕ). entries_along_all (records_from h w.settled (n - w.settled))) tried.come
 
       working : table_of x.working ≡ table_of w.committed
       working =

@@ -12,7 +12,8 @@ use Rattle.std.proofs.lemmas.List.{take_all}
 use Rattle.eve_grammar.specs.Trace.{Trace}
 use Rattle.eve_history.specs.declared.fate.Fate.{Fate}
 use Rattle.eve_history.specs.SectionHistory.{ExecutedAttempt, SectionHistory}
-use Rattle.eve_chains.specs.Unfit.{records_of, all_records, records_between, IsLeastUnfit, IsLeastOfAttempt, lesser}
+use Rattle.eve_chains.specs.Unfit.{records_if_settled, settled_records, records_between, IsLeastUnfit, IsLeastOfAttempt}
+use Rattle.eve_chains.specs.Unfit.{lesser}
 use Rattle.eve_chains.specs.Unfit.{lesser_found}
 use Rattle.eve_chains.specs.Stretches.{IsWithin, IsFoundIn, Reaches, AreStretches, least_found}
 use Rattle.eve_chains.specs.declared.stretch.Stretch.{Stretch}
@@ -47,31 +48,31 @@ one_left attempts jobs size count from enough at more =
 
 -- ---- the records of attempts
 
-none_here : (t : Trace) (n : ℕ) (fates : List Fate) → all_records t (take n []) fates ≡ []
+none_here : (t : Trace) (n : ℕ) (fates : List Fate) → settled_records t (take n []) fates ≡ []
 none_here t zero fates = refl
 none_here t (suc n) fates = refl
 
-no_fates : (t : Trace) (n : ℕ) (rs : List ExecutedAttempt) → all_records t rs (take n []) ≡ []
+no_fates : (t : Trace) (n : ℕ) (rs : List ExecutedAttempt) → settled_records t rs (take n []) ≡ []
 no_fates t n [] = refl
 no_fates t zero (r ∷ rs) = refl
 no_fates t (suc n) (r ∷ rs) = refl
 
 -- of so many attempts, and of so many after them
 front_and_back : (t : Trace) (m n : ℕ) (rs : List ExecutedAttempt) (fates : List Fate)
-    → all_records t (take (m + n) rs) (take (m + n) fates)
-    ≡ all_records t (take m rs) (take m fates) ++ all_records t (take n (drop m rs)) (take n (drop m fates))
+    → settled_records t (take (m + n) rs) (take (m + n) fates)
+    ≡ settled_records t (take m rs) (take m fates) ++ settled_records t (take n (drop m rs)) (take n (drop m fates))
 front_and_back t zero n rs fates =
-    let same : 0 + n ≡ n = omega arith in ap (λ (k : ℕ). all_records t (take k rs) (take k fates)) same
+    let same : 0 + n ≡ n = omega arith in ap (λ (k : ℕ). settled_records t (take k rs) (take k fates)) same
 front_and_back t (suc m) n [] fates =
     none_here t (suc m + n) (take (suc m + n) fates) ∙ sym (none_here t n (take n (drop (suc m) fates)))
 front_and_back t (suc m) n (r ∷ rs) [] =
     no_fates t (suc m + n) (take (suc m + n) (r ∷ rs)) ∙ sym (no_fates t n (take n (drop m rs)))
 front_and_back t (suc m) n (r ∷ rs) (fate ∷ fates) =
     let same : suc m + n ≡ suc (m + n) = omega arith in
-    ap (λ (k : ℕ). all_records t (take k (r ∷ rs)) (take k (fate ∷ fates))) same
-    ∙ ap (λ (l : List _). records_of t r fate ++ l) (front_and_back t m n rs fates)
-    ∙ sym (append_assoc (records_of t r fate) (all_records t (take m rs) (take m fates))
-    (all_records t (take n (drop m rs)) (take n (drop m fates))))
+    ap (λ (k : ℕ). settled_records t (take k (r ∷ rs)) (take k (fate ∷ fates))) same
+    ∙ ap (λ (l : List _). records_if_settled t r fate ++ l) (front_and_back t m n rs fates)
+    ∙ sym (append_assoc (records_if_settled t r fate) (settled_records t (take m rs) (take m fates))
+    (settled_records t (take n (drop m rs)) (take n (drop m fates))))
 
 from_on : {A : Type 0} (xs : List A) (i : ℕ) (x : A) → slice_get xs i ≡ Some x → drop i xs ≡ x ∷ drop (suc i) xs
 from_on [] i x at = absurd cc
@@ -98,32 +99,32 @@ module _ (t : Trace) (h : SectionHistory) where
       sym (drop-drop m from h.attempts ∙ ap (λ (k : ℕ). drop k h.attempts) at) in
       let fates : drop mid h.fates ≡ drop m (drop from h.fates) =
       sym (drop-drop m from h.fates ∙ ap (λ (k : ℕ). drop k h.fates) at) in
-      (λ k. records_between t h from mid ++ all_records t (take n (rs k)) (take n (fates k)))
+      (λ k. records_between t h from mid ++ settled_records t (take n (rs k)) (take n (fates k)))
       ∙ sym (front_and_back t m n (drop from h.attempts) (drop from h.fates))
-      ∙ ap (λ (k : ℕ). all_records t (take k (drop from h.attempts)) (take k (drop from h.fates))) sum
+      ∙ ap (λ (k : ℕ). settled_records t (take k (drop from h.attempts)) (take k (drop from h.fates))) sum
 
   none_between : (i : ℕ) → records_between t h i i ≡ []
   none_between i =
       let none : i - i ≡ 0 = omega arith in
-      ap (λ (k : ℕ). all_records t (take k (drop i h.attempts)) (take k (drop i h.fates))) none
+      ap (λ (k : ℕ). settled_records t (take k (drop i h.attempts)) (take k (drop i h.fates))) none
 
   one_between : (i : ℕ) (r : ExecutedAttempt) (fate : Fate) → slice_get h.attempts i ≡ Some r
-      → slice_get h.fates i ≡ Some fate → records_of t r fate ≡ records_between t h i (i + 1)
+      → slice_get h.fates i ≡ Some fate → records_if_settled t r fate ≡ records_between t h i (i + 1)
   one_between i r fate at its =
       let one : 1 ≡ i + 1 - i = omega arith in
       let rs : r ∷ drop (suc i) h.attempts ≡ drop i h.attempts = sym (from_on h.attempts i r at) in
       let fates : fate ∷ drop (suc i) h.fates ≡ drop i h.fates = sym (from_on h.fates i fate its) in
-      sym (append-nil (records_of t r fate))
-      ∙ (λ k. all_records t (take 1 (rs k)) (take 1 (fates k)))
-      ∙ ap (λ (k : ℕ). all_records t (take k (drop i h.attempts)) (take k (drop i h.fates))) one
+      sym (append-nil (records_if_settled t r fate))
+      ∙ (λ k. settled_records t (take 1 (rs k)) (take 1 (fates k)))
+      ∙ ap (λ (k : ℕ). settled_records t (take k (drop i h.attempts)) (take k (drop i h.fates))) one
 
   pub all_between : length h.fates ≡ length h.attempts
-      → records_between t h 0 (length h.attempts) ≡ all_records t h.attempts h.fates
+      → records_between t h 0 (length h.attempts) ≡ settled_records t h.attempts h.fates
   all_between long =
       let n = length h.attempts in
       let all : n - 0 ≡ n = omega arith in
-      ap (λ (k : ℕ). all_records t (take k h.attempts) (take k h.fates)) all
-      ∙ (λ k. all_records t (take_all n h.attempts (omega arith) k) (take_all n h.fates (omega arith) k))
+      ap (λ (k : ℕ). settled_records t (take k h.attempts) (take k h.fates)) all
+      ∙ (λ k. settled_records t (take_all n h.attempts (omega arith) k) (take_all n h.fates (omega arith) k))
 
   -- ---- what is found among them
 
@@ -179,7 +180,7 @@ module _ (t : Trace) (h : SectionHistory) where
     pub found_in_all : (xs : List Stretch) (ys : List Found) → length ys ≡ length xs
         → length h.fates ≡ length h.attempts → AreStretches (length h.attempts) xs
         → ((i : ℕ) (x : Stretch) (y : Found) → i < length xs → IsFoundIn names t h (get_or xs i x) (get_or ys i y))
-        → IfOk (least_found (Ok None) ys) (IsLeastUnfit names (all_records t h.attempts h.fates))
+        → IfOk (least_found (Ok None) ys) (IsLeastUnfit names (settled_records t h.attempts h.fates))
     found_in_all xs ys same long cut judged =
         subst (λ (rs : List _). IfOk (least_found (Ok None) ys) (IsLeastUnfit names rs)) (all_between long)
         (found_all 0 (length h.attempts) xs ys (Ok None) same cut.reaches cut.within judged (none_judged 0))

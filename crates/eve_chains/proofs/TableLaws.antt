@@ -14,7 +14,7 @@ use Rattle.std.proofs.Math.ListN.{get_or-map}
 use Rattle.std.proofs.lemmas.Option.{get_or_from_slice_get, slice_get_within}
 use Rattle.eve_smallbank.specs.declared.entry.Kind.TheVariants.{Read, Write}
 use Rattle.eve_smallbank.specs.declared.entry.Entry.{Entry}
-use Rattle.eve_smallbank.specs.Access.{is_write, writes_row, balance_at, values_after}
+use Rattle.eve_smallbank.specs.Access.{is_write, writes_row, balance_of_row, values_after}
 use Rattle.eve_smallbank.specs.Chain.{Versioned, Table, left_by, Sees, table_after}
 use Rattle.eve_views.specs.declared.fault.Code.{Code}
 use Rattle.eve_views.specs.declared.fault.Code.TheVariants as code
@@ -22,7 +22,7 @@ use Rattle.eve_grammar.specs.Trace.{Customer, Trace}
 use Rattle.eve_grammar.specs.Spelling.{located, customer_text, customers_at}
 use Rattle.eve_views.specs.Form.{SomePlace}
 use Rattle.eve_chains.specs.Visible.{opening_rows, opening_table}
-use Rattle.eve_chains.specs.Tables.{untouched, table_of, undone, IsWrongIn, wrong_behind}
+use Rattle.eve_chains.specs.Tables.{untouched, table_of, undone, IsFirstMismatch, wrong_behind}
 use Rattle.eve_chains.proofs.Linked.{some_injective, none≢some}
 
 -- ---- the opening
@@ -102,16 +102,16 @@ read_left table e read =
 
 -- a write leaves its value in its row
 pub value_left : (balances : List ℤ) (e : Entry) → e.row < length balances → e.kind ≡ Write
-    → balance_at (set balances e.row e.after) ≡ values_after (balance_at balances) (e ∷ [])
+    → balance_of_row (set balances e.row e.after) ≡ values_after (balance_of_row balances) (e ∷ [])
 value_left balances e within written =
     fun_ext (λ row. get_or-set balances e.row e.after (pos 0) within row
-    ∙ ap (λ k. cond (is_write k && (e.row == row)) e.after (balance_at balances row)) (sym written))
+    ∙ ap (λ k. cond (is_write k && (e.row == row)) e.after (balance_of_row balances row)) (sym written))
 
 pub value_kept : (values : ℕ → ℤ) (e : Entry) → e.kind ≡ Read → values ≡ values_after values (e ∷ [])
 value_kept values e read =
     fun_ext (λ row. ap (λ k. cond (is_write k && (e.row == row)) e.after (values row)) (sym read))
 
--- ---- rows taken back
+-- ---- rows undone
 
 pub taken_one : (rows : List Versioned) (from : Table) (e : Entry) → e.row < length rows → e.kind ≡ Write
     → table_of (set rows e.row (from e.row)) ≡ undone from (table_of rows) (e ∷ [])
@@ -205,8 +205,9 @@ later table (e ∷ es) = step (e.version == (table e.row).version) (int_eq e.see
     step false c g h rest = inl (whole false c g h, first_place e es (differs e.version (table e.row).version g))
 
 -- an entry that sees what it must stands before
-also_behind : (table : Table) (e : Entry) (es : List Entry) (o : Option Code) → Sees table e → IsWrongIn table es o
-    → IsWrongIn table (e ∷ es) o
+also_behind : (table : Table) (e : Entry) (es : List Entry) (o : Option Code) → Sees table e
+    → IsFirstMismatch table es o
+    → IsFirstMismatch table (e ∷ es) o
 also_behind table e es None sees wrong = (sees, wrong)
 also_behind table e es (Some code.Version) sees wrong = further e es wrong
 also_behind table e es (Some code.Value) sees wrong = ((sees.version, wrong.0), further e es wrong.1)
@@ -241,7 +242,7 @@ nothing_found found table e es sees =
     ∙ ap (λ b. cond b (wrong_behind found table es) (wrong_behind (Some code.Value) table es))
     ((Decides-int_eq e.seen (table e.row).value).1 sees.value)
 
-pub found_is_wrong : (table : Table) (es : List Entry) → IsWrongIn table es (wrong_behind None table es)
+pub found_is_wrong : (table : Table) (es : List Entry) → IsFirstMismatch table es (wrong_behind None table es)
 found_is_wrong table [] = tt
 found_is_wrong table (e ∷ es) = step (e.version == (table e.row).version) (int_eq e.seen (table e.row).value) refl refl
     (found_is_wrong table es)
@@ -257,25 +258,25 @@ found_is_wrong table (e ∷ es) = step (e.version == (table e.row).version) (int
 
     value_wrong : (e.version == (table e.row).version) ≡ true → int_eq e.seen (table e.row).value ≡ false
         → WrongLater table es
-        → IsWrongIn table (e ∷ es) (wrong_behind None table (e ∷ es))
-    value_wrong g h (inl found) = subst (IsWrongIn table (e ∷ es)) (sym (whole true false g h ∙ found.0))
+        → IsFirstMismatch table (e ∷ es) (wrong_behind None table (e ∷ es))
+    value_wrong g h (inl found) = subst (IsFirstMismatch table (e ∷ es)) (sym (whole true false g h ∙ found.0))
         (further e es found.1)
     value_wrong g h (inr all) =
-        subst (IsWrongIn table (e ∷ es)) (sym (whole true false g h ∙ all.0)) (
+        subst (IsFirstMismatch table (e ∷ es)) (sym (whole true false g h ∙ all.0)) (
           (eqb-true e.version (table e.row).version g, all.1),
           first_place e es (int_differs e.seen (table e.row).value h),
         )
 
     step : (b c : Bool) → (e.version == (table e.row).version) ≡ b → int_eq e.seen (table e.row).value ≡ c
-        → IsWrongIn table es (wrong_behind None table es)
-        → IsWrongIn table (e ∷ es) (wrong_behind None table (e ∷ es))
+        → IsFirstMismatch table es (wrong_behind None table es)
+        → IsFirstMismatch table (e ∷ es) (wrong_behind None table (e ∷ es))
     step true true g h rest =
-        subst (IsWrongIn table (e ∷ es)) (sym (whole true true g h))
+        subst (IsFirstMismatch table (e ∷ es)) (sym (whole true true g h))
         (also_behind table e es (wrong_behind None table es)
         (record {
           version = eqb-true e.version (table e.row).version g;
           value = (Decides-int_eq e.seen (table e.row).value).0 h;
         }) rest)
     step true false g h rest = value_wrong g h (later table es)
-    step false c g h rest = subst (IsWrongIn table (e ∷ es)) (sym (whole false c g h))
+    step false c g h rest = subst (IsFirstMismatch table (e ∷ es)) (sym (whole false c g h))
         (first_place e es (differs e.version (table e.row).version g))

@@ -19,7 +19,7 @@ use Rattle.eve_views.specs.declared.fault.Fault.{Fault}
 use Rattle.eve_history.specs.Section.{Placed, settled, request_count}
 use Rattle.eve_history.specs.SectionHistory.{access_with, ordered, history, IsRightSection, names_of}
 use Rattle.eve_views.specs.Form.{SomePlace}
-use Rattle.eve_chains.specs.Visible.{opening_table, entries_at, executed_at, executed_by, execution, entries_before}
+use Rattle.eve_chains.specs.Visible.{opening_table, entries_with, executed_at, executed_by, execution, entries_before}
 use Rattle.eve_chains.specs.Visible.{before_index, table_along, visible_to}
 use Rattle.eve_chains.specs.Sound.{RecordsFit, IsSoundAlong, SettledAreSound}
 use Rattle.eve_chains.specs.Faults.{AtSettledAccess, StandsInChains, IsChainFault}
@@ -159,7 +159,7 @@ module _ (t : Trace) (p : Placed) (right : IsRightAlone t p.attempt) where
   same_entries complete i member =
       let own = record_there complete i member in
       let x : ℕ × Access = record_at i in
-      sym (ap (λ (n : ℕ). entries_at p.attempt.accesses n) (sym own.1)
+      sym (ap (λ (n : ℕ). entries_with p.attempt.accesses n) (sym own.1)
       ∙ ap (λ (y : Executed). y.entries)
       (as_executed t p right x.1
       (in_located (λ y. frame_text (OfAccess y)) (p.offset + length (frame_text (OfAttempt p.attempt)))

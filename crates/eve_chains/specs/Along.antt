@@ -16,11 +16,11 @@ use Rattle.eve_history.specs.SectionHistory.{ordered, history}
 use Rattle.eve_chains.specs.Visible.{table_along}
 
 -- what an access frame says, with its offset
-abbrev pub said : AccessView → ℕ × Access
-said v = (v.offset, access_said v)
+abbrev pub said_at : AccessView → ℕ × Access
+said_at v = (v.offset, access_said v)
 
 abbrev pub all_said : List AccessView → List (ℕ × Access)
-all_said views = map said views
+all_said views = map said_at views
 
 -- the entries of one record after another
 abbrev pub entries_along : List (ℕ × Access) → List Entry
@@ -65,6 +65,6 @@ AllSettledSee t e = AllByRecursion (λ p. AllSee (table_along t p.path) (ordered
     (settled (history t e))
 
 -- a fault of replica e at this offset, if there is one
-abbrev pub fault_of : ℕ → ℕ → Option Code → Option Fault
-fault_of e at None = None
-fault_of e at (Some c) = Some (record { code = c; offset = at; replica = Some e })
+abbrev pub fault_if : ℕ → ℕ → Option Code → Option Fault
+fault_if e at None = None
+fault_if e at (Some c) = Some (record { code = c; offset = at; replica = Some e })

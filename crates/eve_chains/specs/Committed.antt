@@ -7,7 +7,7 @@ use Rattle.eve_smallbank.specs.Access.{Executed, bank_of}
 use Rattle.eve_smallbank.specs.Conflict.{AgreesWithConflicts, IsReordering}
 use Rattle.eve_grammar.specs.Trace.{Attempt, Trace}
 use Rattle.eve_history.specs.Section.{Placed}
-use Rattle.eve_history.specs.SectionHistory.{asked_at, history, names_of}
+use Rattle.eve_history.specs.SectionHistory.{asked_in, history, names_of}
 use Rattle.eve_history.specs.Faults.{RequestId, request_id}
 use Rattle.eve_chains.specs.Visible.{opening_of, rows_after}
 
@@ -58,7 +58,7 @@ pub record IsSerialBetween (first last : Bank) (xs : List Executed) : Type 0 whe
 
 -- the requests of an attempt in its certificate's order, by client and number
 abbrev pub request_ids_in : Trace → Attempt → List RequestId
-request_ids_in t a = map (λ index. request_id (asked_at t a index)) a.certificate
+request_ids_in t a = map (λ index. request_id (asked_in t a index)) a.certificate
 
 -- of all that replica e committed, in order
 unfoldable pub committed_request_ids : Trace → ℕ → List RequestId

@@ -20,7 +20,7 @@ DoRise from [] to = from ≡ to
 DoRise from (end ∷ ends) to = (from ≤ end) × DoRise end ends to
 
 -- The parts make up the records, which are of these rows, and a u32 counts the parts.
-pub record AreKept (opening : List ℤ) (xs : List (ℕ × Access)) (ends : List ℕ) : Type 0 where
+pub record ArePartsOf (opening : List ℤ) (xs : List (ℕ × Access)) (ends : List ℕ) : Type 0 where
   pub rise : DoRise 0 ends (length xs)
   pub within : AreWithin (length opening) xs
   pub few : length ends < 2 ^ 32

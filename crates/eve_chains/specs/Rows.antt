@@ -82,8 +82,8 @@ pub record Pair : Type 0 where
 abbrev pub met_by : Pair → Noted → Versioned
 met_by p n = if n.view == p.view then p.working else p.committed
 
-abbrev pub step : Pair → Noted → Pair
-step p n = record {
+abbrev pub next_pair : Pair → Noted → Pair
+next_pair p n = record {
   view = n.view;
   committed = if n.commits then after_own p.committed n.entry else p.committed;
   working = after_own (met_by p n) n.entry;
@@ -95,7 +95,7 @@ at_first v = record { view = 0; committed = v; working = v }
 
 -- after these entries of the row
 abbrev pub pair_after : Versioned → List Noted → Pair
-pair_after v ns = fold step (at_first v) ns
+pair_after v ns = fold next_pair (at_first v) ns
 
 -- the entry sees another version, or another value, than its row has
 abbrev pub SeesAnother : Code → Versioned → Entry → Type 0

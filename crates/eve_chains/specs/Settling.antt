@@ -2,7 +2,7 @@
 -- committed batch".
 use Rattle.std.specs.Prelude.{◌≡◌, ℕ, ℤ, List, map, take}
 use Rattle.std.specs.List.{flat_map}
-use Rattle.eve_smallbank.specs.Access.{balance_at, bank_of, values_after}
+use Rattle.eve_smallbank.specs.Access.{balance_of_row, bank_of, values_after}
 use Rattle.eve_grammar.specs.Trace.{Access, Trace}
 use Rattle.eve_grammar.specs.Frames.{sections_of}
 use Rattle.eve_grammar.specs.Limits.{HasLimits}
@@ -30,10 +30,10 @@ settlings t = map (λ s. settling t s.0) (sections_of t)
 
 -- the balances after the first n batches, by row: the opening balances with what those batches wrote
 unfoldable pub values_in : Settling → ℕ → ℕ → ℤ
-values_in s n = values_after (balance_at s.opening) (flat_map entries_along (take n s.batches))
+values_in s n = values_after (balance_of_row s.opening) (flat_map entries_along (take n s.batches))
 
 -- the balances are the bank after batch n of each replica with a right section whose batches these are
 abbrev pub AreBankAfter : Settling → ℕ → List ℤ → Type 0
 AreBankAfter s n balances =
     (t : Trace) (e : ℕ) → HasLimits t → IsRightSection t e → s ≡ settling t e
-    → bank_of (names_of t) (balance_at balances) ≡ bank_after t e n
+    → bank_of (names_of t) (balance_of_row balances) ≡ bank_after t e n

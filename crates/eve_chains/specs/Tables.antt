@@ -23,12 +23,12 @@ undone from table es row = if list_any (writes_row row) es then from row else ta
 
 -- The first thing that is wrong with what a request's entries see: some other version, or no other version but
 -- some other value.
-abbrev pub IsWrongIn : Table → List Entry → Option Code → Type 0
-IsWrongIn table es None = AllByRecursion (Sees table) es
-IsWrongIn table es (Some code.Version) = SomePlace es (λ _ e. e.version ≢ (table e.row).version)
-IsWrongIn table es (Some code.Value) =
+abbrev pub IsFirstMismatch : Table → List Entry → Option Code → Type 0
+IsFirstMismatch table es None = AllByRecursion (Sees table) es
+IsFirstMismatch table es (Some code.Version) = SomePlace es (λ _ e. e.version ≢ (table e.row).version)
+IsFirstMismatch table es (Some code.Value) =
     AllByRecursion (λ e. e.version ≡ (table e.row).version) es × SomePlace es (λ _ e. e.seen ≢ (table e.row).value)
-IsWrongIn table es (Some _) = ⊥
+IsFirstMismatch table es (Some _) = ⊥
 
 -- the same, found entry by entry, where this was found before
 abbrev pub wrong_behind : Option Code → Table → List Entry → Option Code

@@ -23,8 +23,8 @@ recorded_of requests replies x =
     (x.0, recorded (slice_index_or requests x.1.index (Balance [])) (slice_index_or replies x.1.index Done) x.1.entries)
 
 -- of an attempt, in its certificate's order
-abbrev pub records_in : Trace → ExecutedAttempt → List (ℕ × Executed)
-records_in t r = map (λ x. (x.0, executed_by t r.attempt x.1)) r.ordered
+abbrev pub records_along : Trace → ExecutedAttempt → List (ℕ × Executed)
+records_along t r = map (λ x. (x.0, executed_by t r.attempt x.1)) r.ordered
 
 -- as many requests as its certificate lists, and one for each record's index
 pub record HasRequests (count : ℕ) (r : ExecutedAttempt) : Type 0 where
@@ -37,18 +37,18 @@ is_settled Discarded = true
 is_settled Open = false
 
 -- of an attempt that is settled
-abbrev pub records_of : Trace → ExecutedAttempt → Fate → List (ℕ × Executed)
-records_of t r fate = if is_settled fate then records_in t r else []
+abbrev pub records_if_settled : Trace → ExecutedAttempt → Fate → List (ℕ × Executed)
+records_if_settled t r fate = if is_settled fate then records_along t r else []
 
 -- of the settled ones among attempts with these fates
-abbrev pub all_records : Trace → List ExecutedAttempt → List Fate → List (ℕ × Executed)
-all_records t [] fates = []
-all_records t (r ∷ rs) [] = []
-all_records t (r ∷ rs) (fate ∷ fates) = records_of t r fate ++ all_records t rs fates
+abbrev pub settled_records : Trace → List ExecutedAttempt → List Fate → List (ℕ × Executed)
+settled_records t [] fates = []
+settled_records t (r ∷ rs) [] = []
+settled_records t (r ∷ rs) (fate ∷ fates) = records_if_settled t r fate ++ settled_records t rs fates
 
 -- of those from one place up to another
 abbrev pub records_between : Trace → SectionHistory → ℕ → ℕ → List (ℕ × Executed)
-records_between t h from to = all_records t (slice_range h.attempts from to) (slice_range h.fates from to)
+records_between t h from to = settled_records t (slice_range h.attempts from to) (slice_range h.fates from to)
 
 -- ---- the first that doesn't fit
 
@@ -69,7 +69,7 @@ pub record CanBeJudged (t : Trace) (h : SectionHistory) (i : ℕ) : Type 0 where
 abbrev pub IsLeastOfAttempt : List (List ℕ) → Trace → SectionHistory → ℕ → Option ℕ → Type 0
 IsLeastOfAttempt names t h i least =
     (r : ExecutedAttempt) (fate : Fate) → slice_get h.attempts i ≡ Some r → slice_get h.fates i ≡ Some fate
-    → IsLeastUnfit names (records_of t r fate) least
+    → IsLeastUnfit names (records_if_settled t r fate) least
 
 abbrev pub lesser : Option ℕ → Option ℕ → Option ℕ
 lesser None other = other

@@ -7,7 +7,7 @@ use Rattle.eve_smallbank.specs.Access.{Executed}
 use Rattle.eve_smallbank.specs.Chain.{Table, visible_at, before_rest, table_after_all}
 use Rattle.eve_grammar.specs.Trace.{Customer, Access, Attempt, Trace}
 use Rattle.eve_history.specs.Section.{Placed}
-use Rattle.eve_history.specs.SectionHistory.{asked_at}
+use Rattle.eve_history.specs.SectionHistory.{asked_in}
 
 -- ---- the opening
 
@@ -26,21 +26,21 @@ opening_table t row = record { version = 0; value = opening_of t row }
 -- ---- what an attempt executed
 
 -- what was noted of the request with this index
-abbrev pub entries_at : List Access → ℕ → List Entry
-entries_at [] index = []
-entries_at (x ∷ xs) index = if x.index == index then x.entries else entries_at xs index
+abbrev pub entries_with : List Access → ℕ → List Entry
+entries_with [] index = []
+entries_with (x ∷ xs) index = if x.index == index then x.entries else entries_with xs index
 
 -- the request with this index, with its reply and these entries
 abbrev pub executed_with : Trace → Attempt → ℕ → List Entry → Executed
 executed_with t a index entries = record {
-  request = (asked_at t a index).request;
+  request = (asked_in t a index).request;
   reply = slice_index_or a.replies index Done;
   entries = entries;
 }
 
 -- the request with this index, as the attempt executed it
 abbrev pub executed_at : Trace → Attempt → ℕ → Executed
-executed_at t a index = executed_with t a index (entries_at a.accesses index)
+executed_at t a index = executed_with t a index (entries_with a.accesses index)
 
 -- the request that an access record is of
 abbrev pub executed_by : Trace → Attempt → Access → Executed

@@ -35,22 +35,22 @@ records_from h from zero = []
 records_from h from (suc n) = records_of h from ∷ records_from h (suc from) n
 
 -- the entries of one attempt after another
-abbrev pub entries_of : List (List (ℕ × Access)) → List Entry
-entries_of xss = flat_map entries_along xss
+abbrev pub entries_along_all : List (List (ℕ × Access)) → List Entry
+entries_along_all xss = flat_map entries_along xss
 
 -- ---- what is found in attempts
 
 -- the last is the first fault of the one before and of those found in these attempts, each from what those before it
 -- leave
-abbrev pub AreJudged : ℕ → Table → List (List (ℕ × Access)) → Option Fault → Option Fault → Type 0
-AreJudged e table [] before after = after ≡ before
-AreJudged e table (xs ∷ xss) before after =
-    (found : Option Fault) × IsFirstAlong e table xs found × AreJudged e (table_after table (entries_along xs)) xss
+abbrev pub AreJudgedAlong : ℕ → Table → List (List (ℕ × Access)) → Option Fault → Option Fault → Type 0
+AreJudgedAlong e table [] before after = after ≡ before
+AreJudgedAlong e table (xs ∷ xss) before after =
+    (found : Option Fault) × IsFirstAlong e table xs found × AreJudgedAlong e (table_after table (entries_along xs)) xss
     (first_of before found) after
 
 -- the attempt's records see what its path and the records before them leave
-abbrev pub Sees : Trace → Placed → Type 0
-Sees t p = AllSee (table_along t p.path) (ordered p.offset p.attempt)
+abbrev pub SeesItsPath : Trace → Placed → Type 0
+SeesItsPath t p = AllSee (table_along t p.path) (ordered p.offset p.attempt)
 
 -- a fault of replica e at one of the attempt's records
 abbrev pub IsWrongIn : Trace → ℕ → Fault → Placed → Type 0
@@ -58,7 +58,7 @@ IsWrongIn t e f p = IsWrongAlong e (table_along t p.path) (ordered p.offset p.at
 
 -- nothing is wrong in these attempts, or this is the first of what is, by offset and then by number
 abbrev pub IsFirstIn : Trace → ℕ → List Placed → Option Fault → Type 0
-IsFirstIn t e ps None = AllByRecursion (Sees t) ps
+IsFirstIn t e ps None = AllByRecursion (SeesItsPath t) ps
 IsFirstIn t e ps (Some f) = SomePlace ps (λ _ p. IsWrongIn t e f p)
     × ((g : Fault) → SomePlace ps (λ _ p. IsWrongIn t e g p) → IsUpTo f g)
 
@@ -89,8 +89,8 @@ pub record AreTried (h : SectionHistory) (n : ℕ) (w v : Walk) : Type 0 where
   pub committed : v.committed ≡ w.committed
   pub apart : v.apart ≡ w.apart
   pub rows : length v.working ≡ length w.working
-  pub working : table_of v.working ≡ table_after (table_of w.working) (entries_of (records_from h w.settled n))
-  pub first : AreJudged h.replica (table_of w.working) (records_from h w.settled n) w.first v.first
+  pub working : table_of v.working ≡ table_after (table_of w.working) (entries_along_all (records_from h w.settled n))
+  pub first : AreJudgedAlong h.replica (table_of w.working) (records_from h w.settled n) w.first v.first
 
 -- the rows that this many of the open attempts write have again what they have in the committed table
 pub record AreUndone (h : SectionHistory) (n : ℕ) (w v : Walk) : Type 0 where
@@ -101,7 +101,7 @@ pub record AreUndone (h : SectionHistory) (n : ℕ) (w v : Walk) : Type 0 where
   pub first : v.first ≡ w.first
   pub rows : length v.working ≡ length w.working
   pub working : table_of v.working ≡ undone (table_of w.committed) (table_of w.working)
-      (entries_of (records_from h w.settled n))
+      (entries_along_all (records_from h w.settled n))
 
 -- ---- the walk
 

@@ -1,11 +1,11 @@
 //! What an attempt's records see and leave, one after another in its certificate's order.
 
 ghost use Rattle.std.specs.Prelude.{◌≡◌, length};
-ghost use Rattle.eve_smallbank.specs.Access.{balance_at, values_after};
+ghost use Rattle.eve_smallbank.specs.Access.{balance_of_row, values_after};
 ghost use Rattle.eve_smallbank.specs.Chain.{table_after};
 ghost use Rattle.eve_views.specs.First.{first_of};
 ghost use Rattle.eve_chains.specs.Tables.{table_of, undone};
-ghost use Rattle.eve_chains.specs.Along.{all_said, entries_along, AreWithin, IsFirstAlong, fault_of};
+ghost use Rattle.eve_chains.specs.Along.{all_said, entries_along, AreWithin, IsFirstAlong, fault_if};
 
 use crate::noted::entries_of;
 use crate::table::Table;
@@ -60,7 +60,7 @@ pub fn undo_along(table: &mut Table, ordered: &[AccessView<'_>], from: &Table)
 pub fn write_values_along(balances: &mut Balances, ordered: &[AccessView<'_>])
     requires { AreWithin (length balances.old) (all_said ordered.now) }
     ensures as_many { length balances.new ≡ length balances.old }
-    ensures values { balance_at balances.new ≡ values_after (balance_at balances.old)
+    ensures values { balance_of_row balances.new ≡ values_after (balance_of_row balances.old)
         (entries_along (all_said ordered.now)) }
 {
     for access in ordered {
@@ -70,7 +70,7 @@ pub fn write_values_along(balances: &mut Balances, ordered: &[AccessView<'_>])
 
 /// The first of the fault before and of what is wrong at this offset, which mostly is nothing.
 fn first_with(first: Option<Fault>, replica: u8, offset: u64, wrong: Option<Code>) -> Option<Fault>
-    ensures { result ≡ first_of first (fault_of replica offset wrong) }
+    ensures { result ≡ first_of first (fault_if replica offset wrong) }
 {
     match wrong {
         Some(code) => first_of(

@@ -126,8 +126,8 @@ pub fn rows_have_what_the_nearest_writes_left()
         (before_rest (entries_before t p.path) (executed_in t p.attempt (before_index index p.attempt.certificate))) }
 {}
 
-/// Where the rows that were written are taken back from the table before the writes, it is that table again.
-pub fn taking_back_undoes_writes()
+/// Where what was written is undone row by row, the table is again the one before the writes.
+pub fn undoing_gives_the_table_again()
     ensures { (table : Table) (es : List Entry) → undone table (table_after table es) es ≡ table }
 {}
 

@@ -1,7 +1,7 @@
 //! What a replica committed.
 
 ghost use Rattle.std.specs.Prelude.{◌≡◌, ◌<◌, ◌≤◌, ◌-◌, ◌++◌, Some, IfOk, OnOk, length, take, drop, slice_get};
-ghost use Rattle.eve_smallbank.specs.Access.{balance_at};
+ghost use Rattle.eve_smallbank.specs.Access.{balance_of_row};
 ghost use Rattle.eve_history.specs.SectionHistory.{ExecutedAttempt, section_history, IsRightSection};
 ghost use Rattle.eve_chains.specs.Along.{all_said};
 ghost use Rattle.eve_chains.specs.Settling.{settling, values_in, AreBankAfter};
@@ -31,13 +31,13 @@ pub struct Settled<'a> {
 impl<'a> Model for Settled<'a> {
     ghost use Rattle.eve_chains.specs.Along.{all_said};
     ghost use Rattle.eve_chains.specs.Settling.{Settling};
-    ghost use Rattle.eve_chains.specs.Parts.{parts, AreKept};
+    ghost use Rattle.eve_chains.specs.Parts.{parts, ArePartsOf};
 
     ghost Value = { Settling };
 
     ghost view = { λ s. record { opening = s.opening; batches = parts 0 (all_said s.records.items) s.ends.items } };
 
-    ghost invariant = { λ s. AreKept s.opening (all_said s.records.items) s.ends.items };
+    ghost invariant = { λ s. ArePartsOf s.opening (all_said s.records.items) s.ends.items };
 }
 
 impl<'a> Settled<'a> {
@@ -84,7 +84,7 @@ impl<'a> Settled<'a> {
     pub fn balances_after(&self, alloc: Global, n: u32) -> Result<Balances, AllocError>
         requires { n ≤ length self.now.batches }
         ensures rows { IfOk result (λ balances. length balances ≡ length self.now.opening) }
-        ensures values { IfOk result (λ balances. balance_at balances ≡ values_in self.now n) }
+        ensures values { IfOk result (λ balances. balance_of_row balances ≡ values_in self.now n) }
         ensures bank { IfOk result (AreBankAfter self.now n) }
     {
         let mut balances = self.opening.copy(alloc)?;
@@ -102,9 +102,9 @@ impl<'a> Settled<'a> {
         requires one { 1 ≤ n }
         requires there { n ≤ length self.now.batches }
         requires rows { length balances.old ≡ length self.now.opening }
-        requires before { balance_at balances.old ≡ values_in self.now (n - 1) }
+        requires before { balance_of_row balances.old ≡ values_in self.now (n - 1) }
         ensures rows { length balances.new ≡ length balances.old }
-        ensures values { balance_at balances.new ≡ values_in self.now n }
+        ensures values { balance_of_row balances.new ≡ values_in self.now n }
         ensures bank { AreBankAfter self.now n balances.new }
     {
         let records = part(&self.records, &self.ends, n as usize - 1);

@@ -5,7 +5,7 @@ ghost use Rattle.std.specs.List.{list_all, AllByRecursion};
 ghost use Rattle.eve_smallbank.specs.Chain.{table_after};
 ghost use Rattle.eve_grammar.specs.Limits.{is_entry};
 ghost use Rattle.eve_chains.specs.Visible.{opening_table};
-ghost use Rattle.eve_chains.specs.Tables.{table_of, undone, IsWrongIn};
+ghost use Rattle.eve_chains.specs.Tables.{table_of, undone, IsFirstMismatch};
 
 use crate::versioned::Versioned;
 use eve_accounts::{Cents, Row};
@@ -83,7 +83,7 @@ impl Table {
         requires { IsTrue (list_all (is_entry (length self.old)) entries.now) }
         ensures as_many { length self.new ≡ length self.old }
         ensures table { table_of self.new ≡ table_after (table_of self.old) entries.now }
-        ensures wrong { IsWrongIn (table_of self.old) entries.now result }
+        ensures wrong { IsFirstMismatch (table_of self.old) entries.now result }
     {
         let wrong = self.wrong_in(entries);
         self.write(entries);
@@ -92,7 +92,7 @@ impl Table {
 
     fn wrong_in(&self, entries: &UpToThree<Entry>) -> Option<Code>
         requires { IsTrue (list_all (is_entry (length self.now)) entries.now) }
-        ensures { IsWrongIn (table_of self.now) entries.now result }
+        ensures { IsFirstMismatch (table_of self.now) entries.now result }
     {
         let mut wrong = None;
         for place in 0..entries.len() {

@@ -10,7 +10,8 @@ ghost use Rattle.eve_history.specs.SectionHistory.{ExecutedAttempt, section_hist
 ghost use Rattle.eve_chains.specs.Records.{recorded};
 ghost use Rattle.eve_chains.specs.Sound.{RecordsFit};
 ghost use Rattle.eve_chains.specs.Faults.{IsRecordFault};
-ghost use Rattle.eve_chains.specs.Unfit.{is_settled, recorded_of, all_records, HasRequests, IsLeastUnfit, CanBeJudged};
+ghost use Rattle.eve_chains.specs.Unfit.{is_settled, recorded_of, settled_records, HasRequests, IsLeastUnfit};
+ghost use Rattle.eve_chains.specs.Unfit.{CanBeJudged};
 ghost use Rattle.eve_chains.specs.Unfit.{IsLeastOfAttempt, lesser, lesser_found};
 ghost use Rattle.eve_chains.specs.Stretches.{IsWithin, IsFoundIn, AreStretches, least_found};
 ghost use Rattle.eve_chains.specs.declared.stretch.Stretch.{Stretch as StretchValue};
@@ -75,7 +76,7 @@ fn first_unfit<R: Threads + Sync>(
     requires right { IsRightSection trace.now history.now.replica }
     requires jobs { 1 ≤ jobs }
     ensures { IfOk result (IsLeastUnfit names.now.items
-        (all_records trace.now history.now.attempts history.now.fates)) }
+        (settled_records trace.now history.now.attempts history.now.fates)) }
 {
     let stretches = Stretch::cut(alloc, history.attempts(), jobs)?;
     let found = judge_all(rt, alloc, history, trace, names, stretches)?;

@@ -154,7 +154,7 @@ impl<'a> Walk<'a> {
 /// chains, by offset and then by number.
 ///
 /// docs/MODEL.md, "What an entry must see" and "Faults". One walk along the section; a discarded attempt's writes are
-/// taken back row by row. Refused memory decides nothing.
+/// undone row by row. Refused memory decides nothing.
 pub fn chains<'a>(alloc: Global, history: &History<'a>, trace: &Trace<'a>) -> Result<(), CheckFault>
     requires history { history.now ≡ section_history trace.now history.now.replica }
     requires right { IsRightSection trace.now history.now.replica }

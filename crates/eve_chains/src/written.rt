@@ -2,7 +2,7 @@
 
 ghost use Rattle.std.specs.Prelude.{◌≡◌, IsTrue, length, [], ◌∷◌};
 ghost use Rattle.std.specs.List.{list_all};
-ghost use Rattle.eve_smallbank.specs.Access.{balance_at, values_after};
+ghost use Rattle.eve_smallbank.specs.Access.{balance_of_row, values_after};
 ghost use Rattle.eve_grammar.specs.Limits.{is_entry};
 
 use eve_accounts::Balances;
@@ -15,7 +15,7 @@ use eve_smallbank::{Entry, Kind};
 pub fn write_values(balances: &mut Balances, entries: Entries<'_>)
     requires { IsTrue (list_all (is_entry (length balances.old)) entries) }
     ensures as_many { length balances.new ≡ length balances.old }
-    ensures values { balance_at balances.new ≡ values_after (balance_at balances.old) entries.entry }
+    ensures values { balance_of_row balances.new ≡ values_after (balance_of_row balances.old) entries.entry }
 {
     for entry in entries {
         write_value(balances, &entry);
@@ -25,7 +25,7 @@ pub fn write_values(balances: &mut Balances, entries: Entries<'_>)
 fn write_value(balances: &mut Balances, entry: &Entry)
     requires { IsTrue (is_entry (length balances.old) entry.now) }
     ensures as_many { length balances.new ≡ length balances.old }
-    ensures values { balance_at balances.new ≡ values_after (balance_at balances.old) (entry.now ∷ []) }
+    ensures values { balance_of_row balances.new ≡ values_after (balance_of_row balances.old) (entry.now ∷ []) }
 {
     match entry.kind {
         Kind::Read => {}

@@ -3,7 +3,7 @@
 ghost use Rattle.std.specs.Prelude.{◌≡◌, ◌*◌, ◌<◌, ◌≤◌, IsTrue, IfOk, length};
 ghost use Rattle.eve_grammar.specs.Limits.{is_batch};
 ghost use Rattle.eve_write.specs.Data.{batch as plain};
-ghost use Rattle.eve_attempts.specs.Closing.{touched_by};
+ghost use Rattle.eve_attempts.specs.Closing.{touched_in_batch};
 
 use eve_accounts::{Balances, Names, Row};
 use eve_grammar::MOST_CUSTOMERS;
@@ -61,7 +61,7 @@ pub fn touched_in(
     names: &Names,
     batch: &BatchData,
 ) -> Result<Vec<Touched>, AllocError>
-    ensures { IfOk result (λ t. t.items ≡ touched_by names.now.items (plain batch.now)) }
+    ensures { IfOk result (λ t. t.items ≡ touched_in_batch names.now.items (plain batch.now)) }
 {
     let mut all = Vec::with_capacity(alloc, batch.requests.len())?;
     for request in &batch.requests {

@@ -3,7 +3,7 @@
 ghost use Rattle.std.specs.Prelude.{◌≡◌, ◌+◌, ◌<◌, ◌≤◌, ℕ, List, IsTrue, IfOk, length};
 ghost use Rattle.eve_grammar.specs.Limits.{is_attempt, is_batch};
 ghost use Rattle.eve_write.specs.Data.{attempt as plain_attempt, batch as plain};
-ghost use Rattle.eve_attempts.specs.Closing.{touched_by};
+ghost use Rattle.eve_attempts.specs.Closing.{touched_in_batch};
 
 use crate::changing::Change;
 use crate::comparing::{
@@ -205,7 +205,7 @@ fn close_due(
     requires last { ledger.old.committed + 1 + length ledger.old.opened ≤ MOST_BATCHES }
     requires room { length ledger.old.opened < ledger.old.window }
     requires batch { IsTrue (is_batch (plain batch.now)) }
-    requires touched { (names : List (List ℕ)) × (touched.now ≡ touched_by names (plain batch.now)) }
+    requires touched { (names : List (List ℕ)) × (touched.now ≡ touched_in_batch names (plain batch.now)) }
     ensures { IfOk result (λ a. IsTrue (is_attempt (plain_attempt a))) }
 {
     let front = AttemptFront {

@@ -4,7 +4,7 @@ use Rattle.std.specs.Prelude.{Result, Ok, Err}
 use Rattle.eve_smallbank.specs.SmallBank.{Request, Balance}
 use Rattle.eve_smallbank.specs.Access.{Fits}
 use Rattle.eve_grammar.specs.Trace.{Batch}
-use Rattle.eve_stamps.specs.Applied.{Applied, executed_by}
+use Rattle.eve_stamps.specs.Applied.{Applied, executed_as}
 use Rattle.eve_recorder.specs.Drawing.{Source, Drawer}
 use Rattle.eve_recorder.specs.Seen.{Desk, Noter, WasFull}
 use Rattle.eve_floor.specs.declared.fault.ExecFault.{ExecFault}
@@ -21,8 +21,8 @@ abbrev pub IsNext : Noter → Applied → Type 0
 IsNext seat r = (r.worker ≡ seat.worker) × (r.place ≡ length seat.noted)
 
 -- its seats are of this recorder and of these tickets
-abbrev pub IsAt : Desk → Source → Executor → Type 0
-IsAt recorder tickets w = (w.seat.recorder ≡ recorder.recorder) × (w.tickets.tickets ≡ tickets)
+abbrev pub IsSeatedAt : Desk → Source → Executor → Type 0
+IsSeatedAt recorder tickets w = (w.seat.recorder ≡ recorder.recorder) × (w.tickets.tickets ≡ tickets)
 
 -- its seats are those that they were: each of the same object, with the same number
 abbrev pub KeepsSeats : Executor → Executor → Type 0
@@ -33,13 +33,13 @@ KeepsSeats old new =
 -- ---- what an execution does
 
 -- the request with this index in a batch (past its end, no matter which)
-abbrev pub request_at : Batch → ℕ → Request
-request_at b index = slice_index_or (map (λ a. a.request) b.requests) index (Balance [])
+abbrev pub request_of_index : Batch → ℕ → Request
+request_of_index b index = slice_index_or (map (λ a. a.request) b.requests) index (Balance [])
 
 -- the record of this request, with this index in its batch, as the worker notes it at that place: it fits
 abbrev pub IsRecordOf : List (List ℕ) → Request → ℕ → ℕ → ℕ → Applied → Type 0
 IsRecordOf names request index worker place r =
-    (r.index ≡ index) × (r.worker ≡ worker) × (r.place ≡ place) × Fits names (executed_by request r)
+    (r.index ≡ index) × (r.worker ≡ worker) × (r.place ≡ place) × Fits names (executed_as request r)
 
 -- one more number is drawn on the seat
 abbrev pub with_drawn : ℕ → Drawer → Drawer
@@ -54,16 +54,20 @@ abbrev pub drawing : ℕ → Executor → Executor
 drawing tick w = record { seat = w.seat; tickets = with_drawn tick w.tickets; waiting = w.waiting }
 
 -- one more record is noted, and nothing waits
-abbrev pub noting : Applied → Executor → Executor
-noting r w = record { seat = record w.seat { noted = w.seat.noted ++ r ∷ [] }; tickets = w.tickets; waiting = None }
+abbrev pub noting_record : Applied → Executor → Executor
+noting_record r w = record {
+  seat = record w.seat { noted = w.seat.noted ++ r ∷ [] };
+  tickets = w.tickets;
+  waiting = None;
+}
 
 -- the record waits
 abbrev pub holding : Applied → Executor → Executor
 holding r w = record { seat = w.seat; tickets = w.tickets; waiting = Some r }
 
 -- nothing waits, and one number is drawn
-abbrev pub Draws : Executor → Executor → Type 0
-Draws old new = (old.waiting ≡ None) × (tick : ℕ) × (new ≡ drawing tick old)
+abbrev pub DrawsOne : Executor → Executor → Type 0
+DrawsOne old new = (old.waiting ≡ None) × (tick : ℕ) × (new ≡ drawing tick old)
 
 -- One number is drawn, and it is the tick of the record that the worker gains for the request: noted, or waiting.
 abbrev pub Gains : (Applied → Executor → Executor) → List (List ℕ) → Request → ℕ → Executor → Executor → Type 0
@@ -75,24 +79,25 @@ Gains with_record names request index old new =
 -- is drawn, which is the tick of the request's record: at Ok the record is noted, at Full of the queue it waits.
 abbrev pub Executes : {A : Type 0} → Desk → List (List ℕ) → Request → ℕ
     → Executor → Executor → Result A ExecFault → Type 0
-Executes recorder names request index old new (Ok _) = (old.waiting ≡ None) × Gains noting names request index old new
+Executes recorder names request index old new (Ok _) = (old.waiting ≡ None)
+    × Gains noting_record names request index old new
 Executes recorder names request index old new (Err fault.Full) =
     (IsSome old.waiting × (new ≡ old))
     ⊎ ((old.waiting ≡ None) × WasFull recorder old.seat
     × Gains holding names request index old new)
 Executes recorder names request index old new (Err fault.Spent) =
     (old.waiting ≡ None) × (new ≡ old) × IsSpent old.tickets
-Executes recorder names request index old new (Err fault.NoRow) = Draws old new
-Executes recorder names request index old new (Err fault.TickOrder) = Draws old new
-Executes recorder names request index old new (Err fault.Worn) = Draws old new
-Executes recorder names request index old new (Err fault.Memory) = Draws old new
+Executes recorder names request index old new (Err fault.NoRow) = DrawsOne old new
+Executes recorder names request index old new (Err fault.TickOrder) = DrawsOne old new
+Executes recorder names request index old new (Err fault.Worn) = DrawsOne old new
+Executes recorder names request index old new (Err fault.Memory) = DrawsOne old new
 
 -- ---- what waits is noted
 
 -- the worker with what waits noted
 abbrev pub with_waiting_noted : Option Applied → Executor → Executor
 with_waiting_noted None w = w
-with_waiting_noted (Some r) w = noting r w
+with_waiting_noted (Some r) w = noting_record r w
 
 -- what a flush makes of a worker, by its answer
 abbrev pub Flushes : {A : Type 0} → Desk → Executor → Executor → Result A ExecFault → Type 0

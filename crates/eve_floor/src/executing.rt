@@ -4,7 +4,7 @@ ghost use Rattle.std.specs.Prelude.{◌≡◌, ◌<◌, ◌≤◌, ℕ, List, If
 ghost use Rattle.eve_smallbank.specs.SmallBank.{plain};
 ghost use Rattle.eve_smallbank.specs.Touch.{touched_of};
 ghost use Rattle.eve_write.specs.Data.{batch as plain_batch};
-ghost use Rattle.eve_floor.specs.Executing.{IsAt, KeepsSeats, Executes, Flushes, request_at};
+ghost use Rattle.eve_floor.specs.Executing.{IsSeatedAt, KeepsSeats, Executes, Flushes, request_of_index};
 
 use crate::applying::{Task, applied};
 use crate::{ExecFault, Floor, Worker};
@@ -35,10 +35,10 @@ pub fn execute<R: Wait, G: Gate>(
     index: u16,
     gate: &G,
 ) -> Result<(), ExecFault>
-    requires seats { IsAt recorder.now tickets.now worker.old }
+    requires seats { IsSeatedAt recorder.now tickets.now worker.old }
     requires index { index < length batch.now.requests.items }
     requires place { length worker.old.seat.noted < MOST_PLACES }
-    ensures executes { let request = request_at (plain_batch batch.now) index in
+    ensures executes { let request = request_of_index (plain_batch batch.now) index in
         Executes recorder.now floor.now request index worker.old worker.new result }
     ensures seats { KeepsSeats worker.old worker.new }
 {
@@ -64,7 +64,7 @@ pub fn execute_touched<R: Wait, G: Gate>(
     index: u16,
     gate: &G,
 ) -> Result<(), ExecFault>
-    requires seats { IsAt recorder.now tickets.now worker.old }
+    requires seats { IsSeatedAt recorder.now tickets.now worker.old }
     requires touched { reached.now ≡ touched_of floor.now (plain request.now) }
     requires place { length worker.old.seat.noted < MOST_PLACES }
     ensures executes { Executes recorder.now floor.now (plain request.now) index worker.old worker.new result }
@@ -88,7 +88,7 @@ pub fn execute_touched<R: Wait, G: Gate>(
 /// The request with this index in the batch.
 pub fn request_at(batch: &BatchData, index: u16) -> Request<'_>
     requires { index < length batch.now.requests.items }
-    ensures { plain result ≡ request_at (plain_batch batch.now) index }
+    ensures { plain result ≡ request_of_index (plain_batch batch.now) index }
 {
     batch.requests[index as usize].request()
 }

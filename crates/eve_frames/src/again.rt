@@ -3,7 +3,7 @@
 ghost use Rattle.std.specs.Prelude.{◌≡◌, IsTrue, Some, is_some};
 ghost use Rattle.eve_smallbank.specs.SmallBank.{plain};
 ghost use Rattle.eve_grammar.specs.Reading.{name_at, move_at, coded_at, asked_at};
-ghost use Rattle.eve_grammar.specs.Bodies.{asked};
+ghost use Rattle.eve_grammar.specs.Bodies.{borrowed_asked};
 
 use byteorder::{BigEndian, ByteOrder};
 use eve_accounts::Amount;
@@ -75,7 +75,7 @@ fn coded_again(code: u8, bytes: &[u8]) -> (Request<'_>, &[u8])
 #[tactic(auto, unfolding(eve_grammar::specs::Reading::asked_at, eve_grammar::specs::Reading::request_at))]
 pub(crate) fn asked_again(bytes: &[u8]) -> (Asked<'_>, &[u8])
     requires { IsTrue (is_some (asked_at bytes.now)) }
-    ensures { asked_at bytes.now ≡ Some (asked result.0, result.1.now) }
+    ensures { asked_at bytes.now ≡ Some (borrowed_asked result.0, result.1.now) }
 {
     let Some((client, rest)) = u32_at(bytes) else {
         unreachable!();

@@ -4,7 +4,7 @@ ghost use Rattle.std.specs.Prelude.{◌≡◌, ℕ, IsTrue, List};
 ghost use Rattle.std.specs.Iterator.{YieldsFirstBy, item_count};
 ghost use Rattle.eve_grammar.specs.Trace.{Asked};
 ghost use Rattle.eve_grammar.specs.Reading.{asked_at};
-ghost use Rattle.eve_grammar.specs.Bodies.{list_in, asked};
+ghost use Rattle.eve_grammar.specs.Bodies.{list_in, borrowed_asked};
 ghost use Rattle.eve_frames.specs.Items.{are_there};
 
 use crate::again::asked_again;
@@ -41,7 +41,7 @@ impl<'a> Requests<'a> {
 impl<'a> Iterator for Requests<'a> {
     type Item = Asked<'a>;
 
-    ghost next_gives = { YieldsFirstBy asked (λ rest. rest) };
+    ghost next_gives = { YieldsFirstBy borrowed_asked (λ rest. rest) };
 
     ghost remaining = { item_count (λ rest. rest) };
 

@@ -2,7 +2,7 @@
 
 ghost use Rattle.std.specs.Prelude.{◌≡◌, IsTrue, Some};
 ghost use Rattle.eve_grammar.specs.Reading.{vote_of};
-ghost use Rattle.eve_grammar.specs.Bodies.{choice};
+ghost use Rattle.eve_grammar.specs.Bodies.{borrowed_choice};
 ghost use Rattle.eve_frames.specs.Views.{body_in, most_batches, is_vote_frame, vote_in};
 
 use byteorder::{BigEndian, ByteOrder};
@@ -64,7 +64,7 @@ impl<'a> VoteView<'a> {
     /// What it is for, with the token of a commit as it stands.
     #[tactic(auto, using(crate::proofs::VotePlaces::vote_laws))]
     pub fn choice(&self) -> Choice<'a>
-        ensures { choice result ≡ (vote_in self.now.bytes.now).choice }
+        ensures { borrowed_choice result ≡ (vote_in self.now.bytes.now).choice }
     {
         let bytes = self.bytes;
         if bytes[13] == 1 {

@@ -6,7 +6,7 @@ use Rattle.eve_grammar.specs.Trace.{Trace, Head, head_of}
 use Rattle.eve_grammar.specs.Frames.{Frame, OfCustomer, OfBatch, OfReplica, OfAttempt, OfAccess, OfCommit, OfRollback}
 use Rattle.eve_grammar.specs.Frames.{OfVerifier, OfVote, OfSent, End, without_accesses, step_frames, section_frames}
 use Rattle.eve_grammar.specs.Frames.{verifier_frames, frames_of}
-use Rattle.eve_grammar.specs.Gathering.{Gathered, gather, gathered, headed, trace_of, IsTraceOf}
+use Rattle.eve_grammar.specs.Gathering.{Gathered, gather, gathered, headed, trace_of, IsMadeOf}
 
 -- whole parts alone
 abbrev parts : List Customer → List Batch → List (List Step) → List (List Vote) → List Sent → Gathered
@@ -128,6 +128,6 @@ unfolding trace_of
 trace_of-frames_of t = ap (headed (head_of t)) (gathered-frames_of t)
 
 -- and so no two traces have one header and the same frames
-pub only_trace : (h : Head) (fs : List Frame) (t : Trace) → IsTraceOf h fs t → t ≡ trace_of h fs
+pub only_trace : (h : Head) (fs : List Frame) (t : Trace) → IsMadeOf h fs t → t ≡ trace_of h fs
 only_trace h fs t of = sym (trace_of-frames_of t) ∙ ap (λ (k : Head). trace_of k (frames_of t)) of.head
     ∙ ap (trace_of h) of.frames

@@ -12,7 +12,7 @@ use Rattle.std.specs.List.{list_all, AllByRecursion}
 use Rattle.eve_grammar.specs.Trace.{Batch}
 use Rattle.eve_grammar.specs.Limits.{is_batch}
 use Rattle.eve_grammar.specs.Certificate.{is_permutation, group_of, is_grouped}
-use Rattle.eve_grammar.specs.Groups.{AreGroups}
+use Rattle.eve_grammar.specs.Groups.{AreGroupNumbers}
 
 -- what all items pass, each does
 pub all_at : {A : Type 0} (p : A → Bool) (xs : List A) (i : ℕ) (x : A) → list_all p xs ≡ true → slice_get xs i ≡ Some x
@@ -61,13 +61,13 @@ stays sizes last i xs le = by (list_all (λ j. leb (group_of sizes i) (group_of 
         both true = refl
         both false = refl
 
-at : (sizes order table : List ℕ) (k : ℕ) → AreGroups sizes order table → k < length order
+at : (sizes order table : List ℕ) (k : ℕ) → AreGroupNumbers sizes order table → k < length order
     → get_or table (get_or order k 0) 0 ≡ group_of sizes (get_or order k 0)
 at sizes [] table k are lt = absurd (omega arith)
 at sizes (x ∷ order) table zero are lt = are.0
 at sizes (x ∷ order) table (suc k) are lt = at sizes order table k are.1 (omega arith)
 
-pub goes_on_more : (sizes order table : List ℕ) (k last : ℕ) → AreGroups sizes order table → k < length order
+pub goes_on_more : (sizes order table : List ℕ) (k last : ℕ) → AreGroupNumbers sizes order table → k < length order
     → last ≤ get_or table (get_or order k 0) 0
     → goes_on sizes last (drop k order) ≡ is_grouped sizes order → goes_on sizes (get_or table (get_or order k 0) 0)
     (drop (k + 1) order) ≡ is_grouped sizes order
@@ -77,7 +77,7 @@ goes_on_more sizes order table k last are lt le before =
     ∙ sym (stays sizes last (get_or order k 0) (drop (k + 1) order) (omega arith))
     ∙ ap (goes_on sizes last) (sym (drop_more order k 0 lt)) ∙ before
 
-pub falls_back : (sizes order table : List ℕ) (k last : ℕ) → AreGroups sizes order table → k < length order
+pub falls_back : (sizes order table : List ℕ) (k last : ℕ) → AreGroupNumbers sizes order table → k < length order
     → get_or table (get_or order k 0) 0 < last
     → goes_on sizes last (drop k order) ≡ is_grouped sizes order → is_grouped sizes order ≡ false
 falls_back sizes order table k last are lt less before =
@@ -249,10 +249,10 @@ small_all r order permutes few = by order (and_parts (list_all (λ i. ltb i r) o
         ltb-true x r parts.0 in (omega arith, by xs parts.1)
 
 pub groups_are : (sizes : List ℕ) (r : ℕ) (order table : List ℕ) → is_permutation r order ≡ true
-    → ((i : ℕ) → i < r → get_or table i 0 ≡ group_of sizes i) → AreGroups sizes order table
+    → ((i : ℕ) → i < r → get_or table i 0 ≡ group_of sizes i) → AreGroupNumbers sizes order table
 groups_are sizes r order table permutes are = by order (and_parts (list_all (λ i. ltb i r) order) _ permutes).0
   where
-    by : (xs : List ℕ) → list_all (λ i. ltb i r) xs ≡ true → AreGroups sizes xs table
+    by : (xs : List ℕ) → list_all (λ i. ltb i r) xs ≡ true → AreGroupNumbers sizes xs table
     by [] all = tt
     by (x ∷ xs) all = let parts = and_parts (ltb x r) (list_all (λ i. ltb i r) xs) all in
         (are x (ltb-true x r parts.0), by xs parts.1)

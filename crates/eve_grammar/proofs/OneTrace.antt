@@ -6,10 +6,10 @@ use Rattle.std.proofs.lemmas.Bool.{lt-ltb}
 use Rattle.std.proofs.lemmas.List.{take_at, drop_at}
 use Rattle.byteorder.specs.Endian.{big_bytes}
 use Rattle.eve_grammar.specs.Trace.{Trace, Head, head_of}
-use Rattle.eve_grammar.specs.Frames.{Frame, kind_of, Place, start, next, frames_of}
+use Rattle.eve_grammar.specs.Frames.{Frame, kind_of, Place, start_place, next_place, frames_of}
 use Rattle.eve_grammar.specs.Spelling.{body_text, frame_text, frames_text, length_of, spelling}
 use Rattle.eve_grammar.specs.Limits.{is_head, FitsAt, Spells}
-use Rattle.eve_grammar.specs.Following.{Follow, after, IsRun}
+use Rattle.eve_grammar.specs.Following.{Follow, after, AreAllFrames}
 use Rattle.eve_grammar.specs.Reading.{number_at, body_of, header_of}
 use Rattle.eve_grammar.specs.Gathering.{trace_of}
 use Rattle.eve_grammar.proofs.Codec.{some_is}
@@ -84,8 +84,9 @@ same_frames h p [] (g ∷ gs) right one other one_ends other_ends e = none_behin
 same_frames h p (f ∷ fs) [] right one other one_ends other_ends e = none_behind_end h p f other_ends one.0
 same_frames h p (f ∷ fs) (g ∷ gs) right one other one_ends other_ends e =
     let here = same_frame h p f g (frames_text fs) (frames_text gs) right one.0 other.0 e in
-    let moved : next p g ≡ next p f = ap (next p) (sym here.frame) in
-    let rest = same_frames h (next p f) fs gs right one.1 (subst (λ (q : Place). Follow h q gs) moved other.1) one_ends
+    let moved : next_place p g ≡ next_place p f = ap (next_place p) (sym here.frame) in
+    let rest = same_frames h (next_place p f) fs gs right one.1 (subst (λ (q : Place). Follow h q gs) moved other.1)
+    one_ends
     (subst (λ (q : Place). IsTrue (after q gs).ended) moved other_ends) here.behind in
     ap (λ (x : Frame). x ∷ fs) here.frame ∙ ap (λ (xs : List Frame). g ∷ xs) rest
 
@@ -115,10 +116,11 @@ one_trace bytes t u one other =
     let texts : frames_text (frames_of t) ≡ frames_text (frames_of u) =
     sym (behind_total (head_of t) (length_of t) (frames_text (frames_of t))) ∙ ap (drop 32) e
     ∙ behind_total (head_of u) (length_of u) (frames_text (frames_of u)) in
-    let first : IsRun (head_of t) (frames_of t) = run_of_trace t one.limits one.short in
-    let second : IsRun (head_of t) (frames_of u) = subst (λ (h : Head). IsRun h (frames_of u)) (sym heads)
+    let first : AreAllFrames (head_of t) (frames_of t) = run_of_trace t one.limits one.short in
+    let second : AreAllFrames (head_of t) (frames_of u) = subst (λ (h : Head). AreAllFrames h (frames_of u)) (sym heads)
     (run_of_trace u other.limits other.short) in
-    let frames : frames_of t ≡ frames_of u = same_frames (head_of t) start (frames_of t) (frames_of u) one.limits.head
+    let frames : frames_of t ≡ frames_of u = same_frames (head_of t) start_place (frames_of t)
+    (frames_of u) one.limits.head
     first.follow second.follow first.ended second.ended texts in
     sym (trace_of-frames_of t) ∙ ap (λ (h : Head). trace_of h (frames_of t)) heads ∙ ap (trace_of (head_of u)) frames
     ∙ trace_of-frames_of u

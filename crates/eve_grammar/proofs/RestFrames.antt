@@ -8,7 +8,7 @@ use Rattle.std.proofs.lemmas.List.{nil_from_length}
 use Rattle.eve_grammar.specs.Trace.{Batch, Access, Attempt, Step, Commits, RollsBack, Vote, Sent, Head}
 use Rattle.eve_grammar.specs.Frames.{Frame, OfCustomer, OfBatch, OfReplica, OfAttempt, OfAccess, OfCommit, OfRollback}
 use Rattle.eve_grammar.specs.Frames.{OfVerifier, OfVote, OfSent, End, without_accesses, step_frames, section_frames}
-use Rattle.eve_grammar.specs.Frames.{verifier_frames, kind_of, Place, next, is_allowed}
+use Rattle.eve_grammar.specs.Frames.{verifier_frames, kind_of, Place, next_place, is_allowed}
 use Rattle.eve_grammar.specs.Limits.{is_batch, is_attempt, is_body}
 use Rattle.eve_grammar.specs.Gathering.{Gathered, gather}
 use Rattle.eve_grammar.proofs.Standing.{of_batch, of_access, of_replica, of_attempt, of_commit, of_rollback}
@@ -39,21 +39,21 @@ late h p g s cs bs = record {
 }
 
 frames_of_batch : (number : ℕ) (b : Batch) (p : Place) (g : Gathered) (fs : List Frame) → g.customers ≡ []
-    → number ≡ p.batches + 1 → frames_from (next p (OfBatch number b)) g ≡ fs
+    → number ≡ p.batches + 1 → frames_from (next_place p (OfBatch number b)) g ≡ fs
     → frames_from p (gather (OfBatch number b) g) ≡ OfBatch number b ∷ fs
 frames_of_batch number b p g fs none n e =
     let rest = rw none at e in
     rw (none, n) (ap (λ (fs : List Frame). OfBatch (p.batches + 1) b ∷ fs) rest)
 
 frames_of_replica : (number : ℕ) (p : Place) (g : Gathered) (fs : List Frame) → IsLate g → g.accesses ≡ []
-    → number ≡ p.replicas → frames_from (next p (OfReplica number)) g ≡ fs
+    → number ≡ p.replicas → frames_from (next_place p (OfReplica number)) g ≡ fs
     → frames_from p (gather (OfReplica number) g) ≡ OfReplica number ∷ fs
 frames_of_replica number p g fs l none n e =
     let rest = rw (l.customers, l.batches, none) at e in
     rw (l.customers, l.batches, none, n, append_assoc) (ap (λ (fs : List Frame). OfReplica p.replicas ∷ fs) rest)
 
 frames_of_attempt : (a : Attempt) (p : Place) (g : Gathered) (fs : List Frame) → IsLate g → a.accesses ≡ []
-    → frames_from (next p (OfAttempt a)) g ≡ fs
+    → frames_from (next_place p (OfAttempt a)) g ≡ fs
     → frames_from p (gather (OfAttempt a) g) ≡ OfAttempt a ∷ fs
 frames_of_attempt a p g fs l none e =
     let rest = rw (l.customers, l.batches) at e in
@@ -63,7 +63,7 @@ frames_of_attempt a p g fs l none e =
     (ap (λ (fs : List Frame). OfAttempt a ∷ fs) rest)
 
 frames_of_access : (x : Access) (p : Place) (g : Gathered) (fs : List Frame) → IsLate g
-    → frames_from (next p (OfAccess x)) g ≡ fs → frames_from p (gather (OfAccess x) g) ≡ OfAccess x ∷ fs
+    → frames_from (next_place p (OfAccess x)) g ≡ fs → frames_from p (gather (OfAccess x) g) ≡ OfAccess x ∷ fs
 frames_of_access x p g fs l e =
     let rest = rw (l.customers, l.batches) at e in
     rw (l.customers, l.batches) (ap (λ (fs : List Frame). OfAccess x ∷ fs) rest)
@@ -84,7 +84,7 @@ record IsVoting (g : Gathered) : Type 0 where
   sections : g.sections ≡ []
 
 frames_of_verifier : (number : ℕ) (p : Place) (g : Gathered) (fs : List Frame) → IsVoting g → number ≡ p.verifiers
-    → frames_from (next p (OfVerifier number)) g ≡ fs
+    → frames_from (next_place p (OfVerifier number)) g ≡ fs
     → frames_from p (gather (OfVerifier number) g) ≡ OfVerifier number ∷ fs
 frames_of_verifier number p g fs v n e =
     let rest = rw (v.late.customers, v.late.batches, v.accesses, v.steps, v.sections) at e in
@@ -99,7 +99,7 @@ frames_of_vote w p g fs v e =
     (ap (λ (fs : List Frame). OfVote w ∷ fs) rest)
 
 frames_of_sent : (s : Sent) (p : Place) (g : Gathered) (fs : List Frame) → IsVoting g → g.votes ≡ [] → g.verifiers ≡ []
-    → frames_from (next p (OfSent s)) g ≡ fs
+    → frames_from (next_place p (OfSent s)) g ≡ fs
     → frames_from p (gather (OfSent s) g) ≡ OfSent s ∷ fs
 frames_of_sent s p g fs v votes verifiers e =
     let rest = rw (v.late.customers, v.late.batches, v.accesses, v.steps, v.sections, votes, verifiers) at e in
@@ -119,8 +119,8 @@ voting h p g s all steps cs bs xs ss = record {
 -- with one more frame
 pub frames_more : (f : Frame) (h : Head) (p : Place) (g : Gathered) (fs : List Frame) → 0 < h.verifiers
     → IsTrue (is_allowed h p (kind_of f)) → IsTrue (is_body h p f)
-    → (next p f).ended ≡ false → HasAllReplicas h p → IsCounted h (next p f) g → IsOwned (next p f) g
-    → frames_from (next p f) g ≡ fs → frames_from p (gather f g) ≡ f ∷ fs
+    → (next_place p f).ended ≡ false → HasAllReplicas h p → IsCounted h (next_place p f) g → IsOwned (next_place p f) g
+    → frames_from (next_place p f) g ≡ fs → frames_from p (gather f g) ≡ f ∷ fs
 frames_more (OfCustomer c) h p g fs some t b on all n o e = ap (λ (fs : List Frame). OfCustomer c ∷ fs) e
 frames_more (OfBatch number batch) h p g fs some t b on all n o e =
     let at = of_batch h p t in

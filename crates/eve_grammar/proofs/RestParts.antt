@@ -6,7 +6,7 @@ use Rattle.std.specs.List.{list_all}
 use Rattle.std.proofs.lemmas.Bool.{both_ways, and_parts, and_from}
 use Rattle.eve_grammar.specs.Trace.{Access, Attempt, Step, Attempts, Commits, RollsBack, Head}
 use Rattle.eve_grammar.specs.Frames.{Frame, OfCustomer, OfBatch, OfReplica, OfAttempt, OfAccess, OfCommit, OfRollback}
-use Rattle.eve_grammar.specs.Frames.{OfVerifier, OfVote, OfSent, End, kind_of, Place, next, is_allowed}
+use Rattle.eve_grammar.specs.Frames.{OfVerifier, OfVote, OfSent, End, kind_of, Place, next_place, is_allowed}
 use Rattle.eve_grammar.specs.Limits.{is_customer, is_batch, is_access, is_attempt, is_step, is_vote, is_sent, row_count}
 use Rattle.eve_grammar.specs.Limits.{is_body}
 use Rattle.eve_grammar.specs.Gathering.{Gathered, gather}
@@ -23,7 +23,7 @@ IsCounted h p g =
     × (length g.sections ≡ h.replicas - p.replicas) × (length g.verifiers ≡ h.verifiers - p.verifiers)
 
 pub counted_more : (f : Frame) (h : Head) (p : Place) (g : Gathered) → 0 < h.verifiers
-    → IsTrue (is_allowed h p (kind_of f)) → IsCounted h (next p f) g → IsCounted h p (gather f g)
+    → IsTrue (is_allowed h p (kind_of f)) → IsCounted h (next_place p f) g → IsCounted h p (gather f g)
 counted_more (OfCustomer c) h p g some t n = let here = of_customer h p t in (omega arith, n.1, n.2, n.3, n.4)
 counted_more (OfBatch number b) h p g some t n = let here = of_batch h p t in (n.0, omega arith, n.2, n.3, n.4)
 counted_more (OfReplica number) h p g some t n = let here = of_replica h p t in (n.0, n.1, n.2, omega arith, n.4)
@@ -46,7 +46,7 @@ all_replicas h p some t all = from_both h.replicas p.replicas p.verifiers (of_ve
     from_both replicas r (suc v) first later = later (omega arith)
 
 pub all_replicas_more : (f : Frame) (h : Head) (p : Place) → 0 < h.verifiers → IsTrue (is_allowed h p (kind_of f))
-    → HasAllReplicas h p → HasAllReplicas h (next p f)
+    → HasAllReplicas h p → HasAllReplicas h (next_place p f)
 all_replicas_more (OfReplica number) h p some t all = λ v. omega (arith, all v)
 all_replicas_more (OfVerifier number) h p some t all = λ v. all_replicas h p some t all
 all_replicas_more _ h p some t all = all
@@ -63,7 +63,7 @@ step_owned : (h : Head) (p : Place) (steps : List Step) → InSection h p → (p
 step_owned h p steps here = (λ e. absurd (omega arith), λ e. absurd (omega arith))
 
 pub owned_more : (f : Frame) (h : Head) (p : Place) (g : Gathered) → IsTrue (is_allowed h p (kind_of f))
-    → IsOwned (next p f) g → IsOwned p (gather f g)
+    → IsOwned (next_place p f) g → IsOwned p (gather f g)
 owned_more (OfReplica number) h p g t o = (λ e. refl, λ e. refl, o.2, o.3)
 owned_more (OfAttempt a) h p g t o = let s = step_owned h p (gather (OfAttempt a) g).steps (of_attempt h p t) in
     (s.0, s.1, o.2, o.3)
@@ -98,7 +98,8 @@ whole_attempt a xs rows e own all =
     and_from (is_attempt a) _ o.0
     (and_from (length xs == length a.certificate) _ (eq-eqb (length xs) (length a.certificate) e) all)
 
-pub within_more : (f : Frame) (h : Head) (p : Place) (g : Gathered) → IsTrue (is_body h p f) → IsCounted h (next p f) g
+pub within_more : (f : Frame) (h : Head) (p : Place) (g : Gathered) → IsTrue (is_body h p f)
+    → IsCounted h (next_place p f) g
     → IsWithin h g → IsWithin h (gather f g)
 within_more (OfCustomer c) h p g b n w = (and_from (is_customer c) _ b w.0, w.1, w.2, w.3, w.4, w.5, w.6, w.7)
 within_more (OfBatch number batch) h p g b n w =

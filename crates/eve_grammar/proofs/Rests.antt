@@ -5,9 +5,9 @@ use Rattle.std.specs.List.{list_all}
 use Rattle.std.proofs.lemmas.Bool.{both_ways}
 use Rattle.std.proofs.lemmas.List.{nil_from_length}
 use Rattle.eve_grammar.specs.Trace.{Head, head_of}
-use Rattle.eve_grammar.specs.Frames.{Frame, End, frames_of, kind_of, Place, start, next, is_allowed}
+use Rattle.eve_grammar.specs.Frames.{Frame, End, frames_of, kind_of, Place, start_place, next_place, is_allowed}
 use Rattle.eve_grammar.specs.Limits.{is_head, is_step, is_vote, is_sent, row_count, HasLimits, FitsAt}
-use Rattle.eve_grammar.specs.Following.{Follow, after, IsRun}
+use Rattle.eve_grammar.specs.Following.{Follow, after, AreAllFrames}
 use Rattle.eve_grammar.specs.Gathering.{Gathered, gather, gathered, trace_of}
 use Rattle.eve_grammar.proofs.Standing.{of_end, not_ended}
 use Rattle.eve_grammar.proofs.Runs.{some_verifier}
@@ -24,9 +24,10 @@ record IsRest (h : Head) (p : Place) (fs : List Frame) (g : Gathered) : Type 0 w
   within : IsWithin h g
   owned : IsOwned p g
 
-rest_more : (f : Frame) (h : Head) (p : Place) (fs : List Frame) (g : Gathered) → 0 < h.verifiers → (next p f).ended
+rest_more : (f : Frame) (h : Head) (p : Place) (fs : List Frame) (g : Gathered) → 0 < h.verifiers
+    → (next_place p f).ended
     ≡ false → HasAllReplicas h p → FitsAt h p f
-    → IsRest h (next p f) fs g → IsRest h p (f ∷ fs) (gather f g)
+    → IsRest h (next_place p f) fs g → IsRest h p (f ∷ fs) (gather f g)
 rest_more f h p fs g some on all fits r = record {
   frames = frames_more f h p g fs some fits.allowed fits.body on all r.counted r.owned r.frames;
   counted = counted_more f h p g some fits.allowed r.counted;
@@ -36,7 +37,7 @@ rest_more f h p fs g some on all fits r = record {
 
 -- no frame follows the end
 rest_end : (h : Head) (p : Place) (fs : List Frame) → HasAllReplicas h p → IsTrue (is_allowed h p 127)
-    → Follow h (next p End) fs → IsRest h p (End ∷ fs) (gathered (End ∷ fs))
+    → Follow h (next_place p End) fs → IsRest h p (End ∷ fs) (gathered (End ∷ fs))
 rest_end h p [] all t follow =
     let at = of_end h p t in
     let replicas = all at.0.votes in
@@ -47,9 +48,9 @@ rest_end h p [] all t follow =
       owned = (λ e. refl, λ e. refl, λ e. refl, λ e. refl);
     }
 rest_end h p (f ∷ fs) all t follow =
-    absurd (both_ways true (not_ended h (next p End) (kind_of f) follow.0.allowed) refl)
+    absurd (both_ways true (not_ended h (next_place p End) (kind_of f) follow.0.allowed) refl)
 
-goes_on : (f : Frame) (p : Place) → p.ended ≡ false → (f ≡ End) ⊎ ((next p f).ended ≡ false)
+goes_on : (f : Frame) (p : Place) → p.ended ≡ false → (f ≡ End) ⊎ ((next_place p f).ended ≡ false)
 goes_on End p e = inl refl
 goes_on _ p e = inr e
 
@@ -59,20 +60,22 @@ rest_of [] h p some e all follow ended = absurd (both_ways p.ended e ended)
 rest_of (f ∷ fs) h p some e all follow ended =
     let t = follow.0.allowed in
     elim (goes_on f p e) [
-      | inl last ↦ subst (λ (f : Frame). IsTrue (is_allowed h p (kind_of f)) → Follow h (next p f) fs
+      | inl last ↦ subst (λ (f : Frame). IsTrue (is_allowed h p (kind_of f)) → Follow h (next_place p f) fs
           → IsRest h p (f ∷ fs) (gather f (gathered fs))) (sym last) (rest_end h p fs all) t follow.1
       | inr more ↦ rest_more f h p fs (gathered fs) some more all follow.0
-          (rest_of fs h (next p f) some more (all_replicas_more f h p some t all) follow.1 ended)
+          (rest_of fs h (next_place p f) some more (all_replicas_more f h p some t all) follow.1 ended)
     ]
 
 -- ---- the whole
 
-rest_of_run : (h : Head) (fs : List Frame) → IsTrue (is_head h) → IsRun h fs → IsRest h start fs (gathered fs)
-rest_of_run h fs head run = rest_of fs h start (some_verifier h head) refl (λ v. absurd (omega arith)) run.follow
+rest_of_run : (h : Head) (fs : List Frame) → IsTrue (is_head h) → AreAllFrames h fs
+    → IsRest h start_place fs (gathered fs)
+rest_of_run h fs head run = rest_of fs h start_place (some_verifier h head) refl (λ v. absurd (omega arith)) run.follow
     run.ended
 
 -- frames that run are those of the trace that they make up
-pub frames_of-trace_of : (h : Head) (fs : List Frame) → IsTrue (is_head h) → IsRun h fs → frames_of (trace_of h fs) ≡ fs
+pub frames_of-trace_of : (h : Head) (fs : List Frame) → IsTrue (is_head h) → AreAllFrames h fs
+    → frames_of (trace_of h fs) ≡ fs
 unfolding frames_of trace_of
 frames_of-trace_of h fs head run =
     let r = rest_of_run h fs head run in
@@ -88,7 +91,8 @@ same_head : (h : Head) (replicas verifiers customers batches : ℕ) → replicas
     → counting h replicas verifiers customers batches ≡ h
 same_head h replicas verifiers customers batches r v c b = rw (r, v, c, b) refl
 
-pub head_of-trace_of : (h : Head) (fs : List Frame) → IsTrue (is_head h) → IsRun h fs → head_of (trace_of h fs) ≡ h
+pub head_of-trace_of : (h : Head) (fs : List Frame) → IsTrue (is_head h) → AreAllFrames h fs → head_of (trace_of h fs)
+    ≡ h
 unfolding trace_of
 head_of-trace_of h fs head run =
     let g = gathered fs in
@@ -96,7 +100,8 @@ head_of-trace_of h fs head run =
     same_head h (length g.sections) (length g.verifiers) (length g.customers) (length g.batches) (omega arith)
     (omega arith) (omega arith) (omega arith)
 
-pub limits_of-trace_of : (h : Head) (fs : List Frame) → IsTrue (is_head h) → IsRun h fs → HasLimits (trace_of h fs)
+pub limits_of-trace_of : (h : Head) (fs : List Frame) → IsTrue (is_head h) → AreAllFrames h fs
+    → HasLimits (trace_of h fs)
 unfolding trace_of
 limits_of-trace_of h fs head run =
     let g = gathered fs in

@@ -8,22 +8,23 @@ use Rattle.std.proofs.lemmas.Bool.{and_parts, and_from, or_left, or_right, leb-t
 use Rattle.eve_grammar.specs.Trace.{Customer, Batch, Access, Attempt, Step, Attempts, Commits, RollsBack, Vote, Sent}
 use Rattle.eve_grammar.specs.Trace.{Trace, Head, head_of}
 use Rattle.eve_grammar.specs.Frames.{Frame, OfCustomer, OfBatch, OfAccess, OfVote, OfSent, End, step_frames}
-use Rattle.eve_grammar.specs.Frames.{section_frames, verifier_frames, frames_of, kind_of, Place, start, next}
+use Rattle.eve_grammar.specs.Frames.{section_frames, verifier_frames, frames_of, kind_of, Place, start_place}
+use Rattle.eve_grammar.specs.Frames.{next_place}
 use Rattle.eve_grammar.specs.Frames.{is_allowed_in_sections, is_allowed_behind_sections, is_allowed}
 use Rattle.eve_grammar.specs.Spelling.{frame_text, frames_text, length_of}
 use Rattle.eve_grammar.specs.Limits.{is_between, is_head, is_customer, is_batch, is_access, is_attempt, is_step}
 use Rattle.eve_grammar.specs.Limits.{is_vote, is_sent, row_count, HasLimits, is_body}
-use Rattle.eve_grammar.specs.Following.{Follow, after, IsRun}
+use Rattle.eve_grammar.specs.Following.{Follow, after, AreAllFrames}
 
 -- frames that stand in order up to the end, but for their lengths
 Runs : Head → Place → List Frame → Type 0
 Runs h p [] = IsTrue p.ended
-Runs h p (f ∷ fs) = IsTrue (is_allowed h p (kind_of f)) × IsTrue (is_body h p f) × Runs h (next p f) fs
+Runs h p (f ∷ fs) = IsTrue (is_allowed h p (kind_of f)) × IsTrue (is_body h p f) × Runs h (next_place p f) fs
 
 run_ends : (fs : List Frame) (h : Head) (p : Place) → Runs h p fs → IsTrue (after p fs).ended
 unfolding Runs
 run_ends [] h p r = r
-run_ends (f ∷ fs) h p r = run_ends fs h (next p f) r.2
+run_ends (f ∷ fs) h p r = run_ends fs h (next_place p f) r.2
 
 -- no body is longer than all frames
 run_follows : (fs : List Frame) (h : Head) (p : Place) → length (frames_text fs) < 2 ^ 32 → Runs h p fs → Follow h p fs
@@ -32,7 +33,7 @@ run_follows [] h p short r = tt
 run_follows (f ∷ fs) h p short r =
     let both : length (frames_text (f ∷ fs)) ≡ length (frame_text f) + length (frames_text fs) =
     length-append (frame_text f) (frames_text fs) in
-    (record { allowed = r.0; body = r.1; short = omega arith }, run_follows fs h (next p f) (omega arith) r.2)
+    (record { allowed = r.0; body = r.1; short = omega arith }, run_follows fs h (next_place p f) (omega arith) r.2)
 
 -- a place before the sent replies
 abbrev place : ℕ → ℕ → ℕ → ℕ → ℕ → Place
@@ -255,7 +256,7 @@ some_verifier h e =
     let c = and_parts (nat_le 1 h.verifiers) (nat_le h.verifiers 16) b.0 in
     leb-true 1 h.verifiers c.0
 
-frames_run : (t : Trace) → HasLimits t → Runs (head_of t) start (frames_of t)
+frames_run : (t : Trace) → HasLimits t → Runs (head_of t) start_place (frames_of t)
 unfolding frames_of
 frames_run t limits =
     let h = head_of t in
@@ -266,12 +267,12 @@ frames_run t limits =
     run_customers t.customers 0 h _ (omega arith) limits.customers batches
 
 -- the frames of a trace within its limits, of at most 2^30 bytes, run
-pub run_of_trace : (t : Trace) → HasLimits t → length_of t ≤ 2 ^ 30 → IsRun (head_of t) (frames_of t)
+pub run_of_trace : (t : Trace) → HasLimits t → length_of t ≤ 2 ^ 30 → AreAllFrames (head_of t) (frames_of t)
 unfolding length_of
 run_of_trace t limits short =
     let run = frames_run t limits in
     record {
-      follow = run_follows (frames_of t) (head_of t) start (omega arith) run;
+      follow = run_follows (frames_of t) (head_of t) start_place (omega arith) run;
       ended = run_ends (frames_of t)
-          (head_of t) start run;
+          (head_of t) start_place run;
     }

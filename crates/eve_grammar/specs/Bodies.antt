@@ -19,8 +19,8 @@ abbrev pub list_in : {A : Type 0} → Reader A → ℕ → List ℕ → List A
 list_in one n bytes = values (many_at one n bytes)
 
 -- a request with its client and number
-abbrev pub asked : code.Asked → Asked
-asked a = record { client = a.client; number = a.number; request = plain a.request }
+abbrev pub borrowed_asked : code.Asked → Asked
+borrowed_asked a = record { client = a.client; number = a.number; request = plain a.request }
 
 -- the numbers of a header
 abbrev pub limits : header.Head → Head
@@ -36,9 +36,9 @@ limits h =
     }
 
 -- what was voted for
-abbrev pub choice : chosen.Choice → Choice
-choice of.ForRollback = ForRollback
-choice (of.ForCommit token) = ForCommit token.now
+abbrev pub borrowed_choice : chosen.Choice → Choice
+borrowed_choice of.ForRollback = ForRollback
+borrowed_choice (of.ForCommit token) = ForCommit token.now
 
 -- a row as it is committed
 abbrev pub restore : Restored.Restore → Restore

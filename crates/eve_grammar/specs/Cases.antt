@@ -6,8 +6,8 @@ use Rattle.eve_smallbank.specs.declared.entry.Kind.TheVariants.{Write}
 use Rattle.eve_grammar.specs.Trace.{Customer, Attempts, Commits, ForCommit, Trace}
 
 -- a customer with nothing in it
-abbrev pub ann : Customer
-ann = record { name = codes "ann"; saving = pos 0; checking = pos 0 }
+abbrev pub customer_ann : Customer
+customer_ann = record { name = codes "ann"; saving = pos 0; checking = pos 0 }
 
 -- one of each, and no batch
 abbrev pub empty_run : Trace
@@ -15,7 +15,7 @@ empty_run = record {
   quorum = 1;
   window = 1;
   workers = 1;
-  customers = ann ∷ [];
+  customers = customer_ann ∷ [];
   batches = [];
   sections = [] ∷ [];
   verifiers = [] ∷ [];
@@ -41,7 +41,7 @@ deposit_committed = record {
   quorum = 1;
   window = 1;
   workers = 1;
-  customers = ann ∷ [];
+  customers = customer_ann ∷ [];
   batches = record {
     sizes = 1 ∷ [];
     requests = record { client = 7; number = 1; request = DepositChecking (codes "ann") (pos 500) } ∷ [];

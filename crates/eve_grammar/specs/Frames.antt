@@ -88,20 +88,28 @@ pub record Place : Type 0 where
   pub ended : Bool
 
 -- before the first frame
-abbrev pub start : Place
-start = record { customers = 0; batches = 0; replicas = 0; accesses = 0; verifiers = 0; sending = false; ended = false }
+abbrev pub start_place : Place
+start_place = record {
+  customers = 0;
+  batches = 0;
+  replicas = 0;
+  accesses = 0;
+  verifiers = 0;
+  sending = false;
+  ended = false;
+}
 
 -- after a frame; commits, rollbacks and votes count nothing
-abbrev pub next : Place → Frame → Place
-next p (OfCustomer c) = record p { customers = p.customers + 1 }
-next p (OfBatch n b) = record p { batches = p.batches + 1 }
-next p (OfReplica n) = record p { replicas = p.replicas + 1 }
-next p (OfAttempt a) = record p { accesses = length a.certificate }
-next p (OfAccess x) = record p { accesses = p.accesses - 1 }
-next p (OfVerifier n) = record p { verifiers = p.verifiers + 1 }
-next p (OfSent s) = record p { sending = true }
-next p End = record p { ended = true }
-next p _ = p
+abbrev pub next_place : Place → Frame → Place
+next_place p (OfCustomer c) = record p { customers = p.customers + 1 }
+next_place p (OfBatch n b) = record p { batches = p.batches + 1 }
+next_place p (OfReplica n) = record p { replicas = p.replicas + 1 }
+next_place p (OfAttempt a) = record p { accesses = length a.certificate }
+next_place p (OfAccess x) = record p { accesses = p.accesses - 1 }
+next_place p (OfVerifier n) = record p { verifiers = p.verifiers + 1 }
+next_place p (OfSent s) = record p { sending = true }
+next_place p End = record p { ended = true }
+next_place p _ = p
 
 -- in the sections: the next replica, a step of this one, or after the last replica the first verifier
 abbrev pub is_allowed_in_sections : Head → Place → ℕ → Bool

@@ -67,6 +67,6 @@ unfoldable pub trace_of : Head → List Frame → Trace
 trace_of h fs = headed h (gathered fs)
 
 -- the trace has this header and these frames
-pub record IsTraceOf (h : Head) (fs : List Frame) (t : Trace) : Type 0 where
+pub record IsMadeOf (h : Head) (fs : List Frame) (t : Trace) : Type 0 where
   pub head : head_of t ≡ h
   pub frames : frames_of t ≡ fs

@@ -4,5 +4,5 @@ use Rattle.std.specs.List.{AllByRecursion}
 use Rattle.eve_grammar.specs.Certificate.{group_of}
 
 -- the table has the parallelBatch of each index of the order
-abbrev pub AreGroups : List ℕ → List ℕ → List ℕ → Type 0
-AreGroups sizes order table = AllByRecursion (λ i. slice_index table i ≡ group_of sizes i) order
+abbrev pub AreGroupNumbers : List ℕ → List ℕ → List ℕ → Type 0
+AreGroupNumbers sizes order table = AllByRecursion (λ i. slice_index table i ≡ group_of sizes i) order

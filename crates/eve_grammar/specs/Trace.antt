@@ -1,7 +1,7 @@
 -- A trace, as its parts in the grammar's order. What the grammar counts is the length of a list here,
 -- and what it numbers is the place in a list.
-use Rattle.std.specs.Prelude.{ℕ, ℤ, Bool, List, length}
-use Rattle.eve_smallbank.specs.SmallBank.{Request}
+use Rattle.std.specs.Prelude.{ℕ, ℤ, Bool, List, [], length}
+use Rattle.eve_smallbank.specs.SmallBank.{Request, Balance}
 use Rattle.eve_smallbank.specs.declared.request.Reply.{Reply}
 use Rattle.eve_smallbank.specs.declared.entry.Entry.{Entry}
 
@@ -16,6 +16,10 @@ pub record Asked : Type 0 where
   pub client : ℕ
   pub number : ℕ
   pub request : Request
+
+-- what stands where no request does
+abbrev pub no_request : Asked
+no_request = record { client = 0; number = 0; request = Balance [] }
 
 -- the sizes of its parallelBatches, and the requests of one after another
 pub record Batch : Type 0 where

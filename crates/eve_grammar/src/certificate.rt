@@ -3,7 +3,7 @@
 ghost use Rattle.std.specs.Prelude.{◌≡◌, ◌≤◌, ◌<◌, ℕ, List, length, slice_index};
 ghost use Rattle.std.specs.List.{AllByRecursion};
 ghost use Rattle.eve_grammar.specs.Certificate.{is_permutation, group_of, is_grouped, counts_from, is_certificate};
-ghost use Rattle.eve_grammar.specs.Groups.{AreGroups};
+ghost use Rattle.eve_grammar.specs.Groups.{AreGroupNumbers};
 
 use crate::limits::MOST_REQUESTS;
 
@@ -26,7 +26,7 @@ pub fn is_permutation(order: &[u16]) -> bool
 /// Whether no index stands after one of a later parallelBatch, where those are the indexes' parallelBatches.
 fn is_grouped(groups: &[u8; MOST_REQUESTS], order: &[u16]) -> bool
     requires { AllByRecursion (λ i. i < MOST_REQUESTS) order.now }
-    ensures { (sizes : List ℕ) → AreGroups sizes order.now groups.now → result ≡ is_grouped sizes order.now }
+    ensures { (sizes : List ℕ) → AreGroupNumbers sizes order.now groups.now → result ≡ is_grouped sizes order.now }
 {
     let mut last = 0;
     for index in order {

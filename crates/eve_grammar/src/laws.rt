@@ -5,8 +5,8 @@ ghost use Rattle.eve_grammar.specs.Trace.{Trace, Head, head_of};
 ghost use Rattle.eve_grammar.specs.Frames.{Frame, frames_of};
 ghost use Rattle.eve_grammar.specs.Spelling.{length_of};
 ghost use Rattle.eve_grammar.specs.Limits.{HasLimits, is_head, Spells};
-ghost use Rattle.eve_grammar.specs.Following.{IsRun};
-ghost use Rattle.eve_grammar.specs.Gathering.{trace_of, IsTraceOf};
+ghost use Rattle.eve_grammar.specs.Following.{AreAllFrames};
+ghost use Rattle.eve_grammar.specs.Gathering.{trace_of, IsMadeOf};
 ghost use Rattle.eve_grammar.specs.Cases.{empty_run, empty_run_bytes, deposit_committed, deposit_committed_bytes};
 
 use crate::limits::MOST_BYTES;
@@ -35,12 +35,13 @@ pub fn frames_make_up_their_trace()
 /// Frames that run from the first to the end, under a header within its limits, are those of
 /// exactly one trace, which has the limits.
 pub fn each_run_is_one_trace()
-    ensures exists { (h : Head) (fs : List Frame) → IsTrue (is_head h) → IsRun h fs → IsTraceOf h fs (trace_of h fs) }
-    ensures limits { (h : Head) (fs : List Frame) → IsTrue (is_head h) → IsRun h fs → HasLimits (trace_of h fs) }
-    ensures only { (h : Head) (fs : List Frame) (t : Trace) → IsTraceOf h fs t → t ≡ trace_of h fs }
+    ensures exists { (h : Head) (fs : List Frame) → IsTrue (is_head h) → AreAllFrames h fs
+        → IsMadeOf h fs (trace_of h fs) }
+    ensures limits { (h : Head) (fs : List Frame) → IsTrue (is_head h) → AreAllFrames h fs → HasLimits (trace_of h fs) }
+    ensures only { (h : Head) (fs : List Frame) (t : Trace) → IsMadeOf h fs t → t ≡ trace_of h fs }
 {}
 
 /// The frames of a trace within its limits, of at most `MOST_BYTES` bytes, run from the first to the end.
 pub fn each_trace_runs()
-    ensures { (t : Trace) → HasLimits t → length_of t ≤ MOST_BYTES → IsRun (head_of t) (frames_of t) }
+    ensures { (t : Trace) → HasLimits t → length_of t ≤ MOST_BYTES → AreAllFrames (head_of t) (frames_of t) }
 {}

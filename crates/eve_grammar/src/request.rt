@@ -3,7 +3,7 @@
 ghost use Rattle.std.specs.Prelude.{◌≡◌};
 ghost use Rattle.eve_smallbank.specs.SmallBank.{plain};
 ghost use Rattle.eve_grammar.specs.Reading.{Gives, coded_at, asked_at};
-ghost use Rattle.eve_grammar.specs.Bodies.{asked};
+ghost use Rattle.eve_grammar.specs.Bodies.{borrowed_asked};
 
 use crate::fields::{move_at, name_at, u8_at, u32_at, u64_at};
 use eve_smallbank::Request;
@@ -61,7 +61,7 @@ fn coded_at(code: u8, bytes: &[u8]) -> Option<(Request<'_>, &[u8])>
 /// A client, its number for the request, and the request.
 #[tactic(auto, unfolding(crate::specs::Reading::asked_at, crate::specs::Reading::request_at))]
 pub fn asked_at(bytes: &[u8]) -> Option<(Asked<'_>, &[u8])>
-    ensures { Gives (λ x. (asked x.0, x.1.now)) result (asked_at bytes.now) }
+    ensures { Gives (λ x. (borrowed_asked x.0, x.1.now)) result (asked_at bytes.now) }
 {
     let (client, rest) = u32_at(bytes)?;
     let (number, rest) = u64_at(rest)?;

@@ -23,8 +23,8 @@ use Rattle.eve_history.specs.Fates.{fate_in, fates_from}
 use Rattle.eve_history.specs.SectionHistory.{ExecutedAttempt, executed_attempt, placed_at, ordered, attempts_among}
 use Rattle.eve_history.specs.SectionHistory.{rollbacks_among, access_with, section_history}
 use Rattle.eve_history.specs.Faults.{IsStructureFault}
-use Rattle.eve_history.specs.FirstWrong.{wrong_step, first_wrong, first_of, fault_of}
-use Rattle.eve_history.specs.Coming.{KeptAttempt, Kept, open_count, kept_executed_attempt, executed_attempts}
+use Rattle.eve_history.specs.FirstWrong.{wrong_step, first_wrong, first_wrong_of, fault_of}
+use Rattle.eve_history.specs.Coming.{KeptAttempt, KeptSection, open_count, kept_executed_attempt, executed_attempts}
 use Rattle.eve_history.specs.Coming.{executed_attempt_at, section_history_of, StandsAt}
 use Rattle.eve_history.specs.Coming.{AreSettled, open_fates, HasCome}
 use Rattle.eve_history.proofs.Structure.{state_after-append, are_right-push, right_step, steps_on, found_is_least}
@@ -53,7 +53,7 @@ unfolding steps_at
 steps_fit t e limits = all_located (is_step (row_count (head_of t))) step_text _ (steps_of t e)
     (all_in_section (is_step (row_count (head_of t))) t.sections e limits.sections)
 
-abbrev pub nothing : Kept
+abbrev pub nothing : KeptSection
 nothing = record {
   view = 0;
   last = 0;
@@ -97,20 +97,21 @@ rollbacks_among-push ((at, Commits c) ∷ xs) x = rollbacks_among-push xs x
 rollbacks_among-push ((at, RollsBack r) ∷ xs) x = ap (λ (ys : List (ℕ × Rollback)). (at, r) ∷ ys)
     (rollbacks_among-push xs x)
 
-pub state_of : {t : Trace} {e : ℕ} {rest : List (ℕ × Step)} {k : Kept} → HasCome t e rest k → SectionState
+pub state_of : {t : Trace} {e : ℕ} {rest : List (ℕ × Step)} {k : KeptSection} → HasCome t e rest k → SectionState
 state_of come = state_after start come.front
 
 -- a step at which something is wrong
-pub come_wrong : (t : Trace) (e : ℕ) (step : ℕ × Step) (rest : List (ℕ × Step)) (k : Kept) (w : Wrong)
+pub come_wrong : (t : Trace) (e : ℕ) (step : ℕ × Step) (rest : List (ℕ × Step)) (k : KeptSection) (w : Wrong)
     (come : HasCome t e (step ∷ rest) k)
     → wrong_step t (state_after start come.front) step ≡ Some w → IsLeast (IsStructureFault t e) (fault_of e w)
 come_wrong t e step rest k w come wrong =
     found_is_least t e w
     (ap (first_wrong t start) come.split ∙ steps_on t start come.front (step ∷ rest) come.right
-    ∙ ap (λ (o : Option Wrong). first_of o (first_wrong t (next (state_after start come.front) step) rest)) wrong)
+    ∙ ap (λ (o : Option Wrong). first_wrong_of o (first_wrong t (next (state_after start come.front) step) rest)) wrong)
 
 -- what is the same after any step that is right
-module _ (t : Trace) (e : ℕ) (step : ℕ × Step) (rest : List (ℕ × Step)) (k : Kept) (come : HasCome t e (step ∷ rest) k)
+module _ (t : Trace) (e : ℕ) (step : ℕ × Step) (rest : List (ℕ × Step)) (k : KeptSection)
+    (come : HasCome t e (step ∷ rest) k)
     (nothing_is : wrong_step t (state_after start come.front) step ≡ None) where
   one_more : steps_at t e ≡ (come.front ++ step ∷ []) ++ rest
   one_more = come.split ∙ sym (append_assoc come.front (step ∷ []) rest)
@@ -125,7 +126,7 @@ module _ (t : Trace) (e : ℕ) (step : ℕ × Step) (rest : List (ℕ × Step)) 
   still_right = are_right-push t start come.front step come.right
       (right_step t (state_after start come.front) step nothing_is)
 
-  stands_next : (k' : Kept) → StandsAt (next (state_after start come.front) step) k'
+  stands_next : (k' : KeptSection) → StandsAt (next (state_after start come.front) step) k'
       → StandsAt (state_after start (come.front ++ step ∷ [])) k'
   stands_next k' stands = subst (λ (s : SectionState). StandsAt s k')
       (sym (state_after-append start come.front (step ∷ []))) stands
@@ -269,14 +270,14 @@ still_within n m (x ∷ xs) a le within last = let first : x.from + length x.att
     (omega arith, still_within n m xs a le within.1 last)
 
 -- with the attempt and its records
-abbrev pub with_attempt : Kept → ℕ → Attempt → List (ℕ × Access) → Kept
+abbrev pub with_attempt : KeptSection → ℕ → Attempt → List (ℕ × Access) → KeptSection
 with_attempt k at said records = record k {
   rolled_back = false;
   attempts = k.attempts ++ record { offset = at; attempt = said; from = length k.records } ∷ [];
   records = k.records ++ records;
 }
 
-module _ (t : Trace) (e at : ℕ) (b : Attempt) (rest : List (ℕ × Step)) (k : Kept)
+module _ (t : Trace) (e at : ℕ) (b : Attempt) (rest : List (ℕ × Step)) (k : KeptSection)
     (come : HasCome t e ((at, Attempts b) ∷ rest) k)
     (right : wrong_step t (state_after start come.front) (at, Attempts b) ≡ None) where
   abbrev state : SectionState
@@ -384,7 +385,7 @@ module _ (t : Trace) (e at : ℕ) (b : Attempt) (rest : List (ℕ × Step)) (k :
 
 -- ---- a commit
 
-abbrev pub with_commit : Kept → ℕ → Kept
+abbrev pub with_commit : KeptSection → ℕ → KeptSection
 with_commit k seq = record k {
   last = seq;
   fates = k.fates ++ Committed ∷ [];
@@ -392,7 +393,7 @@ with_commit k seq = record k {
       [];
 }
 
-module _ (t : Trace) (e at : ℕ) (c : Commit) (rest : List (ℕ × Step)) (k : Kept)
+module _ (t : Trace) (e at : ℕ) (c : Commit) (rest : List (ℕ × Step)) (k : KeptSection)
     (come : HasCome t e ((at, Commits c) ∷ rest) k) (right : wrong_step t (state_after start come.front) (at, Commits c)
     ≡ None) where
   committed_right : is_right_commit (state_after start come.front) c ≡ true
@@ -478,7 +479,7 @@ module _ (t : Trace) (e at : ℕ) (c : Commit) (rest : List (ℕ × Step)) (k : 
 
 -- ---- a rollback
 
-abbrev pub with_rollback : Kept → ℕ → Rollback → Kept
+abbrev pub with_rollback : KeptSection → ℕ → Rollback → KeptSection
 with_rollback k at r = record k {
   view = r.view;
   rolled_back = true;
@@ -486,7 +487,7 @@ with_rollback k at r = record k {
   rollbacks = k.rollbacks ++ (at, r) ∷ [];
 }
 
-module _ (t : Trace) (e at : ℕ) (r : Rollback) (rest : List (ℕ × Step)) (k : Kept)
+module _ (t : Trace) (e at : ℕ) (r : Rollback) (rest : List (ℕ × Step)) (k : KeptSection)
     (come : HasCome t e ((at, RollsBack r) ∷ rest) k)
     (right : wrong_step t (state_after start come.front) (at, RollsBack r) ≡ None) where
   all_settled : length (k.fates ++ replicate (open_count k) Discarded) ≡ length k.attempts
@@ -547,7 +548,7 @@ module _ (t : Trace) (e at : ℕ) (r : Rollback) (rest : List (ℕ × Step)) (k 
 
 -- ---- after the last step
 
-module _ (t : Trace) (e : ℕ) (k : Kept) (come : HasCome t e [] k) where
+module _ (t : Trace) (e : ℕ) (k : KeptSection) (come : HasCome t e [] k) where
   all_came : steps_at t e ≡ come.front
   all_came = come.split ∙ append-nil come.front
 

@@ -20,7 +20,7 @@ use Rattle.eve_history.specs.SectionHistory.{access_with}
 use Rattle.eve_history.specs.Faults.{accesses_of}
 use Rattle.eve_history.specs.FirstWrong.{wrong_attempt}
 use Rattle.eve_history.specs.Marking.{AreMarked}
-use Rattle.eve_history.specs.Coming.{KeptAttempt, Kept, StandsAt}
+use Rattle.eve_history.specs.Coming.{KeptAttempt, KeptSection, StandsAt}
 use Rattle.eve_grammar.proofs.Grouping.{all_at}
 use Rattle.eve_history.proofs.OrderLaws.{of_located}
 use Rattle.eve_history.proofs.Marking.{drop_here}
@@ -105,7 +105,7 @@ first_pending (p ∷ ps) f rest c e = ap (λ (g : Attempt). (g.view == c.view) &
         → ◌≡◌ {A = List Attempt} (x ∷ xs) (y ∷ ys) → x ≡ y
     same x xs y ys e = cc
 
-pub commit_is : (s : SectionState) (k : Kept) (f : KeptAttempt) (c : Commit) → StandsAt s k
+pub commit_is : (s : SectionState) (k : KeptSection) (f : KeptAttempt) (c : Commit) → StandsAt s k
     → slice_get k.attempts (length k.fates) ≡ Some f
     → is_right_commit s c ≡ ((c.seq == k.last + 1) &&
     ((f.attempt.view == c.view) && same_bytes f.attempt.token c.token))
@@ -117,7 +117,7 @@ commit_is s k f c stands at =
     (sym stands.last)
 
 -- none is open
-pub none_open : (s : SectionState) (k : Kept) (c : Commit) → StandsAt s k → length k.attempts ≤ length k.fates
+pub none_open : (s : SectionState) (k : KeptSection) (c : Commit) → StandsAt s k → length k.attempts ≤ length k.fates
     → false ≡ is_right_commit s c
 none_open s k c stands le =
     let few : length (map (λ (a : KeptAttempt). a.attempt) k.attempts) ≤ length k.fates =

@@ -16,7 +16,7 @@ use Rattle.eve_history.specs.declared.marks.Marks.{Marks}
 use Rattle.eve_grammar.specs.Accesses.{is_new_access, is_right_place}
 use Rattle.eve_history.specs.Faults.{accesses_of}
 use Rattle.eve_history.specs.FirstWrong.{found_or, wrong_accesses}
-use Rattle.eve_history.specs.Marking.{AreMarked, IsJudged, AreJudged}
+use Rattle.eve_history.specs.Marking.{AreMarked, IsMarkedIfRight, AreMarkedIfRight}
 use Rattle.eve_history.proofs.Structure.{accesses_of-append}
 use Rattle.eve_history.proofs.OrderLaws.{take_one_more}
 
@@ -179,26 +179,26 @@ new_index workers count before x worker index new =
     (not_from_false (list_any (λ y. y.index == x.index) before) new))
 
 pub judged_access : (workers count : ℕ) (before : List Access) (x : Access) (m : Marks)
-    → is_new_access workers count before x ≡ false → IsJudged workers count before x (Some code.Access) m
+    → is_new_access workers count before x ≡ false → IsMarkedIfRight workers count before x (Some code.Access) m
 judged_access workers count before x m wrong = record { answer = rw wrong refl; marked = tt }
 
 pub judged_place : (workers count : ℕ) (before : List Access) (x : Access) (m : Marks)
     → is_new_access workers count before x ≡ true → is_right_place before x ≡ false
-    → IsJudged workers count before x (Some code.WorkerOrder) m
+    → IsMarkedIfRight workers count before x (Some code.WorkerOrder) m
 judged_place workers count before x m right wrong = record { answer = rw (right, wrong) refl; marked = tt }
 
 pub judged_right : (workers count : ℕ) (before : List Access) (x : Access) (m : Marks)
     → is_new_access workers count before x ≡ true → is_right_place before x ≡ true → AreMarked (before ++ x ∷ []) m
-    → IsJudged workers count before x None m
+    → IsMarkedIfRight workers count before x None m
 judged_right workers count before x m right place marked = record { answer = rw (right, place) refl; marked = marked }
 
 -- the answers, where the worker and the index stand in variables
 module _ (workers count : ℕ) (before : List Access) (x : Access) (m : Marks) (worker index : ℕ)
     (worker_is : worker ≡ x.worker) (index_is : index ≡ x.index) (marked : AreMarked before m) where
-  pub refused_worker : workers ≤ worker → IsJudged workers count before x (Some code.Access) m
+  pub refused_worker : workers ≤ worker → IsMarkedIfRight workers count before x (Some code.Access) m
   refused_worker le = judged_access workers count before x m (no_worker workers count before x (omega arith))
 
-  pub refused_index : count ≤ index → IsJudged workers count before x (Some code.Access) m
+  pub refused_index : count ≤ index → IsMarkedIfRight workers count before x (Some code.Access) m
   refused_index le = judged_access workers count before x m (no_index workers count before x (omega arith))
 
   seen_is : (b : Bool) → index < 256 → get_or m.seen index false ≡ b → list_any (λ y. y.index == x.index) before ≡ b
@@ -207,7 +207,7 @@ module _ (workers count : ℕ) (before : List Access) (x : Access) (m : Marks) (
       sym (marked.seen x.index small) ∙ ap (λ (j : ℕ). get_or m.seen j false) (sym index_is) ∙ e
 
   pub refused_again : index < 256 → get_or m.seen index false ≡ true
-      → IsJudged workers count before x (Some code.Access) m
+      → IsMarkedIfRight workers count before x (Some code.Access) m
   refused_again lt old = judged_access workers count before x m (old_index workers count before x (seen_is true lt old))
 
   is_new : worker < workers → index < count → count ≤ 256 → get_or m.seen index false ≡ false
@@ -220,14 +220,14 @@ module _ (workers count : ℕ) (before : List Access) (x : Access) (m : Marks) (
       ∙ marked.places x.worker lt
 
   pub refused_place : workers ≤ 8 → count ≤ 256 → worker < workers → index < count → get_or m.seen index false ≡ false
-      → x.place ≢ get_or m.places worker 0 → IsJudged workers count before x (Some code.WorkerOrder) m
+      → x.place ≢ get_or m.places worker 0 → IsMarkedIfRight workers count before x (Some code.WorkerOrder) m
   refused_place eight small few below new other =
       judged_place workers count before x m (is_new few below small new)
       (ne_eqb x.place _ (λ e. other (e ∙ sym (places_are eight few))))
 
   pub taken_right : (n : ℕ) → n ≡ length before → workers ≤ 8 → count ≤ 256 → worker < workers → index < count
       → get_or m.seen index false ≡ false → x.place ≡ get_or m.places worker 0
-      → IsJudged workers count before x None
+      → IsMarkedIfRight workers count before x None
       (record {
         seen = set m.seen index true;
         numbers = set m.numbers index n;
@@ -270,7 +270,7 @@ front_more xs i x e = ap accesses_of (take_one_more xs i x e) ∙ accesses_of-ap
 
 pub marking_more : (workers count : ℕ) (xs : List (ℕ × Access)) (i : ℕ) (m after : Marks) (x : ℕ × Access)
     → Marking workers count xs i m → slice_get xs i ≡ Some x
-    → IsJudged workers count (accesses_of (take i xs)) x.1 None after → Marking workers count xs (i + 1) after
+    → IsMarkedIfRight workers count (accesses_of (take i xs)) x.1 None after → Marking workers count xs (i + 1) after
 marking_more workers count xs i m after x marking at judged = record {
   marked = subst (λ (b : List Access). AreMarked b after) (sym (front_more xs i x at)) judged.marked;
   rest = marking.rest ∙ ap (wrong_accesses workers count (accesses_of (take i xs))) (drop_here xs i x at)
@@ -281,8 +281,8 @@ marking_more workers count xs i m after x marking at judged = record {
 
 pub marking_wrong : (workers count : ℕ) (xs : List (ℕ × Access)) (i : ℕ) (m after : Marks) (x : ℕ × Access) (c : Code)
     → Marking workers count xs i m → slice_get xs i ≡ Some x
-    → IsJudged workers count (accesses_of (take i xs)) x.1 (Some c) after
-    → AreJudged workers count xs (Some (record { code = c; offset = x.0 })) after
+    → IsMarkedIfRight workers count (accesses_of (take i xs)) x.1 (Some c) after
+    → AreMarkedIfRight workers count xs (Some (record { code = c; offset = x.0 })) after
 marking_wrong workers count xs i m after x c marking at judged = record {
   answer = sym (marking.rest ∙ ap (wrong_accesses workers count (accesses_of (take i xs))) (drop_here xs i x at)
       ∙ ap (λ (o : Option Code). found_or x.0 o
@@ -291,7 +291,7 @@ marking_wrong workers count xs i m after x c marking at judged = record {
 }
 
 pub marking_end : (workers count : ℕ) (xs : List (ℕ × Access)) (i : ℕ) (m : Marks) → Marking workers count xs i m
-    → length xs ≤ i → AreJudged workers count xs None m
+    → length xs ≤ i → AreMarkedIfRight workers count xs None m
 marking_end workers count xs i m marking le = record {
   answer = sym (marking.rest ∙ ap (wrong_accesses workers count (accesses_of (take i xs))) (drop_all i xs le));
   marked = subst (λ (ys : List (ℕ × Access)). AreMarked (accesses_of ys) m) (take_all i xs le) marking.marked;

@@ -14,12 +14,12 @@ use Rattle.eve_grammar.specs.Limits.{is_customer, HasLimits}
 use Rattle.eve_views.specs.declared.fault.Code.{Code}
 use Rattle.eve_views.specs.declared.fault.Code.TheVariants as code
 use Rattle.eve_views.specs.declared.fault.Fault.{Fault}
-use Rattle.eve_views.specs.Code.{number_of}
+use Rattle.eve_views.specs.Code.{code_number}
 use Rattle.eve_views.specs.Form.{IsUpTo, SomePlace, IsLeast}
 use Rattle.eve_history.specs.SectionHistory.{names_of}
-use Rattle.eve_history.specs.Faults.{name_at, RequestId, request_ids_at, IsNamedAgain, IsAskedAgain, StandsInOrders}
+use Rattle.eve_history.specs.Faults.{name_in, RequestId, request_ids_at, IsNamedAgain, IsAskedAgain, StandsInOrders}
 use Rattle.eve_history.specs.Faults.{IsOrderFault}
-use Rattle.eve_history.specs.Notes.{IsRepeated, AreNoted, HasDistinctNames, HasDistinctRequests}
+use Rattle.eve_history.specs.Notes.{IsRepeated, AreNewAndNoted, HasDistinctNames, HasDistinctRequests}
 use Rattle.eve_grammar.proofs.Grouping.{all_at}
 use Rattle.eve_views.proofs.Locating.{length-located}
 use Rattle.eve_history.proofs.Places.{no_place, place_push, cut_at, Rising, located_rising, first_place, from_low}
@@ -51,7 +51,7 @@ of_located {A = A} text at (y ∷ xs) zero x e = ap Some (same (at, y) x e)
         inside v w e = cc
 of_located text at (y ∷ xs) (suc i) x e = of_located text (at + length (text y)) xs i x e
 
-up_to : (f g : Fault) → f.offset ≤ g.offset → number_of f.code ≤ number_of g.code → IsUpTo f g
+up_to : (f g : Fault) → f.offset ≤ g.offset → code_number f.code ≤ code_number g.code → IsUpTo f g
 up_to f g le number = elim (cases_lt f.offset g.offset) [
   | inl lt ↦ inl lt
   | inr ge ↦ inr (omega arith, number)
@@ -61,7 +61,7 @@ up_to f g le number = elim (cases_lt f.offset g.offset) [
 
 -- so many customers have come, and no name twice
 pub record Naming (t : Trace) (i : ℕ) (names : NameList) : Type 0 where
-  pub items : names.items ≡ map name_at (take i (customers_at t))
+  pub items : names.items ≡ map name_in (take i (customers_at t))
   pub limit : names.limit ≡ length t.customers
   pub apart : ¬ SomePlace (take i (customers_at t)) IsNamedAgain
 
@@ -70,18 +70,18 @@ pub naming_start : (t : Trace) (names : NameList) → names.items ≡ [] → nam
 naming_start t names none limit = record { items = none; limit = limit; apart = no_place IsNamedAgain }
 
 pub naming_more : (t : Trace) (i : ℕ) (names after : NameList) (c : ℕ × Customer) → Naming t i names
-    → slice_get (customers_at t) i ≡ Some c → ¬ Contains names.items (name_at c)
-    → after ≡ record names { items = names.items ++ name_at c ∷ [] } → Naming t (i + 1) after
+    → slice_get (customers_at t) i ≡ Some c → ¬ Contains names.items (name_in c)
+    → after ≡ record names { items = names.items ++ name_in c ∷ [] } → Naming t (i + 1) after
 naming_more t i names after c naming at new added =
     let more = take_one_more (customers_at t) i c at in
     record {
-      items = ap (λ (n : NameList). n.items) added ∙ ap (λ (ns : List (List ℕ)). ns ++ name_at c ∷ []) naming.items
-          ∙ sym (map-append name_at (take i (customers_at t)) (c ∷ [])) ∙ ap (map name_at) (sym more);
+      items = ap (λ (n : NameList). n.items) added ∙ ap (λ (ns : List (List ℕ)). ns ++ name_in c ∷ []) naming.items
+          ∙ sym (map-append name_in (take i (customers_at t)) (c ∷ [])) ∙ ap (map name_in) (sym more);
       limit = ap (λ (n : NameList). n.limit) added ∙ naming.limit;
       apart = λ again. elim (place_push IsNamedAgain (take i (customers_at t)) c
           (subst (λ xs. SomePlace xs IsNamedAgain) more again)) [
             | inl front ↦ naming.apart front
-            | inr here ↦ new (subst (λ (ns : List (List ℕ)). Contains ns (name_at c)) (sym naming.items) here)
+            | inr here ↦ new (subst (λ (ns : List (List ℕ)). Contains ns (name_in c)) (sym naming.items) here)
           ];
     }
 
@@ -93,22 +93,22 @@ pub naming_room : (t : Trace) (i : ℕ) (names : NameList) → Naming t i names 
     → length names.items < names.limit
 naming_room t i names naming lt =
     let few : i ≤ length (customers_at t) = omega (arith, customer_count t) in
-    let count : length names.items ≡ i = ap length naming.items ∙ length-map (take i (customers_at t)) name_at
+    let count : length names.items ≡ i = ap length naming.items ∙ length-map (take i (customers_at t)) name_in
     ∙ length-take-le i (customers_at t) few in
     omega (arith, naming.limit)
 
 pub is_named : (t : Trace) (i : ℕ) (c : ℕ × Customer) → HasLimits t → slice_get (customers_at t) i ≡ Some c
-    → is_name (name_at c) ≡ true
+    → is_name (name_in c) ≡ true
 unfolding customers_at
 is_named t i c limits at =
     (and_parts (is_name c.1.name) _
     (all_at is_customer t.customers i c.1 limits.customers (of_located customer_text 32 t.customers i c at))).0
 
-names_are : (t : Trace) → map name_at (customers_at t) ≡ names_of t
+names_are : (t : Trace) → map name_in (customers_at t) ≡ names_of t
 unfolding customers_at
 names_are t = by 32 t.customers
   where
-    by : (at : ℕ) (xs : List Customer) → map name_at (located customer_text at xs) ≡ map (λ c. c.name) xs
+    by : (at : ℕ) (xs : List Customer) → map name_in (located customer_text at xs) ≡ map (λ c. c.name) xs
     by at [] = refl
     by at (x ∷ xs) = ap (λ (ns : List (List ℕ)). x.name ∷ ns) (by (at + length (customer_text x)) xs)
 
@@ -117,7 +117,7 @@ all_customers t i le = take_all i (customers_at t) (omega (arith, customer_count
 
 pub naming_end : (t : Trace) (i : ℕ) (names : NameList) → Naming t i names → length t.customers ≤ i → names.items
     ≡ names_of t
-naming_end t i names naming le = naming.items ∙ ap (map name_at) (all_customers t i le) ∙ names_are t
+naming_end t i names naming le = naming.items ∙ ap (map name_in) (all_customers t i le) ∙ names_are t
 
 pub naming_apart : (t : Trace) (i : ℕ) (names : NameList) → Naming t i names → length t.customers ≤ i
     → HasDistinctNames t
@@ -141,7 +141,7 @@ abbrev pub fault : Code → ℕ → Fault
 fault c at = record { code = c; offset = at; replica = None }
 
 pub named_again : (t : Trace) (i : ℕ) (names : NameList) (c : ℕ × Customer) → Naming t i names
-    → slice_get (customers_at t) i ≡ Some c → Contains names.items (name_at c)
+    → slice_get (customers_at t) i ≡ Some c → Contains names.items (name_in c)
     → IsLeast (IsOrderFault t) (fault code.SameName c.0)
 named_again t i names c naming at again = record {
   is = record { stands = here; outside = refl };
@@ -154,7 +154,7 @@ named_again t i names c naming at again = record {
       item = c;
       rest = drop (suc i) (customers_at t);
       is = cut_at (customers_at t) i c at;
-      holds = (refl, subst (λ (ns : List (List ℕ)). Contains ns (name_at c)) naming.items again);
+      holds = (refl, subst (λ (ns : List (List ℕ)). Contains ns (name_in c)) naming.items again);
     }
 
     by : (d : Code) (g : Fault) → g.code ≡ d → StandsInOrders d t g.offset → IsUpTo (fault code.SameName c.0) g
@@ -164,12 +164,12 @@ named_again t i names c naming at again = record {
         (subst (Rising 32) (cut_at (customers_at t) i c at) (customers_rise t)) naming.apart
         (subst (λ xs. SomePlace xs (λ b y. (y.0 ≡ g.offset) × IsNamedAgain b y)) (cut_at (customers_at t) i c at)
         stands))
-        (let number : number_of g.code ≡ 10 = ap number_of e in omega arith)
+        (let number : code_number g.code ≡ 10 = ap code_number e in omega arith)
     by code.SameRequest g e stands =
         let from = from_low IsAskedAgain (batches_start t) g.offset (batches_at t) (batches_rise t) stands in
         let to = customers_within t c.0 here in
         up_to (fault code.SameName c.0) g (omega arith)
-        (let number : number_of g.code ≡ 11 = ap number_of e in omega arith)
+        (let number : code_number g.code ≡ 11 = ap code_number e in omega arith)
     by d g e stands = absurd stands
 
 -- ---- requests
@@ -183,7 +183,7 @@ pub asking_start : (t : Trace) → Asking t 0 []
 asking_start t = record { items = refl; apart = no_place IsAskedAgain }
 
 pub asking_more : (t : Trace) (i : ℕ) (noted after : List RequestId) (b : ℕ × (ℕ × Batch)) → Asking t i noted
-    → slice_get (batches_at t) i ≡ Some b → AreNoted noted (request_ids_at b) after
+    → slice_get (batches_at t) i ≡ Some b → AreNewAndNoted noted (request_ids_at b) after
     → Asking t (i + 1) after
 asking_more t i noted after b asking at more =
     let one = take_one_more (batches_at t) i b at in
@@ -240,7 +240,7 @@ asked_again t i noted b distinct asking at again = record {
         (first_place IsAskedAgain (batches_start t) g.offset (take i (batches_at t)) b (drop (suc i) (batches_at t))
         (subst (Rising (batches_start t)) (cut_at (batches_at t) i b at) (batches_rise t)) asking.apart
         (subst (λ xs. SomePlace xs (λ b y. (y.0 ≡ g.offset) × IsAskedAgain b y)) (cut_at (batches_at t) i b at) stands))
-        (let number : number_of g.code ≡ 11 = ap number_of e in omega arith)
+        (let number : code_number g.code ≡ 11 = ap code_number e in omega arith)
     by code.SameName g e stands = absurd (distinct g.offset stands)
     by d g e stands = absurd stands
 

@@ -3,7 +3,7 @@ use Rattle.std.proofs.Common.{◌≡◌, List, [], ◌∷◌, ◌++◌, Contains
 use Rattle.std.proofs.Common.{refl, sym, ap, subst, ◌∙◌, append_assoc, inl, inr}
 use Rattle.std.proofs.lemmas.List.{append-nil}
 use Rattle.eve_history.specs.Faults.{RequestId}
-use Rattle.eve_history.specs.Notes.{IsRepeated, AreNoted}
+use Rattle.eve_history.specs.Notes.{IsRepeated, AreNewAndNoted}
 use Rattle.eve_history.proofs.Places.{no_place, place_push}
 
 -- some of a batch's requests were noted, and all of them were new
@@ -34,7 +34,7 @@ noting_more before own rest now after t noting new = record {
   ];
 }
 
-pub noting_end : (before own now : List RequestId) → Noting before own [] now → AreNoted before own now
+pub noting_end : (before own now : List RequestId) → Noting before own [] now → AreNewAndNoted before own now
 noting_end before own now noting =
     let whole : own ≡ noting.front = noting.split ∙ append-nil noting.front in
     record {

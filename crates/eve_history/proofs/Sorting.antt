@@ -8,7 +8,9 @@ use Rattle.std.proofs.lemmas.Bool.{ltb-false, leb-true, leb-false, le-leb, eqb-t
 use Rattle.std.proofs.lemmas.Bool.{and_from, cases_lt, false≢true}
 use Rattle.std.proofs.lemmas.Option.{slice_get-get_or, slice_get_within}
 use Rattle.eve_history.specs.Faults.{RequestId}
-use Rattle.eve_history.specs.Repeats.{is_same, earlier, IsNotAfter, AreInOrder, is_by, OccursTwice, NoneOccursTwice}
+use Rattle.eve_views.specs.Order.{AreInOrder}
+use Rattle.eve_history.specs.Repeats.{is_same, earlier, IsNoLaterArrival, is_by, OccursTwice}
+use Rattle.eve_history.specs.Repeats.{NoneOccursTwice}
 use Rattle.eve_history.specs.Repeats.{IsFirstTwice}
 use Rattle.eve_history.specs.declared.repeats.Arrival.{Arrival}
 use Rattle.eve_views.proofs.Lists.{all_after}
@@ -21,14 +23,14 @@ not_less a b = is_lt (ordering_then (nat_cmp b.number a.number)
     (ordering_then (nat_cmp b.client a.client) (nat_cmp b.batch a.batch)))
 
 -- each and the next, in the sort's order
-not_after : (a b : Arrival) → not_less a b ≡ false → IsNotAfter a b
+not_after : (a b : Arrival) → not_less a b ≡ false → IsNoLaterArrival a b
 not_after a b h = by (ltb b.number a.number) (b.number == a.number) (ltb b.client a.client) (b.client == a.client)
     (ltb b.batch a.batch) (b.batch == a.batch) refl refl refl refl refl refl h
   where
     by : (p q r s u w : Bool) → ltb b.number a.number ≡ p → (b.number == a.number) ≡ q → ltb b.client a.client ≡ r
         → (b.client == a.client) ≡ s → ltb b.batch a.batch ≡ u → (b.batch == a.batch) ≡ w
         → is_lt (ordering_then (cond p Less (cond q Equal Greater)) (ordering_then (cond r Less (cond s Equal Greater))
-        (cond u Less (cond w Equal Greater)))) ≡ false → IsNotAfter a b
+        (cond u Less (cond w Equal Greater)))) ≡ false → IsNoLaterArrival a b
     by true q r s u w e1 e2 e3 e4 e5 e6 h = absurd (false≢true (sym h))
     by false true true s u w e1 e2 e3 e4 e5 e6 h = absurd (false≢true (sym h))
     by false true false true true w e1 e2 e3 e4 e5 e6 h = absurd (false≢true (sym h))
@@ -54,7 +56,7 @@ not_after a b h = by (ltb b.number a.number) (b.number == a.number) (ltb b.clien
           batch = λ le more. absurd (other (omega arith));
         }
 
-not_after_trans : (a b c : Arrival) → IsNotAfter a b → IsNotAfter b c → IsNotAfter a c
+not_after_trans : (a b c : Arrival) → IsNoLaterArrival a b → IsNoLaterArrival b c → IsNoLaterArrival a c
 not_after_trans a b c ab bc = record {
   number = omega (arith, ab.number, bc.number);
   client = λ le. (
@@ -74,8 +76,8 @@ not_after_trans a b c ab bc = record {
 }
 
 pub in_order : (xs : List Arrival) → ((k : ℕ) (d : Arrival) → k + 1 < length xs
-    → not_less (get_or xs k d) (get_or xs (k + 1) d) ≡ false) → AreInOrder xs
-in_order xs sorted = all_after IsNotAfter not_after_trans xs
+    → not_less (get_or xs k d) (get_or xs (k + 1) d) ≡ false) → AreInOrder IsNoLaterArrival xs
+in_order xs sorted = all_after IsNoLaterArrival not_after_trans xs
     (λ k d lt. not_after (get_or xs k d) (get_or xs (k + 1) d) (sorted k d lt))
 
 -- ---- the same request
@@ -124,7 +126,7 @@ pub record Neighbours (xs : List Arrival) (n : ℕ) : Type 0 where
   pub same : is_same former later ≡ true
   pub batch : later.batch ≡ n
 
-module _ (xs : List Arrival) (order : AreInOrder xs) where
+module _ (xs : List Arrival) (order : AreInOrder IsNoLaterArrival xs) where
   pub neighbours_twice : (n : ℕ) → Neighbours xs n → OccursTwice xs n
   neighbours_twice n h =
       let a = h.former in
@@ -276,7 +278,7 @@ module _ (xs : List Arrival) (i : ℕ) (first : Option ℕ) (a b : Arrival) (som
     ];
   }
 
-module _ (xs : List Arrival) (order : AreInOrder xs) (i : ℕ) (past : length xs ≤ i) where
+module _ (xs : List Arrival) (order : AreInOrder IsNoLaterArrival xs) (i : ℕ) (past : length xs ≤ i) where
   all_seen : (first : Option ℕ) → Seen xs i first → (n : ℕ) → OccursTwice xs n → (m : ℕ) × (m ≤ n) × IsUpTo first m
   all_seen first seen n twice =
       let found = twice_neighbours xs order n twice in

@@ -26,7 +26,7 @@ use Rattle.eve_frames.proofs.Rereading.{attempt_again, access_again, rollback_ag
 use Rattle.eve_history.specs.Standing.{frame_in, IsFramed, IsAttemptAt, IsAccessAt, IsRollbackAt}
 use Rattle.eve_history.specs.SectionHistory.{access_with}
 use Rattle.eve_history.specs.Faults.{accesses_of}
-use Rattle.eve_history.specs.Coming.{Kept, HasCome, ComesNext, seen}
+use Rattle.eve_history.specs.Coming.{KeptSection, HasCome, ComesNext, seen}
 use Rattle.eve_history.proofs.FrameTexts.{mapped, nested, no_steps}
 use Rattle.eve_grammar.proofs.Grouping.{all_at}
 use Rattle.eve_history.proofs.OrderLaws.{of_located}
@@ -224,7 +224,7 @@ spelled_short bytes t spelled =
     )
 
 -- the trace's bytes hold it where it is said to stand
-next_stands : (bytes : List ℕ) (t : Trace) (e : ℕ) (rest : List (ℕ × Step)) (k : Kept) (at : ℕ) (step : Step)
+next_stands : (bytes : List ℕ) (t : Trace) (e : ℕ) (rest : List (ℕ × Step)) (k : KeptSection) (at : ℕ) (step : Step)
     → Spells bytes t → HasCome t e ((at, step) ∷ rest) k → StandsIn bytes at (step_text step)
 next_stands bytes t e rest k at step spelled come =
     subst (λ (c : List ℕ). StandsIn c at (step_text step)) (sym spelled.spelled)
@@ -234,7 +234,8 @@ few_rows : (bytes : List ℕ) (t : Trace) → Spells bytes t → row_count (head
 few_rows bytes t spelled = let small = (small_head (head_of t) spelled.limits.head).customers in omega (arith, small)
 
 -- an attempt is found again by the byte at which its frame begins
-pub attempt_there : (bytes : List ℕ) (t : Trace) (e : ℕ) (rest : List (ℕ × Step)) (k : Kept) (at : ℕ) (b : Attempt)
+pub attempt_there : (bytes : List ℕ) (t : Trace) (e : ℕ) (rest : List (ℕ × Step)) (k : KeptSection) (at : ℕ)
+    (b : Attempt)
     → Spells bytes t → HasCome t e ((at, Attempts b) ∷ rest) k
     → (attempt_in (frame_in bytes at) ≡ without_accesses b) × IsAttemptAt bytes at
 attempt_there bytes t e rest k at b spelled come =
@@ -252,7 +253,8 @@ attempt_there bytes t e rest k at b spelled come =
     )
 
 -- and a rollback by that of its own
-pub rollback_there : (bytes : List ℕ) (t : Trace) (e : ℕ) (rest : List (ℕ × Step)) (k : Kept) (at : ℕ) (r : Rollback)
+pub rollback_there : (bytes : List ℕ) (t : Trace) (e : ℕ) (rest : List (ℕ × Step)) (k : KeptSection) (at : ℕ)
+    (r : Rollback)
     → Spells bytes t → HasCome t e ((at, RollsBack r) ∷ rest) k
     → (rollback_in (frame_in bytes at) ≡ r) × IsRollbackAt bytes at
 rollback_there bytes t e rest k at r spelled come =
@@ -294,7 +296,7 @@ seen_again bytes rows (at, x) short few fits stands =
       };
     }
 
-pub all_seen : (bytes : List ℕ) (t : Trace) (e : ℕ) (rest : List (ℕ × Step)) (b : Attempt) (k : Kept) (at : ℕ)
+pub all_seen : (bytes : List ℕ) (t : Trace) (e : ℕ) (rest : List (ℕ × Step)) (b : Attempt) (k : KeptSection) (at : ℕ)
     (said : Attempt) (xs : List (ℕ × Access)) → Spells bytes t → ComesNext t e rest b k at said xs
     → AllByRecursion (IsSeen bytes) xs
 all_seen bytes t e rest b k at said xs spelled comes =

@@ -11,7 +11,7 @@ use Rattle.eve_grammar.specs.Spelling.{frame_text, located, steps_at, accesses_a
 use Rattle.eve_views.specs.declared.fault.Code.{Code}
 use Rattle.eve_views.specs.declared.fault.Code.TheVariants as code
 use Rattle.eve_views.specs.declared.fault.Fault.{Fault}
-use Rattle.eve_views.specs.Code.{number_of}
+use Rattle.eve_views.specs.Code.{code_number}
 use Rattle.eve_grammar.specs.Accesses.{is_right_place}
 use Rattle.eve_history.specs.Section.{SectionState, start, next, state_after, is_right_attempt, is_right_certificate}
 use Rattle.eve_history.specs.Section.{is_right_access, is_right_commit, is_right_rollback, are_right_accesses, is_right}
@@ -20,7 +20,8 @@ use Rattle.eve_views.specs.Form.{SomePlace, IsLeast}
 use Rattle.eve_history.specs.Faults.{OfAttempt, OfCommit, OfRollback, accesses_of, AtStep, AtAccess, StandsInStructure}
 use Rattle.eve_history.specs.Faults.{IsStructureFault}
 use Rattle.eve_history.specs.declared.wrong.Wrong.{Wrong}
-use Rattle.eve_history.specs.FirstWrong.{found_or, first_of, wrong_record, wrong_records, wrong_attempt, wrong_commit}
+use Rattle.eve_history.specs.FirstWrong.{found_or, first_wrong_of, wrong_record, wrong_records, wrong_attempt}
+use Rattle.eve_history.specs.FirstWrong.{wrong_commit}
 use Rattle.eve_history.specs.FirstWrong.{wrong_rollback, wrong_step, first_wrong, fault_of}
 
 pub no_wrong : {A : Type 0} (w : Wrong) → ◌≡◌ {A = Option Wrong} None (Some w) → A
@@ -83,9 +84,9 @@ found_or-none : (at : ℕ) (o : Option Code) (later : Option Wrong) → found_or
 found_or-none at None later e = (refl, e)
 found_or-none at (Some c) later e = no_wrong _ (sym e)
 
-first_of-none : (o later : Option Wrong) → first_of o later ≡ None → (o ≡ None) × (later ≡ None)
-first_of-none None later e = (refl, e)
-first_of-none (Some w) later e = no_wrong w (sym e)
+first_wrong_of-none : (o later : Option Wrong) → first_wrong_of o later ≡ None → (o ≡ None) × (later ≡ None)
+first_wrong_of-none None later e = (refl, e)
+first_wrong_of-none (Some w) later e = no_wrong w (sym e)
 
 none_or : (b : Bool) (c : Code) → cond b None (Some c) ≡ None → b ≡ true
 none_or true c e = refl
@@ -149,14 +150,14 @@ pub steps_on : (t : Trace) (s : SectionState) (xs ys : List (ℕ × Step)) → a
 steps_on t s [] ys rights = refl
 steps_on t s (x ∷ xs) ys rights =
     let parts = and_parts (is_right t s x.1) _ rights in
-    ap (λ (o : Option Wrong). first_of o (first_wrong t (next s x) (xs ++ ys))) (nothing_wrong t s x parts.0)
+    ap (λ (o : Option Wrong). first_wrong_of o (first_wrong t (next s x) (xs ++ ys))) (nothing_wrong t s x parts.0)
     ∙ steps_on t (next s x) xs ys parts.1
 
 pub right_steps : (t : Trace) (s : SectionState) (xs : List (ℕ × Step)) → first_wrong t s xs ≡ None → are_right t s xs
     ≡ true
 right_steps t s [] e = refl
 right_steps t s (x ∷ xs) e =
-    let parts = first_of-none (wrong_step t s x) _ e in
+    let parts = first_wrong_of-none (wrong_step t s x) _ e in
     and_from (is_right t s x.1) _ (right_step t s x parts.0) (right_steps t (next s x) xs parts.1)
 
 -- ---- where a fault stands something is found
@@ -166,7 +167,7 @@ pub record IsFound (o : Option Wrong) (c : Code) (at : ℕ) : Type 0 where
   pub wrong : Wrong
   pub is : o ≡ Some wrong
   pub offset : wrong.offset ≡ at
-  pub code : number_of wrong.code ≤ number_of c
+  pub code : code_number wrong.code ≤ code_number c
 
 abbrev FoundAt : Trace → (ℕ → SectionState → Step → Type 0) → Code → ℕ → Type 0
 FoundAt t P c at = (offset : ℕ) (s : SectionState) (step : Step) → P offset s step
@@ -179,7 +180,7 @@ found_at_step t e c at P here place =
     record {
       wrong = own.wrong;
       is = ap (first_wrong t start) place.is ∙ steps_on t start place.before (place.item ∷ place.rest) place.holds.0
-          ∙ ap (λ (o : Option Wrong). first_of o
+          ∙ ap (λ (o : Option Wrong). first_wrong_of o
           (first_wrong t (next (state_after start place.before) place.item) place.rest)) own.is;
       offset = own.offset;
       code = own.code;
@@ -252,7 +253,7 @@ InAttempt t s offset a P = IsTrue (is_right_attempt t s a) × IsTrue (is_right_c
 found_in_attempt : (t : Trace) (s : SectionState) (offset at : ℕ) (a : Attempt) (c : Code)
     (P : ℕ → List Access → Access → Type 0)
     → ((from : ℕ) (before : List Access) (x : Access) → P from before x → (d : Code)
-    × (wrong_record t a before x ≡ Some d) × (from ≡ at) × (number_of d ≤ number_of c))
+    × (wrong_record t a before x ≡ Some d) × (from ≡ at) × (code_number d ≤ code_number c))
     → InAttempt t s offset a (λ before x. IsTrue (are_right_accesses t a [] (accesses_of before))
     × P x.0 (accesses_of before) x.1)
     → IsFound (wrong_step t s (offset, Attempts a)) c at
@@ -272,12 +273,12 @@ found_in_attempt t s offset at a c P here place =
 
 found_access : (t : Trace) (at : ℕ) (a : Attempt) (from : ℕ) (before : List Access) (x : Access) → (from ≡ at)
     × IsFalse (is_right_access t a before x)
-    → (d : Code) × (wrong_record t a before x ≡ Some d) × (from ≡ at) × (number_of d ≤ number_of code.Access)
+    → (d : Code) × (wrong_record t a before x ≡ Some d) × (from ≡ at) × (code_number d ≤ code_number code.Access)
 found_access t at a from before x h = (code.Access, rw h.1 refl, h.0, omega arith)
 
 found_place : (t : Trace) (at : ℕ) (a : Attempt) (from : ℕ) (before : List Access) (x : Access) → (from ≡ at)
     × IsFalse (is_right_place before x)
-    → (d : Code) × (wrong_record t a before x ≡ Some d) × (from ≡ at) × (number_of d ≤ number_of code.WorkerOrder)
+    → (d : Code) × (wrong_record t a before x ≡ Some d) × (from ≡ at) × (code_number d ≤ code_number code.WorkerOrder)
 found_place t at a from before x h =
     elim (cases_Bool (is_right_access t a before x)) [
       | inl right ↦ (code.WorkerOrder, rw (right, h.1) refl, h.0, omega arith)
@@ -286,7 +287,7 @@ found_place t at a from before x h =
 
 found_at_access : (t : Trace) (e : ℕ) (c : Code) (at : ℕ) (P : ℕ → Attempt → List Access → Access → Type 0)
     → ((a : Attempt) (from : ℕ) (before : List Access) (x : Access) → P from a before x → (d : Code)
-    × (wrong_record t a before x ≡ Some d) × (from ≡ at) × (number_of d ≤ number_of c))
+    × (wrong_record t a before x ≡ Some d) × (from ≡ at) × (code_number d ≤ code_number c))
     → AtAccess t e P → IsFound (first_wrong t start (steps_at t e)) c at
 found_at_access t e c at P here place = found_at_step t e c at _ by place
   where
@@ -410,7 +411,7 @@ stands_behind t e front (step ∷ back) w is rights h =
         → (is_right t (state_after start front) step.1 ≡ true
         → first_wrong t (state_after start (front ++ step ∷ [])) back ≡ Some w
         → StandsInStructure w.code t e w.offset)
-        → first_of o (first_wrong t (next (state_after start front) step) back) ≡ Some w
+        → first_wrong_of o (first_wrong t (next (state_after start front) step) back) ≡ Some w
         → StandsInStructure w.code t e w.offset
     by (Some v) p go g = stands_at_step t e front step back w is rights (p ∙ g)
     by None p go g =
@@ -428,7 +429,8 @@ found_is_least t e w h = record {
       let found = found_of_fault t e g.code g.offset other.stands in
       let same : found.wrong ≡ w = same_wrong found.wrong w (sym found.is ∙ h) in
       let offset : w.offset ≡ g.offset = ap (λ (v : Wrong). v.offset) (sym same) ∙ found.offset in
-      let code : number_of w.code ≤ number_of g.code = subst (λ (v : Wrong). number_of v.code ≤ number_of g.code) same
+      let code : code_number w.code ≤ code_number g.code =
+      subst (λ (v : Wrong). code_number v.code ≤ code_number g.code) same
       found.code in
       inr (offset, code);
 }

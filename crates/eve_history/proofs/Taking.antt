@@ -27,7 +27,7 @@ use Rattle.eve_history.specs.Section.{SectionState, start, state_after, is_right
 use Rattle.eve_history.specs.SectionHistory.{ordered, access_with}
 use Rattle.eve_history.specs.Faults.{accesses_of}
 use Rattle.eve_history.specs.FirstWrong.{wrong_step}
-use Rattle.eve_history.specs.Coming.{Kept, HasCome, ComesNext}
+use Rattle.eve_history.specs.Coming.{KeptSection, HasCome, ComesNext}
 use Rattle.eve_history.proofs.Structure.{accesses_of-at}
 use Rattle.eve_views.proofs.Locating.{length-located}
 use Rattle.eve_history.proofs.Records.{all_there, attempt_fits}
@@ -65,7 +65,7 @@ discarded_all fates after n v a is count old few =
 
 -- ---- attempts
 
-module _ (t : Trace) (e : ℕ) (rest : List (ℕ × Step)) (b : Attempt) (k : Kept) (at : ℕ) (said : Attempt)
+module _ (t : Trace) (e : ℕ) (rest : List (ℕ × Step)) (b : Attempt) (k : KeptSection) (at : ℕ) (said : Attempt)
     (xs : List (ℕ × Access)) (comes : ComesNext t e rest b k at said xs) where
   its_fit : (length b.certificate ≤ 256) × (length b.accesses ≡ length b.certificate)
   its_fit = attempt_fits (row_count (head_of t)) b
@@ -100,7 +100,7 @@ module _ (t : Trace) (e : ℕ) (rest : List (ℕ × Step)) (b : Attempt) (k : Ke
 
 -- ---- which step it is
 
-pub comes_next : (t : Trace) (e : ℕ) (rest : List (ℕ × Step)) (next : ℕ × Step) (k : Kept) (a : AttemptView)
+pub comes_next : (t : Trace) (e : ℕ) (rest : List (ℕ × Step)) (next : ℕ × Step) (k : KeptSection) (a : AttemptView)
     (xs : List (ℕ × Access)) → IsStep (of.Attempt a xs) next → HasCome t e (next ∷ rest) k
     → (b : Attempt) × ComesNext t e rest b k a.offset (attempt_in a.bytes.now) xs
 comes_next t e rest (at, Attempts b) k a xs is come = (
@@ -114,7 +114,7 @@ comes_next t e rest (at, Attempts b) k a xs is come = (
 comes_next t e rest (at, Commits c) k a xs is come = absurd is
 comes_next t e rest (at, RollsBack r) k a xs is come = absurd is
 
-pub commit_next : (t : Trace) (e : ℕ) (rest : List (ℕ × Step)) (next : ℕ × Step) (k : Kept) (c : CommitView)
+pub commit_next : (t : Trace) (e : ℕ) (rest : List (ℕ × Step)) (next : ℕ × Step) (k : KeptSection) (c : CommitView)
     → IsStep (of.Commit c) next → HasCome t e (next ∷ rest) k
     → HasCome t e ((c.offset, Commits (commit_in c.bytes.now)) ∷ rest) k
 commit_next t e rest (at, Commits d) k c is come =
@@ -123,7 +123,7 @@ commit_next t e rest (at, Commits d) k c is come =
 commit_next t e rest (at, Attempts b) k c is come = absurd is
 commit_next t e rest (at, RollsBack r) k c is come = absurd is
 
-pub rollback_next : (t : Trace) (e : ℕ) (rest : List (ℕ × Step)) (next : ℕ × Step) (k : Kept) (r : RollbackView)
+pub rollback_next : (t : Trace) (e : ℕ) (rest : List (ℕ × Step)) (next : ℕ × Step) (k : KeptSection) (r : RollbackView)
     → IsStep (of.Rollback r) next → HasCome t e (next ∷ rest) k
     → HasCome t e ((r.offset, RollsBack (rollback_in r.bytes.now)) ∷ rest) k
 rollback_next t e rest (at, RollsBack q) k r is come =

@@ -27,7 +27,7 @@ pub record KeptAttempt : Type 0 where
 
 -- Attempts stand in the order of their frames. The first of them are settled, and have a fate. Those that were
 -- committed are kept by their places among the attempts.
-pub record Kept : Type 0 where
+pub record KeptSection : Type 0 where
   pub view : ℕ
   pub last : ℕ
   pub rolled_back : Bool
@@ -49,8 +49,8 @@ seen bytes at = (at, access_in (frame_in bytes at))
 abbrev pub rolled : List ℕ → ℕ → ℕ × Rollback
 rolled bytes at = (at, rollback_in (frame_in bytes at))
 
-abbrev pub kept : Notes → Kept
-kept n = record {
+abbrev pub kept_section : Notes → KeptSection
+kept_section n = record {
   view = n.view;
   last = n.last;
   rolled_back = n.rolled_back;
@@ -62,7 +62,7 @@ kept n = record {
 }
 
 -- how many attempts are open
-abbrev pub open_count : Kept → ℕ
+abbrev pub open_count : KeptSection → ℕ
 open_count k = length k.attempts - length k.fates
 
 -- ---- what it tells
@@ -75,7 +75,7 @@ kept_executed_attempt records a = record {
       (drop a.from records);
 }
 
-abbrev pub executed_attempts : Kept → List ExecutedAttempt
+abbrev pub executed_attempts : KeptSection → List ExecutedAttempt
 executed_attempts k = map (kept_executed_attempt k.records) k.attempts
 
 abbrev pub no_executed_attempt : ExecutedAttempt
@@ -89,7 +89,7 @@ no_executed_attempt = record {
 abbrev pub executed_attempt_at : List ExecutedAttempt → ℕ → ExecutedAttempt
 executed_attempt_at rs place = slice_index_or rs place no_executed_attempt
 
-abbrev pub section_history_of : ℕ → Kept → SectionHistory
+abbrev pub section_history_of : ℕ → KeptSection → SectionHistory
 section_history_of e k = record {
   replica = e;
   right = true;
@@ -102,7 +102,7 @@ section_history_of e k = record {
 
 -- The records of each attempt are there, and no more fates than attempts. As many were committed as the last
 -- committed number says, and they are there.
-pub record IsKept (k : Kept) : Type 0 where
+pub record IsKept (k : KeptSection) : Type 0 where
   pub within : AllByRecursion (λ a. a.from + length a.attempt.certificate ≤ length k.records) k.attempts
   pub fewer : length k.fates ≤ length k.attempts
   pub count : length k.commits ≡ k.last
@@ -111,7 +111,7 @@ pub record IsKept (k : Kept) : Type 0 where
 -- ---- while steps come
 
 -- where the section has come to, in numbers
-pub record StandsAt (s : SectionState) (k : Kept) : Type 0 where
+pub record StandsAt (s : SectionState) (k : KeptSection) : Type 0 where
   pub view : k.view ≡ s.view
   pub last : k.last ≡ s.last
   pub rolled_back : k.rolled_back ≡ s.rolled_back
@@ -130,7 +130,7 @@ open_fates steps before zero = []
 open_fates steps before (suc n) = fate_in steps before ∷ open_fates steps (suc before) n
 
 -- these steps of replica e's section are still to come, all before them were right, and this is kept of those
-pub record HasCome (t : Trace) (e : ℕ) (rest : List (ℕ × Step)) (k : Kept) : Type 0 where
+pub record HasCome (t : Trace) (e : ℕ) (rest : List (ℕ × Step)) (k : KeptSection) : Type 0 where
   pub front : List (ℕ × Step)
   pub split : steps_at t e ≡ front ++ rest
   pub right : are_right t start front ≡ true
@@ -144,7 +144,8 @@ pub record HasCome (t : Trace) (e : ℕ) (rest : List (ℕ × Step)) (k : Kept) 
   pub fit : IsTrue (list_all (λ x. is_step (row_count (head_of t)) x.1) rest)
 
 -- an attempt comes next, and this is what its frames say
-pub record ComesNext (t : Trace) (e : ℕ) (rest : List (ℕ × Step)) (b : Attempt) (k : Kept) (at : ℕ) (said : Attempt)
+pub record ComesNext (t : Trace) (e : ℕ) (rest : List (ℕ × Step)) (b : Attempt) (k : KeptSection) (at : ℕ)
+    (said : Attempt)
     (records : List (ℕ × Access)) : Type 0 where
   pub come : HasCome t e ((at, Attempts b) ∷ rest) k
   pub attempt : said ≡ without_accesses b
@@ -157,11 +158,11 @@ pub record AreFramed (n : Notes) : Type 0 where
   pub rollbacks : AllByRecursion (IsRollbackAt n.bytes.now) n.rollbacks.items
 
 -- the bytes are the trace, and the frames that are kept stand in them
-pub record IsNoted (t : Trace) (n : Notes) : Type 0 where
+pub record AreNotesOf (t : Trace) (n : Notes) : Type 0 where
   pub spelled : Spells n.bytes.now t
   pub framed : AreFramed n
 
 -- what is kept of a whole section
-pub record IsWhole (n : Notes) : Type 0 where
-  pub kept : IsKept (kept n)
+pub record IsWholeSection (n : Notes) : Type 0 where
+  pub kept : IsKept (kept_section n)
   pub framed : AreFramed n

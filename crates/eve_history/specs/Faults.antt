@@ -15,8 +15,8 @@ use Rattle.eve_history.specs.Section.{are_right}
 
 -- ---- orders
 
-abbrev pub name_at : ℕ × Customer → List ℕ
-name_at c = c.1.name
+abbrev pub name_in : ℕ × Customer → List ℕ
+name_in c = c.1.name
 
 -- a request's client, and the client's number for it
 abbrev pub RequestId : Type 0
@@ -31,7 +31,7 @@ request_ids_at b = map request_id b.1.1.requests
 
 -- an earlier customer has the name
 abbrev pub IsNamedAgain : List (ℕ × Customer) → ℕ × Customer → Type 0
-IsNamedAgain before c = Contains (map name_at before) (name_at c)
+IsNamedAgain before c = Contains (map name_in before) (name_in c)
 
 -- one of the batch's requests occurs earlier, in the batch or before it
 abbrev pub IsAskedAgain : List (ℕ × (ℕ × Batch)) → ℕ × (ℕ × Batch) → Type 0

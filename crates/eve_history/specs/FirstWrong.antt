@@ -16,9 +16,9 @@ abbrev pub found_or : ℕ → Option Code → Option Wrong → Option Wrong
 found_or at (Some c) later = Some (record { offset = at; code = c })
 found_or at None later = later
 
-abbrev pub first_of : Option Wrong → Option Wrong → Option Wrong
-first_of (Some w) later = Some w
-first_of None later = later
+abbrev pub first_wrong_of : Option Wrong → Option Wrong → Option Wrong
+first_wrong_of (Some w) later = Some w
+first_wrong_of None later = later
 
 -- what is wrong with an access record after those before it, of so many workers and indexes
 abbrev pub wrong_access : ℕ → ℕ → List Access → Access → Option Code
@@ -57,7 +57,7 @@ wrong_step t s (at, RollsBack r) = found_or at (wrong_rollback t s r) None
 -- in these steps, after others that are right
 abbrev pub first_wrong : Trace → SectionState → List (ℕ × Step) → Option Wrong
 first_wrong t s [] = None
-first_wrong t s (step ∷ steps) = first_of (wrong_step t s step) (first_wrong t (next s step) steps)
+first_wrong t s (step ∷ steps) = first_wrong_of (wrong_step t s step) (first_wrong t (next s step) steps)
 
 -- the fault, in replica e's section
 abbrev pub fault_of : ℕ → Wrong → Fault

@@ -2,6 +2,7 @@
 use Rattle.std.specs.Prelude.{◌≡◌, ℕ, ◌<◌, ◌==◌, false, List, [], ◌∷◌, ◌++◌, length, slice_get, slice_index}
 use Rattle.std.specs.Prelude.{slice_index_or, Option, Some, IfNone}
 use Rattle.std.specs.List.{list_any, count_by}
+use Rattle.eve_grammar.specs.declared.limits.TheConstants.{MOST_REQUESTS}
 use Rattle.eve_grammar.specs.Trace.{Access}
 use Rattle.eve_views.specs.declared.fault.Code.{Code}
 use Rattle.eve_history.specs.declared.wrong.Wrong.{Wrong}
@@ -11,21 +12,22 @@ use Rattle.eve_history.specs.FirstWrong.{wrong_access, wrong_accesses}
 
 -- the indexes and the workers of the records are marked, and each record's number under its index
 pub record AreMarked (before : List Access) (m : Marks) : Type 0 where
-  pub indexes : length m.seen ≡ 256
-  pub slots : length m.numbers ≡ 256
+  pub indexes : length m.seen ≡ MOST_REQUESTS
+  pub slots : length m.numbers ≡ MOST_REQUESTS
   pub workers : length m.places ≡ 8
-  pub seen : (i : ℕ) → i < 256 → slice_index_or m.seen i false ≡ list_any (λ y. y.index == i) before
+  pub seen : (i : ℕ) → i < MOST_REQUESTS → slice_index_or m.seen i false ≡ list_any (λ y. y.index == i) before
   pub places : (w : ℕ) → w < 8 → slice_index m.places w ≡ count_by (λ y. y.worker == w) before
-  pub numbers : (k : ℕ) (y : Access) → slice_get before k ≡ Some y → (y.index < 256)
+  pub numbers : (k : ℕ) (y : Access) → slice_get before k ≡ Some y → (y.index < MOST_REQUESTS)
       × (slice_index m.numbers y.index ≡ k)
 
 -- the next record is judged, and marked where it is right
-pub record IsJudged (workers count : ℕ) (before : List Access) (x : Access) (result : Option Code)
+pub record IsMarkedIfRight (workers count : ℕ) (before : List Access) (x : Access) (result : Option Code)
     (m : Marks) : Type 0 where
   pub answer : result ≡ wrong_access workers count before x
   pub marked : IfNone result (AreMarked (before ++ x ∷ []) m)
 
 -- the records of an attempt are judged, and marked where all are right
-pub record AreJudged (workers count : ℕ) (xs : List (ℕ × Access)) (result : Option Wrong) (m : Marks) : Type 0 where
+pub record AreMarkedIfRight (workers count : ℕ) (xs : List (ℕ × Access)) (result : Option Wrong)
+    (m : Marks) : Type 0 where
   pub answer : result ≡ wrong_accesses workers count [] xs
   pub marked : IfNone result (AreMarked (accesses_of xs) m)

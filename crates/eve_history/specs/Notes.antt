@@ -15,7 +15,7 @@ abbrev pub IsRepeated : List RequestId → List RequestId → Type 0
 IsRepeated noted own = SomePlace own (λ earlier t. Contains (noted ++ earlier) t)
 
 -- none does, and they are noted after the others
-pub record AreNoted (before own after : List RequestId) : Type 0 where
+pub record AreNewAndNoted (before own after : List RequestId) : Type 0 where
   pub new : ¬ IsRepeated before own
   pub noted : after ≡ before ++ own
 

@@ -30,14 +30,10 @@ earlier None n = Some n
 earlier (Some before) n = if nat_le before n then Some before else Some n
 
 -- the one doesn't come after the other: by number, then by client, then by batch
-pub record IsNotAfter (a b : Arrival) : Type 0 where
+pub record IsNoLaterArrival (a b : Arrival) : Type 0 where
   pub number : a.number ≤ b.number
   pub client : b.number ≤ a.number → a.client ≤ b.client
   pub batch : b.number ≤ a.number → b.client ≤ a.client → a.batch ≤ b.batch
-
--- each stands so to each that is after it
-abbrev pub AreInOrder : List Arrival → Type 0
-AreInOrder xs = (i j : ℕ) (a b : Arrival) → i < j → slice_get xs i ≡ Some a → slice_get xs j ≡ Some b → IsNotAfter a b
 
 -- it is this request, and came in batch n or before
 abbrev pub is_by : RequestId → ℕ → Arrival → Bool

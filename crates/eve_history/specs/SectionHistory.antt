@@ -2,8 +2,8 @@
 -- docs/MODEL.md, "Section state, fate" and "Certificate order, keeps the groups".
 use Rattle.std.specs.Prelude.{ℕ, zero, suc, ◌==◌, IsTrue, if◌then◌else◌, List, [], ◌∷◌, map, Option, None, slice_get}
 use Rattle.std.specs.Prelude.{slice_index_or, Bool, true, false}
-use Rattle.eve_smallbank.specs.SmallBank.{Balance}
 use Rattle.eve_grammar.specs.Trace.{Asked, Access, Attempt, Rollback, Step, Attempts, Commits, RollsBack, Trace}
+use Rattle.eve_grammar.specs.Trace.{no_request}
 use Rattle.eve_grammar.specs.Frames.{without_accesses, sections_of}
 use Rattle.eve_grammar.specs.Spelling.{accesses_at, steps_at}
 use Rattle.eve_history.specs.declared.fate.Fate.{Fate}
@@ -100,12 +100,9 @@ abbrev pub committed_at : Trace → ℕ → ℕ → Option Placed
 committed_at t e zero = None
 committed_at t e (suc n) = slice_get (history t e).committed n
 
-abbrev pub no_request : Asked
-no_request = record { client = 0; number = 0; request = Balance [] }
-
 -- the request with this index of the attempt's batch
-abbrev pub asked_at : Trace → Attempt → ℕ → Asked
-asked_at t a index = slice_index_or (batch_at t a.seq).requests index no_request
+abbrev pub asked_in : Trace → Attempt → ℕ → Asked
+asked_in t a index = slice_index_or (batch_at t a.seq).requests index no_request
 
 -- ---- attempts by their fates
 

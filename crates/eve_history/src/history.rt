@@ -12,7 +12,7 @@ ghost use Rattle.eve_views.specs.StepKinds.{IsStep};
 ghost use Rattle.eve_views.specs.declared.fault.Fault.{Fault};
 ghost use Rattle.eve_history.specs.SectionHistory.{ExecutedAttempt, section_history, section_histories, IsRightSection};
 ghost use Rattle.eve_history.specs.Faults.{IsStructureFault};
-ghost use Rattle.eve_history.specs.Coming.{kept, HasCome, IsNoted};
+ghost use Rattle.eve_history.specs.Coming.{kept_section, HasCome, AreNotesOf};
 
 use crate::fate::Fate;
 use crate::frame::{access_at, attempt_at, rollback_at};
@@ -37,11 +37,11 @@ impl<'a> Model for History<'a> {
 
     ghost Value = { SectionHistory };
 
-    ghost use Rattle.eve_history.specs.Coming.{kept, section_history_of, IsWhole};
+    ghost use Rattle.eve_history.specs.Coming.{kept_section, section_history_of, IsWholeSection};
 
-    ghost view = { λ h. section_history_of h.replica (kept h.notes) };
+    ghost view = { λ h. section_history_of h.replica (kept_section h.notes) };
 
-    ghost invariant = { λ h. IsWhole h.notes };
+    ghost invariant = { λ h. IsWholeSection h.notes };
 }
 
 /// Says of the histories of all replicas that each step of each section is right. It does nothing else.
@@ -62,16 +62,16 @@ fn take<'a>(
     e: u8,
     step: Step<'_, 'a>,
 ) -> Result<(), CheckFault>
-    requires noted { IsNoted trace.now notes.old }
+    requires noted { AreNotesOf trace.now notes.old }
     requires comes { (rest : List (ℕ × StepValue)) × (next : ℕ × StepValue)
-        × HasCome trace.now e (next ∷ rest) (kept notes.old) × IsStep step next }
+        × HasCome trace.now e (next ∷ rest) (kept_section notes.old) × IsStep step next }
     ensures taken { OnOk result ((rest : List (ℕ × StepValue)) (next : ℕ × StepValue)
-        → HasCome trace.now e (next ∷ rest) (kept notes.old) → IsStep step.entry next
-        → HasCome trace.now e rest (kept notes.new)) }
-    ensures noted { OnOk result (IsNoted trace.now notes.new) }
+        → HasCome trace.now e (next ∷ rest) (kept_section notes.old) → IsStep step.entry next
+        → HasCome trace.now e rest (kept_section notes.new)) }
+    ensures noted { OnOk result (AreNotesOf trace.now notes.new) }
     ensures wrong { IfErr result
         (λ x. IfFound x (λ f. (rest : List (ℕ × StepValue)) (next : ℕ × StepValue)
-        → HasCome trace.now e (next ∷ rest) (kept notes.old) → IsStep step.entry next
+        → HasCome trace.now e (next ∷ rest) (kept_section notes.old) → IsStep step.entry next
         → IsLeast (IsStructureFault trace.now e) f)) }
 {
     match step {

@@ -3,7 +3,7 @@
 ghost use Rattle.std.specs.Prelude.{◌≡◌, ◌≤◌, ◌<◌, [], ◌∷◌, ◌++◌, List, length, slice_index};
 ghost use Rattle.eve_grammar.specs.Trace.{Access};
 ghost use Rattle.eve_frames.specs.Said.{access_said};
-ghost use Rattle.eve_history.specs.Marking.{AreMarked, IsJudged, AreJudged};
+ghost use Rattle.eve_history.specs.Marking.{AreMarked, IsMarkedIfRight, AreMarkedIfRight};
 
 use crate::wrong::Wrong;
 use eve_frames::AccessView;
@@ -55,7 +55,7 @@ impl Marks {
         requires count { count ≤ MOST_REQUESTS }
         requires marked { (before : List Access) × AreMarked before self.old × (number ≡ length before) }
         ensures { (before : List Access) → AreMarked before self.old → number ≡ length before
-            → IsJudged workers count before (access_said access.now) result self.new }
+            → IsMarkedIfRight workers count before (access_said access.now) result self.new }
     {
         let worker = access.worker();
         let index = access.index() as usize;
@@ -82,7 +82,7 @@ impl Marks {
         requires count { count ≤ MOST_REQUESTS }
         requires few { length accesses.now ≤ MOST_REQUESTS }
         requires none { AreMarked [] self.old }
-        ensures { AreJudged workers count accesses.now result self.new }
+        ensures { AreMarkedIfRight workers count accesses.now result self.new }
     {
         for i in 0..accesses.len() {
             let access = accesses.get(i);

@@ -19,7 +19,7 @@ ghost use Rattle.eve_history.specs.SectionHistory.{access_with};
 ghost use Rattle.eve_history.specs.Faults.{accesses_of, IsStructureFault};
 ghost use Rattle.eve_history.specs.FirstWrong.{wrong_attempt, wrong_step, fault_of};
 ghost use Rattle.eve_history.specs.Marking.{AreMarked};
-ghost use Rattle.eve_history.specs.Coming.{kept, StandsAt, HasCome, ComesNext, AreFramed, IsNoted};
+ghost use Rattle.eve_history.specs.Coming.{kept_section, StandsAt, HasCome, ComesNext, AreFramed, AreNotesOf};
 
 use crate::certificate::{is_certificate, read_order};
 use crate::fate::Fate;
@@ -112,7 +112,7 @@ impl<'a> Notes<'a> {
         ensures attempts { result.attempts.items ≡ [] }
         ensures records { result.records.items ≡ [] }
         ensures rollbacks { result.rollbacks.items ≡ [] }
-        ensures kept { kept result
+        ensures kept { kept_section result
             ≡ record {
               view = 0;
               last = 0;
@@ -139,8 +139,9 @@ impl<'a> Notes<'a> {
 
     /// Whether an attempt's number, view and mode are those that are due.
     fn is_due(&self, head: &Head, attempt: &AttemptView<'_>) -> bool
-        requires { length (kept self.now).fates ≤ length (kept self.now).attempts }
-        ensures due { (t : TraceValue) (s : SectionState) → StandsAt s (kept self.now) → limits head.now ≡ head_of t
+        requires { length (kept_section self.now).fates ≤ length (kept_section self.now).attempts }
+        ensures due { (t : TraceValue) (s : SectionState) → StandsAt s (kept_section self.now)
+            → limits head.now ≡ head_of t
             → result ≡ is_due t s (attempt_said attempt.now) }
         ensures from_one { IsTrue result → 1 ≤ (attempt_said attempt.now).seq }
         ensures there { IsTrue result → (attempt_said attempt.now).seq ≤ head.now.batches }
@@ -163,9 +164,9 @@ impl<'a> Notes<'a> {
         attempt: &AttemptView<'_>,
         order: &[u16],
     ) -> Option<Code>
-        requires fewer { length (kept self.now).fates ≤ length (kept self.now).attempts }
+        requires fewer { length (kept_section self.now).fates ≤ length (kept_section self.now).attempts }
         requires order { order.now ≡ (attempt_said attempt.now).certificate }
-        ensures { (s : SectionState) → StandsAt s (kept self.now)
+        ensures { (s : SectionState) → StandsAt s (kept_section self.now)
             → result ≡ wrong_attempt trace.now s (attempt_said attempt.now) }
     {
         trace.is_whole();
@@ -185,7 +186,7 @@ impl<'a> Notes<'a> {
     /// Whether the commit is of the first open attempt.
     fn commits_first(&self, commit: &CommitView<'_>) -> bool
         requires { AreFramed self.now }
-        ensures { (s : SectionState) → StandsAt s (kept self.now)
+        ensures { (s : SectionState) → StandsAt s (kept_section self.now)
             → result ≡ is_right_commit s (commit_said commit.now) }
     {
         let settled = self.fates.len();
@@ -200,7 +201,7 @@ impl<'a> Notes<'a> {
 
     /// Whether the rollback is to the last committed number, of a batch that is still to come, and in the next view.
     fn rolls_back(&self, head: &Head, rollback: &RollbackView<'_>) -> bool
-        ensures { (t : TraceValue) (s : SectionState) → StandsAt s (kept self.now) → limits head.now ≡ head_of t
+        ensures { (t : TraceValue) (s : SectionState) → StandsAt s (kept_section self.now) → limits head.now ≡ head_of t
             → result ≡ is_right_rollback t s (rollback_said rollback.now) }
     {
         rollback.to() == self.last
@@ -217,12 +218,12 @@ impl<'a> Notes<'a> {
         order: &[u16],
         marks: &mut Marks,
     ) -> Option<Wrong>
-        requires fewer { length (kept self.now).fates ≤ length (kept self.now).attempts }
+        requires fewer { length (kept_section self.now).fates ≤ length (kept_section self.now).attempts }
         requires order { order.now ≡ (attempt_said attempt.now).certificate }
         requires few { length order.now ≤ MOST_REQUESTS }
         requires many { length accesses.now ≡ length order.now }
         requires none { AreMarked [] marks.old }
-        ensures wrong { (s : SectionState) (b : Attempt) → StandsAt s (kept self.now) → attempt_said attempt.now
+        ensures wrong { (s : SectionState) (b : Attempt) → StandsAt s (kept_section self.now) → attempt_said attempt.now
             ≡ without_accesses b → accesses.now ≡ accesses_at attempt.now.offset b
             → result ≡ wrong_step trace.now s (attempt.now.offset, Attempts b) }
         ensures marked { IfNone result (AreMarked (accesses_of accesses.now) marks.new) }
@@ -250,18 +251,18 @@ impl<'a> Notes<'a> {
         attempt: &AttemptView<'_>,
         accesses: &Accesses<'_, '_>,
     ) -> Result<(), CheckFault>
-        requires noted { IsNoted trace.now self.old }
+        requires noted { AreNotesOf trace.now self.old }
         requires comes { (rest : List (ℕ × StepValue)) × (b : Attempt)
-            × ComesNext trace.now e rest b (kept self.old) attempt.now.offset (attempt_said attempt.now)
+            × ComesNext trace.now e rest b (kept_section self.old) attempt.now.offset (attempt_said attempt.now)
             accesses.now }
         ensures taken { OnOk result ((rest : List (ℕ × StepValue)) (b : Attempt)
-            → ComesNext trace.now e rest b (kept self.old) attempt.now.offset (attempt_said attempt.now)
+            → ComesNext trace.now e rest b (kept_section self.old) attempt.now.offset (attempt_said attempt.now)
             accesses.now
-            → HasCome trace.now e rest (kept self.new)) }
-        ensures noted { OnOk result (IsNoted trace.now self.new) }
+            → HasCome trace.now e rest (kept_section self.new)) }
+        ensures noted { OnOk result (AreNotesOf trace.now self.new) }
         ensures wrong { IfErr result
             (λ x. IfFound x (λ f. (rest : List (ℕ × StepValue)) (b : Attempt)
-            → ComesNext trace.now e rest b (kept self.old) attempt.now.offset (attempt_said attempt.now)
+            → ComesNext trace.now e rest b (kept_section self.old) attempt.now.offset (attempt_said attempt.now)
             accesses.now
             → IsLeast (IsStructureFault trace.now e) f)) }
     {
@@ -286,12 +287,12 @@ impl<'a> Notes<'a> {
     pub fn take_commit(&mut self, e: u8, commit: &CommitView<'_>) -> Result<(), CheckFault>
         requires { AreFramed self.old }
         ensures taken { OnOk result ((t : TraceValue) (rest : List (ℕ × StepValue))
-            → HasCome t e ((commit.now.offset, Commits (commit_said commit.now)) ∷ rest) (kept self.old)
-            → HasCome t e rest (kept self.new)) }
-        ensures noted { OnOk result ((t : TraceValue) → IsNoted t self.old → IsNoted t self.new) }
+            → HasCome t e ((commit.now.offset, Commits (commit_said commit.now)) ∷ rest) (kept_section self.old)
+            → HasCome t e rest (kept_section self.new)) }
+        ensures noted { OnOk result ((t : TraceValue) → AreNotesOf t self.old → AreNotesOf t self.new) }
         ensures wrong { IfErr result
             (λ x. IfFound x (λ f. (t : TraceValue) (rest : List (ℕ × StepValue))
-            → HasCome t e ((commit.now.offset, Commits (commit_said commit.now)) ∷ rest) (kept self.old)
+            → HasCome t e ((commit.now.offset, Commits (commit_said commit.now)) ∷ rest) (kept_section self.old)
             → IsLeast (IsStructureFault t e) f)) }
     {
         if !self.commits_first(commit) {
@@ -318,20 +319,20 @@ impl<'a> Notes<'a> {
         e: u8,
         rollback: &RollbackView<'_>,
     ) -> Result<(), CheckFault>
-        requires noted { IsNoted trace.now self.old }
+        requires noted { AreNotesOf trace.now self.old }
         requires comes { (rest : List (ℕ × StepValue))
             × HasCome trace.now e ((rollback.now.offset, RollsBack (rollback_said rollback.now)) ∷ rest)
-            (kept self.old) }
+            (kept_section self.old) }
         ensures taken { OnOk result
             ((rest : List (ℕ × StepValue))
             → HasCome trace.now e ((rollback.now.offset, RollsBack (rollback_said rollback.now)) ∷ rest)
-            (kept self.old)
-            → HasCome trace.now e rest (kept self.new)) }
-        ensures noted { OnOk result (IsNoted trace.now self.new) }
+            (kept_section self.old)
+            → HasCome trace.now e rest (kept_section self.new)) }
+        ensures noted { OnOk result (AreNotesOf trace.now self.new) }
         ensures wrong { IfErr result
             (λ x. IfFound x (λ f. (rest : List (ℕ × StepValue))
             → HasCome trace.now e ((rollback.now.offset, RollsBack (rollback_said rollback.now)) ∷ rest)
-            (kept self.old)
+            (kept_section self.old)
             → IsLeast (IsStructureFault trace.now e) f)) }
     {
         if !self.rolls_back(&trace.head(), rollback) {

@@ -3,8 +3,9 @@
 ghost use Rattle.std.specs.Prelude.{◌≡◌, ◌++◌, length, IfOk, OnOk, IfSome, IfNone};
 ghost use Rattle.eve_frames.specs.Said.{batch_said};
 ghost use Rattle.eve_history.specs.Notes.{HasDistinctRequests};
+ghost use Rattle.eve_views.specs.Order.{AreInOrder};
 ghost use Rattle.eve_history.specs.Repeats.{arrivals_at, arrivals_of, is_same, earlier};
-ghost use Rattle.eve_history.specs.Repeats.{AreInOrder, NoneOccursTwice, IsFirstTwice, IsFirstRepeat};
+ghost use Rattle.eve_history.specs.Repeats.{IsNoLaterArrival, NoneOccursTwice, IsFirstTwice, IsFirstRepeat};
 
 use eve_frames::BatchView;
 use eve_views::Trace;
@@ -79,7 +80,7 @@ fn earlier(first: Option<u32>, batch: u32) -> Option<u32>
 
 /// The least batch that, with those before it, has a request twice.
 fn first_twice(arrivals: &[Arrival]) -> Option<u32>
-    requires { AreInOrder arrivals.now }
+    requires { AreInOrder IsNoLaterArrival arrivals.now }
     ensures none { IfNone result (NoneOccursTwice arrivals.now) }
     ensures first { IfSome result (IsFirstTwice arrivals.now) }
 {

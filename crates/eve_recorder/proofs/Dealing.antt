@@ -12,7 +12,7 @@ use Rattle.atomic_table.specs.Table.{State, Me, Step, Allows, Splits, Joins, kee
 use Rattle.atomic_table.proofs.Lists.{at_set, at_snoc}
 use Rattle.eve_recorder.specs.declared.drawn.Drawn.{Drawn}
 use Rattle.eve_recorder.specs.Dealt.{drawn, all_parts, times, once_below, IsFair, AreBelow, IsDealt, Draws, fewer}
-use Rattle.eve_recorder.specs.Dealt.{one_part, joined, spent}
+use Rattle.eve_recorder.specs.Dealt.{one_part, drawn_by_both, spent}
 
 sum_set : (f : Drawn → ℕ) (views : List Drawn) (p : ℕ) (v w : Drawn) → get_elem? views p ≡ some v
     → sum_by f (set views p w) + f v ≡ sum_by f views + f w
@@ -124,9 +124,9 @@ was_there : (views : List Drawn) (seat other : ℕ) (both u : Drawn) → ¬ (oth
 was_there views seat other both u two e = ⊎_elim (λ x. absurd (two x.0)) (λ x. x.1) (at_set views seat other both u e)
 
 pub joins : {S : Type 0} (seat : ℕ) (v : Drawn) (other : ℕ) (w : Drawn)
-    → Joins {S = S} IsDealt seat v other w (joined v w) spent
+    → Joins {S = S} IsDealt seat v other w (drawn_by_both v w) spent
 joins seat v other w s h at two at' =
-    let n = h.0 in let d = h.2 in let b = joined v w in let vs = set s.views seat b in
+    let n = h.0 in let d = h.2 in let b = drawn_by_both v w in let vs = set s.views seat b in
     let mine = d.3 seat v at in let theirs = d.3 other w (was_there s.views seat other b w two at') in
     let fair : IsFair n b = (
       (let e = length-append v.numbers w.numbers in omega arith),

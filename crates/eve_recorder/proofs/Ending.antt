@@ -9,9 +9,10 @@ use Rattle.crossbeam_queue.specs.Fifo.{Merges}
 use Rattle.eve_recorder.specs.declared.ledger.Ledger.{Ledger}
 use Rattle.eve_stamps.specs.Applied.{Applied}
 use Rattle.eve_recorder.specs.Noted.{of_worker, AllOf}
-use Rattle.eve_recorder.specs.Kept.{Kept, ledger, with_last, nobody, IsWorkers}
+use Rattle.eve_recorder.specs.Kept.{FitsPasses, ledger, with_last, nobody, IsWorkers}
 use Rattle.eve_recorder.specs.Rows.{AreSeated}
-use Rattle.eve_recorder.specs.Seen.{RecorderId, recorder_id, Desk, Noter, Places, IsNoterOf, IsSeated, all_noted}
+use Rattle.eve_recorder.specs.Seen.{RecorderId, recorder_id, Desk, Noter, Places, IsNoterOf, AreNotersSeated}
+use Rattle.eve_recorder.specs.Seen.{noted_on_all}
 use Rattle.eve_recorder.specs.Seen.{noted_on, fresh_noter, fresh_places}
 use Rattle.eve_recorder.proofs.Keeps.{of_worker-append, merges}
 use Rattle.eve_recorder.proofs.OneSeat.{all_of-of_worker}
@@ -35,22 +36,22 @@ on_first j (Some x) ss h = subst (λ n. AllOf n x.noted) (omega arith) (h zero x
 
 -- of another worker than the first there is what the rest has
 past_first : (j w : ℕ) (s : Option Noter) (ss : List (Option Noter)) → From j (s ∷ ss) → j ≢ w
-    → of_worker w (all_noted (s ∷ ss)) ≡ of_worker w (all_noted ss)
-past_first j w s ss h n = of_worker-append w (noted_on s) (all_noted ss)
-    ∙ ap (λ l. l ++ of_worker w (all_noted ss)) (all_of_other w j (noted_on s) (on_first j s ss h) n)
+    → of_worker w (noted_on_all (s ∷ ss)) ≡ of_worker w (noted_on_all ss)
+past_first j w s ss h n = of_worker-append w (noted_on s) (noted_on_all ss)
+    ∙ ap (λ l. l ++ of_worker w (noted_on_all ss)) (all_of_other w j (noted_on s) (on_first j s ss h) n)
 
-noted_before : (j w : ℕ) (seats : List (Option Noter)) → From j seats → w < j → of_worker w (all_noted seats) ≡ []
+noted_before : (j w : ℕ) (seats : List (Option Noter)) → From j seats → w < j → of_worker w (noted_on_all seats) ≡ []
 noted_before j w [] h lt = refl
 noted_before j w (s ∷ ss) h lt = past_first j w s ss h (omega arith)
     ∙ noted_before (suc j) w ss (later j s ss h) (omega arith)
 
 pub noted_at : (j w k : ℕ) (seats : List (Option Noter)) (x : Noter) → w ≡ j + k → From j seats → slice_get seats k
-    ≡ Some (Some x) → of_worker w (all_noted seats) ≡ x.noted
+    ≡ Some (Some x) → of_worker w (noted_on_all seats) ≡ x.noted
 noted_at j w k [] x is h e = absurd (let f : None ≡ Some (Some x) = e in cc)
 noted_at j w zero (None ∷ ss) x is h e = absurd (let f : Some None ≡ Some (Some x) = e in cc)
 noted_at j w zero (Some y ∷ ss) x is h e =
     let same : y ≡ x = let f : Some (Some y) ≡ Some (Some x) = e in cc in
-    of_worker-append w y.noted (all_noted ss)
+    of_worker-append w y.noted (noted_on_all ss)
     ∙ ap (λ l. of_worker w y.noted ++ l) (noted_before (suc j) w ss (later j (Some y) ss h) (omega arith))
     ∙ append-nil (of_worker w y.noted)
     ∙ all_of-of_worker w y.noted (subst (λ n. AllOf n y.noted) (omega arith) (on_first j (Some y) ss h))
@@ -59,24 +60,24 @@ noted_at j w (suc k) (s ∷ ss) x is h e = past_first j w s ss h (omega arith)
     ∙ noted_at (suc j) w k ss x (omega arith) (later j s ss h) e
 
 noted_none : (j w k : ℕ) (seats : List (Option Noter)) → w ≡ j + k → From j seats
-    → ((x : Noter) → slice_get seats k ≡ Some (Some x) → ⊥) → of_worker w (all_noted seats) ≡ []
+    → ((x : Noter) → slice_get seats k ≡ Some (Some x) → ⊥) → of_worker w (noted_on_all seats) ≡ []
 noted_none j w k [] is h not = refl
 noted_none j w zero (None ∷ ss) is h not = noted_before (suc j) w ss (later j None ss h) (omega arith)
 noted_none j w zero (Some y ∷ ss) is h not = absurd (not y refl)
 noted_none j w (suc k) (s ∷ ss) is h not = past_first j w s ss h (omega arith)
     ∙ noted_none (suc j) w k ss (omega arith) (later j s ss h) not
 
-pub from_seated : (recorder : RecorderId) (seats : List (Option Noter)) → IsSeated recorder seats → From 0 seats
+pub from_seated : (recorder : RecorderId) (seats : List (Option Noter)) → AreNotersSeated recorder seats → From 0 seats
 from_seated recorder seats h k x e = subst (λ m. AllOf m x.noted) (omega arith) (h k x e).3
 
-pub noted_past : (recorder : RecorderId) (seats : List (Option Noter)) (k : ℕ) → IsSeated recorder seats
-    → recorder.workers ≤ k → of_worker k (all_noted seats) ≡ []
+pub noted_past : (recorder : RecorderId) (seats : List (Option Noter)) (k : ℕ) → AreNotersSeated recorder seats
+    → recorder.workers ≤ k → of_worker k (noted_on_all seats) ≡ []
 noted_past recorder seats k h le = noted_none 0 k k seats (omega arith) (from_seated recorder seats h)
     (λ x e. let f = (h k x e).2 in omega arith)
 
 pub put_step : (port other n k count : ℕ) (v u : Ledger) → v ≡ ledger false [] n 0 k v.noted → IsWorkers k count u
     → u.workers ≡ n
-    → Merges Kept port v other u (with_last v u) nobody
+    → Merges FitsPasses port v other u (with_last v u) nobody
 put_step port other n k count v u is seat many =
     let a : v.from ≡ 0 = ap (λ (h : Ledger). h.from) is in let b : v.below ≡ k = ap (λ (h : Ledger). h.below) is in
     let c : u.from ≡ k = ap (λ (h : Ledger). h.from) seat.0 in let d : u.below ≡ suc k =
@@ -93,12 +94,13 @@ fresh_by recorder k x true lt e = let s : Noter = record { recorder = recorder; 
     subst (IsNoterOf recorder k) same (refl, refl, lt refl, tt)
 fresh_by recorder k x false lt e = absurd (let f : None ≡ Some x = e in cc)
 
-pub fresh_seated : (recorder : RecorderId) → IsSeated recorder (fresh_places recorder).seats
+pub fresh_seated : (recorder : RecorderId) → AreNotersSeated recorder (fresh_places recorder).seats
 fresh_seated recorder = seated_by (IsNoterOf recorder) (fresh_noter recorder)
     (λ k x e. fresh_by recorder k x (nat_lt k recorder.workers) (ltb-true k recorder.workers) e)
 
 -- a seat that lies at its place is of its recorder, and of the worker of that number
-pub own_at : {t u : TableId} (n : ℕ) (seats : List (Option Noter)) (w : ℕ) → t ≡ u → IsSeated (recorder_id t n) seats
+pub own_at : {t u : TableId} (n : ℕ) (seats : List (Option Noter)) (w : ℕ) → t ≡ u
+    → AreNotersSeated (recorder_id t n) seats
     → IfSome (get_or seats w None) (IsNoterOf (recorder_id u n) w)
 own_at {t} {u} n seats w e h = subst (λ v. IfSome (get_or seats w None) (IsNoterOf (recorder_id v n) w)) e
     (own_of (IsNoterOf (recorder_id t n)) seats w (get_or seats w None) h refl)

@@ -11,7 +11,8 @@ use Rattle.crossbeam_queue.proofs.Lists.{at_set}
 use Rattle.eve_recorder.specs.declared.ledger.Ledger.{Ledger}
 use Rattle.eve_stamps.specs.Applied.{Applied}
 use Rattle.eve_recorder.specs.Noted.{of_worker, IsPlaced, IsOrderly, ComeFrom}
-use Rattle.eve_recorder.specs.Kept.{StandsFor, Fits, Kept, noting, taking, newcomer, nobody, one_less, rest_of, last_of}
+use Rattle.eve_recorder.specs.Kept.{StandsFor, FitsPass, FitsPasses, noting, taking, newcomer, nobody, one_less}
+use Rattle.eve_recorder.specs.Kept.{rest_of, last_pass}
 use Rattle.eve_recorder.specs.Kept.{no_taker, taker_of, with_last, with_taker, TakesFront, SeesSome, SeesAll}
 
 pub of_worker-append : (w : ℕ) (xs ys : List Applied) → of_worker w (xs ++ ys) ≡ of_worker w xs ++ of_worker w ys
@@ -103,7 +104,7 @@ pub come_rest : (n : ℕ) (x : Applied) (xs : List Applied) → ComeFrom n (x �
 come_rest n x xs h w le = nothing_behind (of_worker w (x ∷ [])) (of_worker w xs) (sym (of_worker-append w (x ∷ []) xs)
     ∙ h w le)
 
-pub begins : Kept [] (newcomer ∷ [])
+pub begins : FitsPasses [] (newcomer ∷ [])
 begins = record {
   workers = 8;
   taker = 0;
@@ -111,19 +112,19 @@ begins = record {
   taken = [];
   orderly = λ w. tt;
   whose = λ w le. refl;
-  fits = all_set (Fits 8 0 (λ _. 0) [] []) (newcomer ∷ []) 0 newcomer
+  fits = all_set (FitsPass 8 0 (λ _. 0) [] []) (newcomer ∷ []) 0 newcomer
       ((λ _. (refl, refl, refl)), (λ w s. (refl, refl, refl, s.1)), λ w _. refl)
       (λ j u other e. absurd (other (at_end [] newcomer u j (λ x. some-ne-none u (sym x)) e)));
 }
 
 pub notes : (n port : ℕ) (v : Ledger) (x : Applied) → StandsFor v x.worker
     → x.place ≡ length (of_worker x.worker v.noted)
-    → Pushes Kept n port v x (λ w. w ≡ noting v x)
+    → Pushes FitsPasses n port v x (λ w. w ≡ noting v x)
 notes n port v x stands place items views _ h at =
     let w : Ledger = noting v x in let mine = h.fits port v at in let taken = h.taken in let all = taken ++ items in
     let me = mine.1 x.worker stands in
     let same : all ++ x ∷ [] ≡ taken ++ (items ++ x ∷ []) = append_assoc taken items (x ∷ []) in
-    let F : ℕ → Ledger → Type 0 = Fits h.workers h.taker h.seat taken (all ++ x ∷ []) in
+    let F : ℕ → Ledger → Type 0 = FitsPass h.workers h.taker h.seat taken (all ++ x ∷ []) in
     let here : F port w = (
       mine.0,
       (λ k s. let f = mine.1 k s in (f.0, of_end k v.noted all x f.1, f.2, f.3)),
@@ -151,13 +152,14 @@ notes n port v x stands place items views _ h at =
         taken = taken;
         orderly = subst IsOrderly same (orderly_more all x h.orderly (place ∙ ap length me.1));
         whose = subst (ComeFrom h.workers) same past;
-        fits = subst (λ (l : List Applied). All (Fits h.workers h.taker h.seat taken l) (set views port w)) same kept;
+        fits = subst (λ (l : List Applied). All (FitsPass h.workers h.taker h.seat taken l) (set views port w)) same
+            kept;
       },
       refl,
     )
 
 pub takes : (port : ℕ) (v : Ledger) → v.takes ≡ true
-    → Pops Kept port v (λ x w. (w ≡ taking v x) × IsOrderly w.taken × TakesFront w × (x.worker < v.workers))
+    → Pops FitsPasses port v (λ x w. (w ≡ taking v x) × IsOrderly w.taken × TakesFront w × (x.worker < v.workers))
 takes port v may x items views h at =
     let w : Ledger = taking v x in let mine = h.fits port v at in let taken = h.taken in let now = taken ++ x ∷ [] in
     let me = mine.0 may in
@@ -167,7 +169,7 @@ takes port v may x items views h at =
     let carry : (k : ℕ) → of_worker k (taken ++ (x ∷ items)) ≡ of_worker k (now ++ items) =
     λ k. ap (of_worker k) same in
     let is : v.taken ++ x ∷ [] ≡ now = ap (λ l. l ++ x ∷ []) me.1 in
-    let F : ℕ → Ledger → Type 0 = Fits h.workers h.taker h.seat now (now ++ items) in
+    let F : ℕ → Ledger → Type 0 = FitsPass h.workers h.taker h.seat now (now ++ items) in
     let here : F port w = (
       (λ _. (me.0, is, me.2)),
       (λ k s. let f = mine.1 k s in (f.0, f.1 ∙ carry k, f.2, f.3)),
@@ -225,18 +227,18 @@ moved_else : (seat : ℕ → ℕ) (k n j : ℕ) → j ≢ k → moved seat k n j
 moved_else seat k n j e = ap (λ b. cond b n (seat j)) (ne_eqb j k e)
 
 nobody_fits : (workers taker : ℕ) (seat : ℕ → ℕ) (taken all : List Applied) (port : ℕ)
-    → Fits workers taker seat taken all port nobody
+    → FitsPass workers taker seat taken all port nobody
 nobody_fits workers taker seat taken all port =
     ((λ t. absurd (true≢false (sym t))), (λ k s. absurd (omega arith)), λ k _. refl)
 
 -- a pass that takes and stands for all workers, of whom none has noted anything, may say that there is one less
 pub forks_absent : (port : ℕ) (v : Ledger) → v.takes ≡ true → v.from ≡ 0 → v.below ≡ v.workers → 0 < v.below
-    → v.noted ≡ [] → Forks Kept port v (one_less v) nobody
+    → v.noted ≡ [] → Forks FitsPasses port v (one_less v) nobody
 forks_absent port v may all_from all_below left_over none items views h at =
     let l : Ledger = one_less v in let mine = h.fits port v at in let me = mine.0 may in let vs : List Ledger =
     set views port l in
     let n = h.workers - 1 in let many : v.workers ≡ h.workers = me.2 in
-    let F : ℕ → Ledger → Type 0 = Fits n h.taker h.seat h.taken (h.taken ++ items) in
+    let F : ℕ → Ledger → Type 0 = FitsPass n h.taker h.seat h.taken (h.taken ++ items) in
     let left : F port l = (
       (λ _. (me.0, me.1, ap (λ k. k - 1) many)),
       (λ k s. let f = mine.1 k (s.0, omega arith) in (f.0, f.1, ap (λ k. k - 1) many, omega arith)),
@@ -262,13 +264,14 @@ forks_absent port v may all_from all_below left_over none items views h at =
           (nobody_fits n h.taker h.seat h.taken (h.taken ++ items) (length vs));
     }
 
-pub forks : (port : ℕ) (v : Ledger) → v.from < v.below → v.noted ≡ [] → Forks Kept port v (rest_of v) (last_of v)
+pub forks : (port : ℕ) (v : Ledger) → v.from < v.below → v.noted ≡ [] → Forks FitsPasses port v (rest_of v)
+    (last_pass v)
 forks port v some_left none items views h at =
-    let l : Ledger = rest_of v in let r : Ledger = last_of v in let mine = h.fits port v at in let vs : List Ledger =
+    let l : Ledger = rest_of v in let r : Ledger = last_pass v in let mine = h.fits port v at in let vs : List Ledger =
     set views port l in
     let last = v.below - 1 in let me = mine.1 last (omega arith, omega arith) in
     let seat : ℕ → ℕ = moved h.seat last (length vs) in
-    let F : ℕ → Ledger → Type 0 = Fits h.workers h.taker seat h.taken (h.taken ++ items) in
+    let F : ℕ → Ledger → Type 0 = FitsPass h.workers h.taker seat h.taken (h.taken ++ items) in
     let left : F port l = (
       mine.0,
       (λ k s. let f = mine.1 k (s.0, omega arith) in let away : k ≢ last = omega arith in
@@ -298,11 +301,11 @@ forks port v some_left none items views h at =
       fits = all_snoc F vs r (all_set F views port l left others) right;
     }
 
-pub forks_taker : (port : ℕ) (v : Ledger) → v.takes ≡ true → Forks Kept port v (no_taker v) (taker_of v)
+pub forks_taker : (port : ℕ) (v : Ledger) → v.takes ≡ true → Forks FitsPasses port v (no_taker v) (taker_of v)
 forks_taker port v may items views h at =
     let l : Ledger = no_taker v in let r : Ledger = taker_of v in let mine = h.fits port v at in let me = mine.0 may in
     let vs : List Ledger = set views port l in
-    let F : ℕ → Ledger → Type 0 = Fits h.workers (length vs) h.seat h.taken (h.taken ++ items) in
+    let F : ℕ → Ledger → Type 0 = FitsPass h.workers (length vs) h.seat h.taken (h.taken ++ items) in
     let left : F port l = ((λ t. absurd (true≢false (sym t))), mine.1, mine.2) in
     let others : (j : ℕ) (u : Ledger) → j ≢ port → get_elem? views j ≡ some u → F j u = λ j u other e. let f =
     h.fits j u e in
@@ -334,7 +337,7 @@ joined_else seat from to k j e n = e ∙ sym (ap (λ b. cond b to (seat k)) (ne_
 
 pub merges : (port : ℕ) (v : Ledger) (other : ℕ) (u : Ledger) → v.from ≤ v.below → u.from ≡ v.below → u.from ≤ u.below
     → u.workers ≡ v.workers
-    → Merges Kept port v other u (with_last v u) nobody
+    → Merges FitsPasses port v other u (with_last v u) nobody
 merges port v other u fine meet ok many items views h at two at' =
     let both : Ledger = with_last v u in let mine = h.fits port v at in let theirs =
     h.fits other u (was_there views port other both u two at') in
@@ -343,7 +346,7 @@ merges port v other u fine meet ok many items views h at two at' =
     let port_apart : port ≢ other = λ e. two (sym e) in
     let cut : (k : ℕ) → of_worker k both.noted ≡ of_worker k v.noted ++ of_worker k u.noted =
     λ k. of_worker-append k v.noted u.noted in
-    let F : ℕ → Ledger → Type 0 = Fits h.workers h.taker seat h.taken all in
+    let F : ℕ → Ledger → Type 0 = FitsPass h.workers h.taker seat h.taken all in
     let Now : ℕ → Ledger → Type 0 = λ j y. j ≢ other → F j y in
     let here : F port both = (
       mine.0,
@@ -381,12 +384,12 @@ merges port v other u fine meet ok many items views h at two at' =
     }
 
 pub merges_taker : (port : ℕ) (v : Ledger) (other : ℕ) (u : Ledger) → u.takes ≡ true → u.workers ≡ v.workers
-    → Merges Kept port v other u (with_taker v u) nobody
+    → Merges FitsPasses port v other u (with_taker v u) nobody
 merges_taker port v other u may many items views h at two at' =
     let both : Ledger = with_taker v u in let mine = h.fits port v at in let theirs =
     h.fits other u (was_there views port other both u two at') in
     let them = theirs.0 may in let all = h.taken ++ items in
-    let F : ℕ → Ledger → Type 0 = Fits h.workers port h.seat h.taken all in
+    let F : ℕ → Ledger → Type 0 = FitsPass h.workers port h.seat h.taken all in
     let Now : ℕ → Ledger → Type 0 = λ j y. j ≢ other → F j y in
     let now : All Now (set views port both) =
     all_set Now views port both (λ _. ((λ _. (refl, them.1, sym many ∙ them.2)), mine.1, mine.2))
@@ -403,7 +406,7 @@ merges_taker port v other u may many items views h at two at' =
     }
 
 -- who takes sees what the queue holds of each worker that it stands for or that isn't there
-pub learns_all : (port : ℕ) (v : Ledger) → v.takes ≡ true → Learns Kept port v (SeesAll v)
+pub learns_all : (port : ℕ) (v : Ledger) → v.takes ≡ true → Learns FitsPasses port v (SeesAll v)
 learns_all port v may items views h at =
     let mine = h.fits port v at in let me = mine.0 may in let is : h.taken ++ items ≡ v.taken ++ items =
     ap (λ l. l ++ items) (sym me.1) in (
@@ -415,7 +418,7 @@ learns_all port v may items views h at =
     )
 
 -- what a worker knows of a full queue
-pub learns_some : (port : ℕ) (v : Ledger) → Learns Kept port v (SeesSome v)
+pub learns_some : (port : ℕ) (v : Ledger) → Learns FitsPasses port v (SeesSome v)
 learns_some port v items views h at = let mine = h.fits port v at in (
   h.taken,
   h.orderly,

@@ -6,7 +6,7 @@ use Rattle.crossbeam_queue.specs.Fifo.{Pushes, Pops, Learns, Held}
 use Rattle.eve_recorder.specs.declared.ledger.Ledger.{Ledger}
 use Rattle.eve_stamps.specs.Applied.{Applied}
 use Rattle.eve_recorder.specs.Noted.{of_worker, AllOf, IsOrderly, ComeFrom}
-use Rattle.eve_recorder.specs.Kept.{ledger, Kept, IsWorkers, noting, taking, TakesFront, SeesSome, SeesAll}
+use Rattle.eve_recorder.specs.Kept.{ledger, FitsPasses, IsWorkers, noting, taking, TakesFront, SeesSome, SeesAll}
 use Rattle.eve_recorder.specs.Seen.{RecorderId, recorder_id, Desk, Noter, WasFull}
 use Rattle.eve_recorder.proofs.Keeps.{whose_is, come_rest, notes, takes, learns_all, learns_some}
 
@@ -21,7 +21,7 @@ all_of_snoc w (y ∷ xs) x h e = (h.0, all_of_snoc w xs x h.1 e)
 
 pub note_step : (n port w count : ℕ) (v : Ledger) (x : Applied) → IsWorkers w count v → x.worker ≡ w
     → x.place ≡ length v.noted
-    → Pushes Kept n port v x (λ u. u ≡ noting v x) × Learns Kept port v (SeesSome v)
+    → Pushes FitsPasses n port v x (λ u. u ≡ noting v x) × Learns FitsPasses port v (SeesSome v)
 note_step n port w count v x is e place =
     let from : v.from ≡ w = ap (λ (h : Ledger). h.from) is.0 in
     let below : v.below ≡ suc w = ap (λ (h : Ledger). h.below) is.0 in
@@ -80,6 +80,6 @@ full_alone desk seat full lt one =
     omega (arith, mine, whole, full.2, length-append full.0 full.1)
 
 pub take_step : (port : ℕ) (v : Ledger) → v.takes ≡ true
-    → Pops Kept port v (λ x u. (u ≡ taking v x) × IsOrderly u.taken × TakesFront u × (x.worker < v.workers))
-    × Learns Kept port v (SeesAll v)
+    → Pops FitsPasses port v (λ x u. (u ≡ taking v x) × IsOrderly u.taken × TakesFront u × (x.worker < v.workers))
+    × Learns FitsPasses port v (SeesAll v)
 take_step port v may = (takes port v may, learns_all port v may)

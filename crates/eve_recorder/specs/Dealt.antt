@@ -5,6 +5,7 @@ use Rattle.std.specs.Prelude.{length, All, count_by, sum_by}
 use mathlib.Core.Option.{some}
 use lib.ListN.{get_elem?}
 use Rattle.atomic_table.specs.Table.{State, Me, Step}
+use Rattle.eve_recorder.specs.declared.limits.TheConstants.{MOST_DRAWN}
 use Rattle.eve_recorder.specs.declared.drawn.Drawn.{Drawn}
 
 abbrev pub all_parts : ℕ
@@ -21,9 +22,9 @@ times x xs = count_by (λ y. y == x) xs
 abbrev pub once_below : ℕ → ℕ → ℕ
 once_below x n = if nat_lt x n then 1 else 0
 
--- a seat draws below the counter, and 2 ^ 40 numbers at most for each of its parts
+-- a seat draws below the counter, and MOST_DRAWN numbers at most for each of its parts
 abbrev pub IsFair : ℕ → Drawn → Type 0
-IsFair n v = (length v.numbers ≤ v.parts * 2 ^ 40) × All (λ x. x < n) v.numbers
+IsFair n v = (length v.numbers ≤ v.parts * MOST_DRAWN) × All (λ x. x < n) v.numbers
 
 -- all parts are there, and the numbers that all seats drew are those below n, each once
 abbrev pub AreBelow : ℕ → List Drawn → Type 0
@@ -47,8 +48,8 @@ fewer v = drawn (v.parts - 1) v.numbers
 abbrev pub one_part : Drawn → Drawn
 one_part v = drawn 1 []
 
-abbrev pub joined : Drawn → Drawn → Drawn
-joined v w = drawn (v.parts + w.parts) (v.numbers ++ w.numbers)
+abbrev pub drawn_by_both : Drawn → Drawn → Drawn
+drawn_by_both v w = drawn (v.parts + w.parts) (v.numbers ++ w.numbers)
 
 abbrev pub spent : Drawn
 spent = drawn 0 []

@@ -33,16 +33,16 @@ abbrev pub fresh_seats : Source → Drawers
 fresh_seats t = record { tickets = t; places = row_by (fresh_seat t) }
 
 -- every seat is there
-abbrev pub IsWhole : Drawers → Type 0
-IsWhole s = HasBelow s.tickets.seats s.places
+abbrev pub HasAllDrawers : Drawers → Type 0
+HasAllDrawers s = HasBelow s.tickets.seats s.places
 
 -- a seat of these tickets, with this number
 abbrev pub IsDrawerOf : Source → ℕ → Drawer → Type 0
 IsDrawerOf t k s = (s.tickets ≡ t) × (s.number ≡ k) × (k < t.seats)
 
 -- each seat lies at its number
-abbrev pub IsSeated : Source → List (Option Drawer) → Type 0
-IsSeated t places = AreSeated (IsDrawerOf t) places
+abbrev pub AreDrawersSeated : Source → List (Option Drawer) → Type 0
+AreDrawersSeated t places = AreSeated (IsDrawerOf t) places
 
 abbrev pub drawn_on : Option Drawer → List ℕ
 drawn_on None = []

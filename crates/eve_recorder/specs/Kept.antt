@@ -18,8 +18,8 @@ StandsFor v w = (v.from ≤ w) × (w < v.below)
 -- A pass that takes is the one taker's, and has all that was taken. A pass that stands for a worker is that worker's
 -- one pass, and what it noted is all that there is of the worker. Either knows how many workers there are, and a worker
 -- for whom a pass stands is one of them. Of others a pass noted nothing.
-abbrev pub Fits : ℕ → ℕ → (ℕ → ℕ) → List Applied → List Applied → ℕ → Ledger → Type 0
-Fits workers taker seat taken all pass v =
+abbrev pub FitsPass : ℕ → ℕ → (ℕ → ℕ) → List Applied → List Applied → ℕ → Ledger → Type 0
+FitsPass workers taker seat taken all pass v =
     (v.takes ≡ true → (pass ≡ taker) × (v.taken ≡ taken) × (v.workers ≡ workers))
     × ((w : ℕ) → StandsFor v w
     → (pass ≡ seat w) × (of_worker w v.noted ≡ of_worker w all) × (v.workers ≡ workers) × (w < workers))
@@ -28,7 +28,7 @@ Fits workers taker seat taken all pass v =
 -- At every moment there are so many workers, one pass takes and each worker has one pass; and all that there is, what
 -- was taken and then what is queued, is of these workers, has each worker's records in their places, and fits each
 -- pass.
-pub record Kept (queued : List Applied) (ledgers : List Ledger) : Type 0 where
+pub record FitsPasses (queued : List Applied) (ledgers : List Ledger) : Type 0 where
   pub workers : ℕ
   pub taker : ℕ
   pub seat : ℕ → ℕ
@@ -36,7 +36,7 @@ pub record Kept (queued : List Applied) (ledgers : List Ledger) : Type 0 where
   pub orderly : IsOrderly (taken ++ queued)
   pub whose : ComeFrom workers (taken ++ queued)
   pub fits : (pass : ℕ) (v : Ledger) → get_elem? ledgers pass ≡ some v
-      → Fits workers taker seat taken (taken ++ queued) pass v
+      → FitsPass workers taker seat taken (taken ++ queued) pass v
 
 -- a worker's pass stands for that worker alone, and has noted so many records, all of that worker
 abbrev pub IsWorkers : ℕ → ℕ → Ledger → Type 0
@@ -68,8 +68,8 @@ one_less v = ledger v.takes v.taken (v.workers - 1) v.from (v.below - 1) v.noted
 abbrev pub rest_of : Ledger → Ledger
 rest_of v = ledger v.takes v.taken v.workers v.from (v.below - 1) v.noted
 
-abbrev pub last_of : Ledger → Ledger
-last_of v = ledger false [] v.workers (v.below - 1) v.below []
+abbrev pub last_pass : Ledger → Ledger
+last_pass v = ledger false [] v.workers (v.below - 1) v.below []
 
 -- and put back
 abbrev pub with_last : Ledger → Ledger → Ledger

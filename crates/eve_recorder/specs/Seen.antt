@@ -37,7 +37,7 @@ pub record Places : Type 0 where
   pub taker : Option Taker
 
 -- all that was noted, each worker's in its order, and what was taken of it
-pub record Gathered : Type 0 where
+pub record NotedAndTaken : Type 0 where
   pub noted : List Applied
   pub taken : List Applied
 
@@ -46,13 +46,13 @@ abbrev pub IsNoterOf : RecorderId → ℕ → Noter → Type 0
 IsNoterOf recorder w x = (x.recorder ≡ recorder) × (x.worker ≡ w) × (w < recorder.workers) × AllOf w x.noted
 
 -- each seat lies at its worker's number
-abbrev pub IsSeated : RecorderId → List (Option Noter) → Type 0
-IsSeated recorder seats = AreSeated (IsNoterOf recorder) seats
+abbrev pub AreNotersSeated : RecorderId → List (Option Noter) → Type 0
+AreNotersSeated recorder seats = AreSeated (IsNoterOf recorder) seats
 
 -- the taker's seat, where it is there, is of this recorder
-abbrev pub IsAt : RecorderId → Option Taker → Type 0
-IsAt recorder None = Unit {0}
-IsAt recorder (Some t) = t.recorder ≡ recorder
+abbrev pub IsTakerAt : RecorderId → Option Taker → Type 0
+IsTakerAt recorder None = Unit {0}
+IsTakerAt recorder (Some t) = t.recorder ≡ recorder
 
 -- what was noted on a seat, nothing where there is none
 abbrev pub noted_on : Option Noter → List Applied
@@ -60,12 +60,12 @@ noted_on None = []
 noted_on (Some x) = x.noted
 
 -- all that was noted, worker after worker
-abbrev pub all_noted : List (Option Noter) → List Applied
-all_noted seats = flat_map noted_on seats
+abbrev pub noted_on_all : List (Option Noter) → List Applied
+noted_on_all seats = flat_map noted_on seats
 
 -- each worker's seat is there, and the taker's
-abbrev pub IsWhole : Places → Type 0
-IsWhole p = IsSome p.taker × HasBelow p.recorder.workers p.seats
+abbrev pub HasAllSeats : Places → Type 0
+HasAllSeats p = IsSome p.taker × HasBelow p.recorder.workers p.seats
 
 -- the seat of worker w, where there is that worker, with nothing noted
 abbrev pub fresh_noter : RecorderId → ℕ → Option Noter

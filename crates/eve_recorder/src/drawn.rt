@@ -40,9 +40,9 @@ impl Split<Drawn> for OnePart {
 }
 
 impl Join<Drawn> for OnePart {
-    ghost use Rattle.eve_recorder.specs.Dealt.{joined, spent};
+    ghost use Rattle.eve_recorder.specs.Dealt.{drawn_by_both, spent};
 
-    ghost both = { joined };
+    ghost both = { drawn_by_both };
 
     ghost spent = { spent };
 }

@@ -20,9 +20,9 @@ pub struct Ledger {
 pub struct EachOnce;
 
 impl Protocol<AccessRecord, Ledger> for EachOnce {
-    ghost use Rattle.eve_recorder.specs.Kept.{Kept, newcomer};
+    ghost use Rattle.eve_recorder.specs.Kept.{FitsPasses, newcomer};
 
-    ghost holds = { Kept };
+    ghost holds = { FitsPasses };
 
     ghost first = { newcomer };
 }
@@ -48,11 +48,11 @@ impl Split<Ledger> for AbsentCut {
 pub struct WorkerCut;
 
 impl Split<Ledger> for WorkerCut {
-    ghost use Rattle.eve_recorder.specs.Kept.{rest_of, last_of};
+    ghost use Rattle.eve_recorder.specs.Kept.{rest_of, last_pass};
 
     ghost left = { rest_of };
 
-    ghost right = { last_of };
+    ghost right = { last_pass };
 }
 
 impl Join<Ledger> for WorkerCut {

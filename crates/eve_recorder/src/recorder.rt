@@ -5,8 +5,9 @@ ghost use Rattle.std.specs.Prelude.{IfErr, IfSome, IsSome, IfNone, Some, slice_g
 ghost use Rattle.crossbeam_queue.specs.Passes.{view, IsPassOf, IsSamePass};
 ghost use Rattle.eve_recorder.specs.Noted.{of_worker, IsOrderly};
 ghost use Rattle.eve_recorder.specs.Kept.{ledger};
-ghost use Rattle.eve_recorder.specs.Seen.{Desk, Noter, Taker, Places, Gathered, recorder_id, fresh_noter, fresh_places};
-ghost use Rattle.eve_recorder.specs.Seen.{noted_on, IsNoterOf, IsWhole, WasFull, WasEmpty};
+ghost use Rattle.eve_recorder.specs.Seen.{Desk, Noter, Taker, Places, NotedAndTaken, recorder_id, fresh_noter};
+ghost use Rattle.eve_recorder.specs.Seen.{fresh_places};
+ghost use Rattle.eve_recorder.specs.Seen.{noted_on, IsNoterOf, HasAllSeats, WasFull, WasEmpty};
 
 use crate::ledger::{AbsentCut, Notes, Queue, QueuePass, TakerCut, Takes, WorkerCut};
 use crate::limits::{MOST_QUEUED, MOST_SEATS};
@@ -130,7 +131,7 @@ impl Recorder {
     /// Ends the recorder, of which all seats are back. What is queued can still be taken, by `Taken::next`.
     pub fn finish(self, seats: Seats) -> Taken
         requires own { seats.recorder ≡ self.recorder }
-        requires whole { IsWhole seats }
+        requires whole { HasAllSeats seats }
         ensures noted { (w : ℕ) (x : Noter) → slice_get seats.seats w ≡ Some (Some x)
             → of_worker w result.noted ≡ x.noted }
         ensures others { (w : ℕ) → seats.recorder.workers ≤ w → of_worker w result.noted ≡ [] }

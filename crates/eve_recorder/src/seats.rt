@@ -1,7 +1,7 @@
 //! The seats that are not given out.
 
 ghost use Rattle.std.specs.Prelude.{◌≡◌, ◌<◌, IfSome, IsTrue, ◌↔◌, None, Some, slice_set, slice_index_or};
-ghost use Rattle.eve_recorder.specs.Seen.{Noter, Taker, Places, IsWhole};
+ghost use Rattle.eve_recorder.specs.Seen.{Noter, Taker, Places, HasAllSeats};
 
 use crate::ledger::QueuePass;
 use crate::row::Row;
@@ -23,7 +23,7 @@ pub struct Seats {
 impl Model for Seats {
     ghost use Rattle.std.specs.Prelude.{◌≡◌, ◌≤◌, false, []};
     ghost use Rattle.crossbeam_queue.specs.Passes.{view as view_of};
-    ghost use Rattle.eve_recorder.specs.Seen.{Places, recorder_id, IsSeated, IsAt};
+    ghost use Rattle.eve_recorder.specs.Seen.{Places, recorder_id, AreNotersSeated, IsTakerAt};
     ghost use Rattle.eve_recorder.specs.Rows.{row_of};
     ghost use Rattle.eve_recorder.specs.Kept.{ledger};
     ghost use Rattle.eve_recorder.specs.declared.limits.TheConstants.{MOST_SEATS};
@@ -38,7 +38,7 @@ impl Model for Seats {
 
     ghost invariant = { λ s. let recorder = recorder_id s.main.table_id s.workers in
         (s.main.me.1 ≡ []) × (view_of s.main ≡ ledger false [] s.workers 0 0 []) × (s.workers ≤ MOST_SEATS)
-        × IsSeated recorder (row_of s.row) × IsAt recorder s.taker };
+        × AreNotersSeated recorder (row_of s.row) × IsTakerAt recorder s.taker };
 }
 
 impl Seats {
@@ -80,7 +80,7 @@ impl Seats {
 
     /// Whether every seat is there.
     pub fn whole(&self) -> bool
-        ensures { IsTrue result ↔ IsWhole self.now }
+        ensures { IsTrue result ↔ HasAllSeats self.now }
     {
         self.taker.is_some() && self.row.has_below(self.workers)
     }

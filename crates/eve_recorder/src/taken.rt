@@ -2,7 +2,7 @@
 
 ghost use Rattle.std.specs.Prelude.{◌≡◌, [], ◌++◌, ◌∷◌, ℕ, IfSome, IfNone};
 ghost use mathlib.Core.List.{IsPrefix};
-ghost use Rattle.eve_recorder.specs.Seen.{Gathered};
+ghost use Rattle.eve_recorder.specs.Seen.{NotedAndTaken};
 ghost use Rattle.eve_recorder.specs.Noted.{of_worker, IsOrderly};
 
 use crate::ledger::{Queue, QueuePass, Takes};
@@ -10,7 +10,7 @@ use eve_stamps::AccessRecord;
 use std::marker::Model;
 use std::sync::Wait;
 
-/// What is still queued, to be taken. Contracts see all that was noted and what of it was taken (`Gathered`).
+/// What is still queued, to be taken. Contracts see all that was noted and what of it was taken (`NotedAndTaken`).
 ///
 /// docs/MODEL.md, "Recorder lists, drawn numbers".
 #[derive(Drop)]
@@ -22,11 +22,11 @@ pub struct Taken {
 impl Model for Taken {
     ghost use Rattle.std.specs.Prelude.{◌≡◌, true};
     ghost use Rattle.crossbeam_queue.specs.Passes.{view as view_of, IsPassOf};
-    ghost use Rattle.eve_recorder.specs.Seen.{Gathered};
+    ghost use Rattle.eve_recorder.specs.Seen.{NotedAndTaken};
     ghost use Rattle.eve_recorder.specs.Noted.{IsOrderly};
     ghost use Rattle.eve_recorder.specs.Kept.{ledger};
 
-    ghost Value = { Gathered };
+    ghost Value = { NotedAndTaken };
 
     ghost view = { λ s. record { noted = (view_of s.pass).noted; taken = (view_of s.pass).taken } };
 

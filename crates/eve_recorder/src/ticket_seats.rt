@@ -1,7 +1,7 @@
 //! The seats that are not given out.
 
 ghost use Rattle.std.specs.Prelude.{◌≡◌, ◌↔◌, IfSome, IsTrue, None, Some, slice_set, slice_index_or};
-ghost use Rattle.eve_recorder.specs.Drawing.{Drawer, Drawers, IsWhole};
+ghost use Rattle.eve_recorder.specs.Drawing.{Drawer, Drawers, HasAllDrawers};
 
 use crate::drawn::Place;
 use crate::row::Row;
@@ -25,7 +25,7 @@ impl Model for TicketSeats {
     ghost use Rattle.std.specs.Prelude.{◌≡◌, ◌-◌, ◌≤◌, []};
     ghost use Rattle.eve_recorder.specs.Dealt.{drawn, all_parts};
     ghost use Rattle.eve_recorder.specs.Rows.{row_of};
-    ghost use Rattle.eve_recorder.specs.Drawing.{Drawers, IsSeated, source};
+    ghost use Rattle.eve_recorder.specs.Drawing.{Drawers, AreDrawersSeated, source};
     ghost use Rattle.eve_recorder.specs.declared.limits.TheConstants.{MOST_DRAWN, MOST_SEATS};
 
     ghost Value = { Drawers };
@@ -37,7 +37,7 @@ impl Model for TicketSeats {
 
     ghost invariant = { λ s. (s.rest.me.1 ≡ []) × (s.rest.me.0 ≡ drawn (all_parts - s.seats) [])
         × (s.seats ≤ MOST_SEATS) × (s.limit ≤ MOST_DRAWN)
-        × IsSeated (source s.rest.table_id s.seats s.limit) (row_of s.row) };
+        × AreDrawersSeated (source s.rest.table_id s.seats s.limit) (row_of s.row) };
 }
 
 impl TicketSeats {
@@ -62,7 +62,7 @@ impl TicketSeats {
 
     /// Whether every seat is back.
     pub fn whole(&self) -> bool
-        ensures { IsTrue result ↔ IsWhole self.now }
+        ensures { IsTrue result ↔ HasAllDrawers self.now }
     {
         self.row.has_below(self.seats)
     }

@@ -4,7 +4,8 @@ ghost use Rattle.std.specs.Prelude.{◌≡◌, ◌+◌, ◌-◌, ◌<◌, ◌≤
 ghost use Rattle.std.specs.Prelude.{IfSome, IsNone, IsPermutation, IsSome};
 ghost use Rattle.std.specs.List.{range_with_len};
 ghost use Rattle.eve_recorder.specs.Dealt.{drawn, all_parts};
-ghost use Rattle.eve_recorder.specs.Drawing.{Drawer, Source, all_drawn, drawn_on, fresh_seat, fresh_seats, IsWhole};
+ghost use Rattle.eve_recorder.specs.Drawing.{Drawer, Source, all_drawn, drawn_on, fresh_seat, fresh_seats};
+ghost use Rattle.eve_recorder.specs.Drawing.{HasAllDrawers};
 
 use crate::drawn::{Counter, Draw, OnePart, Place};
 use crate::limits::{MOST_DRAWN, MOST_SEATS};
@@ -96,7 +97,7 @@ impl Tickets {
     /// lists of all seats together are the numbers 0..n-1, each once.
     pub fn close(self, seats: TicketSeats) -> u64
         requires tickets { seats.tickets ≡ self }
-        requires whole { IsWhole seats }
+        requires whole { HasAllDrawers seats }
         ensures { IsPermutation (all_drawn seats) (range_with_len 0 result) }
     {
         let TicketSeats { mut rest, row, .. } = seats;

@@ -16,7 +16,7 @@ use Rattle.eve_replica.specs.declared.server.Server.{Server}
 use Rattle.eve_grammar.specs.Trace.{Batch, Attempt}
 use Rattle.eve_replica.specs.Replicas.{Replica, Attempts}
 use Rattle.eve_replica.specs.declared.deployment.Deployment.{Deployment}
-use Rattle.eve_replica.specs.Serving.{standing_of, attempting, AreDue, AreVotes, GoesOn, IsUnderWay, Serves}
+use Rattle.eve_replica.specs.Serving.{standing_of, after_attempts, AreDue, AreVotesOn, GoesOn, IsUnderWay, Serves}
 
 -- a replica that went on serves, further on
 pub goes_on : (names : List (List ℕ)) (window : ℕ) (at : Standing) (further : Standing → Standing) (old new : Server)
@@ -44,7 +44,7 @@ later many some = grind (arith, nat_tests)
 -- an attempt was made
 pub attempted : (view : ℕ) (serial : Bool) (old new : Replica) (b : Batch) (a : Attempt)
     → Attempts view serial old new b a
-    → standing_of new.ledger ≡ attempting 1 (standing_of old.ledger)
+    → standing_of new.ledger ≡ after_attempts 1 (standing_of old.ledger)
 attempted view serial old new b a made =
     let opens = made.1.1.closed.opens in
     ap standing_of opens.changed
@@ -53,8 +53,8 @@ attempted view serial old new b a made =
     (length-append old.ledger.opened _) (sym (and_false old.ledger.is_next_serial))
 
 -- so many attempts, and one more
-pub one_more : (many : ℕ) (a b c : Server) → GoesOn (attempting many) a b → GoesOn (attempting 1) b c
-    → GoesOn (attempting (many + 1)) a c
+pub one_more : (many : ℕ) (a b c : Server) → GoesOn (after_attempts many) a b → GoesOn (after_attempts 1) b c
+    → GoesOn (after_attempts (many + 1)) a c
 one_more many a b c first then =
     let at = standing_of a.replica.ledger in
     record {
@@ -65,7 +65,7 @@ one_more many a b c first then =
       steps = λ h. then.steps (first.steps h);
       live = λ is. (
         (first.live (then.live is).0).0,
-        (then.live is).1 ∙ ap (attempting 1) (first.live (then.live is).0).1
+        (then.live is).1 ∙ ap (after_attempts 1) (first.live (then.live is).0).1
             ∙ stand at.view at.committed (at.opened + many + 1) (at.opened + (many + 1))
             ((at.is_next_serial && (many == 0)) && false) (at.is_next_serial && (many + 1 == 0)) (omega arith)
             (and_false (at.is_next_serial && (many == 0))
@@ -80,7 +80,7 @@ none_later serial many some = sym (and_right serial (many == 0) (later many some
 -- where a whole window was attempted
 pub window_open : (many : ℕ) (at : Standing) → at.opened ≡ 0 → 0 < many
     → Path Standing (record { view = at.view; committed = at.committed; opened = many; is_next_serial = false })
-    (attempting many at)
+    (after_attempts many at)
 window_open many at none some =
     stand at.view at.committed many (at.opened + many) false (at.is_next_serial && (many == 0)) (omega arith)
     (none_later at.is_next_serial many some)
@@ -147,7 +147,7 @@ lent_serve d lent was same =
 -- a run whose replicas have gone on to stand here is under way
 pub moved : (d : Deployment) (lent given : List Server) (at : Standing) (votes : Vec VoteData Global) → IsUnderWay d
     → lent ≡ d.servers.items → length given ≡ vec_len d.servers
-    → at.committed + at.opened ≤ length d.batches.now → AreVotes (length d.batches.now) votes.items
+    → at.committed + at.opened ≤ length d.batches.now → AreVotesOn (length d.batches.now) votes.items
     → ((names : List (List ℕ)) (room : ℕ) → All (Serves names room d.standing) lent → All (Serves names room at) given)
     → IsUnderWay (record d { servers = with_items d.servers given; standing = at; votes = votes })
 moved d lent given at votes was same many due right go = record {

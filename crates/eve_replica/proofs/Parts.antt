@@ -15,7 +15,7 @@ use Rattle.eve_write.specs.Writable.{fits_vote, HasSpelling}
 use Rattle.eve_workload.specs.declared.mixer.MixedBatch.{MixedBatch}
 use Rattle.eve_replica.specs.declared.server.Server.{Server}
 use Rattle.eve_replica.specs.declared.standing.Standing.{Standing}
-use Rattle.eve_replica.specs.Serving.{IsMixed, Serves, AreVotes, AreReplies}
+use Rattle.eve_replica.specs.Serving.{IsRightMixed, Serves, AreVotesOn, AreReplies}
 
 pub sections_fit : (names : List (List ℕ)) (window : ℕ) (at : Standing) (servers : List Server)
     → All (Serves names window at) servers
@@ -31,7 +31,7 @@ sections_fit names window at (s ∷ servers) serve =
 abbrev Copies : List VoteData → Vec VoteData Global → Type 0
 Copies given copy = copy.items ≡ given
 
-pub votes_fit : (batches : ℕ) (given : List VoteData) (copies : List (Vec VoteData Global)) → AreVotes batches given
+pub votes_fit : (batches : ℕ) (given : List VoteData) (copies : List (Vec VoteData Global)) → AreVotesOn batches given
     → All (Copies given) copies → list_all (list_all (is_vote batches)) (map votes copies) ≡ true
 votes_fit batches given [] right each = refl
 votes_fit batches given (copy ∷ copies) right each =
@@ -40,7 +40,7 @@ votes_fit batches given (copy ∷ copies) right each =
     (subst P (sym (All-head (Copies given) copy copies each)) right.limits)
     (votes_fit batches given copies right (All-tail (Copies given) copy copies each))
 
-pub tokens_fit : (batches : ℕ) (given : List VoteData) (copies : List (Vec VoteData Global)) → AreVotes batches given
+pub tokens_fit : (batches : ℕ) (given : List VoteData) (copies : List (Vec VoteData Global)) → AreVotesOn batches given
     → All (Copies given) copies → list_all (λ v. list_all fits_vote v.items) copies ≡ true
 tokens_fit batches given [] right each = refl
 tokens_fit batches given (copy ∷ copies) right each =
@@ -66,12 +66,12 @@ same_head p replicas verifiers customers batches e v k n =
     let given : length (trace p).verifiers ≡ verifiers = length-map p.verifiers.items votes ∙ v in
     cc
 
-batches_fit : (names : List (List ℕ)) (mixed : List MixedBatch) → All (IsMixed names) mixed
+batches_fit : (names : List (List ℕ)) (mixed : List MixedBatch) → All (IsRightMixed names) mixed
     → list_all is_batch (map (λ m. batch m.batch) mixed) ≡ true
 batches_fit names [] right = refl
 batches_fit names (m ∷ mixed) right =
-    and_from (is_batch (batch m.batch)) _ (All-head (IsMixed names) m mixed right).right
-    (batches_fit names mixed (All-tail (IsMixed names) m mixed right))
+    and_from (is_batch (batch m.batch)) _ (All-head (IsRightMixed names) m mixed right).right
+    (batches_fit names mixed (All-tail (IsRightMixed names) m mixed right))
 
 -- The parts of a run have a spelling: its numbers and customers are a workload's, its batches were mixed, its replicas
 -- served, each verifier gave these votes, and the replies are of these replicas in these batches.
@@ -79,9 +79,9 @@ pub spelled : (p : Parts) (h : Head) (names : List (List ℕ)) (mixed : List Mix
     (servers : List Server) (given : List VoteData)
     → head_of (trace p) ≡ h → IsTrue (is_head h) → length names ≡ h.customers
     → IsTrue (list_all is_customer (map customer p.customers.items))
-    → map batch p.batches.items ≡ map (λ m. batch m.batch) mixed → All (IsMixed names) mixed
+    → map batch p.batches.items ≡ map (λ m. batch m.batch) mixed → All (IsRightMixed names) mixed
     → map section p.sections.items ≡ map (λ s. section s.steps) servers → All (Serves names window at) servers
-    → AreVotes (length mixed) given → All (Copies given) p.verifiers.items
+    → AreVotesOn (length mixed) given → All (Copies given) p.verifiers.items
     → AreReplies (length servers) (length mixed) p.sent.items
     → HasSpelling p
 spelled p h names mixed window at servers given head right named customers batches mix sections serve votes each replies

@@ -4,7 +4,7 @@ use Rattle.eve_stamps.specs.Applied.{Applied}
 use Rattle.eve_grammar.specs.Trace.{Batch, Attempt, Commit}
 use Rattle.eve_attempts.specs.declared.front.AttemptFront.{AttemptFront}
 use Rattle.eve_attempts.specs.Ledgers.{Ledger}
-use Rattle.eve_attempts.specs.Closing.{touched_by, Closes}
+use Rattle.eve_attempts.specs.Closing.{touched_in_batch, Closes}
 use Rattle.eve_attempts.specs.Discarding.{Commits}
 use Rattle.eve_replica.specs.declared.fault.AttemptFault.{AttemptFault}
 use Rattle.eve_replica.specs.declared.fault.AttemptFault.TheVariants as attempt_fault
@@ -18,7 +18,7 @@ pub record Replica : Type 0 where
 -- These records were closed to the attempt, and nothing but the account has changed.
 pub record ClosesThese (front : AttemptFront) (old new : Replica) (b : Batch) (records : List Applied) (a : Attempt)
     : Type 0 where
-  pub closed : Closes front old.ledger new.ledger b (touched_by old.names b) records a
+  pub closed : Closes front old.ledger new.ledger b (touched_in_batch old.names b) records a
   pub rest : new ≡ record old { ledger = new.ledger }
 
 -- Some records were, whatever threads noted them.

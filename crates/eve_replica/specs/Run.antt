@@ -5,13 +5,13 @@ use Rattle.eve_write.specs.declared.parts.Parts.{Parts}
 use Rattle.eve_write.specs.Data.{trace}
 use Rattle.eve_write.specs.Writable.{HasSpelling}
 use Rattle.eve_workload.specs.declared.mixer.Mixer.{Mixer}
-use Rattle.eve_workload.specs.Mixing.{cut, batch_of}
-use Rattle.eve_workload.specs.Workload.{Workload, names_of}
-use Rattle.eve_workload.specs.Workload.{head_of as head_asked}
+use Rattle.eve_workload.specs.Mixing.{cut, batch_with}
+use Rattle.eve_workload.specs.Workload.{Workload, customer_names}
+use Rattle.eve_workload.specs.Workload.{head_asked}
 
 -- each batch of the workload, cut into parallelBatches
 abbrev pub batches_cut : Workload → Mixer → List Batch
-batches_cut w mixer = map (λ requests. batch_of (cut (names_of w.customers) mixer requests)) w.batches
+batches_cut w mixer = map (λ requests. batch_with (cut (customer_names w.customers) mixer requests)) w.batches
 
 -- The parts of a run of the workload have a spelling, but that they may be too long. Numbers and customers are the
 -- workload's, and the batches are, in order, the cut of each of its batches.

@@ -5,12 +5,12 @@ use Rattle.eve_replica.specs.declared.fault.RunFault.{RunFault}
 use Rattle.eve_replica.specs.declared.fault.RunFault.TheVariants as run
 
 -- refused memory stays what it is, and every other fault breaks the run
-abbrev pub fault_of_run : AttemptFault → RunFault
-fault_of_run attempt.Memory = run.Memory
-fault_of_run attempt.TickOrder = run.Broken
-fault_of_run attempt.Full = run.Broken
-fault_of_run attempt.Worn = run.Broken
-fault_of_run attempt.Spent = run.Broken
-fault_of_run attempt.NoRow = run.Broken
-fault_of_run attempt.Mismatch = run.Broken
-fault_of_run attempt.Broken = run.Broken
+abbrev pub run_fault_of : AttemptFault → RunFault
+run_fault_of attempt.Memory = run.Memory
+run_fault_of attempt.TickOrder = run.Broken
+run_fault_of attempt.Full = run.Broken
+run_fault_of attempt.Worn = run.Broken
+run_fault_of attempt.Spent = run.Broken
+run_fault_of attempt.NoRow = run.Broken
+run_fault_of attempt.Mismatch = run.Broken
+run_fault_of attempt.Broken = run.Broken

@@ -3,9 +3,10 @@ use Rattle.std.specs.Prelude.{◌≡◌, ℕ, ◌+◌, ◌-◌, ◌*◌, ◌<◌
 use Rattle.std.specs.Prelude.{IsTrue, List, length, map, slice_get, vec_len, Option, Some, None, option_map}
 use Rattle.std.specs.Str.{bytes_eq}
 use Rattle.std.specs.List.{count_by, list_all}
+use Rattle.eve_grammar.specs.declared.limits.TheConstants.{MOST_BATCHES}
 use Rattle.eve_grammar.specs.Limits.{is_batch, is_step, is_vote, is_sent}
-use Rattle.eve_attempts.specs.Closing.{touched_by}
-use Rattle.eve_attempts.specs.Ledgers.{Ledger, row_count}
+use Rattle.eve_attempts.specs.Closing.{touched_in_batch}
+use Rattle.eve_attempts.specs.Ledgers.{Ledger, ledger_rows}
 use Rattle.eve_write.specs.Data.{batch as plain, section, vote, sent}
 use Rattle.eve_write.specs.Writable.{fits_vote}
 use Rattle.eve_write.specs.declared.vote.VoteData.{VoteData}
@@ -16,9 +17,9 @@ use Rattle.eve_replica.specs.declared.server.Server.{Server}
 use Rattle.eve_replica.specs.declared.deployment.Deployment.{Deployment}
 
 -- a batch within the limits; what its requests touch was looked up among these names
-pub record IsMixed (names : List (List ℕ)) (m : MixedBatch) : Type 0 where
+pub record IsRightMixed (names : List (List ℕ)) (m : MixedBatch) : Type 0 where
   pub right : IsTrue (is_batch (plain m.batch))
-  pub touched : m.touched.items ≡ touched_by names (plain m.batch)
+  pub touched : m.touched.items ≡ touched_in_batch names (plain m.batch)
 
 -- ---- where live replicas stand
 
@@ -28,12 +29,12 @@ standing_of s =
     record { view = s.view; committed = s.committed; opened = length s.opened; is_next_serial = s.is_next_serial }
 
 -- at first
-abbrev pub at_first : Standing
-at_first = record { view = 0; committed = 0; opened = 0; is_next_serial = false }
+abbrev pub first_standing : Standing
+first_standing = record { view = 0; committed = 0; opened = 0; is_next_serial = false }
 
 -- so many attempts on
-abbrev pub attempting : ℕ → Standing → Standing
-attempting many at = record {
+abbrev pub after_attempts : ℕ → Standing → Standing
+after_attempts many at = record {
   view = at.view;
   committed = at.committed;
   opened = at.opened + many;
@@ -41,8 +42,8 @@ attempting many at = record {
 }
 
 -- one commit on
-abbrev pub committing : Standing → Standing
-committing at = record {
+abbrev pub after_commit : Standing → Standing
+after_commit at = record {
   view = at.view;
   committed = at.committed + 1;
   opened = at.opened - 1;
@@ -50,13 +51,13 @@ committing at = record {
 }
 
 -- one rollback on
-abbrev pub rolling_back : Standing → Standing
-rolling_back at = record { view = at.view + 1; committed = at.committed; opened = 0; is_next_serial = true }
+abbrev pub after_rollback : Standing → Standing
+after_rollback at = record { view = at.view + 1; committed = at.committed; opened = 0; is_next_serial = true }
 
 -- so many more attempts are due, in this view and the first of them in this mode: there is room for them, and for their
 -- numbers
 pub record AreDue (many view : ℕ) (serial : Bool) (s : Ledger) : Type 0 where
-  pub last : s.committed + length s.opened + many ≤ 65535
+  pub last : s.committed + length s.opened + many ≤ MOST_BATCHES
   pub room : length s.opened + many ≤ s.window
   pub in_view : s.view ≡ view
   pub in_mode : s.is_next_serial ≡ serial
@@ -65,13 +66,13 @@ pub record AreDue (many view : ℕ) (serial : Bool) (s : Ledger) : Type 0 where
 
 -- all that a replica did lies within the limits
 abbrev pub AreRightSteps : Server → Type 0
-AreRightSteps s = IsTrue (list_all (is_step (row_count s.replica.ledger)) (section s.steps))
+AreRightSteps s = IsTrue (list_all (is_step (ledger_rows s.replica.ledger)) (section s.steps))
 
 -- A replica of a run among customers with these names, with at most so many attempts open at once. It isn't broken, all
 -- that it did lies within the limits, and where it is live it stands here.
 pub record Serves (customers : List (List ℕ)) (window : ℕ) (at : Standing) (s : Server) : Type 0 where
   pub names : s.replica.names ≡ customers
-  pub rows : row_count s.replica.ledger ≡ 2 * length customers
+  pub rows : ledger_rows s.replica.ledger ≡ 2 * length customers
   pub room : s.replica.ledger.window ≡ window
   pub whole : s.replica.is_broken ≡ false
   pub steps : AreRightSteps s
@@ -81,7 +82,7 @@ pub record Serves (customers : List (List ℕ)) (window : ℕ) (at : Standing) (
 -- all that it did lies within the limits if it did before; where it is still live, it stands this much further.
 pub record GoesOn (further : Standing → Standing) (old new : Server) : Type 0 where
   pub names : new.replica.names ≡ old.replica.names
-  pub rows : row_count new.replica.ledger ≡ row_count old.replica.ledger
+  pub rows : ledger_rows new.replica.ledger ≡ ledger_rows old.replica.ledger
   pub room : new.replica.ledger.window ≡ old.replica.ledger.window
   pub whole : old.replica.is_broken ≡ false → new.replica.is_broken ≡ false
   pub steps : AreRightSteps old → AreRightSteps new
@@ -110,7 +111,7 @@ IsDecision None servers = (token : List ℕ) → 2 * count_with token servers �
 -- ---- votes and replies
 
 -- votes on so many batches
-pub record AreVotes (batches : ℕ) (votes : List VoteData) : Type 0 where
+pub record AreVotesOn (batches : ℕ) (votes : List VoteData) : Type 0 where
   pub limits : IsTrue (list_all (is_vote batches) (map vote votes))
   pub tokens : IsTrue (list_all fits_vote votes)
 
@@ -125,13 +126,13 @@ AreReplies replicas batches replies = IsTrue (list_all (is_sent replicas batches
 pub record IsUnderWay (d : Deployment) : Type 0 where
   pub names : List (List ℕ)
   pub customers : length names ≡ d.head.customers
-  pub few : length d.batches.now ≤ 65535
+  pub few : length d.batches.now ≤ MOST_BATCHES
   pub room : 1 ≤ d.head.window
-  pub mixed : All (IsMixed names) d.batches.now
+  pub mixed : All (IsRightMixed names) d.batches.now
   pub due : d.standing.committed + d.standing.opened ≤ length d.batches.now
   pub many : vec_len d.servers ≡ d.head.replicas
   pub servers : All (Serves names d.head.window d.standing) d.servers.items
-  pub votes : AreVotes (length d.batches.now) d.votes.items
+  pub votes : AreVotesOn (length d.batches.now) d.votes.items
 
 -- the numbers and the batches stay
 abbrev pub IsSameRun : Deployment → Deployment → Type 0

@@ -2,8 +2,8 @@
 
 ghost use Rattle.std.specs.Prelude.{◌≡◌, ℕ, ◌≤◌, ◌+◌, ◌-◌, ◌*◌, ◌<◌, min, All, List, OnOk, length};
 ghost use Rattle.eve_replica.specs.declared.standing.Standing.{Standing};
-ghost use Rattle.eve_replica.specs.Serving.{IsMixed, Serves, IsSameRun, IsUnderWay};
-ghost use Rattle.eve_replica.specs.Serving.{attempting, committing, rolling_back, IsDecision, count_with};
+ghost use Rattle.eve_replica.specs.Serving.{IsRightMixed, Serves, IsSameRun, IsUnderWay};
+ghost use Rattle.eve_replica.specs.Serving.{after_attempts, after_commit, after_rollback, IsDecision, count_with};
 
 use crate::fault::RunFault;
 use crate::server::Server;
@@ -70,7 +70,7 @@ impl<'n, 'b> Deployment<'n, 'b> {
         requires left { self.old.standing.committed < length self.old.batches.now }
         ensures under_way { OnOk result (IsUnderWay self.new) }
         ensures same { OnOk result (IsSameRun self.old self.new) }
-        ensures standing { OnOk result (self.new.standing ≡ attempting self.new.standing.opened self.old.standing) }
+        ensures standing { OnOk result (self.new.standing ≡ after_attempts self.new.standing.opened self.old.standing) }
         ensures many { let left = length self.old.batches.now - self.old.standing.committed in
             OnOk result (self.new.standing.opened ≡ min self.old.head.window left) }
     {
@@ -97,7 +97,7 @@ impl<'n, 'b> Deployment<'n, 'b> {
         requires open { 0 < self.old.standing.opened }
         ensures under_way { OnOk result (IsUnderWay self.new) }
         ensures same { OnOk result (IsSameRun self.old self.new) }
-        ensures standing { OnOk result (self.new.standing ≡ committing self.old.standing) }
+        ensures standing { OnOk result (self.new.standing ≡ after_commit self.old.standing) }
     {
         let seq = self.standing.committed + 1;
         let batches = self.batches.len();
@@ -115,7 +115,7 @@ impl<'n, 'b> Deployment<'n, 'b> {
         requires view { self.old.standing.view < MOST_VIEWS }
         ensures under_way { OnOk result (IsUnderWay self.new) }
         ensures same { OnOk result (IsSameRun self.old self.new) }
-        ensures standing { OnOk result (self.new.standing ≡ rolling_back self.old.standing) }
+        ensures standing { OnOk result (self.new.standing ≡ after_rollback self.old.standing) }
     {
         let seq = self.standing.committed + 1;
         let batches = self.batches.len();
@@ -137,11 +137,11 @@ fn attempt_all<R: Threads + Wait + Sync, G: Gate>(
     standing: Standing,
     gate: &G,
 ) -> Result<(), RunFault>
-    requires serve { (names : List (List ℕ)) × (room : ℕ) × All (IsMixed names) window.now
+    requires serve { (names : List (List ℕ)) × (room : ℕ) × All (IsRightMixed names) window.now
         × All (Serves names room standing) servers.old × (standing.opened + length window.now ≤ room)
         × (standing.committed + standing.opened + length window.now ≤ MOST_BATCHES) }
     ensures { (names : List (List ℕ)) (room : ℕ) → All (Serves names room standing) servers.old
-        → OnOk result (All (Serves names room (attempting (length window.now) standing)) servers.new) }
+        → OnOk result (All (Serves names room (after_attempts (length window.now) standing)) servers.new) }
 {
     for server in servers.iter_mut() {
         server.attempt_window(
@@ -161,7 +161,7 @@ fn commit_all(servers: &mut [Server], seq: u32, token: [u8; 32]) -> Result<(), A
     requires { (names : List (List ℕ)) × (room : ℕ) × (at : Standing) × All (Serves names room at) servers.old
         × (seq ≡ at.committed + 1) }
     ensures { (names : List (List ℕ)) (room : ℕ) (at : Standing) → All (Serves names room at) servers.old
-        → OnOk result (All (Serves names room (committing at)) servers.new) }
+        → OnOk result (All (Serves names room (after_commit at)) servers.new) }
 {
     for server in servers.iter_mut() {
         server.commit_or_stop(seq, token)?;
@@ -174,7 +174,7 @@ fn roll_back_all(servers: &mut [Server], alloc: Global) -> Result<(), AllocError
     requires { (names : List (List ℕ)) × (room : ℕ) × (at : Standing) × All (Serves names room at) servers.old
         × (at.view < MOST_VIEWS) }
     ensures { (names : List (List ℕ)) (room : ℕ) (at : Standing) → All (Serves names room at) servers.old
-        → OnOk result (All (Serves names room (rolling_back at)) servers.new) }
+        → OnOk result (All (Serves names room (after_rollback at)) servers.new) }
 {
     for server in servers.iter_mut() {
         server.roll_back(alloc)?;

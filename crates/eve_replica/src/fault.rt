@@ -2,7 +2,7 @@
 
 ghost use Rattle.std.specs.Prelude.{◌≡◌};
 ghost use Rattle.eve_replica.specs.Replicas.{IsFresh};
-ghost use Rattle.eve_replica.specs.RunFaults.{fault_of_run};
+ghost use Rattle.eve_replica.specs.RunFaults.{run_fault_of};
 ghost use Rattle.eve_replica.specs.declared.fault.AttemptFault.TheVariants as attempt;
 ghost use Rattle.eve_replica.specs.declared.fault.RunFault.TheVariants as run;
 
@@ -95,7 +95,7 @@ impl<T: Drop> From<AllocFailed<T>> for RunFault {
 }
 
 impl From<AttemptFault> for RunFault {
-    ghost from_gives = { λ why e. e ≡ fault_of_run why };
+    ghost from_gives = { λ why e. e ≡ run_fault_of why };
 
     fn from(why: AttemptFault) -> RunFault {
         match why {

@@ -5,10 +5,10 @@ ghost use Rattle.std.specs.Prelude.{All, AllPairs, IsTrue, IfOk};
 ghost use Rattle.std.specs.List.{list_all};
 ghost use Rattle.eve_grammar.specs.Limits.{is_customer};
 ghost use Rattle.eve_write.specs.Data.{batch as plain, customer};
-ghost use Rattle.eve_workload.specs.Mixing.{cut, batch_of};
-ghost use Rattle.eve_workload.specs.Workload.{names_of};
+ghost use Rattle.eve_workload.specs.Mixing.{cut, batch_with};
+ghost use Rattle.eve_workload.specs.Workload.{customer_names};
 ghost use Rattle.eve_replica.specs.Run.{batches_cut};
-ghost use Rattle.eve_replica.specs.Serving.{IsMixed};
+ghost use Rattle.eve_replica.specs.Serving.{IsRightMixed};
 
 use eve_accounts::{Balances, Names, Row};
 use eve_grammar::{MOST_BATCHES, MOST_CUSTOMERS};
@@ -25,8 +25,8 @@ pub(crate) fn names_of<'w>(
 ) -> Result<Names<'w>, AllocError>
     requires few { length customers.now ≤ MOST_CUSTOMERS }
     requires right { IsTrue (list_all is_customer (map customer customers.now)) }
-    requires differ { AllPairs (λ a b. a ≢ b) (names_of (map customer customers.now)) }
-    ensures { IfOk result (λ names. names.items ≡ names_of (map customer customers.now)) }
+    requires differ { AllPairs (λ a b. a ≢ b) (customer_names (map customer customers.now)) }
+    ensures { IfOk result (λ names. names.items ≡ customer_names (map customer customers.now)) }
 {
     let mut names = Names::new(alloc, random, MOST_CUSTOMERS);
     for customer in customers {
@@ -57,9 +57,9 @@ pub(crate) fn batches_of(
     names: &Names,
     mixer: Mixer,
 ) -> Result<Vec<MixedBatch>, AllocError>
-    requires { names.now.items ≡ names_of workload.now.customers }
+    requires { names.now.items ≡ customer_names workload.now.customers }
     ensures cut { IfOk result (λ batches. map (λ m. plain m.batch) batches.items ≡ batches_cut workload.now mixer) }
-    ensures mixed { IfOk result (λ batches. All (IsMixed names.now.items) batches.items) }
+    ensures mixed { IfOk result (λ batches. All (IsRightMixed names.now.items) batches.items) }
 {
     let mut batches = Vec::with_capacity(alloc, workload.batches() as usize)?;
     for number in 0..workload.batches() {
@@ -77,12 +77,12 @@ fn cut_batch(
     names: &Names,
     mixer: Mixer,
 ) -> Result<MixedBatch, AllocError>
-    requires names { names.now.items ≡ names_of workload.now.customers }
+    requires names { names.now.items ≡ customer_names workload.now.customers }
     requires there { place < length workload.now.batches }
     requires few { place < MOST_BATCHES }
     ensures cut { let requests = slice_index_or workload.now.batches place [] in
-        IfOk result (λ m. plain m.batch ≡ batch_of (cut (names_of workload.now.customers) mixer requests)) }
-    ensures mixed { IfOk result (IsMixed names.now.items) }
+        IfOk result (λ m. plain m.batch ≡ batch_with (cut (customer_names workload.now.customers) mixer requests)) }
+    ensures mixed { IfOk result (IsRightMixed names.now.items) }
 {
     mix_touched(alloc, workload.batch(place + 1), names, mixer)
 }

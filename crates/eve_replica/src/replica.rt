@@ -6,7 +6,7 @@ ghost use Rattle.std.specs.Prelude.{IsTrue, IfOk, IfErr, OnOk, OnErr, IsOk};
 ghost use Rattle.eve_grammar.specs.Limits.{is_batch};
 ghost use Rattle.eve_write.specs.Data.{batch as plain, attempt, commit, rollback};
 ghost use Rattle.eve_attempts.specs.Ledgers.{opening};
-ghost use Rattle.eve_attempts.specs.Closing.{touched_by, AreMismatched};
+ghost use Rattle.eve_attempts.specs.Closing.{touched_in_batch, AreMismatched};
 ghost use Rattle.eve_attempts.specs.Discarding.{RollsBack};
 ghost use Rattle.eve_recorder.specs.Drawing.{fresh_seats};
 ghost use Rattle.eve_replica.specs.Replicas.{Attempts, FailsAttempt, IsFresh, ClosesThese, ClosesSome, ClosesOwn};
@@ -49,7 +49,7 @@ pub struct Replica<'n> {
 
 impl<'n> Model for Replica<'n> {
     ghost use Rattle.std.specs.Prelude.{◌≡◌, ◌*◌, ◌≤◌, length, vec_len};
-    ghost use Rattle.eve_attempts.specs.Ledgers.{row_count};
+    ghost use Rattle.eve_attempts.specs.Ledgers.{ledger_rows};
     ghost use Rattle.eve_replica_crew.specs.Crews.{AreTickets};
     ghost use Rattle.eve_replica.specs.Replicas as model;
     ghost use Rattle.eve_grammar.specs.declared.limits.TheConstants.{MOST_WORKERS};
@@ -61,7 +61,7 @@ impl<'n> Model for Replica<'n> {
     ghost invariant = { λ r. AreTickets r.ticks r.seats.items
         × (1 ≤ vec_len r.seats) × (vec_len r.seats ≤ MOST_WORKERS)
         × (r.floor ≡ r.names.now.items) × (vec_len r.settles ≡ length r.ledger.opened) × (r.ledger.window ≡ r.window)
-        × (row_count r.ledger ≡ 2 * length r.names.now.items) };
+        × (ledger_rows r.ledger ≡ 2 * length r.names.now.items) };
 }
 
 impl<'n> Replica<'n> {
@@ -208,7 +208,7 @@ impl<'n> Replica<'n> {
         requires view { view ≡ self.old.ledger.view }
         requires serial { serial ≡ self.old.ledger.is_next_serial }
         requires batch { IsTrue (is_batch (plain batch.now)) }
-        requires touched { touched.now ≡ touched_by self.old.names (plain batch.now) }
+        requires touched { touched.now ≡ touched_in_batch self.old.names (plain batch.now) }
         requires whole { self.old.is_broken ≡ false }
         ensures attempted { IfOk result (λ a. Attempts view serial self.old self.new (plain batch.now) (attempt a)) }
         ensures refused { IfErr result (λ why. FailsAttempt why self.old self.new) }
@@ -257,7 +257,7 @@ impl<'n> Replica<'n> {
             self.old self.new (plain batch.now) records.now (attempt a)) }
         ensures mismatch { result ≡ Err CloseFault.Mismatch
             → AreMismatched (record { seq = seq; view = view; serial = serial }) self.old.ledger (plain batch.now)
-            (touched_by self.old.names (plain batch.now)) records.now }
+            (touched_in_batch self.old.names (plain batch.now)) records.now }
         ensures broken { (result ≡ Err CloseFault.Broken) ↔ (self.old.is_broken ≡ true) }
         ensures refused { OnErr result (self.new ≡ self.old) }
     {
@@ -334,7 +334,7 @@ impl<'n> Replica<'n> {
         requires view { front.view ≡ self.old.ledger.view }
         requires serial { front.serial ≡ self.old.ledger.is_next_serial }
         requires batch { IsTrue (is_batch (plain batch.now)) }
-        requires touched { touched.now ≡ touched_by self.old.names (plain batch.now) }
+        requires touched { touched.now ≡ touched_in_batch self.old.names (plain batch.now) }
         ensures closed { IfOk result (λ a. ClosesSome front self.old self.new (plain batch.now) (attempt a)) }
         ensures refused { OnErr result (self.new ≡ self.old) }
         ensures fault { IfErr result IsFresh }
@@ -379,10 +379,10 @@ impl<'n> Replica<'n> {
         requires view { front.view ≡ self.old.ledger.view }
         requires serial { front.serial ≡ self.old.ledger.is_next_serial }
         requires batch { IsTrue (is_batch (plain batch.now)) }
-        requires touched { touched.now ≡ touched_by self.old.names (plain batch.now) }
+        requires touched { touched.now ≡ touched_in_batch self.old.names (plain batch.now) }
         ensures closed { IfOk result
             (λ a. ClosesThese front self.old self.new (plain batch.now) records.now (attempt a)) }
-        ensures mismatch { let reached = touched_by self.old.names (plain batch.now) in
+        ensures mismatch { let reached = touched_in_batch self.old.names (plain batch.now) in
             result ≡ Err Unclosed.Mismatch
             → AreMismatched front self.old.ledger (plain batch.now) reached records.now }
         ensures refused { OnErr result (self.new ≡ self.old) }
@@ -438,7 +438,7 @@ fn seats_of(
 
 // What each request of the batch touches.
 fn touched_in(alloc: Global, names: &Names, batch: &BatchData) -> Result<Vec<Touched>, AllocError>
-    ensures { IfOk result (λ t. t.items ≡ touched_by names.now.items (plain batch.now)) }
+    ensures { IfOk result (λ t. t.items ≡ touched_in_batch names.now.items (plain batch.now)) }
 {
     let mut all = Vec::with_capacity(alloc, batch.requests.len())?;
     for request in &batch.requests {

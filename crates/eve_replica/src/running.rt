@@ -2,9 +2,9 @@
 
 ghost use Rattle.std.specs.Prelude.{◌≡◌, ◌≤◌, ◌*◌, All, IfOk, length, map, vec_len};
 ghost use Rattle.eve_write.specs.Data.{batch as plain, customer, section};
-ghost use Rattle.eve_workload.specs.Workload.{names_of};
+ghost use Rattle.eve_workload.specs.Workload.{customer_names};
 ghost use Rattle.eve_replica.specs.Run.{IsRunOf};
-ghost use Rattle.eve_replica.specs.Serving.{IsMixed, Serves, IsUnderWay, at_first};
+ghost use Rattle.eve_replica.specs.Serving.{IsRightMixed, Serves, IsUnderWay, first_standing};
 
 use crate::deployment::Deployment;
 use crate::fault::RunFault;
@@ -52,7 +52,7 @@ fn run_named<R: Threads + Wait + Sync, G: Gate>(
     names: &Names,
     gate: &G,
 ) -> Result<Parts, RunFault>
-    requires { names.now.items ≡ names_of workload.now.customers }
+    requires { names.now.items ≡ customer_names workload.now.customers }
     ensures { IfOk result (IsRunOf workload.now mixer) }
 {
     let head = workload.head();
@@ -94,7 +94,7 @@ fn run_windows<'n, 'b, R: Threads + Wait + Sync, G: Gate>(
     requires workers { (1 ≤ head.now.workers) × (head.now.workers ≤ MOST_WORKERS) }
     requires window { (1 ≤ head.now.window) × (head.now.window ≤ MOST_WINDOW) }
     requires few { length batches.now ≤ MOST_BATCHES }
-    requires mixed { All (IsMixed names.now.items) batches.now }
+    requires mixed { All (IsRightMixed names.now.items) batches.now }
     requires customers { length names.now.items ≡ head.now.customers }
     ensures under_way { IfOk result IsUnderWay }
     ensures head { IfOk result (λ d. d.head ≡ head.now) }
@@ -134,7 +134,7 @@ fn servers_of<'n>(
     requires workers { (1 ≤ head.now.workers) × (head.now.workers ≤ MOST_WORKERS) }
     requires window { (1 ≤ head.now.window) × (head.now.window ≤ MOST_WINDOW) }
     ensures many { IfOk result (λ servers. vec_len servers ≡ head.now.replicas) }
-    ensures serve { IfOk result (λ servers. All (Serves names.now.items head.now.window at_first) servers.items) }
+    ensures serve { IfOk result (λ servers. All (Serves names.now.items head.now.window first_standing) servers.items) }
 {
     let mut servers = Vec::with_capacity(alloc, head.replicas as usize)?;
     for number in 0..head.replicas {
@@ -163,7 +163,7 @@ fn server_of<'n>(
     requires rows { length balances.now ≡ 2 * length names.now.items }
     requires workers { (1 ≤ head.now.workers) × (head.now.workers ≤ MOST_WORKERS) }
     requires window { (1 ≤ head.now.window) × (head.now.window ≤ MOST_WINDOW) }
-    ensures { IfOk result (Serves names.now.items head.now.window at_first) }
+    ensures { IfOk result (Serves names.now.items head.now.window first_standing) }
 {
     Ok(Server {
         replica: Replica::new(alloc, names, balances, head.workers, head.window)?,

@@ -2,10 +2,10 @@
 
 ghost use Rattle.std.specs.Prelude.{◌≡◌, true, false, ◌≤◌, ◌+◌, ◌-◌, ◌<◌, ◌^◌, All, IsTrue, IsSome, OnOk, length};
 ghost use Rattle.eve_grammar.specs.Limits.{is_step};
-ghost use Rattle.eve_attempts.specs.Ledgers.{row_count};
+ghost use Rattle.eve_attempts.specs.Ledgers.{ledger_rows};
 ghost use Rattle.eve_write.specs.Data.{step as plain};
-ghost use Rattle.eve_replica.specs.Serving.{IsMixed, AreDue, AreRightSteps, GoesOn};
-ghost use Rattle.eve_replica.specs.Serving.{attempting, committing, rolling_back};
+ghost use Rattle.eve_replica.specs.Serving.{IsRightMixed, AreDue, AreRightSteps, GoesOn};
+ghost use Rattle.eve_replica.specs.Serving.{after_attempts, after_commit, after_rollback};
 ghost use Rattle.eve_replica.specs.Serving.{next_token, is_some_of};
 
 use crate::fault::RunFault;
@@ -61,10 +61,10 @@ impl<'n> Server<'n> {
         serial: bool,
         gate: &G,
     ) -> Result<(), RunFault>
-        requires mixed { All (IsMixed self.old.replica.names) window.now }
+        requires mixed { All (IsRightMixed self.old.replica.names) window.now }
         requires whole { self.old.replica.is_broken ≡ false }
         requires due { self.old.is_live ≡ true → AreDue (length window.now) view serial self.old.replica.ledger }
-        ensures { OnOk result (GoesOn (attempting (length window.now)) self.old self.new) }
+        ensures { OnOk result (GoesOn (after_attempts (length window.now)) self.old self.new) }
     {
         if !self.is_live {
             return Ok(());
@@ -88,10 +88,10 @@ impl<'n> Server<'n> {
         gate: &G,
     ) -> Result<(), RunFault>
         requires due { AreDue 1 view serial self.old.replica.ledger }
-        requires mixed { IsMixed self.old.replica.names mixed.now }
+        requires mixed { IsRightMixed self.old.replica.names mixed.now }
         requires whole { self.old.replica.is_broken ≡ false }
         requires live { self.old.is_live ≡ true }
-        ensures on { OnOk result (GoesOn (attempting 1) self.old self.new) }
+        ensures on { OnOk result (GoesOn (after_attempts 1) self.old self.new) }
         ensures live { self.new.is_live ≡ true }
     {
         let batch = &mixed.batch;
@@ -108,7 +108,7 @@ impl<'n> Server<'n> {
     pub(crate) fn commit_or_stop(&mut self, seq: u32, token: [u8; 32]) -> Result<(), AllocError>
         requires whole { self.old.replica.is_broken ≡ false }
         requires next { self.old.is_live ≡ true → seq ≡ self.old.replica.ledger.committed + 1 }
-        ensures { OnOk result (GoesOn committing self.old self.new) }
+        ensures { OnOk result (GoesOn after_commit self.old self.new) }
     {
         if !self.has_next(token) {
             self.is_live = false;
@@ -124,7 +124,7 @@ impl<'n> Server<'n> {
     /// Rolls back, if the replica is live.
     pub(crate) fn roll_back(&mut self, alloc: Global) -> Result<(), AllocError>
         requires { self.old.is_live ≡ true → self.old.replica.ledger.view < 2 ^ 32 - 1 }
-        ensures { OnOk result (GoesOn rolling_back self.old self.new) }
+        ensures { OnOk result (GoesOn after_rollback self.old self.new) }
     {
         if !self.is_live {
             return Ok(());
@@ -135,7 +135,7 @@ impl<'n> Server<'n> {
 
     // One more thing that the replica did.
     fn did(&mut self, step: Step) -> Result<(), AllocError>
-        requires right { IsTrue (is_step (row_count self.old.replica.ledger) (plain step)) }
+        requires right { IsTrue (is_step (ledger_rows self.old.replica.ledger) (plain step)) }
         ensures replica { self.new.replica ≡ self.old.replica }
         ensures live { self.new.is_live ≡ self.old.is_live }
         ensures steps { OnOk result (AreRightSteps self.old → AreRightSteps self.new) }

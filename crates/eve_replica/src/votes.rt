@@ -1,7 +1,7 @@
 //! The votes of a run, which each verifier gives.
 
 ghost use Rattle.std.specs.Prelude.{◌≤◌, OnOk};
-ghost use Rattle.eve_replica.specs.Serving.{AreVotes};
+ghost use Rattle.eve_replica.specs.Serving.{AreVotesOn};
 
 use crate::fits::token_fits;
 use eve_write::{ChoiceData, VoteData};
@@ -16,8 +16,8 @@ pub(crate) fn vote_for_commit(
     token: [u8; 32],
 ) -> Result<(), AllocError>
     requires seq { (1 ≤ seq) × (seq ≤ batches) }
-    requires votes { AreVotes batches votes.old.items }
-    ensures { OnOk result (AreVotes batches votes.new.items) }
+    requires votes { AreVotesOn batches votes.old.items }
+    ensures { OnOk result (AreVotesOn batches votes.new.items) }
 {
     token_fits(&token);
     votes.push(VoteData {
@@ -37,8 +37,8 @@ pub(crate) fn vote_for_rollback(
     view: u32,
 ) -> Result<(), AllocError>
     requires seq { (1 ≤ seq) × (seq ≤ batches) }
-    requires votes { AreVotes batches votes.old.items }
-    ensures { OnOk result (AreVotes batches votes.new.items) }
+    requires votes { AreVotesOn batches votes.old.items }
+    ensures { OnOk result (AreVotesOn batches votes.new.items) }
 {
     votes.push(VoteData {
         seq,

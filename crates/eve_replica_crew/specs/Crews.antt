@@ -6,20 +6,21 @@ use Rattle.eve_recorder.specs.Seen.{RecorderId, Noter}
 use Rattle.eve_write.specs.Data.{batch as plain}
 use Rattle.eve_smallbank.specs.declared.rows.Touched.{Touched}
 use Rattle.eve_smallbank.specs.Touch.{touched_of}
+use Rattle.eve_grammar.specs.declared.limits.TheConstants.{MOST_REQUESTS}
 use Rattle.eve_grammar.specs.Trace.{Batch}
 use Rattle.eve_replica_crew.specs.declared.stage.Stage.{Stage}
 use Rattle.eve_replica_crew.specs.declared.crew.Member.{Member}
 
 -- what each of the batch's requests touches was looked up among these names
-abbrev pub IsLookedUp : List (List ℕ) → Batch → List Touched → Type 0
-IsLookedUp names b touched = touched ≡ map (λ a. touched_of names a.request) b.requests
+abbrev pub AreLookedUp : List (List ℕ) → Batch → List Touched → Type 0
+AreLookedUp names b touched = touched ≡ map (λ a. touched_of names a.request) b.requests
 
 -- The stage of a batch of at most 256 requests: each has a start, and what it touches was looked up among the floor's
 -- names.
 pub record IsSet (s : Stage) : Type 0 where
-  pub few : length s.batch.now.requests.items ≤ 256
+  pub few : length s.batch.now.requests.items ≤ MOST_REQUESTS
   pub starts : length s.starts.now ≡ length s.batch.now.requests.items
-  pub touched : IsLookedUp s.floor.now (plain s.batch.now) s.touched.now
+  pub touched : AreLookedUp s.floor.now (plain s.batch.now) s.touched.now
 
 -- A worker with its seats at the recorder, at the tickets of ticks and at the tickets of claims that the stage has.
 pub record IsOn (s : Stage) (m : Member) : Type 0 where

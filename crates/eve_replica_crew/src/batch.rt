@@ -5,7 +5,7 @@ ghost use Rattle.eve_grammar.specs.Limits.{is_batch};
 ghost use Rattle.eve_write.specs.Data.{batch as plain};
 ghost use Rattle.eve_recorder.specs.Seen.{fresh_places};
 ghost use Rattle.eve_recorder.specs.Drawing.{fresh_seats};
-ghost use Rattle.eve_replica_crew.specs.Crews.{AreTickets, IsLookedUp, IsSet};
+ghost use Rattle.eve_replica_crew.specs.Crews.{AreTickets, AreLookedUp, IsSet};
 
 use crate::crew::{dismiss, muster, run_shares};
 use crate::progress::Progress;
@@ -36,7 +36,7 @@ pub fn run_batch<R: Threads + Wait + Sync, G: Gate>(
     gate: &G,
 ) -> Result<Vec<AccessRecord>, ExecFault>
     requires batch { IsTrue (is_batch (plain batch.now)) }
-    requires touched { IsLookedUp floor.now (plain batch.now) touched.now }
+    requires touched { AreLookedUp floor.now (plain batch.now) touched.now }
     requires crew { (1 ≤ crew) × (crew ≤ MOST_WORKERS) × (crew ≤ vec_len seats.old) }
     requires seats { AreTickets ticks.now seats.old.items }
     ensures seats { AreTickets ticks.now seats.new.items }

@@ -3,7 +3,7 @@
 ghost use Rattle.std.specs.Prelude.{◌≡◌, ◌+◌, ◌<◌, ◌≤◌, IsTrue, IfSome, length};
 ghost use Rattle.eve_smallbank.specs.Touch.{touched_of};
 ghost use Rattle.eve_write.specs.Data.{batch as plain_batch};
-ghost use Rattle.eve_floor.specs.Executing.{request_at};
+ghost use Rattle.eve_floor.specs.Executing.{request_of_index};
 ghost use Rattle.eve_replica_crew.specs.Crews.{IsOn, IsReady, IsSet};
 
 use crate::crew::Member;
@@ -95,7 +95,7 @@ fn run_one<R: Wait, G: Gate>(
 fn touched_at(stage: &Stage, index: u16) -> Touched
     requires set { IsSet stage.now }
     requires there { index < length stage.now.batch.now.requests.items }
-    ensures { result ≡ touched_of stage.now.floor.now (request_at (plain_batch stage.now.batch.now) index) }
+    ensures { result ≡ touched_of stage.now.floor.now (request_of_index (plain_batch stage.now.batch.now) index) }
 {
     stage.touched[index as usize]
 }

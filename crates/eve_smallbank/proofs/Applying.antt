@@ -20,7 +20,8 @@ use Rattle.eve_smallbank.specs.declared.request.Reply.TheVariants.{Done, Total, 
 use Rattle.eve_smallbank.specs.declared.rows.Touched.{Touched}
 use Rattle.eve_smallbank.specs.declared.rows.Touched.TheVariants as touched
 use Rattle.eve_smallbank.specs.SmallBank.{Request, does}
-use Rattle.eve_smallbank.specs.Access.{Rows, is_write, balance_at, bank_of, rows_of, as_reads, noted_rows, written_rows}
+use Rattle.eve_smallbank.specs.Access.{RowKinds, is_write, balance_of_row, bank_of, rows_of, as_reads, noted_rows}
+use Rattle.eve_smallbank.specs.Access.{written_rows}
 use Rattle.eve_smallbank.specs.Access.{values_after, AreSeen, Fits}
 use Rattle.eve_smallbank.specs.Touch.{touched_of, rows_in}
 use Rattle.eve_smallbank.specs.Decide.{entries_from, executed_from}
@@ -30,18 +31,18 @@ use Rattle.eve_smallbank.proofs.Records.{accepted}
 
 -- ---- one place more
 
-pub seen_more : (values balances : List ℤ) (rows : Rows) (k : ℕ) (r : ℕ × Kind) (v : ℤ) → k < length values
+pub seen_more : (values balances : List ℤ) (rows : RowKinds) (k : ℕ) (r : ℕ × Kind) (v : ℤ) → k < length values
     → slice_get rows k ≡ Some r → slice_get balances r.0 ≡ Some v
-    → take k values ≡ map (λ r. balance_at balances r.0) (take k rows) → take (k + 1) (slice_set values k v)
-    ≡ map (λ r. balance_at balances r.0) (take (k + 1) rows)
+    → take k values ≡ map (λ r. balance_of_row balances r.0) (take k rows) → take (k + 1) (slice_set values k v)
+    ≡ map (λ r. balance_of_row balances r.0) (take (k + 1) rows)
 seen_more values balances rows k r v room e f so =
     take_more_set values k v room
     ∙ ap₂ (λ (xs : List ℤ) (x : ℤ). xs ++ x ∷ []) so
-    (sym (ap (λ (q : ℕ × Kind). balance_at balances q.0) (get_or_from_slice_get rows k r r e)
+    (sym (ap (λ (q : ℕ × Kind). balance_of_row balances q.0) (get_or_from_slice_get rows k r r e)
     ∙ get_or_from_slice_get balances r.0 v (pos 0) f))
-    ∙ sym (map_more (λ r. balance_at balances r.0) rows k r (slice_get_within rows k r e))
+    ∙ sym (map_more (λ r. balance_of_row balances r.0) rows k r (slice_get_within rows k r e))
 
-pub written_more : (balances after : List ℤ) (rows : Rows) (effects : List Effect) (k : ℕ) (r : ℕ × Kind)
+pub written_more : (balances after : List ℤ) (rows : RowKinds) (effects : List Effect) (k : ℕ) (r : ℕ × Kind)
     (effect : Effect) → slice_get rows k ≡ Some r → slice_get effects k ≡ Some effect
     → balances_after balances (drop k rows) (drop k effects) ≡ after
     → balances_after (cond (is_write effect.kind) (slice_set balances r.0 effect.after) balances) (drop (k + 1) rows)
@@ -53,7 +54,7 @@ written_more balances after rows effects k r effect e f so =
     next xs k x e = rw (add-one, drop-cons xs k x (slice_get_within xs k x e))
         (ap (λ y. y ∷ drop (suc k) xs) (get_or_from_slice_get xs k x x e))
 
-pub written_read : (balances after : List ℤ) (rows : Rows) (effects : List Effect) (k : ℕ) (effect : Effect)
+pub written_read : (balances after : List ℤ) (rows : RowKinds) (effects : List Effect) (k : ℕ) (effect : Effect)
     → k < length rows → slice_get effects k ≡ Some effect → effect.kind ≡ Read
     → balances_after balances (drop k rows) (drop k effects) ≡ after
     → balances_after balances (drop (k + 1) rows) (drop (k + 1) effects) ≡ after
@@ -64,7 +65,7 @@ written_read balances after rows effects k effect room f is so =
     ∙ written_more balances after rows effects k (get_or rows k (0, Read)) effect
     (slice_get-get_or rows k (0, Read) room) f so
 
-pub written_write : (balances after : List ℤ) (rows : Rows) (effects : List Effect) (k : ℕ) (r : ℕ × Kind)
+pub written_write : (balances after : List ℤ) (rows : RowKinds) (effects : List Effect) (k : ℕ) (r : ℕ × Kind)
     (effect : Effect) → slice_get rows k ≡ Some r → slice_get effects k ≡ Some effect
     → effect.kind ≡ Write → balances_after balances (drop k rows) (drop k effects) ≡ after
     → balances_after (slice_set balances r.0 effect.after) (drop (k + 1) rows) (drop (k + 1) effects) ≡ after
@@ -75,19 +76,20 @@ written_write balances after rows effects k r effect e f is so =
 
 -- ---- the rows are there
 
-index_all : (P : ℕ → Type 0) (rows : Rows) → AllByRecursion P (numbers rows) → All (λ r. P r.0) rows
+index_all : (P : ℕ → Type 0) (rows : RowKinds) → AllByRecursion P (numbers rows) → All (λ r. P r.0) rows
 index_all P [] all k d h = absurd (omega arith)
 index_all P (r ∷ rows) all zero d h = all.0
 index_all P (r ∷ rows) all (suc k) d h = index_all P rows all.1 k d (omega arith)
 
-below : (names : List (List ℕ)) (request : Request) (rows : Rows) (n : ℕ) → touched_of names request ≡ touched.Rows rows
+below : (names : List (List ℕ)) (request : Request) (rows : RowKinds) (n : ℕ) → touched_of names request
+    ≡ touched.Rows rows
     → n ≡ 2 * length names → AllByRecursion (λ row. row < n) (numbers rows)
 below names request rows n t e =
     subst (λ m. AllByRecursion (λ row. row < m) (numbers rows)) (sym e)
-    (subst (λ (rs : Rows). AllByRecursion (λ row. row < 2 * length names) (numbers rs))
+    (subst (λ (rs : RowKinds). AllByRecursion (λ row. row < 2 * length names) (numbers rs))
     (accepted names request rows t).own (request_rows names request).within)
 
-pub rows_within : (names : List (List ℕ)) (request : Request) (reached : Touched) (rows : Rows) (balances : List ℤ)
+pub rows_within : (names : List (List ℕ)) (request : Request) (reached : Touched) (rows : RowKinds) (balances : List ℤ)
     → reached ≡ touched_of names request → reached ≡ touched.Rows rows
     → length balances ≡ 2 * length names → All (λ r. r.0 < length balances) rows
 rows_within names request reached rows balances t is n = index_all (λ row. row < length balances) rows
@@ -96,20 +98,20 @@ rows_within names request reached rows balances t is n = index_all (λ row. row 
 -- ---- the values after
 
 one_written : (balances : List ℤ) (r : ℕ × Kind) (effect : Effect) → r.0 < length balances
-    → balance_at (cond (is_write effect.kind) (slice_set balances r.0 effect.after) balances)
-    ≡ (λ row. cond (is_write effect.kind && (r.0 == row)) effect.after (balance_at balances row))
+    → balance_of_row (cond (is_write effect.kind) (slice_set balances r.0 effect.after) balances)
+    ≡ (λ row. cond (is_write effect.kind && (r.0 == row)) effect.after (balance_of_row balances row))
 one_written balances r effect within = fun_ext (λ row. by (is_write effect.kind) row)
   where
-    by : (b : Bool) (row : ℕ) → balance_at (cond b (slice_set balances r.0 effect.after) balances) row
-        ≡ cond (b && (r.0 == row)) effect.after (balance_at balances row)
+    by : (b : Bool) (row : ℕ) → balance_of_row (cond b (slice_set balances r.0 effect.after) balances) row
+        ≡ cond (b && (r.0 == row)) effect.after (balance_of_row balances row)
     by false row = refl
     by true row =
         elim (cases_eq r.0 row) [
           | inl same ↦ ap (λ n. get_or (set balances r.0 effect.after) n (pos 0)) (sym same)
               ∙ get_or-set_same balances r.0 effect.after (pos 0) within
-              ∙ sym (cond-true (r.0 == row) effect.after (balance_at balances row) (eq-eqb r.0 row same))
+              ∙ sym (cond-true (r.0 == row) effect.after (balance_of_row balances row) (eq-eqb r.0 row same))
           | inr other ↦ get_or-set_other balances r.0 row effect.after (pos 0) (λ e. other (sym e))
-              ∙ sym (cond-false (r.0 == row) effect.after (balance_at balances row) (ne_eqb r.0 row other))
+              ∙ sym (cond-false (r.0 == row) effect.after (balance_of_row balances row) (ne_eqb r.0 row other))
         ]
 
 length-one : (balances : List ℤ) (row : ℕ) (effect : Effect)
@@ -120,7 +122,7 @@ length-one balances row effect = by (is_write effect.kind)
     by true = length-set balances row effect.after
     by false = refl
 
-pub length-balances_after : (balances : List ℤ) (rows : Rows) (effects : List Effect)
+pub length-balances_after : (balances : List ℤ) (rows : RowKinds) (effects : List Effect)
     → length (balances_after balances rows effects) ≡ length balances
 length-balances_after balances [] effects = refl
 length-balances_after balances (r ∷ rows) [] = refl
@@ -128,10 +130,10 @@ length-balances_after balances (r ∷ rows) (effect ∷ effects) = length-balanc
     ∙ length-one balances r.0 effect
 
 -- what the rows have afterwards is what the entries leave
-after_entries : (balances : List ℤ) (rows : Rows) (versions : List ℕ) (values : List ℤ) (effects : List Effect)
+after_entries : (balances : List ℤ) (rows : RowKinds) (versions : List ℕ) (values : List ℤ) (effects : List Effect)
     → length versions ≡ length effects → length values ≡ length effects
     → AllByRecursion (λ row. row < length balances) (numbers rows)
-    → balance_at (balances_after balances rows effects) ≡ values_after (balance_at balances)
+    → balance_of_row (balances_after balances rows effects) ≡ values_after (balance_of_row balances)
     (entries_from rows versions values effects)
 after_entries balances [] versions values effects m n within = refl
 after_entries balances (r ∷ rows) [] values [] m n within = refl
@@ -146,7 +148,7 @@ after_entries balances (r ∷ rows) (v ∷ versions) (z ∷ values) (effect ∷ 
     ∙ ap (λ (w : ℕ → ℤ). values_after w (entries_from rows versions values effects))
     (one_written balances r effect within.0)
 
-are_seen : (w : ℕ → ℤ) (rows : Rows) (versions : List ℕ) (effects : List Effect)
+are_seen : (w : ℕ → ℤ) (rows : RowKinds) (versions : List ℕ) (effects : List Effect)
     → AreSeen w (entries_from rows versions (map (λ r. w r.0) rows) effects)
 are_seen w [] versions effects = tt
 are_seen w (r ∷ rows) [] effects = tt
@@ -157,21 +159,21 @@ are_seen w (r ∷ rows) (v ∷ versions) (effect ∷ effects) = (refl, are_seen 
 abbrev pub zeros : List ℤ → List ℕ
 zeros values = map (λ z. 0) values
 
-pub applied : (names : List (List ℕ)) (request : Request) (reached : Touched) (rows : Rows) (balances seen : List ℤ)
+pub applied : (names : List (List ℕ)) (request : Request) (reached : Touched) (rows : RowKinds) (balances seen : List ℤ)
     (decision : Decision) → reached ≡ touched_of names request → reached ≡ touched.Rows rows
-    → length balances ≡ 2 * length names → seen ≡ map (λ r. balance_at balances r.0) rows → length decision.effects
+    → length balances ≡ 2 * length names → seen ≡ map (λ r. balance_of_row balances r.0) rows → length decision.effects
     ≡ length seen
     → Fits names (executed_from request (rows_in reached) (zeros seen) seen decision)
-    → does (bank_of names (balance_at balances)) request
-    ≡ (bank_of names (balance_at (balances_after balances rows decision.effects)), decision.reply)
+    → does (bank_of names (balance_of_row balances)) request
+    ≡ (bank_of names (balance_of_row (balances_after balances rows decision.effects)), decision.reply)
 applied names request reached rows balances seen decision t is n shown each fits =
     let entries : List Entry = entries_from rows (zeros seen) seen decision.effects in
     let fits_here : Fits names (executed_from request rows (zeros seen) seen decision)
     = subst (λ (r : Touched). Fits names (executed_from request (rows_in r) (zeros seen) seen decision)) is fits in
-    let sees : AreSeen (balance_at balances) entries
-    = subst (λ (zs : List ℤ). AreSeen (balance_at balances) (entries_from rows (zeros seen) zs decision.effects))
-    (sym shown) (are_seen (balance_at balances) rows (zeros seen) decision.effects) in
-    fits_here.effect (balance_at balances) sees
+    let sees : AreSeen (balance_of_row balances) entries
+    = subst (λ (zs : List ℤ). AreSeen (balance_of_row balances) (entries_from rows (zeros seen) zs decision.effects))
+    (sym shown) (are_seen (balance_of_row balances) rows (zeros seen) decision.effects) in
+    fits_here.effect (balance_of_row balances) sees
     ∙ ap (λ (w : ℕ → ℤ). (bank_of names w, decision.reply))
     (sym (after_entries balances rows (zeros seen) seen decision.effects (length-map seen (λ z. 0) ∙ sym each)
     (sym each) (below names request rows (length balances) (sym t ∙ is) n)))
@@ -179,27 +181,27 @@ applied names request reached rows balances seen decision t is n shown each fits
 pub applied_refused : (names : List (List ℕ)) (request : Request) (reached : Touched) (why : Abort) (balances : List ℤ)
     (decision : Decision) → reached ≡ touched.Refused why
     → Fits names (executed_from request (rows_in reached) [] [] decision)
-    → does (bank_of names (balance_at balances)) request ≡ (bank_of names (balance_at balances), decision.reply)
+    → does (bank_of names (balance_of_row balances)) request ≡ (bank_of names (balance_of_row balances), decision.reply)
 applied_refused names request reached why balances decision is fits =
     let fits_here : Fits names (executed_from request [] [] [] decision) =
     subst (λ (r : Touched). Fits names (executed_from request (rows_in r) [] [] decision)) is fits in
-    fits_here.effect (balance_at balances) tt
+    fits_here.effect (balance_of_row balances) tt
 
 -- ---- rows that aren't written
 
 -- none of these writes the row
-abbrev Spares : ℕ → Rows → Type 0
+abbrev Spares : ℕ → RowKinds → Type 0
 Spares row rows = AllByRecursion (λ r. r.1 ≡ Write → ¬ (r.0 ≡ row)) rows
 
-written_first : (n : ℕ) (rows : Rows) → Contains (written_rows ((n, Write) ∷ rows)) n
+written_first : (n : ℕ) (rows : RowKinds) → Contains (written_rows ((n, Write) ∷ rows)) n
 written_first n rows = (0, omega arith, refl)
 
-written_later : (row n : ℕ) (kind : Kind) (rows : Rows) → Contains (written_rows rows) row
+written_later : (row n : ℕ) (kind : Kind) (rows : RowKinds) → Contains (written_rows rows) row
     → Contains (written_rows ((n, kind) ∷ rows)) row
 written_later row n Read rows has = has
 written_later row n Write rows has = (suc has.0, (let low = has.1 in omega arith), has.2)
 
-spares_unwritten : (row : ℕ) (rows : Rows) → ¬ Contains (written_rows rows) row → Spares row rows
+spares_unwritten : (row : ℕ) (rows : RowKinds) → ¬ Contains (written_rows rows) row → Spares row rows
 spares_unwritten row [] none = tt
 spares_unwritten row (r ∷ rows) none = (
   (λ write same. none (subst (λ (kind : Kind). Contains (written_rows ((r.0, kind) ∷ rows)) row) (sym write)
@@ -207,14 +209,14 @@ spares_unwritten row (r ∷ rows) none = (
   spares_unwritten row rows (λ has. none (written_later row r.0 r.1 rows has)),
 )
 
-spares_reads : (row : ℕ) (rows : Rows) → Spares row (as_reads rows)
+spares_reads : (row : ℕ) (rows : RowKinds) → Spares row (as_reads rows)
 spares_reads row [] = tt
 spares_reads row (r ∷ rows) = ((λ write. absurd (unlike write)), spares_reads row rows)
   where
     unlike : ◌≡◌ {A = Kind} Read Write → ⊥
     unlike e = cc
 
-spares_noted : (row : ℕ) (reply : Reply) (rows : Rows) → Spares row rows → Spares row (noted_rows reply rows)
+spares_noted : (row : ℕ) (reply : Reply) (rows : RowKinds) → Spares row rows → Spares row (noted_rows reply rows)
 spares_noted row Done rows spares = spares
 spares_noted row (Total sum) rows spares = spares
 spares_noted row (Aborted NoSuchName) rows spares = tt
@@ -234,7 +236,8 @@ left_alone : (balances : List ℤ) (row n : ℕ) (kind : Kind) (after : ℤ) →
 left_alone balances row n Read after spares = refl
 left_alone balances row n Write after spares = get-set_other balances n row after (spares refl)
 
-kept_rows : (balances : List ℤ) (row : ℕ) (rows : Rows) (versions : List ℕ) (values : List ℤ) (effects : List Effect)
+kept_rows : (balances : List ℤ) (row : ℕ) (rows : RowKinds) (versions : List ℕ) (values : List ℤ)
+    (effects : List Effect)
     → length versions ≡ length effects → length values ≡ length effects
     → Spares row (map (λ e. (e.row, e.kind)) (entries_from rows versions values effects))
     → slice_get (balances_after balances rows effects) row ≡ slice_get balances row
@@ -249,7 +252,8 @@ kept_rows balances row (r ∷ rows) (v ∷ versions) (z ∷ values) (effect ∷ 
     effects (omega arith) (omega arith) spares.1
     ∙ left_alone balances row r.0 effect.kind effect.after spares.0
 
-pub others_kept : (names : List (List ℕ)) (request : Request) (reached : Touched) (rows : Rows) (balances seen : List ℤ)
+pub others_kept : (names : List (List ℕ)) (request : Request) (reached : Touched) (rows : RowKinds)
+    (balances seen : List ℤ)
     (decision : Decision) → reached ≡ touched.Rows rows
     → length decision.effects ≡ length seen
     → Fits names (executed_from request (rows_in reached) (zeros seen) seen decision)

@@ -9,7 +9,7 @@ use Rattle.std.specs.Cmp.{eq_by_cmp_equiv}
 use Rattle.std.specs.Cmp.Lexicographic.{nat_list_cmp_total}
 use Rattle.std.specs.FinMap.{get, insert, get-empty, get-insert, same_map, IsAntisymmetric, nat_cmp-IsAntisymmetric}
 use Rattle.std.specs.FinMap.{slice_cmp-IsAntisymmetric}
-use Rattle.eve_accounts.specs.Names.{name_cmp, same_name, customer_from, customer_of}
+use Rattle.eve_accounts.specs.Names.{name_cmp, same_name, customer_named_from, customer_named}
 use Rattle.eve_accounts.specs.Rows.{saving_row, checking_row}
 use Rattle.eve_smallbank.specs.SmallBank.{Account}
 use Rattle.eve_smallbank.specs.Access.{account_at, bank_from, bank_of}
@@ -21,22 +21,23 @@ names_exact = slice_cmp-IsAntisymmetric nat_cmp-IsAntisymmetric
 
 -- what a bank has under a name
 get-bank_from : (customer : ℕ) (names : List (List ℕ)) (values : ℕ → ℤ) (name : List ℕ)
-    → get (bank_from customer names values) name ≡ option_map (account_at values) (customer_from customer names name)
+    → get (bank_from customer names values) name ≡ option_map (account_at values)
+    (customer_named_from customer names name)
 get-bank_from customer [] values name = get-empty name_cmp name
 get-bank_from customer (first ∷ names) values name =
     get-insert nat_list_cmp_total (bank_from (customer + 1) names values) first (account_at values customer) name
     ∙ by (same_name name first) (get-bank_from (customer + 1) names values name)
   where
     by : (b : Bool) → get (bank_from (customer + 1) names values) name
-        ≡ option_map (account_at values) (customer_from (customer + 1) names name)
+        ≡ option_map (account_at values) (customer_named_from (customer + 1) names name)
         → cond b (Some (account_at values customer)) (get (bank_from (customer + 1) names values) name)
-        ≡ option_map (account_at values) (cond b (Some customer) (customer_from (customer + 1) names name))
+        ≡ option_map (account_at values) (cond b (Some customer) (customer_named_from (customer + 1) names name))
     by true rest = refl
     by false rest = rest
 
 pub get-bank_of : (names : List (List ℕ)) (values : ℕ → ℤ) (name : List ℕ) → get (bank_of names values) name
-    ≡ option_map (account_at values) (customer_of names name)
-unfolding bank_of customer_of
+    ≡ option_map (account_at values) (customer_named names name)
+unfolding bank_of customer_named
 get-bank_of names values name = get-bank_from 0 names values name
 
 -- ---- one account changed
@@ -82,13 +83,13 @@ chosen true m n o e = inl (refl, same m n e)
     same a b h = cc
 chosen false m n o e = inr (refl, e)
 
-pub from_below : (c n : ℕ) (names : List (List ℕ)) (name : List ℕ) → customer_from c names name ≡ Some n → c ≤ n
+pub from_below : (c n : ℕ) (names : List (List ℕ)) (name : List ℕ) → customer_named_from c names name ≡ Some n → c ≤ n
 from_below c n [] name e = absurd (none n e)
   where
     none : (n : ℕ) → ◌≡◌ {A = Option ℕ} None (Some n) → ⊥
     none n h = cc
 from_below c n (first ∷ names) name e =
-    elim (chosen (same_name name first) c n (customer_from (c + 1) names name) e) [
+    elim (chosen (same_name name first) c n (customer_named_from (c + 1) names name) e) [
       | inl h ↦ at_most h.1
       | inr h ↦ lower (from_below (c + 1) n names name h.1)
     ]
@@ -111,19 +112,20 @@ same_name-refl : (a : List ℕ) → same_name a a ≡ true
 same_name-refl a = (eq_by_cmp_equiv nat_list_cmp_total).refl a
 
 -- a number belongs to one name
-one_name : (c n : ℕ) (names : List (List ℕ)) (a b : List ℕ) → customer_from c names a ≡ Some n → customer_from c names b
+one_name : (c n : ℕ) (names : List (List ℕ)) (a b : List ℕ) → customer_named_from c names a ≡ Some n
+    → customer_named_from c names b
     ≡ Some n → a ≡ b
 one_name c n [] a b h k = absurd (none n h)
   where
     none : (n : ℕ) → ◌≡◌ {A = Option ℕ} None (Some n) → ⊥
     none n e = cc
 one_name c n (first ∷ names) a b h k =
-    elim (chosen (same_name a first) c n (customer_from (c + 1) names a) h) [
-      | inl p ↦ elim (chosen (same_name b first) c n (customer_from (c + 1) names b) k) [
+    elim (chosen (same_name a first) c n (customer_named_from (c + 1) names a) h) [
+      | inl p ↦ elim (chosen (same_name b first) c n (customer_named_from (c + 1) names b) k) [
         | inl q ↦ same_name-true a first p.0 ∙ sym (same_name-true b first q.0)
         | inr q ↦ absurd (above p.1 (from_below (c + 1) n names b q.1))
       ]
-      | inr p ↦ elim (chosen (same_name b first) c n (customer_from (c + 1) names b) k) [
+      | inr p ↦ elim (chosen (same_name b first) c n (customer_named_from (c + 1) names b) k) [
         | inl q ↦ absurd (above q.1 (from_below (c + 1) n names a p.1))
         | inr q ↦ one_name (c + 1) n names a b p.1 q.1
       ]
@@ -134,9 +136,9 @@ one_name c n (first ∷ names) a b h k =
 
 -- to change an account in a bank is to change its rows
 pub insert-bank_of : (names : List (List ℕ)) (values : ℕ → ℤ) (name : List ℕ) (customer : ℕ) (a : Account)
-    → customer_of names name ≡ Some customer
+    → customer_named names name ≡ Some customer
     → insert (bank_of names values) name a ≡ bank_of names (put_account values customer a)
-unfolding customer_of
+unfolding customer_named
 insert-bank_of names values name customer a is =
     same_map nat_list_cmp_total names_exact (insert (bank_of names values) name a)
     (bank_of names (put_account values customer a)) (λ q.
@@ -145,20 +147,20 @@ insert-bank_of names values name customer a is =
     ∙ at q
     ∙ sym (get-bank_of names (put_account values customer a) q))
   where
-    other : (q : List ℕ) (o : Option ℕ) → customer_of names q ≡ o → same_name q name ≡ false
+    other : (q : List ℕ) (o : Option ℕ) → customer_named names q ≡ o → same_name q name ≡ false
         → option_map (account_at values) o ≡ option_map (account_at (put_account values customer a)) o
     other q None e n = refl
     other q (Some d) e n = ap Some (sym (put_account-other values customer d a (λ h.
         absurd (false≢true (sym n ∙ ap (λ r. same_name r name) (one_name 0 customer names q name (e ∙ ap Some h) is)
         ∙ same_name-refl name)))))
 
-    at : (q : List ℕ) → cond (same_name q name) (Some a) (option_map (account_at values) (customer_of names q))
-        ≡ option_map (account_at (put_account values customer a)) (customer_of names q)
+    at : (q : List ℕ) → cond (same_name q name) (Some a) (option_map (account_at values) (customer_named names q))
+        ≡ option_map (account_at (put_account values customer a)) (customer_named names q)
     at q = elim (cases_Bool (same_name q name)) [
-      | inl e ↦ cond-true (same_name q name) (Some a) (option_map (account_at values) (customer_of names q)) e
+      | inl e ↦ cond-true (same_name q name) (Some a) (option_map (account_at values) (customer_named names q)) e
           ∙ ap Some (sym (put_account-own values customer a))
           ∙ ap (option_map (account_at (put_account values customer a)))
-          (sym (ap (customer_of names) (same_name-true q name e) ∙ is))
-      | inr n ↦ cond-false (same_name q name) (Some a) (option_map (account_at values) (customer_of names q)) n
-          ∙ other q (customer_of names q) refl n
+          (sym (ap (customer_named names) (same_name-true q name e) ∙ is))
+      | inr n ↦ cond-false (same_name q name) (Some a) (option_map (account_at values) (customer_named names q)) n
+          ∙ other q (customer_named names q) refl n
     ]

@@ -11,11 +11,11 @@ use Rattle.eve_smallbank.specs.declared.decision.Effect.{Effect}
 use Rattle.eve_smallbank.specs.declared.decision.Decision.{Decision}
 use Rattle.eve_smallbank.specs.declared.rows.Touched.{Touched}
 use Rattle.eve_smallbank.specs.SmallBank.{Request}
-use Rattle.eve_smallbank.specs.Access.{Executed, Fits, Rows}
+use Rattle.eve_smallbank.specs.Access.{Executed, Fits, RowKinds}
 use Rattle.eve_smallbank.specs.Touch.{touched_of, rows_in}
 use Rattle.eve_smallbank.specs.Decide.{executed_from}
 use Rattle.eve_smallbank.proofs.Records.{touches_rows}
-use Rattle.eve_smallbank.specs.Recorded.{noted_from, IsNoted}
+use Rattle.eve_smallbank.specs.Recorded.{noted_from, HasEffect}
 
 some_injective : {A : Type 0} (x y : A) → Some x ≡ Some y → x ≡ y
 some_injective x y e = cc
@@ -57,12 +57,13 @@ seen_by_three (d ∷ es) a b c n at next last =
 abbrev noted : ℕ × Kind → Entry → Effect → Entry
 noted r e f = record { row = r.0; kind = f.kind; version = e.version; seen = e.seen; after = f.after }
 
-noted_entry : (r : ℕ × Kind) (e : Entry) (f : Effect) → IsNoted r.0 e f → e ≡ noted r e f
+noted_entry : (r : ℕ × Kind) (e : Entry) (f : Effect) → HasEffect r.0 e f → e ≡ noted r e f
 noted_entry r e f is =
     ap (λ n. record e { row = n }) is.row ∙ ap (λ k. record e { row = r.0; kind = k }) is.kind
     ∙ ap (λ z. record e { row = r.0; kind = f.kind; after = z }) is.after
 
-pub noted_get : (rows : Rows) (es : List Entry) (effects : List Effect) (j : ℕ) (r : ℕ × Kind) (e : Entry) (f : Effect)
+pub noted_get : (rows : RowKinds) (es : List Entry) (effects : List Effect) (j : ℕ) (r : ℕ × Kind) (e : Entry)
+    (f : Effect)
     → slice_get rows j ≡ Some r → slice_get es j ≡ Some e → slice_get effects j ≡ Some f
     → slice_get (noted_from rows es effects) j ≡ Some (noted r e f)
 noted_get [] es effects j r e f a b c = none≢some r a
@@ -75,27 +76,28 @@ noted_get (q ∷ rows) (d ∷ es) (g ∷ effects) zero r e f a b c =
 noted_get (q ∷ rows) (d ∷ es) (g ∷ effects) (suc j) r e f a b c = noted_get rows es effects j r e f a b c
 
 -- at each place
-abbrev pub AreNotedBelow : Rows → List Entry → List Effect → ℕ → Type 0
+abbrev pub AreNotedBelow : RowKinds → List Entry → List Effect → ℕ → Type 0
 AreNotedBelow rows es effects n =
     (j : ℕ) → j < n → (r : ℕ × Kind) (e : Entry) (f : Effect) → slice_get rows j ≡ Some r → slice_get es j ≡ Some e
-    → slice_get effects j ≡ Some f → IsNoted r.0 e f
+    → slice_get effects j ≡ Some f → HasEffect r.0 e f
 
-pub noted_more : (rows : Rows) (es : List Entry) (effects : List Effect) (n : ℕ) (r : ℕ × Kind) (e : Entry) (f : Effect)
+pub noted_more : (rows : RowKinds) (es : List Entry) (effects : List Effect) (n : ℕ) (r : ℕ × Kind) (e : Entry)
+    (f : Effect)
     → slice_get rows n ≡ Some r → slice_get es n ≡ Some e → slice_get effects n ≡ Some f
-    → IsNoted r.0 e f → AreNotedBelow rows es effects n → AreNotedBelow rows es effects (n + 1)
+    → HasEffect r.0 e f → AreNotedBelow rows es effects n → AreNotedBelow rows es effects (n + 1)
 noted_more rows es effects n r e f a b c own before j below q d g x y z =
     elim (cases_eq j n) [
       | inl same ↦
-          subst (λ (q : ℕ × Kind). IsNoted q.0 d g) (some_injective r q (sym a ∙ ap (slice_get rows) (sym same) ∙ x))
-          (subst (λ (d : Entry). IsNoted r.0 d g) (some_injective e d (sym b ∙ ap (slice_get es) (sym same) ∙ y))
-          (subst (IsNoted r.0 e) (some_injective f g (sym c ∙ ap (slice_get effects) (sym same) ∙ z)) own))
+          subst (λ (q : ℕ × Kind). HasEffect q.0 d g) (some_injective r q (sym a ∙ ap (slice_get rows) (sym same) ∙ x))
+          (subst (λ (d : Entry). HasEffect r.0 d g) (some_injective e d (sym b ∙ ap (slice_get es) (sym same) ∙ y))
+          (subst (HasEffect r.0 e) (some_injective f g (sym c ∙ ap (slice_get effects) (sym same) ∙ z)) own))
       | inr other ↦ before j (less other) q d g x y z
     ]
   where
     less : (j ≢ n) → j < n
     less other = omega arith
 
-pub all_noted : (rows : Rows) (es : List Entry) (effects : List Effect) → length es ≡ length rows → length effects
+pub all_noted : (rows : RowKinds) (es : List Entry) (effects : List Effect) → length es ≡ length rows → length effects
     ≡ length rows → AreNotedBelow rows es effects (length rows)
     → es ≡ noted_from rows es effects
 all_noted [] [] effects m n noted = refl
@@ -110,9 +112,10 @@ all_noted (r ∷ rows) (e ∷ es) (f ∷ effects) m n noted =
     more : (j : ℕ) → j < length rows → suc j < length (r ∷ rows)
     more j h = omega arith
 
-pub noted_at : (rows : Rows) (es : List Entry) (effects : List Effect) (j : ℕ) (r : ℕ × Kind) (e : Entry) (f : Effect)
+pub noted_at : (rows : RowKinds) (es : List Entry) (effects : List Effect) (j : ℕ) (r : ℕ × Kind) (e : Entry)
+    (f : Effect)
     → slice_get rows j ≡ Some r → slice_get es j ≡ Some e → slice_get effects j ≡ Some f
-    → es ≡ noted_from rows es effects → IsNoted r.0 e f
+    → es ≡ noted_from rows es effects → HasEffect r.0 e f
 noted_at rows es effects j r e f a b c all =
     let same : e ≡ noted r e f = some_injective e (noted r e f) (sym b ∙ ap (λ (xs : List Entry). slice_get xs j) all
     ∙ noted_get rows es effects j r e f a b c) in
@@ -124,7 +127,8 @@ noted_at rows es effects j r e f a b c all =
 
 -- ---- the whole record
 
-module _ (names : List (List ℕ)) (request : Request) (reached : Touched) (rows : Rows) (reply : Reply) (es : List Entry)
+module _ (names : List (List ℕ)) (request : Request) (reached : Touched) (rows : RowKinds) (reply : Reply)
+    (es : List Entry)
     (is_reached : reached ≡ touched_of names request) (are_rows : rows ≡ rows_in reached) where
   -- another number of entries than of rows
   pub other_length : length es ≢ length rows → ¬ Fits names (recorded request reply es)
@@ -142,7 +146,7 @@ module _ (names : List (List ℕ)) (request : Request) (reached : Touched) (rows
     as_noted =
         ap (λ (values : List ℤ).
         (executed_from request (rows_in reached) (map (λ e. e.version) es) values decision).entries) are_seen
-        ∙ ap (λ (own : Rows). noted_from own es decision.effects) (sym are_rows)
+        ∙ ap (λ (own : RowKinds). noted_from own es decision.effects) (sym are_rows)
 
     fits_as_decided : Fits names decided → decision.reply ≡ reply → es ≡ noted_from rows es decision.effects
         → Fits names (recorded request reply es)
@@ -168,7 +172,8 @@ module _ (names : List (List ℕ)) (request : Request) (reached : Touched) (rows
       )
 
 -- the values seen are as many as the rows
-pub seen_in : (values : List ℤ) (rows : Rows) (es : List Entry) (n m k : ℕ) → n ≡ length rows → m ≡ length rows → k ≡ m
+pub seen_in : (values : List ℤ) (rows : RowKinds) (es : List Entry) (n m k : ℕ) → n ≡ length rows → m ≡ length rows
+    → k ≡ m
     → k ≡ length es → take (length es) values ≡ map (λ e. e.seen) es
     → take n values ≡ map (λ e. e.seen) es
 seen_in values rows es n m k e f g h seen = ap (λ i. take i values) (e ∙ sym f ∙ sym g ∙ h) ∙ seen

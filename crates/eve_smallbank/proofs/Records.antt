@@ -5,7 +5,7 @@ use Rattle.std.specs.List.{AllByRecursion}
 use Rattle.std.proofs.lemmas.List.{length-map}
 use Rattle.std.proofs.lemmas.Bool.{eq-eqb, ne_eqb, cond-true, cond-false, false≢true}
 use Rattle.eve_accounts.specs.Money.{is_balance}
-use Rattle.eve_accounts.specs.Names.{customer_of}
+use Rattle.eve_accounts.specs.Names.{customer_named}
 use Rattle.eve_accounts.specs.Rows.{saving_row, checking_row}
 use Rattle.eve_smallbank.specs.declared.decision.Decision.{Decision}
 use Rattle.eve_smallbank.specs.declared.decision.Effect.{Effect}
@@ -19,13 +19,13 @@ use Rattle.eve_smallbank.specs.declared.rows.Touched.{Touched}
 use Rattle.eve_smallbank.specs.declared.rows.Touched.TheVariants as touched
 use Rattle.eve_smallbank.specs.SmallBank.{Bank, Request, Balance, DepositChecking, TransactSaving, Amalgamate}
 use Rattle.eve_smallbank.specs.SmallBank.{WriteCheck, check_cost, does}
-use Rattle.eve_smallbank.specs.Access.{Executed, Rows, bank_of, amalgamated_rows, rows_of, noted_rows, for_customer}
+use Rattle.eve_smallbank.specs.Access.{Executed, RowKinds, bank_of, amalgamated_rows, rows_of, noted_rows, for_customer}
 use Rattle.eve_smallbank.specs.Access.{Fits}
 use Rattle.eve_smallbank.specs.Chain.{Versioned, Table, Sees, values_of}
 use Rattle.eve_smallbank.specs.Execution.{entry_on, executed_on}
 use Rattle.eve_smallbank.specs.Touch.{knows_names, has_bad_amount, touched_of, rows_in}
 use Rattle.eve_smallbank.specs.Decide.{effect_in, decision_in, entries_from, executed_from, IsExact}
-use Rattle.eve_smallbank.specs.FromValues.{kept, written, abort_after, done_within, decided_from}
+use Rattle.eve_smallbank.specs.FromValues.{only_read, written, abort_after, done_within, decided_from}
 use Rattle.eve_smallbank.proofs.Fitting as fitting
 use Rattle.eve_smallbank.proofs.Fitting.{always_fits}
 use Rattle.eve_smallbank.proofs.Unique.{AreDistinct, numbers, numbers-as_reads, numbers-pairs, request_rows}
@@ -35,12 +35,13 @@ use Rattle.eve_smallbank.proofs.Deciding as deciding
 -- ---- which requests are refused
 
 -- the customers and the amount of a request that isn't refused
-pub record IsAccepted (names : List (List ℕ)) (request : Request) (rows : Rows) : Type 0 where
+pub record IsAccepted (names : List (List ℕ)) (request : Request) (rows : RowKinds) : Type 0 where
   pub known : knows_names names request ≡ true
   pub amount : has_bad_amount request ≡ false
   pub own : rows_of names request ≡ rows
 
-pub accepted : (names : List (List ℕ)) (request : Request) (rows : Rows) → touched_of names request ≡ touched.Rows rows
+pub accepted : (names : List (List ℕ)) (request : Request) (rows : RowKinds) → touched_of names request
+    ≡ touched.Rows rows
     → IsAccepted names request rows
 accepted names request rows e = by (knows_names names request) (has_bad_amount request) refl refl e
   where
@@ -49,15 +50,15 @@ accepted names request rows e = by (knows_names names request) (has_bad_amount r
         (touched.Refused NoSuchName) ≡ touched.Rows rows → IsAccepted names request rows
     by true false k b h = record { known = k; amount = b; own = inside (rows_of names request) rows h }
       where
-        inside : (rs ss : Rows) → touched.Rows rs ≡ touched.Rows ss → rs ≡ ss
+        inside : (rs ss : RowKinds) → touched.Rows rs ≡ touched.Rows ss → rs ≡ ss
         inside rs ss h = cc
     by true true k b h = absurd (unlike rows h)
       where
-        unlike : (rs : Rows) → touched.Refused BadAmount ≡ touched.Rows rs → ⊥
+        unlike : (rs : RowKinds) → touched.Refused BadAmount ≡ touched.Rows rs → ⊥
         unlike rs h = cc
     by false b k c h = absurd (unlike rows h)
       where
-        unlike : (rs : Rows) → touched.Refused NoSuchName ≡ touched.Rows rs → ⊥
+        unlike : (rs : RowKinds) → touched.Refused NoSuchName ≡ touched.Rows rs → ⊥
         unlike rs h = cc
 
 -- of a request with one name
@@ -70,23 +71,25 @@ somebody None h = absurd (false≢true h)
 somebody (Some c) h = (c, refl)
 
 module _ (names : List (List ℕ)) (table : Table) where
-  abbrev values_in : Rows → List ℤ
+  abbrev values_in : RowKinds → List ℤ
   values_in rows = map (λ r. (table r.0).value) rows
 
-  abbrev versions_in : Rows → List ℕ
+  abbrev versions_in : RowKinds → List ℕ
   versions_in rows = map (λ r. (table r.0).version) rows
 
   -- what the values seen in the rows decide is what the request does
-  abbrev IsDecided : Request → Rows → Type 0
+  abbrev IsDecided : Request → RowKinds → Type 0
   IsDecided request rows = decided_from request (values_in rows) ≡ Some (decision_in (executed_on names table request))
 
-  of_one : (name : List ℕ) (o : Option ℕ) (request : Request) (rows : Rows) (of : ℕ → Rows) → customer_of names name ≡ o
+  of_one : (name : List ℕ) (o : Option ℕ) (request : Request) (rows : RowKinds) (of : ℕ → RowKinds)
+      → customer_named names name ≡ o
       → is_some o && true ≡ true → for_customer o of ≡ rows
-      → ((c : ℕ) → customer_of names name ≡ Some c → IsDecided request (of c)) → IsDecided request rows
+      → ((c : ℕ) → customer_named names name ≡ Some c → IsDecided request (of c)) → IsDecided request rows
   of_one name None request rows of e k is h = absurd (false≢true k)
   of_one name (Some c) request rows of e k is h = subst (IsDecided request) is (h c e)
 
-  of_two : (from to : List ℕ) (o p : Option ℕ) (rows : Rows) → customer_of names from ≡ o → customer_of names to ≡ p
+  of_two : (from to : List ℕ) (o p : Option ℕ) (rows : RowKinds) → customer_named names from ≡ o
+      → customer_named names to ≡ p
       → is_some o && (is_some p && true) ≡ true
       → for_customer o (λ c. for_customer p (amalgamated_rows c)) ≡ rows → IsDecided (Amalgamate from to) rows
   of_two from to None p rows e f k is = absurd (false≢true k)
@@ -99,26 +102,28 @@ module _ (names : List (List ℕ)) (table : Table) where
       by false other = subst (IsDecided (Amalgamate from to)) (sym (cond-false (c == d) _ _ other))
           (deciding.amalgamated_another names table from to c d e f other)
 
-  pub decided : (request : Request) (rows : Rows) → touched_of names request ≡ touched.Rows rows
+  pub decided : (request : Request) (rows : RowKinds) → touched_of names request ≡ touched.Rows rows
       → IsDecided request rows
   decided (Balance name) rows t =
       let a = accepted names (Balance name) rows t in
-      of_one name (customer_of names name) (Balance name) rows (λ c. (saving_row c, Read) ∷ (checking_row c, Read) ∷ [])
+      of_one name (customer_named names name) (Balance name) rows
+      (λ c. (saving_row c, Read) ∷ (checking_row c, Read) ∷ [])
       refl a.known a.own (λ c e. deciding.balanced names table name c e)
   decided (DepositChecking name amount) rows t =
       let a = accepted names (DepositChecking name amount) rows t in
-      of_one name (customer_of names name) (DepositChecking name amount) rows (λ c. (checking_row c, Write) ∷ []) refl
+      of_one name (customer_named names name) (DepositChecking name amount) rows (λ c. (checking_row c, Write) ∷ [])
+      refl
       a.known a.own (λ c e. deciding.deposited names table name amount c e a.amount)
   decided (TransactSaving name amount) rows t =
       let a = accepted names (TransactSaving name amount) rows t in
-      of_one name (customer_of names name) (TransactSaving name amount) rows (λ c. (saving_row c, Write) ∷ []) refl
+      of_one name (customer_named names name) (TransactSaving name amount) rows (λ c. (saving_row c, Write) ∷ []) refl
       a.known a.own (λ c e. deciding.transacted names table name amount c e)
   decided (Amalgamate from to) rows t =
       let a = accepted names (Amalgamate from to) rows t in
-      of_two from to (customer_of names from) (customer_of names to) rows refl refl a.known a.own
+      of_two from to (customer_named names from) (customer_named names to) rows refl refl a.known a.own
   decided (WriteCheck name amount) rows t =
       let a = accepted names (WriteCheck name amount) rows t in
-      of_one name (customer_of names name) (WriteCheck name amount) rows
+      of_one name (customer_named names name) (WriteCheck name amount) rows
       (λ c. (saving_row c, Read) ∷ (checking_row c, Write) ∷ []) refl a.known a.own
       (λ c e. deciding.checked names table name amount c e a.amount)
 
@@ -143,18 +148,19 @@ module _ (names : List (List ℕ)) (table : Table) where
       ≡ refusal NoSuchName
   unknown (Balance name) k =
       no_name (Balance name) (fitting.balanced names table name (values_of table) None
-      (nobody (customer_of names name) k))
+      (nobody (customer_named names name) k))
   unknown (DepositChecking name amount) k = no_name (DepositChecking name amount)
-      (fitting.deposited names table name amount (values_of table) None (nobody (customer_of names name) k))
+      (fitting.deposited names table name amount (values_of table) None (nobody (customer_named names name) k))
   unknown (TransactSaving name amount) k = no_name (TransactSaving name amount)
-      (fitting.transacted names table name amount (values_of table) None (nobody (customer_of names name) k))
+      (fitting.transacted names table name amount (values_of table) None (nobody (customer_named names name) k))
   unknown (WriteCheck name amount) k =
       no_name (WriteCheck name amount)
-      (fitting.checked names table name amount (values_of table) None (nobody (customer_of names name) k))
+      (fitting.checked names table name amount (values_of table) None (nobody (customer_named names name) k))
   unknown (Amalgamate from to) k =
-      no_name (Amalgamate from to) (by (customer_of names from) (customer_of names to) refl refl k)
+      no_name (Amalgamate from to) (by (customer_named names from) (customer_named names to) refl refl k)
     where
-      by : (o p : Option ℕ) → customer_of names from ≡ o → customer_of names to ≡ p → (is_some o && (is_some p && true))
+      by : (o p : Option ℕ) → customer_named names from ≡ o → customer_named names to ≡ p
+          → (is_some o && (is_some p && true))
           ≡ false
           → does (bank_of names (values_of table)) (Amalgamate from to)
           ≡ (bank_of names (values_of table), Aborted NoSuchName)
@@ -168,12 +174,12 @@ module _ (names : List (List ℕ)) (table : Table) where
   refused_amount (TransactSaving name amount) k b = absurd (false≢true b)
   refused_amount (Amalgamate from to) k b = absurd (false≢true b)
   refused_amount (DepositChecking name amount) k b =
-      let c = somebody (customer_of names name) k in
+      let c = somebody (customer_named names name) k in
       bad_amount (DepositChecking name amount)
       (fitting.deposited names table name amount (values_of table) (Some c.0) c.1
       ∙ cond-true (int_lt amount (pos 0)) _ _ b)
   refused_amount (WriteCheck name amount) k b =
-      let c = somebody (customer_of names name) k in
+      let c = somebody (customer_named names name) k in
       bad_amount (WriteCheck name amount) (fitting.checked names table name amount (values_of table) (Some c.0) c.1
       ∙ cond-true (int_lt amount (pos 0)) _ _ b)
 
@@ -190,7 +196,7 @@ module _ (names : List (List ℕ)) (table : Table) where
           → decision_in (executed_on names table request) ≡ refusal why
       by true false k b h = absurd (unlike (rows_of names request) why h)
         where
-          unlike : (rs : Rows) (a : Abort) → touched.Rows rs ≡ touched.Refused a → ⊥
+          unlike : (rs : RowKinds) (a : Abort) → touched.Rows rs ≡ touched.Refused a → ⊥
           unlike rs a h = cc
       by true true k b h = refused_amount request k b ∙ ap refusal (inside BadAmount why h)
       by false b k c h = unknown request k ∙ ap refusal (inside NoSuchName why h)
@@ -277,7 +283,7 @@ sees_own (e ∷ es) distinct = (
 -- ---- which rows a decision notes
 
 abbrev NotesAll : Reply → Type 0
-NotesAll reply = (rows : Rows) → numbers (noted_rows reply rows) ≡ numbers rows
+NotesAll reply = (rows : RowKinds) → numbers (noted_rows reply rows) ≡ numbers rows
 
 notes_within : (b : Bool) (effects : List Effect) (seen : List ℤ)
     → NotesAll (cond b (record { reply = Done; effects = effects }) (abort_after OutOfRange seen)).reply
@@ -320,19 +326,19 @@ notes_all (Amalgamate from to) (saving ∷ checking ∷ receiver ∷ []) d e =
 notes_all (WriteCheck name amount) (saving ∷ checking ∷ []) d e =
     let after : ℤ = checking -ℤ check_cost (record { saving = saving; checking = checking }) amount in
     subst NotesAll (ap (λ (c : Decision). c.reply) (the_same _ d e))
-    (notes_within (is_balance after) (kept saving ∷ written after ∷ []) (saving ∷ checking ∷ []))
+    (notes_within (is_balance after) (only_read saving ∷ written after ∷ []) (saving ∷ checking ∷ []))
 notes_all request values d e = absurd (nothing d e)
 
 -- ---- entries put together again
 
-no_entries : (rows : Rows) (versions : List ℕ) (values : List ℤ) → entries_from rows versions values [] ≡ []
+no_entries : (rows : RowKinds) (versions : List ℕ) (values : List ℤ) → entries_from rows versions values [] ≡ []
 no_entries [] versions values = refl
 no_entries (r ∷ rows) [] values = refl
 no_entries (r ∷ rows) (v ∷ versions) [] = refl
 no_entries (r ∷ rows) (v ∷ versions) (z ∷ values) = refl
 
 -- entries whose rows have these numbers are made of what they have
-made_of_parts : (rows : Rows) (es : List Entry) → map (λ e. e.row) es ≡ numbers rows
+made_of_parts : (rows : RowKinds) (es : List Entry) → map (λ e. e.row) es ≡ numbers rows
     → es ≡ entries_from rows (map (λ e. e.version) es) (map (λ e. e.seen) es) (map effect_in es)
 made_of_parts rows [] same = sym (no_entries rows [] [])
 made_of_parts [] (e ∷ es) same = absurd (more e.row (map (λ d. d.row) es) same)
@@ -353,19 +359,19 @@ seen_values_of : (table : Table) (es : List Entry) → AllByRecursion (Sees tabl
 seen_values_of table [] sees = refl
 seen_values_of table (e ∷ es) sees = ap₂ (λ (z : ℤ) (zs : List ℤ). z ∷ zs) sees.0.value (seen_values_of table es sees.1)
 
-values_at : (table : Table) (rows : Rows) → map (λ n. (table n).value) (numbers rows)
+values_at : (table : Table) (rows : RowKinds) → map (λ n. (table n).value) (numbers rows)
     ≡ map (λ r. (table r.0).value) rows
 values_at table [] = refl
 values_at table (r ∷ rows) = ap (λ (zs : List ℤ). (table r.0).value ∷ zs) (values_at table rows)
 
 -- what an execution noted sees its table
-noted_sees : (names : List (List ℕ)) (table : Table) (bank : Bank) (rows : Rows)
+noted_sees : (names : List (List ℕ)) (table : Table) (bank : Bank) (rows : RowKinds)
     → AllByRecursion (Sees table) (map (entry_on names table bank) rows)
 noted_sees names table bank [] = tt
 noted_sees names table bank (r ∷ rows) = (record { version = refl; value = refl }, noted_sees names table bank rows)
 
 -- the rows of a record that fits, where its request isn't refused
-noted_numbers : (names : List (List ℕ)) (table : Table) (x : Executed) (rows : Rows) → Fits names x
+noted_numbers : (names : List (List ℕ)) (table : Table) (x : Executed) (rows : RowKinds) → Fits names x
     → AllByRecursion (Sees table) x.entries → touched_of names x.request ≡ touched.Rows rows
     → map (λ e. e.row) x.entries ≡ numbers rows
 noted_numbers names table x rows fits sees t =
@@ -377,7 +383,7 @@ noted_numbers names table x rows fits sees t =
     ∙ subst NotesAll (ap (λ (y : Executed). y.reply) (sym made)) all (rows_of names x.request)
     ∙ ap numbers (accepted names x.request rows t).own
 
-remade : (x : Executed) (rows : Rows) → map (λ e. e.row) x.entries ≡ numbers rows
+remade : (x : Executed) (rows : RowKinds) → map (λ e. e.row) x.entries ≡ numbers rows
     → x ≡ executed_from x.request rows (map (λ e. e.version) x.entries) (map (λ e. e.seen) x.entries) (decision_in x)
 remade x rows same = λ i. record { request = x.request; reply = x.reply; entries = made_of_parts rows x.entries same i }
 
@@ -396,12 +402,12 @@ seen_versions_of table [] sees = refl
 seen_versions_of table (e ∷ es) sees = ap₂ (λ (n : ℕ) (ns : List ℕ). n ∷ ns) sees.0.version
     (seen_versions_of table es sees.1)
 
-versions_at : (table : Table) (rows : Rows) → map (λ n. (table n).version) (numbers rows)
+versions_at : (table : Table) (rows : RowKinds) → map (λ n. (table n).version) (numbers rows)
     ≡ map (λ r. (table r.0).version) rows
 versions_at table [] = refl
 versions_at table (r ∷ rows) = ap (λ (ns : List ℕ). (table r.0).version ∷ ns) (versions_at table rows)
 
-fits_on : (names : List (List ℕ)) (table : Table) (x : Executed) (rows : Rows) (decision : Decision) → Fits names x
+fits_on : (names : List (List ℕ)) (table : Table) (x : Executed) (rows : RowKinds) (decision : Decision) → Fits names x
     → AllByRecursion (Sees table) x.entries
     → touched_of names x.request ≡ touched.Rows rows → decision ≡ decision_in x
     → Fits names (executed_from x.request rows (map (λ r. (table r.0).version) rows) (map (λ r. (table r.0).value) rows)
@@ -417,12 +423,14 @@ fits_on names table x rows decision fits sees t d =
     = remade x rows numbered ∙ (λ i. executed_from x.request rows (same_versions i) (same_values i) (sym d i)) in
     subst (Fits names) same fits
 
-distinct_rows : (names : List (List ℕ)) (request : Request) (rows : Rows) → touched_of names request ≡ touched.Rows rows
+distinct_rows : (names : List (List ℕ)) (request : Request) (rows : RowKinds) → touched_of names request
+    ≡ touched.Rows rows
     → AreDistinct (numbers rows)
-distinct_rows names request rows t = subst (λ (rs : Rows). AreDistinct (numbers rs)) (accepted names request rows t).own
+distinct_rows names request rows t = subst (λ (rs : RowKinds). AreDistinct (numbers rs))
+    (accepted names request rows t).own
     (request_rows names request).distinct
 
-fits_rows : (names : List (List ℕ)) (request : Request) (rows : Rows) (versions : List ℕ) (values : List ℤ)
+fits_rows : (names : List (List ℕ)) (request : Request) (rows : RowKinds) (versions : List ℕ) (values : List ℤ)
     (decision : Decision) → touched_of names request ≡ touched.Rows rows
     → length versions ≡ length rows → length values ≡ length rows → IsExact names request rows values decision
     → Fits names (executed_from request rows versions values decision)
@@ -526,7 +534,7 @@ pub refused_done : (request : Request) (reached : Touched) (why : Abort) (values
 refused_done request reached why values decision is d names t table shown = d
     ∙ sym (refused names table request why (sym t ∙ is))
 
-pub rows_done : (request : Request) (reached : Touched) (rows : Rows) (values : List ℤ) (decision : Decision)
+pub rows_done : (request : Request) (reached : Touched) (rows : RowKinds) (values : List ℤ) (decision : Decision)
     → reached ≡ touched.Rows rows
     → decided_from request values ≡ Some decision → (names : List (List ℕ)) → reached ≡ touched_of names request
     → IsExact names request (rows_in reached) values decision
@@ -564,7 +572,7 @@ as_many same count = sym (ap (λ (d : Decision). length d.effects) same) ∙ cou
 as_many_within : (b : Bool) (effects : List Effect) (seen : List ℤ) → length effects ≡ length seen
     → length (cond b (record { reply = Done; effects = effects }) (abort_after OutOfRange seen)).effects ≡ length seen
 as_many_within true effects seen count = count
-as_many_within false effects seen count = length-map seen kept
+as_many_within false effects seen count = length-map seen only_read
 
 as_many_saved : (b : Bool) (d : Decision) (saving : ℤ) → length d.effects ≡ 1
     → length (cond b (abort_after Insufficient (saving ∷ [])) d).effects ≡ 1
@@ -594,7 +602,7 @@ one_each (Amalgamate from to) (saving ∷ checking ∷ receiver ∷ []) d e =
 one_each (WriteCheck name amount) (saving ∷ checking ∷ []) d e =
     let after : ℤ = checking -ℤ check_cost (record { saving = saving; checking = checking }) amount in
     as_many (the_same _ d e)
-    (as_many_within (is_balance after) (kept saving ∷ written after ∷ []) (saving ∷ checking ∷ []) refl)
+    (as_many_within (is_balance after) (only_read saving ∷ written after ∷ []) (saving ∷ checking ∷ []) refl)
 one_each request values d e = absurd (nothing d e)
 
 -- ---- a request that is refused

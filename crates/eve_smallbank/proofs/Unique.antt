@@ -4,7 +4,7 @@ use Rattle.std.proofs.Common.{None, refl, sym, subst, ap, ap₂, ◌∙◌, inl,
 use Rattle.std.specs.Prelude.{⊤}
 use Rattle.std.specs.List.{AllByRecursion}
 use Rattle.std.proofs.lemmas.Bool.{cases_Bool, eq-eqb, ne_eqb, and_right, and_from, cond-true, cond-false, false≢true}
-use Rattle.eve_accounts.specs.Names.{same_name, customer_from, customer_of}
+use Rattle.eve_accounts.specs.Names.{same_name, customer_named_from, customer_named}
 use Rattle.eve_accounts.specs.Rows.{saving_row, checking_row}
 use Rattle.eve_smallbank.specs.declared.entry.Entry.{Entry}
 use Rattle.eve_smallbank.specs.declared.entry.Kind.{Kind}
@@ -14,7 +14,8 @@ use Rattle.eve_smallbank.specs.declared.request.Reply.{Reply}
 use Rattle.eve_smallbank.specs.declared.request.Reply.TheVariants.{Done, Total, Aborted}
 use Rattle.eve_smallbank.specs.SmallBank.{Bank, Request, Balance, DepositChecking, TransactSaving, Amalgamate}
 use Rattle.eve_smallbank.specs.SmallBank.{WriteCheck}
-use Rattle.eve_smallbank.specs.Access.{Executed, Rows, is_write, writes_row, bank_of, for_customer, amalgamated_rows}
+use Rattle.eve_smallbank.specs.Access.{Executed, RowKinds, is_write, writes_row, bank_of, for_customer}
+use Rattle.eve_smallbank.specs.Access.{amalgamated_rows}
 use Rattle.eve_smallbank.specs.Access.{rows_of, as_reads, noted_rows, values_after, IsKeptIfRead, Fits}
 use Rattle.eve_smallbank.specs.Chain.{Table, Sees, values_of}
 use Rattle.eve_smallbank.specs.Execution.{value_in, value_left, entry_on, executed_on}
@@ -37,18 +38,18 @@ pub record AreRows (names : List (List ℕ)) (rows : List ℕ) : Type 0 where
   pub within : AllByRecursion (λ row. row < 2 * length names) rows
   pub distinct : AreDistinct rows
 
-abbrev pub numbers : Rows → List ℕ
+abbrev pub numbers : RowKinds → List ℕ
 numbers rows = map (λ r. r.0) rows
 
 no_rows : (names : List (List ℕ)) → AreRows names []
 no_rows names = record { owned = tt; within = tt; distinct = tt }
 
-pub numbers-as_reads : (rows : Rows) → numbers (as_reads rows) ≡ numbers rows
+pub numbers-as_reads : (rows : RowKinds) → numbers (as_reads rows) ≡ numbers rows
 numbers-as_reads [] = refl
 numbers-as_reads (r ∷ rows) = ap (λ (ns : List ℕ). r.0 ∷ ns) (numbers-as_reads rows)
 
 -- what is noted are rows of the request, or none
-noted_are_rows : (names : List (List ℕ)) (reply : Reply) (rows : Rows) → AreRows names (numbers rows)
+noted_are_rows : (names : List (List ℕ)) (reply : Reply) (rows : RowKinds) → AreRows names (numbers rows)
     → AreRows names (numbers (noted_rows reply rows))
 noted_are_rows names Done rows are = are
 noted_are_rows names (Total sum) rows are = are
@@ -58,14 +59,14 @@ noted_are_rows names (Aborted Insufficient) rows are = subst (AreRows names) (sy
 noted_are_rows names (Aborted OutOfRange) rows are = subst (AreRows names) (sym (numbers-as_reads rows)) are
 
 -- a customer's number is below the number of names
-from_above : (c n : ℕ) (names : List (List ℕ)) (name : List ℕ) → customer_from c names name ≡ Some n
+from_above : (c n : ℕ) (names : List (List ℕ)) (name : List ℕ) → customer_named_from c names name ≡ Some n
     → n < c + length names
 from_above c n [] name e = absurd (none n e)
   where
     none : (n : ℕ) → ◌≡◌ {A = Option ℕ} None (Some n) → ⊥
     none n h = cc
 from_above c n (first ∷ names) name e =
-    elim (chosen (same_name name first) c n (customer_from (c + 1) names name) e) [
+    elim (chosen (same_name name first) c n (customer_named_from (c + 1) names name) e) [
       | inl h ↦ (let same = h.1 in omega arith)
       | inr h ↦ (let rest = from_above (c + 1) n names name h.1 in omega arith)
     ]
@@ -74,18 +75,18 @@ even_odd : (c : ℕ) → ¬ (checking_row c ≡ saving_row c)
 even_odd c e = omega arith
 
 module _ (names : List (List ℕ)) where
-  is_small : (c : ℕ) (name : List ℕ) → customer_of names name ≡ Some c → c < length names
-  unfolding customer_of
+  is_small : (c : ℕ) (name : List ℕ) → customer_named names name ≡ Some c → c < length names
+  unfolding customer_named
   is_small c name e = (let low = from_above 0 c names name e in omega arith)
 
-  saving_alone : (c : ℕ) (name : List ℕ) → customer_of names name ≡ Some c → AreRows names (saving_row c ∷ [])
+  saving_alone : (c : ℕ) (name : List ℕ) → customer_named names name ≡ Some c → AreRows names (saving_row c ∷ [])
   saving_alone c name e = record {
     owned = ((λ values. value_saving names values c name e), tt);
     within = ((let low = is_small c name e in omega arith), tt);
     distinct = (tt, tt);
   }
 
-  checking_alone : (c : ℕ) (name : List ℕ) → customer_of names name ≡ Some c → AreRows names (checking_row c ∷ [])
+  checking_alone : (c : ℕ) (name : List ℕ) → customer_named names name ≡ Some c → AreRows names (checking_row c ∷ [])
   checking_alone c name e =
       record {
         owned = ((λ values. value_checking names values c name e), tt);
@@ -93,14 +94,15 @@ module _ (names : List (List ℕ)) where
         distinct = (tt, tt);
       }
 
-  both : (c : ℕ) (name : List ℕ) → customer_of names name ≡ Some c → AreRows names (saving_row c ∷ checking_row c ∷ [])
+  both : (c : ℕ) (name : List ℕ) → customer_named names name ≡ Some c
+      → AreRows names (saving_row c ∷ checking_row c ∷ [])
   both c name e = record {
     owned = ((λ values. value_saving names values c name e), ((λ values. value_checking names values c name e), tt));
     within = ((let low = is_small c name e in omega arith), ((let low = is_small c name e in omega arith), tt));
     distinct = ((even_odd c, tt), (tt, tt));
   }
 
-  three : (c d : ℕ) (from to : List ℕ) → customer_of names from ≡ Some c → customer_of names to ≡ Some d
+  three : (c d : ℕ) (from to : List ℕ) → customer_named names from ≡ Some c → customer_named names to ≡ Some d
       → (c == d) ≡ false
       → AreRows names (saving_row c ∷ checking_row c ∷ checking_row d ∷ [])
   three c d from to e f apart = record {
@@ -124,34 +126,35 @@ module _ (names : List (List ℕ)) where
       other : (m n : ℕ) → ¬ (m ≡ n) → ¬ (checking_row n ≡ checking_row m)
       other m n apart e = apart (omega arith)
 
-  amalgamated_are_rows : (c d : ℕ) (from to : List ℕ) → customer_of names from ≡ Some c → customer_of names to ≡ Some d
+  amalgamated_are_rows : (c d : ℕ) (from to : List ℕ) → customer_named names from ≡ Some c → customer_named names to
+      ≡ Some d
       → AreRows names (numbers (amalgamated_rows c d))
   amalgamated_are_rows c d from to e f =
       elim (cases_Bool (c == d)) [
-        | inl same ↦ subst (λ (rows : Rows). AreRows names (numbers rows))
+        | inl same ↦ subst (λ (rows : RowKinds). AreRows names (numbers rows))
             (sym (cond-true (c == d) ((saving_row c, Write) ∷ (checking_row c, Write) ∷ []) _ same)) (both c from e)
-        | inr apart ↦ subst (λ (rows : Rows). AreRows names (numbers rows))
+        | inr apart ↦ subst (λ (rows : RowKinds). AreRows names (numbers rows))
             (sym (cond-false (c == d) ((saving_row c, Write) ∷ (checking_row c, Write) ∷ []) _ apart))
             (three c d from to e f apart)
       ]
 
   -- rows of a customer, if there is one
-  of_customer : (name : List ℕ) (o : Option ℕ) (rows : ℕ → Rows) → customer_of names name ≡ o
-      → ((c : ℕ) → customer_of names name ≡ Some c → AreRows names (numbers (rows c)))
+  of_customer : (name : List ℕ) (o : Option ℕ) (rows : ℕ → RowKinds) → customer_named names name ≡ o
+      → ((c : ℕ) → customer_named names name ≡ Some c → AreRows names (numbers (rows c)))
       → AreRows names (numbers (for_customer o rows))
   of_customer name None rows e h = no_rows names
   of_customer name (Some c) rows e h = h c e
 
   pub request_rows : (request : Request) → AreRows names (numbers (rows_of names request))
-  request_rows (Balance name) = of_customer name (customer_of names name) _ refl (λ c e. both c name e)
-  request_rows (DepositChecking name amount) = of_customer name (customer_of names name) _ refl
+  request_rows (Balance name) = of_customer name (customer_named names name) _ refl (λ c e. both c name e)
+  request_rows (DepositChecking name amount) = of_customer name (customer_named names name) _ refl
       (λ c e. checking_alone c name e)
-  request_rows (TransactSaving name amount) = of_customer name (customer_of names name) _ refl
+  request_rows (TransactSaving name amount) = of_customer name (customer_named names name) _ refl
       (λ c e. saving_alone c name e)
   request_rows (Amalgamate from to) =
-      of_customer from (customer_of names from) _ refl
-      (λ c e. of_customer to (customer_of names to) _ refl (λ d f. amalgamated_are_rows c d from to e f))
-  request_rows (WriteCheck name amount) = of_customer name (customer_of names name) _ refl (λ c e. both c name e)
+      of_customer from (customer_named names from) _ refl
+      (λ c e. of_customer to (customer_named names to) _ refl (λ d f. amalgamated_are_rows c d from to e f))
+  request_rows (WriteCheck name amount) = of_customer name (customer_named names name) _ refl (λ c e. both c name e)
 
 -- ---- what the last write of a row leaves
 

@@ -3,7 +3,7 @@ use Rattle.std.specs.Prelude.{◌≡◌, ℕ, ℤ, pos, ◌+◌, ◌==◌, Bool,
 use Rattle.std.specs.Prelude.{filter, slice_index_or, Option, Some, None}
 use Rattle.std.specs.List.{AllByRecursion}
 use Rattle.std.specs.FinMap.{empty, insert}
-use Rattle.eve_accounts.specs.Names.{customer_of}
+use Rattle.eve_accounts.specs.Names.{customer_named}
 use Rattle.eve_accounts.specs.Rows.{saving_row, checking_row}
 use Rattle.eve_smallbank.specs.declared.request.Abort.TheVariants.{Insufficient, OutOfRange}
 use Rattle.eve_smallbank.specs.declared.request.Reply.{Reply}
@@ -48,37 +48,38 @@ bank_of names values = bank_from 0 names values
 -- ---- which rows
 
 -- the rows and kinds of an access, in order
-abbrev pub Rows : Type 0
-Rows = List (ℕ × Kind)
+abbrev pub RowKinds : Type 0
+RowKinds = List (ℕ × Kind)
 
 -- the rows of the customer of a name, none where no customer has it
-abbrev pub for_customer : Option ℕ → (ℕ → Rows) → Rows
+abbrev pub for_customer : Option ℕ → (ℕ → RowKinds) → RowKinds
 for_customer None rows = []
 for_customer (Some customer) rows = rows customer
 
 -- both rows of the one and the checking row of the other, each once
-abbrev pub amalgamated_rows : ℕ → ℕ → Rows
+abbrev pub amalgamated_rows : ℕ → ℕ → RowKinds
 amalgamated_rows from to =
     if from == to then (saving_row from, Write) ∷ (checking_row from, Write) ∷ []
     else (saving_row from, Write) ∷ (checking_row from, Write) ∷ (checking_row to, Write) ∷ []
 
 -- the rows that a request touches where it isn't aborted
-abbrev pub rows_of : List (List ℕ) → Request → Rows
+abbrev pub rows_of : List (List ℕ) → Request → RowKinds
 rows_of names (Balance name) =
-    for_customer (customer_of names name) (λ c. (saving_row c, Read) ∷ (checking_row c, Read) ∷ [])
-rows_of names (DepositChecking name amount) = for_customer (customer_of names name) (λ c. (checking_row c, Write) ∷ [])
-rows_of names (TransactSaving name amount) = for_customer (customer_of names name) (λ c. (saving_row c, Write) ∷ [])
+    for_customer (customer_named names name) (λ c. (saving_row c, Read) ∷ (checking_row c, Read) ∷ [])
+rows_of names (DepositChecking name amount) = for_customer (customer_named names name)
+    (λ c. (checking_row c, Write) ∷ [])
+rows_of names (TransactSaving name amount) = for_customer (customer_named names name) (λ c. (saving_row c, Write) ∷ [])
 rows_of names (Amalgamate from to) =
-    for_customer (customer_of names from) (λ c. for_customer (customer_of names to) (amalgamated_rows c))
+    for_customer (customer_named names from) (λ c. for_customer (customer_named names to) (amalgamated_rows c))
 rows_of names (WriteCheck name amount) =
-    for_customer (customer_of names name) (λ c. (saving_row c, Read) ∷ (checking_row c, Write) ∷ [])
+    for_customer (customer_named names name) (λ c. (saving_row c, Read) ∷ (checking_row c, Write) ∷ [])
 
 -- the same rows, all as reads
-abbrev pub as_reads : Rows → Rows
+abbrev pub as_reads : RowKinds → RowKinds
 as_reads rows = map (λ r. (r.0, Read)) rows
 
 -- an abort for want of cover or range has read its rows, any other abort none
-abbrev pub noted_rows : Reply → Rows → Rows
+abbrev pub noted_rows : Reply → RowKinds → RowKinds
 noted_rows (Aborted Insufficient) rows = as_reads rows
 noted_rows (Aborted OutOfRange) rows = as_reads rows
 noted_rows (Aborted _) rows = []
@@ -110,9 +111,9 @@ pub record Fits (names : List (List ℕ)) (x : Executed) : Type 0 where
 -- ---- the balances of all customers as a list
 
 -- the balance of a row, by its number
-abbrev pub balance_at : List ℤ → ℕ → ℤ
-balance_at balances row = slice_index_or balances row (pos 0)
+abbrev pub balance_of_row : List ℤ → ℕ → ℤ
+balance_of_row balances row = slice_index_or balances row (pos 0)
 
 -- the rows that are written, by number
-abbrev pub written_rows : Rows → List ℕ
+abbrev pub written_rows : RowKinds → List ℕ
 written_rows rows = map (λ r. r.0) (filter (λ r. is_write r.1) rows)

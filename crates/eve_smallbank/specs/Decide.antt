@@ -4,7 +4,7 @@ use Rattle.eve_smallbank.specs.declared.entry.Entry.{Entry}
 use Rattle.eve_smallbank.specs.declared.decision.Effect.{Effect}
 use Rattle.eve_smallbank.specs.declared.decision.Decision.{Decision}
 use Rattle.eve_smallbank.specs.SmallBank.{Request}
-use Rattle.eve_smallbank.specs.Access.{Executed, Rows}
+use Rattle.eve_smallbank.specs.Access.{Executed, RowKinds}
 use Rattle.eve_smallbank.specs.Chain.{Table}
 use Rattle.eve_smallbank.specs.Execution.{executed_on}
 
@@ -17,19 +17,19 @@ abbrev pub decision_in : Executed → Decision
 decision_in x = record { reply = x.reply; effects = map effect_in x.entries }
 
 -- the entries of these rows with the versions and values seen, one of each for each row
-abbrev pub entries_from : Rows → List ℕ → List ℤ → List Effect → List Entry
+abbrev pub entries_from : RowKinds → List ℕ → List ℤ → List Effect → List Entry
 entries_from (r ∷ rows) (version ∷ versions) (seen ∷ values) (effect ∷ effects) =
     record { row = r.0; kind = effect.kind; version = version; seen = seen; after = effect.after }
     ∷ entries_from rows versions values effects
 entries_from rows versions values effects = []
 
 -- the executed request
-abbrev pub executed_from : Request → Rows → List ℕ → List ℤ → Decision → Executed
+abbrev pub executed_from : Request → RowKinds → List ℕ → List ℤ → Decision → Executed
 executed_from request rows versions values decision =
     record { request = request; reply = decision.reply; entries = entries_from rows versions values decision.effects }
 
 -- The decision is what the request does to every table of these customers that has the values in the rows.
-abbrev pub IsExact : List (List ℕ) → Request → Rows → List ℤ → Decision → Type 0
+abbrev pub IsExact : List (List ℕ) → Request → RowKinds → List ℤ → Decision → Type 0
 IsExact names request rows values decision =
     (table : Table) → values ≡ map (λ r. (table r.0).value) rows
     → decision ≡ decision_in (executed_on names table request)

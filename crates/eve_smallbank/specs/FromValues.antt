@@ -10,11 +10,11 @@ use Rattle.eve_smallbank.specs.declared.decision.Effect.{Effect}
 use Rattle.eve_smallbank.specs.declared.decision.Decision.{Decision}
 use Rattle.eve_smallbank.specs.SmallBank.{Request, Balance, DepositChecking, TransactSaving, Amalgamate, WriteCheck}
 use Rattle.eve_smallbank.specs.SmallBank.{check_cost}
-use Rattle.eve_smallbank.specs.Access.{Rows, is_write}
+use Rattle.eve_smallbank.specs.Access.{RowKinds, is_write}
 
 -- a row that is only read
-abbrev pub kept : ℤ → Effect
-kept value = record { kind = Read; after = value }
+abbrev pub only_read : ℤ → Effect
+only_read value = record { kind = Read; after = value }
 
 -- a row that gets this value
 abbrev pub written : ℤ → Effect
@@ -22,7 +22,7 @@ written value = record { kind = Write; after = value }
 
 -- nothing changes, and these values have been read
 abbrev pub abort_after : Abort → List ℤ → Decision
-abort_after why seen = record { reply = Aborted why; effects = map kept seen }
+abort_after why seen = record { reply = Aborted why; effects = map only_read seen }
 
 -- done with these effects, unless the new balance lies outside the range
 abbrev pub done_within : List ℤ → ℤ → List Effect → Decision
@@ -33,7 +33,7 @@ done_within seen balance effects =
 -- aren't as many values as rows.
 abbrev pub decided_from : Request → List ℤ → Option Decision
 decided_from (Balance name) (saving ∷ checking ∷ []) =
-    Some (record { reply = Total (saving +ℤ checking); effects = kept saving ∷ kept checking ∷ [] })
+    Some (record { reply = Total (saving +ℤ checking); effects = only_read saving ∷ only_read checking ∷ [] })
 decided_from (DepositChecking name amount) (checking ∷ []) =
     let after : ℤ = checking +ℤ amount in
     Some (done_within (checking ∷ []) after (written after ∷ []))
@@ -50,11 +50,11 @@ decided_from (Amalgamate from to) (saving ∷ checking ∷ receiver ∷ []) =
     (written (pos 0) ∷ written (pos 0) ∷ written after ∷ []))
 decided_from (WriteCheck name amount) (saving ∷ checking ∷ []) =
     let after : ℤ = checking -ℤ check_cost (record { saving = saving; checking = checking }) amount in
-    Some (done_within (saving ∷ checking ∷ []) after (kept saving ∷ written after ∷ []))
+    Some (done_within (saving ∷ checking ∷ []) after (only_read saving ∷ written after ∷ []))
 decided_from request values = None
 
 -- the balances after these effects on these rows
-abbrev pub balances_after : List ℤ → Rows → List Effect → List ℤ
+abbrev pub balances_after : List ℤ → RowKinds → List Effect → List ℤ
 balances_after balances (r ∷ rows) (effect ∷ effects) =
     balances_after (if is_write effect.kind then slice_set balances r.0 effect.after else balances) rows effects
 balances_after balances rows effects = balances

@@ -2,7 +2,7 @@
 
 ghost use Rattle.std.specs.Prelude.{◌≡◌, ◌<◌, ◌*◌, ℕ, length, map, take, All, Contains, slice_get};
 ghost use Rattle.eve_smallbank.specs.SmallBank.{plain, does};
-ghost use Rattle.eve_smallbank.specs.Access.{bank_of, balance_at, rows_of, written_rows};
+ghost use Rattle.eve_smallbank.specs.Access.{bank_of, balance_of_row, rows_of, written_rows};
 ghost use Rattle.eve_smallbank.specs.FromValues.{balances_after};
 
 use crate::{Effect, Kind, Reply, Request, Touched, UpToThree, decide, touched};
@@ -16,8 +16,8 @@ pub fn apply(balances: &mut Balances, names: &Names, request: &Request) -> Reply
     requires rows { length balances.old ≡ 2 * length names.now.items }
 
     // It makes the bank and the reply of SmallBank, and changes no row but those that the request writes.
-    ensures does { does (bank_of names.now.items (balance_at balances.old)) (plain request.now)
-        ≡ (bank_of names.now.items (balance_at balances.new), result) }
+    ensures does { does (bank_of names.now.items (balance_of_row balances.old)) (plain request.now)
+        ≡ (bank_of names.now.items (balance_of_row balances.new), result) }
     ensures others { (row : ℕ) → ¬ Contains (written_rows (rows_of names.now.items (plain request.now))) row
         → slice_get balances.new row ≡ slice_get balances.old row }
     ensures as_many { length balances.new ≡ length balances.old }
@@ -37,7 +37,7 @@ pub fn apply(balances: &mut Balances, names: &Names, request: &Request) -> Reply
 /// The values of the rows, first in an array.
 fn values_in(balances: &Balances, rows: &UpToThree<(Row, Kind)>) -> [Cents; 3]
     requires { All (λ r. r.0 < length balances.now) rows.now }
-    ensures { take (length rows.now) result ≡ map (λ r. balance_at balances.now r.0) rows.now }
+    ensures { take (length rows.now) result ≡ map (λ r. balance_of_row balances.now r.0) rows.now }
 {
     let mut values = [Cents::ZERO; 3];
     for place in 0..rows.len() {

@@ -6,7 +6,7 @@ ghost use Rattle.eve_smallbank.specs.SmallBank.{check_cost, plain};
 ghost use Rattle.eve_smallbank.specs.Access.{Executed, Fits};
 ghost use Rattle.eve_smallbank.specs.Touch.{touched_of, rows_in};
 ghost use Rattle.eve_smallbank.specs.Decide.{IsExact, executed_from};
-ghost use Rattle.eve_smallbank.specs.FromValues.{kept, written, abort_after, done_within, decided_from};
+ghost use Rattle.eve_smallbank.specs.FromValues.{only_read, written, abort_after, done_within, decided_from};
 
 use crate::{Abort, Kind, PENALTY, Reply, Request, Touched, UpToThree};
 use eve_accounts::{Amount, Cents};
@@ -79,7 +79,11 @@ fn decide_rows(request: &Request, seen: &[Cents]) -> Decision
 }
 
 fn total(saving: Cents, checking: Cents) -> Decision
-    ensures { result ≡ record { reply = Reply.Total (saving +ℤ checking); effects = kept saving ∷ kept checking ∷ [] } }
+    ensures { result ≡ record {
+      reply = Reply.Total (saving +ℤ checking);
+      effects =
+          only_read saving ∷ only_read checking ∷ [];
+    } }
 {
     Decision {
         reply: Reply::Total(sum(saving, checking)),
@@ -141,7 +145,7 @@ fn amalgamate(saving: Cents, checking: Cents, receiver: Cents) -> Decision
 
 fn write_check(saving: Cents, checking: Cents, amount: Amount) -> Decision
     ensures { let after = checking -ℤ check_cost (record { saving = saving; checking = checking }) amount in
-        result ≡ done_within (saving ∷ checking ∷ []) after (kept saving ∷ written after ∷ []) }
+        result ≡ done_within (saving ∷ checking ∷ []) after (only_read saving ∷ written after ∷ []) }
 {
     match Cents::new(after_check(saving, checking, amount)) {
         Some(after) => done(UpToThree::two(read(saving), write(after))),
@@ -183,7 +187,7 @@ fn abort(why: Abort, reads: UpToThree<Effect>) -> Decision
 }
 
 fn read(value: Cents) -> Effect
-    ensures { result ≡ kept value }
+    ensures { result ≡ only_read value }
 {
     Effect {
         kind: Kind::Read,

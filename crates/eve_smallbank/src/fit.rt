@@ -5,7 +5,7 @@ ghost use Rattle.std.specs.Bool.{Decides};
 ghost use Rattle.eve_smallbank.specs.SmallBank.{plain};
 ghost use Rattle.eve_smallbank.specs.Access.{Fits};
 ghost use Rattle.eve_smallbank.specs.Touch.{touched_of};
-ghost use Rattle.eve_smallbank.specs.Recorded.{noted_from, IsNoted};
+ghost use Rattle.eve_smallbank.specs.Recorded.{noted_from, HasEffect};
 
 use crate::{Effect, Entry, Kind, Reply, Request, Touched, UpToThree, decide};
 use eve_accounts::{Cents, Row};
@@ -68,7 +68,7 @@ fn are_noted(
 
 #[inline(always)]
 fn is_noted(entry: &Entry, row: Row, effect: &Effect) -> bool
-    ensures { Decides result (IsNoted row entry.now effect.now) }
+    ensures { Decides result (HasEffect row entry.now effect.now) }
 {
     entry.row == row && entry.kind == effect.kind && entry.after == effect.after
 }

@@ -9,7 +9,8 @@ use Rattle.eve_smallbank.specs.Chain.{Table, left_by, table_after}
 use Rattle.eve_grammar.specs.declared.restore.Restore.{Restore}
 use Rattle.eve_stamps.specs.declared.journal.Journaled.{Journaled}
 use Rattle.eve_stamps.specs.Stripes.{Stripe, IsStripe, lies_in, table_in, rows_in_table, committed, rows_now}
-use Rattle.eve_stamps.specs.Stripes.{table_after_journal, IsEntryIn, JournalLiesIn, JournalRises, noted_in, settled_to}
+use Rattle.eve_stamps.specs.Stripes.{table_after_journal, IsEntryIn, JournalLiesIn, JournalRises, stripe_with}
+use Rattle.eve_stamps.specs.Stripes.{settled_to}
 use Rattle.eve_stamps.proofs.RowLaws.{table_in-outside, table_in-whole}
 
 pub table_after-append : (table : Table) (es fs : List Entry) → table_after table (es ++ fs)
@@ -22,7 +23,7 @@ pub table_after_journal-append : (table : Table) (xs ys : List Journaled) → ta
 table_after_journal-append table [] ys = refl
 table_after_journal-append table (x ∷ xs) ys = table_after_journal-append (table_after table x.entries) xs ys
 
-pub rows_now-noted : (s : Stripe) (tick : ℕ) (entries : List Entry) → rows_now (noted_in s tick entries)
+pub rows_now-noted : (s : Stripe) (tick : ℕ) (entries : List Entry) → rows_now (stripe_with s tick entries)
     ≡ table_after (rows_now s) entries
 rows_now-noted s tick entries = table_after_journal-append (committed s) s.journal
     (record { tick = tick; entries = entries } ∷ [])

@@ -12,9 +12,10 @@ use Rattle.eve_grammar.specs.Limits.{version_limit}
 use Rattle.eve_stamps.specs.declared.journal.Journaled.{Journaled}
 use Rattle.eve_stamps.specs.Stripes.{Stripe, IsStripe, lies_in, has_row, table_in, row_in, rows_in_table, RowsRise}
 use Rattle.eve_stamps.specs.Stripes.{AreWithinLimit, committed, rows_now, table_after_journal, AreJournaled}
-use Rattle.eve_stamps.specs.Stripes.{JournalRises, IsEntryIn, JournalLiesIn, is_within, is_above, noted_in, settled_to}
+use Rattle.eve_stamps.specs.Stripes.{JournalRises, IsEntryIn, JournalLiesIn, is_within, is_above, stripe_with}
+use Rattle.eve_stamps.specs.Stripes.{settled_to}
 use Rattle.eve_stamps.specs.Stamping.{has_row_in_two, rows_in_two, entries_within, entries_outside}
-use Rattle.eve_stamps.specs.Holding.{stripe_of, IsHeld, IsPlaceOf, IsNoted}
+use Rattle.eve_stamps.specs.Holding.{stripe_held, IsHeldStripe, IsPlaceOf, CanBeNoted}
 use Rattle.eve_stamps.proofs.RowLaws.{rows_in_table-self, rows_in_table-twice, RowsRise-rows, row_at, lies_at}
 use Rattle.eve_stamps.proofs.JournalLaws.{rows_now-noted, rows_now-settled, table_in-journal, up_to, behind, all_kept}
 use Rattle.eve_stamps.proofs.JournalLaws.{split_at_tick}
@@ -23,7 +24,7 @@ use Rattle.eve_stamps.proofs.Versions.{limit_at, limit_after, limit_before, all_
 
 -- ---- at first
 
-pub held_first : (rows : List Restore) → RowsRise rows → AreWithinLimit rows → IsHeld rows rows [] None
+pub held_first : (rows : List Restore) → RowsRise rows → AreWithinLimit rows → IsHeldStripe rows rows [] None
 held_first rows rise limit = record {
   stands = record {
     rows = rise;
@@ -39,12 +40,12 @@ held_first rows rise limit = record {
 -- ---- one row
 
 pub seen_at : (base rows : List Restore) (journal : List Journaled) (greatest : Option ℕ) (row place : ℕ)
-    (held : Restore) → IsHeld base rows journal greatest → IsPlaceOf base row (Some place)
+    (held : Restore) → IsHeldStripe base rows journal greatest → IsPlaceOf base row (Some place)
     → held ≡ get_or rows place held
-    → Some held ≡ cond (has_row (stripe_of base journal greatest) row)
-    (Some (row_in (rows_now (stripe_of base journal greatest)) row)) None
+    → Some held ≡ cond (has_row (stripe_held base journal greatest) row)
+    (Some (row_in (rows_now (stripe_held base journal greatest)) row)) None
 seen_at base rows journal greatest row place held holds at read =
-    let table : Table = rows_now (stripe_of base journal greatest) in
+    let table : Table = rows_now (stripe_held base journal greatest) in
     let there : slice_get rows place ≡ Some (row_in table at.0.row) =
     ap (λ (xs : List Restore). slice_get xs place) holds.as_now ∙ row_at table base place at.0 at.1 in
     ap (λ (x : Restore). Some x) (read ∙ get_or_from_slice_get rows place (row_in table at.0.row) held there
@@ -99,7 +100,7 @@ journaled_on t [] k seen sees = (sees, tt)
 journaled_on t (j ∷ js) k seen sees = (seen.0, journaled_on (table_after t j.entries) js k seen.1 sees)
 
 entries_in : (base : List Restore) (t : Table) (es : List Entry) → AreWithinLimit (rows_in_table t base)
-    → AllByRecursion (IsNoted (lies_in base) t) es → AllByRecursion (IsEntryIn base) es
+    → AllByRecursion (CanBeNoted (lies_in base) t) es → AllByRecursion (IsEntryIn base) es
 entries_in base t [] limit noted = tt
 entries_in base t (e ∷ es) limit noted = (
   record {
@@ -112,22 +113,22 @@ entries_in base t (e ∷ es) limit noted = (
 
 -- the rows lie among themselves as they are now
 pub entries_in_rows : (base rows : List Restore) (journal : List Journaled) (greatest : Option ℕ) (es : List Entry)
-    → IsHeld base rows journal greatest
-    → AllByRecursion (IsNoted (lies_in base) (rows_now (stripe_of base journal greatest))) es
+    → IsHeldStripe base rows journal greatest
+    → AllByRecursion (CanBeNoted (lies_in base) (rows_now (stripe_held base journal greatest))) es
     → AllByRecursion (IsEntryIn rows) es
 entries_in_rows base rows journal greatest es holds noted =
     subst (λ (xs : List Restore). AllByRecursion (IsEntryIn xs) es) (sym holds.as_now)
-    (all_still_in base (rows_now (stripe_of base journal greatest)) es
-    (entries_in base (rows_now (stripe_of base journal greatest)) es holds.stands.limit noted))
+    (all_still_in base (rows_now (stripe_held base journal greatest)) es
+    (entries_in base (rows_now (stripe_held base journal greatest)) es holds.stands.limit noted))
 
 pub rows_rise : (base rows : List Restore) (journal : List Journaled) (greatest : Option ℕ)
-    → IsHeld base rows journal greatest → RowsRise rows
+    → IsHeldStripe base rows journal greatest → RowsRise rows
 rows_rise base rows journal greatest holds =
     subst RowsRise (sym holds.as_now)
-    (RowsRise-rows (rows_now (stripe_of base journal greatest)) base holds.stands.rows)
+    (RowsRise-rows (rows_now (stripe_held base journal greatest)) base holds.stands.rows)
 
 pub noted_stands : (s : Stripe) (tick : ℕ) (es : List Entry) → IsStripe s → is_above tick s.greatest ≡ true
-    → AllByRecursion (IsNoted (has_row s) (rows_now s)) es → IsStripe (noted_in s tick es)
+    → AllByRecursion (CanBeNoted (has_row s) (rows_now s)) es → IsStripe (stripe_with s tick es)
 noted_stands s tick es stands above noted =
     let k : Journaled = record { tick = tick; entries = es } in
     let below = below_all s.greatest tick s.journal above stands.within in record {
@@ -143,15 +144,15 @@ noted_stands s tick es stands above noted =
     }
 
 pub held_noted : (base rows written : List Restore) (journal longer : List Journaled) (greatest : Option ℕ) (tick : ℕ)
-    (es : List Entry) → IsHeld base rows journal greatest → is_above tick greatest ≡ true
-    → AllByRecursion (IsNoted (lies_in base) (rows_now (stripe_of base journal greatest))) es
+    (es : List Entry) → IsHeldStripe base rows journal greatest → is_above tick greatest ≡ true
+    → AllByRecursion (CanBeNoted (lies_in base) (rows_now (stripe_held base journal greatest))) es
     → written ≡ rows_in_table (table_after (table_in rows) es) rows
-    → longer ≡ journal ++ record { tick = tick; entries = es } ∷ [] → IsHeld base written longer (Some tick)
+    → longer ≡ journal ++ record { tick = tick; entries = es } ∷ [] → IsHeldStripe base written longer (Some tick)
 held_noted base rows written journal longer greatest tick es holds above noted write push =
-    let s : Stripe = stripe_of base journal greatest in
+    let s : Stripe = stripe_held base journal greatest in
     let table : Table = rows_now s in
     let whole : table_in rows ≡ table = ap table_in holds.as_now ∙ table_in-journal base journal holds.stands.own in
-    subst (λ (js : List Journaled). IsHeld base written js (Some tick)) (sym push) (record {
+    subst (λ (js : List Journaled). IsHeldStripe base written js (Some tick)) (sym push) (record {
       stands = noted_stands s tick es holds.stands above noted;
       as_now = write ∙ ap (λ (t : Table). rows_in_table (table_after t es) rows) whole
           ∙ ap (rows_in_table (table_after table es)) holds.as_now
@@ -172,7 +173,7 @@ all_filtered P Q p (x ∷ xs) so all = step (p x) (so x) (all_filtered P Q p xs 
     step false here rest = rest
 
 noted_as : (is_there also : ℕ → Bool) (t u : Table) (e : Entry) → also e.row ≡ true → t e.row ≡ u e.row
-    → IsNoted is_there t e → IsNoted also u e
+    → CanBeNoted is_there t e → CanBeNoted also u e
 noted_as is_there also t u e there same noted = record {
   there = there;
   sees = record {
@@ -185,25 +186,25 @@ noted_as is_there also t u e there same noted = record {
 
 -- of the first stripe's rows, in a stripe that is the first
 pub noted_within : (first second s : Stripe) (es own : List Entry) → s ≡ first → own ≡ entries_within first es
-    → AllByRecursion (IsNoted (has_row_in_two first second) (rows_in_two first second)) es
-    → AllByRecursion (IsNoted (has_row s) (rows_now s)) own
+    → AllByRecursion (CanBeNoted (has_row_in_two first second) (rows_in_two first second)) es
+    → AllByRecursion (CanBeNoted (has_row s) (rows_now s)) own
 noted_within first second s es own same is noted =
-    subst (λ (q : Stripe). AllByRecursion (IsNoted (has_row q) (rows_now q)) own) (sym same)
-    (subst (AllByRecursion (IsNoted (has_row first) (rows_now first))) (sym is)
-    (all_filtered (IsNoted (has_row_in_two first second) (rows_in_two first second))
-    (IsNoted (has_row first) (rows_now first)) (λ (e : Entry). has_row first e.row) es
+    subst (λ (q : Stripe). AllByRecursion (CanBeNoted (has_row q) (rows_now q)) own) (sym same)
+    (subst (AllByRecursion (CanBeNoted (has_row first) (rows_now first))) (sym is)
+    (all_filtered (CanBeNoted (has_row_in_two first second) (rows_in_two first second))
+    (CanBeNoted (has_row first) (rows_now first)) (λ (e : Entry). has_row first e.row) es
     (λ e here. noted_as (has_row_in_two first second) (has_row first) (rows_in_two first second) (rows_now first) e here
     (ap (λ b. cond b (rows_now first e.row) (rows_now second e.row)) here)) noted))
 
 -- of the other rows, in a stripe that is the second
 pub noted_outside : (first second s : Stripe) (es own : List Entry) → s ≡ second → own ≡ entries_outside first es
-    → AllByRecursion (IsNoted (has_row_in_two first second) (rows_in_two first second)) es
-    → AllByRecursion (IsNoted (has_row s) (rows_now s)) own
+    → AllByRecursion (CanBeNoted (has_row_in_two first second) (rows_in_two first second)) es
+    → AllByRecursion (CanBeNoted (has_row s) (rows_now s)) own
 noted_outside first second s es own same is noted =
-    subst (λ (q : Stripe). AllByRecursion (IsNoted (has_row q) (rows_now q)) own) (sym same)
-    (subst (AllByRecursion (IsNoted (has_row second) (rows_now second))) (sym is)
-    (all_filtered (IsNoted (has_row_in_two first second) (rows_in_two first second))
-    (IsNoted (has_row second) (rows_now second)) (λ (e : Entry). not (has_row first e.row)) es
+    subst (λ (q : Stripe). AllByRecursion (CanBeNoted (has_row q) (rows_now q)) own) (sym same)
+    (subst (AllByRecursion (CanBeNoted (has_row second) (rows_now second))) (sym is)
+    (all_filtered (CanBeNoted (has_row_in_two first second) (rows_in_two first second))
+    (CanBeNoted (has_row second) (rows_now second)) (λ (e : Entry). not (has_row first e.row)) es
     (λ e out h. let not_there = not-true (has_row first e.row) out in
     noted_as (has_row_in_two first second) (has_row second) (rows_in_two first second) (rows_now second) e
     (ap (λ b. b || has_row second e.row) (sym not_there) ∙ h.there)
@@ -252,24 +253,24 @@ settled_stands s tick stands =
     }
 
 pub held_settled : (base rows settled : List Restore) (journal rest : List Journaled) (greatest : Option ℕ) (tick : ℕ)
-    → IsHeld base rows journal greatest
+    → IsHeldStripe base rows journal greatest
     → settled ≡ rows_in_table (table_after_journal (table_in base) (filter (up_to tick) journal)) base
-    → rest ≡ filter (behind tick) journal → IsHeld settled rows rest greatest
+    → rest ≡ filter (behind tick) journal → IsHeldStripe settled rows rest greatest
 held_settled base rows settled journal rest greatest tick holds e f =
-    let s : Stripe = stripe_of base journal greatest in
+    let s : Stripe = stripe_held base journal greatest in
     let t : Stripe = settled_to tick s in
-    let whole : IsHeld t.base rows t.journal greatest = record {
+    let whole : IsHeldStripe t.base rows t.journal greatest = record {
       stands = settled_stands s tick holds.stands;
       as_now = holds.as_now ∙ sym (ap (λ (u : Table). rows_in_table u t.base) (rows_now-settled s tick holds.stands)
           ∙ rows_in_table-twice (rows_now s) (table_after_journal (committed s) (filter (up_to tick) journal)) base);
     } in
-    subst (λ (bs : List Restore). IsHeld bs rows rest greatest) (sym e)
-    (subst (λ (js : List Journaled). IsHeld t.base rows js greatest) (sym f) whole)
+    subst (λ (bs : List Restore). IsHeldStripe bs rows rest greatest) (sym e)
+    (subst (λ (js : List Journaled). IsHeldStripe t.base rows js greatest) (sym f) whole)
 
 -- ---- undone
 
 pub held_undone : (base rows : List Restore) (journal : List Journaled) (greatest : Option ℕ)
-    → IsHeld base rows journal greatest → IsHeld base base [] greatest
+    → IsHeldStripe base rows journal greatest → IsHeldStripe base base [] greatest
 held_undone base rows journal greatest holds = record {
   stands = record {
     rows = holds.stands.rows;

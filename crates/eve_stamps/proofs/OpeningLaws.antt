@@ -9,7 +9,7 @@ use Rattle.std.proofs.lemmas.List.Elements.{filter-append}
 use Rattle.std.proofs.lemmas.Grind.{flat_map-append}
 use Rattle.eve_grammar.specs.declared.restore.Restore.{Restore}
 use Rattle.eve_stamps.specs.Stripes.{RowsRise, AreWithinLimit}
-use Rattle.eve_stamps.specs.Opening.{stripe_of_customer, rows_of_customer, opening_rows}
+use Rattle.eve_stamps.specs.Opening.{stripe_of_customer, rows_of_customer, rows_of_stripe}
 
 -- ---- one customer more
 
@@ -28,36 +28,36 @@ one : (balances : List ℤ) (c : ℕ) (b : Bool)
 one balances c true = refl
 one balances c false = refl
 
-pub opening_rows_more : (balances : List ℤ) (stripe n : ℕ) → opening_rows balances stripe (suc n)
-    ≡ opening_rows balances stripe n ++ cond (stripe_of_customer n == stripe) (rows_of_customer balances n) []
+pub opening_rows_more : (balances : List ℤ) (stripe n : ℕ) → rows_of_stripe balances stripe (suc n)
+    ≡ rows_of_stripe balances stripe n ++ cond (stripe_of_customer n == stripe) (rows_of_customer balances n) []
 opening_rows_more balances stripe n =
     let p : ℕ → Bool = λ c. stripe_of_customer c == stripe in
     let first : 0 + n ≡ n = omega arith in
     ap (rows_of_each balances p) (range_more 0 n ∙ ap (λ x. range_with_len 0 n ++ x ∷ []) first)
     ∙ ap (flat_map (rows_of_customer balances)) (filter-append p (range_with_len 0 n) (n ∷ []))
     ∙ flat_map-append (rows_of_customer balances) (filter p (range_with_len 0 n)) (cond (p n) (n ∷ []) [])
-    ∙ ap (λ l. opening_rows balances stripe n ++ l) (one balances n (p n))
+    ∙ ap (λ l. rows_of_stripe balances stripe n ++ l) (one balances n (p n))
 
 -- a customer of the stripe
 pub opening_rows_with : (balances : List ℤ) (stripe n : ℕ) → stripe_of_customer n ≡ stripe →
-    opening_rows balances stripe (n + 1) ≡ opening_rows balances stripe n ++ rows_of_customer balances n
+    rows_of_stripe balances stripe (n + 1) ≡ rows_of_stripe balances stripe n ++ rows_of_customer balances n
 opening_rows_with balances stripe n is =
     let e : n + 1 ≡ suc n = omega arith in
-    ap (opening_rows balances stripe) e
+    ap (rows_of_stripe balances stripe) e
     ∙ opening_rows_more balances stripe n
-    ∙ ap (λ b. opening_rows balances stripe n ++ cond b (rows_of_customer balances n) [])
+    ∙ ap (λ b. rows_of_stripe balances stripe n ++ cond b (rows_of_customer balances n) [])
     (eq-eqb (stripe_of_customer n) stripe is)
 
 -- a customer of another
 pub opening_rows_without : (balances : List ℤ) (stripe n : ℕ) → stripe_of_customer n ≢ stripe →
-    opening_rows balances stripe (n + 1) ≡ opening_rows balances stripe n
+    rows_of_stripe balances stripe (n + 1) ≡ rows_of_stripe balances stripe n
 opening_rows_without balances stripe n other =
     let e : n + 1 ≡ suc n = omega arith in
-    ap (opening_rows balances stripe) e
+    ap (rows_of_stripe balances stripe) e
     ∙ opening_rows_more balances stripe n
-    ∙ ap (λ b. opening_rows balances stripe n ++ cond b (rows_of_customer balances n) [])
+    ∙ ap (λ b. rows_of_stripe balances stripe n ++ cond b (rows_of_customer balances n) [])
     (ne_eqb (stripe_of_customer n) stripe other)
-    ∙ append-nil (opening_rows balances stripe n)
+    ∙ append-nil (rows_of_stripe balances stripe n)
 
 -- ---- they rise
 
@@ -95,7 +95,7 @@ rise_from balances p c zero = (tt, tt)
 rise_from balances p c (suc n) =
     rise_with balances c (filter p (range_with_len (c + 1) n)) (p c) (rise_from balances p (c + 1) n)
 
-pub opening_rows_rise : (balances : List ℤ) (stripe n : ℕ) → RowsRise (opening_rows balances stripe n)
+pub opening_rows_rise : (balances : List ℤ) (stripe n : ℕ) → RowsRise (rows_of_stripe balances stripe n)
 opening_rows_rise balances stripe n = (rise_from balances (λ c. stripe_of_customer c == stripe) 0 n).0
 
 -- ---- no version is past the limit
@@ -104,6 +104,6 @@ within_each : (balances : List ℤ) (customers : List ℕ) → AreWithinLimit (f
 within_each balances [] = tt
 within_each balances (c ∷ customers) = (omega arith, (omega arith, within_each balances customers))
 
-pub opening_rows_within : (balances : List ℤ) (stripe n : ℕ) → AreWithinLimit (opening_rows balances stripe n)
+pub opening_rows_within : (balances : List ℤ) (stripe n : ℕ) → AreWithinLimit (rows_of_stripe balances stripe n)
 opening_rows_within balances stripe n =
     within_each balances (filter (λ c. stripe_of_customer c == stripe) (range_with_len 0 n))

@@ -13,7 +13,7 @@ use Rattle.eve_smallbank.specs.declared.request.Reply.TheVariants.{Done, Total, 
 use Rattle.eve_smallbank.specs.declared.rows.Touched.{Touched}
 use Rattle.eve_smallbank.specs.declared.rows.Touched.TheVariants as touched
 use Rattle.eve_smallbank.specs.SmallBank.{Request, Bank, does}
-use Rattle.eve_smallbank.specs.Access.{Executed, Rows, Fits, is_write, rows_of, as_reads, noted_rows, bank_of}
+use Rattle.eve_smallbank.specs.Access.{Executed, RowKinds, Fits, is_write, rows_of, as_reads, noted_rows, bank_of}
 use Rattle.eve_smallbank.specs.Chain.{Table, Sees, values_of}
 use Rattle.eve_smallbank.specs.Touch.{touched_of, rows_in, knows_names, has_bad_amount}
 use Rattle.eve_smallbank.specs.Decide.{entries_from, executed_from}
@@ -22,13 +22,13 @@ use Rattle.eve_grammar.specs.declared.restore.Restore.{Restore}
 use Rattle.eve_grammar.specs.Limits.{version_limit}
 use Rattle.eve_stamps.specs.Stripes.{row_in}
 use Rattle.eve_stamps.specs.Stamping.{is_worn}
-use Rattle.eve_stamps.specs.Holding.{entries_on, IsNoted}
+use Rattle.eve_stamps.specs.Holding.{entries_on, CanBeNoted}
 
 -- the rows, as a table has them
-abbrev pub seen_rows : Table → Rows → List Restore
+abbrev pub seen_rows : Table → RowKinds → List Restore
 seen_rows table rows = map (λ r. row_in table r.0) rows
 
-same_entries : (table : Table) (rows : Rows) (effects : List Effect)
+same_entries : (table : Table) (rows : RowKinds) (effects : List Effect)
     → entries_from rows (map (λ r. r.version) (seen_rows table rows)) (map (λ r. r.value) (seen_rows table rows))
     effects ≡ entries_on (seen_rows table rows) effects
 same_entries table [] effects = refl
@@ -42,14 +42,14 @@ same_entries table (r ∷ rows) (effect ∷ effects) =
       after = effect.after;
     } ∷ es) (same_entries table rows effects)
 
-all_see : (table : Table) (rows : Rows) (effects : List Effect)
+all_see : (table : Table) (rows : RowKinds) (effects : List Effect)
     → AllByRecursion (Sees table) (entries_on (seen_rows table rows) effects)
 all_see table [] effects = tt
 all_see table (r ∷ rows) [] = tt
 all_see table (r ∷ rows) (effect ∷ effects) = (record { version = refl; value = refl }, all_see table rows effects)
 
 -- the record of a decision is the request, executed on the table
-pub executed_is : (names : List (List ℕ)) (table : Table) (request : Request) (rows : Rows) (seen : List Restore)
+pub executed_is : (names : List (List ℕ)) (table : Table) (request : Request) (rows : RowKinds) (seen : List Restore)
     (values : List ℤ) (entries : List Entry) (decision : Decision)
     → ((x : Executed) → Fits names x → AllByRecursion (Sees table) x.entries → x ≡ executed_on names table x.request)
     → seen ≡ seen_rows table rows → values ≡ map (λ r. r.value) seen
@@ -76,7 +76,7 @@ record IsNotable (is_there : ℕ → Bool) (table : Table) (r : ℕ × Kind) : T
   there : is_there r.0 ≡ true
   fresh : is_write r.1 ≡ true → nat_le version_limit (table r.0).version ≡ false
 
-notable : (is_there : ℕ → Bool) (table : Table) (rows : Rows) → list_all (λ r. is_there r.0) rows ≡ true
+notable : (is_there : ℕ → Bool) (table : Table) (rows : RowKinds) → list_all (λ r. is_there r.0) rows ≡ true
     → is_worn table rows ≡ false → AllByRecursion (IsNotable is_there table) rows
 notable is_there table [] there fresh = tt
 notable is_there table (r ∷ rows) there fresh =
@@ -90,7 +90,7 @@ notable is_there table (r ∷ rows) there fresh =
       notable is_there table rows here.1 worn.1,
     )
 
-notable_reads : (is_there : ℕ → Bool) (table : Table) (rows : Rows) → AllByRecursion (IsNotable is_there table) rows
+notable_reads : (is_there : ℕ → Bool) (table : Table) (rows : RowKinds) → AllByRecursion (IsNotable is_there table) rows
     → AllByRecursion (IsNotable is_there table) (as_reads rows)
 notable_reads is_there table [] all = tt
 notable_reads is_there table (r ∷ rows) all = (
@@ -98,7 +98,7 @@ notable_reads is_there table (r ∷ rows) all = (
   notable_reads is_there table rows all.1,
 )
 
-notable_rows : (is_there : ℕ → Bool) (table : Table) (reply : Reply) (rows : Rows)
+notable_rows : (is_there : ℕ → Bool) (table : Table) (reply : Reply) (rows : RowKinds)
     → AllByRecursion (IsNotable is_there table) rows → AllByRecursion (IsNotable is_there table) (noted_rows reply rows)
 notable_rows is_there table Done rows all = all
 notable_rows is_there table (Total sum) rows all = all
@@ -107,9 +107,9 @@ notable_rows is_there table (Aborted BadAmount) rows all = tt
 notable_rows is_there table (Aborted Insufficient) rows all = notable_reads is_there table rows all
 notable_rows is_there table (Aborted OutOfRange) rows all = notable_reads is_there table rows all
 
-noted_entries : (is_there : ℕ → Bool) (names : List (List ℕ)) (table : Table) (bank : Bank) (rows : Rows)
+noted_entries : (is_there : ℕ → Bool) (names : List (List ℕ)) (table : Table) (bank : Bank) (rows : RowKinds)
     → AllByRecursion (IsNotable is_there table) rows
-    → AllByRecursion (IsNoted is_there table) (map (entry_on names table bank) rows)
+    → AllByRecursion (CanBeNoted is_there table) (map (entry_on names table bank) rows)
 noted_entries is_there names table bank [] all = tt
 noted_entries is_there names table bank (r ∷ rows) all = (
   record { there = all.0.there; sees = record { version = refl; value = refl }; fresh = all.0.fresh },
@@ -124,13 +124,13 @@ pub all_noted : (names : List (List ℕ)) (table : Table) (request : Request) (r
     → reached ≡ touched_of names request
     → map (λ e. e.row) (executed_on names table request).entries ≡ map (λ r. r.0) (rows_in (touched_of names request))
     → list_all (λ r. is_there r.0) (rows_in reached) ≡ true → is_worn table (rows_in reached) ≡ false
-    → AllByRecursion (IsNoted is_there table) (executed_on names table request).entries
+    → AllByRecursion (CanBeNoted is_there table) (executed_on names table request).entries
 all_noted names table request reached is_there is touch there fresh =
     by (knows_names names request) (has_bad_amount request) is touch
   where
     refused : map (λ e. e.row) (executed_on names table request).entries ≡ []
-        → AllByRecursion (IsNoted is_there table) (executed_on names table request).entries
-    refused none = subst (AllByRecursion (IsNoted is_there table))
+        → AllByRecursion (CanBeNoted is_there table) (executed_on names table request).entries
+    refused none = subst (AllByRecursion (CanBeNoted is_there table))
         (sym (none_left (λ (e : Entry). e.row) (executed_on names table request).entries none)) tt
 
     by : (b c : Bool) → reached ≡ cond b (cond c (touched.Refused BadAmount) (touched.Rows (rows_of names request)))
@@ -139,13 +139,14 @@ all_noted names table request reached is_there is touch there fresh =
         ≡ map (λ r. r.0) (rows_in
         (cond b (cond c (touched.Refused BadAmount) (touched.Rows (rows_of names request)))
         (touched.Refused NoSuchName)))
-        → AllByRecursion (IsNoted is_there table) (executed_on names table request).entries
+        → AllByRecursion (CanBeNoted is_there table) (executed_on names table request).entries
     by true false told along =
         let outcome : Bank × Reply = does (bank_of names (values_of table)) request in
         let same : rows_in reached ≡ rows_of names request = ap rows_in told in
         noted_entries is_there names table outcome.0 (noted_rows outcome.1 (rows_of names request))
         (notable_rows is_there table outcome.1 (rows_of names request)
-        (notable is_there table (rows_of names request) (ap (λ (rs : Rows). list_all (λ r. is_there r.0) rs) (sym same)
+        (notable is_there table (rows_of names request)
+        (ap (λ (rs : RowKinds). list_all (λ r. is_there r.0) rs) (sym same)
         ∙ there) (ap (is_worn table) (sym same) ∙ fresh)))
     by true true told along = refused along
     by false c told along = refused along

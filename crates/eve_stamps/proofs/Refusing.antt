@@ -6,7 +6,7 @@ use Rattle.std.specs.List.{list_all}
 use Rattle.std.proofs.lemmas.Bool.{or_left, or_right, and_left, and_right, le-leb, and_from}
 use Rattle.std.proofs.lemmas.List.{length-map}
 use Rattle.eve_smallbank.specs.declared.entry.Kind.{Kind}
-use Rattle.eve_smallbank.specs.Access.{Rows, is_write}
+use Rattle.eve_smallbank.specs.Access.{RowKinds, is_write}
 use Rattle.eve_smallbank.specs.Chain.{Table}
 use Rattle.eve_grammar.specs.declared.restore.Restore.{Restore}
 use Rattle.eve_grammar.specs.Limits.{version_limit}
@@ -16,7 +16,7 @@ use Rattle.eve_stamps.specs.Stripes.{row_in}
 use Rattle.eve_stamps.specs.Stamping.{seen_of, is_worn, refused_for, IsRefusedFor}
 use Rattle.eve_stamps.proofs.RowLaws.{some_injective, none≢some}
 
-pub record IsSeen (is_there : ℕ → Bool) (now : Table) (rows : Rows) (seen : List Restore) : Type 0 where
+pub record IsSeen (is_there : ℕ → Bool) (now : Table) (rows : RowKinds) (seen : List Restore) : Type 0 where
   pub there : list_all (λ r. is_there r.0) rows ≡ true
   pub as_now : seen ≡ map (λ r. row_in now r.0) rows
 
@@ -28,23 +28,26 @@ told_none : {A : Type 0} (b : Bool) (y : A) → None ≡ cond b (Some y) None �
 told_none true y e = absurd (none≢some y e)
 told_none false y e = refl
 
-pub seen_is : (is_there : ℕ → Bool) (now : Table) (rows found : Rows) (seen : List Restore) → found ≡ rows → Some seen
+pub seen_is : (is_there : ℕ → Bool) (now : Table) (rows found : RowKinds) (seen : List Restore) → found ≡ rows
+    → Some seen
     ≡ seen_of is_there now found → IsSeen is_there now rows seen
 seen_is is_there now rows found seen same told =
     let both = told_some (list_all (λ r. is_there r.0) rows) seen (map (λ r. row_in now r.0) rows)
     (told ∙ ap (seen_of is_there now) same) in record { there = both.0; as_now = both.1 }
 
-pub length-seen : (is_there : ℕ → Bool) (now : Table) (rows : Rows) (seen : List Restore)
+pub length-seen : (is_there : ℕ → Bool) (now : Table) (rows : RowKinds) (seen : List Restore)
     → IsSeen is_there now rows seen → length seen ≡ length rows
 length-seen is_there now rows seen is = ap length is.as_now ∙ length-map rows (λ r. row_in now r.0)
 
-pub many_seen : (is_there : ℕ → Bool) (now : Table) (rows found : Rows) (seen : Option (List Restore)) → found ≡ rows
+pub many_seen : (is_there : ℕ → Bool) (now : Table) (rows found : RowKinds) (seen : Option (List Restore))
+    → found ≡ rows
     → seen ≡ seen_of is_there now found → IfSome seen (λ held. length held ≡ length rows)
 many_seen is_there now rows found None same told = tt
 many_seen is_there now rows found (Some held) same told =
     length-seen is_there now rows held (seen_is is_there now rows found held same told)
 
-pub refused_late : (A : Type 0) (is_there : ℕ → Bool) (is_new : Bool) (now : Table) (rows : Rows) (seen : List Restore)
+pub refused_late : (A : Type 0) (is_there : ℕ → Bool) (is_new : Bool) (now : Table) (rows : RowKinds)
+    (seen : List Restore)
     → IsSeen is_there now rows seen → is_new ≡ false
     → IsRefusedFor {A = A} (refused_for is_there is_new now rows) (Err fault.TickOrder)
 refused_late A is_there is_new now rows seen is late =
@@ -52,7 +55,8 @@ refused_late A is_there is_new now rows seen is late =
     (sym (ap₂ (λ a b. cond a (cond b (cond (is_worn now rows) (Some fault.Worn) None) (Some fault.TickOrder))
     (Some fault.NoRow)) is.there late)) refl
 
-pub refused_worn : (A : Type 0) (is_there : ℕ → Bool) (is_new : Bool) (now : Table) (rows : Rows) (seen : List Restore)
+pub refused_worn : (A : Type 0) (is_there : ℕ → Bool) (is_new : Bool) (now : Table) (rows : RowKinds)
+    (seen : List Restore)
     → IsSeen is_there now rows seen → is_new ≡ true → is_worn now rows ≡ true
     → IsRefusedFor {A = A} (refused_for is_there is_new now rows) (Err fault.Worn)
 refused_worn A is_there is_new now rows seen is timely worn =
@@ -60,7 +64,7 @@ refused_worn A is_there is_new now rows seen is timely worn =
     (sym (ap₂ (λ a b. cond a (cond b (cond (is_worn now rows) (Some fault.Worn) None) (Some fault.TickOrder))
     (Some fault.NoRow)) is.there timely ∙ ap (λ c. cond c (Some fault.Worn) None) worn)) refl
 
-pub not_refused : (is_there : ℕ → Bool) (is_new : Bool) (now : Table) (rows : Rows) (seen : List Restore)
+pub not_refused : (is_there : ℕ → Bool) (is_new : Bool) (now : Table) (rows : RowKinds) (seen : List Restore)
     → IsSeen is_there now rows seen → is_new ≡ true → is_worn now rows ≡ false
     → refused_for is_there is_new now rows ≡ None
 not_refused is_there is_new now rows seen is timely fresh =
@@ -76,7 +80,7 @@ missing_at p (y ∷ xs) zero x at out = ap (λ z. p z && list_all p xs) (some_in
     ∙ and_left (p x) (list_all p xs) out
 missing_at p (y ∷ xs) (suc i) x at out = and_right (p y) (list_all p xs) (missing_at p xs i x at out)
 
-pub worn_at : (now : Table) (rows : Rows) (seen : List Restore) (i : ℕ) (r : ℕ × Kind) (held : Restore)
+pub worn_at : (now : Table) (rows : RowKinds) (seen : List Restore) (i : ℕ) (r : ℕ × Kind) (held : Restore)
     → slice_get rows i ≡ Some r → slice_get seen i ≡ Some held → seen ≡ map (λ q. row_in now q.0) rows
     → is_write r.1 ≡ true → version_limit ≤ held.version → is_worn now rows ≡ true
 worn_at now [] seen i r held at there so writes old = absurd (none≢some r at)
@@ -93,20 +97,20 @@ worn_at now (q ∷ rows) (h ∷ seen) (suc i) r held at there so writes old =
     or_right (is_write q.1 && nat_le version_limit (now q.0).version) (is_worn now rows)
     (worn_at now rows seen i r held at there rest writes old)
 
-pub not_seen : (is_there : ℕ → Bool) (now : Table) (rows : Rows) (i : ℕ) (r : ℕ × Kind) → slice_get rows i ≡ Some r
+pub not_seen : (is_there : ℕ → Bool) (now : Table) (rows : RowKinds) (i : ℕ) (r : ℕ × Kind) → slice_get rows i ≡ Some r
     → None ≡ cond (is_there r.0) (Some (row_in now r.0)) None → None ≡ seen_of is_there now rows
 not_seen is_there now rows i r at out =
     ap (λ b. cond b (Some (map (λ q. row_in now q.0) rows)) None)
     (sym (missing_at (λ (q : ℕ × Kind). is_there q.0) rows i r at (told_none (is_there r.0) (row_in now r.0) out)))
 
-pub refused_memory : (A : Type 0) (is_there : ℕ → Bool) (is_new : Bool) (now : Table) (rows : Rows)
+pub refused_memory : (A : Type 0) (is_there : ℕ → Bool) (is_new : Bool) (now : Table) (rows : RowKinds)
     (seen : List Restore) → IsSeen is_there now rows seen → is_new ≡ true → is_worn now rows ≡ false
     → IsRefusedFor {A = A} (refused_for is_there is_new now rows) (Err fault.Memory)
 refused_memory A is_there is_new now rows seen is timely fresh =
     subst (λ (o : Option StampFault). IsRefusedFor {A = A} o (Err fault.Memory))
     (sym (not_refused is_there is_new now rows seen is timely fresh)) refl
 
-pub taken_on : {A : Type 0} (is_there : ℕ → Bool) (is_new : Bool) (now : Table) (rows : Rows) (seen : List Restore)
+pub taken_on : {A : Type 0} (is_there : ℕ → Bool) (is_new : Bool) (now : Table) (rows : RowKinds) (seen : List Restore)
     (x : A) → IsSeen is_there now rows seen → is_new ≡ true → is_worn now rows ≡ false
     → IsRefusedFor {A = A} (refused_for is_there is_new now rows) (Ok x)
 taken_on {A} is_there is_new now rows seen x is timely fresh =
@@ -114,8 +118,8 @@ taken_on {A} is_there is_new now rows seen x is timely fresh =
     (sym (not_refused is_there is_new now rows seen is timely fresh)) tt
 
 -- what was told of the rows that were found
-pub worn_told : (is_there : ℕ → Bool) (now : Table) (rows found : Rows) (seen : List Restore) (b : Bool)
+pub worn_told : (is_there : ℕ → Bool) (now : Table) (rows found : RowKinds) (seen : List Restore) (b : Bool)
     → IsSeen is_there now rows seen → found ≡ rows
     → ((table : Table) → seen ≡ map (λ r. row_in table r.0) found → b ≡ is_worn table found) → b ≡ is_worn now rows
 worn_told is_there now rows found seen b is same told =
-    told now (is.as_now ∙ ap (λ (rs : Rows). map (λ r. row_in now r.0) rs) (sym same)) ∙ ap (is_worn now) same
+    told now (is.as_now ∙ ap (λ (rs : RowKinds). map (λ r. row_in now r.0) rs) (sym same)) ∙ ap (is_worn now) same

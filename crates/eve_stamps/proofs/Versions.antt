@@ -11,7 +11,7 @@ use Rattle.eve_grammar.specs.Limits.{version_limit}
 use Rattle.eve_stamps.specs.declared.journal.Journaled.{Journaled}
 use Rattle.eve_stamps.specs.Stripes.{Stripe, IsStripe, lies_in, row_in, rows_in_table, AreWithinLimit, committed}
 use Rattle.eve_stamps.specs.Stripes.{rows_now, table_after_journal, AreJournaled, was_written, restores_of}
-use Rattle.eve_stamps.specs.Holding.{changed, IsNoted}
+use Rattle.eve_stamps.specs.Holding.{rows_changed, CanBeNoted}
 use Rattle.eve_stamps.proofs.RowLaws.{rows_in_table-self}
 
 -- what entries that see the table t leave in another
@@ -78,19 +78,19 @@ told_apart before after false r = eq-eqb before after (sym (r.same refl))
 -- rows whose versions tell what was written
 changed_rows : (table : Table) (js : List Journaled) (rows : List Restore)
     → AllByRecursion (λ r. (r.version == (table r.row).version) ≡ not (was_written js r.row)) rows
-    → changed rows (rows_in_table table rows) ≡ filter (λ r. was_written js r.row) rows
+    → rows_changed rows (rows_in_table table rows) ≡ filter (λ r. was_written js r.row) rows
 changed_rows table js [] told = refl
 changed_rows table js (r ∷ rows) told = step (was_written js r.row) told.0 (changed_rows table js rows told.1)
   where
-    step : (b : Bool) → (r.version == (table r.row).version) ≡ not b → changed rows (rows_in_table table rows)
+    step : (b : Bool) → (r.version == (table r.row).version) ≡ not b → rows_changed rows (rows_in_table table rows)
         ≡ filter (λ q. was_written js q.row) rows
-        → cond (r.version == (table r.row).version) (changed rows (rows_in_table table rows))
-        (r ∷ changed rows (rows_in_table table rows))
+        → cond (r.version == (table r.row).version) (rows_changed rows (rows_in_table table rows))
+        (r ∷ rows_changed rows (rows_in_table table rows))
         ≡ cond b (r ∷ filter (λ q. was_written js q.row) rows) (filter (λ q. was_written js q.row) rows)
-    step true is rest = ap (λ c. cond c (changed rows (rows_in_table table rows))
-        (r ∷ changed rows (rows_in_table table rows))) is ∙ ap (λ (rs : List Restore). r ∷ rs) rest
-    step false is rest = ap (λ c. cond c (changed rows (rows_in_table table rows))
-        (r ∷ changed rows (rows_in_table table rows))) is ∙ rest
+    step true is rest = ap (λ c. cond c (rows_changed rows (rows_in_table table rows))
+        (r ∷ rows_changed rows (rows_in_table table rows))) is ∙ ap (λ (rs : List Restore). r ∷ rs) rest
+    step false is rest = ap (λ c. cond c (rows_changed rows (rows_in_table table rows))
+        (r ∷ rows_changed rows (rows_in_table table rows))) is ∙ rest
 
 -- where a table has the versions of these rows
 versions_told : (t : Table) (js : List Journaled) (rows : List Restore) → AreJournaled t js → rows_in_table t rows
@@ -106,7 +106,7 @@ versions_told t js (r ∷ rows) seen same =
       versions_told t js rows seen rest,
     )
 
-pub changed_is : (s : Stripe) → IsStripe s → changed s.base (rows_in_table (rows_now s) s.base) ≡ restores_of s
+pub changed_is : (s : Stripe) → IsStripe s → rows_changed s.base (rows_in_table (rows_now s) s.base) ≡ restores_of s
 changed_is s stands =
     changed_rows (rows_now s) s.journal s.base
     (versions_told (committed s) s.journal s.base stands.seen (rows_in_table-self s.base stands.rows))
@@ -138,7 +138,7 @@ limit_at t (r ∷ rows) row limit there =
     ]
 
 -- a row that is written was below it
-fresh_below : (is_there : ℕ → Bool) (t : Table) (es : List Entry) (row : ℕ) → AllByRecursion (IsNoted is_there t) es
+fresh_below : (is_there : ℕ → Bool) (t : Table) (es : List Entry) (row : ℕ) → AllByRecursion (CanBeNoted is_there t) es
     → list_any (writes_row row) es ≡ true → (t row).version < version_limit
 fresh_below is_there t [] row noted writes = absurd (false≢true writes)
 fresh_below is_there t (e ∷ es) row noted writes =
@@ -150,13 +150,13 @@ fresh_below is_there t (e ∷ es) row noted writes =
       | inr rest ↦ fresh_below is_there t es row noted.1 rest
     ]
 
-pub all_sees : (is_there : ℕ → Bool) (t : Table) (es : List Entry) → AllByRecursion (IsNoted is_there t) es
+pub all_sees : (is_there : ℕ → Bool) (t : Table) (es : List Entry) → AllByRecursion (CanBeNoted is_there t) es
     → AllByRecursion (Sees t) es
 all_sees is_there t [] noted = tt
 all_sees is_there t (e ∷ es) noted = (noted.0.sees, all_sees is_there t es noted.1)
 
 pub limit_after : (is_there : ℕ → Bool) (t : Table) (es : List Entry) (rows : List Restore)
-    → AllByRecursion (IsNoted is_there t) es → AreWithinLimit (rows_in_table t rows)
+    → AllByRecursion (CanBeNoted is_there t) es → AreWithinLimit (rows_in_table t rows)
     → AreWithinLimit (rows_in_table (table_after t es) rows)
 limit_after is_there t es [] noted limit = tt
 limit_after is_there t es (r ∷ rows) noted limit = (

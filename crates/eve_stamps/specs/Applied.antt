@@ -21,5 +21,5 @@ noted_of worker place index tick x =
     record { worker = worker; place = place; index = index; tick = tick; reply = x.reply; entries = x.entries }
 
 -- the request as it was executed, by what was noted of it
-abbrev pub executed_by : Request → Applied → Executed
-executed_by request r = record { request = request; reply = r.reply; entries = r.entries }
+abbrev pub executed_as : Request → Applied → Executed
+executed_as request r = record { request = request; reply = r.reply; entries = r.entries }

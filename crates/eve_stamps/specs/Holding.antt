@@ -10,13 +10,13 @@ use Rattle.eve_grammar.specs.Limits.{version_limit}
 use Rattle.eve_stamps.specs.declared.journal.Journaled.{Journaled}
 use Rattle.eve_stamps.specs.Stripes.{Stripe, IsStripe, lies_in, rows_in_table, rows_now}
 
-abbrev pub stripe_of : List Restore → List Journaled → Option ℕ → Stripe
-stripe_of base journal greatest = record { base = base; journal = journal; greatest = greatest }
+abbrev pub stripe_held : List Restore → List Journaled → Option ℕ → Stripe
+stripe_held base journal greatest = record { base = base; journal = journal; greatest = greatest }
 
 -- the rows now are those of the stripe that is held
-pub record IsHeld (base now : List Restore) (journal : List Journaled) (greatest : Option ℕ) : Type 0 where
-  pub stands : IsStripe (stripe_of base journal greatest)
-  pub as_now : now ≡ rows_in_table (rows_now (stripe_of base journal greatest)) base
+pub record IsHeldStripe (base now : List Restore) (journal : List Journaled) (greatest : Option ℕ) : Type 0 where
+  pub stands : IsStripe (stripe_held base journal greatest)
+  pub as_now : now ≡ rows_in_table (rows_now (stripe_held base journal greatest)) base
 
 -- where a row stands among these, if it does
 abbrev pub IsPlaceOf : List Restore → ℕ → Option ℕ → Type 0
@@ -24,9 +24,9 @@ IsPlaceOf rows row (Some place) = (r : Restore) × (slice_get rows place ≡ Som
 IsPlaceOf rows row None = lies_in rows row ≡ false
 
 -- the rows of the first whose version is another in the second
-abbrev pub changed : List Restore → List Restore → List Restore
-changed (b ∷ base) (n ∷ now) = if b.version == n.version then changed base now else b ∷ changed base now
-changed base now = []
+abbrev pub rows_changed : List Restore → List Restore → List Restore
+rows_changed (b ∷ base) (n ∷ now) = if b.version == n.version then rows_changed base now else b ∷ rows_changed base now
+rows_changed base now = []
 
 -- one entry for each row seen
 abbrev pub entries_on : List Restore → List Effect → List Entry
@@ -36,7 +36,7 @@ entries_on (r ∷ seen) (effect ∷ effects) =
 entries_on seen effects = []
 
 -- An entry of a row that is there, that sees the table, and that writes no row whose version is the greatest.
-pub record IsNoted (is_there : ℕ → Bool) (table : Table) (e : Entry) : Type 0 where
+pub record CanBeNoted (is_there : ℕ → Bool) (table : Table) (e : Entry) : Type 0 where
   pub there : is_there e.row ≡ true
   pub sees : Sees table e
   pub fresh : is_write e.kind ≡ true → nat_le version_limit (table e.row).version ≡ false

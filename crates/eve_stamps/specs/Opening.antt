@@ -2,11 +2,12 @@
 use Rattle.std.specs.Prelude.{ℕ, ℤ, ◌/◌, ◌%◌, ◌==◌, Bool, List, [], ◌∷◌, filter, flat_map}
 use Rattle.std.specs.List.{range_with_len, list_any}
 use Rattle.eve_accounts.specs.Rows.{saving_row, checking_row}
-use Rattle.eve_smallbank.specs.Access.{Rows, balance_at}
+use Rattle.eve_smallbank.specs.Access.{RowKinds, balance_of_row}
 use Rattle.eve_grammar.specs.declared.restore.Restore.{Restore}
+use Rattle.eve_stamps.specs.declared.limits.TheConstants.{STRIPES}
 
 abbrev pub stripe_count : ℕ
-stripe_count = 16
+stripe_count = STRIPES
 
 -- customer c lies in stripe c mod 16
 abbrev pub stripe_of_customer : ℕ → ℕ
@@ -17,14 +18,14 @@ abbrev pub stripe_of : ℕ → ℕ
 stripe_of row = stripe_of_customer (row / 2)
 
 -- whether one of these rows lies in the stripe
-abbrev pub touches : Rows → ℕ → Bool
+abbrev pub touches : RowKinds → ℕ → Bool
 touches rows stripe = list_any (λ r. stripe_of r.0 == stripe) rows
 
 -- ---- at first
 
 -- the row at version 0, with its opening balance
 abbrev pub opening_row : List ℤ → ℕ → Restore
-opening_row balances row = record { row = row; version = 0; value = balance_at balances row }
+opening_row balances row = record { row = row; version = 0; value = balance_of_row balances row }
 
 -- both rows of a customer
 abbrev pub rows_of_customer : List ℤ → ℕ → List Restore
@@ -32,6 +33,6 @@ rows_of_customer balances customer =
     opening_row balances (saving_row customer) ∷ opening_row balances (checking_row customer) ∷ []
 
 -- the rows of the stripe, where there are so many customers
-abbrev pub opening_rows : List ℤ → ℕ → ℕ → List Restore
-opening_rows balances stripe customers =
+abbrev pub rows_of_stripe : List ℤ → ℕ → ℕ → List Restore
+rows_of_stripe balances stripe customers =
     flat_map (rows_of_customer balances) (filter (λ c. stripe_of_customer c == stripe) (range_with_len 0 customers))

@@ -6,7 +6,7 @@ use Rattle.eve_smallbank.specs.declared.entry.Entry.{Entry}
 use Rattle.eve_smallbank.specs.declared.request.Reply.{Reply}
 use Rattle.eve_smallbank.specs.declared.rows.Touched.{Touched}
 use Rattle.eve_smallbank.specs.SmallBank.{Request}
-use Rattle.eve_smallbank.specs.Access.{Rows, Fits, is_write}
+use Rattle.eve_smallbank.specs.Access.{RowKinds, Fits, is_write}
 use Rattle.eve_smallbank.specs.Chain.{Table}
 use Rattle.eve_smallbank.specs.Touch.{touched_of, rows_in}
 use Rattle.eve_smallbank.specs.Execution.{executed_on}
@@ -15,7 +15,7 @@ use Rattle.eve_grammar.specs.Limits.{version_limit}
 use Rattle.eve_stamps.specs.declared.fault.StampFault.{StampFault}
 use Rattle.eve_stamps.specs.declared.fault.StampFault.TheVariants as fault
 use Rattle.eve_stamps.specs.Stripes.{Stripe, has_row, row_in, rows_now, is_above}
-use Rattle.eve_stamps.specs.Holding.{IsNoted}
+use Rattle.eve_stamps.specs.Holding.{CanBeNoted}
 
 -- ---- two stripes as one; a row that lies in both is the first's
 
@@ -36,29 +36,29 @@ entries_outside s entries = filter (λ e. not (has_row s e.row)) entries
 -- ---- what is seen
 
 -- these rows as the table has them, where all are there
-abbrev pub seen_of : (ℕ → Bool) → Table → Rows → Option (List Restore)
+abbrev pub seen_of : (ℕ → Bool) → Table → RowKinds → Option (List Restore)
 seen_of is_there now rows =
     if list_all (λ r. is_there r.0) rows then Some (map (λ r. row_in now r.0) rows) else None
 
 -- ---- refusals
 
 -- some row that is to be written has the greatest version
-abbrev pub is_worn : Table → Rows → Bool
+abbrev pub is_worn : Table → RowKinds → Bool
 is_worn now rows = list_any (λ r. is_write r.1 && nat_le version_limit (now r.0).version) rows
 
 -- Why a request of these rows is refused, if it is: a row isn't there, the tick is no new one, or a row is worn.
-abbrev pub refused_for : (ℕ → Bool) → Bool → Table → Rows → Option StampFault
+abbrev pub refused_for : (ℕ → Bool) → Bool → Table → RowKinds → Option StampFault
 refused_for is_there is_new now rows =
     if list_all (λ r. is_there r.0) rows then
     (if is_new then (if is_worn now rows then Some fault.Worn else None) else Some fault.TickOrder)
     else Some fault.NoRow
 
 -- of a request on one stripe
-abbrev pub refusal : Stripe → ℕ → Rows → Option StampFault
+abbrev pub refusal : Stripe → ℕ → RowKinds → Option StampFault
 refusal s tick rows = refused_for (has_row s) (is_above tick s.greatest) (rows_now s) rows
 
 -- of a request on two stripes
-abbrev pub refusal_of_two : Stripe → Stripe → ℕ → Rows → Option StampFault
+abbrev pub refusal_of_two : Stripe → Stripe → ℕ → RowKinds → Option StampFault
 refusal_of_two first second tick rows =
     refused_for (has_row_in_two first second) (is_above tick first.greatest && is_above tick second.greatest)
     (rows_in_two first second) rows
@@ -78,6 +78,6 @@ pub record IsRun (is_there : ℕ → Bool) (now : Table) (is_new : Bool) (reques
       record { request = request; reply = x.0; entries = x.1 } ≡ executed_on names now request)
   pub fits : (names : List (List ℕ)) → touched ≡ touched_of names request → IfOk result (λ x.
       Fits names (record { request = request; reply = x.0; entries = x.1 }))
-  pub noted : IfOk result (λ x. AllByRecursion (IsNoted is_there now) x.1)
+  pub noted : IfOk result (λ x. AllByRecursion (CanBeNoted is_there now) x.1)
   pub taken : IfOk result (λ _. refused_for is_there is_new now (rows_in touched) ≡ None)
   pub refused : IfErr result (λ why. refused_for is_there is_new now (rows_in touched) ≡ Some why)

@@ -103,8 +103,8 @@ is_above tick None = true
 is_above tick (Some greatest) = nat_lt greatest tick
 
 -- one more request
-abbrev pub noted_in : Stripe → ℕ → List Entry → Stripe
-noted_in s tick entries =
+abbrev pub stripe_with : Stripe → ℕ → List Entry → Stripe
+stripe_with s tick entries =
     record {
       base = s.base;
       journal = s.journal ++ record { tick = tick; entries = entries } ∷ [];
@@ -120,8 +120,8 @@ settled_to tick s = record {
 }
 
 -- the journal is gone
-abbrev pub undone : Stripe → Stripe
-undone s = record { base = s.base; journal = []; greatest = s.greatest }
+abbrev pub without_journal : Stripe → Stripe
+without_journal s = record { base = s.base; journal = []; greatest = s.greatest }
 
 -- whether the journal wrote the row
 abbrev pub was_written : List Journaled → ℕ → Bool

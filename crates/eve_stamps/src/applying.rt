@@ -8,11 +8,11 @@ ghost use Rattle.eve_smallbank.specs.Access.{Fits};
 ghost use Rattle.eve_smallbank.specs.Chain.{Table, Sees};
 ghost use Rattle.eve_smallbank.specs.Touch.{touched_of, rows_in};
 ghost use Rattle.eve_smallbank.specs.Execution.{executed_on};
-ghost use Rattle.eve_stamps.specs.Applied.{noted_of, executed_by};
-ghost use Rattle.eve_stamps.specs.Stripes.{has_row, row_in, rows_now, is_above, noted_in};
+ghost use Rattle.eve_stamps.specs.Applied.{noted_of, executed_as};
+ghost use Rattle.eve_stamps.specs.Stripes.{has_row, row_in, rows_now, is_above, stripe_with};
 ghost use Rattle.eve_stamps.specs.Stamping.{has_row_in_two, rows_in_two, entries_within, entries_outside, is_worn};
 ghost use Rattle.eve_stamps.specs.Stamping.{seen_of, refusal, refusal_of_two, IsRefusedFor, IsRun};
-ghost use Rattle.eve_stamps.specs.Holding.{stripe_of, IsHeld, IsNoted};
+ghost use Rattle.eve_stamps.specs.Holding.{stripe_held, IsHeldStripe, CanBeNoted};
 
 use crate::executing::executed;
 use crate::journal::Journaled;
@@ -45,11 +45,11 @@ pub fn apply(
         → IfOk result (λ r. r ≡ noted_of worker place index tick
         (executed_on names (rows_now stripe.old) (plain request.now))) }
     ensures fits { (names : List (List ℕ)) → touched.now ≡ touched_of names (plain request.now)
-        → IfOk result (λ r. Fits names (executed_by (plain request.now) r)) }
+        → IfOk result (λ r. Fits names (executed_as (plain request.now) r)) }
     ensures sees { IfOk result (λ r. AllByRecursion (Sees (rows_now stripe.old)) r.entries) }
 
     // The journal gains exactly the record's entries.
-    ensures journal { IfOk result (λ r. stripe.new ≡ noted_in stripe.old tick r.entries) }
+    ensures journal { IfOk result (λ r. stripe.new ≡ stripe_with stripe.old tick r.entries) }
     ensures refused { IsRefusedFor (refusal stripe.old tick (rows_in touched.now)) result }
     ensures kept { OnErr result (stripe.new ≡ stripe.old) }
 {
@@ -96,12 +96,12 @@ pub fn apply_two(
         → IfOk result (λ r. r ≡ noted_of worker place index tick
         (executed_on names (rows_in_two first.old second.old) (plain request.now))) }
     ensures fits { (names : List (List ℕ)) → touched.now ≡ touched_of names (plain request.now)
-        → IfOk result (λ r. Fits names (executed_by (plain request.now) r)) }
+        → IfOk result (λ r. Fits names (executed_as (plain request.now) r)) }
     ensures sees { IfOk result (λ r. AllByRecursion (Sees (rows_in_two first.old second.old)) r.entries) }
 
     // The journals gain exactly the record's entries, each those of its rows.
-    ensures first { IfOk result (λ r. first.new ≡ noted_in first.old tick (entries_within first.old r.entries)) }
-    ensures second { IfOk result (λ r. second.new ≡ noted_in second.old tick (entries_outside first.old r.entries)) }
+    ensures first { IfOk result (λ r. first.new ≡ stripe_with first.old tick (entries_within first.old r.entries)) }
+    ensures second { IfOk result (λ r. second.new ≡ stripe_with second.old tick (entries_outside first.old r.entries)) }
     ensures refused { IsRefusedFor (refusal_of_two first.old second.old tick (rows_in touched.now)) result }
     ensures first_kept { OnErr result (first.new ≡ first.old) }
     ensures second_kept { OnErr result (second.new ≡ second.old) }
@@ -177,12 +177,12 @@ fn note(
     tick: u64,
     entries: UpToThree<Entry>,
 )
-    requires held { IsHeld base.now rows.old journal.old.items greatest }
+    requires held { IsHeldStripe base.now rows.old journal.old.items greatest }
     requires room { vec_len journal.old + 1 ≤ vec_capacity journal.old }
     requires above { IsTrue (is_above tick greatest) }
-    requires noted { AllByRecursion (IsNoted (has_row (stripe_of base.now journal.old.items greatest))
-        (rows_now (stripe_of base.now journal.old.items greatest))) entries }
-    ensures held { IsHeld base.now rows.new journal.new.items (Some tick) }
+    requires noted { AllByRecursion (CanBeNoted (has_row (stripe_held base.now journal.old.items greatest))
+        (rows_now (stripe_held base.now journal.old.items greatest))) entries }
+    ensures held { IsHeldStripe base.now rows.new journal.new.items (Some tick) }
     ensures journal { journal.new.items ≡ journal.old.items ++ record { tick = tick; entries = entries } ∷ [] }
 {
     write(rows, &entries);

@@ -7,7 +7,7 @@ ghost use Rattle.eve_smallbank.specs.Chain.{Table};
 ghost use Rattle.eve_smallbank.specs.Touch.{touched_of, rows_in};
 ghost use Rattle.eve_smallbank.specs.Execution.{executed_on};
 ghost use Rattle.eve_stamps.specs.Stripes.{row_in};
-ghost use Rattle.eve_stamps.specs.Holding.{entries_on, IsNoted};
+ghost use Rattle.eve_stamps.specs.Holding.{entries_on, CanBeNoted};
 ghost use Rattle.eve_stamps.specs.Stamping.{is_worn};
 
 use eve_accounts::Cents;
@@ -28,7 +28,7 @@ pub fn executed(
         ≡ record { request = plain request.now; reply = result.0; entries = result.1 } }
     ensures noted { (is_there : ℕ → Bool) (table : Table) → seen.now ≡ map (λ r. row_in table r.0) (rows_in touched.now)
         → list_all (λ r. is_there r.0) (rows_in touched.now) ≡ true → is_worn table (rows_in touched.now) ≡ false
-        → AllByRecursion (IsNoted is_there table) result.1 }
+        → AllByRecursion (CanBeNoted is_there table) result.1 }
 {
     laws::requests_fit();
     laws::fitting_records_are_unique();

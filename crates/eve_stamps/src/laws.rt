@@ -3,11 +3,12 @@
 ghost use Rattle.std.specs.Prelude.{◌≡◌, ℕ, List};
 ghost use Rattle.eve_smallbank.specs.declared.entry.Entry.{Entry};
 ghost use Rattle.eve_smallbank.specs.Chain.{table_after};
-ghost use Rattle.eve_stamps.specs.Stripes.{Stripe, IsStripe, rows_now, committed, noted_in, settled_to, undone};
+ghost use Rattle.eve_stamps.specs.Stripes.{Stripe, IsStripe, rows_now, committed, stripe_with, settled_to};
+ghost use Rattle.eve_stamps.specs.Stripes.{without_journal};
 
 /// What is noted is written to the rows.
 pub fn rows_take_what_is_noted()
-    ensures { (s : Stripe) (tick : ℕ) (entries : List Entry) → rows_now (noted_in s tick entries)
+    ensures { (s : Stripe) (tick : ℕ) (entries : List Entry) → rows_now (stripe_with s tick entries)
         ≡ table_after (rows_now s) entries }
 {}
 
@@ -18,5 +19,5 @@ pub fn settling_keeps_the_rows()
 
 /// A stripe that is undone has its committed rows.
 pub fn undoing_restores_the_base()
-    ensures { (s : Stripe) → rows_now (undone s) ≡ committed s }
+    ensures { (s : Stripe) → rows_now (without_journal s) ≡ committed s }
 {}

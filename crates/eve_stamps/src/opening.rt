@@ -1,7 +1,7 @@
 //! What each stripe has at first.
 
 ghost use Rattle.std.specs.Prelude.{◌≡◌, ◌*◌, ◌≤◌, ◌<◌, IfOk, length, None, []};
-ghost use Rattle.eve_stamps.specs.Opening.{opening_row, opening_rows};
+ghost use Rattle.eve_stamps.specs.Opening.{opening_row, rows_of_stripe};
 
 use crate::Stripe;
 use crate::limits::STRIPES;
@@ -19,7 +19,7 @@ pub fn opening_stripe(
     requires few { customers ≤ MOST_NAMES }
     requires rows { length balances.now ≡ 2 * customers }
     ensures { IfOk result (λ s.
-        s ≡ record { base = opening_rows balances.now stripe customers; journal = []; greatest = None }) }
+        s ≡ record { base = rows_of_stripe balances.now stripe customers; journal = []; greatest = None }) }
 {
     let rows = opening_rows(alloc, balances, stripe, customers)?;
     Stripe::new(alloc, rows.as_slice())
@@ -34,7 +34,7 @@ fn opening_rows(
 ) -> Result<Vec<Restore>, AllocError>
     requires few { customers ≤ MOST_NAMES }
     requires rows { length balances.now ≡ 2 * customers }
-    ensures { IfOk result (λ rows. rows.items ≡ opening_rows balances.now stripe customers) }
+    ensures { IfOk result (λ rows. rows.items ≡ rows_of_stripe balances.now stripe customers) }
 {
     let mut rows = Vec::new(alloc);
     for customer in 0..customers {

@@ -5,7 +5,7 @@ ghost use Rattle.std.specs.List.{AllByRecursion};
 ghost use Rattle.eve_smallbank.specs.Chain.{table_after};
 ghost use Rattle.eve_stamps.specs.Stripes.{RowsRise, IsEntryIn, JournalLiesIn, table_in, rows_in_table};
 ghost use Rattle.eve_stamps.specs.Stripes.{table_after_journal};
-ghost use Rattle.eve_stamps.specs.Holding.{IsPlaceOf, changed};
+ghost use Rattle.eve_stamps.specs.Holding.{IsPlaceOf, rows_changed};
 
 use crate::journal::Journaled;
 use eve_accounts::Row;
@@ -78,7 +78,7 @@ fn write_if_up_to(rows: &mut [Restore], journaled: &Journaled, tick: u64)
 /// How many rows have another version now.
 pub fn changed_count(base: &[Restore], now: &[Restore]) -> usize
     requires { length now.now ≡ length base.now }
-    ensures { result ≡ length (changed base.now now.now) }
+    ensures { result ≡ length (rows_changed base.now now.now) }
 {
     let mut count = 0;
     for place in 0..base.len() {
@@ -90,8 +90,8 @@ pub fn changed_count(base: &[Restore], now: &[Restore]) -> usize
 /// Appends the rows that have another version now, where there is room.
 pub fn append_changed(base: &[Restore], now: &[Restore], restores: &mut Vec<Restore>)
     requires as_many { length now.now ≡ length base.now }
-    requires room { vec_len restores.old + length (changed base.now now.now) ≤ vec_capacity restores.old }
-    ensures items { restores.new.items ≡ restores.old.items ++ changed base.now now.now }
+    requires room { vec_len restores.old + length (rows_changed base.now now.now) ≤ vec_capacity restores.old }
+    ensures items { restores.new.items ≡ restores.old.items ++ rows_changed base.now now.now }
     ensures capacity { vec_capacity restores.new ≡ vec_capacity restores.old }
 {
     for place in 0..base.len() {
@@ -100,8 +100,8 @@ pub fn append_changed(base: &[Restore], now: &[Restore], restores: &mut Vec<Rest
 }
 
 fn append_if_changed(base: Restore, now: Restore, restores: &mut Vec<Restore>)
-    requires { vec_len restores.old + length (changed (base ∷ []) (now ∷ [])) ≤ vec_capacity restores.old }
-    ensures items { restores.new.items ≡ restores.old.items ++ changed (base ∷ []) (now ∷ []) }
+    requires { vec_len restores.old + length (rows_changed (base ∷ []) (now ∷ [])) ≤ vec_capacity restores.old }
+    ensures items { restores.new.items ≡ restores.old.items ++ rows_changed (base ∷ []) (now ∷ []) }
     ensures capacity { vec_capacity restores.new ≡ vec_capacity restores.old }
 {
     if base.version != now.version {

@@ -3,7 +3,7 @@
 ghost use Rattle.std.specs.Prelude.{◌≡◌, ◌<◌, ◌+◌, ◌↔◌, ◌++◌, nat_le, nat_lt, filter, IsTrue, IsErr, IfOk, OnOk, OnErr};
 ghost use Rattle.std.specs.Prelude.{if◌then◌else◌, [], length, vec_len, vec_capacity};
 ghost use Rattle.eve_stamps.specs.Stripes.{RowsRise, AreWithinLimit, IsStripe, has_row, row_in, rows_now, is_above};
-ghost use Rattle.eve_stamps.specs.Stripes.{settled_to, undone, restores_of};
+ghost use Rattle.eve_stamps.specs.Stripes.{settled_to, without_journal, restores_of};
 
 use crate::journal::Journaled;
 use crate::rows::{append_changed, changed_count, place_of, write_up_to};
@@ -30,11 +30,11 @@ impl Model for Stripe {
 
     ghost Value = { model.Stripe };
 
-    ghost use Rattle.eve_stamps.specs.Holding.{stripe_of, IsHeld};
+    ghost use Rattle.eve_stamps.specs.Holding.{stripe_held, IsHeldStripe};
 
-    ghost view = { λ s. stripe_of s.base.items s.journal.items s.greatest };
+    ghost view = { λ s. stripe_held s.base.items s.journal.items s.greatest };
 
-    ghost invariant = { λ s. IsHeld s.base.items s.rows.items s.journal.items s.greatest };
+    ghost invariant = { λ s. IsHeldStripe s.base.items s.rows.items s.journal.items s.greatest };
 }
 
 impl Stripe {
@@ -95,7 +95,7 @@ impl Stripe {
     ///
     /// Takes no memory: it fails, changing nothing, exactly where the lent vector has no room for these rows.
     pub fn undo(&mut self, restores: &mut Vec<Restore>) -> Result<(), AllocError>
-        ensures undone { OnOk result (self.new ≡ undone self.old) }
+        ensures undone { OnOk result (self.new ≡ without_journal self.old) }
         ensures restores { OnOk result (restores.new.items ≡ restores.old.items ++ restores_of self.old) }
         ensures room { IsErr result
             ↔ (vec_capacity restores.old < vec_len restores.old + length (restores_of self.old)) }
@@ -113,7 +113,7 @@ impl Stripe {
 
     /// Returns to the committed base, and tells nothing. It takes no memory.
     pub fn go_back(&mut self)
-        ensures { self.new ≡ undone self.old }
+        ensures { self.new ≡ without_journal self.old }
     {
         self.rows.copy_from_slice(&self.base);
         self.journal.clear();

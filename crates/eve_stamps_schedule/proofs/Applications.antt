@@ -11,7 +11,7 @@ use Rattle.std.proofs.lemmas.List.{get_or-set_other, length-set, set-append_left
 use Rattle.std.proofs.lemmas.List.{get_or-append-add, get_or_default}
 use Rattle.eve_smallbank.specs.declared.entry.Entry.{Entry}
 use Rattle.eve_smallbank.specs.SmallBank.{Request}
-use Rattle.eve_smallbank.specs.Access.{Rows, is_write}
+use Rattle.eve_smallbank.specs.Access.{RowKinds, is_write}
 use Rattle.eve_smallbank.specs.Chain.{Table, table_after}
 use Rattle.eve_smallbank.specs.Touch.{touched_of, rows_in}
 use Rattle.eve_smallbank.specs.Execution.{executed_on}
@@ -20,13 +20,13 @@ use Rattle.eve_smallbank.proofs.Unique.{numbers}
 use Rattle.eve_grammar.specs.Limits.{version_limit}
 use Rattle.eve_stamps.specs.declared.fault.StampFault.{StampFault}
 use Rattle.eve_stamps.specs.declared.fault.StampFault.TheVariants as fault
-use Rattle.eve_stamps.specs.Stripes.{Stripe, has_row, rows_now, is_above, noted_in}
+use Rattle.eve_stamps.specs.Stripes.{Stripe, has_row, rows_now, is_above, stripe_with}
 use Rattle.eve_stamps.specs.Stamping.{has_row_in_two, rows_in_two, entries_within, entries_outside, is_worn}
 use Rattle.eve_stamps.specs.Stamping.{refused_for, refusal, refusal_of_two, IsRefusedFor}
 use Rattle.eve_stamps.specs.Opening.{stripe_count, stripe_of}
 use Rattle.eve_stamps.proofs.JournalLaws.{rows_now-noted}
 use Rattle.eve_stamps_schedule.specs.Stripes.{needs}
-use Rattle.eve_stamps_schedule.specs.Schedule.{stripe_at, table_of}
+use Rattle.eve_stamps_schedule.specs.Schedule.{stripe_at, table_of_stripes}
 use Rattle.eve_stamps_schedule.specs.Applying.{HaveTheirRows, AreFresh, IsKeptAt}
 use Rattle.eve_stamps_schedule.proofs.Spans.{AreEnds}
 use Rattle.eve_stamps_schedule.proofs.Tables.{table_after-at, table_after-none, table_after-some}
@@ -51,25 +51,25 @@ none_elsewhere a row (e ∷ es) other own =
 
 pub one_table : (ss : List Stripe) (a tick : ℕ) (es : List Entry) → a < length ss
     → AllByRecursion (λ e. stripe_of e.row ≡ a) es
-    → table_of (set ss a (noted_in (stripe_at ss a) tick es)) ≡ table_after (table_of ss) es
+    → table_of_stripes (set ss a (stripe_with (stripe_at ss a) tick es)) ≡ table_after (table_of_stripes ss) es
 one_table ss a tick es within own =
-    let new : Stripe = noted_in (stripe_at ss a) tick es in
+    let new : Stripe = stripe_with (stripe_at ss a) tick es in
     fun_ext (λ row. elim (cases_eq (stripe_of row) a) [
       | inl same ↦
           ap (λ (s : Stripe). rows_now s row) (at_set ss a new (stripe_of row) within same)
           ∙ ap (λ (t : Table). t row) (rows_now-noted (stripe_at ss a) tick es)
-          ∙ table_after-at (rows_now (stripe_at ss a)) (table_of ss) es row
+          ∙ table_after-at (rows_now (stripe_at ss a)) (table_of_stripes ss) es row
           (ap (λ i. rows_now (stripe_at ss i) row) (sym same))
       | inr other ↦
           ap (λ (s : Stripe). rows_now s row) (off_set ss a new (stripe_of row) other)
-          ∙ sym (table_after-none (table_of ss) es row (none_elsewhere a row es other own))
+          ∙ sym (table_after-none (table_of_stripes ss) es row (none_elsewhere a row es other own))
     ])
 
 pub one_kept : (ss : List Stripe) (a tick : ℕ) (es : List Entry) (test : ℕ → Bool) (i : ℕ) → a < length ss
     → AreEnds test a a
-    → IsKeptAt tick (test i) (stripe_at ss i) (stripe_at (set ss a (noted_in (stripe_at ss a) tick es)) i)
+    → IsKeptAt tick (test i) (stripe_at ss i) (stripe_at (set ss a (stripe_with (stripe_at ss a) tick es)) i)
 one_kept ss a tick es test i within ends =
-    let new : Stripe = noted_in (stripe_at ss a) tick es in
+    let new : Stripe = stripe_with (stripe_at ss a) tick es in
     elim (cases_eq i a) [
       | inl same ↦
           let is = at_set ss a new i within same in
@@ -141,16 +141,16 @@ in_neither s a b row (e ∷ es) one two parted = (
 -- both stripes with their entries
 abbrev pub both_noted : List Stripe → ℕ → ℕ → ℕ → List Entry → List Stripe
 both_noted ss a b tick es =
-    set (set ss a (noted_in (stripe_at ss a) tick (entries_within (stripe_at ss a) es))) b
-    (noted_in (stripe_at ss b) tick (entries_outside (stripe_at ss a) es))
+    set (set ss a (stripe_with (stripe_at ss a) tick (entries_within (stripe_at ss a) es))) b
+    (stripe_with (stripe_at ss b) tick (entries_outside (stripe_at ss a) es))
 
 pub two_table : (ss : List Stripe) (a b tick : ℕ) (es : List Entry) → a < b → b < length ss
     → AllByRecursion (IsParted (stripe_at ss a) a b) es
-    → table_of (both_noted ss a b tick es) ≡ table_after (table_of ss) es
+    → table_of_stripes (both_noted ss a b tick es) ≡ table_after (table_of_stripes ss) es
 two_table ss a b tick es less within parted =
     let first : Stripe = stripe_at ss a in
-    let one : Stripe = noted_in first tick (entries_within first es) in
-    let two : Stripe = noted_in (stripe_at ss b) tick (entries_outside first es) in
+    let one : Stripe = stripe_with first tick (entries_within first es) in
+    let two : Stripe = stripe_with (stripe_at ss b) tick (entries_outside first es) in
     let long : length (set ss a one) ≡ length ss = length-set ss a one in
     fun_ext (λ row. elim (cases_eq (stripe_of row) b) [
       | inl same ↦
@@ -158,7 +158,7 @@ two_table ss a b tick es less within parted =
           ∙ ap (λ (t : Table). t row) (rows_now-noted (stripe_at ss b) tick (entries_outside first es))
           ∙ table_after-some (rows_now (stripe_at ss b)) (λ e. not (has_row first e.row)) es row
           (within_last first a b row es less same parted)
-          ∙ table_after-at (rows_now (stripe_at ss b)) (table_of ss) es row
+          ∙ table_after-at (rows_now (stripe_at ss b)) (table_of_stripes ss) es row
           (ap (λ i. rows_now (stripe_at ss i) row) (sym same))
       | inr other ↦
           ap (λ (s : Stripe). rows_now s row) (off_set (set ss a one) b two (stripe_of row) other)
@@ -168,11 +168,11 @@ two_table ss a b tick es less within parted =
                 ∙ ap (λ (t : Table). t row) (rows_now-noted first tick (entries_within first es))
                 ∙ table_after-some (rows_now first) (λ e. has_row first e.row) es row
                 (within_first first a b row es less same parted)
-                ∙ table_after-at (rows_now first) (table_of ss) es row
+                ∙ table_after-at (rows_now first) (table_of_stripes ss) es row
                 (ap (λ i. rows_now (stripe_at ss i) row) (sym same))
             | inr else ↦
                 ap (λ (s : Stripe). rows_now s row) (off_set ss a one (stripe_of row) else)
-                ∙ sym (table_after-none (table_of ss) es row (in_neither first a b row es else other parted))
+                ∙ sym (table_after-none (table_of_stripes ss) es row (in_neither first a b row es else other parted))
           ]
     ])
 
@@ -181,8 +181,8 @@ pub two_kept : (ss : List Stripe) (a b tick : ℕ) (es : List Entry) (test : ℕ
     → IsKeptAt tick (test i) (stripe_at ss i) (stripe_at (both_noted ss a b tick es) i)
 two_kept ss a b tick es test i less within ends =
     let first : Stripe = stripe_at ss a in
-    let one : Stripe = noted_in first tick (entries_within first es) in
-    let two : Stripe = noted_in (stripe_at ss b) tick (entries_outside first es) in
+    let one : Stripe = stripe_with first tick (entries_within first es) in
+    let two : Stripe = stripe_with (stripe_at ss b) tick (entries_outside first es) in
     let long : length (set ss a one) ≡ length ss = length-set ss a one in
     elim (cases_eq i b) [
       | inl same ↦
@@ -233,14 +233,14 @@ both_set ss front back a b x y is within cut =
 
 pub two_written : (ss front back : List Stripe) (a b tick : ℕ) (s u one two : Stripe) (es : List Entry)
     → ss ≡ front ++ back → a < length front → length front ≡ b
-    → s ≡ stripe_at ss a → u ≡ stripe_at ss b → one ≡ noted_in s tick (entries_within s es)
-    → two ≡ noted_in u tick (entries_outside s es)
+    → s ≡ stripe_at ss a → u ≡ stripe_at ss b → one ≡ stripe_with s tick (entries_within s es)
+    → two ≡ stripe_with u tick (entries_outside s es)
     → set front a one ++ set back 0 two ≡ both_noted ss a b tick es
 two_written ss front back a b tick s u one two es is within cut first last x y =
     both_set ss front back a b one two is within cut
     ∙ ap₂ (λ (p q : Stripe). set (set ss a p) b q)
-    (x ∙ ap (λ (r : Stripe). noted_in r tick (entries_within r es)) first)
-    (y ∙ ap₂ (λ (q r : Stripe). noted_in q tick (entries_outside r es)) last first)
+    (x ∙ ap (λ (r : Stripe). stripe_with r tick (entries_within r es)) first)
+    (y ∙ ap₂ (λ (q r : Stripe). stripe_with q tick (entries_outside r es)) last first)
 
 -- a stripe of the first part, and the first of the second
 pub in_front : (ss front back : List Stripe) (a : ℕ) (d : Stripe) → ss ≡ front ++ back → a < length front
@@ -291,9 +291,9 @@ has_no_other names ss i row have small other =
 
 pub one_made : (names : List (List ℕ)) (ss : List Stripe) (request : Request) (a : ℕ)
     → AreEnds (needs names request) a a
-    → executed_on names (rows_now (stripe_at ss a)) request ≡ executed_on names (table_of ss) request
+    → executed_on names (rows_now (stripe_at ss a)) request ≡ executed_on names (table_of_stripes ss) request
 one_made names ss request a ends =
-    executed_alike names (rows_now (stripe_at ss a)) (table_of ss) request (λ row placed.
+    executed_alike names (rows_now (stripe_at ss a)) (table_of_stripes ss) request (λ row placed.
     ap (λ i. rows_now (stripe_at ss i) row)
     (sym (same_end (stripe_of row) a (in_ends (needs names request) a a (stripe_of row) ends placed.needed))))
 
@@ -308,7 +308,8 @@ one_own names table request a ends =
 -- a row is the first stripe's where it has it
 two_rows : (names : List (List ℕ)) (ss : List Stripe) (request : Request) (a b row : ℕ)
     → HaveTheirRows (length names) ss → a < b → b < stripe_count → IsPlaced names request row
-    → (stripe_of row ≡ a) ⊎ (stripe_of row ≡ b) → rows_in_two (stripe_at ss a) (stripe_at ss b) row ≡ table_of ss row
+    → (stripe_of row ≡ a) ⊎ (stripe_of row ≡ b) → rows_in_two (stripe_at ss a) (stripe_at ss b) row
+    ≡ table_of_stripes ss row
 two_rows names ss request a b row have less small placed (inl one) =
     cond-true (has_row (stripe_at ss a) row) (rows_now (stripe_at ss a) row) (rows_now (stripe_at ss b) row)
     (has_own names ss request a row have (omega arith) placed one)
@@ -321,9 +322,9 @@ two_rows names ss request a b row have less small placed (inr two) =
 pub two_made : (names : List (List ℕ)) (ss : List Stripe) (request : Request) (a b : ℕ)
     → HaveTheirRows (length names) ss → a < b → b < stripe_count → AreEnds (needs names request) a b
     → executed_on names (rows_in_two (stripe_at ss a) (stripe_at ss b)) request
-    ≡ executed_on names (table_of ss) request
+    ≡ executed_on names (table_of_stripes ss) request
 two_made names ss request a b have less small ends =
-    executed_alike names (rows_in_two (stripe_at ss a) (stripe_at ss b)) (table_of ss) request (λ row placed.
+    executed_alike names (rows_in_two (stripe_at ss a) (stripe_at ss b)) (table_of_stripes ss) request (λ row placed.
     two_rows names ss request a b row have less small placed
     (in_ends (needs names request) a b (stripe_of row) ends placed.needed))
 
@@ -342,19 +343,19 @@ two_parted names ss table request a b have less small ends =
 
 -- ---- nothing is refused
 
-all_numbers : (p : ℕ → Bool) (rows : Rows) → AllByRecursion (λ row. p row ≡ true) (numbers rows)
+all_numbers : (p : ℕ → Bool) (rows : RowKinds) → AllByRecursion (λ row. p row ≡ true) (numbers rows)
     → list_all (λ r. p r.0) rows ≡ true
 all_numbers p [] all = refl
 all_numbers p (r ∷ rows) all = and_from (p r.0) (list_all (λ q. p q.0) rows) all.0 (all_numbers p rows all.1)
 
-none_worn : (now : Table) (rows : Rows) → AllByRecursion (λ row. (now row).version < version_limit) (numbers rows)
+none_worn : (now : Table) (rows : RowKinds) → AllByRecursion (λ row. (now row).version < version_limit) (numbers rows)
     → is_worn now rows ≡ false
 none_worn now [] fresh = refl
 none_worn now (r ∷ rows) fresh =
     ap₂ (λ b c. b || c) (and_right (is_write r.1) (nat_le version_limit (now r.0).version)
     (lt-leb version_limit (now r.0).version fresh.0)) (none_worn now rows fresh.1)
 
-none_refused : (is_there : ℕ → Bool) (is_new : Bool) (now : Table) (rows : Rows) → list_all (λ r. is_there r.0) rows
+none_refused : (is_there : ℕ → Bool) (is_new : Bool) (now : Table) (rows : RowKinds) → list_all (λ r. is_there r.0) rows
     ≡ true → is_new ≡ true → is_worn now rows ≡ false
     → refused_for is_there is_new now rows ≡ None
 none_refused is_there is_new now rows lie timely fresh =
@@ -375,11 +376,11 @@ pub one_memory : {A : Type 0} (names : List (List ℕ)) (ss : List Stripe) (requ
     (result : Result A StampFault) → HaveTheirRows (length names) ss → a < stripe_count
     → AreEnds (needs names request) a a
     → ((i : ℕ) → needs names request i ≡ true → is_above tick (stripe_at ss i).greatest ≡ true)
-    → AreFresh (table_of ss)
+    → AreFresh (table_of_stripes ss)
     → IsRefusedFor (refusal (stripe_at ss a) tick (rows_in (touched_of names request))) result
     → IfErr result (λ why. why ≡ fault.Memory)
 one_memory names ss request a tick result have small ends above fresh refused =
-    let rows : Rows = rows_in (touched_of names request) in
+    let rows : RowKinds = rows_in (touched_of names request) in
     let at : (row : ℕ) → IsPlaced names request row → stripe_of row ≡ a =
     λ row placed. same_end (stripe_of row) a (in_ends (needs names request) a a (stripe_of row) ends placed.needed) in
     memory_alone (refusal (stripe_at ss a) tick rows) result
@@ -398,11 +399,11 @@ pub two_memory : {A : Type 0} (names : List (List ℕ)) (ss : List Stripe) (requ
     (result : Result A StampFault) → HaveTheirRows (length names) ss → a < b → b < stripe_count
     → AreEnds (needs names request) a b
     → ((i : ℕ) → needs names request i ≡ true → is_above tick (stripe_at ss i).greatest ≡ true)
-    → AreFresh (table_of ss)
+    → AreFresh (table_of_stripes ss)
     → IsRefusedFor (refusal_of_two (stripe_at ss a) (stripe_at ss b) tick (rows_in (touched_of names request))) result
     → IfErr result (λ why. why ≡ fault.Memory)
 two_memory names ss request a b tick result have less small ends above fresh refused =
-    let rows : Rows = rows_in (touched_of names request) in
+    let rows : RowKinds = rows_in (touched_of names request) in
     let first : Stripe = stripe_at ss a in
     let last : Stripe = stripe_at ss b in
     memory_alone (refusal_of_two first last tick rows) result

@@ -11,9 +11,9 @@ use Rattle.eve_stamps_schedule.specs.declared.stage.Stage.{Stage}
 use Rattle.eve_stamps_schedule.specs.declared.stage.Stage.TheVariants as at
 use Rattle.eve_stamps_schedule.specs.World.{Plan, World, noted_count}
 use Rattle.eve_stamps_schedule.specs.Events.{changed, current_group, may_claim, with_owner, with_applied, with_noted}
-use Rattle.eve_stamps_schedule.specs.Events.{placed, then_happens}
+use Rattle.eve_stamps_schedule.specs.Events.{placed_by_tick, then_happens}
 use Rattle.eve_stamps_schedule.proofs.Changes.{counted, counted-changed}
-use Rattle.eve_stamps_schedule.proofs.Inserting.{count-placed}
+use Rattle.eve_stamps_schedule.proofs.Inserting.{count-placed_by_tick}
 use Rattle.eve_stamps_schedule.proofs.Holding.{flag, held, is_busy, is_claimed, is_ticked, has_index, has_tick, Counts}
 
 -- ---- numbers
@@ -68,13 +68,13 @@ flag_more i c =
       ]
     ]
 
-length-placed : (x : Applied) (xs : List Applied) → length (placed x xs) ≡ length xs + 1
-length-placed x [] = refl
-length-placed x (y ∷ ys) =
+length-placed_by_tick : (x : Applied) (xs : List Applied) → length (placed_by_tick x xs) ≡ length xs + 1
+length-placed_by_tick x [] = refl
+length-placed_by_tick x (y ∷ ys) =
     elim (cases_Bool (nat_lt x.tick y.tick)) [
-      | inl t ↦ ap length (cond-true (nat_lt x.tick y.tick) (x ∷ y ∷ ys) (y ∷ placed x ys) t) ∙ omega arith
-      | inr f ↦ ap length (cond-false (nat_lt x.tick y.tick) (x ∷ y ∷ ys) (y ∷ placed x ys) f)
-          ∙ ap suc (length-placed x ys) ∙ omega arith
+      | inl t ↦ ap length (cond-true (nat_lt x.tick y.tick) (x ∷ y ∷ ys) (y ∷ placed_by_tick x ys) t) ∙ omega arith
+      | inr f ↦ ap length (cond-false (nat_lt x.tick y.tick) (x ∷ y ∷ ys) (y ∷ placed_by_tick x ys) f)
+          ∙ ap suc (length-placed_by_tick x ys) ∙ omega arith
     ]
 
 -- a worker goes from one stage to another
@@ -169,12 +169,12 @@ counts_apply p w v x h stage c =
           let shift : held (has_index j) (changed w.stages v new) p.workers + flag (x.index == j)
           ≡ held (has_index j) w.stages p.workers + 0
           = shifted (has_index j) w.stages v p.workers old new h stage in
-          omega (arith, shift, c.indexes j, count-placed (λ y. y.index) j x w.applied);
+          omega (arith, shift, c.indexes j, count-placed_by_tick (λ y. y.index) j x w.applied);
       ticks = λ n.
           let shift : held (has_tick n) (changed w.stages v new) p.workers + flag (x.tick == n)
           ≡ held (has_tick n) w.stages p.workers + 0
           = shifted (has_tick n) w.stages v p.workers old new h stage in
-          omega (arith, shift, c.ticks n, count-placed (λ y. y.tick) n x w.applied);
+          omega (arith, shift, c.ticks n, count-placed_by_tick (λ y. y.tick) n x w.applied);
       claimed =
           let shift : held is_busy (changed w.stages v new) p.workers + 1 ≡ held is_busy w.stages p.workers + 1 =
           shifted is_busy w.stages v p.workers old new h stage in
@@ -186,7 +186,7 @@ counts_apply p w v x h stage c =
       applied =
           let shift : held is_ticked (changed w.stages v new) p.workers + 1 ≡ held is_ticked w.stages p.workers + 0 =
           shifted is_ticked w.stages v p.workers old new h stage in
-          omega (arith, shift, c.applied, length-placed x w.applied);
+          omega (arith, shift, c.applied, length-placed_by_tick x w.applied);
       within = c.within;
       current = c.current;
     }

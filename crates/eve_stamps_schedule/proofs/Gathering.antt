@@ -7,17 +7,17 @@ use Rattle.std.proofs.lemmas.List.{append-nil, append_assoc}
 use Rattle.eve_stamps.specs.Applied.{Applied}
 use Rattle.eve_stamps_schedule.specs.declared.stage.Stage.{Stage}
 use Rattle.eve_stamps_schedule.specs.declared.stage.Stage.TheVariants as at
-use Rattle.eve_stamps_schedule.specs.World.{World, pending, records_at, records_of}
-use Rattle.eve_stamps_schedule.specs.Events.{changed, with_owner, with_applied, with_noted, placed}
+use Rattle.eve_stamps_schedule.specs.World.{World, pending, records_at, records_below}
+use Rattle.eve_stamps_schedule.specs.Events.{changed, with_owner, with_applied, with_noted, placed_by_tick}
 use Rattle.eve_stamps_schedule.proofs.Changes.{changed-here, changed-other}
-use Rattle.eve_stamps_schedule.proofs.Inserting.{permutation-placed}
+use Rattle.eve_stamps_schedule.proofs.Inserting.{permutation-placed_by_tick}
 
-records_alike : (w x : World) (n : ℕ) → ((u : ℕ) → u < n → records_at x u ≡ records_at w u) → records_of x n
-    ≡ records_of w n
+records_alike : (w x : World) (n : ℕ) → ((u : ℕ) → u < n → records_at x u ≡ records_at w u) → records_below x n
+    ≡ records_below w n
 records_alike w x zero h = refl
 records_alike w x (suc n) h =
     ap (λ xs. xs ++ records_at x n) (records_alike w x n (λ u l. h u (omega arith)))
-    ∙ ap (λ ys. records_of w n ++ ys) (h n (omega arith))
+    ∙ ap (λ ys. records_below w n ++ ys) (h n (omega arith))
 
 -- ---- events that make no record
 
@@ -56,7 +56,7 @@ at_note w v x stage u =
     ]
 
 pub gathered_alike : (w x : World) (n : ℕ) → ((u : ℕ) → records_at x u ≡ records_at w u)
-    → IsPermutation (records_of w n) w.applied → IsPermutation (records_of x n) w.applied
+    → IsPermutation (records_below w n) w.applied → IsPermutation (records_below x n) w.applied
 gathered_alike w x n h p = subst (λ xs. IsPermutation xs w.applied) (sym (records_alike w x n (λ u l. h u))) p
 
 -- ---- the event that makes one
@@ -65,24 +65,24 @@ gathered_alike w x n h p = subst (λ xs. IsPermutation xs w.applied) (sym (recor
 record MoreBy (w : World) (v n : ℕ) (x : Applied) : Type 0 where
   front : List Applied
   back : List Applied
-  were : records_of w n ≡ front ++ back
-  are : records_of (with_applied w v x) n ≡ front ++ x ∷ back
+  were : records_below w n ≡ front ++ back
+  are : records_below (with_applied w v x) n ≡ front ++ x ∷ back
 
 more_by : (w : World) (v n : ℕ) (x : Applied) → v < n → pending (w.stages v) ≡ [] → MoreBy w v n x
 more_by w v zero x h none = absurd (omega arith)
 more_by w v (suc n) x h none =
     elim (cases_eq v n) [
       | inl e ↦ record {
-        front = records_of w n ++ w.noted n;
+        front = records_below w n ++ w.noted n;
         back = [];
-        were = ap (λ k. records_of w n ++ (w.noted n ++ pending (w.stages k))) (sym e)
-            ∙ ap (λ xs. records_of w n ++ (w.noted n ++ xs)) none
-            ∙ sym (append_assoc (records_of w n) (w.noted n) []);
+        were = ap (λ k. records_below w n ++ (w.noted n ++ pending (w.stages k))) (sym e)
+            ∙ ap (λ xs. records_below w n ++ (w.noted n ++ xs)) none
+            ∙ sym (append_assoc (records_below w n) (w.noted n) []);
         are = ap (λ xs. xs ++ records_at (with_applied w v x) n) (records_alike w (with_applied w v x) n (λ u l.
             ap (λ s. w.noted u ++ pending s) (changed-other w.stages v (at.Applied x) u (λ k. below_itself (k ∙ e) l))))
-            ∙ ap (λ k. records_of w n ++ (w.noted n ++ pending (changed w.stages v (at.Applied x) k))) (sym e)
-            ∙ ap (λ s. records_of w n ++ (w.noted n ++ pending s)) (changed-here w.stages v (at.Applied x))
-            ∙ sym (append_assoc (records_of w n) (w.noted n) (x ∷ []));
+            ∙ ap (λ k. records_below w n ++ (w.noted n ++ pending (changed w.stages v (at.Applied x) k))) (sym e)
+            ∙ ap (λ s. records_below w n ++ (w.noted n ++ pending s)) (changed-here w.stages v (at.Applied x))
+            ∙ sym (append_assoc (records_below w n) (w.noted n) (x ∷ []));
       }
       | inr e ↦
           let rest = more_by w v n x (omega arith) none in
@@ -101,9 +101,9 @@ more_by w v (suc n) x h none =
     below_itself e h = omega arith
 
 pub gathered_apply : (w : World) (v n : ℕ) (x : Applied) → v < n → pending (w.stages v) ≡ []
-    → IsPermutation (records_of w n) w.applied
-    → IsPermutation (records_of (with_applied w v x) n) (placed x w.applied)
+    → IsPermutation (records_below w n) w.applied
+    → IsPermutation (records_below (with_applied w v x) n) (placed_by_tick x w.applied)
 gathered_apply w v n x h none p =
     let more = more_by w v n x h none in
-    subst (λ xs. IsPermutation xs (placed x w.applied)) (sym more.are)
-    (permutation-placed x more.front more.back w.applied (subst (λ xs. IsPermutation xs w.applied) more.were p))
+    subst (λ xs. IsPermutation xs (placed_by_tick x w.applied)) (sym more.are)
+    (permutation-placed_by_tick x more.front more.back w.applied (subst (λ xs. IsPermutation xs w.applied) more.were p))

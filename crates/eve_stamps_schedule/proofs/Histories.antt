@@ -5,7 +5,7 @@ use Rattle.std.specs.List.{AllByRecursion}
 use Rattle.std.proofs.lemmas.Bool.{and_parts, and_cases, eqb-true, false≢true, true≢false, not-false}
 use Rattle.std.proofs.lemmas.List.{map-append}
 use Rattle.eve_smallbank.specs.SmallBank.{does}
-use Rattle.eve_smallbank.specs.Access.{Rows, rows_of, noted_rows, bank_of}
+use Rattle.eve_smallbank.specs.Access.{RowKinds, rows_of, noted_rows, bank_of}
 use Rattle.eve_smallbank.specs.Chain.{Table, Sees, table_after, table_after_all, values_of, visible_at}
 use Rattle.eve_smallbank.specs.Execution.{entry_on}
 use Rattle.eve_smallbank.specs.SmallBank.{Bank}
@@ -17,9 +17,9 @@ use Rattle.eve_stamps_schedule.specs.declared.stage.Stage.{Stage}
 use Rattle.eve_stamps_schedule.specs.declared.stage.Stage.TheVariants as at
 use Rattle.eve_stamps.specs.Opening.{stripe_count}
 use Rattle.eve_stamps_schedule.specs.Before.{EachBefore}
-use Rattle.eve_stamps_schedule.specs.World.{Plan, World, request_at, executed_at, noted_count}
+use Rattle.eve_stamps_schedule.specs.World.{Plan, World, planned_request, executed_record, noted_count}
 use Rattle.eve_stamps_schedule.specs.Events.{changed, current_group, may_claim, is_owner, needs_at, next_stripe}
-use Rattle.eve_stamps_schedule.specs.Events.{last_stripe, is_free, with_owner, made, with_applied, with_noted}
+use Rattle.eve_stamps_schedule.specs.Events.{last_stripe, is_free, with_owner, record_made, with_applied, with_noted}
 use Rattle.eve_stamps_schedule.specs.Events.{then_happens}
 use Rattle.eve_stamps_schedule.proofs.Changes.{at_change, changed-other, counted-at_least, greatest_passes, none_passes}
 use Rattle.eve_stamps_schedule.proofs.Holding.{flag, held, is_busy, Counts, Bound, IsMade, IsReady, executed, Holds}
@@ -188,7 +188,7 @@ holds_tick p w v i history h stage none holds =
     (λ _. ready_later p w.counter (w.counter + 1) (current_group p w) w.owners history u (w.stages u) (omega arith)
     (holds.ready u l))) holds
 
-pub sees_on : (names : List (List ℕ)) (table : Table) (bank : Bank) (rows : Rows)
+pub sees_on : (names : List (List ℕ)) (table : Table) (bank : Bank) (rows : RowKinds)
     → AllByRecursion (Sees table) (map (entry_on names table bank) rows)
 sees_on names table bank [] = tt
 sees_on names table bank (r ∷ rows) = (record { version = refl; value = refl }, sees_on names table bank rows)
@@ -208,24 +208,25 @@ apart p w v i history group own u j k other ne (inr less) = not_less (group ∙ 
 -- the record of a worker that has its tick is the last of all that bind it
 pub holds_apply : (p : Plan) (w : World) (v i n : ℕ) (history : List Applied) → v < p.workers → w.stages v
     ≡ at.Ticked i n → Holds p w history
-    → Holds p (with_applied w v (made p w v i n)) (history ++ made p w v i n ∷ [])
+    → Holds p (with_applied w v (record_made p w v i n)) (history ++ record_made p w v i n ∷ [])
 holds_apply p w v i n history h stage holds =
-    let x : Applied = made p w v i n in
+    let x : Applied = record_made p w v i n in
     let mine : IsReady p w.counter (current_group p w) w.owners history v (at.Ticked i n) =
     subst (IsReady p w.counter (current_group p w) w.owners history v) stage (holds.ready v h) in
-    let sees = sees_on p.names w.table (does (bank_of p.names (values_of w.table)) (request_at p i)).0
-    (noted_rows (does (bank_of p.names (values_of w.table)) (request_at p i)).1 (rows_of p.names (request_at p i))) in
-    let pushed : executed p (history ++ x ∷ []) ≡ executed p history ++ executed_at p x ∷ [] =
-    map-append (executed_at p) history (x ∷ []) in
+    let sees = sees_on p.names w.table (does (bank_of p.names (values_of w.table)) (planned_request p i)).0
+    (noted_rows (does (bank_of p.names (values_of w.table)) (planned_request p i)).1
+    (rows_of p.names (planned_request p i))) in
+    let pushed : executed p (history ++ x ∷ []) ≡ executed p history ++ executed_record p x ∷ [] =
+    map-append (executed_record p) history (x ∷ []) in
     let first : group_of p.sizes i ≡ current_group p w = mine.1 in
     record {
       made = all-push (IsMade p) history x holds.made (w.table, refl);
       follows = subst (Follows (visible_at p.base [])) (sym pushed)
-          (follows-push (visible_at p.base []) (executed p history) (executed_at p x) holds.follows
+          (follows-push (visible_at p.base []) (executed p history) (executed_record p x) holds.follows
           (subst (λ t. AllByRecursion (Sees t) x.entries) holds.table sees));
       table = ap (λ (t : Table). table_after t x.entries) holds.table
           ∙ sym (ap (table_after_all (visible_at p.base [])) pushed
-          ∙ table_after_all-push (visible_at p.base []) (executed p history) (executed_at p x));
+          ∙ table_after_all-push (visible_at p.base []) (executed p history) (executed_record p x));
       below = all-push (λ y. y.tick < w.counter) history x holds.below mine.0;
       ordered = each_before-push (λ y z. Bound p y.index z.index → y.tick < z.tick) history x holds.ordered mine.3;
       grouped = each_before-push (λ y z. group_of p.sizes y.index ≤ group_of p.sizes z.index) history x holds.grouped

@@ -14,7 +14,7 @@ use Rattle.eve_stamps_schedule.specs.declared.stage.Stage.{Stage}
 use Rattle.eve_stamps_schedule.specs.declared.stage.Stage.TheVariants as at
 use Rattle.eve_stamps.specs.Opening.{stripe_count}
 use Rattle.eve_stamps_schedule.specs.Before.{EachBefore}
-use Rattle.eve_stamps_schedule.specs.World.{Plan, World, request_at, executed_at, noted_count, records_of}
+use Rattle.eve_stamps_schedule.specs.World.{Plan, World, planned_request, executed_record, noted_count, records_below}
 use Rattle.eve_stamps_schedule.specs.Events.{current_group, is_owner, needs_at}
 use Rattle.eve_stamps_schedule.specs.Serial.{order_of}
 use Rattle.eve_stamps_schedule.proofs.Changes.{counted}
@@ -89,7 +89,7 @@ Bound p i j = Share p i j ⊎ (group_of p.sizes i < group_of p.sizes j)
 
 -- the record was made of some table
 abbrev pub IsMade : Plan → Applied → Type 0
-IsMade p x = (table : Table) × (executed_at p x ≡ executed_on p.names table (request_at p x.index))
+IsMade p x = (table : Table) × (executed_record p x ≡ executed_on p.names table (planned_request p x.index))
 
 -- A worker with a tick owns what it needs, and what was applied and binds it has a smaller tick.
 abbrev pub IsReady : Plan → ℕ → ℕ → (ℕ → Option ℕ) → List Applied → ℕ → Stage → Type 0
@@ -103,7 +103,7 @@ IsReady p counter current owners history v (at.Applied x) = Unit {0}
 
 -- the executed requests of records
 abbrev pub executed : Plan → List Applied → List Executed
-executed p xs = map (executed_at p) xs
+executed p xs = map (executed_record p) xs
 
 -- the records, in the order in which they were applied
 pub record Holds (p : Plan) (w : World) (history : List Applied) : Type 0 where
@@ -123,4 +123,4 @@ pub record IsKept (p : Plan) (w : World) : Type 0 where
   pub holds : Holds p w history
   pub same : IsReordering w.applied history
   pub rises : EachBefore (λ x y. x.tick < y.tick) w.applied
-  pub gathered : IsPermutation (records_of w p.workers) w.applied
+  pub gathered : IsPermutation (records_below w p.workers) w.applied

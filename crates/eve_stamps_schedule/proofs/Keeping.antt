@@ -10,11 +10,12 @@ use Rattle.eve_stamps_schedule.specs.declared.event.Event.{Event}
 use Rattle.eve_stamps_schedule.specs.declared.event.Event.TheVariants.{Claim, LockStripe, Tick, Apply, Unlock, Note}
 use Rattle.eve_stamps_schedule.specs.declared.stage.Stage.{Stage}
 use Rattle.eve_stamps_schedule.specs.declared.stage.Stage.TheVariants as at
-use Rattle.eve_stamps_schedule.specs.World.{Plan, World, begin, noted_count, pending, records_of}
-use Rattle.eve_stamps_schedule.specs.Events.{worker_of, next_stripe, last_stripe, with_owner, with_noted, made, may}
-use Rattle.eve_stamps_schedule.specs.Events.{is_allowed, then_happens, happens, are_allowed, world_after}
+use Rattle.eve_stamps_schedule.specs.World.{Plan, World, first_world, noted_count, pending, records_below}
+use Rattle.eve_stamps_schedule.specs.Events.{worker_of, next_stripe, last_stripe, with_owner, with_noted, record_made}
+use Rattle.eve_stamps_schedule.specs.Events.{may}
+use Rattle.eve_stamps_schedule.specs.Events.{is_allowed_event, then_happens, happens, are_allowed, world_after}
 use Rattle.eve_stamps_schedule.proofs.Changes.{counted-at_least}
-use Rattle.eve_stamps_schedule.proofs.Inserting.{reordering-placed, rises-placed, none_counted}
+use Rattle.eve_stamps_schedule.proofs.Inserting.{reordering-placed_by_tick, rises-placed_by_tick, none_counted}
 use Rattle.eve_stamps_schedule.proofs.Holding.{flag, held, is_busy, is_claimed, is_ticked, has_index, has_tick, Holds}
 use Rattle.eve_stamps_schedule.proofs.Holding.{IsKept}
 use Rattle.eve_stamps_schedule.proofs.Counting.{counts_claim, counts_tick, counts_apply, counts_note, counts_owner}
@@ -74,13 +75,13 @@ kept_event p w (Tick v) (at.Claimed i) h stage allowed kept = record {
       refl) kept.gathered;
 }
 kept_event p w (Apply v) (at.Ticked i n) h stage allowed kept =
-    let x : Applied = made p w v i n in
+    let x : Applied = record_made p w v i n in
     record {
       counts = counts_apply p w v x h stage kept.counts;
       history = kept.history ++ x ∷ [];
       holds = holds_apply p w v i n kept.history h stage kept.holds;
-      same = reordering-placed x w.applied kept.history kept.same;
-      rises = rises-placed x w.applied kept.rises (new_tick p w v i n h stage kept);
+      same = reordering-placed_by_tick x w.applied kept.history kept.same;
+      rises = rises-placed_by_tick x w.applied kept.rises (new_tick p w v i n h stage kept);
       gathered = gathered_apply w v p.workers x h (ap pending stage) kept.gathered;
     }
 kept_event p w (Unlock v) (at.Applied x) h stage allowed kept =
@@ -96,7 +97,7 @@ kept_event p w (Note v) (at.Applied x) h stage allowed kept = record {
 }
 kept_event p w _ _ h stage allowed kept = absurd (false≢true allowed)
 
-pub kept_allowed : (p : Plan) (w : World) (event : Event) → is_allowed p w event ≡ true → IsKept p w
+pub kept_allowed : (p : Plan) (w : World) (event : Event) → is_allowed_event p w event ≡ true → IsKept p w
     → IsKept p (happens p w event)
 kept_allowed p w event allowed kept =
     let parts = and_parts (nat_lt (worker_of event) p.workers) (may p w event (w.stages (worker_of event))) allowed in
@@ -106,7 +107,7 @@ kept_events : (p : Plan) (w : World) (events : List Event) → are_allowed p w e
     → IsKept p (world_after p w events)
 kept_events p w [] allowed kept = kept
 kept_events p w (event ∷ events) allowed kept =
-    let parts = and_parts (is_allowed p w event) (are_allowed p (happens p w event) events) allowed in
+    let parts = and_parts (is_allowed_event p w event) (are_allowed p (happens p w event) events) allowed in
     kept_events p (happens p w event) events parts.1 (kept_allowed p w event parts.0 kept)
 
 -- ---- at first
@@ -121,14 +122,14 @@ pub nothing_noted : (n : ℕ) → noted_count (λ _. []) n ≡ 0
 nothing_noted zero = refl
 nothing_noted (suc n) = let before = nothing_noted n in omega (arith, before)
 
-no_records : (p : Plan) (n : ℕ) → records_of (begin p) n ≡ []
+no_records : (p : Plan) (n : ℕ) → records_below (first_world p) n ≡ []
 no_records p zero = refl
 no_records p (suc n) = ap (λ (xs : List Applied). xs ++ []) (no_records p n)
 
 not_below : (i : ℕ) → flag (nat_lt i 0) ≡ 0
 not_below i = cond-false {A = ℕ} (nat_lt i 0) 1 0 (le-ltb i 0 (omega arith))
 
-kept_first : (p : Plan) → IsKept p (begin p)
+kept_first : (p : Plan) → IsKept p (first_world p)
 kept_first p = record {
   counts = record {
     indexes = λ i. omega (arith, nobody (has_index i) p.workers refl, not_below i);
@@ -155,6 +156,6 @@ kept_first p = record {
   gathered = subst (λ xs. IsPermutation xs []) (sym (no_records p p.workers)) (IsPermutation-refl []);
 }
 
-pub kept_after : (p : Plan) (events : List Event) → are_allowed p (begin p) events ≡ true
-    → IsKept p (world_after p (begin p) events)
-kept_after p events allowed = kept_events p (begin p) events allowed (kept_first p)
+pub kept_after : (p : Plan) (events : List Event) → are_allowed p (first_world p) events ≡ true
+    → IsKept p (world_after p (first_world p) events)
+kept_after p events allowed = kept_events p (first_world p) events allowed (kept_first p)

@@ -8,11 +8,11 @@ use Rattle.eve_stamps_schedule.specs.declared.event.Event.{Event}
 use Rattle.eve_stamps_schedule.specs.declared.event.Event.TheVariants.{Claim, LockStripe, Tick, Apply, Unlock, Note}
 use Rattle.eve_stamps_schedule.specs.declared.stage.Stage.{Stage}
 use Rattle.eve_stamps_schedule.specs.declared.stage.Stage.TheVariants as at
-use Rattle.eve_stamps_schedule.specs.World.{Plan, World, begin, pending, records_at}
-use Rattle.eve_stamps_schedule.specs.Events.{worker_of, next_stripe, last_stripe, with_owner, made, with_applied}
-use Rattle.eve_stamps_schedule.specs.Events.{with_noted, may, is_allowed, then_happens, happens, are_allowed}
+use Rattle.eve_stamps_schedule.specs.World.{Plan, World, first_world, pending, records_at}
+use Rattle.eve_stamps_schedule.specs.Events.{worker_of, next_stripe, last_stripe, with_owner, record_made, with_applied}
+use Rattle.eve_stamps_schedule.specs.Events.{with_noted, may, is_allowed_event, then_happens, happens, are_allowed}
 use Rattle.eve_stamps_schedule.specs.Events.{world_after}
-use Rattle.eve_stamps_schedule.specs.Serial.{IsReached, AreNotedBy}
+use Rattle.eve_stamps_schedule.specs.Serial.{IsReachedWorld, AreNotedBy}
 use Rattle.eve_stamps_schedule.proofs.Changes.{changed-here, changed-other}
 use Rattle.eve_stamps_schedule.proofs.Gathering.{at_stage, at_owner, at_note}
 use Rattle.std.specs.Prelude.{nat_lt}
@@ -31,9 +31,9 @@ listed_alike : (w x : World) → ((u : ℕ) → records_at x u ≡ records_at w 
 listed_alike w x h listed u = subst (AreNotedBy u 0) (sym (h u)) (listed u)
 
 listed_apply : (p : Plan) (w : World) (v i n : ℕ) → w.stages v ≡ at.Ticked i n → AreListed w
-    → AreListed (with_applied w v (made p w v i n))
+    → AreListed (with_applied w v (record_made p w v i n))
 listed_apply p w v i n stage listed u =
-    let x : Applied = made p w v i n in
+    let x : Applied = record_made p w v i n in
     elim (cases_eq u v) [
       | inl e ↦
           let before : AreNotedBy v 0 (w.noted v) =
@@ -70,11 +70,11 @@ listed_events : (p : Plan) (w : World) (events : List Event) → are_allowed p w
     → AreListed (world_after p w events)
 listed_events p w [] allowed listed = listed
 listed_events p w (event ∷ events) allowed listed =
-    let parts = and_parts (is_allowed p w event) (are_allowed p (happens p w event) events) allowed in
+    let parts = and_parts (is_allowed_event p w event) (are_allowed p (happens p w event) events) allowed in
     let mine = and_parts (nat_lt (worker_of event) p.workers) (may p w event (w.stages (worker_of event))) parts.0 in
     listed_events p (happens p w event) events parts.1
     (listed_event p w event (w.stages (worker_of event)) refl mine.1 listed)
 
-pub listed_reached : (p : Plan) (w : World) → IsReached p w → (v : ℕ) → AreNotedBy v 0 (records_at w v)
+pub listed_reached : (p : Plan) (w : World) → IsReachedWorld p w → (v : ℕ) → AreNotedBy v 0 (records_at w v)
 listed_reached p w reached = subst AreListed (sym reached.world)
-    (listed_events p (begin p) reached.events reached.allowed (λ u. tt))
+    (listed_events p (first_world p) reached.events reached.allowed (λ u. tt))

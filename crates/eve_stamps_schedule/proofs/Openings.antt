@@ -8,21 +8,21 @@ use Rattle.std.proofs.lemmas.Bool.{cases_Bool, cases_lt, cases_eq, and_right, eq
 use Rattle.std.proofs.lemmas.List.{get_or_past, length-replicate}
 use Rattle.std.proofs.lemmas.List.Folds.{list_any-append}
 use Rattle.std.proofs.lemmas.List.FromFn.{get_or-map-range_with_len, length-map-range_with_len}
-use Rattle.eve_smallbank.specs.Access.{balance_at}
+use Rattle.eve_smallbank.specs.Access.{balance_of_row}
 use Rattle.eve_smallbank.specs.SmallBank.{Request}
 use Rattle.eve_smallbank.specs.Chain.{Versioned, Table}
 use Rattle.eve_grammar.specs.declared.restore.Restore.{Restore}
 use Rattle.eve_stamps.specs.Applied.{Applied}
 use Rattle.eve_stamps.specs.Stripes.{Stripe, lies_in, table_in, has_row, committed, rows_now, is_above}
-use Rattle.eve_stamps.specs.Opening.{stripe_count, stripe_of, stripe_of_customer, rows_of_customer, opening_rows}
+use Rattle.eve_stamps.specs.Opening.{stripe_count, stripe_of, stripe_of_customer, rows_of_customer, rows_of_stripe}
 use Rattle.eve_stamps.proofs.OpeningLaws.{opening_rows_more}
 use Rattle.eve_stamps_schedule.specs.declared.stage.Stage.{Stage}
 use Rattle.eve_stamps_schedule.specs.declared.stage.Stage.TheVariants as at
-use Rattle.eve_stamps_schedule.specs.World.{begin, noted_count}
-use Rattle.eve_stamps_schedule.specs.Serial.{IsReached}
-use Rattle.eve_stamps_schedule.specs.Schedule.{Schedule, stripe_at, table_of, base_of, plan_of, world_of}
+use Rattle.eve_stamps_schedule.specs.World.{first_world, noted_count}
+use Rattle.eve_stamps_schedule.specs.Serial.{IsReachedWorld}
+use Rattle.eve_stamps_schedule.specs.Schedule.{Schedule, stripe_at, table_of_stripes, base_of, plan_of, world_of}
 use Rattle.eve_stamps_schedule.specs.Applying.{HaveTheirRows}
-use Rattle.eve_stamps_schedule.specs.Scheduled.{IsHeld}
+use Rattle.eve_stamps_schedule.specs.Scheduled.{IsHeldSchedule}
 use Rattle.eve_stamps_schedule.proofs.Places.{all_alike}
 use Rattle.eve_stamps_schedule.proofs.Sharing.{stripe_below}
 use Rattle.eve_stamps_schedule.proofs.Keeping.{nothing_noted}
@@ -47,13 +47,13 @@ both_rows n row i q half is = elim (cases_eq (2 * n) row) [
   | inr not ↦ ap₂ (λ a b. a || b) (ne_eqb (2 * n) row not) (eq-eqb (2 * n + 1) row (omega arith))
 ]
 
-pub lies_opening : (balances : List ℤ) (i n row : ℕ) → lies_in (opening_rows balances i n) row
+pub lies_opening : (balances : List ℤ) (i n row : ℕ) → lies_in (rows_of_stripe balances i n) row
     ≡ ((stripe_of row == i) && nat_lt row (2 * n))
 lies_opening balances i zero row =
     sym (and_right (stripe_of row == i) (nat_lt row (2 * 0)) (le-ltb row (2 * 0) (omega arith)))
 lies_opening balances i (suc n) row =
     ap (λ rs. lies_in rs row) (opening_rows_more balances i n)
-    ∙ list_any-append (λ (r : Restore). r.row == row) (opening_rows balances i n)
+    ∙ list_any-append (λ (r : Restore). r.row == row) (rows_of_stripe balances i n)
     (cond (stripe_of_customer n == i) (rows_of_customer balances n) [])
     ∙ ap₂ (λ a b. a || b) (lies_opening balances i n row) (of_customer balances (stripe_of_customer n == i) n row)
     ∙ elim (cases_lt row (2 * n)) [
@@ -96,11 +96,11 @@ lies_opening balances i (suc n) row =
 
 -- what a row has at first
 abbrev opened_at : List ℤ → ℕ → Versioned
-opened_at balances row = record { version = 0; value = balance_at balances row }
+opened_at balances row = record { version = 0; value = balance_of_row balances row }
 
 -- each at version 0, with its balance
 abbrev AreOpening : List ℤ → List Restore → Type 0
-AreOpening balances rows = AllByRecursion (λ r. (r.version ≡ 0) × (r.value ≡ balance_at balances r.row)) rows
+AreOpening balances rows = AllByRecursion (λ r. (r.version ≡ 0) × (r.value ≡ balance_of_row balances r.row)) rows
 
 all_opening : (balances : List ℤ) (customers : List ℕ)
     → AreOpening balances (flat_map (rows_of_customer balances) customers)
@@ -116,7 +116,7 @@ table_opening balances (r ∷ rows) row are =
           let first : ◌≡◌ {A = Versioned} (record { version = r.version; value = r.value }) (opened_at balances row) =
           (λ k. record {
             version = are.0.0 k;
-            value = (are.0.1 ∙ ap (balance_at balances) (eqb-true r.row row here))
+            value = (are.0.1 ∙ ap (balance_of_row balances) (eqb-true r.row row here))
                 k;
           }) in
           ap (λ b. cond b (record { version = r.version; value = r.value }) (table_in rows row)) here ∙ first
@@ -132,7 +132,11 @@ table_opening balances (r ∷ rows) row are =
 -- ---- all stripes
 
 abbrev pub opening_stripe : List ℤ → ℕ → ℕ → Stripe
-opening_stripe balances customers i = record { base = opening_rows balances i customers; journal = []; greatest = None }
+opening_stripe balances customers i = record {
+  base = rows_of_stripe balances i customers;
+  journal = [];
+  greatest = None;
+}
 
 abbrev pub opening_stripes : List ℤ → ℕ → List Stripe
 opening_stripes balances customers = map (opening_stripe balances customers) (range_with_len 0 stripe_count)
@@ -153,7 +157,7 @@ opening_base balances customers long =
     fun_ext (λ row.
     let i : ℕ = stripe_of row in
     ap (λ (s : Stripe). committed s row) (at_first balances customers i (stripe_below row))
-    ∙ table_opening balances (opening_rows balances i customers) row
+    ∙ table_opening balances (rows_of_stripe balances i customers) row
     (all_opening balances (filter (λ c. stripe_of_customer c == i) (range_with_len 0 customers)))
     ∙ ap (λ b. cond b (opened_at balances row) (record { version = 0; value = pos 0 }))
     (lies_opening balances i customers row ∙ ap (λ b. b && nat_lt row (2 * customers)) (eq-eqb i i refl))
@@ -161,13 +165,13 @@ opening_base balances customers long =
       | inl there ↦ ap (λ b. cond b (opened_at balances row) (record { version = 0; value = pos 0 }))
           (lt-ltb row (2 * customers) there)
       | inr past ↦
-          let none : balance_at balances row ≡ pos 0 = get_or_past balances row (pos 0) (omega arith) in
+          let none : balance_of_row balances row ≡ pos 0 = get_or_past balances row (pos 0) (omega arith) in
           ap (λ b. cond b (opened_at balances row) (record { version = 0; value = pos 0 }))
           (le-ltb row (2 * customers) past)
           ∙ sym (ap (λ (z : ℤ). record { version = 0; value = z }) none)
     ])
 
-opening_table : (balances : List ℤ) (customers : ℕ) → table_of (opening_stripes balances customers)
+opening_table : (balances : List ℤ) (customers : ℕ) → table_of_stripes (opening_stripes balances customers)
     ≡ base_of (opening_stripes balances customers)
 opening_table balances customers =
     fun_ext (λ row.
@@ -195,7 +199,7 @@ pub opening_plan_is : (names : List (List ℕ)) (balances : List ℤ) (sizes : L
     → plan_of (opening_schedule names balances sizes requests workers)
     ≡ record {
       names = names;
-      base = λ row. record { version = 0; value = balance_at balances row };
+      base = λ row. record { version = 0; value = balance_of_row balances row };
       sizes = sizes;
       requests = requests;
       workers = workers;
@@ -207,7 +211,7 @@ opening_plan_is names balances sizes requests workers long =
 
 pub opening_world : (names : List (List ℕ)) (balances : List ℤ) (sizes : List ℕ) (requests : List Request) (workers : ℕ)
     → world_of (opening_schedule names balances sizes requests workers)
-    ≡ begin (plan_of (opening_schedule names balances sizes requests workers))
+    ≡ first_world (plan_of (opening_schedule names balances sizes requests workers))
 opening_world names balances sizes requests workers =
     let none : List Applied = [] in
     let table = opening_table balances (length names) in
@@ -226,7 +230,7 @@ opening_world names balances sizes requests workers =
 
 pub opening_held : (names : List (List ℕ)) (balances : List ℤ) (sizes : List ℕ) (requests : List Request) (workers : ℕ)
     → length balances ≡ 2 * length names → length requests < 65536
-    → IsHeld (opening_schedule names balances sizes requests workers) 0
+    → IsHeldSchedule (opening_schedule names balances sizes requests workers) 0
 opening_held names balances sizes requests workers long few =
     let s : Schedule = opening_schedule names balances sizes requests workers in
     let none : List Applied = [] in
@@ -238,7 +242,7 @@ opening_held names balances sizes requests workers long few =
       counted = sym (ap (λ (f : ℕ → List Applied). noted_count f (length s.stages)) (all_alike workers none)
           ∙ nothing_noted (length s.stages));
       opened = λ row. ap (λ (t : Table). (t row).version) (opening_base balances (length names) long);
-      reached = subst (IsReached (plan_of s)) (sym (opening_world names balances sizes requests workers))
+      reached = subst (IsReachedWorld (plan_of s)) (sym (opening_world names balances sizes requests workers))
           (reached_first (plan_of s));
       rows = opening_have balances (length names);
       timely = λ i small. record {

@@ -3,14 +3,14 @@ use Rattle.std.proofs.Common.{◌≡◌, ℕ, pos, ◌+◌, ◌*◌, ◌<◌, Bo
 use Rattle.std.proofs.Common.{Option, Some, None, is_some, subst, ap, ◌∙◌, arith}
 use Rattle.std.specs.List.{AllByRecursion}
 use Rattle.std.proofs.lemmas.Bool.{and_parts, false≢true}
-use Rattle.eve_accounts.specs.Names.{customer_of}
+use Rattle.eve_accounts.specs.Names.{customer_named}
 use Rattle.eve_smallbank.specs.declared.entry.Entry.{Entry}
 use Rattle.eve_smallbank.specs.declared.entry.Kind.{Kind}
 use Rattle.eve_smallbank.specs.declared.entry.Kind.TheVariants.{Write}
 use Rattle.eve_smallbank.specs.declared.rows.Touched.TheVariants as touched
 use Rattle.eve_smallbank.specs.SmallBank.{Request, Balance, DepositChecking, TransactSaving, Amalgamate, WriteCheck}
 use Rattle.eve_smallbank.specs.SmallBank.{does}
-use Rattle.eve_smallbank.specs.Access.{Rows, Executed, bank_of, rows_of, noted_rows, for_customer, amalgamated_rows}
+use Rattle.eve_smallbank.specs.Access.{RowKinds, Executed, bank_of, rows_of, noted_rows, for_customer, amalgamated_rows}
 use Rattle.eve_smallbank.specs.Chain.{Table, Sees, values_of}
 use Rattle.eve_smallbank.specs.Touch.{knows_names, touched_of, rows_in}
 use Rattle.eve_smallbank.specs.Execution.{executed_on}
@@ -78,7 +78,7 @@ executed_alike names t u request same =
 
 -- ---- it touches a row, where it isn't refused
 
-some_rows : (o : Option ℕ) (f : ℕ → Rows) → is_some o ≡ true → ((c : ℕ) → 0 < length (f c))
+some_rows : (o : Option ℕ) (f : ℕ → RowKinds) → is_some o ≡ true → ((c : ℕ) → 0 < length (f c))
     → 0 < length (for_customer o f)
 some_rows None f known some = absurd (false≢true known)
 some_rows (Some c) f known some = some c
@@ -92,22 +92,22 @@ some_amalgamated from to = by (from == to)
     by true = omega arith
     by false = omega arith
 
-pub some_touched : (names : List (List ℕ)) (request : Request) (rows : Rows) → touched_of names request
+pub some_touched : (names : List (List ℕ)) (request : Request) (rows : RowKinds) → touched_of names request
     ≡ touched.Rows rows → 0 < length rows
 some_touched names request rows is = let right = accepted names request rows is in
-    subst (λ (rs : Rows). 0 < length rs) right.own (by request right.known)
+    subst (λ (rs : RowKinds). 0 < length rs) right.own (by request right.known)
   where
     by : (request : Request) → knows_names names request ≡ true → 0 < length (rows_of names request)
-    by (Balance name) known = some_rows (customer_of names name) _
-        (and_parts (is_some (customer_of names name)) true known).0 (λ c. omega arith)
-    by (DepositChecking name amount) known = some_rows (customer_of names name) _
-        (and_parts (is_some (customer_of names name)) true known).0 (λ c. omega arith)
-    by (TransactSaving name amount) known = some_rows (customer_of names name) _
-        (and_parts (is_some (customer_of names name)) true known).0 (λ c. omega arith)
+    by (Balance name) known = some_rows (customer_named names name) _
+        (and_parts (is_some (customer_named names name)) true known).0 (λ c. omega arith)
+    by (DepositChecking name amount) known = some_rows (customer_named names name) _
+        (and_parts (is_some (customer_named names name)) true known).0 (λ c. omega arith)
+    by (TransactSaving name amount) known = some_rows (customer_named names name) _
+        (and_parts (is_some (customer_named names name)) true known).0 (λ c. omega arith)
     by (Amalgamate from to) known =
-        let parts = and_parts (is_some (customer_of names from)) (is_some (customer_of names to) && true) known in
-        some_rows (customer_of names from) _ parts.0
-        (λ c. some_rows (customer_of names to) (amalgamated_rows c)
-        (and_parts (is_some (customer_of names to)) true parts.1).0 (some_amalgamated c))
-    by (WriteCheck name amount) known = some_rows (customer_of names name) _
-        (and_parts (is_some (customer_of names name)) true known).0 (λ c. omega arith)
+        let parts = and_parts (is_some (customer_named names from)) (is_some (customer_named names to) && true) known in
+        some_rows (customer_named names from) _ parts.0
+        (λ c. some_rows (customer_named names to) (amalgamated_rows c)
+        (and_parts (is_some (customer_named names to)) true parts.1).0 (some_amalgamated c))
+    by (WriteCheck name amount) known = some_rows (customer_named names name) _
+        (and_parts (is_some (customer_named names name)) true known).0 (λ c. omega arith)

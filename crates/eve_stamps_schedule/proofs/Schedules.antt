@@ -18,9 +18,10 @@ use Rattle.eve_stamps_schedule.specs.declared.stage.Stage.{Stage}
 use Rattle.eve_stamps_schedule.specs.declared.stage.Stage.TheVariants as at
 use Rattle.eve_stamps.specs.Opening.{stripe_of}
 use Rattle.eve_stamps_schedule.specs.Before.{EachBefore}
-use Rattle.eve_stamps_schedule.specs.World.{Plan, World, request_at, executed_at, noted_count, records_of}
+use Rattle.eve_stamps_schedule.specs.World.{Plan, World, planned_request, executed_record, noted_count, records_below}
 use Rattle.eve_stamps_schedule.specs.Events.{needs_at}
-use Rattle.eve_stamps_schedule.specs.Serial.{IsReached, executed_in, IsSerial, order_of, is_done, IsComplete}
+use Rattle.eve_stamps_schedule.specs.Serial.{IsReachedWorld, executed_so_far, IsSerialWorld, order_of, is_done}
+use Rattle.eve_stamps_schedule.specs.Serial.{IsComplete}
 use Rattle.eve_stamps_schedule.proofs.Holding.{flag, held, is_busy, has_index, Share, Bound, IsMade, executed, Holds}
 use Rattle.eve_stamps_schedule.proofs.Holding.{IsKept}
 use Rattle.eve_stamps_schedule.proofs.Sharing.{in_map, needed_by, stripe_below}
@@ -51,10 +52,11 @@ each_at R x y (z ∷ xs) each (first i) = all_in (R x) each.0 i
 each_at R x y (z ∷ xs) each (later before) = each_at R x y xs each.1 before
 
 above_before : (p : Plan) (table : Table) (x y : Applied) (xs : List Applied) → Follows table (executed p xs)
-    → Before x y xs → StandsAbove (executed_at p x) (executed_at p y)
+    → Before x y xs → StandsAbove (executed_record p x) (executed_record p y)
 above_before p table x y [] follows before = elim before [ ]
-above_before p table x y (z ∷ xs) follows (first i) = stands_above_head table (executed_at p x) (executed_at p y)
-    (executed p xs) follows (in_map (executed_at p) i)
+above_before p table x y (z ∷ xs) follows (first i) = stands_above_head table (executed_record p x)
+    (executed_record p y)
+    (executed p xs) follows (in_map (executed_record p) i)
 above_before p table x y (z ∷ xs) follows (later before) = above_before p (table_after table z.entries) x y xs follows.1
     before
 
@@ -66,7 +68,7 @@ both_below h k = omega arith
 
 -- records that share no stripe have no row in common
 strangers : (p : Plan) (x y : Applied) → IsMade p x → IsMade p y → ¬ Share p x.index y.index
-    → precedes (executed_at p y) (executed_at p x) ≡ false
+    → precedes (executed_record p y) (executed_record p x) ≡ false
 strangers p x y mx my none =
     list_any-none (λ f. list_any (entry_precedes f) x.entries) y.entries
     (λ f j. list_any-none (entry_precedes f) x.entries (λ e i.
@@ -82,12 +84,12 @@ strangers p x y mx my none =
 
 -- of two applied records the one with the greater tick doesn't precede the other
 agreeing : (p : Plan) (w : World) (h : List Applied) → Holds p w h → (x y : Applied) → In x h → In y h → x.tick < y.tick
-    → precedes (executed_at p y) (executed_at p x) ≡ false
+    → precedes (executed_record p y) (executed_record p x) ≡ false
 agreeing p w h holds x y i j less =
     elim (which_first i j) [
       | inl e ↦ absurd (below_itself (ap (λ (z : Applied). z.tick) e) less)
       | inr r ↦ elim r [
-        | inl before ↦ later_precedes_not (executed_at p x) (executed_at p y)
+        | inl before ↦ later_precedes_not (executed_record p x) (executed_record p y)
             (above_before p (visible_at p.base []) x y h holds.follows before)
         | inr after ↦ strangers p x y (all_in (IsMade p) holds.made i) (all_in (IsMade p) holds.made j)
             (λ share. both_below (each_at (λ a b. Bound p a.index b.index → a.tick < b.tick) y x h holds.ordered after
@@ -133,7 +135,7 @@ fitting : (p : Plan) (xs : List Applied) → ((x : Applied) → In x xs → IsMa
     → AllByRecursion (Fits p.names) (executed p xs)
 fitting p [] made = tt
 fitting p (x ∷ xs) made = (
-  subst (Fits p.names) (sym (made x here).1) (always_fits p.names (made x here).0 (request_at p x.index)),
+  subst (Fits p.names) (sym (made x here).1) (always_fits p.names (made x here).0 (planned_request p x.index)),
   fitting p xs (λ y i. made y (there i)),
 )
 
@@ -146,22 +148,22 @@ reordering_map f (x ∷ xs) ys r = (
   subst (IsReordering (map f xs)) (map-append f r.0 r.1) (reordering_map f xs (r.0 ++ r.1) r.3),
 )
 
-serial_kept : (p : Plan) (w : World) → IsKept p w → IsSerial p w
+serial_kept : (p : Plan) (w : World) → IsKept p w → IsSerialWorld p w
 serial_kept p w kept =
     let holds = kept.holds in
     let member : (x : Applied) → In x w.applied → In x kept.history =
     λ x i. in_after w.applied kept.history kept.same i in
     let fit = fitting p w.applied (λ x i. all_in (IsMade p) holds.made (member x i)) in
-    let same = reordered (visible_at p.base []) (executed_in p w) (executed p kept.history)
-    (reordering_map (executed_at p) w.applied kept.history kept.same)
-    (agrees (executed_in p w) (along (executed_at p) (λ x y. precedes y x ≡ false) w.applied kept.rises
+    let same = reordered (visible_at p.base []) (executed_so_far p w) (executed p kept.history)
+    (reordering_map (executed_record p) w.applied kept.history kept.same)
+    (agrees (executed_so_far p w) (along (executed_record p) (λ x y. precedes y x ≡ false) w.applied kept.rises
     (λ x y i j less. agreeing p w kept.history holds x y (member x i) (member y j) less))) holds.follows in
     record {
       rises = kept.rises;
       fits = fit;
-      chained = chain_follows p.base [] (executed_in p w) same.0;
-      runs = run_along p.names (visible_at p.base []) (executed_in p w) fit same.0
-          ∙ ap (λ (t : Table). (bank_of p.names (values_of t), map (λ x. x.reply) (executed_in p w)))
+      chained = chain_follows p.base [] (executed_so_far p w) same.0;
+      runs = run_along p.names (visible_at p.base []) (executed_so_far p w) fit same.0
+          ∙ ap (λ (t : Table). (bank_of p.names (values_of t), map (λ x. x.reply) (executed_so_far p w)))
           (sym (holds.table ∙ same.1));
     }
 
@@ -199,16 +201,16 @@ groups_kept p w kept done =
 
 -- ---- of reached worlds
 
-pub reached_kept : (p : Plan) (w : World) → IsReached p w → IsKept p w
+pub reached_kept : (p : Plan) (w : World) → IsReachedWorld p w → IsKept p w
 reached_kept p w reached = subst (IsKept p) (sym reached.world) (kept_after p reached.events reached.allowed)
 
-pub serial : (p : Plan) (w : World) → IsReached p w → IsSerial p w
+pub serial : (p : Plan) (w : World) → IsReachedWorld p w → IsSerialWorld p w
 serial p w reached = serial_kept p w (reached_kept p w reached)
 
-pub gathered : (p : Plan) (w : World) → IsReached p w → IsPermutation (records_of w p.workers) w.applied
+pub gathered : (p : Plan) (w : World) → IsReachedWorld p w → IsPermutation (records_below w p.workers) w.applied
 gathered p w reached = (reached_kept p w reached).gathered
 
-pub complete : (p : Plan) (w : World) → IsReached p w → IsTrue (is_done p w) → IsComplete p w
+pub complete : (p : Plan) (w : World) → IsReachedWorld p w → IsTrue (is_done p w) → IsComplete p w
 complete p w reached done = record {
   noted = gathered p w reached;
   groups = groups_kept p w (reached_kept p w reached) done;

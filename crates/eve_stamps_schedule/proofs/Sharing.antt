@@ -4,7 +4,7 @@ use Rattle.std.specs.List.{list_any}
 use Rattle.std.proofs.lemmas.Bool.{or_right, or_cases, eqb-true, false≢true}
 use Rattle.eve_smallbank.specs.declared.entry.Entry.{Entry}
 use Rattle.eve_smallbank.specs.SmallBank.{Request}
-use Rattle.eve_smallbank.specs.Access.{Executed, Rows}
+use Rattle.eve_smallbank.specs.Access.{Executed, RowKinds}
 use Rattle.eve_smallbank.specs.Chain.{Table}
 use Rattle.eve_smallbank.specs.Execution.{executed_on}
 use Rattle.eve_smallbank.specs.Touch.{touched_of, rows_in}
@@ -14,7 +14,7 @@ use Rattle.eve_smallbank.proofs.Records.{touches_rows}
 use Rattle.eve_stamps.specs.Applied.{Applied}
 use Rattle.eve_stamps.specs.Opening.{stripe_count, stripe_of}
 use Rattle.eve_stamps_schedule.specs.Stripes.{needs}
-use Rattle.eve_stamps_schedule.specs.World.{Plan, executed_at}
+use Rattle.eve_stamps_schedule.specs.World.{Plan, executed_record}
 use Rattle.eve_stamps_schedule.specs.Events.{needs_at}
 use Rattle.eve_stamps_schedule.proofs.Holding.{IsMade}
 
@@ -23,7 +23,7 @@ in_map f here = here
 in_map f (there i) = there (in_map f i)
 
 -- a row that is among the rows lies in a stripe that one of them is in
-pub in_stripe : (rows : Rows) (row : ℕ) → In row (map (λ r. r.0) rows)
+pub in_stripe : (rows : RowKinds) (row : ℕ) → In row (map (λ r. r.0) rows)
     → list_any (λ r. stripe_of r.0 == stripe_of row) rows ≡ true
 in_stripe [] row i = elim i [ ]
 in_stripe (r ∷ rows) row here = ap (λ b. b || list_any (λ q. stripe_of q.0 == stripe_of r.0) rows)
@@ -40,7 +40,7 @@ needed names table request e i =
 
 pub needed_by : (p : Plan) (x : Applied) → IsMade p x → (e : Entry) → In e x.entries
     → needs_at p x.index (stripe_of e.row) ≡ true
-needed_by p x made e i = needed p.names made.0 (executed_at p x).request e
+needed_by p x made e i = needed p.names made.0 (executed_record p x).request e
     (subst (λ (y : Executed). In e y.entries) made.1 i)
 
 pub stripe_below : (row : ℕ) → stripe_of row < stripe_count
@@ -50,7 +50,7 @@ stripe_below row = omega arith
 pub needs_small : (names : List (List ℕ)) (request : Request) (s : ℕ) → needs names request s ≡ true → s < stripe_count
 needs_small names request s need = by (rows_in (touched_of names request)) need
   where
-    by : (rows : Rows) → list_any (λ r. stripe_of r.0 == s) rows ≡ true → s < stripe_count
+    by : (rows : RowKinds) → list_any (λ r. stripe_of r.0 == s) rows ≡ true → s < stripe_count
     by [] need = absurd (false≢true need)
     by (r ∷ rows) need = elim (or_cases (stripe_of r.0 == s) (list_any (λ q. stripe_of q.0 == s) rows) need) [
       | inl first ↦ subst (λ k. k < stripe_count) (eqb-true (stripe_of r.0) s first) (stripe_below r.0)

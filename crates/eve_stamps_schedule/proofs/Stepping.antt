@@ -19,13 +19,15 @@ use Rattle.eve_stamps_schedule.specs.declared.stage.Stage.{Stage}
 use Rattle.eve_stamps_schedule.specs.declared.stage.Stage.TheVariants as at
 use Rattle.eve_stamps_schedule.specs.Before.{EachBefore}
 use Rattle.eve_stamps_schedule.specs.Stripes.{needs}
-use Rattle.eve_stamps_schedule.specs.World.{Plan, request_at, executed_at, noted_count}
-use Rattle.eve_stamps_schedule.specs.Events.{worker_of, current_group, is_owner, next_stripe, last_stripe, may, made}
-use Rattle.eve_stamps_schedule.specs.Events.{placed, with_owner, with_applied, then_happens, happens}
-use Rattle.eve_stamps_schedule.specs.Serial.{IsReached}
-use Rattle.eve_stamps_schedule.specs.Schedule.{Schedule, stripe_at, table_of, base_of, plan_of, world_of, allows}
+use Rattle.eve_stamps_schedule.specs.World.{Plan, planned_request, executed_record, noted_count}
+use Rattle.eve_stamps_schedule.specs.Events.{worker_of, current_group, is_owner, next_stripe, last_stripe, may}
+use Rattle.eve_stamps_schedule.specs.Events.{record_made}
+use Rattle.eve_stamps_schedule.specs.Events.{placed_by_tick, with_owner, with_applied, then_happens, happens}
+use Rattle.eve_stamps_schedule.specs.Serial.{IsReachedWorld}
+use Rattle.eve_stamps_schedule.specs.Schedule.{Schedule, stripe_at, table_of_stripes, base_of, plan_of, world_of}
+use Rattle.eve_stamps_schedule.specs.Schedule.{allows}
 use Rattle.eve_stamps_schedule.specs.Applying.{AreFresh, IsKeptAt}
-use Rattle.eve_stamps_schedule.specs.Scheduled.{IsTimely, IsHeld}
+use Rattle.eve_stamps_schedule.specs.Scheduled.{IsTimely, IsHeldSchedule}
 use Rattle.eve_stamps_schedule.proofs.Changes.{counted-at_least}
 use Rattle.eve_stamps_schedule.proofs.Places.{changed_at}
 use Rattle.eve_stamps_schedule.proofs.Tables.{few_versions}
@@ -58,12 +60,12 @@ not_there s event out =
     ap (λ b. b && may (plan_of s) (world_of s) event ((world_of s).stages (worker_of event)))
     (le-ltb (worker_of event) (length s.stages) out)
 
-reached_behind : (s t : Schedule) (event : Event) → IsReached (plan_of s) (world_of s) → allows s event ≡ true
+reached_behind : (s t : Schedule) (event : Event) → IsReachedWorld (plan_of s) (world_of s) → allows s event ≡ true
     → plan_of t ≡ plan_of s
-    → world_of t ≡ happens (plan_of s) (world_of s) event → IsReached (plan_of t) (world_of t)
+    → world_of t ≡ happens (plan_of s) (world_of s) event → IsReachedWorld (plan_of t) (world_of t)
 reached_behind s t event reached allowed plan world =
-    subst (λ p. IsReached p (world_of t)) (sym plan)
-    (subst (IsReached (plan_of s)) (sym world) (reached_next (plan_of s) (world_of s) event reached allowed))
+    subst (λ p. IsReachedWorld p (world_of t)) (sym plan)
+    (subst (IsReachedWorld (plan_of s)) (sym world) (reached_next (plan_of s) (world_of s) event reached allowed))
 
 -- ---- what is known of a worker
 
@@ -72,7 +74,7 @@ flag_holds true h = refl
 flag_holds false h = absurd (omega arith)
 
 -- an index that a worker has is claimed, and there
-index_there : (s : Schedule) (count v i : ℕ) (stage : Stage) → IsHeld s count → v < length s.stages
+index_there : (s : Schedule) (count v i : ℕ) (stage : Stage) → IsHeldSchedule s count → v < length s.stages
     → (world_of s).stages v ≡ stage → has_index i stage ≡ true → i < length s.requests
 index_there s count v i stage is there stands has =
     let counts = (reached_kept (plan_of s) (world_of s) is.reached).counts in
@@ -84,25 +86,27 @@ index_there s count v i stage is there stands has =
     ltb-true i s.claimed (flag_holds (nat_lt i s.claimed) (omega (arith, counts.indexes i, one))) in
     omega (arith, counts.within)
 
-pub claimed_there : (s : Schedule) (count v i : ℕ) → IsHeld s count → v < length s.stages → (world_of s).stages v
+pub claimed_there : (s : Schedule) (count v i : ℕ) → IsHeldSchedule s count → v < length s.stages
+    → (world_of s).stages v
     ≡ at.Claimed i → i < length s.requests
 claimed_there s count v i is there stands = index_there s count v i (at.Claimed i) is there stands (eq-eqb i i refl)
 
-pub ticked_there : (s : Schedule) (count v i n : ℕ) → IsHeld s count → v < length s.stages → (world_of s).stages v
+pub ticked_there : (s : Schedule) (count v i n : ℕ) → IsHeldSchedule s count → v < length s.stages
+    → (world_of s).stages v
     ≡ at.Ticked i n → i < length s.requests
 ticked_there s count v i n is there stands = index_there s count v i (at.Ticked i n) is there stands (eq-eqb i i refl)
 
 -- ---- small numbers
 
-pub few_claimed : (s : Schedule) (count : ℕ) → IsHeld s count → s.claimed ≤ length s.requests
+pub few_claimed : (s : Schedule) (count : ℕ) → IsHeldSchedule s count → s.claimed ≤ length s.requests
 few_claimed s count is = (reached_kept (plan_of s) (world_of s) is.reached).counts.within
 
-pub few_ticks : (s : Schedule) (count : ℕ) → IsHeld s count → s.counter ≤ length s.requests
+pub few_ticks : (s : Schedule) (count : ℕ) → IsHeldSchedule s count → s.counter ≤ length s.requests
 few_ticks s count is = let c = (reached_kept (plan_of s) (world_of s) is.reached).counts in
     omega (arith, c.within, c.ticked)
 
 -- one that is busy will note one more
-pub few_noted : (s : Schedule) (count v : ℕ) (stage : Stage) → IsHeld s count → v < length s.stages
+pub few_noted : (s : Schedule) (count v : ℕ) (stage : Stage) → IsHeldSchedule s count → v < length s.stages
     → (world_of s).stages v ≡ stage → is_busy stage ≡ true → count < length s.requests
 few_noted s count v stage is there stands busy =
     let c = (reached_kept (plan_of s) (world_of s) is.reached).counts in
@@ -112,7 +116,7 @@ few_noted s count v stage is there stands busy =
     (counted-at_least (λ t. flag (is_busy t)) (world_of s).stages v (length s.stages) there) in
     omega (arith, c.within, c.claimed, is.counted, one)
 
-pub short_list : (s : Schedule) (count v : ℕ) → IsHeld s count → v < length s.stages
+pub short_list : (s : Schedule) (count v : ℕ) → IsHeldSchedule s count → v < length s.stages
     → length ((world_of s).noted v) ≤ length s.requests
 short_list s count v is there =
     let c = (reached_kept (plan_of s) (world_of s) is.reached).counts in
@@ -211,7 +215,7 @@ pub claim_world : (s : Schedule) (v : ℕ) → v < length s.stages → (world_of
     → world_of (with_claim s v) ≡ happens (plan_of s) (world_of s) (Claim v)
 claim_world s v there stage =
     ap (λ (f : ℕ → Stage). record {
-      table = table_of s.stripes;
+      table = table_of_stripes s.stripes;
       owners = (world_of s).owners;
       claimed = s.claimed + 1;
       counter = s.counter;
@@ -222,8 +226,9 @@ claim_world s v there stage =
     (changed_at s.stages v (at.Claimed s.claimed) at.Idle there)
     ∙ sym (ap (then_happens (plan_of s) (world_of s) (Claim v)) stage)
 
-pub claim_held : (s : Schedule) (count v : ℕ) → IsHeld s count → v < length s.stages → (world_of s).stages v ≡ at.Idle
-    → allows s (Claim v) ≡ true → IsHeld (with_claim s v) count
+pub claim_held : (s : Schedule) (count v : ℕ) → IsHeldSchedule s count → v < length s.stages → (world_of s).stages v
+    ≡ at.Idle
+    → allows s (Claim v) ≡ true → IsHeldSchedule (with_claim s v) count
 claim_held s count v is there stage allowed =
     let long : length (set s.stages v (at.Claimed s.claimed)) ≡ length s.stages =
     length-set s.stages v (at.Claimed s.claimed) in
@@ -251,7 +256,7 @@ owner_world : (s : Schedule) (k : ℕ) (owner : Option ℕ) → k < length s.own
     ≡ with_owner (world_of s) (Some k) owner
 owner_world s k owner there =
     ap (λ (f : ℕ → Option ℕ). record {
-      table = table_of s.stripes;
+      table = table_of_stripes s.stripes;
       owners = f;
       claimed = s.claimed;
       counter = s.counter;
@@ -275,11 +280,12 @@ unlock_world s v k x there stage last =
     owner_world s k None there ∙ ap (λ o. with_owner (world_of s) o None) (sym last)
     ∙ sym (ap (then_happens (plan_of s) (world_of s) (Unlock v)) stage)
 
-owner_held : (s : Schedule) (count k : ℕ) (owner : Option ℕ) (event : Event) → IsHeld s count → k < length s.owners
+owner_held : (s : Schedule) (count k : ℕ) (owner : Option ℕ) (event : Event) → IsHeldSchedule s count
+    → k < length s.owners
     → allows s event ≡ true
     → world_of (with_lock s k owner) ≡ happens (plan_of s) (world_of s) event
     → ((i : ℕ) → i < stripe_count → IsTimely s.counter owner s.stages (stripe_at s.stripes i).greatest)
-    → IsHeld (with_lock s k owner) count
+    → IsHeldSchedule (with_lock s k owner) count
 owner_held s count k owner event is there allowed world timely = record {
   few = is.few;
   stripes = is.stripes;
@@ -297,17 +303,17 @@ owner_held s count k owner event is there allowed world timely = record {
   ];
 }
 
-pub lock_held : (s : Schedule) (count v i k : ℕ) → IsHeld s count → k < length s.owners → (world_of s).stages v
+pub lock_held : (s : Schedule) (count v i k : ℕ) → IsHeldSchedule s count → k < length s.owners → (world_of s).stages v
     ≡ at.Claimed i → next_stripe (plan_of s) (world_of s) v i ≡ Some k
-    → allows s (LockStripe v) ≡ true → IsHeld (with_lock s k (Some v)) count
+    → allows s (LockStripe v) ≡ true → IsHeldSchedule (with_lock s k (Some v)) count
 lock_held s count v i k is there stage next allowed =
     owner_held s count k (Some v) (LockStripe v) is there allowed (lock_world s v i k there stage next)
     (λ j small. timely_locked s.counter v i (get_or s.owners j None) s.stages (stripe_at s.stripes j).greatest stage
     (is.timely j small))
 
-pub unlock_held : (s : Schedule) (count v k : ℕ) (x : Applied) → IsHeld s count → k < length s.owners
+pub unlock_held : (s : Schedule) (count v k : ℕ) (x : Applied) → IsHeldSchedule s count → k < length s.owners
     → (world_of s).stages v ≡ at.Applied x → last_stripe (world_of s) v ≡ Some k
-    → allows s (Unlock v) ≡ true → IsHeld (with_lock s k None) count
+    → allows s (Unlock v) ≡ true → IsHeldSchedule (with_lock s k None) count
 unlock_held s count v k x is there stage last allowed =
     owner_held s count k None (Unlock v) is there allowed (unlock_world s v k x there stage last)
     (λ j small. timely_unlocked s.counter (get_or s.owners j None) s.stages (stripe_at s.stripes j).greatest
@@ -325,7 +331,7 @@ pub tick_world : (s : Schedule) (v i : ℕ) → v < length s.stages → (world_o
     → world_of (with_tick s v i) ≡ happens (plan_of s) (world_of s) (Tick v)
 tick_world s v i there stage =
     ap (λ (f : ℕ → Stage). record {
-      table = table_of s.stripes;
+      table = table_of_stripes s.stripes;
       owners = (world_of s).owners;
       claimed = s.claimed;
       counter = s.counter + 1;
@@ -339,8 +345,8 @@ tick_world s v i there stage =
 ticked_same : (i j m n : ℕ) → at.Ticked i m ≡ at.Ticked j n → m ≡ n
 ticked_same i j m n e = cc
 
-pub tick_held : (s : Schedule) (count v i : ℕ) → IsHeld s count → v < length s.stages → (world_of s).stages v
-    ≡ at.Claimed i → allows s (Tick v) ≡ true → IsHeld (with_tick s v i) count
+pub tick_held : (s : Schedule) (count v i : ℕ) → IsHeldSchedule s count → v < length s.stages → (world_of s).stages v
+    ≡ at.Claimed i → allows s (Tick v) ≡ true → IsHeldSchedule (with_tick s v i) count
 tick_held s count v i is there stage allowed =
     let long : length (set s.stages v (at.Ticked i s.counter)) ≡ length s.stages =
     length-set s.stages v (at.Ticked i s.counter) in
@@ -376,7 +382,7 @@ note_world s v x there same stage =
     let none : List Applied = [] in
     let noted = changed_at s.noted v (get_or s.noted v none ++ x ∷ []) none (omega arith) in
     (λ k. record {
-      table = table_of s.stripes;
+      table = table_of_stripes s.stripes;
       owners = (world_of s).owners;
       claimed = s.claimed;
       counter = s.counter;
@@ -386,9 +392,9 @@ note_world s v x there same stage =
     })
     ∙ sym (ap (then_happens (plan_of s) (world_of s) (Note v)) stage)
 
-pub note_held : (s : Schedule) (count v : ℕ) (x : Applied) → IsHeld s count → v < length s.stages
+pub note_held : (s : Schedule) (count v : ℕ) (x : Applied) → IsHeldSchedule s count → v < length s.stages
     → (world_of s).stages v ≡ at.Applied x → allows s (Note v) ≡ true
-    → IsHeld (with_note s v x) (count + 1)
+    → IsHeldSchedule (with_note s v x) (count + 1)
 note_held s count v x is there stage allowed =
     let none : List Applied = [] in
     let long : length (set s.stages v at.Idle) ≡ length s.stages = length-set s.stages v at.Idle in
@@ -413,7 +419,8 @@ note_held s count v x is there stage allowed =
 -- ---- what is applied
 
 -- a worker with a tick owns what it needs
-tick_ready : (s : Schedule) (count v i n : ℕ) (is : IsHeld s count) → v < length s.stages → (world_of s).stages v
+tick_ready : (s : Schedule) (count v i n : ℕ) (is : IsHeldSchedule s count) → v < length s.stages
+    → (world_of s).stages v
     ≡ at.Ticked i n
     → IsReady (plan_of s) s.counter (current_group (plan_of s) (world_of s)) (world_of s).owners
     (reached_kept (plan_of s) (world_of s) is.reached).history v (at.Ticked i n)
@@ -423,11 +430,12 @@ tick_ready s count v i n is there stage =
     stage (kept.holds.ready v there)
 
 -- its tick is above what its stripes have had
-pub above_owned : (s : Schedule) (count v i n : ℕ) → IsHeld s count → v < length s.stages → (world_of s).stages v
+pub above_owned : (s : Schedule) (count v i n : ℕ) → IsHeldSchedule s count → v < length s.stages
+    → (world_of s).stages v
     ≡ at.Ticked i n → (k : ℕ)
-    → needs s.names (request_at (plan_of s) i) k ≡ true → is_above n (stripe_at s.stripes k).greatest ≡ true
+    → needs s.names (planned_request (plan_of s) i) k ≡ true → is_above n (stripe_at s.stripes k).greatest ≡ true
 above_owned s count v i n is there stage k need =
-    let small : k < stripe_count = needs_small s.names (request_at (plan_of s) i) k need in
+    let small : k < stripe_count = needs_small s.names (planned_request (plan_of s) i) k need in
     (is.timely k small).owned v i n stage ((tick_ready s count v i n is there stage).2 k small need)
 
 -- no row is at the greatest version: a request raises a version by 1 at most, and there are few requests
@@ -440,16 +448,17 @@ reordering_length {A} (x ∷ xs) ys r =
     let whole : length ys ≡ length (front ++ x ∷ back) = ap length r.2 in
     omega (arith, length-append front back, length-append front (x ∷ back))
 
-pub fresh_rows : (s : Schedule) (count : ℕ) → IsHeld s count → AreFresh (table_of s.stripes)
+pub fresh_rows : (s : Schedule) (count : ℕ) → IsHeldSchedule s count → AreFresh (table_of_stripes s.stripes)
 fresh_rows s count is row =
     let kept = reached_kept (plan_of s) (world_of s) is.reached in
     let xs : List Executed = executed (plan_of s) kept.history in
     let low : (base_of s.stripes row).version ≤ 0 = omega (arith, is.opened row) in
     let few : (table_after_all (visible_at (base_of s.stripes) []) xs row).version ≤ 0 + length xs =
     few_versions (visible_at (base_of s.stripes) []) xs row 0 kept.holds.follows low in
-    let as_many : length xs ≡ length kept.history = length-map kept.history (executed_at (plan_of s)) in
+    let as_many : length xs ≡ length kept.history = length-map kept.history (executed_record (plan_of s)) in
     let same : length s.applied ≡ length kept.history = reordering_length s.applied kept.history kept.same in
-    let now : (table_of s.stripes row).version ≡ (table_after_all (visible_at (base_of s.stripes) []) xs row).version =
+    let now : (table_of_stripes s.stripes row).version
+    ≡ (table_after_all (visible_at (base_of s.stripes) []) xs row).version =
     ap (λ (t : Table). (t row).version) kept.holds.table in
     omega (arith, is.few, kept.counts.applied, kept.counts.ticked, kept.counts.within)
 
@@ -458,12 +467,17 @@ fresh_rows s count is row =
 -- the stripes after a record
 pub record IsMadeOn (s : Schedule) (v i n : ℕ) (x : Applied) (ss : List Stripe) : Type 0 where
   pub long : length ss ≡ length s.stripes
-  pub exact : x ≡ made (plan_of s) (world_of s) v i n
-  pub table : table_of ss ≡ table_after (table_of s.stripes) x.entries
-  pub kept : (k : ℕ) → IsKeptAt n (needs s.names (request_at (plan_of s) i) k) (stripe_at s.stripes k) (stripe_at ss k)
+  pub exact : x ≡ record_made (plan_of s) (world_of s) v i n
+  pub table : table_of_stripes ss ≡ table_after (table_of_stripes s.stripes) x.entries
+  pub kept : (k : ℕ) → IsKeptAt n (needs s.names (planned_request (plan_of s) i) k) (stripe_at s.stripes k)
+      (stripe_at ss k)
 
 abbrev pub with_made : Schedule → ℕ → Applied → List Stripe → Schedule
-with_made s v x ss = record s { stripes = ss; stages = set s.stages v (at.Applied x); applied = placed x s.applied }
+with_made s v x ss = record s {
+  stripes = ss;
+  stages = set s.stages v (at.Applied x);
+  applied = placed_by_tick x s.applied;
+}
 
 base_kept : (s : Schedule) (v i n : ℕ) (x : Applied) (ss : List Stripe) → IsMadeOn s v i n x ss → base_of ss
     ≡ base_of s.stripes
@@ -490,13 +504,13 @@ made_world s v i n x ss on there stage =
       counter = s.counter;
       stages = stages k;
       noted = (world_of s).noted;
-      applied = placed x s.applied;
+      applied = placed_by_tick x s.applied;
     }) in
     first ∙ ap (with_applied (world_of s) v) on.exact ∙ sym (ap (then_happens (plan_of s) (world_of s) (Apply v)) stage)
 
 pub made_held : (s : Schedule) (count v i n : ℕ) (x : Applied) (ss : List Stripe) → IsMadeOn s v i n x ss
-    → IsHeld s count → v < length s.stages → (world_of s).stages v ≡ at.Ticked i n
-    → allows s (Apply v) ≡ true → IsHeld (with_made s v x ss) count
+    → IsHeldSchedule s count → v < length s.stages → (world_of s).stages v ≡ at.Ticked i n
+    → allows s (Apply v) ≡ true → IsHeldSchedule (with_made s v x ss) count
 made_held s count v i n x ss on is there stage allowed =
     let long : length (set s.stages v (at.Applied x)) ≡ length s.stages = length-set s.stages v (at.Applied x) in
     let ready = tick_ready s count v i n is there stage in
@@ -511,7 +525,7 @@ made_held s count v i n x ss on is there stage allowed =
           (made_world s v i n x ss on there stage);
       rows = λ k row small. ap (λ b. lies_in b row) (on.kept k).base ∙ is.rows k row small;
       timely = λ k small. timely_applied s.counter v n x (get_or s.owners k None) s.stages
-          (needs s.names (request_at (plan_of s) i) k) (stripe_at s.stripes k).greatest (stripe_at ss k).greatest
+          (needs s.names (planned_request (plan_of s) i) k) (stripe_at s.stripes k).greatest (stripe_at ss k).greatest
           there ready.0 (ready.2 k small) (on.kept k).greatest (is.timely k small);
     }
 
@@ -525,5 +539,5 @@ pub is_nobodys : {A : Type 0} (o : Option A) → is_some o ≡ false → is_none
 is_nobodys None e = refl
 is_nobodys (Some v) e = absurd (false≢true (sym e))
 
-pub ticks_rise : (s : Schedule) (count : ℕ) → IsHeld s count → EachBefore (λ x y. x.tick < y.tick) s.applied
+pub ticks_rise : (s : Schedule) (count : ℕ) → IsHeldSchedule s count → EachBefore (λ x y. x.tick < y.tick) s.applied
 ticks_rise s count is = (reached_kept (plan_of s) (world_of s) is.reached).rises

@@ -11,7 +11,7 @@ use Rattle.eve_stamps_schedule.specs.declared.stage.Stage.{Stage}
 use Rattle.eve_stamps_schedule.specs.declared.stage.Stage.TheVariants as at
 use Rattle.eve_stamps.specs.Opening.{stripe_count}
 use Rattle.eve_stamps_schedule.specs.Stripes.{needs, least_from, greatest_below}
-use Rattle.eve_stamps_schedule.specs.World.{Plan, World, request_at, noted_count}
+use Rattle.eve_stamps_schedule.specs.World.{Plan, World, planned_request, noted_count}
 
 abbrev pub worker_of : Event → ℕ
 worker_of (Claim worker) = worker
@@ -37,7 +37,7 @@ is_owner worker (Some owner) = owner == worker
 
 -- whether the request of an index needs the stripe
 abbrev pub needs_at : Plan → ℕ → ℕ → Bool
-needs_at p index = needs p.names (request_at p index)
+needs_at p index = needs p.names (planned_request p index)
 
 -- the least stripe that the request needs and the worker doesn't own
 abbrev pub next_stripe : Plan → World → ℕ → ℕ → Option ℕ
@@ -63,8 +63,8 @@ may p w (Note v) (at.Applied x) = is_none (last_stripe w v)
 may p w _ _ = false
 
 -- the worker is there, and the event is allowed for it
-abbrev pub is_allowed : Plan → World → Event → Bool
-is_allowed p w event = nat_lt (worker_of event) p.workers && may p w event (w.stages (worker_of event))
+abbrev pub is_allowed_event : Plan → World → Event → Bool
+is_allowed_event p w event = nat_lt (worker_of event) p.workers && may p w event (w.stages (worker_of event))
 
 -- ---- what an event does
 
@@ -80,13 +80,13 @@ with_owner w None owner = w
 with_owner w (Some s) owner = record w { owners = changed w.owners s owner }
 
 -- the record of a request that is applied now
-abbrev pub made : Plan → World → ℕ → ℕ → ℕ → Applied
-made p w v i n = noted_of v (length (w.noted v)) i n (executed_on p.names w.table (request_at p i))
+abbrev pub record_made : Plan → World → ℕ → ℕ → ℕ → Applied
+record_made p w v i n = noted_of v (length (w.noted v)) i n (executed_on p.names w.table (planned_request p i))
 
 -- the record among others, before the first of a greater tick
-abbrev pub placed : Applied → List Applied → List Applied
-placed x [] = x ∷ []
-placed x (y ∷ ys) = if nat_lt x.tick y.tick then x ∷ y ∷ ys else y ∷ placed x ys
+abbrev pub placed_by_tick : Applied → List Applied → List Applied
+placed_by_tick x [] = x ∷ []
+placed_by_tick x (y ∷ ys) = if nat_lt x.tick y.tick then x ∷ y ∷ ys else y ∷ placed_by_tick x ys
 
 -- the rows have what the record wrote
 abbrev pub with_applied : World → ℕ → Applied → World
@@ -94,7 +94,7 @@ with_applied w v x =
     record w {
       table = table_after w.table x.entries;
       stages = changed w.stages v (at.Applied x);
-      applied = placed x w.applied;
+      applied = placed_by_tick x w.applied;
     }
 
 -- the record goes to the end of the worker's list
@@ -108,7 +108,7 @@ then_happens p w (Claim v) at.Idle =
 then_happens p w (LockStripe v) (at.Claimed i) = with_owner w (next_stripe p w v i) (Some v)
 then_happens p w (Tick v) (at.Claimed i) =
     record w { counter = w.counter + 1; stages = changed w.stages v (at.Ticked i w.counter) }
-then_happens p w (Apply v) (at.Ticked i n) = with_applied w v (made p w v i n)
+then_happens p w (Apply v) (at.Ticked i n) = with_applied w v (record_made p w v i n)
 then_happens p w (Unlock v) (at.Applied x) = with_owner w (last_stripe w v) None
 then_happens p w (Note v) (at.Applied x) = with_noted w v x
 then_happens p w _ _ = w
@@ -121,7 +121,7 @@ happens p w event = then_happens p w event (w.stages (worker_of event))
 -- each event is allowed where it comes
 abbrev pub are_allowed : Plan → World → List Event → Bool
 are_allowed p w [] = true
-are_allowed p w (event ∷ events) = is_allowed p w event && are_allowed p (happens p w event) events
+are_allowed p w (event ∷ events) = is_allowed_event p w event && are_allowed p (happens p w event) events
 
 abbrev pub world_after : Plan → World → List Event → World
 world_after p w [] = w

@@ -2,7 +2,7 @@
 use Rattle.std.specs.Prelude.{◌≡◌, ℕ, ℤ, true, false, Bool, List, [], map, length, slice_index_or, Option, None, Result}
 use Rattle.std.specs.Prelude.{Ok, Err}
 use Rattle.eve_smallbank.specs.SmallBank.{Request}
-use Rattle.eve_smallbank.specs.Access.{balance_at}
+use Rattle.eve_smallbank.specs.Access.{balance_of_row}
 use Rattle.eve_smallbank.specs.Chain.{Table}
 use Rattle.eve_grammar.specs.Trace.{Batch}
 use Rattle.eve_stamps.specs.Applied.{Applied}
@@ -15,7 +15,7 @@ use Rattle.eve_stamps_schedule.specs.declared.fault.StepFault.TheVariants as fau
 use Rattle.eve_stamps_schedule.specs.declared.stage.Stage.{Stage}
 use Rattle.eve_stamps_schedule.specs.declared.stage.Stage.TheVariants as at
 use Rattle.eve_stamps_schedule.specs.World.{Plan, World}
-use Rattle.eve_stamps_schedule.specs.Events.{is_allowed, happens}
+use Rattle.eve_stamps_schedule.specs.Events.{is_allowed_event, happens}
 
 -- What is executed, and what the stripes, the workers and the counter are at: stripes and owners by stripe, stages and
 -- noted records by worker.
@@ -34,16 +34,16 @@ pub record Schedule : Type 0 where
 -- ---- what it stands for
 
 -- the requests of a batch
-abbrev pub requests_in : Batch → List Request
-requests_in b = map (λ a. a.request) b.requests
+abbrev pub requests_of_batch : Batch → List Request
+requests_of_batch b = map (λ a. a.request) b.requests
 
 -- the batch of these customers, from their opening balances, by so many workers
 abbrev pub opening_plan : List (List ℕ) → List ℤ → Batch → ℕ → Plan
 opening_plan names balances batch workers = record {
   names = names;
-  base = λ row. record { version = 0; value = balance_at balances row };
+  base = λ row. record { version = 0; value = balance_of_row balances row };
   sizes = batch.sizes;
-  requests = requests_in batch;
+  requests = requests_of_batch batch;
   workers = workers;
 }
 
@@ -52,8 +52,8 @@ abbrev pub stripe_at : List Stripe → ℕ → Stripe
 stripe_at stripes s = slice_index_or stripes s (record { base = []; journal = []; greatest = None })
 
 -- what the rows of these stripes have, and what they had at first
-abbrev pub table_of : List Stripe → Table
-table_of stripes row = rows_now (stripe_at stripes (stripe_of row)) row
+abbrev pub table_of_stripes : List Stripe → Table
+table_of_stripes stripes row = rows_now (stripe_at stripes (stripe_of row)) row
 
 abbrev pub base_of : List Stripe → Table
 base_of stripes row = committed (stripe_at stripes (stripe_of row)) row
@@ -70,7 +70,7 @@ plan_of s =
 
 abbrev pub world_of : Schedule → World
 world_of s = record {
-  table = table_of s.stripes;
+  table = table_of_stripes s.stripes;
   owners = λ i. slice_index_or s.owners i None;
   claimed = s.claimed;
   counter = s.counter;
@@ -83,7 +83,7 @@ world_of s = record {
 
 -- whether the event is allowed now
 abbrev pub allows : Schedule → Event → Bool
-allows s event = is_allowed (plan_of s) (world_of s) event
+allows s event = is_allowed_event (plan_of s) (world_of s) event
 
 -- of all events, a record that is made and one that is noted take memory
 abbrev pub takes_memory : Event → Bool

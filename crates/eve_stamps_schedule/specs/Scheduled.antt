@@ -1,5 +1,6 @@
 -- How a schedule is held.
 use Rattle.std.specs.Prelude.{◌≡◌, ℕ, ◌<◌, true, List, map, length, slice_index_or, Option, None}
+use Rattle.eve_stamps.specs.declared.limits.TheConstants.{MOST_PLACES}
 use Rattle.eve_stamps.specs.Stripes.{is_above}
 use Rattle.eve_stamps.specs.Opening.{stripe_count}
 use Rattle.eve_write.specs.Data.{batch}
@@ -8,15 +9,15 @@ use Rattle.eve_stamps_schedule.specs.declared.stage.Stage.{Stage}
 use Rattle.eve_stamps_schedule.specs.declared.stage.Stage.TheVariants as at
 use Rattle.eve_stamps_schedule.specs.World.{noted_count}
 use Rattle.eve_stamps_schedule.specs.Events.{is_owner}
-use Rattle.eve_stamps_schedule.specs.Serial.{IsReached}
-use Rattle.eve_stamps_schedule.specs.Schedule.{Schedule, requests_in, stripe_at, base_of, plan_of, world_of}
+use Rattle.eve_stamps_schedule.specs.Serial.{IsReachedWorld}
+use Rattle.eve_stamps_schedule.specs.Schedule.{Schedule, requests_of_batch, stripe_at, base_of, plan_of, world_of}
 use Rattle.eve_stamps_schedule.specs.Applying.{HaveTheirRows}
 
 abbrev pub schedule_of : Inside → Schedule
 schedule_of s = record {
   names = s.names.now.items;
   sizes = (batch s.batch.now).sizes;
-  requests = requests_in (batch s.batch.now);
+  requests = requests_of_batch (batch s.batch.now);
   stripes = s.stripes.items;
   owners = s.owners.items;
   claimed = s.claimed;
@@ -34,13 +35,13 @@ pub record IsTimely (count : ℕ) (owner : Option ℕ) (stages : List Stage) (gr
       → is_above tick greatest ≡ true
 
 -- so many records are noted, and the world is reached
-pub record IsHeld (s : Schedule) (count : ℕ) : Type 0 where
-  pub few : length s.requests < 65536
+pub record IsHeldSchedule (s : Schedule) (count : ℕ) : Type 0 where
+  pub few : length s.requests < MOST_PLACES
   pub stripes : length s.stripes ≡ stripe_count
   pub owners : length s.owners ≡ stripe_count
   pub noted : length s.noted ≡ length s.stages
   pub counted : count ≡ noted_count (world_of s).noted (length s.stages)
-  pub reached : IsReached (plan_of s) (world_of s)
+  pub reached : IsReachedWorld (plan_of s) (world_of s)
   pub opened : (row : ℕ) → (base_of s.stripes row).version ≡ 0
   pub rows : HaveTheirRows (length s.names) s.stripes
   pub timely : (i : ℕ) → i < stripe_count → IsTimely s.counter (slice_index_or s.owners i None) s.stages

@@ -8,27 +8,27 @@ use Rattle.eve_grammar.specs.Certificate.{KeepsGroups}
 use Rattle.eve_stamps.specs.Applied.{Applied}
 use Rattle.eve_stamps_schedule.specs.declared.event.Event.{Event}
 use Rattle.eve_stamps_schedule.specs.Before.{EachBefore}
-use Rattle.eve_stamps_schedule.specs.World.{Plan, World, begin, executed_at, noted_count, records_of}
+use Rattle.eve_stamps_schedule.specs.World.{Plan, World, first_world, executed_record, noted_count, records_below}
 use Rattle.eve_stamps_schedule.specs.Events.{are_allowed, world_after}
 
 -- the world comes of events of which each was allowed
-pub record IsReached (p : Plan) (w : World) : Type 0 where
+pub record IsReachedWorld (p : Plan) (w : World) : Type 0 where
   pub events : List Event
-  pub allowed : IsTrue (are_allowed p (begin p) events)
-  pub world : w ≡ world_after p (begin p) events
+  pub allowed : IsTrue (are_allowed p (first_world p) events)
+  pub world : w ≡ world_after p (first_world p) events
 
 -- the applied requests, in the order of their ticks
-abbrev pub executed_in : Plan → World → List Executed
-executed_in p w = map (executed_at p) w.applied
+abbrev pub executed_so_far : Plan → World → List Executed
+executed_so_far p w = map (executed_record p) w.applied
 
 -- The ticks of the applied records rise. In their order the records fit and are chained from what the rows had at
 -- first, and SmallBank on one thread gives their replies and what the rows have now.
-pub record IsSerial (p : Plan) (w : World) : Type 0 where
+pub record IsSerialWorld (p : Plan) (w : World) : Type 0 where
   pub rises : EachBefore (λ x y. x.tick < y.tick) w.applied
-  pub fits : AllByRecursion (Fits p.names) (executed_in p w)
-  pub chained : IsChained p.base [] (executed_in p w)
-  pub runs : run (bank_of p.names (values_of p.base)) (map (λ x. x.request) (executed_in p w))
-      ≡ (bank_of p.names (values_of w.table), map (λ x. x.reply) (executed_in p w))
+  pub fits : AllByRecursion (Fits p.names) (executed_so_far p w)
+  pub chained : IsChained p.base [] (executed_so_far p w)
+  pub runs : run (bank_of p.names (values_of p.base)) (map (λ x. x.request) (executed_so_far p w))
+      ≡ (bank_of p.names (values_of w.table), map (λ x. x.reply) (executed_so_far p w))
 
 -- these are records of this worker, with the places from this one on
 abbrev pub AreNotedBy : ℕ → ℕ → List Applied → Type 0
@@ -45,5 +45,5 @@ is_done p w = noted_count w.noted p.workers == length p.requests
 
 -- Every request is noted: the noted records are the applied ones, and the order keeps the parallelBatches.
 pub record IsComplete (p : Plan) (w : World) : Type 0 where
-  pub noted : IsPermutation (records_of w p.workers) w.applied
+  pub noted : IsPermutation (records_below w p.workers) w.applied
   pub groups : KeepsGroups p.sizes (length p.requests) (order_of w)

@@ -3,7 +3,7 @@ use Rattle.std.specs.Prelude.{ℕ, pos, List, [], ◌∷◌, ◌++◌}
 use Rattle.eve_smallbank.specs.SmallBank.{Request, DepositChecking}
 use Rattle.eve_stamps_schedule.specs.declared.event.Event.{Event}
 use Rattle.eve_stamps_schedule.specs.declared.event.Event.TheVariants.{Claim, LockStripe, Tick, Apply, Unlock, Note}
-use Rattle.eve_stamps_schedule.specs.World.{Plan, World, begin}
+use Rattle.eve_stamps_schedule.specs.World.{Plan, World, first_world}
 use Rattle.eve_stamps_schedule.specs.Events.{world_after}
 
 -- two names, in bytes
@@ -53,5 +53,5 @@ one_after_the_other = up_to_the_lock ++ (the_rest_of 1 ++ (LockStripe 0 ∷ the_
 abbrev pub applied_out_of_order : List Event
 applied_out_of_order = up_to_the_lock ++ (LockStripe 0 ∷ Tick 0 ∷ Tick 1 ∷ Apply 1 ∷ Apply 0 ∷ [])
 
-abbrev pub world_of : Plan → List Event → World
-world_of p events = world_after p (begin p) events
+abbrev pub world_of_events : Plan → List Event → World
+world_of_events p events = world_after p (first_world p) events

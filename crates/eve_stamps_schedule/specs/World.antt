@@ -3,7 +3,7 @@ use Rattle.std.specs.Prelude.{ℕ, zero, suc, ◌+◌, List, [], ◌++◌, ◌�
 use Rattle.eve_smallbank.specs.SmallBank.{Request, Balance}
 use Rattle.eve_smallbank.specs.Access.{Executed}
 use Rattle.eve_smallbank.specs.Chain.{Table}
-use Rattle.eve_stamps.specs.Applied.{Applied, executed_by}
+use Rattle.eve_stamps.specs.Applied.{Applied, executed_as}
 use Rattle.eve_stamps_schedule.specs.declared.stage.Stage.{Stage}
 use Rattle.eve_stamps_schedule.specs.declared.stage.Stage.TheVariants as at
 
@@ -27,8 +27,8 @@ pub record World : Type 0 where
   pub applied : List Applied
 
 -- the world at first
-abbrev pub begin : Plan → World
-begin p = record {
+abbrev pub first_world : Plan → World
+first_world p = record {
   table = p.base;
   owners = λ _. None;
   claimed = 0;
@@ -39,12 +39,12 @@ begin p = record {
 }
 
 -- the request of an index
-abbrev pub request_at : Plan → ℕ → Request
-request_at p index = slice_index_or p.requests index (Balance [])
+abbrev pub planned_request : Plan → ℕ → Request
+planned_request p index = slice_index_or p.requests index (Balance [])
 
 -- a record with its request
-abbrev pub executed_at : Plan → Applied → Executed
-executed_at p x = executed_by (request_at p x.index) x
+abbrev pub executed_record : Plan → Applied → Executed
+executed_record p x = executed_as (planned_request p x.index) x
 
 -- how many records the workers below this number have noted
 abbrev pub noted_count : (ℕ → List Applied) → ℕ → ℕ
@@ -63,6 +63,6 @@ abbrev pub records_at : World → ℕ → List Applied
 records_at w v = w.noted v ++ pending (w.stages v)
 
 -- the records of the workers below this number
-abbrev pub records_of : World → ℕ → List Applied
-records_of w zero = []
-records_of w (suc n) = records_of w n ++ records_at w n
+abbrev pub records_below : World → ℕ → List Applied
+records_below w zero = []
+records_below w (suc n) = records_below w n ++ records_at w n

@@ -5,13 +5,13 @@ ghost use Rattle.eve_smallbank.specs.SmallBank.{plain};
 ghost use Rattle.eve_smallbank.specs.Chain.{table_after};
 ghost use Rattle.eve_smallbank.specs.Execution.{executed_on};
 ghost use Rattle.eve_stamps.specs.Applied.{noted_of};
-ghost use Rattle.eve_stamps.specs.Stripes.{is_above, rows_now, noted_in};
+ghost use Rattle.eve_stamps.specs.Stripes.{is_above, rows_now, stripe_with};
 ghost use Rattle.eve_stamps.specs.Stamping.{rows_in_two, entries_within, entries_outside};
 ghost use Rattle.eve_stamps.specs.Stamping.{refusal, refusal_of_two, IsRefusedFor};
 ghost use Rattle.eve_smallbank.specs.Touch.{touched_of, rows_in};
 ghost use Rattle.eve_stamps.specs.Opening.{stripe_count};
 ghost use Rattle.eve_stamps_schedule.specs.Stripes.{needs};
-ghost use Rattle.eve_stamps_schedule.specs.Schedule.{stripe_at, table_of};
+ghost use Rattle.eve_stamps_schedule.specs.Schedule.{stripe_at, table_of_stripes};
 ghost use Rattle.eve_stamps_schedule.specs.Applying.{HaveTheirRows, AreFresh, IsKeptAt};
 
 use eve_accounts::Names;
@@ -33,10 +33,12 @@ pub fn applied_on(
     requires rows { HaveTheirRows (length names.now.items) stripes.old }
     requires above { (i : ℕ) → needs names.now.items (plain request.now) i ≡ true
         → is_above tick (stripe_at stripes.old i).greatest ≡ true }
-    requires fresh { AreFresh (table_of stripes.old) }
+    requires fresh { AreFresh (table_of_stripes stripes.old) }
     ensures exact { IfOk result (λ r. r
-        ≡ noted_of worker place index tick (executed_on names.now.items (table_of stripes.old) (plain request.now))) }
-    ensures table { IfOk result (λ r. table_of stripes.new ≡ table_after (table_of stripes.old) r.entries) }
+        ≡ noted_of worker place index tick
+        (executed_on names.now.items (table_of_stripes stripes.old) (plain request.now))) }
+    ensures table { IfOk result
+        (λ r. table_of_stripes stripes.new ≡ table_after (table_of_stripes stripes.old) r.entries) }
     ensures stripes { IfOk result (λ r. (i : ℕ)
         → IsKeptAt tick (needs names.now.items (plain request.now) i)
         (stripe_at stripes.old i) (stripe_at stripes.new i)) }
@@ -74,7 +76,7 @@ fn on_one(
         → IfOk result (λ r. r ≡ noted_of worker place index tick
         (executed_on names (rows_now (stripe_at stripes.old at)) (plain request.now))) }
     ensures journal { IfOk result (λ r. stripes.new
-        ≡ slice_set stripes.old at (noted_in (stripe_at stripes.old at) tick r.entries)) }
+        ≡ slice_set stripes.old at (stripe_with (stripe_at stripes.old at) tick r.entries)) }
     ensures refused { IsRefusedFor (refusal (stripe_at stripes.old at) tick (rows_in reached.now)) result }
     ensures kept { OnErr result (stripes.new ≡ stripes.old) }
 {
@@ -108,8 +110,9 @@ fn on_two(
         (executed_on names (rows_in_two (stripe_at stripes.old span.first) (stripe_at stripes.old span.last))
         (plain request.now))) }
     ensures journals { let first = stripe_at stripes.old span.first in IfOk result (λ r. stripes.new
-        ≡ slice_set (slice_set stripes.old span.first (noted_in first tick (entries_within first r.entries))) span.last
-        (noted_in (stripe_at stripes.old span.last) tick (entries_outside first r.entries))) }
+        ≡ slice_set (slice_set stripes.old span.first (stripe_with first tick (entries_within first r.entries)))
+        span.last
+        (stripe_with (stripe_at stripes.old span.last) tick (entries_outside first r.entries))) }
     ensures refused { let first = stripe_at stripes.old span.first in
         IsRefusedFor (refusal_of_two first (stripe_at stripes.old span.last) tick (rows_in reached.now)) result }
     ensures kept { OnErr result (stripes.new ≡ stripes.old) }

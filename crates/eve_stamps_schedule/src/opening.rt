@@ -2,7 +2,7 @@
 
 ghost use Rattle.std.specs.Prelude.{◌≡◌, ◌*◌, ◌≤◌, IfOk, length, map, replicate, [], None};
 ghost use Rattle.std.specs.List.{range_with_len};
-ghost use Rattle.eve_stamps.specs.Opening.{opening_rows, stripe_count};
+ghost use Rattle.eve_stamps.specs.Opening.{rows_of_stripe, stripe_count};
 
 use crate::Stage;
 use eve_accounts::{Balances, MOST_NAMES};
@@ -18,7 +18,7 @@ pub fn opening_stripes(
     requires few { customers ≤ MOST_NAMES }
     requires rows { length balances.now ≡ 2 * customers }
     ensures { IfOk result (λ stripes. stripes.items
-        ≡ map (λ i. record { base = opening_rows balances.now i customers; journal = []; greatest = None })
+        ≡ map (λ i. record { base = rows_of_stripe balances.now i customers; journal = []; greatest = None })
         (range_with_len 0 stripe_count)) }
 {
     let mut stripes = Vec::with_capacity(alloc, STRIPES as usize)?;

@@ -2,8 +2,9 @@
 
 ghost use Rattle.std.specs.Prelude.{◌≡◌, ◌*◌, ◌<◌, ℕ, IsTrue, IsPermutation, IfOk, length};
 ghost use Rattle.eve_write.specs.Data.{batch as plain};
-ghost use Rattle.eve_stamps_schedule.specs.World.{begin, records_at, records_of};
-ghost use Rattle.eve_stamps_schedule.specs.Serial.{IsReached, IsSerial, AreNotedBy, order_of, is_done, IsComplete};
+ghost use Rattle.eve_stamps_schedule.specs.World.{first_world, records_at, records_below};
+ghost use Rattle.eve_stamps_schedule.specs.Serial.{IsReachedWorld, IsSerialWorld, AreNotedBy, order_of, is_done};
+ghost use Rattle.eve_stamps_schedule.specs.Serial.{IsComplete};
 ghost use Rattle.eve_stamps_schedule.specs.Schedule.{opening_plan, plan_of, world_of, Steps};
 
 use crate::opening::{all_idle, no_owners, no_records, opening_stripes};
@@ -38,11 +39,11 @@ impl<'s> Model for Schedule<'s> {
 
     ghost Value = { model.Schedule };
 
-    ghost use Rattle.eve_stamps_schedule.specs.Scheduled.{schedule_of, IsHeld};
+    ghost use Rattle.eve_stamps_schedule.specs.Scheduled.{schedule_of, IsHeldSchedule};
 
     ghost view = { schedule_of };
 
-    ghost invariant = { λ s. IsHeld (schedule_of s) s.noted_count };
+    ghost invariant = { λ s. IsHeldSchedule (schedule_of s) s.noted_count };
 }
 
 impl<'s> Schedule<'s> {
@@ -59,7 +60,7 @@ impl<'s> Schedule<'s> {
         requires rows { length balances.now ≡ 2 * length names.now.items }
         ensures plan { IfOk result (λ s. plan_of s
             ≡ opening_plan names.now.items balances.now (plain batch.now) workers) }
-        ensures first { IfOk result (λ s. world_of s ≡ begin (plan_of s)) }
+        ensures first { IfOk result (λ s. world_of s ≡ first_world (plan_of s)) }
     {
         Ok(Schedule {
             names,
@@ -133,11 +134,11 @@ impl<'s> Schedule<'s> {
     ///
     /// docs/MODEL.md, "Schedule".
     pub fn is_serial(&self)
-        ensures reached { IsReached (plan_of self.now) (world_of self.now) }
-        ensures serial { IsSerial (plan_of self.now) (world_of self.now) }
+        ensures reached { IsReachedWorld (plan_of self.now) (world_of self.now) }
+        ensures serial { IsSerialWorld (plan_of self.now) (world_of self.now) }
         // The records that the workers noted or are about to note are the applied ones.
         ensures gathered { let world = world_of self.now in
-            IsPermutation (records_of world (plan_of self.now).workers) world.applied }
+            IsPermutation (records_below world (plan_of self.now).workers) world.applied }
         // Those of each worker are its own and have the places 0, 1, 2, ..
         ensures listed { (v : ℕ) → AreNotedBy v 0 (records_at (world_of self.now) v) }
         ensures complete { IsTrue (is_done (plan_of self.now) (world_of self.now))

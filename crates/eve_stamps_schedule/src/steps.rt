@@ -5,7 +5,7 @@ ghost use Rattle.eve_smallbank.specs.SmallBank.{plain};
 ghost use Rattle.eve_stamps_schedule.specs.declared.event.Event.TheVariants.{Claim, LockStripe, Tick, Apply, Unlock};
 ghost use Rattle.eve_stamps_schedule.specs.declared.event.Event.TheVariants.{Note};
 ghost use Rattle.eve_stamps_schedule.specs.declared.stage.Stage.TheVariants.{Claimed, Ticked};
-ghost use Rattle.eve_stamps_schedule.specs.World.{request_at};
+ghost use Rattle.eve_stamps_schedule.specs.World.{planned_request};
 ghost use Rattle.eve_stamps_schedule.specs.Events.{may_claim as may_claim_now, next_stripe as next_stripe_of};
 ghost use Rattle.eve_stamps_schedule.specs.Schedule.{plan_of, world_of, Steps};
 
@@ -164,7 +164,7 @@ impl<'s> Schedule<'s> {
     // The request of an index.
     fn request(&self, index: u16) -> Request<'s>
         requires there { index < length self.now.requests }
-        ensures { plain result ≡ request_at (plan_of self.now) index }
+        ensures { plain result ≡ planned_request (plan_of self.now) index }
     {
         let batch: &'s BatchData = self.batch;
         batch.requests[index as usize].request()

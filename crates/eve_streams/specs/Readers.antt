@@ -11,5 +11,5 @@ abbrev pub reads_left_of : {R : Type 0} → SourceOf R → ℕ
 reads_left_of s = s.reads_left
 
 -- how many fetches have failed
-abbrev pub failures_of : {R : Type 0} → SourceOf R → ℕ
-failures_of s = s.failures
+abbrev pub failed_fetches : {R : Type 0} → SourceOf R → ℕ
+failed_fetches s = s.failures

@@ -16,5 +16,5 @@ abbrev pub calls_left : {S : Type 0} → FailsAt S → ℕ
 calls_left s = s.calls_left
 
 -- how many calls have failed
-abbrev pub failures_of : {S : Type 0} → FailsAt S → ℕ
-failures_of s = s.failures
+abbrev pub failed_calls : {S : Type 0} → FailsAt S → ℕ
+failed_calls s = s.failures

@@ -7,5 +7,5 @@ abbrev pub writer_of : {W : Type 0} → SinkOf W → W
 writer_of s = s.writer
 
 -- how many sends have failed
-abbrev pub failures_of : {W : Type 0} → SinkOf W → ℕ
-failures_of s = s.failures
+abbrev pub failed_sends : {W : Type 0} → SinkOf W → ℕ
+failed_sends s = s.failures

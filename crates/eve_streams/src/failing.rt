@@ -3,7 +3,7 @@
 ghost use Rattle.std.specs.Bool.{OnFalse, OnTrue};
 ghost use Rattle.std.specs.Prelude.{◌≡◌, ◌-◌, ◌↔◌, IsTrue};
 ghost use Rattle.eve_streams.specs.Failures.{after_failure};
-ghost use Rattle.eve_streams.specs.Trials.{failing_stream, calls_left, failures_of};
+ghost use Rattle.eve_streams.specs.Trials.{failing_stream, calls_left, failed_calls};
 
 use crate::{FetchFault, SendFault, Sink, Source};
 
@@ -21,7 +21,7 @@ impl<S: Drop> FailsAt<S> {
     pub fn new(stream: S, call: u64) -> FailsAt<S>
         ensures stream { failing_stream result ≡ stream }
         ensures call { calls_left result ≡ call }
-        ensures fine { failures_of result ≡ 0 }
+        ensures fine { failed_calls result ≡ 0 }
     {
         FailsAt {
             stream,
@@ -39,7 +39,7 @@ impl<S: Drop> FailsAt<S> {
 
     /// How many calls have failed, in 64 bits that wrap.
     pub fn failures(&self) -> u64
-        ensures { result ≡ failures_of self.now }
+        ensures { result ≡ failed_calls self.now }
     {
         self.failures
     }
@@ -49,9 +49,9 @@ impl<S: Drop> FailsAt<S> {
         ensures due { IsTrue result ↔ (calls_left self.old ≡ 1) }
         ensures calls { calls_left self.new ≡ calls_left self.old - 1 }
         ensures stream { failing_stream self.new ≡ failing_stream self.old }
-        ensures counted { OnTrue result (failures_of self.new
-            ≡ after_failure (failures_of self.old)) }
-        ensures fine { OnFalse result (failures_of self.new ≡ failures_of self.old) }
+        ensures counted { OnTrue result (failed_calls self.new
+            ≡ after_failure (failed_calls self.old)) }
+        ensures fine { OnFalse result (failed_calls self.new ≡ failed_calls self.old) }
     {
         let is_due = self.calls_left == 1;
         self.calls_left = self.calls_left.saturating_sub(1);
@@ -64,7 +64,7 @@ impl<S: Drop> FailsAt<S> {
     fn count_failure(&mut self)
         ensures calls { calls_left self.new ≡ calls_left self.old }
         ensures stream { failing_stream self.new ≡ failing_stream self.old }
-        ensures counted { failures_of self.new ≡ after_failure (failures_of self.old) }
+        ensures counted { failed_calls self.new ≡ after_failure (failed_calls self.old) }
     {
         self.failures = self.failures.wrapping_add(1);
     }

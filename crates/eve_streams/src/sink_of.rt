@@ -3,7 +3,7 @@
 ghost use Rattle.std.specs.Prelude.{◌≡◌, ◌≤◌, ◌<◌, length, take, IfOk, OnOk, OnErr};
 ghost use Rattle.std.specs.Io.KnownBytes.{Appends, Keeps};
 ghost use Rattle.eve_streams.specs.Failures.{after_failure};
-ghost use Rattle.eve_streams.specs.Writers.{writer_of, failures_of};
+ghost use Rattle.eve_streams.specs.Writers.{writer_of, failed_sends};
 
 use crate::{SendFault, Sink};
 use std::io::{ErrorKind, Write};
@@ -24,7 +24,7 @@ impl<W: Write + Drop> SinkOf<W> {
     /// A sink that has not failed yet.
     pub fn new(writer: W) -> SinkOf<W>
         ensures writer { writer_of result ≡ writer }
-        ensures fine { failures_of result ≡ 0 }
+        ensures fine { failed_sends result ≡ 0 }
     {
         SinkOf {
             writer,
@@ -47,8 +47,8 @@ impl<W: Write + Drop> SinkOf<W> {
         ensures takes { IfOk result
             (λ n. Appends (W.contents (writer_of self.old)) (W.contents (writer_of self.new)) (take n bytes.now)) }
         ensures nothing { OnErr result (Keeps (W.contents (writer_of self.old)) (W.contents (writer_of self.new))) }
-        ensures fine { OnOk result (failures_of self.new ≡ failures_of self.old) }
-        ensures counted { OnErr result (failures_of self.new ≡ after_failure (failures_of self.old)) }
+        ensures fine { OnOk result (failed_sends self.new ≡ failed_sends self.old) }
+        ensures counted { OnErr result (failed_sends self.new ≡ after_failure (failed_sends self.old)) }
     {
         'tries: for _ in 0..tries {
             match self.writer.write(bytes) {
@@ -64,7 +64,7 @@ impl<W: Write + Drop> SinkOf<W> {
 
     /// How many sends have failed, in 64 bits that wrap.
     pub fn failures(&self) -> u64
-        ensures { result ≡ failures_of self.now }
+        ensures { result ≡ failed_sends self.now }
     {
         self.failures
     }

@@ -3,7 +3,7 @@
 ghost use Rattle.std.specs.Prelude.{◌≡◌, ◌≤◌, ◌<◌, length, take, IsErr, IfOk, OnOk, OnErr};
 ghost use Rattle.std.specs.Io.KnownBytes.{Consumes, IsAtEnd, Keeps};
 ghost use Rattle.eve_streams.specs.Failures.{after_failure};
-ghost use Rattle.eve_streams.specs.Readers.{reader_of, reads_left_of, failures_of};
+ghost use Rattle.eve_streams.specs.Readers.{reader_of, reads_left_of, failed_fetches};
 ghost use Rattle.eve_streams.specs.declared.source_of.TheConstants.{MOST_READS};
 
 use crate::{FetchFault, Source};
@@ -26,7 +26,7 @@ impl<R: Read + Drop> SourceOf<R> {
     /// A source that has not failed yet.
     pub fn new(reader: R) -> SourceOf<R>
         ensures reader { reader_of result ≡ reader }
-        ensures fine { failures_of result ≡ 0 }
+        ensures fine { failed_fetches result ≡ 0 }
         ensures reads { reads_left_of result ≡ MOST_READS }
     {
         SourceOf::within(reader, MOST_READS)
@@ -35,7 +35,7 @@ impl<R: Read + Drop> SourceOf<R> {
     /// The same, of a reader that is read `reads` times at most.
     pub fn within(reader: R, reads: u32) -> SourceOf<R>
         ensures reader { reader_of result ≡ reader }
-        ensures fine { failures_of result ≡ 0 }
+        ensures fine { failed_fetches result ≡ 0 }
         ensures reads { reads_left_of result ≡ reads }
     {
         SourceOf {
@@ -54,7 +54,7 @@ impl<R: Read + Drop> SourceOf<R> {
 
     /// How many fetches have failed, in 64 bits that wrap.
     pub fn failures(&self) -> u64
-        ensures { result ≡ failures_of self.now }
+        ensures { result ≡ failed_fetches self.now }
     {
         self.failures
     }
@@ -74,8 +74,8 @@ impl<R: Read + Drop> Source for SourceOf<R> {
         ensures end { IfOk result
             (λ n. n ≡ 0 → 0 < length buffer.new → IsAtEnd (R.remaining (reader_of self.new))) }
         ensures nothing { OnErr result (Keeps (R.remaining (reader_of self.old)) (R.remaining (reader_of self.new))) }
-        ensures fine { OnOk result (failures_of self.new ≡ failures_of self.old) }
-        ensures counted { OnErr result (failures_of self.new ≡ after_failure (failures_of self.old)) }
+        ensures fine { OnOk result (failed_fetches self.new ≡ failed_fetches self.old) }
+        ensures counted { OnErr result (failed_fetches self.new ≡ after_failure (failed_fetches self.old)) }
         ensures spent { reads_left_of self.old ≡ 0 → IsErr result }
         ensures spends { OnOk result (reads_left_of self.new < reads_left_of self.old) }
         ensures reads { reads_left_of self.new ≤ reads_left_of self.old }

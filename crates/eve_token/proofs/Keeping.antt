@@ -9,7 +9,7 @@ use Rattle.std.proofs.lemmas.Option.{same_Some}
 use borrow.Rule.Slice.PartMut.{put_mid}
 use Rattle.eve_smallbank.specs.Spelling.{money_text}
 use Rattle.eve_token.specs.Merkle.{leaf_hash, leaf_hashes, merkle_root, IsGreatestPowerBelow}
-use Rattle.eve_token.specs.Places.{nodes_of, IsKept, IsRowTree}
+use Rattle.eve_token.specs.Places.{nodes_of, HaveHashes, IsRowTree}
 use Rattle.eve_token.proofs.Leaves.{leaves-length, leaves-set}
 use Rattle.eve_token.proofs.Places.{nodes-split, nodes-count, nodes-one, kept-stale, kept-join, kept-left, kept-top}
 use Rattle.eve_token.proofs.Places.{kept-right}
@@ -28,33 +28,34 @@ module _ (hs : List (List ℕ)) (k top : ℕ) (is : IsGreatestPowerBelow k (leng
       let count = nodes-count (take k hs) (omega (arith, len, at)) in
       omega (arith, count, len, at)
 
-  pub part-left : (ps : List (Option (List ℕ))) → IsKept ps (nodes_of hs) → IsKept (take top ps) (nodes_of (take k hs))
+  pub part-left : (ps : List (Option (List ℕ))) → HaveHashes ps (nodes_of hs)
+      → HaveHashes (take top ps) (nodes_of (take k hs))
   part-left ps kept =
-      subst (λ (n : ℕ). IsKept (take n ps) (nodes_of (take k hs))) left-count
+      subst (λ (n : ℕ). HaveHashes (take n ps) (nodes_of (take k hs))) left-count
       (kept-left (nodes_of (take k hs)) (merkle_root hs) (nodes_of (drop k hs)) ps
-      (subst (IsKept ps) (nodes-split hs k is) kept))
+      (subst (HaveHashes ps) (nodes-split hs k is) kept))
 
-  pub part-top : (ps : List (Option (List ℕ))) → IsKept ps (nodes_of hs)
+  pub part-top : (ps : List (Option (List ℕ))) → HaveHashes ps (nodes_of hs)
       → IfSome (get_or ps top None) (λ h. h ≡ merkle_root hs)
   part-top ps kept =
       subst (λ (n : ℕ). IfSome (get_or ps n None) (λ h. h ≡ merkle_root hs)) left-count
       (kept-top (nodes_of (take k hs)) (merkle_root hs) (nodes_of (drop k hs)) ps
-      (subst (IsKept ps) (nodes-split hs k is) kept))
+      (subst (HaveHashes ps) (nodes-split hs k is) kept))
 
-  pub part-right : (ps : List (Option (List ℕ))) → IsKept ps (nodes_of hs)
-      → IsKept (drop (top + 1) ps) (nodes_of (drop k hs))
+  pub part-right : (ps : List (Option (List ℕ))) → HaveHashes ps (nodes_of hs)
+      → HaveHashes (drop (top + 1) ps) (nodes_of (drop k hs))
   part-right ps kept =
-      subst (λ (n : ℕ). IsKept (drop (n + 1) ps) (nodes_of (drop k hs))) left-count
+      subst (λ (n : ℕ). HaveHashes (drop (n + 1) ps) (nodes_of (drop k hs))) left-count
       (kept-right (nodes_of (take k hs)) (merkle_root hs) (nodes_of (drop k hs)) ps
-      (subst (IsKept ps) (nodes-split hs k is) kept))
+      (subst (HaveHashes ps) (nodes-split hs k is) kept))
 
   -- and back
   pub joined : (left : List (Option (List ℕ))) (p : Option (List ℕ)) (right : List (Option (List ℕ)))
-      → IsKept left (nodes_of (take k hs))
-      → IfSome p (λ h. h ≡ merkle_root hs) → IsKept right (nodes_of (drop k hs))
-      → IsKept (left ++ (p ∷ right)) (nodes_of hs)
+      → HaveHashes left (nodes_of (take k hs))
+      → IfSome p (λ h. h ≡ merkle_root hs) → HaveHashes right (nodes_of (drop k hs))
+      → HaveHashes (left ++ (p ∷ right)) (nodes_of hs)
   joined left p right low here high =
-      subst (IsKept (left ++ (p ∷ right))) (sym (nodes-split hs k is))
+      subst (HaveHashes (left ++ (p ∷ right))) (sym (nodes-split hs k is))
       (kept-join left (nodes_of (take k hs)) p (merkle_root hs) right (nodes_of (drop k hs)) low here high)
 
 -- ---- one leaf
@@ -64,47 +65,47 @@ one-node [] one = absurd (omega (arith, one))
 one-node (h ∷ []) one = nodes-one h
 one-node (h ∷ (k ∷ hs)) one = absurd (omega (arith, one))
 
-one-place : (ps : List (Option (List ℕ))) (h : List ℕ) → IsKept ps (h ∷ []) → ps ≡ get_or ps 0 None ∷ []
-unfolding IsKept
+one-place : (ps : List (Option (List ℕ))) (h : List ℕ) → HaveHashes ps (h ∷ []) → ps ≡ get_or ps 0 None ∷ []
+unfolding HaveHashes
 one-place [] h kept = absurd kept
 one-place (p ∷ []) h kept = refl
 one-place (p ∷ (q ∷ ps)) h kept = absurd kept.1
 
-pub leaf-place : (ps : List (Option (List ℕ))) (h : List ℕ) → IsKept ps (nodes_of (h ∷ []))
+pub leaf-place : (ps : List (Option (List ℕ))) (h : List ℕ) → HaveHashes ps (nodes_of (h ∷ []))
     → IfSome (get_or ps 0 None) (λ x. x ≡ h)
-leaf-place ps h kept = kept-top [] h [] ps (subst (IsKept ps) (nodes-one h) kept)
+leaf-place ps h kept = kept-top [] h [] ps (subst (HaveHashes ps) (nodes-one h) kept)
 
-pub leaf-kept : (ps : List (Option (List ℕ))) (h : List ℕ) → IsKept ps (nodes_of (h ∷ []))
-    → IsKept (set ps 0 (Some h)) (nodes_of (h ∷ []))
-unfolding IsKept
+pub leaf-kept : (ps : List (Option (List ℕ))) (h : List ℕ) → HaveHashes ps (nodes_of (h ∷ []))
+    → HaveHashes (set ps 0 (Some h)) (nodes_of (h ∷ []))
+unfolding HaveHashes
 leaf-kept ps h kept =
-    let whole = one-place ps h (subst (IsKept ps) (nodes-one h) kept) in
-    subst (IsKept (set ps 0 (Some h))) (sym (nodes-one h))
-    (subst (λ (qs : List (Option (List ℕ))). IsKept (set qs 0 (Some h)) (h ∷ [])) (sym whole) (refl, tt))
+    let whole = one-place ps h (subst (HaveHashes ps) (nodes-one h) kept) in
+    subst (HaveHashes (set ps 0 (Some h))) (sym (nodes-one h))
+    (subst (λ (qs : List (Option (List ℕ))). HaveHashes (set qs 0 (Some h)) (h ∷ [])) (sym whole) (refl, tt))
 
 pub leaf-stale : (ps : List (Option (List ℕ))) (hs : List (List ℕ)) (i : ℕ) (h : List ℕ) → length hs ≡ 1
-    → IsKept ps (nodes_of hs) → IsKept (set ps 0 None) (nodes_of (set hs i h))
-unfolding IsKept
+    → HaveHashes ps (nodes_of hs) → HaveHashes (set ps 0 None) (nodes_of (set hs i h))
+unfolding HaveHashes
 leaf-stale ps hs i h one kept =
-    let whole = one-place ps (get_or hs 0 []) (subst (IsKept ps) (one-node hs one) kept) in
-    subst (IsKept (set ps 0 None)) (sym (one-node (set hs i h) (length-set hs i h ∙ one)))
-    (subst (λ (qs : List (Option (List ℕ))). IsKept (set qs 0 None) (get_or (set hs i h) 0 [] ∷ [])) (sym whole)
+    let whole = one-place ps (get_or hs 0 []) (subst (HaveHashes ps) (one-node hs one) kept) in
+    subst (HaveHashes (set ps 0 None)) (sym (one-node (set hs i h) (length-set hs i h ∙ one)))
+    (subst (λ (qs : List (Option (List ℕ))). HaveHashes (set qs 0 None) (get_or (set hs i h) 0 [] ∷ [])) (sym whole)
     (tt, tt))
 
 -- ---- a leaf of a part changed: the part is kept, the node is stale, and the other part is as it was
 
 pub left-stale : (hs : List (List ℕ)) (k top i : ℕ) (h : List ℕ) (old left : List (Option (List ℕ)))
     → IsGreatestPowerBelow k (length hs) → top + 1 ≡ 2 * k → i < k
-    → top < length old → IsKept left (nodes_of (set (take k hs) i h)) → IsKept old (nodes_of hs)
-    → IsKept (left ++ drop top (set old top None)) (nodes_of (set hs i h))
+    → top < length old → HaveHashes left (nodes_of (set (take k hs) i h)) → HaveHashes old (nodes_of hs)
+    → HaveHashes (left ++ drop top (set old top None)) (nodes_of (set hs i h))
 left-stale hs k top i h old left is at low inside changed kept =
     let wide = subst (IsGreatestPowerBelow k) (sym (length-set hs i h)) is in
-    subst (λ (t : List (Option (List ℕ))). IsKept (left ++ t) (nodes_of (set hs i h)))
+    subst (λ (t : List (Option (List ℕ))). HaveHashes (left ++ t) (nodes_of (set hs i h)))
     (sym (drop-set old top None inside))
     (joined (set hs i h) k top wide at left None (drop (top + 1) old)
-    (subst (λ (t : List (List ℕ)). IsKept left (nodes_of t)) (sym (take-of_set k i hs h)) changed)
+    (subst (λ (t : List (List ℕ)). HaveHashes left (nodes_of t)) (sym (take-of_set k i hs h)) changed)
     tt
-    (subst (λ (t : List (List ℕ)). IsKept (drop (top + 1) old) (nodes_of t)) (sym (drop-set-lt k hs i h low))
+    (subst (λ (t : List (List ℕ)). HaveHashes (drop (top + 1) old) (nodes_of t)) (sym (drop-set-lt k hs i h low))
     (part-right hs k top is at old kept)))
 
 -- what stands after a write to all places from top + 1 on
@@ -130,8 +131,8 @@ rest-joined top old left long =
 
 pub right-stale : (hs : List (List ℕ)) (k top i : ℕ) (h : List ℕ) (old right : List (Option (List ℕ)))
     → IsGreatestPowerBelow k (length hs) → top + 1 ≡ 2 * k → k ≤ i
-    → top < length old → IsKept right (nodes_of (set (drop k hs) (i - k) h)) → IsKept old (nodes_of hs)
-    → IsKept (put_mid (top + 1) (length (set old top None) - (top + 1)) (set old top None) right)
+    → top < length old → HaveHashes right (nodes_of (set (drop k hs) (i - k) h)) → HaveHashes old (nodes_of hs)
+    → HaveHashes (put_mid (top + 1) (length (set old top None) - (top + 1)) (set old top None) right)
     (nodes_of (set hs i h))
 right-stale hs k top i h old right is at high inside changed kept =
     let wide = subst (IsGreatestPowerBelow k) (sym (length-set hs i h)) is in
@@ -142,12 +143,12 @@ right-stale hs k top i h old right is at high inside changed kept =
     ≡ take top old ++ (None ∷ right) =
     after-rest top (set old top None) right ∙ ap (λ t. t ++ right) (take_more_set old top None inside)
     ∙ append_assoc (take top old) (None ∷ []) right in
-    subst (λ (t : List (Option (List ℕ))). IsKept t (nodes_of (set hs i h))) (sym places)
+    subst (λ (t : List (Option (List ℕ))). HaveHashes t (nodes_of (set hs i h))) (sym places)
     (joined (set hs i h) k top wide at (take top old) None right
-    (subst (λ (t : List (List ℕ)). IsKept (take top old) (nodes_of t)) (sym (take-set-le k hs i h high))
+    (subst (λ (t : List (List ℕ)). HaveHashes (take top old) (nodes_of t)) (sym (take-set-le k hs i h high))
     (part-left hs k top is at old kept))
     tt
-    (subst (λ (t : List (List ℕ)). IsKept right (nodes_of t)) (sym moved) changed))
+    (subst (λ (t : List (List ℕ)). HaveHashes right (nodes_of t)) (sym moved) changed))
 
 -- ---- both parts and the node hashed
 
@@ -181,15 +182,15 @@ nothing-changed bs i y z is same = same-balance bs i z (is ∙ ap (λ (x : ℤ).
 -- another balance, with its leaf and the nodes above it stale
 pub row-changed : (bs : List ℤ) (old new : List (Option (List ℕ))) (i : ℕ) (z : ℤ) → IsRowTree bs old
     → length new ≡ length old
-    → ((hs : List (List ℕ)) (h : List ℕ) → length hs ≡ length bs → IsKept old (nodes_of hs)
-    → IsKept new (nodes_of (set hs i h))) → IsRowTree (set bs i z) new
+    → ((hs : List (List ℕ)) (h : List ℕ) → length hs ≡ length bs → HaveHashes old (nodes_of hs)
+    → HaveHashes new (nodes_of (set hs i h))) → IsRowTree (set bs i z) new
 row-changed bs old new i z tree long marked =
     let hs = leaf_hashes money_text 0 bs in
     let rows : length (set bs i z) ≡ length bs = length-set bs i z in
     record {
       some = omega (arith, rows, tree.some);
       whole = omega (arith, rows, long, tree.whole);
-      kept = subst (λ (t : List (List ℕ)). IsKept new (nodes_of t))
+      kept = subst (λ (t : List (List ℕ)). HaveHashes new (nodes_of t))
           (sym (leaves-set ℤ money_text i 0 i bs z (omega arith)))
           (marked hs (leaf_hash i (money_text z)) (leaves-length ℤ money_text 0 bs) tree.kept);
     }
@@ -203,5 +204,5 @@ all-stale bs n some whole =
     record {
       some = some;
       whole = omega (arith, whole, length-replicate {A = Option (List ℕ)} n None);
-      kept = subst (λ (m : ℕ). IsKept (replicate m None) (nodes_of hs)) count (kept-stale (nodes_of hs));
+      kept = subst (λ (m : ℕ). HaveHashes (replicate m None) (nodes_of hs)) count (kept-stale (nodes_of hs));
     }

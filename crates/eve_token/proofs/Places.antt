@@ -6,7 +6,7 @@ use Rattle.std.proofs.lemmas.Bool.{cases_lt, le-leb, lt-leb}
 use Rattle.std.proofs.lemmas.Nat.{pow_pos}
 use Rattle.std.proofs.Math.Nat.{pow-le-pow_right}
 use Rattle.eve_token.specs.Merkle.{merkle_root, IsGreatestPowerBelow}
-use Rattle.eve_token.specs.Places.{nodes_within, nodes_of, IsKept}
+use Rattle.eve_token.specs.Places.{nodes_within, nodes_of, HaveHashes}
 use Rattle.eve_token.proofs.Levels.{below-power, pow-double}
 
 -- ---- nodes
@@ -96,48 +96,48 @@ nodes-one h = refl
 
 -- ---- places
 
-pub kept-length : (ps : List (Option (List ℕ))) (hs : List (List ℕ)) → IsKept ps hs → length ps ≡ length hs
-unfolding IsKept
+pub kept-length : (ps : List (Option (List ℕ))) (hs : List (List ℕ)) → HaveHashes ps hs → length ps ≡ length hs
+unfolding HaveHashes
 kept-length [] [] kept = refl
 kept-length [] (h ∷ hs) kept = absurd kept
 kept-length (p ∷ ps) [] kept = absurd kept
 kept-length (p ∷ ps) (h ∷ hs) kept = ap suc (kept-length ps hs kept.1)
 
-pub kept-stale : (hs : List (List ℕ)) → IsKept (replicate (length hs) None) hs
-unfolding IsKept
+pub kept-stale : (hs : List (List ℕ)) → HaveHashes (replicate (length hs) None) hs
+unfolding HaveHashes
 kept-stale [] = tt
 kept-stale (h ∷ hs) = (tt, kept-stale hs)
 
 pub kept-join : (ps : List (Option (List ℕ))) (ls : List (List ℕ)) (p : Option (List ℕ)) (b : List ℕ)
     (qs : List (Option (List ℕ))) (cs : List (List ℕ))
-    → IsKept ps ls → IfSome p (λ x. x ≡ b) → IsKept qs cs → IsKept (ps ++ (p ∷ qs)) (ls ++ (b ∷ cs))
-unfolding IsKept
+    → HaveHashes ps ls → IfSome p (λ x. x ≡ b) → HaveHashes qs cs → HaveHashes (ps ++ (p ∷ qs)) (ls ++ (b ∷ cs))
+unfolding HaveHashes
 kept-join [] [] p b qs cs left here right = (here, right)
 kept-join [] (a ∷ ls) p b qs cs left here right = absurd left
 kept-join (q ∷ ps) [] p b qs cs left here right = absurd left
 kept-join (q ∷ ps) (a ∷ ls) p b qs cs left here right = (left.0, kept-join ps ls p b qs cs left.1 here right)
 
 pub kept-left : (ls : List (List ℕ)) (b : List ℕ) (cs : List (List ℕ)) (ps : List (Option (List ℕ)))
-    → IsKept ps (ls ++ (b ∷ cs)) → IsKept (take (length ls) ps) ls
-unfolding IsKept
+    → HaveHashes ps (ls ++ (b ∷ cs)) → HaveHashes (take (length ls) ps) ls
+unfolding HaveHashes
 kept-left [] b cs ps kept = tt
 kept-left (a ∷ ls) b cs [] kept = absurd kept
 kept-left (a ∷ ls) b cs (p ∷ ps) kept = (kept.0, kept-left ls b cs ps kept.1)
 
 pub kept-top : (ls : List (List ℕ)) (b : List ℕ) (cs : List (List ℕ)) (ps : List (Option (List ℕ)))
-    → IsKept ps (ls ++ (b ∷ cs)) → IfSome (get_or ps (length ls) None) (λ x. x ≡ b)
-unfolding IsKept
+    → HaveHashes ps (ls ++ (b ∷ cs)) → IfSome (get_or ps (length ls) None) (λ x. x ≡ b)
+unfolding HaveHashes
 kept-top [] b cs [] kept = absurd kept
 kept-top [] b cs (p ∷ ps) kept = kept.0
 kept-top (a ∷ ls) b cs [] kept = absurd kept
 kept-top (a ∷ ls) b cs (p ∷ ps) kept = kept-top ls b cs ps kept.1
 
 pub kept-right : (ls : List (List ℕ)) (b : List ℕ) (cs : List (List ℕ)) (ps : List (Option (List ℕ)))
-    → IsKept ps (ls ++ (b ∷ cs)) → IsKept (drop (length ls + 1) ps) cs
-unfolding IsKept
+    → HaveHashes ps (ls ++ (b ∷ cs)) → HaveHashes (drop (length ls + 1) ps) cs
+unfolding HaveHashes
 kept-right [] b cs [] kept = absurd kept
 kept-right [] b cs (p ∷ ps) kept = kept.1
 kept-right (a ∷ ls) b cs [] kept = absurd kept
 kept-right (a ∷ ls) b cs (p ∷ ps) kept =
     let e : suc (length ls + 1) ≡ suc (length ls) + 1 = omega arith in
-    subst (λ (n : ℕ). IsKept (drop n (p ∷ ps)) cs) e (kept-right ls b cs ps kept.1)
+    subst (λ (n : ℕ). HaveHashes (drop n (p ∷ ps)) cs) e (kept-right ls b cs ps kept.1)

@@ -16,14 +16,14 @@ abbrev pub nodes_of : List (List ℕ) → List (List ℕ)
 nodes_of hashes = nodes_within (length hashes) hashes
 
 -- each place is stale or has the hash of its node
-unfoldable pub IsKept : List (Option (List ℕ)) → List (List ℕ) → Type 0
-IsKept [] [] = Unit {0}
-IsKept (place ∷ places) (hash ∷ hashes) = IfSome place (λ kept. kept ≡ hash) × IsKept places hashes
-IsKept [] (hash ∷ hashes) = ⊥
-IsKept (place ∷ places) [] = ⊥
+unfoldable pub HaveHashes : List (Option (List ℕ)) → List (List ℕ) → Type 0
+HaveHashes [] [] = Unit {0}
+HaveHashes (place ∷ places) (hash ∷ hashes) = IfSome place (λ kept. kept ≡ hash) × HaveHashes places hashes
+HaveHashes [] (hash ∷ hashes) = ⊥
+HaveHashes (place ∷ places) [] = ⊥
 
 -- a tree over some rows: a place that isn't stale has the hash of its node
 pub record IsRowTree (balances : List ℤ) (places : List (Option (List ℕ))) : Type 0 where
   pub some : 0 < length balances
   pub whole : length places + 1 ≡ 2 * length balances
-  pub kept : IsKept places (nodes_of (leaf_hashes money_text 0 balances))
+  pub kept : HaveHashes places (nodes_of (leaf_hashes money_text 0 balances))

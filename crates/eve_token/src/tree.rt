@@ -3,7 +3,7 @@
 ghost use Rattle.std.specs.Prelude.{◌≡◌, ℕ, ℤ, ◌≤◌, ◌<◌, ◌+◌, ◌*◌, ◌^◌, List, length, slice_set, IfOk, IfSome};
 ghost use Rattle.eve_smallbank.specs.Spelling.{money_text};
 ghost use Rattle.eve_token.specs.Merkle.{leaf_hash, leaf_hashes, merkle_root};
-ghost use Rattle.eve_token.specs.Places.{IsKept, nodes_of};
+ghost use Rattle.eve_token.specs.Places.{HaveHashes, nodes_of};
 ghost use Rattle.eve_token.specs.Token.{rows_root};
 
 use crate::merkle::{hash_leaf, hash_node, left_part};
@@ -83,8 +83,8 @@ impl SetRow for RowTree {
 fn mark_stale(leaf: usize, leaves: usize, nodes: &mut [Option<[u8; 32]>])
     requires there { leaf < leaves }
     requires whole { length nodes.old + 1 ≡ 2 * leaves }
-    ensures { (hashes : List (List ℕ)) (hash : List ℕ) → length hashes ≡ leaves → IsKept nodes.old (nodes_of hashes)
-        → IsKept nodes.new (nodes_of (slice_set hashes leaf hash)) }
+    ensures { (hashes : List (List ℕ)) (hash : List ℕ) → length hashes ≡ leaves → HaveHashes nodes.old (nodes_of hashes)
+        → HaveHashes nodes.new (nodes_of (slice_set hashes leaf hash)) }
 {
     if leaves == 1 {
         nodes[0] = None;
@@ -105,9 +105,9 @@ fn refresh(number: usize, balances: &[Cents], nodes: &mut [Option<[u8; 32]>]) ->
     requires some { 0 < length balances.now }
     requires numbers { number + length balances.now ≤ 2 ^ 63 }
     requires whole { length nodes.old + 1 ≡ 2 * length balances.now }
-    requires kept { IsKept nodes.old (nodes_of (leaf_hashes money_text number balances.now)) }
+    requires kept { HaveHashes nodes.old (nodes_of (leaf_hashes money_text number balances.now)) }
     ensures root { result ≡ merkle_root (leaf_hashes money_text number balances.now) }
-    ensures kept { IsKept nodes.new (nodes_of (leaf_hashes money_text number balances.now)) }
+    ensures kept { HaveHashes nodes.new (nodes_of (leaf_hashes money_text number balances.now)) }
 {
     if balances.len() == 1 {
         return refresh_leaf(number, balances[0], &mut nodes[0]);

@@ -9,7 +9,7 @@ use Rattle.eve_audit.specs.Verdict.{IsFirst, IsJudged, IsVerdict, IsYesOfAudited
 use Rattle.eve_audit.specs.Verdict.{in_trace}
 use Rattle.eve_audit.specs.declared.verdict.Verdict.{Verdict}
 use Rattle.eve_audit.specs.declared.verdict.Verdict.TheVariants.{No, Yes}
-use Rattle.eve_views.specs.Code.{number_of, phase_of}
+use Rattle.eve_views.specs.Code.{code_number, phase_of}
 use Rattle.eve_views.specs.Form.{IsFormFault, IsUpTo, StandsInForm, is_sized, IsLeast, Precedes}
 use Rattle.eve_views.specs.declared.fault.Code.{Code}
 use Rattle.eve_views.specs.declared.fault.Code.TheVariants as code
@@ -25,11 +25,11 @@ use Rattle.eve_tool.specs.Show.{Shows}
 use Rattle.eve_tool_arguments.specs.Words.{Audit, Show}
 use Rattle.eve_tool.specs.Writes.{WritesAll, WritesAllOf, WritesFront, WritesFrontOf}
 
-number-least : (c : Code) → 1 ≤ number_of c
+number-least : (c : Code) → 1 ≤ code_number c
 number-least code.Length = omega arith
 number-least _ = omega arith
 
-is_length : (c : Code) → number_of c ≤ 1 → c ≡ code.Length
+is_length : (c : Code) → code_number c ≤ 1 → c ≡ code.Length
 is_length code.Length least = refl
 is_length _ least = absurd (omega arith)
 
@@ -48,11 +48,11 @@ length_fault = record { code = code.Length; offset = 0; replica = None }
 length_stands : (bytes : List ℕ) → 2 ^ 30 < length bytes → IsFormFault bytes length_fault
 length_stands bytes long = record { stands = (refl, too_long bytes long); outside = refl }
 
-at_front : (f : Fault) → IsUpTo f length_fault → (f.offset ≡ 0) × (number_of f.code ≤ 1)
+at_front : (f : Fault) → IsUpTo f length_fault → (f.offset ≡ 0) × (code_number f.code ≤ 1)
 at_front f (inl before) = absurd (omega arith)
 at_front f (inr same) = same
 
-first_of_all : (f g : Fault) → f.offset ≡ 0 → number_of f.code ≤ 1 → IsUpTo f g
+first_of_all : (f g : Fault) → f.offset ≡ 0 → code_number f.code ≤ 1 → IsUpTo f g
 first_of_all f g front low =
     let least = number-least g.code in
     elim (cases_lt f.offset g.offset) [ inl before ↦ inl before | inr reached ↦ inr (omega arith, omega arith) ]
@@ -124,7 +124,7 @@ precedes_length f (inr up_to) = let front = at_front f up_to.1 in (front.0, is_l
 precedes_all : (f g : Fault) → f.offset ≡ 0 → f.code ≡ code.Length → Precedes f g
 precedes_all f g front is_length =
     let low : phase_of f.code ≡ 1 = ap phase_of is_length in
-    let number : number_of f.code ≡ 1 = ap number_of is_length in
+    let number : code_number f.code ≡ 1 = ap code_number is_length in
     elim (cases_lt 1 (phase_of g.code)) [
       | inl later ↦ inl (omega (arith, low, later))
       | inr same ↦ inr (omega (arith, low, same, phase-least g.code), first_of_all f g front (omega (arith, number)))

@@ -16,7 +16,7 @@ use Rattle.eve_grammar.specs.Frames.{Frame, End, kind_of}
 use Rattle.eve_grammar.specs.Spelling.{body_text, frame_text, frames_text, located}
 use Rattle.eve_streams.specs.Front.{AppendsFront}
 use Rattle.eve_streams.proofs.Joining.{AppendsFront-after, AppendsFront-more}
-use Rattle.eve_views.specs.Code.{name_of, number_of}
+use Rattle.eve_views.specs.Code.{code_name, code_number}
 use Rattle.eve_views.specs.declared.fault.Fault.{Fault}
 use Rattle.eve_audit.specs.declared.verdict.Summary.{Summary}
 use Rattle.eve_tool.specs.Lines.{fault_line, frame_line, line_feed, replica_text, yes_line}
@@ -81,7 +81,7 @@ cons-some x xs = omega arith
 pub fault_line-some : (fault : Fault) → 0 < length (fault_line fault)
 unfolding fault_line
 fault_line-some fault =
-    cons-some 110 (codes "o: F" ++ (decimal (number_of fault.code) ++ (codes " " ++ (name_of fault.code
+    cons-some 110 (codes "o: F" ++ (decimal (code_number fault.code) ++ (codes " " ++ (code_name fault.code
     ++ (codes " at byte " ++ (decimal fault.offset ++ (replica_text fault.replica ++ line_feed)))))))
 
 pub yes_line-some : (s : Summary) → 0 < length (yes_line s)

@@ -3,7 +3,7 @@ use Rattle.std.specs.Prelude.{ℕ, List, [], ◌∷◌, ◌++◌, Option, Some, 
 use Rattle.eve_audit.specs.declared.verdict.Summary.{Summary}
 use Rattle.eve_audit.specs.declared.verdict.Verdict.{Verdict}
 use Rattle.eve_audit.specs.declared.verdict.Verdict.TheVariants.{Yes, No}
-use Rattle.eve_views.specs.Code.{name_of, number_of}
+use Rattle.eve_views.specs.Code.{code_name, code_number}
 use Rattle.eve_views.specs.declared.fault.Fault.{Fault}
 
 -- the byte that ends a line
@@ -23,7 +23,7 @@ replica_text None = []
 -- a fault: its code, where it stands, and in whose section
 unfoldable pub fault_line : Fault → List ℕ
 fault_line f =
-    codes "no: F" ++ (decimal (number_of f.code) ++ (codes " " ++ (name_of f.code ++ (codes " at byte "
+    codes "no: F" ++ (decimal (code_number f.code) ++ (codes " " ++ (code_name f.code ++ (codes " at byte "
     ++ (decimal f.offset ++ (replica_text f.replica ++ line_feed))))))
 
 -- a trace without a fault: how many replicas and batches, and what all replicas have committed

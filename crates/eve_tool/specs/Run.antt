@@ -6,7 +6,7 @@ use Rattle.eve_grammar.specs.Limits.{HasLimits, Spells}
 use Rattle.eve_grammar.specs.declared.limits.TheConstants.{MOST_BYTES}
 use Rattle.eve_workload.specs.declared.mixer.Mixer.{Mixer}
 use Rattle.eve_workload.specs.Workload.{Workload, IsWorkload}
-use Rattle.eve_workload.specs.Workload.{head_of as head_asked}
+use Rattle.eve_workload.specs.Workload.{head_asked}
 use Rattle.eve_workload.specs.Lines.{workload_text}
 use Rattle.eve_workload.specs.Steps.{IsBadLine}
 use Rattle.eve_write.specs.declared.parts.Parts.{Parts}

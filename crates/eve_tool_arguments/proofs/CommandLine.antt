@@ -12,7 +12,8 @@ use Rattle.clap.specs.Faults.{check_fault, defaults_fault, entered_fault, level_
 use Rattle.clap.specs.Takes.{is_given}
 use Rattle.std.specs.List.{list_any}
 use Rattle.clap.proofs.OnLiterals.{clap_on_literals}
-use Rattle.eve_tool_arguments.specs.Words.{Answers, SaysOf, Subcommand, Run, NamesNoMixer, mixer_in, audit, run, show}
+use Rattle.eve_tool_arguments.specs.Words.{Answers, SaysOf, Subcommand, Run, NamesNoMixer, mixer_in, audit, run_shape}
+use Rattle.eve_tool_arguments.specs.Words.{show}
 use Rattle.eve_tool_arguments.specs.Words.{call_of, call_unless, eve, faults_of, program, subcommand_named}
 use Rattle.clap.specs.declared.error.kind.ErrorKind.{ErrorKind}
 use Rattle.eve_workload.specs.declared.mixer.Mixer.{Mixer}
@@ -74,7 +75,7 @@ abbrev built_show : Shape
 built_show = built_leaf (inherited program.top show)
 
 abbrev built_run : Shape
-built_run = built_leaf (inherited program.top run)
+built_run = built_leaf (inherited program.top run_shape)
 
 abbrev entered_if : Bool → Bool → Bool → List Text → Option (Text × List Row)
 entered_if is_audit is_run is_show rest =

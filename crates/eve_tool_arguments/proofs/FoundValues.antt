@@ -8,7 +8,7 @@ use Rattle.clap.specs.Walk.{Row, Text, row_of, rows_of, texts}
 use Rattle.clap.specs.Words.{first_value}
 use Rattle.clap.specs.declared.parser.matches.Found.{Found}
 use Rattle.clap.specs.declared.parser.matches.MatchedArg.{MatchedArg}
-use Rattle.eve_tool_arguments.specs.Words.{value_in}
+use Rattle.eve_tool_arguments.specs.Words.{value_given}
 
 first_text : (xs : List (Bor Text)) → option_map (λ s. s.now) (slice_get xs 0) ≡ slice_get (texts xs) 0
 first_text [] = refl
@@ -35,5 +35,5 @@ value_along id (e ∷ es) = by (bytes_eq e.0.now id) (value_along id es)
     by true rest = first_text e.1.vals.items
     by false rest = rest
 
-pub first_value-rows : (f : Found) (id : Text) → first_value f id ≡ value_in id (rows_of f)
+pub first_value-rows : (f : Found) (id : Text) → first_value f id ≡ value_given id (rows_of f)
 first_value-rows f id = value_along id f.entries.items

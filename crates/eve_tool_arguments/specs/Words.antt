@@ -44,12 +44,12 @@ mixer = record (new_rule (codes "mixer")) {
   defaults = codes "first" ∷ [];
 }
 
-abbrev pub run : Shape
-run = (with_rule (new_app (codes "run")) mixer).top
+abbrev pub run_shape : Shape
+run_shape = (with_rule (new_app (codes "run")) mixer).top
 
 -- the program with its subcommands
 abbrev pub eve : App
-eve = with_subcommand (with_subcommand (with_subcommand program audit) run) show
+eve = with_subcommand (with_subcommand (with_subcommand program audit) run_shape) show
 
 pub data Subcommand : Type 0 where
   Audit : Subcommand
@@ -57,8 +57,8 @@ pub data Subcommand : Type 0 where
   Show : Subcommand
 
 -- the first value of an argument among what was found
-abbrev pub value_in : Text → List Row → Option Text
-value_in id rows = option_and_then (λ r. slice_get r.values 0) (find (λ r. bytes_eq r.id id) rows)
+abbrev pub value_given : Text → List Row → Option Text
+value_given id rows = option_and_then (λ r. slice_get r.values 0) (find (λ r. bytes_eq r.id id) rows)
 
 abbrev pub mixer_named : Text → Option Mixer
 mixer_named name = if bytes_eq name (codes "first") then Some First else
@@ -66,7 +66,7 @@ mixer_named name = if bytes_eq name (codes "first") then Some First else
 
 -- the mixer that is named among what was found
 abbrev pub mixer_in : List Row → Option Mixer
-mixer_in rows = option_and_then mixer_named (value_in (codes "mixer") rows)
+mixer_in rows = option_and_then mixer_named (value_given (codes "mixer") rows)
 
 -- the number that is named by what is a value, 0 where there is none
 abbrev pub number_named : Option Text → ℕ
@@ -75,7 +75,7 @@ number_named None = 0
 
 -- how many workers are named among what was found: 1 to `MOST_AUDIT_WORKERS`, since clap lets no other number pass
 abbrev pub workers_in : List Row → ℕ
-workers_in rows = max 1 (min (number_named (value_in (codes "workers") rows)) MOST_AUDIT_WORKERS)
+workers_in rows = max 1 (min (number_named (value_given (codes "workers") rows)) MOST_AUDIT_WORKERS)
 
 abbrev pub subcommand_named : Text × List Row → Option Subcommand
 subcommand_named found =

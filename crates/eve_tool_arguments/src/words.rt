@@ -41,8 +41,11 @@ pub enum Asked {
 const NO_MIXER: &str =
     "error: invalid value for '--mixer <MIXER>': it is 'first' or 'whole'\n\nFor more information, try '--help'.\n";
 
-const EXAMPLES: &str =
-    "Examples:\n  eve run < examples/two-deposits.workload | eve audit\n  eve audit < examples/deposit-committed.trace\n  eve audit --workers 2 < examples/two-orders-agree.trace\n  eve show < examples/empty-run.trace";
+const EXAMPLES: &str = "Examples:\n\
+    \x20 eve run < examples/two-deposits.workload | eve audit\n\
+    \x20 eve audit < examples/deposit-committed.trace\n\
+    \x20 eve audit --workers 2 < examples/two-orders-agree.trace\n\
+    \x20 eve show < examples/empty-run.trace";
 
 // How many workers audit.
 fn workers_argument<'a>(alloc: Global) -> Arg<'a>

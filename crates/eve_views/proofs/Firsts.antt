@@ -3,7 +3,7 @@ use Rattle.std.proofs.Common.{◌≡◌, ℕ, ◌<◌, ◌≤◌, nat_lt, ◌==�
 use Rattle.std.proofs.Common.{sym, ◌∙◌, ◌⊎◌, inl, inr, arith}
 use Rattle.std.proofs.lemmas.Bool.{cases_Bool, cases_lt, and_parts, and_from, or_parts, eqb-true, eq-eqb, ltb-true}
 use Rattle.std.proofs.lemmas.Bool.{lt-ltb, false≢true}
-use Rattle.eve_views.specs.Code.{number_of, phase_of}
+use Rattle.eve_views.specs.Code.{code_number, phase_of}
 use Rattle.eve_views.specs.Form.{IsUpTo, Precedes}
 use Rattle.eve_views.specs.First.{is_before_in_phase, is_before, first_of}
 use Rattle.eve_views.specs.declared.fault.Fault.{Fault}
@@ -49,12 +49,12 @@ before_precedes f g h =
       | inl less ↦ inl less
       | inr same ↦ inr (
         same.0,
-        elim (less_or f.offset g.offset (nat_lt (number_of f.code) (number_of g.code)) same.1) [
+        elim (less_or f.offset g.offset (nat_lt (code_number f.code) (code_number g.code)) same.1) [
           | inl less ↦ inl less
           | inr here ↦ inr (
             here.0,
-            up (number_of f.code) (number_of g.code)
-                (ltb-true (number_of f.code) (number_of g.code) here.1),
+            up (code_number f.code) (code_number g.code)
+                (ltb-true (code_number f.code) (code_number g.code) here.1),
           )
         ],
       )
@@ -69,9 +69,9 @@ behind_precedes f g h =
       | inl less ↦ inl less
       | inr same ↦ inr (
         same.0,
-        elim (not_less_or f.offset g.offset (nat_lt (number_of f.code) (number_of g.code)) same.1) [
+        elim (not_less_or f.offset g.offset (nat_lt (code_number f.code) (code_number g.code)) same.1) [
           | inl less ↦ inl less
-          | inr here ↦ inr (here.0, up (number_of f.code) (number_of g.code) here.1)
+          | inr here ↦ inr (here.0, up (code_number f.code) (code_number g.code) here.1)
         ],
       )
     ]
@@ -80,7 +80,7 @@ behind_precedes f g h =
     up m n none = elim (cases_lt m n) [ inl less ↦ absurd (false≢true (sym none ∙ lt-ltb m n less)) | inr more ↦ more ]
 
 pub precedes-refl : (f : Fault) → Precedes f f
-precedes-refl f = inr (refl, inr (refl, own (number_of f.code)))
+precedes-refl f = inr (refl, inr (refl, own (code_number f.code)))
   where
     own : (n : ℕ) → n ≤ n
     own n = omega arith

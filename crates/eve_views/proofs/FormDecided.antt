@@ -5,8 +5,8 @@ use Rattle.std.specs.Prelude.{IsTrue}
 use Rattle.std.proofs.lemmas.Bool.{cases_Bool, false≢true}
 use Rattle.std.proofs.lemmas.List.{append-nil, length-append}
 use Rattle.eve_grammar.specs.Trace.{Head, Trace, head_of}
-use Rattle.eve_grammar.specs.Frames.{Frame, Place, start}
-use Rattle.eve_grammar.specs.Following.{IsRun}
+use Rattle.eve_grammar.specs.Frames.{Frame, Place, start_place}
+use Rattle.eve_grammar.specs.Following.{AreAllFrames}
 use Rattle.eve_grammar.specs.Limits.{Spells}
 use Rattle.eve_grammar.specs.Reading.{header_of}
 use Rattle.eve_grammar.specs.Spelling.{frame_text, frames_text}
@@ -30,7 +30,7 @@ result_cases (Err y) ok err = err y refl
 -- the bytes after the header are the frames of a trace
 record IsEnded (h : Head) (bytes : List ℕ) : Type 0 where
   frames : List Frame
-  run : IsRun h frames
+  run : AreAllFrames h frames
   text : drop 32 bytes ≡ frames_text frames
 
 -- a fault of form stands
@@ -90,7 +90,7 @@ module _ (bytes : List ℕ) (fits : IsBytes bytes) where
   with_header h is =
       let says = says_head bytes h fits is.said in
       let sized = Sized-from bytes is.sized in
-      by says sized.short (walked h bytes says fits (suc (length bytes)) 32 start [] (omega arith)
+      by says sized.short (walked h bytes says fits (suc (length bytes)) 32 start_place [] (omega arith)
       (reached_start h bytes sized.long))
     where
       by : SaysHead bytes h → length bytes ≤ 2 ^ 30 → IsEnded h bytes ⊎ IsStopped bytes → Found bytes

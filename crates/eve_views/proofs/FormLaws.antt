@@ -3,14 +3,14 @@ use Rattle.std.proofs.Common.{◌≡◌, ℕ, suc, ◌<◌, ◌≤◌, true, Lis
 use Rattle.std.proofs.Common.{ap, subst, ◌∙◌, arith, inl, inr, ◌⊎◌}
 use Rattle.std.proofs.lemmas.List.{length-drop}
 use Rattle.eve_grammar.specs.Trace.{Trace, Head, head_of}
-use Rattle.eve_grammar.specs.Frames.{Frame, start, frames_of}
+use Rattle.eve_grammar.specs.Frames.{Frame, start_place, frames_of}
 use Rattle.eve_grammar.specs.Limits.{Spells}
 use Rattle.eve_grammar.specs.Spelling.{frames_text}
 use Rattle.eve_grammar.specs.Reading.{header_of}
 use Rattle.eve_views.specs.declared.fault.Code.{Code}
 use Rattle.eve_views.specs.declared.fault.Code.TheVariants as code
 use Rattle.eve_views.specs.declared.fault.Fault.{Fault}
-use Rattle.eve_views.specs.Code.{number_of}
+use Rattle.eve_views.specs.Code.{code_number}
 use Rattle.eve_views.specs.Form.{is_sized, has_magic, said_by, IsReached, place_at, StandsInForm, IsFormFault, IsLeast}
 use Rattle.eve_views.specs.Header.{IsHeader, StopsAtHeader}
 use Rattle.eve_views.specs.Walk.{Walked, walk}
@@ -40,7 +40,7 @@ stands_at_header code.Head bytes s =
 stands_at_header c bytes s = absurd s
 
 abbrev IsNotBefore : Code → ℕ → Code → Type 0
-IsNotBefore d at c = (0 < at) ⊎ ((0 ≡ at) × (number_of c ≤ number_of d))
+IsNotBefore d at c = (0 < at) ⊎ ((0 ≡ at) × (code_number c ≤ code_number d))
 
 first_at_length : (d : Code) (bytes : List ℕ) (at : ℕ) → StandsInForm d bytes at → IsNotBefore d at code.Length
 first_at_length code.Frame bytes at t = let place = t.0.at_is in inl (omega arith)
@@ -132,7 +132,7 @@ stop_ok c r (Err d) fs e f = cc
 
 -- the walk stops there
 stops_at : (c : Code) (bytes : List ℕ) (at : ℕ) (h : Head) → StandsInForm c bytes at → IsHeader bytes h → IsBytes bytes
-    → walk (suc (length (drop 32 bytes))) h start (drop 32 bytes) ≡ stopped c (drop at bytes)
+    → walk (suc (length (drop 32 bytes))) h start_place (drop 32 bytes) ≡ stopped c (drop at bytes)
 stops_at c bytes at h s is fits =
     let b = behind_of c bytes at h s is fits in
     walk_fault c (suc (length (drop 32 bytes))) h (drop 32 bytes) (drop at bytes)
@@ -153,13 +153,13 @@ none_behind c bytes at h t is fits s spells =
     let a = header_again_of bytes t spells in
     let same : head_of t ≡ h = same_some (header_of (said_by bytes)) (head_of t) h a.0.said is.said in
     let frames = spells_frames bytes t spells in
-    let again : walk (suc (length (drop 32 bytes))) (head_of t) start (drop 32 bytes)
-    ≡ Ok (frames_of t) = ap (λ (b : List ℕ). walk (suc (length b)) (head_of t) start b) a.1
-    ∙ walk_again (frames_of t) (suc (length (frames_text (frames_of t)))) (head_of t) start frames.limits
+    let again : walk (suc (length (drop 32 bytes))) (head_of t) start_place (drop 32 bytes)
+    ≡ Ok (frames_of t) = ap (λ (b : List ℕ). walk (suc (length b)) (head_of t) start_place b) a.1
+    ∙ walk_again (frames_of t) (suc (length (frames_text (frames_of t)))) (head_of t) start_place frames.limits
     frames.run.follow frames.run.ended (omega (arith, front_short (frames_of t))) in
-    stop_ok c (drop at bytes) (walk (suc (length (drop 32 bytes))) h start (drop 32 bytes)) (frames_of t)
+    stop_ok c (drop at bytes) (walk (suc (length (drop 32 bytes))) h start_place (drop 32 bytes)) (frames_of t)
     (stops_at c bytes at h s is fits)
-    (ap (λ (g : Head). walk (suc (length (drop 32 bytes))) g start (drop 32 bytes)) (sym same) ∙ again)
+    (ap (λ (g : Head). walk (suc (length (drop 32 bytes))) g start_place (drop 32 bytes)) (sym same) ∙ again)
 
 -- ---- the first fault
 
@@ -189,7 +189,7 @@ refused_behind bytes h f is fits s = record {
     is = s;
     least = λ g other.
         let same = one_place f.code g.code bytes f.offset g.offset h is fits s.stands other.stands in
-        let number : number_of f.code ≡ number_of g.code = ap number_of same.0 in
+        let number : code_number f.code ≡ code_number g.code = ap code_number same.0 in
         inr (same.1, omega arith);
   };
   none = λ t spells. none_behind f.code bytes f.offset h t is fits s.stands spells;

@@ -8,7 +8,7 @@ use Rattle.eve_grammar.specs.Trace.{Step, Attempts, Commits, RollsBack, Vote, Se
 use Rattle.eve_grammar.specs.Frames.{Frame, OfCustomer, OfBatch, OfReplica, OfAttempt, OfAccess, OfCommit, OfRollback}
 use Rattle.eve_grammar.specs.Frames.{OfVerifier, OfVote, OfSent, End, step_frames, section_frames, verifier_frames}
 use Rattle.eve_grammar.specs.Frames.{batches_of, sections_of, verifiers_of, frames_of}
-use Rattle.eve_views.specs.Indexing.{sent_from}
+use Rattle.eve_views.specs.Indexing.{frames_before_sent}
 use Rattle.eve_views.specs.Fronts.{before_sections, before_section, before_verifiers, before_verifier, before_sent}
 
 -- ---- items of two lists, one after the other
@@ -210,13 +210,13 @@ last_number (OfSent s) = Some 0
 last_number End = Some 0
 last_number _ = None
 
-sent_from-behind : (before fs : List Frame) → Plain last_number before → sent_from (before ++ fs)
-    ≡ length before + sent_from fs
-sent_from-behind [] fs plain = omega arith
-sent_from-behind (f ∷ before) fs plain = by f plain.0 (sent_from-behind before fs plain.1)
+frames_before_sent-behind : (before fs : List Frame) → Plain last_number before → frames_before_sent (before ++ fs)
+    ≡ length before + frames_before_sent fs
+frames_before_sent-behind [] fs plain = omega arith
+frames_before_sent-behind (f ∷ before) fs plain = by f plain.0 (frames_before_sent-behind before fs plain.1)
   where
-    by : (f : Frame) → last_number f ≡ None → sent_from (before ++ fs) ≡ length before + sent_from fs
-        → sent_from (f ∷ (before ++ fs)) ≡ suc (length before) + sent_from fs
+    by : (f : Frame) → last_number f ≡ None → frames_before_sent (before ++ fs) ≡ length before + frames_before_sent fs
+        → frames_before_sent (f ∷ (before ++ fs)) ≡ suc (length before) + frames_before_sent fs
     by (OfCustomer c) e r = omega (arith, r)
     by (OfBatch n b) e r = omega (arith, r)
     by (OfReplica n) e r = omega (arith, r)
@@ -246,7 +246,7 @@ last_in_front t = plain-append last_number (before_verifiers t) (flat_map verifi
     (plain-flat_map last_number verifier_frames (λ v. (refl, plain-map last_number OfVote (λ w. refl) v.1))
     (verifiers_of t))
 
-first_sent : (sent : List Sent) → sent_from (map OfSent sent ++ End ∷ []) ≡ 0
+first_sent : (sent : List Sent) → frames_before_sent (map OfSent sent ++ End ∷ []) ≡ 0
 first_sent [] = refl
 first_sent (s ∷ sent) = refl
 
@@ -255,6 +255,7 @@ unfolding before_sent
 frames_from_sent t = frames_from_verifiers t
     ∙ sym (append_assoc (before_verifiers t) (flat_map verifier_frames (verifiers_of t)) (sent_frames t))
 
-pub sent_begins_at : (t : Trace) → sent_from (frames_of t) ≡ length (before_sent t)
-sent_begins_at t = ap sent_from (frames_from_sent t) ∙ sent_from-behind (before_sent t) (sent_frames t)
+pub sent_begins_at : (t : Trace) → frames_before_sent (frames_of t) ≡ length (before_sent t)
+sent_begins_at t = ap frames_before_sent (frames_from_sent t) ∙ frames_before_sent-behind (before_sent t)
+    (sent_frames t)
     (last_in_front t) ∙ omega (arith, first_sent t.sent)

@@ -8,11 +8,11 @@ use Rattle.std.proofs.lemmas.List.{length-drop}
 use Rattle.byteorder.specs.Endian.{big_number}
 use Rattle.eve_grammar.specs.Trace.{Head}
 use Rattle.eve_grammar.specs.Frames.{Frame, OfCustomer, OfBatch, OfReplica, OfAttempt, OfAccess, OfCommit, OfRollback}
-use Rattle.eve_grammar.specs.Frames.{OfVerifier, OfVote, OfSent, End, Place, next, kind_of, is_allowed}
+use Rattle.eve_grammar.specs.Frames.{OfVerifier, OfVote, OfSent, End, Place, next_place, kind_of, is_allowed}
 use Rattle.eve_grammar.specs.Reading.{number_at, body_of}
 use Rattle.eve_views.specs.declared.fault.Code.TheVariants as code
 use Rattle.eve_views.specs.Form.{is_framed}
-use Rattle.eve_views.specs.Places.{accesses_in, moved}
+use Rattle.eve_views.specs.Places.{accesses_in, place_after}
 use Rattle.eve_views.specs.Walk.{with_rest, frame_at}
 use Rattle.eve_views.specs.Indexing.{kept}
 
@@ -142,7 +142,7 @@ kept_right h p bytes kind len accesses rest front allowed le e =
 
 -- ---- the place after it
 
-pub next_moved : (p : Place) (f : Frame) → next p f ≡ moved p (kind_of f) (accesses_in f)
+pub next_moved : (p : Place) (f : Frame) → next_place p f ≡ place_after p (kind_of f) (accesses_in f)
 next_moved p (OfCustomer c) = refl
 next_moved p (OfBatch n b) = refl
 next_moved p (OfReplica n) = refl

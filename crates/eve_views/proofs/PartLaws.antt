@@ -5,7 +5,7 @@ use Rattle.std.specs.Prelude.{slice_get, IsTrue, ◌&&◌}
 use Rattle.std.specs.List.{flat_map, list_all, enumerate_from}
 use Rattle.std.proofs.lemmas.List.{length-append, length-map, length-take-le, take-append-drop}
 use Rattle.std.proofs.lemmas.List.FromFn.{length-enumerate_from}
-use Rattle.eve_grammar.specs.Trace.{Batch, Access, Vote, Sent, Trace, head_of}
+use Rattle.eve_grammar.specs.Trace.{Head, Batch, Access, Vote, Sent, Trace, head_of}
 use Rattle.eve_grammar.specs.Frames.{Frame, OfCustomer, OfBatch, OfAccess, OfVote, OfSent, End, section_frames}
 use Rattle.eve_grammar.specs.Frames.{verifier_frames, batches_of, sections_of, verifiers_of, frames_of}
 use Rattle.eve_grammar.specs.Spelling.{frame_text, frames_text, spelling, located, customers_at, batches_at, sent_at}
@@ -14,9 +14,12 @@ use Rattle.eve_grammar.specs.Limits.{HasLimits, is_customer, is_batch, is_sent, 
 use Rattle.eve_grammar.specs.Gathering.{Gathered, nothing, gathered}
 use Rattle.eve_grammar.proofs.Gatherings.{gathered-votes, gathered-accesses, with_votes, with_accesses}
 use Rattle.eve_grammar.proofs.Grouping.{all_at}
-use Rattle.eve_frames.specs.Views.{is_batch_frame, is_sent_frame, batch_in, sent_in, Says}
-use Rattle.eve_frames.proofs.Rereading.{batch_again, sent_again}
+use Rattle.eve_frames.specs.Views.{is_batch_frame, is_sent_frame, is_vote_frame, is_access_frame, batch_in, sent_in}
+use Rattle.eve_frames.specs.Views.{is_customer_frame, customer_in, vote_in, access_in, Says}
+use Rattle.eve_frames.proofs.Rereading.{customer_again, batch_again, sent_again, vote_again, access_again}
 use Rattle.eve_grammar.proofs.FrameLaws.{small_head}
+use Rattle.eve_views.specs.declared.walk.Index.{Index}
+use Rattle.eve_views.specs.Held.{IsHeldTrace}
 use Rattle.eve_views.specs.Lent.{HasBytesAt}
 use Rattle.eve_views.specs.Fronts.{before_batches, before_sections, before_sent}
 use Rattle.eve_views.specs.Parts.{byte_of, frames_between, accesses_between, votes_between, AreAccesses, AreVotes}
@@ -70,6 +73,29 @@ pub lent_text : {A : Type 0} (frame : A → Frame) (read : List ℕ → A) (byte
 lent_text frame read bytes own f x text is says same = same ∙ text ∙ ap frame_text is
     ∙ ap (λ y. frame_text (frame y)) (sym says ∙ sym (ap read same))
 
+-- the frame at a number, and its bytes
+abbrev pub IsFrameAt : List Frame → ℕ → List ℕ → Type 0
+IsFrameAt fs n bytes = (f : Frame) × (slice_get fs n ≡ Some f) × (bytes ≡ frame_text f)
+
+-- what is lent at a place of a list: bytes that are read as the item there, and are its frame's text
+pub record Lends {A : Type 0} (is_frame : List ℕ → Bool) (read : List ℕ → A) (frame : A → Frame) (list : List (ℕ × A))
+    (i offset : ℕ) (bytes : List ℕ) : Type 0 where
+  pub readable : IsTrue (is_frame bytes)
+  pub item : (at : ℕ) (own : List ℕ) → at ≡ offset → own ≡ bytes → slice_get list i ≡ Some (at, read own)
+  pub text : (own : List ℕ) → own ≡ bytes → own ≡ frame_text (frame (read own))
+
+pub lends : {A : Type 0} (is_frame : List ℕ → Bool) (read : List ℕ → A) (frame : A → Frame) (test : A → Bool)
+    (list : List (ℕ × A)) (i offset : ℕ) (f : Frame) (bytes : List ℕ) (met : Met frame test list i offset f)
+    → bytes ≡ frame_text f → Says is_frame read (frame_text (frame met.item)) met.item
+    → Lends is_frame read frame list i offset bytes
+lends is_frame read frame test list i offset f bytes met text again =
+    let says = says_met is_frame read bytes f (frame met.item) met.item text met.is again in
+    record {
+      readable = says.0;
+      item = λ at own same is. returned read list i offset at met.item bytes own met.there says.1 same is;
+      text = λ own is. lent_text frame read bytes own f met.item text met.is says.1 is;
+    }
+
 -- which stands where the frame does
 pub lent_there : (t : Trace) (at offset : ℕ) (bytes own : List ℕ) → HasBytesAt t at bytes → offset ≡ at → own ≡ bytes
     → HasBytesAt t offset own
@@ -80,7 +106,7 @@ lent_there t at offset bytes own stands there same = record {
 
 -- ---- customers, batches, replies sent
 
-pub customer_met : (t : Trace) (i offset : ℕ) (f : Frame) → HasLimits t → i < length t.customers
+customer_met : (t : Trace) (i offset : ℕ) (f : Frame) → HasLimits t → i < length t.customers
     → slice_get (frames_of t) i ≡ Some f → offset ≡ byte_of (frames_of t) i
     → Met OfCustomer is_customer (customers_at t) i offset f
 unfolding frames_of customers_at
@@ -102,10 +128,10 @@ enumerated {A = A} test n (x ∷ xs) all = by (test x) (λ rest. enumerated test
 abbrev pub of_batch : ℕ × Batch → Frame
 of_batch b = OfBatch b.0 b.1
 
-abbrev pub is_batch_of : ℕ × Batch → Bool
+abbrev is_batch_of : ℕ × Batch → Bool
 is_batch_of b = is_batch b.1
 
-pub batch_met : (t : Trace) (n k offset : ℕ) (f : Frame) → HasLimits t → k < length t.batches
+batch_met : (t : Trace) (n k offset : ℕ) (f : Frame) → HasLimits t → k < length t.batches
     → n ≡ length t.customers + k → slice_get (frames_of t) n ≡ Some f → offset ≡ byte_of (frames_of t) n
     → Met of_batch is_batch_of (batches_at t) k offset f
 unfolding frames_of batches_at
@@ -117,7 +143,7 @@ batch_met t n k offset f limits lt number got stands =
     (omega (arith, number, many)) got stands
 
 -- a batch has its place from 1 as its number
-pub batch_number : (t : Trace) (k offset : ℕ) (b : ℕ × Batch) → slice_get (batches_at t) k ≡ Some (offset, b)
+batch_number : (t : Trace) (k offset : ℕ) (b : ℕ × Batch) → slice_get (batches_at t) k ≡ Some (offset, b)
     → b.0 ≡ 1 + k
 unfolding batches_at
 batch_number t k offset b e = counted t.batches 1 (batches_start t) k e
@@ -134,7 +160,7 @@ batch_number t k offset b e = counted t.batches 1 (batches_start t) k e
         omega (arith, number)
     counted (c ∷ bs) n at (suc k) e = omega (arith, counted bs (n + 1) (at + length (frame_text (OfBatch n c))) k e)
 
-pub sent_met : (t : Trace) (n i offset : ℕ) (f : Frame) → HasLimits t → i < length t.sent
+sent_met : (t : Trace) (n i offset : ℕ) (f : Frame) → HasLimits t → i < length t.sent
     → n ≡ length (before_sent t) + i → slice_get (frames_of t) n ≡ Some f → offset ≡ byte_of (frames_of t) n
     → Met OfSent (is_sent (length t.sections) (length t.batches)) (sent_at t) i offset f
 unfolding sent_at
@@ -165,7 +191,7 @@ votes_are fs from to are =
     ∙ ap (λ (g : Gathered). g.votes) own ∙ append-nil are.votes in
     ap (located (λ v. frame_text (OfVote v)) (byte_of fs from)) all
 
-pub vote_met : (fs : List Frame) (from to i offset : ℕ) (f : Frame) (are : AreVotes fs from to) → i < to - from
+vote_met : (fs : List Frame) (from to i offset : ℕ) (f : Frame) (are : AreVotes fs from to) → i < to - from
     → slice_get fs (from + i) ≡ Some f → offset ≡ byte_of fs (from + i)
     → Met OfVote (is_vote are.batches) (votes_between fs from (to - from)) i offset f
 vote_met fs from to i offset f are lt got stands =
@@ -192,7 +218,7 @@ accesses_are fs from to are =
     ∙ ap (λ (g : Gathered). g.accesses) own ∙ append-nil are.accesses in
     ap (located (λ x. frame_text (OfAccess x)) (byte_of fs from)) all
 
-pub access_met : (fs : List Frame) (from to i offset : ℕ) (f : Frame) (are : AreAccesses fs from to) → i < to - from
+access_met : (fs : List Frame) (from to i offset : ℕ) (f : Frame) (are : AreAccesses fs from to) → i < to - from
     → slice_get fs (from + i) ≡ Some f → offset ≡ byte_of fs (from + i)
     → Met OfAccess (is_access are.rows) (accesses_between fs from (to - from)) i offset f
 access_met fs from to i offset f are lt got stands =
@@ -208,15 +234,36 @@ access_met fs from to i offset f are lt got stands =
     (met_in OfAccess (is_access are.rows) (take from fs) are.accesses (drop (to - from) (drop from fs)) fs (from + i) i
     (byte_of fs from) offset f are.right (omega (arith, lt, many)) refl cut (omega (arith, long)) got stands)
 
-pub length-votes : (fs : List Frame) (from to : ℕ) (are : AreVotes fs from to)
-    → length (votes_between fs from (to - from)) ≡ to - from
-length-votes fs from to are = ap length (votes_are fs from to are)
+pub votes_many : (fs : List Frame) (from to : ℕ) (xs : List (ℕ × Vote)) (are : AreVotes fs from to)
+    → votes_between fs from (to - from) ≡ xs → length xs ≡ to - from
+votes_many fs from to xs are is = sym (ap length is) ∙ ap length (votes_are fs from to are)
     ∙ length-located (λ v. frame_text (OfVote v)) (byte_of fs from) are.votes ∙ are.many
 
-pub length-accesses : (fs : List Frame) (from to : ℕ) (are : AreAccesses fs from to)
-    → length (accesses_between fs from (to - from)) ≡ to - from
-length-accesses fs from to are = ap length (accesses_are fs from to are) ∙ length-located (λ x. frame_text (OfAccess x))
-    (byte_of fs from) are.accesses ∙ are.many
+pub accesses_many : (fs : List Frame) (from to : ℕ) (xs : List (ℕ × Access)) (are : AreAccesses fs from to)
+    → accesses_between fs from (to - from) ≡ xs → length xs ≡ to - from
+accesses_many fs from to xs are is = sym (ap length is) ∙ ap length (accesses_are fs from to are)
+    ∙ length-located (λ x. frame_text (OfAccess x)) (byte_of fs from) are.accesses ∙ are.many
+
+pub vote_lent : (fs : List Frame) (from to i offset : ℕ) (bytes : List ℕ) (xs : List (ℕ × Vote))
+    (are : AreVotes fs from to) → votes_between fs from (to - from) ≡ xs → i < length xs → IsFrameAt fs (from + i) bytes
+    → offset ≡ byte_of fs (from + i) → Lends is_vote_frame vote_in OfVote xs i offset bytes
+vote_lent fs from to i offset bytes xs are is lt f stands =
+    let many = votes_many fs from to xs are is in
+    let met = vote_met fs from to i offset f.0 are (omega (arith, lt, many)) f.1 stands in
+    subst (λ (list : List (ℕ × Vote)). Lends is_vote_frame vote_in OfVote list i offset bytes) is
+    (lends is_vote_frame vote_in OfVote (is_vote are.batches) (votes_between fs from (to - from)) i offset f.0 bytes met
+    f.2 (vote_again are.batches met.item met.right are.few))
+
+pub access_lent : (fs : List Frame) (from to i offset : ℕ) (bytes : List ℕ) (xs : List (ℕ × Access))
+    (are : AreAccesses fs from to) → accesses_between fs from (to - from) ≡ xs → i < length xs
+    → IsFrameAt fs (from + i) bytes → offset ≡ byte_of fs (from + i)
+    → Lends is_access_frame access_in OfAccess xs i offset bytes
+access_lent fs from to i offset bytes xs are is lt f stands =
+    let many = accesses_many fs from to xs are is in
+    let met = access_met fs from to i offset f.0 are (omega (arith, lt, many)) f.1 stands in
+    subst (λ (list : List (ℕ × Access)). Lends is_access_frame access_in OfAccess list i offset bytes) is
+    (lends is_access_frame access_in OfAccess (is_access are.rows) (accesses_between fs from (to - from)) i offset f.0
+    bytes met f.2 (access_again are.rows met.item met.right are.few))
 
 -- ---- frames of customers, batches and replies sent, as they are read
 
@@ -257,31 +304,37 @@ few_batches t limits = (small_head (head_of t) limits.head).batches
 few_replicas : (t : Trace) → HasLimits t → length t.sections ≤ 8
 few_replicas t limits = (small_head (head_of t) limits.head).replicas
 
-pub batch_said : (t : Trace) (n k offset : ℕ) (f : Frame) (bytes : List ℕ) → HasLimits t → k < length t.batches
-    → n ≡ length t.customers + k → slice_get (frames_of t) n ≡ Some f → offset ≡ byte_of (frames_of t) n
-    → bytes ≡ frame_text f → (b : ℕ × Batch) × Says is_batch_frame batch_in bytes b
-    × (slice_get (batches_at t) k ≡ Some (offset, b)) × (f ≡ OfBatch b.0 b.1)
-batch_said t n k offset f bytes limits lt number got stands text =
-    let met = batch_met t n k offset f limits lt number got stands in
-    let few = few_batches t limits in
-    let small : met.item.0 < 2 ^ 32 = omega (arith, few, lt, batch_number t k offset met.item met.there) in (
-      met.item,
-      says_met is_batch_frame batch_in bytes f (OfBatch met.item.0 met.item.1) met.item text met.is
-          (batch_again met.item.0 met.item.1 small met.right),
-      met.there,
-      met.is,
-    )
+pub customer_lent : (t : Trace) (i offset : ℕ) (bytes : List ℕ) → HasLimits t → i < length t.customers
+    → IsFrameAt (frames_of t) i bytes → offset ≡ byte_of (frames_of t) i
+    → Lends is_customer_frame customer_in OfCustomer (customers_at t) i offset bytes
+customer_lent t i offset bytes limits lt f stands =
+    let met = customer_met t i offset f.0 limits lt f.1 stands in
+    lends is_customer_frame customer_in OfCustomer is_customer (customers_at t) i offset f.0 bytes met f.2
+    (customer_again met.item met.right)
 
-pub sent_said : (t : Trace) (n i offset : ℕ) (f : Frame) (bytes : List ℕ) → HasLimits t → i < length t.sent
-    → n ≡ length (before_sent t) + i → slice_get (frames_of t) n ≡ Some f → offset ≡ byte_of (frames_of t) n
-    → bytes ≡ frame_text f → (s : Sent) × Says is_sent_frame sent_in bytes s
-    × (slice_get (sent_at t) i ≡ Some (offset, s)) × (f ≡ OfSent s)
-sent_said t n i offset f bytes limits lt number got stands text =
-    let met = sent_met t n i offset f limits lt number got stands in (
-      met.item,
-      says_met is_sent_frame sent_in bytes f (OfSent met.item) met.item text met.is
-          (sent_again (length t.sections) (length t.batches) met.item met.right (few_replicas t limits)
-          (few_batches t limits)),
-      met.there,
-      met.is,
-    )
+-- the number of a batch's frame, by the header that the trace is held under
+pub batch_held : (bytes : List ℕ) (h : Head) (index : Index) (t u : Trace) (n : ℕ) → t ≡ u → IsHeldTrace bytes h index t
+    → 1 ≤ n → HasLimits u × (h.customers + n - 1 ≡ length u.customers + (n - 1))
+batch_held bytes h index t u n same held from_one =
+    let own = subst (IsHeldTrace bytes h index) same held in
+    let many : length u.customers ≡ h.customers = ap (λ (k : Head). k.customers) own.head in
+    (own.spells.limits, omega (arith, many, from_one))
+
+pub batch_lent : (t : Trace) (n k offset : ℕ) (bytes : List ℕ) → HasLimits t → k < length t.batches
+    → n ≡ length t.customers + k → IsFrameAt (frames_of t) n bytes → offset ≡ byte_of (frames_of t) n
+    → Lends is_batch_frame batch_in of_batch (batches_at t) k offset bytes
+batch_lent t n k offset bytes limits lt number f stands =
+    let met = batch_met t n k offset f.0 limits lt number f.1 stands in
+    let few = few_batches t limits in
+    let small : met.item.0 < 2 ^ 32 = omega (arith, few, lt, batch_number t k offset met.item met.there) in
+    lends is_batch_frame batch_in of_batch is_batch_of (batches_at t) k offset f.0 bytes met f.2
+    (batch_again met.item.0 met.item.1 small met.right)
+
+pub sent_lent : (t : Trace) (n i offset : ℕ) (bytes : List ℕ) → HasLimits t → i < length t.sent
+    → n ≡ length (before_sent t) + i → IsFrameAt (frames_of t) n bytes → offset ≡ byte_of (frames_of t) n
+    → Lends is_sent_frame sent_in OfSent (sent_at t) i offset bytes
+sent_lent t n i offset bytes limits lt number f stands =
+    let met = sent_met t n i offset f.0 limits lt number f.1 stands in
+    lends is_sent_frame sent_in OfSent (is_sent (length t.sections) (length t.batches)) (sent_at t) i offset f.0 bytes
+    met f.2 (sent_again (length t.sections) (length t.batches) met.item met.right (few_replicas t limits)
+    (few_batches t limits))

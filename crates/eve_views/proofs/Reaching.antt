@@ -6,15 +6,15 @@ use Rattle.std.proofs.lemmas.List.{length-append, length-drop, length-take, appe
 use Rattle.std.proofs.lemmas.List.{take-append-drop, take_rest, nil_from_length}
 use Rattle.byteorder.specs.Endian.{big_number}
 use Rattle.eve_grammar.specs.Trace.{Head}
-use Rattle.eve_grammar.specs.Frames.{Frame, Place, start, next, kind_of, is_allowed}
+use Rattle.eve_grammar.specs.Frames.{Frame, Place, start_place, next_place, kind_of, is_allowed}
 use Rattle.eve_grammar.specs.Spelling.{frame_text, frames_text}
 use Rattle.eve_grammar.specs.Limits.{is_head, FitsAt}
-use Rattle.eve_grammar.specs.Following.{Follow, after, IsRun}
+use Rattle.eve_grammar.specs.Following.{Follow, after, AreAllFrames}
 use Rattle.eve_views.specs.declared.fault.Code.{Code}
 use Rattle.eve_views.specs.declared.fault.Code.TheVariants as code
-use Rattle.eve_views.specs.Indexing.{Kept, offsets_of}
+use Rattle.eve_views.specs.Indexing.{KeptFrame, offsets_of}
 use Rattle.eve_views.specs.Form.{SaysHead, IsReached, StandsInForm}
-use Rattle.eve_views.specs.Places.{accesses_in, moved}
+use Rattle.eve_views.specs.Places.{accesses_in, place_after}
 use Rattle.eve_views.specs.Walk.{frame_at}
 use Rattle.eve_views.specs.Indexing.{kept, AreStarts}
 use Rattle.eve_grammar.proofs.Codec.{IsBytes, IsBytes-drop}
@@ -29,14 +29,14 @@ use Rattle.eve_views.proofs.StartLaws.{few_verifiers}
 
 -- ---- a step
 
-kept_ok : (bytes : List ℕ) (r : Result (Frame × List ℕ) Code) (k : Kept) → kept bytes r ≡ Ok k
+kept_ok : (bytes : List ℕ) (r : Result (Frame × List ℕ) Code) (k : KeptFrame) → kept bytes r ≡ Ok k
     → (x : Frame × List ℕ) × (r ≡ Ok x)
     × (k ≡ record { kind = slice_index bytes 0; len = 5 + big_number 4 (drop 1 bytes); accesses = accesses_in x.0 })
 kept_ok bytes (Ok x) k e = (x, refl, cc)
 kept_ok bytes (Err c) k e = absurd cc
 
 -- the next frame, as it is kept
-pub record Step (h : Head) (p : Place) (bytes : List ℕ) (at : ℕ) (k : Kept) : Type 0 where
+pub record Step (h : Head) (p : Place) (bytes : List ℕ) (at : ℕ) (k : KeptFrame) : Type 0 where
   pub frame : Frame
   pub rest : List ℕ
   pub is : FrameOf h p (drop at bytes) frame rest
@@ -45,19 +45,19 @@ pub record Step (h : Head) (p : Place) (bytes : List ℕ) (at : ℕ) (k : Kept) 
   pub accesses : k.accesses ≡ accesses_in frame
   pub within : at + k.len ≤ length bytes
 
-pub step_of : (h : Head) (p : Place) (bytes : List ℕ) (at : ℕ) (k : Kept) → IsTrue (is_head h) → IsBytes bytes
+pub step_of : (h : Head) (p : Place) (bytes : List ℕ) (at : ℕ) (k : KeptFrame) → IsTrue (is_head h) → IsBytes bytes
     → at ≤ length bytes → kept (drop at bytes) (frame_at h p (drop at bytes)) ≡ Ok k → Step h p bytes at k
 step_of h p bytes at k right fits le e =
     let r = kept_ok (drop at bytes) (frame_at h p (drop at bytes)) k e in
     let t = frame_takes h p (drop at bytes) r.0 right (IsBytes-drop at bytes fits) r.1 in
-    let len : k.len ≡ length (frame_text r.0.0) = ap (λ (f : Kept). f.len) r.2 ∙ sym t.len in
+    let len : k.len ≡ length (frame_text r.0.0) = ap (λ (f : KeptFrame). f.len) r.2 ∙ sym t.len in
     record {
       frame = r.0.0;
       rest = r.0.1;
       is = t;
-      kind = ap (λ (f : Kept). f.kind) r.2 ∙ t.kind;
+      kind = ap (λ (f : KeptFrame). f.kind) r.2 ∙ t.kind;
       len = len;
-      accesses = ap (λ (f : Kept). f.accesses) r.2;
+      accesses = ap (λ (f : KeptFrame). f.accesses) r.2;
       within = omega (arith, len, ap length t.parts, length-append (frame_text r.0.0) r.0.1, length-drop at bytes, le);
     }
 
@@ -65,14 +65,14 @@ step_of h p bytes at k right fits le e =
 
 pub record Reached (h : Head) (bytes : List ℕ) (at : ℕ) (p : Place) (offsets : List ℕ) : Type 0 where
   pub front : List Frame
-  pub right : Follow h start front
-  pub place_is : after start front ≡ p
+  pub right : Follow h start_place front
+  pub place_is : after start_place front ≡ p
   pub at_is : at ≡ 32 + length (frames_text front)
   pub within : at ≤ length bytes
   pub before : take at bytes ≡ take 32 bytes ++ frames_text front
   pub offsets_is : offsets ≡ offsets_of 32 front
 
-pub reached_start : (h : Head) (bytes : List ℕ) → 32 ≤ length bytes → Reached h bytes 32 start []
+pub reached_start : (h : Head) (bytes : List ℕ) → 32 ≤ length bytes → Reached h bytes 32 start_place []
 reached_start h bytes le =
     record {
       front = [];
@@ -112,17 +112,18 @@ front_more at n bytes text rest e len le =
     omega (arith, length-append (take at bytes) text, length-take at bytes, len, le) in
     ap (take (at + n)) whole ∙ take_at (take at bytes ++ text) rest (at + n) wide
 
-pub reached_more : (h : Head) (bytes : List ℕ) (at : ℕ) (p : Place) (offsets : List ℕ) (k : Kept)
+pub reached_more : (h : Head) (bytes : List ℕ) (at : ℕ) (p : Place) (offsets : List ℕ) (k : KeptFrame)
     → Reached h bytes at p offsets → Step h p bytes at k
-    → Reached h bytes (at + k.len) (moved p k.kind k.accesses) (offsets ++ at ∷ [])
+    → Reached h bytes (at + k.len) (place_after p k.kind k.accesses) (offsets ++ at ∷ [])
 reached_more h bytes at p offsets k r s =
     let f = s.frame in
-    let fits : FitsAt h (after start r.front) f = subst (λ (q : Place). FitsAt h q f) (sym r.place_is) s.is.fits in
+    let fits : FitsAt h (after start_place r.front) f = subst (λ (q : Place). FitsAt h q f)
+    (sym r.place_is) s.is.fits in
     record {
       front = r.front ++ f ∷ [];
-      right = follow_more r.front h start f r.right fits;
-      place_is = after_more r.front start f ∙ ap (λ (q : Place). next q f) r.place_is ∙ next_moved p f
-          ∙ ap (λ (n : ℕ). moved p n (accesses_in f)) (sym s.kind) ∙ ap (moved p k.kind) (sym s.accesses);
+      right = follow_more r.front h start_place f r.right fits;
+      place_is = after_more r.front start_place f ∙ ap (λ (q : Place). next_place q f) r.place_is ∙ next_moved p f
+          ∙ ap (λ (n : ℕ). place_after p n (accesses_in f)) (sym s.kind) ∙ ap (place_after p k.kind) (sym s.accesses);
       at_is = omega (
         arith,
         r.at_is,
@@ -155,7 +156,7 @@ kept_err bytes (Ok x) c e = absurd cc
 kept_err bytes (Err d) c e = let same : d ≡ c = cc in ap (λ (b : Code). Err b) same
 
 stands_in_form : (c : Code) (bytes : List ℕ) (at : ℕ) (r : IsReached bytes at)
-    → StandsHere c r.head (after start r.front) (drop at bytes) → StandsInForm c bytes at
+    → StandsHere c r.head (after start_place r.front) (drop at bytes) → StandsInForm c bytes at
 stands_in_form code.Frame bytes at r s = (r, s)
 stands_in_form code.Body bytes at r s = (r, s)
 stands_in_form c bytes at r s = absurd s
@@ -185,33 +186,34 @@ pub record Walking (h : Head) (bytes : List ℕ) (at : ℕ) (p : Place) (offsets
   pub reached : Reached h bytes at p offsets
   pub started : Started h reached.front p s
 
-pub walking_start : (h : Head) (bytes : List ℕ) → 32 ≤ length bytes → Walking h bytes 32 start [] no_starts
+pub walking_start : (h : Head) (bytes : List ℕ) → 32 ≤ length bytes → Walking h bytes 32 start_place [] no_starts
 unfolding reached_start
 walking_start h bytes le = record { reached = reached_start h bytes le; started = started_start h }
 
-pub walking_more : (h : Head) (bytes : List ℕ) (at : ℕ) (p : Place) (offsets : List ℕ) (s : Starts) (k : Kept)
+pub walking_more : (h : Head) (bytes : List ℕ) (at : ℕ) (p : Place) (offsets : List ℕ) (s : Starts) (k : KeptFrame)
     → HasRoom h → Walking h bytes at p offsets s → Step h p bytes at k
-    → Walking h bytes (at + k.len) (moved p k.kind k.accesses) (offsets ++ at ∷ []) (noted s p k.kind (length offsets))
+    → Walking h bytes (at + k.len) (place_after p k.kind k.accesses) (offsets ++ at ∷ [])
+    (noted s p k.kind (length offsets))
 unfolding reached_more
 walking_more h bytes at p offsets s k room w step =
     let r = w.reached in
     let count : length offsets ≡ length r.front = ap length r.offsets_is ∙ length-offsets_of r.front 32 in
-    let moved_is : next p step.frame ≡ moved p k.kind k.accesses = next_moved p step.frame
-    ∙ ap (λ (n : ℕ). moved p n (accesses_in step.frame)) (sym step.kind)
-    ∙ ap (moved p k.kind) (sym step.accesses) in
+    let moved_is : next_place p step.frame ≡ place_after p k.kind k.accesses = next_moved p step.frame
+    ∙ ap (λ (n : ℕ). place_after p n (accesses_in step.frame)) (sym step.kind)
+    ∙ ap (place_after p k.kind) (sym step.accesses) in
     let noted_is : noted s p (kind_of step.frame) (length r.front) ≡ noted s p k.kind (length offsets) =
     ap (λ (n : ℕ). noted s p n (length r.front)) (sym step.kind) ∙ ap (noted s p k.kind) (sym count) in
     record {
       reached = reached_more h bytes at p offsets k r step;
       started = subst (λ (q : Place). Started h (r.front ++ step.frame ∷ []) q (noted s p k.kind (length offsets)))
           moved_is
-          (subst (Started h (r.front ++ step.frame ∷ []) (next p step.frame)) noted_is
+          (subst (Started h (r.front ++ step.frame ∷ []) (next_place p step.frame)) noted_is
           (started_more h r.front p s step.frame room w.started step.is.fits));
     }
 
 pub walking_end : (h : Head) (bytes : List ℕ) (at : ℕ) (p : Place) (offsets : List ℕ) (s : Starts)
     → Walking h bytes at p offsets s → p.ended ≡ true → length bytes ≤ at
-    → (fs : List Frame) × IsRun h fs × (drop 32 bytes ≡ frames_text fs) × (offsets ≡ offsets_of 32 fs)
+    → (fs : List Frame) × AreAllFrames h fs × (drop 32 bytes ≡ frames_text fs) × (offsets ≡ offsets_of 32 fs)
     × AreStarts h fs s
 walking_end h bytes at p offsets s w ended le =
     let r = w.reached in
@@ -225,7 +227,7 @@ walking_end h bytes at p offsets s w ended le =
     )
 
 -- the step that the code took, of what it was given
-pub step_here : (h g : Head) (p : Place) (bytes : List ℕ) (at : ℕ) (k : Kept) → IsTrue (is_head h) → IsBytes bytes
+pub step_here : (h g : Head) (p : Place) (bytes : List ℕ) (at : ℕ) (k : KeptFrame) → IsTrue (is_head h) → IsBytes bytes
     → at ≤ length bytes → g ≡ h
     → Ok k ≡ kept (take (length bytes - at) (drop at bytes)) (frame_at g p (take (length bytes - at) (drop at bytes)))
     → Step h p bytes at k
@@ -243,7 +245,7 @@ fault_here h g p bytes at c same e =
     sym (e ∙ ap (λ (b : List ℕ). kept b (frame_at g p b)) there
     ∙ ap (λ (i : Head). kept (drop at bytes) (frame_at i p (drop at bytes))) same)
 
-pub step_allowed : (h : Head) (p : Place) (bytes : List ℕ) (at : ℕ) (k : Kept) → Step h p bytes at k
+pub step_allowed : (h : Head) (p : Place) (bytes : List ℕ) (at : ℕ) (k : KeptFrame) → Step h p bytes at k
     → is_allowed h p k.kind ≡ true
 step_allowed h p bytes at k s = ap (is_allowed h p) s.kind ∙ s.is.fits.allowed
 

@@ -8,11 +8,12 @@ use Rattle.std.proofs.lemmas.Bool.Decides.{nat_tests}
 use Rattle.std.proofs.lemmas.List.{length-append, length-set}
 use Rattle.eve_grammar.specs.Trace.{Head}
 use Rattle.eve_grammar.specs.Frames.{Frame, OfCustomer, OfBatch, OfReplica, OfAttempt, OfAccess, OfCommit, OfRollback}
-use Rattle.eve_grammar.specs.Frames.{OfVerifier, OfVote, OfSent, End, Place, start, next, kind_of, is_allowed}
+use Rattle.eve_grammar.specs.Frames.{OfVerifier, OfVote, OfSent, End, Place, start_place, next_place, kind_of}
+use Rattle.eve_grammar.specs.Frames.{is_allowed}
 use Rattle.eve_grammar.specs.Limits.{FitsAt}
 use Rattle.eve_views.specs.declared.starts.Starts.{Starts}
 use Rattle.eve_views.specs.Starting.{no_starts, noted}
-use Rattle.eve_views.specs.Indexing.{is_last, sent_from, AreStarts}
+use Rattle.eve_views.specs.Indexing.{is_last, frames_before_sent, AreStarts}
 use Rattle.eve_views.proofs.FrameLaws.{true_false}
 
 -- ---- what an allowed kind says of the place
@@ -43,18 +44,19 @@ slice_get_last [] f = refl
 slice_get_last (g ∷ fs) f = slice_get_last fs f
 
 -- the first of the last frames stays where it is
-pub sent_stays : (fs : List Frame) (f : Frame) → sent_from fs < length fs → sent_from (fs ++ f ∷ []) ≡ sent_from fs
+pub sent_stays : (fs : List Frame) (f : Frame) → frames_before_sent fs < length fs → frames_before_sent (fs ++ f ∷ [])
+    ≡ frames_before_sent fs
 sent_stays [] f lt = absurd (omega arith)
 sent_stays (g ∷ fs) f lt = by (is_last g) (λ below. sent_stays fs f below) lt
   where
-    by : (b : Bool) → (sent_from fs < length fs → sent_from (fs ++ f ∷ []) ≡ sent_from fs)
-        → cond b 0 (sent_from fs + 1) < suc (length fs) → cond b 0 (sent_from (fs ++ f ∷ []) + 1)
-        ≡ cond b 0 (sent_from fs + 1)
+    by : (b : Bool) → (frames_before_sent fs < length fs → frames_before_sent (fs ++ f ∷ []) ≡ frames_before_sent fs)
+        → cond b 0 (frames_before_sent fs + 1) < suc (length fs) → cond b 0 (frames_before_sent (fs ++ f ∷ []) + 1)
+        ≡ cond b 0 (frames_before_sent fs + 1)
     by true rest lt = refl
     by false rest lt = ap (λ (k : ℕ). k + 1) (rest (omega arith))
 
 -- or a frame is the first
-pub sent_begins : (fs : List Frame) (f : Frame) → sent_from fs ≡ length fs → sent_from (fs ++ f ∷ [])
+pub sent_begins : (fs : List Frame) (f : Frame) → frames_before_sent fs ≡ length fs → frames_before_sent (fs ++ f ∷ [])
     ≡ length fs + cond (is_last f) 0 1
 sent_begins [] f e = by (is_last f)
   where
@@ -63,8 +65,9 @@ sent_begins [] f e = by (is_last f)
     by false = refl
 sent_begins (g ∷ fs) f e = by (is_last g) (λ before. sent_begins fs f before) e
   where
-    by : (b : Bool) → (sent_from fs ≡ length fs → sent_from (fs ++ f ∷ []) ≡ length fs + cond (is_last f) 0 1)
-        → cond b 0 (sent_from fs + 1) ≡ suc (length fs) → cond b 0 (sent_from (fs ++ f ∷ []) + 1)
+    by : (b : Bool) → (frames_before_sent fs ≡ length fs → frames_before_sent (fs ++ f ∷ []) ≡ length fs + cond
+        (is_last f) 0 1)
+        → cond b 0 (frames_before_sent fs + 1) ≡ suc (length fs) → cond b 0 (frames_before_sent (fs ++ f ∷ []) + 1)
         ≡ suc (length fs) + cond (is_last f) 0 1
     by true rest e = absurd (omega arith)
     by false rest e = let r = rest (omega arith) in omega arith
@@ -79,12 +82,12 @@ pub record Started (h : Head) (fs : List Frame) (p : Place) (s : Starts) : Type 
   pub sixteen : length s.verifiers ≡ 16
   pub sections : (e : ℕ) → e < p.replicas → slice_get fs (get_or s.sections e 0) ≡ Some (OfReplica e)
   pub verifiers : (v : ℕ) → v < p.verifiers → slice_get fs (get_or s.verifiers v 0) ≡ Some (OfVerifier v)
-  pub sent : has_last p ≡ true → (s.sent ≡ sent_from fs) × (sent_from fs < length fs)
-  pub unsent : has_last p ≡ false → sent_from fs ≡ length fs
+  pub sent : has_last p ≡ true → (s.sent ≡ frames_before_sent fs) × (frames_before_sent fs < length fs)
+  pub unsent : has_last p ≡ false → frames_before_sent fs ≡ length fs
   pub some : 0 < p.verifiers → p.replicas ≡ h.replicas
   pub full : p.ended ≡ true → (p.verifiers ≡ h.verifiers) × (0 < p.verifiers)
 
-pub started_start : (h : Head) → Started h [] start no_starts
+pub started_start : (h : Head) → Started h [] start_place no_starts
 started_start h = record {
   eight = refl;
   sixteen = refl;
@@ -139,7 +142,7 @@ table_more fs f xs count of room is before e lt =
 
 started_replica : (h : Head) (fs : List Frame) (p : Place) (s : Starts) (n : ℕ) → Started h fs p s → p.replicas < 8
     → n ≡ p.replicas → p.verifiers ≡ 0 → p.ended ≡ false
-    → Started h (fs ++ OfReplica n ∷ []) (next p (OfReplica n))
+    → Started h (fs ++ OfReplica n ∷ []) (next_place p (OfReplica n))
     (record s { sections = set s.sections p.replicas (length fs) })
 started_replica h fs p s n st few is none going = record {
   eight = length-set s.sections p.replicas (length fs) ∙ st.eight;
@@ -158,7 +161,7 @@ started_replica h fs p s n st few is none going = record {
 
 started_verifier : (h : Head) (fs : List Frame) (p : Place) (s : Starts) (n : ℕ) → Started h fs p s → p.verifiers < 16
     → n ≡ p.verifiers → p.replicas ≡ h.replicas → p.ended ≡ false
-    → Started h (fs ++ OfVerifier n ∷ []) (next p (OfVerifier n))
+    → Started h (fs ++ OfVerifier n ∷ []) (next_place p (OfVerifier n))
     (record s { verifiers = set s.verifiers p.verifiers (length fs) })
 started_verifier h fs p s n st few is all going = record {
   eight = st.eight;
@@ -211,7 +214,8 @@ started_last h fs p q s f st last going replicas verifiers has full = by p.sendi
         }
     by false sending =
         let had : has_last p ≡ false = rw (sending, going) refl in
-        let begins : sent_from (fs ++ f ∷ []) ≡ length fs = sent_begins fs f (st.unsent had) ∙ rw last (omega arith) in
+        let begins : frames_before_sent (fs ++ f ∷ []) ≡ length fs = sent_begins fs f (st.unsent had)
+        ∙ rw last (omega arith) in
         record {
           eight = st.eight;
           sixteen = st.sixteen;
@@ -244,18 +248,19 @@ pub record HasRoom (h : Head) : Type 0 where
   pub one : 1 ≤ h.verifiers
 
 pub started_more : (h : Head) (fs : List Frame) (p : Place) (s : Starts) (f : Frame) → HasRoom h → Started h fs p s
-    → FitsAt h p f → Started h (fs ++ f ∷ []) (next p f) (noted s p (kind_of f) (length fs))
-started_more h fs p s (OfCustomer c) room st fits = started_same h fs p (next p (OfCustomer c)) s (OfCustomer c) st
+    → FitsAt h p f → Started h (fs ++ f ∷ []) (next_place p f) (noted s p (kind_of f) (length fs))
+started_more h fs p s (OfCustomer c) room st fits = started_same h fs p (next_place p (OfCustomer c)) s
+    (OfCustomer c) st
     (record { replicas = refl; verifiers = refl; sending = refl; ended = refl }) refl
-started_more h fs p s (OfBatch n b) room st fits = started_same h fs p (next p (OfBatch n b)) s (OfBatch n b) st
+started_more h fs p s (OfBatch n b) room st fits = started_same h fs p (next_place p (OfBatch n b)) s (OfBatch n b) st
     (record { replicas = refl; verifiers = refl; sending = refl; ended = refl }) refl
 started_more h fs p s (OfReplica n) room st fits =
     let below = replica_below h p fits.allowed in
     started_replica h fs p s n st (omega (arith, below.1, room.replicas)) (eqb-true n p.replicas fits.body) below.0
     (allowed_open h p 16 fits.allowed)
-started_more h fs p s (OfAttempt a) room st fits = started_same h fs p (next p (OfAttempt a)) s (OfAttempt a) st
+started_more h fs p s (OfAttempt a) room st fits = started_same h fs p (next_place p (OfAttempt a)) s (OfAttempt a) st
     (record { replicas = refl; verifiers = refl; sending = refl; ended = refl }) refl
-started_more h fs p s (OfAccess x) room st fits = started_same h fs p (next p (OfAccess x)) s (OfAccess x) st
+started_more h fs p s (OfAccess x) room st fits = started_same h fs p (next_place p (OfAccess x)) s (OfAccess x) st
     (record { replicas = refl; verifiers = refl; sending = refl; ended = refl }) refl
 started_more h fs p s (OfCommit c) room st fits = started_same h fs p p s (OfCommit c) st (same_place p) refl
 started_more h fs p s (OfRollback r) room st fits = started_same h fs p p s (OfRollback r) st (same_place p) refl
@@ -266,14 +271,15 @@ started_more h fs p s (OfVerifier n) room st fits =
 started_more h fs p s (OfVote v) room st fits = started_same h fs p p s (OfVote v) st (same_place p) refl
 started_more h fs p s (OfSent x) room st fits =
     let going = allowed_open h p 48 fits.allowed in
-    subst (Started h (fs ++ OfSent x ∷ []) (next p (OfSent x)))
+    subst (Started h (fs ++ OfSent x ∷ []) (next_place p (OfSent x)))
     (sym (sent_noted p.sending s (record s { sent = length fs })))
-    (started_last h fs p (next p (OfSent x)) s (OfSent x) st refl going refl refl refl
+    (started_last h fs p (next_place p (OfSent x)) s (OfSent x) st refl going refl refl refl
     (λ e. absurd (true_false p.ended e going)))
 started_more h fs p s End room st fits =
     let full = end_full h p fits.allowed in
-    subst (Started h (fs ++ End ∷ []) (next p End)) (sym (sent_noted p.sending s (record s { sent = length fs })))
-    (started_last h fs p (next p End) s End st refl (allowed_open h p 127 fits.allowed) refl refl (or_last p.sending)
+    subst (Started h (fs ++ End ∷ []) (next_place p End)) (sym (sent_noted p.sending s (record s { sent = length fs })))
+    (started_last h fs p (next_place p End) s End st refl (allowed_open h p 127 fits.allowed) refl refl
+    (or_last p.sending)
     (λ e. (full.1, full.0)))
   where
     or_last : (b : Bool) → (b || true) ≡ true

@@ -1,7 +1,7 @@
 -- The next step of a section: its frames, and those after them.
 use Rattle.std.proofs.Common.{◌≡◌, ◌≢◌, ℕ, ◌+◌, ◌-◌, ◌≤◌, List, [], ◌∷◌, ◌++◌, map, length, take, drop, Some, refl, sym}
 use Rattle.std.proofs.Common.{ap, subst, ◌∙◌, append_assoc, arith}
-use Rattle.std.specs.Prelude.{slice_get, IsTrue, ◌&&◌, ◌==◌}
+use Rattle.std.specs.Prelude.{slice_get, slice_index, IsTrue, ◌&&◌, ◌==◌}
 use Rattle.std.specs.List.{flat_map, list_all}
 use Rattle.std.proofs.lemmas.Bool.{eqb-true, and_parts}
 use Rattle.std.proofs.lemmas.List.{length-append, length-take-le, length-drop, take-append-drop, length-map, take_at}
@@ -18,7 +18,7 @@ use Rattle.eve_frames.proofs.Rereading.{attempt_again, commit_again, rollback_ag
 use Rattle.eve_views.specs.Parts.{byte_of, frames_between, accesses_between, steps_between, AreAccesses, AreSteps}
 use Rattle.eve_views.proofs.Locating.{length-frames_text}
 use Rattle.eve_views.proofs.Fronting.{slice_get-behind}
-use Rattle.eve_views.proofs.PartLaws.{accesses_are, says_met}
+use Rattle.eve_views.proofs.PartLaws.{accesses_are, says_met, IsFrameAt}
 use Rattle.eve_views.proofs.CutLaws.{steps_are}
 
 -- ---- frames at a place
@@ -124,14 +124,14 @@ some_frame : (f g : Frame) → Some f ≡ Some g → f ≡ g
 some_frame f g e = cc
 
 -- a step that is there, and its first frame
-pub record IsMet (fs : List Frame) (at to : ℕ) (f : Frame) : Type 0 where
+record IsMet (fs : List Frame) (at to : ℕ) (f : Frame) : Type 0 where
   rows : ℕ
   few : rows ≤ most_rows
   step : Step
   is : IsNext fs at to rows step
-  pub begins : f ≡ first step
+  begins : f ≡ first step
 
-pub met_of : (fs : List Frame) (at to : ℕ) (f : Frame) (are : AreSteps fs at to) → at ≢ to → slice_get fs at ≡ Some f
+met_of : (fs : List Frame) (at to : ℕ) (f : Frame) (are : AreSteps fs at to) → at ≢ to → slice_get fs at ≡ Some f
     → IsMet fs at to f
 met_of fs at to f are more got = by are.steps refl
   where
@@ -183,7 +183,7 @@ pub record IsAttemptMet (fs : List Frame) (at to : ℕ) (bytes : List ℕ) : Typ
   pub value : (next : ℕ) → next ≡ at + 1 + length attempt.certificate → steps_between fs at (to - at)
       ≡ (byte_of fs at, Attempts attempt) ∷ steps_between fs next (to - next)
 
-pub attempt_met : (fs : List Frame) (at to : ℕ) (f : Frame) (bytes : List ℕ) → IsMet fs at to f → kind_of f ≡ 17
+attempt_met : (fs : List Frame) (at to : ℕ) (f : Frame) (bytes : List ℕ) → IsMet fs at to f → kind_of f ≡ 17
     → bytes ≡ frame_text f → IsAttemptMet fs at to bytes
 attempt_met fs at to f bytes met kind text = by met.step met.is met.begins
   where
@@ -244,7 +244,7 @@ pub record IsCommitMet (fs : List Frame) (at to : ℕ) (bytes : List ℕ) : Type
   pub value : steps_between fs at (to - at) ≡ (byte_of fs at, Commits commit) ∷ steps_between fs (at + 1)
       (to - (at + 1))
 
-pub commit_met : (fs : List Frame) (at to : ℕ) (f : Frame) (bytes : List ℕ) → IsMet fs at to f → kind_of f ≡ 19
+commit_met : (fs : List Frame) (at to : ℕ) (f : Frame) (bytes : List ℕ) → IsMet fs at to f → kind_of f ≡ 19
     → bytes ≡ frame_text f → IsCommitMet fs at to bytes
 commit_met fs at to f bytes met kind text = by met.step met.is met.begins
   where
@@ -270,7 +270,7 @@ pub record IsRollbackMet (fs : List Frame) (at to : ℕ) (bytes : List ℕ) : Ty
   pub value : steps_between fs at (to - at) ≡ (byte_of fs at, RollsBack rollback) ∷ steps_between fs (at + 1)
       (to - (at + 1))
 
-pub rollback_met : (fs : List Frame) (at to : ℕ) (f : Frame) (bytes : List ℕ) → IsMet fs at to f → kind_of f ≢ 17
+rollback_met : (fs : List Frame) (at to : ℕ) (f : Frame) (bytes : List ℕ) → IsMet fs at to f → kind_of f ≢ 17
     → kind_of f ≢ 19 → bytes ≡ frame_text f → IsRollbackMet fs at to bytes
 rollback_met fs at to f bytes met other another text = by met.step met.is met.begins
   where
@@ -285,3 +285,32 @@ rollback_met fs at to f bytes met other another text = by met.step met.is met.be
       rest = next.rest;
       value = next.value;
     }
+
+-- ---- what is met where a step begins
+
+first_byte : (bytes : List ℕ) (f : Frame) → bytes ≡ frame_text f → kind_of f ≡ slice_index bytes 0
+first_byte bytes f text = sym (ap (λ (b : List ℕ). slice_index b 0) text)
+
+pub attempt_here : (fs : List Frame) (at to : ℕ) (bytes : List ℕ) → AreSteps fs at to → at ≢ to → IsFrameAt fs at bytes
+    → slice_index bytes 0 ≡ 17 → IsAttemptMet fs at to bytes
+attempt_here fs at to bytes are more f kind =
+    attempt_met fs at to f.0 bytes (met_of fs at to f.0 are more f.1) (first_byte bytes f.0 f.2 ∙ kind) f.2
+
+pub commit_here : (fs : List Frame) (at to : ℕ) (bytes : List ℕ) → AreSteps fs at to → at ≢ to → IsFrameAt fs at bytes
+    → slice_index bytes 0 ≡ 19 → IsCommitMet fs at to bytes
+commit_here fs at to bytes are more f kind =
+    commit_met fs at to f.0 bytes (met_of fs at to f.0 are more f.1) (first_byte bytes f.0 f.2 ∙ kind) f.2
+
+pub rollback_here : (fs : List Frame) (at to : ℕ) (bytes : List ℕ) → AreSteps fs at to → at ≢ to → IsFrameAt fs at bytes
+    → slice_index bytes 0 ≢ 17 → slice_index bytes 0 ≢ 19 → IsRollbackMet fs at to bytes
+rollback_here fs at to bytes are more f other another =
+    rollback_met fs at to f.0 bytes (met_of fs at to f.0 are more f.1)
+    (λ e. other (sym (first_byte bytes f.0 f.2) ∙ e)) (λ e. another (sym (first_byte bytes f.0 f.2) ∙ e)) f.2
+
+-- the place after the accesses of an attempt that is met, by how many a view of it counts
+pub after_accesses : (fs : List Frame) (at to : ℕ) (bytes own : List ℕ) (count : ℕ) (met : IsAttemptMet fs at to bytes)
+    → own ≡ bytes → count ≡ length (attempt_in own).certificate
+    → at + 1 + count ≡ at + 1 + length met.attempt.certificate
+after_accesses fs at to bytes own count met same is = ap (λ (n : ℕ). at + 1 + n)
+    (is ∙ ap (λ (b : List ℕ). length (attempt_in b).certificate) same
+    ∙ ap (λ (a : Attempt). length a.certificate) met.says.1)

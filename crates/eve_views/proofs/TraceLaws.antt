@@ -15,7 +15,7 @@ use Rattle.eve_views.specs.Form.{IsFormFault, IfFound, IsLeast}
 use Rattle.eve_views.specs.Header.{IsHeader}
 use Rattle.eve_views.specs.Walk.{frames_in}
 use Rattle.eve_views.specs.Indexing.{AreStarts, IsIndex, offsets_of}
-use Rattle.eve_views.specs.Held.{trace_in, IsHeld}
+use Rattle.eve_views.specs.Held.{trace_in, IsHeldTrace}
 use Rattle.eve_grammar.proofs.Codec.{IsBytes}
 use Rattle.eve_views.proofs.FrameLaws.{length-frame_text}
 use Rattle.eve_views.proofs.WalkLaws.{run_read}
@@ -27,7 +27,7 @@ use Rattle.eve_views.proofs.FormLaws.{refused_behind}
 
 -- what is held of a trace
 pub held_of : (bytes : List ℕ) (h : Head) (i : Index) → IsBytes bytes → IsHeader bytes h → IsIndex h bytes i
-    → IsHeld bytes h i (trace_in h bytes)
+    → IsHeldTrace bytes h i (trace_in h bytes)
 held_of bytes h i fits is found =
     let says = says_head bytes h fits is.said in
     let same : frames_in h (drop 32 bytes) ≡ found.frames = ap (frames_in h) found.text
@@ -41,14 +41,14 @@ held_of bytes h i fits is found =
     let head : head_of (trace_of h found.frames) ≡ h = head_of-trace_of h found.frames says.limits found.run in
     let frames : frames_of (trace_of h found.frames) ≡ found.frames = frames_of-trace_of h found.frames says.limits
     found.run in
-    let held : IsHeld bytes h i (trace_of h found.frames) = record {
+    let held : IsHeldTrace bytes h i (trace_of h found.frames) = record {
       spells = spells_trace bytes h found.frames spells;
       head = head;
       offsets = found.offsets ∙ ap (offsets_of 32) (sym frames);
       starts = subst (λ (fs : List Frame). AreStarts (head_of (trace_of h found.frames)) fs i.starts) (sym frames)
           (subst (λ (g : Head). AreStarts g found.frames i.starts) (sym head) found.starts);
     } in
-    subst (λ (fs : List Frame). IsHeld bytes h i (trace_of h fs)) (sym same) held
+    subst (λ (fs : List Frame). IsHeldTrace bytes h i (trace_of h fs)) (sym same) held
 
 -- ---- a fault
 

@@ -6,20 +6,20 @@ use Rattle.std.proofs.lemmas.Bool.{eqb-true}
 use Rattle.std.proofs.lemmas.List.{length-append, append-nil, nil_from_length}
 use Rattle.std.proofs.lemmas.List.Concat.{flat_map-append}
 use Rattle.eve_grammar.specs.Trace.{Head}
-use Rattle.eve_grammar.specs.Frames.{Frame, Place, start, next, kind_of, is_allowed}
+use Rattle.eve_grammar.specs.Frames.{Frame, Place, start_place, next_place, kind_of, is_allowed}
 use Rattle.eve_grammar.specs.Spelling.{frame_text, frames_text}
 use Rattle.eve_grammar.specs.Limits.{is_head, FitsAt}
-use Rattle.eve_grammar.specs.Following.{Follow, after, IsRun}
+use Rattle.eve_grammar.specs.Following.{Follow, after, AreAllFrames}
 use Rattle.eve_views.specs.declared.fault.Code.{Code}
 use Rattle.eve_views.specs.declared.fault.Code.TheVariants as code
-use Rattle.eve_views.specs.Walk.{frame_at, Walked, behind, step, walk, frames_in}
+use Rattle.eve_views.specs.Walk.{frame_at, Walked, with_frame, walk_on, walk, frames_in}
 use Rattle.eve_grammar.proofs.Codec.{IsBytes}
 use Rattle.eve_views.proofs.Bytes.{IsBytes-behind}
 use Rattle.eve_views.proofs.FrameLaws.{StandsHere, frame_again, frame_stands, Framed-from, true_false}
 
 abbrev pub with_front : List Frame → Walked → Walked
 with_front [] r = r
-with_front (f ∷ fs) r = behind f (with_front fs r)
+with_front (f ∷ fs) r = with_frame f (with_front fs r)
 
 ended_or : (b c : Bool) → cond b false c ≡ true → b ≡ false
 ended_or true c e = absurd cc
@@ -30,7 +30,7 @@ pub allowed_open : (h : Head) (p : Place) (kind : ℕ) → is_allowed h p kind �
 allowed_open h p kind e = ended_or p.ended _ e
 
 walk_step : (n : ℕ) (h : Head) (p : Place) (bytes : List ℕ) → p.ended ≡ false → walk (suc n) h p bytes
-    ≡ step bytes (frame_at h p bytes) (λ f rest. walk n h (next p f) rest)
+    ≡ walk_on bytes (frame_at h p bytes) (λ f rest. walk n h (next_place p f) rest)
 unfolding walk
 walk_step n h p bytes is_open = rw is_open refl
 
@@ -45,24 +45,25 @@ walk_front (f ∷ fs) n h p rest right follow =
     let is_open = allowed_open h p (kind_of f) follow.0.allowed in
     let one = walk_step (length fs + n) h p (frame_text f ++ (frames_text fs ++ rest)) is_open in
     let read = frame_again h p f (frames_text fs ++ rest) right follow.0 in
-    let stepped : step (frame_text f ++ (frames_text fs ++ rest))
-    (frame_at h p (frame_text f ++ (frames_text fs ++ rest))) (λ f rest. walk (length fs + n) h (next p f) rest)
-    ≡ behind f (walk (length fs + n) h (next p f) (frames_text fs ++ rest)) =
-    ap (λ r. step (frame_text f ++ (frames_text fs ++ rest)) r (λ f rest. walk (length fs + n) h (next p f) rest)) read
+    let stepped : walk_on (frame_text f ++ (frames_text fs ++ rest))
+    (frame_at h p (frame_text f ++ (frames_text fs ++ rest))) (λ f rest. walk (length fs + n) h (next_place p f) rest)
+    ≡ with_frame f (walk (length fs + n) h (next_place p f) (frames_text fs ++ rest)) =
+    ap (λ r. walk_on (frame_text f ++ (frames_text fs ++ rest)) r
+    (λ f rest. walk (length fs + n) h (next_place p f) rest)) read
     in
     ap (λ (m : ℕ). walk m h p (frames_text (f ∷ fs) ++ rest)) fuel ∙ ap (walk (suc (length fs + n)) h p) regrouped ∙ one
-    ∙ stepped ∙ ap (behind f) (walk_front fs n h (next p f) rest right follow.1)
+    ∙ stepped ∙ ap (with_frame f) (walk_front fs n h (next_place p f) rest right follow.1)
 
 front_ok : (front : List Frame) → with_front front (Ok []) ≡ Ok front
 front_ok [] = refl
-front_ok (f ∷ fs) = ap (behind f) (front_ok fs)
+front_ok (f ∷ fs) = ap (with_frame f) (front_ok fs)
 
 abbrev pub stopped : Code → List ℕ → Walked
 stopped c rest = Err (c, rest)
 
 front_err : (front : List Frame) (c : Code) (rest : List ℕ) → with_front front (stopped c rest) ≡ stopped c rest
 front_err [] c rest = refl
-front_err (f ∷ fs) c rest = ap (behind f) (front_err fs c rest)
+front_err (f ∷ fs) c rest = ap (with_frame f) (front_err fs c rest)
 
 walk_end : (n : ℕ) (h : Head) (p : Place) → IsTrue p.ended → walk (suc n) h p [] ≡ Ok []
 unfolding walk
@@ -85,11 +86,12 @@ front_short [] = omega arith
 front_short (f ∷ fs) = omega (arith, front_short fs, length-append (frame_text f) (frames_text fs))
 
 -- the frames that the bytes spell are the ones that are found
-pub run_read : (h : Head) (fs : List Frame) → IsTrue (is_head h) → IsRun h fs → frames_in h (frames_text fs) ≡ fs
+pub run_read : (h : Head) (fs : List Frame) → IsTrue (is_head h) → AreAllFrames h fs → frames_in h (frames_text fs) ≡ fs
 unfolding frames_in
 run_read h fs right run =
-    let e : walk (suc (length (frames_text fs))) h start (frames_text fs) ≡ Ok fs =
-    walk_again fs (suc (length (frames_text fs))) h start right run.follow run.ended (omega (arith, front_short fs))
+    let e : walk (suc (length (frames_text fs))) h start_place (frames_text fs) ≡ Ok fs =
+    walk_again fs (suc (length (frames_text fs))) h start_place right run.follow run.ended
+    (omega (arith, front_short fs))
     in
     rw e refl
 
@@ -118,25 +120,25 @@ walk_stop n c h p rest on e = rw (on, e) refl
 -- frames that may stand where they stand, and after them a fault
 pub record StandsBehind (c : Code) (h : Head) (bytes rest : List ℕ) : Type 0 where
   pub front : List Frame
-  pub right : Follow h start front
+  pub right : Follow h start_place front
   pub before : bytes ≡ frames_text front ++ rest
-  pub here : StandsHere c h (after start front) rest
+  pub here : StandsHere c h (after start_place front) rest
 
 -- a fault that stands is found
 pub walk_fault : (c : Code) (n : ℕ) (h : Head) (bytes rest : List ℕ) → IsTrue (is_head h) → IsBytes bytes
-    → length bytes < n → StandsBehind c h bytes rest → walk n h start bytes ≡ stopped c rest
+    → length bytes < n → StandsBehind c h bytes rest → walk n h start_place bytes ≡ stopped c rest
 walk_fault c n h bytes rest right fits lt s =
     let m = n - suc (length s.front) in
     let short : length s.front < n =
     omega (arith, front_short s.front, ap length s.before, length-append (frames_text s.front) rest) in
     let fuel : n ≡ length s.front + suc m = omega arith in
     let rest_fits : IsBytes rest = IsBytes-behind (frames_text s.front) rest (subst IsBytes s.before fits) in
-    let here = frame_stands c h (after start s.front) rest right rest_fits s.here in
-    ap (λ (k : ℕ). walk k h start bytes) fuel
-    ∙ ap (walk (length s.front + suc m) h start) s.before
-    ∙ walk_front s.front (suc m) h start rest right s.right
+    let here = frame_stands c h (after start_place s.front) rest right rest_fits s.here in
+    ap (λ (k : ℕ). walk k h start_place bytes) fuel
+    ∙ ap (walk (length s.front + suc m) h start_place) s.before
+    ∙ walk_front s.front (suc m) h start_place rest right s.right
     ∙ ap (with_front s.front)
-    (walk_stop m c h (after start s.front) rest (goes_on c h (after start s.front) rest s.here) here)
+    (walk_stop m c h (after start_place s.front) rest (goes_on c h (after start_place s.front) rest s.here) here)
     ∙ front_err s.front c rest
 
 -- ---- one more frame
@@ -144,11 +146,11 @@ walk_fault c n h bytes rest right fits lt s =
 pub follow_more : (fs : List Frame) (h : Head) (p : Place) (f : Frame) → Follow h p fs → FitsAt h (after p fs) f
     → Follow h p (fs ++ f ∷ [])
 follow_more [] h p f follow fits = (fits, tt)
-follow_more (g ∷ fs) h p f follow fits = (follow.0, follow_more fs h (next p g) f follow.1 fits)
+follow_more (g ∷ fs) h p f follow fits = (follow.0, follow_more fs h (next_place p g) f follow.1 fits)
 
-pub after_more : (fs : List Frame) (p : Place) (f : Frame) → after p (fs ++ f ∷ []) ≡ next (after p fs) f
+pub after_more : (fs : List Frame) (p : Place) (f : Frame) → after p (fs ++ f ∷ []) ≡ next_place (after p fs) f
 after_more [] p f = refl
-after_more (g ∷ fs) p f = after_more fs (next p g) f
+after_more (g ∷ fs) p f = after_more fs (next_place p g) f
 
 pub text_more : (fs : List Frame) (f : Frame) → frames_text (fs ++ f ∷ []) ≡ frames_text fs ++ frame_text f
 text_more fs f = flat_map-append frame_text fs (f ∷ [])

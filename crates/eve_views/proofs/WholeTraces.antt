@@ -5,7 +5,7 @@ use Rattle.eve_grammar.specs.Trace.{Trace, Head, head_of}
 use Rattle.eve_grammar.specs.Frames.{Frame, frames_of}
 use Rattle.eve_grammar.specs.Spelling.{frames_text, head_text, length_of, spelling}
 use Rattle.eve_grammar.specs.Limits.{is_head, Spells}
-use Rattle.eve_grammar.specs.Following.{IsRun}
+use Rattle.eve_grammar.specs.Following.{AreAllFrames}
 use Rattle.eve_grammar.specs.Gathering.{trace_of}
 use Rattle.eve_grammar.proofs.Rests.{head_of-trace_of, frames_of-trace_of, limits_of-trace_of}
 use Rattle.eve_grammar.proofs.Runs.{run_of_trace}
@@ -29,7 +29,7 @@ length_of-frames t = refl
 -- the bytes are a head within the limits and frames that run to the end
 pub record SpellsFrames (bytes : List ℕ) (h : Head) (fs : List Frame) : Type 0 where
   pub limits : IsTrue (is_head h)
-  pub run : IsRun h fs
+  pub run : AreAllFrames h fs
   pub short : length bytes ≤ 2 ^ 30
   pub spelled : bytes ≡ head_text h (length bytes) ++ frames_text fs
 

@@ -4,60 +4,60 @@ use Rattle.eve_views.specs.declared.fault.Code.{Code}
 use Rattle.eve_views.specs.declared.fault.Code.TheVariants as code
 
 -- the word that is printed
-abbrev pub name_of : Code → List ℕ
-name_of code.Length = codes "Length"
-name_of code.Magic = codes "Magic"
-name_of code.Head = codes "Head"
-name_of code.Frame = codes "Frame"
-name_of code.Body = codes "Body"
-name_of code.SameName = codes "SameName"
-name_of code.SameRequest = codes "SameRequest"
-name_of code.Attempt = codes "Attempt"
-name_of code.Certificate = codes "Certificate"
-name_of code.Access = codes "Access"
-name_of code.WorkerOrder = codes "WorkerOrder"
-name_of code.Commit = codes "Commit"
-name_of code.Rollback = codes "Rollback"
-name_of code.Record = codes "Record"
-name_of code.Version = codes "Version"
-name_of code.Value = codes "Value"
-name_of code.Restore = codes "Restore"
-name_of code.Token = codes "Token"
-name_of code.TwoVotes = codes "TwoVotes"
-name_of code.TwoDecisions = codes "TwoDecisions"
-name_of code.NoMajority = codes "NoMajority"
-name_of code.RollbackNoMajority = codes "RollbackNoMajority"
-name_of code.Outcome = codes "Outcome"
-name_of code.Reply = codes "Reply"
+abbrev pub code_name : Code → List ℕ
+code_name code.Length = codes "Length"
+code_name code.Magic = codes "Magic"
+code_name code.Head = codes "Head"
+code_name code.Frame = codes "Frame"
+code_name code.Body = codes "Body"
+code_name code.SameName = codes "SameName"
+code_name code.SameRequest = codes "SameRequest"
+code_name code.Attempt = codes "Attempt"
+code_name code.Certificate = codes "Certificate"
+code_name code.Access = codes "Access"
+code_name code.WorkerOrder = codes "WorkerOrder"
+code_name code.Commit = codes "Commit"
+code_name code.Rollback = codes "Rollback"
+code_name code.Record = codes "Record"
+code_name code.Version = codes "Version"
+code_name code.Value = codes "Value"
+code_name code.Restore = codes "Restore"
+code_name code.Token = codes "Token"
+code_name code.TwoVotes = codes "TwoVotes"
+code_name code.TwoDecisions = codes "TwoDecisions"
+code_name code.NoMajority = codes "NoMajority"
+code_name code.RollbackNoMajority = codes "RollbackNoMajority"
+code_name code.Outcome = codes "Outcome"
+code_name code.Reply = codes "Reply"
 
 -- the number that is printed
-abbrev pub number_of : Code → ℕ
-number_of code.Length = 1
-number_of code.Magic = 2
-number_of code.Head = 3
-number_of code.Frame = 4
-number_of code.Body = 5
-number_of code.SameName = 10
-number_of code.SameRequest = 11
-number_of code.Attempt = 20
-number_of code.Certificate = 21
-number_of code.Access = 22
-number_of code.WorkerOrder = 23
-number_of code.Commit = 24
-number_of code.Rollback = 25
-number_of code.Record = 30
-number_of code.Version = 40
-number_of code.Value = 41
-number_of code.Restore = 50
-number_of code.Token = 60
-number_of code.TwoVotes = 70
-number_of code.TwoDecisions = 71
-number_of code.NoMajority = 72
-number_of code.RollbackNoMajority = 73
-number_of code.Outcome = 80
-number_of code.Reply = 90
+abbrev pub code_number : Code → ℕ
+code_number code.Length = 1
+code_number code.Magic = 2
+code_number code.Head = 3
+code_number code.Frame = 4
+code_number code.Body = 5
+code_number code.SameName = 10
+code_number code.SameRequest = 11
+code_number code.Attempt = 20
+code_number code.Certificate = 21
+code_number code.Access = 22
+code_number code.WorkerOrder = 23
+code_number code.Commit = 24
+code_number code.Rollback = 25
+code_number code.Record = 30
+code_number code.Version = 40
+code_number code.Value = 41
+code_number code.Restore = 50
+code_number code.Token = 60
+code_number code.TwoVotes = 70
+code_number code.TwoDecisions = 71
+code_number code.NoMajority = 72
+code_number code.RollbackNoMajority = 73
+code_number code.Outcome = 80
+code_number code.Reply = 90
 
 -- The phase in which it is judged. Each phase has ten numbers of its own, but for votes and majorities, which share the
 -- seventies: those of majorities begin at 72.
 abbrev pub phase_of : Code → ℕ
-phase_of c = number_of c / 10 + (if nat_lt (number_of c) 72 then 1 else 2)
+phase_of c = code_number c / 10 + (if nat_lt (code_number c) 72 then 1 else 2)

@@ -1,12 +1,12 @@
 -- The first of two faults. docs/MODEL.md, "Verdict".
 use Rattle.std.specs.Prelude.{nat_lt, ◌==◌, Bool, ◌&&◌, ◌||◌, if◌then◌else◌, Option, Some, None}
-use Rattle.eve_views.specs.Code.{number_of, phase_of}
+use Rattle.eve_views.specs.Code.{code_number, phase_of}
 use Rattle.eve_views.specs.declared.fault.Fault.{Fault}
 
 -- by offset, then number
 abbrev pub is_before_in_phase : Fault → Fault → Bool
 is_before_in_phase f g =
-    nat_lt f.offset g.offset || ((f.offset == g.offset) && nat_lt (number_of f.code) (number_of g.code))
+    nat_lt f.offset g.offset || ((f.offset == g.offset) && nat_lt (code_number f.code) (code_number g.code))
 
 -- by phase, then offset, then number
 abbrev pub is_before : Fault → Fault → Bool

@@ -4,11 +4,11 @@ use Rattle.std.specs.Prelude.{[], ◌∷◌, ◌++◌, length, take, drop, slice
 use Rattle.std.specs.List.{starts_with}
 use Rattle.byteorder.specs.Endian.{big_number}
 use Rattle.eve_grammar.specs.Trace.{Head}
-use Rattle.eve_grammar.specs.Frames.{Frame, Place, start, is_allowed}
+use Rattle.eve_grammar.specs.Frames.{Frame, Place, start_place, is_allowed}
 use Rattle.eve_grammar.specs.Spelling.{frame_text, frames_text, head_text}
 use Rattle.eve_grammar.specs.declared.limits.TheConstants.{MOST_BYTES}
 use Rattle.eve_grammar.specs.Limits.{is_head, FitsAt}
-use Rattle.eve_views.specs.Code.{number_of, phase_of}
+use Rattle.eve_views.specs.Code.{code_number, phase_of}
 use Rattle.eve_grammar.specs.Following.{Follow, after}
 use Rattle.eve_views.specs.declared.fault.Code.{Code}
 use Rattle.eve_views.specs.declared.fault.Code.TheVariants as code
@@ -44,14 +44,14 @@ pub record IsReached (bytes : List ℕ) (at : ℕ) : Type 0 where
   pub head : Head
   pub front : List Frame
   pub says : SaysHead bytes head
-  pub right : Follow head start front
+  pub right : Follow head start_place front
   pub at_is : at ≡ 32 + length (frames_text front)
   pub within : at ≤ length bytes
   pub before : take at bytes ≡ take 32 bytes ++ frames_text front
 
 -- how far the frames before have come
 abbrev pub place_at : {bytes : List ℕ} {at : ℕ} → IsReached bytes at → Place
-place_at r = after start r.front
+place_at r = after start_place r.front
 
 -- a frame of a kind that may stand there lies at the front of the bytes as a whole
 abbrev pub is_framed : Head → Place → List ℕ → Bool
@@ -96,7 +96,7 @@ pub record SomePlace {A : Type 0} (xs : List A) (P : List A → A → Type 0) : 
 
 -- by offset, then by number
 abbrev pub IsUpTo : Fault → Fault → Type 0
-IsUpTo f g = (f.offset < g.offset) ⊎ ((f.offset ≡ g.offset) × (number_of f.code ≤ number_of g.code))
+IsUpTo f g = (f.offset < g.offset) ⊎ ((f.offset ≡ g.offset) × (code_number f.code ≤ code_number g.code))
 
 -- by phase, then offset, then number
 abbrev pub Precedes : Fault → Fault → Type 0

@@ -15,7 +15,7 @@ abbrev pub trace_in : Head → List ℕ → Trace
 trace_in h bytes = trace_of h (frames_in h (drop 32 bytes))
 
 -- the bytes spell the trace, under this head, and the index is its index
-pub record IsHeld (bytes : List ℕ) (h : Head) (i : Index) (t : Trace) : Type 0 where
+pub record IsHeldTrace (bytes : List ℕ) (h : Head) (i : Index) (t : Trace) : Type 0 where
   pub spells : Spells bytes t
   pub head : head_of t ≡ h
   pub offsets : i.offsets.items ≡ offsets_of 32 (frames_of t)
@@ -27,4 +27,4 @@ trace_held x = trace_in (limits x.head) x.bytes.now
 
 -- its bytes, its head and its index are those of that trace
 abbrev pub IsTrace : Inside → Type 0
-IsTrace x = IsHeld x.bytes.now (limits x.head) x.index (trace_held x)
+IsTrace x = IsHeldTrace x.bytes.now (limits x.head) x.index (trace_held x)

@@ -6,7 +6,7 @@ use Rattle.eve_grammar.specs.Trace.{Head}
 use Rattle.eve_grammar.specs.Frames.{Frame, OfReplica, OfVerifier, kind_of}
 use Rattle.eve_grammar.specs.Kinds.{kind_byte}
 use Rattle.eve_grammar.specs.Spelling.{frame_text, frames_text}
-use Rattle.eve_grammar.specs.Following.{IsRun}
+use Rattle.eve_grammar.specs.Following.{AreAllFrames}
 use Rattle.eve_views.specs.Places.{accesses_in}
 use Rattle.eve_views.specs.declared.fault.Code.{Code}
 use Rattle.eve_views.specs.declared.starts.Starts.{Starts}
@@ -14,22 +14,22 @@ use Rattle.eve_views.specs.declared.walk.Framed.{Framed}
 use Rattle.eve_views.specs.declared.walk.Index.{Index}
 
 -- a frame at the front of bytes: its first byte, its length, and how many access frames have to follow
-pub record Kept : Type 0 where
+pub record KeptFrame : Type 0 where
   pub kind : ℕ
   pub len : ℕ
   pub accesses : ℕ
 
 -- what the code kept of it
-abbrev pub kept_in : Framed → Kept
+abbrev pub kept_in : Framed → KeptFrame
 kept_in f = record { kind = kind_byte f.kind; len = f.len; accesses = f.accesses }
 
 -- the same, or what is wrong
-abbrev pub answer_in : Result Framed Code → Result Kept Code
+abbrev pub answer_in : Result Framed Code → Result KeptFrame Code
 answer_in (Ok f) = Ok (kept_in f)
 answer_in (Err c) = Err c
 
 -- what is kept of a frame that was taken from the front of these bytes
-abbrev pub kept : List ℕ → Result (Frame × List ℕ) Code → Result Kept Code
+abbrev pub kept : List ℕ → Result (Frame × List ℕ) Code → Result KeptFrame Code
 kept bytes (Ok x) =
     Ok (record { kind = slice_index bytes 0; len = 5 + big_number 4 (drop 1 bytes); accesses = accesses_in x.0 })
 kept bytes (Err c) = Err c
@@ -44,20 +44,20 @@ abbrev pub is_last : Frame → Bool
 is_last f = (kind_of f == 48) || (kind_of f == 127)
 
 -- how many frames stand before the first reply sent, or the end
-abbrev pub sent_from : List Frame → ℕ
-sent_from [] = 0
-sent_from (f ∷ fs) = if is_last f then 0 else (sent_from fs + 1)
+abbrev pub frames_before_sent : List Frame → ℕ
+frames_before_sent [] = 0
+frames_before_sent (f ∷ fs) = if is_last f then 0 else (frames_before_sent fs + 1)
 
 -- the frames that begin parts
 pub record AreStarts (h : Head) (fs : List Frame) (s : Starts) : Type 0 where
   pub sections : (e : ℕ) → e < h.replicas → slice_get fs (slice_index s.sections e) ≡ Some (OfReplica e)
   pub verifiers : (v : ℕ) → v < h.verifiers → slice_get fs (slice_index s.verifiers v) ≡ Some (OfVerifier v)
-  pub sent : s.sent ≡ sent_from fs
+  pub sent : s.sent ≡ frames_before_sent fs
 
 -- these are the frames after the header, up to the end
 pub record IsIndex (h : Head) (bytes : List ℕ) (i : Index) : Type 0 where
   pub frames : List Frame
-  pub run : IsRun h frames
+  pub run : AreAllFrames h frames
   pub text : drop 32 bytes ≡ frames_text frames
   pub offsets : i.offsets.items ≡ offsets_of 32 frames
   pub starts : AreStarts h frames i.starts

@@ -11,3 +11,4 @@ pub mod Fronts
 pub mod Parts
 pub mod StepKinds
 pub mod Lent
+pub mod Order

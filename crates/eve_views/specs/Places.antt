@@ -22,8 +22,8 @@ accesses_in (OfAttempt a) = length a.certificate
 accesses_in _ = 0
 
 -- the place after a frame of that kind, which so many access frames have to follow
-abbrev pub moved : Place → ℕ → ℕ → Place
-moved p kind accesses =
+abbrev pub place_after : Place → ℕ → ℕ → Place
+place_after p kind accesses =
     if kind == 1 then record p { customers = p.customers + 1 }
     else if kind == 2 then record p { batches = p.batches + 1 }
     else if kind == 16 then record p { replicas = p.replicas + 1 }

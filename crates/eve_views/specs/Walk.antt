@@ -4,7 +4,7 @@ use Rattle.std.specs.Prelude.{ℕ, zero, suc, ◌==◌, ◌&&◌, if◌then◌el
 use Rattle.std.specs.Prelude.{Option, Some, None, Result, Ok, Err}
 use Rattle.byteorder.specs.Endian.{big_number}
 use Rattle.eve_grammar.specs.Trace.{Head}
-use Rattle.eve_grammar.specs.Frames.{Frame, Place, start, next}
+use Rattle.eve_grammar.specs.Frames.{Frame, Place, start_place, next_place}
 use Rattle.eve_grammar.specs.Reading.{body_of}
 use Rattle.eve_views.specs.Form.{is_framed}
 use Rattle.eve_views.specs.declared.fault.Code.{Code}
@@ -30,21 +30,21 @@ abbrev pub Walked : Type 0
 Walked = Result (List Frame) (Code × List ℕ)
 
 -- a frame before what was found
-abbrev pub behind : Frame → Walked → Walked
-behind f (Ok fs) = Ok (f ∷ fs)
-behind f (Err e) = Err e
+abbrev pub with_frame : Frame → Walked → Walked
+with_frame f (Ok fs) = Ok (f ∷ fs)
+with_frame f (Err e) = Err e
 
 -- goes on after a frame, and stops at what is wrong
-abbrev pub step : List ℕ → Result (Frame × List ℕ) Code → (Frame → List ℕ → Walked) → Walked
-step bytes (Ok x) go = behind x.0 (go x.0 x.1)
-step bytes (Err c) go = Err (c, bytes)
+abbrev pub walk_on : List ℕ → Result (Frame × List ℕ) Code → (Frame → List ℕ → Walked) → Walked
+walk_on bytes (Ok x) go = with_frame x.0 (go x.0 x.1)
+walk_on bytes (Err c) go = Err (c, bytes)
 
 -- at most that many frames
 unfoldable pub walk : ℕ → Head → Place → List ℕ → Walked
 walk zero h p bytes = Err (code.Frame, bytes)
 walk (suc n) h p bytes =
     if p.ended && (length bytes == 0) then Ok []
-    else step bytes (frame_at h p bytes) (λ f rest. walk n h (next p f) rest)
+    else walk_on bytes (frame_at h p bytes) (λ f rest. walk n h (next_place p f) rest)
 
 -- the frames that were found, none where something is wrong
 abbrev found_in : Walked → List Frame
@@ -53,4 +53,4 @@ found_in (Err e) = []
 
 -- the frames of which the bytes are made, if they are made of frames
 unfoldable pub frames_in : Head → List ℕ → List Frame
-frames_in h bytes = found_in (walk (suc (length bytes)) h start bytes)
+frames_in h bytes = found_in (walk (suc (length bytes)) h start_place bytes)

@@ -1,7 +1,7 @@
 //! What is wrong with a trace, and where.
 
 ghost use Rattle.std.specs.Prelude.{◌≡◌};
-ghost use Rattle.eve_views.specs.Code.{number_of, phase_of, name_of};
+ghost use Rattle.eve_views.specs.Code.{code_number, phase_of, code_name};
 ghost use Rattle.eve_views.specs.declared.fault.CheckFault.TheVariants.{Memory};
 
 use std::alloc::{AllocError, AllocFailed};
@@ -64,7 +64,7 @@ pub enum Code {
 impl Code {
     /// The word that is printed for it.
     pub fn name(self) -> &'static str
-        ensures { result.now ≡ name_of self }
+        ensures { result.now ≡ code_name self }
     {
         match self {
             Code::Length => "Length",
@@ -96,7 +96,7 @@ impl Code {
 
     /// The number that is printed for it after an F.
     pub fn number(self) -> u8
-        ensures { result ≡ number_of self }
+        ensures { result ≡ code_number self }
     {
         match self {
             Code::Length => 1,

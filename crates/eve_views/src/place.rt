@@ -3,8 +3,8 @@
 ghost use Rattle.std.specs.Prelude.{◌≡◌, IsTrue};
 ghost use Rattle.eve_grammar.specs.Bodies.{limits};
 ghost use Rattle.eve_grammar.specs.Kinds.{kind_byte};
-ghost use Rattle.eve_grammar.specs.Frames.{start, is_allowed, is_allowed_in_sections, is_allowed_behind_sections};
-ghost use Rattle.eve_views.specs.Places.{place, moved};
+ghost use Rattle.eve_grammar.specs.Frames.{start_place, is_allowed, is_allowed_in_sections, is_allowed_behind_sections};
+ghost use Rattle.eve_views.specs.Places.{place, place_after};
 
 use eve_grammar::{FrameKind, Head};
 
@@ -33,7 +33,7 @@ impl Place {
     /// Before the first frame.
     pub fn start(head: Head) -> Place
         ensures head { result.head ≡ head }
-        ensures place { place result ≡ start }
+        ensures place { place result ≡ start_place }
     {
         Place {
             head,
@@ -96,7 +96,7 @@ impl Place {
     pub fn pass(&mut self, kind: FrameKind, accesses: usize)
         requires { IsTrue (is_allowed (limits self.old.head) (place self.old) (kind_byte kind)) }
         ensures head { self.new.head ≡ self.old.head }
-        ensures place { place self.new ≡ moved (place self.old) (kind_byte kind) accesses }
+        ensures place { place self.new ≡ place_after (place self.old) (kind_byte kind) accesses }
     {
         match kind {
             FrameKind::Customer => self.customers += 1,

@@ -20,7 +20,8 @@ use Rattle.eve_votes.specs.Faults.{HasTwoDecisions, StandsInVotes}
 use Rattle.eve_votes.specs.Least.{lower, IsBelow, IsBelowAll, Lowers}
 use Rattle.eve_votes.specs.Ballots.{IsStart, Continues, IsAmong, HasCast}
 use Rattle.eve_votes.specs.declared.ballots.Ballot.{Ballot}
-use Rattle.eve_votes.specs.Decisions.{said, decision_in, IsKnown, Judging, IsUnnoted, Notes, IsBatchAt, IsClash}
+use Rattle.eve_votes.specs.Decisions.{decision_said, decision_on, IsKnown, Judging, IsUnnoted, Notes, IsBatchAt}
+use Rattle.eve_votes.specs.Decisions.{IsClash}
 use Rattle.eve_votes.specs.Decisions.{IsFound, Agrees, AreDecisions}
 use Rattle.eve_votes.specs.declared.decisions.Decision.{Decision}
 use Rattle.eve_votes.proofs.Places.{place_at, get_place, located_get, numbered}
@@ -93,32 +94,32 @@ decisions_stand t n offset b low got two =
 abbrev Table : Type 0
 Table = List (Option Decision)
 
-pub decision_at : (ds : Table) (n : ℕ) (x : Option Decision) → n < length ds → x ≡ get_or ds n x → decision_in ds n
-    ≡ option_map said x
-unfolding decision_in
-decision_at ds n x there read = ap (option_map said) (sym (get_or_read ds n x there read None))
+pub decision_at : (ds : Table) (n : ℕ) (x : Option Decision) → n < length ds → x ≡ get_or ds n x → decision_on ds n
+    ≡ option_map decision_said x
+unfolding decision_on
+decision_at ds n x there read = ap (option_map decision_said) (sym (get_or_read ds n x there read None))
 
-pub decision_set_here : (ds : Table) (n : ℕ) (d : Decision) → n < length ds → decision_in (set ds n (Some d)) n
-    ≡ Some (said d)
-unfolding decision_in
-decision_set_here ds n d there = ap (option_map said) (get_or-set_same ds n (Some d) None there)
+pub decision_set_here : (ds : Table) (n : ℕ) (d : Decision) → n < length ds → decision_on (set ds n (Some d)) n
+    ≡ Some (decision_said d)
+unfolding decision_on
+decision_set_here ds n d there = ap (option_map decision_said) (get_or-set_same ds n (Some d) None there)
 
-pub decision_set_other : (ds : Table) (n m : ℕ) (d : Decision) → m ≢ n → decision_in (set ds n (Some d)) m
-    ≡ decision_in ds m
-unfolding decision_in
-decision_set_other ds n m d apart = ap (option_map said) (get_or-set_other ds n m (Some d) None apart)
+pub decision_set_other : (ds : Table) (n m : ℕ) (d : Decision) → m ≢ n → decision_on (set ds n (Some d)) m
+    ≡ decision_on ds m
+unfolding decision_on
+decision_set_other ds n m d apart = ap (option_map decision_said) (get_or-set_other ds n m (Some d) None apart)
 
 -- ---- a decision that is noted
 
 -- one is known
 pub known_at : (ds : Table) (n : ℕ) (x : Option Decision) → n < length ds → x ≡ get_or ds n x → is_some x ≡ true
-    → (known : ℕ × List ℕ) × (decision_in ds n ≡ Some known)
+    → (known : ℕ × List ℕ) × (decision_on ds n ≡ Some known)
 known_at ds n None there read some = absurd (false≢true some)
-known_at ds n (Some known) there read some = (said known, decision_at ds n (Some known) there read)
+known_at ds n (Some known) there read some = (decision_said known, decision_at ds n (Some known) there read)
 
 -- it is of another view
 pub clash_judging : (t : Trace) (ds : Table) (least : Option ℕ) (n view offset : ℕ) (token : List ℕ) (b : ℕ × Batch)
-    (known : ℕ × List ℕ) → decision_in ds n ≡ Some known → IsUnnoted ds n view → IsDecided t n view token → 1 ≤ n
+    (known : ℕ × List ℕ) → decision_on ds n ≡ Some known → IsUnnoted ds n view → IsDecided t n view token → 1 ≤ n
     → slice_get (batches_at t) (n - 1) ≡ Some (offset, b) → Judging t ds least → Judging t ds (lower least offset)
 clash_judging t ds least n view offset token b known is unnoted decided low got judging =
     let earlier : IsKnown t n known = subst (λ (o : Option (ℕ × List ℕ)). IfSome o (IsKnown t n)) is (judging.known n)
@@ -140,7 +141,7 @@ clash_judging t ds least n view offset token b known is unnoted decided low got 
     }
 
 pub found_clash : (t : Trace) (ds : Table) (least : Option ℕ) (n view offset : ℕ) (b : ℕ × Batch) (known : ℕ × List ℕ)
-    → decision_in ds n ≡ Some known → 1 ≤ n → slice_get (batches_at t) (n - 1) ≡ Some (offset, b)
+    → decision_on ds n ≡ Some known → 1 ≤ n → slice_get (batches_at t) (n - 1) ≡ Some (offset, b)
     → IsFound t ds (lower least offset) n view
 found_clash t ds least n view offset b known is low got =
     let clash : IsClash t n (lower least offset) = record {
@@ -163,11 +164,11 @@ first_judging t ds least n d there decided size judging = record {
   stands = judging.stands;
 }
   where
-    here : IsKnown t n (said d)
+    here : IsKnown t n (decision_said d)
     here = record { decided = decided; token = size }
 
-    at_number : (m : ℕ) → (m ≡ n) ⊎ (m ≡ n → ⊥) → IfSome (decision_in (set ds n (Some d)) m) (IsKnown t m)
-    at_number m (inl e) = subst (λ (k : ℕ). IfSome (decision_in (set ds n (Some d)) k) (IsKnown t k)) (sym e)
+    at_number : (m : ℕ) → (m ≡ n) ⊎ (m ≡ n → ⊥) → IfSome (decision_on (set ds n (Some d)) m) (IsKnown t m)
+    at_number m (inl e) = subst (λ (k : ℕ). IfSome (decision_on (set ds n (Some d)) k) (IsKnown t k)) (sym e)
         (subst (λ (o : Option (ℕ × List ℕ)). IfSome o (IsKnown t n)) (sym (decision_set_here ds n d there)) here)
     at_number m (inr apart) = subst (λ (o : Option (ℕ × List ℕ)). IfSome o (IsKnown t m))
         (sym (decision_set_other ds n m d apart)) (judging.known m)
@@ -179,32 +180,36 @@ first_noted ds n d x there read none = record {
   adds = λ m y is. added m y is (cases_eq m n);
 }
   where
-    nothing : (o : Option Decision) → is_some o ≡ false → option_map said o ≡ None
+    nothing : (o : Option Decision) → is_some o ≡ false → option_map decision_said o ≡ None
     nothing None e = refl
     nothing (Some z) e = absurd cc
 
-    kept : (m : ℕ) (y : ℕ × List ℕ) → decision_in ds m ≡ Some y → (m ≡ n) ⊎ (m ≡ n → ⊥)
-        → decision_in (set ds n (Some d)) m ≡ Some y
+    kept : (m : ℕ) (y : ℕ × List ℕ) → decision_on ds m ≡ Some y → (m ≡ n) ⊎ (m ≡ n → ⊥)
+        → decision_on (set ds n (Some d)) m ≡ Some y
     kept m y is (inl e) =
-        let none_there : decision_in ds m ≡ None = ap (decision_in ds) e ∙ decision_at ds n x there read
+        let none_there : decision_on ds m ≡ None = ap (decision_on ds) e ∙ decision_at ds n x there read
         ∙ nothing x none in
         absurd (let clash = sym is ∙ none_there in cc)
     kept m y is (inr apart) = decision_set_other ds n m d apart ∙ is
 
-    added : (m : ℕ) (y : ℕ × List ℕ) → decision_in (set ds n (Some d)) m ≡ Some y → (m ≡ n) ⊎ (m ≡ n → ⊥)
-        → (decision_in ds m ≡ Some y) ⊎ ((m ≡ n) × (y.0 ≡ d.view))
+    added : (m : ℕ) (y : ℕ × List ℕ) → decision_on (set ds n (Some d)) m ≡ Some y → (m ≡ n) ⊎ (m ≡ n → ⊥)
+        → (decision_on ds m ≡ Some y) ⊎ ((m ≡ n) × (y.0 ≡ d.view))
     added m y is (inl e) =
-        let noted = ap (decision_in (set ds n (Some d))) e ∙ decision_set_here ds n d there in
-        let here : Some (said d) ≡ Some y = sym noted ∙ is in
+        let noted = ap (decision_on (set ds n (Some d))) e ∙ decision_set_here ds n d there in
+        let here : Some (decision_said d) ≡ Some y = sym noted ∙ is in
         inr (e, view_of here)
       where
-        view_of : Some (said d) ≡ Some y → y.0 ≡ d.view
-        view_of same = (let equal : y ≡ said d = cc in ap (λ (z : ℕ × List ℕ). z.0) equal)
+        view_of : Some (decision_said d) ≡ Some y → y.0 ≡ d.view
+        view_of same = (let equal : y ≡ decision_said d = cc in ap (λ (z : ℕ × List ℕ). z.0) equal)
     added m y is (inr apart) = inl (sym (decision_set_other ds n m d apart) ∙ is)
 
 pub found_first : (t : Trace) (ds : Table) (least : Option ℕ) (n : ℕ) (d : Decision) → n < length ds
     → IsFound t (set ds n (Some d)) least n d.view
-found_first t ds least n d there = record { found = said d; is = decision_set_here ds n d there; same = inl refl }
+found_first t ds least n d there = record {
+  found = decision_said d;
+  is = decision_set_here ds n d there;
+  same = inl refl;
+}
 
 -- ---- further on
 
@@ -233,7 +238,7 @@ pub record IsVotedOnBefore (xs : List Ballot) (i n u : ℕ) : Type 0 where
 -- the votes before this place agree, and what was found was found at them
 pub record AreJudged (t : Trace) (xs : List Ballot) (i : ℕ) (ds : Table) (least : Option ℕ) : Type 0 where
   pub agree : (j : ℕ) (b : Ballot) → j < i → slice_get xs j ≡ Some b → Agrees t ds least b.seq b.view
-  pub found : (n : ℕ) (d : ℕ × List ℕ) → decision_in ds n ≡ Some d → IsVotedOnBefore xs i n d.0
+  pub found : (n : ℕ) (d : ℕ × List ℕ) → decision_on ds n ≡ Some d → IsVotedOnBefore xs i n d.0
 
 -- those of a batch in a view begin at this place, so nothing was found of it before
 pub unnoted_there : (t : Trace) (xs : List Ballot) (i n view : ℕ) (ds : Table) (least : Option ℕ)
@@ -309,13 +314,13 @@ judged_further t xs i ds least h before = record {
         (before.agree (i - 1) h.former (omega arith) h.former_is)))
 
 -- nothing is known at first
-pub none_known : (ds : Table) → All (λ d. d ≡ None) ds → (n : ℕ) → decision_in ds n ≡ None
-unfolding decision_in
+pub none_known : (ds : Table) → All (λ d. d ≡ None) ds → (n : ℕ) → decision_on ds n ≡ None
+unfolding decision_on
 none_known ds none n = by_order (cases_lt n (length ds))
   where
-    by_order : (n < length ds) ⊎ (length ds ≤ n) → option_map said (get_or ds n None) ≡ None
-    by_order (inl there) = ap (option_map said) (none n None there)
-    by_order (inr past) = ap (option_map said) (get_or_past ds n None past)
+    by_order : (n < length ds) ⊎ (length ds ≤ n) → option_map decision_said (get_or ds n None) ≡ None
+    by_order (inl there) = ap (option_map decision_said) (none n None there)
+    by_order (inr past) = ap (option_map decision_said) (get_or_past ds n None past)
 
 pub start_judged : (t : Trace) (xs : List Ballot) (ds : Table) → All (λ d. d ≡ None) ds → AreJudged t xs 0 ds None
 start_judged t xs ds none = record {

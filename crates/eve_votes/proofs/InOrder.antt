@@ -8,7 +8,9 @@ use Rattle.std.specs.List.Sorted.{IsPartitionedBy}
 use Rattle.std.proofs.lemmas.Bool.{ltb-true, ltb-false, eqb-true, eqb-false, eq-eqb, lt-ltb, and_parts, and_from}
 use Rattle.std.proofs.lemmas.Bool.{false≢true, cases_lt}
 use Rattle.std.proofs.lemmas.Option.{slice_get-get_or, slice_get_within, get_or_from_slice_get}
-use Rattle.eve_votes.specs.Ballots.{is_alike, is_fellow, is_at, is_lower, IsBefore, IsNotAfter, AreInOrder, IsStart}
+use Rattle.eve_views.specs.Order.{AreInOrder}
+use Rattle.eve_votes.specs.Ballots.{is_alike, is_fellow, is_at, is_lower, IsBefore, IsNoLaterBallot}
+use Rattle.eve_votes.specs.Ballots.{IsStart}
 use Rattle.eve_votes.specs.Ballots.{Adjoin, Continues}
 use Rattle.eve_votes.specs.declared.ballots.Ballot.{Ballot}
 use Rattle.eve_views.proofs.Lists.{all_after}
@@ -55,11 +57,11 @@ lower_before n view b h = by (ltb b.seq n) (b.seq == n) (ltb b.view view) refl r
     by false true false e f g h = absurd (false≢true h)
     by false false z e f g h = absurd (false≢true h)
 
-pub not_lower_behind : (n view : ℕ) (b : Ballot) → is_lower n view b ≡ false → IsNotAfter (at n view 0) b
+pub not_lower_behind : (n view : ℕ) (b : Ballot) → is_lower n view b ≡ false → IsNoLaterBallot (at n view 0) b
 not_lower_behind n view b h = by (ltb b.seq n) (b.seq == n) (ltb b.view view) refl refl refl h
   where
     by : (x y z : Bool) → ltb b.seq n ≡ x → (b.seq == n) ≡ y → ltb b.view view ≡ z → (x || (y && z)) ≡ false →
-        IsNotAfter (at n view 0) b
+        IsNoLaterBallot (at n view 0) b
     by true y z e f g h = absurd (false≢true (sym h))
     by false true true e f g h = absurd (false≢true (sym h))
     by false true false e f g h =
@@ -77,7 +79,7 @@ not_lower_behind n view b h = by (ltb b.seq n) (b.seq == n) (ltb b.view view) re
         }
 
 -- one can't come between what comes before it and what doesn't come after it
-no_round : (a b x : Ballot) → IsNotAfter x a → IsBefore a b → IsBefore b x → ⊥
+no_round : (a b x : Ballot) → IsNoLaterBallot x a → IsBefore a b → IsBefore b x → ⊥
 no_round a b x xa ab bx =
     let s = xa.seq in
     let u = ab.seq in
@@ -204,7 +206,8 @@ begins xs i b order got none = record {
   behind = λ j c ge at_j. by j c at_j (cases_lt i j) ge;
 }
   where
-    by : (j : ℕ) (c : Ballot) → slice_get xs j ≡ Some c → (i < j) ⊎ (j ≤ i) → i ≤ j → IsNotAfter (at b.seq b.view 0) c
+    by : (j : ℕ) (c : Ballot) → slice_get xs j ≡ Some c → (i < j) ⊎ (j ≤ i) → i ≤ j
+        → IsNoLaterBallot (at b.seq b.view 0) c
     by j c at_j (inl less) ge =
         let h = order i j b c less got at_j in
         record { seq = h.seq; view = h.view; verifier = λ le more. omega arith; place = λ le more most. omega arith }
@@ -212,7 +215,7 @@ begins xs i b order got none = record {
         let same : j ≡ i = omega arith in
         let is : Some c ≡ Some b = sym at_j ∙ ap (slice_get xs) same ∙ got in
         let equal : b ≡ c = cc in
-        subst (IsNotAfter (at b.seq b.view 0)) equal (record {
+        subst (IsNoLaterBallot (at b.seq b.view 0)) equal (record {
           seq = omega arith;
           view = λ le. omega arith;
           verifier = λ le more. omega arith;
@@ -367,7 +370,7 @@ not_less a b = is_lt (ordering_then (nat_cmp b.seq a.seq)
     (ordering_then (nat_cmp b.view a.view) (ordering_then (nat_cmp b.verifier a.verifier) (nat_cmp b.place a.place))))
 
 -- each and the next, in the sort's order
-pub not_after : (a b : Ballot) → not_less a b ≡ false → IsNotAfter a b
+pub not_after : (a b : Ballot) → not_less a b ≡ false → IsNoLaterBallot a b
 not_after a b h = by (ltb b.seq a.seq) (b.seq == a.seq) (ltb b.view a.view) (b.view == a.view)
     (ltb b.verifier a.verifier) (b.verifier == a.verifier) (ltb b.place a.place) (b.place == a.place)
     refl refl refl refl refl refl refl h
@@ -377,7 +380,7 @@ not_after a b h = by (ltb b.seq a.seq) (b.seq == a.seq) (ltb b.view a.view) (b.v
         → ltb b.verifier a.verifier ≡ u → (b.verifier == a.verifier) ≡ w → ltb b.place a.place ≡ x
         → is_lt (ordering_then (cond p Less (cond q Equal Greater)) (ordering_then (cond r Less (cond s Equal Greater))
         (ordering_then (cond u Less (cond w Equal Greater)) (cond x Less (cond y Equal Greater))))) ≡ false →
-        IsNotAfter a b
+        IsNoLaterBallot a b
     by true q r s u w x y e1 e2 e3 e4 e5 e6 e7 h = absurd (false≢true (sym h))
     by false true true s u w x y e1 e2 e3 e4 e5 e6 e7 h = absurd (false≢true (sym h))
     by false true false true true w x y e1 e2 e3 e4 e5 e6 e7 h = absurd (false≢true (sym h))
@@ -416,7 +419,7 @@ not_after a b h = by (ltb b.seq a.seq) (b.seq == a.seq) (ltb b.view a.view) (b.v
           place = λ le more most. absurd (other (omega arith));
         }
 
-not_after_trans : (a b c : Ballot) → IsNotAfter a b → IsNotAfter b c → IsNotAfter a c
+not_after_trans : (a b c : Ballot) → IsNoLaterBallot a b → IsNoLaterBallot b c → IsNoLaterBallot a c
 not_after_trans a b c ab bc = record {
   seq = omega (arith, ab.seq, bc.seq);
   view = λ le. (let s = ab.seq in let u = bc.seq in let x = ab.view (omega arith) in let y = bc.view (omega arith) in
@@ -442,6 +445,6 @@ not_after_trans a b c ab bc = record {
 }
 
 pub in_order : (xs : List Ballot) → ((k : ℕ) (d : Ballot) → k + 1 < length xs →
-    not_less (get_or xs k d) (get_or xs (k + 1) d) ≡ false) → AreInOrder IsNotAfter xs
-in_order xs sorted = all_after IsNotAfter not_after_trans xs
+    not_less (get_or xs k d) (get_or xs (k + 1) d) ≡ false) → AreInOrder IsNoLaterBallot xs
+in_order xs sorted = all_after IsNoLaterBallot not_after_trans xs
     (λ k d lt. not_after (get_or xs k d) (get_or xs (k + 1) d) (sorted k d lt))

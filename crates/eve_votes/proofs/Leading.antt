@@ -7,7 +7,7 @@ use Rattle.std.proofs.lemmas.List.{take_all}
 use Rattle.eve_grammar.specs.Trace.{ForCommit, Vote, Trace}
 use Rattle.eve_grammar.specs.Spelling.{votes_of}
 use Rattle.eve_votes.specs.Votes.{same_choice, backers}
-use Rattle.eve_votes.specs.Majority.{Leads, IsOneMore}
+use Rattle.eve_votes.specs.Majority.{HasLead, IsOneMore}
 use Rattle.eve_votes.specs.declared.majority.Lead.{Lead}
 use Rattle.eve_votes.proofs.Backing.{backs, one_more, none_more}
 
@@ -15,13 +15,13 @@ use Rattle.eve_votes.proofs.Backing.{backs, one_more, none_more}
 abbrev pub votes_before : Trace → ℕ → ℕ → ℕ → List ℕ → ℕ
 votes_before t n view v token = count_by (backs n view (ForCommit token)) (take v t.verifiers)
 
-pub start_leads : (t : Trace) (n view : ℕ) (lead : Lead) → lead.by ≡ 0 → Leads (votes_before t n view 0) 0 lead
+pub start_leads : (t : Trace) (n view : ℕ) (lead : Lead) → lead.by ≡ 0 → HasLead (votes_before t n view 0) 0 lead
 start_leads t n view lead none = record { low = omega arith; this = omega arith; others = λ token apart. omega arith }
 
 -- the next verifier votes for no token
 pub still_leads : (t : Trace) (n view v : ℕ) (lead : Lead) → v < length t.verifiers
     → ((token : List ℕ) → backs n view (ForCommit token) (votes_of t v) ≡ false)
-    → Leads (votes_before t n view v) v lead → Leads (votes_before t n view (v + 1)) (v + 1) lead
+    → HasLead (votes_before t n view v) v lead → HasLead (votes_before t n view (v + 1)) (v + 1) lead
 still_leads t n view v lead there none leads = record {
   low = omega (arith, leads.low);
   this = omega (
@@ -62,15 +62,15 @@ one_more_for t n view v token there is = record {
 
 -- all have voted
 pub all_lead : (t : Trace) (n view v : ℕ) (lead : Lead) → length t.verifiers ≡ v
-    → Leads (votes_before t n view v) v lead
-    → Leads (λ token. backers t n view (ForCommit token)) (length t.verifiers) lead
+    → HasLead (votes_before t n view v) v lead
+    → HasLead (λ token. backers t n view (ForCommit token)) (length t.verifiers) lead
 all_lead t n view v lead many leads =
-    subst (λ (voters : List (List Vote)). Leads (λ token. count_by (backs n view (ForCommit token)) voters)
+    subst (λ (voters : List (List Vote)). HasLead (λ token. count_by (backs n view (ForCommit token)) voters)
     (length t.verifiers) lead) (take_all v t.verifiers (omega arith))
-    (subst (λ (k : ℕ). Leads (votes_before t n view v) k lead) (sym many) leads)
+    (subst (λ (k : ℕ). HasLead (votes_before t n view v) k lead) (sym many) leads)
 
 -- what has a quorum leads
-pub quorum_leads : (votes : List ℕ → ℕ) (voters quorum : ℕ) (lead : Lead) → Leads votes voters lead
+pub quorum_leads : (votes : List ℕ → ℕ) (voters quorum : ℕ) (lead : Lead) → HasLead votes voters lead
     → voters < 2 * quorum → (token : List ℕ) → quorum ≤ votes token → (token ≡ lead.token.now) × (1 ≤ lead.by)
 quorum_leads votes voters quorum lead leads most token many = by (pointwise ◌==◌ token lead.token.now) refl
   where

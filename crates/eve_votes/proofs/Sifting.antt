@@ -13,7 +13,9 @@ use Rattle.eve_views.specs.declared.fault.Code.TheVariants as code
 use Rattle.eve_votes.specs.Votes.{is_vote_on}
 use Rattle.eve_votes.specs.Faults.{IsFurther, IsFurtherAt, StandsInVotes}
 use Rattle.eve_votes.specs.Least.{lower, IsBelow, IsLowest}
-use Rattle.eve_votes.specs.Ballots.{ballot, is_alike, IsBefore, IsNotAfter, AreInOrder, Follows, IsVoteOf, HasVotes}
+use Rattle.eve_views.specs.Order.{AreInOrder}
+use Rattle.eve_votes.specs.Ballots.{ballot, is_alike, IsBefore, IsNoLaterBallot, FollowsAlike, IsVoteOf}
+use Rattle.eve_votes.specs.Ballots.{HasVotes}
 use Rattle.eve_votes.specs.Ballots.{IsOnly, HasCast}
 use Rattle.eve_votes.specs.declared.ballots.Ballot.{Ballot}
 use Rattle.eve_votes.proofs.Places.{place_at, get_place}
@@ -145,7 +147,7 @@ voted n view w is = (let parts = and_parts (w.seq == n) (w.view == view) is in (
 ))
 
 -- what lies between is alike too
-between_first : (a c b : Ballot) → IsNotAfter a c → IsNotAfter c b → Alike a b → Alike a c
+between_first : (a c b : Ballot) → IsNoLaterBallot a c → IsNoLaterBallot c b → Alike a b → Alike a c
 between_first a c b ac cb h =
     let e = h.seq in
     let f = h.view in
@@ -158,12 +160,12 @@ between_first a c b ac cb h =
     let q = cb.verifier (omega arith) (omega arith) in
     record { seq = omega arith; view = omega arith; verifier = omega arith }
 
-between_last : (a c b : Ballot) → IsNotAfter a c → IsNotAfter c b → Alike a b → Alike c b
+between_last : (a c b : Ballot) → IsNoLaterBallot a c → IsNoLaterBallot c b → Alike a b → Alike c b
 between_last a c b ac cb h =
     let one = between_first a c b ac cb h in
     record { seq = sym one.seq ∙ h.seq; view = sym one.view ∙ h.view; verifier = sym one.verifier ∙ h.verifier }
 
-strict : (a b : Ballot) → IsNotAfter a b → (Alike a b → ⊥) → IsBefore a b
+strict : (a b : Ballot) → IsNoLaterBallot a b → (Alike a b → ⊥) → IsBefore a b
 strict a b h apart = record {
   seq = h.seq;
   view = h.view;
@@ -181,24 +183,25 @@ strict a b h apart = record {
 -- up to this place those that are only ones were taken, and a fault stands at the least offset of the others
 pub record Sifted (t : Trace) (xs : List Ballot) (i : ℕ) (only : List Ballot) (least : Option ℕ) : Type 0 where
   pub stands : IfSome least (StandsInVotes code.TwoVotes t)
-  pub below : (k : ℕ) (b : Ballot) (o : ℕ) (w : Vote) → k < i → Follows xs k → slice_get xs k ≡ Some b →
+  pub below : (k : ℕ) (b : Ballot) (o : ℕ) (w : Vote) → k < i → FollowsAlike xs k → slice_get xs k ≡ Some b →
       slice_get (votes_at t b.verifier) b.place ≡ Some (o, w) → IsBelow least o
   pub each : (j : ℕ) (b : Ballot) → slice_get only j ≡ Some b → IsOnly t b
   pub behind : (j : ℕ) (a : Ballot) (k : ℕ) (b : Ballot) → slice_get only j ≡ Some a → i ≤ k →
       slice_get xs k ≡ Some b → IsBefore a b
   pub order : AreInOrder IsBefore only
-  pub all : (k : ℕ) (b : Ballot) → k < i → slice_get xs k ≡ Some b → (Follows xs k → ⊥) → (Follows xs (k + 1) → ⊥) →
+  pub all : (k : ℕ) (b : Ballot) → k < i → slice_get xs k ≡ Some b → (FollowsAlike xs k → ⊥)
+      → (FollowsAlike xs (k + 1) → ⊥) →
       (j : ℕ) × (slice_get only j ≡ Some b)
 
 module _ (t : Trace) (xs : List Ballot) (votes : HasVotes t xs) where
   -- where two are alike, the later follows, and the one after the first
   later_follows : (i j : ℕ) (a b : Ballot) → i < j → slice_get xs i ≡ Some a → slice_get xs j ≡ Some b → Alike a b →
-      Follows xs j
+      FollowsAlike xs j
   later_follows i j a b less e f h = adjoin_later is_alike votes.order i j a b less e f
       (λ c ac cb. is_alike_from c b (between_last a c b ac cb h)) (is_alike_from a b h)
 
   next_follows : (i j : ℕ) (a b : Ballot) → i < j → slice_get xs i ≡ Some a → slice_get xs j ≡ Some b → Alike a b →
-      Follows xs (i + 1)
+      FollowsAlike xs (i + 1)
   next_follows i j a b less e f h = adjoin_next is_alike votes.order i j a b less e f
       (λ c ac cb. is_alike_from a c (between_first a c b ac cb h)) (is_alike_from a b h)
 
@@ -208,7 +211,7 @@ module _ (t : Trace) (xs : List Ballot) (votes : HasVotes t xs) where
   same_ballot k a b e f = (let both = sym e ∙ f in cc)
 
   -- the vote of the one before stands before it
-  former_before : (i : ℕ) (h : Follows xs i) → h.former.place < h.later.place
+  former_before : (i : ℕ) (h : FollowsAlike xs i) → h.former.place < h.later.place
   former_before i h =
       let like = alike_is h.former h.later h.alike in
       let le = votes.order (i - 1) i h.former h.later (let s = h.some in omega arith) h.former_is h.later_is in
@@ -230,7 +233,7 @@ module _ (t : Trace) (xs : List Ballot) (votes : HasVotes t xs) where
       let equal : w ≡ is.vote = cc in
       (ap (λ (x : Vote). x.seq) equal ∙ is.seq, ap (λ (x : Vote). x.view) equal ∙ is.view)
 
-  pub further_stands : (i : ℕ) (b : Ballot) (o : ℕ) (w : Vote) → Follows xs i → slice_get xs i ≡ Some b →
+  pub further_stands : (i : ℕ) (b : Ballot) (o : ℕ) (w : Vote) → FollowsAlike xs i → slice_get xs i ≡ Some b →
       slice_get (votes_at t b.verifier) b.place ≡ Some (o, w) → StandsInVotes code.TwoVotes t o
   further_stands i b o w h got at =
       let v = b.verifier in
@@ -260,7 +263,7 @@ module _ (t : Trace) (xs : List Ballot) (votes : HasVotes t xs) where
 
   -- each further vote follows
   pub further_follows : (v at : ℕ) → IsFurtherAt (votes_at t v) at
-      → (j : ℕ) × (b : Ballot) × (w : Vote) × Follows xs j × (slice_get xs j ≡ Some b) ×
+      → (j : ℕ) × (b : Ballot) × (w : Vote) × FollowsAlike xs j × (slice_get xs j ≡ Some b) ×
       (slice_get (votes_at t b.verifier) b.place ≡ Some (at, w))
   further_follows v at s =
       let ws = votes_at t v in
@@ -308,7 +311,8 @@ module _ (t : Trace) (xs : List Ballot) (votes : HasVotes t xs) where
 
   -- ---- an only vote
 
-  pub only_is : (i : ℕ) (b : Ballot) → slice_get xs i ≡ Some b → (Follows xs i → ⊥) → (Follows xs (i + 1) → ⊥) →
+  pub only_is : (i : ℕ) (b : Ballot) → slice_get xs i ≡ Some b → (FollowsAlike xs i → ⊥) → (FollowsAlike xs (i + 1) → ⊥)
+      →
       IsOnly t b
   only_is i b got first last =
       let is = votes.each i b got in
@@ -335,7 +339,7 @@ module _ (t : Trace) (xs : List Ballot) (votes : HasVotes t xs) where
   -- where a verifier has an only vote, it stands where none follows
   pub only_place : (n view v : ℕ) (w : Vote) → filter (is_vote_on n view) (votes_of t v) ≡ w ∷ []
       → (k : ℕ) × (b : Ballot) × (slice_get xs k ≡ Some b) × (b.seq ≡ n) × (b.view ≡ view) × (b.verifier ≡ v) ×
-      (Follows xs k → ⊥) × (Follows xs (k + 1) → ⊥)
+      (FollowsAlike xs k → ⊥) × (FollowsAlike xs (k + 1) → ⊥)
   only_place n view v w one =
       let found = passing_place (is_vote_on n view) (votes_of t v) w one in
       let p = found.0 in
@@ -389,7 +393,7 @@ module _ (t : Trace) (xs : List Ballot) (votes : HasVotes t xs) where
   })
 
   pub sifted_further : (i : ℕ) (only : List Ballot) (least : Option ℕ) (b : Ballot) (o : ℕ) (w : Vote) →
-      Sifted t xs i only least → Follows xs i → slice_get xs i ≡ Some b
+      Sifted t xs i only least → FollowsAlike xs i → slice_get xs i ≡ Some b
       → slice_get (votes_at t b.verifier) b.place ≡ Some (o, w) → Sifted t xs (i + 1) only (lower least o)
   sifted_further i only least b o w sifted h got at = record {
     stands = lower_stands (StandsInVotes code.TwoVotes t) least o sifted.stands (further_stands i b o w h got at);
@@ -412,35 +416,36 @@ module _ (t : Trace) (xs : List Ballot) (votes : HasVotes t xs) where
     order = sifted.order;
     all = λ k c less got_c first last. elim (cases_lt k i) [
       | inl lt ↦ sifted.all k c lt got_c first last
-      | inr ge ↦ (let same : i ≡ k = omega arith in absurd (first (subst (Follows xs) same h)))
+      | inr ge ↦ (let same : i ≡ k = omega arith in absurd (first (subst (FollowsAlike xs) same h)))
     ];
   }
 
-  pub sifted_past : (i : ℕ) (only : List Ballot) (least : Option ℕ) → Sifted t xs i only least → (Follows xs i → ⊥) →
-      Follows xs (i + 1) → Sifted t xs (i + 1) only least
+  pub sifted_past : (i : ℕ) (only : List Ballot) (least : Option ℕ) → Sifted t xs i only least → (FollowsAlike xs i → ⊥)
+      →
+      FollowsAlike xs (i + 1) → Sifted t xs (i + 1) only least
   sifted_past i only least sifted first h = record {
     stands = sifted.stands;
     below = λ k c q x less f got_c at_c. elim (cases_lt k i) [
       | inl lt ↦ sifted.below k c q x lt f got_c at_c
-      | inr ge ↦ (let same : k ≡ i = omega arith in absurd (first (subst (Follows xs) same f)))
+      | inr ge ↦ (let same : k ≡ i = omega arith in absurd (first (subst (FollowsAlike xs) same f)))
     ];
     each = sifted.each;
     behind = λ j a k c e ge f. sifted.behind j a k c e (omega arith) f;
     order = sifted.order;
     all = λ k c less got_c fresh last. elim (cases_lt k i) [
       | inl lt ↦ sifted.all k c lt got_c fresh last
-      | inr ge ↦ (let same : i + 1 ≡ k + 1 = omega arith in absurd (last (subst (Follows xs) same h)))
+      | inr ge ↦ (let same : i + 1 ≡ k + 1 = omega arith in absurd (last (subst (FollowsAlike xs) same h)))
     ];
   }
 
   pub sifted_only : (i : ℕ) (only : List Ballot) (least : Option ℕ) (b : Ballot) → Sifted t xs i only least →
-      (Follows xs i → ⊥) → (Follows xs (i + 1) → ⊥) → slice_get xs i ≡ Some b
+      (FollowsAlike xs i → ⊥) → (FollowsAlike xs (i + 1) → ⊥) → slice_get xs i ≡ Some b
       → Sifted t xs (i + 1) (only ++ b ∷ []) least
   sifted_only i only least b sifted first last got = record {
     stands = sifted.stands;
     below = λ k c q x less f got_c at_c. elim (cases_lt k i) [
       | inl lt ↦ sifted.below k c q x lt f got_c at_c
-      | inr ge ↦ (let same : k ≡ i = omega arith in absurd (first (subst (Follows xs) same f)))
+      | inr ge ↦ (let same : k ≡ i = omega arith in absurd (first (subst (FollowsAlike xs) same f)))
     ];
     each = λ j c e. elim (last_one only b j c e) [
       | inl old ↦ sifted.each j c old

@@ -20,7 +20,7 @@ use Rattle.eve_votes.specs.Votes.{is_vote_on, IsDecided}
 use Rattle.eve_views.proofs.Firsts.{before_precedes, behind_precedes, precedes-refl, up_to_from, first_of_two}
 use Rattle.eve_votes.specs.Faults.{IsFurther, IsFurtherAt, StandsInVotes, outside, IsVoteFault, AreVotesSound}
 use Rattle.eve_votes.specs.Least.{IsBelow, IsBelowAll, IsLowest}
-use Rattle.eve_votes.specs.Decisions.{said, decision_in, IsKnown, AreDecisions}
+use Rattle.eve_votes.specs.Decisions.{decision_said, decision_on, IsKnown, AreDecisions}
 use Rattle.eve_votes.specs.declared.decisions.Decision.{Decision}
 use Rattle.eve_votes.proofs.Places.{located_values}
 use Rattle.eve_votes.proofs.Casting.{votes_on}
@@ -220,23 +220,23 @@ votes_sound t ds again apart votes none are =
 -- ---- what is decided
 
 pub decided_is : (t : Trace) (ds : List (Option Decision)) (n : ℕ) (x : Option (ℕ × List ℕ)) → AreDecisions t ds
-    → decision_in ds n ≡ x → (view : ℕ) (token : List ℕ) → IsDecided t n view token ↔ (x ≡ Some (view, token))
+    → decision_on ds n ≡ x → (view : ℕ) (token : List ℕ) → IsDecided t n view token ↔ (x ≡ Some (view, token))
 decided_is t ds n x are is view token = (
   λ decided. sym is ∙ are.all n view token decided,
   λ e. (let known : IsKnown t n (view, token) = subst (λ (o : Option (ℕ × List ℕ)). IfSome o (IsKnown t n)) (is ∙ e)
       (are.known n) in known.decided),
 )
 
-pub decision_past : (ds : List (Option Decision)) (n : ℕ) → nat_lt n (length ds) ≡ false → decision_in ds n ≡ None
-unfolding decision_in
-decision_past ds n past = ap (option_map said) (get_or_past ds n None (ltb-false n (length ds) past))
+pub decision_past : (ds : List (Option Decision)) (n : ℕ) → nat_lt n (length ds) ≡ false → decision_on ds n ≡ None
+unfolding decision_on
+decision_past ds n past = ap (option_map decision_said) (get_or_past ds n None (ltb-false n (length ds) past))
 
 pub decision_of : (ds : List (Option Decision)) (n : ℕ) (x : Option Decision) → nat_lt n (length ds) ≡ true
-    → x ≡ get_or ds n x → decision_in ds n ≡ option_map said x
+    → x ≡ get_or ds n x → decision_on ds n ≡ option_map decision_said x
 decision_of ds n x there read = decision_at ds n x (ltb-true n (length ds) there) read
 
 pub token_size : (t : Trace) (ds : List (Option Decision)) (n : ℕ) (d : ℕ × List ℕ) → AreDecisions t ds
-    → decision_in ds n ≡ Some d → length d.1 ≡ 32
+    → decision_on ds n ≡ Some d → length d.1 ≡ 32
 token_size t ds n d are is =
     (let known : IsKnown t n d = subst (λ (o : Option (ℕ × List ℕ)). IfSome o (IsKnown t n)) is (are.known n) in
     known.token)

@@ -3,6 +3,7 @@ use Rattle.std.specs.Prelude.{◌≡◌, ◌≢◌, ℕ, ◌<◌, ◌≤◌, ◌
 use Rattle.std.specs.Prelude.{◌++◌, filter, Option, Some, None, slice_get, slice_index_or, length, IsTrue}
 use Rattle.eve_grammar.specs.Trace.{Choice, Vote, Trace}
 use Rattle.eve_grammar.specs.Spelling.{votes_of}
+use Rattle.eve_views.specs.Order.{AreInOrder}
 use Rattle.eve_votes.specs.Votes.{same_choice, is_vote_on}
 use Rattle.eve_votes.specs.declared.ballots.Ballot.{Ballot}
 
@@ -51,22 +52,18 @@ pub record IsBefore (a b : Ballot) : Type 0 where
   pub verifier : b.seq ≤ a.seq → b.view ≤ a.view → a.verifier < b.verifier
 
 -- the one doesn't come after the other: by batch, then by view, then by verifier, then by place
-pub record IsNotAfter (a b : Ballot) : Type 0 where
+pub record IsNoLaterBallot (a b : Ballot) : Type 0 where
   pub seq : a.seq ≤ b.seq
   pub view : b.seq ≤ a.seq → a.view ≤ b.view
   pub verifier : b.seq ≤ a.seq → b.view ≤ a.view → a.verifier ≤ b.verifier
   pub place : b.seq ≤ a.seq → b.view ≤ a.view → b.verifier ≤ a.verifier → a.place ≤ b.place
-
--- each stands so to each that is after it
-abbrev pub AreInOrder : (Ballot → Ballot → Type 0) → List Ballot → Type 0
-AreInOrder R xs = (i j : ℕ) (a b : Ballot) → i < j → slice_get xs i ≡ Some a → slice_get xs j ≡ Some b → R a b
 
 -- here the votes on the batch in this view begin, of this verifier and those after it
 pub record IsStart (xs : List Ballot) (start n view v : ℕ) : Type 0 where
   pub before : (i : ℕ) (b : Ballot) → i < start → slice_get xs i ≡ Some b →
       IsBefore b (record { seq = n; view = view; verifier = v; place = 0 })
   pub behind : (i : ℕ) (b : Ballot) → start ≤ i → slice_get xs i ≡ Some b →
-      IsNotAfter (record { seq = n; view = view; verifier = v; place = 0 }) b
+      IsNoLaterBallot (record { seq = n; view = view; verifier = v; place = 0 }) b
 
 -- the vote at this place and the one before it stand so to each other
 pub record Adjoin (test : Ballot → Ballot → Bool) (xs : List Ballot) (i : ℕ) : Type 0 where
@@ -78,8 +75,8 @@ pub record Adjoin (test : Ballot → Ballot → Bool) (xs : List Ballot) (i : �
   pub alike : IsTrue (test former later)
 
 -- they are a verifier's on one batch in one view
-abbrev pub Follows : List Ballot → ℕ → Type 0
-Follows xs i = Adjoin is_alike xs i
+abbrev pub FollowsAlike : List Ballot → ℕ → Type 0
+FollowsAlike xs i = Adjoin is_alike xs i
 
 -- they are on one batch in one view
 abbrev pub Continues : List Ballot → ℕ → Type 0
@@ -99,7 +96,7 @@ pub record HasVotes (t : Trace) (xs : List Ballot) : Type 0 where
       (slice_get xs i ≡ Some (ballot v place w))
   pub once : (i j : ℕ) (a b : Ballot) → i < j → slice_get xs i ≡ Some a → slice_get xs j ≡ Some b →
       a.verifier ≡ b.verifier → a.place ≢ b.place
-  pub order : AreInOrder IsNotAfter xs
+  pub order : AreInOrder IsNoLaterBallot xs
 
 -- it is one of the votes of the trace, and its verifier's only one on the batch in this view
 pub record IsOnly (t : Trace) (b : Ballot) : Type 0 where

@@ -10,12 +10,12 @@ use Rattle.eve_votes.specs.Faults.{StandsInVotes}
 use Rattle.eve_votes.specs.Least.{IsBelow}
 use Rattle.eve_votes.specs.declared.decisions.Decision.{Decision}
 
-abbrev pub said : Decision → ℕ × List ℕ
-said d = (d.view, d.token.now)
+abbrev pub decision_said : Decision → ℕ × List ℕ
+decision_said d = (d.view, d.token.now)
 
 -- the view and the token in which the batch is decided, as far as it was found
-unfoldable pub decision_in : List (Option Decision) → ℕ → Option (ℕ × List ℕ)
-decision_in ds n = option_map said (slice_index_or ds n None)
+unfoldable pub decision_on : List (Option Decision) → ℕ → Option (ℕ × List ℕ)
+decision_on ds n = option_map decision_said (slice_index_or ds n None)
 
 -- what was found is decided, with a token of 32 bytes
 pub record IsKnown (t : Trace) (n : ℕ) (d : ℕ × List ℕ) : Type 0 where
@@ -26,18 +26,18 @@ pub record IsKnown (t : Trace) (n : ℕ) (d : ℕ × List ℕ) : Type 0 where
 -- the least offset so far
 pub record Judging (t : Trace) (ds : List (Option Decision)) (least : Option ℕ) : Type 0 where
   pub long : length ds ≡ length t.batches + 1
-  pub known : (n : ℕ) → IfSome (decision_in ds n) (IsKnown t n)
+  pub known : (n : ℕ) → IfSome (decision_on ds n) (IsKnown t n)
   pub stands : IfSome least (StandsInVotes code.TwoDecisions t)
 
 -- nothing was found for the batch in this view
 abbrev pub IsUnnoted : List (Option Decision) → ℕ → ℕ → Type 0
-IsUnnoted ds n view = (d : ℕ × List ℕ) → decision_in ds n ≡ Some d → d.0 ≢ view
+IsUnnoted ds n view = (d : ℕ × List ℕ) → decision_on ds n ≡ Some d → d.0 ≢ view
 
 -- what was found stays, and what is new is of the batch in this view
 pub record Notes (before after : List (Option Decision)) (n view : ℕ) : Type 0 where
-  pub keeps : (m : ℕ) (d : ℕ × List ℕ) → decision_in before m ≡ Some d → decision_in after m ≡ Some d
-  pub adds : (m : ℕ) (d : ℕ × List ℕ) → decision_in after m ≡ Some d
-      → (decision_in before m ≡ Some d) ⊎ ((m ≡ n) × (d.0 ≡ view))
+  pub keeps : (m : ℕ) (d : ℕ × List ℕ) → decision_on before m ≡ Some d → decision_on after m ≡ Some d
+  pub adds : (m : ℕ) (d : ℕ × List ℕ) → decision_on after m ≡ Some d
+      → (decision_on before m ≡ Some d) ⊎ ((m ≡ n) × (d.0 ≡ view))
 
 -- the batch of this number stands at this offset
 abbrev pub IsBatchAt : Trace → ℕ → ℕ → Type 0
@@ -52,7 +52,7 @@ pub record IsClash (t : Trace) (n : ℕ) (least : Option ℕ) : Type 0 where
 -- a decision was found for the batch, in this view or in another, which is then known
 pub record IsFound (t : Trace) (ds : List (Option Decision)) (least : Option ℕ) (n view : ℕ) : Type 0 where
   pub found : ℕ × List ℕ
-  pub is : decision_in ds n ≡ Some found
+  pub is : decision_on ds n ≡ Some found
   pub same : (found.0 ≡ view) ⊎ IsClash t n least
 
 -- what is decided for the batch in this view was found
@@ -61,5 +61,5 @@ Agrees t ds least n view = (token : List ℕ) → IsDecided t n view token → I
 
 -- the decisions are those of the trace
 pub record AreDecisions (t : Trace) (ds : List (Option Decision)) : Type 0 where
-  pub known : (n : ℕ) → IfSome (decision_in ds n) (IsKnown t n)
-  pub all : (n view : ℕ) (token : List ℕ) → IsDecided t n view token → decision_in ds n ≡ Some (view, token)
+  pub known : (n : ℕ) → IfSome (decision_on ds n) (IsKnown t n)
+  pub all : (n view : ℕ) (token : List ℕ) → IsDecided t n view token → decision_on ds n ≡ Some (view, token)

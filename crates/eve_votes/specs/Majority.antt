@@ -4,7 +4,7 @@ use Rattle.eve_votes.specs.declared.majority.Lead.{Lead}
 
 -- of so many voters no token but this has more than half: the double of its votes is at most the voters and its lead,
 -- that of any other's votes at most the voters less this lead
-pub record Leads (votes : List ℕ → ℕ) (voters : ℕ) (lead : Lead) : Type 0 where
+pub record HasLead (votes : List ℕ → ℕ) (voters : ℕ) (lead : Lead) : Type 0 where
   pub low : lead.by ≤ voters
   pub this : 2 * votes lead.token.now ≤ voters + lead.by
   pub others : (token : List ℕ) → token ≢ lead.token.now → 2 * votes token + lead.by ≤ voters

@@ -3,11 +3,12 @@
 ghost use Rattle.std.specs.Prelude.{◌≡◌, ◌<◌, ◌+◌, Some, length, slice_get, filter};
 ghost use Rattle.std.specs.Option.{option_map};
 ghost use Rattle.eve_grammar.specs.Trace.{Choice as ChoiceValue};
-ghost use Rattle.eve_grammar.specs.Bodies.{choice as choice_of};
+ghost use Rattle.eve_grammar.specs.Bodies.{borrowed_choice as choice_of};
 ghost use Rattle.eve_grammar.specs.Spelling.{votes_at, votes_of};
 ghost use Rattle.eve_frames.specs.Said.{vote_said};
 ghost use Rattle.eve_votes.specs.Votes.{same_choice, is_vote_on, is_only, backers};
-ghost use Rattle.eve_votes.specs.Ballots.{is_alike, is_fellow, is_at, is_lower, is_for, IsBefore, AreInOrder, IsStart};
+ghost use Rattle.eve_views.specs.Order.{AreInOrder};
+ghost use Rattle.eve_votes.specs.Ballots.{is_alike, is_fellow, is_at, is_lower, is_for, IsBefore, IsStart};
 ghost use Rattle.eve_votes.specs.Ballots.{HasCast};
 
 use eve_frames::VoteView;

@@ -5,7 +5,7 @@ ghost use Rattle.std.specs.Option.{option_map};
 ghost use Rattle.eve_grammar.specs.Trace.{ForCommit};
 ghost use Rattle.eve_votes.specs.Votes.{backers, IsDecided};
 ghost use Rattle.eve_votes.specs.Ballots.{IsStart, HasCast};
-ghost use Rattle.eve_votes.specs.Majority.{Leads, IsOneMore};
+ghost use Rattle.eve_votes.specs.Majority.{HasLead, IsOneMore};
 
 use crate::ballots::{Ballot, backers_from, next_choice};
 use eve_grammar::Choice;
@@ -21,8 +21,8 @@ pub(crate) struct Lead<'a> {
 /// Counts a vote: one more for the token that leads, one less for another; another takes a lead of none.
 fn counted<'a>(lead: Lead<'a>, token: &'a [u8]) -> Lead<'a>
     requires { lead.by < 255 }
-    ensures { (before after : List ℕ → ℕ) (voters : ℕ) → Leads before voters lead.entry
-        → IsOneMore before after token.now → Leads after (voters + 1) result }
+    ensures { (before after : List ℕ → ℕ) (voters : ℕ) → HasLead before voters lead.entry
+        → IsOneMore before after token.now → HasLead after (voters + 1) result }
 {
     if lead.token == token {
         return Lead {
@@ -43,7 +43,7 @@ fn counted<'a>(lead: Lead<'a>, token: &'a [u8]) -> Lead<'a>
 fn leader<'a>(trace: &Trace<'a>, ballots: &[Ballot], start: usize, seq: u32, view: u32) -> Lead<'a>
     requires cast { HasCast trace.now ballots.now }
     requires start { IsStart ballots.now start seq view 0 }
-    ensures { Leads (λ token. backers trace.now seq view (ForCommit token)) (length trace.now.verifiers) result }
+    ensures { HasLead (λ token. backers trace.now seq view (ForCommit token)) (length trace.now.verifiers) result }
 {
     trace.is_whole();
     let mut at = start;

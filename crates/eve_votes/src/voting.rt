@@ -5,7 +5,7 @@ ghost use Rattle.eve_views.specs.declared.fault.Code.TheVariants.{TwoVotes};
 ghost use Rattle.eve_grammar.specs.Spelling.{votes_of};
 ghost use Rattle.eve_votes.specs.Faults.{StandsInVotes};
 ghost use Rattle.eve_votes.specs.Least.{IsLowest};
-ghost use Rattle.eve_votes.specs.Ballots.{ballots_from, ballots_of, Follows, HasVotes, HasCast};
+ghost use Rattle.eve_votes.specs.Ballots.{ballots_from, ballots_of, FollowsAlike, HasVotes, HasCast};
 
 use crate::ballots::{Ballot, is_alike, vote_at};
 use crate::least::lower;
@@ -54,7 +54,7 @@ pub(crate) fn cast(alloc: Global, trace: &Trace<'_>) -> Result<Vec<Ballot>, Allo
 
 /// Whether the vote at this place is of the verifier that has the one before it, on the same batch in the same view.
 fn follows(ballots: &[Ballot], i: usize) -> bool
-    ensures { IsTrue result ↔ Follows ballots.now i }
+    ensures { IsTrue result ↔ FollowsAlike ballots.now i }
 {
     i > 0 && i < ballots.len() && is_alike(&ballots[i - 1], &ballots[i])
 }

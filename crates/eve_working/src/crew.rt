@@ -1,7 +1,7 @@
 //! Two workers, with what their seats are of.
 
 ghost use Rattle.std.specs.Prelude.{◌≡◌, ◌<◌, ◌≤◌, IsTrue, length};
-ghost use Rattle.eve_floor.specs.Executing.{IsAt};
+ghost use Rattle.eve_floor.specs.Executing.{IsSeatedAt};
 
 use eve_floor::{ExecFault, Floor, Worker, execute, flush};
 use eve_recorder::{
@@ -21,8 +21,8 @@ pub struct Crew {
     pub taker: TakerSeat,
     pub hand: Worker,
     pub other: Worker,
-    pub ghost hand_at: { IsAt recorder tickets hand },
-    pub ghost other_at: { IsAt recorder tickets other },
+    pub ghost hand_at: { IsSeatedAt recorder tickets hand },
+    pub ghost other_at: { IsSeatedAt recorder tickets other },
     pub ghost taker_at: { taker.recorder ≡ recorder.recorder },
 }
 

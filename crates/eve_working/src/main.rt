@@ -92,7 +92,7 @@ const ONE_LOCK_OR_TWO: Script = Script {
     ],
 };
 
-/// Two deposits for each of two customers, of which the first two are settled and the others taken back: what comes
+/// Two deposits for each of two customers, of which the first two are settled and the others undone: what comes
 /// next sees the settled ones. Their rows lie in the first stripe and in the last.
 const SETTLED_AND_WENT_BACK: Script = Script {
     plan: Plan {

@@ -1,7 +1,7 @@
 //! Two workers in two threads.
 
 ghost use Rattle.std.specs.Prelude.{◌≡◌, All, IfSome};
-ghost use Rattle.eve_floor.specs.Executing.{IsAt};
+ghost use Rattle.eve_floor.specs.Executing.{IsSeatedAt};
 
 use crate::cases::Case;
 use crate::crew::{Crew, may_execute};
@@ -123,8 +123,8 @@ fn take_turn<R: Wait, G: Watched>(
     batch: &BatchData,
     gate: &G,
 )
-    requires { IsAt recorder.now tickets.now turn.old.worker }
-    ensures { IsAt recorder.now tickets.now turn.new.worker }
+    requires { IsSeatedAt recorder.now tickets.now turn.old.worker }
+    ensures { IsSeatedAt recorder.now tickets.now turn.new.worker }
 {
     let index = turn.index;
     gate.begins(index);
@@ -147,25 +147,25 @@ fn take_turns<R: Threads + Wait + Sync, G: Watched>(
     batch: &BatchData,
     gate: &G,
 ) -> Vec<Turn>
-    requires { All (λ t. IsAt recorder.now tickets.now t.worker) turns.items }
-    ensures { All (λ t. IsAt recorder.now tickets.now t.worker) result.items }
+    requires { All (λ t. IsSeatedAt recorder.now tickets.now t.worker) turns.items }
+    ensures { All (λ t. IsSeatedAt recorder.now tickets.now t.worker) result.items }
 {
     for_each_mut(
         rt,
         turns.as_mut_slice(),
         2,
         &|_: usize, turn: &mut Turn|
-            requires { IsAt recorder.now tickets.now turn.old.worker }
-            ensures { IsAt recorder.entry.now tickets.entry.now turn.new.worker }
+            requires { IsSeatedAt recorder.now tickets.now turn.old.worker }
+            ensures { IsSeatedAt recorder.entry.now tickets.entry.now turn.new.worker }
         { take_turn(rt, floor, recorder, tickets, turn, batch, gate) },
     );
     turns
 }
 
 fn last_turn(recorder: &Recorder, tickets: &Tickets, turns: &mut Vec<Turn>) -> Option<Turn>
-    requires { All (λ t. IsAt recorder.now tickets.now t.worker) turns.old.items }
-    ensures last { IfSome result (λ t. IsAt recorder.now tickets.now t.worker) }
-    ensures rest { All (λ t. IsAt recorder.now tickets.now t.worker) turns.new.items }
+    requires { All (λ t. IsSeatedAt recorder.now tickets.now t.worker) turns.old.items }
+    ensures last { IfSome result (λ t. IsSeatedAt recorder.now tickets.now t.worker) }
+    ensures rest { All (λ t. IsSeatedAt recorder.now tickets.now t.worker) turns.new.items }
 {
     turns.pop()
 }
@@ -187,8 +187,8 @@ fn crew_again(
     hand: Worker,
     other: Worker,
 ) -> Crew
-    requires hand { IsAt recorder tickets hand }
-    requires other { IsAt recorder tickets other }
+    requires hand { IsSeatedAt recorder tickets hand }
+    requires other { IsSeatedAt recorder tickets other }
     requires taker { taker.recorder ≡ recorder.recorder }
 {
     Crew {

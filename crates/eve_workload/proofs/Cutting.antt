@@ -5,7 +5,7 @@ use Rattle.std.specs.Prelude.{◌==◌, ◌&&◌, ◌||◌, slice_index_or}
 use Rattle.std.specs.List.{list_any}
 use Rattle.std.proofs.lemmas.List.{length-map, length_push}
 use Rattle.eve_smallbank.specs.declared.entry.Kind.{Kind}
-use Rattle.eve_smallbank.specs.Access.{Rows}
+use Rattle.eve_smallbank.specs.Access.{RowKinds}
 use Rattle.eve_workload.specs.declared.group_set.GroupSet.{GroupSet}
 use Rattle.eve_workload.specs.declared.marks.RowMarks.{RowMarks}
 use Rattle.eve_workload.specs.declared.seats.Seat.{Seat}
@@ -19,7 +19,7 @@ use Rattle.eve_workload.specs.Cut.{one_more, IsCut}
 use Rattle.eve_workload.proofs.Placing.{put, put_count, placed_first, first_within, any_shared, bars_more, size_small}
 use Rattle.eve_workload.proofs.Placing.{seated_more}
 
-module _ (cut : Cut) (touched : Rows) (rows : ℕ → Rows) (groups : List (List ℕ))
+module _ (cut : Cut) (touched : RowKinds) (rows : ℕ → RowKinds) (groups : List (List ℕ))
     (next : rows (length cut.seats.items) ≡ touched) (is : IsCut cut rows groups) where
   -- the next request
   abbrev item : ℕ

@@ -21,10 +21,10 @@ use Rattle.eve_workload.specs.declared.deployment.Deployment.{Deployment}
 use Rattle.eve_workload.specs.declared.draft.Last.TheVariants as last
 use Rattle.eve_workload.specs.declared.pairs.Pairs.{Pairs}
 use Rattle.eve_workload.specs.declared.draft.Draft.{Draft}
-use Rattle.eve_workload.specs.Workload.{names_of, pair_of}
+use Rattle.eve_workload.specs.Workload.{customer_names, pair_of}
 use Rattle.eve_workload.specs.Lines.{Line, HeadLine, CustomerLine, BatchLine, RequestLine}
 use Rattle.eve_workload.specs.Steps.{customers_in, requests_in, batches_in, last_requests, may_follow, is_deployment}
-use Rattle.eve_workload.specs.Steps.{IsRightBehind, AreRight}
+use Rattle.eve_workload.specs.Steps.{IsRightBehind, AreRightLines}
 use Rattle.eve_workload.specs.Pairs.{same_pair, key_of, AreMet}
 use Rattle.eve_workload.specs.Drafts.{starts_in, next_of, has_name, Keeps}
 use Rattle.eve_workload.proofs.Pairing.{same_pair-true, same_pair-itself, last_or}
@@ -186,7 +186,7 @@ customer_taken d customers names added c before pushed same room ranges follows 
           ranges = ranges;
           room = lt-ltb (length (customers_in before)) 4096 (omega arith);
           new = λ known. false≢true
-              (sym fresh ∙ keeps.names c.name ∙ known_name (names_of (customers_in before)) c.name known);
+              (sym fresh ∙ keeps.names c.name ∙ known_name (customer_names (customers_in before)) c.name known);
         },
         keeps.right,
       );
@@ -197,7 +197,7 @@ customer_taken d customers names added c before pushed same room ranges follows 
       requests = keeps.requests;
       starts = keeps.starts;
       count = keeps.count ∙ no_requests before c follows;
-      names = λ other. more_names (names_of (customers_in before)) c.name other (has_name names.keys other)
+      names = λ other. more_names (customer_names (customers_in before)) c.name other (has_name names.keys other)
           (has_name d.names.keys other) (kept other) (keeps.names other)
           ∙ ap (list_any (same_name other)) (sym (map_push (λ (e : Customer). e.name) (customers_in before) c));
       pairs = keeps.pairs;
@@ -216,7 +216,7 @@ customer_refused d c before full keeps right =
 pub name_refused : (d : Draft) (c : Customer) (before : List Line) → has_name d.names.keys c.name ≡ true
     → Keeps d before → ¬ IsRightBehind before (CustomerLine c)
 name_refused d c before known keeps right =
-    right.new (name_known (names_of (customers_in before)) c.name (sym (keeps.names c.name) ∙ known))
+    right.new (name_known (customer_names (customers_in before)) c.name (sym (keeps.names c.name) ∙ known))
 
 pub request_taken : (d : Draft) (requests : Vec RequestData Global) (pairs : Pairs) (count : ℕ) (a : Asked)
     (before : List Line) → map asked requests.items ≡ map asked d.requests.items ++ a ∷ [] → count ≡ d.count + 1
@@ -255,7 +255,7 @@ pub pair_refused : (a : Asked) (before : List Line)
 pair_refused a before known right = right.new (pair_known (requests_in before) a known)
 
 -- how many lines there are
-pub line_count : (before : List Line) → AreRight before → length before + 1
+pub line_count : (before : List Line) → AreRightLines before → length before + 1
     ≡ next_of before + (length (customers_in before) + length (starts_in before) + length (requests_in before))
 line_count [] right = refl
 line_count (HeadLine d ∷ []) right = refl

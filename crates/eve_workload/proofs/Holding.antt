@@ -11,8 +11,8 @@ use Rattle.eve_write.specs.Data.{customer, asked}
 use Rattle.eve_write.specs.declared.customer.CustomerData.{CustomerData}
 use Rattle.eve_write.specs.declared.request.RequestData.{RequestData}
 use Rattle.eve_workload.specs.declared.workload.Workload.TheInside.{Inside}
-use Rattle.eve_workload.specs.Workload.{Workload, IsWorkload, head_of, names_of, is_listed}
-use Rattle.eve_workload.specs.Held.{starts_from, workload_of, IsHeld}
+use Rattle.eve_workload.specs.Workload.{Workload, IsWorkload, head_asked, customer_names, is_listed}
+use Rattle.eve_workload.specs.Held.{starts_from, workload_of, IsHeldWorkload}
 use Rattle.eve_workload.proofs.Deployments.{few_batches, some_customers}
 
 length-starts_from : {A : Type 0} (behind : ℕ) (parts : List (List A)) → length (starts_from behind parts)
@@ -81,7 +81,7 @@ all_get p (y ∷ ys) zero x all at =
 all_get p (y ∷ ys) (suc i) x all at = all_get p ys i x (and_parts (p y) (list_all p ys) all).1 at
 
 -- how many there are, and within which limits
-module _ (w : Inside) (value : Workload) (held : IsHeld w) (is : workload_of w ≡ value) where
+module _ (w : Inside) (value : Workload) (held : IsHeldWorkload w) (is : workload_of w ≡ value) where
   pub starts_count : (starts : List ℕ) → starts ≡ w.starts.items → length starts ≡ length value.batches
   starts_count starts same =
       ap length same ∙ ap length held.starts ∙ length-starts_from 0 (workload_of w).batches
@@ -115,8 +115,9 @@ module _ (w : Inside) (value : Workload) (held : IsHeld w) (is : workload_of w �
       is_workload.customers
 
   pub customers_differ : (customers : List CustomerData) → customers ≡ w.customers.items
-      → AllPairs (λ a b. a ≢ b) (names_of (map customer customers))
-  customers_differ customers same = subst (λ cs. AllPairs (λ a b. a ≢ b) (names_of cs)) (customers_are customers same)
+      → AllPairs (λ a b. a ≢ b) (customer_names (map customer customers))
+  customers_differ customers same = subst (λ cs. AllPairs (λ a b. a ≢ b) (customer_names cs))
+      (customers_are customers same)
       is_workload.names
 
   -- the head with its counts, as the code reads them
@@ -133,7 +134,7 @@ module _ (w : Inside) (value : Workload) (held : IsHeld w) (is : workload_of w �
       batches = batches;
     }
 
-    pub head_is : head_read ≡ head_of value
+    pub head_is : head_read ≡ head_asked value
     head_is =
         let customers_same = customers_read ∙ customer_count w.customers.items refl in
         let batches_same = batches_read ∙ starts_count w.starts.items refl in
@@ -151,7 +152,7 @@ module _ (w : Inside) (value : Workload) (held : IsHeld w) (is : workload_of w �
     head_right = subst (λ h. IsTrue (is_head h)) (sym head_is) is_workload.head
 
 -- the batch at a place of a workload, of its fields as the code reads them
-module _ (w : Inside) (value : Workload) (starts : List ℕ) (requests : List RequestData) (held : IsHeld w)
+module _ (w : Inside) (value : Workload) (starts : List ℕ) (requests : List RequestData) (held : IsHeldWorkload w)
     (is : workload_of w ≡ value) (same_starts : starts ≡ w.starts.items) (same_requests : requests ≡ w.requests.items)
   where
     batch_part : (i : ℕ) → i < length value.batches → IsPart (map asked requests) value.batches starts i
@@ -162,7 +163,8 @@ module _ (w : Inside) (value : Workload) (starts : List ℕ) (requests : List Re
         (omega (arith, there, ap (λ (v : Workload). length v.batches) is))) in
         rw (same_starts, same_requests, ← is) here
 
-    module _ (i to : ℕ) (there : i < length value.batches) (ends : to ≡ get_or (starts ++ length requests ∷ []) (i + 1) 0)
+    module _ (i to : ℕ) (there : i < length value.batches)
+        (ends : to ≡ get_or (starts ++ length requests ∷ []) (i + 1) 0)
       where
         ends_so : to ≡ get_or (starts ++ length (map asked requests) ∷ []) (suc i) 0
         ends_so = rw (length-map requests asked, ← add-one) ends

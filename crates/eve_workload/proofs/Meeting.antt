@@ -10,7 +10,7 @@ use Rattle.std.proofs.lemmas.List.Elements.{All-map, All-push}
 use Rattle.std.proofs.lemmas.Option.{slice_get_past, slice_get_within}
 use Rattle.eve_smallbank.specs.declared.entry.Kind.{Kind}
 use Rattle.eve_smallbank.specs.declared.entry.Kind.TheVariants.{Read, Write}
-use Rattle.eve_smallbank.specs.Access.{is_write, Rows}
+use Rattle.eve_smallbank.specs.Access.{is_write, RowKinds}
 use Rattle.eve_workload.specs.declared.group_set.GroupSet.{GroupSet}
 use Rattle.eve_workload.specs.declared.marks.Marks.{Marks}
 use Rattle.eve_workload.specs.declared.marks.RowMarks.{RowMarks}
@@ -149,7 +149,7 @@ stay_behind rows added row there =
     let same = front_place rows (added ∷ []) row there in
     (same, omega (arith, same, there, length_push rows added))
 
-same_spots : (old new : List ℕ) (rows : Rows) → Stay old new
+same_spots : (old new : List ℕ) (rows : RowKinds) → Stay old new
     → All (λ (row : ℕ × Kind). place_of old row.0 < length old) rows → map (spot_of old) rows ≡ map (spot_of new) rows
 same_spots old new [] stay met = refl
 same_spots old new (row ∷ rows) stay met =
@@ -157,7 +157,7 @@ same_spots old new (row ∷ rows) stay met =
     λ i. record { place = sym first.0 i; kind = row.1 } ∷ same_spots old new rows stay
     (λ k d there. met (suc k) d (omega arith)) i
 
-pub spots_more : (old new : RowMarks) (rows : Rows) (spots : List Spot) (row : ℕ × Kind) (place : ℕ)
+pub spots_more : (old new : RowMarks) (rows : RowKinds) (spots : List Spot) (row : ℕ × Kind) (place : ℕ)
     → AreSpots old rows spots → IsEven new
     → place ≡ place_of new.rows.keys row.0 → place < length new.rows.keys → Stay old.rows.keys new.rows.keys
     → AreSpots new (rows ++ row ∷ []) (spots ++ record { place = place; kind = row.1 } ∷ [])
@@ -176,7 +176,7 @@ any_over : {A B : Type 0} (p : B → Bool) (f : A → B) (xs : List A) → list_
 any_over p f [] = refl
 any_over p f (x ∷ xs) = ap (λ b. p (f x) || b) (any_over p f xs)
 
-module _ (marks : RowMarks) (rows : Rows) (spots : List Spot) (are : AreSpots marks rows spots) where
+module _ (marks : RowMarks) (rows : RowKinds) (spots : List Spot) (are : AreSpots marks rows spots) where
   pub spots_there : All (λ spot. spot.place < length marks.marks.items) spots
   spots_there =
       subst (All (λ (spot : Spot). spot.place < length marks.marks.items)) (sym are.are)
@@ -217,7 +217,7 @@ marked_at ms p g was now done at touched written place kind other =
     here Write = touched other
 
 -- the groups that the marks at the spots bar are those in which one of the rows is in conflict
-pub barred_by_spots : (old new : RowMarks) (rows : Rows) (spots : List Spot) → AreSpots new rows spots
+pub barred_by_spots : (old new : RowMarks) (rows : RowKinds) (spots : List Spot) → AreSpots new rows spots
     → ((row : ℕ × Kind) (group : ℕ) → is_barred new row group ≡ is_barred old row group)
     → (barred : GroupSet) → ((group : ℕ) → has barred group
     ≡ list_any (λ spot. bars_at new spot.place spot.kind group) spots)
@@ -233,7 +233,7 @@ same_test keys a b there =
           ∙ sym (ne_eqb a b apart)
     ]
 
-collide_at : (keys : List ℕ) (rows : Rows) (row : ℕ × Kind)
+collide_at : (keys : List ℕ) (rows : RowKinds) (row : ℕ × Kind)
     → All (λ (r : ℕ × Kind). place_of keys r.0 < length keys) rows
     → list_any (λ (r : ℕ × Kind). (place_of keys row.0 == place_of keys r.0) && (is_write row.1 || is_write r.1)) rows
     ≡ list_any (collide row) rows
@@ -243,7 +243,7 @@ collide_at keys (r ∷ rows) row met = λ i.
     || collide_at keys rows row (λ k d there. met (suc k) d (omega arith)) i
 
 -- what is marked at the spots of rows is marked for these rows
-pub marked_rows : (old new : RowMarks) (rows : Rows) (spots : List Spot) (g : ℕ) → AreSpots old rows spots
+pub marked_rows : (old new : RowMarks) (rows : RowKinds) (spots : List Spot) (g : ℕ) → AreSpots old rows spots
     → new.rows.keys ≡ old.rows.keys
     → ((place : ℕ) (kind : Kind) (other : ℕ) → bars_at new place kind other ≡ (bars_at old place kind other
     || (list_any (λ (spot : Spot). (place == spot.place) && (is_write kind || is_write spot.kind)) spots &&

@@ -16,13 +16,13 @@ use Rattle.eve_smallbank.specs.declared.request.Abort.TheVariants.{NoSuchName, B
 use Rattle.eve_smallbank.specs.declared.rows.Touched.{Touched}
 use Rattle.eve_smallbank.specs.declared.rows.Touched.TheVariants.{Refused}
 use Rattle.eve_smallbank.specs.SmallBank.{DepositChecking}
-use Rattle.eve_smallbank.specs.Access.{is_write, Rows}
+use Rattle.eve_smallbank.specs.Access.{is_write, RowKinds}
 use Rattle.eve_smallbank.specs.Touch.{rows_in, knows_names}
 use Rattle.eve_grammar.specs.Trace.{Asked}
 use Rattle.eve_grammar.specs.Limits.{is_asked, is_batch}
 use Rattle.eve_workload.specs.declared.mixer.Mixer.{Mixer}
 use Rattle.eve_workload.specs.declared.mixer.Mixer.TheVariants.{First, Whole}
-use Rattle.eve_workload.specs.Mixing.{collide, share, rows_touched, conflict, first_fit, cut, batch_of, AreApart}
+use Rattle.eve_workload.specs.Mixing.{collide, share, rows_touched, conflict, first_fit, cut, batch_with, AreApart}
 use Rattle.eve_workload.specs.Mixed.{touched_by}
 use Rattle.eve_workload.specs.Groups.{rows_at, share_at, refused_request, listed, AreGroups}
 use Rattle.eve_workload.proofs.Cuts.{first_fit_keeps, all_first_fit, first_fit_same, groups_same, sum_of_lengths}
@@ -57,7 +57,7 @@ collide_back a b none =
           (either_write (is_write a.1) (is_write b.1) reads)
     ]
 
-share_back : (a b : Rows) → share a b ≡ false → share b a ≡ false
+share_back : (a b : RowKinds) → share a b ≡ false → share b a ≡ false
 share_back a b none =
     list_any_none (λ row. list_any (collide row) a) b (λ k d there.
     list_any_none (collide (slice_index_or b k d)) a (λ j e there'.
@@ -133,13 +133,13 @@ touched_listed f rs [] = refl
 touched_listed f rs (i ∷ order) = λ k. sym (at_index f rs i refused_request) k ∷ touched_listed f rs order k
 
 pub batch_is : (sizes : List ℕ) (requests order : List Asked) (groups : List (List Asked)) → requests ≡ order
-    → AreGroups sizes order groups → record { sizes = sizes; requests = requests } ≡ batch_of groups
+    → AreGroups sizes order groups → record { sizes = sizes; requests = requests } ≡ batch_with groups
 batch_is sizes requests order groups same are =
     λ i. record { sizes = are.sizes_are i; requests = (same ∙ are.order_is) i }
 
 -- one parallelBatch of all requests
 pub whole_is : (n : ℕ) (requests : List Asked) → n ≡ length requests → record { sizes = n ∷ []; requests = requests }
-    ≡ batch_of (requests ∷ [])
+    ≡ batch_with (requests ∷ [])
 whole_is n requests count = λ i. record { sizes = count i ∷ []; requests = sym (append-nil requests) i }
 
 -- ---- a batch within the limits
@@ -181,7 +181,8 @@ tested_all (x ∷ xs) all =
     (tested_all xs (All-tail (λ y. is_asked y ≡ true) x xs all))
 
 pub cut_is_right : (names : List (List ℕ)) (mixer : Mixer) (requests : List Asked) → 1 ≤ length requests
-    → length requests ≤ 256 → list_all is_asked requests ≡ true → is_batch (batch_of (cut names mixer requests)) ≡ true
+    → length requests ≤ 256 → list_all is_asked requests ≡ true → is_batch (batch_with (cut names mixer requests))
+    ≡ true
 cut_is_right names mixer requests some few all =
     let groups : List (List Asked) = cut names mixer requests in
     let sizes : List ℕ = map length groups in

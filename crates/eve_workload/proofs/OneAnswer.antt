@@ -4,7 +4,7 @@ use Rattle.std.proofs.Common.{◌∙◌, arith, append_assoc}
 use Rattle.std.proofs.lemmas.Bool.{cases_lt, cases_order}
 use Rattle.std.proofs.lemmas.List.{append_cancel_left}
 use Rattle.eve_workload.specs.Lines.{Line, line_words, line_text}
-use Rattle.eve_workload.specs.Steps.{is_line, IsRightBehind, AreRight, text_before, IsBadLine}
+use Rattle.eve_workload.specs.Steps.{is_line, IsRightBehind, AreRightLines, text_before, IsBadLine}
 use Rattle.eve_workload.proofs.LineLaws.{same_line, line_inside, line_some, unique_words}
 
 -- texts that begin with a line each, and are the same, begin with the same line
@@ -17,7 +17,8 @@ first_line l m s t right right' same =
     (line, append_cancel_left (line_text m) s t (ap (λ x. line_text x ++ s) (sym line) ∙ same))
 
 -- as many lines in front of the same text are the same lines
-pub same_lines : (b c : List Line) (s t : List ℕ) → AreRight b → AreRight c → length b ≡ length c → text_before b ++ s
+pub same_lines : (b c : List Line) (s t : List ℕ) → AreRightLines b → AreRightLines c → length b ≡ length c
+    → text_before b ++ s
     ≡ text_before c ++ t → (b ≡ c) × (s ≡ t)
 same_lines [] [] s t right right' count same = (refl, same)
 same_lines [] (m ∷ c) s t right right' count same = absurd (omega arith)
@@ -29,7 +30,7 @@ same_lines (l ∷ b) (m ∷ c) s t right right' count same =
     ((λ i. last.0 i ∷ front.0 i), last.1)
 
 -- where more lines stand in front of the same text, a line that may stand there follows the fewer
-pub follows_fewer : (b c : List Line) (s t : List ℕ) → AreRight b → AreRight c → length b < length c
+pub follows_fewer : (b c : List Line) (s t : List ℕ) → AreRightLines b → AreRightLines c → length b < length c
     → text_before b ++ s ≡ text_before c ++ t → (line : Line) × (behind : List ℕ) × (s ≡ line_text line ++ behind)
     × IsRightBehind b line
 follows_fewer b [] s t right right' fewer same = absurd (omega arith)

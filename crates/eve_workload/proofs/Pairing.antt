@@ -11,7 +11,7 @@ use Rattle.std.proofs.lemmas.List.Elements.{All-push}
 use Rattle.eve_write.specs.Data.{asked}
 use Rattle.eve_write.specs.declared.request.RequestData.{RequestData}
 use Rattle.eve_workload.specs.declared.pairs.Pair.{Pair}
-use Rattle.eve_workload.specs.Pairs.{same_pair, key_of, pairs_in, at_place, Follows, Reaches, IsReached}
+use Rattle.eve_workload.specs.Pairs.{same_pair, key_of, pairs_in, at_place, Follows, ReachesNumber, IsUpToLast}
 
 -- ---- pairs that are the same
 
@@ -49,20 +49,20 @@ more_pairs met pair other new old is was =
 
 -- ---- numbers that rise
 
-below : (last : Option ℕ) (number other : ℕ) → Follows last number → Reaches last other → other < number
+below : (last : Option ℕ) (number other : ℕ) → Follows last number → ReachesNumber last other → other < number
 below None number other follows reached = absurd reached
 below (Some last) number other follows reached = omega (arith, follows, reached)
 
 module _ (last : List (Option ℕ)) (pair : Pair) (there : pair.client % 256 < length last)
     (follows : Follows (at_place last pair.client) pair.number) where
   -- of the pairs that were met, those of its place are below it
-  met_below : (other : Pair) → IsReached last other → other.client % 256 ≡ pair.client % 256
+  met_below : (other : Pair) → IsUpToLast last other → other.client % 256 ≡ pair.client % 256
       → other.number < pair.number
   met_below other reached same =
       below (at_place last pair.client) pair.number other.number follows
-      (subst (λ (place : ℕ). Reaches (slice_index_or last place None) other.number) same reached)
+      (subst (λ (place : ℕ). ReachesNumber (slice_index_or last place None) other.number) same reached)
 
-  is_other : (other : Pair) → IsReached last other → same_pair pair other ≡ false
+  is_other : (other : Pair) → IsUpToLast last other → same_pair pair other ≡ false
   is_other other reached =
       elim (cases_Bool (same_pair pair other)) [
         | inl same ↦
@@ -72,7 +72,7 @@ module _ (last : List (Option ℕ)) (pair : Pair) (there : pair.client % 256 < l
         | inr other ↦ other
       ]
 
-  pub is_new : (met : List Pair) → All (IsReached last) met → list_any (same_pair pair) met ≡ false
+  pub is_new : (met : List Pair) → All (IsUpToLast last) met → list_any (same_pair pair) met ≡ false
   is_new met all = list_any_none (same_pair pair) met (λ k d within. is_other _ (all k d within))
 
   abbrev pub risen : List (Option ℕ)
@@ -81,23 +81,23 @@ module _ (last : List (Option ℕ)) (pair : Pair) (there : pair.client % 256 < l
   itself : at_place risen pair.client ≡ Some pair.number
   itself = get_or-set_same last (pair.client % 256) (Some pair.number) None there
 
-  stays : (other : Pair) → IsReached last other → IsReached risen other
+  stays : (other : Pair) → IsUpToLast last other → IsUpToLast risen other
   stays other reached =
       elim (cases_eq (other.client % 256) (pair.client % 256)) [
         | inl same ↦
             let under = met_below other reached same in
             let here : at_place risen other.client ≡ Some pair.number =
             ap (λ (place : ℕ). slice_index_or risen place None) same ∙ itself in
-            subst (λ (o : Option ℕ). Reaches o other.number) (sym here) (omega (arith, under))
+            subst (λ (o : Option ℕ). ReachesNumber o other.number) (sym here) (omega (arith, under))
         | inr apart ↦
-            subst (λ (o : Option ℕ). Reaches o other.number)
+            subst (λ (o : Option ℕ). ReachesNumber o other.number)
             (sym (get_or-set_other last (pair.client % 256) (other.client % 256) (Some pair.number) None apart)) reached
       ]
 
-  pub still_reached : (met : List Pair) → All (IsReached last) met → All (IsReached risen) (met ++ pair ∷ [])
+  pub still_reached : (met : List Pair) → All (IsUpToLast last) met → All (IsUpToLast risen) (met ++ pair ∷ [])
   still_reached met all =
-      All-push (IsReached risen) met pair (λ k d within. stays _ (all k d within))
-      (subst (λ (o : Option ℕ). Reaches o pair.number) (sym itself) (omega arith))
+      All-push (IsUpToLast risen) met pair (λ k d within. stays _ (all k d within))
+      (subst (λ (o : Option ℕ). ReachesNumber o pair.number) (sym itself) (omega arith))
 
 -- ---- the pairs of requests
 

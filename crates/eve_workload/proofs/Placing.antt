@@ -10,7 +10,7 @@ use Rattle.std.proofs.lemmas.List.Concat.{flat_map-append}
 use Rattle.std.proofs.lemmas.List.Folds.{list_any-append}
 use Rattle.std.proofs.lemmas.List.Sorted.{length_permutation}
 use Rattle.eve_smallbank.specs.declared.entry.Kind.{Kind}
-use Rattle.eve_smallbank.specs.Access.{Rows}
+use Rattle.eve_smallbank.specs.Access.{RowKinds}
 use Rattle.eve_workload.specs.declared.seats.Seat.{Seat}
 use Rattle.eve_workload.specs.Mixing.{collide, share, placed}
 use Rattle.eve_workload.specs.Seats.{group_at, IsSeating}
@@ -120,7 +120,7 @@ none_any [] = refl
 none_any (x ∷ xs) = none_any xs
 
 -- some row is in conflict with a row of the group where some request of it shares one
-pub any_shared : (touched : Rows) (rows : ℕ → Rows) (group : List ℕ)
+pub any_shared : (touched : RowKinds) (rows : ℕ → RowKinds) (group : List ℕ)
     → list_any (λ row. list_any (collide row) (flat_map rows group)) touched
     ≡ list_any (λ j. share touched (rows j)) group
 any_shared touched rows [] = none_any touched
@@ -130,7 +130,7 @@ any_shared touched rows (j ∷ group) =
     ∙ ap (λ b. share touched (rows j) || b) (any_shared touched rows group)
 
 -- a row is in conflict in a group, once an item was put into one
-module _ (rows : ℕ → Rows) (groups : List (List ℕ)) (g item : ℕ) (within : g ≤ length groups) where
+module _ (rows : ℕ → RowKinds) (groups : List (List ℕ)) (g item : ℕ) (within : g ≤ length groups) where
   pub bars_more : (row : ℕ × Kind) (k : ℕ)
       → (list_any (collide row) (flat_map rows (group_at groups k)) || (list_any (collide row) (rows item) && (k == g)))
       ≡ list_any (collide row) (flat_map rows (group_at (put groups g item) k))

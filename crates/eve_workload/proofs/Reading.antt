@@ -9,7 +9,7 @@ use Rattle.eve_write.specs.Data.{customer, asked}
 use Rattle.eve_workload.specs.declared.draft.Draft.{Draft}
 use Rattle.eve_workload.specs.Lines.{Line, HeadLine, CustomerLine, BatchLine, RequestLine, line_words, line_text}
 use Rattle.eve_workload.specs.Steps.{customers_in, requests_in, batches_in, last_requests, may_follow, may_end}
-use Rattle.eve_workload.specs.Steps.{AreRight, text_before, IsBadLine}
+use Rattle.eve_workload.specs.Steps.{AreRightLines, text_before, IsBadLine}
 use Rattle.eve_workload.specs.Drafts.{IsSmall, Keeps, KeepsAll, TakesLine}
 use Rattle.eve_workload.proofs.Drafting.{batches_are}
 use Rattle.eve_workload.proofs.Splitting.{up_to}
@@ -37,7 +37,7 @@ request_in_batch (CustomerLine c ∷ before) a follows = cc
 request_in_batch (BatchLine ∷ before) a follows = refl
 request_in_batch (RequestLine b ∷ before) a follows = refl
 
-room_of : (before : List Line) → AreRight before → Room before
+room_of : (before : List Line) → AreRightLines before → Room before
 room_of [] right = record { all = omega arith; here = λ no. absurd (false≢true no) }
 room_of (HeadLine d ∷ before) right = record { all = (room_of before right.1).all; here = λ no. absurd (false≢true no) }
 room_of (CustomerLine c ∷ before) right =
@@ -52,7 +52,7 @@ room_of (RequestLine a ∷ before) right =
     let more = length-append (requests_in before) (a ∷ []) in
     record { all = omega (arith, here, low, more); here = λ yes_so. omega (arith, here, more) }
 
-pub customers_few : (before : List Line) → AreRight before → length (customers_in before) ≤ 4096
+pub customers_few : (before : List Line) → AreRightLines before → length (customers_in before) ≤ 4096
 customers_few [] right = omega arith
 customers_few (HeadLine d ∷ before) right = customers_few before right.1
 customers_few (CustomerLine c ∷ before) right =
@@ -65,7 +65,7 @@ customers_few (CustomerLine c ∷ before) right =
 customers_few (BatchLine ∷ before) right = customers_few before right.1
 customers_few (RequestLine a ∷ before) right = customers_few before right.1
 
-pub batches_few : (before : List Line) → AreRight before → batches_in before ≤ 65535
+pub batches_few : (before : List Line) → AreRightLines before → batches_in before ≤ 65535
 batches_few [] right = omega arith
 batches_few (HeadLine d ∷ before) right = batches_few before right.1
 batches_few (CustomerLine c ∷ before) right = batches_few before right.1

@@ -6,11 +6,11 @@ use Rattle.std.proofs.lemmas.Bool.{and_parts, leb-true, lt-ltb, false≢true, ca
 use Rattle.std.proofs.lemmas.List.{append-nil, map-append, get_or_append_left, get_or_at}
 use Rattle.eve_grammar.specs.Trace.{Customer, Asked}
 use Rattle.eve_grammar.specs.Limits.{is_between, is_customer, is_asked}
-use Rattle.eve_workload.specs.Workload.{Workload, IsWorkload, is_listed, names_of, pair_of, requests_of}
+use Rattle.eve_workload.specs.Workload.{Workload, IsWorkload, is_listed, customer_names, pair_of, requests_of}
 use Rattle.eve_workload.specs.Lines.{Line, HeadLine, CustomerLine, BatchLine, RequestLine, line_words, line_text}
 use Rattle.eve_workload.specs.Lines.{batch_lines, lines_of, workload_text}
 use Rattle.eve_workload.specs.Steps.{customers_in, requests_in, batches_in, last_requests, may_follow, may_end}
-use Rattle.eve_workload.specs.Steps.{is_deployment, IsRightBehind, AreRight, text_before, IsBadLine}
+use Rattle.eve_workload.specs.Steps.{is_deployment, IsRightBehind, AreRightLines, text_before, IsBadLine}
 use Rattle.eve_workload.proofs.Deployments.{other_counts, few_batches, some_customers}
 use Rattle.eve_workload.proofs.OneAnswer.{same_lines, follows_fewer}
 
@@ -59,10 +59,11 @@ customers_no_requests : (before : List Line) (cs : List Customer) → requests_i
 customers_no_requests before [] = refl
 customers_no_requests before (c ∷ cs) = customers_no_requests (CustomerLine c ∷ before) cs
 
-customers_right : (before : List Line) (cs : List Customer) → AreRight before
+customers_right : (before : List Line) (cs : List Customer) → AreRightLines before
     → ((c : Customer) → may_follow before (CustomerLine c) ≡ true) → list_all is_customer cs ≡ true
-    → length (customers_in before) + length cs ≤ 4096 → AllPairs (λ a b. a ≢ b) (names_of (customers_in before ++ cs))
-    → AreRight (onto before (map CustomerLine cs))
+    → length (customers_in before) + length cs ≤ 4096
+    → AllPairs (λ a b. a ≢ b) (customer_names (customers_in before ++ cs))
+    → AreRightLines (onto before (map CustomerLine cs))
 customers_right before [] right follows all few apart = right
 customers_right before (c ∷ cs) right follows all few apart =
     let parts = and_parts (is_customer c) (list_all is_customer cs) all in
@@ -72,11 +73,12 @@ customers_right before (c ∷ cs) right follows all few apart =
       follows = follows c;
       ranges = parts.0;
       room = lt-ltb (length (customers_in before)) 4096 (omega arith);
-      new = fresh (names_of (customers_in before)) (names_of cs) c.name names;
+      new = fresh (customer_names (customers_in before)) (customer_names cs) c.name names;
     } in
     customers_right (CustomerLine c ∷ before) cs (here, right) (λ e. refl) parts.1
     (omega (arith, length-append (customers_in before) (c ∷ [])))
-    (subst (λ xs. AllPairs (λ a b. a ≢ b) (names_of xs)) (sym (append_assoc (customers_in before) (c ∷ []) cs)) apart)
+    (subst (λ xs. AllPairs (λ a b. a ≢ b) (customer_names xs)) (sym (append_assoc (customers_in before) (c ∷ []) cs))
+    apart)
 
 -- ---- requests
 
@@ -100,11 +102,11 @@ requests_listed before [] = sym (append-nil (requests_in before))
 requests_listed before (r ∷ rs) = requests_listed (RequestLine r ∷ before) rs
     ∙ append_assoc (requests_in before) (r ∷ []) rs
 
-requests_right : (before : List Line) (rs more : List Asked) → AreRight before
+requests_right : (before : List Line) (rs more : List Asked) → AreRightLines before
     → ((a : Asked) → may_follow before (RequestLine a) ≡ true) → list_all is_asked rs ≡ true
     → last_requests before + length rs ≤ 256
     → AllPairs (λ p q. p ≢ q) (map pair_of (requests_in before ++ (rs ++ more)))
-    → AreRight (onto before (map RequestLine rs))
+    → AreRightLines (onto before (map RequestLine rs))
 requests_right before [] more right follows all few apart = right
 requests_right before (r ∷ rs) more right follows all few apart =
     let parts = and_parts (is_asked r) (list_all is_asked rs) all in
@@ -121,10 +123,10 @@ requests_right before (r ∷ rs) more right follows all few apart =
 
 -- ---- batches
 
-batches_right : (before : List Line) (parts : List (List Asked)) → AreRight before → IsClosed before
+batches_right : (before : List Line) (parts : List (List Asked)) → AreRightLines before → IsClosed before
     → list_all is_listed parts ≡ true → batches_in before + length parts ≤ 65535
     → AllPairs (λ p q. p ≢ q) (map pair_of (requests_in before ++ requests_of parts))
-    → AreRight (onto before (flat_map batch_lines parts)) × IsClosed (onto before (flat_map batch_lines parts))
+    → AreRightLines (onto before (flat_map batch_lines parts)) × IsClosed (onto before (flat_map batch_lines parts))
 batches_right before [] right closed all few apart = (right, closed)
 batches_right before (part ∷ parts) right closed all few apart =
     let both = and_parts (is_listed part) (list_all is_listed parts) all in
@@ -145,7 +147,7 @@ batches_right before (part ∷ parts) right closed all few apart =
     (subst (λ xs. AllPairs (λ p q. p ≢ q) (map pair_of xs))
     (sym (ap (λ xs. xs ++ requests_of parts) (requests_listed (BatchLine ∷ before) part)
     ∙ append_assoc (requests_in before) part (requests_of parts))) apart) in
-    subst (λ lines. AreRight lines × IsClosed lines)
+    subst (λ lines. AreRightLines lines × IsClosed lines)
     (sym (onto-append (BatchLine ∷ before) (map RequestLine part) (flat_map batch_lines parts))) rest
 
 -- ---- all lines
@@ -167,14 +169,15 @@ module _ (w : Workload) (is : IsWorkload w) where
   some_customers_closed before (c ∷ cs) some = customers_closed (CustomerLine c ∷ before) cs record
       { ends = refl; opens = refl }
 
-  pub back_right : AreRight lines_back × IsClosed lines_back
+  pub back_right : AreRightLines lines_back × IsClosed lines_back
   back_right =
       let head : List Line = HeadLine w.deployment ∷ [] in
-      let head_right : AreRight head = (record { follows = refl; ranges = deployment_right; room = refl; new = tt }, tt)
+      let head_right : AreRightLines head =
+      (record { follows = refl; ranges = deployment_right; room = refl; new = tt }, tt)
       in
       let counted = some_customers w.deployment (length w.customers) (length w.batches) is.head in
       let inside : List Line = onto head (map CustomerLine w.customers) in
-      let right : AreRight inside = customers_right head w.customers head_right (λ c. refl) is.customers
+      let right : AreRightLines inside = customers_right head w.customers head_right (λ c. refl) is.customers
       (omega arith) is.names in
       let closed : IsClosed inside = some_customers_closed head w.customers counted.0 in
       let few = few_batches w.deployment (length w.customers) (length w.batches) is.head in
@@ -182,7 +185,7 @@ module _ (w : Workload) (is : IsWorkload w) where
       (omega (arith, customers_no_batches head w.customers))
       (subst (λ xs. AllPairs (λ p q. p ≢ q) (map pair_of (xs ++ requests_of w.batches)))
       (sym (customers_no_requests head w.customers)) is.pairs) in
-      subst (λ lines. AreRight lines × IsClosed lines)
+      subst (λ lines. AreRightLines lines × IsClosed lines)
       (sym (onto-append head (map CustomerLine w.customers) (flat_map batch_lines w.batches))) all
 
   pub back_text : workload_text w ≡ text_before lines_back ++ []

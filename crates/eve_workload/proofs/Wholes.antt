@@ -11,12 +11,13 @@ use Rattle.std.proofs.lemmas.List.Concat.{flat_map-append}
 use Rattle.eve_grammar.specs.Trace.{Customer, Asked}
 use Rattle.eve_grammar.specs.Limits.{is_between, is_customer, is_asked, is_head}
 use Rattle.eve_workload.specs.declared.deployment.Deployment.{Deployment}
-use Rattle.eve_workload.specs.Workload.{Workload, IsWorkload, head_of, is_listed, names_of, pair_of, requests_of}
+use Rattle.eve_workload.specs.Workload.{Workload, IsWorkload, head_asked, is_listed, customer_names, pair_of}
+use Rattle.eve_workload.specs.Workload.{requests_of}
 use Rattle.eve_workload.specs.Lines.{Line, HeadLine, CustomerLine, BatchLine, RequestLine, line_text, batch_lines}
 use Rattle.eve_workload.specs.Lines.{workload_text}
 use Rattle.eve_workload.specs.Steps.{customers_in, requests_in, batches_in, last_requests, may_follow, may_end}
-use Rattle.eve_workload.specs.Steps.{is_deployment, AreRight, text_before}
-use Rattle.eve_workload.specs.Held.{cut_at, starts_from, workload_of, IsHeld}
+use Rattle.eve_workload.specs.Steps.{is_deployment, AreRightLines, text_before}
+use Rattle.eve_workload.specs.Held.{cut_at, starts_from, workload_of, IsHeldWorkload}
 use Rattle.eve_workload.specs.declared.workload.Workload.TheInside.{Inside}
 use Rattle.eve_workload.specs.declared.draft.Draft.{Draft}
 use Rattle.eve_workload.specs.Drafts.{starts_in, deployment_in, Keeps}
@@ -102,7 +103,7 @@ starts_push : (parts : List (List Asked)) (a : Asked) → 1 ≤ length parts →
 starts_push [] a some = absurd (omega arith)
 starts_push (part ∷ parts) a some = starts-push_last 0 part parts a
 
-pub starts_are : (before : List Line) → AreRight before → starts_from 0 (batches_of before) ≡ starts_in before
+pub starts_are : (before : List Line) → AreRightLines before → starts_from 0 (batches_of before) ≡ starts_in before
 starts_are [] right = refl
 starts_are (HeadLine d ∷ before) right = starts_are before right.1
 starts_are (CustomerLine c ∷ before) right = starts_are before right.1
@@ -113,7 +114,7 @@ starts_are (BatchLine ∷ before) right =
 starts_are (RequestLine a ∷ before) right = starts_push (batches_of before) a (batch_there before a right.0.follows)
     ∙ starts_are before right.1
 
-pub batches_counted : (before : List Line) → AreRight before → length (batches_of before) ≡ batches_in before
+pub batches_counted : (before : List Line) → AreRightLines before → length (batches_of before) ≡ batches_in before
 batches_counted [] right = refl
 batches_counted (HeadLine d ∷ before) right = batches_counted before right.1
 batches_counted (CustomerLine c ∷ before) right = batches_counted before right.1
@@ -136,13 +137,13 @@ cut_all front (part ∷ next ∷ parts) behind items starts are =
     (omega (arith, length-append front part)) (are ∙ sym (append_assoc front part rest)) in
     (λ k. first k ∷ later k)
 
-pub cut_batches : (before : List Line) → AreRight before → cut_at (requests_in before) (starts_in before)
+pub cut_batches : (before : List Line) → AreRightLines before → cut_at (requests_in before) (starts_in before)
     ≡ batches_of before
 cut_batches before right =
     (λ k. cut_at (sym (batches_flat before) k) (sym (starts_are before right) k))
     ∙ cut_all [] (batches_of before) 0 (requests_of (batches_of before)) refl refl
 
-no_batches : (before : List Line) (c : Customer) → AreRight before → IsTrue (may_follow before (CustomerLine c))
+no_batches : (before : List Line) (c : Customer) → AreRightLines before → IsTrue (may_follow before (CustomerLine c))
     → batches_of before ≡ []
 no_batches [] c right follows = cc
 no_batches (HeadLine d ∷ []) c right follows = refl
@@ -200,7 +201,7 @@ text_more text lines more line so_far are =
     (λ k. so_far k ++ sym (append-nil (line_text line)) k) ∙ sym (flat_map-append line_text lines (line ∷ []))
     ∙ ap (flat_map line_text) (sym are)
 
-pub text_so : (before : List Line) → AreRight before
+pub text_so : (before : List Line) → AreRightLines before
     → IfSome (deployment_in before) (λ d. text_before before ≡ flat_map line_text (lines_so d before))
 text_so [] right = tt
 text_so (HeadLine d ∷ []) right = sym (append-nil (line_text (HeadLine d)))
@@ -223,7 +224,7 @@ text_so (RequestLine a ∷ before) right =
 
 -- ---- limits
 
-pub deployment_there : (before : List Line) → AreRight before → 1 ≤ length before → (e : Deployment)
+pub deployment_there : (before : List Line) → AreRightLines before → 1 ≤ length before → (e : Deployment)
     × (deployment_in before ≡ Some e) × IsTrue (is_deployment e)
 deployment_there [] right some = absurd (omega arith)
 deployment_there (HeadLine d ∷ before) right some = (d, refl, right.0.ranges)
@@ -256,7 +257,8 @@ past_request (CustomerLine c ∷ before) a follows = refl
 past_request (BatchLine ∷ before) a follows = refl
 past_request (RequestLine b ∷ before) a follows = refl
 
-customers_there : (before : List Line) → AreRight before → past_head before ≡ true → 1 ≤ length (customers_in before)
+customers_there : (before : List Line) → AreRightLines before → past_head before ≡ true
+    → 1 ≤ length (customers_in before)
 customers_there [] right past = absurd (false≢true past)
 customers_there (HeadLine d ∷ before) right past = absurd (false≢true past)
 customers_there (CustomerLine c ∷ before) right past = omega (arith, length-append (customers_in before) (c ∷ []))
@@ -264,7 +266,8 @@ customers_there (BatchLine ∷ before) right past = customers_there before right
 customers_there (RequestLine a ∷ before) right past =
     customers_there before right.1 (past_request before a right.0.follows)
 
-pub customers_some : (before : List Line) → AreRight before → may_end before ≡ true → 1 ≤ length (customers_in before)
+pub customers_some : (before : List Line) → AreRightLines before → may_end before ≡ true
+    → 1 ≤ length (customers_in before)
 customers_some [] right ends = absurd (false≢true ends)
 customers_some (HeadLine d ∷ before) right ends = absurd (false≢true ends)
 customers_some (CustomerLine c ∷ before) right ends = customers_there (CustomerLine c ∷ before) right refl
@@ -276,7 +279,7 @@ all_push : {A : Type 0} (p : A → Bool) (xs : List A) (x : A) → IsTrue (list_
 all_push p xs x all here = list_all-append p xs (x ∷ [])
     ∙ and_from (list_all p xs) (p x && true) all (and_from (p x) true here refl)
 
-pub customers_right : (before : List Line) → AreRight before → IsTrue (list_all is_customer (customers_in before))
+pub customers_right : (before : List Line) → AreRightLines before → IsTrue (list_all is_customer (customers_in before))
 customers_right [] right = refl
 customers_right (HeadLine d ∷ before) right = customers_right before right.1
 customers_right (CustomerLine c ∷ before) right = all_push is_customer (customers_in before) c
@@ -284,7 +287,7 @@ customers_right (CustomerLine c ∷ before) right = all_push is_customer (custom
 customers_right (BatchLine ∷ before) right = customers_right before right.1
 customers_right (RequestLine a ∷ before) right = customers_right before right.1
 
-requests_right : (before : List Line) → AreRight before → IsTrue (list_all is_asked (requests_in before))
+requests_right : (before : List Line) → AreRightLines before → IsTrue (list_all is_asked (requests_in before))
 requests_right [] right = refl
 requests_right (HeadLine d ∷ before) right = requests_right before right.1
 requests_right (CustomerLine c ∷ before) right = requests_right before right.1
@@ -297,16 +300,18 @@ apart_push : {A : Type 0} (xs : List A) (x : A) → AllPairs (λ a b. a ≢ b) x
 apart_push xs x apart new = all_pairs_push (λ a b. a ≢ b) xs x apart
     (λ k d there same. new (k, there, get_or_default xs k x d there ∙ same))
 
-pub names_apart : (before : List Line) → AreRight before → AllPairs (λ a b. a ≢ b) (names_of (customers_in before))
+pub names_apart : (before : List Line) → AreRightLines before
+    → AllPairs (λ a b. a ≢ b) (customer_names (customers_in before))
 names_apart [] right = λ i j d below there. absurd (omega arith)
 names_apart (HeadLine d ∷ before) right = names_apart before right.1
 names_apart (CustomerLine c ∷ before) right =
     subst (AllPairs (λ a b. a ≢ b)) (sym (map_push (λ (e : Customer). e.name) (customers_in before) c))
-    (apart_push (names_of (customers_in before)) c.name (names_apart before right.1) right.0.new)
+    (apart_push (customer_names (customers_in before)) c.name (names_apart before right.1) right.0.new)
 names_apart (BatchLine ∷ before) right = names_apart before right.1
 names_apart (RequestLine a ∷ before) right = names_apart before right.1
 
-pub pairs_apart : (before : List Line) → AreRight before → AllPairs (λ a b. a ≢ b) (map pair_of (requests_in before))
+pub pairs_apart : (before : List Line) → AreRightLines before
+    → AllPairs (λ a b. a ≢ b) (map pair_of (requests_in before))
 pairs_apart [] right = λ i j d below there. absurd (omega arith)
 pairs_apart (HeadLine d ∷ before) right = pairs_apart before right.1
 pairs_apart (CustomerLine c ∷ before) right = pairs_apart before right.1
@@ -343,7 +348,7 @@ record AreSome (before : List Line) : Type 0 where
   pushed : (a : Asked) → IsTrue (list_all has_some (push_last (batches_of before) a))
   closed : IsTrue (may_follow before BatchLine) → IsTrue (list_all has_some (batches_of before))
 
-are_some : (before : List Line) → AreRight before → AreSome before
+are_some : (before : List Line) → AreRightLines before → AreSome before
 are_some [] right = record { pushed = λ a. refl; closed = λ _. refl }
 are_some (HeadLine d ∷ before) right =
     record { pushed = λ a. (are_some before right.1).pushed a; closed = λ no. absurd (false≢true no) }
@@ -385,7 +390,7 @@ last_len_snoc [] = refl
 last_len_snoc (part ∷ []) = refl
 last_len_snoc (part ∷ next ∷ parts) = last_len_snoc (next ∷ parts)
 
-last_counts : (before : List Line) → AreRight before → in_batch before ≡ true → last_len (batches_of before)
+last_counts : (before : List Line) → AreRightLines before → in_batch before ≡ true → last_len (batches_of before)
     ≡ last_requests before
 last_counts [] right inside = absurd (false≢true inside)
 last_counts (HeadLine d ∷ before) right inside = absurd (false≢true inside)
@@ -406,7 +411,7 @@ push_has_few (part ∷ next ∷ parts) a all low =
     and_from (has_few part) (list_all has_few (push_last (next ∷ parts) a)) both.0
     (push_has_few (next ∷ parts) a both.1 low)
 
-are_few : (before : List Line) → AreRight before → IsTrue (list_all has_few (batches_of before))
+are_few : (before : List Line) → AreRightLines before → IsTrue (list_all has_few (batches_of before))
 are_few [] right = refl
 are_few (HeadLine d ∷ before) right = are_few before right.1
 are_few (CustomerLine c ∷ before) right = are_few before right.1
@@ -443,7 +448,7 @@ ends_closed (CustomerLine c ∷ before) ends = refl
 ends_closed (BatchLine ∷ before) ends = absurd (false≢true ends)
 ends_closed (RequestLine a ∷ before) ends = refl
 
-batches_listed : (before : List Line) → AreRight before → may_end before ≡ true
+batches_listed : (before : List Line) → AreRightLines before → may_end before ≡ true
     → IsTrue (list_all is_listed (batches_of before))
 batches_listed before right ends =
     all_listed (batches_of before) ((are_some before right).closed (ends_closed before ends)) (are_few before right)
@@ -454,8 +459,9 @@ batches_listed before right ends =
 abbrev pub workload_in : Deployment → List Line → Workload
 workload_in d before = record { deployment = d; customers = customers_in before; batches = batches_of before }
 
-head_right : (d : Deployment) (before : List Line) → AreRight before → may_end before ≡ true → IsTrue (is_deployment d)
-    → IsTrue (is_head (head_of (workload_in d before)))
+head_right : (d : Deployment) (before : List Line) → AreRightLines before → may_end before ≡ true
+    → IsTrue (is_deployment d)
+    → IsTrue (is_head (head_asked (workload_in d before)))
 head_right d before right ends ranges =
     let customers = length (customers_in before) in
     let batches = length (batches_of before) in
@@ -466,7 +472,7 @@ head_right d before right ends ranges =
     (and_from (is_between 1 4096 customers) (nat_le batches 65535)
     (and_from (nat_le 1 customers) (nat_le customers 4096) some few) batch_few)
 
-workload_right : (d : Deployment) (before : List Line) → AreRight before → may_end before ≡ true
+workload_right : (d : Deployment) (before : List Line) → AreRightLines before → may_end before ≡ true
     → IsTrue (is_deployment d) → IsWorkload (workload_in d before)
 workload_right d before right ends ranges = record {
   head = head_right d before right ends ranges;
@@ -503,7 +509,7 @@ module _ (d : Draft) (before : List Line) (keeps : Keeps d before) (ends : may_e
       (workload_right d.deployment before keeps.right ends
       (subst (λ e. IsTrue (is_deployment e)) (sym same_head) the_head.2))
 
-  pub whole_held : IsHeld inside_of
+  pub whole_held : IsHeldWorkload inside_of
   whole_held = record {
     workload = whole_right;
     requests = keeps.requests ∙ sym (batches_flat before) ∙ ap requests_of (sym batches_are_so);

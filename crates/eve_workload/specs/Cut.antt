@@ -2,7 +2,7 @@
 use Rattle.std.specs.Prelude.{◌≡◌, ℕ, ◌+◌, ◌≤◌, List, [], ◌∷◌, length, zero, suc}
 use Rattle.std.specs.List.{list_any, flat_map}
 use Rattle.eve_smallbank.specs.declared.entry.Kind.{Kind}
-use Rattle.eve_smallbank.specs.Access.{Rows}
+use Rattle.eve_smallbank.specs.Access.{RowKinds}
 use Rattle.eve_workload.specs.declared.cut.Cut.{Cut}
 use Rattle.eve_workload.specs.Mixing.{collide}
 use Rattle.eve_workload.specs.Marks.{is_barred, IsEven}
@@ -16,7 +16,7 @@ one_more (size ∷ sizes) (suc group) = size ∷ one_more sizes group
 
 -- The requests stand in these groups, and the marks say of each row in which of them it is in conflict. There are no
 -- more groups than requests.
-pub record IsCut (cut : Cut) (rows : ℕ → Rows) (groups : List (List ℕ)) : Type 0 where
+pub record IsCut (cut : Cut) (rows : ℕ → RowKinds) (groups : List (List ℕ)) : Type 0 where
   pub even : IsEven cut.marks
   pub bars : (row : ℕ × Kind) (group : ℕ)
       → is_barred cut.marks row group ≡ list_any (collide row) (flat_map rows (group_at groups group))

@@ -4,14 +4,15 @@ use Rattle.std.specs.Prelude.{IfSome, IsTrue, MatchBool}
 use Rattle.std.specs.List.{list_any}
 use Rattle.std.specs.Borrow.{Bor}
 use Rattle.eve_accounts.specs.Names.{same_name}
+use Rattle.eve_grammar.specs.declared.limits.TheConstants.{MOST_CUSTOMERS, MOST_BATCHES, MOST_REQUESTS}
 use Rattle.eve_write.specs.Data.{customer, asked}
 use Rattle.eve_workload.specs.declared.deployment.Deployment.{Deployment}
 use Rattle.eve_workload.specs.declared.draft.Last.{Last}
 use Rattle.eve_workload.specs.declared.draft.Last.TheVariants as last
 use Rattle.eve_workload.specs.declared.draft.Draft.{Draft}
-use Rattle.eve_workload.specs.Workload.{names_of}
+use Rattle.eve_workload.specs.Workload.{customer_names}
 use Rattle.eve_workload.specs.Lines.{Line, HeadLine, CustomerLine, BatchLine, RequestLine, line_text}
-use Rattle.eve_workload.specs.Steps.{customers_in, requests_in, last_requests, IsRightBehind, AreRight}
+use Rattle.eve_workload.specs.Steps.{customers_in, requests_in, last_requests, IsRightBehind, AreRightLines}
 use Rattle.eve_workload.specs.Steps.{text_before, may_end}
 use Rattle.eve_workload.specs.Pairs.{key_of, AreMet}
 
@@ -50,20 +51,21 @@ has_name keys name = list_any (λ key. same_name name key.now) keys
 
 -- few enough that their counts fit
 pub record IsSmall (d : Draft) : Type 0 where
-  pub customers : length d.customers.items ≤ 4096
-  pub starts : length d.starts.items ≤ 65535
-  pub requests : length d.requests.items ≤ 65535 * 256
+  pub customers : length d.customers.items ≤ MOST_CUSTOMERS
+  pub starts : length d.starts.items ≤ MOST_BATCHES
+  pub requests : length d.requests.items ≤ MOST_BATCHES * MOST_REQUESTS
 
 -- the draft keeps these lines, which are right
 pub record Keeps (d : Draft) (before : List Line) : Type 0 where
-  pub right : AreRight before
+  pub right : AreRightLines before
   pub last : d.last ≡ last_in before
   pub deployment : IfSome (deployment_in before) (λ e. d.deployment ≡ e)
   pub customers : map customer d.customers.items ≡ customers_in before
   pub requests : map asked d.requests.items ≡ requests_in before
   pub starts : d.starts.items ≡ starts_in before
   pub count : d.count ≡ last_requests before
-  pub names : (name : List ℕ) → has_name d.names.keys name ≡ list_any (same_name name) (names_of (customers_in before))
+  pub names : (name : List ℕ) → has_name d.names.keys name ≡ list_any (same_name name)
+      (customer_names (customers_in before))
   pub pairs : AreMet d.pairs (map key_of (requests_in before))
 
 -- the line was taken, or it may not stand after these

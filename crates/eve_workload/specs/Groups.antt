@@ -5,17 +5,17 @@ use Rattle.eve_smallbank.specs.declared.request.Abort.TheVariants.{NoSuchName}
 use Rattle.eve_smallbank.specs.declared.rows.Touched.{Touched}
 use Rattle.eve_smallbank.specs.declared.rows.Touched.TheVariants.{Refused}
 use Rattle.eve_smallbank.specs.SmallBank.{DepositChecking}
-use Rattle.eve_smallbank.specs.Access.{Rows}
+use Rattle.eve_smallbank.specs.Access.{RowKinds}
 use Rattle.eve_smallbank.specs.Touch.{rows_in}
 use Rattle.eve_grammar.specs.Trace.{Asked}
 use Rattle.eve_workload.specs.Mixing.{share}
 
 -- the rows of the request with this index, none past the last
-abbrev pub rows_at : List Touched → ℕ → Rows
+abbrev pub rows_at : List Touched → ℕ → RowKinds
 rows_at touched i = rows_in (slice_index_or touched i (Refused NoSuchName))
 
 -- requests that touch these rows are in conflict
-abbrev pub share_at : (ℕ → Rows) → ℕ → ℕ → Bool
+abbrev pub share_at : (ℕ → RowKinds) → ℕ → ℕ → Bool
 share_at rows i j = share (rows i) (rows j)
 
 -- a request that is refused whatever names there are

@@ -23,7 +23,7 @@ workload_of w = record {
 }
 
 -- what is true of every workload
-pub record IsHeld (w : Inside) : Type 0 where
+pub record IsHeldWorkload (w : Inside) : Type 0 where
   pub workload : IsWorkload (workload_of w)
   pub requests : map asked w.requests.items ≡ requests_of (workload_of w).batches
   pub starts : w.starts.items ≡ starts_from 0 (workload_of w).batches

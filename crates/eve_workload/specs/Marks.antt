@@ -3,7 +3,7 @@ use Rattle.std.specs.Prelude.{◌≡◌, ℕ, ◌<◌, Bool, false, nat_eq, List
 use Rattle.std.specs.List.{position_or_len}
 use Rattle.eve_smallbank.specs.declared.entry.Kind.{Kind}
 use Rattle.eve_smallbank.specs.declared.entry.Kind.TheVariants.{Read, Write}
-use Rattle.eve_smallbank.specs.Access.{Rows}
+use Rattle.eve_smallbank.specs.Access.{RowKinds}
 use Rattle.eve_workload.specs.declared.marks.Marks.{Marks}
 use Rattle.eve_workload.specs.declared.marks.RowMarks.{RowMarks}
 use Rattle.eve_workload.specs.declared.marks.Spot.{Spot}
@@ -36,7 +36,7 @@ abbrev pub spot_of : List ℕ → ℕ × Kind → Spot
 spot_of rows row = record { place = place_of rows row.0; kind = row.1 }
 
 -- these rows were met, and their marks stand at these spots
-pub record AreSpots (marks : RowMarks) (rows : Rows) (spots : List Spot) : Type 0 where
+pub record AreSpots (marks : RowMarks) (rows : RowKinds) (spots : List Spot) : Type 0 where
   pub even : IsEven marks
   pub are : spots ≡ map (spot_of marks.rows.keys) rows
   pub met : All (λ row. place_of marks.rows.keys row.0 < length marks.rows.keys) rows

@@ -3,7 +3,7 @@ use Rattle.std.specs.Prelude.{ℕ, ◌==◌, Bool, ◌&&◌, ◌||◌, IsFalse, 
 use Rattle.std.specs.Prelude.{AllPairs}
 use Rattle.std.specs.List.{list_any, flat_map}
 use Rattle.eve_smallbank.specs.declared.entry.Kind.{Kind}
-use Rattle.eve_smallbank.specs.Access.{is_write, Rows}
+use Rattle.eve_smallbank.specs.Access.{is_write, RowKinds}
 use Rattle.eve_smallbank.specs.Touch.{touched_of, rows_in}
 use Rattle.eve_grammar.specs.Trace.{Asked, Batch}
 use Rattle.eve_workload.specs.declared.mixer.Mixer.{Mixer}
@@ -16,11 +16,11 @@ abbrev pub collide : ℕ × Kind → ℕ × Kind → Bool
 collide a b = (a.0 == b.0) && (is_write a.1 || is_write b.1)
 
 -- they share a row that at least one of them writes
-abbrev pub share : Rows → Rows → Bool
+abbrev pub share : RowKinds → RowKinds → Bool
 share a b = list_any (λ row. list_any (collide row) b) a
 
 -- the rows that a request touches; one that is refused whatever the balances are touches none
-abbrev pub rows_touched : List (List ℕ) → Asked → Rows
+abbrev pub rows_touched : List (List ℕ) → Asked → RowKinds
 rows_touched names a = rows_in (touched_of names a.request)
 
 -- two requests conflict where they share a row that at least one of them writes
@@ -46,8 +46,8 @@ cut names First requests = first_fit (conflict names) [] requests
 cut names Whole requests = requests ∷ []
 
 -- the batch with these parallelBatches
-abbrev pub batch_of : List (List Asked) → Batch
-batch_of groups = record { sizes = map length groups; requests = flat_map (λ group. group) groups }
+abbrev pub batch_with : List (List Asked) → Batch
+batch_with groups = record { sizes = map length groups; requests = flat_map (λ group. group) groups }
 
 -- no two of them are in conflict
 abbrev pub AreApart : List (List ℕ) → List Asked → Type 0

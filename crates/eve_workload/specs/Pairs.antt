@@ -41,16 +41,16 @@ Follows None number = ⊤
 Follows (Some last) number = last < number
 
 -- the last number of a place is not below this one
-abbrev pub Reaches : Option ℕ → ℕ → Type 0
-Reaches None number = ⊥
-Reaches (Some last) number = number ≤ last
+abbrev pub ReachesNumber : Option ℕ → ℕ → Type 0
+ReachesNumber None number = ⊥
+ReachesNumber (Some last) number = number ≤ last
 
 -- the last number of the client's place is not below the pair's
-abbrev pub IsReached : List (Option ℕ) → Pair → Type 0
-IsReached last pair = Reaches (at_place last pair.client) pair.number
+abbrev pub IsUpToLast : List (Option ℕ) → Pair → Type 0
+IsUpToLast last pair = ReachesNumber (at_place last pair.client) pair.number
 
 -- these are the pairs that were met
 pub record AreMet (p : Pairs) (met : List Pair) : Type 0 where
-  pub reached : IsTrue p.rises → All (IsReached p.last) met
+  pub reached : IsTrue p.rises → All (IsUpToLast p.last) met
   pub unlisted : IsTrue p.rises → Lists p.table []
   pub listed : IsFalse p.rises → Lists p.table met

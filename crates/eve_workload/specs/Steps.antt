@@ -1,10 +1,11 @@
 -- Which line may stand after which, and the first that may not. Of the lines before, the nearest stands first.
 use Rattle.std.specs.Prelude.{◌≡◌, ℕ, ◌+◌, nat_lt, Bool, true, false, IsTrue, List, [], ◌∷◌, ◌++◌, ⊤, map, length}
 use Rattle.std.specs.Prelude.{Contains}
+use Rattle.eve_grammar.specs.declared.limits.TheConstants.{MOST_CUSTOMERS, MOST_BATCHES, MOST_REQUESTS}
 use Rattle.eve_grammar.specs.Trace.{Customer, Asked}
 use Rattle.eve_grammar.specs.Limits.{is_customer, is_asked, is_head}
 use Rattle.eve_workload.specs.declared.deployment.Deployment.{Deployment}
-use Rattle.eve_workload.specs.Workload.{head_with, names_of, pair_of}
+use Rattle.eve_workload.specs.Workload.{head_with, customer_names, pair_of}
 use Rattle.eve_workload.specs.Lines.{Line, HeadLine, CustomerLine, BatchLine, RequestLine, line_text}
 
 -- the customers of lines, as they are listed
@@ -84,14 +85,14 @@ is_line (RequestLine a) = is_asked a
 -- whether there are fewer of them than there may be: 4,096 customers, 65,535 batches, 256 requests of a batch
 abbrev pub has_room : List Line → Line → Bool
 has_room before (HeadLine d) = true
-has_room before (CustomerLine c) = nat_lt (length (customers_in before)) 4096
-has_room before BatchLine = nat_lt (batches_in before) 65535
-has_room before (RequestLine a) = nat_lt (last_requests before) 256
+has_room before (CustomerLine c) = nat_lt (length (customers_in before)) MOST_CUSTOMERS
+has_room before BatchLine = nat_lt (batches_in before) MOST_BATCHES
+has_room before (RequestLine a) = nat_lt (last_requests before) MOST_REQUESTS
 
 -- no customer has the name yet, no request the client and the number
 abbrev pub IsNew : List Line → Line → Type 0
 IsNew before (HeadLine d) = ⊤
-IsNew before (CustomerLine c) = ¬ Contains (names_of (customers_in before)) c.name
+IsNew before (CustomerLine c) = ¬ Contains (customer_names (customers_in before)) c.name
 IsNew before BatchLine = ⊤
 IsNew before (RequestLine a) = ¬ Contains (map pair_of (requests_in before)) (pair_of a)
 
@@ -103,9 +104,9 @@ pub record IsRightBehind (before : List Line) (line : Line) : Type 0 where
   pub new : IsNew before line
 
 -- each line may stand after those before it
-abbrev pub AreRight : List Line → Type 0
-AreRight [] = ⊤
-AreRight (line ∷ before) = IsRightBehind before line × AreRight before
+abbrev pub AreRightLines : List Line → Type 0
+AreRightLines [] = ⊤
+AreRightLines (line ∷ before) = IsRightBehind before line × AreRightLines before
 
 -- the text of lines
 abbrev pub text_before : List Line → List ℕ
@@ -118,7 +119,7 @@ pub record IsBadLine (bytes : List ℕ) (number : ℕ) : Type 0 where
   pub before : List Line
   pub rest : List ℕ
   pub text : bytes ≡ text_before before ++ rest
-  pub right : AreRight before
+  pub right : AreRightLines before
   pub count : number ≡ length before + 1
   pub wrong : (line : Line) (behind : List ℕ) → rest ≡ line_text line ++ behind → ¬ IsRightBehind before line
   pub unended : rest ≡ [] → may_end before ≡ false

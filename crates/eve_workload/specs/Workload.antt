@@ -1,6 +1,7 @@
 -- A workload: what a deployment is asked to do.
 use Rattle.std.specs.Prelude.{◌≢◌, ℕ, Bool, ◌&&◌, IsTrue, List, map, length, AllPairs}
 use Rattle.std.specs.List.{list_all, flat_map}
+use Rattle.eve_grammar.specs.declared.limits.TheConstants.{MOST_REQUESTS}
 use Rattle.eve_grammar.specs.Trace.{Customer, Asked, Head}
 use Rattle.eve_grammar.specs.Limits.{is_between, is_customer, is_asked, is_head}
 use Rattle.eve_workload.specs.declared.deployment.Deployment.{Deployment}
@@ -24,12 +25,12 @@ head_with d customers batches = record {
 }
 
 -- the numbers in the header of its trace
-abbrev pub head_of : Workload → Head
-head_of w = head_with w.deployment (length w.customers) (length w.batches)
+abbrev pub head_asked : Workload → Head
+head_asked w = head_with w.deployment (length w.customers) (length w.batches)
 
 -- the customers' names, in their order
-abbrev pub names_of : List Customer → List (List ℕ)
-names_of customers = map (λ c. c.name) customers
+abbrev pub customer_names : List Customer → List (List ℕ)
+customer_names customers = map (λ c. c.name) customers
 
 -- what tells one request from another: the client and the client's number
 abbrev pub pair_of : Asked → ℕ × ℕ
@@ -41,12 +42,12 @@ requests_of batches = flat_map (λ requests. requests) batches
 
 -- 1 to 256 requests
 abbrev pub is_listed : List Asked → Bool
-is_listed requests = is_between 1 256 (length requests) && list_all is_asked requests
+is_listed requests = is_between 1 MOST_REQUESTS (length requests) && list_all is_asked requests
 
 -- the limits, names that differ, and pairs that differ over all batches
 pub record IsWorkload (w : Workload) : Type 0 where
-  pub head : IsTrue (is_head (head_of w))
+  pub head : IsTrue (is_head (head_asked w))
   pub customers : IsTrue (list_all is_customer w.customers)
   pub batches : IsTrue (list_all is_listed w.batches)
-  pub names : AllPairs (λ a b. a ≢ b) (names_of w.customers)
+  pub names : AllPairs (λ a b. a ≢ b) (customer_names w.customers)
   pub pairs : AllPairs (λ a b. a ≢ b) (map pair_of (requests_of w.batches))

@@ -1,7 +1,7 @@
 //! Requests that are put into groups one after another.
 
 ghost use Rattle.std.specs.Prelude.{◌≡◌, ◌+◌, ◌<◌, ◌≤◌, ℕ, List, [], IfOk, OnOk, length, slice_index};
-ghost use Rattle.eve_smallbank.specs.Access.{Rows};
+ghost use Rattle.eve_smallbank.specs.Access.{RowKinds};
 ghost use Rattle.eve_workload.specs.Mixing.{placed};
 ghost use Rattle.eve_workload.specs.Groups.{share_at};
 ghost use Rattle.eve_workload.specs.Cut.{one_more, IsCut};
@@ -26,7 +26,7 @@ pub(crate) struct Cut {
 impl Cut {
     /// No requests, and room for so many.
     pub(crate) fn new(alloc: Global, requests: usize) -> Result<Cut, AllocError>
-        ensures { IfOk result (λ c. (rows : ℕ → Rows) → IsCut c rows []) }
+        ensures { IfOk result (λ c. (rows : ℕ → RowKinds) → IsCut c rows []) }
     {
         Ok(Cut {
             marks: RowMarks::new(alloc, requests)?,
@@ -39,10 +39,10 @@ impl Cut {
     /// into a new one at the end.
     pub(crate) fn place(&mut self, touched: &UpToThree<(Row, Kind)>) -> Result<(), AllocError>
         requires few { length self.old.seats.items < MOST_REQUESTS }
-        requires cut { (rows : ℕ → Rows) × (groups : List (List ℕ)) ×
+        requires cut { (rows : ℕ → RowKinds) × (groups : List (List ℕ)) ×
             (rows (length self.old.seats.items) ≡ touched.now) × IsCut self.old rows groups }
         ensures count { OnOk result (length self.new.seats.items ≡ length self.old.seats.items + 1) }
-        ensures cut { OnOk result ((rows : ℕ → Rows) → (groups : List (List ℕ)) →
+        ensures cut { OnOk result ((rows : ℕ → RowKinds) → (groups : List (List ℕ)) →
             rows (length self.old.seats.items) ≡ touched.now → IsCut self.old rows groups →
             IsCut self.new rows (placed (share_at rows) groups (length self.old.seats.items))) }
     {

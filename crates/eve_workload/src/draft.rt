@@ -4,11 +4,11 @@ ghost use Rattle.std.specs.Prelude.{◌≡◌, ◌≤◌, ℕ, ◌+◌, List, []
 ghost use Rattle.eve_accounts.specs.Names.{same_name};
 ghost use Rattle.eve_grammar.specs.Trace.{Customer, Asked as AskedValue};
 ghost use Rattle.eve_grammar.specs.Limits.{is_customer, is_asked};
-ghost use Rattle.eve_grammar.specs.Bodies.{asked as borrowed_asked};
+ghost use Rattle.eve_grammar.specs.Bodies.{borrowed_asked};
 ghost use Rattle.eve_workload.specs.declared.deployment.Deployment.{Deployment as DeploymentValue};
 ghost use Rattle.eve_workload.specs.Lines.{Line as LineValue, HeadLine, CustomerLine, BatchLine, RequestLine};
 ghost use Rattle.eve_workload.specs.Steps.{may_follow, may_end, is_deployment, is_line};
-ghost use Rattle.eve_workload.specs.Said.{customer as borrowed_customer, said};
+ghost use Rattle.eve_workload.specs.Said.{borrowed_customer, line_said};
 ghost use Rattle.eve_workload.specs.Drafts.{last_in, next_of, has_name, IsSmall, Keeps, Takes};
 ghost use Rattle.eve_workload.specs.Drafts.{TakesLine};
 
@@ -94,9 +94,9 @@ impl<'a> Draft<'a> {
     // Takes a line, or says that it may not stand here.
     fn take(&mut self, line: &Line<'a>) -> Result<bool, AllocError>
         requires small { IsSmall self.old }
-        requires right { IsTrue (is_line (said line.now)) }
+        requires right { IsTrue (is_line (line_said line.now)) }
         ensures { IfOk result (λ taken. (before : List LineValue) → Keeps self.old before
-            → Takes self.new before (said line.now) taken) }
+            → Takes self.new before (line_said line.now) taken) }
     {
         match line {
             Line::Head(deployment) => Ok(self.take_head(*deployment)),

@@ -5,7 +5,7 @@ ghost use Rattle.std.specs.Prelude.{◌≡◌, List, ℕ, All, IsPermutation};
 ghost use Rattle.eve_grammar.specs.Trace.{Asked};
 ghost use Rattle.eve_workload.specs.declared.mixer.Mixer.{Mixer};
 ghost use Rattle.eve_workload.specs.declared.mixer.Mixer.TheVariants.{First};
-ghost use Rattle.eve_workload.specs.Mixing.{cut, batch_of, AreApart};
+ghost use Rattle.eve_workload.specs.Mixing.{cut, batch_with, AreApart};
 ghost use Rattle.eve_workload.specs.Workload.{Workload, IsWorkload};
 ghost use Rattle.eve_workload.specs.Lines.{workload_text};
 ghost use Rattle.eve_workload.specs.Steps.{IsBadLine};
@@ -33,5 +33,5 @@ pub fn parallel_batches_are_apart()
 /// A cut keeps each request, and adds none.
 pub fn cuts_keep_requests()
     ensures { (names : List (List ℕ)) → (mixer : Mixer) → (requests : List Asked) →
-        IsPermutation requests (batch_of (cut names mixer requests)).requests }
+        IsPermutation requests (batch_with (cut names mixer requests)).requests }
 {}

@@ -9,7 +9,7 @@ ghost use Rattle.eve_workload.specs.Lines.{Line as LineValue, HeadLine, Customer
 ghost use Rattle.eve_workload.specs.Lines.{line_words};
 ghost use Rattle.eve_workload.specs.Steps.{is_deployment, is_line};
 ghost use Rattle.eve_workload.specs.Words.{bytes_of};
-ghost use Rattle.eve_workload.specs.Said.{said};
+ghost use Rattle.eve_workload.specs.Said.{line_said};
 
 use crate::deployment::Deployment;
 use crate::numbers::{amount, balance, byte_number, number, saving, small_number};
@@ -26,7 +26,7 @@ pub(crate) struct CustomerFields<'a> {
     pub checking: Cents,
 }
 
-/// What a line says. Contracts see it by `said`.
+/// What a line says. Contracts see it by `line_said`.
 #[derive(Clone, Copy)]
 pub(crate) enum Line<'a> {
     Head(Deployment),
@@ -37,7 +37,8 @@ pub(crate) enum Line<'a> {
 
 /// What a line of these words says; `None` where it is no line that may stand in a workload.
 pub(crate) fn line_of<'a>(words: &[&'a [u8]]) -> Option<Line<'a>>
-    ensures some { IfSome result (λ l. (line_words (said l) ≡ bytes_of words.now) × IsTrue (is_line (said l))) }
+    ensures some { IfSome result (λ l. (line_words (line_said l) ≡ bytes_of words.now)
+        × IsTrue (is_line (line_said l))) }
     ensures none { IfNone result ((l : LineValue) → IsTrue (is_line l) → line_words l ≢ bytes_of words.now) }
 {
     match words.len() {
@@ -57,7 +58,8 @@ pub(crate) fn line_of<'a>(words: &[&'a [u8]]) -> Option<Line<'a>>
 
 fn line_of_five<'a>(words: &[&'a [u8]]) -> Option<Line<'a>>
     requires { length words.now ≡ 5 }
-    ensures some { IfSome result (λ l. (line_words (said l) ≡ bytes_of words.now) × IsTrue (is_line (said l))) }
+    ensures some { IfSome result (λ l. (line_words (line_said l) ≡ bytes_of words.now)
+        × IsTrue (is_line (line_said l))) }
     ensures none { IfNone result ((a : AskedValue) → IsTrue (is_asked a)
         → line_words (RequestLine a) ≢ bytes_of words.now) }
 {
@@ -91,7 +93,8 @@ fn five_of<'a>(words: &[&'a [u8]]) -> Five<'a>
 
 fn line_of_six<'a>(words: &[&'a [u8]]) -> Option<Line<'a>>
     requires { length words.now ≡ 6 }
-    ensures some { IfSome result (λ l. (line_words (said l) ≡ bytes_of words.now) × IsTrue (is_line (said l))) }
+    ensures some { IfSome result (λ l. (line_words (line_said l) ≡ bytes_of words.now)
+        × IsTrue (is_line (line_said l))) }
     ensures none { IfNone result ((d : DeploymentValue) → IsTrue (is_deployment d)
         → line_words (HeadLine d) ≢ bytes_of words.now) }
 {
@@ -133,7 +136,7 @@ fn six_of<'a>(words: &[&'a [u8]]) -> Six<'a>
 }
 
 fn batch_line<'a>(kind: &[u8]) -> Option<Line<'a>>
-    ensures some { IfSome result (λ l. (line_words (said l) ≡ kind.now ∷ []) × IsTrue (is_line (said l))) }
+    ensures some { IfSome result (λ l. (line_words (line_said l) ≡ kind.now ∷ []) × IsTrue (is_line (line_said l))) }
     ensures none { IfNone result (codes "batch" ≢ kind.now) }
 {
     if says(kind, b"batch") {
@@ -152,8 +155,9 @@ fn head_line<'a>(
     workers: &[u8],
 ) -> Option<Line<'a>>
     ensures some { IfSome result (λ l.
-        (line_words (said l) ≡ kind.now ∷ replicas.now ∷ verifiers.now ∷ quorum.now ∷ window.now ∷ workers.now ∷ [])
-        × IsTrue (is_line (said l))) }
+        (line_words (line_said l) ≡ kind.now ∷ replicas.now ∷ verifiers.now ∷ quorum.now ∷ window.now ∷ workers.now
+        ∷ [])
+        × IsTrue (is_line (line_said l))) }
     ensures none { IfNone result ((d : DeploymentValue) → IsTrue (is_deployment d) →
         line_words (HeadLine d) ≢ kind.now ∷ replicas.now ∷ verifiers.now ∷ quorum.now ∷ window.now
         ∷ workers.now ∷ []) }
@@ -177,8 +181,8 @@ fn head_line<'a>(
 
 fn customer_line<'a>(name: &'a [u8], saved: &[u8], checked: &[u8]) -> Option<Line<'a>>
     ensures some { IfSome result (λ l.
-        (line_words (said l) ≡ codes "customer" ∷ name.entry.now ∷ saved.now ∷ checked.now ∷ [])
-        × IsTrue (is_line (said l))) }
+        (line_words (line_said l) ≡ codes "customer" ∷ name.entry.now ∷ saved.now ∷ checked.now ∷ [])
+        × IsTrue (is_line (line_said l))) }
     ensures none { IfNone result ((c : Customer) → IsTrue (is_customer c) →
         line_words (CustomerLine c) ≢ codes "customer" ∷ name.entry.now ∷ saved.now ∷ checked.now ∷ []) }
 {
@@ -195,7 +199,8 @@ fn customer_line<'a>(name: &'a [u8], saved: &[u8], checked: &[u8]) -> Option<Lin
 // The request with one name and no amount.
 fn short_line<'a>(kind: &[u8], client: &[u8], count: &[u8], name: &'a [u8]) -> Option<Line<'a>>
     ensures some { IfSome result (λ l.
-        (line_words (said l) ≡ kind.now ∷ client.now ∷ count.now ∷ name.entry.now ∷ []) × IsTrue (is_line (said l))) }
+        (line_words (line_said l) ≡ kind.now ∷ client.now ∷ count.now ∷ name.entry.now ∷ [])
+        × IsTrue (is_line (line_said l))) }
     ensures none { IfNone result ((a : AskedValue) → IsTrue (is_asked a) →
         line_words (RequestLine a) ≢ kind.now ∷ client.now ∷ count.now ∷ name.entry.now ∷ []) }
 {
@@ -218,8 +223,8 @@ fn long_line<'a>(
     last: &'a [u8],
 ) -> Option<Line<'a>>
     ensures some { IfSome result (λ l.
-        (line_words (said l) ≡ kind.now ∷ client.now ∷ count.now ∷ name.entry.now ∷ last.entry.now ∷ [])
-        × IsTrue (is_line (said l))) }
+        (line_words (line_said l) ≡ kind.now ∷ client.now ∷ count.now ∷ name.entry.now ∷ last.entry.now ∷ [])
+        × IsTrue (is_line (line_said l))) }
     ensures none { IfNone result ((a : AskedValue) → IsTrue (is_asked a) →
         line_words (RequestLine a) ≢ kind.now ∷ client.now ∷ count.now ∷ name.entry.now ∷ last.entry.now ∷ []) }
 {

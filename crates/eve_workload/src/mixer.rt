@@ -6,7 +6,7 @@ ghost use Rattle.eve_smallbank.specs.Touch.{touched_of};
 ghost use Rattle.eve_grammar.specs.Limits.{is_asked, is_batch};
 ghost use Rattle.eve_write.specs.Data.{asked, batch};
 ghost use Rattle.eve_workload.specs.declared.mixer.Mixer.TheVariants.{First};
-ghost use Rattle.eve_workload.specs.Mixing.{cut, batch_of};
+ghost use Rattle.eve_workload.specs.Mixing.{cut, batch_with};
 ghost use Rattle.eve_workload.specs.Mixed.{touched_by, IsMixed};
 
 use crate::groups::first_fit;
@@ -49,7 +49,7 @@ pub fn mix(
 ) -> Result<BatchData, AllocError>
     requires some { 1 ≤ length requests.now }
     requires few { length requests.now ≤ MOST_REQUESTS }
-    ensures batch { IfOk result (λ b. batch b ≡ batch_of (cut names.now.items mixer (map asked requests.now))) }
+    ensures batch { IfOk result (λ b. batch b ≡ batch_with (cut names.now.items mixer (map asked requests.now))) }
     ensures each_once { IfOk result (λ b. IsPermutation (map asked requests.now) (batch b).requests) }
     ensures right { IfOk result (λ b.
         IsTrue (list_all is_asked (map asked requests.now)) → IsTrue (is_batch (batch b))) }
@@ -70,7 +70,7 @@ pub fn mix_touched(
 ) -> Result<MixedBatch, AllocError>
     requires some { 1 ≤ length requests.now }
     requires few { length requests.now ≤ MOST_REQUESTS }
-    ensures batch { IfOk result (λ m. batch m.batch ≡ batch_of (cut names.now.items mixer (map asked requests.now))) }
+    ensures batch { IfOk result (λ m. batch m.batch ≡ batch_with (cut names.now.items mixer (map asked requests.now))) }
     ensures touched { IfOk result (λ m.
         m.touched.items ≡ map (λ a. touched_of names.now.items a.request) (batch m.batch).requests) }
     ensures each_once { IfOk result (λ m. IsPermutation (map asked requests.now) (batch m.batch).requests) }

@@ -4,7 +4,7 @@ ghost use Rattle.std.specs.Prelude.{◌≡◌, ℕ, List, [], ◌∷◌, ◌++�
 ghost use Rattle.std.specs.Prelude.{OnOk, IsTrue, IsFalse};
 ghost use Rattle.std.specs.List.{list_any};
 ghost use Rattle.eve_workload.specs.declared.pairs.Pair.{Pair as PairValue};
-ghost use Rattle.eve_workload.specs.Pairs.{has_pair, same_pair, pairs_in, Follows, IsReached, Lists, AreMet};
+ghost use Rattle.eve_workload.specs.Pairs.{has_pair, same_pair, pairs_in, Follows, IsUpToLast, Lists, AreMet};
 
 use eve_write::RequestData;
 use std::alloc::{AllocError, Global};
@@ -65,10 +65,10 @@ impl Pairs {
         ensures refused { IsFalse result → self.new ≡ self.old }
         ensures rises { self.new.rises ≡ self.old.rises }
         ensures table { self.new.table ≡ self.old.table }
-        ensures new { IsTrue result → (met : List PairValue) → All (IsReached self.old.last) met
+        ensures new { IsTrue result → (met : List PairValue) → All (IsUpToLast self.old.last) met
             → list_any (same_pair pair) met ≡ false }
-        ensures reached { IsTrue result → (met : List PairValue) → All (IsReached self.old.last) met
-            → All (IsReached self.new.last) (met ++ pair ∷ []) }
+        ensures reached { IsTrue result → (met : List PairValue) → All (IsUpToLast self.old.last) met
+            → All (IsUpToLast self.new.last) (met ++ pair ∷ []) }
     {
         let place = pair.client as usize % PLACES;
         if !follows(self.last[place], pair.number) {

@@ -2,7 +2,7 @@
 
 ghost use Rattle.std.specs.Prelude.{◌≡◌, ◌<◌, [], ◌∷◌, ◌++◌, All, IfOk, OnOk, IsTrue, length, map};
 ghost use Rattle.eve_smallbank.specs.SmallBank.{plain};
-ghost use Rattle.eve_grammar.specs.Bodies.{asked as said};
+ghost use Rattle.eve_grammar.specs.Bodies.{borrowed_asked as said};
 ghost use Rattle.eve_grammar.specs.Limits.{is_asked, is_request};
 ghost use Rattle.eve_workload.specs.Groups.{listed};
 ghost use Rattle.eve_write.specs.Data.{asked, transaction};

@@ -6,7 +6,7 @@ ghost use Rattle.std.specs.List.{list_all};
 ghost use Rattle.eve_grammar.specs.Bodies.{limits};
 ghost use Rattle.eve_grammar.specs.Limits.{is_customer, is_asked, is_head};
 ghost use Rattle.eve_write.specs.Data.{customer, asked};
-ghost use Rattle.eve_workload.specs.Workload.{IsWorkload, head_of, names_of};
+ghost use Rattle.eve_workload.specs.Workload.{IsWorkload, head_asked, customer_names};
 ghost use Rattle.eve_workload.specs.Lines.{Line, workload_text};
 ghost use Rattle.eve_workload.specs.Steps.{text_before, may_end, IsBadLine};
 ghost use Rattle.eve_workload.specs.Drafts.{Keeps, KeepsAll};
@@ -37,11 +37,11 @@ impl Model for Workload {
 
     ghost Value = { Workload };
 
-    ghost use Rattle.eve_workload.specs.Held.{workload_of, IsHeld};
+    ghost use Rattle.eve_workload.specs.Held.{workload_of, IsHeldWorkload};
 
     ghost view = { workload_of };
 
-    ghost invariant = { IsHeld };
+    ghost invariant = { IsHeldWorkload };
 }
 
 impl Workload {
@@ -61,7 +61,7 @@ impl Workload {
 
     /// The numbers in the header of its trace.
     pub fn head(&self) -> Head
-        ensures head { limits result ≡ head_of self.now }
+        ensures head { limits result ≡ head_asked self.now }
         ensures right { IsTrue (is_head (limits result)) }
         ensures workload { IsWorkload self.now }
     {
@@ -76,7 +76,7 @@ impl Workload {
         ensures some { 1 ≤ length result.now }
         ensures few { length result.now ≤ MOST_CUSTOMERS }
         ensures right { IsTrue (list_all is_customer (map customer result.now)) }
-        ensures differ { AllPairs (λ a b. a ≢ b) (names_of (map customer result.now)) }
+        ensures differ { AllPairs (λ a b. a ≢ b) (customer_names (map customer result.now)) }
     {
         self.customers.as_slice()
     }

@@ -16,7 +16,7 @@ use Rattle.eve_write.specs.declared.vote.VoteData.{VoteData}
 use Rattle.eve_write.specs.declared.parts.Parts.{Parts}
 use Rattle.eve_write.specs.Data.{customer, batch, access, attempt, section, votes, step, vote, sent, trace}
 use Rattle.eve_write.specs.Writable.{fits_vote, HasSpelling}
-use Rattle.eve_write.specs.Passes.{fits_step, right_step, right_vote, are_right}
+use Rattle.eve_write.specs.Passes.{fits_step, right_step, right_vote, are_right_parts}
 use Rattle.eve_write.proofs.Rising.{few_rising}
 
 -- a step that a section may hold can be written
@@ -167,7 +167,7 @@ verifiers_join h (x ∷ xs) right due =
 
 -- parts that pass the tests under their header have a spelling
 pub HasSpelling-from_tests : (p : Parts) → IsTrue (is_head (head_of (trace p)))
-    → IsTrue (are_right (head_of (trace p)) p) → HasSpelling p
+    → IsTrue (are_right_parts (head_of (trace p)) p) → HasSpelling p
 HasSpelling-from_tests p right tests =
     let h = head_of (trace p) in
     let customers = list_all (λ c. is_customer (customer c)) p.customers.items in
@@ -193,7 +193,7 @@ HasSpelling-from_tests p right tests =
     }
 
 -- and those that have a spelling pass them
-pub tests_from-HasSpelling : (p : Parts) → HasSpelling p → IsTrue (are_right (head_of (trace p)) p)
+pub tests_from-HasSpelling : (p : Parts) → HasSpelling p → IsTrue (are_right_parts (head_of (trace p)) p)
 tests_from-HasSpelling p spelled =
     let h = head_of (trace p) in
     let limits = spelled.limits in
@@ -211,13 +211,14 @@ tests_from-HasSpelling p spelled =
     (sym (list_all-map (is_sent h.replicas h.batches) sent p.sent.items) ∙ limits.sent))))
 
 -- what the tests tell under a header that is that of the parts
-pub tested : (p : Parts) (h : Head) (r : Bool) → h ≡ head_of (trace p) → IsTrue (is_head h) → r ≡ are_right h p
+pub tested : (p : Parts) (h : Head) (r : Bool) → h ≡ head_of (trace p) → IsTrue (is_head h) → r ≡ are_right_parts h p
     → r ≡ true → HasSpelling p
 tested p h r same right is holds =
-    HasSpelling-from_tests p (ap is_head (sym same) ∙ right) (ap (λ k. are_right k p) (sym same) ∙ sym is ∙ holds)
+    HasSpelling-from_tests p (ap is_head (sym same) ∙ right) (ap (λ k. are_right_parts k p) (sym same) ∙ sym is ∙ holds)
 
-pub refused : (p : Parts) (h : Head) (r : Bool) → h ≡ head_of (trace p) → r ≡ are_right h p → r ≡ false → HasSpelling p
+pub refused : (p : Parts) (h : Head) (r : Bool) → h ≡ head_of (trace p) → r ≡ are_right_parts h p → r ≡ false
+    → HasSpelling p
     → ⊥
 refused p h r same is fails spelled =
-    let e : false ≡ true = sym fails ∙ is ∙ ap (λ k. are_right k p) same ∙ tests_from-HasSpelling p spelled in
+    let e : false ≡ true = sym fails ∙ is ∙ ap (λ k. are_right_parts k p) same ∙ tests_from-HasSpelling p spelled in
     false≢true e

@@ -2,6 +2,7 @@
 -- and the bytes.
 use Rattle.std.specs.Prelude.{ℕ, nat_le, Bool, true, ◌&&◌, List, ◌++◌, length}
 use Rattle.std.specs.List.{list_all, flat_map}
+use Rattle.eve_accounts.specs.declared.limits.TheConstants.{MOST_NAMED_ROWS}
 use Rattle.eve_grammar.specs.Trace.{Head, head_of}
 use Rattle.eve_grammar.specs.Frames.{OfVote, OfSent, End, batches_of, sections_of, verifiers_of}
 use Rattle.eve_grammar.specs.Spelling.{frame_text, step_text, head_text, customer_text, batch_text, section_text}
@@ -18,7 +19,7 @@ use Rattle.eve_write.specs.Writable.{fits_vote}
 abbrev pub fits_step : Step → Bool
 fits_step (Attempt a) = is_attempt (attempt a)
 fits_step (Commit c) = true
-fits_step (Rollback r) = nat_le (length r.restores.items) 131072
+fits_step (Rollback r) = nat_le (length r.restores.items) MOST_NAMED_ROWS
 
 -- whether a section of a trace with this header may hold the step
 abbrev pub right_step : Head → Step → Bool
@@ -37,8 +38,8 @@ abbrev pub vote_size : VoteData → ℕ
 vote_size v = length (frame_text (OfVote (vote v)))
 
 -- whether all parts lie within the limits under this header
-abbrev pub are_right : Head → Parts → Bool
-are_right h p =
+abbrev pub are_right_parts : Head → Parts → Bool
+are_right_parts h p =
     list_all (λ c. is_customer (customer c)) p.customers.items && (list_all (λ b. is_batch (batch b)) p.batches.items
     && (list_all (λ s. list_all (right_step h) s.items) p.sections.items &&
     (list_all (λ v. list_all (right_vote h) v.items) p.verifiers.items

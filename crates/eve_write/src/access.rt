@@ -12,9 +12,9 @@ ghost use Rattle.eve_write.specs.Data.{access as plain};
 ghost use Rattle.eve_write.specs.Writing.{Puts, Writes};
 
 use crate::fields::{byte, put_entries};
-use crate::judge::Judge;
 use crate::measure::Measure;
 use crate::pieces::{put, send};
+use crate::right::Judge;
 use crate::spell::Spell;
 use arrayvec::ArrayVec;
 use eve_grammar::Head;

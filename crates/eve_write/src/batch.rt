@@ -9,9 +9,9 @@ ghost use Rattle.eve_grammar.specs.Limits.{is_batch};
 ghost use Rattle.eve_write.specs.Data.{batch as plain};
 ghost use Rattle.eve_write.specs.Writing.{Writes};
 
-use crate::judge::{Judge, all_right};
 use crate::measure::Measure;
 use crate::request::{RequestData, len_of_requests};
+use crate::right::{Judge, all_right};
 use crate::spell::{send_texts, write_each};
 use eve_grammar::{Head, MOST_REQUESTS};
 use eve_streams::{SendFault, Sink};

@@ -8,8 +8,8 @@ ghost use Rattle.eve_write.specs.Data.{customer as plain};
 ghost use Rattle.eve_write.specs.Writing.{Writes};
 
 use crate::fields::{cents_bytes, name_len};
-use crate::judge::Judge;
 use crate::measure::Measure;
+use crate::right::Judge;
 use crate::spell::{Spell, send_texts};
 use eve_accounts::{Cents, Name};
 use eve_grammar::Head;

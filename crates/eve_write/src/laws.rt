@@ -5,7 +5,7 @@ ghost use Rattle.eve_grammar.specs.Trace.{Trace, head_of};
 ghost use Rattle.eve_grammar.specs.Frames.{frames_of};
 ghost use Rattle.eve_grammar.specs.Spelling.{length_of, spelling};
 ghost use Rattle.eve_grammar.specs.Limits.{Spells};
-ghost use Rattle.eve_grammar.specs.Following.{IsRun};
+ghost use Rattle.eve_grammar.specs.Following.{AreAllFrames};
 ghost use Rattle.eve_write.specs.Data.{trace};
 ghost use Rattle.eve_write.specs.Writable.{HasSpelling};
 ghost use Rattle.eve_write.specs.declared.parts.Parts.{Parts};
@@ -22,7 +22,7 @@ pub fn what_is_written_is_read_again()
     ensures frames { (p : Parts) (t : Trace) → HasSpelling p → length_of (trace p) ≤ MOST_BYTES
         → Spells (spelling (trace p)) t → frames_of t ≡ frames_of (trace p) }
     ensures run { (p : Parts) → HasSpelling p → length_of (trace p) ≤ MOST_BYTES
-        → IsRun (head_of (trace p)) (frames_of (trace p)) }
+        → AreAllFrames (head_of (trace p)) (frames_of (trace p)) }
 {
     eve_grammar::laws::bytes_spell_one_trace();
     eve_grammar::laws::each_trace_runs();

@@ -7,12 +7,12 @@ ghost use Rattle.eve_grammar.specs.Limits.{is_head};
 ghost use Rattle.eve_grammar.specs.Bodies.{limits};
 ghost use Rattle.eve_write.specs.Data.{trace};
 ghost use Rattle.eve_write.specs.Writable.{HasSpelling};
-ghost use Rattle.eve_write.specs.Passes.{are_right};
+ghost use Rattle.eve_write.specs.Passes.{are_right_parts};
 
 use crate::batch::BatchData;
 use crate::customer::CustomerData;
-use crate::judge::all_right;
 use crate::measure::len_of_each;
+use crate::right::all_right;
 use crate::sent::SentData;
 use crate::step::Step;
 use crate::vote::VoteData;
@@ -68,7 +68,7 @@ impl Parts {
 
     // Whether all parts lie within the limits under this header.
     pub(crate) fn are_right(&self, head: &Head) -> bool
-        ensures { result ≡ are_right (limits head.now) self.now }
+        ensures { result ≡ are_right_parts (limits head.now) self.now }
     {
         all_right(self.customers.as_slice(), head)
             && all_right(self.batches.as_slice(), head)

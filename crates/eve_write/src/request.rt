@@ -8,8 +8,8 @@ ghost use Rattle.eve_grammar.specs.Limits.{is_asked, is_request};
 ghost use Rattle.eve_write.specs.Data.{transaction, asked};
 
 use crate::fields::put_request;
-use crate::judge::Judge;
 use crate::pieces::{put, send};
+use crate::right::Judge;
 use crate::spell::Spell;
 use arrayvec::ArrayVec;
 use eve_accounts::{Amount, Name};

@@ -9,7 +9,7 @@ ghost use Rattle.eve_grammar.specs.Bodies.{limits, restore};
 ghost use Rattle.eve_write.specs.Data.{rollback as plain};
 ghost use Rattle.eve_write.specs.Writing.{Writes};
 
-use crate::judge::{Judge, all_right};
+use crate::right::{Judge, all_right};
 use crate::spell::{send_texts, write_each};
 use eve_grammar::{Head, MOST_NAMED_ROWS, Restore};
 use eve_streams::{SendFault, Sink};

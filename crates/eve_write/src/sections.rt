@@ -12,9 +12,9 @@ ghost use Rattle.eve_write.specs.Passes.{fits_step, right_step, right_vote, step
 ghost use Rattle.eve_write.specs.Writing.{Writes};
 
 use crate::batch::{BatchData, write_batch};
-use crate::judge::{Judge, all_right};
 use crate::marks::{write_replica, write_verifier};
 use crate::measure::{Measure, len_of_each};
+use crate::right::{Judge, all_right};
 use crate::spell::write_each;
 use crate::step::Step;
 use crate::vote::VoteData;

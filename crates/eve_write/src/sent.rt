@@ -8,9 +8,9 @@ ghost use Rattle.eve_write.specs.Data.{sent as plain};
 ghost use Rattle.eve_write.specs.Writing.{Writes};
 
 use crate::fields::{byte, put_reply};
-use crate::judge::Judge;
 use crate::measure::Measure;
 use crate::pieces::{put, send};
+use crate::right::Judge;
 use crate::spell::Spell;
 use arrayvec::ArrayVec;
 use eve_grammar::Head;

@@ -6,8 +6,8 @@ ghost use Rattle.eve_write.specs.Passes.{fits_step, right_step, step_size};
 
 use crate::attempt::AttemptData;
 use crate::commit::{CommitData, commit_fits, write_commit};
-use crate::judge::Judge;
 use crate::measure::Measure;
+use crate::right::Judge;
 use crate::rollback::{RollbackData, write_rollback};
 use crate::spell::Spell;
 use eve_grammar::Head;

@@ -10,8 +10,8 @@ ghost use Rattle.eve_write.specs.Passes.{vote_size, right_vote};
 ghost use Rattle.eve_write.specs.Writing.{Writes};
 
 use crate::fields::{token_fits, token_len};
-use crate::judge::Judge;
 use crate::measure::Measure;
+use crate::right::Judge;
 use crate::spell::{Spell, send_texts};
 use eve_grammar::Head;
 use eve_streams::{SendFault, Sink};

@@ -3,7 +3,7 @@ use Rattle.std.specs.Prelude.{IsTrue}
 use Rattle.std.proofs.lemmas.Option.{slice_get_read, slice_get_within}
 use Rattle.eve_frames.specs.Views.{attempt_in}
 use Rattle.eve_agree.specs.Agreement.{HaveSameOutcome}
-use Rattle.eve_agree.specs.Judging.{lower}
+use Rattle.eve_agree.specs.Judging.{lower_outcome}
 use Rattle.eve_agree.proofs.Outcomes.{section_history_is, section_histories_count, settlings_count, last_told}
 use Rattle.eve_agree.proofs.Outcomes.{outcome_of, replica_told, all_balances, same_outcome, outcome_same}
 use Rattle.eve_agree.proofs.Agreeing.{InBatch, batch_start, batch_more, batch_end, judged_none, judged_same}
@@ -76,10 +76,10 @@ loop-e-preserved c =
           w.index-histories-e-then-not-is_same.is) in
           let replica : w.replica.result ≡ e = w.replica.ensures
           ∙ replica_told t e w.index-histories-e-then-not-is_same.result told in
-          let is : c.if-n-committed.least ≡ lower before v.offset e = w.least-is ∙ w.lower-least.ensures
-          ∙ (λ k. lower before (w.offset.ensures k) (replica k)) in
+          let is : c.if-n-committed.least ≡ lower_outcome before v.offset e = w.least-is ∙ w.lower-least.ensures
+          ∙ (λ k. lower_outcome before (w.offset.ensures k) (replica k)) in
           subst (InBatch t c.args.least n (e + 1)) (sym is)
-          (batch_more t c.args.least n e before (lower before v.offset e) c.loop-e.invariant
+          (batch_more t c.args.least n e before (lower_outcome before v.offset e) c.loop-e.invariant
           (lower_stands t before v.offset e c.loop-e.invariant.stand (differs t e f n v.offset _ own first apart))
           (lower_lowers before v.offset e) (judged_apart t before e n v.offset _ own))
       | then-n-committed+else-not-is_same w ↦

@@ -4,7 +4,7 @@ use Rattle.std.proofs.lemmas.List.{take_all, drop_all}
 use Rattle.eve_grammar.specs.Trace.{Trace}
 use Rattle.eve_chains.specs.Settling.{Settling}
 use Rattle.eve_agree.specs.DueTokens.{IsFirstWrong}
-use Rattle.eve_agree.specs.Stretches.{IsJudged, AreStretches, first_found}
+use Rattle.eve_agree.specs.Stretches.{IsJudgedStretch, AreReadyStretches, first_found}
 use Rattle.eve_agree.specs.declared.due_tokens.Stretch.{Stretch}
 use Rattle.eve_agree.proofs.Stretched.{all_judged}
 use Rattle.eve_agree.proofs.due_tokens.first_in.Goals as goal
@@ -16,14 +16,15 @@ whole_slice xs ys n same many =
     take_all n ys (omega arith)
 
 -- what was found in all of them
-found_is : (t : Trace) (e : ℕ) (s : Settling) (xs ys old : List Stretch) (o : Option ℕ) → AreStretches s 0 xs →
+found_is : (t : Trace) (e : ℕ) (s : Settling) (xs ys old : List Stretch) (o : Option ℕ) → AreReadyStretches s 0 xs →
     length ys ≡ length old → old ≡ xs
-    → ((i : ℕ) (d : Stretch) → i < length old → IsJudged t e (get_or old i d) (get_or ys i d)) → o ≡ first_found ys →
+    → ((i : ℕ) (d : Stretch) → i < length old → IsJudgedStretch t e (get_or old i d) (get_or ys i d))
+    → o ≡ first_found ys →
     IsFirstWrong t e 0 (length s.batches) o
 found_is t e s xs ys old o cut same value judged is =
-    let mine : (i : ℕ) (d : Stretch) → i < length xs → IsJudged t e (get_or xs i d) (get_or ys i d) =
+    let mine : (i : ℕ) (d : Stretch) → i < length xs → IsJudgedStretch t e (get_or xs i d) (get_or ys i d) =
     subst (λ (zs : List Stretch). (i : ℕ) (d : Stretch) → i < length zs →
-    IsJudged t e (get_or zs i d) (get_or ys i d)) value judged in
+    IsJudgedStretch t e (get_or zs i d) (get_or ys i d)) value judged in
     subst (IsFirstWrong t e 0 (length s.batches)) (sym is) (all_judged t e s 0 xs ys (same ∙
     ap (λ (zs : List Stretch). length zs) value) cut.reaches cut.ready mine).1
 

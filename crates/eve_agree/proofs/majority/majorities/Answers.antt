@@ -1,6 +1,6 @@
 use Rattle.std.proofs.Common.{◌≡◌, ◌+◌, ◌<◌, ◌≤◌, length, sym, subst, ◌∙◌, arith}
 use Rattle.eve_agree.specs.Majority.{IsBackedSection}
-use Rattle.eve_agree.specs.Unbacked.{IsFirstIn, IsFoundBelow}
+use Rattle.eve_agree.specs.Unbacked.{IsFirstUnbackedIn, IsFirstUnbackedBelow}
 use Rattle.eve_agree.proofs.Replicas.{section_history_count, replica_at}
 use Rattle.eve_agree.proofs.Backing.{none_found, found_more, all_backed, no_fault, least_fault}
 use Rattle.eve_agree.proofs.majority.majorities.Goals as goal
@@ -26,10 +26,10 @@ loop-history-preserved c =
     let here : e < length t.sections = omega (arith, count, c.loop-history-test.true) in
     let own : c.replica.result ≡ e = c.replica.ensures
     ∙ replica_at t c.args.histories.now e c.history-item.result c.requires.histories here c.history-item.is in
-    subst (IsFoundBelow t (e + 1)) (sym c.first_of-first.ensures)
+    subst (IsFirstUnbackedBelow t (e + 1)) (sym c.first_of-first.ensures)
     (found_more t e c.loop-history.first c.first_in.result c.loop-history.invariant
     (subst (λ i. IfNone c.first_in.result (IsBackedSection t i)) own c.first_in.ensures.backed)
-    (subst (λ i. IfSome c.first_in.result (IsFirstIn t i)) own c.first_in.ensures.first))
+    (subst (λ i. IfSome c.first_in.result (IsFirstUnbackedIn t i)) own c.first_in.ensures.first))
 
 pub returns-in-Some-clause-least : goal.returns-in-Some-clause-least
 returns-in-Some-clause-least c =
@@ -37,7 +37,7 @@ returns-in-Some-clause-least c =
     let n = c.loop-history.history-index in
     let count = section_history_count t c.args.histories.now c.requires.histories in
     let all : length t.sections ≤ n = omega (arith, count, c.loop-history-test.false) in
-    least_fault t n c.in-Some.fault all (subst (IsFoundBelow t n) c.in-Some.is c.loop-history.invariant)
+    least_fault t n c.in-Some.fault all (subst (IsFirstUnbackedBelow t n) c.in-Some.is c.loop-history.invariant)
 
 pub returns-in-None-clause-backed : goal.returns-in-None-clause-backed
 returns-in-None-clause-backed c =
@@ -45,7 +45,7 @@ returns-in-None-clause-backed c =
     let n = c.loop-history.history-index in
     let count = section_history_count t c.args.histories.now c.requires.histories in
     let all : length t.sections ≤ n = omega (arith, count, c.loop-history-test.false) in
-    all_backed t n all (subst (IsFoundBelow t n) c.in-None.is c.loop-history.invariant)
+    all_backed t n all (subst (IsFirstUnbackedBelow t n) c.in-None.is c.loop-history.invariant)
 
 pub returns-in-None-clause-none : goal.returns-in-None-clause-none
 returns-in-None-clause-none c =
@@ -53,4 +53,4 @@ returns-in-None-clause-none c =
     let n = c.loop-history.history-index in
     let count = section_history_count t c.args.histories.now c.requires.histories in
     let all : length t.sections ≤ n = omega (arith, count, c.loop-history-test.false) in
-    no_fault t (all_backed t n all (subst (IsFoundBelow t n) c.in-None.is c.loop-history.invariant))
+    no_fault t (all_backed t n all (subst (IsFirstUnbackedBelow t n) c.in-None.is c.loop-history.invariant))

@@ -4,7 +4,7 @@ use Rattle.eve_grammar.specs.Trace.{Sent}
 use Rattle.eve_frames.specs.Views.{attempt_in, sent_in}
 use Rattle.eve_history.specs.Section.{batch_at}
 use Rattle.eve_history.specs.Faults.{request_id}
-use Rattle.eve_agree.specs.Keeping.{kept}
+use Rattle.eve_agree.specs.Keeping.{kept_ids}
 use Rattle.eve_agree.proofs.Answering.{not_committed, is_committed, replied_from, answer_from}
 use Rattle.eve_agree.proofs.sent_replies.is_replied.Goals as goal
 
@@ -19,13 +19,13 @@ returns-in-Some-clause-replied c =
     let committed = is_committed t s.replica s.seq c.args.history.now some.0 a c.requires.one c.requires.history at
     some.2 in
     let batch : c.turn_to.new.self.batch ≡ s.seq = c.turn_to.ensures.batch ∙ c.seq-in-Some.ensures in
-    let request_ids : kept c.turn_to.new.self ≡ map request_id (batch_at t s.seq).requests =
+    let request_ids : kept_ids c.turn_to.new.self ≡ map request_id (batch_at t s.seq).requests =
     c.turn_to.ensures.new.request_ids (subst (λ (n : ℕ). 1 ≤ n) (sym batch) c.requires.one)
     ∙ ap (λ (n : ℕ). map request_id (batch_at t n).requests) batch in (
-      λ found. let answer = c.find.ensures.answer.0 found in replied_from t s a.replies (kept c.turn_to.new.self)
+      λ found. let answer = c.find.ensures.answer.0 found in replied_from t s a.replies (kept_ids c.turn_to.new.self)
           answer.0 committed request_ids answer.1,
       λ replied. c.find.ensures.answer.1
-          (answer_from t s a.replies (kept c.turn_to.new.self) committed request_ids replied),
+          (answer_from t s a.replies (kept_ids c.turn_to.new.self) committed request_ids replied),
     )
 
 pub returns-in-None-clause-replied : goal.returns-in-None-clause-replied

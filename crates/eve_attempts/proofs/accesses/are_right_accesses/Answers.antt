@@ -2,9 +2,6 @@ use Rattle.std.proofs.Common.{◌≡◌, ℕ, ◌<◌, ◌≤◌, false, true, g
 use Rattle.eve_attempts.proofs.Marking.{marking_start, marking_end, stop_worker, stop_index, stop_again, stop_place}
 use Rattle.eve_attempts.proofs.Marking.{marking_more, place_room}
 use Rattle.eve_attempts.proofs.accesses.are_right_accesses.Goals as goal
-use Rattle.eve_attempts.proofs.accesses.are_right_accesses.Goals.{then-worker-workers-via-then-worker-workers}
-use Rattle.eve_attempts.proofs.accesses.are_right_accesses.Goals.{then-worker-workers-via-else-worker-workers+then-index-count}
-use Rattle.eve_attempts.proofs.accesses.are_right_accesses.Goals.{then-worker-workers-via-else-worker-workers+else-index-count+then-seen-index}
 
 pub loop-record-init : goal.loop-record-init
 loop-record-init c = marking_start c.args.workers c.args.count c.args.records.now
@@ -24,15 +21,15 @@ overflow_add-places c =
 
 pub returns-then-worker-workers : goal.returns-then-worker-workers
 returns-then-worker-workers c = elim c.then-worker-workers.branch [
-  | then-worker-workers-via-then-worker-workers w ↦
+  | goal.then-worker-workers-via-then-worker-workers w ↦
       stop_worker c.args.workers c.args.count c.args.records.now c.loop-record.record-index c.loop-record.seen
       c.loop-record.places c.loop-record.invariant c.record-item.result c.loop-record-test.true
       c.record-item.is (omega (arith, c.worker-worker.ensures, w.if-worker-workers.true))
-  | then-worker-workers-via-else-worker-workers+then-index-count w ↦
+  | goal.then-worker-workers-via-else-worker-workers+then-index-count w ↦
       stop_index c.args.workers c.args.count c.args.records.now c.loop-record.record-index c.loop-record.seen
       c.loop-record.places c.loop-record.invariant c.record-item.result c.loop-record-test.true
       c.record-item.is (omega (arith, c.index-index.ensures, w.if-index-count.true))
-  | then-worker-workers-via-else-worker-workers+else-index-count+then-seen-index w ↦
+  | goal.then-worker-workers-via-else-worker-workers+else-index-count+then-seen-index w ↦
       stop_again c.args.workers c.args.count c.args.records.now c.loop-record.record-index c.loop-record.seen
       c.loop-record.places c.loop-record.invariant c.record-item.result c.loop-record-test.true
       c.record-item.is (omega (arith, c.index-index.ensures, w.if-index-count.false, c.requires.count))

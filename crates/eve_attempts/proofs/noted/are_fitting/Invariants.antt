@@ -1,10 +1,10 @@
 use Rattle.std.proofs.Common.{◌≡◌, ℕ, List}
 use Rattle.eve_smallbank.specs.Access.{Fits}
 use Rattle.eve_write.specs.Data.{batch as plain}
-use Rattle.eve_attempts.specs.Closing.{touched_by, executed}
+use Rattle.eve_attempts.specs.Closing.{touched_in_batch, executed}
 use Rattle.eve_attempts.proofs.Listing.{Goes}
 use Rattle.eve_attempts.proofs.noted.are_fitting.Given as goal
 
 abbrev pub invariant-loop-record : goal.invariant-loop-record
-invariant-loop-record l = (names : List (List ℕ)) → l.touched ≡ touched_by names (plain l.batch)
+invariant-loop-record l = (names : List (List ℕ)) → l.touched ≡ touched_in_batch names (plain l.batch)
     → Goes (λ r. Fits names (executed (plain l.batch) r)) l.records l.record-index

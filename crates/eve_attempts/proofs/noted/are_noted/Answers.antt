@@ -2,27 +2,25 @@ use Rattle.std.proofs.Common.{ℕ, Bool, [], map, length, sym, ap, subst, ◌∙
 use Rattle.std.specs.Bool.{Decides}
 use Rattle.std.proofs.lemmas.Bool.{false≢true}
 use Rattle.eve_write.specs.Data.{batch as plain}
-use Rattle.eve_attempts.specs.Closing.{access_of, are_right_accesses, AreNoted}
+use Rattle.eve_attempts.specs.Closing.{access_noted, are_right_records, AreNoted}
 use Rattle.eve_attempts.proofs.Noting.{accesses_below, decides_noted, not_noted}
 use Rattle.eve_attempts.proofs.noted.are_noted.Goals as goal
-use Rattle.eve_attempts.proofs.noted.are_noted.Goals.{then-records-count-via-then-records-count}
-use Rattle.eve_attempts.proofs.noted.are_noted.Goals.{then-records-count-via-else-records-count+then-not-are_right_accesses}
 
 pub are_fitting-requires-clause-indexes : goal.are_fitting-requires-clause-indexes
 are_fitting-requires-clause-indexes c =
     accesses_below c.args.workers (length (plain c.args.batch.now).requests) [] c.args.records.now
-    (ap (λ (n : ℕ). are_right_accesses c.args.workers n [] (map access_of c.args.records.now))
+    (ap (λ (n : ℕ). are_right_records c.args.workers n [] (map access_noted c.args.records.now))
     (sym c.count_of-count.ensures) ∙ sym c.are_right_accesses.ensures ∙ c.if-not-are_right_accesses.false)
 
 pub returns-then-records-count : goal.returns-then-records-count
 returns-then-records-count c = elim c.then-records-count.branch [
-  | then-records-count-via-then-records-count w ↦
+  | goal.then-records-count-via-then-records-count w ↦
       not_noted c.args.workers c.args.rows (plain c.args.batch.now) c.args.touched.now c.args.records.now
       (λ noted. w.if-records-count.true (noted.many ∙ sym c.count_of-count.ensures))
-  | then-records-count-via-else-records-count+then-not-are_right_accesses w ↦
+  | goal.then-records-count-via-else-records-count+then-not-are_right_accesses w ↦
       not_noted c.args.workers c.args.rows (plain c.args.batch.now) c.args.touched.now c.args.records.now
       (λ noted. false≢true (sym w.if-not-are_right_accesses.true ∙ w.are_right_accesses.ensures
-      ∙ ap (λ (n : ℕ). are_right_accesses c.args.workers n [] (map access_of c.args.records.now))
+      ∙ ap (λ (n : ℕ). are_right_records c.args.workers n [] (map access_noted c.args.records.now))
       c.count_of-count.ensures ∙ noted.accesses))
 ]
 
@@ -30,7 +28,7 @@ pub returns-then-are_accesses : goal.returns-then-are_accesses
 returns-then-are_accesses c =
     decides_noted c.args.workers c.args.rows (plain c.args.batch.now) c.args.touched.now c.args.records.now
     c.requires.touched (c.if-records-count.false ∙ c.count_of-count.ensures)
-    (ap (λ (n : ℕ). are_right_accesses c.args.workers n [] (map access_of c.args.records.now))
+    (ap (λ (n : ℕ). are_right_records c.args.workers n [] (map access_noted c.args.records.now))
     (sym c.count_of-count.ensures) ∙ sym c.are_right_accesses.ensures ∙ c.if-not-are_right_accesses.false)
     c.are_fitting.result (sym c.are_accesses.ensures ∙ c.if-are_accesses.true) c.are_fitting.ensures
 

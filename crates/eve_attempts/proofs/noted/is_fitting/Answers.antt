@@ -7,7 +7,7 @@ use Rattle.eve_smallbank.specs.SmallBank.{Request, plain as plain_request}
 use Rattle.eve_smallbank.specs.Access.{Executed, Fits}
 use Rattle.eve_smallbank.specs.Touch.{touched_of}
 use Rattle.eve_write.specs.Data.{batch as plain, asked}
-use Rattle.eve_attempts.specs.Closing.{request_at, executed}
+use Rattle.eve_attempts.specs.Closing.{request_with, executed}
 use Rattle.eve_attempts.proofs.Noting.{request_found, touched_found}
 use Rattle.eve_attempts.proofs.noted.is_fitting.Goals as goal
 
@@ -28,7 +28,7 @@ returns c = λ names is.
     let many = length-map c.args.batch.now.requests.items asked in
     let within : c.index-index.result < length c.args.batch.now.requests.items =
     omega (arith, c.index-index.ensures, c.requires.index) in
-    let found : plain_request c.request.result ≡ request_at b c.index-index.result =
+    let found : plain_request c.request.result ≡ request_with b c.index-index.result =
     c.request.ensures ∙ sym (request_found c.args.batch.now c.index-index.result c.index-asked.result.now within
     c.index-asked.ensures) in
     let touches = touched_found names c.args.batch.now c.args.touched.now c.index-index.result c.index-asked.result.now
@@ -41,14 +41,14 @@ returns c = λ names is.
     } in
     let same : x ≡ executed b c.args.taken.now =
     ap (λ (q : Request). record { request = q; reply = c.reply.result; entries = c.entries.result })
-    (found ∙ ap (request_at b) c.index-index.ensures)
+    (found ∙ ap (request_with b) c.index-index.ensures)
     ∙ ap (λ (p : Reply). record {
-      request = request_at b c.args.taken.now.index;
+      request = request_with b c.args.taken.now.index;
       reply = p;
       entries = c.entries.result;
     }) c.reply.ensures
     ∙ ap (λ (es : List Entry). record {
-      request = request_at b c.args.taken.now.index;
+      request = request_with b c.args.taken.now.index;
       reply = c.args.taken.now.reply;
       entries = es;
     }) c.entries.ensures in

@@ -5,7 +5,7 @@ use Rattle.eve_grammar.specs.Trace.{Access}
 use Rattle.eve_write.specs.declared.access.AccessData.{AccessData}
 use Rattle.eve_write.specs.Data.{access}
 use Rattle.eve_stamps.specs.Applied.{Applied}
-use Rattle.eve_attempts.specs.Closing.{access_of}
+use Rattle.eve_attempts.specs.Closing.{access_noted}
 use Rattle.eve_attempts.proofs.Listing.{drop_read}
 use Rattle.eve_attempts.proofs.replies.accesses_of.Goals as goal
 
@@ -20,7 +20,7 @@ loop-record-preserved c =
       index = c.index.result;
       entries = c.entries.result;
     } in
-    let is : access x ≡ access_of r =
+    let is : access x ≡ access_noted r =
     ap (λ (n : ℕ). record { worker = n; place = c.place.result; index = c.index.result; entries = c.entries.result })
     c.worker.ensures
     ∙ ap (λ (n : ℕ). record { worker = r.worker; place = n; index = c.index.result; entries = c.entries.result })
@@ -30,13 +30,13 @@ loop-record-preserved c =
     ∙ ap (λ (es : List Entry). record { worker = r.worker; place = r.place; index = r.index; entries = es })
     c.entries.ensures in
     record {
-      accesses = ap (λ (xs : List AccessData). map access xs ++ map access_of (drop (k + 1) rs))
+      accesses = ap (λ (xs : List AccessData). map access xs ++ map access_noted (drop (k + 1) rs))
           c.push_reserved.ensures.items
-          ∙ ap (λ (xs : List Access). xs ++ map access_of (drop (k + 1) rs))
+          ∙ ap (λ (xs : List Access). xs ++ map access_noted (drop (k + 1) rs))
           (map-append access c.loop-record.accesses.items (x ∷ []))
-          ∙ append_assoc (map access c.loop-record.accesses.items) (access x ∷ []) (map access_of (drop (k + 1) rs))
-          ∙ ap (λ (y : Access). map access c.loop-record.accesses.items ++ y ∷ map access_of (drop (k + 1) rs)) is
-          ∙ ap (λ (ys : List Applied). map access c.loop-record.accesses.items ++ map access_of ys)
+          ∙ append_assoc (map access c.loop-record.accesses.items) (access x ∷ []) (map access_noted (drop (k + 1) rs))
+          ∙ ap (λ (y : Access). map access c.loop-record.accesses.items ++ y ∷ map access_noted (drop (k + 1) rs)) is
+          ∙ ap (λ (ys : List Applied). map access c.loop-record.accesses.items ++ map access_noted ys)
           (sym (drop_read rs k r c.loop-record-test.true c.record-item.is))
           ∙ c.loop-record.invariant.accesses;
       len = omega (arith, c.push_reserved.ensures.len, c.loop-record.invariant.len);

@@ -1,7 +1,7 @@
 use Rattle.std.proofs.Common.{ℕ, ◌+◌, ◌<◌, List, [], ◌∷◌, ◌++◌, drop, sym, subst, ap, ◌∙◌, append_assoc, arith}
 use Rattle.std.specs.List.{AllByRecursion}
 use Rattle.eve_smallbank.specs.declared.entry.Entry.{Entry}
-use Rattle.eve_attempts.specs.Restoring.{rows_of}
+use Rattle.eve_attempts.specs.Restoring.{entry_rows}
 use Rattle.eve_attempts.proofs.Listing.{all_push, drop_read}
 use Rattle.eve_attempts.proofs.restores.append_rows.Goals as goal
 
@@ -10,10 +10,10 @@ loop-entry-preserved c =
     let es = c.args.written.now in
     let k = c.loop-entry.entry-index in
     record {
-      rows = ap (λ (xs : List ℕ). xs ++ rows_of (drop (k + 1) es)) c.push_reserved.ensures.items
-          ∙ append_assoc c.loop-entry.rows.items (c.number.result ∷ []) (rows_of (drop (k + 1) es))
-          ∙ ap (λ (n : ℕ). c.loop-entry.rows.items ++ n ∷ rows_of (drop (k + 1) es)) c.number.ensures.number
-          ∙ ap (λ (ds : List Entry). c.loop-entry.rows.items ++ rows_of ds)
+      rows = ap (λ (xs : List ℕ). xs ++ entry_rows (drop (k + 1) es)) c.push_reserved.ensures.items
+          ∙ append_assoc c.loop-entry.rows.items (c.number.result ∷ []) (entry_rows (drop (k + 1) es))
+          ∙ ap (λ (n : ℕ). c.loop-entry.rows.items ++ n ∷ entry_rows (drop (k + 1) es)) c.number.ensures.number
+          ∙ ap (λ (ds : List Entry). c.loop-entry.rows.items ++ entry_rows ds)
           (sym (drop_read es k c.entry-item.result c.loop-entry-test.true c.entry-item.is))
           ∙ c.loop-entry.invariant.rows;
       small = subst (AllByRecursion (λ row. row < 131072)) (sym c.push_reserved.ensures.items)

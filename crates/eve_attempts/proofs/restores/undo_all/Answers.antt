@@ -2,16 +2,16 @@ use Rattle.std.proofs.Common.{◌≡◌, ℕ, ◌-◌, ◌≤◌, IsTrue, List, 
 use Rattle.std.specs.List.{list_all}
 use Rattle.std.proofs.lemmas.List.{drop_all}
 use Rattle.eve_smallbank.specs.Chain.{Table}
-use Rattle.eve_attempts.specs.Ledgers.{Opened, table_of, undone, writes_in, is_write_in}
+use Rattle.eve_attempts.specs.Ledgers.{Opened, table_of_rows, values_before, writes_in, is_write_in}
 use Rattle.eve_attempts.proofs.Listing.{drop_before}
-use Rattle.eve_attempts.proofs.TableLaws.{undone-append, writes_of_one}
+use Rattle.eve_attempts.proofs.TableLaws.{values_before-append, writes_of_one}
 use Rattle.eve_attempts.proofs.restores.undo_all.Goals as goal
 
 pub loop-end-init : goal.loop-end-init
 loop-end-init c = record {
   within = omega arith;
   as_many = refl;
-  table = ap (λ (os : List Opened). undone (table_of c.args.rows.now) (writes_in os))
+  table = ap (λ (os : List Opened). values_before (table_of_rows c.args.rows.now) (writes_in os))
       (sym (drop_all (length c.args.opened.now) c.args.opened.now (omega arith)));
 }
 
@@ -33,25 +33,25 @@ pub loop-end-preserved : goal.loop-end-preserved
 loop-end-preserved c =
     let within = c.loop-end.invariant.within in
     let some = c.loop-end-test.true in
-    let T = table_of c.args.rows.now in
+    let T = table_of_rows c.args.rows.now in
     let rest = writes_in (drop c.loop-end.end c.args.opened.now) in
     let o = c.index-opened-end.result in
     record {
       within = omega arith;
       as_many = c.undo.ensures.as_many ∙ c.loop-end.invariant.as_many;
       table = c.undo.ensures.table
-          ∙ ap (undone (table_of c.loop-end.rows))
+          ∙ ap (values_before (table_of_rows c.loop-end.rows))
           (c.as_slice.ensures.value ∙ ap (λ (p : Opened). p.written) c.open.view_is)
-          ∙ ap (λ (t : Table). undone t o.written) c.loop-end.invariant.table
-          ∙ sym (undone-append T o.written rest)
-          ∙ ap (λ (os : List Opened). undone T (writes_in os))
+          ∙ ap (λ (t : Table). values_before t o.written) c.loop-end.invariant.table
+          ∙ sym (values_before-append T o.written rest)
+          ∙ ap (λ (os : List Opened). values_before T (writes_in os))
           (sym (drop_before c.args.opened.now c.loop-end.end o some within c.index-opened-end.is));
     }
 
 pub returns-clause-table : goal.returns-clause-table
 returns-clause-table c =
     c.loop-end.invariant.table
-    ∙ ap (λ (n : ℕ). undone (table_of c.args.rows.now) (writes_in (drop n c.args.opened.now)))
+    ∙ ap (λ (n : ℕ). values_before (table_of_rows c.args.rows.now) (writes_in (drop n c.args.opened.now)))
     (none c.loop-end.end c.loop-end-test.false)
   where
     none : (n : ℕ) → n ≤ 0 → n ≡ 0

@@ -1,12 +1,12 @@
 use Rattle.std.proofs.Common.{◌≡◌, ◌≤◌, length, drop}
-use Rattle.eve_attempts.specs.Ledgers.{table_of, undone, writes_in}
+use Rattle.eve_attempts.specs.Ledgers.{table_of_rows, values_before, writes_in}
 use Rattle.eve_attempts.proofs.restores.undo_all.Given as goal
 
 abbrev pub invariant-loop-end : goal.invariant-loop-end
 invariant-loop-end l = record {
   within : l.end ≤ length l.opened;
   as_many : length l.rows.balances ≡ length l.initial.rows.balances;
-  table : table_of l.rows ≡ undone (table_of l.initial.rows) (writes_in (drop l.end l.opened));
+  table : table_of_rows l.rows ≡ values_before (table_of_rows l.initial.rows) (writes_in (drop l.end l.opened));
 }
 
 abbrev pub decreases-loop-end : goal.decreases-loop-end

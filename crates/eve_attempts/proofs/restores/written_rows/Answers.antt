@@ -6,7 +6,7 @@ use Rattle.std.proofs.lemmas.List.{drop_all, map-append}
 use Rattle.std.proofs.lemmas.List.Sorted.{IsNonDecreasingBy-from_sort}
 use Rattle.eve_smallbank.specs.declared.entry.Entry.{Entry}
 use Rattle.eve_attempts.specs.Ledgers.{Opened, writes_in}
-use Rattle.eve_attempts.specs.Restoring.{rows_of}
+use Rattle.eve_attempts.specs.Restoring.{entry_rows}
 use Rattle.eve_attempts.proofs.Listing.{drop_read}
 use Rattle.eve_attempts.proofs.Ordered.{all_moved}
 use Rattle.eve_attempts.proofs.Keys.{whole_slice}
@@ -32,12 +32,12 @@ loop-open-preserved c =
     let written : c.as_slice.result.now ≡ o.written = c.as_slice.ensures.value
     ∙ ap (λ (p : Opened). p.written) c.open.view_is in
     record {
-      rows = ap (λ (xs : List ℕ). xs ++ rows_of (writes_in (drop (k + 1) os)))
-          (c.in_ok-append_rows.ensures.rows ∙ ap (λ (es : List Entry). c.loop-open.rows.items ++ rows_of es) written)
-          ∙ append_assoc c.loop-open.rows.items (rows_of o.written) (rows_of (writes_in (drop (k + 1) os)))
+      rows = ap (λ (xs : List ℕ). xs ++ entry_rows (writes_in (drop (k + 1) os)))
+          (c.in_ok-append_rows.ensures.rows ∙ ap (λ (es : List Entry). c.loop-open.rows.items ++ entry_rows es) written)
+          ∙ append_assoc c.loop-open.rows.items (entry_rows o.written) (entry_rows (writes_in (drop (k + 1) os)))
           ∙ ap (λ (xs : List ℕ). c.loop-open.rows.items ++ xs)
           (sym (map-append (λ (e : Entry). e.row) o.written (writes_in (drop (k + 1) os))))
-          ∙ ap (λ (ps : List Opened). c.loop-open.rows.items ++ rows_of (writes_in ps))
+          ∙ ap (λ (ps : List Opened). c.loop-open.rows.items ++ entry_rows (writes_in ps))
           (sym (drop_read os k o c.loop-open-test.true c.open-item.is)) ∙ c.loop-open.invariant.rows;
       small = c.in_ok-append_rows.ensures.small;
     }
@@ -46,10 +46,10 @@ pub returns-clause-rows : goal.returns-clause-rows
 returns-clause-rows c =
     let none : writes_in (drop c.loop-open.open-index c.args.opened.now) ≡ [] =
     ap writes_in (drop_all c.loop-open.open-index c.args.opened.now c.loop-open-test.false) in
-    let is : c.as_mut_slice.result.now ≡ rows_of (writes_in c.args.opened.now) =
+    let is : c.as_mut_slice.result.now ≡ entry_rows (writes_in c.args.opened.now) =
     c.as_mut_slice.ensures.value ∙ sym (append-nil c.loop-open.rows.items)
-    ∙ ap (λ (es : List Entry). c.loop-open.rows.items ++ rows_of es) (sym none) ∙ c.loop-open.invariant.rows in
-    subst (IsPermutation (rows_of (writes_in c.args.opened.now))) (sym (sorted_is c))
+    ∙ ap (λ (es : List Entry). c.loop-open.rows.items ++ entry_rows es) (sym none) ∙ c.loop-open.invariant.rows in
+    subst (IsPermutation (entry_rows (writes_in c.args.opened.now))) (sym (sorted_is c))
     (subst (λ (xs : List ℕ). IsPermutation xs c.sort_unstable.new.self) is c.sort_unstable.ensures.permutation)
 
 pub returns-clause-rising : goal.returns-clause-rising

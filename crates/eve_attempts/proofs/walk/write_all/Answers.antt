@@ -5,7 +5,7 @@ use Rattle.eve_smallbank.specs.declared.entry.Entry.{Entry}
 use Rattle.eve_smallbank.specs.Access.{is_write}
 use Rattle.eve_smallbank.specs.Chain.{Table, table_after}
 use Rattle.eve_grammar.specs.Limits.{is_entry}
-use Rattle.eve_attempts.specs.Ledgers.{table_of}
+use Rattle.eve_attempts.specs.Ledgers.{table_of_rows}
 use Rattle.eve_attempts.proofs.Listing.{all_test, drop_at, filter-append}
 use Rattle.eve_attempts.proofs.TableLaws.{writes_among}
 use Rattle.eve_attempts.proofs.walk.write_all.Goals as goal
@@ -45,7 +45,7 @@ loop-place-preserved c =
       as_many = c.write_one.ensures.as_many ∙ c.loop-place.invariant.as_many;
       versions = c.write_one.ensures.versions ∙ c.loop-place.invariant.versions;
       table = ap (λ (t : Table). table_after t (drop (c.loop-place.place + 1) es)) c.write_one.ensures.table
-          ∙ ap (table_after (table_of c.loop-place.rows)) (sym is) ∙ c.loop-place.invariant.table;
+          ∙ ap (table_after (table_of_rows c.loop-place.rows)) (sym is) ∙ c.loop-place.invariant.table;
       written = ap (λ (ws : List Entry). ws ++ writes_among (drop (c.loop-place.place + 1) es))
           c.write_one.ensures.written
           ∙ append_assoc c.loop-place.written.items (writes_among (c.at.result ∷ []))
@@ -60,7 +60,7 @@ loop-place-preserved c =
 
 pub returns-clause-table : goal.returns-clause-table
 returns-clause-table c =
-    ap (table_after (table_of c.loop-place.rows))
+    ap (table_after (table_of_rows c.loop-place.rows))
     (sym (drop_all c.loop-place.place c.args.entries.now (omega (arith, c.len-place-end.ensures.len))))
     ∙ c.loop-place.invariant.table
 

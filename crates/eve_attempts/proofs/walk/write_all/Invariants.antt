@@ -1,6 +1,6 @@
 use Rattle.std.proofs.Common.{◌≡◌, ◌≤◌, ◌+◌, ◌++◌, length, drop, vec_len, vec_capacity}
 use Rattle.eve_smallbank.specs.Chain.{table_after}
-use Rattle.eve_attempts.specs.Ledgers.{table_of}
+use Rattle.eve_attempts.specs.Ledgers.{table_of_rows}
 use Rattle.eve_attempts.proofs.TableLaws.{writes_among}
 use Rattle.eve_attempts.proofs.walk.write_all.Given as goal
 
@@ -8,7 +8,8 @@ abbrev pub invariant-loop-place : goal.invariant-loop-place
 invariant-loop-place l = record {
   as_many : length l.rows.balances ≡ length l.initial.rows.balances;
   versions : length l.rows.versions ≡ length l.initial.rows.versions;
-  table : table_after (table_of l.rows) (drop l.place l.entries) ≡ table_after (table_of l.initial.rows) l.entries;
+  table : table_after (table_of_rows l.rows) (drop l.place l.entries) ≡ table_after (table_of_rows l.initial.rows)
+      l.entries;
   written : l.written.items ++ writes_among (drop l.place l.entries)
       ≡ l.initial.written.items ++ writes_among l.entries;
   len : vec_len l.written ≤ vec_len l.initial.written + l.place;

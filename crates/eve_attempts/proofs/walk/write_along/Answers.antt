@@ -6,7 +6,7 @@ use Rattle.eve_smallbank.specs.declared.entry.Entry.{Entry}
 use Rattle.eve_smallbank.specs.Chain.{Sees, table_after}
 use Rattle.eve_grammar.specs.Limits.{is_entry}
 use Rattle.eve_stamps.specs.Applied.{Applied}
-use Rattle.eve_attempts.specs.Ledgers.{table_of, undone, is_write_in}
+use Rattle.eve_attempts.specs.Ledgers.{table_of_rows, values_before, is_write_in}
 use Rattle.eve_attempts.specs.Ordering.{records_in}
 use Rattle.eve_attempts.proofs.Listing.{fails_by}
 use Rattle.eve_attempts.proofs.TableLaws.{same_rows, writes_among}
@@ -44,7 +44,7 @@ write_all-requires-clause-room c =
 
 pub loop-key-init : goal.loop-key-init
 loop-key-init c = record {
-  walking = walking_start (table_of c.args.rows.now) (records_in c.args.records.now c.args.order.now)
+  walking = walking_start (table_of_rows c.args.rows.now) (records_in c.args.records.now c.args.order.now)
       c.args.written.now.items c.requires.none;
   as_many = refl;
   versions = refl;
@@ -56,19 +56,19 @@ loop-key-init c = record {
 pub returns-then-not-are_seen-clause-seen : goal.returns-then-not-are_seen-clause-seen
 returns-then-not-are_seen-clause-seen c =
     let all = records_in c.args.records.now c.args.order.now in
-    walking_stop (table_of c.args.rows.now) all (table_of c.loop-key.rows) c.index-records-key.result
+    walking_stop (table_of_rows c.args.rows.now) all (table_of_rows c.loop-key.rows) c.index-records-key.result
     (records_in c.args.records.now (drop (c.loop-key.key-index + 1) c.args.order.now)) c.loop-key.written.items
     (walking_at c.args.records.now c.args.order.now c.loop-key.key-index c.index-records-key.result c.requires.there
-    c.loop-key-test.true c.index-records-key.is (table_of c.args.rows.now) all (table_of c.loop-key.rows)
+    c.loop-key-test.true c.index-records-key.is (table_of_rows c.args.rows.now) all (table_of_rows c.loop-key.rows)
     c.loop-key.written.items c.loop-key.invariant.walking)
     (λ seen. fails_by c.are_seen.result c.are_seen.ensures c.if-not-are_seen.true
-    (subst (AllByRecursion (Sees (table_of c.loop-key.rows))) (sym c.entries-entries.ensures) seen))
+    (subst (AllByRecursion (Sees (table_of_rows c.loop-key.rows))) (sym c.entries-entries.ensures) seen))
 
 pub returns-then-not-are_seen-clause-kept : goal.returns-then-not-are_seen-clause-kept
 returns-then-not-are_seen-clause-kept c =
     same_rows c.undo.new.self c.args.rows.now (c.undo.ensures.versions ∙ c.loop-key.invariant.versions)
     (c.undo.ensures.as_many ∙ c.loop-key.invariant.as_many)
-    (c.undo.ensures.table ∙ ap (undone (table_of c.loop-key.rows)) c.as_slice.ensures.value
+    (c.undo.ensures.table ∙ ap (values_before (table_of_rows c.loop-key.rows)) c.as_slice.ensures.value
     ∙ c.loop-key.invariant.walking.back)
 
 pub loop-key-preserved : goal.loop-key-preserved
@@ -78,18 +78,19 @@ loop-key-preserved c =
     c.requires.there c.loop-key-test.true c.index-records-key.is (length c.args.rows.now.balances)
     c.entries-entries.result c.requires.limits c.entries-entries.ensures in
     let few : length c.entries-entries.result ≤ 3 = limits.0 in
-    let seen : AllByRecursion (Sees (table_of c.loop-key.rows)) c.index-records-key.result.entries =
-    subst (AllByRecursion (Sees (table_of c.loop-key.rows))) c.entries-entries.ensures
+    let seen : AllByRecursion (Sees (table_of_rows c.loop-key.rows)) c.index-records-key.result.entries =
+    subst (AllByRecursion (Sees (table_of_rows c.loop-key.rows))) c.entries-entries.ensures
     (c.are_seen.ensures.0 c.if-not-are_seen.false) in
     record {
-      walking = walking_more (table_of c.args.rows.now) all (table_of c.loop-key.rows) (table_of c.write_all.new.rows)
+      walking = walking_more (table_of_rows c.args.rows.now) all (table_of_rows c.loop-key.rows)
+          (table_of_rows c.write_all.new.rows)
           c.index-records-key.result
           (records_in c.args.records.now (drop (c.loop-key.key-index + 1) c.args.order.now)) c.loop-key.written.items
           c.write_all.new.written.items
           (walking_at c.args.records.now c.args.order.now c.loop-key.key-index c.index-records-key.result
-          c.requires.there c.loop-key-test.true c.index-records-key.is (table_of c.args.rows.now) all
-          (table_of c.loop-key.rows) c.loop-key.written.items c.loop-key.invariant.walking)
-          seen (c.write_all.ensures.table ∙ ap (table_after (table_of c.loop-key.rows)) c.entries-entries.ensures)
+          c.requires.there c.loop-key-test.true c.index-records-key.is (table_of_rows c.args.rows.now) all
+          (table_of_rows c.loop-key.rows) c.loop-key.written.items c.loop-key.invariant.walking)
+          seen (c.write_all.ensures.table ∙ ap (table_after (table_of_rows c.loop-key.rows)) c.entries-entries.ensures)
           (c.write_all.ensures.written
           ∙ ap (λ (es : List Entry). c.loop-key.written.items ++ writes_among es) c.entries-entries.ensures);
       as_many = c.write_all.ensures.as_many ∙ c.loop-key.invariant.as_many;
@@ -105,8 +106,8 @@ returns c =
     let none : records_in c.args.records.now (drop c.loop-key.key-index c.args.order.now) ≡ [] =
     ap (records_in c.args.records.now) (drop_all c.loop-key.key-index c.args.order.now c.loop-key-test.false) in
     let all = records_in c.args.records.now c.args.order.now in
-    let w : Walking (table_of c.args.rows.now) all (table_of c.loop-key.rows) [] c.loop-key.written.items =
-    subst (λ (rest : List Applied). Walking (table_of c.args.rows.now) all (table_of c.loop-key.rows) rest
+    let w : Walking (table_of_rows c.args.rows.now) all (table_of_rows c.loop-key.rows) [] c.loop-key.written.items =
+    subst (λ (rest : List Applied). Walking (table_of_rows c.args.rows.now) all (table_of_rows c.loop-key.rows) rest
     c.loop-key.written.items) none c.loop-key.invariant.walking in
     record {
       seen = ((λ _. w.from tt), (λ _. refl));

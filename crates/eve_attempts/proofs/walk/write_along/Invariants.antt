@@ -1,5 +1,5 @@
 use Rattle.std.proofs.Common.{◌≡◌, IsTrue, ◌≤◌, ◌*◌, length, drop, vec_len, vec_capacity}
-use Rattle.eve_attempts.specs.Ledgers.{table_of, is_write_in}
+use Rattle.eve_attempts.specs.Ledgers.{table_of_rows, is_write_in}
 use Rattle.std.specs.List.{list_all}
 use Rattle.eve_attempts.specs.Ordering.{records_in}
 use Rattle.eve_attempts.proofs.Walking.{Walking}
@@ -7,7 +7,7 @@ use Rattle.eve_attempts.proofs.walk.write_along.Given as goal
 
 abbrev pub invariant-loop-key : goal.invariant-loop-key
 invariant-loop-key l = record {
-  walking : Walking (table_of l.initial.rows) (records_in l.records l.order) (table_of l.rows)
+  walking : Walking (table_of_rows l.initial.rows) (records_in l.records l.order) (table_of_rows l.rows)
       (records_in l.records (drop l.key-index l.order)) l.written.items;
   as_many : length l.rows.balances ≡ length l.initial.rows.balances;
   versions : length l.rows.versions ≡ length l.initial.rows.versions;

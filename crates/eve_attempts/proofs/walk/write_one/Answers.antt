@@ -1,7 +1,7 @@
 use Rattle.std.proofs.Common.{◌∷◌, [], ◌++◌, Bool, cond, sym, ap, ◌∙◌, append-nil}
 use Rattle.std.proofs.lemmas.Bool.{and_from}
 use Rattle.eve_smallbank.specs.Access.{is_write}
-use Rattle.eve_attempts.specs.Ledgers.{table_of}
+use Rattle.eve_attempts.specs.Ledgers.{table_of_rows}
 use Rattle.eve_attempts.proofs.TableLaws.{read_left}
 use Rattle.eve_attempts.proofs.walk.write_one.Goals as goal
 
@@ -21,5 +21,5 @@ returns-else-is_write-clause-written c =
     (sym (sym c.is_write.ensures ∙ c.if-is_write.false))
 
 pub returns-else-is_write-clause-table : goal.returns-else-is_write-clause-table
-returns-else-is_write-clause-table c = read_left (table_of c.args.rows.now) c.args.entry.now
+returns-else-is_write-clause-table c = read_left (table_of_rows c.args.rows.now) c.args.entry.now
     (sym c.is_write.ensures ∙ c.if-is_write.false)

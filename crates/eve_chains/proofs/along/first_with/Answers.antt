@@ -2,7 +2,7 @@ use Rattle.std.proofs.Common.{◌≡◌, Option, Some, None, refl, sym, ap, ◌�
 use Rattle.eve_views.specs.declared.fault.Fault.{Fault}
 use Rattle.eve_views.specs.First.{first_of}
 use Rattle.eve_views.specs.declared.fault.Code.{Code}
-use Rattle.eve_chains.specs.Along.{fault_of}
+use Rattle.eve_chains.specs.Along.{fault_if}
 use Rattle.eve_chains.proofs.along.first_with.Goals as goal
 
 -- where nothing is wrong, the fault before stays
@@ -13,5 +13,5 @@ alone (Some f) = refl
 pub returns-in-None : goal.returns-in-None
 returns-in-None c =
     alone c.args.first
-    ∙ ap (λ (wrong : Option Code). first_of c.args.first (fault_of c.args.replica c.args.offset wrong))
+    ∙ ap (λ (wrong : Option Code). first_of c.args.first (fault_if c.args.replica c.args.offset wrong))
     (sym c.in-None.is)

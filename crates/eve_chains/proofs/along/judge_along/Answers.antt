@@ -1,7 +1,7 @@
 use Rattle.std.proofs.Common.{length, refl, ◌∙◌}
 use Rattle.std.proofs.lemmas.Option.{slice_get_read}
 use Rattle.eve_chains.specs.Tables.{table_of}
-use Rattle.eve_chains.specs.Along.{fault_of}
+use Rattle.eve_chains.specs.Along.{fault_if}
 use Rattle.eve_chains.proofs.AlongLaws.{item_within, table_more, first_next}
 use Rattle.eve_chains.proofs.along.judge_along.Goals as goal
 
@@ -25,7 +25,7 @@ loop-access-preserved c =
       first = first_next c.args.replica (table_of c.args.table.now) c.args.ordered.now c.loop-access.access-index
           c.access-item.result (table_of c.loop-access.table) c.entries_of.result
           c.loop-access.first c.meet-wrong.result c.offset.result
-          (fault_of c.args.replica c.offset.result c.meet-wrong.result)
+          (fault_if c.args.replica c.offset.result c.meet-wrong.result)
           c.first_with-first.result at
           c.loop-access.invariant.table c.entries_of.ensures
           c.loop-access.invariant.first c.meet-wrong.ensures.wrong c.offset.ensures refl

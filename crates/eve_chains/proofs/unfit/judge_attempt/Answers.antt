@@ -6,7 +6,7 @@ use Rattle.eve_grammar.specs.Trace.{Attempt, Batch}
 use Rattle.eve_frames.specs.Views.{batch_in}
 use Rattle.eve_history.specs.SectionHistory.{ExecutedAttempt}
 use Rattle.eve_chains.proofs.Linked.{some_injective}
-use Rattle.eve_chains.specs.Unfit.{is_settled, records_in, HasRequests, IsLeastUnfit}
+use Rattle.eve_chains.specs.Unfit.{is_settled, records_along, HasRequests, IsLeastUnfit}
 use Rattle.eve_chains.proofs.Judged.{ready_told, as_many, as_recorded}
 use Rattle.eve_chains.proofs.unfit.judge_attempt.Goals as goal
 
@@ -60,4 +60,4 @@ returns c r fate at its =
     ∙ c.if-not-is_settled.false in
     subst (λ (xs : List (ℕ × Executed)). IsLeastUnfit c.args.names.now.items xs c.judge_records.result)
     (as_recorded t r c.seq.result said c.deref.result.now c.batch-batch.ensures.says seq read
-    ∙ sym (cond-true (is_settled fate) (records_in t r) [] passes)) (c.judge_records.ensures r at)
+    ∙ sym (cond-true (is_settled fate) (records_along t r) [] passes)) (c.judge_records.ensures r at)

@@ -1,7 +1,7 @@
 use Rattle.std.proofs.Common.{◌≡◌, eqb, List, [], ◌∷◌, map, sym, subst, rules}
 use Rattle.indexmap.specs.IndexMap.{get}
 use Rattle.eve_grammar.specs.Trace.{Asked}
-use Rattle.eve_grammar.specs.Bodies.{asked}
+use Rattle.eve_grammar.specs.Bodies.{borrowed_asked}
 use Rattle.eve_history.specs.Faults.{request_id}
 use Rattle.eve_history.specs.Notes.{requests_said}
 use Rattle.eve_history.proofs.Rising.{Rising, rising_start, rising_more, rising_end}
@@ -19,8 +19,8 @@ pub loop-asked-preserved : goal.loop-asked-preserved
 loop-asked-preserved c = λ noted reached.
     let own = map request_id (requests_said c.args.batch.now.bytes.now) in
     let greatest = get eqb c.loop-asked.greatest in
-    let first : c.loop-asked.asked-iterator ≡ asked c.in-Some.asked ∷ c.next.new.self = search rules in
-    rising_more noted own (map request_id c.next.new.self) (request_id (asked c.in-Some.asked)) greatest
+    let first : c.loop-asked.asked-iterator ≡ borrowed_asked c.in-Some.asked ∷ c.next.new.self = search rules in
+    rising_more noted own (map request_id c.next.new.self) (request_id (borrowed_asked c.in-Some.asked)) greatest
     (get eqb c.is_above.new.greatest)
     (subst (λ (xs : List Asked). Rising noted own (map request_id xs) greatest) first
     (c.loop-asked.invariant noted reached))

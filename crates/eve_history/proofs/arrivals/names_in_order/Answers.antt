@@ -8,7 +8,7 @@ use Rattle.eve_views.specs.declared.fault.Code.TheVariants as code
 use Rattle.eve_views.specs.declared.fault.CheckFault.{CheckFault}
 use Rattle.eve_views.specs.declared.fault.CheckFault.TheVariants.{Found}
 use Rattle.eve_views.specs.Form.{IfFound, IsLeast}
-use Rattle.eve_history.specs.Faults.{name_at, IsOrderFault}
+use Rattle.eve_history.specs.Faults.{name_in, IsOrderFault}
 use Rattle.eve_history.proofs.OrderLaws.{naming_start, naming_more, naming_room, is_named, naming_end, naming_apart}
 use Rattle.eve_history.proofs.OrderLaws.{fault, named_again}
 use Rattle.eve_history.proofs.arrivals.names_in_order.Goals as goal
@@ -29,7 +29,7 @@ returns-in-Err-SameName-clause-fault c =
     let said : ℕ × Customer = (c.customer-customer.result.offset, customer_in c.customer-customer.result.bytes.now) in
     let there : Contains c.loop-i.names.items c.name.result.now =
     (c.in-Err-SameName.ensures.same_name.0 (ap Err c.in-Err-SameName.field-0-is)).1 in
-    let again : Contains c.loop-i.names.items (name_at said) =
+    let again : Contains c.loop-i.names.items (name_in said) =
     subst (λ (n : List ℕ). Contains c.loop-i.names.items n) c.name.ensures there in
     subst (λ (e : CheckFault). IfFound e (IsLeast (IsOrderFault t)))
     (sym (c.outside.ensures ∙ ap (λ (o : ℕ). Found (fault code.SameName o)) c.offset.ensures))
@@ -59,9 +59,9 @@ pub loop-i-preserved : goal.loop-i-preserved
 loop-i-preserved c =
     let t = c.args.trace.now in
     let said : ℕ × Customer = (c.customer-customer.result.offset, customer_in c.customer-customer.result.bytes.now) in
-    let new : ¬ Contains c.loop-i.names.items (name_at said) =
+    let new : ¬ Contains c.loop-i.names.items (name_in said) =
     subst (λ (n : List ℕ). ¬ Contains c.loop-i.names.items n) c.name.ensures c.in-Ok.ensures.taken.new in
-    let added : c.add.new.self ≡ record c.loop-i.names { items = c.loop-i.names.items ++ name_at said ∷ [] } =
+    let added : c.add.new.self ≡ record c.loop-i.names { items = c.loop-i.names.items ++ name_in said ∷ [] } =
     c.in-Ok.ensures.added ∙ ap (λ (n : List ℕ). with_name c.loop-i.names n) c.name.ensures in
     naming_more t c.loop-i.i c.loop-i.names c.add.new.self said c.loop-i.invariant c.customer-customer.ensures.says new
     added

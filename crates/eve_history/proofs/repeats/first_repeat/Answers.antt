@@ -3,14 +3,15 @@ use Rattle.std.specs.Prelude.{IfNone}
 use Rattle.std.specs.List.Sorted.{IsPermutation}
 use Rattle.eve_grammar.specs.Trace.{Trace}
 use Rattle.eve_history.specs.Notes.{HasDistinctRequests}
-use Rattle.eve_history.specs.Repeats.{arrivals_of, AreInOrder, NoneOccursTwice, IsFirstTwice, IsFirstRepeat}
+use Rattle.eve_views.specs.Order.{AreInOrder}
+use Rattle.eve_history.specs.Repeats.{arrivals_of, IsNoLaterArrival, NoneOccursTwice, IsFirstTwice, IsFirstRepeat}
 use Rattle.eve_history.specs.declared.repeats.Arrival.{Arrival}
 use Rattle.eve_history.proofs.Sorting.{in_order}
 use Rattle.eve_history.proofs.Arriving.{none_twice_apart, first_twice_repeat}
 use Rattle.eve_history.proofs.repeats.first_repeat.Goals as goal
 
 pub first_twice-requires : goal.first_twice-requires
-first_twice-requires c = subst AreInOrder (sym c.deref.ensures.value)
+first_twice-requires c = subst (AreInOrder IsNoLaterArrival) (sym c.deref.ensures.value)
     (in_order c.sort_unstable.new.self.items (λ k d less. c.sort_unstable.ensures.sorted k d (omega arith) less))
 
 module _ (t : Trace) (xs ys : List Arrival) (from : xs ≡ arrivals_of t) (moved : IsPermutation xs ys) where

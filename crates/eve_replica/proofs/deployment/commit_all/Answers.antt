@@ -1,6 +1,6 @@
 use Rattle.std.proofs.Common.{ap, arith}
 use Rattle.eve_replica.specs.declared.standing.Standing.{Standing}
-use Rattle.eve_replica.specs.Serving.{committing}
+use Rattle.eve_replica.specs.Serving.{after_commit}
 use Rattle.eve_replica.proofs.Going.{none_gone, one_gone, all_gone}
 use Rattle.eve_replica.proofs.deployment.commit_all.Goals as goal
 
@@ -18,15 +18,15 @@ commit_or_stop-requires-clause-next c = λ live.
     let stands = ap (λ (s : Standing). s.committed) (old.live live) in omega arith
 
 pub loop-server-init : goal.loop-server-init
-loop-server-init c = λ names room at. none_gone names room at committing c.args.servers.now
+loop-server-init c = λ names room at. none_gone names room at after_commit c.args.servers.now
 
 pub loop-server-preserved : goal.loop-server-preserved
 loop-server-preserved c = λ names room at all.
-    one_gone names room at committing c.loop-server.server-index c.loop-server.servers c.server-item.result
+    one_gone names room at after_commit c.loop-server.server-index c.loop-server.servers c.server-item.result
     c.commit_or_stop.new.self
     (omega arith) c.in_ok-commit_or_stop.ensures (c.loop-server.invariant names room at all)
 
 pub returns : goal.returns
 returns c = λ names room at all.
-    all_gone names room at committing c.loop-server.server-index c.loop-server.servers (omega arith)
+    all_gone names room at after_commit c.loop-server.server-index c.loop-server.servers (omega arith)
     (c.loop-server.invariant names room at all)

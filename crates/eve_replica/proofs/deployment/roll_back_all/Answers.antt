@@ -1,6 +1,6 @@
 use Rattle.std.proofs.Common.{ap, arith}
 use Rattle.eve_replica.specs.declared.standing.Standing.{Standing}
-use Rattle.eve_replica.specs.Serving.{rolling_back}
+use Rattle.eve_replica.specs.Serving.{after_rollback}
 use Rattle.eve_replica.proofs.Going.{none_gone, one_gone, all_gone}
 use Rattle.eve_replica.proofs.deployment.roll_back_all.Goals as goal
 
@@ -12,15 +12,15 @@ roll_back-requires c = λ live.
     let stands = ap (λ (s : Standing). s.view) (old.live live) in omega arith
 
 pub loop-server-init : goal.loop-server-init
-loop-server-init c = λ names room at. none_gone names room at rolling_back c.args.servers.now
+loop-server-init c = λ names room at. none_gone names room at after_rollback c.args.servers.now
 
 pub loop-server-preserved : goal.loop-server-preserved
 loop-server-preserved c = λ names room at all.
-    one_gone names room at rolling_back c.loop-server.server-index c.loop-server.servers c.server-item.result
+    one_gone names room at after_rollback c.loop-server.server-index c.loop-server.servers c.server-item.result
     c.roll_back.new.self
     (omega arith) c.in_ok-roll_back.ensures (c.loop-server.invariant names room at all)
 
 pub returns : goal.returns
 returns c = λ names room at all.
-    all_gone names room at rolling_back c.loop-server.server-index c.loop-server.servers (omega arith)
+    all_gone names room at after_rollback c.loop-server.server-index c.loop-server.servers (omega arith)
     (c.loop-server.invariant names room at all)

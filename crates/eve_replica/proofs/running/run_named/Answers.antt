@@ -10,8 +10,8 @@ use Rattle.eve_write.specs.declared.vote.VoteData.{VoteData}
 use Rattle.eve_write.specs.Data.{customer, section, trace}
 use Rattle.eve_workload.specs.declared.mixer.MixedBatch.{MixedBatch}
 use Rattle.eve_replica.specs.declared.server.Server.{Server}
-use Rattle.eve_replica.specs.Serving.{IsMixed, AreVotes, AreReplies}
-use Rattle.eve_workload.specs.Workload.{head_of as head_asked}
+use Rattle.eve_replica.specs.Serving.{IsRightMixed, AreVotesOn, AreReplies}
+use Rattle.eve_workload.specs.Workload.{head_asked}
 use Rattle.eve_replica.specs.Run.{batches_cut}
 use Rattle.eve_replica.proofs.Parts.{same_head, spelled}
 use Rattle.eve_replica.proofs.running.run_named.Goals as goal
@@ -55,10 +55,10 @@ returns g c =
     let all : c.in_ok-servers.field-0.batches.now ≡ mixed = c.in_ok-servers.ensures.batches
     ∙ c.as_slice.ensures.value in
     let counted : length under.names ≡ h.customers = under.customers ∙ ap (λ (x : header.Head). x.customers) same in
-    let mix : All (IsMixed under.names) mixed =
-    subst (λ (ms : List MixedBatch). All (IsMixed under.names) ms) all under.mixed in
-    let votes : AreVotes (length mixed) given =
-    subst (λ (ms : List MixedBatch). AreVotes (length ms) given) all under.votes in
+    let mix : All (IsRightMixed under.names) mixed =
+    subst (λ (ms : List MixedBatch). All (IsRightMixed under.names) ms) all under.mixed in
+    let votes : AreVotesOn (length mixed) given =
+    subst (λ (ms : List MixedBatch). AreVotesOn (length ms) given) all under.votes in
     let each : All (λ copy. copy.items ≡ given) p.verifiers.items =
     subst (λ (vs : List VoteData). All (λ copy. copy.items ≡ vs) p.verifiers.items) c.as_slice-4.ensures.value
     c.in_ok-copies_of.ensures.each in

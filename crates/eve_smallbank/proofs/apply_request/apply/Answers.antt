@@ -2,7 +2,7 @@ use Rattle.std.proofs.Common.{List, ℤ, ◌∙◌, sym, ap, refl, [], take, sli
 use Rattle.std.proofs.lemmas.List.{length-map}
 use Rattle.eve_smallbank.specs.declared.rows.Touched.TheVariants.{Rows}
 use Rattle.eve_smallbank.specs.SmallBank.{plain}
-use Rattle.eve_smallbank.specs.Access.{bank_of, balance_at}
+use Rattle.eve_smallbank.specs.Access.{bank_of, balance_of_row}
 use Rattle.eve_smallbank.proofs.Applying.{rows_within, zeros, applied, applied_refused, others_kept}
 use Rattle.eve_smallbank.proofs.apply_request.apply.Goals as goal
 
@@ -32,7 +32,8 @@ returns-in-Rows-clause-does c =
     c.decide-decision.ensures.each
     (c.decide-decision.ensures.fits c.args.names.now.items (zeros values) (sym c.in-Rows.is ∙ c.touched-reached.ensures)
     (length-map values (λ z. 0)))
-    ∙ ap (λ (balances : List ℤ). (bank_of c.args.names.now.items (balance_at balances), c.decide-decision.result.reply))
+    ∙ ap (λ (balances : List ℤ).
+    (bank_of c.args.names.now.items (balance_of_row balances), c.decide-decision.result.reply))
     (sym c.write_back.ensures)
 
 pub returns-in-Rows-clause-others : goal.returns-in-Rows-clause-others

@@ -5,7 +5,7 @@ use Rattle.eve_grammar.specs.declared.restore.Restore.{Restore}
 use Rattle.eve_stamps.specs.declared.journal.Journaled.{Journaled}
 use Rattle.eve_stamps.specs.Stripes.{Stripe, is_above}
 use Rattle.eve_stamps.specs.Stamping.{has_row_in_two, rows_in_two, seen_of}
-use Rattle.eve_stamps.specs.Holding.{stripe_of}
+use Rattle.eve_stamps.specs.Holding.{stripe_held}
 use Rattle.eve_stamps.proofs.Refusing.{many_seen}
 use Rattle.eve_stamps.proofs.Keeping.{noted_within, noted_outside}
 use Rattle.eve_stamps.proofs.applying.apply_two.Goals as goal
@@ -33,9 +33,9 @@ note-requires-clause-noted c =
     let is_there = has_row_in_two c.args.first.now c.args.second.now in
     let now = rows_in_two c.args.first.now c.args.second.now in
     noted_within c.args.first.now c.args.second.now
-    (stripe_of c.deref.result.now c.reserve_in_both.new.first.items c.first.inside.greatest)
+    (stripe_held c.deref.result.now c.reserve_in_both.new.first.items c.first.inside.greatest)
     c.in_ok-reply.entries c.split-within.result.0
-    (ap₂ (λ (bs : List Restore) (js : List Journaled). stripe_of bs js c.first.inside.greatest)
+    (ap₂ (λ (bs : List Restore) (js : List Journaled). stripe_held bs js c.first.inside.greatest)
     c.deref.ensures.value c.reserve_in_both.ensures.first_items ∙ c.first.view_is) c.split-within.ensures.within
     (c.in_ok-reply.ensures.run is_there now
     (c.seen_in_two-seen.ensures ∙ ap (seen_of is_there now) c.rows-rows.ensures)).noted
@@ -45,9 +45,9 @@ note-requires-2-clause-noted c =
     let is_there = has_row_in_two c.args.first.now c.args.second.now in
     let now = rows_in_two c.args.first.now c.args.second.now in
     noted_outside c.args.first.now c.args.second.now
-    (stripe_of c.deref-2.result.now c.reserve_in_both.new.second.items c.second.inside.greatest)
+    (stripe_held c.deref-2.result.now c.reserve_in_both.new.second.items c.second.inside.greatest)
     c.in_ok-reply.entries c.split-within.result.1
-    (ap₂ (λ (bs : List Restore) (js : List Journaled). stripe_of bs js c.second.inside.greatest)
+    (ap₂ (λ (bs : List Restore) (js : List Journaled). stripe_held bs js c.second.inside.greatest)
     c.deref-2.ensures.value c.reserve_in_both.ensures.second_items ∙ c.second.view_is) c.split-within.ensures.outside
     (c.in_ok-reply.ensures.run is_there now
     (c.seen_in_two-seen.ensures ∙ ap (seen_of is_there now) c.rows-rows.ensures)).noted

@@ -5,7 +5,7 @@ use Rattle.eve_smallbank.specs.SmallBank.{plain}
 use Rattle.eve_smallbank.specs.Access.{Executed}
 use Rattle.eve_smallbank.specs.Execution.{executed_on}
 use Rattle.eve_smallbank.specs.Touch.{rows_in}
-use Rattle.eve_stamps.specs.Holding.{IsNoted}
+use Rattle.eve_stamps.specs.Holding.{CanBeNoted}
 use Rattle.eve_stamps.proofs.Outcomes.{executed_is, all_noted}
 use Rattle.eve_stamps.proofs.executing.executed.Goals as goal
 
@@ -31,7 +31,7 @@ returns-clause-noted c is_there table seen there fresh =
       reply = c.decide-decision.result.reply;
       entries = c.entries_of.result;
     } = returns-clause-exact c names table is seen in
-    subst (λ (x : Executed). AllByRecursion (IsNoted is_there table) x.entries) exact
+    subst (λ (x : Executed). AllByRecursion (CanBeNoted is_there table) x.entries) exact
     (all_noted names table (plain c.args.request.now) c.args.touched.now is_there is
     (c.fitting_records_touch_their_rows.ensures names (executed_on names table (plain c.args.request.now))
     (c.requests_fit.ensures names table (plain c.args.request.now))) there fresh)

@@ -4,18 +4,18 @@ use Rattle.eve_smallbank.specs.declared.entry.Entry.{Entry}
 use Rattle.eve_smallbank.specs.declared.request.Reply.TheVariants.{Aborted}
 use Rattle.eve_smallbank.specs.declared.rows.Touched.{Touched}
 use Rattle.eve_smallbank.specs.SmallBank.{plain, Request}
-use Rattle.eve_smallbank.specs.Access.{Rows, Executed}
+use Rattle.eve_smallbank.specs.Access.{RowKinds, Executed}
 use Rattle.eve_smallbank.specs.Chain.{table_after}
 use Rattle.eve_smallbank.specs.Touch.{touched_of, rows_in}
 use Rattle.eve_smallbank.specs.Execution.{executed_on}
 use Rattle.eve_smallbank.proofs.Records.{refused_fits}
 use Rattle.eve_smallbank.proofs.Unique.{made_of_table}
 use Rattle.eve_stamps.specs.Applied.{Applied, noted_of}
-use Rattle.eve_stamps.specs.Stripes.{Stripe, rows_now, noted_in}
+use Rattle.eve_stamps.specs.Stripes.{Stripe, rows_now, stripe_with}
 use Rattle.eve_stamps.specs.Stamping.{rows_in_two, refusal, refusal_of_two, IsRefusedFor}
 use Rattle.eve_stamps.specs.Opening.{stripe_of, touches}
 use Rattle.eve_stamps_schedule.specs.Stripes.{needs}
-use Rattle.eve_stamps_schedule.specs.Schedule.{stripe_at, table_of}
+use Rattle.eve_stamps_schedule.specs.Schedule.{stripe_at, table_of_stripes}
 use Rattle.eve_stamps_schedule.specs.Applying.{IsKeptAt}
 use Rattle.eve_stamps_schedule.proofs.Spans.{AreEnds}
 use Rattle.eve_stamps_schedule.proofs.Reaches.{some_touched}
@@ -30,7 +30,7 @@ returns-in-Refused-clause-exact c =
     let request : Request = plain c.args.request.now in
     c.untouched.ensures
     ∙ ap (noted_of c.args.worker c.args.place c.args.index c.args.tick)
-    (made_of_table names (table_of c.args.stripes.now)
+    (made_of_table names (table_of_stripes c.args.stripes.now)
     (record { request = request; reply = Aborted c.in-Refused.why; entries = [] })
     (refused_fits names request c.in-Refused.why (sym c.touched-reached.ensures ∙ c.in-Refused.is)) tt)
 
@@ -46,7 +46,7 @@ one_end c =
     (sym c.touched-reached.ensures ∙ c.in-Rows.is) in
     subst (AreEnds (needs c.args.names.now.items (plain c.args.request.now)) c.span_of-span.result.first)
     (sym c.if-span.true)
-    (λ s. ap (λ (rs : Rows). touches rs s) (sym same) ∙ c.span_of-span.ensures.exact c.args.names.now.items
+    (λ s. ap (λ (rs : RowKinds). touches rs s) (sym same) ∙ c.span_of-span.ensures.exact c.args.names.now.items
     (plain c.args.request.now) same some s)
 
 pub returns-then-span-clause-exact : goal.returns-then-span-clause-exact
@@ -56,7 +56,7 @@ returns-then-span-clause-exact c =
     let a : ℕ = c.span_of-span.result.first in
     let noted = λ (x : Executed). noted_of c.args.worker c.args.place c.args.index c.args.tick x in
     if_ok (λ r. r ≡ noted (executed_on names (rows_now (stripe_at c.args.stripes.now a)) request))
-    (λ r. r ≡ noted (executed_on names (table_of c.args.stripes.now) request)) c.on_one.result
+    (λ r. r ≡ noted (executed_on names (table_of_stripes c.args.stripes.now) request)) c.on_one.result
     (c.on_one.ensures.exact names c.touched-reached.ensures)
     (λ r e. e ∙ ap noted (one_made names c.args.stripes.now request a (one_end c)))
 
@@ -69,10 +69,10 @@ returns-then-span-clause-table c =
     let within : a < length here = omega arith in
     if_ok_both (λ r. r ≡ noted_of c.args.worker c.args.place c.args.index c.args.tick
     (executed_on names (rows_now (stripe_at here a)) request))
-    (λ r. c.on_one.new.stripes ≡ set here a (noted_in (stripe_at here a) c.args.tick r.entries))
-    (λ r. table_of c.on_one.new.stripes ≡ table_after (table_of here) r.entries) c.on_one.result
+    (λ r. c.on_one.new.stripes ≡ set here a (stripe_with (stripe_at here a) c.args.tick r.entries))
+    (λ r. table_of_stripes c.on_one.new.stripes ≡ table_after (table_of_stripes here) r.entries) c.on_one.result
     (c.on_one.ensures.exact names c.touched-reached.ensures) c.on_one.ensures.journal
-    (λ r e j. ap table_of j ∙ one_table here a c.args.tick r.entries within
+    (λ r e j. ap table_of_stripes j ∙ one_table here a c.args.tick r.entries within
     (subst (λ (x : Applied). AllByRecursion (λ (f : Entry). stripe_of f.row ≡ a) x.entries) (sym e)
     (one_own names (rows_now (stripe_at here a)) request a (one_end c))))
 
@@ -83,7 +83,7 @@ returns-then-span-clause-stripes c =
     let a : ℕ = c.span_of-span.result.first in
     let here : List Stripe = c.args.stripes.now in
     let within : a < length here = omega arith in
-    if_ok (λ r. c.on_one.new.stripes ≡ set here a (noted_in (stripe_at here a) c.args.tick r.entries))
+    if_ok (λ r. c.on_one.new.stripes ≡ set here a (stripe_with (stripe_at here a) c.args.tick r.entries))
     (λ r. (i : ℕ) → IsKeptAt c.args.tick (needs names request i) (stripe_at here i) (stripe_at c.on_one.new.stripes i))
     c.on_one.result c.on_one.ensures.journal
     (λ r j i. subst (λ ss. IsKeptAt c.args.tick (needs names request i) (stripe_at here i) (stripe_at ss i)) (sym j)
@@ -110,7 +110,7 @@ two_ends c =
     sym (ap rows_in c.in-Rows.is) ∙ ap rows_in c.touched-reached.ensures in
     let some : 0 < length c.in-Rows.rows = some_touched c.args.names.now.items (plain c.args.request.now) c.in-Rows.rows
     (sym c.touched-reached.ensures ∙ c.in-Rows.is) in
-    λ s. ap (λ (rs : Rows). touches rs s) (sym same) ∙ c.span_of-span.ensures.exact c.args.names.now.items
+    λ s. ap (λ (rs : RowKinds). touches rs s) (sym same) ∙ c.span_of-span.ensures.exact c.args.names.now.items
     (plain c.args.request.now) same some s
 
 pub returns-clause-exact : goal.returns-clause-exact
@@ -123,7 +123,7 @@ returns-clause-exact c =
     let less : a < b = omega arith in
     let noted = λ (x : Executed). noted_of c.args.worker c.args.place c.args.index c.args.tick x in
     if_ok (λ r. r ≡ noted (executed_on names (rows_in_two (stripe_at here a) (stripe_at here b)) request))
-    (λ r. r ≡ noted (executed_on names (table_of here) request)) c.on_two.result
+    (λ r. r ≡ noted (executed_on names (table_of_stripes here) request)) c.on_two.result
     (c.on_two.ensures.exact names c.touched-reached.ensures)
     (λ r e. e ∙ ap noted (two_made names here request a b c.requires.rows less c.span_of-span.ensures.range
     (two_ends c)))
@@ -140,9 +140,9 @@ returns-clause-table c =
     if_ok_both (λ r. r ≡ noted_of c.args.worker c.args.place c.args.index c.args.tick
     (executed_on names (rows_in_two (stripe_at here a) (stripe_at here b)) request))
     (λ r. c.on_two.new.stripes ≡ both_noted here a b c.args.tick r.entries)
-    (λ r. table_of c.on_two.new.stripes ≡ table_after (table_of here) r.entries) c.on_two.result
+    (λ r. table_of_stripes c.on_two.new.stripes ≡ table_after (table_of_stripes here) r.entries) c.on_two.result
     (c.on_two.ensures.exact names c.touched-reached.ensures) c.on_two.ensures.journals
-    (λ r e j. ap table_of j ∙ two_table here a b c.args.tick r.entries less within
+    (λ r e j. ap table_of_stripes j ∙ two_table here a b c.args.tick r.entries less within
     (subst (λ (x : Applied). AllByRecursion (IsParted (stripe_at here a) a b) x.entries) (sym e)
     (two_parted names here (rows_in_two (stripe_at here a) (stripe_at here b)) request a b c.requires.rows less
     c.span_of-span.ensures.range (two_ends c))))

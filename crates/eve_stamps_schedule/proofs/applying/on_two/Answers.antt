@@ -1,7 +1,7 @@
 use Rattle.std.proofs.Common.{◌≡◌, ◌<◌, ◌++◌, List, get_or, set, length, subst, arith}
 use Rattle.eve_smallbank.specs.Touch.{rows_in}
 use Rattle.eve_stamps.specs.Applied.{Applied}
-use Rattle.eve_stamps.specs.Stripes.{Stripe, noted_in}
+use Rattle.eve_stamps.specs.Stripes.{Stripe, stripe_with}
 use Rattle.eve_stamps.specs.Stamping.{entries_within, entries_outside, refusal_of_two, IsRefusedFor}
 use Rattle.eve_stamps_schedule.specs.Schedule.{stripe_at}
 use Rattle.eve_stamps_schedule.proofs.Applications.{if_ok_both, two_written, in_front, in_back, both_noted}
@@ -17,8 +17,8 @@ returns-clause-journals c =
     let some : 0 < length back = omega (arith, cut.front_len, cut.back_len) in
     let s : Stripe = get_or front c.args.span.first c.index-front-span.result in
     let u : Stripe = get_or back 0 c.index-back-0.result in
-    if_ok_both (λ (r : Applied). c.apply_two.new.first ≡ noted_in s c.args.tick (entries_within s r.entries))
-    (λ (r : Applied). c.apply_two.new.second ≡ noted_in u c.args.tick (entries_outside s r.entries))
+    if_ok_both (λ (r : Applied). c.apply_two.new.first ≡ stripe_with s c.args.tick (entries_within s r.entries))
+    (λ (r : Applied). c.apply_two.new.second ≡ stripe_with u c.args.tick (entries_outside s r.entries))
     (λ (r : Applied). set front c.args.span.first c.apply_two.new.first ++ set back 0 c.apply_two.new.second
     ≡ both_noted here c.args.span.first c.args.span.last c.args.tick r.entries)
     c.apply_two.result c.apply_two.ensures.first c.apply_two.ensures.second

@@ -1,11 +1,11 @@
 use Rattle.std.proofs.Common.{refl}
-use Rattle.eve_accounts.specs.Names.{customer_of}
+use Rattle.eve_accounts.specs.Names.{customer_named}
 use Rattle.eve_stamps_schedule.proofs.laws.workers_wait_for_a_stripe.Goals as goal
 
 pub returns-clause-unticked : goal.returns-clause-unticked
-unfolding customer_of
+unfolding customer_named
 returns-clause-unticked c = refl
 
 pub returns-clause-allowed : goal.returns-clause-allowed
-unfolding customer_of
+unfolding customer_named
 returns-clause-allowed c = refl

@@ -2,7 +2,7 @@ use Rattle.std.proofs.Common.{◌≡◌, ◌+◌, ◌*◌, ◌-◌, ℕ, List, l
 use Rattle.std.proofs.Common.{length-take, length-drop}
 use Rattle.std.proofs.lemmas.List.{take-set}
 use Rattle.eve_token.specs.Merkle.{IsGreatestPowerBelow}
-use Rattle.eve_token.specs.Places.{IsKept, nodes_of}
+use Rattle.eve_token.specs.Places.{HaveHashes, nodes_of}
 use Rattle.eve_token.proofs.Keeping.{leaf-stale, left-stale, right-stale, part-left, part-right, rest-after}
 use Rattle.eve_token.proofs.tree.+mark_stale.Goals as goal
 
@@ -22,7 +22,7 @@ returns-then-leaf-part t c = λ hashes hash count kept.
     left-stale hashes k top c.args.leaf hash c.args.nodes.now c.mark_stale.new.nodes is at (omega arith)
     (omega (arith, is.below, is.greatest, count))
     (c.mark_stale.ensures (take k hashes) hash part
-    (subst (λ (ps : List (Option (List ℕ))). IsKept ps (nodes_of (take k hashes)))
+    (subst (λ (ps : List (Option (List ℕ))). HaveHashes ps (nodes_of (take k hashes)))
     (sym (take-set c.args.nodes.now top None)) (part-left hashes k top is at c.args.nodes.now kept)))
     kept
 
@@ -37,6 +37,6 @@ returns-else-leaf-part t c = λ hashes hash count kept.
     right-stale hashes k top c.args.leaf hash c.args.nodes.now c.mark_stale-else-leaf-part.new.nodes is at
     (omega arith) (omega (arith, is.below, is.greatest, count))
     (c.mark_stale-else-leaf-part.ensures (drop k hashes) hash part
-    (subst (λ (ps : List (Option (List ℕ))). IsKept ps (nodes_of (drop k hashes)))
+    (subst (λ (ps : List (Option (List ℕ))). HaveHashes ps (nodes_of (drop k hashes)))
     (sym (rest-after top c.args.nodes.now None)) (part-right hashes k top is at c.args.nodes.now kept)))
     kept

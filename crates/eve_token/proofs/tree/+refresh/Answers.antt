@@ -2,7 +2,7 @@ use Rattle.std.proofs.Common.{rules, ◌≡◌, ◌+◌, ◌*◌, ◌-◌, ℕ, 
 use Rattle.std.proofs.Common.{sym, subst, ap, ◌∙◌, arith, length-take, length-drop, get_or, set, refl, [], ◌∷◌, ◌++◌}
 use Rattle.eve_smallbank.specs.Spelling.{money_text}
 use Rattle.eve_token.specs.Merkle.{leaf_hash, leaf_hashes, merkle_root}
-use Rattle.eve_token.specs.Places.{IsKept, nodes_of}
+use Rattle.eve_token.specs.Places.{HaveHashes, nodes_of}
 use Rattle.eve_token.proofs.Leaves.{leaves-one, leaves-one-root, leaves-root, leaves-power, leaves-take, leaves-drop}
 use Rattle.eve_token.proofs.Keeping.{leaf-place, leaf-kept, part-left, part-top, part-right, joined, rebuilt}
 use Rattle.eve_token.proofs.Keeping.{rest-joined}
@@ -14,7 +14,7 @@ refresh_leaf-requires t c =
     let bs = c.args.balances.now in
     let b = c.index-balances-0.result in
     leaf-place c.args.nodes.now (leaf_hash n (money_text b))
-    (subst (λ (hs : List (List ℕ)). IsKept c.args.nodes.now (nodes_of hs))
+    (subst (λ (hs : List (List ℕ)). HaveHashes c.args.nodes.now (nodes_of hs))
     (leaves-one ℤ money_text n bs b (omega arith) c.index-balances-0.is) c.requires.kept)
 
 pub returns-then-balances-eq1-clause-root : goal.returns-then-balances-eq1-clause-root
@@ -31,9 +31,9 @@ returns-then-balances-eq1-clause-kept t c =
     let one = leaves-one ℤ money_text n bs b (omega arith) c.index-balances-0.is in
     let node : c.refresh_leaf.new.node ≡ Some h = c.refresh_leaf.ensures.kept
     ∙ ap (λ (x : List ℕ). Some x) c.refresh_leaf.ensures.value in
-    subst (λ (hs : List (List ℕ)). IsKept (set c.args.nodes.now 0 c.refresh_leaf.new.node) (nodes_of hs)) (sym one)
-    (subst (λ (p : Option (List ℕ)). IsKept (set c.args.nodes.now 0 p) (nodes_of (h ∷ []))) (sym node)
-    (leaf-kept c.args.nodes.now h (subst (λ (hs : List (List ℕ)). IsKept c.args.nodes.now (nodes_of hs)) one
+    subst (λ (hs : List (List ℕ)). HaveHashes (set c.args.nodes.now 0 c.refresh_leaf.new.node) (nodes_of hs)) (sym one)
+    (subst (λ (p : Option (List ℕ)). HaveHashes (set c.args.nodes.now 0 p) (nodes_of (h ∷ []))) (sym node)
+    (leaf-kept c.args.nodes.now h (subst (λ (hs : List (List ℕ)). HaveHashes c.args.nodes.now (nodes_of hs)) one
     c.requires.kept)))
 
 pub returns-in-Some-clause-root : goal.returns-in-Some-clause-root
@@ -59,9 +59,10 @@ refresh-left_root-requires t c =
     let top = 2 * k - 1 in
     let at : top + 1 ≡ 2 * k = omega (arith, is.below, is.greatest) in
     let front = c.split_at.ensures.front in
-    let kept : IsKept (take top c.args.nodes.now) (nodes_of (leaf_hashes money_text n c.split_at.result.0.now)) =
-    subst (λ (xs : List ℤ). IsKept (take top c.args.nodes.now) (nodes_of (leaf_hashes money_text n xs))) (sym front)
-    (subst (λ (hs : List (List ℕ)). IsKept (take top c.args.nodes.now) (nodes_of hs)) (leaves-take ℤ money_text k n bs)
+    let kept : HaveHashes (take top c.args.nodes.now) (nodes_of (leaf_hashes money_text n c.split_at.result.0.now)) =
+    subst (λ (xs : List ℤ). HaveHashes (take top c.args.nodes.now) (nodes_of (leaf_hashes money_text n xs))) (sym front)
+    (subst (λ (hs : List (List ℕ)). HaveHashes (take top c.args.nodes.now) (nodes_of hs))
+    (leaves-take ℤ money_text k n bs)
     (part-left (leaf_hashes money_text n bs) k top
     (leaves-power ℤ money_text k n bs is) at c.args.nodes.now c.requires.kept)) in
     let long : length (take top c.args.nodes.now) ≡ top = omega (arith, length-take top c.args.nodes.now, is.below) in
@@ -77,21 +78,21 @@ refresh-right_root-requires t c =
     let at : top + 1 ≡ 2 * k = omega (arith, is.below, is.greatest) in
     let back = c.split_at.ensures.back in
     let left = c.refresh-left_root.new.nodes in
-    let kept : IsKept (drop (top + 1) c.args.nodes.now)
+    let kept : HaveHashes (drop (top + 1) c.args.nodes.now)
     (nodes_of (leaf_hashes money_text (n + k) c.split_at.result.1.now)) =
-    subst (λ (xs : List ℤ). IsKept (drop (top + 1) c.args.nodes.now) (nodes_of (leaf_hashes money_text (n + k) xs)))
+    subst (λ (xs : List ℤ). HaveHashes (drop (top + 1) c.args.nodes.now) (nodes_of (leaf_hashes money_text (n + k) xs)))
     (sym back)
-    (subst (λ (hs : List (List ℕ)). IsKept (drop (top + 1) c.args.nodes.now) (nodes_of hs))
+    (subst (λ (hs : List (List ℕ)). HaveHashes (drop (top + 1) c.args.nodes.now) (nodes_of hs))
     (leaves-drop ℤ money_text k n (n + k) bs refl)
     (part-right (leaf_hashes money_text n bs) k top
     (leaves-power ℤ money_text k n bs is) at c.args.nodes.now c.requires.kept)) in
     let before : length (take top c.args.nodes.now) ≡ top = omega (arith, length-take top c.args.nodes.now, is.below) in
     let rest = rest-joined top c.args.nodes.now left (c.refresh-left_root.auto.nodes ∙ before) in
     let long = ap length rest ∙ length-drop (top + 1) c.args.nodes.now in
-    let lent : IsKept (take (length (left ++ drop top c.args.nodes.now) - (top + 1))
+    let lent : HaveHashes (take (length (left ++ drop top c.args.nodes.now) - (top + 1))
     (drop (top + 1) (left ++ drop top c.args.nodes.now)))
     (nodes_of (leaf_hashes money_text (n + k) c.split_at.result.1.now)) =
-    subst (λ (ps : List (Option (List ℕ))). IsKept ps
+    subst (λ (ps : List (Option (List ℕ))). HaveHashes ps
     (nodes_of (leaf_hashes money_text (n + k) c.split_at.result.1.now))) (sym rest) kept in
     (search rules, (omega arith, (omega arith, (omega (arith, long, at), lent))))
 
@@ -118,15 +119,15 @@ returns-clause-kept t c =
     let left = c.refresh-left_root.new.nodes in
     let right = c.refresh-right_root.new.nodes in
     let before : length (take top c.args.nodes.now) ≡ top = omega (arith, length-take top c.args.nodes.now, is.below) in
-    let low : IsKept left (nodes_of (take k hs)) =
-    subst (λ (t : List (List ℕ)). IsKept left (nodes_of t))
+    let low : HaveHashes left (nodes_of (take k hs)) =
+    subst (λ (t : List (List ℕ)). HaveHashes left (nodes_of t))
     (ap (λ (xs : List ℤ). leaf_hashes money_text n xs) c.split_at.ensures.front
     ∙ sym (leaves-take ℤ money_text k n bs)) c.refresh-left_root.ensures.kept in
-    let high : IsKept right (nodes_of (drop k hs)) =
-    subst (λ (t : List (List ℕ)). IsKept right (nodes_of t))
+    let high : HaveHashes right (nodes_of (drop k hs)) =
+    subst (λ (t : List (List ℕ)). HaveHashes right (nodes_of t))
     (ap (λ (xs : List ℤ). leaf_hashes money_text (n + k) xs) c.split_at.ensures.back
     ∙ sym (leaves-drop ℤ money_text k n (n + k) bs refl)) c.refresh-right_root.ensures.kept in
-    subst (λ (ps : List (Option (List ℕ))). IsKept ps (nodes_of hs))
+    subst (λ (ps : List (Option (List ℕ))). HaveHashes ps (nodes_of hs))
     (sym (rebuilt top c.args.nodes.now left right (Some c.hash_node-hash.result) (omega (arith, is.below))
     (c.refresh-left_root.auto.nodes ∙ before)))
     (joined hs k top (leaves-power ℤ money_text k n bs is) at left (Some c.hash_node-hash.result) right low

@@ -1,7 +1,7 @@
 use Rattle.std.proofs.Common.{◌≡◌, ◌∙◌, codes, ap, ap₂, rules}
 use Rattle.std.proofs.lemmas.Result.{IfOk-weaker}
 use Rattle.clap.specs.Words.{App, app_of, new_app, with_rule, with_subcommand}
-use Rattle.eve_tool_arguments.specs.Words.{audit, eve, mixer, program, run, workers}
+use Rattle.eve_tool_arguments.specs.Words.{audit, eve, mixer, program, run_shape, workers}
 use Rattle.eve_tool_arguments.proofs.CommandLine.{neither}
 use Rattle.eve_tool_arguments.proofs.words.command.Goals as goal
 
@@ -30,7 +30,7 @@ returns c =
     c.mixer_argument.ensures.local in
     let with_audit : app_of c.in_ok-subcommand.field-0 ≡ with_subcommand program audit =
     c.in_ok-subcommand.ensures.shape audit_local ∙ ap₂ with_subcommand program_is (ap (λ (a : App). a.top) audit_is) in
-    let with_run : app_of c.in_ok-subcommand-2.field-0 ≡ with_subcommand (with_subcommand program audit) run =
+    let with_run : app_of c.in_ok-subcommand-2.field-0 ≡ with_subcommand (with_subcommand program audit) run_shape =
     c.in_ok-subcommand-2.ensures.shape run_local ∙ ap₂ with_subcommand with_audit (ap (λ (a : App). a.top) run_is) in
     IfOk-weaker c.subcommand-3.result _ (λ command. app_of command ≡ eve)
     (λ command adds. adds.shape (ap (λ f. f.has_globals) c.about-show.ensures ∙ c.new-3.ensures.local)

@@ -4,7 +4,7 @@ use Rattle.std.specs.Str.Parse.{ParsesUnsigned}
 use Rattle.clap.specs.Walk.{rows_of}
 use Rattle.clap.specs.Words.{found_of}
 use Rattle.clap.proofs.WalkLemmas.{byte_read}
-use Rattle.eve_tool_arguments.specs.Words.{number_named, value_in}
+use Rattle.eve_tool_arguments.specs.Words.{number_named, value_given}
 use Rattle.eve_tool_arguments.proofs.FoundValues.{first_value-rows}
 use Rattle.eve_tool_arguments.proofs.words.workers_of.Goals.{in-Some, in-None}
 use Rattle.eve_tool_arguments.proofs.words.workers_of.Goals as goal
@@ -12,9 +12,10 @@ use Rattle.eve_tool_arguments.proofs.words.workers_of.Goals as goal
 pub returns : goal.returns
 returns c =
     let found : option_map (λ s. s.now) c.get_str.result
-    ≡ value_in (codes "workers") (rows_of (found_of c.args.found.now)) =
+    ≡ value_given (codes "workers") (rows_of (found_of c.args.found.now)) =
     c.get_str.ensures ∙ first_value-rows (found_of c.args.found.now) (codes "workers") in
-    let named : c.match-get_str.named ≡ number_named (value_in (codes "workers") (rows_of (found_of c.args.found.now)))
+    let named : c.match-get_str.named ≡ number_named
+    (value_given (codes "workers") (rows_of (found_of c.args.found.now)))
     = elim c.match-get_str.branch [
       | in-Some w ↦
           let read : ParsesUnsigned 8 10 w.in-Some.text.now w.parse.result = w.parse.ensures.value.0 in

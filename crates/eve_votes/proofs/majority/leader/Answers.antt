@@ -1,10 +1,10 @@
 use Rattle.std.proofs.Common.{◌≡◌, ◌+◌, ◌<◌, length, refl, sym, ap, ◌∙◌, subst, arith}
 use Rattle.std.specs.Option.{option_map}
 use Rattle.eve_grammar.specs.Trace.{ForCommit, Head}
-use Rattle.eve_grammar.specs.Bodies.{choice}
+use Rattle.eve_grammar.specs.Bodies.{borrowed_choice}
 use Rattle.eve_votes.specs.Votes.{same_choice}
 use Rattle.eve_votes.specs.Ballots.{is_for}
-use Rattle.eve_votes.specs.Majority.{Leads}
+use Rattle.eve_votes.specs.Majority.{HasLead}
 use Rattle.eve_votes.proofs.Leading.{votes_before, start_leads, still_leads, one_more_for, all_lead}
 use Rattle.eve_votes.proofs.majority.leader.Goals as goal
 use Rattle.eve_votes.proofs.majority.leader.Goals.{in-Some-ForCommit, in-Some-ForRollback, in-None}
@@ -32,26 +32,26 @@ loop-verifier-preserved c =
     elim c.match-next_choice.branch [
       | in-Some-ForCommit w ↦ record {
         start = c.next_choice.ensures.start;
-        leads = subst (Leads (votes_before t n view (v + 1)) (v + 1)) (sym w.lead-is)
+        leads = subst (HasLead (votes_before t n view (v + 1)) (v + 1)) (sym w.lead-is)
             (w.counted-lead.ensures (votes_before t n view v) (votes_before t n view (v + 1)) v leads
             (one_more_for t n view v w.in-Some-ForCommit.token.now there
-            (λ other. only (ForCommit other) ∙ ap (λ o. is_for (ForCommit other) (option_map choice o))
-            w.in-Some-ForCommit.is ∙ ap (λ x. same_choice (choice x) (ForCommit other))
+            (λ other. only (ForCommit other) ∙ ap (λ o. is_for (ForCommit other) (option_map borrowed_choice o))
+            w.in-Some-ForCommit.is ∙ ap (λ x. same_choice (borrowed_choice x) (ForCommit other))
             w.in-Some-ForCommit.field-0-is)));
       }
       | in-Some-ForRollback w ↦ record {
         start = c.next_choice.ensures.start;
-        leads = subst (Leads (votes_before t n view (v + 1)) (v + 1)) (sym w.lead-is)
+        leads = subst (HasLead (votes_before t n view (v + 1)) (v + 1)) (sym w.lead-is)
             (still_leads t n view v c.loop-verifier.lead there
-            (λ token. only (ForCommit token) ∙ ap (λ o. is_for (ForCommit token) (option_map choice o))
-            w.in-Some-ForRollback.is ∙ ap (λ x. same_choice (choice x) (ForCommit token))
+            (λ token. only (ForCommit token) ∙ ap (λ o. is_for (ForCommit token) (option_map borrowed_choice o))
+            w.in-Some-ForRollback.is ∙ ap (λ x. same_choice (borrowed_choice x) (ForCommit token))
             w.in-Some-ForRollback.field-0-is) leads);
       }
       | in-None w ↦ record {
         start = c.next_choice.ensures.start;
-        leads = subst (Leads (votes_before t n view (v + 1)) (v + 1)) (sym w.lead-is)
+        leads = subst (HasLead (votes_before t n view (v + 1)) (v + 1)) (sym w.lead-is)
             (still_leads t n view v c.loop-verifier.lead there
-            (λ token. only (ForCommit token) ∙ ap (λ o. is_for (ForCommit token) (option_map choice o))
+            (λ token. only (ForCommit token) ∙ ap (λ o. is_for (ForCommit token) (option_map borrowed_choice o))
             w.in-None.is) leads);
       }
     ]

@@ -1,10 +1,10 @@
 use Rattle.eve_votes.specs.Ballots.{IsStart}
-use Rattle.eve_votes.specs.Majority.{Leads}
+use Rattle.eve_votes.specs.Majority.{HasLead}
 use Rattle.eve_votes.proofs.Leading.{votes_before}
 use Rattle.eve_votes.proofs.majority.leader.Given as goal
 
 abbrev pub invariant-loop-verifier : goal.invariant-loop-verifier
 invariant-loop-verifier l = record {
   start : IsStart l.ballots l.at l.seq l.view l.verifier;
-  leads : Leads (votes_before l.trace l.seq l.view l.verifier) l.verifier l.lead;
+  leads : HasLead (votes_before l.trace l.seq l.view l.verifier) l.verifier l.lead;
 }

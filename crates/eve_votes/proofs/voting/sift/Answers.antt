@@ -4,7 +4,7 @@ use Rattle.std.proofs.lemmas.Option.{slice_get-get_or, slice_get_within}
 use Rattle.eve_grammar.specs.Spelling.{votes_of}
 use Rattle.eve_frames.specs.Views.{vote_in}
 use Rattle.eve_votes.specs.Least.{lower}
-use Rattle.eve_votes.specs.Ballots.{Follows}
+use Rattle.eve_votes.specs.Ballots.{FollowsAlike}
 use Rattle.eve_votes.specs.declared.ballots.Ballot.{Ballot}
 use Rattle.eve_votes.proofs.Gathered.{verifier_there}
 use Rattle.eve_votes.proofs.Sifting.{Sifted, sifted_further, sifted_past, sifted_only, sifted_cast, sifted_lowest}
@@ -49,15 +49,15 @@ loop-i-preserved c =
           (vote_in w.vote_at.result.bytes.now) sifted
           (c.follows.ensures.0 w.if-follows.true) got w.vote_at.ensures))
       | else-follows+then-not-follows+in_ok-push w ↦
-          let first : Follows xs i → ⊥ = λ h. false≢true (sym w.if-follows.false ∙ c.follows.ensures.1 h) in
-          let last : Follows xs (i + 1) → ⊥ = λ h. false≢true (sym w.if-not-follows.true ∙
+          let first : FollowsAlike xs i → ⊥ = λ h. false≢true (sym w.if-follows.false ∙ c.follows.ensures.1 h) in
+          let last : FollowsAlike xs (i + 1) → ⊥ = λ h. false≢true (sym w.if-not-follows.true ∙
           w.follows-else-follows.ensures.1 h) in
           subst (λ (o : Option ℕ). Sifted t xs (i + 1) c.if-follows.only.items o) (sym w.least-is)
           (subst (λ (ys : List Ballot). Sifted t xs (i + 1) ys c.loop-i.least)
           (sym (ap (λ (v : Vec Ballot Global). v.items) w.only-is ∙ w.in_ok-push.ensures.items))
           (sifted_only t xs cast i c.loop-i.only.items c.loop-i.least b sifted first last got))
       | else-follows+else-not-follows w ↦
-          let first : Follows xs i → ⊥ = λ h. false≢true (sym w.if-follows.false ∙ c.follows.ensures.1 h) in
+          let first : FollowsAlike xs i → ⊥ = λ h. false≢true (sym w.if-follows.false ∙ c.follows.ensures.1 h) in
           subst (λ (o : Option ℕ). Sifted t xs (i + 1) c.if-follows.only.items o) (sym w.least-is)
           (subst (λ (ys : List Ballot). Sifted t xs (i + 1) ys c.loop-i.least)
           (sym (ap (λ (v : Vec Ballot Global). v.items) w.only-is))

@@ -6,7 +6,7 @@ use Rattle.std.proofs.lemmas.List.Sorted.{All-permutation}
 use Rattle.eve_smallbank.specs.declared.request.Abort.TheVariants.{NoSuchName}
 use Rattle.eve_smallbank.specs.declared.rows.Touched.{Touched}
 use Rattle.eve_smallbank.specs.declared.rows.Touched.TheVariants.{Refused}
-use Rattle.eve_smallbank.specs.Access.{Rows}
+use Rattle.eve_smallbank.specs.Access.{RowKinds}
 use Rattle.eve_smallbank.specs.Touch.{rows_in}
 use Rattle.eve_workload.specs.declared.seats.Seat.{Seat}
 use Rattle.eve_workload.specs.declared.cut.Cut.{Cut}
@@ -22,14 +22,14 @@ use Rattle.eve_workload.proofs.groups.first_fit.Goals as goal
 abbrev groups_of : List Touched → ℕ → List (List ℕ)
 groups_of touched n = first_fit (share_at (rows_at touched)) [] (range_with_len 0 n)
 
-next : (touched : List Touched) (index count : ℕ) (request : Touched) (rows : Rows)
+next : (touched : List Touched) (index count : ℕ) (request : Touched) (rows : RowKinds)
     → request ≡ slice_index_or touched index request → rows ≡ rows_in request → count ≡ index → index < length touched
     → rows_at touched count ≡ rows
 next touched index count request rows request_is rows_is count_is there =
     ap (rows_at touched) count_is
     ∙ ap rows_in (get_or_default touched index (Refused NoSuchName) request there ∙ sym request_is) ∙ sym rows_is
 
-seated : (cut : Cut) (rows : ℕ → Rows) (groups : List (List ℕ)) (sizes : List ℕ) (seats : List Seat)
+seated : (cut : Cut) (rows : ℕ → RowKinds) (groups : List (List ℕ)) (sizes : List ℕ) (seats : List Seat)
     → sizes ≡ cut.sizes.items → seats ≡ cut.seats.items → IsCut cut rows groups → IsSeating sizes seats groups
 seated cut rows groups sizes seats sizes_are seats_are is =
     subst (λ ss. IsSeating ss seats groups) (sym sizes_are)

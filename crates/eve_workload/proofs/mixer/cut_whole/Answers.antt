@@ -3,7 +3,7 @@ use Rattle.std.proofs.lemmas.List.{length-map}
 use Rattle.eve_grammar.specs.Trace.{Asked}
 use Rattle.eve_write.specs.Data.{asked}
 use Rattle.eve_workload.specs.Mixed.{touched_by}
-use Rattle.eve_workload.specs.Mixing.{batch_of}
+use Rattle.eve_workload.specs.Mixing.{batch_with}
 use Rattle.eve_workload.proofs.Mixed.{whole_is}
 use Rattle.eve_workload.proofs.mixer.cut_whole.Goals as goal
 
@@ -19,6 +19,6 @@ returns c names is =
       batch_is =
           (λ k. record { sizes = sized k; requests = map asked c.in_ok-requests.requests.items })
           ∙ whole_is (length c.args.requests.now) (map asked c.in_ok-requests.requests.items) count
-          ∙ ap (λ rs. batch_of (rs ∷ [])) copied;
+          ∙ ap (λ rs. batch_with (rs ∷ [])) copied;
       touched_is = is ∙ ap (map (touched_by names)) (sym copied);
     }

@@ -6,7 +6,7 @@ use Rattle.std.proofs.lemmas.Result.{IfOk-weaker}
 use Rattle.eve_grammar.specs.Trace.{Asked, Batch}
 use Rattle.eve_grammar.specs.Limits.{is_asked, is_batch}
 use Rattle.eve_write.specs.Data.{asked, batch}
-use Rattle.eve_workload.specs.Mixing.{cut, batch_of}
+use Rattle.eve_workload.specs.Mixing.{cut, batch_with}
 use Rattle.eve_workload.specs.Mixed.{touched_by}
 use Rattle.eve_workload.proofs.Mixed.{cut_keeps, cut_is_right}
 use Rattle.eve_workload.proofs.mixer.mix_touched.Goals as goal
@@ -16,7 +16,7 @@ returns-clause-batch c =
     let names : List (List ℕ) = c.args.names.now.items in
     let asks : List Asked = map asked c.args.requests.now in
     let groups : List (List Asked) = cut names c.args.mixer asks in
-    IfOk-weaker c.cut_by.result _ (λ m. batch m.batch ≡ batch_of groups)
+    IfOk-weaker c.cut_by.result _ (λ m. batch m.batch ≡ batch_with groups)
     (λ m mixed. (mixed names c.in_ok-touched.ensures).batch_is)
     c.cut_by.ensures
 
@@ -31,7 +31,7 @@ pub returns-clause-each_once : goal.returns-clause-each_once
 returns-clause-each_once c =
     let names : List (List ℕ) = c.args.names.now.items in
     let asks : List Asked = map asked c.args.requests.now in
-    IfOk-weaker c.cut_by.result (λ m. batch m.batch ≡ batch_of (cut names c.args.mixer asks))
+    IfOk-weaker c.cut_by.result (λ m. batch m.batch ≡ batch_with (cut names c.args.mixer asks))
     (λ m. IsPermutation asks (batch m.batch).requests)
     (λ m is. subst (IsPermutation asks) (ap (λ (b : Batch). b.requests) (sym is)) (cut_keeps names c.args.mixer asks))
     (returns-clause-batch c)
@@ -40,7 +40,7 @@ pub returns-clause-right : goal.returns-clause-right
 returns-clause-right c =
     let names : List (List ℕ) = c.args.names.now.items in
     let asks : List Asked = map asked c.args.requests.now in
-    IfOk-weaker c.cut_by.result (λ m. batch m.batch ≡ batch_of (cut names c.args.mixer asks))
+    IfOk-weaker c.cut_by.result (λ m. batch m.batch ≡ batch_with (cut names c.args.mixer asks))
     (λ m. IsTrue (list_all is_asked asks) → IsTrue (is_batch (batch m.batch)))
     (λ m is all. ap is_batch is
     ∙ cut_is_right names c.args.mixer asks

@@ -1,8 +1,8 @@
 use Rattle.std.proofs.Common.{ℕ, ◌<◌}
 use Rattle.eve_frames.specs.Views.{attempt_in, sent_in}
-use Rattle.eve_agree.specs.Keeping.{kept, IsAnswer}
+use Rattle.eve_agree.specs.Keeping.{kept_ids, AnswersAt}
 use Rattle.eve_agree.proofs.request_ids.RequestIds.index_of.Given as goal
 
 abbrev pub invariant-loop-i : goal.invariant-loop-i
-invariant-loop-i l = (j : ℕ) → j < l.i → ¬ IsAnswer (kept l.self) (attempt_in l.attempt.bytes.now).replies
+invariant-loop-i l = (j : ℕ) → j < l.i → ¬ AnswersAt (kept_ids l.self) (attempt_in l.attempt.bytes.now).replies
     (sent_in l.sent.bytes.now) j

@@ -8,12 +8,13 @@ use Rattle.eve_grammar.specs.Certificate.{is_certificate}
 use Rattle.eve_token.specs.Token.{token_of}
 use Rattle.eve_write.specs.Data.{batch as plain}
 use Rattle.eve_stamps.specs.Applied.{Applied}
-use Rattle.eve_attempts.specs.Ledgers.{Opened, Ledger, IsLedger, row_count, rows_now}
-use Rattle.eve_attempts.specs.Closing.{worker_count, AreNoted, AreRight, IsAttemptOf, Closes, writes_along}
-use Rattle.eve_attempts.specs.Ordering.{Key, records_in, AreSeenAlong, table_along}
+use Rattle.eve_attempts.specs.Ledgers.{Opened, Ledger, IsLedger, ledger_rows, table_now}
+use Rattle.eve_attempts.specs.Closing.{worker_limit, AreNoted, AreRight, IsAttemptOf, Closes, writes_along}
+use Rattle.eve_attempts.specs.Ordering.{Key, records_in, AreSeenAlong, table_after_records}
 use Rattle.eve_attempts.specs.Holding.{ledger_of}
 use Rattle.eve_attempts.proofs.Takings.{length_order, order_rises, one_with}
-use Rattle.eve_attempts.proofs.TableLaws.{table_along-writes, table_along-executed, seen_chained, chained_seen}
+use Rattle.eve_attempts.proofs.TableLaws.{table_after_records-writes, table_after_records-executed, seen_chained}
+use Rattle.eve_attempts.proofs.TableLaws.{chained_seen}
 use Rattle.eve_attempts.proofs.Closings.{attempt_of, is_attempt_of, kept_as, with_open, one_more_open, committed_stays}
 use Rattle.eve_attempts.proofs.Closings.{ledger_further}
 use Rattle.eve_attempts.proofs.ledger.Ledger.close.Goals as goal
@@ -43,8 +44,8 @@ returns-then-not-write_along-clause-mismatch c = λ _ ordered by_ticks right.
     right_here.certificate in
     let mine : ordered ≡ records_in rs c.as_slice-order.result.now =
     sym (ap (records_in rs) c.as_slice-order.ensures.value ∙ one) in
-    let seen : AreSeenAlong (rows_now s) (records_in rs c.as_slice-order.result.now) =
-    subst (AreSeenAlong (rows_now s)) mine (chained_seen b (rows_now s) ordered right_here.chained) in
+    let seen : AreSeenAlong (table_now s) (records_in rs c.as_slice-order.result.now) =
+    subst (AreSeenAlong (table_now s)) mine (chained_seen b (table_now s) ordered right_here.chained) in
     false≢true (c.if-not-write_along.ensures.seen.1 seen)
 
 pub invariant_of-self-2 : goal.invariant_of-self-2
@@ -60,8 +61,8 @@ invariant_of-self-2 c =
     ap (λ (l : Ledger). l.committed + 1 + length l.opened) c.self.view_is in
     ledger_further s new o c.write_along.new.rows is c.if-not-write_along.ensures.as_many
     c.if-not-write_along.ensures.undone c.self.invariant (omega (arith, c.requires.seq, c.requires.last))
-    (c.if-not-write_along.ensures.table ∙ table_along-writes (rows_now s) mine
-    ∙ ap (table_after (rows_now s)) (sym c.if-not-write_along.ensures.written)) c.if-not-write_along.ensures.right
+    (c.if-not-write_along.ensures.table ∙ table_after_records-writes (table_now s) mine
+    ∙ ap (table_after (table_now s)) (sym c.if-not-write_along.ensures.written)) c.if-not-write_along.ensures.right
 
 pub returns-clause-closed : goal.returns-clause-closed
 returns-clause-closed c =
@@ -77,9 +78,9 @@ returns-clause-closed c =
     let new = with_open s c.write_along.new.rows c.push_reserved.new.self.items in
     let is = one_more_open s c.write_along.new.rows o c.reserve.new.self.items c.push_reserved.new.self.items
     c.push_reserved.ensures.items c.reserve.ensures.items in
-    let rows_is : c.len-rows.result ≡ row_count s = c.len-rows.ensures.balances in
-    let workers_is : c.workers_for-workers.result ≡ worker_count s c.args.front.serial = c.workers_for-workers.ensures
-    ∙ ap (λ (l : Ledger). worker_count l c.args.front.serial) (sym c.self.view_is) in
+    let rows_is : c.len-rows.result ≡ ledger_rows s = c.len-rows.ensures.balances in
+    let workers_is : c.workers_for-workers.result ≡ worker_limit s c.args.front.serial = c.workers_for-workers.ensures
+    ∙ ap (λ (l : Ledger). worker_limit l c.args.front.serial) (sym c.self.view_is) in
     let noted : AreNoted c.workers_for-workers.result c.len-rows.result b c.args.touched.now rs =
     c.in_ok-taken.ensures.noted in
     let tells : c.token-token.result ≡ token_of 1 c.args.front.seq c.write_along.new.rows.balances t.replies.items =
@@ -91,12 +92,12 @@ returns-clause-closed c =
       ordered = mine;
       by_ticks = order_rises b.sizes (length b.requests) c.args.front.serial rs t taken c.in_ok-taken.ensures.order;
       right = record {
-        noted = subst (λ (w : ℕ). AreNoted w (row_count s) b c.args.touched.now rs) workers_is
+        noted = subst (λ (w : ℕ). AreNoted w (ledger_rows s) b c.args.touched.now rs) workers_is
             (subst (λ (n : ℕ). AreNoted c.workers_for-workers.result n b c.args.touched.now rs) rows_is noted);
         certificate = ap (is_certificate b.sizes (length b.requests) c.args.front.serial) (sym taken.certificate)
             ∙ c.in_ok-taken.ensures.order;
-        chained = seen_chained b (rows_now s) mine
-            (subst (AreSeenAlong (rows_now s)) at (c.if-not-write_along.ensures.seen.0 refl));
+        chained = seen_chained b (table_now s) mine
+            (subst (AreSeenAlong (table_now s)) at (c.if-not-write_along.ensures.seen.0 refl));
       };
       attempt = subst (λ (n : ℕ). IsAttemptOf c.args.front n c.write_along.new.rows.balances rs mine a) rows_is
           (is_attempt_of c.args.front b c.args.touched.now rs t c.workers_for-workers.result c.len-rows.result
@@ -106,8 +107,8 @@ returns-clause-closed c =
         changed = is ∙ ap (λ (ws : List Entry). with_open s c.write_along.new.rows
             (s.opened ++ kept_as c.args.front c.token-token.result ws ∷ [])) written;
         as_many = c.if-not-write_along.ensures.as_many;
-        rows = c.if-not-write_along.ensures.table ∙ ap (λ (ps : List Applied). table_along (rows_now s) ps) at
-            ∙ table_along-executed b (rows_now s) mine;
+        rows = c.if-not-write_along.ensures.table ∙ ap (λ (ps : List Applied). table_after_records (table_now s) ps) at
+            ∙ table_after_records-executed b (table_now s) mine;
         committed = committed_stays s new o c.write_along.new.rows is c.if-not-write_along.ensures.as_many
             c.if-not-write_along.ensures.undone;
       };

@@ -3,10 +3,10 @@ use Rattle.std.specs.List.{AllByRecursion}
 use Rattle.std.specs.List.Sorted.{IsPermutation}
 use Rattle.eve_smallbank.specs.Chain.{Table}
 use Rattle.eve_grammar.specs.Bodies.{restore}
-use Rattle.eve_attempts.specs.Ledgers.{Opened, Ledger, IsLedger, table_of, undone, writes_in, open_writes}
+use Rattle.eve_attempts.specs.Ledgers.{Opened, Ledger, IsLedger, table_of_rows, values_before, writes_in, open_writes}
 use Rattle.eve_attempts.specs.Ledgers.{rows_committed}
 use Rattle.eve_attempts.specs.Discarding.{restore_in, RollsBack}
-use Rattle.eve_attempts.specs.Restoring.{rows_of, rising_from}
+use Rattle.eve_attempts.specs.Restoring.{entry_rows, rising_from}
 use Rattle.eve_attempts.specs.Holding.{ledger_of}
 use Rattle.eve_attempts.proofs.Ledgering.{are_there, rolled_back, ledger_empty}
 use Rattle.eve_attempts.proofs.ledger.Ledger.rollback.Goals as goal
@@ -25,8 +25,8 @@ invariant_of-self c =
 pub restore_all-requires-clause-there : goal.restore_all-requires-clause-there
 restore_all-requires-clause-there c =
     let s : Ledger = ledger_of c.self.inside in
-    let moved : IsPermutation (rows_of (open_writes s)) c.in_ok-numbers.numbers.items =
-    subst (λ (os : List Opened). IsPermutation (rows_of (writes_in os)) c.in_ok-numbers.numbers.items)
+    let moved : IsPermutation (entry_rows (open_writes s)) c.in_ok-numbers.numbers.items =
+    subst (λ (os : List Opened). IsPermutation (entry_rows (writes_in os)) c.in_ok-numbers.numbers.items)
     c.as_slice.ensures.value c.in_ok-numbers.ensures.rows in
     subst (AllByRecursion (λ row. row < length c.undo_all.new.rows.balances)) (sym c.as_slice-3.ensures.value)
     (subst (λ (n : ℕ). AllByRecursion (λ row. row < n) c.in_ok-numbers.numbers.items) (sym c.undo_all.ensures.as_many)
@@ -35,11 +35,12 @@ restore_all-requires-clause-there c =
 pub returns-clause-rolled_back : goal.returns-clause-rolled_back
 returns-clause-rolled_back c =
     let s : Ledger = ledger_of c.self.inside in
-    let moved : IsPermutation (rows_of (open_writes s)) c.in_ok-numbers.numbers.items =
-    subst (λ (os : List Opened). IsPermutation (rows_of (writes_in os)) c.in_ok-numbers.numbers.items)
+    let moved : IsPermutation (entry_rows (open_writes s)) c.in_ok-numbers.numbers.items =
+    subst (λ (os : List Opened). IsPermutation (entry_rows (writes_in os)) c.in_ok-numbers.numbers.items)
     c.as_slice.ensures.value c.in_ok-numbers.ensures.rows in
-    let table : table_of c.undo_all.new.rows ≡ rows_committed s =
-    c.undo_all.ensures.table ∙ ap (λ (os : List Opened). undone (table_of c.self.inside.rows) (writes_in os))
+    let table : table_of_rows c.undo_all.new.rows ≡ rows_committed s =
+    c.undo_all.ensures.table
+    ∙ ap (λ (os : List Opened). values_before (table_of_rows c.self.inside.rows) (writes_in os))
     c.as_slice-2.ensures.value in
     let restores : map restore c.restore_all.new.restores.items ≡ map (restore_in (rows_committed s))
     (rising_from 0 c.in_ok-numbers.numbers.items) =

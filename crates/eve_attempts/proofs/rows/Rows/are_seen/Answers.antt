@@ -1,7 +1,7 @@
 use Rattle.std.proofs.Common.{length, arith}
 use Rattle.eve_smallbank.specs.Chain.{Sees}
 use Rattle.eve_grammar.specs.Limits.{is_entry}
-use Rattle.eve_attempts.specs.Ledgers.{table_of}
+use Rattle.eve_attempts.specs.Ledgers.{table_of_rows}
 use Rattle.eve_attempts.proofs.Listing.{all_test, drop_at, goes_start, goes_more, goes_stop, goes_end, fails_by}
 use Rattle.eve_attempts.proofs.rows.Rows.are_seen.Goals as goal
 
@@ -10,20 +10,22 @@ is_seen-requires c = all_test (is_entry (length c.args.self.now.balances)) c.arg
     c.at.result c.requires c.at.ensures
 
 pub loop-place-init : goal.loop-place-init
-loop-place-init c = goes_start (Sees (table_of c.args.self.now)) c.args.entries.now
+loop-place-init c = goes_start (Sees (table_of_rows c.args.self.now)) c.args.entries.now
 
 pub returns-then-not-is_seen : goal.returns-then-not-is_seen
 returns-then-not-is_seen c =
-    goes_stop (Sees (table_of c.args.self.now)) c.args.entries.now c.loop-place.place c.at.result c.loop-place.invariant
+    goes_stop (Sees (table_of_rows c.args.self.now)) c.args.entries.now c.loop-place.place c.at.result
+    c.loop-place.invariant
     (drop_at c.args.entries.now c.loop-place.place c.at.result c.at.ensures)
     (fails_by c.is_seen.result c.is_seen.ensures c.if-not-is_seen.true)
 
 pub loop-place-preserved : goal.loop-place-preserved
 loop-place-preserved c =
-    goes_more (Sees (table_of c.args.self.now)) c.args.entries.now c.loop-place.place c.at.result c.loop-place.invariant
+    goes_more (Sees (table_of_rows c.args.self.now)) c.args.entries.now c.loop-place.place c.at.result
+    c.loop-place.invariant
     (drop_at c.args.entries.now c.loop-place.place c.at.result c.at.ensures)
     (c.is_seen.ensures.0 c.if-not-is_seen.false)
 
 pub returns : goal.returns
-returns c = goes_end (Sees (table_of c.args.self.now)) c.args.entries.now c.loop-place.place c.loop-place.invariant
+returns c = goes_end (Sees (table_of_rows c.args.self.now)) c.args.entries.now c.loop-place.place c.loop-place.invariant
     (omega (arith, c.len-place-end.ensures.len))

@@ -1,7 +1,7 @@
 use Rattle.std.proofs.Common.{◌≡◌, ℕ, ◌-◌, ◌≤◌, ◌∷◌, [], IsTrue, length, drop, refl, sym, ap, subst, ◌∙◌, arith}
 use Rattle.std.proofs.lemmas.List.{drop_all}
 use Rattle.eve_smallbank.specs.Chain.{Table}
-use Rattle.eve_attempts.specs.Ledgers.{table_of, undone, is_write_in}
+use Rattle.eve_attempts.specs.Ledgers.{table_of_rows, values_before, is_write_in}
 use Rattle.eve_attempts.proofs.Listing.{all_read, drop_before}
 use Rattle.eve_attempts.proofs.rows.Rows.undo.Goals as goal
 
@@ -10,7 +10,7 @@ loop-end-init c = record {
   within = omega arith;
   as_many = refl;
   versions = refl;
-  table = ap (undone (table_of c.args.self.now))
+  table = ap (values_before (table_of_rows c.args.self.now))
       (sym (drop_all (length c.args.written.now) c.args.written.now (omega arith)));
 }
 
@@ -30,15 +30,15 @@ loop-end-preserved c =
       as_many = c.undo_one.ensures.as_many ∙ c.loop-end.invariant.as_many;
       versions = c.undo_one.ensures.versions ∙ c.loop-end.invariant.versions;
       table = c.undo_one.ensures.table
-          ∙ ap (λ (t : Table). undone t (c.index-written-end.result ∷ [])) c.loop-end.invariant.table
-          ∙ ap (undone (table_of c.args.self.now))
+          ∙ ap (λ (t : Table). values_before t (c.index-written-end.result ∷ [])) c.loop-end.invariant.table
+          ∙ ap (values_before (table_of_rows c.args.self.now))
           (sym (drop_before c.args.written.now c.loop-end.end c.index-written-end.result some within
           c.index-written-end.is));
     }
 
 pub returns-clause-table : goal.returns-clause-table
 returns-clause-table c = c.loop-end.invariant.table
-    ∙ ap (λ (n : ℕ). undone (table_of c.args.self.now) (drop n c.args.written.now))
+    ∙ ap (λ (n : ℕ). values_before (table_of_rows c.args.self.now) (drop n c.args.written.now))
     (none c.loop-end.end c.loop-end-test.false)
   where
     none : (n : ℕ) → n ≤ 0 → n ≡ 0

@@ -1,5 +1,5 @@
 use Rattle.std.proofs.Common.{◌≡◌, ◌≤◌, length, drop}
-use Rattle.eve_attempts.specs.Ledgers.{table_of, undone}
+use Rattle.eve_attempts.specs.Ledgers.{table_of_rows, values_before}
 use Rattle.eve_attempts.proofs.rows.Rows.undo.Given as goal
 
 abbrev pub invariant-loop-end : goal.invariant-loop-end
@@ -7,7 +7,7 @@ invariant-loop-end l = record {
   within : l.end ≤ length l.written;
   as_many : length l.self.balances ≡ length l.initial.self.balances;
   versions : length l.self.versions ≡ length l.initial.self.versions;
-  table : table_of l.self ≡ undone (table_of l.initial.self) (drop l.end l.written);
+  table : table_of_rows l.self ≡ values_before (table_of_rows l.initial.self) (drop l.end l.written);
 }
 
 abbrev pub decreases-loop-end : goal.decreases-loop-end

@@ -1,5 +1,5 @@
 use Rattle.std.proofs.Common.{◌-◌, length, ap, arith}
-use Rattle.eve_smallbank.specs.Access.{balance_at}
+use Rattle.eve_smallbank.specs.Access.{balance_of_row}
 use Rattle.eve_chains.specs.Along.{all_said}
 use Rattle.eve_chains.proofs.AdvancingBanks.{values_then, batch_kept, count_kept, batch_within, batch_read, banks_are}
 use Rattle.eve_chains.proofs.settled.Settled.advance.Goals as goal
@@ -26,8 +26,8 @@ pub returns-clause-values : goal.returns-clause-values
 returns-clause-values c =
     let s = c.self.inside in
     let ys = all_said c.part-records.result.now in
-    values_then c.args.self.now c.args.n ys (balance_at c.args.balances.now)
-    (balance_at c.write_values_along.new.balances) c.requires.one
+    values_then c.args.self.now c.args.n ys (balance_of_row c.args.balances.now)
+    (balance_of_row c.write_values_along.new.balances) c.requires.one
     (batch_kept c.args.self.now s.opening (all_said s.records.items) ys s.ends.items (c.args.n - 1) c.self.view_is
     (batch_read s.records.items c.deref.result.now s.ends.items c.deref-2.result.now
     (c.args.n - 1) ys c.deref.ensures.value c.deref-2.ensures.value c.part-records.ensures))

@@ -1,5 +1,5 @@
 use Rattle.std.proofs.Common.{◌≡◌, length, ap, ◌∙◌, rules}
-use Rattle.eve_smallbank.specs.Access.{balance_at}
+use Rattle.eve_smallbank.specs.Access.{balance_of_row}
 use Rattle.eve_chains.specs.Settling.{Settling, values_in}
 use Rattle.eve_chains.proofs.AdvancingBanks.{values_opening, banks_are}
 use Rattle.eve_chains.proofs.settled.Settled.balances_after.Goals as goal
@@ -10,7 +10,7 @@ loop-before-init c =
     ∙ ap (λ (s : Settling). s.opening) c.self.view_is in
     record {
       rows = ap length same;
-      values = ap balance_at same ∙ values_opening c.args.self.now;
+      values = ap balance_of_row same ∙ values_opening c.args.self.now;
     }
 
 pub returns-clause-bank : goal.returns-clause-bank

@@ -4,7 +4,7 @@ use Rattle.std.proofs.lemmas.List.{length-map}
 use Rattle.eve_grammar.specs.Trace.{head_of}
 use Rattle.eve_grammar.specs.Limits.{row_count}
 use Rattle.eve_history.specs.declared.fate.Fate.TheVariants.{Committed}
-use Rattle.eve_chains.specs.Along.{said, all_said}
+use Rattle.eve_chains.specs.Along.{said_at, all_said}
 use Rattle.eve_chains.specs.Settling.{settling}
 use Rattle.eve_chains.proofs.Committed.{copied_other, copied_more, all_copied, all_kept, is_there}
 use Rattle.eve_chains.proofs.OpeningRows.{length-opening_rows}
@@ -26,7 +26,7 @@ loop-i-preserved c =
           let last : w.push.new.self.items ≡ c.loop-i.ends.items ++ w.len.result ∷ [] = w.in_ok-push.ensures.items in
           let count : vec_len w.copy_ordered.new.records ≡ length w.copy_ordered.new.records.items = search rules in
           let long : w.len.result ≡ length ys = w.len.ensures ∙ count
-          ∙ sym (length-map w.copy_ordered.new.records.items said) in
+          ∙ sym (length-map w.copy_ordered.new.records.items said_at) in
           rw (w.records-is, w.ends-is)
           (copied_more t v.replica v i rows (all_said c.loop-i.records.items) ys c.loop-i.ends.items
           w.push.new.self.items c.fate.result r.item c.is_whole.ensures c.requires.history refl

@@ -5,7 +5,7 @@ use Rattle.std.proofs.lemmas.Bool.Decides.{Decides-int_eq}
 use Rattle.std.proofs.lemmas.List.{drop_all}
 use Rattle.eve_smallbank.specs.Chain.{Versioned}
 use Rattle.eve_views.specs.declared.fault.Code.{Code}
-use Rattle.eve_chains.specs.Tables.{table_of, IsWrongIn, wrong_behind}
+use Rattle.eve_chains.specs.Tables.{table_of, IsFirstMismatch, wrong_behind}
 use Rattle.eve_chains.proofs.Entries.{from_entry, right_there, row_there}
 use Rattle.eve_chains.proofs.TableLaws.{version_found, value_found, nothing_found, found_is_wrong}
 use Rattle.eve_chains.proofs.table.Table.wrong_in.Goals as goal
@@ -22,7 +22,7 @@ pub returns-then-entry-version : goal.returns-then-entry-version
 returns-then-entry-version c =
     let table = table_of c.args.self.now in
     let place = c.loop-place.place in
-    subst (IsWrongIn table c.args.entries.now)
+    subst (IsFirstMismatch table c.args.entries.now)
     (sym c.loop-place.invariant
     ∙ ap (wrong_behind c.loop-place.wrong table)
     (from_entry c.args.entries.now place c.at-entry.result c.at-entry.ensures)
@@ -61,7 +61,7 @@ loop-place-preserved c =
 pub returns : goal.returns
 returns c =
     let table = table_of c.args.self.now in
-    subst (IsWrongIn table c.args.entries.now)
+    subst (IsFirstMismatch table c.args.entries.now)
     (sym c.loop-place.invariant
     ∙ ap (wrong_behind c.loop-place.wrong table)
     (drop_all c.loop-place.place c.args.entries.now (omega (arith, c.len-place-end.ensures.len))))

@@ -5,7 +5,7 @@ use Rattle.eve_grammar.specs.Spelling.{frame_text}
 use Rattle.eve_frames.specs.Views.{attempt_in}
 use Rattle.eve_history.specs.Standing.{IsAttemptAt}
 use Rattle.eve_history.specs.SectionHistory.{ExecutedAttempt, SectionHistory}
-use Rattle.eve_history.specs.Coming.{kept, kept_attempt, kept_executed_attempt}
+use Rattle.eve_history.specs.Coming.{kept_section, kept_attempt, kept_executed_attempt}
 use Rattle.eve_history.proofs.Lent.{lent_attempt}
 use Rattle.eve_history.proofs.Finding.{get_mapped, get_is, rec_at, part_length}
 use Rattle.eve_history.proofs.history.History.attempt.Goals as goal
@@ -18,7 +18,7 @@ attempt_at-requires c =
     let count : length c.args.self.now.attempts ≡ length items =
     ap (λ (v : SectionHistory). length v.attempts) (sym c.self.view_is)
     ∙ length-map (map (kept_attempt n.bytes.now) items)
-    (kept_executed_attempt (kept n).records) ∙ length-map items (kept_attempt n.bytes.now) in
+    (kept_executed_attempt (kept_section n).records) ∙ length-map items (kept_attempt n.bytes.now) in
     rec_at (λ a. IsAttemptAt n.bytes.now a.at) items c.args.i x c.self.invariant.framed.attempts
     (get_is items c.args.i x (omega arith) c.index.ensures)
 
@@ -31,19 +31,19 @@ returns-clause-says c =
     let count : length c.args.self.now.attempts ≡ length items =
     ap (λ (v : SectionHistory). length v.attempts) (sym c.self.view_is)
     ∙ length-map (map (kept_attempt n.bytes.now) items)
-    (kept_executed_attempt (kept n).records) ∙ length-map items (kept_attempt n.bytes.now) in
+    (kept_executed_attempt (kept_section n).records) ∙ length-map items (kept_attempt n.bytes.now) in
     let at : slice_get items c.args.i ≡ Some x = get_is items c.args.i x (omega arith) c.index.ensures in
     let one : slice_get (map (kept_attempt n.bytes.now) items) c.args.i ≡ Some a =
     get_mapped (kept_attempt n.bytes.now) items c.args.i x at in
-    let many : length (kept_executed_attempt (kept n).records a).ordered ≡ length a.attempt.certificate =
-    part_length (kept n).records x.from (length a.attempt.certificate)
+    let many : length (kept_executed_attempt (kept_section n).records a).ordered ≡ length a.attempt.certificate =
+    part_length (kept_section n).records x.from (length a.attempt.certificate)
     (rec_at _ (map (kept_attempt n.bytes.now) items) c.args.i a c.self.invariant.kept.within one) in
     subst (λ (v : SectionHistory).
     (r : ExecutedAttempt) × (slice_get v.attempts c.args.i ≡ Some r) × (c.attempt_at.result.offset ≡ r.offset)
     × (attempt_in c.attempt_at.result.bytes.now ≡ r.attempt) × (length r.ordered ≡ length r.attempt.certificate))
     c.self.view_is (
-      kept_executed_attempt (kept n).records a,
-      get_mapped (kept_executed_attempt (kept n).records) (map (kept_attempt n.bytes.now) items) c.args.i
+      kept_executed_attempt (kept_section n).records a,
+      get_mapped (kept_executed_attempt (kept_section n).records) (map (kept_attempt n.bytes.now) items) c.args.i
           a one,
       c.attempt_at.ensures.offset,
       ap attempt_in c.attempt_at.ensures.bytes,
@@ -58,7 +58,7 @@ returns-clause-text c =
     let count : length c.args.self.now.attempts ≡ length items =
     ap (λ (v : SectionHistory). length v.attempts) (sym c.self.view_is)
     ∙ length-map (map (kept_attempt n.bytes.now) items)
-    (kept_executed_attempt (kept n).records) ∙ length-map items (kept_attempt n.bytes.now) in
+    (kept_executed_attempt (kept_section n).records) ∙ length-map items (kept_attempt n.bytes.now) in
     let at : slice_get items c.args.i ≡ Some x = get_is items c.args.i x (omega arith) c.index.ensures in
     let there = rec_at (λ a. IsAttemptAt n.bytes.now a.at) items c.args.i x c.self.invariant.framed.attempts at in
     c.attempt_at.ensures.bytes ∙ there.text ∙ ap (λ b. frame_text (OfAttempt (attempt_in b)))

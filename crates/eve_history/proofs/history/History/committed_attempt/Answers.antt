@@ -1,14 +1,14 @@
 use Rattle.std.proofs.Common.{◌≡◌, ◌-◌, ◌<◌, ◌≤◌, length, slice_get, Some, ap, sym, subst, ◌∙◌, arith}
 use Rattle.std.proofs.lemmas.List.{length-map}
 use Rattle.eve_history.specs.SectionHistory.{ExecutedAttempt, SectionHistory}
-use Rattle.eve_history.specs.Coming.{kept, kept_executed_attempt, executed_attempts, no_executed_attempt}
+use Rattle.eve_history.specs.Coming.{kept_section, kept_executed_attempt, executed_attempts, no_executed_attempt}
 use Rattle.eve_history.specs.Coming.{executed_attempt_at}
 use Rattle.eve_history.proofs.Finding.{get_mapped, get_is, get_there, rec_at}
 use Rattle.eve_history.proofs.history.History.committed_attempt.Goals as goal
 
 pub returns : goal.returns
 returns c =
-    let k = kept c.self.inside.notes in
+    let k = kept_section c.self.inside.notes in
     let n = c.args.n in
     let place = c.index.result.now in
     let one : 1 ≤ n = c.requires.one in

@@ -9,7 +9,7 @@ use Rattle.eve_grammar.specs.Spelling.{steps_at}
 use Rattle.eve_views.specs.StepKinds.{IsStep}
 use Rattle.eve_views.specs.declared.fault.Fault.{Fault}
 use Rattle.eve_history.specs.Faults.{IsStructureFault}
-use Rattle.eve_history.specs.Coming.{Kept, kept, HasCome}
+use Rattle.eve_history.specs.Coming.{KeptSection, kept_section, HasCome}
 use Rattle.eve_history.proofs.Coming.{come_start, come_told, come_faultless}
 use Rattle.eve_history.proofs.Taking.{weaker_found}
 use Rattle.eve_history.proofs.history.History.of.Goals as goal
@@ -18,8 +18,8 @@ pub loop-step-init : goal.loop-step-init
 loop-step-init c =
     let t = c.args.trace.now in
     let e = c.args.e in (
-      subst (λ (xs : List (ℕ × Step)). HasCome t e xs (kept c.new-notes.result)) (sym c.section-steps.ensures)
-          (subst (λ (k : Kept). HasCome t e (steps_at t e) k) (sym c.new-notes.ensures.kept)
+      subst (λ (xs : List (ℕ × Step)). HasCome t e xs (kept_section c.new-notes.result)) (sym c.section-steps.ensures)
+          (subst (λ (k : KeptSection). HasCome t e (steps_at t e) k) (sym c.new-notes.ensures.kept)
           (come_start t e c.is_whole.ensures)),
       record {
         spelled = subst (λ (b : List ℕ). Spells b t) (sym c.new-notes.ensures.bytes) c.bytes.ensures;
@@ -40,7 +40,7 @@ take-requires-clause-noted c = c.loop-step.invariant.1
 pub invariant_of-result : goal.invariant_of-result
 invariant_of-result c =
     let none : c.loop-step.steps ≡ [] = search rules in
-    let come = subst (λ (xs : List (ℕ × Step)). HasCome c.args.trace.now c.args.e xs (kept c.loop-step.notes))
+    let come = subst (λ (xs : List (ℕ × Step)). HasCome c.args.trace.now c.args.e xs (kept_section c.loop-step.notes))
     none c.loop-step.invariant.0 in
     record { kept = come.is_kept; framed = c.loop-step.invariant.1.framed }
 
@@ -49,10 +49,11 @@ returns-in_err-take-clause-least c =
     let t = c.args.trace.now in
     let e = c.args.e in
     let some = c.in-Some.ensures.some in
-    let come = subst (λ (xs : List (ℕ × Step)). HasCome t e xs (kept c.loop-step.notes)) some.1 c.loop-step.invariant.0
+    let come = subst (λ (xs : List (ℕ × Step)). HasCome t e xs (kept_section c.loop-step.notes)) some.1
+    c.loop-step.invariant.0
     in
     let P : Fault → Type 0 =
-    λ f. (rest : List (ℕ × Step)) (next : ℕ × Step) → HasCome t e (next ∷ rest) (kept c.loop-step.notes)
+    λ f. (rest : List (ℕ × Step)) (next : ℕ × Step) → HasCome t e (next ∷ rest) (kept_section c.loop-step.notes)
     → IsStep c.in-Some.step next → IsLeast (IsStructureFault t e) f in
     let least = weaker_found c.in_err-take.field-0.0 P (IsLeast (IsStructureFault t e))
     (λ f wrong. wrong c.next.new.self some.0 come some.2) c.in_err-take.ensures.wrong in
@@ -63,19 +64,21 @@ pub returns-clause-section_history : goal.returns-clause-section_history
 returns-clause-section_history c =
     let t = c.args.trace.now in
     let none : c.loop-step.steps ≡ [] = search rules in
-    come_told t c.args.e (kept c.loop-step.notes)
-    (subst (λ (xs : List (ℕ × Step)). HasCome t c.args.e xs (kept c.loop-step.notes)) none c.loop-step.invariant.0)
+    come_told t c.args.e (kept_section c.loop-step.notes)
+    (subst (λ (xs : List (ℕ × Step)). HasCome t c.args.e xs (kept_section c.loop-step.notes)) none
+    c.loop-step.invariant.0)
 
 pub returns-clause-none : goal.returns-clause-none
 returns-clause-none c =
     let t = c.args.trace.now in
     let none : c.loop-step.steps ≡ [] = search rules in
-    come_faultless t c.args.e (kept c.loop-step.notes)
-    (subst (λ (xs : List (ℕ × Step)). HasCome t c.args.e xs (kept c.loop-step.notes)) none c.loop-step.invariant.0)
+    come_faultless t c.args.e (kept_section c.loop-step.notes)
+    (subst (λ (xs : List (ℕ × Step)). HasCome t c.args.e xs (kept_section c.loop-step.notes)) none
+    c.loop-step.invariant.0)
 
 pub loop-step-preserved : goal.loop-step-preserved
 loop-step-preserved c =
     let some = c.in-Some.ensures.some in
-    let come = subst (λ (xs : List (ℕ × Step)). HasCome c.args.trace.now c.args.e xs (kept c.loop-step.notes))
+    let come = subst (λ (xs : List (ℕ × Step)). HasCome c.args.trace.now c.args.e xs (kept_section c.loop-step.notes))
     some.1 c.loop-step.invariant.0 in
     (c.in_ok-take.ensures.taken c.next.new.self some.0 come some.2, c.in_ok-take.ensures.noted)

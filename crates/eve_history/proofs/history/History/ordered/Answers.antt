@@ -9,41 +9,44 @@ use Rattle.eve_grammar.specs.Spelling.{frame_text}
 use Rattle.eve_frames.specs.Views.{access_in}
 use Rattle.eve_history.specs.Standing.{IsAccessAt}
 use Rattle.eve_history.specs.SectionHistory.{ExecutedAttempt, SectionHistory}
-use Rattle.eve_history.specs.Coming.{kept, kept_attempt, kept_executed_attempt, section_history_of, IsKept, seen}
+use Rattle.eve_history.specs.Coming.{kept_section, kept_attempt, kept_executed_attempt, section_history_of, IsKept}
+use Rattle.eve_history.specs.Coming.{seen}
 use Rattle.eve_history.proofs.Finding.{get_mapped, get_is, rec_at, get_in_part}
 use Rattle.eve_history.proofs.history.History.ordered.Goals as goal
 
 -- where an attempt's records are
 record Here (n : Notes) (v : SectionHistory) (i place : ℕ) (x : Attempted) : Type 0 where
-  told : slice_get v.attempts i ≡ Some (kept_executed_attempt (kept n).records (kept_attempt n.bytes.now x))
+  told : slice_get v.attempts i ≡ Some (kept_executed_attempt (kept_section n).records (kept_attempt n.bytes.now x))
   short : place < length (kept_attempt n.bytes.now x).attempt.certificate
   within : x.from + length (kept_attempt n.bytes.now x).attempt.certificate ≤ length n.records.items
 
-here : (e : ℕ) (n : Notes) (v : SectionHistory) (i place : ℕ) (x : Attempted) → section_history_of e (kept n) ≡ v
-    → IsKept (kept n)
+here : (e : ℕ) (n : Notes) (v : SectionHistory) (i place : ℕ) (x : Attempted) → section_history_of e (kept_section n)
+    ≡ v
+    → IsKept (kept_section n)
     → i < length v.attempts → ((r : ExecutedAttempt) → slice_get v.attempts i ≡ Some r → place < length r.ordered)
     → x ≡ get_or n.attempts.items i x → Here n v i place x
 here e n v i place x is is_kept lt short read =
     let items = n.attempts.items in
     let count : length v.attempts ≡ length items =
     ap (λ (v : SectionHistory). length v.attempts) (sym is) ∙ length-map (map (kept_attempt n.bytes.now) items)
-    (kept_executed_attempt (kept n).records) ∙ length-map items (kept_attempt n.bytes.now) in
+    (kept_executed_attempt (kept_section n).records) ∙ length-map items (kept_attempt n.bytes.now) in
     let at : slice_get items i ≡ Some x = get_is items i x (omega arith) read in
     let one : slice_get (map (kept_attempt n.bytes.now) items) i ≡ Some (kept_attempt n.bytes.now x) =
     get_mapped (kept_attempt n.bytes.now) items i x at in
-    let told : slice_get v.attempts i ≡ Some (kept_executed_attempt (kept n).records (kept_attempt n.bytes.now x)) =
+    let told : slice_get v.attempts i
+    ≡ Some (kept_executed_attempt (kept_section n).records (kept_attempt n.bytes.now x)) =
     ap (λ (w : SectionHistory). slice_get w.attempts i) (sym is)
-    ∙ get_mapped (kept_executed_attempt (kept n).records) (map (kept_attempt n.bytes.now) items) i
+    ∙ get_mapped (kept_executed_attempt (kept_section n).records) (map (kept_attempt n.bytes.now) items) i
     (kept_attempt n.bytes.now x)
     one in
     let within = rec_at _ (map (kept_attempt n.bytes.now) items) i (kept_attempt n.bytes.now x) is_kept.within one in
-    let few = short (kept_executed_attempt (kept n).records (kept_attempt n.bytes.now x)) told in
+    let few = short (kept_executed_attempt (kept_section n).records (kept_attempt n.bytes.now x)) told in
     record {
       told = told;
       short = omega (
         arith,
         length-take (length (kept_attempt n.bytes.now x).attempt.certificate)
-            (drop x.from (kept n).records),
+            (drop x.from (kept_section n).records),
       );
       within = omega (arith, within, length-map n.records.items (seen n.bytes.now));
     }
@@ -101,9 +104,10 @@ returns-clause-says c =
     c.self.invariant.framed.records in
     let is : seen n.bytes.now at ≡ (c.access_at.result.offset, access_in c.access_at.result.bytes.now) =
     λ i. (sym c.access_at.ensures.offset i, access_in (sym c.access_at.ensures.bytes i)) in (
-      kept_executed_attempt (kept n).records a,
+      kept_executed_attempt (kept_section n).records a,
       h.told,
-      get_in_part (kept n).records x.from (length a.attempt.certificate) c.args.place (seen n.bytes.now at) h.short
+      get_in_part (kept_section n).records x.from (length a.attempt.certificate) c.args.place
+          (seen n.bytes.now at) h.short
           (get_mapped (seen n.bytes.now) n.records.items (x.from + c.args.place) at found.0)
           ∙ ap Some is,
     )

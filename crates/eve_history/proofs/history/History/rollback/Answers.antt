@@ -6,13 +6,14 @@ use Rattle.eve_frames.specs.Views.{rollback_in}
 use Rattle.eve_history.specs.declared.notes.Notes.{Notes}
 use Rattle.eve_history.specs.Standing.{IsRollbackAt}
 use Rattle.eve_history.specs.SectionHistory.{SectionHistory}
-use Rattle.eve_history.specs.Coming.{kept, rolled, section_history_of}
+use Rattle.eve_history.specs.Coming.{kept_section, rolled, section_history_of}
 use Rattle.eve_history.proofs.Lent.{lent_rollback}
 use Rattle.eve_history.proofs.Finding.{get_mapped, get_is, rec_at}
 use Rattle.eve_history.proofs.history.History.rollback.Goals as goal
 
 -- where the rollback was found
-found : (e : ℕ) (n : Notes) (v : SectionHistory) (i at : ℕ) → section_history_of e (kept n) ≡ v → i < length v.rollbacks
+found : (e : ℕ) (n : Notes) (v : SectionHistory) (i at : ℕ) → section_history_of e (kept_section n) ≡ v
+    → i < length v.rollbacks
     → at ≡ get_or n.rollbacks.items i at → slice_get n.rollbacks.items i ≡ Some at
 found e n v i at is lt read =
     let count : length v.rollbacks ≡ length n.rollbacks.items = ap (λ (v : SectionHistory). length v.rollbacks) (sym is)

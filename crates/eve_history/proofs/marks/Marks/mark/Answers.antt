@@ -2,9 +2,6 @@ use Rattle.std.proofs.Common.{◌<◌, ◌≤◌, arith, rules}
 use Rattle.eve_frames.specs.Views.{access_in}
 use Rattle.eve_history.proofs.Marking.{refused_worker, refused_index, refused_again, refused_place, taken_right}
 use Rattle.eve_history.proofs.marks.Marks.mark.Goals as goal
-use Rattle.eve_history.proofs.marks.Marks.mark.Goals.{then-worker-workers-via-then-worker-workers}
-use Rattle.eve_history.proofs.marks.Marks.mark.Goals.{then-worker-workers-via-else-worker-workers+then-index-count}
-use Rattle.eve_history.proofs.marks.Marks.mark.Goals.{then-worker-workers-via-else-worker-workers+else-index-count+then-self-index}
 
 pub returns-then-worker-workers : goal.returns-then-worker-workers
 returns-then-worker-workers c = λ before marked number.
@@ -12,13 +9,13 @@ returns-then-worker-workers c = λ before marked number.
     let m = c.args.self.now in
     let few : c.args.count ≤ 256 = c.requires.count in
     elim c.then-worker-workers.branch [
-      | then-worker-workers-via-then-worker-workers w ↦
+      | goal.then-worker-workers-via-then-worker-workers w ↦
           refused_worker c.args.workers c.args.count before x m c.worker-worker.result c.index-index.result
           c.worker-worker.ensures c.index-index.ensures marked (search rules)
-      | then-worker-workers-via-else-worker-workers+then-index-count w ↦
+      | goal.then-worker-workers-via-else-worker-workers+then-index-count w ↦
           refused_index c.args.workers c.args.count before x m c.worker-worker.result c.index-index.result
           c.worker-worker.ensures c.index-index.ensures marked (search rules)
-      | then-worker-workers-via-else-worker-workers+else-index-count+then-self-index w ↦
+      | goal.then-worker-workers-via-else-worker-workers+else-index-count+then-self-index w ↦
           let below : c.index-index.result < c.args.count = search rules in
           refused_again c.args.workers c.args.count before x m c.worker-worker.result c.index-index.result
           c.worker-worker.ensures c.index-index.ensures marked (omega arith) (search rules)

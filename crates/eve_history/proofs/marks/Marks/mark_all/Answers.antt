@@ -3,7 +3,7 @@ use Rattle.std.proofs.lemmas.List.{length-take-le, length-map}
 use Rattle.eve_grammar.specs.Trace.{Access}
 use Rattle.eve_frames.specs.Views.{access_in}
 use Rattle.eve_history.specs.Faults.{accesses_of}
-use Rattle.eve_history.specs.Marking.{AreJudged}
+use Rattle.eve_history.specs.Marking.{AreMarkedIfRight}
 use Rattle.eve_history.proofs.Marking.{marking_start, marking_more, marking_wrong, marking_end}
 use Rattle.eve_history.proofs.marks.Marks.mark_all.Goals as goal
 
@@ -27,7 +27,8 @@ returns-in-Some c =
     let x : ℕ × Access = (c.get-access.result.offset, access_in c.get-access.result.bytes.now) in
     let judged = c.in-Some.ensures (accesses_of (take c.loop-i.i xs)) c.loop-i.invariant.marked
     (number_is xs c.loop-i.i (omega arith)) in
-    subst (λ (o : ℕ). AreJudged c.args.workers c.args.count xs (Some (record { code = c.in-Some.code; offset = o }))
+    subst (λ (o : ℕ). AreMarkedIfRight c.args.workers c.args.count xs
+    (Some (record { code = c.in-Some.code; offset = o }))
     c.mark.new.self) (sym c.offset.ensures)
     (marking_wrong c.args.workers c.args.count xs c.loop-i.i c.loop-i.self c.mark.new.self x c.in-Some.code
     c.loop-i.invariant c.get-access.ensures.says judged)

@@ -6,7 +6,7 @@ use Rattle.eve_frames.specs.Views.{attempt_in, commit_in}
 use Rattle.eve_history.specs.declared.notes.Attempted.{Attempted}
 use Rattle.eve_history.specs.Standing.{IsAttemptAt}
 use Rattle.eve_history.specs.Section.{same_bytes}
-use Rattle.eve_history.specs.Coming.{kept, kept_attempt}
+use Rattle.eve_history.specs.Coming.{kept_section, kept_attempt}
 use Rattle.eve_history.proofs.Finding.{commit_is, get_mapped, get_is, rec_at}
 use Rattle.eve_history.proofs.notes.Notes.commits_first.Goals as goal
 
@@ -40,5 +40,5 @@ returns c = λ s stands.
     let seq : said.seq ≡ n.last + 1 = sym c.seq.ensures ∙ c.if-seq-self.false in
     c.is_of.ensures ∙ ap (λ (a : Attempt). (a.view == said.view) && same_bytes a.token said.token)
     (ap attempt_in c.attempt_at.ensures.bytes)
-    ∙ sym (commit_is s (kept n) f said stands at
+    ∙ sym (commit_is s (kept_section n) f said stands at
     ∙ number_is said.seq n.last ((f.attempt.view == said.view) && same_bytes f.attempt.token said.token) seq)

@@ -12,7 +12,7 @@ use Rattle.eve_history.specs.declared.notes.Attempted.{Attempted}
 use Rattle.eve_history.specs.Section.{start, state_after}
 use Rattle.eve_history.specs.SectionHistory.{ordered, access_with}
 use Rattle.eve_history.specs.Faults.{accesses_of, IsStructureFault}
-use Rattle.eve_history.specs.Coming.{KeptAttempt, kept, kept_attempt, seen, HasCome, ComesNext}
+use Rattle.eve_history.specs.Coming.{KeptAttempt, kept_section, kept_attempt, seen, HasCome, ComesNext}
 use Rattle.eve_history.proofs.Coming.{come_wrong, come_attempt, with_attempt}
 use Rattle.eve_history.specs.Standing.{frame_in, IsAttemptAt, IsAccessAt}
 use Rattle.eve_history.proofs.Standing.{attempt_there, all_seen, all_small, seen_in_order, access_frames}
@@ -26,14 +26,14 @@ judge-requires-clause-many c =
     let order : take c.len.result c.read_order.new.order ≡ said.certificate =
     ap (λ (n : ℕ). take n c.read_order.new.order) c.len.ensures.certificate ∙ c.read_order.ensures in
     its_records_count c.args.trace.now c.args.e c.requires.comes.0 c.requires.comes.1
-    (kept c.args.self.now) c.args.attempt.now.offset said c.args.accesses.now c.requires.comes.2
+    (kept_section c.args.self.now) c.args.attempt.now.offset said c.args.accesses.now c.requires.comes.2
     ∙ ap length (sym order)
 
 pub returns-in-Some-clause-wrong : goal.returns-in-Some-clause-wrong
 returns-in-Some-clause-wrong c =
     let t = c.args.trace.now in
     let e = c.args.e in
-    let k = kept c.args.self.now in
+    let k = kept_section c.args.self.now in
     let at = c.args.attempt.now.offset in
     let said = attempt_in c.args.attempt.now.bytes.now in
     let xs = c.args.accesses.now in
@@ -56,14 +56,14 @@ keep_records-requires-clause-there c =
     let order : take c.len.result c.read_order.new.order ≡ said.certificate =
     ap (λ (n : ℕ). take n c.read_order.new.order) c.len.ensures.certificate ∙ c.read_order.ensures in
     subst (AllByRecursion (λ i. (i < 256) × IsTrue (list_any (λ y. y.index == i) (accesses_of xs)))) (sym order)
-    (its_indexes t c.args.e c.requires.comes.0 b (kept c.args.self.now) at said xs comes
+    (its_indexes t c.args.e c.requires.comes.0 b (kept_section c.args.self.now) at said xs comes
     (sym (c.in_default.ensures.wrong (state_after start comes.come.front) b comes.come.stands comes.attempt
     comes.accesses)))
 
 pub overflow_cast-offset : goal.overflow_cast-offset
 overflow_cast-offset c =
     let there = attempt_there c.args.self.now.bytes.now c.args.trace.now c.args.e c.requires.comes.0
-    (kept c.args.self.now) c.args.attempt.now.offset c.requires.comes.1 c.requires.noted.spelled
+    (kept_section c.args.self.now) c.args.attempt.now.offset c.requires.comes.1 c.requires.noted.spelled
     c.requires.comes.2.come in
     let small = there.1.framed.small in
     record { fits = omega (arith, small, c.offset.ensures) }
@@ -72,7 +72,7 @@ pub returns-clause-taken : goal.returns-clause-taken
 returns-clause-taken c = λ rest b comes.
     let t = c.args.trace.now in
     let n = c.args.self.now in
-    let k = kept n in
+    let k = kept_section n in
     let at = c.args.attempt.now.offset in
     let said = attempt_in c.args.attempt.now.bytes.now in
     let xs = c.args.accesses.now in
@@ -88,8 +88,7 @@ returns-clause-taken c = λ rest b comes.
     λ i. record {
       offset = sym c.offset.ensures i;
       attempt = (sym there.0 ∙ ap (λ (o : ℕ). attempt_in (frame_in n.bytes.now o)) (sym c.offset.ensures)) i;
-      from =
-          sym from i;
+      from = sym from i;
     } in
     let attempts : k.attempts ++ added ∷ [] ≡ map keep c.push.new.self.items =
     ap (λ (a : KeptAttempt). k.attempts ++ a ∷ []) same
@@ -109,7 +108,8 @@ returns-clause-taken c = λ rest b comes.
     ∙ sym (ap (map (seen n.bytes.now)) c.in_ok-keep_records.ensures.kept ∙ map-append (seen n.bytes.now) n.records.items
     (map (λ i. (access_with xs i).0) own)) in
     let is : with_attempt k at (without_accesses b) (ordered at b)
-    ≡ kept (record n { rolled_back = false; attempts = c.push.new.self; records = c.keep_records.new.records }) =
+    ≡ kept_section (record n { rolled_back = false; attempts = c.push.new.self; records = c.keep_records.new.records })
+    =
     λ i. record k { rolled_back = false; attempts = attempts i; records = records i } in
     subst (HasCome t c.args.e rest) is
     (come_attempt t c.args.e at b rest k comes.come
@@ -123,7 +123,7 @@ keep_records-requires-clause-small c =
     let xs = c.args.accesses.now in
     all_small n.bytes.now xs
     (all_seen n.bytes.now c.args.trace.now c.args.e c.requires.comes.0 c.requires.comes.1
-    (kept n) c.args.attempt.now.offset said xs c.requires.noted.spelled c.requires.comes.2)
+    (kept_section n) c.args.attempt.now.offset said xs c.requires.noted.spelled c.requires.comes.2)
 
 pub returns-clause-noted : goal.returns-clause-noted
 returns-clause-noted c =
@@ -134,7 +134,7 @@ returns-clause-noted c =
     let xs = c.args.accesses.now in
     let b = c.requires.comes.1 in
     let comes = c.requires.comes.2 in
-    let there = attempt_there n.bytes.now t c.args.e c.requires.comes.0 (kept n) at b c.requires.noted.spelled
+    let there = attempt_there n.bytes.now t c.args.e c.requires.comes.0 (kept_section n) at b c.requires.noted.spelled
     comes.come in
     let is_there : Attempted → Type 0 = λ a. IsAttemptAt n.bytes.now a.at in
     let own = take c.len.result c.read_order.new.order in
@@ -142,7 +142,7 @@ returns-clause-noted c =
     ∙ c.read_order.ensures in
     let listed : AllByRecursion (λ i. (i < 256) × IsTrue (list_any (λ y. y.index == i) (accesses_of xs))) own =
     subst (AllByRecursion (λ i. (i < 256) × IsTrue (list_any (λ y. y.index == i) (accesses_of xs)))) (sym order)
-    (its_indexes t c.args.e c.requires.comes.0 b (kept n) at said xs comes
+    (its_indexes t c.args.e c.requires.comes.0 b (kept_section n) at said xs comes
     (sym (c.in_default.ensures.wrong (state_after start comes.come.front) b comes.come.stands comes.attempt
     comes.accesses))) in
     record {
@@ -153,7 +153,7 @@ returns-clause-noted c =
             (subst (IsAttemptAt n.bytes.now) (sym c.offset.ensures) there.1) c.requires.noted.framed.attempts);
         records = subst (AllByRecursion (IsAccessAt n.bytes.now)) (sym c.in_ok-keep_records.ensures.kept)
             (access_frames n.bytes.now xs n.records.items own
-            (all_seen n.bytes.now t c.args.e c.requires.comes.0 b (kept n) at said xs c.requires.noted.spelled
+            (all_seen n.bytes.now t c.args.e c.requires.comes.0 b (kept_section n) at said xs c.requires.noted.spelled
             comes) listed c.requires.noted.framed.records);
         rollbacks = c.requires.noted.framed.rollbacks;
       };

@@ -9,7 +9,7 @@ use Rattle.eve_views.specs.Form.{IfFound, IsLeast}
 use Rattle.eve_history.specs.Section.{start, state_after}
 use Rattle.eve_history.specs.Faults.{IsStructureFault}
 use Rattle.eve_history.specs.FirstWrong.{fault_of}
-use Rattle.eve_history.specs.Coming.{kept, HasCome}
+use Rattle.eve_history.specs.Coming.{kept_section, HasCome}
 use Rattle.eve_history.proofs.Coming.{come_wrong, come_commit, with_commit}
 use Rattle.eve_history.proofs.Taking.{commit_wrong, commit_right}
 use Rattle.eve_history.proofs.notes.Notes.take_commit.Goals as goal
@@ -17,7 +17,7 @@ use Rattle.eve_history.proofs.notes.Notes.take_commit.Goals as goal
 pub returns-then-not-commits_first-clause-wrong : goal.returns-then-not-commits_first-clause-wrong
 returns-then-not-commits_first-clause-wrong c =
     let e = c.args.e in
-    let k = kept c.args.self.now in
+    let k = kept_section c.args.self.now in
     let at = c.args.commit.now.offset in
     let said = commit_in c.args.commit.now.bytes.now in
     let P : Fault → Type 0 = λ f. (t : Trace) (rest : List (ℕ × Step)) → HasCome t e ((at, Commits said) ∷ rest) k
@@ -33,7 +33,7 @@ returns-then-not-commits_first-clause-wrong c =
 pub returns-clause-taken : goal.returns-clause-taken
 returns-clause-taken c = λ t rest come.
     let e = c.args.e in
-    let k = kept c.args.self.now in
+    let k = kept_section c.args.self.now in
     let at = c.args.commit.now.offset in
     let said = commit_in c.args.commit.now.bytes.now in
     let place : length k.fates ≡ c.len-place.result = search rules in
@@ -41,7 +41,7 @@ returns-clause-taken c = λ t rest come.
     ap (λ (n : ℕ). k.commits ++ n ∷ []) place ∙ ap (λ (ns : List ℕ). ns ++ c.len-place.result ∷ [])
     (sym c.in_ok-reserve.ensures.items) ∙ sym c.push_reserved.ensures.items in
     let is : with_commit k said.seq
-    ≡ kept (record c.args.self.now
+    ≡ kept_section (record c.args.self.now
     { last = c.seq-self.result; fates = c.push.new.self; commits = c.push_reserved.new.self }) =
     λ i. record k { last = sym c.seq-self.ensures i; fates = sym c.in_ok-push.ensures.items i; commits = commits i } in
     subst (HasCome t e rest) is

@@ -14,7 +14,7 @@ use Rattle.eve_history.specs.Standing.{frame_in, IsRollbackAt}
 use Rattle.eve_history.specs.Section.{start, state_after}
 use Rattle.eve_history.specs.Faults.{IsStructureFault}
 use Rattle.eve_history.specs.FirstWrong.{fault_of}
-use Rattle.eve_history.specs.Coming.{kept, kept_attempt, rolled, open_count, HasCome}
+use Rattle.eve_history.specs.Coming.{kept_section, kept_attempt, rolled, open_count, HasCome}
 use Rattle.eve_history.proofs.Coming.{come_wrong, come_rollback, with_rollback}
 use Rattle.eve_history.proofs.Standing.{rollback_there, one_more_framed}
 use Rattle.eve_history.proofs.Taking.{rollback_wrong, rollback_right, discarded_all}
@@ -24,7 +24,7 @@ pub returns-then-not-rolls_back-clause-wrong : goal.returns-then-not-rolls_back-
 returns-then-not-rolls_back-clause-wrong c =
     let t = c.args.trace.now in
     let e = c.args.e in
-    let k = kept c.args.self.now in
+    let k = kept_section c.args.self.now in
     let at = c.args.rollback.now.offset in
     let said = rollback_in c.args.rollback.now.bytes.now in
     let P : Fault → Type 0 = λ f. (rest : List (ℕ × Step)) → HasCome t e ((at, RollsBack said) ∷ rest) k
@@ -41,7 +41,7 @@ returns-then-not-rolls_back-clause-wrong c =
 pub overflow_cast-offset : goal.overflow_cast-offset
 overflow_cast-offset c =
     let there = rollback_there c.args.self.now.bytes.now c.args.trace.now c.args.e c.requires.comes.0
-    (kept c.args.self.now) c.args.rollback.now.offset (rollback_in c.args.rollback.now.bytes.now)
+    (kept_section c.args.self.now) c.args.rollback.now.offset (rollback_in c.args.rollback.now.bytes.now)
     c.requires.noted.spelled c.requires.comes.1 in
     let small = there.1.framed.small in
     record { fits = omega (arith, small, c.offset-2.ensures) }
@@ -51,7 +51,7 @@ returns-clause-taken c = λ rest come.
     let t = c.args.trace.now in
     let e = c.args.e in
     let n = c.args.self.now in
-    let k = kept n in
+    let k = kept_section n in
     let at = c.args.rollback.now.offset in
     let said = rollback_in c.args.rollback.now.bytes.now in
     let keep = rolled n.bytes.now in
@@ -70,7 +70,7 @@ returns-clause-taken c = λ rest come.
     ap (λ (r : ℕ × Rollback). map keep n.rollbacks.items ++ r ∷ []) is_one
     ∙ sym (ap (map keep) c.in_ok-push.ensures.items ∙ map-append keep n.rollbacks.items (place ∷ [])) in
     let is : with_rollback k at said
-    ≡ kept (record n {
+    ≡ kept_section (record n {
       view = c.view-self.result;
       rolled_back = true;
       fates = c.resize.new.self;
@@ -87,7 +87,7 @@ pub returns-clause-noted : goal.returns-clause-noted
 returns-clause-noted c =
     let n = c.args.self.now in
     let there = rollback_there n.bytes.now c.args.trace.now c.args.e c.requires.comes.0
-    (kept n) c.args.rollback.now.offset (rollback_in c.args.rollback.now.bytes.now) c.requires.noted.spelled
+    (kept_section n) c.args.rollback.now.offset (rollback_in c.args.rollback.now.bytes.now) c.requires.noted.spelled
     c.requires.comes.1 in
     record {
       spelled = c.requires.noted.spelled;

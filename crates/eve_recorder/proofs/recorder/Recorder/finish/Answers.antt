@@ -4,7 +4,7 @@ use Rattle.crossbeam_queue.specs.Passes.{view}
 use Rattle.eve_stamps.specs.Applied.{Applied}
 use Rattle.eve_recorder.specs.Noted.{of_worker}
 use Rattle.eve_recorder.specs.declared.ledger.Ledger.{Ledger}
-use Rattle.eve_recorder.specs.Seen.{RecorderId, recorder_id, Places, Taker, IsAt, noted_on, all_noted}
+use Rattle.eve_recorder.specs.Seen.{RecorderId, recorder_id, Places, Taker, IsTakerAt, noted_on, noted_on_all}
 use Rattle.eve_recorder.specs.Rows.{row_of}
 use Rattle.eve_recorder.proofs.Keeps.{merges_taker}
 use Rattle.eve_recorder.proofs.SeatTable.{all_gathered}
@@ -43,7 +43,7 @@ pub put_back-requires-8-clause-own : goal.put_back-requires-8-clause-own
 put_back-requires-8-clause-own c = own_at _ (row_of c.seats.inside.row) 7
     (tied c.seats.view_is c.requires.own c.self.view_is) c.seats.invariant.3
 
-noted : (c : goal.After-absorb) → all_noted (row_of c.seats.inside.row) ≡ (view c.absorb.new.pass).noted
+noted : (c : goal.After-absorb) → noted_on_all (row_of c.seats.inside.row) ≡ (view c.absorb.new.pass).noted
 noted c = let n : Ledger → List Applied = λ h. h.noted in let r = c.seats.inside.row in
     all_gathered noted_on _ _ _ _ _ _ _ _ _ r.s0 r.s1 r.s2 r.s3 r.s4 r.s5 r.s6 r.s7 (ap n c.seats.invariant.1)
     (ap n c.put_back.ensures.main) (ap n c.put_back-2.ensures.main) (ap n c.put_back-3.ensures.main)
@@ -55,7 +55,7 @@ noted c = let n : Ledger → List Applied = λ h. h.noted in let r = c.seats.ins
 pub absorb-requires-clause-rule : goal.absorb-requires-clause-rule
 absorb-requires-clause-rule c =
     let here : RecorderId = recorder_id c.seats.inside.main.table_id c.seats.inside.workers in
-    let own : c.in-Some.taker.recorder ≡ here = subst (IsAt here) c.in-Some.is c.seats.invariant.4 in
+    let own : c.in-Some.taker.recorder ≡ here = subst (IsTakerAt here) c.in-Some.is c.seats.invariant.4 in
     let many = ap (λ (t : Taker). t.recorder.workers) c.taker.view_is ∙ ap (λ (r : RecorderId). r.workers) own
     ∙ sym (ap (λ (h : Ledger). h.workers) c.put_back-8.ensures.main) in
     merges_taker _ _ _ _ (ap (λ (h : Ledger). h.takes) c.taker.invariant.1) many

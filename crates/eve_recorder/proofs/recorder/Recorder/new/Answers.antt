@@ -2,7 +2,7 @@ use Rattle.std.proofs.Common.{◌≡◌, ap, sym, ◌∙◌, subst, max, List, [
 use Rattle.atomic_table.specs.Seated.{TableId}
 use Rattle.eve_recorder.specs.Kept.{ledger, no_taker}
 use Rattle.eve_recorder.specs.Rows.{row_by}
-use Rattle.eve_recorder.specs.Seen.{recorder_id, Noter, IsSeated, fresh_noter}
+use Rattle.eve_recorder.specs.Seen.{recorder_id, Noter, AreNotersSeated, fresh_noter}
 use Rattle.eve_recorder.proofs.Ending.{fresh_seated}
 use Rattle.eve_recorder.specs.declared.ledger.Ledger.{Ledger}
 use Rattle.eve_recorder.proofs.Keeps.{begins, forks_taker}
@@ -37,7 +37,7 @@ invariant_of-seats-2 c =
       none,
       c.another-taker.ensures.rule.0 ∙ ap no_taker c.cut-s0.ensures.main ∙ ap (λ k. ledger false [] k 0 0 []) all,
       c.requires.workers.1,
-      subst (λ (y : TableId × List (Option Noter)). IsSeated (recorder_id y.0 n) y.1) (λ i. (sym here i, is i))
+      subst (λ (y : TableId × List (Option Noter)). AreNotersSeated (recorder_id y.0 n) y.1) (λ i. (sym here i, is i))
           (fresh_seated (recorder_id T n)),
       λ i. recorder_id ((c.another-taker.ensures.queue.1.0 ∙ sym here) i) (many i),
     )

@@ -1,6 +1,6 @@
 use Rattle.std.proofs.Common.{◌≡◌, refl, ap, sym, ◌∙◌, subst, List, Option, Some, set, arith}
 use Rattle.eve_recorder.specs.Noted.{AllOf}
-use Rattle.eve_recorder.specs.Seen.{RecorderId, recorder_id, Noter, Places, IsNoterOf, IsSeated}
+use Rattle.eve_recorder.specs.Seen.{RecorderId, recorder_id, Noter, Places, IsNoterOf, AreNotersSeated}
 use Rattle.eve_recorder.specs.Rows.{row_of}
 use Rattle.eve_recorder.proofs.SeatTable.{seated_with}
 use Rattle.eve_recorder.proofs.seats.Seats.give_back.Goals as goal
@@ -16,4 +16,4 @@ invariant_of-self c = let i = c.self.invariant in let s = c.self.inside in let s
     let row : set (row_of s.row) seat.worker (Some seat) ≡ row_of c.put.new.self =
     sym (c.put.ensures ∙ ap (λ k. set (row_of s.row) k (Some seat)) is) in
     let seated = seated_with (IsNoterOf here) (row_of s.row) seat.worker seat i.3 (own, refl, omega arith, all) in
-    (i.0, i.1, i.2, subst (λ (l : List (Option Noter)). IsSeated here l) row seated, i.4)
+    (i.0, i.1, i.2, subst (λ (l : List (Option Noter)). AreNotersSeated here l) row seated, i.4)

@@ -1,6 +1,6 @@
 use Rattle.std.proofs.Common.{subst, sym, refl, true≢false, true, IsTrue, IsSome, Option, Some, None, ◌≡◌, ◌↔◌}
 use Rattle.std.specs.Option.{is_some}
-use Rattle.eve_recorder.specs.Seen.{Taker, Places, IsWhole}
+use Rattle.eve_recorder.specs.Seen.{Taker, Places, HasAllSeats}
 use Rattle.eve_recorder.proofs.seats.Seats.whole.Goals as goal
 
 there : (o : Option Taker) → is_some o ≡ true → IsSome o
@@ -9,5 +9,5 @@ there (Some x) e = refl
 
 pub returns-then-is_some : goal.returns-then-is_some
 returns-then-is_some c = let h = c.has_below.ensures in
-    subst (λ (p : Places). IsTrue c.has_below.result ↔ IsWhole p) c.self.view_is
+    subst (λ (p : Places). IsTrue c.has_below.result ↔ HasAllSeats p) c.self.view_is
     ((λ t. (there c.self.inside.taker (sym (c.if-is_some.ensures)), h.0 t)), λ w. h.1 w.1)

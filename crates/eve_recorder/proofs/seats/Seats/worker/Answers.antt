@@ -1,6 +1,6 @@
 use Rattle.std.proofs.Common.{sym, ◌≡◌, ◌<◌, IfSome, subst}
 use Rattle.std.specs.Prelude.{List, Option}
-use Rattle.eve_recorder.specs.Seen.{recorder_id, Noter, Places, IsNoterOf, IsSeated}
+use Rattle.eve_recorder.specs.Seen.{recorder_id, Noter, Places, IsNoterOf, AreNotersSeated}
 use Rattle.eve_recorder.specs.Rows.{row_of}
 use Rattle.eve_recorder.proofs.SeatTable.{own_of, seated_without, each_some}
 use Rattle.eve_recorder.proofs.seats.Seats.worker.Goals as goal
@@ -9,7 +9,7 @@ pub invariant_of-self : goal.invariant_of-self
 invariant_of-self c = let i = c.self.invariant in let s = c.self.inside in let here =
     recorder_id s.main.table_id s.workers in
     let seated = seated_without (IsNoterOf here) (row_of s.row) c.args.w i.3 in
-    (i.0, i.1, i.2, subst (λ (l : List (Option Noter)). IsSeated here l) (sym c.take.ensures.rest) seated, i.4)
+    (i.0, i.1, i.2, subst (λ (l : List (Option Noter)). AreNotersSeated here l) (sym c.take.ensures.rest) seated, i.4)
 
 pub returns-clause-own : goal.returns-clause-own
 returns-clause-own c = let s = c.self.inside in let here = recorder_id s.main.table_id s.workers in

@@ -1,5 +1,5 @@
 use Rattle.std.proofs.Common.{◌≡◌, ◌<◌, refl, ap, sym, ◌∙◌, subst, List, Option, Some, set, arith}
-use Rattle.eve_recorder.specs.Drawing.{Source, Drawer, Drawers, IsDrawerOf, IsSeated, source}
+use Rattle.eve_recorder.specs.Drawing.{Source, Drawer, Drawers, IsDrawerOf, AreDrawersSeated, source}
 use Rattle.eve_recorder.specs.Rows.{row_of}
 use Rattle.eve_recorder.proofs.SeatTable.{seated_with}
 use Rattle.eve_recorder.proofs.ticket_seats.TicketSeats.give_back.Goals as goal
@@ -15,4 +15,4 @@ invariant_of-self c = let i = c.self.invariant in let s = c.args.seat in
     let row : set (row_of c.self.inside.row) s.number (Some s) ≡ row_of c.put.new.self =
     sym (c.put.ensures ∙ ap (λ k. set (row_of c.self.inside.row) k (Some s)) is) in
     let seated = seated_with (IsDrawerOf t) (row_of c.self.inside.row) s.number s i.4 (own, refl, lt) in
-    (i.0, i.1, i.2, i.3, subst (λ (l : List (Option Drawer)). IsSeated t l) row seated)
+    (i.0, i.1, i.2, i.3, subst (λ (l : List (Option Drawer)). AreDrawersSeated t l) row seated)

@@ -1,5 +1,5 @@
 use Rattle.std.proofs.Common.{◌≡◌, ◌<◌, IfSome, sym, subst, List, Option}
-use Rattle.eve_recorder.specs.Drawing.{Drawer, Drawers, IsDrawerOf, IsSeated, source}
+use Rattle.eve_recorder.specs.Drawing.{Drawer, Drawers, IsDrawerOf, AreDrawersSeated, source}
 use Rattle.eve_recorder.specs.Rows.{row_of}
 use Rattle.eve_recorder.proofs.SeatTable.{own_of, seated_without, each_some}
 use Rattle.eve_recorder.proofs.ticket_seats.TicketSeats.seat.Goals as goal
@@ -8,7 +8,7 @@ pub invariant_of-self : goal.invariant_of-self
 invariant_of-self c = let i = c.self.invariant in let s = c.self.inside in let t =
     source s.rest.table_id s.seats s.limit in
     let seated = seated_without (IsDrawerOf t) (row_of s.row) c.args.number i.4 in
-    (i.0, i.1, i.2, i.3, subst (λ (l : List (Option Drawer)). IsSeated t l) (sym c.take.ensures.rest) seated)
+    (i.0, i.1, i.2, i.3, subst (λ (l : List (Option Drawer)). AreDrawersSeated t l) (sym c.take.ensures.rest) seated)
 
 own : (c : goal.After-take)
     → IfSome c.take.result (λ s. (s.tickets ≡ c.args.self.now.tickets) × (s.number ≡ c.args.number)

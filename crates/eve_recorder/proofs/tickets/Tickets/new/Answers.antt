@@ -3,7 +3,7 @@ use Rattle.atomic_table.specs.Seated.{TableId}
 use Rattle.atomic_table.specs.Table.{Me}
 use Rattle.eve_recorder.specs.declared.drawn.Drawn.{Drawn}
 use Rattle.eve_recorder.specs.Dealt.{drawn, all_parts}
-use Rattle.eve_recorder.specs.Drawing.{Source, Drawer, IsSeated, fresh_seats, source}
+use Rattle.eve_recorder.specs.Drawing.{Source, Drawer, AreDrawersSeated, fresh_seats, source}
 use Rattle.eve_recorder.proofs.Seating.{fresh_seated}
 use Rattle.eve_recorder.proofs.tickets.Tickets.new.Goals as goal
 
@@ -24,6 +24,6 @@ invariant_of-all c =
       ap (λ (m : Me ℕ Drawn). m.0) c.split_off-8.ensures.rest ∙ ap (λ k. drawn (all_parts - k) []) all,
       c.requires.seats,
       c.requires.limit,
-      subst (λ (y : TableId × List (Option Drawer)). IsSeated (source y.0 c.args.seats c.args.limit) y.1)
+      subst (λ (y : TableId × List (Option Drawer)). AreDrawersSeated (source y.0 c.args.seats c.args.limit) y.1)
           (λ i. (sym here i, is i)) (fresh_seated t),
     )

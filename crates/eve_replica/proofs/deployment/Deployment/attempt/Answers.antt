@@ -1,7 +1,7 @@
 use Rattle.std.proofs.Common.{false, ◌-◌, ◌<◌, ℕ, All, length, take, drop, sym, ◌∙◌, subst, arith}
 use Rattle.std.proofs.lemmas.List.Elements.{All-drop, All-take}
 use Rattle.eve_replica.specs.declared.standing.Standing.{Standing}
-use Rattle.eve_replica.specs.Serving.{IsMixed, Serves}
+use Rattle.eve_replica.specs.Serving.{IsRightMixed, Serves}
 use Rattle.eve_replica.proofs.Going.{lent_serve, moved, window_open, window_len}
 use Rattle.eve_replica.proofs.deployment.Deployment.attempt.Goals as goal
 
@@ -14,8 +14,8 @@ attempt_all-requires-clause-serve g c κs within =
     let many = window_len d.batches.now from c.min-end.result (omega arith) (omega arith) in (
       was.names,
       d.head.window,
-      All-take (IsMixed was.names) (c.min-end.result - from) (drop from d.batches.now)
-          (All-drop (IsMixed was.names) from d.batches.now was.mixed),
+      All-take (IsRightMixed was.names) (c.min-end.result - from) (drop from d.batches.now)
+          (All-drop (IsRightMixed was.names) from d.batches.now was.mixed),
       lent_serve d c.as_mut_slice.result.now was c.as_mut_slice.ensures.value,
       omega (arith, was.few),
       omega (arith, was.few),

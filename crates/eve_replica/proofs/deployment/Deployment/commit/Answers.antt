@@ -1,5 +1,5 @@
 use Rattle.std.proofs.Common.{◌∙◌, arith}
-use Rattle.eve_replica.specs.Serving.{committing}
+use Rattle.eve_replica.specs.Serving.{after_commit}
 use Rattle.eve_replica.proofs.Going.{lent_serve, moved}
 use Rattle.eve_replica.proofs.deployment.Deployment.commit.Goals as goal
 
@@ -18,7 +18,7 @@ pub returns-clause-under_way : goal.returns-clause-under_way
 returns-clause-under_way c =
     let d = c.args.self.now in
     let due = c.requires.under_way.due in
-    moved d c.as_mut_slice.result.now c.commit_all.new.servers (committing d.standing) c.vote_for_commit.new.votes
+    moved d c.as_mut_slice.result.now c.commit_all.new.servers (after_commit d.standing) c.vote_for_commit.new.votes
     c.requires.under_way
     c.as_mut_slice.ensures.value (c.commit_all.auto.servers ∙ c.as_mut_slice.ensures.len) (omega arith)
     c.in_ok-vote_for_commit.ensures (λ names room. c.in_ok-commit_all.ensures names room d.standing)

@@ -1,5 +1,5 @@
 use Rattle.std.proofs.Common.{◌∙◌, arith}
-use Rattle.eve_replica.specs.Serving.{rolling_back}
+use Rattle.eve_replica.specs.Serving.{after_rollback}
 use Rattle.eve_replica.proofs.Going.{lent_serve, moved}
 use Rattle.eve_replica.proofs.deployment.Deployment.roll_back.Goals as goal
 
@@ -18,7 +18,7 @@ pub returns-clause-under_way : goal.returns-clause-under_way
 returns-clause-under_way c =
     let d = c.args.self.now in
     let due = c.requires.under_way.due in
-    moved d c.as_mut_slice.result.now c.roll_back_all.new.servers (rolling_back d.standing)
+    moved d c.as_mut_slice.result.now c.roll_back_all.new.servers (after_rollback d.standing)
     c.vote_for_rollback.new.votes c.requires.under_way
     c.as_mut_slice.ensures.value (c.roll_back_all.auto.servers ∙ c.as_mut_slice.ensures.len) (omega arith)
     c.in_ok-vote_for_rollback.ensures (λ names room. c.in_ok-roll_back_all.ensures names room d.standing)

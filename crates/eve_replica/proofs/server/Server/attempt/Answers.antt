@@ -1,7 +1,7 @@
 use Rattle.std.proofs.Common.{IsTrue, ap, sym, ◌∙◌, subst}
 use Rattle.std.specs.List.{list_all}
 use Rattle.eve_grammar.specs.Limits.{is_step}
-use Rattle.eve_attempts.specs.Ledgers.{Ledger, row_count}
+use Rattle.eve_attempts.specs.Ledgers.{Ledger, ledger_rows}
 use Rattle.eve_write.specs.Data.{batch, attempt, section}
 use Rattle.eve_replica.specs.Replicas.{Replica}
 use Rattle.eve_replica.specs.Serving.{standing_of}
@@ -14,7 +14,7 @@ returns-clause-on g c =
     let same = c.in_ok-did.ensures.replica in
     let closed = made.1.1 in record {
       names = ap (λ (r : Replica). r.names) same ∙ ap (λ (r : Replica). r.names) closed.rest;
-      rows = ap (λ (r : Replica). row_count r.ledger) same ∙ closed.closed.opens.as_many;
+      rows = ap (λ (r : Replica). ledger_rows r.ledger) same ∙ closed.closed.opens.as_many;
       room = ap (λ (r : Replica). r.ledger.window) same ∙ ap (λ (s : Ledger). s.window) closed.closed.opens.changed;
       whole = λ h. ap (λ (r : Replica). r.is_broken) same ∙ ap (λ (r : Replica). r.is_broken) closed.rest ∙ h;
       steps = λ h. c.in_ok-did.ensures.steps

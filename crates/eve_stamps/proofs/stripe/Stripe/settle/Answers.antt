@@ -5,7 +5,7 @@ use Rattle.std.proofs.lemmas.Fn.{filter_same}
 use Rattle.eve_grammar.specs.declared.restore.Restore.{Restore}
 use Rattle.eve_stamps.specs.declared.journal.Journaled.{Journaled}
 use Rattle.eve_stamps.specs.Stripes.{Stripe, settled_to, table_in, rows_in_table, table_after_journal}
-use Rattle.eve_stamps.specs.Holding.{stripe_of}
+use Rattle.eve_stamps.specs.Holding.{stripe_held}
 use Rattle.eve_stamps.proofs.JournalLaws.{up_to, behind}
 use Rattle.eve_stamps.proofs.Keeping.{held_settled}
 use Rattle.eve_stamps.proofs.stripe.Stripe.settle.Goals as goal
@@ -59,5 +59,5 @@ invariant_of-self-2 c =
 
 pub returns : goal.returns
 returns c =
-    ap₂ (λ (bs : List Restore) (js : List Journaled). stripe_of bs js c.self.inside.greatest) (settled c) (kept c)
+    ap₂ (λ (bs : List Restore) (js : List Journaled). stripe_held bs js c.self.inside.greatest) (settled c) (kept c)
     ∙ ap (settled_to c.args.tick) c.self.view_is

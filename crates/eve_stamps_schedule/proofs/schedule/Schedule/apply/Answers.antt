@@ -3,7 +3,7 @@ use Rattle.eve_stamps_schedule.specs.declared.event.Event.TheVariants.{Apply}
 use Rattle.eve_stamps_schedule.specs.declared.stage.Stage.TheVariants as at
 use Rattle.eve_stamps_schedule.specs.Events.{happens}
 use Rattle.eve_stamps_schedule.specs.Schedule.{Schedule, plan_of, world_of, allows}
-use Rattle.eve_stamps_schedule.specs.Scheduled.{schedule_of, IsHeld}
+use Rattle.eve_stamps_schedule.specs.Scheduled.{schedule_of, IsHeldSchedule}
 use Rattle.std.specs.Vec.{with_items}
 use Rattle.std.proofs.lemmas.List.{with_items_is}
 use Rattle.eve_smallbank.specs.SmallBank.{plain, Request}
@@ -14,9 +14,9 @@ use Rattle.eve_stamps.specs.Applied.{Applied, noted_of}
 use Rattle.eve_stamps.specs.Stripes.{Stripe, is_above}
 use Rattle.eve_stamps_schedule.specs.Before.{EachBefore}
 use Rattle.eve_stamps_schedule.specs.Stripes.{needs}
-use Rattle.eve_stamps_schedule.specs.World.{request_at}
-use Rattle.eve_stamps_schedule.specs.Events.{placed}
-use Rattle.eve_stamps_schedule.specs.Schedule.{stripe_at, table_of}
+use Rattle.eve_stamps_schedule.specs.World.{planned_request}
+use Rattle.eve_stamps_schedule.specs.Events.{placed_by_tick}
+use Rattle.eve_stamps_schedule.specs.Schedule.{stripe_at, table_of_stripes}
 use Rattle.eve_stamps_schedule.specs.Applying.{IsKeptAt}
 use Rattle.eve_stamps_schedule.proofs.Stepping.{allowed_by, above_owned, fresh_rows, short_list, ticks_rise, IsMadeOn}
 use Rattle.eve_stamps_schedule.proofs.Stepping.{with_made, made_plan, made_world, made_held}
@@ -35,9 +35,10 @@ stage c =
 
 -- the request is that of its index
 same : (c : In-Ok) → plain c.request-request.result
-    ≡ request_at (plan_of (schedule_of c.self.inside)) c.in-Ticked.index
+    ≡ planned_request (plan_of (schedule_of c.self.inside)) c.in-Ticked.index
 same c =
-    c.request-request.ensures ∙ ap (λ (t : Schedule). request_at (plan_of t) c.in-Ticked.index) (sym c.self.view_is)
+    c.request-request.ensures ∙ ap (λ (t : Schedule). planned_request (plan_of t) c.in-Ticked.index)
+    (sym c.self.view_is)
 
 -- the place is the next of the worker
 place : (c : In-Ok) → length c.noted.result.now
@@ -58,8 +59,9 @@ on c =
     record {
       long = c.applied_on-made.auto.stripes ∙ ap length value;
       exact = c.in-Ok.ensures.exact ∙ (λ k. noted_of c.args.worker (place c k) c.in-Ticked.index n
-          (executed_on s.names (table_of (value k)) (same c k)));
-      table = c.in-Ok.ensures.table ∙ ap (λ (l : List Stripe). table_after (table_of l) c.in-Ok.made.entries) value;
+          (executed_on s.names (table_of_stripes (value k)) (same c k)));
+      table = c.in-Ok.ensures.table ∙ ap (λ (l : List Stripe). table_after (table_of_stripes l) c.in-Ok.made.entries)
+          value;
       kept = λ k.
           subst (λ (r : Request). IsKeptAt n (needs s.names r k) (stripe_at s.stripes k) (stripe_at ss k)) (same c)
           (subst (λ (l : List Stripe). IsKeptAt n (needs s.names request k) (stripe_at l k) (stripe_at ss k)) value
@@ -93,9 +95,9 @@ applied_on-made-requires-clause-above c k need =
     let ticked : In-Ticked = (goal.at.applied_on-made-requires-clause-above c).In-Ticked in
     let s : Schedule = schedule_of c.self.inside in
     let n : ℕ = c.in-Ticked.tick in
-    let same : plain c.request-request.result ≡ request_at (plan_of s) c.in-Ticked.index =
+    let same : plain c.request-request.result ≡ planned_request (plan_of s) c.in-Ticked.index =
     c.request-request.ensures
-    ∙ ap (λ (t : Schedule). request_at (plan_of t) c.in-Ticked.index) (sym c.self.view_is) in
+    ∙ ap (λ (t : Schedule). planned_request (plan_of t) c.in-Ticked.index) (sym c.self.view_is) in
     subst (λ (l : List Stripe). is_above n (stripe_at l k).greatest ≡ true) (sym c.as_mut_slice.ensures.value)
     (above_owned s c.self.inside.noted_count c.args.worker c.in-Ticked.index n c.self.invariant (there ticked)
     (stage ticked) k
@@ -103,7 +105,7 @@ applied_on-made-requires-clause-above c k need =
 
 pub applied_on-made-requires-clause-fresh : goal.applied_on-made-requires-clause-fresh
 applied_on-made-requires-clause-fresh c row =
-    subst (λ (l : List Stripe). (table_of l row).version < version_limit) (sym c.as_mut_slice.ensures.value)
+    subst (λ (l : List Stripe). (table_of_stripes l row).version < version_limit) (sym c.as_mut_slice.ensures.value)
     (fresh_rows (schedule_of c.self.inside) c.self.inside.noted_count c.self.invariant row)
 
 pub insert-requires-clause-rises : goal.insert-requires-clause-rises
@@ -119,12 +121,12 @@ invariant_of-self-in-Ok c =
     let w : ℕ = c.args.worker in
     let x : Applied = c.in-Ok.made in
     let ss : List Stripe = c.applied_on-made.new.stripes in
-    let applied : c.insert.new.applied.items ≡ placed x s.applied =
-    c.insert.ensures ∙ ap (placed x) c.reserve.ensures.items in
-    subst (λ (l : List Stripe). IsHeld
+    let applied : c.insert.new.applied.items ≡ placed_by_tick x s.applied =
+    c.insert.ensures ∙ ap (placed_by_tick x) c.reserve.ensures.items in
+    subst (λ (l : List Stripe). IsHeldSchedule
     (record s { stripes = l; stages = set s.stages w (at.Applied x); applied = c.insert.new.applied.items })
     c.self.inside.noted_count) (sym (stripes ok))
-    (subst (λ (l : List Applied). IsHeld
+    (subst (λ (l : List Applied). IsHeldSchedule
     (record s { stripes = ss; stages = set s.stages w (at.Applied x); applied = l })
     c.self.inside.noted_count) (sym applied)
     (made_held s c.self.inside.noted_count w c.in-Ticked.index c.in-Ticked.tick x ss (on ok) c.self.invariant
@@ -140,8 +142,8 @@ returns-in-Ok c =
     let n : ℕ = c.in-Ticked.tick in
     let x : Applied = c.in-Ok.made in
     let ss : List Stripe = c.applied_on-made.new.stripes in
-    let applied : c.insert.new.applied.items ≡ placed x s.applied =
-    c.insert.ensures ∙ ap (placed x) c.reserve.ensures.items in
+    let applied : c.insert.new.applied.items ≡ placed_by_tick x s.applied =
+    c.insert.ensures ∙ ap (placed_by_tick x) c.reserve.ensures.items in
     let whole : record s {
       stripes = (with_items c.self.inside.stripes ss).items;
       stages = set s.stages w (at.Applied x);

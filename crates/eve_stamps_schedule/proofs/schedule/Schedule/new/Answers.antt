@@ -1,12 +1,12 @@
 use Rattle.std.proofs.Common.{◌≡◌, ℕ, ℤ, List, map, length, sym, subst, ap, ◌∙◌, arith}
 use Rattle.eve_stamps_schedule.specs.Schedule.{Schedule, plan_of, world_of}
-use Rattle.eve_stamps_schedule.specs.Scheduled.{IsHeld}
+use Rattle.eve_stamps_schedule.specs.Scheduled.{IsHeldSchedule}
 use Rattle.eve_smallbank.specs.SmallBank.{Request}
 use Rattle.eve_grammar.specs.Trace.{Asked}
 use Rattle.eve_write.specs.Data.{batch as plain, asked}
 use Rattle.eve_write.specs.declared.request.RequestData.{RequestData}
-use Rattle.eve_stamps_schedule.specs.World.{begin}
-use Rattle.eve_stamps_schedule.specs.Schedule.{requests_in}
+use Rattle.eve_stamps_schedule.specs.World.{first_world}
+use Rattle.eve_stamps_schedule.specs.Schedule.{requests_of_batch}
 use Rattle.eve_stamps_schedule.proofs.Openings.{opening_stripes, opening_schedule, opening_plan_is, opening_world}
 use Rattle.eve_stamps_schedule.proofs.Openings.{opening_held}
 use Rattle.std.proofs.lemmas.List.{length-map}
@@ -18,7 +18,7 @@ sizes : (c : In_ok-with_capacity) → List ℕ
 sizes c = (plain c.args.batch.now).sizes
 
 requests : (c : In_ok-with_capacity) → List Request
-requests c = requests_in (plain c.args.batch.now)
+requests c = requests_of_batch (plain c.args.batch.now)
 
 -- what is made of these parts
 made : In_ok-with_capacity → Schedule
@@ -69,7 +69,7 @@ invariant_of-result c =
     let one : length (map asked items) ≡ length items = length-map items asked in
     let two : length (requests c) ≡ length (map asked items) =
     length-map (map asked items) (λ (a : Asked). a.request) in
-    subst (λ (t : Schedule). IsHeld t 0) (sym (made_is c))
+    subst (λ (t : Schedule). IsHeldSchedule t 0) (sym (made_is c))
     (opening_held c.args.names.now.items c.args.balances.now (sizes c) (requests c) c.args.workers
     c.requires.rows (omega (arith, c.requires.requests)))
 
@@ -85,4 +85,4 @@ unfolding made first sizes requests
 returns-clause-first c =
     ap world_of (made_is c)
     ∙ opening_world c.args.names.now.items c.args.balances.now (sizes c) (requests c) c.args.workers
-    ∙ ap (λ (t : Schedule). begin (plan_of t)) (sym (made_is c))
+    ∙ ap (λ (t : Schedule). first_world (plan_of t)) (sym (made_is c))

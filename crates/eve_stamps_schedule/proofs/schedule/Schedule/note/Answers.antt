@@ -4,7 +4,7 @@ use Rattle.eve_stamps_schedule.specs.declared.event.Event.TheVariants.{Note}
 use Rattle.eve_stamps_schedule.specs.declared.stage.Stage.TheVariants as at
 use Rattle.eve_stamps_schedule.specs.Events.{happens}
 use Rattle.eve_stamps_schedule.specs.Schedule.{Schedule, plan_of, world_of, allows}
-use Rattle.eve_stamps_schedule.specs.Scheduled.{schedule_of, IsHeld}
+use Rattle.eve_stamps_schedule.specs.Scheduled.{schedule_of, IsHeldSchedule}
 use Rattle.eve_stamps.specs.Applied.{Applied}
 use Rattle.eve_stamps.specs.Opening.{stripe_count}
 use Rattle.eve_stamps_schedule.specs.Stripes.{greatest_below}
@@ -59,7 +59,7 @@ returns-in-Ok c =
 pub invariant_of-self-in-Err : goal.invariant_of-self-in-Err
 invariant_of-self-in-Err c =
     let s : Schedule = schedule_of c.self.inside in
-    subst (λ (xs : List (List Applied)). IsHeld (record s { noted = xs }) c.self.inside.noted_count)
+    subst (λ (xs : List (List Applied)). IsHeldSchedule (record s { noted = xs }) c.self.inside.noted_count)
     (sym c.in-Err.ensures.kept) c.self.invariant
 
 pub returns-in-Err : goal.returns-in-Err
@@ -76,7 +76,7 @@ invariant_of-self c =
     let here : After-append = (goal.at.invariant_of-self c).After-append in
     let s : Schedule = schedule_of c.self.inside in
     let w : ℕ = c.args.worker in
-    subst (λ (xs : List (List Applied)). IsHeld (record s { stages = set s.stages w at.Idle; noted = xs })
+    subst (λ (xs : List (List Applied)). IsHeldSchedule (record s { stages = set s.stages w at.Idle; noted = xs })
     (c.self.inside.noted_count + 1)) (sym c.in-Ok.ensures.appended)
     (note_held s c.self.inside.noted_count w c.in-Applied.made c.self.invariant
     (there here) (stage here) (allowed here))

@@ -6,7 +6,7 @@ use Rattle.eve_smallbank.specs.SmallBank.{plain, Balance}
 use Rattle.eve_grammar.specs.Trace.{Asked}
 use Rattle.eve_write.specs.Data.{asked}
 use Rattle.eve_write.specs.declared.request.RequestData.{RequestData}
-use Rattle.eve_stamps_schedule.specs.World.{request_at}
+use Rattle.eve_stamps_schedule.specs.World.{planned_request}
 use Rattle.eve_stamps_schedule.proofs.schedule.Schedule.request.Goals as goal
 
 pub returns : goal.returns
@@ -18,7 +18,7 @@ returns c =
     let there : c.args.index < length (map asked items) = rw (← length-map (map asked items) (λ (a : Asked). a.request))
     two in
     let here : c.args.index < length items = rw (← length-map items asked) there in
-    subst (λ (s : Schedule). plain c.request.result ≡ request_at (plan_of s) c.args.index) c.self.view_is
+    subst (λ (s : Schedule). plain c.request.result ≡ planned_request (plan_of s) c.args.index) c.self.view_is
     (c.request.ensures
     ∙ sym (
     get_or-map (λ (a : Asked). a.request) (map asked items) c.args.index (asked x) (Balance []) there

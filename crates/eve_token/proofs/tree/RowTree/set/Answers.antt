@@ -1,7 +1,7 @@
 use Rattle.std.proofs.Common.{◌≡◌, ◌++◌, ◌∙◌, ℕ, ℤ, List, length, take, drop, set, Option, sym, subst, ap, arith, rules}
 use Rattle.std.proofs.Common.{length-set}
 use Rattle.std.proofs.lemmas.List.{take_at}
-use Rattle.eve_token.specs.Places.{IsRowTree, IsKept, nodes_of}
+use Rattle.eve_token.specs.Places.{IsRowTree, HaveHashes, nodes_of}
 use Rattle.eve_token.proofs.Keeping.{row-changed, nothing-changed}
 use Rattle.eve_token.proofs.tree.RowTree.set.Goals as goal
 
@@ -22,12 +22,12 @@ invariant_of-self c =
       length-set bs c.args.row
           c.args.balance,
     ) in
-    let marked : (hs : List (List ℕ)) (h : List ℕ) → length hs ≡ length bs → IsKept old (nodes_of hs)
-    → IsKept new (nodes_of (set hs c.args.row h)) =
+    let marked : (hs : List (List ℕ)) (h : List ℕ) → length hs ≡ length bs → HaveHashes old (nodes_of hs)
+    → HaveHashes new (nodes_of (set hs c.args.row h)) =
     λ hs h count kept.
-    subst (λ (i : ℕ). IsKept new (nodes_of (set hs i h))) c.number.ensures.number
+    subst (λ (i : ℕ). HaveHashes new (nodes_of (set hs i h))) c.number.ensures.number
     (c.mark_stale.ensures hs h (count ∙ sym rows)
-    (subst (λ (ps : List (Option (List ℕ))). IsKept ps (nodes_of hs)) (sym c.as_mut_slice.ensures.value) kept)) in
+    (subst (λ (ps : List (Option (List ℕ))). HaveHashes ps (nodes_of hs)) (sym c.as_mut_slice.ensures.value) kept)) in
     subst (λ (ps : List (Option (List ℕ))). IsRowTree c.set.new.self ps) (sym whole)
     (subst (λ (zs : List ℤ). IsRowTree zs new) (sym balances)
     (row-changed bs old new c.args.row c.args.balance c.self.invariant long marked))

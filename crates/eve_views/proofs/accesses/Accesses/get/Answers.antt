@@ -1,69 +1,35 @@
-use Rattle.std.proofs.Common.{◌≡◌, ◌<◌, ◌-◌, ◌^◌, ℕ, List, length, sym, ap, ◌∙◌, arith, rules}
-use Rattle.std.specs.Prelude.{slice_get}
-use Rattle.eve_grammar.specs.Trace.{Access}
-use Rattle.eve_grammar.specs.Frames.{OfAccess, frames_of}
-use Rattle.eve_frames.specs.Views.{is_access_frame, access_in}
-use Rattle.eve_frames.proofs.Rereading.{access_again}
-use Rattle.eve_views.specs.Parts.{accesses_between}
-use Rattle.eve_views.proofs.PartLaws.{access_met, length-accesses, says_met, returned, lent_text}
+use Rattle.std.proofs.Common.{◌<◌, ◌^◌, arith, rules}
+use Rattle.eve_grammar.specs.Frames.{frames_of}
+use Rattle.eve_views.proofs.PartLaws.{accesses_many, access_lent}
 use Rattle.eve_views.proofs.accesses.Accesses.get.Goals as goal
 
 pub overflow_add-self-inside : goal.overflow_add-self-inside
 overflow_add-self-inside c =
-    let fs = frames_of c.self.inside.trace.now in
-    let many : length c.args.self.now ≡ c.self.inside.to - c.self.inside.from = sym (ap length c.self.view_is)
-    ∙ length-accesses fs c.self.inside.from c.self.inside.to c.self.invariant in
+    let many = accesses_many (frames_of c.self.inside.trace.now) c.self.inside.from c.self.inside.to c.args.self.now
+    c.self.invariant c.self.view_is in
     let small : c.self.inside.to < 2 ^ 64 = search rules in
     record { fits = omega (arith, many, small, c.requires) }
 
 pub frame-frame-requires : goal.frame-frame-requires
 frame-frame-requires c =
-    let fs = frames_of c.self.inside.trace.now in
-    let many : length c.args.self.now ≡ c.self.inside.to - c.self.inside.from = sym (ap length c.self.view_is)
-    ∙ length-accesses fs c.self.inside.from c.self.inside.to c.self.invariant in
+    let many = accesses_many (frames_of c.self.inside.trace.now) c.self.inside.from c.self.inside.to c.args.self.now
+    c.self.invariant c.self.view_is in
     let within = c.self.invariant.within in
     omega (arith, many, within, c.requires)
 
 pub new-requires : goal.new-requires
-new-requires c =
-    let fs = frames_of c.self.inside.trace.now in
-    let many : length c.args.self.now ≡ c.self.inside.to - c.self.inside.from = sym (ap length c.self.view_is)
-    ∙ length-accesses fs c.self.inside.from c.self.inside.to c.self.invariant in
-    let f = c.frame-frame.ensures.frame in
-    let met = access_met fs c.self.inside.from c.self.inside.to c.args.i
-    c.frame-frame.result.offset f.0 c.self.invariant (omega (arith, many, c.requires)) f.1
-    c.frame-frame.ensures.offset in
-    (says_met is_access_frame access_in c.frame-frame.result.bytes.now f.0 (OfAccess met.item) met.item f.2 met.is
-    (access_again c.self.invariant.rows met.item met.right c.self.invariant.few)).0
+new-requires c = (access_lent (frames_of c.self.inside.trace.now) c.self.inside.from c.self.inside.to c.args.i
+    c.frame-frame.result.offset c.frame-frame.result.bytes.now c.args.self.now c.self.invariant c.self.view_is
+    c.requires c.frame-frame.ensures.frame c.frame-frame.ensures.offset).readable
 
 pub returns-clause-says : goal.returns-clause-says
-returns-clause-says c =
-    let fs = frames_of c.self.inside.trace.now in
-    let many : length c.args.self.now ≡ c.self.inside.to - c.self.inside.from = sym (ap length c.self.view_is)
-    ∙ length-accesses fs c.self.inside.from c.self.inside.to c.self.invariant in
-    let f = c.frame-frame.ensures.frame in
-    let met = access_met fs c.self.inside.from c.self.inside.to c.args.i
-    c.frame-frame.result.offset f.0 c.self.invariant (omega (arith, many, c.requires)) f.1
-    c.frame-frame.ensures.offset in
-    let says = says_met is_access_frame access_in c.frame-frame.result.bytes.now f.0 (OfAccess met.item) met.item f.2
-    met.is (access_again c.self.invariant.rows met.item met.right c.self.invariant.few) in
-    let list : accesses_between fs c.self.inside.from
-    (c.self.inside.to - c.self.inside.from) ≡ c.args.self.now = c.self.view_is in
-    ap (λ (xs : List (ℕ × Access)). slice_get xs c.args.i) (sym list)
-    ∙ returned access_in (accesses_between fs c.self.inside.from
-    (c.self.inside.to - c.self.inside.from)) c.args.i c.frame-frame.result.offset c.new.result.offset met.item
-    c.frame-frame.result.bytes.now c.new.result.bytes.now met.there says.1 c.new.ensures.offset c.new.ensures.bytes
+returns-clause-says c = (access_lent (frames_of c.self.inside.trace.now) c.self.inside.from c.self.inside.to c.args.i
+    c.frame-frame.result.offset c.frame-frame.result.bytes.now c.args.self.now c.self.invariant c.self.view_is
+    c.requires c.frame-frame.ensures.frame c.frame-frame.ensures.offset).item
+    c.new.result.offset c.new.result.bytes.now c.new.ensures.offset c.new.ensures.bytes
 
 pub returns-clause-text : goal.returns-clause-text
-returns-clause-text c =
-    let fs = frames_of c.self.inside.trace.now in
-    let many : length c.args.self.now ≡ c.self.inside.to - c.self.inside.from = sym (ap length c.self.view_is)
-    ∙ length-accesses fs c.self.inside.from c.self.inside.to c.self.invariant in
-    let f = c.frame-frame.ensures.frame in
-    let met = access_met fs c.self.inside.from c.self.inside.to c.args.i
-    c.frame-frame.result.offset f.0 c.self.invariant (omega (arith, many, c.requires)) f.1
-    c.frame-frame.ensures.offset in
-    let says = says_met is_access_frame access_in c.frame-frame.result.bytes.now f.0 (OfAccess met.item) met.item f.2
-    met.is (access_again c.self.invariant.rows met.item met.right c.self.invariant.few) in
-    lent_text OfAccess access_in c.frame-frame.result.bytes.now c.new.result.bytes.now f.0 met.item f.2 met.is says.1
-    c.new.ensures.bytes
+returns-clause-text c = (access_lent (frames_of c.self.inside.trace.now) c.self.inside.from c.self.inside.to c.args.i
+    c.frame-frame.result.offset c.frame-frame.result.bytes.now c.args.self.now c.self.invariant c.self.view_is
+    c.requires c.frame-frame.ensures.frame c.frame-frame.ensures.offset).text
+    c.new.result.bytes.now c.new.ensures.bytes

@@ -2,13 +2,14 @@ use Rattle.std.proofs.Common.{◌≡◌, ap, subst, arith, length}
 use Rattle.eve_grammar.specs.Trace.{Head, head_of}
 use Rattle.eve_grammar.specs.Bodies.{limits}
 use Rattle.eve_grammar.proofs.Runs.{some_verifier}
-use Rattle.eve_views.specs.Held.{IsHeld}
+use Rattle.eve_views.specs.Held.{IsHeldTrace}
 use Rattle.eve_views.proofs.StartsAt.{section_starts, sections_stop}
 use Rattle.eve_views.proofs.trace.Trace.section_from.Goals as goal
 
 pub returns-then-e-self : goal.returns-then-e-self
 returns-then-e-self c =
-    let held = subst (IsHeld c.self.inside.bytes.now (limits c.self.inside.head) c.self.inside.index) c.self.view_is
+    let held = subst (IsHeldTrace c.self.inside.bytes.now (limits c.self.inside.head) c.self.inside.index)
+    c.self.view_is
     c.self.invariant in
     let many : length c.args.self.now.sections ≡ c.self.inside.head.replicas = ap (λ (h : Head). h.replicas) held.head
     in
@@ -17,7 +18,8 @@ returns-then-e-self c =
 
 pub returns-else-e-self : goal.returns-else-e-self
 returns-else-e-self c =
-    let held = subst (IsHeld c.self.inside.bytes.now (limits c.self.inside.head) c.self.inside.index) c.self.view_is
+    let held = subst (IsHeldTrace c.self.inside.bytes.now (limits c.self.inside.head) c.self.inside.index)
+    c.self.view_is
     c.self.invariant in
     let many : length c.args.self.now.sections ≡ c.self.inside.head.replicas = ap (λ (h : Head). h.replicas) held.head
     in

@@ -1,9 +1,6 @@
 use Rattle.std.proofs.Common.{◌≡◌, ◌+◌, ◌-◌, arith, length}
-use Rattle.eve_grammar.specs.Frames.{OfSent}
-use Rattle.eve_grammar.specs.Spelling.{sent_at}
-use Rattle.eve_frames.specs.Views.{sent_in}
 use Rattle.eve_views.specs.Fronts.{before_sent}
-use Rattle.eve_views.proofs.PartLaws.{frames_many, sent_said, returned, lent_text, lent_there}
+use Rattle.eve_views.proofs.PartLaws.{frames_many, sent_lent, lent_there}
 use Rattle.eve_views.proofs.trace.Trace.sent.Goals as goal
 
 pub overflow_sub-first : goal.overflow_sub-first
@@ -20,38 +17,32 @@ frame-frame-requires c =
 
 pub new-requires : goal.new-requires
 new-requires c =
-    let f = c.frame-frame.ensures.frame in
     let number : c.frame_count.result - 1 - c.sent_count.result + c.args.i
     ≡ length (before_sent c.args.self.now) + c.args.i =
     omega (arith, frames_many c.args.self.now, c.frame_count.ensures, c.sent_count.ensures) in
-    let said = sent_said c.args.self.now (c.frame_count.result - 1 - c.sent_count.result + c.args.i) c.args.i
-    c.frame-frame.result.offset f.0 c.frame-frame.result.bytes.now c.is_whole.ensures c.requires number f.1
-    c.frame-frame.ensures.offset f.2 in
-    said.1.0
+    (sent_lent c.args.self.now (c.frame_count.result - 1 - c.sent_count.result + c.args.i) c.args.i
+    c.frame-frame.result.offset c.frame-frame.result.bytes.now c.is_whole.ensures c.requires number
+    c.frame-frame.ensures.frame c.frame-frame.ensures.offset).readable
 
 pub returns-clause-says : goal.returns-clause-says
 returns-clause-says c =
-    let f = c.frame-frame.ensures.frame in
     let number : c.frame_count.result - 1 - c.sent_count.result + c.args.i
     ≡ length (before_sent c.args.self.now) + c.args.i =
     omega (arith, frames_many c.args.self.now, c.frame_count.ensures, c.sent_count.ensures) in
-    let said = sent_said c.args.self.now (c.frame_count.result - 1 - c.sent_count.result + c.args.i) c.args.i
-    c.frame-frame.result.offset f.0 c.frame-frame.result.bytes.now c.is_whole.ensures c.requires number f.1
-    c.frame-frame.ensures.offset f.2 in
-    returned sent_in (sent_at c.args.self.now) c.args.i c.frame-frame.result.offset c.new.result.offset said.0
-    c.frame-frame.result.bytes.now c.new.result.bytes.now said.2 said.1.1 c.new.ensures.offset c.new.ensures.bytes
+    (sent_lent c.args.self.now (c.frame_count.result - 1 - c.sent_count.result + c.args.i) c.args.i
+    c.frame-frame.result.offset c.frame-frame.result.bytes.now c.is_whole.ensures c.requires number
+    c.frame-frame.ensures.frame c.frame-frame.ensures.offset).item
+    c.new.result.offset c.new.result.bytes.now c.new.ensures.offset c.new.ensures.bytes
 
 pub returns-clause-text : goal.returns-clause-text
 returns-clause-text c =
-    let f = c.frame-frame.ensures.frame in
     let number : c.frame_count.result - 1 - c.sent_count.result + c.args.i
     ≡ length (before_sent c.args.self.now) + c.args.i =
     omega (arith, frames_many c.args.self.now, c.frame_count.ensures, c.sent_count.ensures) in
-    let said = sent_said c.args.self.now (c.frame_count.result - 1 - c.sent_count.result + c.args.i) c.args.i
-    c.frame-frame.result.offset f.0 c.frame-frame.result.bytes.now c.is_whole.ensures c.requires number f.1
-    c.frame-frame.ensures.offset f.2 in
-    lent_text OfSent sent_in c.frame-frame.result.bytes.now c.new.result.bytes.now f.0 said.0 f.2 said.3 said.1.1
-    c.new.ensures.bytes
+    (sent_lent c.args.self.now (c.frame_count.result - 1 - c.sent_count.result + c.args.i) c.args.i
+    c.frame-frame.result.offset c.frame-frame.result.bytes.now c.is_whole.ensures c.requires number
+    c.frame-frame.ensures.frame c.frame-frame.ensures.offset).text
+    c.new.result.bytes.now c.new.ensures.bytes
 
 pub returns-clause-stands : goal.returns-clause-stands
 returns-clause-stands c =

@@ -1,13 +1,14 @@
 use Rattle.std.proofs.Common.{◌≡◌, ap, subst, arith, length}
 use Rattle.eve_grammar.specs.Trace.{Head}
 use Rattle.eve_grammar.specs.Bodies.{limits}
-use Rattle.eve_views.specs.Held.{IsHeld}
+use Rattle.eve_views.specs.Held.{IsHeldTrace}
 use Rattle.eve_views.proofs.StartsAt.{verifier_starts, verifiers_stop}
 use Rattle.eve_views.proofs.trace.Trace.verifier_from.Goals as goal
 
 pub returns-then-v-self : goal.returns-then-v-self
 returns-then-v-self c =
-    let held = subst (IsHeld c.self.inside.bytes.now (limits c.self.inside.head) c.self.inside.index) c.self.view_is
+    let held = subst (IsHeldTrace c.self.inside.bytes.now (limits c.self.inside.head) c.self.inside.index)
+    c.self.view_is
     c.self.invariant in
     let many : length c.args.self.now.verifiers ≡ c.self.inside.head.verifiers =
     ap (λ (h : Head). h.verifiers) held.head in
@@ -16,7 +17,8 @@ returns-then-v-self c =
 
 pub returns-else-v-self : goal.returns-else-v-self
 returns-else-v-self c =
-    let held = subst (IsHeld c.self.inside.bytes.now (limits c.self.inside.head) c.self.inside.index) c.self.view_is
+    let held = subst (IsHeldTrace c.self.inside.bytes.now (limits c.self.inside.head) c.self.inside.index)
+    c.self.view_is
     c.self.invariant in
     let many : length c.args.self.now.verifiers ≡ c.self.inside.head.verifiers =
     ap (λ (h : Head). h.verifiers) held.head in

@@ -1,9 +1,9 @@
 use Rattle.std.proofs.Common.{sym, subst, ap}
-use Rattle.eve_workload.specs.Said.{said}
+use Rattle.eve_workload.specs.Said.{line_said}
 use Rattle.eve_workload.specs.Drafts.{Takes}
 use Rattle.eve_workload.proofs.draft.Draft.take.Goals as goal
 
 pub returns-in-Head : goal.returns-in-Head
 returns-in-Head c = λ before keeps.
-    subst (λ line. Takes c.take_head.new.self before line c.take_head.result) (sym (ap said c.in-Head.is))
+    subst (λ line. Takes c.take_head.new.self before line c.take_head.result) (sym (ap line_said c.in-Head.is))
     (c.take_head.ensures before keeps)

@@ -1,6 +1,6 @@
 use Rattle.std.proofs.Common.{◌≡◌, take, sym, ap, subst, ◌∙◌}
 use Rattle.eve_workload.specs.Steps.{IsRightBehind}
-use Rattle.eve_workload.specs.Said.{said}
+use Rattle.eve_workload.specs.Said.{line_said}
 use Rattle.eve_workload.specs.Words.{bytes_of, IsFirstLine}
 use Rattle.eve_workload.specs.Lines.{line_text, text_of_words}
 use Rattle.eve_workload.proofs.LineLaws.{no_line_here, line_here, some_bytes}
@@ -20,7 +20,8 @@ returns-else-taken c = λ before keeps line behind is right.
     let first = subst (λ words. IsFirstLine c.args.text.now (bytes_of words) c.in-Some.len)
     (sym c.as_slice.ensures.value) found in
     let some = c.in-Some-line_of.ensures.some in
-    let same = line_here c.args.text.now (bytes_of c.as_slice.result.now) c.in-Some.len (said c.in-Some-line_of.line)
+    let same = line_here c.args.text.now (bytes_of c.as_slice.result.now) c.in-Some.len
+    (line_said c.in-Some-line_of.line)
     first some.0 some.1 line behind is right.ranges in
     let refused = rw c.if-taken.false at (c.in_ok-taken.ensures before keeps) in
     refused (subst (IsRightBehind before) same right)
@@ -32,12 +33,12 @@ returns-then-taken c = λ before keeps.
     (sym c.as_slice.ensures.value) found in
     let some = c.in-Some-line_of.ensures.some in
     let kept = rw c.if-taken.true at (c.in_ok-taken.ensures before keeps) in
-    let spelled : take c.in-Some.len c.args.text.now ≡ line_text (said c.in-Some-line_of.line) = first.line
+    let spelled : take c.in-Some.len c.args.text.now ≡ line_text (line_said c.in-Some-line_of.line) = first.line
     ∙ ap text_of_words (sym some.0) in (
-      said c.in-Some-line_of.line,
+      line_said c.in-Some-line_of.line,
       spelled,
       first.within,
       some_bytes c.in-Some.len c.args.text.now
-          (said c.in-Some-line_of.line) spelled,
+          (line_said c.in-Some-line_of.line) spelled,
       kept,
     )

@@ -1,7 +1,7 @@
 use Rattle.std.proofs.Common.{◌≡◌, ◌+◌, [], ◌∷◌, ◌++◌, sym, ap, subst, ◌∙◌, take}
 use Rattle.std.proofs.lemmas.List.{take_more}
 use Rattle.std.proofs.lemmas.Option.{get_or_from_slice_get, slice_get_within}
-use Rattle.eve_smallbank.specs.Access.{Rows}
+use Rattle.eve_smallbank.specs.Access.{RowKinds}
 use Rattle.eve_workload.specs.Marks.{AreSpots}
 use Rattle.eve_workload.proofs.Meeting.{spots_more}
 use Rattle.eve_workload.proofs.marks.RowMarks.meet.Goals as goal
@@ -10,7 +10,7 @@ pub loop-index-preserved : goal.loop-index-preserved
 loop-index-preserved c =
     let before = c.loop-index.invariant in
     let there = slice_get_within c.args.rows.now c.loop-index.index c.at-row.result c.at-row.ensures in
-    let front : Rows = take c.loop-index.index c.args.rows.now in
+    let front : RowKinds = take c.loop-index.index c.args.rows.now in
     let more : take (c.loop-index.index + 1) c.args.rows.now ≡ front ++ c.at-row.result ∷ [] =
     take_more c.args.rows.now c.loop-index.index c.at-row.result there
     ∙ ap (λ row. front ++ row ∷ [])

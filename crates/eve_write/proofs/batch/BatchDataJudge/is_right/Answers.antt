@@ -21,7 +21,8 @@ returns-then-none_is_empty c =
     let long : length b.sizes.items ≡ length c.as_slice-sizes.result.now = ap length (sym sizes) in
     let there = some_from (length c.as_slice-sizes.result.now) c.if-is_empty.ensures in
     let some : 1 ≤ length b.sizes.items = omega (arith, long, there) in
-    let few : sum b.sizes.items ≤ 256 = omega (arith, total, c.total_of-total.ensures, c.if-total-gt-MOST_REQUESTS.false) in
+    let few : sum b.sizes.items ≤ 256 =
+    omega (arith, total, c.total_of-total.ensures, c.if-total-gt-MOST_REQUESTS.false) in
     let many : length (map asked b.requests.items) ≡ sum b.sizes.items =
     omega (
       arith,

@@ -5,7 +5,7 @@ use Rattle.eve_audit.specs.Pieces.{IsFirstOf}
 use Rattle.eve_audit.proofs.Firsts.{found_weaker, section_first, common_first, none_in_trace}
 use Rattle.eve_audit.proofs.Verdicts.{summary_is, some_replica}
 use Rattle.eve_audit.proofs.Accepted.{no_request_again, accepted_of}
-use Rattle.eve_audit.proofs.judge.judge_trace.Goals as goal
+use Rattle.eve_audit.proofs.auditing.judge_trace.Goals as goal
 
 pub returns-in-Err-clause-first : goal.returns-in-Err-clause-first
 returns-in-Err-clause-first g c =

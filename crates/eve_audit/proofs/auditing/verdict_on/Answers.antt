@@ -1,5 +1,5 @@
 use Rattle.eve_audit.proofs.Answering.{no_for, yes_for}
-use Rattle.eve_audit.proofs.judge.verdict_on.Goals as goal
+use Rattle.eve_audit.proofs.auditing.verdict_on.Goals as goal
 
 pub returns-in-Ok : goal.returns-in-Ok
 returns-in-Ok g c = λ bytes read.

@@ -4,7 +4,7 @@ use Rattle.eve_audit.specs.declared.verdict.Verdict.TheVariants.{No}
 use Rattle.eve_audit.specs.Answer.{IsAnswer}
 use Rattle.eve_audit.proofs.Answering.{form_for, no_for}
 use Rattle.eve_audit.proofs.Firsts.{found_weaker, order_first}
-use Rattle.eve_audit.proofs.judge.open.Goals as goal
+use Rattle.eve_audit.proofs.auditing.open.Goals as goal
 
 pub returns-clause-fault : goal.returns-clause-fault
 returns-clause-fault c =

@@ -1,7 +1,7 @@
 use Rattle.std.proofs.lemmas.Result.{IfOk-weaker}
 use Rattle.eve_audit.specs.Verdict.{IsVerdict, IsYesOfAudited, IfNo}
 use Rattle.eve_audit.specs.Where.{NamesItsSection}
-use Rattle.eve_audit.proofs.judge.audit_one.Goals as goal
+use Rattle.eve_audit.proofs.auditing.audit_one.Goals as goal
 use Rattle.std.proofs.Common.{◌≤◌, length}
 
 pub returns-in-Ok-clause-verdict : goal.returns-in-Ok-clause-verdict

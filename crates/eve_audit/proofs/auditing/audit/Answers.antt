@@ -1,7 +1,7 @@
 use Rattle.std.proofs.lemmas.Result.{IfOk-weaker}
 use Rattle.eve_audit.specs.Verdict.{IsVerdict, IsYesOfAudited, IfNo}
 use Rattle.eve_audit.specs.Where.{NamesItsSection}
-use Rattle.eve_audit.proofs.judge.audit.Goals as goal
+use Rattle.eve_audit.proofs.auditing.audit.Goals as goal
 use Rattle.std.proofs.Common.{◌≤◌, length}
 
 pub returns-in-Ok-judge_side_by_side-clause-verdict : goal.returns-in-Ok-judge_side_by_side-clause-verdict
