@@ -29,7 +29,7 @@ use std::marker::Model;
 /// their views and tokens, a rollback what they wrote.
 ///
 /// docs/MODEL.md, "Section state, fate" and "Working table, committed table". Contracts see `Ledger` of the specs:
-/// `rows_now` is what the rows have, `rows_committed` what they have as they are committed.
+/// `table_now` is what the rows have, `rows_committed` what they have as they are committed.
 #[derive(Drop)]
 pub struct Ledger {
     rows: Rows,
