@@ -81,8 +81,7 @@ fn decide_rows(request: &Request, seen: &[Cents]) -> Decision
 fn total(saving: Cents, checking: Cents) -> Decision
     ensures { result ≡ record {
       reply = Reply.Total (saving +ℤ checking);
-      effects =
-          only_read saving ∷ only_read checking ∷ [];
+      effects = only_read saving ∷ only_read checking ∷ [];
     } }
 {
     Decision {
