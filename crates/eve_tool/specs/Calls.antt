@@ -1,5 +1,5 @@
 -- What each call says of bytes, and what it leaves where it ends without an answer.
-use Rattle.std.specs.Prelude.{◌≡◌, ℕ, ◌⊎◌, List, Option, Some, IfSome, ⊤}
+use Rattle.std.specs.Prelude.{◌≡◌, ◌≢◌, ℕ, ◌⊎◌, List, Option, Some, IfSome, ⊤}
 use Rattle.eve_streams.specs.Failures.{after_failure}
 use Rattle.eve_streams.specs.Front.{AppendsFront}
 use Rattle.eve_workload.specs.Steps.{IsBadLine}
@@ -82,13 +82,15 @@ abbrev pub Tells : {E : Type 0} → (E → Option (List ℕ)) → (E → ℕ) �
 Tells written failures old new why =
     Wrote written failures old new (error_line why) ⊎ Stopped written failures old new (error_line why)
 
--- a call ended by a fault, of which the status is that and the line was told
+-- A call ended by a fault, of which the status is that and the line was told. `fine` says that the input did not fail,
+-- which is so at each fault but Read.
 pub record Stops {E O : Type 0} (told : E → Option (List ℕ)) (untold : E → ℕ) (written : O → Option (List ℕ))
     (failures : O → ℕ) (call : Subcommand)
-    (known : Option (List ℕ)) (unread : Type 0) (err_old err_new : E) (old new : O) (status : ℕ) : Type 0 where
+    (known : Option (List ℕ)) (unread fine : Type 0) (err_old err_new : E) (old new : O) (status : ℕ) : Type 0 where
   pub why : ToolFault
   pub ends : status_of why ≡ status
   pub left : Leaves longest written failures call known unread old new why
+  pub read : why ≢ fault.Read → fine
   pub line : Tells told untold err_old err_new why
 
 -- what was left where help was asked for, by a fault: memory ran out before any of it was sent, or a send failed

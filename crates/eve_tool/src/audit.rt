@@ -1,6 +1,6 @@
 //! The call `audit`: the verdict on a trace.
 
-ghost use Rattle.std.specs.Prelude.{◌≡◌, ◌<◌, Some, IfOk, IfErr, OnOk};
+ghost use Rattle.std.specs.Prelude.{◌≡◌, ◌≢◌, ◌<◌, Some, IfOk, IfErr, OnOk};
 ghost use Rattle.std.specs.Io.KnownBytes.{Appends};
 ghost use Rattle.eve_streams.specs.Failures.{after_failure};
 ghost use Rattle.eve_tool.specs.Audit.{Audits};
@@ -93,6 +93,7 @@ pub(crate) fn audit<R: AllocGlobal + RandomSource + Threads + Wait + Sync, I: So
         × (O.failures out.new ≡ O.failures out.old)) }
     ensures left { IfErr result (Leaves longest O.written O.failures Audit (I.remaining input.old)
         (I.failures input.new ≡ after_failure (I.failures input.old)) out.old out.new) }
+    ensures read { IfErr result (λ why. why ≢ ToolFault.Read → I.failures input.new ≡ I.failures input.old) }
 {
     let alloc = rt.alloc();
     let bytes = read_all(alloc, input, MOST_BYTES as u32)?;

@@ -50,6 +50,7 @@ fn answer_call<R: AllocGlobal + RandomSource + Threads + Wait + Sync, I: Source,
         × (O.failures out.new ≡ O.failures out.old)) }
     ensures left { IfErr result (Leaves longest O.written O.failures (subcommand_of_call call) (I.remaining input.old)
         (I.failures input.new ≡ after_failure (I.failures input.old)) out.old out.new) }
+    ensures read { IfErr result (λ why. why ≢ ToolFault.Read → I.failures input.new ≡ I.failures input.old) }
 {
     match call {
         Call::Audit(workers) => audit(rt, workers, input, out),
@@ -76,10 +77,13 @@ fn answer<
     ensures left { (call : Subcommand) → Calls call (map S.text words.now)
         → IfErr result (Leaves longest O.written O.failures call (I.remaining input.old)
         (I.failures input.new ≡ after_failure (I.failures input.old)) out.old out.new) }
+    ensures read { IfErr result (λ why. why ≢ ToolFault.Read → I.failures input.new ≡ I.failures input.old) }
     ensures quiet { CallsSome (map S.text words.now) → err.new ≡ err.old }
     ensures unread { CallsNothing (map S.text words.now) → input.new ≡ input.old }
     ensures help { CallsNothing (map S.text words.now) → IfOk result (λ status. status ≡ 0
         → AsksForHelp (map S.text words.now)) }
+    ensures heard { CallsNothing (map S.text words.now) → IfOk result (λ status. status ≡ 0
+        → (O.failures out.new ≡ O.failures out.old) × (err.new ≡ err.old)) }
     ensures wrong { CallsNothing (map S.text words.now) → IfOk result (λ status. status ≢ 0
         → (status ≡ 2) × IsRefused (map S.text words.now) × (out.new ≡ out.old)) }
     ensures nothing { CallsNothing (map S.text words.now) → IfErr result (LeavesHelp O.failures out.old out.new) }
@@ -134,12 +138,15 @@ pub fn serve<
     // A call that ends by a fault: which one, what was left, and its line on `err`.
     ensures stopped { (call : Subcommand) → Calls call (map S.text words.now) → 2 ≤ result
         → Stops E.written E.failures O.written O.failures call (I.remaining input.old)
-        (I.failures input.new ≡ after_failure (I.failures input.old)) err.old err.new out.old out.new result }
+        (I.failures input.new ≡ after_failure (I.failures input.old)) (I.failures input.new ≡ I.failures input.old)
+        err.old err.new out.old out.new result }
 
     // The arguments are no call.
     ensures unread { CallsNothing (map S.text words.now) → input.new ≡ input.old }
     ensures helped { CallsNothing (map S.text words.now) → result ≡ 0
         → AsksForHelp (map S.text words.now) }
+    ensures heard { CallsNothing (map S.text words.now) → result ≡ 0
+        → (O.failures out.new ≡ O.failures out.old) × (err.new ≡ err.old) }
     ensures refused { CallsNothing (map S.text words.now) → result ≢ 1 }
     ensures wrong { CallsNothing (map S.text words.now) → result ≡ 2
         → IsRefused (map S.text words.now) }

@@ -1,6 +1,6 @@
 //! The call `run`: a deployment serves a workload, and the trace of the run is written.
 
-ghost use Rattle.std.specs.Prelude.{◌≡◌, ◌≤◌, ◌<◌, ◌⊎◌, Some, Err, length};
+ghost use Rattle.std.specs.Prelude.{◌≡◌, ◌≢◌, ◌≤◌, ◌<◌, ◌⊎◌, Some, Err, length};
 ghost use Rattle.std.specs.Prelude.{IfOk, IfErr, OnOk};
 ghost use Rattle.eve_grammar.specs.Spelling.{length_of, spelling};
 ghost use Rattle.eve_streams.specs.Failures.{after_failure};
@@ -102,6 +102,7 @@ pub fn run_within<R: AllocGlobal + RandomSource + Threads + Wait + Sync, I: Sour
         × (O.failures out.new ≡ O.failures out.old)) }
     ensures left { IfErr result (Leaves limit O.written O.failures (Run mixer) (I.remaining input.old)
         (I.failures input.new ≡ after_failure (I.failures input.old)) out.old out.new) }
+    ensures read { IfErr result (λ why. why ≢ ToolFault.Read → I.failures input.new ≡ I.failures input.old) }
 {
     let alloc = rt.alloc();
     let bytes = read_all(alloc, input, limit)?;
@@ -125,6 +126,7 @@ pub(crate) fn run<R: AllocGlobal + RandomSource + Threads + Wait + Sync, I: Sour
         × (O.failures out.new ≡ O.failures out.old)) }
     ensures left { IfErr result (Leaves longest O.written O.failures (Run mixer) (I.remaining input.old)
         (I.failures input.new ≡ after_failure (I.failures input.old)) out.old out.new) }
+    ensures read { IfErr result (λ why. why ≢ ToolFault.Read → I.failures input.new ≡ I.failures input.old) }
 {
     run_within(rt, mixer, MOST_BYTES as u32, input, out)
 }

@@ -1,6 +1,6 @@
 //! The call `show`: the frames of a trace, a line for each.
 
-ghost use Rattle.std.specs.Prelude.{◌≡◌, ◌<◌, ℕ, ◌++◌, [], length, slice_get, Some};
+ghost use Rattle.std.specs.Prelude.{◌≡◌, ◌≢◌, ◌<◌, ℕ, ◌++◌, [], length, slice_get, Some};
 ghost use Rattle.std.specs.Prelude.{IfOk, IfErr, OnOk};
 ghost use Rattle.std.specs.String.{string_bytes};
 ghost use Rattle.std.specs.Io.KnownBytes.{Appends};
@@ -88,6 +88,7 @@ pub(crate) fn show<I: Source, O: Sink>(
         × (O.failures out.new ≡ O.failures out.old)) }
     ensures left { IfErr result (Leaves longest O.written O.failures Show (I.remaining input.old)
         (I.failures input.new ≡ after_failure (I.failures input.old)) out.old out.new) }
+    ensures read { IfErr result (λ why. why ≢ ToolFault.Read → I.failures input.new ≡ I.failures input.old) }
 {
     let bytes = read_all(alloc, input, MOST_BYTES as u32)?;
     show_bytes(alloc, bytes.as_slice(), out)
