@@ -1,6 +1,7 @@
 //! Batches that are drawn, cut and compared with the definition.
 
 use crate::model::{Drawn, DrawnKind, Member, cut_of};
+use crate::texts::add;
 use eve_accounts::{Amount, Name, Names};
 use eve_workload::{Mixer, mix};
 use eve_write::{BatchData, RequestData, TransactionData};
@@ -8,6 +9,7 @@ use std::alloc::{AllocError, Global};
 use std::hash::RandomState;
 use std::io;
 use std::io::Write;
+use std::slice::Iter;
 
 /// Numbers that are drawn one after another, always the same.
 #[derive(Drop)]
@@ -87,34 +89,70 @@ fn is_as_defined(
     customers: u32,
     count: u32,
 ) -> io::Result<bool> {
-    let alloc = rt.alloc();
-    let mut names = Names::new(alloc, RandomState::new(rt)?, 64);
-    for name in listed.iter().take(customers as usize) {
-        if names.add(name.as_slice()).is_err() {
-            return Err(AllocError.into());
-        }
+    let names = first_of(rt, listed, customers)?;
+    let asked = asked_of(rt.alloc(), draws, customers, count)?;
+    Ok(is_cut_as_defined(rt.alloc(), asked.as_slice(), customers, listed, &names)?)
+}
+
+// So many of the names.
+fn first_of<'a>(rt: &HostRuntime, listed: &'a [Name], customers: u32) -> io::Result<Names<'a>> {
+    let mut names = Names::new(rt.alloc(), RandomState::new(rt)?, 64);
+    for customer in 0..customers {
+        add(&mut names, name_at(listed, customer)?)?;
     }
+    Ok(names)
+}
+
+// Draws so many requests.
+fn asked_of(
+    alloc: Global,
+    draws: &mut Draws,
+    customers: u32,
+    count: u32,
+) -> Result<Vec<Drawn>, AllocError> {
     let mut asked = Vec::new(alloc);
-    let mut requests = Vec::new(alloc);
-    for number in 0..count {
-        let request = draws.request(customers);
-        asked.push(request)?;
-        requests.push(RequestData {
-            client: 7,
-            number: u64::from(number),
-            transaction: transaction_of(&request, listed)?,
-        })?;
+    for _ in 0..count {
+        asked.push(draws.request(customers))?;
     }
+    Ok(asked)
+}
+
+// Whether the first mixer cuts these requests as it is defined.
+fn is_cut_as_defined(
+    alloc: Global,
+    asked: &[Drawn],
+    customers: u32,
+    listed: &[Name],
+    names: &Names,
+) -> Result<bool, AllocError> {
+    let requests = requests_of(alloc, asked, listed)?;
     if requests.is_empty() || requests.len() > 256 {
         return Ok(false);
     }
-    let batch = mix(alloc, requests.as_slice(), &names, Mixer::First)?;
-    let groups = cut_of(alloc, asked.as_slice(), customers)?;
+    let batch = mix(alloc, requests.as_slice(), names, Mixer::First)?;
+    let groups = cut_of(alloc, asked, customers)?;
     Ok(are_same(&batch, groups.as_slice()))
 }
 
+// The requests, each with its index as its number.
+fn requests_of(
+    alloc: Global,
+    asked: &[Drawn],
+    listed: &[Name],
+) -> Result<Vec<RequestData>, AllocError> {
+    let mut requests = Vec::new(alloc);
+    for index in 0..asked.len() {
+        requests.push(RequestData {
+            client: 7,
+            number: index as u64,
+            transaction: transaction_of(&asked[index], listed)?,
+        })?;
+    }
+    Ok(requests)
+}
+
 fn transaction_of(request: &Drawn, listed: &[Name]) -> Result<TransactionData, AllocError> {
-    let name = name_at(listed, request.customer)?;
+    let name = *name_at(listed, request.customer)?;
     let Some(amount) = Amount::new(request.amount) else {
         return Ok(TransactionData::Balance(name));
     };
@@ -123,14 +161,14 @@ fn transaction_of(request: &Drawn, listed: &[Name]) -> Result<TransactionData, A
         DrawnKind::DepositChecking => TransactionData::DepositChecking(name, amount),
         DrawnKind::TransactSaving => TransactionData::TransactSaving(name, amount),
         DrawnKind::Amalgamate => {
-            TransactionData::Amalgamate(name, name_at(listed, request.other)?)
+            TransactionData::Amalgamate(name, *name_at(listed, request.other)?)
         }
         DrawnKind::WriteCheck => TransactionData::WriteCheck(name, amount),
     })
 }
 
-fn name_at(listed: &[Name], place: u32) -> Result<Name, AllocError> {
-    listed.get(place as usize).copied().ok_or(AllocError)
+fn name_at(listed: &[Name], place: u32) -> Result<&Name, AllocError> {
+    listed.get(place as usize).ok_or(AllocError)
 }
 
 // Whether the batch lists the requests of these groups; a request's number is its index.
@@ -139,16 +177,22 @@ fn are_same(batch: &BatchData, groups: &[Vec<Member>]) -> bool {
         return false;
     }
     let mut requests = batch.requests.iter();
-    for (size, group) in batch.sizes.iter().zip(groups) {
-        if usize::from(*size) != group.len() {
+    for place in 0..groups.len() {
+        let group = groups[place].as_slice();
+        if usize::from(batch.sizes[place]) != group.len() || !come_next(group, &mut requests) {
             return false;
-        }
-        for member in group {
-            match requests.next() {
-                Some(request) if request.number == member.index as u64 => {}
-                _ => return false,
-            }
         }
     }
     requests.next().is_none()
+}
+
+// Whether the next requests are those of this group.
+fn come_next(group: &[Member], requests: &mut Iter<RequestData>) -> bool {
+    for member in group {
+        match requests.next() {
+            Some(request) if request.number == member.index as u64 => {}
+            _ => return false,
+        }
+    }
+    true
 }

@@ -1,6 +1,8 @@
 //! Texts that are read and cut.
 
-use eve_accounts::Names;
+ghost use Rattle.std.specs.Prelude.{◌≤◌, length};
+
+use eve_accounts::{Name, Names};
 use eve_workload::{Mixer, Workload, WorkloadFault, mix};
 use eve_write::{BatchData, CustomerData};
 use std::alloc::{AllocError, Global};
@@ -46,60 +48,112 @@ fn digit_of(digit: u8) -> u8 {
 
 /// `right`, or the line that isn't.
 pub fn told(alloc: Global, text: &[u8]) -> Result<String, AllocError> {
+    words_of(alloc, wrong_line(alloc, text)?)
+}
+
+// The line of the text that isn't right, if there is one.
+fn wrong_line(alloc: Global, text: &[u8]) -> Result<Option<u32>, AllocError> {
     match Workload::read(alloc, text) {
-        Ok(_) => format!(in alloc; "right"),
-        Err(WorkloadFault::Line(number)) => format!(in alloc; "line {number}"),
+        Ok(_) => Ok(None),
+        Err(WorkloadFault::Line(number)) => Ok(Some(number)),
         Err(WorkloadFault::Memory) => Err(AllocError),
+    }
+}
+
+fn words_of(alloc: Global, wrong: Option<u32>) -> Result<String, AllocError> {
+    match wrong {
+        None => format!(in alloc; "right"),
+        Some(number) => format!(in alloc; "line {number}"),
     }
 }
 
 /// Says what each front of the text comes to; fronts of one answer that follow one another stand on one line.
 pub fn cut<W: Write>(alloc: Global, out: &mut W, name: &str, text: &[u8]) -> io::Result<()> {
     let mut from = 0;
-    let mut said = told(alloc, &text[..0])?;
+    let mut wrong = wrong_line(alloc, &text[..0])?;
     for len in 0..text.len() {
-        let next = told(alloc, &text[..len + 1])?;
-        if next.as_str() != said.as_str() {
-            writeln!(out, "{name}, {from} to {len} bytes: {said}")?;
+        let next = wrong_line(alloc, &text[..len + 1])?;
+        if next != wrong {
+            say_fronts(alloc, out, name, from, len, wrong)?;
             from = len + 1;
-            said = next;
+            wrong = next;
         }
     }
-    writeln!(out, "{name}, {from} to {} bytes: {said}", text.len())
+    say_fronts(alloc, out, name, from, text.len(), wrong)
 }
 
-/// The customers' names. Those of a workload differ, so lack of memory alone keeps one out.
+// Says what the fronts of these lengths come to.
+fn say_fronts<W: Write>(
+    alloc: Global,
+    out: &mut W,
+    name: &str,
+    from: usize,
+    to: usize,
+    wrong: Option<u32>,
+) -> io::Result<()> {
+    let said = words_of(alloc, wrong)?;
+    writeln!(out, "{name}, {from} to {to} bytes: {said}")
+}
+
+/// The customers' names.
 pub fn names_of<'a>(rt: &HostRuntime, customers: &'a [CustomerData]) -> io::Result<Names<'a>> {
     let mut names = Names::new(rt.alloc(), RandomState::new(rt)?, 4096);
     for customer in customers {
-        if names.add(customer.name.as_slice()).is_err() {
-            return Err(AllocError.into());
-        }
+        add(&mut names, &customer.name)?;
     }
     Ok(names)
 }
 
+/// Adds a name. Those that are added differ, so lack of memory alone keeps one out.
+pub fn add<'a>(names: &mut Names<'a>, name: &'a Name) -> Result<(), AllocError> {
+    match names.add(name.as_slice()) {
+        Ok(_) => Ok(()),
+        Err(_) => Err(AllocError),
+    }
+}
+
 /// Cuts each batch of the text by both mixers.
 pub fn mixed<W: Write>(rt: &HostRuntime, out: &mut W, name: &str, text: &[u8]) -> io::Result<()> {
-    let alloc = rt.alloc();
-    let workload = match Workload::read(alloc, text) {
-        Ok(workload) => workload,
-        Err(WorkloadFault::Line(_)) => return writeln!(out, "{name}: not right"),
-        Err(WorkloadFault::Memory) => return Err(AllocError.into()),
-    };
+    match Workload::read(rt.alloc(), text) {
+        Ok(workload) => mixed_batches(rt, out, name, &workload),
+        Err(WorkloadFault::Line(_)) => writeln!(out, "{name}: not right"),
+        Err(WorkloadFault::Memory) => Err(AllocError.into()),
+    }
+}
+
+fn mixed_batches<W: Write>(
+    rt: &HostRuntime,
+    out: &mut W,
+    name: &str,
+    workload: &Workload,
+) -> io::Result<()> {
     let names = names_of(rt, workload.customers())?;
     write!(out, "{name}:")?;
     for n in 0..workload.batches() {
         if n > 0 {
             write!(out, ";")?;
         }
-        let requests = workload.batch(n + 1);
-        write!(out, " first")?;
-        list(out, &mix(alloc, requests, &names, Mixer::First)?)?;
-        write!(out, ", whole")?;
-        list(out, &mix(alloc, requests, &names, Mixer::Whole)?)?;
+        mixed_batch(rt.alloc(), out, workload, &names, n + 1)?;
     }
     writeln!(out, "")
+}
+
+// Cuts this batch by both mixers.
+fn mixed_batch<W: Write>(
+    alloc: Global,
+    out: &mut W,
+    workload: &Workload,
+    names: &Names,
+    n: u32,
+) -> io::Result<()>
+    requires from_one { 1 ≤ n }
+    requires there { n ≤ length workload.now.batches }
+{
+    let requests = workload.batch(n);
+    write!(out, " first")?;
+    list(out, &mix(alloc, requests, names, Mixer::First)?)?;
+    write!(out, ", whole")?;
+    list(out, &mix(alloc, requests, names, Mixer::Whole)?)
 }
 
 // Lists the numbers of the requests of each parallelBatch.
@@ -108,11 +162,9 @@ fn list<W: Write>(out: &mut W, batch: &BatchData) -> io::Result<()> {
     for size in &batch.sizes {
         write!(out, " [")?;
         for place in 0..*size {
-            if place > 0 {
-                write!(out, " ")?;
-            }
             if let Some(request) = requests.next() {
-                write!(out, "{}", request.number)?;
+                let gap = if place > 0 { " " } else { "" };
+                write!(out, "{gap}{}", request.number)?;
             }
         }
         write!(out, "]")?;
