@@ -19,7 +19,7 @@ use Rattle.eve_audit.specs.declared.verdict.Summary.{Summary}
 use Rattle.eve_audit.specs.declared.verdict.Verdict.{Verdict}
 use Rattle.eve_audit.specs.declared.verdict.Verdict.TheVariants.{Yes, No}
 
--- a fault of replica e's own, judged by its section alone
+-- a fault of replica e's own, judged by the header, the customers, the batches and its section alone
 pub data IsOwnFault (t : Trace) (e : ℕ) (f : Fault) : Type 0 where
   of_structure : IsStructureFault t e f → IsOwnFault t e f
   of_records : IsRecordFault t e f → IsOwnFault t e f

@@ -66,7 +66,8 @@ pub fn standing_faults_name_their_section()
 }
 
 /// Each replica is judged by itself: two traces that agree in the header, the customers, the batches and a replica's
-/// section have the same faults of that replica's own, whatever the other replicas did, was voted and was sent.
+/// section, which begins at the same byte, have the same faults of that replica's own, whatever the other replicas did,
+/// was voted and was sent.
 ///
 /// docs/MODEL.md, "Faults".
 pub fn replicas_are_judged_by_themselves()

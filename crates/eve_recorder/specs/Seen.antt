@@ -88,6 +88,6 @@ WasFull desk seat =
     × IsOrderly (taken ++ queued) × ComeFrom desk.recorder.workers (taken ++ queued)
     × (of_worker seat.worker (taken ++ queued) ≡ seat.noted)
 
--- at one moment nothing was queued, and what was taken so far was all that was noted
+-- at one moment nothing was queued behind what was taken so far, and that is in order
 abbrev pub WasEmpty : List Applied → Type 0
 WasEmpty taken = (queued : List Applied) × (length queued ≡ 0) × IsOrderly (taken ++ queued)

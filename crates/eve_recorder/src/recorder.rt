@@ -113,9 +113,9 @@ impl Recorder {
         }
     }
 
-    /// Takes the oldest record that is queued, None where the queue was empty at one moment. The seat is of this
+    /// Takes the next record that is queued, None where the queue was empty at one moment. The seat is of this
     /// recorder. What is taken is of a worker that is there, and what was taken of each has the places 0, 1, 2, ..,
-    /// each once.
+    /// each once; the order across workers is the queue's, of which no clause speaks.
     pub fn take<R: Wait>(&self, rt: &R, seat: &mut TakerSeat) -> Option<AccessRecord>
         requires { seat.old.recorder ≡ self.now.recorder }
         ensures some { IfSome result (λ x. seat.new ≡ record seat.old { taken = seat.old.taken ++ x ∷ [] }) }

@@ -35,7 +35,7 @@ impl Model for Taken {
 }
 
 impl Taken {
-    /// The oldest record that is queued. None only once all that each worker noted was taken. Until then what was taken
+    /// The next record that is queued. None only once all that each worker noted was taken. Until then what was taken
     /// of each worker is the beginning of what it noted.
     pub fn next<R: Wait>(&mut self, rt: &R) -> Option<AccessRecord>
         ensures some { IfSome result (λ x. self.new ≡ record self.old { taken = self.old.taken ++ x ∷ [] }) }
