@@ -30,7 +30,9 @@ use std::{fs, io};
 fn file_of(name: &str) -> &str {
     match name {
         "replica-attempt-and-close" | "run-of-one-deposit" => "one-deposit",
-        "gates-held" | "rollback" | "broken-until-rollback" => "three-deposits",
+        "gates-held" | "rollback" | "commit-and-rollback" | "broken-until-rollback" => {
+            "three-deposits"
+        }
         "run-two-deposits-whole" => "two-deposits",
         "two-replicas-disagree" => "knot-of-two-replicas",
         "first-of-three-disagrees" => "knot-of-three-replicas",
@@ -43,7 +45,11 @@ fn file_of(name: &str) -> &str {
 fn is_of_replica(name: &str) -> bool {
     matches!(
         name,
-        "replica-attempt-and-close" | "gates-held" | "rollback" | "broken-until-rollback"
+        "replica-attempt-and-close"
+            | "gates-held"
+            | "rollback"
+            | "commit-and-rollback"
+            | "broken-until-rollback"
     )
 }
 
@@ -76,6 +82,7 @@ fn of_names<R: Threads + Wait + Sync>(
         }
         "gates-held" => of_part(rt, alloc, Part::GatesHeld, workload, names, trace),
         "rollback" => of_part(rt, alloc, Part::RolledBack, workload, names, trace),
+        "commit-and-rollback" => of_part(rt, alloc, Part::OneCommitted, workload, names, trace),
         _ => of_part(rt, alloc, Part::Broken, workload, names, trace),
     }
 }

@@ -14,25 +14,31 @@ use eve_replica::{AttemptFault, CloseFault, CommitFault, Replica};
 use eve_write::{AttemptData, RollbackData};
 use std::alloc::{AllocError, Global};
 use std::io;
+use std::io::ErrorKind;
 use std::sync::Wait;
 use std::thread::Threads;
 
-// Ann's checking row, as it was at first.
-fn opening_row() -> Restore {
-    Restore {
+// Ann's checking row, after so many deposits of 500 cents.
+fn row_after(deposits: u8) -> io::Result<Restore> {
+    Ok(Restore {
         row: Row::checking(0),
-        version: 0,
-        value: Cents::ZERO,
-    }
+        version: u64::from(deposits),
+        value: Cents::new(500 * i64::from(deposits)).ok_or(ErrorKind::InvalidData)?,
+    })
 }
 
 // Whether each entry of the attempt saw version 0 and nothing in its row.
 fn sees_opening(attempt: &AttemptData) -> bool {
+    sees(attempt, 0, Cents::ZERO)
+}
+
+// Whether each entry of the attempt saw this version of its row, with this value.
+fn sees(attempt: &AttemptData, version: u64, value: Cents) -> bool {
     let mut all = true;
     for access in &attempt.accesses {
         for place in 0..access.entries.len() {
             let entry = access.entries.at(place);
-            all = all && entry.version == 0 && entry.seen == Cents::ZERO;
+            all = all && entry.version == version && entry.seen == value;
         }
     }
     all
@@ -50,6 +56,8 @@ pub enum Part {
     GatesHeld,
     /// `rollback`: it puts the stripes back, so that the serial attempt sees version 0 again.
     RolledBack,
+    /// `commit-and-rollback`: of two attempts one is committed, and the other one's writes alone are taken back.
+    OneCommitted,
     /// `broken-until-rollback`, and that rows that only the failed attempt wrote are put back and not listed. Ann's
     /// deposit is closed of a record that was taken by hand, so that the stripes don't have it, and an attempt over her
     /// row fails. Where one request for memory is refused, wherever that is, the same holds.
@@ -84,6 +92,7 @@ fn of_replica<R: Threads + Wait + Sync>(
         Part::Closed => close_records(alloc, workload, names, wanted, replica),
         Part::GatesHeld => gates_held(rt, alloc, workload, names, replica),
         Part::RolledBack => rolled_back(rt, alloc, workload, names, replica),
+        Part::OneCommitted => one_committed(rt, alloc, workload, names, replica),
         Part::Broken => broken_until_rollback(rt, alloc, workload, names, replica),
     }
 }
@@ -250,7 +259,7 @@ fn rolled_back<R: Threads + Wait + Sync>(
     replica: &mut Replica,
 ) -> io::Result<Misses> {
     let first = first_attempt(rt, alloc, workload, names, replica)?;
-    let back = one_row_back(alloc, replica)?;
+    let back = row_back(alloc, replica, 0)?;
     let again = serial_again(rt, alloc, workload, 1, names, replica)?;
     Ok(first.and(back).and(again))
 }
@@ -272,11 +281,16 @@ fn first_attempt<R: Threads + Wait + Sync>(
     Ok(misses)
 }
 
-// A rollback restores ann's row.
-fn one_row_back(alloc: Global, replica: &mut Replica) -> io::Result<Misses> {
+// A rollback restores ann's row as it was after so many deposits, each of a batch.
+fn row_back(alloc: Global, replica: &mut Replica, deposits: u8) -> io::Result<Misses> {
     let mut misses = Misses::none();
     let rollback = roll_back(alloc, replica)?;
-    misses.want(restores_one_row(&rollback), "her row is restored");
+    let is_back = restores_one_row(&rollback, deposits)?;
+    misses.want(is_back, "her row is restored");
+    misses.want(
+        rollback.to == u32::from(deposits),
+        "what is committed stays",
+    );
     Ok(misses)
 }
 
@@ -312,8 +326,39 @@ fn attempt_one<R: Threads + Wait + Sync>(
     Ok(attempt(rt, alloc, replica, &batch, &OpenGate))
 }
 
-fn restores_one_row(rollback: &RollbackData) -> bool {
-    rollback.restores.as_slice() == [opening_row()].as_slice()
+fn one_committed<R: Threads + Wait + Sync>(
+    rt: &R,
+    alloc: Global,
+    workload: &Workload,
+    names: &Names,
+    replica: &mut Replica,
+) -> io::Result<Misses> {
+    let first = first_attempt(rt, alloc, workload, names, replica)?;
+    let second = attempt_after_one(rt, alloc, workload, names, replica)?;
+    committed(commit_first(replica))?;
+    let back = row_back(alloc, replica, 1)?;
+    let again = attempt_after_one(rt, alloc, workload, names, replica)?;
+    Ok(first.and(second).and(back).and(again))
+}
+
+// An attempt of ann's deposit as the second batch: it sees the row as the first left it.
+fn attempt_after_one<R: Threads + Wait + Sync>(
+    rt: &R,
+    alloc: Global,
+    workload: &Workload,
+    names: &Names,
+    replica: &mut Replica,
+) -> io::Result<Misses> {
+    let mut misses = Misses::none();
+    let left = row_after(1)?;
+    let made = ran(attempt_one(rt, alloc, workload, 1, names, replica)?)?;
+    misses.want(made.seq == 2, "the second batch");
+    misses.want(sees(&made, left.version, left.value), "it sees version 1");
+    Ok(misses)
+}
+
+fn restores_one_row(rollback: &RollbackData, deposits: u8) -> io::Result<bool> {
+    Ok(rollback.restores.as_slice() == [row_after(deposits)?].as_slice())
 }
 
 fn broken_until_rollback<R: Threads + Wait + Sync>(
@@ -350,7 +395,8 @@ fn attempt_fails<R: Threads + Wait + Sync>(
 fn back_at_last(alloc: Global, replica: &mut Replica) -> io::Result<Misses> {
     let mut misses = Misses::none();
     let rollback = roll_back_at_last(alloc, replica, &mut misses)?;
-    misses.want(restores_one_row(&rollback), "her row is restored");
+    let is_back = restores_one_row(&rollback, 0)?;
+    misses.want(is_back, "her row is restored");
     misses.want(!replica.is_broken(), "not broken any more");
     Ok(misses)
 }
