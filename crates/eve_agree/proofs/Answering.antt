@@ -1,5 +1,5 @@
 -- What is answered, and by which reply.
-use Rattle.std.proofs.Common.{◌≡◌, ℕ, zero, suc, ◌-◌, ◌<◌, ◌≤◌, List, [], ◌∷◌, map, length, slice_get, Some, None, refl}
+use Rattle.std.proofs.Common.{◌≡◌, ℕ, zero, suc, ◌-◌, ◌≤◌, List, [], ◌∷◌, map, slice_get, Some, None, refl}
 use Rattle.std.proofs.Common.{sym, ap, ◌∙◌, arith}
 use Rattle.eve_smallbank.specs.declared.request.Reply.{Reply}
 use Rattle.eve_grammar.specs.Trace.{Attempt, Sent, Trace}
@@ -8,16 +8,10 @@ use Rattle.eve_history.specs.SectionHistory.{ExecutedAttempt, SectionHistory, ex
 use Rattle.eve_history.specs.SectionHistory.{section_history, history, committed_at}
 use Rattle.eve_history.specs.Faults.{RequestId, request_id}
 use Rattle.eve_chains.proofs.Linked.{some_injective, none≢some}
-use Rattle.eve_agree.specs.declared.request_ids.RequestId.{RequestId as Item}
 use Rattle.eve_agree.specs.SentReplies.{IsReplied}
-use Rattle.eve_agree.specs.Keeping.{request_id_of, first_ids, AnswersAt}
+use Rattle.eve_agree.specs.Keeping.{AnswersAt}
 
 -- ---- places of lists
-
-get_past : {A : Type 0} (xs : List A) (i : ℕ) (x : A) → length xs ≤ i → slice_get xs i ≡ Some x → ⊥
-get_past [] i x le at = none≢some x at
-get_past (y ∷ xs) zero x le at = absurd (omega arith)
-get_past (y ∷ xs) (suc i) x le at = get_past xs i x (omega arith) at
 
 get_mapped : {A B : Type 0} (f : A → B) (xs : List A) (i : ℕ) (x : A) → slice_get xs i ≡ Some x → slice_get (map f xs) i
     ≡ Some (f x)
@@ -38,51 +32,6 @@ source f (x ∷ xs) (suc i) y at = let rest = source f xs i y at in
     record { item = rest.item; at = rest.at; is = rest.is }
 
 -- ---- one index
-
-kept_past : (items : List Item) (count i : ℕ) (x : RequestId) → count ≤ i → slice_get (first_ids items count) i ≡ Some x
-    → ⊥
-kept_past items zero i x le at = none≢some x at
-kept_past [] (suc count) i x le at = none≢some x at
-kept_past (y ∷ items) (suc count) zero x le at = absurd (omega arith)
-kept_past (y ∷ items) (suc count) (suc i) x le at = kept_past items count i x (omega arith) at
-
--- an index past the requests, or past the replies, is no answer's
-pub past_requests : (items : List Item) (count i : ℕ) (replies : List Reply) (s : Sent) → count ≤ i
-    → ¬ AnswersAt (first_ids items count) replies s i
-past_requests items count i replies s le answer = kept_past items count i (s.client, s.number) le answer.request_id
-
-pub past_replies : (request_ids : List RequestId) (i : ℕ) (replies : List Reply) (s : Sent) → length replies ≤ i
-    → ¬ AnswersAt request_ids replies s i
-past_replies request_ids i replies s le answer = get_past replies i s.reply le answer.reply
-
-pub kept_at : (items : List Item) (count i : ℕ) (x : Item) → i < count → slice_get items i ≡ Some x
-    → slice_get (first_ids items count) i ≡ Some (request_id_of x)
-kept_at items zero i x lt at = absurd (omega arith)
-kept_at [] (suc count) i x lt at = none≢some x at
-kept_at (y ∷ items) (suc count) zero x lt at = ap (λ (z : Item). Some (request_id_of z)) (some_injective y x at)
-kept_at (y ∷ items) (suc count) (suc i) x lt at = kept_at items count i x (omega arith) at
-
-pub answer_here : (request_ids : List RequestId) (replies : List Reply) (s : Sent) (i : ℕ) (x : Item) (r : Reply)
-    → slice_get request_ids i ≡ Some (request_id_of x) → slice_get replies i ≡ Some r
-    → x.client ≡ s.client → x.number ≡ s.number → r ≡ s.reply → AnswersAt request_ids replies s i
-answer_here request_ids replies s i x r at reply client number same = record {
-  request_id = at ∙ (λ j. Some (client j, number j));
-  reply = reply ∙ ap (λ (q : Reply). Some q) same;
-}
-
-pub client_of : (request_ids : List RequestId) (replies : List Reply) (s : Sent) (i : ℕ) (x : Item)
-    → slice_get request_ids i ≡ Some (request_id_of x) → AnswersAt request_ids replies s i → x.client ≡ s.client
-client_of request_ids replies s i x at answer =
-    ap (λ (y : ℕ × ℕ). y.0) (some_injective (request_id_of x) (s.client, s.number) (sym at ∙ answer.request_id))
-
-pub number_of : (request_ids : List RequestId) (replies : List Reply) (s : Sent) (i : ℕ) (x : Item)
-    → slice_get request_ids i ≡ Some (request_id_of x) → AnswersAt request_ids replies s i → x.number ≡ s.number
-number_of request_ids replies s i x at answer =
-    ap (λ (y : ℕ × ℕ). y.1) (some_injective (request_id_of x) (s.client, s.number) (sym at ∙ answer.request_id))
-
-pub reply_of : (request_ids : List RequestId) (replies : List Reply) (s : Sent) (i : ℕ) (r : Reply)
-    → slice_get replies i ≡ Some r → AnswersAt request_ids replies s i → r ≡ s.reply
-reply_of request_ids replies s i r at answer = some_injective r s.reply (sym at ∙ answer.reply)
 
 -- ---- one reply sent
 

@@ -177,14 +177,6 @@ pub record IsTaking (old now : Marking) (all rest : List Restore) : Type 0 where
   pub right : are_marked old all ≡ are_marked now rest
   pub marks : taken now rest ≡ taken old all
 
-pub taking_start : (marks : Marking) (rs all : List Restore) → rs ≡ all → is_rising all ≡ true
-    → IsTaking marks marks all rs
-taking_start marks rs all e rising = record {
-  rising = ap is_rising e ∙ rising;
-  right = ap (are_marked marks) (sym e);
-  marks = ap (taken marks) e;
-}
-
 pub taking_next : (old now then : Marking) (all : List Restore) (r : Restore) (rest : List Restore)
     → IsTaking old now all (r ∷ rest) → is_marked (now r.row) r ≡ true → then ≡ taken now (r ∷ [])
     → IsTaking old then all rest

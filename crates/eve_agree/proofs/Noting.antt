@@ -67,12 +67,6 @@ get-drop (x ∷ xs) (suc first) k =
     let same : suc first + k ≡ suc (first + k) = omega arith in
     get-drop xs first k ∙ ap (slice_get (x ∷ xs)) (sym same)
 
--- none from a number up to itself
-pub noted_none : (base : Marking) (rs : List ExecutedAttempt) (first : ℕ)
-    → base ≡ marked base (noted_between rs first first)
-noted_none base rs first = let none : first - first ≡ 0 = omega arith in
-    ap (λ (n : ℕ). marked base (flat_map (λ r. entries_along r.ordered) (take n (drop first rs)))) (sym none)
-
 -- one attempt more
 pub noted_more : (base old new : Marking) (rs : List ExecutedAttempt) (first i : ℕ) (r : ExecutedAttempt) → first ≤ i
     → slice_get rs i ≡ Some r → old ≡ marked base (noted_between rs first i)

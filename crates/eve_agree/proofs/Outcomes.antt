@@ -299,10 +299,3 @@ pub agree_more : {A : Type 0} (xs ys : List A) (i : ℕ) (a b : A) → take i xs
     → slice_get ys i ≡ Some b → a ≡ b → take (i + 1) xs ≡ take (i + 1) ys
 agree_more xs ys i a b same own its is = take_one_more xs i a own ∙ (λ k. same k ++ is k ∷ [])
     ∙ sym (take_one_more ys i b its)
-
-pub agree_not : {A : Type 0} (xs ys : List A) (i : ℕ) (a b : A) → slice_get xs i ≡ Some a → slice_get ys i ≡ Some b
-    → a ≢ b → xs ≢ ys
-agree_not xs ys i a b own its apart e = apart (some_injective a b (sym own ∙ ap (λ zs. slice_get zs i) e ∙ its))
-
-pub agree_all : {A : Type 0} (xs ys : List A) (i : ℕ) → take i xs ≡ take i ys → length xs ≤ i → length ys ≤ i → xs ≡ ys
-agree_all xs ys i same past over = sym (take_all i xs past) ∙ same ∙ take_all i ys over

@@ -24,9 +24,6 @@ pub record Opened (settled : List Settling) (i : ℕ) (all : List (List ℤ)) : 
   pub as_many : length all ≡ i
   pub each : (e : ℕ) (s : Settling) → e < i → slice_get settled e ≡ Some s → IsAfter s 0 (get_or all e [])
 
-pub opened_start : (settled : List Settling) → Opened settled 0 []
-opened_start settled = record { as_many = refl; each = λ e s lt got. absurd (omega arith) }
-
 pub opened_more : (settled : List Settling) (i : ℕ) (all after : List (List ℤ)) (s : Settling) (b : List ℤ)
     → Opened settled i all → slice_get settled i ≡ Some s → length b ≡ length s.opening
     → balance_of_row b ≡ values_in s 0

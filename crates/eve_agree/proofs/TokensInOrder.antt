@@ -27,20 +27,6 @@ use Rattle.eve_agree.specs.DueTokens.{due_token, TokensAreDue, StandsInTokens, I
 
 -- ---- lists
 
-head_is : {A : Type 0} (x y : A) (xs ys : List A) → ◌≡◌ {A = List A} (x ∷ xs) (y ∷ ys) → x ≡ y
-head_is x y xs ys e = cc
-
-tail_is : {A : Type 0} (x y : A) (xs ys : List A) → ◌≡◌ {A = List A} (x ∷ xs) (y ∷ ys) → xs ≡ ys
-tail_is x y xs ys e = cc
-
-some_is : {A : Type 0} (x y : A) → Some x ≡ Some y → x ≡ y
-some_is x y e = cc
-
-all_before : {A : Type 0} (P : A → Type 0) (xs : List A) (x : A) → AllByRecursion P xs → P x
-    → AllByRecursion P (xs ++ x ∷ [])
-all_before P [] x all here = (here, tt)
-all_before P (y ∷ xs) x all here = (all.0, all_before P xs x all.1 here)
-
 -- where it holds of all, it fails nowhere
 pub none_fails : {A : Type 0} (P : A → Type 0) (Q : List A → A → Type 0) (xs : List A) → AllByRecursion P xs
     → ((b : List A) (x : A) → P x → Q b x → ⊥) → SomePlace xs Q → ⊥

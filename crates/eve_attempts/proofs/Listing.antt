@@ -46,12 +46,6 @@ all_fact P [] i d all within = absurd (omega arith)
 all_fact P (y ∷ xs) zero d all within = all.0
 all_fact P (y ∷ xs) (suc i) d all within = all_fact P xs i d all.1 (omega arith)
 
-pub all_at : {A : Type 0} (P : A → Type 0) (xs : List A) (i : ℕ) (x : A) → AllByRecursion P xs → slice_get xs i ≡ Some x
-    → P x
-all_at P [] i x all e = absurd (none≢some x e)
-all_at P (y ∷ xs) zero x all e = subst P (some_injective y x e) all.0
-all_at P (y ∷ xs) (suc i) x all e = all_at P xs i x all.1 e
-
 -- numbers that are all below one
 pub all_below : (n : ℕ) (xs : List ℕ) → ((i : ℕ) → get_or xs i 0 < n) → list_all (λ x. ltb x n) xs ≡ true
 all_below n [] below = refl

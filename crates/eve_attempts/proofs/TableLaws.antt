@@ -121,10 +121,6 @@ module _ (now : Rows) (versions : List ℕ) (balances after : List ℤ) (e : Ent
 
 -- ---- going back
 
-pub values_before-cons : (table : Table) (e : Entry) (es : List Entry) → values_before table (e ∷ es)
-    ≡ values_before (values_before table es) (e ∷ [])
-values_before-cons table e es = refl
-
 pub values_before-append : (table : Table) (xs ys : List Entry) → values_before table (xs ++ ys) ≡ values_before
     (values_before table ys) xs
 values_before-append table [] ys = refl

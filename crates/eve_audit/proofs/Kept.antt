@@ -68,9 +68,6 @@ sound_beyond t e le =
 
 -- ---- what is kept
 
-pub none_kept : (t : Trace) → AreKept t 0 [] []
-none_kept t = record { histories = refl; settled = refl; sound = λ e lt. absurd (omega (arith, lt)) }
-
 pub kept_more : (t : Trace) (e : ℕ) (tells more_tells : List SectionHistory) (settles more_settles : List Settling)
     (told : SectionHistory) (wrote : Settling)
     → e < length t.sections → AreKept t e tells settles → more_tells ≡ tells ++ told ∷ [] → more_settles

@@ -185,9 +185,6 @@ pub record AreCopied (v : SectionHistory) (i rows : ℕ) (xs : List (ℕ × Acce
   pub orders : parts 0 xs ends ≡ committed_orders (take i v.attempts) (take i v.fates)
   pub within : AreWithin rows xs
 
-pub copied_none : (v : SectionHistory) (rows : ℕ) → AreCopied v 0 rows [] []
-copied_none v rows = record { rise = refl; orders = refl; within = refl }
-
 pub copied_other : (v : SectionHistory) (i rows : ℕ) (xs : List (ℕ × Access)) (ends : List ℕ) (fate : Fate)
     → AreCopied v i rows xs ends → slice_get v.fates i ≡ Some fate → fate ≢ Committed
     → AreCopied v (i + 1) rows xs ends

@@ -80,9 +80,6 @@ module _ (names : List (List ℕ)) where
 
 -- ---- one record
 
-pub fit_alone : (names : List (List ℕ)) (x : ℕ × Executed) → Fits names x.1 → IsLeastUnfit names (x ∷ []) None
-fit_alone names x fits = (fits, tt)
-
 pub unfit_alone : (names : List (List ℕ)) (x : ℕ × Executed) (at : ℕ) → at ≡ x.0 → (Fits names x.1 → ⊥)
     → IsLeastUnfit names (x ∷ []) (Some at)
 unfit_alone names x at same unfit =

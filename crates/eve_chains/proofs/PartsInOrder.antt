@@ -18,11 +18,6 @@ pub length-parts : (from : ℕ) (xs : List (ℕ × Access)) (ends : List ℕ) �
 length-parts from xs [] = refl
 length-parts from xs (end ∷ ends) = ap suc (length-parts end xs ends)
 
-pub begin_next : (from : ℕ) (ends : List ℕ) (i end : ℕ) → slice_get ends i ≡ Some end → begin from ends (suc i) ≡ end
-begin_next from [] i end at = none≢some end at
-begin_next from (e ∷ ends) zero end at = some_injective e end at
-begin_next from (e ∷ ends) (suc i) end at = begin_next e ends i end at
-
 pub part_at : (from : ℕ) (xs : List (ℕ × Access)) (ends : List ℕ) (i end : ℕ) → slice_get ends i ≡ Some end
     → slice_get (parts from xs ends) i ≡ Some (take (end - begin from ends i) (drop (begin from ends i) xs))
 part_at from xs [] i end at = none≢some end at
@@ -81,13 +76,6 @@ part_behind from end xs ys up inside =
     let long : length (drop from xs) ≡ length xs - from = length-drop from xs in
     ap (take (end - from)) (drop-append-le from xs ys (omega arith))
     ∙ take_front (end - from) (drop from xs) ys (omega arith)
-
--- records after the last end change no part
-parts_behind : (from : ℕ) (xs ys : List (ℕ × Access)) (ends : List ℕ) → DoRise from ends (length xs)
-    → parts from (xs ++ ys) ends ≡ parts from xs ends
-parts_behind from xs ys [] rise = refl
-parts_behind from xs ys (e ∷ ends) rise =
-    λ i. part_behind from e xs ys rise.0 (rise_up e ends (length xs) rise.1) i ∷ parts_behind e xs ys ends rise.1 i
 
 -- and one that ends after them is they
 pub parts_more : (from : ℕ) (xs ys : List (ℕ × Access)) (ends : List ℕ) → DoRise from ends (length xs)

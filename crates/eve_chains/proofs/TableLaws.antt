@@ -1,28 +1,27 @@
 -- Tables as lists by row: what a write leaves, and what entries that see other things come to.
-use Rattle.std.proofs.Common.{◌≡◌, ◌≢◌, ℕ, ℤ, pos, zero, suc, ◌+◌, ◌*◌, ◌<◌, ◌==◌, Bool, true, false, cond, ◌||◌, List}
-use Rattle.std.proofs.Common.{[], ◌∷◌, ◌++◌, map, take, length, get_or, set, Option, Some, None, refl, sym, subst, ap}
+use Rattle.std.proofs.Common.{◌≡◌, ◌≢◌, ℕ, ℤ, pos, zero, suc, ◌+◌, ◌*◌, ◌==◌, Bool, true, false, cond, ◌||◌, List}
+use Rattle.std.proofs.Common.{[], ◌∷◌, ◌++◌, map, take, length, Option, Some, None, refl, sym, subst, ap}
 use Rattle.std.proofs.Common.{◌∙◌, inl, inr, ◌⊎◌, append_assoc, arith}
 use mathlib.Core.Path.{fun_ext}
-use Rattle.std.specs.Prelude.{slice_get, ◌&&◌}
+use Rattle.std.specs.Prelude.{slice_get}
 use Rattle.std.specs.Ordering.{int_eq}
 use Rattle.std.specs.List.{AllByRecursion, list_any}
-use Rattle.std.proofs.lemmas.Bool.{cases_Bool, cases_eq, eqb-true, ne_eqb, eq-eqb, false≢true}
+use Rattle.std.proofs.lemmas.Bool.{cases_Bool, eqb-true, ne_eqb, eq-eqb, false≢true}
 use Rattle.std.proofs.lemmas.Bool.Decides.{Decides-int_eq}
-use Rattle.std.proofs.lemmas.List.{map-append, take_more, get_or-set_same, get_or-set_other}
+use Rattle.std.proofs.lemmas.List.{map-append, take_more}
 use Rattle.std.proofs.lemmas.Grind.{flat_map-append}
 use Rattle.std.proofs.Math.ListN.{get_or-map}
 use Rattle.std.proofs.lemmas.Option.{get_or_from_slice_get, slice_get_within}
-use Rattle.eve_smallbank.specs.declared.entry.Kind.TheVariants.{Read, Write}
 use Rattle.eve_smallbank.specs.declared.entry.Entry.{Entry}
-use Rattle.eve_smallbank.specs.Access.{is_write, writes_row, balance_of_row, values_after}
-use Rattle.eve_smallbank.specs.Chain.{Versioned, Table, left_by, Sees, table_after}
+use Rattle.eve_smallbank.specs.Access.{writes_row}
+use Rattle.eve_smallbank.specs.Chain.{Versioned, Table, Sees}
 use Rattle.eve_views.specs.declared.fault.Code.{Code}
 use Rattle.eve_views.specs.declared.fault.Code.TheVariants as code
 use Rattle.eve_grammar.specs.Trace.{Customer, Trace}
 use Rattle.eve_grammar.specs.Spelling.{located, customer_text, customers_at}
 use Rattle.eve_views.specs.Form.{SomePlace}
 use Rattle.eve_chains.specs.Visible.{opening_rows, opening_table}
-use Rattle.eve_chains.specs.Tables.{untouched, table_of, undone, IsFirstMismatch, wrong_behind}
+use Rattle.eve_chains.specs.Tables.{table_of, undone, IsFirstMismatch, wrong_behind}
 use Rattle.eve_chains.proofs.Linked.{some_injective, none≢some}
 
 -- ---- the opening
@@ -75,59 +74,9 @@ customer_there t i o c e = located_get customer_text 32 t.customers i o c e
 
 -- ---- a row that gets another version and value
 
-pub get_or-set : {A : Type 0} (xs : List A) (at : ℕ) (v d : A) → at < length xs → (row : ℕ) → get_or (set xs at v) row d
-    ≡ cond (at == row) v (get_or xs row d)
-get_or-set xs at v d within row =
-    elim (cases_eq at row) [
-      | inl e ↦
-          ap (λ n. get_or (set xs at v) n d) (sym e)
-          ∙ get_or-set_same xs at v d within ∙ ap (λ b. cond b v (get_or xs row d)) (sym (eq-eqb at row e))
-      | inr other ↦ get_or-set_other xs at row v d (λ e. other (sym e))
-          ∙ ap (λ b. cond b v (get_or xs row d)) (sym (ne_eqb at row other))
-    ]
-
--- a write leaves its version and value in its row
-pub write_left : (rows : List Versioned) (e : Entry) → e.row < length rows → e.kind ≡ Write
-    → table_of (set rows e.row (left_by e)) ≡ table_after (table_of rows) (e ∷ [])
-write_left rows e within written =
-    fun_ext (λ row. get_or-set rows e.row (left_by e) untouched within row
-    ∙ ap (λ k. cond (is_write k && (e.row == row)) (left_by e) (table_of rows row)) (sym written))
-
--- a read leaves nothing
-pub read_left : (table : Table) (e : Entry) → e.kind ≡ Read → table ≡ table_after table (e ∷ [])
-read_left table e read =
-    fun_ext (λ row. ap (λ k. cond (is_write k && (e.row == row)) (left_by e) (table row)) (sym read))
-
 -- ---- balances
 
--- a write leaves its value in its row
-pub value_left : (balances : List ℤ) (e : Entry) → e.row < length balances → e.kind ≡ Write
-    → balance_of_row (set balances e.row e.after) ≡ values_after (balance_of_row balances) (e ∷ [])
-value_left balances e within written =
-    fun_ext (λ row. get_or-set balances e.row e.after (pos 0) within row
-    ∙ ap (λ k. cond (is_write k && (e.row == row)) e.after (balance_of_row balances row)) (sym written))
-
-pub value_kept : (values : ℕ → ℤ) (e : Entry) → e.kind ≡ Read → values ≡ values_after values (e ∷ [])
-value_kept values e read =
-    fun_ext (λ row. ap (λ k. cond (is_write k && (e.row == row)) e.after (values row)) (sym read))
-
 -- ---- rows undone
-
-pub taken_one : (rows : List Versioned) (from : Table) (e : Entry) → e.row < length rows → e.kind ≡ Write
-    → table_of (set rows e.row (from e.row)) ≡ undone from (table_of rows) (e ∷ [])
-taken_one rows from e within written =
-    fun_ext (λ row. get_or-set rows e.row (from e.row) untouched within row
-    ∙ same row (e.row == row) (λ h. eqb-true e.row row h)
-    ∙ ap (λ k. cond ((is_write k && (e.row == row)) || false) (from row) (table_of rows row)) (sym written))
-  where
-    same : (row : ℕ) (b : Bool) → (b ≡ true → e.row ≡ row) → cond b (from e.row) (table_of rows row)
-        ≡ cond (b || false) (from row) (table_of rows row)
-    same row true is = ap from (is refl)
-    same row false is = refl
-
-pub taken_none : (from table : Table) (e : Entry) → e.kind ≡ Read → table ≡ undone from table (e ∷ [])
-taken_none from table e read =
-    fun_ext (λ row. ap (λ k. cond ((is_write k && (e.row == row)) || false) (from row) (table row)) (sym read))
 
 -- one entry after another
 pub taken_rest : (from table : Table) (e : Entry) (es : List Entry)

@@ -97,9 +97,6 @@ rollbacks_among-push ((at, Commits c) ∷ xs) x = rollbacks_among-push xs x
 rollbacks_among-push ((at, RollsBack r) ∷ xs) x = ap (λ (ys : List (ℕ × Rollback)). (at, r) ∷ ys)
     (rollbacks_among-push xs x)
 
-pub state_of : {t : Trace} {e : ℕ} {rest : List (ℕ × Step)} {k : KeptSection} → HasCome t e rest k → SectionState
-state_of come = state_after start come.front
-
 -- a step at which something is wrong
 pub come_wrong : (t : Trace) (e : ℕ) (step : ℕ × Step) (rest : List (ℕ × Step)) (k : KeptSection) (w : Wrong)
     (come : HasCome t e (step ∷ rest) k)

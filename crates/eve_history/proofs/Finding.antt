@@ -4,9 +4,9 @@ use Rattle.std.proofs.Common.{length, get_or, take, drop, slice_get, Some, None,
 use Rattle.std.proofs.Common.{arith}
 use Rattle.std.specs.Prelude.{slice_index_or}
 use Rattle.std.specs.List.{AllByRecursion, list_any, enumerate_from}
-use Rattle.std.proofs.lemmas.Bool.{cases_Bool, and_right, or_cases, eqb-true, eq-eqb, ne_eqb, cond-true, cond-false}
+use Rattle.std.proofs.lemmas.Bool.{cases_Bool, or_cases, eqb-true, eq-eqb, ne_eqb, cond-true, cond-false}
 use Rattle.std.proofs.lemmas.Bool.{false≢true}
-use Rattle.std.proofs.lemmas.List.{length-map, length-take-le, length-drop, drop_all}
+use Rattle.std.proofs.lemmas.List.{length-take-le, length-drop}
 use Rattle.eve_grammar.specs.Trace.{Access, Attempt, Batch, Commit, Trace}
 use Rattle.eve_grammar.specs.Frames.{batches_of, without_accesses}
 use Rattle.eve_grammar.specs.Spelling.{batch_text, batches_start, batches_at}
@@ -74,10 +74,6 @@ module _ (t : Trace) (s : SectionState) (a : Attempt) (b : Batch) (batch : batch
       → is_certificate b.sizes (length b.requests) a.serial a.certificate ≡ true → None ≡ wrong_attempt t s a
   right_attempt due count right = rw (due, batch, eq-eqb (length a.certificate) (length b.requests) count, right) refl
 
-pub not_due : (t : Trace) (s : SectionState) (a : Attempt) → is_due t s a ≡ false → Some code.Attempt
-    ≡ wrong_attempt t s a
-not_due t s a wrong = rw wrong refl
-
 -- ---- the first open attempt
 
 pub get_mapped : {A B : Type 0} (f : A → B) (xs : List A) (i : ℕ) (x : A) → slice_get xs i ≡ Some x
@@ -115,24 +111,6 @@ commit_is s k f c stands at =
     ap (λ (b : Bool). (c.seq == s.last + 1) && b) (first_pending s.pending f.attempt _ c open_is)
     ∙ ap (λ (n : ℕ). (c.seq == n + 1) && ((f.attempt.view == c.view) && same_bytes f.attempt.token c.token))
     (sym stands.last)
-
--- none is open
-pub none_open : (s : SectionState) (k : KeptSection) (c : Commit) → StandsAt s k → length k.attempts ≤ length k.fates
-    → false ≡ is_right_commit s c
-none_open s k c stands le =
-    let few : length (map (λ (a : KeptAttempt). a.attempt) k.attempts) ≤ length k.fates =
-    omega (arith, length-map k.attempts (λ (a : KeptAttempt). a.attempt)) in
-    sym (ap (λ (b : Bool). (c.seq == s.last + 1) && b)
-    (no_pending s.pending (stands.pending
-    ∙ drop_all (length k.fates) (map (λ (a : KeptAttempt). a.attempt) k.attempts) few))
-    ∙ and_right (c.seq == s.last + 1) false refl)
-  where
-    no_pending : (pending : List Placed) → map without pending ≡ [] → commits_first pending c ≡ false
-    no_pending [] e = refl
-    no_pending (p ∷ ps) e = absurd (none (without p) (map without ps) e)
-      where
-        none : (x : Attempt) (xs : List Attempt) → ◌≡◌ {A = List Attempt} (x ∷ xs) [] → ⊥
-        none x xs e = cc
 
 -- ---- an access record by its index
 

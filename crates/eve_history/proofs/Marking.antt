@@ -8,7 +8,7 @@ use Rattle.std.proofs.lemmas.Bool.{not_from_false, eq-eqb, ne_eqb, eqb-false, lt
 use Rattle.std.proofs.lemmas.List.{length-set, length-replicate, get_or-replicate, get_or-set_same, get_or-set_other}
 use Rattle.std.proofs.lemmas.List.{take_all, drop_all}
 use Rattle.std.proofs.lemmas.List.Recursion.{or_push}
-use Rattle.std.proofs.lemmas.List.Sums.{sum_by_push, count_by-le-length}
+use Rattle.std.proofs.lemmas.List.Sums.{sum_by_push}
 use Rattle.eve_grammar.specs.Trace.{Access}
 use Rattle.eve_views.specs.declared.fault.Code.{Code}
 use Rattle.eve_views.specs.declared.fault.Code.TheVariants as code
@@ -147,12 +147,6 @@ marked_one before m x n marked count index worker new = record {
                 ∙ get_or-set_same m.numbers x.index n 0 long ∙ count ∙ sym last.0,
           )
     ]
-
--- a worker has no more places than there are records
-pub place_room : (before : List Access) (m : Marks) (w : ℕ) → AreMarked before m → w < 8
-    → get_or m.places w 0 ≤ length before
-place_room before m w marked lt =
-    omega (arith, marked.places w lt, count_by-le-length (λ (y : Access). y.worker == w) before)
 
 -- ---- what is wrong with one
 

@@ -179,9 +179,6 @@ pub record Asking (t : Trace) (i : ℕ) (noted : List RequestId) : Type 0 where
   pub items : noted ≡ flat_map request_ids_at (take i (batches_at t))
   pub apart : ¬ SomePlace (take i (batches_at t)) IsAskedAgain
 
-pub asking_start : (t : Trace) → Asking t 0 []
-asking_start t = record { items = refl; apart = no_place IsAskedAgain }
-
 pub asking_more : (t : Trace) (i : ℕ) (noted after : List RequestId) (b : ℕ × (ℕ × Batch)) → Asking t i noted
     → slice_get (batches_at t) i ≡ Some b → AreNewAndNoted noted (request_ids_at b) after
     → Asking t (i + 1) after

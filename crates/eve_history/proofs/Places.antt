@@ -1,7 +1,7 @@
 -- Public: other crates cite these lemmas. Places of lists at which something holds, of what stands before and of what
 -- stands there.
 use Rattle.std.proofs.Common.{◌≡◌, ℕ, zero, suc, ◌+◌, ◌≤◌, List, [], ◌∷◌, ◌++◌, length, take, drop, slice_get, Some}
-use Rattle.std.proofs.Common.{refl, sym, ap, subst, ◌∙◌, append_assoc, inl, inr, ◌⊎◌, arith}
+use Rattle.std.proofs.Common.{refl, sym, ap, subst, inl, inr, ◌⊎◌, arith}
 use Rattle.std.proofs.lemmas.List.{append-nil, length-append}
 use Rattle.std.specs.List.{flat_map}
 use Rattle.eve_grammar.specs.Spelling.{located}
@@ -71,15 +71,6 @@ place_push {A = A} P xs x place = elim (place_split P xs (x ∷ []) place) [
     | inr there ↦ absurd (no_place _ there)
   ]
 ]
-
-pub place_in_front : {A : Type 0} (P : List A → A → Type 0) (xs ys : List A) → SomePlace xs P → SomePlace (xs ++ ys) P
-place_in_front {A = A} P xs ys place = record {
-  before = place.before;
-  item = place.item;
-  rest = place.rest ++ ys;
-  is = ap (λ (zs : List A). zs ++ ys) place.is ∙ append_assoc place.before (place.item ∷ place.rest) ys;
-  holds = place.holds;
-}
 
 pub weaker_place : {A : Type 0} (P Q : List A → A → Type 0) (xs : List A) → ((b : List A) (y : A) → P b y → Q b y)
     → SomePlace xs P → SomePlace xs Q

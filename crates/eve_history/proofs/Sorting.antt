@@ -232,9 +232,6 @@ pub record Seen (xs : List Arrival) (i : ℕ) (first : Option ℕ) : Type 0 wher
   pub found : IfSome first (Neighbours xs)
   pub below : (n : ℕ) (h : Neighbours xs n) → h.place + 1 < i → IsUpTo first n
 
-pub seen_start : (xs : List Arrival) → Seen xs 1 None
-seen_start xs = record { found = tt; below = λ n h lt. absurd (omega arith) }
-
 module _ (xs : List Arrival) (i : ℕ) (first : Option ℕ) (a b : Arrival) (some : 1 ≤ i)
     (former : slice_get xs (i - 1) ≡ Some a) (later : slice_get xs i ≡ Some b) (seen : Seen xs i first) where
   back : i - 1 + 1 ≡ i

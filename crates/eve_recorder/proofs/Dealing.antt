@@ -56,14 +56,6 @@ each_more F views w mine others j u e = ⊎_elim (λ x. others j u x) (λ x. sub
 fair_more : (n m : ℕ) (views : List Drawn) → n ≤ m → Each (IsFair n) views → Each (IsFair m) views
 fair_more n m views le h p v e = let f = h p v e in (f.0, below_more n m v.numbers le f.1)
 
-one_fair : (n : ℕ) (v : Drawn) → IsFair n v → Each (IsFair n) (v ∷ [])
-one_fair n v h zero u e = subst (IsFair n) (some-injective v u e) h
-one_fair n v h (suc p) u e = absurd (some-ne-none u (sym e))
-
--- no numbers are below the counter at 0
-pub begins : AreBelow 0 (drawn all_parts [] ∷ [])
-begins = (refl, refl, (λ x. grind (arith, nat_tests)), one_fair 0 (drawn all_parts []) (omega arith, none_below 0))
-
 few_drawn : (n : ℕ) (views : List Drawn) → AreBelow n views → n ≤ 9 * 2 ^ 40
 few_drawn n views d = let a = fair_total n views d.3 in let p = d.0 in let q = d.1 in omega arith
 

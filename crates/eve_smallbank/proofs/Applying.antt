@@ -122,13 +122,6 @@ length-one balances row effect = by (is_write effect.kind)
     by true = length-set balances row effect.after
     by false = refl
 
-pub length-balances_after : (balances : List ℤ) (rows : RowKinds) (effects : List Effect)
-    → length (balances_after balances rows effects) ≡ length balances
-length-balances_after balances [] effects = refl
-length-balances_after balances (r ∷ rows) [] = refl
-length-balances_after balances (r ∷ rows) (effect ∷ effects) = length-balances_after _ rows effects
-    ∙ length-one balances r.0 effect
-
 -- what the rows have afterwards is what the entries leave
 after_entries : (balances : List ℤ) (rows : RowKinds) (versions : List ℕ) (values : List ℤ) (effects : List Effect)
     → length versions ≡ length effects → length values ≡ length effects

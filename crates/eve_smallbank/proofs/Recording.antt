@@ -1,8 +1,8 @@
 -- Entries beside what was decided for their request.
-use Rattle.std.proofs.Common.{◌≡◌, ◌≢◌, ℕ, ℤ, zero, suc, ◌+◌, ◌<◌, Bool, true, false, List, [], ◌∷◌, map, length}
-use Rattle.std.proofs.Common.{take, slice_get, Option, Some, None, refl, sym, subst, ap, ap₂, ◌∙◌, inl, inr, arith}
+use Rattle.std.proofs.Common.{◌≡◌, ◌≢◌, ℕ, ℤ, zero, suc, ◌<◌, Bool, true, false, List, [], ◌∷◌, map, length}
+use Rattle.std.proofs.Common.{take, slice_get, Option, Some, None, refl, sym, subst, ap, ap₂, ◌∙◌, arith}
 use Rattle.std.specs.Bool.{Decides}
-use Rattle.std.proofs.lemmas.Bool.{cases_eq, false≢true}
+use Rattle.std.proofs.lemmas.Bool.{false≢true}
 use Rattle.std.proofs.lemmas.List.{length-map}
 use Rattle.eve_smallbank.specs.declared.request.Reply.{Reply}
 use Rattle.eve_smallbank.specs.declared.entry.Kind.{Kind}
@@ -80,22 +80,6 @@ abbrev pub AreNotedBelow : RowKinds → List Entry → List Effect → ℕ → T
 AreNotedBelow rows es effects n =
     (j : ℕ) → j < n → (r : ℕ × Kind) (e : Entry) (f : Effect) → slice_get rows j ≡ Some r → slice_get es j ≡ Some e
     → slice_get effects j ≡ Some f → HasEffect r.0 e f
-
-pub noted_more : (rows : RowKinds) (es : List Entry) (effects : List Effect) (n : ℕ) (r : ℕ × Kind) (e : Entry)
-    (f : Effect)
-    → slice_get rows n ≡ Some r → slice_get es n ≡ Some e → slice_get effects n ≡ Some f
-    → HasEffect r.0 e f → AreNotedBelow rows es effects n → AreNotedBelow rows es effects (n + 1)
-noted_more rows es effects n r e f a b c own before j below q d g x y z =
-    elim (cases_eq j n) [
-      | inl same ↦
-          subst (λ (q : ℕ × Kind). HasEffect q.0 d g) (some_injective r q (sym a ∙ ap (slice_get rows) (sym same) ∙ x))
-          (subst (λ (d : Entry). HasEffect r.0 d g) (some_injective e d (sym b ∙ ap (slice_get es) (sym same) ∙ y))
-          (subst (HasEffect r.0 e) (some_injective f g (sym c ∙ ap (slice_get effects) (sym same) ∙ z)) own))
-      | inr other ↦ before j (less other) q d g x y z
-    ]
-  where
-    less : (j ≢ n) → j < n
-    less other = omega arith
 
 pub all_noted : (rows : RowKinds) (es : List Entry) (effects : List Effect) → length es ≡ length rows → length effects
     ≡ length rows → AreNotedBelow rows es effects (length rows)

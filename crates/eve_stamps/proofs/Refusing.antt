@@ -1,6 +1,6 @@
 -- Why a request is refused, from what was found.
 use Rattle.std.proofs.Common.{◌≡◌, ℕ, zero, suc, ◌≤◌, nat_le, Bool, true, false, cond, ◌&&◌, List, [], ◌∷◌, map, length}
-use Rattle.std.proofs.Common.{slice_get, Option, Some, None, Ok, Err, refl, sym, subst, ap, ap₂, ◌∙◌}
+use Rattle.std.proofs.Common.{slice_get, Option, Some, None, refl, sym, subst, ap, ap₂, ◌∙◌}
 use Rattle.std.specs.Prelude.{IfSome}
 use Rattle.std.specs.List.{list_all}
 use Rattle.std.proofs.lemmas.Bool.{or_left, or_right, and_left, and_right, le-leb, and_from}
@@ -10,10 +10,9 @@ use Rattle.eve_smallbank.specs.Access.{RowKinds, is_write}
 use Rattle.eve_smallbank.specs.Chain.{Table}
 use Rattle.eve_grammar.specs.declared.restore.Restore.{Restore}
 use Rattle.eve_grammar.specs.Limits.{version_limit}
-use Rattle.eve_stamps.specs.declared.fault.StampFault.{StampFault}
 use Rattle.eve_stamps.specs.declared.fault.StampFault.TheVariants as fault
 use Rattle.eve_stamps.specs.Stripes.{row_in}
-use Rattle.eve_stamps.specs.Stamping.{seen_of, is_worn, refused_for, IsRefusedFor}
+use Rattle.eve_stamps.specs.Stamping.{seen_of, is_worn, refused_for}
 use Rattle.eve_stamps.proofs.RowLaws.{some_injective, none≢some}
 
 pub record IsSeen (is_there : ℕ → Bool) (now : Table) (rows : RowKinds) (seen : List Restore) : Type 0 where
@@ -45,24 +44,6 @@ pub many_seen : (is_there : ℕ → Bool) (now : Table) (rows found : RowKinds) 
 many_seen is_there now rows found None same told = tt
 many_seen is_there now rows found (Some held) same told =
     length-seen is_there now rows held (seen_is is_there now rows found held same told)
-
-pub refused_late : (A : Type 0) (is_there : ℕ → Bool) (is_new : Bool) (now : Table) (rows : RowKinds)
-    (seen : List Restore)
-    → IsSeen is_there now rows seen → is_new ≡ false
-    → IsRefusedFor {A = A} (refused_for is_there is_new now rows) (Err fault.TickOrder)
-refused_late A is_there is_new now rows seen is late =
-    subst (λ (o : Option StampFault). IsRefusedFor {A = A} o (Err fault.TickOrder))
-    (sym (ap₂ (λ a b. cond a (cond b (cond (is_worn now rows) (Some fault.Worn) None) (Some fault.TickOrder))
-    (Some fault.NoRow)) is.there late)) refl
-
-pub refused_worn : (A : Type 0) (is_there : ℕ → Bool) (is_new : Bool) (now : Table) (rows : RowKinds)
-    (seen : List Restore)
-    → IsSeen is_there now rows seen → is_new ≡ true → is_worn now rows ≡ true
-    → IsRefusedFor {A = A} (refused_for is_there is_new now rows) (Err fault.Worn)
-refused_worn A is_there is_new now rows seen is timely worn =
-    subst (λ (o : Option StampFault). IsRefusedFor {A = A} o (Err fault.Worn))
-    (sym (ap₂ (λ a b. cond a (cond b (cond (is_worn now rows) (Some fault.Worn) None) (Some fault.TickOrder))
-    (Some fault.NoRow)) is.there timely ∙ ap (λ c. cond c (Some fault.Worn) None) worn)) refl
 
 pub not_refused : (is_there : ℕ → Bool) (is_new : Bool) (now : Table) (rows : RowKinds) (seen : List Restore)
     → IsSeen is_there now rows seen → is_new ≡ true → is_worn now rows ≡ false
@@ -102,20 +83,6 @@ pub not_seen : (is_there : ℕ → Bool) (now : Table) (rows : RowKinds) (i : �
 not_seen is_there now rows i r at out =
     ap (λ b. cond b (Some (map (λ q. row_in now q.0) rows)) None)
     (sym (missing_at (λ (q : ℕ × Kind). is_there q.0) rows i r at (told_none (is_there r.0) (row_in now r.0) out)))
-
-pub refused_memory : (A : Type 0) (is_there : ℕ → Bool) (is_new : Bool) (now : Table) (rows : RowKinds)
-    (seen : List Restore) → IsSeen is_there now rows seen → is_new ≡ true → is_worn now rows ≡ false
-    → IsRefusedFor {A = A} (refused_for is_there is_new now rows) (Err fault.Memory)
-refused_memory A is_there is_new now rows seen is timely fresh =
-    subst (λ (o : Option StampFault). IsRefusedFor {A = A} o (Err fault.Memory))
-    (sym (not_refused is_there is_new now rows seen is timely fresh)) refl
-
-pub taken_on : {A : Type 0} (is_there : ℕ → Bool) (is_new : Bool) (now : Table) (rows : RowKinds) (seen : List Restore)
-    (x : A) → IsSeen is_there now rows seen → is_new ≡ true → is_worn now rows ≡ false
-    → IsRefusedFor {A = A} (refused_for is_there is_new now rows) (Ok x)
-taken_on {A} is_there is_new now rows seen x is timely fresh =
-    subst (λ (o : Option StampFault). IsRefusedFor {A = A} o (Ok x))
-    (sym (not_refused is_there is_new now rows seen is timely fresh)) tt
 
 -- what was told of the rows that were found
 pub worn_told : (is_there : ℕ → Bool) (now : Table) (rows found : RowKinds) (seen : List Restore) (b : Bool)

@@ -77,9 +77,6 @@ rows_in_table-same table other (r ∷ rows) same =
 
 -- ---- rows that rise
 
-not_below : (row : ℕ) (r : Restore) → r.row < row → (r.row == row) ≡ false
-not_below row r below = ne_eqb r.row row (λ same. omega arith)
-
 not_above : (row : ℕ) (r : Restore) → row < r.row → (row == r.row) ≡ false
 not_above row r above = ne_eqb row r.row (λ same. omega arith)
 

@@ -218,9 +218,6 @@ two_kept ss a b tick es test i less within ends =
     or_true true = refl
     or_true false = refl
 
-pub none_kept : (tick : ℕ) (b : Bool) (s : Stripe) → b ≡ false → IsKeptAt tick b s s
-none_kept tick b s not = record { base = refl; greatest = sym (cond-false b (Some tick) s.greatest not) }
-
 -- both stripes, written each in its part of the list
 both_set : (ss front back : List Stripe) (a b : ℕ) (x y : Stripe) → ss ≡ front ++ back → a < length front → length front
     ≡ b → set front a x ++ set back 0 y ≡ set (set ss a x) b y

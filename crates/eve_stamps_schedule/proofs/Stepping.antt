@@ -1,9 +1,9 @@
 -- What holds of a schedule after a step.
-use Rattle.std.proofs.Common.{◌≡◌, ℕ, ◌+◌, ◌<◌, ◌≤◌, Bool, true, false, nat_lt, ◌&&◌, cond, List, [], ◌∷◌, ◌++◌, length}
+use Rattle.std.proofs.Common.{◌≡◌, ℕ, ◌+◌, ◌<◌, ◌≤◌, Bool, true, false, nat_lt, cond, List, [], ◌∷◌, ◌++◌, length}
 use Rattle.std.proofs.Common.{get_or, set, Option, Some, None, is_none, is_some, refl, sym, subst, ap, ◌∙◌, inl, inr}
 use Rattle.std.proofs.Common.{arith}
 use mathlib.Core.Path.{fun_ext}
-use Rattle.std.proofs.lemmas.Bool.{cases_eq, and_from, and_right, eqb-true, eq-eqb, ltb-true, lt-ltb, le-ltb}
+use Rattle.std.proofs.lemmas.Bool.{cases_eq, and_from, and_right, eqb-true, eq-eqb, ltb-true, lt-ltb}
 use Rattle.std.proofs.lemmas.Bool.{false≢true}
 use Rattle.std.proofs.lemmas.Grind.{get_or-set_at}
 use Rattle.std.proofs.lemmas.List.{get_or-set_other, length-set, length-map, length-append}
@@ -55,11 +55,6 @@ refused_by s event stage is fails =
     (may (plan_of s) (world_of s) event ((world_of s).stages (worker_of event)))
     (ap (may (plan_of s) (world_of s) event) is ∙ fails)
 
-pub not_there : (s : Schedule) (event : Event) → length s.stages ≤ worker_of event → allows s event ≡ false
-not_there s event out =
-    ap (λ b. b && may (plan_of s) (world_of s) event ((world_of s).stages (worker_of event)))
-    (le-ltb (worker_of event) (length s.stages) out)
-
 reached_behind : (s t : Schedule) (event : Event) → IsReachedWorld (plan_of s) (world_of s) → allows s event ≡ true
     → plan_of t ≡ plan_of s
     → world_of t ≡ happens (plan_of s) (world_of s) event → IsReachedWorld (plan_of t) (world_of t)
@@ -97,9 +92,6 @@ pub ticked_there : (s : Schedule) (count v i n : ℕ) → IsHeldSchedule s count
 ticked_there s count v i n is there stands = index_there s count v i (at.Ticked i n) is there stands (eq-eqb i i refl)
 
 -- ---- small numbers
-
-pub few_claimed : (s : Schedule) (count : ℕ) → IsHeldSchedule s count → s.claimed ≤ length s.requests
-few_claimed s count is = (reached_kept (plan_of s) (world_of s) is.reached).counts.within
 
 pub few_ticks : (s : Schedule) (count : ℕ) → IsHeldSchedule s count → s.counter ≤ length s.requests
 few_ticks s count is = let c = (reached_kept (plan_of s) (world_of s) is.reached).counts in

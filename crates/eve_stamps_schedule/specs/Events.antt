@@ -72,9 +72,6 @@ is_allowed_event p w event = nat_lt (worker_of event) p.workers && may p w event
 abbrev pub changed : {A : Type 0} → (ℕ → A) → ℕ → A → ℕ → A
 changed f i x j = if j == i then x else f j
 
-abbrev pub with_stage : World → ℕ → Stage → World
-with_stage w v stage = record w { stages = changed w.stages v stage }
-
 abbrev pub with_owner : World → Option ℕ → Option ℕ → World
 with_owner w None owner = w
 with_owner w (Some s) owner = record w { owners = changed w.owners s owner }

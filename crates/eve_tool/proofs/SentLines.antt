@@ -1,6 +1,6 @@
 -- Lines that are sent one after another.
-use Rattle.std.proofs.Common.{◌≡◌, ℕ, zero, suc, ◌+◌, ◌-◌, ◌<◌, ◌≤◌, List, [], ◌∷◌, ◌++◌, Option, Some, Result, Ok, Err}
-use Rattle.std.proofs.Common.{OnErr, length, get_or, take, drop, refl, ap, sym, subst, ◌∙◌, arith, add-zero}
+use Rattle.std.proofs.Common.{◌≡◌, ℕ, zero, suc, ◌+◌, ◌-◌, ◌<◌, ◌≤◌, List, [], ◌∷◌, ◌++◌, Option, Some}
+use Rattle.std.proofs.Common.{length, get_or, take, drop, refl, ap, sym, subst, ◌∙◌, arith, add-zero}
 use Rattle.std.proofs.Common.{append_assoc, append-nil, length-append, codes}
 use Rattle.std.specs.Prelude.{decimal}
 use Rattle.std.proofs.lemmas.Option.{slice_get-get_or}
@@ -16,10 +16,7 @@ use Rattle.eve_grammar.specs.Frames.{Frame, End, kind_of}
 use Rattle.eve_grammar.specs.Spelling.{body_text, frame_text, frames_text, located}
 use Rattle.eve_streams.specs.Front.{AppendsFront}
 use Rattle.eve_streams.proofs.Joining.{AppendsFront-after, AppendsFront-more}
-use Rattle.eve_views.specs.Code.{code_name, code_number}
-use Rattle.eve_views.specs.declared.fault.Fault.{Fault}
-use Rattle.eve_audit.specs.declared.verdict.Summary.{Summary}
-use Rattle.eve_tool.specs.Lines.{fault_line, frame_line, line_feed, replica_text, yes_line}
+use Rattle.eve_tool.specs.Lines.{frame_line, line_feed}
 use Rattle.eve_tool.specs.Show.{header_line, line_of, trace_lines}
 
 -- what was sent is a front of all where more is to come
@@ -74,21 +71,6 @@ frame_line-some offset name body_len =
       length-append (decimal offset)
           (codes " " ++ (name ++ (codes " " ++ (decimal body_len ++ line_feed)))),
     )
-
-cons-some : (x : ℕ) (xs : List ℕ) → 0 < length (x ∷ xs)
-cons-some x xs = omega arith
-
-pub fault_line-some : (fault : Fault) → 0 < length (fault_line fault)
-unfolding fault_line
-fault_line-some fault =
-    cons-some 110 (codes "o: F" ++ (decimal (code_number fault.code) ++ (codes " " ++ (code_name fault.code
-    ++ (codes " at byte " ++ (decimal fault.offset ++ (replica_text fault.replica ++ line_feed)))))))
-
-pub yes_line-some : (s : Summary) → 0 < length (yes_line s)
-unfolding yes_line
-yes_line-some s =
-    cons-some 121 (codes "es: " ++ (decimal s.replicas ++ (codes " replicas, " ++ (decimal s.batches
-    ++ (codes " batches, " ++ (decimal s.committed ++ (codes " committed" ++ line_feed)))))))
 
 pub trace_lines-some : (frames : List Frame) → 0 < length (trace_lines frames)
 unfolding trace_lines
@@ -212,7 +194,3 @@ pub length-body : (f : Frame) → length (frame_text f) - 5 ≡ length (body_tex
 length-body f = omega (arith, length-frame_text f)
 
 -- ---- results
-
-pub OnErr-holds : {T E P : Type 0} (r : Result T E) → P → OnErr r P
-OnErr-holds (Ok x) p = tt
-OnErr-holds (Err e) p = p

@@ -112,9 +112,6 @@ behind_of code.Body bytes at h s is fits = behind_frames code.Body bytes at h s.
     (same_some (header_of (said_by bytes)) s.0.head h (head_said bytes s.0.head s.0.says) is.said) s.1
 behind_of c bytes at h s is fits = absurd s
 
-going : List Frame → Walked
-going fs = Ok fs
-
 abbrev stop_of : Code × List ℕ → Walked → Code × List ℕ
 stop_of d (Ok fs) = d
 stop_of d (Err e) = e

@@ -3,7 +3,7 @@ use Rattle.std.proofs.Common.{◌≡◌, ℕ, ◌+◌, ◌<◌, ◌≤◌, Bool,
 use Rattle.std.proofs.Common.{[], ◌∷◌, length, take, drop, Option, Some, None, Ok, Err, refl, sym, ap, ◌∙◌, arith}
 use Rattle.std.specs.Prelude.{slice_index}
 use Rattle.std.specs.Option.{option_map}
-use Rattle.std.proofs.lemmas.Bool.{le-leb, ltb-false, ltb-true, and_from}
+use Rattle.std.proofs.lemmas.Bool.{le-leb, ltb-false, and_from}
 use Rattle.std.proofs.lemmas.List.{length-drop}
 use Rattle.byteorder.specs.Endian.{big_number}
 use Rattle.eve_grammar.specs.Trace.{Head}
@@ -67,22 +67,6 @@ and_first false c e = refl
 and_second : (b c : Bool) → c ≡ false → (b && c) ≡ false
 and_second true c e = e
 and_second false c e = refl
-
--- fewer than five bytes
-pub kept_short : (h : Head) (p : Place) (bytes : List ℕ) → length bytes < 5 → kept bytes (frame_at h p bytes)
-    ≡ Err code.Frame
-kept_short h p bytes lt = kept_unframed h p bytes (and_first _ _ (not_long lt))
-  where
-    not_long : length bytes < 5 → leb 5 (length bytes) ≡ false
-    not_long lt = grind arith
-
-pub none_short : (n : ℕ) (bytes : List ℕ) → number_at n bytes ≡ None → length bytes < n
-none_short n bytes e = by (ltb (length bytes) n) refl e
-  where
-    by : (b : Bool) → ltb (length bytes) n ≡ b
-        → cond {A = Option (ℕ × List ℕ)} b None (Some (big_number n bytes, drop n bytes)) ≡ None → length bytes < n
-    by true t e = ltb-true _ _ t
-    by false t e = absurd cc
 
 pub kept_not_allowed : (h : Head) (p : Place) (bytes : List ℕ) (kind len : ℕ) (rest : List ℕ)
     → FrontOf bytes kind len rest → is_allowed h p kind ≡ false → kept bytes (frame_at h p bytes) ≡ Err code.Frame

@@ -1,6 +1,6 @@
 -- Places of a list, and what stands there.
 use Rattle.std.proofs.Common.{◌≡◌, ℕ, zero, suc, ◌+◌, List, [], ◌∷◌, ◌++◌, map, length, take, drop}
-use Rattle.std.proofs.Common.{Option, Some, refl, sym, ap, subst, ◌∙◌, arith, ◌⊎◌, inl, inr, length-append, add-one}
+use Rattle.std.proofs.Common.{Option, Some, refl, ap, ◌∙◌, arith, add-one}
 use Rattle.std.specs.Prelude.{slice_get}
 use Rattle.std.specs.List.{enumerate_from}
 use Rattle.std.specs.Option.{option_map}
@@ -9,32 +9,6 @@ use Rattle.eve_grammar.specs.Spelling.{located}
 use Rattle.eve_views.specs.Form.{SomePlace}
 
 -- ---- the last place, and those before it
-
-abbrev Split : {A : Type 0} → List A → A → List A → A → Type 0
-Split {A} xs x before item = ((rest : List A) × (xs ≡ before ++ item ∷ rest)) ⊎ ((xs ≡ before) × (x ≡ item))
-
-split_last : {A : Type 0} (xs : List A) (x : A) (before : List A) (item : A) (rest : List A) → xs ++ x ∷ []
-    ≡ before ++ item ∷ rest → Split xs x before item
-split_last [] x [] item rest e = inr (refl, cc)
-split_last [] x (b ∷ bs) item rest e = absurd (omega (arith, simp length-append at (ap length e)))
-split_last (y ∷ ys) x [] item rest e = inl (ys, let same : y ≡ item = cc in ap (λ z. z ∷ ys) same)
-split_last (y ∷ ys) x (b ∷ bs) item rest e =
-    let same : y ≡ b = cc in
-    let tails : ys ++ x ∷ [] ≡ bs ++ item ∷ rest = cc in
-    elim (split_last ys x bs item rest tails) [
-      | inl w ↦ inl (w.0, let inner = w.1 in cc)
-      | inr w
-          ↦ inr (let inner = w.0 in cc, w.1)
-    ]
-
--- what holds at some place of a list holds at its last place or at a place before
-pub place_cases : {A : Type 0} (P : List A → A → Type 0) (xs : List A) (x : A) → SomePlace (xs ++ x ∷ []) P
-    → SomePlace xs P ⊎ P xs x
-place_cases P xs x s =
-    elim (split_last xs x s.before s.item s.rest s.is) [
-      | inl w ↦ inl (record { before = s.before; item = s.item; rest = w.0; is = w.1; holds = s.holds })
-      | inr w ↦ inr (subst (λ before. P before x) (sym w.0) (subst (P s.before) (sym w.1) s.holds))
-    ]
 
 -- ---- by number
 

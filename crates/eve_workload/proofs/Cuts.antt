@@ -80,13 +80,6 @@ module _ {A : Type 0} (clash : A → A → Bool) where
     all_first_fit groups (item ∷ items) all = all_first_fit (placed clash groups item) items
         (all_placed groups item all)
 
-pub moved_one : {A : Type 0} (item : A) (order order' : List A) (groups : List (List A)) (clash : A → A → Bool)
-    → order ≡ flat_map (λ group. group) groups → order' ≡ flat_map (λ group. group) (placed clash groups item)
-    → IsPermutation (item ∷ order) order'
-moved_one item order order' groups clash is is' =
-    subst (λ xs. IsPermutation (item ∷ xs) order') (sym is)
-    (subst (IsPermutation (item ∷ flat groups)) (sym is') (placed_keeps clash groups item))
-
 -- ---- items that stand for others
 
 module _ {A B : Type 0} (h : A → B) (clash : A → A → Bool) (clash' : B → B → Bool)
@@ -138,7 +131,3 @@ sum_of_lengths [] = refl
 sum_of_lengths (group ∷ groups) =
     sum_by-cons (λ (n : ℕ). n) (length group) (map length groups) ∙ ap (λ n. length group + n) (sum_of_lengths groups)
     ∙ sym (length-append group (flat groups))
-
-pub sizes_add_up : {A : Type 0} (sizes : List ℕ) (order : List A) (groups : List (List A))
-    → AreGroups sizes order groups → sum sizes ≡ length order
-sizes_add_up sizes order groups are = ap sum are.sizes_are ∙ sum_of_lengths groups ∙ ap length (sym are.order_is)

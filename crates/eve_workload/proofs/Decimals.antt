@@ -105,17 +105,6 @@ negative_outside digits value is small outside (negsuc n) right spelled =
     let high = outside (omega arith) in
     omega arith
 
-pub negative_spelled : (digits : List ℕ) (value : ℕ) → digits ≡ decimal value → 1 ≤ value → 45 ∷ digits
-    ≡ signed_decimal (negsuc (value - 1))
-negative_spelled digits value is some =
-    let same : suc (value - 1) ≡ value = omega arith in
-    ap (λ w. 45 ∷ w) (is ∙ ap decimal (sym same))
-
-pub positive_unread : (word : List ℕ) → get_or word 0 0 ≢ 45 → ((n : ℕ) → n < 2 ^ 64 → word ≢ decimal n) → (z : ℤ)
-    → IsTrue (is_balance z) → word ≢ signed_decimal z
-positive_unread word plain unread (pos n) right spelled = unread n (omega (arith, balance_pos n right)) spelled
-positive_unread word plain unread (negsuc n) right spelled = plain (ap (λ w. get_or w 0 0) spelled)
-
 pub positive_outside : (word : List ℕ) (value : ℕ) → word ≡ decimal value → value < 2 ^ 64 → 1000000000000000 < value
     → get_or word 0 0 ≢ 45 → (z : ℤ) → IsTrue (is_balance z) → word ≢ signed_decimal z
 positive_outside word value is small high plain (pos n) right spelled =

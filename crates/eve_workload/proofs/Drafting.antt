@@ -203,16 +203,6 @@ customer_taken d customers names added c before pushed same room ranges follows 
       pairs = keeps.pairs;
     }
 
-pub customer_refused : (d : Draft) (c : Customer) (before : List Line) → 4096 ≤ length d.customers.items
-    → Keeps d before → ¬ IsRightBehind before (CustomerLine c)
-customer_refused d c before full keeps right =
-    omega (
-      arith,
-      ltb-true (length (customers_in before)) 4096 right.room,
-      length-map d.customers.items customer,
-      ap length keeps.customers,
-    )
-
 pub name_refused : (d : Draft) (c : Customer) (before : List Line) → has_name d.names.keys c.name ≡ true
     → Keeps d before → ¬ IsRightBehind before (CustomerLine c)
 name_refused d c before known keeps right =
@@ -245,10 +235,6 @@ request_taken d requests pairs count a before added counted room ranges follows 
       names = keeps.names;
       pairs = subst (AreMet pairs) (sym (map_push key_of (requests_in before) a)) met;
     }
-
-pub request_refused : (d : Draft) (a : Asked) (before : List Line) → 256 ≤ d.count → Keeps d before
-    → ¬ IsRightBehind before (RequestLine a)
-request_refused d a before full keeps right = omega (arith, ltb-true (last_requests before) 256 right.room, keeps.count)
 
 pub pair_refused : (a : Asked) (before : List Line)
     → list_any (same_pair (key_of a)) (map key_of (requests_in before)) ≡ true → ¬ IsRightBehind before (RequestLine a)

@@ -3,9 +3,9 @@ use Rattle.std.proofs.Common.{◌≡◌, ℕ, zero, suc, ◌+◌, ◌<◌, ◌�
 use Rattle.std.proofs.Common.{◌∷◌, ◌++◌, map, length, All, Some, inl, inr, refl, sym, ap, subst, ◌∙◌, arith}
 use Rattle.std.specs.Prelude.{◌==◌, ◌&&◌, ◌||◌, slice_get, slice_index_or, slice_set}
 use Rattle.std.specs.List.{list_any}
-use Rattle.std.proofs.lemmas.Bool.{cases_eq, cases_lt, eq-eqb, eqb-true, ne_eqb, or_cases, or_parts, true≢false}
+use Rattle.std.proofs.lemmas.Bool.{cases_eq, cases_lt, eq-eqb, eqb-true, ne_eqb}
 use Rattle.std.proofs.Math.Bool.{or-false}
-use Rattle.std.proofs.lemmas.List.{length_push, map-append}
+use Rattle.std.proofs.lemmas.List.{map-append}
 use Rattle.std.proofs.lemmas.List.Elements.{All-map, All-push}
 use Rattle.std.proofs.lemmas.Option.{slice_get_past, slice_get_within}
 use Rattle.eve_smallbank.specs.declared.entry.Kind.{Kind}
@@ -21,34 +21,6 @@ use Rattle.eve_workload.proofs.Gets.{get_set_same, get_set_other}
 use Rattle.eve_workload.specs.Marks.{bars, bars_at, place_of, is_barred, spot_of, IsEven, AreSpots}
 
 -- ---- places
-
--- a row that is none of them has the place after them
-pub absent_place : (rows : List ℕ) (row : ℕ) → list_any (nat_eq row) rows ≡ false → place_of rows row ≡ length rows
-absent_place [] row h = refl
-absent_place (x ∷ rows) row h =
-    let parts = or_parts (nat_eq row x) (list_any (nat_eq row) rows) h in
-    by (nat_eq row x) parts.0 (absent_place rows row parts.1)
-  where
-    by : (b : Bool) → b ≡ false → place_of rows row ≡ length rows → cond (not b) (1 + place_of rows row) 0
-        ≡ suc (length rows)
-    by true e rest = absurd (true≢false e)
-    by false e rest = omega (arith, rest)
-
-pub present_place : (rows : List ℕ) (row : ℕ) → list_any (nat_eq row) rows ≡ true → place_of rows row < length rows
-present_place [] row h = absurd (true≢false (sym h))
-present_place (x ∷ rows) row h =
-    elim (or_cases (nat_eq row x) (list_any (nat_eq row) rows) h) [
-      | inl here ↦ first (nat_eq row x) here
-      | inr there ↦ by (nat_eq row x) (present_place rows row there)
-    ]
-  where
-    first : (b : Bool) → b ≡ true → cond (not b) (1 + place_of rows row) 0 < suc (length rows)
-    first true e = omega arith
-    first false e = absurd (true≢false (sym e))
-
-    by : (b : Bool) → place_of rows row < length rows → cond (not b) (1 + place_of rows row) 0 < suc (length rows)
-    by true rest = omega arith
-    by false rest = omega (arith, rest)
 
 -- rows after leave the places of those in front
 pub front_place : (rows more : List ℕ) (row : ℕ) → place_of rows row < length rows → place_of (rows ++ more) row
@@ -73,23 +45,6 @@ behind_place (x ∷ rows) more row past = by (nat_eq row x) past (behind_place r
         → suc (length rows) ≤ cond (not b) (1 + place_of (rows ++ more) row) 0
     by true h rest = absurd (omega arith)
     by false h rest = let later = rest (omega arith) in omega (arith, later)
-
--- a row that is added has the place after the others
-pub added_place : (rows : List ℕ) (row : ℕ) → list_any (nat_eq row) rows ≡ false → place_of (rows ++ row ∷ []) row
-    ≡ length rows
-added_place [] row h = by (nat_eq row row) (eq-eqb row row refl)
-  where
-    by : (b : Bool) → b ≡ true → cond (not b) (1 + place_of [] row) 0 ≡ length {A = ℕ} []
-    by true e = refl
-    by false e = absurd (true≢false (sym e))
-added_place (x ∷ rows) row h =
-    let parts = or_parts (nat_eq row x) (list_any (nat_eq row) rows) h in
-    by (nat_eq row x) parts.0 (added_place rows row parts.1)
-  where
-    by : (b : Bool) → b ≡ false → place_of (rows ++ row ∷ []) row ≡ length rows
-        → cond (not b) (1 + place_of (rows ++ row ∷ []) row) 0 ≡ suc (length rows)
-    by true e rest = absurd (true≢false e)
-    by false e rest = omega (arith, rest)
 
 -- rows at one place are one row
 pub same_place : (rows : List ℕ) (a b : ℕ) → place_of rows a ≡ place_of rows b → place_of rows b < length rows → a ≡ b
@@ -143,11 +98,6 @@ barred_same rows ms added none row kind group even touched written =
 abbrev pub Stay : List ℕ → List ℕ → Type 0
 Stay old new = (row : ℕ) → place_of old row < length old → (place_of new row ≡ place_of old row)
     × (place_of new row < length new)
-
-pub stay_behind : (rows : List ℕ) (added : ℕ) → Stay rows (rows ++ added ∷ [])
-stay_behind rows added row there =
-    let same = front_place rows (added ∷ []) row there in
-    (same, omega (arith, same, there, length_push rows added))
 
 same_spots : (old new : List ℕ) (rows : RowKinds) → Stay old new
     → All (λ (row : ℕ × Kind). place_of old row.0 < length old) rows → map (spot_of old) rows ≡ map (spot_of new) rows

@@ -23,16 +23,6 @@ pub record IsSplit (text : List ℕ) (words : List (List ℕ)) (from at : ℕ) :
   pub here : IsTrue (list_all is_inside (take (at - from) (drop from text)))
   pub none : (k : ℕ) → k < at → get_or text k 0 ≢ 10
 
-pub split_new : (text : List ℕ) → IsSplit text [] 0 0
-split_new text = record {
-  order = omega arith;
-  text_is = refl;
-  inside = refl;
-  here = refl;
-  none = λ k below. absurd
-      (omega arith);
-}
-
 -- the text up to here, and one more byte
 pub up_to : (text : List ℕ) (from at : ℕ) → from ≤ at → take at text ≡ take from text ++ take (at - from)
     (drop from text)

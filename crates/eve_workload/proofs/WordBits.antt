@@ -5,8 +5,8 @@ use Rattle.std.specs.Prelude.{slice_index_or, ◌||◌, slice_set}
 use Rattle.std.specs.Int.{bit_at, w64, trailing_ones}
 use Rattle.std.proofs.lemmas.Bool.{eq-eqb, ne_eqb, cases_eq, cases_lt, or_right}
 use Rattle.std.proofs.Math.Bool.{or-false}
-use Rattle.std.proofs.lemmas.List.{get_or-set_same, get_or-set_other, get_or_past}
-use Rattle.std.proofs.lemmas.Nat.Bits.{bit_at_set_same, bit_at_set_other, bit_at_or, bit_at-zero, bit_at-lt}
+use Rattle.std.proofs.lemmas.List.{get_or-set_same, get_or-set_other}
+use Rattle.std.proofs.lemmas.Nat.Bits.{bit_at_set_same, bit_at_set_other, bit_at_or, bit_at-lt}
 use Rattle.std.proofs.lemmas.Nat.Bits.{bit_at_ones, bit_at-trailing_ones}
 
 -- the bit with this number
@@ -65,10 +65,6 @@ either (suc (suc a)) b small small' = absurd (omega arith)
 pub bit_of_both : (m n i : ℕ) → (bit_at (bit_or m n) i == 1) ≡ ((bit_at m i == 1) || (bit_at n i == 1))
 bit_of_both m n i = ap (λ b. b == 1) (bit_at_or m n i) ∙ either (bit_at m i) (bit_at n i) (bit_at-lt m i)
     (bit_at-lt n i)
-
--- there are no bits past the words
-pub no_bit : (words : List ℕ) (at : ℕ) → length words ≤ at / 64 → bit_of words at ≡ 0
-no_bit words at past = ap (λ w. bit_at w (at % 64)) (get_or_past words (at / 64) 0 past) ∙ bit_at-zero (at % 64)
 
 -- ---- the first bit that isn't set
 
