@@ -4,12 +4,14 @@ use atomic_table::{Join, Play, Seat, Split, Table, TableRule};
 use std::alloc::Global;
 use std::collections::LinkedList;
 
-// A seat's parts of the right to know all numbers, and the numbers that it drew. No value of it is made.
+/// A seat's parts of the right to know all numbers, and the numbers that it drew. It is spoken of in proofs alone: no
+/// value of it is made.
 pub struct Drawn {
     pub parts: u64,
     pub numbers: LinkedList<u64>,
 }
 
+/// The rule: each number below the counter was drawn once, at one of the seats.
 pub struct EachNumberOnce;
 
 impl TableRule<u8, Drawn, ()> for EachNumberOnce {
@@ -21,6 +23,7 @@ impl TableRule<u8, Drawn, ()> for EachNumberOnce {
     ghost first = { λ _. drawn all_parts [] };
 }
 
+/// A draw: the seat gains the counter's number, and the counter goes on.
 pub struct Draw;
 
 impl Play<u8, Drawn> for Draw {
@@ -29,6 +32,7 @@ impl Play<u8, Drawn> for Draw {
     ghost then = { Draws };
 }
 
+/// One part of the right, without numbers, is cut off a seat; a seat that is joined to another leaves it all it has.
 pub struct OnePart;
 
 impl Split<Drawn> for OnePart {
@@ -47,6 +51,8 @@ impl Join<Drawn> for OnePart {
     ghost spent = { spent };
 }
 
+/// The counter of drawn numbers.
 pub type Counter = Table<u8, Drawn, (), EachNumberOnce, Global>;
 
+/// A seat at the counter.
 pub type Place = Seat<u8, Drawn>;

@@ -8,6 +8,7 @@ ghost use Rattle.eve_write.specs.Data.{commit as plain, sent as plain_sent};
 use eve_smallbank::Reply;
 use eve_write::{CommitData, SentData};
 
+/// A commit lies within the limits as it stands.
 pub(crate) fn commit_fits(commit: &CommitData)
     ensures { IsTrue (is_commit (plain commit.now)) }
 {
