@@ -160,7 +160,7 @@ impl<'n> Replica<'n> {
     ///
     /// docs/TRACE.md, "The deployment's procedure". `view` and `serial` are the ones that are due. The gate is entered
     /// before each execution, with the request's index. Nothing that the threads did is believed: the attempt is what
-    /// the replica's own account says of the records (`Closes`). Of the faults of workers that of the lowest is told;
+    /// the replica's own account says of the records (`Closes`). Of the faults of workers one is told;
     /// each fault but `Broken` leaves the account as it was, and breaks the replica until `rollback` succeeds. May wait
     /// for other threads.
     pub fn run_attempt<R: Threads + Wait + Sync, G: Gate>(

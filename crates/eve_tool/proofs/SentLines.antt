@@ -192,5 +192,3 @@ length-frame_text f = omega (
 -- the body of a frame is what stands after its kind and its length
 pub length-body : (f : Frame) → length (frame_text f) - 5 ≡ length (body_text f)
 length-body f = omega (arith, length-frame_text f)
-
--- ---- results
