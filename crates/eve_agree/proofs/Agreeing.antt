@@ -164,20 +164,6 @@ pub record Judged (t : Trace) (n : ℕ) (least : Option Fault) : Type 0 where
   pub judged : (e m : ℕ) → 1 ≤ m → m ≤ n → AgreesOrIsFound t least e m
 
 module _ (t : Trace) where
-  pub judged_start : Judged t 0 None
-  judged_start = record { stand = tt; judged = λ e m one none. absurd (omega arith) }
-
-  pub judged_more : (n : ℕ) (least now : Option Fault) → Judged t n least → Stand t now → KeepsFound least now
-      → ((e : ℕ) → AgreesOrIsFound t now e (n + 1)) → Judged t (n + 1) now
-  judged_more n least now known stand lowers here = record {
-    stand = stand;
-    judged = λ e m one le. elim (cases_lt m (n + 1)) [
-      | inl early ↦ judged_later t least now e m lowers (known.judged e m one (omega arith))
-      | inr late ↦ let same : m ≡ n + 1 = omega arith in subst (λ (k : ℕ). AgreesOrIsFound t now e k) (sym same)
-          (here e)
-    ];
-  }
-
   -- nothing was found, up to the last number of all
   pub all_judged : (hs : List SectionHistory) (n most : ℕ) (least : Option Fault) → hs ≡ section_histories t
       → ((e : ℕ) → IsRightSection t e)

@@ -6,7 +6,6 @@ use Rattle.std.specs.List.{enumerate_from, find}
 use Rattle.std.specs.Option.{option_map}
 use Rattle.std.specs.Prelude.{slice_index_or}
 use Rattle.std.proofs.lemmas.Bool.{cases_lt, leb-false, le-leb, lt-leb}
-use Rattle.std.proofs.lemmas.List.{length-map}
 use Rattle.eve_smallbank.specs.declared.request.Reply.{Reply}
 use Rattle.eve_grammar.specs.Trace.{Attempt, Step, Trace}
 use Rattle.eve_grammar.specs.Frames.{OfReplica}
@@ -109,11 +108,6 @@ module _ (t : Trace) (e : ℕ) where
     | inl lt ↦ lt
     | inr past ↦ none≢some p (sym (ap (λ (ps : List Placed). slice_get ps n) (none_there past)) ∙ at)
   ]
-
-  pub commits_count : (h : SectionHistory) → IsRightSection t e → h ≡ section_history t e → length h.commits
-      ≡ (history t e).last
-  commits_count h right is = ap (λ (x : SectionHistory). length x.commits) is ∙ ap length commits_told
-      ∙ length-map (history t e).committed (λ p. executed_attempt (placed_at p)) ∙ sym (last_committed t e right)
 
 -- ---- the attempt
 

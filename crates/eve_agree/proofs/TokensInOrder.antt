@@ -6,7 +6,7 @@ use Rattle.std.specs.List.{AllByRecursion}
 use Rattle.std.proofs.lemmas.List.{length-map, map-append, take_more}
 use Rattle.eve_smallbank.specs.Access.{balance_of_row}
 use Rattle.eve_smallbank.specs.declared.request.Reply.{Reply}
-use Rattle.eve_grammar.specs.Trace.{Customer, Attempt, Step, Attempts, Commits, RollsBack, Trace}
+use Rattle.eve_grammar.specs.Trace.{Attempt, Step, Attempts, Commits, RollsBack, Trace}
 use Rattle.eve_grammar.specs.Frames.{OfReplica}
 use Rattle.eve_grammar.specs.Spelling.{frame_text, step_text, section_start, steps_of, steps_at}
 use Rattle.eve_views.specs.declared.fault.Code.{Code}
@@ -20,7 +20,7 @@ use Rattle.eve_history.specs.Fates.{fates_from}
 use Rattle.eve_history.specs.SectionHistory.{ordered, attempts_among, history, is_committed, picked, placed_at}
 use Rattle.eve_history.proofs.FateLaws.{committed_are_picked}
 use Rattle.eve_history.proofs.Places.{Rising, At, located_rising, first_place, no_place, place_cases}
-use Rattle.eve_chains.specs.Visible.{opening_rows}
+use Rattle.eve_grammar.proofs.OpeningRows.{length-opening_rows}
 use Rattle.eve_chains.specs.Committed.{first_rows, balances_to}
 use Rattle.eve_chains.specs.Settling.{settling}
 use Rattle.eve_agree.specs.DueTokens.{due_token, TokensAreDue, StandsInTokens, IsTokenFault}
@@ -66,10 +66,6 @@ rows_to b (suc n) le =
 pub rows_are : (b : List ℤ) → b ≡ first_rows (length b) (balance_of_row b)
 rows_are b = sym (take_all (length b) b (omega arith)) ∙ rows_to b (length b) (omega arith)
 
-opening_length : (customers : List Customer) → length (opening_rows customers) ≡ 2 * length customers
-opening_length [] = refl
-opening_length (c ∷ customers) = let more = opening_length customers in omega arith
-
 -- ---- what was told
 
 pub batches_told : (t : Trace) (e : ℕ) → length (settling t e).batches ≡ length (history t e).committed
@@ -78,7 +74,7 @@ batches_told t e = length-map (history t e).committed (λ p. ordered p.offset p.
 
 pub rows_told : (t : Trace) (e : ℕ) → length (settling t e).opening ≡ 2 * length t.customers
 unfolding settling
-rows_told t e = opening_length t.customers
+rows_told t e = length-opening_rows t.customers
 
 -- the token of version 1
 pub first_version : (seq : ℕ) (balances : List ℤ) (replies : List Reply) → token_of 1 seq balances replies

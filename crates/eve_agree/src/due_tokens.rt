@@ -4,8 +4,7 @@ ghost use Rattle.std.specs.Prelude.{◌≡◌, ◌≤◌, ◌<◌, ◌-◌, ◌�
 ghost use Rattle.eve_frames.specs.Said.{attempt_said};
 ghost use Rattle.eve_token.specs.Token.{token_of};
 ghost use Rattle.eve_views.specs.Form.{IfFound, IsLeast, HasNone};
-ghost use Rattle.eve_views.specs.declared.fault.Fault.{Fault as FaultValue};
-ghost use Rattle.eve_history.specs.SectionHistory.{section_history, IsRightSection};
+ghost use Rattle.eve_history.specs.SectionHistory.{section_history};
 ghost use Rattle.eve_chains.specs.Settling.{settling};
 ghost use Rattle.eve_agree.specs.DueTokens.{TokensAreDue, IsTokenFault, IsFirstWrong};
 ghost use Rattle.eve_agree.specs.Judging.{IsAfter};

@@ -1,13 +1,12 @@
 //! The faults of restores.
 
-ghost use Rattle.std.specs.Prelude.{◌≡◌, ◌≤◌, ◌<◌, IfOk, IfErr, IsTrue, Some, List, length, slice_get};
+ghost use Rattle.std.specs.Prelude.{◌≡◌, ◌≤◌, ◌<◌, IfOk, IfErr, IsTrue, Some, length, slice_get};
 ghost use Rattle.std.specs.List.{list_all, AllByRecursion};
 ghost use Rattle.eve_smallbank.specs.Chain.{Table};
 ghost use Rattle.eve_smallbank.specs.declared.entry.Entry as noted;
 ghost use Rattle.eve_grammar.specs.Limits.{is_restore, is_rising};
 ghost use Rattle.eve_frames.specs.Said.{rollback_said};
 ghost use Rattle.eve_views.specs.Form.{IfFound, IsLeast, HasNone};
-ghost use Rattle.eve_views.specs.declared.fault.Fault.{Fault as FaultValue};
 ghost use Rattle.eve_views.specs.declared.fault.CheckFault.TheVariants.{Found};
 ghost use Rattle.eve_views.specs.declared.fault.Code.TheVariants as code;
 ghost use Rattle.eve_history.specs.SectionHistory.{ExecutedAttempt, section_history, IsRightSection};

@@ -1,12 +1,11 @@
 //! The faults of replies.
 
-ghost use Rattle.std.specs.Prelude.{◌≡◌, ◌≢◌, ◌≤◌, ◌↔◌, ◌-◌, ℕ, IsTrue, None, Some, length, slice_get};
+ghost use Rattle.std.specs.Prelude.{◌≡◌, ◌≢◌, ◌≤◌, ◌↔◌, ◌-◌, IsTrue, None, Some, length, slice_get};
 ghost use Rattle.std.specs.Prelude.{IfSome, IfNone, IfOk, IfErr};
 ghost use Rattle.eve_frames.specs.Said.{attempt_said, sent_said};
 ghost use Rattle.eve_views.specs.Form.{IfFound, IsLeast, HasNone};
 ghost use Rattle.eve_views.specs.declared.fault.CheckFault.TheVariants.{Memory};
 ghost use Rattle.eve_views.specs.declared.fault.Code.TheVariants as code;
-ghost use Rattle.eve_views.specs.declared.fault.Fault.{Fault as FaultValue};
 ghost use Rattle.eve_history.specs.SectionHistory.{ExecutedAttempt, section_history, section_histories};
 ghost use Rattle.eve_agree.specs.SentReplies.{IsReplied, AllReplied, IsReplyFault};
 ghost use Rattle.eve_agree.specs.Keeping.{AreOf};

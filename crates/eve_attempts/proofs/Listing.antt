@@ -1,9 +1,9 @@
 -- Lists, place by place.
 use Rattle.std.proofs.Common.{◌≡◌, ℕ, zero, suc, ◌+◌, ◌-◌, ◌<◌, ◌≤◌, Bool, true, false, List, [], ◌∷◌, ◌++◌, Some, None}
-use Rattle.std.proofs.Common.{cond, filter, map, length, set, replicate, get_or, drop, slice_get, ltb, refl, sym, subst}
+use Rattle.std.proofs.Common.{cond, filter, map, length, set, replicate, get_or, drop, slice_get, refl, sym, subst}
 use Rattle.std.proofs.Common.{ap, ◌∙◌, add-one, arith}
 use Rattle.std.specs.List.{AllByRecursion, list_all}
-use Rattle.std.proofs.lemmas.Bool.{and_parts, and_from, lt-ltb, false≢true}
+use Rattle.std.proofs.lemmas.Bool.{and_parts, and_from, false≢true}
 use Rattle.std.specs.Bool.{Decides}
 use Rattle.std.proofs.lemmas.List.{drop_more, drop_all}
 
@@ -45,12 +45,6 @@ pub all_fact : {A : Type 0} (P : A → Type 0) (xs : List A) (i : ℕ) (d : A) �
 all_fact P [] i d all within = absurd (omega arith)
 all_fact P (y ∷ xs) zero d all within = all.0
 all_fact P (y ∷ xs) (suc i) d all within = all_fact P xs i d all.1 (omega arith)
-
--- numbers that are all below one
-pub all_below : (n : ℕ) (xs : List ℕ) → ((i : ℕ) → get_or xs i 0 < n) → list_all (λ x. ltb x n) xs ≡ true
-all_below n [] below = refl
-all_below n (x ∷ xs) below = and_from (ltb x n) (list_all (λ y. ltb y n) xs) (lt-ltb x n (below 0))
-    (all_below n xs (λ i. below (suc i)))
 
 -- ---- along a loop
 

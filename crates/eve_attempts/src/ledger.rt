@@ -1,6 +1,6 @@
 //! A replica's own account of its rows.
 
-ghost use Rattle.std.specs.Prelude.{◌≡◌, ◌<◌, ◌≤◌, ◌+◌, ◌-◌, ◌^◌, ◌↔◌, ℕ, List, [], length, slice_get, option_map};
+ghost use Rattle.std.specs.Prelude.{◌≡◌, ◌<◌, ◌≤◌, ◌+◌, ◌-◌, ◌^◌, ◌↔◌, ℕ, List, length, slice_get, option_map};
 ghost use Rattle.std.specs.Prelude.{Some, IsTrue, IfOk, OnErr, IsOk, Err};
 ghost use Rattle.eve_grammar.specs.Limits.{is_batch};
 ghost use Rattle.eve_write.specs.Data.{batch as plain, attempt, commit, rollback};
@@ -11,13 +11,13 @@ ghost use Rattle.eve_attempts.specs.Discarding.{Commits, RollsBack};
 use crate::fault::{CloseFault, NotOpen};
 use crate::front::AttemptFront;
 use crate::opened::OpenAttempt;
-use crate::replies::{token_fits, view_fits};
+use crate::replies::view_fits;
 use crate::restores::{restore_all, undo_all, written_rows};
 use crate::rows::Rows;
 use crate::taken::take;
 use crate::walk::write_along;
 use eve_accounts::Balances;
-use eve_grammar::MOST_BATCHES;
+use eve_grammar::{MOST_BATCHES, token_fits};
 use eve_smallbank::Touched;
 use eve_stamps::AccessRecord;
 use eve_token::token;

@@ -1,6 +1,6 @@
 //! Whether records may be an attempt of a batch, whatever their order and whatever the rows have.
 
-ghost use Rattle.std.specs.Prelude.{◌≡◌, ◌≤◌, ◌<◌, ℕ, List, IsTrue, map, length, slice_get, option_map, Some};
+ghost use Rattle.std.specs.Prelude.{◌≡◌, ◌<◌, ℕ, List, IsTrue, map, length};
 ghost use Rattle.std.specs.Bool.{Decides};
 ghost use Rattle.std.specs.List.{list_all, AllByRecursion};
 ghost use Rattle.eve_smallbank.specs.Access.{Fits};

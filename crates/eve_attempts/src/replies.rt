@@ -1,28 +1,18 @@
 //! What an attempt says of its records.
 
-ghost use Rattle.std.specs.Prelude.{◌≡◌, ◌<◌, IsTrue, IfOk, length, map, replicate, true};
+ghost use Rattle.std.specs.Prelude.{◌≡◌, ◌<◌, IsTrue, IfOk, length, map, replicate};
 ghost use Rattle.std.specs.List.{list_all, AllByRecursion};
 ghost use Rattle.eve_smallbank.specs.declared.request.Reply.TheVariants.{Done};
-ghost use Rattle.eve_grammar.specs.Limits.{is_number, is_reply, is_token};
+ghost use Rattle.eve_grammar.specs.Limits.{is_number, is_reply};
 ghost use Rattle.eve_write.specs.Data.{access};
 ghost use Rattle.eve_attempts.specs.Closing.{access_noted};
 ghost use Rattle.eve_attempts.specs.Ordering.{replies_placed};
 
+use eve_grammar::reply_fits;
 use eve_smallbank::Reply;
 use eve_stamps::AccessRecord;
 use eve_write::AccessData;
 use std::alloc::{AllocError, Global};
-
-/// A reply lies within the limits of the format as it stands.
-fn reply_fits(reply: Reply)
-    ensures { IsTrue (is_reply reply) }
-{
-    match reply {
-        Reply::Done => {}
-        Reply::Total(_total) => {}
-        Reply::Aborted(_) => {}
-    }
-}
 
 /// The replies, each at the index of its record.
 pub fn replies_of(alloc: Global, records: &[AccessRecord]) -> Result<Vec<Reply>, AllocError>
@@ -61,17 +51,4 @@ pub fn view_fits(view: u32)
     ensures { IsTrue (is_number 4 view) }
 {
     let _view = view;
-}
-
-/// Thirty-two bytes are a token.
-pub fn token_fits(token: &[u8; 32])
-    ensures { IsTrue (is_token token.now) }
-{
-    bytes_fit(token);
-}
-
-fn bytes_fit(bytes: &[u8])
-    ensures { IsTrue (list_all (is_number 1) bytes.now) }
-{
-    let _bytes = bytes;
 }

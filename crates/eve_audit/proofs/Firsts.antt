@@ -6,10 +6,7 @@ use Rattle.eve_views.specs.Form.{IfFound, IsLeast, HasNone, Precedes}
 use Rattle.eve_views.specs.declared.fault.CheckFault.{CheckFault}
 use Rattle.eve_views.specs.declared.fault.CheckFault.TheVariants.{Found, Memory}
 use Rattle.eve_views.specs.declared.fault.Fault.{Fault}
-use Rattle.eve_history.specs.Faults.{IsOrderFault, IsStructureFault}
-use Rattle.eve_chains.specs.Faults.{IsRecordFault, IsChainFault, IsLeastFault, HasNoFault}
-use Rattle.eve_agree.specs.Restores.{IsRestoreFault}
-use Rattle.eve_agree.specs.DueTokens.{IsTokenFault}
+use Rattle.eve_history.specs.Faults.{IsOrderFault}
 use Rattle.eve_votes.specs.Faults.{IsVoteFault}
 use Rattle.eve_agree.specs.Majority.{IsMajorityFault}
 use Rattle.eve_agree.specs.Agreement.{IsOutcomeFault}
@@ -40,91 +37,6 @@ module _ (t : Trace) (e : ℕ) where
   own_phase f (of_restores is) = let p = restore_phase t e f is in (omega arith, omega arith)
   own_phase f (of_tokens is) = let p = token_phase t e f is in (omega arith, omega arith)
 
-  pub structure_first : (f : Fault) → IsLeast (IsStructureFault t e) f → IsFirstOf (IsOwnFault t e) f
-  structure_first f least = record { is = of_structure least.is; first = by }
-    where
-      own : phase_of f.code ≡ 3
-      own = structure_phase t e f least.is
-
-      by : (g : Fault) → IsOwnFault t e g → Precedes f g
-      by g (of_structure is) = inr (own ∙ sym (structure_phase t e g is), least.least g is)
-      by g (of_records is) = lower f g 3 4 own (record_phase t e g is) (omega arith)
-      by g (of_chains is) = lower f g 3 5 own (chain_phase t e g is) (omega arith)
-      by g (of_restores is) = lower f g 3 6 own (restore_phase t e g is) (omega arith)
-      by g (of_tokens is) = lower f g 3 7 own (token_phase t e g is) (omega arith)
-
-  record_first : (f : Fault) → HasNone (IsStructureFault t e) → IsLeast (IsRecordFault t e) f
-      → IsFirstOf (IsOwnFault t e) f
-  record_first f structure least = record { is = of_records least.is; first = by }
-    where
-      own : phase_of f.code ≡ 4
-      own = record_phase t e f least.is
-
-      by : (g : Fault) → IsOwnFault t e g → Precedes f g
-      by g (of_structure is) = absurd (structure g is)
-      by g (of_records is) = inr (own ∙ sym (record_phase t e g is), least.least g is)
-      by g (of_chains is) = lower f g 4 5 own (chain_phase t e g is) (omega arith)
-      by g (of_restores is) = lower f g 4 6 own (restore_phase t e g is) (omega arith)
-      by g (of_tokens is) = lower f g 4 7 own (token_phase t e g is) (omega arith)
-
-  chain_first : (f : Fault) → HasNone (IsStructureFault t e) → HasNone (IsRecordFault t e)
-      → IsLeast (IsChainFault t e) f → IsFirstOf (IsOwnFault t e) f
-  chain_first f structure records least = record { is = of_chains least.is; first = by }
-    where
-      own : phase_of f.code ≡ 5
-      own = chain_phase t e f least.is
-
-      by : (g : Fault) → IsOwnFault t e g → Precedes f g
-      by g (of_structure is) = absurd (structure g is)
-      by g (of_records is) = absurd (records g is)
-      by g (of_chains is) = inr (own ∙ sym (chain_phase t e g is), least.least g is)
-      by g (of_restores is) = lower f g 5 6 own (restore_phase t e g is) (omega arith)
-      by g (of_tokens is) = lower f g 5 7 own (token_phase t e g is) (omega arith)
-
-  -- of records and chains
-  pub attempt_first : (f : Fault) → HasNone (IsStructureFault t e) → IsLeastFault t e f → IsFirstOf (IsOwnFault t e) f
-  attempt_first f structure (inl least) = record_first f structure least
-  attempt_first f structure (inr r) = chain_first f structure r.0 r.1
-
-  pub restore_first : (f : Fault) → HasNone (IsStructureFault t e) → HasNoFault t e → IsLeast (IsRestoreFault t e) f
-      → IsFirstOf (IsOwnFault t e) f
-  restore_first f structure attempts least = record { is = of_restores least.is; first = by }
-    where
-      own : phase_of f.code ≡ 6
-      own = restore_phase t e f least.is
-
-      by : (g : Fault) → IsOwnFault t e g → Precedes f g
-      by g (of_structure is) = absurd (structure g is)
-      by g (of_records is) = absurd (attempts.records g is)
-      by g (of_chains is) = absurd (attempts.chains g is)
-      by g (of_restores is) = inr (own ∙ sym (restore_phase t e g is), least.least g is)
-      by g (of_tokens is) = lower f g 6 7 own (token_phase t e g is) (omega arith)
-
-  pub token_first : (f : Fault) → HasNone (IsStructureFault t e) → HasNoFault t e → HasNone (IsRestoreFault t e)
-      → IsLeast (IsTokenFault t e) f → IsFirstOf (IsOwnFault t e) f
-  token_first f structure attempts restores least = record { is = of_tokens least.is; first = by }
-    where
-      own : phase_of f.code ≡ 7
-      own = token_phase t e f least.is
-
-      by : (g : Fault) → IsOwnFault t e g → Precedes f g
-      by g (of_structure is) = absurd (structure g is)
-      by g (of_records is) = absurd (attempts.records g is)
-      by g (of_chains is) = absurd (attempts.chains g is)
-      by g (of_restores is) = absurd (restores g is)
-      by g (of_tokens is) = inr (own ∙ sym (token_phase t e g is), least.least g is)
-
-  pub none_own : HasNone (IsStructureFault t e) → HasNoFault t e → HasNone (IsRestoreFault t e)
-      → HasNone (IsTokenFault t e) → HasNone (IsOwnFault t e)
-  none_own structure attempts restores tokens = by
-    where
-      by : (g : Fault) → IsOwnFault t e g → ⊥
-      by g (of_structure is) = structure g is
-      by g (of_records is) = attempts.records g is
-      by g (of_chains is) = attempts.chains g is
-      by g (of_restores is) = restores g is
-      by g (of_tokens is) = tokens g is
-
 -- ---- all replicas together
 
 module _ (t : Trace) where
@@ -133,31 +45,6 @@ module _ (t : Trace) where
   common_phase f (of_majorities is) = let p = majority_phase t f is in omega arith
   common_phase f (of_agreement is) = let p = outcome_phase t f is in omega arith
   common_phase f (of_replies is) = let p = reply_phase t f is in omega arith
-
-  pub vote_first : (f : Fault) → IsLeast (IsVoteFault t) f → IsFirstOf (IsCommonFault t) f
-  vote_first f least = record { is = of_votes least.is; first = by }
-    where
-      own : phase_of f.code ≡ 8
-      own = vote_phase t f least.is
-
-      by : (g : Fault) → IsCommonFault t g → Precedes f g
-      by g (of_votes is) = inr (own ∙ sym (vote_phase t g is), least.least g is)
-      by g (of_majorities is) = lower f g 8 9 own (majority_phase t g is) (omega arith)
-      by g (of_agreement is) = lower f g 8 10 own (outcome_phase t g is) (omega arith)
-      by g (of_replies is) = lower f g 8 11 own (reply_phase t g is) (omega arith)
-
-  pub majority_first : (f : Fault) → HasNone (IsVoteFault t) → IsLeast (IsMajorityFault t) f
-      → IsFirstOf (IsCommonFault t) f
-  majority_first f votes least = record { is = of_majorities least.is; first = by }
-    where
-      own : phase_of f.code ≡ 9
-      own = majority_phase t f least.is
-
-      by : (g : Fault) → IsCommonFault t g → Precedes f g
-      by g (of_votes is) = absurd (votes g is)
-      by g (of_majorities is) = inr (own ∙ sym (majority_phase t g is), least.least g is)
-      by g (of_agreement is) = lower f g 9 10 own (outcome_phase t g is) (omega arith)
-      by g (of_replies is) = lower f g 9 11 own (reply_phase t g is) (omega arith)
 
   pub outcome_first : (f : Fault) → HasNone (IsVoteFault t) → HasNone (IsMajorityFault t) → IsLeast (IsOutcomeFault t) f
       → IsFirstOf (IsCommonFault t) f

@@ -45,9 +45,6 @@ module _ {A : Type 0} (P : A → Type 0) where
   all_tail : (x : A) (xs : List A) → All P (x ∷ xs) → All P xs
   all_tail x xs all = λ k d lt. all (suc k) d (omega (arith, lt))
 
-  pub all_of_none : (xs : List A) → xs ≡ [] → All P xs
-  all_of_none xs none = subst (All P) (sym none) (All-nil P)
-
 -- what was taken first is true, and so is what is left
 pub taken_is_true : (t : Trace) (e : ℕ) (old new : Slot) (r : Option (Result Piece Fault))
     → IfSome r (λ answer. old.findings.items ≡ finding e answer ∷ new.findings.items) → (IsNone r → new ≡ old)

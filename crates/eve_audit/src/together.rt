@@ -1,6 +1,6 @@
 //! The audit of all replicas together.
 
-ghost use Rattle.std.specs.Prelude.{◌≡◌, ℕ, IfOk, IfErr};
+ghost use Rattle.std.specs.Prelude.{◌≡◌, IfOk, IfErr};
 ghost use Rattle.eve_views.specs.Form.{IfFound, HasNone};
 ghost use Rattle.eve_history.specs.SectionHistory.{section_histories};
 ghost use Rattle.eve_chains.specs.Settling.{settlings};

@@ -6,11 +6,11 @@ use Rattle.std.proofs.lemmas.Grind.{flat_map-append}
 use Rattle.eve_smallbank.specs.declared.entry.Entry.{Entry}
 use Rattle.eve_smallbank.specs.Access.{balance_of_row, bank_of, values_after}
 use Rattle.eve_frames.specs.declared.access.AccessView.{AccessView}
-use Rattle.eve_grammar.specs.Trace.{Access, Trace}
+use Rattle.eve_grammar.specs.Trace.{Access, Trace, opening_rows}
 use Rattle.eve_grammar.specs.Limits.{HasLimits}
 use Rattle.eve_history.specs.Section.{Placed}
 use Rattle.eve_history.specs.SectionHistory.{ordered, history, names_of, IsRightSection}
-use Rattle.eve_chains.specs.Visible.{opening_rows, rows_after}
+use Rattle.eve_chains.specs.Visible.{rows_after}
 use Rattle.eve_chains.specs.Committed.{attempts_of, values_to, bank_after}
 use Rattle.eve_chains.specs.Along.{all_said, entries_along, AreWithin}
 use Rattle.eve_chains.proofs.Linked.{some_injective, none≢some}

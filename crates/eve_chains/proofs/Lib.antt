@@ -31,5 +31,4 @@ mod PartsInOrder
 mod Committed
 mod Copying
 mod AdvancingBanks
-mod OpeningRows
 pub mod ShortLists

@@ -568,9 +568,6 @@ module _ (t : Trace) (h : SectionHistory) (limits : HasLimits t) (tells : h ≡ 
   ended : (w : Walk) (known : HasWalked t e [] w) → IsFirstIn t e (settled (history t e)) w.first
   ended w known = subst (λ (x : SectionState). IsFirstIn t e (settled x) w.first) known.leads known.first
 
-  pub walked_right : (w : Walk) → HasWalked t e [] w → w.first ≡ None → AllSettledSee t e
-  walked_right w known none = subst (IsFirstIn t e (settled (history t e))) none (ended w known)
-
   pub walked_wrong : (w : Walk) (f : Fault) → IsRightSection t e → HasWalked t e [] w → w.first ≡ Some f
       → IsLeast (IsChainFault t e) f
   walked_wrong w f right known some =

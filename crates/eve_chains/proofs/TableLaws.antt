@@ -17,10 +17,10 @@ use Rattle.eve_smallbank.specs.Access.{writes_row}
 use Rattle.eve_smallbank.specs.Chain.{Versioned, Table, Sees}
 use Rattle.eve_views.specs.declared.fault.Code.{Code}
 use Rattle.eve_views.specs.declared.fault.Code.TheVariants as code
-use Rattle.eve_grammar.specs.Trace.{Customer, Trace}
+use Rattle.eve_grammar.specs.Trace.{Customer, Trace, opening_rows}
 use Rattle.eve_grammar.specs.Spelling.{located, customer_text, customers_at}
 use Rattle.eve_views.specs.Form.{SomePlace}
-use Rattle.eve_chains.specs.Visible.{opening_rows, opening_table}
+use Rattle.eve_chains.specs.Visible.{opening_table}
 use Rattle.eve_chains.specs.Tables.{table_of, undone, IsFirstMismatch, wrong_behind}
 use Rattle.eve_chains.proofs.Linked.{some_injective, none≢some}
 

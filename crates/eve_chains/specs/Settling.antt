@@ -3,11 +3,10 @@
 use Rattle.std.specs.Prelude.{◌≡◌, ℕ, ℤ, List, map, take}
 use Rattle.std.specs.List.{flat_map}
 use Rattle.eve_smallbank.specs.Access.{balance_of_row, bank_of, values_after}
-use Rattle.eve_grammar.specs.Trace.{Access, Trace}
+use Rattle.eve_grammar.specs.Trace.{Access, Trace, opening_rows}
 use Rattle.eve_grammar.specs.Frames.{sections_of}
 use Rattle.eve_grammar.specs.Limits.{HasLimits}
 use Rattle.eve_history.specs.SectionHistory.{history, ordered, names_of, IsRightSection}
-use Rattle.eve_chains.specs.Visible.{opening_rows}
 use Rattle.eve_chains.specs.Along.{entries_along}
 use Rattle.eve_chains.specs.Committed.{bank_after}
 

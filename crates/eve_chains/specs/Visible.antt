@@ -5,15 +5,11 @@ use Rattle.eve_smallbank.specs.declared.request.Reply.TheVariants.{Done}
 use Rattle.eve_smallbank.specs.declared.entry.Entry.{Entry}
 use Rattle.eve_smallbank.specs.Access.{Executed}
 use Rattle.eve_smallbank.specs.Chain.{Table, visible_at, before_rest, table_after_all}
-use Rattle.eve_grammar.specs.Trace.{Customer, Access, Attempt, Trace}
+use Rattle.eve_grammar.specs.Trace.{Access, Attempt, Trace, opening_rows}
 use Rattle.eve_history.specs.Section.{Placed}
 use Rattle.eve_history.specs.SectionHistory.{asked_in}
 
 -- ---- the opening
-
--- the opening balances, row by row
-abbrev pub opening_rows : List Customer → List ℤ
-opening_rows customers = flat_map (λ c. c.saving ∷ c.checking ∷ []) customers
 
 -- the opening balance of a row
 abbrev pub opening_of : Trace → ℕ → ℤ

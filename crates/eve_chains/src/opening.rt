@@ -1,7 +1,7 @@
 //! The balances before the first batch.
 
 ghost use Rattle.std.specs.Prelude.{◌≡◌, IfOk};
-ghost use Rattle.eve_chains.specs.Visible.{opening_rows};
+ghost use Rattle.eve_grammar.specs.Trace.{opening_rows};
 
 use eve_accounts::{Balances, Row};
 use eve_views::Trace;

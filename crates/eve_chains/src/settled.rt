@@ -2,7 +2,7 @@
 
 ghost use Rattle.std.specs.Prelude.{◌≡◌, ◌<◌, ◌≤◌, ◌-◌, ◌++◌, Some, IfOk, OnOk, length, take, drop, slice_get};
 ghost use Rattle.eve_smallbank.specs.Access.{balance_of_row};
-ghost use Rattle.eve_history.specs.SectionHistory.{ExecutedAttempt, section_history, IsRightSection};
+ghost use Rattle.eve_history.specs.SectionHistory.{ExecutedAttempt, section_history};
 ghost use Rattle.eve_chains.specs.Along.{all_said};
 ghost use Rattle.eve_chains.specs.Settling.{settling, values_in, AreBankAfter};
 ghost use Rattle.eve_chains.specs.Parts.{begin, parts, DoRise};

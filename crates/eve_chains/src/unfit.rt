@@ -5,7 +5,6 @@ ghost use Rattle.std.specs.Prelude.{slice_get, slice_index_or};
 ghost use Rattle.eve_smallbank.specs.SmallBank.{plain};
 ghost use Rattle.eve_frames.specs.Said.{access_said, batch_said};
 ghost use Rattle.eve_views.specs.Form.{IfFound, IsLeast, HasNone};
-ghost use Rattle.eve_views.specs.declared.fault.Fault.{Fault as FaultValue};
 ghost use Rattle.eve_history.specs.SectionHistory.{ExecutedAttempt, section_history, names_of, IsRightSection};
 ghost use Rattle.eve_chains.specs.Records.{recorded};
 ghost use Rattle.eve_chains.specs.Sound.{RecordsFit};
@@ -13,7 +12,7 @@ ghost use Rattle.eve_chains.specs.Faults.{IsRecordFault};
 ghost use Rattle.eve_chains.specs.Unfit.{is_settled, recorded_of, settled_records, HasRequests, IsLeastUnfit};
 ghost use Rattle.eve_chains.specs.Unfit.{CanBeJudged};
 ghost use Rattle.eve_chains.specs.Unfit.{IsLeastOfAttempt, lesser, lesser_found};
-ghost use Rattle.eve_chains.specs.Stretches.{IsWithin, IsFoundIn, AreStretches, least_found};
+ghost use Rattle.eve_chains.specs.Stretches.{IsWithin, IsFoundIn, least_found};
 ghost use Rattle.eve_chains.specs.declared.stretch.Stretch.{Stretch as StretchValue};
 
 use crate::fits;

@@ -1,6 +1,6 @@
 //! What a worker met when it ran a request, and the record of it.
 
-ghost use Rattle.std.specs.Prelude.{◌≡◌, ◌<◌, ◌≤◌};
+ghost use Rattle.std.specs.Prelude.{◌<◌};
 
 use eve_accounts::Names;
 use eve_frames::{AccessView, AttemptView};

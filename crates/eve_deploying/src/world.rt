@@ -1,6 +1,6 @@
 //! Replicas and batches of a workload, and traces of what they did.
 
-ghost use Rattle.std.specs.Prelude.{◌≡◌, ◌≤◌, ◌*◌, IsTrue, length};
+ghost use Rattle.std.specs.Prelude.{◌≤◌, ◌*◌, IsTrue};
 ghost use Rattle.eve_grammar.specs.Limits.{is_batch};
 ghost use Rattle.eve_write.specs.Data.{batch as plain};
 

@@ -1,6 +1,6 @@
 //! Money, rows and balances.
 
-ghost use Rattle.std.specs.Prelude.{◌≡◌, ◌<◌, length};
+ghost use Rattle.std.specs.Prelude.{◌<◌};
 
 use crate::cases::{cents_of, number_of, row_at};
 use eve_accounts::{Amount, Balances, Cents, MOST_NAMES, Row};

@@ -1,6 +1,6 @@
 //! Going through the entries of an access.
 
-ghost use Rattle.std.specs.Prelude.{◌≡◌, ℕ, IsTrue, List};
+ghost use Rattle.std.specs.Prelude.{◌≡◌, IsTrue, List};
 ghost use Rattle.std.specs.Iterator.{YieldsFirst, item_count};
 ghost use Rattle.eve_smallbank.specs.declared.entry.Entry.{Entry};
 ghost use Rattle.eve_grammar.specs.Reading.{entry_at};

@@ -1,6 +1,6 @@
 //! Going through the replies of an attempt.
 
-ghost use Rattle.std.specs.Prelude.{◌≡◌, ℕ, IsTrue, List};
+ghost use Rattle.std.specs.Prelude.{◌≡◌, IsTrue, List};
 ghost use Rattle.std.specs.Iterator.{YieldsFirst, item_count};
 ghost use Rattle.eve_smallbank.specs.declared.request.Reply.{Reply};
 ghost use Rattle.eve_grammar.specs.Reading.{reply_at};

@@ -1,6 +1,6 @@
 //! Going through the requests of a batch.
 
-ghost use Rattle.std.specs.Prelude.{◌≡◌, ℕ, IsTrue, List};
+ghost use Rattle.std.specs.Prelude.{◌≡◌, IsTrue, List};
 ghost use Rattle.std.specs.Iterator.{YieldsFirstBy, item_count};
 ghost use Rattle.eve_grammar.specs.Trace.{Asked};
 ghost use Rattle.eve_grammar.specs.Reading.{asked_at};

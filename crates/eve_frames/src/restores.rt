@@ -1,6 +1,6 @@
 //! Going through the restores of a rollback.
 
-ghost use Rattle.std.specs.Prelude.{◌≡◌, ℕ, IsTrue, List};
+ghost use Rattle.std.specs.Prelude.{◌≡◌, IsTrue, List};
 ghost use Rattle.std.specs.Iterator.{YieldsFirstBy, item_count};
 ghost use Rattle.eve_grammar.specs.Trace.{Restore};
 ghost use Rattle.eve_grammar.specs.Reading.{restore_at};

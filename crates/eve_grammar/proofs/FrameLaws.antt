@@ -135,9 +135,6 @@ pub record BodyOf (h : Head) (p : Place) (kind : ℕ) (body : List ℕ) (f : Fra
 few_rows : (h : Head) → IsTrue (is_head h) → row_count h < 2 ^ 32
 few_rows h fits = let s = (small_head h fits).customers in omega arith
 
-abbrev BodyIs : Head → Place → List ℕ → ℕ → Frame → Type 0
-BodyIs h p body kind f = BodyOf h p kind body f
-
 -- of this kind, and so of that
 at_kind : (h : Head) (p : Place) (body : List ℕ) (kind n : ℕ) (f : Frame) → eqb kind n ≡ true → BodyOf h p n body f
     → BodyOf h p kind body f

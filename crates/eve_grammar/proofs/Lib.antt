@@ -18,3 +18,5 @@ pub mod OneTrace
 pub mod Counting
 pub mod Grouping
 pub mod KindBytes
+pub mod OpeningRows
+pub mod NumbersBelow

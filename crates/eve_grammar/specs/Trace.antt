@@ -1,6 +1,7 @@
 -- A trace, as its parts in the grammar's order. What the grammar counts is the length of a list here,
 -- and what it numbers is the place in a list.
-use Rattle.std.specs.Prelude.{ℕ, ℤ, Bool, List, [], length}
+use Rattle.std.specs.Prelude.{ℕ, ℤ, Bool, List, [], ◌∷◌, length}
+use Rattle.std.specs.List.{flat_map}
 use Rattle.eve_smallbank.specs.SmallBank.{Request, Balance}
 use Rattle.eve_smallbank.specs.declared.request.Reply.{Reply}
 use Rattle.eve_smallbank.specs.declared.entry.Entry.{Entry}
@@ -10,6 +11,10 @@ pub record Customer : Type 0 where
   pub name : List ℕ
   pub saving : ℤ
   pub checking : ℤ
+
+-- the opening balances of customers, row by row
+abbrev pub opening_rows : List Customer → List ℤ
+opening_rows customers = flat_map (λ c. c.saving ∷ c.checking ∷ []) customers
 
 -- a request of a client, under the client's number for it
 pub record Asked : Type 0 where

@@ -2,7 +2,6 @@
 //!
 //! Each reader gives the value and the bytes after it, or `None` where no such value stands in front.
 
-ghost use Rattle.std.specs.Prelude.{◌≡◌};
 ghost use Rattle.eve_accounts.specs.Names.{is_name};
 ghost use Rattle.eve_grammar.specs.Reading.{Gives, number_at, name_at, balance_at, saving_at, amount_at, move_at};
 ghost use Rattle.eve_grammar.specs.Reading.{token_at, number_of};

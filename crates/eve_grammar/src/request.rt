@@ -1,6 +1,5 @@
 //! Requests, and who sent them.
 
-ghost use Rattle.std.specs.Prelude.{◌≡◌};
 ghost use Rattle.eve_smallbank.specs.SmallBank.{plain};
 ghost use Rattle.eve_grammar.specs.Reading.{Gives, coded_at, asked_at};
 ghost use Rattle.eve_grammar.specs.Bodies.{borrowed_asked};

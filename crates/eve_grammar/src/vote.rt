@@ -15,7 +15,8 @@ pub enum Choice<'a> {
     ForCommit(&'a [u8]),
 }
 
-fn all_zero(token: &[u8]) -> bool
+/// Whether all bytes of a token are 0, as they are where a vote is for a rollback.
+pub fn is_zeros(token: &[u8]) -> bool
     ensures { result ≡ list_all (λ byte. byte == 0) token.now }
 {
     token.iter().all(|byte| *byte == 0)
@@ -26,7 +27,7 @@ fn is_choice(code: u8, token: &[u8]) -> bool
     ensures { result ≡ is_some (choice_from (code, token.now)) }
 {
     match code {
-        0 => all_zero(token),
+        0 => is_zeros(token),
         1 => true,
         _ => false,
     }

@@ -71,10 +71,6 @@ module _ (t : Trace) (e : ℕ) (rest : List (ℕ × Step)) (b : Attempt) (k : Ke
   its_fit = attempt_fits (row_count (head_of t)) b
       (and_parts (is_step (row_count (head_of t)) (Attempts b)) _ comes.come.fit).0
 
-  pub its_count : length said.certificate ≤ 256
-  its_count = let few = its_fit.0 in let same : length said.certificate ≡ length b.certificate =
-      ap (λ (a : Attempt). length a.certificate) comes.attempt in omega arith
-
   pub its_records_count : length xs ≡ length said.certificate
   its_records_count =
       ap length comes.accesses ∙ length-located (λ (x : Access). frame_text (OfAccess x))

@@ -1,6 +1,6 @@
 //! Which access records of an attempt have come.
 
-ghost use Rattle.std.specs.Prelude.{◌≡◌, ◌≤◌, ◌<◌, [], ◌∷◌, ◌++◌, List, length, slice_index};
+ghost use Rattle.std.specs.Prelude.{◌≡◌, ◌≤◌, ◌<◌, [], List, length, slice_index};
 ghost use Rattle.eve_grammar.specs.Trace.{Access};
 ghost use Rattle.eve_frames.specs.Said.{access_said};
 ghost use Rattle.eve_history.specs.Marking.{AreMarked, IsMarkedIfRight, AreMarkedIfRight};

@@ -1,18 +1,15 @@
 //! What a replica's section tells, step by step.
 
-ghost use Rattle.std.specs.Prelude.{◌≡◌, ◌≤◌, ◌<◌, ◌++◌, ◌∷◌, ◌^◌, [], ℕ, List, IsTrue, IfOk, IfErr, OnOk, IfNone};
+ghost use Rattle.std.specs.Prelude.{◌≡◌, ◌≤◌, ◌<◌, ◌++◌, ◌∷◌, ◌^◌, [], ℕ, List, IsTrue, IfErr, OnOk, IfNone};
 ghost use Rattle.std.specs.Prelude.{◌==◌, ◌&&◌, false, map, length};
 ghost use Rattle.std.specs.List.{AllByRecursion, list_any};
 ghost use Rattle.eve_grammar.specs.Trace.{Trace as TraceValue, Attempt, Step as StepValue, Attempts, Commits};
 ghost use Rattle.eve_grammar.specs.Trace.{RollsBack, head_of};
 ghost use Rattle.eve_grammar.specs.Frames.{without_accesses};
-ghost use Rattle.eve_grammar.specs.Limits.{is_attempt};
 ghost use Rattle.eve_grammar.specs.Bodies.{limits};
 ghost use Rattle.eve_grammar.specs.Spelling.{accesses_at};
-ghost use Rattle.eve_frames.specs.Views.{access_in};
 ghost use Rattle.eve_frames.specs.Said.{attempt_said, commit_said, rollback_said};
 ghost use Rattle.eve_views.specs.Form.{IfFound, IsLeast};
-ghost use Rattle.eve_views.specs.StepKinds.{IsStep};
 ghost use Rattle.eve_views.specs.declared.fault.CheckFault.TheVariants.{Found, Memory};
 ghost use Rattle.eve_history.specs.Section.{SectionState, is_due, is_right_commit, is_right_rollback, same_bytes};
 ghost use Rattle.eve_history.specs.SectionHistory.{access_with};

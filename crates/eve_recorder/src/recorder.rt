@@ -5,7 +5,7 @@ ghost use Rattle.std.specs.Prelude.{IfErr, IfSome, IsSome, IfNone, Some, slice_g
 ghost use Rattle.crossbeam_queue.specs.Passes.{view, IsPassOf, IsSamePass};
 ghost use Rattle.eve_recorder.specs.Noted.{of_worker, IsOrderly};
 ghost use Rattle.eve_recorder.specs.Kept.{ledger};
-ghost use Rattle.eve_recorder.specs.Seen.{Desk, Noter, Taker, Places, NotedAndTaken, recorder_id, fresh_noter};
+ghost use Rattle.eve_recorder.specs.Seen.{Desk, Noter, recorder_id, fresh_noter};
 ghost use Rattle.eve_recorder.specs.Seen.{fresh_places};
 ghost use Rattle.eve_recorder.specs.Seen.{noted_on, IsNoterOf, HasAllSeats, WasFull, WasEmpty};
 

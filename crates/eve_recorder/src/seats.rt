@@ -1,7 +1,7 @@
 //! The seats that are not given out.
 
 ghost use Rattle.std.specs.Prelude.{◌≡◌, ◌<◌, IfSome, IsTrue, ◌↔◌, None, Some, slice_set, slice_index_or};
-ghost use Rattle.eve_recorder.specs.Seen.{Noter, Taker, Places, HasAllSeats};
+ghost use Rattle.eve_recorder.specs.Seen.{Places, HasAllSeats};
 
 use crate::ledger::QueuePass;
 use crate::row::Row;

@@ -1,7 +1,7 @@
 //! The seats that are not given out.
 
 ghost use Rattle.std.specs.Prelude.{◌≡◌, ◌↔◌, IfSome, IsTrue, None, Some, slice_set, slice_index_or};
-ghost use Rattle.eve_recorder.specs.Drawing.{Drawer, Drawers, HasAllDrawers};
+ghost use Rattle.eve_recorder.specs.Drawing.{Drawers, HasAllDrawers};
 
 use crate::drawn::Place;
 use crate::row::Row;

@@ -4,7 +4,7 @@ ghost use Rattle.std.specs.Prelude.{◌≡◌, ◌+◌, ◌-◌, ◌<◌, ◌≤
 ghost use Rattle.std.specs.Prelude.{IfSome, IsNone, IsPermutation, IsSome};
 ghost use Rattle.std.specs.List.{range_with_len};
 ghost use Rattle.eve_recorder.specs.Dealt.{drawn, all_parts};
-ghost use Rattle.eve_recorder.specs.Drawing.{Drawer, Source, all_drawn, drawn_on, fresh_seat, fresh_seats};
+ghost use Rattle.eve_recorder.specs.Drawing.{Source, all_drawn, drawn_on, fresh_seat, fresh_seats};
 ghost use Rattle.eve_recorder.specs.Drawing.{HasAllDrawers};
 
 use crate::drawn::{Counter, Draw, OnePart, Place};

@@ -1,8 +1,9 @@
 -- How many replicas have a token.
 use Rattle.std.proofs.Common.{◌≡◌, ℕ, zero, suc, ◌+◌, ◌*◌, ◌/◌, ◌<◌, ◌≤◌, Bool, true, false, cond, List, [], ◌∷◌}
-use Rattle.std.proofs.Common.{length, get_or, Option, Some, None, refl, sym, ap, ◌∙◌, subst, arith}
+use Rattle.std.proofs.Common.{All, length, get_or, Option, Some, None, refl, sym, ap, ◌∙◌, subst, arith}
 use Rattle.std.specs.List.{count_by}
 use Rattle.std.specs.Cmp.Lexicographic.{same_text}
+use Rattle.std.proofs.lemmas.List.Elements.{All-head, All-tail}
 use Rattle.std.proofs.lemmas.List.Sums.{sum_by-cons}
 use Rattle.eve_replica.specs.declared.server.Server.{Server}
 use Rattle.eve_replica.specs.Serving.{next_token, is_some_of, count_with}
@@ -29,7 +30,7 @@ passes : (p : Server → Bool) (xs : List Server) → 0 < count_by p xs → Pass
 passes p [] some = absurd (omega arith)
 passes p (x ∷ xs) some = passes_at p x xs (p x) refl some (passes p xs)
 
-is_that : (token : List ℕ) (own : Option (List ℕ)) → is_some_of token own ≡ true → own ≡ Some token
+pub is_that : (token : List ℕ) (own : Option (List ℕ)) → is_some_of token own ≡ true → own ≡ Some token
 is_that token None h = absurd (let e : false ≡ true = h in cc)
 is_that token (Some own) h = ap (λ (t : List ℕ). Some t) (same_text own token (sym h))
 
@@ -57,3 +58,29 @@ none_decided servers each token = decide (count_with token servers) refl
     decide (suc n) e =
         let r = passes (λ s. is_some_of token (next_token s)) servers (omega arith) in
         each r.0 r.2 r.1 token (is_that token (next_token (get_or servers r.0 r.1)) (r.3 r.1))
+
+-- Two lists of replicas of one length have as many that pass where the one at each place passes as the other does.
+pub counted_alike : (p q : Server → Bool) (xs ys : List Server) → length xs ≡ length ys
+    → ((k : ℕ) (d : Server) → k < length xs → p (get_or xs k d) ≡ q (get_or ys k d)) → count_by p xs ≡ count_by q ys
+counted_alike p q [] [] many alike = refl
+counted_alike p q [] (y ∷ ys) many alike = absurd (omega arith)
+counted_alike p q (x ∷ xs) [] many alike = absurd (omega arith)
+counted_alike p q (x ∷ xs) (y ∷ ys) many alike =
+    let rest = counted_alike p q xs ys (omega arith) (λ k d below. alike (suc k) d (omega arith)) in
+    sum_by-cons (λ (z : Server). cond (p z) 1 0) x xs
+    ∙ ap (λ (n : ℕ). cond (p x) 1 0 + n) rest
+    ∙ ap (λ (b : Bool). cond b 1 0 + count_by q ys) (alike 0 x (omega arith))
+    ∙ sym (sum_by-cons (λ (z : Server). cond (q z) 1 0) y ys)
+
+-- all pass
+pub counted_all : (p : Server → Bool) (xs : List Server) → All (λ x. p x ≡ true) xs → count_by p xs ≡ length xs
+counted_all p [] all = refl
+counted_all p (x ∷ xs) all =
+    let rest = counted_all p xs (All-tail (λ y. p y ≡ true) x xs all) in
+    sum_by-cons (λ (z : Server). cond (p z) 1 0) x xs
+    ∙ ap (λ (n : ℕ). cond (p x) 1 0 + n) rest
+    ∙ ap (λ (b : Bool). cond b 1 0 + length xs) (All-head (λ y. p y ≡ true) x xs all)
+    ∙ one_and (length xs)
+  where
+    one_and : (n : ℕ) → 1 + n ≡ suc n
+    one_and n = omega arith

@@ -1,36 +1,93 @@
 -- Replicas of a run go on, one after another.
-use Rattle.std.proofs.Common.{◌≡◌, ℕ, ◌+◌, ◌-◌, ◌<◌, ◌≤◌, ◌==◌, Bool, true, false, ◌&&◌, List, Vec, vec_len, All}
-use Rattle.std.proofs.Common.{length, get_or, set, take, drop, refl, sym, ap, ◌∙◌, subst, arith}
+use Rattle.std.proofs.Common.{◌≡◌, ℕ, zero, suc, ◌+◌, ◌-◌, ◌*◌, ◌<◌, ◌≤◌, ◌==◌, Bool, true, false, ◌&&◌, if◌then◌else◌}
+use Rattle.std.proofs.Common.{List, [], ◌∷◌, ◌++◌, Vec, vec_len, All, length, map, get_or, slice_get, option_map, set, take, drop}
+use Rattle.std.proofs.Common.{Some}
+use Rattle.std.proofs.Common.{refl, sym, ap, ◌∙◌, subst, inl, inr, append_assoc, arith}
 use Rattle.std.specs.Vec.{with_items}
 use Rattle.std.specs.declared.alloc.Global.{Global}
 use Rattle.eve_write.specs.declared.vote.VoteData.{VoteData}
-use Rattle.std.proofs.lemmas.List.{with_items_is, get_or-set_other, length-set, length-append, length-drop}
-use Rattle.std.proofs.lemmas.List.{length-take-le}
-use Rattle.std.proofs.lemmas.Bool.{and_right}
+use Rattle.std.proofs.lemmas.List.{with_items_is, get_or-set_same, get_or-set_other, get_or_default, length-set}
+use Rattle.std.proofs.lemmas.List.{length-append, length-drop, length-map, length-take-le, append-nil}
+use Rattle.std.proofs.lemmas.Bool.{and_right, cases_lt, false≢true}
 use Rattle.std.proofs.lemmas.Bool.Decides.{nat_tests}
-use Rattle.std.proofs.lemmas.List.Elements.{AllWithin-more_set}
-use Rattle.std.specs.List.{AllWithin}
+use Rattle.std.proofs.lemmas.List.Elements.{All-append, All-cons, All-nil, AllWithin-more_set}
+use Rattle.std.proofs.lemmas.Option.{slice_get-map, slice_get_within}
+use Rattle.std.specs.List.{AllWithin, count_by}
+use Rattle.eve_grammar.specs.Trace.{Batch, Attempt, Vote}
+use Rattle.eve_write.specs.Data.{batch, section, vote}
 use Rattle.eve_workload.specs.declared.mixer.MixedBatch.{MixedBatch}
+use Rattle.eve_attempts.specs.declared.front.AttemptFront.{AttemptFront}
+use Rattle.eve_attempts.specs.Ledgers.{Ledger, Opened}
+use Rattle.eve_attempts.specs.Closing.{touched_in_batch, Closes, opened_as}
 use Rattle.eve_replica.specs.declared.standing.Standing.{Standing}
 use Rattle.eve_replica.specs.declared.server.Server.{Server}
-use Rattle.eve_grammar.specs.Trace.{Batch, Attempt}
-use Rattle.eve_replica.specs.Replicas.{Replica, Attempts}
 use Rattle.eve_replica.specs.declared.deployment.Deployment.{Deployment}
-use Rattle.eve_replica.specs.Serving.{standing_of, after_attempts, AreDue, AreVotesOn, GoesOn, IsUnderWay, Serves}
+use Rattle.eve_replica.specs.Replicas.{Replica, Attempts, front_of}
+use Rattle.eve_replica.specs.Sections.{Plan, AttemptsNext, place_due, votes_along}
+use Rattle.eve_replica.specs.Serving.{standing_of, after_attempts, AreDue, AreVotesOn, AreOfItsView, IsLedBy, Serves}
+use Rattle.eve_replica.specs.Serving.{Move, attempt_move, AreBatchesFrom, GoesOn, IsUnderWay, live_in}
+use Rattle.eve_replica.proofs.Counting.{counted_alike}
+
+-- the place that is due where a replica stands
+place_at : (s : Ledger) (at : Standing) → standing_of s ≡ at → at.committed + at.opened ≡ place_due s
+place_at s at stands = ap (λ (x : Standing). x.committed + x.opened) (sym stands)
+
+-- a live replica was led by all votes, one that stopped by the first of them
+led_on : (votes more : List Vote) (old new : Server) (b : Bool) → new.is_live ≡ b → IsLedBy votes old
+    → votes_along (section new.steps) ≡ votes_along (section old.steps) ++ (if b then more else [])
+    → (new.is_live ≡ true → old.is_live ≡ true) → IsLedBy (votes ++ more) new
+led_on votes more old new true is led along live = record {
+  later = [];
+  first = ap (λ (vs : List Vote). vs ++ more) led.first
+      ∙ ap (λ (vs : List Vote). (votes_along (section old.steps) ++ vs) ++ more) (led.none_later (live is))
+      ∙ ap (λ (vs : List Vote). vs ++ more) (append-nil (votes_along (section old.steps)))
+      ∙ sym along ∙ sym (append-nil (votes_along (section new.steps)));
+  none_later = λ h. refl;
+}
+led_on votes more old new false is led along live = record {
+  later = led.later ++ more;
+  first = ap (λ (vs : List Vote). vs ++ more) led.first
+      ∙ append_assoc (votes_along (section old.steps)) led.later more
+      ∙ ap (λ (vs : List Vote). vs ++ (led.later ++ more))
+      (sym (along ∙ append-nil (votes_along (section old.steps))));
+  none_later = λ h. absurd (false≢true (sym is ∙ h));
+}
 
 -- a replica that went on serves, further on
-pub goes_on : (names : List (List ℕ)) (window : ℕ) (at : Standing) (further : Standing → Standing) (old new : Server)
-    → GoesOn further old new → Serves names window at old → Serves names window (further at) new
-goes_on names window at further old new goes serves = record {
+pub goes_on : (p : Plan) (at : Standing) (votes : List Vote) (m : Move) (old new : Server)
+    → AreBatchesFrom p.batches (at.committed + at.opened) m.window → GoesOn m old new → Serves p at votes old
+    → Serves p (m.further at) (votes ++ m.votes at) new
+goes_on p at votes m old new next goes serves = record {
   names = goes.names ∙ serves.names;
   rows = goes.rows ∙ serves.rows;
   room = goes.room ∙ serves.room;
   whole = goes.whole serves.whole;
   steps = goes.steps serves.steps;
-  live = λ is. (goes.live is).1 ∙ ap further (serves.live (goes.live is).0);
+  through = goes.through p serves.names
+      (λ is. subst (λ (n : ℕ). AreBatchesFrom p.batches n m.window)
+      (place_at old.replica.ledger at (serves.live is)) next)
+      serves.through;
+  of_view = goes.of_view serves.of_view;
+  led = led_on votes (m.votes at) old new new.is_live refl serves.led (along new.is_live refl)
+      (λ is. (goes.live is).0);
+  view = goes.view at serves.view;
+  live = λ is. (goes.live is).1 ∙ ap m.further (serves.live (goes.live is).0);
+  behind = goes.behind at serves.live serves.behind;
 }
+  where
+    here : (b : Bool) → new.is_live ≡ b → Path (List Vote)
+        (if b then m.votes (standing_of old.replica.ledger) else []) (if b then m.votes at else [])
+    here true is = ap m.votes (serves.live (goes.live is).0)
+    here false is = refl
 
-stand : (view committed opened opened' : ℕ) (serial serial' : Bool) → opened ≡ opened' → serial ≡ serial'
+    along : (b : Bool) → new.is_live ≡ b
+        → votes_along (section new.steps) ≡ votes_along (section old.steps) ++ (if b then m.votes at else [])
+    along b is = goes.votes serves.of_view
+        ∙ ap (λ (c : Bool). votes_along (section old.steps)
+        ++ (if c then m.votes (standing_of old.replica.ledger) else [])) is
+        ∙ ap (λ (vs : List Vote). votes_along (section old.steps) ++ vs) (here b is)
+
+pub stand : (view committed opened opened' : ℕ) (serial serial' : Bool) → opened ≡ opened' → serial ≡ serial'
     → Path Standing (record { view = view; committed = committed; opened = opened; is_next_serial = serial })
     (record { view = view; committed = committed; opened = opened'; is_next_serial = serial' })
 stand view committed opened opened' serial serial' e f = cc
@@ -52,26 +109,81 @@ attempted view serial old new b a made =
     (old.ledger.is_next_serial && false)
     (length-append old.ledger.opened _) (sym (and_false old.ledger.is_next_serial))
 
+-- the account makes the attempt of the batch that is due
+pub attempts_next : (p : Plan) (view : ℕ) (serial : Bool) (old new : Replica) (b : Batch) (a : Attempt)
+    → AreDue 1 view serial old.ledger → old.names ≡ p.names → slice_get p.batches (place_due old.ledger) ≡ Some b
+    → Attempts view serial old new b a → AttemptsNext p old.ledger new.ledger a
+attempts_next p view serial old new b a due names is made =
+    let Closing : AttemptFront → List (List ℕ) → Type 0 = λ front ns.
+    Closes front old.ledger new.ledger b (touched_in_batch ns b) made.1.0 a in
+    record {
+      room = omega (arith, due.room);
+      batch = b;
+      due = is;
+      records = made.1.0;
+      closed = subst (λ (serial' : Bool). Closing (front_of old.ledger old.ledger.view serial') p.names)
+          (sym due.in_mode)
+          (subst (λ (view' : ℕ). Closing (front_of old.ledger view' serial) p.names) (sym due.in_view)
+          (subst (Closing (front_of old.ledger view serial)) names made.1.1.closed));
+    }
+
+-- and its open attempts stay of its view
+pub attempted_in_view : (view : ℕ) (serial : Bool) (old new : Replica) (b : Batch) (a : Attempt)
+    → AreDue 1 view serial old.ledger → Attempts view serial old new b a → AreOfItsView old.ledger
+    → AreOfItsView new.ledger
+attempted_in_view view serial old new b a due made of_view =
+    let closed = made.1.1.closed in
+    let one = opened_as a closed.ordered in
+    let InView : Opened → Type 0 = λ o. o.view ≡ old.ledger.view in
+    subst AreOfItsView (sym closed.opens.changed)
+    (All-append InView old.ledger.opened (one ∷ []) of_view
+    (All-cons InView one [] (closed.attempt.view ∙ sym due.in_view) (All-nil InView)))
+
+pub no_votes : (b : Bool) (vs : List Vote) → vs ++ (if b then [] else []) ≡ vs
+no_votes true vs = append-nil vs
+no_votes false vs = append-nil vs
+
 -- so many attempts, and one more
-pub one_more : (many : ℕ) (a b c : Server) → GoesOn (after_attempts many) a b → GoesOn (after_attempts 1) b c
-    → GoesOn (after_attempts (many + 1)) a c
-one_more many a b c first then =
+pub one_more : (many : ℕ) (window : List Batch) (w : Batch) (a b c : Server) → slice_get window many ≡ Some w
+    → GoesOn (attempt_move many window) a b → GoesOn (attempt_move 1 (w ∷ [])) b c
+    → GoesOn (attempt_move (many + 1) window) a c
+one_more many window w a b c there first more =
     let at = standing_of a.replica.ledger in
     record {
-      names = then.names ∙ first.names;
-      rows = then.rows ∙ first.rows;
-      room = then.room ∙ first.room;
-      whole = λ h. then.whole (first.whole h);
-      steps = λ h. then.steps (first.steps h);
+      names = more.names ∙ first.names;
+      rows = more.rows ∙ first.rows;
+      room = more.room ∙ first.room;
+      whole = λ h. more.whole (first.whole h);
+      steps = λ h. more.steps (first.steps h);
+      through = λ p names follow goes. more.through p (first.names ∙ names) (λ live. next_one p follow live)
+          (first.through p names follow goes);
+      of_view = λ h. more.of_view (first.of_view h);
+      votes = λ h. more.votes (first.of_view h) ∙ no_votes c.is_live _ ∙ first.votes h ∙ no_votes b.is_live _
+          ∙ sym (no_votes c.is_live _);
+      view = λ x h. more.view x (first.view x h);
       live = λ is. (
-        (first.live (then.live is).0).0,
-        (then.live is).1 ∙ ap (after_attempts 1) (first.live (then.live is).0).1
+        (first.live (more.live is).0).0,
+        (more.live is).1 ∙ ap (after_attempts 1) (first.live (more.live is).0).1
             ∙ stand at.view at.committed (at.opened + many + 1) (at.opened + (many + 1))
             ((at.is_next_serial && (many == 0)) && false) (at.is_next_serial && (many + 1 == 0)) (omega arith)
             (and_false (at.is_next_serial && (many == 0))
             ∙ sym (and_right at.is_next_serial (many + 1 == 0) (later (many + 1) (omega arith)))),
       );
+      behind = λ x stands was.
+          more.behind (after_attempts many x)
+          (λ is. (first.live is).1 ∙ ap (after_attempts many) (stands (first.live is).0))
+          (first.behind x stands was);
     }
+  where
+    next_one : (p : Plan) → (a.is_live ≡ true → AreBatchesFrom p.batches (place_due a.replica.ledger) window)
+        → b.is_live ≡ true → AreBatchesFrom p.batches (place_due b.replica.ledger) (w ∷ [])
+    next_one p follow live zero below =
+        let stood = first.live live in
+        let place : place_due b.replica.ledger + 0 ≡ place_due a.replica.ledger + many =
+        omega (arith, place_at b.replica.ledger _ stood.1) in
+        ap (slice_get p.batches) place
+        ∙ follow stood.0 many (slice_get_within window many w there) ∙ there
+    next_one p follow live (suc k) below = absurd (omega arith)
 
 -- in serial mode is none but the first
 pub none_later : (serial : Bool) (many : ℕ) → 0 < many → false ≡ (serial && (many == 0))
@@ -91,11 +203,34 @@ pub window_len : (batches : List MixedBatch) (from end : ℕ) → from ≤ end �
 window_len batches from end up within =
     length-take-le (end - from) (drop from batches) (omega (arith, length-drop from batches))
 
+take_at : {A : Type 0} (n : ℕ) (xs : List A) (k : ℕ) → k < length (take n xs)
+    → slice_get xs k ≡ slice_get (take n xs) k
+take_at zero xs k below = absurd (omega arith)
+take_at (suc n) [] k below = absurd (omega arith)
+take_at (suc n) (x ∷ xs) zero below = refl
+take_at (suc n) (x ∷ xs) (suc k) below = take_at n xs k (omega arith)
+
+drop_at : {A : Type 0} (n : ℕ) (xs : List A) (k : ℕ) → slice_get xs (n + k) ≡ slice_get (drop n xs) k
+drop_at zero xs k = let on : 0 + k ≡ k = omega arith in ap (slice_get xs) on
+drop_at (suc n) [] k = refl
+drop_at (suc n) (x ∷ xs) k = let on : suc n + k ≡ suc (n + k) = omega arith in ap (slice_get (x ∷ xs)) on ∙ drop_at n xs k
+
+-- the batches of a window are those from its first on
+pub window_follows : (batches : List MixedBatch) (from many : ℕ)
+    → AreBatchesFrom (map (λ m. batch m.batch) batches) from (map (λ m. batch m.batch) (take many (drop from batches)))
+window_follows batches from many = λ k below.
+    let plain : MixedBatch → Batch = λ m. batch m.batch in
+    let window = take many (drop from batches) in
+    slice_get-map plain batches (from + k)
+    ∙ ap (option_map plain) (drop_at from batches k ∙ take_at many (drop from batches) k
+    (omega (arith, length-map window plain, below)))
+    ∙ sym (slice_get-map plain window k)
+
 -- what is due of a live replica, by where it stands
-pub due : (names : List (List ℕ)) (room many : ℕ) (at : Standing) (s : Server) → at.opened + many ≤ room
-    → at.committed + at.opened + many ≤ 65535 → Serves names room at s → s.is_live ≡ true
+pub due : (p : Plan) (many : ℕ) (at : Standing) (votes : List Vote) (s : Server) → at.opened + many ≤ p.first.window
+    → at.committed + at.opened + many ≤ 65535 → Serves p at votes s → s.is_live ≡ true
     → AreDue many at.view at.is_next_serial s.replica.ledger
-due names room many at s fits last serves live =
+due p many at votes s fits last serves live =
     let stands = serves.live live in
     let opened = ap (λ (x : Standing). x.opened) stands in
     let committed = ap (λ (x : Standing). x.committed) stands in
@@ -107,58 +242,123 @@ due names room many at s fits last serves live =
     }
 
 -- Of these replicas those below this number have gone on, and the others stand where they stood.
-pub record AreGoing (names : List (List ℕ)) (room : ℕ) (at : Standing) (further : Standing → Standing) (number : ℕ)
-    (servers : List Server) : Type 0 where
-  pub gone : AllWithin (Serves names room (further at)) servers 0 number
-  pub left : AllWithin (Serves names room at) servers number (length servers)
+pub record AreGoing (p : Plan) (at : Standing) (votes : List Vote) (m : Move) (number : ℕ) (servers : List Server)
+    : Type 0 where
+  pub gone : AllWithin (Serves p (m.further at) (votes ++ m.votes at)) servers 0 number
+  pub left : AllWithin (Serves p at votes) servers number (length servers)
 
-pub none_gone : (names : List (List ℕ)) (room : ℕ) (at : Standing) (further : Standing → Standing)
-    (servers : List Server)
-    → All (Serves names room at) servers → AreGoing names room at further 0 servers
-none_gone names room at further servers all =
+pub none_gone : (p : Plan) (at : Standing) (votes : List Vote) (m : Move) (servers : List Server)
+    → All (Serves p at votes) servers → AreGoing p at votes m 0 servers
+none_gone p at votes m servers all =
     record { gone = λ k d from to. absurd (omega arith); left = λ k d from to. all k d to }
 
-pub one_gone : (names : List (List ℕ)) (room : ℕ) (at : Standing) (further : Standing → Standing) (number : ℕ)
-    (servers : List Server) (d s : Server) → number < length servers → GoesOn further (get_or servers number d) s
-    → AreGoing names room at further number servers → AreGoing names room at further (number + 1) (set servers number s)
-one_gone names room at further number servers d s there goes going =
+pub one_gone : (p : Plan) (at : Standing) (votes : List Vote) (m : Move) (number : ℕ) (servers : List Server)
+    (d s : Server) → number < length servers → AreBatchesFrom p.batches (at.committed + at.opened) m.window
+    → GoesOn m (get_or servers number d) s → AreGoing p at votes m number servers
+    → AreGoing p at votes m (number + 1) (set servers number s)
+one_gone p at votes m number servers d s there next goes going =
     let old = going.left number d (omega arith) there in
     record {
-      gone = AllWithin-more_set servers number s there (Serves names room (further at)) going.gone
-          (goes_on names room at further (get_or servers number d) s goes old);
+      gone = AllWithin-more_set servers number s there (Serves p (m.further at) (votes ++ m.votes at)) going.gone
+          (goes_on p at votes m (get_or servers number d) s next goes old);
       left = λ k e from to.
-          subst (Serves names room at) (sym (get_or-set_other servers number k s e (λ same. omega arith)))
+          subst (Serves p at votes) (sym (get_or-set_other servers number k s e (λ same. omega arith)))
           (going.left k e (omega arith) (omega (arith, length-set {A = Server}, to)));
     }
 
-pub all_gone : (names : List (List ℕ)) (room : ℕ) (at : Standing) (further : Standing → Standing) (number : ℕ)
-    (servers : List Server) → length servers ≤ number → AreGoing names room at further number servers
-    → All (Serves names room (further at)) servers
-all_gone names room at further number servers end going = λ k d there. going.gone k d (omega arith) (omega arith)
+pub all_gone : (p : Plan) (at : Standing) (votes : List Vote) (m : Move) (number : ℕ) (servers : List Server)
+    → length servers ≤ number → AreGoing p at votes m number servers
+    → All (Serves p (m.further at) (votes ++ m.votes at)) servers
+all_gone p at votes m number servers end going = λ k d there. going.gone k d (omega arith) (omega arith)
+
+-- ---- how many are live
+
+-- Of these replicas each below this number is live where the one that stood there passes, and the others are as they
+-- were.
+pub record AreLiving (passes : Server → Bool) (was : List Server) (number : ℕ) (servers : List Server) : Type 0 where
+  pub many : length servers ≡ length was
+  pub gone : (k : ℕ) (d : Server) → k < number → (get_or servers k d).is_live ≡ passes (get_or was k d)
+  pub left : (k : ℕ) (d : Server) → number ≤ k → get_or servers k d ≡ get_or was k d
+
+pub none_living : (passes : Server → Bool) (servers : List Server) → AreLiving passes servers 0 servers
+none_living passes servers =
+    record { many = refl; gone = λ k d below. absurd (omega arith); left = λ k d from. refl }
+
+pub one_living : (passes : Server → Bool) (was : List Server) (number : ℕ) (servers : List Server) (d s : Server)
+    → number < length servers → s.is_live ≡ passes (get_or servers number d) → AreLiving passes was number servers
+    → AreLiving passes was (number + 1) (set servers number s)
+one_living passes was number servers d s there is living = record {
+  many = length-set servers number s ∙ living.many;
+  gone = λ k e below. elim (cases_lt k number) [
+    | inl less ↦ ap (λ (x : Server). x.is_live) (get_or-set_other servers number k s e (λ same. omega arith))
+        ∙ living.gone k e less
+    | inr from ↦ here k e (omega arith)
+  ];
+  left = λ k e from. get_or-set_other servers number k s e (λ same. omega arith) ∙ living.left k e (omega arith);
+}
+  where
+    here : (k : ℕ) (e : Server) → k ≡ number
+        → (get_or (set servers number s) k e).is_live ≡ passes (get_or was k e)
+    here k e same =
+        ap (λ (n : ℕ). (get_or (set servers number s) n e).is_live) same
+        ∙ ap (λ (x : Server). x.is_live) (get_or-set_same servers number s e there)
+        ∙ is
+        ∙ ap passes (get_or_default servers number d e there ∙ living.left number e (omega arith))
+        ∙ ap (λ (n : ℕ). passes (get_or was n e)) (sym same)
+
+pub all_living : (passes : Server → Bool) (was : List Server) (number : ℕ) (servers : List Server)
+    → length servers ≤ number → AreLiving passes was number servers → live_in servers ≡ count_by passes was
+all_living passes was number servers end living =
+    counted_alike (λ s. s.is_live) passes servers was living.many
+    (λ k d there. living.gone k d (omega arith))
 
 -- ---- the run
 
 -- the replicas of a run, as they are lent
-pub lent_serve : (d : Deployment) (lent : List Server) (was : IsUnderWay d) → lent ≡ d.servers.items
-    → All (Serves was.names d.head.window d.standing) lent
-lent_serve d lent was same =
-    subst (λ (servers : List Server). All (Serves was.names d.head.window d.standing) servers) (sym same) was.servers
+pub lent_serve : (p : Plan) (d : Deployment) (lent : List Server) → IsUnderWay p d → lent ≡ d.servers.items
+    → All (Serves p d.standing (map vote d.votes.items)) lent
+lent_serve p d lent was same =
+    subst (λ (servers : List Server). All (Serves p d.standing (map vote d.votes.items)) servers) (sym same) was.servers
 
 -- a run whose replicas have gone on to stand here is under way
-pub moved : (d : Deployment) (lent given : List Server) (at : Standing) (votes : Vec VoteData Global) → IsUnderWay d
-    → lent ≡ d.servers.items → length given ≡ vec_len d.servers
+pub moved : (p : Plan) (d : Deployment) (given : List Server) (at : Standing) (votes : Vec VoteData Global)
+    → IsUnderWay p d → length given ≡ vec_len d.servers
     → at.committed + at.opened ≤ length d.batches.now → AreVotesOn (length d.batches.now) votes.items
-    → ((names : List (List ℕ)) (room : ℕ) → All (Serves names room d.standing) lent → All (Serves names room at) given)
-    → IsUnderWay (record d { servers = with_items d.servers given; standing = at; votes = votes })
-moved d lent given at votes was same many due right go = record {
-  names = was.names;
+    → All (Serves p at (map vote votes.items)) given → length given < 2 * live_in given
+    → IsUnderWay p (record d { servers = with_items d.servers given; standing = at; votes = votes })
+moved p d given at votes was many due right go majority = record {
   customers = was.customers;
+  window = was.window;
+  batches = was.batches;
   few = was.few;
   room = was.room;
   mixed = was.mixed;
   due = due;
   many = was.many;
-  servers = subst (λ (servers : List Server). All (Serves was.names d.head.window at) servers)
-      (sym (with_items_is d.servers given many)) (go was.names d.head.window (lent_serve d lent was same));
+  servers = subst (λ (servers : List Server). All (Serves p at (map vote votes.items)) servers)
+      (sym (with_items_is d.servers given many)) go;
+  majority = subst (λ (servers : List Server). length servers < 2 * live_in servers)
+      (sym (with_items_is d.servers given many)) majority;
   votes = right;
 }
+
+-- the batches of a run's next window
+pub window_due : (p : Plan) (d : Deployment) (end : ℕ) → IsUnderWay p d → d.standing.opened ≡ 0
+    → AreBatchesFrom p.batches (d.standing.committed + d.standing.opened)
+    (map (λ m. batch m.batch) (take (end - d.standing.committed) (drop d.standing.committed d.batches.now)))
+window_due p d end was none =
+    let from = d.standing.committed in
+    let many = end - from in
+    let window = map (λ m. batch m.batch) (take many (drop from d.batches.now)) in
+    let here : from ≡ from + d.standing.opened = omega arith in
+    subst (λ (n : ℕ). AreBatchesFrom p.batches n window) here
+    (subst (λ (bs : List Batch). AreBatchesFrom bs from window) (sym was.batches)
+    (window_follows d.batches.now from many))
+
+-- as many replicas are live as were more than half of all
+pub still_majority : (d : Deployment) (lent given : List Server) (count : ℕ) → lent ≡ d.servers.items
+    → length given ≡ vec_len d.servers → live_in given ≡ count → length lent < 2 * count
+    → length given < 2 * live_in given
+still_majority d lent given count same many lives more =
+    let lent_many : length lent ≡ vec_len d.servers = ap length same ∙ sym d.servers.ok.0 in
+    omega arith

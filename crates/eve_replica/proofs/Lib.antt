@@ -1,5 +1,8 @@
 pub mod Cuts
-mod Bytes
 mod Counting
 mod Going
+mod Through
+mod OneStep
+mod Beginning
+mod Sectioned
 mod Parts

@@ -6,7 +6,7 @@ use Rattle.std.proofs.lemmas.List.{length-map}
 use Rattle.std.proofs.lemmas.List.Elements.{All-head, All-tail}
 use Rattle.std.specs.List.{list_all}
 use Rattle.std.specs.declared.alloc.Global.{Global}
-use Rattle.eve_grammar.specs.Trace.{Head, Step, head_of}
+use Rattle.eve_grammar.specs.Trace.{Head, Step, Vote, head_of}
 use Rattle.eve_grammar.specs.Limits.{is_head, is_customer, is_batch, is_step, is_vote, is_sent}
 use Rattle.eve_write.specs.declared.vote.VoteData.{VoteData}
 use Rattle.eve_write.specs.declared.parts.Parts.{Parts}
@@ -15,17 +15,18 @@ use Rattle.eve_write.specs.Writable.{fits_vote, HasSpelling}
 use Rattle.eve_workload.specs.declared.mixer.MixedBatch.{MixedBatch}
 use Rattle.eve_replica.specs.declared.server.Server.{Server}
 use Rattle.eve_replica.specs.declared.standing.Standing.{Standing}
+use Rattle.eve_replica.specs.Sections.{Plan}
 use Rattle.eve_replica.specs.Serving.{IsRightMixed, Serves, AreVotesOn, AreReplies}
 
-pub sections_fit : (names : List (List ℕ)) (window : ℕ) (at : Standing) (servers : List Server)
-    → All (Serves names window at) servers
-    → list_all (list_all (is_step (2 * length names))) (map (λ s. section s.steps) servers) ≡ true
-sections_fit names window at [] serve = refl
-sections_fit names window at (s ∷ servers) serve =
-    let first = All-head (Serves names window at) s servers serve in
+pub sections_fit : (p : Plan) (at : Standing) (votes : List Vote) (servers : List Server)
+    → All (Serves p at votes) servers
+    → list_all (list_all (is_step (2 * length p.names))) (map (λ s. section s.steps) servers) ≡ true
+sections_fit p at votes [] serve = refl
+sections_fit p at votes (s ∷ servers) serve =
+    let first = All-head (Serves p at votes) s servers serve in
     let P : ℕ → Type 0 = λ n. list_all (is_step n) (section s.steps) ≡ true in
-    and_from (list_all (is_step (2 * length names)) (section s.steps)) _ (subst P first.rows first.steps)
-    (sections_fit names window at servers (All-tail (Serves names window at) s servers serve))
+    and_from (list_all (is_step (2 * length p.names)) (section s.steps)) _ (subst P first.rows first.steps)
+    (sections_fit p at votes servers (All-tail (Serves p at votes) s servers serve))
 
 -- each verifier has these votes
 abbrev Copies : List VoteData → Vec VoteData Global → Type 0
@@ -75,30 +76,29 @@ batches_fit names (m ∷ mixed) right =
 
 -- The parts of a run have a spelling: its numbers and customers are a workload's, its batches were mixed, its replicas
 -- served, each verifier gave these votes, and the replies are of these replicas in these batches.
-pub spelled : (p : Parts) (h : Head) (names : List (List ℕ)) (mixed : List MixedBatch) (window : ℕ) (at : Standing)
+pub spelled : (p : Parts) (h : Head) (plan : Plan) (mixed : List MixedBatch) (at : Standing) (led : List Vote)
     (servers : List Server) (given : List VoteData)
-    → head_of (trace p) ≡ h → IsTrue (is_head h) → length names ≡ h.customers
+    → head_of (trace p) ≡ h → IsTrue (is_head h) → length plan.names ≡ h.customers
     → IsTrue (list_all is_customer (map customer p.customers.items))
-    → map batch p.batches.items ≡ map (λ m. batch m.batch) mixed → All (IsRightMixed names) mixed
-    → map section p.sections.items ≡ map (λ s. section s.steps) servers → All (Serves names window at) servers
+    → map batch p.batches.items ≡ map (λ m. batch m.batch) mixed → All (IsRightMixed plan.names) mixed
+    → map section p.sections.items ≡ map (λ s. section s.steps) servers → All (Serves plan at led) servers
     → AreVotesOn (length mixed) given → All (Copies given) p.verifiers.items
     → AreReplies (length servers) (length mixed) p.sent.items
     → HasSpelling p
-spelled p h names mixed window at servers given head right named customers batches mix sections serve votes each replies
-    =
+spelled p h plan mixed at led servers given head right named customers batches mix sections serve votes each replies =
     let many : length (trace p).batches ≡ length mixed = ap length batches ∙ length-map mixed (λ m. batch m.batch) in
     let replicas : length (trace p).sections ≡ length servers =
     ap length sections ∙ length-map servers (λ s. section s.steps) in
     let Fit : ℕ → List (List Step) → Type 0 = λ n ss. IsTrue (list_all (list_all (is_step n)) ss) in
-    let rows : 2 * length names ≡ 2 * (head_of (trace p)).customers =
+    let rows : 2 * length plan.names ≡ 2 * (head_of (trace p)).customers =
     ap (λ (n : ℕ). 2 * n) named ∙ ap (λ (x : Head). 2 * x.customers) (sym head) in
     record {
       limits = record {
         head = subst (λ x. IsTrue (is_head x)) (sym head) right;
         customers = customers;
-        batches = subst (λ bs. IsTrue (list_all is_batch bs)) (sym batches) (batches_fit names mixed mix);
+        batches = subst (λ bs. IsTrue (list_all is_batch bs)) (sym batches) (batches_fit plan.names mixed mix);
         sections = subst (Fit (2 * (head_of (trace p)).customers)) (sym sections)
-            (subst (λ n. Fit n (map (λ s. section s.steps) servers)) rows (sections_fit names window at servers serve));
+            (subst (λ n. Fit n (map (λ s. section s.steps) servers)) rows (sections_fit plan at led servers serve));
         votes = subst (λ n. IsTrue (list_all (list_all (is_vote n)) (trace p).verifiers)) (sym many)
             (votes_fit (length mixed) given p.verifiers.items votes each);
         sent = subst (λ n. IsTrue (list_all (is_sent n (length (trace p).batches)) (trace p).sent)) (sym replicas)

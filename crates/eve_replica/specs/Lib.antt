@@ -1,3 +1,4 @@
+pub mod Sections
 pub mod Run
 pub mod RunFaults
 pub mod Replicas

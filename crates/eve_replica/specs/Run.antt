@@ -1,6 +1,7 @@
 -- What a run of a workload gives. docs/TRACE.md, "The deployment's procedure".
-use Rattle.std.specs.Prelude.{◌≡◌, List, map}
-use Rattle.eve_grammar.specs.Trace.{Batch, head_of}
+use Rattle.std.specs.Prelude.{◌≡◌, ℕ, ◌*◌, ◌<◌, ◌≤◌, ◌==◌, Bool, List, map, length, ◌++◌, [], All}
+use Rattle.std.specs.List.{count_by}
+use Rattle.eve_grammar.specs.Trace.{Batch, Step, Vote, Trace, head_of, opening_rows}
 use Rattle.eve_write.specs.declared.parts.Parts.{Parts}
 use Rattle.eve_write.specs.Data.{trace}
 use Rattle.eve_write.specs.Writable.{HasSpelling}
@@ -8,15 +9,51 @@ use Rattle.eve_workload.specs.declared.mixer.Mixer.{Mixer}
 use Rattle.eve_workload.specs.Mixing.{cut, batch_with}
 use Rattle.eve_workload.specs.Workload.{Workload, customer_names}
 use Rattle.eve_workload.specs.Workload.{head_asked}
+use Rattle.eve_attempts.specs.Ledgers.{Ledger, opening}
+use Rattle.eve_replica.specs.Sections.{Plan, GoesThrough, votes_along, commits_in}
 
 -- each batch of the workload, cut into parallelBatches
 abbrev pub batches_cut : Workload → Mixer → List Batch
 batches_cut w mixer = map (λ requests. batch_with (cut (customer_names w.customers) mixer requests)) w.batches
 
--- The parts of a run of the workload have a spelling, but that they may be too long. Numbers and customers are the
--- workload's, and the batches are, in order, the cut of each of its batches.
+-- the customers' names, the batches as they are cut, and the opening balances
+abbrev pub plan_of : Workload → Mixer → Plan
+plan_of w mixer = record {
+  names = customer_names w.customers;
+  batches = batches_cut w mixer;
+  first = opening (opening_rows w.customers) w.deployment.workers w.deployment.window;
+}
+
+-- The section of a replica: its steps are what its account went through, which began with the opening balances, and
+-- there are no more rollbacks than two for each batch.
+pub record IsSectionOf (p : Plan) (steps : List Step) : Type 0 where
+  pub last : Ledger
+  pub through : GoesThrough p steps p.first last
+  pub views : last.view ≤ 2 * length p.batches
+
+-- whether so many batches are committed in a section
+abbrev pub has_committed : ℕ → List Step → Bool
+has_committed batches steps = commits_in steps == batches
+
+-- Of these votes the first ones are those on which the replica took its steps, and all are where it committed so many
+-- batches.
+pub record IsDecidedBy (batches : ℕ) (steps : List Step) (votes : List Vote) : Type 0 where
+  pub later : List Vote
+  pub first : votes ≡ votes_along steps ++ later
+  pub none_later : commits_in steps ≡ batches → later ≡ []
+
+-- A trace of a run of the workload. Numbers and customers are the workload's; the batches are, in order, the cut of each
+-- of its batches; each section is that of a replica that served them; more than half of the replicas committed all
+-- batches; and each verifier gave the votes on which the replicas took their steps.
+pub record IsTraceOf (w : Workload) (mixer : Mixer) (t : Trace) : Type 0 where
+  pub head : head_of t ≡ head_asked w
+  pub customers : t.customers ≡ w.customers
+  pub batches : t.batches ≡ batches_cut w mixer
+  pub sections : All (IsSectionOf (plan_of w mixer)) t.sections
+  pub committed : length t.sections < 2 * count_by (has_committed (length w.batches)) t.sections
+  pub voted : All (λ votes. All (λ steps. IsDecidedBy (length w.batches) steps votes) t.sections) t.verifiers
+
+-- the parts of a run of the workload have a spelling, but that they may be too long
 pub record IsRunOf (w : Workload) (mixer : Mixer) (p : Parts) : Type 0 where
   pub spelled : HasSpelling p
-  pub head : head_of (trace p) ≡ head_asked w
-  pub customers : (trace p).customers ≡ w.customers
-  pub batches : (trace p).batches ≡ batches_cut w mixer
+  pub run : IsTraceOf w mixer (trace p)

@@ -1,17 +1,21 @@
 -- What a run of a deployment keeps from window to window. docs/TRACE.md, "The deployment's procedure".
-use Rattle.std.specs.Prelude.{◌≡◌, ℕ, ◌+◌, ◌-◌, ◌*◌, ◌<◌, ◌≤◌, ◌==◌, Bool, true, false, ◌&&◌, if◌then◌else◌, All}
-use Rattle.std.specs.Prelude.{IsTrue, List, length, map, slice_get, vec_len, Option, Some, None, option_map}
+use Rattle.std.specs.Prelude.{◌≡◌, ℕ, ℤ, ◌+◌, ◌-◌, ◌*◌, ◌<◌, ◌≤◌, ◌==◌, Bool, true, false, ◌&&◌, if◌then◌else◌, All}
+use Rattle.std.specs.Prelude.{IsTrue, List, [], ◌∷◌, ◌++◌, length, map, slice_get, vec_len, Option, Some, None}
+use Rattle.std.specs.Prelude.{option_map}
 use Rattle.std.specs.Str.{bytes_eq}
 use Rattle.std.specs.List.{count_by, list_all}
+use Rattle.eve_grammar.specs.Trace.{Batch, Vote, ForCommit, ForRollback}
 use Rattle.eve_grammar.specs.declared.limits.TheConstants.{MOST_BATCHES}
+use Rattle.eve_grammar.specs.declared.head.Head.{Head}
 use Rattle.eve_grammar.specs.Limits.{is_batch, is_step, is_vote, is_sent}
 use Rattle.eve_attempts.specs.Closing.{touched_in_batch}
-use Rattle.eve_attempts.specs.Ledgers.{Ledger, ledger_rows}
+use Rattle.eve_attempts.specs.Ledgers.{Ledger, ledger_rows, opening}
 use Rattle.eve_write.specs.Data.{batch as plain, section, vote, sent}
 use Rattle.eve_write.specs.Writable.{fits_vote}
 use Rattle.eve_write.specs.declared.vote.VoteData.{VoteData}
 use Rattle.eve_write.specs.declared.sent.SentData.{SentData}
 use Rattle.eve_workload.specs.declared.mixer.MixedBatch.{MixedBatch}
+use Rattle.eve_replica.specs.Sections.{Plan, GoesThrough, place_due, votes_along}
 use Rattle.eve_replica.specs.declared.standing.Standing.{Standing}
 use Rattle.eve_replica.specs.declared.server.Server.{Server}
 use Rattle.eve_replica.specs.declared.deployment.Deployment.{Deployment}
@@ -20,6 +24,18 @@ use Rattle.eve_replica.specs.declared.deployment.Deployment.{Deployment}
 pub record IsRightMixed (names : List (List ℕ)) (m : MixedBatch) : Type 0 where
   pub right : IsTrue (is_batch (plain m.batch))
   pub touched : m.touched.items ≡ touched_in_batch names (plain m.batch)
+
+-- the plan of a run with these names, opening balances, numbers and batches
+abbrev pub plan_with : List (List ℕ) → List ℤ → Head → List MixedBatch → Plan
+plan_with names balances h batches = record {
+  names = names;
+  batches = map (λ m. plain m.batch) batches;
+  first = opening balances h.workers h.window;
+}
+
+-- whatever its batches are, the plan has these names, opening balances and numbers
+abbrev pub IsPlanFor : List (List ℕ) → List ℤ → Head → Plan → Type 0
+IsPlanFor names balances h p = (p.names ≡ names) × (p.first ≡ opening balances h.workers h.window)
 
 -- ---- where live replicas stand
 
@@ -68,26 +84,88 @@ pub record AreDue (many view : ℕ) (serial : Bool) (s : Ledger) : Type 0 where
 abbrev pub AreRightSteps : Server → Type 0
 AreRightSteps s = IsTrue (list_all (is_step (ledger_rows s.replica.ledger)) (section s.steps))
 
--- A replica of a run among customers with these names, with at most so many attempts open at once. It isn't broken, all
--- that it did lies within the limits, and where it is live it stands here.
-pub record Serves (customers : List (List ℕ)) (window : ℕ) (at : Standing) (s : Server) : Type 0 where
-  pub names : s.replica.names ≡ customers
-  pub rows : ledger_rows s.replica.ledger ≡ 2 * length customers
-  pub room : s.replica.ledger.window ≡ window
+-- the open attempts are of the account's view
+abbrev pub AreOfItsView : Ledger → Type 0
+AreOfItsView s = All (λ o. o.view ≡ s.view) s.opened
+
+-- the first of the votes so far are those on which the replica took its steps, and all are where it is live
+pub record IsLedBy (votes : List Vote) (s : Server) : Type 0 where
+  pub later : List Vote
+  pub first : votes ≡ votes_along (section s.steps) ++ later
+  pub none_later : s.is_live ≡ true → later ≡ []
+
+-- A replica of a run by this plan. It isn't broken; all that it did lies within the limits, and is what its account went
+-- through, on these votes; where it is live it stands here, and where it stopped it has committed less.
+pub record Serves (p : Plan) (at : Standing) (votes : List Vote) (s : Server) : Type 0 where
+  pub names : s.replica.names ≡ p.names
+  pub rows : ledger_rows s.replica.ledger ≡ 2 * length p.names
+  pub room : s.replica.ledger.window ≡ p.first.window
   pub whole : s.replica.is_broken ≡ false
   pub steps : AreRightSteps s
+  pub through : GoesThrough p (section s.steps) p.first s.replica.ledger
+  pub of_view : AreOfItsView s.replica.ledger
+  pub led : IsLedBy votes s
+  pub view : s.replica.ledger.view ≤ at.view
   pub live : s.is_live ≡ true → standing_of s.replica.ledger ≡ at
+  pub behind : s.is_live ≡ false → s.replica.ledger.committed < at.committed
 
--- A replica went on: its names, its rows and how many attempts it may have open stay; it isn't broken if it wasn't, and
--- all that it did lies within the limits if it did before; where it is still live, it stands this much further.
-pub record GoesOn (further : Standing → Standing) (old new : Server) : Type 0 where
+-- ---- how a replica goes on
+
+-- What live replicas do together: how far it takes them, which batches they attempt, and the votes on which they do it.
+pub record Move : Type 0 where
+  pub further : Standing → Standing
+  pub window : List Batch
+  pub votes : Standing → List Vote
+
+-- so many attempts, of the first batches of a window
+abbrev pub attempt_move : ℕ → List Batch → Move
+attempt_move many window = record { further = after_attempts many; window = window; votes = λ at. [] }
+
+-- the commit of the first open batch, with this token
+abbrev pub commit_move : List ℕ → Move
+commit_move token = record {
+  further = after_commit;
+  window = [];
+  votes = λ at. record { seq = at.committed + 1; view = at.view; choice = ForCommit token } ∷ [];
+}
+
+-- the rollback of the first open batch and all others
+abbrev pub rollback_move : Move
+rollback_move = record {
+  further = after_rollback;
+  window = [];
+  votes = λ at. record { seq = at.committed + 1; view = at.view; choice = ForRollback } ∷ [];
+}
+
+-- the batches of the window are those from this place on
+abbrev pub AreBatchesFrom : List Batch → ℕ → List Batch → Type 0
+AreBatchesFrom batches place window =
+    (k : ℕ) → k < length window → slice_get batches (place + k) ≡ slice_get window k
+
+-- A replica went on: its names, its rows and how many attempts it may have open stay; it isn't broken if it wasn't; all
+-- that it did lies within the limits if it did before, and is what its account went through where the batches of the
+-- window are due; if it is still live it did so on these votes, and stands this much further, and else on none.
+pub record GoesOn (m : Move) (old new : Server) : Type 0 where
   pub names : new.replica.names ≡ old.replica.names
   pub rows : ledger_rows new.replica.ledger ≡ ledger_rows old.replica.ledger
   pub room : new.replica.ledger.window ≡ old.replica.ledger.window
   pub whole : old.replica.is_broken ≡ false → new.replica.is_broken ≡ false
   pub steps : AreRightSteps old → AreRightSteps new
+  pub through : (p : Plan) → old.replica.names ≡ p.names
+      → (old.is_live ≡ true → AreBatchesFrom p.batches (place_due old.replica.ledger) m.window)
+      → GoesThrough p (section old.steps) p.first old.replica.ledger
+      → GoesThrough p (section new.steps) p.first new.replica.ledger
+  pub of_view : AreOfItsView old.replica.ledger → AreOfItsView new.replica.ledger
+  pub votes : AreOfItsView old.replica.ledger
+      → votes_along (section new.steps)
+      ≡ votes_along (section old.steps)
+      ++ (if new.is_live then m.votes (standing_of old.replica.ledger) else [])
+  pub view : (at : Standing) → old.replica.ledger.view ≤ at.view → new.replica.ledger.view ≤ (m.further at).view
   pub live : new.is_live ≡ true
-      → (old.is_live ≡ true) × (standing_of new.replica.ledger ≡ further (standing_of old.replica.ledger))
+      → (old.is_live ≡ true) × (standing_of new.replica.ledger ≡ m.further (standing_of old.replica.ledger))
+  pub behind : (at : Standing) → (old.is_live ≡ true → standing_of old.replica.ledger ≡ at)
+      → (old.is_live ≡ false → old.replica.ledger.committed < at.committed)
+      → new.is_live ≡ false → new.replica.ledger.committed < (m.further at).committed
 
 -- ---- what is decided
 
@@ -121,17 +199,24 @@ AreReplies replicas batches replies = IsTrue (list_all (is_sent replicas batches
 
 -- ---- the run
 
--- The state of a run: its batches were looked up among its customers' names; each replica is one of this run, and each
--- live one stands where the run does; every vote so far lies within the limits.
-pub record IsUnderWay (d : Deployment) : Type 0 where
-  pub names : List (List ℕ)
-  pub customers : length names ≡ d.head.customers
+-- how many replicas are live
+abbrev pub live_in : List Server → ℕ
+live_in servers = count_by (λ s. s.is_live) servers
+
+-- The state of a run by this plan: its batches are the plan's, and were looked up among its names; each replica is one of
+-- this run, and each live one stands where the run does; more than half of them are live; every vote so far lies within
+-- the limits.
+pub record IsUnderWay (p : Plan) (d : Deployment) : Type 0 where
+  pub customers : length p.names ≡ d.head.customers
+  pub window : p.first.window ≡ d.head.window
+  pub batches : p.batches ≡ map (λ m. plain m.batch) d.batches.now
   pub few : length d.batches.now ≤ MOST_BATCHES
   pub room : 1 ≤ d.head.window
-  pub mixed : All (IsRightMixed names) d.batches.now
+  pub mixed : All (IsRightMixed p.names) d.batches.now
   pub due : d.standing.committed + d.standing.opened ≤ length d.batches.now
   pub many : vec_len d.servers ≡ d.head.replicas
-  pub servers : All (Serves names d.head.window d.standing) d.servers.items
+  pub servers : All (Serves p d.standing (map vote d.votes.items)) d.servers.items
+  pub majority : length d.servers.items < 2 * live_in d.servers.items
   pub votes : AreVotesOn (length d.batches.now) d.votes.items
 
 -- the numbers and the batches stay

@@ -3,7 +3,6 @@
 
 mod deployment;
 mod fault;
-mod fits;
 mod opening;
 mod replica;
 mod running;

@@ -3,6 +3,7 @@
 ghost use Rattle.std.specs.Prelude.{◌≡◌, ◌≢◌, ◌*◌, ◌<◌, ◌≤◌, [], slice_index_or, length, map};
 ghost use Rattle.std.specs.Prelude.{All, AllPairs, IsTrue, IfOk};
 ghost use Rattle.std.specs.List.{list_all};
+ghost use Rattle.eve_grammar.specs.Trace.{opening_rows};
 ghost use Rattle.eve_grammar.specs.Limits.{is_customer};
 ghost use Rattle.eve_write.specs.Data.{batch as plain, customer};
 ghost use Rattle.eve_workload.specs.Mixing.{cut, batch_with};
@@ -40,7 +41,7 @@ pub(crate) fn names_of<'w>(
 /// The customers' opening balances, by row.
 pub(crate) fn balances_of(alloc: Global, customers: &[CustomerData]) -> Result<Balances, AllocError>
     requires { length customers.now ≤ MOST_CUSTOMERS }
-    ensures { IfOk result (λ balances. length balances ≡ 2 * length customers.now) }
+    ensures { IfOk result (λ balances. balances ≡ opening_rows (map customer customers.now)) }
 {
     let mut balances = Balances::new(alloc, 2 * customers.len())?;
     for place in 0..customers.len() {

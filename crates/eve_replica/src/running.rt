@@ -1,10 +1,12 @@
 //! The run of a whole deployment.
 
-ghost use Rattle.std.specs.Prelude.{◌≡◌, ◌≤◌, ◌*◌, All, IfOk, length, map, vec_len};
+ghost use Rattle.std.specs.Prelude.{◌≡◌, ◌≤◌, ◌*◌, true, [], All, IfOk, length, map, vec_len};
 ghost use Rattle.eve_write.specs.Data.{batch as plain, customer, section};
 ghost use Rattle.eve_workload.specs.Workload.{customer_names};
 ghost use Rattle.eve_replica.specs.Run.{IsRunOf};
-ghost use Rattle.eve_replica.specs.Serving.{IsRightMixed, Serves, IsUnderWay, first_standing};
+ghost use Rattle.eve_replica.specs.Sections.{Plan};
+ghost use Rattle.eve_replica.specs.Serving.{IsRightMixed, IsPlanFor, Serves, IsUnderWay};
+ghost use Rattle.eve_replica.specs.Serving.{plan_with, first_standing};
 
 use crate::deployment::Deployment;
 use crate::fault::RunFault;
@@ -96,9 +98,12 @@ fn run_windows<'n, 'b, R: Threads + Wait + Sync, G: Gate>(
     requires few { length batches.now ≤ MOST_BATCHES }
     requires mixed { All (IsRightMixed names.now.items) batches.now }
     requires customers { length names.now.items ≡ head.now.customers }
-    ensures under_way { IfOk result IsUnderWay }
+    requires replicas { 1 ≤ head.now.replicas }
+    ensures under_way { IfOk result (IsUnderWay (plan_with names.now.items balances.now head.now batches.now)) }
     ensures head { IfOk result (λ d. d.head ≡ head.now) }
     ensures batches { IfOk result (λ d. d.batches.now ≡ batches.now) }
+    ensures done { IfOk result (λ d. d.standing.committed ≡ length batches.now) }
+    ensures view { IfOk result (λ d. d.standing.view ≤ 2 * length batches.now) }
 {
     let mut deployment = Deployment {
         head: *head,
@@ -134,7 +139,9 @@ fn servers_of<'n>(
     requires workers { (1 ≤ head.now.workers) × (head.now.workers ≤ MOST_WORKERS) }
     requires window { (1 ≤ head.now.window) × (head.now.window ≤ MOST_WINDOW) }
     ensures many { IfOk result (λ servers. vec_len servers ≡ head.now.replicas) }
-    ensures serve { IfOk result (λ servers. All (Serves names.now.items head.now.window first_standing) servers.items) }
+    ensures serve { (p : Plan) → IsPlanFor names.now.items balances.now head.now p
+        → IfOk result (λ servers. All (Serves p first_standing []) servers.items) }
+    ensures live { IfOk result (λ servers. All (λ s. s.is_live ≡ true) servers.items) }
 {
     let mut servers = Vec::with_capacity(alloc, head.replicas as usize)?;
     for number in 0..head.replicas {
@@ -163,7 +170,9 @@ fn server_of<'n>(
     requires rows { length balances.now ≡ 2 * length names.now.items }
     requires workers { (1 ≤ head.now.workers) × (head.now.workers ≤ MOST_WORKERS) }
     requires window { (1 ≤ head.now.window) × (head.now.window ≤ MOST_WINDOW) }
-    ensures { IfOk result (Serves names.now.items head.now.window first_standing) }
+    ensures serve { (p : Plan) → IsPlanFor names.now.items balances.now head.now p
+        → IfOk result (Serves p first_standing []) }
+    ensures live { IfOk result (λ s. s.is_live ≡ true) }
 {
     Ok(Server {
         replica: Replica::new(alloc, names, balances, head.workers, head.window)?,

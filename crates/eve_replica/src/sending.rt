@@ -1,11 +1,12 @@
 //! The replies that replicas send.
 
-ghost use Rattle.std.specs.Prelude.{◌≤◌, ◌<◌, IfOk, OnOk, length};
+ghost use Rattle.std.specs.Prelude.{◌≤◌, ◌<◌, IfOk, IsTrue, OnOk, length};
+ghost use Rattle.eve_grammar.specs.Limits.{is_sent};
+ghost use Rattle.eve_write.specs.Data.{sent as plain};
 ghost use Rattle.eve_replica.specs.Serving.{AreReplies};
 
-use crate::fits::sent_fits;
 use crate::server::Server;
-use eve_grammar::MOST_REPLICAS;
+use eve_grammar::{MOST_REPLICAS, reply_fits};
 use eve_smallbank::Reply;
 use eve_workload::MixedBatch;
 use eve_write::{AttemptData, RequestData, SentData, Step};
@@ -113,4 +114,15 @@ fn send(
     sent_fits(&sent, servers.len(), batches.len());
     replies.push(sent)?;
     Ok(())
+}
+
+// A reply of one of so many replicas, in one of so many batches.
+fn sent_fits(sent: &SentData, replicas: usize, batches: usize)
+    requires replica { sent.now.replica < replicas }
+    requires seq { (1 ≤ sent.now.seq) × (sent.now.seq ≤ batches) }
+    ensures { IsTrue (is_sent replicas batches (plain sent.now)) }
+{
+    let _client = sent.client;
+    let _number = sent.number;
+    reply_fits(sent.reply);
 }

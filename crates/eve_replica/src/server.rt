@@ -1,19 +1,19 @@
 //! A replica of a run, with what it did.
 
-ghost use Rattle.std.specs.Prelude.{◌≡◌, true, false, ◌≤◌, ◌+◌, ◌-◌, ◌<◌, ◌^◌, All, IsTrue, IsSome, OnOk, length};
+ghost use Rattle.std.specs.Prelude.{◌≡◌, true, false, ◌+◌, ◌-◌, ◌<◌, ◌^◌, [], ◌∷◌, ◌++◌, All, IsTrue, IsSome, OnOk};
+ghost use Rattle.std.specs.Prelude.{length, map};
 ghost use Rattle.eve_grammar.specs.Limits.{is_step};
 ghost use Rattle.eve_attempts.specs.Ledgers.{ledger_rows};
-ghost use Rattle.eve_write.specs.Data.{step as plain};
+ghost use Rattle.eve_write.specs.Data.{batch, section, step as plain};
 ghost use Rattle.eve_replica.specs.Serving.{IsRightMixed, AreDue, AreRightSteps, GoesOn};
-ghost use Rattle.eve_replica.specs.Serving.{after_attempts, after_commit, after_rollback};
+ghost use Rattle.eve_replica.specs.Serving.{attempt_move, commit_move, rollback_move};
 ghost use Rattle.eve_replica.specs.Serving.{next_token, is_some_of};
 
 use crate::fault::RunFault;
-use crate::fits::commit_fits;
 use crate::replica::Replica;
 use eve_recorder::Gate;
 use eve_workload::MixedBatch;
-use eve_write::Step;
+use eve_write::{Step, commit_fits};
 use std::alloc::{AllocError, Global};
 use std::sync::Wait;
 use std::thread::Threads;
@@ -64,7 +64,9 @@ impl<'n> Server<'n> {
         requires mixed { All (IsRightMixed self.old.replica.names) window.now }
         requires whole { self.old.replica.is_broken ≡ false }
         requires due { self.old.is_live ≡ true → AreDue (length window.now) view serial self.old.replica.ledger }
-        ensures { OnOk result (GoesOn (after_attempts (length window.now)) self.old self.new) }
+        ensures on { OnOk result (GoesOn (attempt_move (length window.now) (map (λ m. batch m.batch) window.now))
+            self.old self.new) }
+        ensures live { self.new.is_live ≡ self.old.is_live }
     {
         if !self.is_live {
             return Ok(());
@@ -91,7 +93,7 @@ impl<'n> Server<'n> {
         requires mixed { IsRightMixed self.old.replica.names mixed.now }
         requires whole { self.old.replica.is_broken ≡ false }
         requires live { self.old.is_live ≡ true }
-        ensures on { OnOk result (GoesOn (after_attempts 1) self.old self.new) }
+        ensures on { OnOk result (GoesOn (attempt_move 1 (batch mixed.now.batch ∷ [])) self.old self.new) }
         ensures live { self.new.is_live ≡ true }
     {
         let batch = &mixed.batch;
@@ -108,7 +110,8 @@ impl<'n> Server<'n> {
     pub(crate) fn commit_or_stop(&mut self, seq: u32, token: [u8; 32]) -> Result<(), AllocError>
         requires whole { self.old.replica.is_broken ≡ false }
         requires next { self.old.is_live ≡ true → seq ≡ self.old.replica.ledger.committed + 1 }
-        ensures { OnOk result (GoesOn after_commit self.old self.new) }
+        ensures on { OnOk result (GoesOn (commit_move token) self.old self.new) }
+        ensures live { OnOk result (self.new.is_live ≡ is_some_of token (next_token self.old)) }
     {
         if !self.has_next(token) {
             self.is_live = false;
@@ -124,7 +127,8 @@ impl<'n> Server<'n> {
     /// Rolls back, if the replica is live.
     pub(crate) fn roll_back(&mut self, alloc: Global) -> Result<(), AllocError>
         requires { self.old.is_live ≡ true → self.old.replica.ledger.view < 2 ^ 32 - 1 }
-        ensures { OnOk result (GoesOn after_rollback self.old self.new) }
+        ensures on { OnOk result (GoesOn rollback_move self.old self.new) }
+        ensures live { OnOk result (self.new.is_live ≡ self.old.is_live) }
     {
         if !self.is_live {
             return Ok(());
@@ -139,6 +143,7 @@ impl<'n> Server<'n> {
         ensures replica { self.new.replica ≡ self.old.replica }
         ensures live { self.new.is_live ≡ self.old.is_live }
         ensures steps { OnOk result (AreRightSteps self.old → AreRightSteps self.new) }
+        ensures added { OnOk result (section self.new.steps ≡ section self.old.steps ++ plain step ∷ []) }
     {
         self.steps.push(step)?;
         Ok(())

@@ -1,9 +1,11 @@
 //! The votes of a run, which each verifier gives.
 
-ghost use Rattle.std.specs.Prelude.{◌≤◌, OnOk};
+ghost use Rattle.std.specs.Prelude.{◌≡◌, ◌≤◌, [], ◌∷◌, ◌++◌, map, OnOk};
+ghost use Rattle.eve_grammar.specs.Trace.{ForCommit, ForRollback};
+ghost use Rattle.eve_write.specs.Data.{vote as plain};
 ghost use Rattle.eve_replica.specs.Serving.{AreVotesOn};
 
-use crate::fits::token_fits;
+use eve_grammar::token_fits;
 use eve_write::{ChoiceData, VoteData};
 use std::alloc::AllocError;
 
@@ -17,7 +19,9 @@ pub(crate) fn vote_for_commit(
 ) -> Result<(), AllocError>
     requires seq { (1 ≤ seq) × (seq ≤ batches) }
     requires votes { AreVotesOn batches votes.old.items }
-    ensures { OnOk result (AreVotesOn batches votes.new.items) }
+    ensures on { OnOk result (AreVotesOn batches votes.new.items) }
+    ensures added { OnOk result (map plain votes.new.items ≡ map plain votes.old.items
+        ++ record { seq = seq; view = view; choice = ForCommit token } ∷ []) }
 {
     token_fits(&token);
     votes.push(VoteData {
@@ -38,7 +42,9 @@ pub(crate) fn vote_for_rollback(
 ) -> Result<(), AllocError>
     requires seq { (1 ≤ seq) × (seq ≤ batches) }
     requires votes { AreVotesOn batches votes.old.items }
-    ensures { OnOk result (AreVotesOn batches votes.new.items) }
+    ensures on { OnOk result (AreVotesOn batches votes.new.items) }
+    ensures added { OnOk result (map plain votes.new.items ≡ map plain votes.old.items
+        ++ record { seq = seq; view = view; choice = ForRollback } ∷ []) }
 {
     votes.push(VoteData {
         seq,

@@ -1,6 +1,6 @@
 //! What the workers of an attempt share.
 
-ghost use Rattle.std.specs.Prelude.{◌≡◌, ◌<◌, ◌≤◌, IfOk, length, vec_len};
+ghost use Rattle.std.specs.Prelude.{◌≡◌, ◌<◌, IfOk, vec_len};
 
 use crate::progress::Progress;
 use eve_floor::Floor;

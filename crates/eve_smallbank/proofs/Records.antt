@@ -74,9 +74,6 @@ module _ (names : List (List ℕ)) (table : Table) where
   abbrev values_in : RowKinds → List ℤ
   values_in rows = map (λ r. (table r.0).value) rows
 
-  abbrev versions_in : RowKinds → List ℕ
-  versions_in rows = map (λ r. (table r.0).version) rows
-
   -- what the values seen in the rows decide is what the request does
   abbrev IsDecided : Request → RowKinds → Type 0
   IsDecided request rows = decided_from request (values_in rows) ≡ Some (decision_in (executed_on names table request))

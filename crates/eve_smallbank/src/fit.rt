@@ -1,6 +1,6 @@
 //! Whether a reply and entries fit a request.
 
-ghost use Rattle.std.specs.Prelude.{◌≡◌, ◌≤◌, ℕ, List, length, map, take};
+ghost use Rattle.std.specs.Prelude.{◌≡◌, ℕ, List, length, map, take};
 ghost use Rattle.std.specs.Bool.{Decides};
 ghost use Rattle.eve_smallbank.specs.SmallBank.{plain};
 ghost use Rattle.eve_smallbank.specs.Access.{Fits};

@@ -1,6 +1,6 @@
 //! What a request does where it meets rows.
 
-ghost use Rattle.std.specs.Prelude.{◌≡◌, ◌≤◌, ℕ, Bool, true, false, List, length, map, take};
+ghost use Rattle.std.specs.Prelude.{◌≡◌, ℕ, Bool, true, false, List, length, map, take};
 ghost use Rattle.std.specs.List.{list_all, AllByRecursion};
 ghost use Rattle.eve_smallbank.specs.SmallBank.{plain};
 ghost use Rattle.eve_smallbank.specs.Chain.{Table};

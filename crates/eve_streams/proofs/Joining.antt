@@ -44,9 +44,3 @@ Appends-flushed None b c old held bytes taken sent = tt
 Appends-flushed (Some x) None c old held bytes taken sent = absurd taken
 Appends-flushed (Some x) (Some y) None old held bytes taken sent = absurd sent
 Appends-flushed (Some x) (Some y) (Some z) old held bytes taken sent = sent ∙ taken ∙ append_assoc x old bytes
-
--- for functions that send several parts, one after the other
-pub ruleset sends = (Appends-trans, AppendsFront-after, AppendsFront-more)
-
--- for functions that send through a buffer and flush it
-pub ruleset flushes = (Appends-flushed)

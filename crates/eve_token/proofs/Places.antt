@@ -96,13 +96,6 @@ nodes-one h = refl
 
 -- ---- places
 
-pub kept-length : (ps : List (Option (List ℕ))) (hs : List (List ℕ)) → HaveHashes ps hs → length ps ≡ length hs
-unfolding HaveHashes
-kept-length [] [] kept = refl
-kept-length [] (h ∷ hs) kept = absurd kept
-kept-length (p ∷ ps) [] kept = absurd kept
-kept-length (p ∷ ps) (h ∷ hs) kept = ap suc (kept-length ps hs kept.1)
-
 pub kept-stale : (hs : List (List ℕ)) → HaveHashes (replicate (length hs) None) hs
 unfolding HaveHashes
 kept-stale [] = tt

@@ -1,7 +1,6 @@
 //! Roots of Merkle trees, from scratch.
 
 ghost use Rattle.std.specs.Prelude.{◌≡◌, ◌≤◌, ◌<◌, ◌+◌, ◌^◌, length};
-ghost use Rattle.sha2.specs.Sha256.{sha256};
 ghost use Rattle.eve_token.specs.Merkle.{leaf_hash, node_hash, leaf_hashes, merkle_root, IsGreatestPowerBelow};
 ghost use Rattle.eve_token.specs.Token.{token_from_root};
 

@@ -1,24 +1,17 @@
 -- What `run` says of bytes.
 use Rattle.std.specs.Prelude.{◌≡◌, ℕ, ◌<◌, ◌≤◌, List, length, ◌⊎◌, ⊤}
-use Rattle.eve_grammar.specs.Trace.{Trace, head_of}
+use Rattle.eve_grammar.specs.Trace.{Trace}
 use Rattle.eve_grammar.specs.Spelling.{length_of}
 use Rattle.eve_grammar.specs.Limits.{HasLimits, Spells}
 use Rattle.eve_grammar.specs.declared.limits.TheConstants.{MOST_BYTES}
 use Rattle.eve_workload.specs.declared.mixer.Mixer.{Mixer}
 use Rattle.eve_workload.specs.Workload.{Workload, IsWorkload}
-use Rattle.eve_workload.specs.Workload.{head_asked}
 use Rattle.eve_workload.specs.Lines.{workload_text}
 use Rattle.eve_workload.specs.Steps.{IsBadLine}
 use Rattle.eve_write.specs.declared.parts.Parts.{Parts}
-use Rattle.eve_replica.specs.Run.{batches_cut, IsRunOf}
+use Rattle.eve_replica.specs.Run.{IsRunOf, IsTraceOf}
 use Rattle.eve_tool.specs.declared.fault.ToolFault.{ToolFault}
 use Rattle.eve_tool.specs.declared.fault.ToolFault.TheVariants as fault
-
--- a trace with the workload's numbers and customers and, in order, the cut of each of its batches
-pub record IsTraceOf (workload : Workload) (mixer : Mixer) (trace : Trace) : Type 0 where
-  pub head : head_of trace ≡ head_asked workload
-  pub customers : trace.customers ≡ workload.customers
-  pub batches : trace.batches ≡ batches_cut workload mixer
 
 -- the bytes are the text of this workload
 pub record IsText (bytes : List ℕ) (workload : Workload) : Type 0 where
@@ -39,7 +32,8 @@ pub record IsRunOfText (mixer : Mixer) (bytes : List ℕ) (parts : Parts) : Type
 abbrev pub longest : ℕ
 longest = MOST_BYTES
 
--- the bytes are a workload, and the text spells a trace of it, of `limit` bytes at most both; the exit status is 0
+-- the bytes are a workload, and the text spells a trace of a run of it, of `limit` bytes at most both; the exit status is
+-- 0
 pub record Runs (limit : ℕ) (mixer : Mixer) (bytes text : List ℕ) (status : ℕ) : Type 0 where
   pub short : length bytes ≤ limit
   pub workload : Workload
@@ -50,7 +44,7 @@ pub record Runs (limit : ℕ) (mixer : Mixer) (bytes text : List ℕ) (status : 
   pub fits : length_of trace ≤ limit
   pub ends : status ≡ 0
 
--- the bytes are a workload, and a trace of it has more than `limit` bytes
+-- the bytes are a workload, and a trace of a run of it has more than `limit` bytes
 pub record RunsTooLong (limit : ℕ) (mixer : Mixer) (bytes : List ℕ) : Type 0 where
   pub workload : Workload
   pub typed : IsText bytes workload
@@ -59,7 +53,7 @@ pub record RunsTooLong (limit : ℕ) (mixer : Mixer) (bytes : List ℕ) : Type 0
   pub run : IsTraceOf workload mixer trace
   pub long : limit < length_of trace
 
--- the bytes, or a trace of them, are more than `limit`
+-- the bytes, or a trace of a run of them, are more than `limit`
 abbrev pub IsTooLong : ℕ → Mixer → List ℕ → Type 0
 IsTooLong limit mixer bytes = (limit < length bytes) ⊎ RunsTooLong limit mixer bytes
 

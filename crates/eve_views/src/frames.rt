@@ -1,6 +1,6 @@
 //! The frames of a trace, one after the other.
 
-ghost use Rattle.std.specs.Prelude.{◌≡◌, ℕ, [], ◌∷◌, drop, IfSome, IfNone};
+ghost use Rattle.std.specs.Prelude.{◌≡◌, ℕ, [], ◌∷◌, IfSome, IfNone};
 ghost use Rattle.eve_grammar.specs.Frames.{Frame};
 ghost use Rattle.eve_grammar.specs.Spelling.{frames_at, frame_text};
 

@@ -1,8 +1,8 @@
 //! The header of a trace.
 
-ghost use Rattle.std.specs.Prelude.{◌≡◌, IsTrue, codes, take, IfOk, IfErr};
+ghost use Rattle.std.specs.Prelude.{◌≡◌, IfOk, IfErr};
 ghost use Rattle.eve_grammar.specs.Bodies.{limits};
-ghost use Rattle.eve_views.specs.Form.{is_sized, has_magic, said_by};
+ghost use Rattle.eve_views.specs.Form.{is_sized, has_magic};
 ghost use Rattle.eve_views.specs.Header.{IsHeader, StopsAtHeader};
 
 use crate::fault::Code;

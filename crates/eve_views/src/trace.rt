@@ -10,7 +10,6 @@ ghost use Rattle.eve_grammar.specs.Limits.{HasLimits, Spells};
 ghost use Rattle.eve_frames.specs.Said.{batch_said, customer_said, sent_said};
 ghost use Rattle.eve_grammar.specs.Bodies.{limits};
 ghost use Rattle.eve_views.specs.Form.{IsFormFault, IfFound, IsLeast, HasNone};
-ghost use Rattle.eve_views.specs.declared.fault.Fault.{Fault as FaultValue};
 ghost use Rattle.eve_views.specs.Fronts.{before_section, before_verifier, before_sent};
 ghost use Rattle.eve_views.specs.Parts.{is_in_section};
 ghost use Rattle.eve_views.specs.Lent.{HasBytesAt};

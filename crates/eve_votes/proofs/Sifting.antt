@@ -1,6 +1,6 @@
 -- Which votes are a verifier's only ones on their batch in their view, and which are further ones.
 use Rattle.std.proofs.Common.{◌≡◌, ℕ, zero, suc, ◌+◌, ◌-◌, ◌<◌, ◌≤◌, Bool, true, false, cond, List, [], ◌∷◌, ◌++◌}
-use Rattle.std.proofs.Common.{length, get_or, take, filter, Option, Some, None, IfSome, refl, sym, ap, subst, ◌∙◌}
+use Rattle.std.proofs.Common.{length, get_or, take, filter, Option, Some, IfSome, refl, sym, ap, subst, ◌∙◌}
 use Rattle.std.proofs.Common.{arith, ◌⊎◌, inl, inr}
 use Rattle.std.specs.Prelude.{◌==◌, ◌||◌, slice_get}
 use Rattle.std.specs.List.{list_any}
@@ -381,16 +381,6 @@ module _ (t : Trace) (xs : List Ballot) (votes : HasVotes t xs) where
           apart (same_place (is_vote_on n view) (votes_of t v) w one c.place p is.vote w there also here on)
 
   -- ---- one after another
-
-  pub sifted_start : (only : List Ballot) → only ≡ [] → Sifted t xs 0 only None
-  sifted_start only none = subst (λ (ys : List Ballot). Sifted t xs 0 ys None) (sym none) (record {
-    stands = tt;
-    below = λ k b o w less h got at. absurd (omega arith);
-    each = λ j b got. absurd cc;
-    behind = λ j a k b got ge at. absurd cc;
-    order = λ i j a b less e f. absurd cc;
-    all = λ k b less got first last. absurd (omega arith);
-  })
 
   pub sifted_further : (i : ℕ) (only : List Ballot) (least : Option ℕ) (b : Ballot) (o : ℕ) (w : Vote) →
       Sifted t xs i only least → FollowsAlike xs i → slice_get xs i ≡ Some b

@@ -1,6 +1,6 @@
 //! What was decided as commit.
 
-ghost use Rattle.std.specs.Prelude.{◌≡◌, ◌<◌, ◌+◌, ◌↔◌, ℕ, None, Some, length, slice_get, IfNone, IsTrue};
+ghost use Rattle.std.specs.Prelude.{◌≡◌, ◌<◌, ◌+◌, ◌↔◌, None, Some, length, IfNone, IsTrue};
 ghost use Rattle.std.specs.List.{All};
 ghost use Rattle.eve_views.specs.declared.fault.Code.TheVariants.{TwoDecisions};
 ghost use Rattle.eve_votes.specs.Votes.{IsDecided};

@@ -5,7 +5,6 @@ ghost use Rattle.std.specs.List.{All};
 ghost use Rattle.std.specs.Option.{option_map};
 ghost use Rattle.eve_grammar.specs.Trace.{ForCommit};
 ghost use Rattle.eve_views.specs.Form.{IfFound, IsLeast, HasNone};
-ghost use Rattle.eve_views.specs.declared.fault.Fault.{Fault as FaultValue};
 ghost use Rattle.eve_votes.specs.Votes.{backers, IsDecided, IsRolledBack};
 ghost use Rattle.eve_votes.specs.Faults.{outside, IsVoteFault, AreVotesSound};
 

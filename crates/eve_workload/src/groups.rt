@@ -1,6 +1,6 @@
 //! Requests in groups, by their indexes.
 
-ghost use Rattle.std.specs.Prelude.{◌≡◌, ◌<◌, ◌≤◌, [], All, IfOk, length};
+ghost use Rattle.std.specs.Prelude.{◌<◌, ◌≤◌, [], All, IfOk, length};
 ghost use Rattle.std.specs.List.{range_with_len};
 ghost use Rattle.eve_workload.specs.Mixing.{first_fit};
 ghost use Rattle.eve_workload.specs.Groups.{rows_at, share_at, AreGroups};

@@ -1,6 +1,6 @@
 //! What tells requests apart: their clients and numbers.
 
-ghost use Rattle.std.specs.Prelude.{◌≡◌, ℕ, List, [], ◌∷◌, ◌++◌, not, true, false, if◌then◌else◌, All, IfOk};
+ghost use Rattle.std.specs.Prelude.{◌≡◌, List, [], ◌∷◌, ◌++◌, not, true, false, if◌then◌else◌, All, IfOk};
 ghost use Rattle.std.specs.Prelude.{OnOk, IsTrue, IsFalse};
 ghost use Rattle.std.specs.List.{list_any};
 ghost use Rattle.eve_workload.specs.declared.pairs.Pair.{Pair as PairValue};

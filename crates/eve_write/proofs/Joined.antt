@@ -39,9 +39,6 @@ Stopped-before {written = written} {a = a} {b = b} {xs = xs} ys one = record {
   counted = one.counted;
 }
 
--- for functions that write several texts, one after the other
-pub ruleset writes = (Wrote-then, Stopped-later, Stopped-before)
-
 -- a list is what stands before a place, the item there, and what follows
 flat_map-split : {X : Type 0} (f : X → List ℕ) (xs : List X) (i : ℕ) (x : X) → i < length xs → x ≡ get_or xs i x
     → (flat_map f (take i xs) ++ f x) ++ flat_map f (drop (i + 1) xs) ≡ flat_map f xs

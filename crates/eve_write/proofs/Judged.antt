@@ -1,17 +1,11 @@
 -- What tests of parts tell.
-use Rattle.std.proofs.Common.{◌≡◌, ℕ, ◌<◌, ◌≤◌, Bool, true, false, ◌&&◌, ltb, leb, eqb, eq-eqb, IsTrue, List, [], ◌∷◌}
-use Rattle.std.proofs.Common.{length, sum, map, get_or, refl, sym, ap, ◌∙◌, suc}
+use Rattle.std.proofs.Common.{◌≡◌, ℕ, ◌<◌, ◌≤◌, Bool, true, false, ◌&&◌, leb, eqb, eq-eqb, List}
+use Rattle.std.proofs.Common.{length, sum, map, refl, sym, ap, ◌∙◌}
 use Rattle.std.specs.List.{list_all}
-use Rattle.std.proofs.lemmas.Bool.{and_from, lt-ltb, le-leb}
+use Rattle.std.proofs.lemmas.Bool.{lt-ltb, le-leb}
 use Rattle.std.proofs.lemmas.List.Folds.{list_all-map}
 use Rattle.eve_grammar.specs.Trace.{Batch, Rollback}
 use Rattle.eve_grammar.specs.Limits.{is_number, is_asked, is_batch, is_rising, is_restore, is_rollback}
-
--- numbers that are each below n
-pub numbers_fit : (n : ℕ) (xs : List ℕ) → ((i : ℕ) → get_or xs i 0 < n) → IsTrue (list_all (λ x. ltb x n) xs)
-numbers_fit n [] below = refl
-numbers_fit n (x ∷ xs) below =
-    and_from (ltb x n) (list_all (λ x. ltb x n) xs) (lt-ltb x n (below 0)) (numbers_fit n xs (λ i. below (suc i)))
 
 -- a test after one that holds
 pub and_true : (a b : Bool) → a ≡ true → (a && b) ≡ b

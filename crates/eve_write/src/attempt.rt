@@ -14,13 +14,13 @@ ghost use Rattle.eve_write.specs.Data.{attempt as plain};
 ghost use Rattle.eve_write.specs.Writing.{Puts, Writes};
 
 use crate::access::AccessData;
-use crate::fields::{byte, indices_fit, put_indices, put_replies, token_fits};
+use crate::fields::{byte, indices_fit, put_indices, put_replies};
 use crate::measure::len_of_each;
 use crate::pieces::{put, send};
 use crate::right::{Judge, all_right};
 use crate::spell::write_each;
 use arrayvec::ArrayVec;
-use eve_grammar::{Head, MOST_REQUESTS};
+use eve_grammar::{Head, MOST_REQUESTS, token_fits};
 use eve_smallbank::Reply;
 use eve_streams::{SendFault, Sink};
 

@@ -7,8 +7,8 @@ ghost use Rattle.eve_grammar.specs.Limits.{is_commit};
 ghost use Rattle.eve_write.specs.Data.{commit as plain};
 ghost use Rattle.eve_write.specs.Writing.{Writes};
 
-use crate::fields::token_fits;
 use crate::spell::send_texts;
+use eve_grammar::token_fits;
 use eve_streams::{SendFault, Sink};
 
 /// A commit of a batch. Contracts see it by `commit`.
@@ -43,8 +43,8 @@ pub fn write_commit<W: Sink>(out: &mut W, commit: &CommitData) -> Result<(), Sen
     send_texts(out, &[&[19], &body_len, &seq, &view, &commit.token])
 }
 
-// A commit lies within the limits as it stands.
-pub(crate) fn commit_fits(commit: &CommitData)
+/// A commit lies within the limits as it stands.
+pub fn commit_fits(commit: &CommitData)
     ensures { IsTrue (is_commit (plain commit.now)) }
 {
     let _seq = commit.seq;

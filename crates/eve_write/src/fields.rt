@@ -9,21 +9,21 @@ ghost use Rattle.byteorder.specs.Endian.{big_bytes};
 ghost use Rattle.eve_smallbank.specs.Spelling.{money_text, reply_text};
 ghost use Rattle.eve_smallbank.specs.SmallBank.{plain};
 ghost use Rattle.eve_grammar.specs.Spelling.{name_text, request_text, kind_code, entry_text, restore_text};
-ghost use Rattle.eve_grammar.specs.Limits.{is_number, is_token, is_request};
+ghost use Rattle.eve_grammar.specs.Limits.{is_number, is_request};
 ghost use Rattle.eve_grammar.specs.Bodies.{restore};
-ghost use Rattle.eve_write.specs.Writing.{Puts, Writes};
+ghost use Rattle.eve_write.specs.Writing.{Puts};
 
 use crate::pieces::put;
 use crate::spell::{Spell, send_texts};
 use arrayvec::ArrayVec;
-use eve_accounts::{Amount, Cents, Row};
+use eve_accounts::{Amount, Cents, MOST_NAME_BYTES, Row};
 use eve_grammar::Restore;
 use eve_smallbank::{Abort, Entry, Kind, Reply, Request, UpToThree};
 use eve_streams::{SendFault, Sink};
 
-/// The length of a name, which is at most 24.
+/// The length of a name.
 pub(crate) fn name_len(name: &[u8]) -> u8
-    requires { length name.now ≤ 24 }
+    requires { length name.now ≤ MOST_NAME_BYTES }
     ensures { result ≡ length name.now }
 {
     name.len() as u8
@@ -42,19 +42,6 @@ pub(crate) fn token_len(token: &[u8; 32]) -> u32
     ensures fixed { result ≡ 32 }
 {
     token.len() as u32
-}
-
-/// The bytes of a token are a token.
-pub(crate) fn token_fits(token: &[u8; 32])
-    ensures { IsTrue (is_token token.now) }
-{
-    bytes_fit(token);
-}
-
-fn bytes_fit(bytes: &[u8])
-    ensures { IsTrue (list_all (is_number 1) bytes.now) }
-{
-    let _bytes = bytes;
 }
 
 /// Indices are numbers of two bytes.
@@ -180,7 +167,7 @@ pub(crate) fn put_entries<const N: usize>(frame: &mut ArrayVec<u8, N>, entries: 
 
 // Appends a name after its length.
 fn put_name<const N: usize>(frame: &mut ArrayVec<u8, N>, name: &[u8])
-    requires short { length name.now ≤ 24 }
+    requires short { length name.now ≤ MOST_NAME_BYTES }
     requires room { array_vec_len frame.old + 1 + length name.now ≤ N }
     ensures puts { Puts frame.old.items frame.new.items (name_text name.now) }
     ensures len { array_vec_len frame.new ≡ array_vec_len frame.old + 1 + length name.now }
@@ -191,7 +178,7 @@ fn put_name<const N: usize>(frame: &mut ArrayVec<u8, N>, name: &[u8])
 
 // Appends a code, a name and an amount.
 fn put_move<const N: usize>(frame: &mut ArrayVec<u8, N>, code: u8, name: &[u8], amount: Amount)
-    requires short { length name.now ≤ 24 }
+    requires short { length name.now ≤ MOST_NAME_BYTES }
     requires room { array_vec_len frame.old + 34 ≤ N }
     ensures { Puts frame.old.items frame.new.items (code ∷ (name_text name.now ++ money_text amount)) }
 {
@@ -202,7 +189,7 @@ fn put_move<const N: usize>(frame: &mut ArrayVec<u8, N>, code: u8, name: &[u8], 
 
 // Appends a code and two names.
 fn put_pair<const N: usize>(frame: &mut ArrayVec<u8, N>, code: u8, from: &[u8], to: &[u8])
-    requires short { (length from.now ≤ 24) × (length to.now ≤ 24) }
+    requires short { (length from.now ≤ MOST_NAME_BYTES) × (length to.now ≤ MOST_NAME_BYTES) }
     requires room { array_vec_len frame.old + 51 ≤ N }
     ensures { Puts frame.old.items frame.new.items (code ∷ (name_text from.now ++ name_text to.now)) }
 {

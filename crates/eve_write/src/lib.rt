@@ -26,7 +26,7 @@ mod vote;
 pub use access::{AccessData, write_access};
 pub use attempt::{AttemptData, write_attempt};
 pub use batch::{BatchData, write_batch};
-pub use commit::{CommitData, write_commit};
+pub use commit::{CommitData, commit_fits, write_commit};
 pub use customer::{CustomerData, write_customer};
 pub use gathering::{GatherFault, gather};
 pub use head::write_header;

@@ -1,7 +1,6 @@
 //! Votes and their frames.
 
-ghost use Rattle.std.specs.Prelude.{◌≡◌, ◌==◌, IsTrue};
-ghost use Rattle.std.specs.List.{list_all};
+ghost use Rattle.std.specs.Prelude.{◌≡◌, IsTrue};
 ghost use Rattle.eve_grammar.specs.Frames.{OfVote};
 ghost use Rattle.eve_grammar.specs.Spelling.{frame_text};
 ghost use Rattle.eve_write.specs.Data.{vote as plain, choice_code, has_due_token};
@@ -9,11 +8,11 @@ ghost use Rattle.eve_write.specs.Writable.{fits_vote};
 ghost use Rattle.eve_write.specs.Passes.{vote_size, right_vote};
 ghost use Rattle.eve_write.specs.Writing.{Writes};
 
-use crate::fields::{token_fits, token_len};
+use crate::fields::token_len;
 use crate::measure::Measure;
 use crate::right::Judge;
 use crate::spell::{Spell, send_texts};
-use eve_grammar::Head;
+use eve_grammar::{Head, is_zeros, token_fits};
 use eve_streams::{SendFault, Sink};
 
 /// What a verifier votes for.
@@ -64,17 +63,11 @@ pub fn write_vote<W: Sink>(out: &mut W, vote: &VoteData) -> Result<(), SendFault
     )
 }
 
-fn all_zero(token: &[u8]) -> bool
-    ensures { result ≡ list_all (λ byte. byte == 0) token.now }
-{
-    token.iter().all(|byte| *byte == 0)
-}
-
 fn has_due_token(choice: ChoiceData, token: &[u8; 32]) -> bool
     ensures { result ≡ has_due_token choice token.now }
 {
     match choice {
-        ChoiceData::ForRollback => all_zero(token),
+        ChoiceData::ForRollback => is_zeros(token),
         ChoiceData::ForCommit => true,
     }
 }

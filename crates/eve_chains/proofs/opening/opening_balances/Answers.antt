@@ -3,7 +3,7 @@ use Rattle.std.proofs.lemmas.List.{length-set}
 use Rattle.eve_frames.specs.Views.{customer_in}
 use Rattle.eve_grammar.specs.Trace.{Customer}
 use Rattle.eve_chains.proofs.TableLaws.{customer_there}
-use Rattle.eve_chains.proofs.OpeningRows.{opening_more}
+use Rattle.eve_grammar.proofs.OpeningRows.{opening_more}
 use Rattle.eve_chains.proofs.opening.opening_balances.Goals as goal
 
 pub loop-i-preserved : goal.loop-i-preserved

@@ -1,5 +1,5 @@
 use Rattle.std.proofs.Common.{◌≡◌, ◌*◌, length, take}
-use Rattle.eve_chains.specs.Visible.{opening_rows}
+use Rattle.eve_grammar.specs.Trace.{opening_rows}
 use Rattle.eve_chains.proofs.opening.opening_balances.Given as goal
 
 abbrev pub invariant-loop-i : goal.invariant-loop-i

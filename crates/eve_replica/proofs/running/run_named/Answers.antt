@@ -1,19 +1,21 @@
-use Rattle.std.proofs.Common.{rules, ◌≡◌, All, IsTrue, List, length, map, sym, ◌∙◌, ap, subst, arith}
+use Rattle.std.proofs.Common.{rules, ◌≡◌, ℕ, ◌*◌, All, IsTrue, List, length, map, sym, ◌∙◌, ap, subst, arith}
 use Rattle.std.proofs.lemmas.List.{length-map}
 use Rattle.std.specs.List.{list_all}
-use Rattle.eve_grammar.specs.Trace.{Customer, Head, head_of}
+use Rattle.eve_grammar.specs.Trace.{Customer, Head, Vote, head_of, opening_rows}
 use Rattle.eve_grammar.specs.declared.head.Head as header
+use Rattle.eve_grammar.proofs.OpeningRows.{length-opening_rows}
 use Rattle.eve_grammar.specs.Bodies.{limits}
 use Rattle.eve_grammar.specs.Limits.{is_customer}
 use Rattle.eve_write.specs.declared.parts.Parts.{Parts}
 use Rattle.eve_write.specs.declared.vote.VoteData.{VoteData}
-use Rattle.eve_write.specs.Data.{customer, section, trace}
+use Rattle.eve_write.specs.Data.{batch, customer, section, trace, vote}
 use Rattle.eve_workload.specs.declared.mixer.MixedBatch.{MixedBatch}
 use Rattle.eve_replica.specs.declared.server.Server.{Server}
-use Rattle.eve_replica.specs.Serving.{IsRightMixed, AreVotesOn, AreReplies}
+use Rattle.eve_replica.specs.Serving.{IsRightMixed, AreVotesOn, AreReplies, plan_with}
 use Rattle.eve_workload.specs.Workload.{head_asked}
-use Rattle.eve_replica.specs.Run.{batches_cut}
+use Rattle.eve_replica.specs.Run.{batches_cut, plan_of}
 use Rattle.eve_replica.proofs.Parts.{same_head, spelled}
+use Rattle.eve_replica.proofs.Sectioned.{run_of, plan_is, copies_gave}
 use Rattle.eve_replica.proofs.running.run_named.Goals as goal
 
 pub returns : goal.returns
@@ -54,9 +56,11 @@ returns g c =
     c.customers-2.ensures.right in
     let all : c.in_ok-servers.field-0.batches.now ≡ mixed = c.in_ok-servers.ensures.batches
     ∙ c.as_slice.ensures.value in
-    let counted : length under.names ≡ h.customers = under.customers ∙ ap (λ (x : header.Head). x.customers) same in
-    let mix : All (IsRightMixed under.names) mixed =
-    subst (λ (ms : List MixedBatch). All (IsRightMixed under.names) ms) all under.mixed in
+    let slice : List MixedBatch = c.as_slice.result.now in
+    let plan = plan_with c.args.names.now.items c.in_ok-balances.balances c.head-head.result slice in
+    let counted : length plan.names ≡ h.customers = under.customers ∙ ap (λ (x : header.Head). x.customers) same in
+    let mix : All (IsRightMixed plan.names) mixed =
+    subst (λ (ms : List MixedBatch). All (IsRightMixed plan.names) ms) all under.mixed in
     let votes : AreVotesOn (length mixed) given =
     subst (λ (ms : List MixedBatch). AreVotesOn (length ms) given) all under.votes in
     let each : All (λ copy. copy.items ≡ given) p.verifiers.items =
@@ -66,12 +70,26 @@ returns g c =
     subst (λ (ss : List Server). AreReplies (length ss) (length mixed) p.sent.items) c.as_slice-2.ensures.value
     (subst (λ (ms : List MixedBatch). AreReplies (length c.as_slice-2.result.now) (length ms) p.sent.items)
     c.as_slice-3.ensures.value c.in_ok-sent.ensures) in
+    let led : List Vote = map vote given in
+    let at = c.in_ok-servers.field-0.standing in
+    let opened : c.in_ok-balances.balances ≡ opening_rows c.args.workload.now.customers = search rules in
+    let is : plan ≡ plan_of c.args.workload.now c.args.mixer =
+    plan_is c.args.workload.now c.args.mixer c.args.names.now.items c.in_ok-balances.balances c.head-head.result slice
+    c.requires opened (ap (λ (x : Head). x.workers) asked) (ap (λ (x : Head). x.window) asked)
+    (ap (map (λ m. batch m.batch)) c.as_slice.ensures.value ∙ c.in_ok-batches.ensures.cut) in
     record {
-      spelled = spelled p h under.names mixed c.in_ok-servers.field-0.head.window c.in_ok-servers.field-0.standing
-          servers given
+      spelled = spelled p h plan mixed at led servers given
           head c.head-head.ensures.right counted right c.in_ok-plain_batches.ensures mix c.in_ok-sections_of.ensures
           under.servers votes each replies;
-      head = head ∙ asked;
-      customers = customers;
-      batches = batches;
+      run = run_of c.args.workload.now c.args.mixer p plan at led servers is (head ∙ asked) customers batches
+          c.in_ok-sections_of.ensures under.servers (c.in_ok-servers.ensures.done ∙ sym (length-map slice (λ m. batch m.batch)))
+          (omega (arith, c.in_ok-servers.ensures.view, length-map slice (λ m. batch m.batch))) under.majority
+          (copies_gave given p.verifiers.items each);
     }
+
+pub run_windows-requires-clause-rows : goal.run_windows-requires-clause-rows
+run_windows-requires-clause-rows g c κs within =
+    let w = c.args.workload.now in
+    let opened : c.in_ok-balances.balances ≡ opening_rows w.customers = search rules in
+    ap length opened ∙ length-opening_rows w.customers
+    ∙ ap (λ (n : ℕ). 2 * n) (sym (ap length c.requires ∙ length-map w.customers (λ x. x.name)))

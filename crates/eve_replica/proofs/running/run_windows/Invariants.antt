@@ -1,8 +1,12 @@
 use Rattle.std.proofs.Common.{◌≡◌, ◌≤◌}
-use Rattle.eve_replica.specs.Serving.{IsUnderWay}
+use Rattle.eve_replica.specs.Serving.{plan_with, IsUnderWay}
 use Rattle.eve_replica.proofs.running.run_windows.Given as goal
 
 abbrev pub invariant-loop-turn : goal.invariant-loop-turn
-invariant-loop-turn g l =
-    IsUnderWay l.deployment × (l.deployment.head ≡ l.head) × (l.deployment.batches.now ≡ l.batches)
-    × (l.deployment.standing.opened ≡ 0) × (l.deployment.standing.view ≤ l.turn)
+invariant-loop-turn g l = record {
+  under_way : IsUnderWay (plan_with l.names.items l.balances l.head l.batches) l.deployment;
+  head : l.deployment.head ≡ l.head;
+  batches : l.deployment.batches.now ≡ l.batches;
+  none_open : l.deployment.standing.opened ≡ 0;
+  view : l.deployment.standing.view ≤ l.turn;
+}

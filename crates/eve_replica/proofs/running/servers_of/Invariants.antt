@@ -1,7 +1,11 @@
-use Rattle.std.proofs.Common.{◌≡◌, All, vec_len}
-use Rattle.eve_replica.specs.Serving.{Serves, first_standing}
+use Rattle.std.proofs.Common.{◌≡◌, true, [], All, vec_len}
+use Rattle.eve_replica.specs.Sections.{Plan}
+use Rattle.eve_replica.specs.Serving.{IsPlanFor, Serves, first_standing}
 use Rattle.eve_replica.proofs.running.servers_of.Given as goal
 
 abbrev pub invariant-loop-number : goal.invariant-loop-number
-invariant-loop-number l =
-    (vec_len l.servers ≡ l.number) × All (Serves l.names.items l.head.window first_standing) l.servers.items
+invariant-loop-number l = record {
+  many : vec_len l.servers ≡ l.number;
+  serve : (p : Plan) → IsPlanFor l.names.items l.balances l.head p → All (Serves p first_standing []) l.servers.items;
+  live : All (λ s. s.is_live ≡ true) l.servers.items;
+}

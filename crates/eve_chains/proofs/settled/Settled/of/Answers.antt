@@ -7,7 +7,7 @@ use Rattle.eve_history.specs.declared.fate.Fate.TheVariants.{Committed}
 use Rattle.eve_chains.specs.Along.{said_at, all_said}
 use Rattle.eve_chains.specs.Settling.{settling}
 use Rattle.eve_chains.proofs.Committed.{copied_other, copied_more, all_copied, all_kept, is_there}
-use Rattle.eve_chains.proofs.OpeningRows.{length-opening_rows}
+use Rattle.eve_grammar.proofs.OpeningRows.{length-opening_rows}
 use Rattle.eve_chains.proofs.settled.Settled.of.Goals as goal
 use Rattle.eve_chains.proofs.settled.Settled.of.Goals.{then-eq+in_ok-copy_ordered+in_ok-push, else-eq}
 

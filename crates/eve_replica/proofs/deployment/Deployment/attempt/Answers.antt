@@ -1,23 +1,27 @@
-use Rattle.std.proofs.Common.{false, ◌-◌, ◌<◌, ℕ, All, length, take, drop, sym, ◌∙◌, subst, arith}
+use Rattle.std.proofs.Common.{false, ◌-◌, ◌*◌, ◌<◌, ℕ, All, List, length, map, take, drop, sym, ◌∙◌, subst, arith}
 use Rattle.std.proofs.lemmas.List.Elements.{All-drop, All-take}
+use Rattle.eve_write.specs.Data.{vote}
+use Rattle.eve_replica.specs.declared.server.Server.{Server}
 use Rattle.eve_replica.specs.declared.standing.Standing.{Standing}
-use Rattle.eve_replica.specs.Serving.{IsRightMixed, Serves}
-use Rattle.eve_replica.proofs.Going.{lent_serve, moved, window_open, window_len}
+use Rattle.eve_replica.specs.Serving.{IsRightMixed, Serves, live_in}
+use Rattle.eve_replica.proofs.Going.{lent_serve, moved, window_open, window_len, window_due, still_majority}
 use Rattle.eve_replica.proofs.deployment.Deployment.attempt.Goals as goal
 
 pub attempt_all-requires-clause-serve : goal.attempt_all-requires-clause-serve
 attempt_all-requires-clause-serve g c κs within =
-    let was = c.requires.under_way in
+    let p = c.requires.under_way.0 in
+    let was = c.requires.under_way.1 in
     let d = c.args.self.now in
     let from : ℕ = d.standing.committed in
     let least = c.min-end.ensures in
     let many = window_len d.batches.now from c.min-end.result (omega arith) (omega arith) in (
-      was.names,
-      d.head.window,
-      All-take (IsRightMixed was.names) (c.min-end.result - from) (drop from d.batches.now)
-          (All-drop (IsRightMixed was.names) from d.batches.now was.mixed),
-      lent_serve d c.as_mut_slice.result.now was c.as_mut_slice.ensures.value,
-      omega (arith, was.few),
+      p,
+      map vote d.votes.items,
+      All-take (IsRightMixed p.names) (c.min-end.result - from) (drop from d.batches.now)
+          (All-drop (IsRightMixed p.names) from d.batches.now was.mixed),
+      window_due p d c.min-end.result was c.requires.none_open,
+      lent_serve p d c.as_mut_slice.result.now was c.as_mut_slice.ensures.value,
+      omega (arith, was.few, was.window),
       omega (arith, was.few),
     )
 
@@ -25,17 +29,16 @@ pub returns-clause-many : goal.returns-clause-many
 returns-clause-many g c =
     let d = c.args.self.now in
     let many = window_len d.batches.now d.standing.committed c.min-end.result (omega arith) (omega arith) in
-    omega (arith, c.requires.under_way.room)
+    omega (arith, c.requires.under_way.1.room)
 
 pub returns-clause-standing : goal.returns-clause-standing
 returns-clause-standing g c =
     let d = c.args.self.now in
     let many = window_len d.batches.now d.standing.committed c.min-end.result (omega arith) (omega arith) in
-    window_open _ d.standing c.requires.none_open (omega (arith, c.requires.under_way.room))
+    window_open _ d.standing c.requires.none_open (omega (arith, c.requires.under_way.1.room))
 
 pub returns-clause-under_way : goal.returns-clause-under_way
-returns-clause-under_way g c =
-    let was = c.requires.under_way in
+returns-clause-under_way g c = λ p was.
     let d = c.args.self.now in
     let from : ℕ = d.standing.committed in
     let window = take (c.min-end.result - from) (drop from d.batches.now) in
@@ -43,9 +46,13 @@ returns-clause-under_way g c =
     let some : 0 < length window = omega (arith, was.room) in
     let now : Standing =
     record { view = d.standing.view; committed = from; opened = length window; is_next_serial = false } in
-    moved d c.as_mut_slice.result.now c.attempt_all.new.servers now d.votes was c.as_mut_slice.ensures.value
-    (c.attempt_all.auto.servers ∙ c.as_mut_slice.ensures.len) (omega (arith, many)) was.votes
-    (λ names room all.
-    subst (λ (x : Standing). All (Serves names room x) c.attempt_all.new.servers)
+    let as_many = c.attempt_all.auto.servers ∙ c.as_mut_slice.ensures.len in
+    let lent = c.as_mut_slice.result.now in
+    let same = c.as_mut_slice.ensures.value in
+    moved p d c.attempt_all.new.servers now d.votes was as_many (omega (arith, many)) was.votes
+    (subst (λ (x : Standing). All (Serves p x (map vote d.votes.items)) c.attempt_all.new.servers)
     (sym (window_open (length window) d.standing c.requires.none_open some))
-    (c.in_ok-attempt_all.ensures names room all))
+    (c.in_ok-attempt_all.ensures.serve p (map vote d.votes.items)
+    (window_due p d c.min-end.result was c.requires.none_open) (lent_serve p d lent was same)))
+    (still_majority d lent c.attempt_all.new.servers (live_in lent) same as_many c.in_ok-attempt_all.ensures.live
+    (subst (λ (ss : List Server). length ss < 2 * live_in ss) (sym same) was.majority))

@@ -1,10 +1,14 @@
 use Rattle.std.proofs.Common.{◌≡◌}
+use Rattle.eve_replica.specs.Sections.{Plan}
 use Rattle.eve_replica.specs.Serving.{IsSameRun, IsUnderWay}
 use Rattle.eve_replica.proofs.deployment.Deployment.run_window.Given as goal
 
 abbrev pub invariant-loop-self : goal.invariant-loop-self
-invariant-loop-self g l = IsUnderWay l.self × IsSameRun l.fn.self l.self
-    × (l.self.standing.view ≡ l.fn.self.standing.view)
+invariant-loop-self g l = record {
+  under_way : (p : Plan) → IsUnderWay p l.fn.self → IsUnderWay p l.self;
+  same : IsSameRun l.fn.self l.self;
+  view : l.self.standing.view ≡ l.fn.self.standing.view;
+}
 
 abbrev pub decreases-loop-self : goal.decreases-loop-self
 decreases-loop-self g l = l.self.standing.opened

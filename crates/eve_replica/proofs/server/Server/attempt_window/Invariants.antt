@@ -1,8 +1,9 @@
-use Rattle.std.proofs.Common.{◌≡◌, ◌==◌, true, ◌&&◌}
-use Rattle.eve_replica.specs.Serving.{GoesOn, after_attempts}
+use Rattle.std.proofs.Common.{◌≡◌, ◌==◌, true, ◌&&◌, map}
+use Rattle.eve_write.specs.Data.{batch}
+use Rattle.eve_replica.specs.Serving.{GoesOn, attempt_move}
 use Rattle.eve_replica.proofs.server.Server.attempt_window.Given as goal
 
 abbrev pub invariant-loop-mixed : goal.invariant-loop-mixed
 invariant-loop-mixed g l =
-    GoesOn (after_attempts l.mixed-index) l.fn.self l.self × (l.self.is_live ≡ true)
+    GoesOn (attempt_move l.mixed-index (map (λ m. batch m.batch) l.window)) l.fn.self l.self × (l.self.is_live ≡ true)
     × (l.is_serial ≡ (l.serial && (l.mixed-index == 0)))

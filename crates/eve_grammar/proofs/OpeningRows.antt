@@ -1,11 +1,10 @@
--- The opening balances, customer by customer.
+-- Public: other crates cite these lemmas. The opening balances, customer by customer.
 use Rattle.std.proofs.Common.{◌≡◌, ℕ, ℤ, suc, ◌+◌, ◌*◌, ◌<◌, List, [], ◌∷◌, ◌++◌, take, length, set, slice_get, Some}
 use Rattle.std.proofs.Common.{refl, sym, ap, ◌∙◌, append_assoc, arith}
 use Rattle.std.proofs.lemmas.List.{take_more, take_more_set, length-set}
 use Rattle.std.proofs.lemmas.Option.{get_or_from_slice_get, slice_get_within}
 use Rattle.std.proofs.lemmas.Grind.{flat_map-append}
-use Rattle.eve_grammar.specs.Trace.{Customer}
-use Rattle.eve_chains.specs.Visible.{opening_rows}
+use Rattle.eve_grammar.specs.Trace.{Customer, opening_rows}
 
 pub length-opening_rows : (xs : List Customer) → length (opening_rows xs) ≡ 2 * length xs
 length-opening_rows [] = refl

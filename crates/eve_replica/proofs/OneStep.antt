@@ -1,0 +1,183 @@
+-- A replica that attempts, commits or rolls back goes on.
+use Rattle.std.proofs.Common.{◌≡◌, ℕ, suc, ◌+◌, ◌-◌, Bool, true, false, if◌then◌else◌, List, [], ◌∷◌, ◌++◌, length}
+use Rattle.std.proofs.Common.{slice_get, Option, Some, None, option_map, Result, Ok, Err, OnOk, All, refl, sym, ap, ◌∙◌}
+use Rattle.std.proofs.Common.{subst, arith}
+use Rattle.std.proofs.lemmas.List.{append-nil}
+use Rattle.std.proofs.lemmas.List.Elements.{All-head, All-tail, All-nil}
+use Rattle.std.proofs.lemmas.Bool.{false≢true}
+use Rattle.eve_grammar.specs.Trace.{Batch, Step, Attempt, Attempts, Commit, Rollback, Commits, RollsBack, Vote}
+use Rattle.eve_grammar.specs.Trace.{ForCommit, ForRollback}
+use Rattle.eve_write.specs.Data.{section}
+use Rattle.eve_attempts.specs.Ledgers.{Ledger, Opened, ledger_rows}
+use Rattle.eve_attempts.specs.Discarding as account
+use Rattle.eve_replica.specs.declared.server.Server.{Server}
+use Rattle.eve_replica.specs.Replicas.{Replica}
+use Rattle.eve_replica.specs.Replicas as replica
+use Rattle.eve_replica.specs.Sections.{GoesThrough, place_due, votes_on, votes_along}
+use Rattle.eve_replica.specs.Serving.{standing_of, after_commit, AreDue, AreRightSteps, AreOfItsView, GoesOn, attempt_move}
+use Rattle.eve_replica.specs.Serving.{commit_move, rollback_move, next_token, is_some_of}
+use Rattle.eve_replica.proofs.Counting.{is_that}
+use Rattle.eve_replica.proofs.Through.{through_more, votes_more}
+use Rattle.eve_replica.proofs.Going.{stand, attempted, attempts_next, attempted_in_view, no_votes}
+
+-- ---- attempts
+
+pub attempt_goes : (view : ℕ) (serial : Bool) (b : Batch) (a : Attempt) (old new : Server)
+    → AreDue 1 view serial old.replica.ledger → old.is_live ≡ true → new.is_live ≡ true
+    → replica.Attempts view serial old.replica new.replica b a
+    → section new.steps ≡ section old.steps ++ Attempts a ∷ [] → (AreRightSteps old → AreRightSteps new)
+    → GoesOn (attempt_move 1 (b ∷ [])) old new
+attempt_goes view serial b a old new due live lives made added right =
+    let closed = made.1.1 in
+    let changed = closed.closed.opens.changed in
+    let steps = section old.steps in
+    record {
+      names = ap (λ (r : Replica). r.names) closed.rest;
+      rows = closed.closed.opens.as_many;
+      room = ap (λ (s : Ledger). s.window) changed;
+      whole = λ h. ap (λ (r : Replica). r.is_broken) closed.rest ∙ h;
+      steps = right;
+      through = λ p names next goes.
+          subst (λ (ss : List Step). GoesThrough p ss p.first new.replica.ledger) (sym added)
+          (through_more p steps (Attempts a) p.first old.replica.ledger new.replica.ledger goes
+          (attempts_next p view serial old.replica new.replica b a due names
+          (ap (slice_get p.batches) (plus_zero (place_due old.replica.ledger)) ∙ next live 0 (omega arith)) made));
+      of_view = attempted_in_view view serial old.replica new.replica b a due made;
+      votes = λ h. ap votes_along added ∙ votes_more steps (Attempts a) ∙ append-nil (votes_along steps)
+          ∙ sym (no_votes new.is_live (votes_along steps));
+      view = λ at le. let same = ap (λ (s : Ledger). s.view) changed in omega (arith, same, le);
+      live = λ h. (live, attempted view serial old.replica new.replica b a made);
+      behind = λ at stands was stopped. absurd (false≢true (sym stopped ∙ lives));
+    }
+  where
+    plus_zero : (n : ℕ) → n ≡ n + 0
+    plus_zero n = omega arith
+
+-- where a call ends well, what two of its clauses give
+pub where_well : {A E : Type 0} (P Q R : Type 0) (r : Result A E) → (P → Q → R) → OnOk r P → OnOk r Q → OnOk r R
+where_well P Q R (Ok x) both p q = both p q
+where_well P Q R (Err e) both p q = tt
+
+-- ---- commits
+
+-- who has a token for the next batch is live
+pub live_with : (token : List ℕ) (s : Server) → is_some_of token (next_token s) ≡ true → s.is_live ≡ true
+live_with token s has = decide s.is_live refl
+  where
+    decide : (b : Bool) → s.is_live ≡ b → s.is_live ≡ true
+    decide true is = is
+    decide false is = absurd (false≢true
+        (ap (λ (b : Bool). is_some_of token (if b then option_map (λ o. o.token) (slice_get s.replica.ledger.opened 0)
+        else None)) (sym is) ∙ has))
+
+-- and it is that of the first open attempt
+pub token_with : (token : List ℕ) (s : Server) (first : Opened) (others : List Opened)
+    → s.replica.ledger.opened ≡ first ∷ others → is_some_of token (next_token s) ≡ true → first.token ≡ token
+token_with token s first others opened has =
+    let live = live_with token s has in
+    let own : next_token s ≡ Some first.token =
+    ap (λ (b : Bool). if b then option_map (λ o. o.token) (slice_get s.replica.ledger.opened 0) else None) live
+    ∙ ap (λ (os : List Opened). option_map (λ o. o.token) (slice_get os 0)) opened in
+    some_is (sym own ∙ is_that token (next_token s) has)
+  where
+    some_is : {x y : List ℕ} → Path (Option (List ℕ)) (Some x) (Some y) → x ≡ y
+    some_is same = cc
+
+-- the vote on which a replica commits
+pub vote_of_commit : (old new : Ledger) (c : Commit) (token : List ℕ) (made : account.Commits old new c)
+    → AreOfItsView old → made.first.token ≡ token → Path (List Vote) (votes_on (Commits c))
+    (record { seq = old.committed + 1; view = old.view; choice = ForCommit token } ∷ [])
+vote_of_commit old new c token made of_view has =
+    let InView : Opened → Type 0 = λ o. o.view ≡ old.view in
+    let view : made.first.view ≡ old.view =
+    All-head InView made.first made.others (subst (λ (os : List Opened). All InView os) made.opened of_view) in
+    ap (λ (d : Commit). votes_on (Commits d)) made.commit
+    ∙ ap (λ (v : ℕ). record { seq = old.committed + 1; view = v; choice = ForCommit made.first.token } ∷ []) view
+    ∙ ap (λ (t : List ℕ). record { seq = old.committed + 1; view = old.view; choice = ForCommit t } ∷ []) has
+
+pub committed_in_view : (old new : Ledger) (c : Commit) → account.Commits old new c → AreOfItsView old
+    → AreOfItsView new
+committed_in_view old new c made of_view =
+    let InView : Opened → Type 0 = λ o. o.view ≡ old.view in
+    subst AreOfItsView (sym made.changed)
+    (All-tail InView made.first made.others (subst (λ (os : List Opened). All InView os) made.opened of_view))
+
+pub committed : (old new : Ledger) (c : Commit) → account.Commits old new c
+    → standing_of new ≡ after_commit (standing_of old)
+committed old new c made =
+    let many : length old.opened ≡ suc (length made.others) = ap length made.opened in
+    ap standing_of made.changed
+    ∙ stand old.view (old.committed + 1) (length made.others) (length old.opened - 1) old.is_next_serial
+    old.is_next_serial (omega arith) refl
+
+pub commit_goes : (token : List ℕ) (c : Commit) (old new : Server)
+    → is_some_of token (next_token old) ≡ true → new.is_live ≡ old.is_live
+    → replica.CommitsFirst old.replica new.replica c → section new.steps ≡ section old.steps ++ Commits c ∷ []
+    → (AreRightSteps old → AreRightSteps new) → GoesOn (commit_move token) old new
+commit_goes token c old new has lives made added right =
+    let steps = section old.steps in
+    let ledger = old.replica.ledger in
+    let moved = made.1 in
+    let live = live_with token old has in
+    record {
+      names = ap (λ (r : Replica). r.names) made.2;
+      rows = ap ledger_rows moved.changed;
+      room = ap (λ (s : Ledger). s.window) moved.changed;
+      whole = λ h. ap (λ (r : Replica). r.is_broken) made.2 ∙ h;
+      steps = right;
+      through = λ p names next goes.
+          subst (λ (ss : List Step). GoesThrough p ss p.first new.replica.ledger) (sym added)
+          (through_more p steps (Commits c) p.first ledger new.replica.ledger goes moved);
+      of_view = committed_in_view ledger new.replica.ledger c moved;
+      votes = λ h. ap votes_along added ∙ votes_more steps (Commits c)
+          ∙ ap (λ (vs : List Vote). votes_along steps ++ vs)
+          (vote_of_commit ledger new.replica.ledger c token moved h
+          (token_with token old moved.first moved.others moved.opened has))
+          ∙ ap (λ (b : Bool). votes_along steps ++ (if b then (commit_move token).votes (standing_of ledger) else []))
+          (sym (lives ∙ live));
+      view = λ at le. let same = ap (λ (s : Ledger). s.view) moved.changed in omega (arith, same, le);
+      live = λ h. (live, committed ledger new.replica.ledger c moved);
+      behind = λ at stands was stopped. absurd (false≢true (sym stopped ∙ lives ∙ live));
+    }
+
+-- ---- rollbacks
+
+-- the vote on which a replica rolls back
+pub vote_of_rollback : (old new : Ledger) (r : Rollback) → account.RollsBack old new r
+    → Path (List Vote) (votes_on (RollsBack r))
+    (record { seq = old.committed + 1; view = old.view; choice = ForRollback } ∷ [])
+vote_of_rollback old new r made =
+    let view : r.view - 1 ≡ old.view = omega (arith, made.view) in
+    ap (λ (n : ℕ). record { seq = n + 1; view = r.view - 1; choice = ForRollback } ∷ []) made.to
+    ∙ ap (λ (v : ℕ). record { seq = old.committed + 1; view = v; choice = ForRollback } ∷ []) view
+
+pub rolled_back_in_view : (old new : Ledger) (r : Rollback) → account.RollsBack old new r → AreOfItsView new
+rolled_back_in_view old new r made =
+    subst AreOfItsView (sym made.changed) (All-nil (λ (o : Opened). o.view ≡ old.view + 1))
+
+pub rollback_goes : (r : Rollback) (old new : Server) → old.is_live ≡ true → new.is_live ≡ true
+    → account.RollsBack old.replica.ledger new.replica.ledger r
+    → new.replica ≡ record old.replica { ledger = new.replica.ledger; is_broken = false }
+    → section new.steps ≡ section old.steps ++ RollsBack r ∷ [] → (AreRightSteps old → AreRightSteps new)
+    → GoesOn rollback_move old new
+rollback_goes r old new live lives made whole added right =
+    let steps = section old.steps in
+    let ledger = old.replica.ledger in
+    record {
+      names = ap (λ (x : Replica). x.names) whole;
+      rows = made.as_many;
+      room = ap (λ (s : Ledger). s.window) made.changed;
+      whole = λ h. ap (λ (x : Replica). x.is_broken) whole;
+      steps = right;
+      through = λ p names next goes.
+          subst (λ (ss : List Step). GoesThrough p ss p.first new.replica.ledger) (sym added)
+          (through_more p steps (RollsBack r) p.first ledger new.replica.ledger goes made);
+      of_view = λ h. rolled_back_in_view ledger new.replica.ledger r made;
+      votes = λ h. ap votes_along added ∙ votes_more steps (RollsBack r)
+          ∙ ap (λ (vs : List Vote). votes_along steps ++ vs) (vote_of_rollback ledger new.replica.ledger r made)
+          ∙ ap (λ (b : Bool). votes_along steps ++ (if b then rollback_move.votes (standing_of ledger) else []))
+          (sym lives);
+      view = λ at le. let same = ap (λ (s : Ledger). s.view) made.changed in omega (arith, same, le);
+      live = λ h. (live, ap standing_of made.changed);
+      behind = λ at stands was stopped. absurd (false≢true (sym stopped ∙ lives));
+    }

@@ -1,0 +1,174 @@
+-- What the sections of a run say: each is what an account went through, on the votes, and most have all commits.
+use Rattle.std.proofs.Common.{◌≡◌, ℕ, ◌*◌, ◌<◌, ◌≤◌, Bool, true, false, cond, List, [], ◌∷◌, All}
+use Rattle.std.proofs.Common.{ℤ, Vec}
+use Rattle.std.proofs.Common.{length, map, refl, sym, ap, ◌∙◌, subst, eq-eqb, arith}
+use Rattle.std.proofs.lemmas.List.{length-map}
+use Rattle.std.proofs.lemmas.List.Elements.{All-head, All-tail, All-cons, All-nil}
+use Rattle.std.proofs.lemmas.List.Sums.{sum_by-cons}
+use Rattle.std.specs.List.{count_by}
+use Rattle.std.specs.declared.alloc.Global.{Global}
+use Rattle.eve_grammar.specs.Trace.{Batch, Step, Vote, head_of, opening_rows}
+use Rattle.eve_grammar.specs.declared.head.Head as header
+use Rattle.eve_write.specs.declared.parts.Parts.{Parts}
+use Rattle.eve_write.specs.declared.vote.VoteData.{VoteData}
+use Rattle.eve_write.specs.Data.{batch, section, trace, vote}
+use Rattle.eve_write.specs.Data.{votes as votes_of}
+use Rattle.eve_workload.specs.declared.mixer.Mixer.{Mixer}
+use Rattle.eve_workload.specs.Workload.{Workload, customer_names, head_asked}
+use Rattle.eve_workload.specs.declared.mixer.MixedBatch.{MixedBatch}
+use Rattle.eve_attempts.specs.Ledgers.{Ledger, opening}
+use Rattle.eve_replica.specs.declared.server.Server.{Server}
+use Rattle.eve_replica.specs.declared.standing.Standing.{Standing}
+use Rattle.eve_replica.specs.Sections.{Plan, commits_in}
+use Rattle.eve_replica.specs.Run.{IsSectionOf, IsDecidedBy, IsTraceOf, batches_cut, has_committed, plan_of}
+use Rattle.eve_replica.specs.Serving.{Serves, live_in, plan_with}
+use Rattle.eve_replica.proofs.Through.{commits_through}
+
+-- what holds of the section of each replica
+pub each_section : (P : Server → Type 0) (Q : List Step → Type 0) → ((s : Server) → P s → Q (section s.steps))
+    → (servers : List Server) → All P servers → All Q (map (λ s. section s.steps) servers)
+each_section P Q gives [] all = All-nil Q
+each_section P Q gives (s ∷ servers) all =
+    All-cons Q (section s.steps) (map (λ t. section t.steps) servers) (gives s (All-head P s servers all))
+    (each_section P Q gives servers (All-tail P s servers all))
+
+pub section_of : (p : Plan) (at : Standing) (votes : List Vote) → at.view ≤ 2 * length p.batches → (s : Server)
+    → Serves p at votes s → IsSectionOf p (section s.steps)
+section_of p at votes few s serves = record {
+  last = s.replica.ledger;
+  through = serves.through;
+  views = omega (arith, serves.view);
+}
+
+-- as many are committed in its section as in its account
+commits_counted : (p : Plan) (at : Standing) (votes : List Vote) (s : Server) → p.first.committed ≡ 0
+    → Serves p at votes s → commits_in (section s.steps) ≡ s.replica.ledger.committed
+commits_counted p at votes s none serves =
+    let counted = commits_through p (section s.steps) p.first s.replica.ledger serves.through in
+    omega arith
+
+decided_on : (p : Plan) (at : Standing) (votes : List Vote) (batches : ℕ) → p.first.committed ≡ 0
+    → at.committed ≡ batches → (s : Server) → Serves p at votes s → IsDecidedBy batches (section s.steps) votes
+decided_on p at votes batches none done s serves = decide s.is_live refl
+  where
+    decide : (b : Bool) → s.is_live ≡ b → IsDecidedBy batches (section s.steps) votes
+    decide true is = record {
+      later = serves.led.later;
+      first = serves.led.first;
+      none_later = λ all. serves.led.none_later is;
+    }
+    decide false is = record {
+      later = serves.led.later;
+      first = serves.led.first;
+      none_later = λ all.
+          let counted = commits_counted p at votes s none serves in
+          let less = serves.behind is in
+          absurd (omega arith);
+    }
+
+pub sections_decided : (p : Plan) (at : Standing) (votes : List Vote) (batches : ℕ) → p.first.committed ≡ 0
+    → at.committed ≡ batches → (servers : List Server) → All (Serves p at votes) servers
+    → All (λ steps. IsDecidedBy batches steps votes) (map (λ s. section s.steps) servers)
+sections_decided p at votes batches none done servers serve =
+    each_section (Serves p at votes) (λ steps. IsDecidedBy batches steps votes)
+    (decided_on p at votes batches none done) servers serve
+
+-- a live replica's section has all commits
+small : (b c : Bool) → (b ≡ true → c ≡ true) → cond b 1 0 ≤ cond c 1 0
+small true true to = omega arith
+small true false to = let e : false ≡ true = to refl in absurd cc
+small false true to = omega arith
+small false false to = omega arith
+
+live_commit : (p : Plan) (at : Standing) (votes : List Vote) (batches : ℕ) → p.first.committed ≡ 0
+    → at.committed ≡ batches → (servers : List Server) → All (Serves p at votes) servers
+    → live_in servers ≤ count_by (has_committed batches) (map (λ s. section s.steps) servers)
+live_commit p at votes batches none done [] serve = omega arith
+live_commit p at votes batches none done (s ∷ servers) serve =
+    let here = All-head (Serves p at votes) s servers serve in
+    let rest = live_commit p at votes batches none done servers (All-tail (Serves p at votes) s servers serve) in
+    let one = small s.is_live (has_committed batches (section s.steps))
+    (λ live.
+    let counted = commits_counted p at votes s none here in
+    let stands = ap (λ (x : Standing). x.committed) (here.live live) in
+    eq-eqb (commits_in (section s.steps)) batches (omega arith)) in
+    let left = sum_by-cons (λ (x : Server). cond x.is_live 1 0) s servers in
+    let right = sum_by-cons (λ (steps : List Step). cond (has_committed batches steps) 1 0) (section s.steps)
+    (map (λ t. section t.steps) servers) in
+    omega arith
+
+-- more than half of the sections have all commits
+pub most_commit : (p : Plan) (at : Standing) (votes : List Vote) (batches : ℕ) → p.first.committed ≡ 0
+    → at.committed ≡ batches → (servers : List Server) → All (Serves p at votes) servers
+    → length servers < 2 * live_in servers
+    → length (map (λ s. section s.steps) servers)
+    < 2 * count_by (has_committed batches) (map (λ s. section s.steps) servers)
+most_commit p at votes batches none done servers serve more =
+    let few = live_commit p at votes batches none done servers serve in
+    let many = length-map servers (λ s. section s.steps) in
+    omega arith
+
+-- each verifier gave these votes
+all_gave : (P : List Vote → Type 0) (led : List Vote) → P led → (verifiers : List (List Vote))
+    → All (λ votes. votes ≡ led) verifiers → All P verifiers
+all_gave P led holds [] all = All-nil P
+all_gave P led holds (votes ∷ verifiers) all =
+    All-cons P votes verifiers (subst P (sym (All-head (λ vs. vs ≡ led) votes verifiers all)) holds)
+    (all_gave P led holds verifiers (All-tail (λ vs. vs ≡ led) votes verifiers all))
+
+-- A run by the workload's plan has a trace of a run: all batches are committed, in no view past two for each batch, and
+-- its verifiers gave the votes that led its replicas.
+pub run_of : (w : Workload) (mixer : Mixer) (p : Parts) (plan : Plan) (at : Standing) (led : List Vote)
+    (servers : List Server) → plan ≡ plan_of w mixer
+    → head_of (trace p) ≡ head_asked w → (trace p).customers ≡ w.customers → (trace p).batches ≡ batches_cut w mixer
+    → map section p.sections.items ≡ map (λ s. section s.steps) servers → All (Serves plan at led) servers
+    → at.committed ≡ length plan.batches → at.view ≤ 2 * length plan.batches → length servers < 2 * live_in servers
+    → All (λ votes. votes ≡ led) (trace p).verifiers
+    → IsTraceOf w mixer (trace p)
+run_of w mixer p plan at led servers is head customers batches sections serve done few more gave =
+    let none : plan.first.committed ≡ 0 = ap (λ (x : Plan). x.first.committed) is in
+    let many : length plan.batches ≡ length w.batches =
+    ap (λ (x : Plan). length x.batches) is ∙ length-map w.batches _ in
+    let done' : at.committed ≡ length w.batches = done ∙ many in
+    record {
+      head = head;
+      customers = customers;
+      batches = batches;
+      sections = subst (λ (ss : List (List Step)). All (IsSectionOf (plan_of w mixer)) ss) (sym sections)
+          (subst (λ (x : Plan). All (IsSectionOf x) (map (λ s. section s.steps) servers)) is
+          (each_section (Serves plan at led) (IsSectionOf plan) (section_of plan at led few) servers serve));
+      committed = subst (λ (ss : List (List Step)). length ss < 2 * count_by (has_committed (length w.batches)) ss)
+          (sym sections) (most_commit plan at led (length w.batches) none done' servers serve more);
+      voted = subst (λ (ss : List (List Step)).
+          All (λ votes. All (λ steps. IsDecidedBy (length w.batches) steps votes) ss) (trace p).verifiers)
+          (sym sections)
+          (all_gave (λ votes. All (λ steps. IsDecidedBy (length w.batches) steps votes)
+          (map (λ s. section s.steps) servers)) led
+          (sections_decided plan at led (length w.batches) none done' servers serve) (trace p).verifiers gave);
+    }
+
+-- copies of votes are those votes
+pub copies_gave : (given : List VoteData) (copies : List (Vec VoteData Global)) → All (λ copy. copy.items ≡ given) copies
+    → All (λ votes. votes ≡ map vote given) (map votes_of copies)
+copies_gave given [] all = All-nil (λ vs. vs ≡ map vote given)
+copies_gave given (copy ∷ copies) all =
+    All-cons (λ vs. vs ≡ map vote given) (votes_of copy) (map votes_of copies)
+    (ap (map vote) (All-head (λ c. c.items ≡ given) copy copies all))
+    (copies_gave given copies (All-tail (λ c. c.items ≡ given) copy copies all))
+
+-- what a run began with is the workload's plan
+pub plan_is : (w : Workload) (mixer : Mixer) (names : List (List ℕ)) (balances : List ℤ) (h : header.Head)
+    (batches : List MixedBatch) → names ≡ customer_names w.customers → balances ≡ opening_rows w.customers
+    → h.workers ≡ w.deployment.workers → h.window ≡ w.deployment.window
+    → map (λ m. batch m.batch) batches ≡ batches_cut w mixer → plan_with names balances h batches ≡ plan_of w mixer
+plan_is w mixer names balances h batches named opened workers window cut =
+    let first : opening balances h.workers h.window
+    ≡ opening (opening_rows w.customers) w.deployment.workers w.deployment.window =
+    ap (λ (zs : List ℤ). opening zs h.workers h.window) opened
+    ∙ ap (λ (n : ℕ). opening (opening_rows w.customers) n h.window) workers
+    ∙ ap (opening (opening_rows w.customers) w.deployment.workers) window in
+    all names (customer_names w.customers) (map (λ m. batch m.batch) batches) (batches_cut w mixer) _ _ named cut first
+  where
+    all : (a a' : List (List ℕ)) (b b' : List Batch) (c c' : Ledger) → a ≡ a' → b ≡ b' → c ≡ c'
+        → Path Plan (record { names = a; batches = b; first = c }) (record { names = a'; batches = b'; first = c' })
+    all a a' b b' c c' d e f = cc

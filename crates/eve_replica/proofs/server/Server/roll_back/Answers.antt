@@ -1,0 +1,26 @@
+use Rattle.std.proofs.Common.{rules, ◌≡◌, true, false, IsTrue, sym, ◌∙◌, subst}
+use Rattle.std.specs.List.{list_all}
+use Rattle.eve_grammar.specs.Limits.{is_step}
+use Rattle.eve_attempts.specs.Discarding.{RollsBack}
+use Rattle.eve_write.specs.Data.{rollback, section}
+use Rattle.eve_replica.specs.Replicas.{Replica}
+use Rattle.eve_replica.specs.Serving.{GoesOn, rollback_move}
+use Rattle.eve_replica.proofs.OneStep.{where_well, rollback_goes}
+use Rattle.eve_replica.proofs.server.Server.roll_back.Goals as goal
+
+pub returns-clause-on : goal.returns-clause-on
+returns-clause-on c =
+    let made = c.in_ok-rollback.ensures.rolled_back in
+    let whole = c.in_ok-rollback.ensures.whole in
+    let same = c.did.ensures.replica in
+    let r = rollback c.in_ok-rollback.rollback in
+    let steps = section c.args.self.now.steps in
+    let old = c.args.self.now.replica in
+    let live : c.args.self.now.is_live ≡ true = search rules in
+    where_well _ _ (GoesOn rollback_move c.args.self.now c.did.new.self) c.did.result
+    (λ right added. rollback_goes r c.args.self.now c.did.new.self live (c.did.ensures.live ∙ live)
+    (subst (λ (x : Replica). RollsBack old.ledger x.ledger r) (sym same) made)
+    (subst (λ (x : Replica). x ≡ record old { ledger = x.ledger; is_broken = false }) (sym same) whole)
+    added
+    (λ h. right (subst (λ n. IsTrue (list_all (is_step n) steps)) (sym made.as_many) h)))
+    c.did.ensures.steps c.did.ensures.added
