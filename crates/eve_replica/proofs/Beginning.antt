@@ -13,12 +13,12 @@ use Rattle.eve_write.specs.Data.{section, vote}
 use Rattle.eve_attempts.specs.Ledgers.{Ledger, Opened, ledger_rows, opening}
 use Rattle.eve_replica.specs.declared.server.Server.{Server}
 use Rattle.eve_replica.specs.Replicas.{Replica}
-use Rattle.eve_replica.specs.Sections.{Plan, GoesThrough, votes_along}
+use Rattle.eve_replica.specs.Sections.{RunPlan, GoesThrough, votes_along}
 use Rattle.eve_replica.specs.Serving.{IsPlanFor, Serves, AreVotesOn, AreOfItsView, standing_of, first_standing}
 
 -- a replica with the opening balances that has done nothing
-pub begins : (p : Plan) (names : List (List ℕ)) (balances : List ℤ) (h : Head) (s : Server) → IsPlanFor names balances h p
-    → length balances ≡ 2 * length names
+pub begins : (p : RunPlan) (names : List (List ℕ)) (balances : List ℤ) (h : Head) (s : Server)
+    → IsPlanFor names balances h p → length balances ≡ 2 * length names
     → s.replica ≡ record { names = names; ledger = opening balances h.workers h.window; is_broken = false }
     → section s.steps ≡ [] → s.is_live ≡ true → Serves p first_standing [] s
 begins p names balances h s plan rows is none live =
@@ -48,7 +48,7 @@ none_voted batches votes none =
     subst (λ (vs : List VoteData). AreVotesOn batches vs) (sym none) (record { limits = refl; tokens = refl })
 
 -- replicas that nobody voted on
-pub none_led : (p : Plan) (votes : List VoteData) (servers : List Server) → votes ≡ []
+pub none_led : (p : RunPlan) (votes : List VoteData) (servers : List Server) → votes ≡ []
     → All (Serves p first_standing []) servers → All (Serves p first_standing (map vote votes)) servers
 none_led p votes servers none all =
     subst (λ (vs : List VoteData). All (Serves p first_standing (map vote vs)) servers) (sym none) all

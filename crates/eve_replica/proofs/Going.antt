@@ -1,6 +1,7 @@
 -- Replicas of a run go on, one after another.
 use Rattle.std.proofs.Common.{◌≡◌, ℕ, zero, suc, ◌+◌, ◌-◌, ◌*◌, ◌<◌, ◌≤◌, ◌==◌, Bool, true, false, ◌&&◌, if◌then◌else◌}
-use Rattle.std.proofs.Common.{List, [], ◌∷◌, ◌++◌, Vec, vec_len, All, length, map, get_or, slice_get, option_map, set, take, drop}
+use Rattle.std.proofs.Common.{List, [], ◌∷◌, ◌++◌, Vec, vec_len, All, length, map, get_or, slice_get, option_map, set}
+use Rattle.std.proofs.Common.{take, drop}
 use Rattle.std.proofs.Common.{Some}
 use Rattle.std.proofs.Common.{refl, sym, ap, ◌∙◌, subst, inl, inr, append_assoc, arith}
 use Rattle.std.specs.Vec.{with_items}
@@ -23,7 +24,7 @@ use Rattle.eve_replica.specs.declared.standing.Standing.{Standing}
 use Rattle.eve_replica.specs.declared.server.Server.{Server}
 use Rattle.eve_replica.specs.declared.deployment.Deployment.{Deployment}
 use Rattle.eve_replica.specs.Replicas.{Replica, Attempts, front_of}
-use Rattle.eve_replica.specs.Sections.{Plan, AttemptsNext, place_due, votes_along}
+use Rattle.eve_replica.specs.Sections.{RunPlan, AttemptsNext, place_due, votes_along}
 use Rattle.eve_replica.specs.Serving.{standing_of, after_attempts, AreDue, AreVotesOn, AreOfItsView, IsLedBy, Serves}
 use Rattle.eve_replica.specs.Serving.{Move, attempt_move, AreBatchesFrom, GoesOn, IsUnderWay, live_in}
 use Rattle.eve_replica.proofs.Counting.{counted_alike}
@@ -54,7 +55,7 @@ led_on votes more old new false is led along live = record {
 }
 
 -- a replica that went on serves, further on
-pub goes_on : (p : Plan) (at : Standing) (votes : List Vote) (m : Move) (old new : Server)
+pub goes_on : (p : RunPlan) (at : Standing) (votes : List Vote) (m : Move) (old new : Server)
     → AreBatchesFrom p.batches (at.committed + at.opened) m.window → GoesOn m old new → Serves p at votes old
     → Serves p (m.further at) (votes ++ m.votes at) new
 goes_on p at votes m old new next goes serves = record {
@@ -110,7 +111,7 @@ attempted view serial old new b a made =
     (length-append old.ledger.opened _) (sym (and_false old.ledger.is_next_serial))
 
 -- the account makes the attempt of the batch that is due
-pub attempts_next : (p : Plan) (view : ℕ) (serial : Bool) (old new : Replica) (b : Batch) (a : Attempt)
+pub attempts_next : (p : RunPlan) (view : ℕ) (serial : Bool) (old new : Replica) (b : Batch) (a : Attempt)
     → AreDue 1 view serial old.ledger → old.names ≡ p.names → slice_get p.batches (place_due old.ledger) ≡ Some b
     → Attempts view serial old new b a → AttemptsNext p old.ledger new.ledger a
 attempts_next p view serial old new b a due names is made =
@@ -175,7 +176,7 @@ one_more many window w a b c there first more =
           (first.behind x stands was);
     }
   where
-    next_one : (p : Plan) → (a.is_live ≡ true → AreBatchesFrom p.batches (place_due a.replica.ledger) window)
+    next_one : (p : RunPlan) → (a.is_live ≡ true → AreBatchesFrom p.batches (place_due a.replica.ledger) window)
         → b.is_live ≡ true → AreBatchesFrom p.batches (place_due b.replica.ledger) (w ∷ [])
     next_one p follow live zero below =
         let stood = first.live live in
@@ -213,7 +214,8 @@ take_at (suc n) (x ∷ xs) (suc k) below = take_at n xs k (omega arith)
 drop_at : {A : Type 0} (n : ℕ) (xs : List A) (k : ℕ) → slice_get xs (n + k) ≡ slice_get (drop n xs) k
 drop_at zero xs k = let on : 0 + k ≡ k = omega arith in ap (slice_get xs) on
 drop_at (suc n) [] k = refl
-drop_at (suc n) (x ∷ xs) k = let on : suc n + k ≡ suc (n + k) = omega arith in ap (slice_get (x ∷ xs)) on ∙ drop_at n xs k
+drop_at (suc n) (x ∷ xs) k =
+    let on : suc n + k ≡ suc (n + k) = omega arith in ap (slice_get (x ∷ xs)) on ∙ drop_at n xs k
 
 -- the batches of a window are those from its first on
 pub window_follows : (batches : List MixedBatch) (from many : ℕ)
@@ -227,7 +229,7 @@ window_follows batches from many = λ k below.
     ∙ sym (slice_get-map plain window k)
 
 -- what is due of a live replica, by where it stands
-pub due : (p : Plan) (many : ℕ) (at : Standing) (votes : List Vote) (s : Server) → at.opened + many ≤ p.first.window
+pub due : (p : RunPlan) (many : ℕ) (at : Standing) (votes : List Vote) (s : Server) → at.opened + many ≤ p.first.window
     → at.committed + at.opened + many ≤ 65535 → Serves p at votes s → s.is_live ≡ true
     → AreDue many at.view at.is_next_serial s.replica.ledger
 due p many at votes s fits last serves live =
@@ -242,17 +244,17 @@ due p many at votes s fits last serves live =
     }
 
 -- Of these replicas those below this number have gone on, and the others stand where they stood.
-pub record AreGoing (p : Plan) (at : Standing) (votes : List Vote) (m : Move) (number : ℕ) (servers : List Server)
+pub record AreGoing (p : RunPlan) (at : Standing) (votes : List Vote) (m : Move) (number : ℕ) (servers : List Server)
     : Type 0 where
   pub gone : AllWithin (Serves p (m.further at) (votes ++ m.votes at)) servers 0 number
   pub left : AllWithin (Serves p at votes) servers number (length servers)
 
-pub none_gone : (p : Plan) (at : Standing) (votes : List Vote) (m : Move) (servers : List Server)
+pub none_gone : (p : RunPlan) (at : Standing) (votes : List Vote) (m : Move) (servers : List Server)
     → All (Serves p at votes) servers → AreGoing p at votes m 0 servers
 none_gone p at votes m servers all =
     record { gone = λ k d from to. absurd (omega arith); left = λ k d from to. all k d to }
 
-pub one_gone : (p : Plan) (at : Standing) (votes : List Vote) (m : Move) (number : ℕ) (servers : List Server)
+pub one_gone : (p : RunPlan) (at : Standing) (votes : List Vote) (m : Move) (number : ℕ) (servers : List Server)
     (d s : Server) → number < length servers → AreBatchesFrom p.batches (at.committed + at.opened) m.window
     → GoesOn m (get_or servers number d) s → AreGoing p at votes m number servers
     → AreGoing p at votes m (number + 1) (set servers number s)
@@ -266,7 +268,7 @@ one_gone p at votes m number servers d s there next goes going =
           (going.left k e (omega arith) (omega (arith, length-set {A = Server}, to)));
     }
 
-pub all_gone : (p : Plan) (at : Standing) (votes : List Vote) (m : Move) (number : ℕ) (servers : List Server)
+pub all_gone : (p : RunPlan) (at : Standing) (votes : List Vote) (m : Move) (number : ℕ) (servers : List Server)
     → length servers ≤ number → AreGoing p at votes m number servers
     → All (Serves p (m.further at) (votes ++ m.votes at)) servers
 all_gone p at votes m number servers end going = λ k d there. going.gone k d (omega arith) (omega arith)
@@ -315,13 +317,13 @@ all_living passes was number servers end living =
 -- ---- the run
 
 -- the replicas of a run, as they are lent
-pub lent_serve : (p : Plan) (d : Deployment) (lent : List Server) → IsUnderWay p d → lent ≡ d.servers.items
+pub lent_serve : (p : RunPlan) (d : Deployment) (lent : List Server) → IsUnderWay p d → lent ≡ d.servers.items
     → All (Serves p d.standing (map vote d.votes.items)) lent
 lent_serve p d lent was same =
     subst (λ (servers : List Server). All (Serves p d.standing (map vote d.votes.items)) servers) (sym same) was.servers
 
 -- a run whose replicas have gone on to stand here is under way
-pub moved : (p : Plan) (d : Deployment) (given : List Server) (at : Standing) (votes : Vec VoteData Global)
+pub moved : (p : RunPlan) (d : Deployment) (given : List Server) (at : Standing) (votes : Vec VoteData Global)
     → IsUnderWay p d → length given ≡ vec_len d.servers
     → at.committed + at.opened ≤ length d.batches.now → AreVotesOn (length d.batches.now) votes.items
     → All (Serves p at (map vote votes.items)) given → length given < 2 * live_in given
@@ -343,7 +345,7 @@ moved p d given at votes was many due right go majority = record {
 }
 
 -- the batches of a run's next window
-pub window_due : (p : Plan) (d : Deployment) (end : ℕ) → IsUnderWay p d → d.standing.opened ≡ 0
+pub window_due : (p : RunPlan) (d : Deployment) (end : ℕ) → IsUnderWay p d → d.standing.opened ≡ 0
     → AreBatchesFrom p.batches (d.standing.committed + d.standing.opened)
     (map (λ m. batch m.batch) (take (end - d.standing.committed) (drop d.standing.committed d.batches.now)))
 window_due p d end was none =

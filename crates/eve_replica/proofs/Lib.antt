@@ -5,4 +5,6 @@ mod Through
 mod OneStep
 mod Beginning
 mod Sectioned
+mod Answering
+mod WhereWell
 mod Parts

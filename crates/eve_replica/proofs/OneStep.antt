@@ -1,5 +1,5 @@
 -- A replica that attempts, commits or rolls back goes on.
-use Rattle.std.proofs.Common.{◌≡◌, ℕ, suc, ◌+◌, ◌-◌, Bool, true, false, if◌then◌else◌, List, [], ◌∷◌, ◌++◌, length}
+use Rattle.std.proofs.Common.{◌≡◌, ℕ, suc, ◌+◌, ◌-◌, ◌<◌, Bool, true, false, if◌then◌else◌, List, [], ◌∷◌, ◌++◌, length}
 use Rattle.std.proofs.Common.{slice_get, Option, Some, None, option_map, Result, Ok, Err, OnOk, All, refl, sym, ap, ◌∙◌}
 use Rattle.std.proofs.Common.{subst, arith}
 use Rattle.std.proofs.lemmas.List.{append-nil}
@@ -14,7 +14,8 @@ use Rattle.eve_replica.specs.declared.server.Server.{Server}
 use Rattle.eve_replica.specs.Replicas.{Replica}
 use Rattle.eve_replica.specs.Replicas as replica
 use Rattle.eve_replica.specs.Sections.{GoesThrough, place_due, votes_on, votes_along}
-use Rattle.eve_replica.specs.Serving.{standing_of, after_commit, AreDue, AreRightSteps, AreOfItsView, GoesOn, attempt_move}
+use Rattle.eve_replica.specs.Serving.{standing_of, after_commit, AreDue, AreRightSteps, AreOfItsView, GoesOn}
+use Rattle.eve_replica.specs.Serving.{attempt_move}
 use Rattle.eve_replica.specs.Serving.{commit_move, rollback_move, next_token, is_some_of}
 use Rattle.eve_replica.proofs.Counting.{is_that}
 use Rattle.eve_replica.proofs.Through.{through_more, votes_more}
@@ -52,11 +53,6 @@ attempt_goes view serial b a old new due live lives made added right =
   where
     plus_zero : (n : ℕ) → n ≡ n + 0
     plus_zero n = omega arith
-
--- where a call ends well, what two of its clauses give
-pub where_well : {A E : Type 0} (P Q R : Type 0) (r : Result A E) → (P → Q → R) → OnOk r P → OnOk r Q → OnOk r R
-where_well P Q R (Ok x) both p q = both p q
-where_well P Q R (Err e) both p q = tt
 
 -- ---- commits
 
@@ -156,11 +152,11 @@ rolled_back_in_view old new r made =
     subst AreOfItsView (sym made.changed) (All-nil (λ (o : Opened). o.view ≡ old.view + 1))
 
 pub rollback_goes : (r : Rollback) (old new : Server) → old.is_live ≡ true → new.is_live ≡ true
-    → account.RollsBack old.replica.ledger new.replica.ledger r
+    → 0 < length old.replica.ledger.opened → account.RollsBack old.replica.ledger new.replica.ledger r
     → new.replica ≡ record old.replica { ledger = new.replica.ledger; is_broken = false }
     → section new.steps ≡ section old.steps ++ RollsBack r ∷ [] → (AreRightSteps old → AreRightSteps new)
     → GoesOn rollback_move old new
-rollback_goes r old new live lives made whole added right =
+rollback_goes r old new live lives some made whole added right =
     let steps = section old.steps in
     let ledger = old.replica.ledger in
     record {
@@ -171,7 +167,7 @@ rollback_goes r old new live lives made whole added right =
       steps = right;
       through = λ p names next goes.
           subst (λ (ss : List Step). GoesThrough p ss p.first new.replica.ledger) (sym added)
-          (through_more p steps (RollsBack r) p.first ledger new.replica.ledger goes made);
+          (through_more p steps (RollsBack r) p.first ledger new.replica.ledger goes (some, made));
       of_view = λ h. rolled_back_in_view ledger new.replica.ledger r made;
       votes = λ h. ap votes_along added ∙ votes_more steps (RollsBack r)
           ∙ ap (λ (vs : List Vote). votes_along steps ++ vs) (vote_of_rollback ledger new.replica.ledger r made)

@@ -15,10 +15,10 @@ use Rattle.eve_write.specs.Writable.{fits_vote, HasSpelling}
 use Rattle.eve_workload.specs.declared.mixer.MixedBatch.{MixedBatch}
 use Rattle.eve_replica.specs.declared.server.Server.{Server}
 use Rattle.eve_replica.specs.declared.standing.Standing.{Standing}
-use Rattle.eve_replica.specs.Sections.{Plan}
+use Rattle.eve_replica.specs.Sections.{RunPlan}
 use Rattle.eve_replica.specs.Serving.{IsRightMixed, Serves, AreVotesOn, AreReplies}
 
-pub sections_fit : (p : Plan) (at : Standing) (votes : List Vote) (servers : List Server)
+pub sections_fit : (p : RunPlan) (at : Standing) (votes : List Vote) (servers : List Server)
     → All (Serves p at votes) servers
     → list_all (list_all (is_step (2 * length p.names))) (map (λ s. section s.steps) servers) ≡ true
 sections_fit p at votes [] serve = refl
@@ -76,7 +76,7 @@ batches_fit names (m ∷ mixed) right =
 
 -- The parts of a run have a spelling: its numbers and customers are a workload's, its batches were mixed, its replicas
 -- served, each verifier gave these votes, and the replies are of these replicas in these batches.
-pub spelled : (p : Parts) (h : Head) (plan : Plan) (mixed : List MixedBatch) (at : Standing) (led : List Vote)
+pub spelled : (p : Parts) (h : Head) (plan : RunPlan) (mixed : List MixedBatch) (at : Standing) (led : List Vote)
     (servers : List Server) (given : List VoteData)
     → head_of (trace p) ≡ h → IsTrue (is_head h) → length plan.names ≡ h.customers
     → IsTrue (list_all is_customer (map customer p.customers.items))

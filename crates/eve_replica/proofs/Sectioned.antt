@@ -19,8 +19,9 @@ use Rattle.eve_workload.specs.declared.mixer.MixedBatch.{MixedBatch}
 use Rattle.eve_attempts.specs.Ledgers.{Ledger, opening}
 use Rattle.eve_replica.specs.declared.server.Server.{Server}
 use Rattle.eve_replica.specs.declared.standing.Standing.{Standing}
-use Rattle.eve_replica.specs.Sections.{Plan, commits_in}
-use Rattle.eve_replica.specs.Run.{IsSectionOf, IsDecidedBy, IsTraceOf, batches_cut, has_committed, plan_of}
+use Rattle.eve_replica.specs.Sections.{RunPlan, commits_in}
+use Rattle.eve_replica.specs.Sending.{sent_from_on}
+use Rattle.eve_replica.specs.Run.{IsSectionOf, IsDecidedBy, IsTraceOf, batches_cut, has_committed, run_plan}
 use Rattle.eve_replica.specs.Serving.{Serves, live_in, plan_with}
 use Rattle.eve_replica.proofs.Through.{commits_through}
 
@@ -32,7 +33,7 @@ each_section P Q gives (s ∷ servers) all =
     All-cons Q (section s.steps) (map (λ t. section t.steps) servers) (gives s (All-head P s servers all))
     (each_section P Q gives servers (All-tail P s servers all))
 
-pub section_of : (p : Plan) (at : Standing) (votes : List Vote) → at.view ≤ 2 * length p.batches → (s : Server)
+pub section_of : (p : RunPlan) (at : Standing) (votes : List Vote) → at.view ≤ 2 * length p.batches → (s : Server)
     → Serves p at votes s → IsSectionOf p (section s.steps)
 section_of p at votes few s serves = record {
   last = s.replica.ledger;
@@ -41,13 +42,13 @@ section_of p at votes few s serves = record {
 }
 
 -- as many are committed in its section as in its account
-commits_counted : (p : Plan) (at : Standing) (votes : List Vote) (s : Server) → p.first.committed ≡ 0
+commits_counted : (p : RunPlan) (at : Standing) (votes : List Vote) (s : Server) → p.first.committed ≡ 0
     → Serves p at votes s → commits_in (section s.steps) ≡ s.replica.ledger.committed
 commits_counted p at votes s none serves =
     let counted = commits_through p (section s.steps) p.first s.replica.ledger serves.through in
     omega arith
 
-decided_on : (p : Plan) (at : Standing) (votes : List Vote) (batches : ℕ) → p.first.committed ≡ 0
+decided_on : (p : RunPlan) (at : Standing) (votes : List Vote) (batches : ℕ) → p.first.committed ≡ 0
     → at.committed ≡ batches → (s : Server) → Serves p at votes s → IsDecidedBy batches (section s.steps) votes
 decided_on p at votes batches none done s serves = decide s.is_live refl
   where
@@ -66,7 +67,7 @@ decided_on p at votes batches none done s serves = decide s.is_live refl
           absurd (omega arith);
     }
 
-pub sections_decided : (p : Plan) (at : Standing) (votes : List Vote) (batches : ℕ) → p.first.committed ≡ 0
+pub sections_decided : (p : RunPlan) (at : Standing) (votes : List Vote) (batches : ℕ) → p.first.committed ≡ 0
     → at.committed ≡ batches → (servers : List Server) → All (Serves p at votes) servers
     → All (λ steps. IsDecidedBy batches steps votes) (map (λ s. section s.steps) servers)
 sections_decided p at votes batches none done servers serve =
@@ -80,7 +81,7 @@ small true false to = let e : false ≡ true = to refl in absurd cc
 small false true to = omega arith
 small false false to = omega arith
 
-live_commit : (p : Plan) (at : Standing) (votes : List Vote) (batches : ℕ) → p.first.committed ≡ 0
+live_commit : (p : RunPlan) (at : Standing) (votes : List Vote) (batches : ℕ) → p.first.committed ≡ 0
     → at.committed ≡ batches → (servers : List Server) → All (Serves p at votes) servers
     → live_in servers ≤ count_by (has_committed batches) (map (λ s. section s.steps) servers)
 live_commit p at votes batches none done [] serve = omega arith
@@ -98,7 +99,7 @@ live_commit p at votes batches none done (s ∷ servers) serve =
     omega arith
 
 -- more than half of the sections have all commits
-pub most_commit : (p : Plan) (at : Standing) (votes : List Vote) (batches : ℕ) → p.first.committed ≡ 0
+pub most_commit : (p : RunPlan) (at : Standing) (votes : List Vote) (batches : ℕ) → p.first.committed ≡ 0
     → at.committed ≡ batches → (servers : List Server) → All (Serves p at votes) servers
     → length servers < 2 * live_in servers
     → length (map (λ s. section s.steps) servers)
@@ -118,27 +119,32 @@ all_gave P led holds (votes ∷ verifiers) all =
 
 -- A run by the workload's plan has a trace of a run: all batches are committed, in no view past two for each batch, and
 -- its verifiers gave the votes that led its replicas.
-pub run_of : (w : Workload) (mixer : Mixer) (p : Parts) (plan : Plan) (at : Standing) (led : List Vote)
-    (servers : List Server) → plan ≡ plan_of w mixer
+pub run_of : (w : Workload) (mixer : Mixer) (p : Parts) (plan : RunPlan) (at : Standing) (led : List Vote)
+    (servers : List Server) → plan ≡ run_plan w mixer
     → head_of (trace p) ≡ head_asked w → (trace p).customers ≡ w.customers → (trace p).batches ≡ batches_cut w mixer
     → map section p.sections.items ≡ map (λ s. section s.steps) servers → All (Serves plan at led) servers
     → at.committed ≡ length plan.batches → at.view ≤ 2 * length plan.batches → length servers < 2 * live_in servers
     → All (λ votes. votes ≡ led) (trace p).verifiers
+    → (trace p).sent ≡ sent_from_on plan.batches 0 (map (λ s. section s.steps) servers)
     → IsTraceOf w mixer (trace p)
-run_of w mixer p plan at led servers is head customers batches sections serve done few more gave =
-    let none : plan.first.committed ≡ 0 = ap (λ (x : Plan). x.first.committed) is in
+run_of w mixer p plan at led servers is head customers batches sections serve done few more gave sent =
+    let none : plan.first.committed ≡ 0 = ap (λ (x : RunPlan). x.first.committed) is in
     let many : length plan.batches ≡ length w.batches =
-    ap (λ (x : Plan). length x.batches) is ∙ length-map w.batches _ in
+    ap (λ (x : RunPlan). length x.batches) is ∙ length-map w.batches _ in
     let done' : at.committed ≡ length w.batches = done ∙ many in
     record {
       head = head;
       customers = customers;
       batches = batches;
-      sections = subst (λ (ss : List (List Step)). All (IsSectionOf (plan_of w mixer)) ss) (sym sections)
-          (subst (λ (x : Plan). All (IsSectionOf x) (map (λ s. section s.steps) servers)) is
+      sections = subst (λ (ss : List (List Step)). All (IsSectionOf (run_plan w mixer)) ss) (sym sections)
+          (subst (λ (x : RunPlan). All (IsSectionOf x) (map (λ s. section s.steps) servers)) is
           (each_section (Serves plan at led) (IsSectionOf plan) (section_of plan at led few) servers serve));
       committed = subst (λ (ss : List (List Step)). length ss < 2 * count_by (has_committed (length w.batches)) ss)
           (sym sections) (most_commit plan at led (length w.batches) none done' servers serve more);
+      sent = sent
+          ∙ ap (λ (bs : List Batch). sent_from_on bs 0 (map (λ s. section s.steps) servers))
+          (ap (λ (x : RunPlan). x.batches) is)
+          ∙ ap (sent_from_on (batches_cut w mixer) 0) (sym sections);
       voted = subst (λ (ss : List (List Step)).
           All (λ votes. All (λ steps. IsDecidedBy (length w.batches) steps votes) ss) (trace p).verifiers)
           (sym sections)
@@ -148,8 +154,8 @@ run_of w mixer p plan at led servers is head customers batches sections serve do
     }
 
 -- copies of votes are those votes
-pub copies_gave : (given : List VoteData) (copies : List (Vec VoteData Global)) → All (λ copy. copy.items ≡ given) copies
-    → All (λ votes. votes ≡ map vote given) (map votes_of copies)
+pub copies_gave : (given : List VoteData) (copies : List (Vec VoteData Global))
+    → All (λ copy. copy.items ≡ given) copies → All (λ votes. votes ≡ map vote given) (map votes_of copies)
 copies_gave given [] all = All-nil (λ vs. vs ≡ map vote given)
 copies_gave given (copy ∷ copies) all =
     All-cons (λ vs. vs ≡ map vote given) (votes_of copy) (map votes_of copies)
@@ -160,7 +166,7 @@ copies_gave given (copy ∷ copies) all =
 pub plan_is : (w : Workload) (mixer : Mixer) (names : List (List ℕ)) (balances : List ℤ) (h : header.Head)
     (batches : List MixedBatch) → names ≡ customer_names w.customers → balances ≡ opening_rows w.customers
     → h.workers ≡ w.deployment.workers → h.window ≡ w.deployment.window
-    → map (λ m. batch m.batch) batches ≡ batches_cut w mixer → plan_with names balances h batches ≡ plan_of w mixer
+    → map (λ m. batch m.batch) batches ≡ batches_cut w mixer → plan_with names balances h batches ≡ run_plan w mixer
 plan_is w mixer names balances h batches named opened workers window cut =
     let first : opening balances h.workers h.window
     ≡ opening (opening_rows w.customers) w.deployment.workers w.deployment.window =
@@ -170,5 +176,5 @@ plan_is w mixer names balances h batches named opened workers window cut =
     all names (customer_names w.customers) (map (λ m. batch m.batch) batches) (batches_cut w mixer) _ _ named cut first
   where
     all : (a a' : List (List ℕ)) (b b' : List Batch) (c c' : Ledger) → a ≡ a' → b ≡ b' → c ≡ c'
-        → Path Plan (record { names = a; batches = b; first = c }) (record { names = a'; batches = b'; first = c' })
+        → Path RunPlan (record { names = a; batches = b; first = c }) (record { names = a'; batches = b'; first = c' })
     all a a' b b' c c' d e f = cc

@@ -1,4 +1,4 @@
--- What a run of a workload gives. docs/TRACE.md, "The deployment's procedure".
+-- What a run of a workload gives. docs/MODEL.md, "A run".
 use Rattle.std.specs.Prelude.{◌≡◌, ℕ, ◌*◌, ◌<◌, ◌≤◌, ◌==◌, Bool, List, map, length, ◌++◌, [], All}
 use Rattle.std.specs.List.{count_by}
 use Rattle.eve_grammar.specs.Trace.{Batch, Step, Vote, Trace, head_of, opening_rows}
@@ -10,15 +10,16 @@ use Rattle.eve_workload.specs.Mixing.{cut, batch_with}
 use Rattle.eve_workload.specs.Workload.{Workload, customer_names}
 use Rattle.eve_workload.specs.Workload.{head_asked}
 use Rattle.eve_attempts.specs.Ledgers.{Ledger, opening}
-use Rattle.eve_replica.specs.Sections.{Plan, GoesThrough, votes_along, commits_in}
+use Rattle.eve_replica.specs.Sending.{sent_from_on}
+use Rattle.eve_replica.specs.Sections.{RunPlan, GoesThrough, votes_along, commits_in}
 
 -- each batch of the workload, cut into parallelBatches
 abbrev pub batches_cut : Workload → Mixer → List Batch
 batches_cut w mixer = map (λ requests. batch_with (cut (customer_names w.customers) mixer requests)) w.batches
 
 -- the customers' names, the batches as they are cut, and the opening balances
-abbrev pub plan_of : Workload → Mixer → Plan
-plan_of w mixer = record {
+abbrev pub run_plan : Workload → Mixer → RunPlan
+run_plan w mixer = record {
   names = customer_names w.customers;
   batches = batches_cut w mixer;
   first = opening (opening_rows w.customers) w.deployment.workers w.deployment.window;
@@ -26,7 +27,7 @@ plan_of w mixer = record {
 
 -- The section of a replica: its steps are what its account went through, which began with the opening balances, and
 -- there are no more rollbacks than two for each batch.
-pub record IsSectionOf (p : Plan) (steps : List Step) : Type 0 where
+pub record IsSectionOf (p : RunPlan) (steps : List Step) : Type 0 where
   pub last : Ledger
   pub through : GoesThrough p steps p.first last
   pub views : last.view ≤ 2 * length p.batches
@@ -42,15 +43,17 @@ pub record IsDecidedBy (batches : ℕ) (steps : List Step) (votes : List Vote) :
   pub first : votes ≡ votes_along steps ++ later
   pub none_later : commits_in steps ≡ batches → later ≡ []
 
--- A trace of a run of the workload. Numbers and customers are the workload's; the batches are, in order, the cut of each
--- of its batches; each section is that of a replica that served them; more than half of the replicas committed all
--- batches; and each verifier gave the votes on which the replicas took their steps.
+-- A trace of a run of the workload. Numbers and customers are the workload's; the batches are, in order, the cut of
+-- each of its batches; each section is that of a replica that served them; more than half of the replicas committed all
+-- batches; each verifier gave the votes on which the replicas took their steps; and each replica sent the replies of
+-- what it committed.
 pub record IsTraceOf (w : Workload) (mixer : Mixer) (t : Trace) : Type 0 where
   pub head : head_of t ≡ head_asked w
   pub customers : t.customers ≡ w.customers
   pub batches : t.batches ≡ batches_cut w mixer
-  pub sections : All (IsSectionOf (plan_of w mixer)) t.sections
+  pub sections : All (IsSectionOf (run_plan w mixer)) t.sections
   pub committed : length t.sections < 2 * count_by (has_committed (length w.batches)) t.sections
+  pub sent : t.sent ≡ sent_from_on (batches_cut w mixer) 0 t.sections
   pub voted : All (λ votes. All (λ steps. IsDecidedBy (length w.batches) steps votes) t.sections) t.verifiers
 
 -- the parts of a run of the workload have a spelling, but that they may be too long

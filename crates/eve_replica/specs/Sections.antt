@@ -1,5 +1,4 @@
--- What the section of a replica says, step by step, of the replica's account of its rows. docs/MODEL.md, "Section state,
--- fate".
+-- What the section of a replica says, step by step, of the replica's account of its rows. docs/MODEL.md, "A run".
 use Rattle.std.specs.Prelude.{◌≡◌, ℕ, ◌+◌, ◌-◌, ◌<◌, List, [], ◌∷◌, length, slice_get, Some}
 use Rattle.std.specs.List.{flat_map}
 use Rattle.eve_stamps.specs.Applied.{Applied}
@@ -10,7 +9,7 @@ use Rattle.eve_attempts.specs.Discarding as account
 use Rattle.eve_replica.specs.Replicas.{front_of}
 
 -- What the replicas of a run have in common: the customers' names, the batches, and the account that each begins with.
-pub record Plan : Type 0 where
+pub record RunPlan : Type 0 where
   pub names : List (List ℕ)
   pub batches : List Batch
   pub first : Ledger
@@ -21,21 +20,22 @@ place_due s = s.committed + length s.opened
 
 -- The account has room for one more attempt; some records were closed to one of the batch that is due, in the view and
 -- in the mode that are due.
-pub record AttemptsNext (p : Plan) (old new : Ledger) (a : Attempt) : Type 0 where
+pub record AttemptsNext (p : RunPlan) (old new : Ledger) (a : Attempt) : Type 0 where
   pub room : length old.opened < old.window
   pub batch : Batch
   pub due : slice_get p.batches (place_due old) ≡ Some batch
   pub records : List Applied
-  pub closed : Closes (front_of old old.view old.is_next_serial) old new batch (touched_in_batch p.names batch) records a
+  pub closed : Closes (front_of old old.view old.is_next_serial) old new batch (touched_in_batch p.names batch) records
+      a
 
--- what the step of a section makes of the account
-abbrev pub MakesOf : Plan → Step → Ledger → Ledger → Type 0
+-- what the step of a section makes of the account; a rollback discards an attempt at least
+abbrev pub MakesOf : RunPlan → Step → Ledger → Ledger → Type 0
 MakesOf p (Attempts a) old new = AttemptsNext p old new a
 MakesOf p (Commits c) old new = account.Commits old new c
-MakesOf p (RollsBack r) old new = account.RollsBack old new r
+MakesOf p (RollsBack r) old new = (0 < length old.opened) × account.RollsBack old new r
 
 -- the steps of a section make this account of that one
-abbrev pub GoesThrough : Plan → List Step → Ledger → Ledger → Type 0
+abbrev pub GoesThrough : RunPlan → List Step → Ledger → Ledger → Type 0
 GoesThrough p [] old new = old ≡ new
 GoesThrough p (x ∷ steps) old new = (next : Ledger) × MakesOf p x old next × GoesThrough p steps next new
 

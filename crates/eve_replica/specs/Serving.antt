@@ -15,7 +15,7 @@ use Rattle.eve_write.specs.Writable.{fits_vote}
 use Rattle.eve_write.specs.declared.vote.VoteData.{VoteData}
 use Rattle.eve_write.specs.declared.sent.SentData.{SentData}
 use Rattle.eve_workload.specs.declared.mixer.MixedBatch.{MixedBatch}
-use Rattle.eve_replica.specs.Sections.{Plan, GoesThrough, place_due, votes_along}
+use Rattle.eve_replica.specs.Sections.{RunPlan, GoesThrough, place_due, votes_along}
 use Rattle.eve_replica.specs.declared.standing.Standing.{Standing}
 use Rattle.eve_replica.specs.declared.server.Server.{Server}
 use Rattle.eve_replica.specs.declared.deployment.Deployment.{Deployment}
@@ -26,7 +26,7 @@ pub record IsRightMixed (names : List (List ℕ)) (m : MixedBatch) : Type 0 wher
   pub touched : m.touched.items ≡ touched_in_batch names (plain m.batch)
 
 -- the plan of a run with these names, opening balances, numbers and batches
-abbrev pub plan_with : List (List ℕ) → List ℤ → Head → List MixedBatch → Plan
+abbrev pub plan_with : List (List ℕ) → List ℤ → Head → List MixedBatch → RunPlan
 plan_with names balances h batches = record {
   names = names;
   batches = map (λ m. plain m.batch) batches;
@@ -34,7 +34,7 @@ plan_with names balances h batches = record {
 }
 
 -- whatever its batches are, the plan has these names, opening balances and numbers
-abbrev pub IsPlanFor : List (List ℕ) → List ℤ → Head → Plan → Type 0
+abbrev pub IsPlanFor : List (List ℕ) → List ℤ → Head → RunPlan → Type 0
 IsPlanFor names balances h p = (p.names ≡ names) × (p.first ≡ opening balances h.workers h.window)
 
 -- ---- where live replicas stand
@@ -94,9 +94,9 @@ pub record IsLedBy (votes : List Vote) (s : Server) : Type 0 where
   pub first : votes ≡ votes_along (section s.steps) ++ later
   pub none_later : s.is_live ≡ true → later ≡ []
 
--- A replica of a run by this plan. It isn't broken; all that it did lies within the limits, and is what its account went
--- through, on these votes; where it is live it stands here, and where it stopped it has committed less.
-pub record Serves (p : Plan) (at : Standing) (votes : List Vote) (s : Server) : Type 0 where
+-- A replica of a run by this plan. It isn't broken; all that it did lies within the limits, and is what its account
+-- went through, on these votes; where it is live it stands here, and where it stopped it has committed less.
+pub record Serves (p : RunPlan) (at : Standing) (votes : List Vote) (s : Server) : Type 0 where
   pub names : s.replica.names ≡ p.names
   pub rows : ledger_rows s.replica.ledger ≡ 2 * length p.names
   pub room : s.replica.ledger.window ≡ p.first.window
@@ -151,7 +151,7 @@ pub record GoesOn (m : Move) (old new : Server) : Type 0 where
   pub room : new.replica.ledger.window ≡ old.replica.ledger.window
   pub whole : old.replica.is_broken ≡ false → new.replica.is_broken ≡ false
   pub steps : AreRightSteps old → AreRightSteps new
-  pub through : (p : Plan) → old.replica.names ≡ p.names
+  pub through : (p : RunPlan) → old.replica.names ≡ p.names
       → (old.is_live ≡ true → AreBatchesFrom p.batches (place_due old.replica.ledger) m.window)
       → GoesThrough p (section old.steps) p.first old.replica.ledger
       → GoesThrough p (section new.steps) p.first new.replica.ledger
@@ -203,10 +203,10 @@ AreReplies replicas batches replies = IsTrue (list_all (is_sent replicas batches
 abbrev pub live_in : List Server → ℕ
 live_in servers = count_by (λ s. s.is_live) servers
 
--- The state of a run by this plan: its batches are the plan's, and were looked up among its names; each replica is one of
--- this run, and each live one stands where the run does; more than half of them are live; every vote so far lies within
--- the limits.
-pub record IsUnderWay (p : Plan) (d : Deployment) : Type 0 where
+-- The state of a run by this plan: its batches are the plan's, and were looked up among its names; each replica is one
+-- of this run, and each live one stands where the run does; more than half of them are live; every vote so far lies
+-- within the limits.
+pub record IsUnderWay (p : RunPlan) (d : Deployment) : Type 0 where
   pub customers : length p.names ≡ d.head.customers
   pub window : p.first.window ≡ d.head.window
   pub batches : p.batches ≡ map (λ m. plain m.batch) d.batches.now

@@ -4,7 +4,7 @@ ghost use Rattle.std.specs.Prelude.{◌≡◌, ◌≤◌, ◌+◌, ◌-◌, ◌<
 ghost use Rattle.eve_grammar.specs.Trace.{Vote};
 ghost use Rattle.eve_write.specs.Data.{batch as plain};
 ghost use Rattle.eve_replica.specs.declared.standing.Standing.{Standing};
-ghost use Rattle.eve_replica.specs.Sections.{Plan};
+ghost use Rattle.eve_replica.specs.Sections.{RunPlan};
 ghost use Rattle.eve_replica.specs.Serving.{IsRightMixed, Serves, AreBatchesFrom, IsSameRun, IsUnderWay};
 ghost use Rattle.eve_replica.specs.Serving.{after_attempts, after_commit, after_rollback, commit_move, rollback_move};
 ghost use Rattle.eve_replica.specs.Serving.{IsDecision, count_with, live_in};
@@ -42,11 +42,11 @@ impl<'n, 'b> Deployment<'n, 'b> {
         alloc: Global,
         gate: &G,
     ) -> Result<(), RunFault>
-        requires under_way { (p : Plan) × IsUnderWay p self.old }
+        requires under_way { (p : RunPlan) × IsUnderWay p self.old }
         requires none_open { self.old.standing.opened ≡ 0 }
         requires left { self.old.standing.committed < length self.old.batches.now }
         requires view { self.old.standing.view < MOST_VIEWS }
-        ensures under_way { (p : Plan) → IsUnderWay p self.old → OnOk result (IsUnderWay p self.new) }
+        ensures under_way { (p : RunPlan) → IsUnderWay p self.old → OnOk result (IsUnderWay p self.new) }
         ensures none_open { OnOk result (self.new.standing.opened ≡ 0) }
         ensures same { OnOk result (IsSameRun self.old self.new) }
         ensures view { OnOk result (self.new.standing.view ≤ self.old.standing.view + 1) }
@@ -69,10 +69,10 @@ impl<'n, 'b> Deployment<'n, 'b> {
         alloc: Global,
         gate: &G,
     ) -> Result<(), RunFault>
-        requires under_way { (p : Plan) × IsUnderWay p self.old }
+        requires under_way { (p : RunPlan) × IsUnderWay p self.old }
         requires none_open { self.old.standing.opened ≡ 0 }
         requires left { self.old.standing.committed < length self.old.batches.now }
-        ensures under_way { (p : Plan) → IsUnderWay p self.old → OnOk result (IsUnderWay p self.new) }
+        ensures under_way { (p : RunPlan) → IsUnderWay p self.old → OnOk result (IsUnderWay p self.new) }
         ensures same { OnOk result (IsSameRun self.old self.new) }
         ensures standing { OnOk result (self.new.standing ≡ after_attempts self.new.standing.opened self.old.standing) }
         ensures many { let left = length self.old.batches.now - self.old.standing.committed in
@@ -97,10 +97,10 @@ impl<'n, 'b> Deployment<'n, 'b> {
 
     // Every verifier votes for the commit of the first open batch; who has the token commits it, and who hasn't stops.
     fn commit(&mut self, token: [u8; 32]) -> Result<(), AllocError>
-        requires under_way { (p : Plan) × IsUnderWay p self.old }
+        requires under_way { (p : RunPlan) × IsUnderWay p self.old }
         requires open { 0 < self.old.standing.opened }
         requires decided { IsDecision (Some token) self.old.servers.items }
-        ensures under_way { (p : Plan) → IsUnderWay p self.old → OnOk result (IsUnderWay p self.new) }
+        ensures under_way { (p : RunPlan) → IsUnderWay p self.old → OnOk result (IsUnderWay p self.new) }
         ensures same { OnOk result (IsSameRun self.old self.new) }
         ensures standing { OnOk result (self.new.standing ≡ after_commit self.old.standing) }
     {
@@ -115,10 +115,10 @@ impl<'n, 'b> Deployment<'n, 'b> {
 
     // Every verifier votes for the rollback of the first open batch, and who is live rolls back.
     fn roll_back(&mut self, alloc: Global) -> Result<(), AllocError>
-        requires under_way { (p : Plan) × IsUnderWay p self.old }
+        requires under_way { (p : RunPlan) × IsUnderWay p self.old }
         requires open { 0 < self.old.standing.opened }
         requires view { self.old.standing.view < MOST_VIEWS }
-        ensures under_way { (p : Plan) → IsUnderWay p self.old → OnOk result (IsUnderWay p self.new) }
+        ensures under_way { (p : RunPlan) → IsUnderWay p self.old → OnOk result (IsUnderWay p self.new) }
         ensures same { OnOk result (IsSameRun self.old self.new) }
         ensures standing { OnOk result (self.new.standing ≡ after_rollback self.old.standing) }
     {
@@ -142,11 +142,11 @@ fn attempt_all<R: Threads + Wait + Sync, G: Gate>(
     standing: Standing,
     gate: &G,
 ) -> Result<(), RunFault>
-    requires serve { (p : Plan) × (votes : List Vote) × All (IsRightMixed p.names) window.now
+    requires serve { (p : RunPlan) × (votes : List Vote) × All (IsRightMixed p.names) window.now
         × AreBatchesFrom p.batches (standing.committed + standing.opened) (map (λ m. plain m.batch) window.now)
         × All (Serves p standing votes) servers.old × (standing.opened + length window.now ≤ p.first.window)
         × (standing.committed + standing.opened + length window.now ≤ MOST_BATCHES) }
-    ensures serve { (p : Plan) (votes : List Vote)
+    ensures serve { (p : RunPlan) (votes : List Vote)
         → AreBatchesFrom p.batches (standing.committed + standing.opened) (map (λ m. plain m.batch) window.now)
         → All (Serves p standing votes) servers.old
         → OnOk result (All (Serves p (after_attempts (length window.now) standing) votes) servers.new) }
@@ -167,9 +167,9 @@ fn attempt_all<R: Threads + Wait + Sync, G: Gate>(
 
 // Each live replica commits this batch, which is the next, or stops.
 fn commit_all(servers: &mut [Server], seq: u32, token: [u8; 32]) -> Result<(), AllocError>
-    requires { (p : Plan) × (at : Standing) × (votes : List Vote) × All (Serves p at votes) servers.old
+    requires { (p : RunPlan) × (at : Standing) × (votes : List Vote) × All (Serves p at votes) servers.old
         × (seq ≡ at.committed + 1) }
-    ensures serve { (p : Plan) (at : Standing) (votes : List Vote) → All (Serves p at votes) servers.old
+    ensures serve { (p : RunPlan) (at : Standing) (votes : List Vote) → All (Serves p at votes) servers.old
         → OnOk result (All (Serves p (after_commit at) (votes ++ (commit_move token).votes at)) servers.new) }
     ensures live { OnOk result (live_in servers.new ≡ count_with token servers.old) }
 {
@@ -181,9 +181,9 @@ fn commit_all(servers: &mut [Server], seq: u32, token: [u8; 32]) -> Result<(), A
 
 // Each live replica rolls back.
 fn roll_back_all(servers: &mut [Server], alloc: Global) -> Result<(), AllocError>
-    requires { (p : Plan) × (at : Standing) × (votes : List Vote) × All (Serves p at votes) servers.old
-        × (at.view < MOST_VIEWS) }
-    ensures serve { (p : Plan) (at : Standing) (votes : List Vote) → All (Serves p at votes) servers.old
+    requires { (p : RunPlan) × (at : Standing) × (votes : List Vote) × All (Serves p at votes) servers.old
+        × (at.view < MOST_VIEWS) × (0 < at.opened) }
+    ensures serve { (p : RunPlan) (at : Standing) (votes : List Vote) → All (Serves p at votes) servers.old
         → OnOk result (All (Serves p (after_rollback at) (votes ++ rollback_move.votes at)) servers.new) }
     ensures live { OnOk result (live_in servers.new ≡ live_in servers.old) }
 {

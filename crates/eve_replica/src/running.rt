@@ -4,7 +4,7 @@ ghost use Rattle.std.specs.Prelude.{◌≡◌, ◌≤◌, ◌*◌, true, [], All
 ghost use Rattle.eve_write.specs.Data.{batch as plain, customer, section};
 ghost use Rattle.eve_workload.specs.Workload.{customer_names};
 ghost use Rattle.eve_replica.specs.Run.{IsRunOf};
-ghost use Rattle.eve_replica.specs.Sections.{Plan};
+ghost use Rattle.eve_replica.specs.Sections.{RunPlan};
 ghost use Rattle.eve_replica.specs.Serving.{IsRightMixed, IsPlanFor, Serves, IsUnderWay};
 ghost use Rattle.eve_replica.specs.Serving.{plan_with, first_standing};
 
@@ -139,7 +139,7 @@ fn servers_of<'n>(
     requires workers { (1 ≤ head.now.workers) × (head.now.workers ≤ MOST_WORKERS) }
     requires window { (1 ≤ head.now.window) × (head.now.window ≤ MOST_WINDOW) }
     ensures many { IfOk result (λ servers. vec_len servers ≡ head.now.replicas) }
-    ensures serve { (p : Plan) → IsPlanFor names.now.items balances.now head.now p
+    ensures serve { (p : RunPlan) → IsPlanFor names.now.items balances.now head.now p
         → IfOk result (λ servers. All (Serves p first_standing []) servers.items) }
     ensures live { IfOk result (λ servers. All (λ s. s.is_live ≡ true) servers.items) }
 {
@@ -170,7 +170,7 @@ fn server_of<'n>(
     requires rows { length balances.now ≡ 2 * length names.now.items }
     requires workers { (1 ≤ head.now.workers) × (head.now.workers ≤ MOST_WORKERS) }
     requires window { (1 ≤ head.now.window) × (head.now.window ≤ MOST_WINDOW) }
-    ensures serve { (p : Plan) → IsPlanFor names.now.items balances.now head.now p
+    ensures serve { (p : RunPlan) → IsPlanFor names.now.items balances.now head.now p
         → IfOk result (Serves p first_standing []) }
     ensures live { IfOk result (λ s. s.is_live ≡ true) }
 {

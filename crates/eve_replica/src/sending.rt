@@ -1,8 +1,11 @@
 //! The replies that replicas send.
 
-ghost use Rattle.std.specs.Prelude.{◌≤◌, ◌<◌, IfOk, IsTrue, OnOk, length};
+ghost use Rattle.std.specs.Prelude.{◌≡◌, ◌≤◌, ◌<◌, ◌++◌, ◌∷◌, [], map, slice_get, Some, IfOk, IsTrue, List, OnOk};
+ghost use Rattle.std.specs.Prelude.{length};
+ghost use Rattle.eve_grammar.specs.Trace.{Step as StepValue};
 ghost use Rattle.eve_grammar.specs.Limits.{is_sent};
-ghost use Rattle.eve_write.specs.Data.{sent as plain};
+ghost use Rattle.eve_write.specs.Data.{asked, attempt as plain_attempt, batch, section, sent as plain};
+ghost use Rattle.eve_replica.specs.Sending.{answered, answers_of, sent_along, sent_from_on};
 ghost use Rattle.eve_replica.specs.Serving.{AreReplies};
 
 use crate::server::Server;
@@ -21,17 +24,20 @@ pub(crate) fn replies_of(
     batches: &[MixedBatch],
 ) -> Result<Vec<SentData>, AllocError>
     requires few { length servers.now ≤ MOST_REPLICAS }
-    ensures { IfOk result (λ replies. AreReplies (length servers.now) (length batches.now) replies.items) }
+    ensures limits { IfOk result (λ replies. AreReplies (length servers.now) (length batches.now) replies.items) }
+    ensures sent { IfOk result (λ replies. map plain replies.items
+        ≡ sent_from_on (map (λ m. batch m.batch) batches.now) 0 (map (λ s. section s.steps) servers.now)) }
 {
     let mut replies = Vec::new(alloc);
     for place in 0..servers.len() {
-        send_section(&mut replies, place as u8, servers, batches)?;
+        send_section(alloc, &mut replies, place as u8, servers, batches)?;
     }
     Ok(replies)
 }
 
 // Of each batch that the replica at this place committed, the replies.
 fn send_section(
+    alloc: Global,
     replies: &mut Vec<SentData>,
     place: u8,
     servers: &[Server],
@@ -39,31 +45,26 @@ fn send_section(
 ) -> Result<(), AllocError>
     requires there { place < length servers.now }
     requires right { AreReplies (length servers.now) (length batches.now) replies.old.items }
-    ensures { OnOk result (AreReplies (length servers.now) (length batches.now) replies.new.items) }
+    ensures limits { OnOk result (AreReplies (length servers.now) (length batches.now) replies.new.items) }
+    ensures sent { (steps : List StepValue) → slice_get (map (λ s. section s.steps) servers.now) place ≡ Some steps
+        → OnOk result (map plain replies.new.items ≡ map plain replies.old.items
+        ++ sent_along (map (λ m. batch m.batch) batches.now) place [] steps) }
 {
+    let mut opened: Vec<&AttemptData> = Vec::new(alloc);
     let steps = servers[place as usize].steps.as_slice();
-    for number in 0..steps.len() {
-        let (before, _) = steps.split_at(number);
-        if let Some(attempt) = committed_by(&steps[number], before) {
-            send_attempt(replies, place, servers, attempt, batches)?;
+    for step in steps {
+        match step {
+            Step::Attempt(attempt) => opened.push(attempt)?,
+            Step::Commit(_) => {
+                if !opened.is_empty() {
+                    let attempt = opened.remove(0);
+                    send_attempt(replies, place, servers, attempt, batches)?;
+                }
+            }
+            Step::Rollback(_) => opened.clear(),
         }
     }
     Ok(())
-}
-
-// The attempt that the step commits: the last one of its batch before it.
-fn committed_by<'s>(step: &Step, before: &'s [Step]) -> Option<&'s AttemptData> {
-    let Step::Commit(commit) = step else {
-        return None;
-    };
-    for earlier in before.iter().rev() {
-        if let Step::Attempt(attempt) = earlier {
-            if attempt.seq == commit.seq {
-                return Some(attempt);
-            }
-        }
-    }
-    None
 }
 
 // The replies of the attempt, of the replica at this place.
@@ -76,15 +77,53 @@ fn send_attempt(
 ) -> Result<(), AllocError>
     requires there { place < length servers.now }
     requires right { AreReplies (length servers.now) (length batches.now) replies.old.items }
-    ensures { OnOk result (AreReplies (length servers.now) (length batches.now) replies.new.items) }
+    ensures limits { OnOk result (AreReplies (length servers.now) (length batches.now) replies.new.items) }
+    ensures sent { OnOk result (map plain replies.new.items ≡ map plain replies.old.items
+        ++ answers_of (map (λ m. batch m.batch) batches.now) place (plain_attempt attempt.now)) }
 {
     let seq = attempt.seq;
     if seq < 1 || seq as usize > batches.len() {
         return Ok(());
     }
-    let requests = batches[seq as usize - 1].batch.requests.iter();
-    for (request, reply) in requests.zip(attempt.replies.iter()) {
-        send(replies, place, servers, seq, batches, request, *reply)?;
+    let requests = batches[seq as usize - 1].batch.requests.as_slice();
+    send_answers(
+        replies,
+        place,
+        servers,
+        seq,
+        batches,
+        requests,
+        attempt.replies.as_slice(),
+    )
+}
+
+// The replies to the requests, which are of the batch with this number.
+fn send_answers(
+    replies: &mut Vec<SentData>,
+    place: u8,
+    servers: &[Server],
+    seq: u32,
+    batches: &[MixedBatch],
+    requests: &[RequestData],
+    answers: &[Reply],
+) -> Result<(), AllocError>
+    requires there { place < length servers.now }
+    requires seq { (1 ≤ seq) × (seq ≤ length batches.now) }
+    requires right { AreReplies (length servers.now) (length batches.now) replies.old.items }
+    ensures limits { OnOk result (AreReplies (length servers.now) (length batches.now) replies.new.items) }
+    ensures sent { OnOk result (map plain replies.new.items ≡ map plain replies.old.items
+        ++ answered place seq (map asked requests.now) answers.now) }
+{
+    for index in 0..requests.len().min(answers.len()) {
+        send(
+            replies,
+            place,
+            servers,
+            seq,
+            batches,
+            &requests[index],
+            answers[index],
+        )?;
     }
     Ok(())
 }
@@ -102,7 +141,9 @@ fn send(
     requires there { place < length servers.now }
     requires seq { (1 ≤ seq) × (seq ≤ length batches.now) }
     requires right { AreReplies (length servers.now) (length batches.now) replies.old.items }
-    ensures { OnOk result (AreReplies (length servers.now) (length batches.now) replies.new.items) }
+    ensures limits { OnOk result (AreReplies (length servers.now) (length batches.now) replies.new.items) }
+    ensures sent { OnOk result (map plain replies.new.items ≡ map plain replies.old.items
+        ++ answered place seq (asked request.now ∷ []) (reply ∷ [])) }
 {
     let sent = SentData {
         client: request.client,

@@ -126,7 +126,8 @@ impl<'n> Server<'n> {
 
     /// Rolls back, if the replica is live.
     pub(crate) fn roll_back(&mut self, alloc: Global) -> Result<(), AllocError>
-        requires { self.old.is_live ≡ true → self.old.replica.ledger.view < 2 ^ 32 - 1 }
+        requires view { self.old.is_live ≡ true → self.old.replica.ledger.view < 2 ^ 32 - 1 }
+        requires open { self.old.is_live ≡ true → 0 < length self.old.replica.ledger.opened }
         ensures on { OnOk result (GoesOn rollback_move self.old self.new) }
         ensures live { OnOk result (self.new.is_live ≡ self.old.is_live) }
     {

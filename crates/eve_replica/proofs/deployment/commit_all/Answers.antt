@@ -26,12 +26,13 @@ loop-server-init c = record {
 pub loop-server-preserved : goal.loop-server-preserved
 loop-server-preserved c = record {
   serve = λ p at votes all.
-      one_gone p at votes (commit_move c.args.token) c.loop-server.server-index c.loop-server.servers c.server-item.result
-      c.commit_or_stop.new.self (omega arith) (λ k below. absurd (omega arith)) c.in_ok-commit_or_stop.ensures.on
+      one_gone p at votes (commit_move c.args.token) c.loop-server.server-index c.loop-server.servers
+      c.server-item.result c.commit_or_stop.new.self (omega arith) (λ k below. absurd (omega arith))
+      c.in_ok-commit_or_stop.ensures.on
       (c.loop-server.invariant.serve p at votes all);
-  live = one_living (λ s. is_some_of c.args.token (next_token s)) c.args.servers.now c.loop-server.server-index c.loop-server.servers
-      c.server-item.result c.commit_or_stop.new.self (omega arith) c.in_ok-commit_or_stop.ensures.live
-      c.loop-server.invariant.live;
+  live = one_living (λ s. is_some_of c.args.token (next_token s)) c.args.servers.now
+      c.loop-server.server-index c.loop-server.servers c.server-item.result c.commit_or_stop.new.self (omega arith)
+      c.in_ok-commit_or_stop.ensures.live c.loop-server.invariant.live;
 }
 
 pub returns-clause-serve : goal.returns-clause-serve
@@ -41,5 +42,5 @@ returns-clause-serve c = λ p at votes all.
 
 pub returns-clause-live : goal.returns-clause-live
 returns-clause-live c =
-    all_living (λ s. is_some_of c.args.token (next_token s)) c.args.servers.now c.loop-server.server-index c.loop-server.servers (omega arith)
-    c.loop-server.invariant.live
+    all_living (λ s. is_some_of c.args.token (next_token s)) c.args.servers.now
+    c.loop-server.server-index c.loop-server.servers (omega arith) c.loop-server.invariant.live

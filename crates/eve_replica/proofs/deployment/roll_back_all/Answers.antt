@@ -4,12 +4,19 @@ use Rattle.eve_replica.specs.Serving.{rollback_move}
 use Rattle.eve_replica.proofs.Going.{none_gone, one_gone, all_gone, none_living, one_living, all_living}
 use Rattle.eve_replica.proofs.deployment.roll_back_all.Goals as goal
 
-pub roll_back-requires : goal.roll_back-requires
-roll_back-requires c = λ live.
+pub roll_back-requires-clause-view : goal.roll_back-requires-clause-view
+roll_back-requires-clause-view c = λ live.
     let r = c.requires in
     let old = (c.loop-server.invariant.serve r.0 r.1 r.2 r.3).left c.loop-server.server-index c.server-item.result
     (omega arith) (omega arith) in
     let stands = ap (λ (s : Standing). s.view) (old.live live) in omega arith
+
+pub roll_back-requires-clause-open : goal.roll_back-requires-clause-open
+roll_back-requires-clause-open c = λ live.
+    let r = c.requires in
+    let old = (c.loop-server.invariant.serve r.0 r.1 r.2 r.3).left c.loop-server.server-index c.server-item.result
+    (omega arith) (omega arith) in
+    let stands = ap (λ (s : Standing). s.opened) (old.live live) in omega arith
 
 pub loop-server-init : goal.loop-server-init
 loop-server-init c = record {

@@ -29,7 +29,8 @@ loop-place-preserved c =
     (get_or_default given i two one (omega arith) ∙ sym c.index-customers-place.is)) in
     let there : slice_get (map customer given) i ≡ Some (customer one) =
     slice_get-map customer given i
-    ∙ ap (option_map customer) (slice_get_read given (length given) i one refl (omega arith) c.index-customers-place.is) in
+    ∙ ap (option_map customer) (slice_get_read given (length given) i one refl (omega arith)
+    c.index-customers-place.is) in
     let rows : length old ≡ 2 * length (map customer given) =
     omega (arith, c.loop-place.invariant.rows, length-map given customer) in
     record {

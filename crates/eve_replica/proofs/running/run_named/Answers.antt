@@ -13,7 +13,8 @@ use Rattle.eve_workload.specs.declared.mixer.MixedBatch.{MixedBatch}
 use Rattle.eve_replica.specs.declared.server.Server.{Server}
 use Rattle.eve_replica.specs.Serving.{IsRightMixed, AreVotesOn, AreReplies, plan_with}
 use Rattle.eve_workload.specs.Workload.{head_asked}
-use Rattle.eve_replica.specs.Run.{batches_cut, plan_of}
+use Rattle.eve_replica.specs.Run.{batches_cut, run_plan}
+use Rattle.eve_replica.specs.Sending.{sent_from_on}
 use Rattle.eve_replica.proofs.Parts.{same_head, spelled}
 use Rattle.eve_replica.proofs.Sectioned.{run_of, plan_is, copies_gave}
 use Rattle.eve_replica.proofs.running.run_named.Goals as goal
@@ -69,11 +70,17 @@ returns g c =
     let replies : AreReplies (length servers) (length mixed) p.sent.items =
     subst (λ (ss : List Server). AreReplies (length ss) (length mixed) p.sent.items) c.as_slice-2.ensures.value
     (subst (λ (ms : List MixedBatch). AreReplies (length c.as_slice-2.result.now) (length ms) p.sent.items)
-    c.as_slice-3.ensures.value c.in_ok-sent.ensures) in
+    c.as_slice-3.ensures.value c.in_ok-sent.ensures.limits) in
     let led : List Vote = map vote given in
     let at = c.in_ok-servers.field-0.standing in
     let opened : c.in_ok-balances.balances ≡ opening_rows c.args.workload.now.customers = search rules in
-    let is : plan ≡ plan_of c.args.workload.now c.args.mixer =
+    let sent_all : (trace p).sent ≡ sent_from_on plan.batches 0 (map (λ s. section s.steps) servers) =
+    c.in_ok-sent.ensures.sent
+    ∙ ap (λ (ms : List MixedBatch). sent_from_on (map (λ m. batch m.batch) ms) 0
+    (map (λ s. section s.steps) c.as_slice-2.result.now)) (c.as_slice-3.ensures.value ∙ sym c.as_slice.ensures.value)
+    ∙ ap (λ (ss : List Server). sent_from_on plan.batches 0 (map (λ s. section s.steps) ss))
+    c.as_slice-2.ensures.value in
+    let is : plan ≡ run_plan c.args.workload.now c.args.mixer =
     plan_is c.args.workload.now c.args.mixer c.args.names.now.items c.in_ok-balances.balances c.head-head.result slice
     c.requires opened (ap (λ (x : Head). x.workers) asked) (ap (λ (x : Head). x.window) asked)
     (ap (map (λ m. batch m.batch)) c.as_slice.ensures.value ∙ c.in_ok-batches.ensures.cut) in
@@ -82,9 +89,10 @@ returns g c =
           head c.head-head.ensures.right counted right c.in_ok-plain_batches.ensures mix c.in_ok-sections_of.ensures
           under.servers votes each replies;
       run = run_of c.args.workload.now c.args.mixer p plan at led servers is (head ∙ asked) customers batches
-          c.in_ok-sections_of.ensures under.servers (c.in_ok-servers.ensures.done ∙ sym (length-map slice (λ m. batch m.batch)))
+          c.in_ok-sections_of.ensures under.servers
+          (c.in_ok-servers.ensures.done ∙ sym (length-map slice (λ m. batch m.batch)))
           (omega (arith, c.in_ok-servers.ensures.view, length-map slice (λ m. batch m.batch))) under.majority
-          (copies_gave given p.verifiers.items each);
+          (copies_gave given p.verifiers.items each) sent_all;
     }
 
 pub run_windows-requires-clause-rows : goal.run_windows-requires-clause-rows

@@ -18,7 +18,8 @@ loop-turn-init g c =
         mixed = c.requires.mixed;
         due = omega arith;
         many = c.in_ok-servers_of.ensures.many;
-        servers = none_led p c.new.result.items servers.items c.new.ensures.items (c.in_ok-servers_of.ensures.serve p (refl, refl));
+        servers = none_led p c.new.result.items servers.items c.new.ensures.items
+            (c.in_ok-servers_of.ensures.serve p (refl, refl));
         majority = omega (
           arith,
           counted_all (λ s. s.is_live) servers.items c.in_ok-servers_of.ensures.live,

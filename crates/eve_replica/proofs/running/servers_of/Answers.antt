@@ -5,7 +5,8 @@ use Rattle.eve_replica.specs.Serving.{Serves, first_standing}
 use Rattle.eve_replica.proofs.running.servers_of.Goals as goal
 
 -- one more
-more : (P : Server → Type 0) (servers : List Server) (one : Server) → All P servers → P one → All P (servers ++ one ∷ [])
+more : (P : Server → Type 0) (servers : List Server) (one : Server) → All P servers → P one
+    → All P (servers ++ one ∷ [])
 more P servers one all holds = All-append P servers (one ∷ []) all (All-cons P one [] holds (All-nil P))
 
 pub loop-number-preserved : goal.loop-number-preserved

@@ -1,6 +1,15 @@
-use Rattle.std.proofs.Common.{length}
+use Rattle.std.proofs.Common.{◌≡◌, ◌++◌, [], length, map, drop}
+use Rattle.eve_write.specs.Data.{attempt, batch, sent, step}
+use Rattle.eve_replica.specs.Sending.{sent_along}
 use Rattle.eve_replica.specs.Serving.{AreReplies}
 use Rattle.eve_replica.proofs.sending.send_section.Given as goal
 
-abbrev pub invariant-loop-number : goal.invariant-loop-number
-invariant-loop-number l = AreReplies (length l.servers) (length l.batches) l.replies.items
+abbrev pub invariant-loop-step : goal.invariant-loop-step
+invariant-loop-step l = record {
+  limits : AreReplies (length l.servers) (length l.batches) l.replies.items;
+  sent : map sent l.replies.items
+      ++ sent_along (map (λ m. batch m.batch) l.batches) l.place (map (λ a. attempt a.now) l.opened.items)
+      (drop l.step-index (map step l.steps))
+      ≡ map sent l.fn.replies.items
+      ++ sent_along (map (λ m. batch m.batch) l.batches) l.place [] (map step l.steps);
+}

@@ -15,6 +15,7 @@ roll_back_all-requires c =
       map vote d.votes.items,
       lent_serve c.requires.under_way.0 d c.as_mut_slice.result.now was c.as_mut_slice.ensures.value,
       omega arith,
+      omega arith,
     )
 
 pub returns-clause-under_way : goal.returns-clause-under_way

@@ -1,11 +1,11 @@
 use Rattle.std.proofs.Common.{◌≡◌}
-use Rattle.eve_replica.specs.Sections.{Plan}
+use Rattle.eve_replica.specs.Sections.{RunPlan}
 use Rattle.eve_replica.specs.Serving.{IsSameRun, IsUnderWay}
 use Rattle.eve_replica.proofs.deployment.Deployment.run_window.Given as goal
 
 abbrev pub invariant-loop-self : goal.invariant-loop-self
 invariant-loop-self g l = record {
-  under_way : (p : Plan) → IsUnderWay p l.fn.self → IsUnderWay p l.self;
+  under_way : (p : RunPlan) → IsUnderWay p l.fn.self → IsUnderWay p l.self;
   same : IsSameRun l.fn.self l.self;
   view : l.self.standing.view ≡ l.fn.self.standing.view;
 }

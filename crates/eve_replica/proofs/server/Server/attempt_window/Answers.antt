@@ -9,7 +9,8 @@ pub loop-mixed-preserved : goal.loop-mixed-preserved
 loop-mixed-preserved g c = (
   one_more c.loop-mixed.mixed-index (map (λ m. batch m.batch) c.args.window.now) (batch c.mixed-item.result.batch)
       c.args.self.now c.loop-mixed.self c.attempt.new.self
-      (slice_get-map (λ (m : MixedBatch). batch m.batch) c.args.window.now c.loop-mixed.mixed-index ∙ ap (option_map (λ m. batch m.batch))
+      (slice_get-map (λ (m : MixedBatch). batch m.batch) c.args.window.now c.loop-mixed.mixed-index
+      ∙ ap (option_map (λ m. batch m.batch))
       (slice_get_read c.args.window.now (length c.args.window.now) c.loop-mixed.mixed-index c.mixed-item.result refl
       (omega arith) c.mixed-item.is))
       c.loop-mixed.invariant.0 c.in_ok-attempt.ensures.on,

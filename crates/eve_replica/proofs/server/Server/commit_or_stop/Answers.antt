@@ -5,7 +5,8 @@ use Rattle.eve_attempts.specs.Ledgers.{ledger_rows}
 use Rattle.eve_write.specs.Data.{commit, section}
 use Rattle.eve_replica.specs.Replicas.{Replica, CommitsFirst}
 use Rattle.eve_replica.specs.Serving.{GoesOn, commit_move, next_token, is_some_of}
-use Rattle.eve_replica.proofs.OneStep.{where_well, commit_goes}
+use Rattle.eve_replica.proofs.OneStep.{commit_goes}
+use Rattle.eve_replica.proofs.WhereWell.{where_well}
 use Rattle.eve_replica.proofs.server.Server.commit_or_stop.Goals as goal
 
 pub returns-clause-on : goal.returns-clause-on

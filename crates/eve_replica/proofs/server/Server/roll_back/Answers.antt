@@ -5,7 +5,8 @@ use Rattle.eve_attempts.specs.Discarding.{RollsBack}
 use Rattle.eve_write.specs.Data.{rollback, section}
 use Rattle.eve_replica.specs.Replicas.{Replica}
 use Rattle.eve_replica.specs.Serving.{GoesOn, rollback_move}
-use Rattle.eve_replica.proofs.OneStep.{where_well, rollback_goes}
+use Rattle.eve_replica.proofs.OneStep.{rollback_goes}
+use Rattle.eve_replica.proofs.WhereWell.{where_well}
 use Rattle.eve_replica.proofs.server.Server.roll_back.Goals as goal
 
 pub returns-clause-on : goal.returns-clause-on
@@ -19,6 +20,7 @@ returns-clause-on c =
     let live : c.args.self.now.is_live ≡ true = search rules in
     where_well _ _ (GoesOn rollback_move c.args.self.now c.did.new.self) c.did.result
     (λ right added. rollback_goes r c.args.self.now c.did.new.self live (c.did.ensures.live ∙ live)
+    (c.requires.open live)
     (subst (λ (x : Replica). RollsBack old.ledger x.ledger r) (sym same) made)
     (subst (λ (x : Replica). x ≡ record old { ledger = x.ledger; is_broken = false }) (sym same) whole)
     added

@@ -1,0 +1,115 @@
+use Rattle.std.proofs.Common.{rules, ◌≡◌, ◌+◌, ◌<◌, ◌∷◌, ◌++◌, [], List, map, drop, length, slice_get, option_map, Some}
+use Rattle.std.proofs.Common.{refl}
+use Rattle.std.proofs.Common.{sym, ap, ◌∙◌, subst, arith}
+use Rattle.std.proofs.lemmas.List.{map-append, length-map, nil_from_length}
+use Rattle.std.proofs.lemmas.Option.{slice_get-map, slice_get_read, same_Some}
+use Rattle.eve_grammar.specs.Trace.{Batch, Step, Attempts, Commits, RollsBack}
+use Rattle.eve_write.specs.Data.{attempt, batch, commit, rollback, section, sent, step}
+use Rattle.eve_replica.specs.declared.server.Server.{Server}
+use Rattle.eve_replica.specs.Sending.{sent_along}
+use Rattle.eve_replica.specs.Serving.{AreReplies}
+use Rattle.eve_replica.proofs.Answering.{attempt_sent, commit_sent, empty_commit_sent, rollback_sent, section_sent}
+use Rattle.eve_replica.proofs.Answering.{along_is, step_at, first_removed}
+use Rattle.eve_replica.proofs.sending.send_section.Goals as goal
+use Rattle.eve_replica.proofs.sending.send_section.Goals.{in-Attempt+in_ok-push-in-Attempt}
+use Rattle.eve_replica.proofs.sending.send_section.Goals.{in-Commit+then-not-is_empty+in_ok-send_attempt-in-Commit}
+use Rattle.eve_replica.proofs.sending.send_section.Goals.{in-Commit+else-not-is_empty, in-Rollback}
+
+pub loop-step-preserved : goal.loop-step-preserved
+loop-step-preserved c =
+    let batches : List Batch = map (λ m. batch m.batch) c.args.batches.now in
+    let steps = c.as_slice-steps.result.now in
+    let i = c.loop-step.step-index in
+    let was = c.loop-step.invariant in
+    let before = map sent c.loop-step.replies.items in
+    let place = c.args.place in
+    let rest = drop (i + 1) (map step steps) in
+    elim c.match-step.branch [
+      | in-Attempt+in_ok-push-in-Attempt w ↦
+          let a = attempt w.in-Attempt.attempt in
+          record {
+            limits = subst (λ v. AreReplies (length c.args.servers.now) (length c.args.batches.now) v.items)
+                (sym w.replies-is) was.limits;
+            sent = along_is batches place before _
+                (map (λ x. attempt x.now) c.loop-step.opened.items ++ a ∷ []) _ rest _
+                (ap (λ v. map sent v.items) w.replies-is)
+                (ap (λ v. map (λ x. attempt x.now) v.items) w.opened-is
+                ∙ ap (map (λ x. attempt x.now)) w.in_ok-push-in-Attempt.ensures.items
+                ∙ map-append (λ x. attempt x.now) c.loop-step.opened.items _)
+                (attempt_sent batches place (map (λ x. attempt x.now) c.loop-step.opened.items) a (map step steps) i
+                before _ (omega (arith, length-map steps step))
+                (step_at steps i c.step-item.result (Attempts a) (omega arith) c.step-item.is
+                (ap step w.in-Attempt.is))
+                was.sent);
+          }
+      | in-Commit+then-not-is_empty+in_ok-send_attempt-in-Commit w ↦
+          let a = attempt w.remove-attempt.result.now in
+          let d = commit w.in-Commit.field-0 in
+          let some : 0 < length c.loop-step.opened.items = search rules in
+          record {
+            limits = subst (λ v. AreReplies (length c.args.servers.now) (length c.args.batches.now) v.items)
+                (sym w.replies-is) w.in_ok-send_attempt-in-Commit.ensures.limits;
+            sent = along_is batches place (map sent w.send_attempt.new.replies.items) _
+                (map (λ x. attempt x.now) w.remove-attempt.new.self.items) _ rest _
+                (ap (λ v. map sent v.items) w.replies-is)
+                (ap (λ v. map (λ x. attempt x.now) v.items) w.opened-is)
+                (commit_sent batches place (map (λ x. attempt x.now) w.remove-attempt.new.self.items) a d
+                (map step steps) i before (map sent w.send_attempt.new.replies.items) _
+                (omega (arith, length-map steps step))
+                (step_at steps i c.step-item.result (Commits d) (omega arith) c.step-item.is (ap step w.in-Commit.is))
+                w.in_ok-send_attempt-in-Commit.ensures.sent
+                (along_is batches place before before (map (λ x. attempt x.now) c.loop-step.opened.items) _
+                (drop i (map step steps)) _ refl
+                (sym (ap (map (λ x. attempt x.now))
+                (first_removed c.loop-step.opened.items w.remove-attempt.result some w.remove-attempt.ensures.value
+                ∙ ap (λ xs. w.remove-attempt.result ∷ xs) (sym w.remove-attempt.ensures.items))))
+                was.sent));
+          }
+      | in-Commit+else-not-is_empty w ↦
+          let d = commit w.in-Commit.field-0 in
+          let empty : length c.loop-step.opened.items ≡ 0 = search rules in
+          let none = nil_from_length c.loop-step.opened.items empty in
+          record {
+            limits = subst (λ v. AreReplies (length c.args.servers.now) (length c.args.batches.now) v.items)
+                (sym w.replies-is) was.limits;
+            sent = along_is batches place before _ [] _ rest _ (ap (λ v. map sent v.items) w.replies-is)
+                (ap (λ v. map (λ x. attempt x.now) v.items) w.opened-is ∙ ap (map (λ x. attempt x.now)) none)
+                (empty_commit_sent batches place d (map step steps) i before _ (omega (arith, length-map steps step))
+                (step_at steps i c.step-item.result (Commits d) (omega arith) c.step-item.is (ap step w.in-Commit.is))
+                (along_is batches place before before (map (λ x. attempt x.now) c.loop-step.opened.items) []
+                (drop i (map step steps)) _ refl
+                (sym (ap (map (λ x. attempt x.now)) none)) was.sent));
+          }
+      | in-Rollback w ↦
+          let r = rollback w.in-Rollback.field-0 in
+          record {
+            limits = subst (λ v. AreReplies (length c.args.servers.now) (length c.args.batches.now) v.items)
+                (sym w.replies-is) was.limits;
+            sent = along_is batches place before _ [] _ rest _ (ap (λ v. map sent v.items) w.replies-is)
+                (ap (λ v. map (λ x. attempt x.now) v.items) w.opened-is
+                ∙ ap (map (λ x. attempt x.now)) w.clear.ensures.items)
+                (rollback_sent batches place (map (λ x. attempt x.now) c.loop-step.opened.items) r (map step steps) i
+                before _ (omega (arith, length-map steps step))
+                (step_at steps i c.step-item.result (RollsBack r) (omega arith) c.step-item.is
+                (ap step w.in-Rollback.is))
+                was.sent);
+          }
+    ]
+
+pub returns-clause-sent : goal.returns-clause-sent
+returns-clause-sent c = λ steps there.
+    let batches : List Batch = map (λ m. batch m.batch) c.args.batches.now in
+    let servers : List Server = c.args.servers.now in
+    let item : Server = c.index-servers-place.result in
+    let own : slice_get (map (λ s. section s.steps) servers) c.args.place ≡ Some (section item.steps) =
+    slice_get-map (λ s. section s.steps) servers c.args.place
+    ∙ ap (option_map (λ s. section s.steps)) (slice_get_read servers (length servers) c.args.place item refl
+    c.requires.there c.index-servers-place.is) in
+    let same : map step c.as_slice-steps.result.now ≡ steps =
+    ap (map step) c.as_slice-steps.ensures.value ∙ ap (λ (s : Server). section s.steps) (sym c.index-servers-place.is)
+    ∙ same_Some (section item.steps) steps (sym own ∙ there) in
+    subst (λ (ss : List Step). map sent c.loop-step.replies.items
+    ≡ map sent c.args.replies.now.items ++ sent_along batches c.args.place [] ss) same
+    (section_sent batches c.args.place (map (λ x. attempt x.now) c.loop-step.opened.items)
+    (map step c.as_slice-steps.result.now) c.loop-step.step-index (map sent c.loop-step.replies.items) _
+    (omega (arith, length-map c.as_slice-steps.result.now step)) c.loop-step.invariant.sent)
