@@ -9,6 +9,7 @@ pub struct Misses {
 }
 
 impl Misses {
+    /// Nothing is missed yet.
     pub fn none() -> Misses {
         Misses { first: None }
     }

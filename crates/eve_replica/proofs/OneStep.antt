@@ -1,6 +1,6 @@
 -- A replica that attempts, commits or rolls back goes on.
 use Rattle.std.proofs.Common.{◌≡◌, ℕ, suc, ◌+◌, ◌-◌, ◌<◌, Bool, true, false, if◌then◌else◌, List, [], ◌∷◌, ◌++◌, length}
-use Rattle.std.proofs.Common.{slice_get, Option, Some, None, option_map, Result, Ok, Err, OnOk, All, refl, sym, ap, ◌∙◌}
+use Rattle.std.proofs.Common.{slice_get, Option, Some, None, option_map, All, refl, sym, ap, ◌∙◌}
 use Rattle.std.proofs.Common.{subst, arith}
 use Rattle.std.proofs.lemmas.List.{append-nil}
 use Rattle.std.proofs.lemmas.List.Elements.{All-head, All-tail, All-nil}

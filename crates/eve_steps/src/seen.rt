@@ -10,6 +10,7 @@ pub struct Seen {
 }
 
 impl Seen {
+    /// Nothing was looked at yet.
     pub fn nothing() -> Seen {
         Seen {
             count: 0,

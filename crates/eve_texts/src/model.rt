@@ -11,6 +11,7 @@ pub struct Drawn {
     pub amount: i64,
 }
 
+/// One of the five transactions.
 #[derive(Clone, Copy)]
 pub enum DrawnKind {
     Balance,

@@ -47,3 +47,9 @@ loop-turn-preserved g c =
       none_open = c.in_ok-run_window.ensures.none_open;
       view = omega (arith, was.view, c.in_ok-run_window.ensures.view);
     }
+
+pub returns-clause-done : goal.returns-clause-done
+returns-clause-done g c =
+    let was = c.loop-turn.invariant in
+    let same = ap length was.batches in
+    omega (arith, was.under_way.due, c.if-deployment-batches-2.false)

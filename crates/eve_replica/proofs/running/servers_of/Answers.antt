@@ -16,9 +16,10 @@ loop-number-preserved c =
     record {
       many = omega (arith, c.in_ok-push.ensures.len, c.loop-number.invariant.many);
       serve = λ p plan. subst (λ (servers : List Server). All (Serves p first_standing []) servers)
-          (sym c.in_ok-push.ensures.items)
+          (sym {A = List Server} c.in_ok-push.ensures.items)
           (more (Serves p first_standing []) before one (c.loop-number.invariant.serve p plan)
           (c.in_ok-server_of.ensures.serve p plan));
-      live = subst (λ (servers : List Server). All (λ s. s.is_live ≡ true) servers) (sym c.in_ok-push.ensures.items)
+      live = subst (λ (servers : List Server). All (λ s. s.is_live ≡ true) servers)
+          (sym {A = List Server} c.in_ok-push.ensures.items)
           (more (λ s. s.is_live ≡ true) before one c.loop-number.invariant.live c.in_ok-server_of.ensures.live);
     }

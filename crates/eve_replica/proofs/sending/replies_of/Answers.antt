@@ -1,8 +1,7 @@
-use Rattle.std.proofs.Common.{◌≡◌, List, map, length, slice_get, option_map, Some, refl, ap, ◌∙◌, arith}
+use Rattle.std.proofs.Common.{List, map, arith}
 use Rattle.std.proofs.lemmas.List.{length-map}
 use Rattle.eve_grammar.specs.Trace.{Batch, Step}
 use Rattle.eve_write.specs.Data.{batch, section, sent}
-use Rattle.eve_replica.specs.declared.server.Server.{Server}
 use Rattle.eve_replica.proofs.Answering.{replica_sent, replicas_sent, section_there}
 use Rattle.eve_replica.proofs.sending.replies_of.Goals as goal
 
