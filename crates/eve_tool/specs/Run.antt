@@ -32,8 +32,8 @@ pub record IsRunOfText (mixer : Mixer) (bytes : List ℕ) (parts : Parts) : Type
 abbrev pub longest : ℕ
 longest = MOST_BYTES
 
--- the bytes are a workload, and the text spells a trace of a run of it, of `limit` bytes at most both; the exit status is
--- 0
+-- the bytes are a workload, and the text spells a trace of a run of it, both of `limit` bytes at most; the exit status
+-- is 0
 pub record Runs (limit : ℕ) (mixer : Mixer) (bytes text : List ℕ) (status : ℕ) : Type 0 where
   pub short : length bytes ≤ limit
   pub workload : Workload
