@@ -1,4 +1,5 @@
--- The open attempts of a section that a rollback discards: their requests are chained from what is committed.
+-- Public: other crates cite these lemmas. The open attempts of a section that a rollback discards: their requests are
+-- chained from what is committed.
 use Rattle.std.proofs.Common.{◌≡◌, ℕ, List, [], ◌∷◌, ◌++◌, map, refl, sym, subst, ap, ◌∙◌, append_assoc, append-nil}
 use Rattle.std.specs.List.{flat_map}
 use Rattle.std.proofs.lemmas.Grind.{flat_map-append}
@@ -81,7 +82,7 @@ pub table_after_all-append : (table : Table) (xs ys : List Executed) → table_a
 table_after_all-append table [] ys = refl
 table_after_all-append table (x ∷ xs) ys = table_after_all-append (table_after table x.entries) xs ys
 
-left_more : (t : Trace) (path : List Attempt) (a : Attempt) → rows_after t (path ++ a ∷ [])
+pub left_more : (t : Trace) (path : List Attempt) (a : Attempt) → rows_after t (path ++ a ∷ [])
     ≡ table_after_all (rows_after t path) (execution t a)
 left_more t path a =
     ap (table_after_all (opening_table t)) (flat_map-append (execution t) path (a ∷ [])

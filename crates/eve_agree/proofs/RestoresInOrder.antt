@@ -1,4 +1,5 @@
--- Steps of a section judged one after another: which attempts are open, and the first rollback that is wrong.
+-- Public: other crates cite these lemmas. Steps of a section judged one after another: which attempts are open, and the
+-- first rollback that is wrong.
 use Rattle.std.proofs.Common.{◌≡◌, ℕ, zero, suc, ◌+◌, ◌-◌, ◌*◌, ◌<◌, ◌≤◌, ◌==◌, Bool, true, false, cond, ◌&&◌, List, []}
 use Rattle.std.proofs.Common.{◌∷◌, ◌++◌, map, take, drop, length, slice_index_or, Some, refl, sym, subst, ap, ◌∙◌, inl}
 use Rattle.std.proofs.Common.{inr, ◌⊎◌, append_assoc, append-nil, arith, IsTrue, IsFalse}

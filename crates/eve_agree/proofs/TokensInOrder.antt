@@ -1,4 +1,4 @@
--- Balances as lists, and the order of a replica's committed attempts.
+-- Public: other crates cite these lemmas. Balances as lists, and the order of a replica's committed attempts.
 use Rattle.std.proofs.Common.{◌≡◌, ◌≢◌, ℕ, zero, suc, ◌+◌, ◌*◌, ◌≤◌, ℤ, pos, Bool, true, false, cond, List, [], ◌∷◌}
 use Rattle.std.proofs.Common.{◌++◌, map, length, take, slice_get, Some, refl, sym, ap, subst, ◌∙◌, inl, inr, arith}
 use Rattle.std.proofs.Common.{add-one, take_all}

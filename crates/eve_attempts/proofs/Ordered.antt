@@ -1,4 +1,4 @@
--- There is one order of the ticks.
+-- Public: other crates cite these lemmas. There is one order of the ticks.
 use Rattle.std.proofs.Common.{◌≡◌, ◌≢◌, ℕ, suc, ◌+◌, ◌<◌, ◌≤◌, ◌==◌, Bool, true, false, cond, ◌||◌, ◌&&◌, ltb, IsTrue}
 use Rattle.std.proofs.Common.{List, [], ◌∷◌, refl, sym, subst, ap, ap₂, ◌∙◌, inl, inr, ◌⊎◌, arith}
 use Rattle.std.specs.Prelude.{All, sum_by}

@@ -1,4 +1,5 @@
--- What a write leaves in the rows, what going back over writes gives, and what each entry along an attempt sees.
+-- Public: other crates cite these lemmas. What a write leaves in the rows, what going back over writes gives, and what
+-- each entry along an attempt sees.
 use Rattle.std.proofs.Common.{◌≡◌, ℕ, ℤ, pos, zero, suc, ◌+◌, ◌<◌, ◌==◌, Bool, true, false, cond, ltb, ◌||◌, ◌&&◌}
 use Rattle.std.proofs.Common.{IsTrue, List, [], ◌∷◌, ◌++◌, map, filter, length, get_or, set, refl, sym, subst, ap, ap₂}
 use Rattle.std.proofs.Common.{◌∙◌, inl, inr, append_assoc, arith}

@@ -1,4 +1,5 @@
--- What was committed a majority decided, and what was rolled back a majority rolled back.
+-- Public: other crates cite these lemmas. What was committed a majority decided, and what was rolled back a majority
+-- rolled back.
 use Rattle.std.proofs.Common.{◌≡◌, ℕ, zero, suc, ◌+◌, ◌-◌, ◌==◌, true, List, [], ◌∷◌, ◌++◌, length, length-append}
 use Rattle.std.proofs.Common.{slice_get, Some, refl, sym, subst, ◌∙◌, zero-add, arith}
 use Rattle.std.specs.List.{AllByRecursion}

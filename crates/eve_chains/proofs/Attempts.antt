@@ -1,4 +1,5 @@
--- An attempt's access records are those that its certificate lists, and a settled attempt is one of those told.
+-- Public: other crates cite these lemmas. An attempt's access records are those that its certificate lists, and a
+-- settled attempt is one of those told.
 use Rattle.std.proofs.Common.{◌≡◌, ℕ, ◌+◌, ◌<◌, ◌≤◌, ◌==◌, nat_le, Bool, true, false, cond, ◌&&◌, List, [], ◌∷◌, length}
 use Rattle.std.proofs.Common.{refl, sym, subst, ap, ◌∙◌, inl, inr, ◌⊎◌, arith, IsTrue}
 use Rattle.std.proofs.lemmas.Bool.{and_parts, eqb-true, leb-true, eq-eqb, ne_eqb, cond-true, cond-false}

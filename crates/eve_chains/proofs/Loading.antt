@@ -1,4 +1,4 @@
--- The access records of attempts, as they are loaded.
+-- Public: other crates cite these lemmas. The access records of attempts, as they are loaded.
 use Rattle.std.proofs.Common.{◌≡◌, ℕ, zero, suc, ◌+◌, ◌≤◌, ◌==◌, Bool, true, false, cond, List, [], ◌∷◌, ◌++◌, map}
 use Rattle.std.proofs.Common.{take, length, length-append, slice_get, Some, refl, sym, ap, ◌∙◌, append_assoc, arith}
 use Rattle.std.proofs.Common.{IsTrue}

@@ -1,4 +1,5 @@
--- What holds of each attempt among a section's steps holds of each that is settled.
+-- Public: other crates cite these lemmas. What holds of each attempt among a section's steps holds of each that is
+-- settled.
 use Rattle.std.proofs.Common.{◌≡◌, ℕ, ◌+◌, ◌&&◌, ◌==◌, List, [], ◌∷◌, ◌++◌, length}
 use Rattle.std.proofs.Common.{IsTrue}
 use Rattle.std.specs.Prelude.{⊤}

@@ -1,0 +1,15 @@
+pub mod Alike
+pub mod Executing
+pub mod Following
+pub mod Sounding
+pub mod Restored
+pub mod Due
+pub mod Ranges
+pub mod VotesApart
+pub mod Voting
+pub mod Replied
+pub mod Colliding
+pub mod OrdersRight
+pub mod Refuted
+pub mod Agreed
+pub mod Accepting

@@ -1,0 +1,69 @@
+//! Laws about the definitions. A body calls the laws that its own stands on: the contract is the law.
+
+ghost use Rattle.std.specs.Prelude.{◌≡◌, ◌<◌, ◌^◌, ◌⊎◌, ℕ, List, slice_index_or};
+ghost use Rattle.eve_grammar.specs.Trace.{Trace};
+ghost use Rattle.eve_grammar.specs.Limits.{Spells, HasLimits};
+ghost use Rattle.eve_views.specs.declared.fault.Fault.{Fault};
+ghost use Rattle.eve_workload.specs.declared.mixer.Mixer.{Mixer};
+ghost use Rattle.eve_workload.specs.Workload.{Workload, IsWorkload};
+ghost use Rattle.eve_replica.specs.Run.{IsTraceOf};
+ghost use Rattle.eve_audit.specs.Audited.{IsAudited};
+ghost use Rattle.eve_audit.specs.declared.verdict.Summary.{Summary};
+ghost use Rattle.eve_audit.specs.declared.verdict.Verdict.TheVariants.{Yes};
+ghost use Rattle.eve_audit.specs.Verdict.{IsTraceFault, IsVerdict};
+ghost use Rattle.eve_tool.specs.Audit.{Audits};
+ghost use Rattle.eve_tool.specs.Run.{Runs};
+ghost use Rattle.eve_accepts.specs.Collision.{Collision};
+
+/// A fault in the trace of a run is a collision of SHA-256: none stands there but one of agreement, and where one does,
+/// two replicas committed a batch by one token that is due to two outcomes.
+///
+/// docs/MODEL.md, "A run is accepted".
+pub fn faults_of_runs_are_collisions()
+    ensures { (w : Workload) (mixer : Mixer) (t : Trace) (f : Fault) → IsWorkload w → IsTraceOf w mixer t → HasLimits t
+        → IsTraceFault t f → Collision }
+{
+    eve_workload::laws::cuts_keep_requests();
+    eve_chains::laws::sound_sections_have_no_fault();
+}
+
+/// The verdict on bytes that spell the trace of a run is yes, or two messages have one SHA-256. What is below 2^8 is a
+/// byte.
+///
+/// docs/MODEL.md, "A run is accepted".
+pub fn runs_are_accepted()
+    ensures { (w : Workload) (mixer : Mixer) (t : Trace) (bytes : List ℕ)
+        → ((i : ℕ) → slice_index_or bytes i 0 < 2 ^ 8) → IsWorkload w → IsTraceOf w mixer t → Spells bytes t
+        → ((s : Summary) × IsVerdict bytes (Yes s)) ⊎ Collision }
+{
+    faults_of_runs_are_collisions();
+    eve_grammar::laws::bytes_spell_one_trace();
+    eve_views::laws::form_is_decided();
+    eve_audit::laws::bytes_have_a_verdict();
+}
+
+/// A run is SmallBank on one thread, batch by batch in each replica, and all else that a yes says, whether it is audited
+/// or not; or two messages have one SHA-256. What is below 2^8 is a byte.
+///
+/// docs/MODEL.md, "A run is accepted".
+pub fn runs_are_audited()
+    ensures { (w : Workload) (mixer : Mixer) (t : Trace) (bytes : List ℕ)
+        → ((i : ℕ) → slice_index_or bytes i 0 < 2 ^ 8) → IsWorkload w → IsTraceOf w mixer t → Spells bytes t
+        → IsAudited t ⊎ Collision }
+{
+    runs_are_accepted();
+    eve_audit::laws::a_yes_is_audited();
+}
+
+/// Of what the program wrote for `run` with status 0: where it says the verdict on that for `audit`, it is yes and the
+/// status is 0, or two messages have one SHA-256. What is below 2^8 is a byte.
+///
+/// docs/MODEL.md, "A run is accepted".
+pub fn audits_of_runs_end_well()
+    ensures { (limit : ℕ) (mixer : Mixer) (input written line : List ℕ) (status ended : ℕ)
+        → ((i : ℕ) → slice_index_or written i 0 < 2 ^ 8) → Runs limit mixer input written status
+        → Audits written line ended → (ended ≡ 0) ⊎ Collision }
+{
+    runs_are_accepted();
+    eve_audit::laws::verdicts_are_unique();
+}
