@@ -7,17 +7,12 @@ use Rattle.eve_history.specs.Section.{Placed, batch_at}
 use Rattle.eve_history.specs.SectionHistory.{ExecutedAttempt, SectionHistory, executed_attempt, placed_at}
 use Rattle.eve_history.specs.SectionHistory.{section_history, history, committed_at}
 use Rattle.eve_history.specs.Faults.{RequestId, request_id}
+use Rattle.eve_history.proofs.Finding.{get_mapped}
 use Rattle.eve_chains.proofs.Linked.{some_injective, none≢some}
 use Rattle.eve_agree.specs.SentReplies.{IsReplied}
 use Rattle.eve_agree.specs.Keeping.{AnswersAt}
 
 -- ---- places of lists
-
-get_mapped : {A B : Type 0} (f : A → B) (xs : List A) (i : ℕ) (x : A) → slice_get xs i ≡ Some x → slice_get (map f xs) i
-    ≡ Some (f x)
-get_mapped f [] i x at = none≢some x at
-get_mapped f (y ∷ xs) zero x at = ap (λ z. Some (f z)) (some_injective y x at)
-get_mapped f (y ∷ xs) (suc i) x at = get_mapped f xs i x at
 
 -- what stands in the image, and of what
 record Source {A B : Type 0} (f : A → B) (xs : List A) (i : ℕ) (y : B) : Type 0 where

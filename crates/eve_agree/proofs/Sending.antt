@@ -1,10 +1,10 @@
 -- The replies that were sent, one after another.
-use Rattle.std.proofs.Common.{◌≡◌, ℕ, zero, suc, ◌+◌, ◌<◌, ◌≤◌, List, [], ◌∷◌, ◌++◌, map, take, drop, length, slice_get}
+use Rattle.std.proofs.Common.{◌≡◌, ℕ, zero, suc, ◌+◌, ◌<◌, ◌≤◌, List, [], ◌∷◌, ◌++◌, take, drop, length, slice_get}
 use Rattle.std.proofs.Common.{slice_index_or, Some, None, refl, sym, subst, ap, ◌∙◌, inl, inr, ◌⊎◌, arith, IsTrue}
-use Rattle.std.specs.List.{AllByRecursion, list_all, enumerate_from}
+use Rattle.std.specs.List.{AllByRecursion, list_all}
 use Rattle.std.proofs.lemmas.Bool.{and_parts, cases_lt, ltb-true, leb-true}
 use Rattle.std.proofs.lemmas.Option.{get_or_from_slice_get}
-use Rattle.eve_grammar.specs.Trace.{Sent, Step, Trace}
+use Rattle.eve_grammar.specs.Trace.{Sent, Trace}
 use Rattle.eve_grammar.specs.Frames.{OfSent}
 use Rattle.eve_grammar.specs.Spelling.{frame_text, located, sent_start, sent_at}
 use Rattle.eve_grammar.specs.Limits.{is_sent, HasLimits}
@@ -16,6 +16,7 @@ use Rattle.eve_views.specs.Form.{SomePlace, IsLeast}
 use Rattle.eve_history.specs.SectionHistory.{SectionHistory, section_history, section_histories}
 use Rattle.eve_history.proofs.Places.{no_place, place_cases, cut_at, Rising, located_rising, At, first_place}
 use Rattle.eve_history.proofs.Places.{weaker_place}
+use Rattle.eve_history.proofs.Rights.{section_history_at}
 use Rattle.eve_chains.proofs.Linked.{some_injective, none≢some}
 use Rattle.eve_agree.specs.SentReplies.{IsReplied, AllReplied, StandsInReplies, IsReplyFault}
 
@@ -140,32 +141,9 @@ is_possible t i s limits at =
     each (x ∷ xs) (suc k) all there = each xs k (and_parts (is_sent (length t.sections) (length t.batches) x) _ all).1
         there
 
--- what a replica's section tells, among all
-pub section_history_there : (t : Trace) (e : ℕ) → e < length t.sections → slice_get (section_histories t) e
-    ≡ Some (section_history t e)
-unfolding section_histories
-section_history_there t e lt = let same : 0 + e ≡ e = omega arith in told 0 t.sections e lt
-    ∙ ap (λ n. Some (section_history t n)) same
-  where
-    told : (from : ℕ) (xs : List (List Step)) (k : ℕ) → k < length xs
-        → slice_get (map (λ s. section_history t s.0) (enumerate_from from xs)) k ≡ Some (section_history t (from + k))
-    told from [] k lt = absurd (omega arith)
-    told from (x ∷ xs) zero lt = let same : from ≡ from + 0 = omega arith in ap (λ n. Some (section_history t n)) same
-    told from (x ∷ xs) (suc k) lt =
-        let same : from + 1 + k ≡ from + suc k = omega arith in
-        told (from + 1) xs k (omega arith) ∙ ap (λ n. Some (section_history t n)) same
-
+-- what a replica's section tells, read at its place
 pub told_as : (t : Trace) (vs : List SectionHistory) (e k : ℕ) (v : SectionHistory) → vs ≡ section_histories t
     → e < length t.sections → k ≡ e → v ≡ slice_index_or vs k v → v ≡ section_history t e
 told_as t vs e k v is lt same read =
     read ∙ (λ i. slice_index_or (is i) (same i) v) ∙ get_or_from_slice_get (section_histories t) e
-    (section_history t e) v (section_history_there t e lt)
-
-pub length-section_histories : (t : Trace) → length (section_histories t) ≡ length t.sections
-unfolding section_histories
-length-section_histories t = long 0 t.sections
-  where
-    long : (from : ℕ) (xs : List (List Step)) → length (map (λ s. section_history t s.0) (enumerate_from from xs))
-        ≡ length xs
-    long from [] = refl
-    long from (x ∷ xs) = ap suc (long (from + 1) xs)
+    (section_history t e) v (section_history_at t e lt)

@@ -13,6 +13,7 @@ use Rattle.eve_accounts.specs.Money.{is_balance}
 use Rattle.eve_smallbank.specs.declared.entry.Entry.{Entry}
 use Rattle.eve_smallbank.specs.Access.{is_write, writes_row}
 use Rattle.eve_smallbank.specs.Chain.{Table, table_after}
+use Rattle.eve_smallbank.proofs.Members.{In, here, there, all_in, all_from_in}
 use Rattle.eve_grammar.specs.Trace.{Restore, Rollback}
 use Rattle.eve_grammar.specs.Limits.{is_entry, is_restore, is_rising, is_rollback, is_number, version_limit}
 use Rattle.eve_attempts.specs.Ledgers.{Opened, Rows, Ledger, ledger_rows, table_of_rows, table_now, values_before}
@@ -20,7 +21,7 @@ use Rattle.eve_attempts.specs.Ledgers.{writes_in}
 use Rattle.eve_attempts.specs.Ledgers.{open_writes, rows_committed, is_write_in, AreLaid, IsLedger}
 use Rattle.eve_attempts.specs.Discarding.{restore_in, AreRestores, RollsBack}
 use Rattle.eve_attempts.specs.Restoring.{entry_rows, rising_from}
-use Rattle.eve_attempts.proofs.Ordered.{In, here, there, in_split, all_in, all_from_in, all_moved}
+use Rattle.eve_attempts.proofs.Ordered.{in_split, all_moved}
 use Rattle.eve_attempts.proofs.TableLaws.{laid_undone}
 
 -- ---- commits

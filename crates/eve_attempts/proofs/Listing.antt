@@ -6,9 +6,7 @@ use Rattle.std.specs.List.{AllByRecursion, list_all}
 use Rattle.std.proofs.lemmas.Bool.{and_parts, and_from, false≢true}
 use Rattle.std.specs.Bool.{Decides}
 use Rattle.std.proofs.lemmas.List.{drop_more, drop_all}
-
-some_injective : {A : Type 0} (x y : A) → Some x ≡ Some y → x ≡ y
-some_injective x y same = cc
+use Rattle.eve_grammar.proofs.Codec.{some_is}
 
 none≢some : {A : Type 0} (x : A) → None ≡ Some x → ⊥
 none≢some x same = cc
@@ -16,7 +14,7 @@ none≢some x same = cc
 -- the item at a place, where the list has it
 pub at_place : {A : Type 0} (xs : List A) (i : ℕ) (x d : A) → slice_get xs i ≡ Some x → x ≡ get_or xs i d
 at_place [] i x d e = absurd (none≢some x e)
-at_place (y ∷ xs) zero x d e = sym (some_injective y x e)
+at_place (y ∷ xs) zero x d e = sym (some_is y x e)
 at_place (y ∷ xs) (suc i) x d e = at_place xs i x d e
 
 pub place_within : {A : Type 0} (xs : List A) (i : ℕ) (x : A) → slice_get xs i ≡ Some x → i < length xs
@@ -33,12 +31,6 @@ drop_at xs i x e = drop_more xs i x (place_within xs i x e)
 pub drop_read : {A : Type 0} (xs : List A) (i : ℕ) (x : A) → i < length xs → x ≡ get_or xs i x
     → drop i xs ≡ x ∷ drop (i + 1) xs
 drop_read xs i x within is = drop_more xs i x within ∙ ap (λ (y : _). y ∷ drop (i + 1) xs) (sym is)
-
-pub all_test : {A : Type 0} (p : A → Bool) (xs : List A) (i : ℕ) (x : A) → list_all p xs ≡ true → slice_get xs i
-    ≡ Some x → p x ≡ true
-all_test p [] i x all e = absurd (none≢some x e)
-all_test p (y ∷ xs) zero x all e = ap p (sym (some_injective y x e)) ∙ (and_parts (p y) (list_all p xs) all).0
-all_test p (y ∷ xs) (suc i) x all e = all_test p xs i x (and_parts (p y) (list_all p xs) all).1 e
 
 pub all_fact : {A : Type 0} (P : A → Type 0) (xs : List A) (i : ℕ) (d : A) → AllByRecursion P xs → i < length xs
     → P (get_or xs i d)

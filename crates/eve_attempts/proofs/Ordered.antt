@@ -9,6 +9,7 @@ use Rattle.std.proofs.lemmas.Bool.{cond-true, cond-false, false≢true}
 use Rattle.std.proofs.lemmas.List.Sums.{sum_by-cons}
 use Rattle.std.proofs.lemmas.List.Elements.{All-nil, All-cons, recursion_from_All}
 use Rattle.std.proofs.lemmas.List.Sorted.{All-permutation, IsPermutation-sym, IsPermutation-trans, sum_by-IsPermutation}
+use Rattle.eve_smallbank.proofs.Members.{In, here, there, all_in, all_from_in}
 use Rattle.eve_grammar.specs.Certificate.{occurrences, all_below, is_permutation}
 use Rattle.eve_grammar.proofs.Counting.{all_below_at}
 use Rattle.eve_stamps.specs.Applied.{Applied}
@@ -17,21 +18,9 @@ use Rattle.eve_attempts.specs.Ordering.{IsNoLaterRecord, TicksDontFall}
 
 -- ---- members
 
-pub data In {A : Type 0} : A → List A → Type 0 where
-  here : {x : A} {xs : List A} → In x (x ∷ xs)
-  there : {x y : A} {xs : List A} → In x xs → In x (y ∷ xs)
-
 pub in_split : {A : Type 0} (z x : A) (xs : List A) → In z (x ∷ xs) → (z ≡ x) ⊎ In z xs
 in_split z x xs here = inl refl
 in_split z x xs (there i) = inr i
-
-pub all_in : {A : Type 0} (P : A → Type 0) {x : A} {xs : List A} → AllByRecursion P xs → In x xs → P x
-all_in P all here = all.0
-all_in P all (there i) = all_in P all.1 i
-
-pub all_from_in : {A : Type 0} (P : A → Type 0) (xs : List A) → ((x : A) → In x xs → P x) → AllByRecursion P xs
-all_from_in P [] h = tt
-all_from_in P (x ∷ xs) h = (h x here, all_from_in P xs (λ y i. h y (there i)))
 
 -- ---- before and not after
 

@@ -7,9 +7,8 @@ use Rattle.std.proofs.lemmas.Bool.{cases_lt, cases_eq}
 use Rattle.std.proofs.lemmas.Option.{slice_get-get_or, slice_get_within}
 use Rattle.eve_grammar.specs.Trace.{ForRollback, ForCommit, Asked, Sent, Batch, Step, Attempts, Commits, RollsBack}
 use Rattle.eve_grammar.specs.Trace.{Trace}
-use Rattle.eve_grammar.specs.Frames.{OfSent, batches_of}
-use Rattle.eve_grammar.specs.Spelling.{frame_text, located, batch_text, batches_start, batches_at, sent_start, sent_at}
-use Rattle.eve_grammar.specs.Spelling.{steps_at, votes_of}
+use Rattle.eve_grammar.specs.Frames.{OfSent}
+use Rattle.eve_grammar.specs.Spelling.{frame_text, located, batches_at, sent_start, sent_at, steps_at, votes_of}
 use Rattle.eve_grammar.specs.Limits.{HasLimits, is_vote}
 use Rattle.eve_views.specs.declared.fault.Code.TheVariants as code
 use Rattle.eve_views.specs.declared.fault.Fault.{Fault}
@@ -20,7 +19,7 @@ use Rattle.eve_chains.proofs.Linked.{some_injective, none≢some}
 use Rattle.eve_votes.specs.Votes.{IsDecided, backers}
 use Rattle.eve_votes.specs.Faults.{HasTwoDecisions, IsVoteFault, AreVotesSound}
 use Rattle.eve_grammar.proofs.Grouping.{all_at}
-use Rattle.eve_views.proofs.Locating.{length-located}
+use Rattle.eve_history.proofs.OrderLaws.{batch_count}
 use Rattle.eve_votes.proofs.Counting.{decided_backs, one_token}
 use Rattle.eve_votes.proofs.Deciding.{IsRight, right_vote, quorum_limits, decisions_stand}
 use Rattle.eve_votes.proofs.Tallying.{votes_once}
@@ -55,10 +54,6 @@ votes_right t limits v early k d lt =
 pub length-enumerated : {A : Type 0} (n : ℕ) (xs : List A) → length (enumerate_from n xs) ≡ length xs
 length-enumerated n [] = refl
 length-enumerated n (x ∷ xs) = ap suc (length-enumerated (n + 1) xs)
-
-batch_count : (t : Trace) → length (batches_at t) ≡ length t.batches
-unfolding batches_at
-batch_count t = length-located batch_text (batches_start t) (batches_of t) ∙ length-enumerated 1 t.batches
 
 module _ (t : Trace) (limits : HasLimits t) where
   module _ (none : HasNone (IsVoteFault t)) where

@@ -13,6 +13,7 @@ use Rattle.eve_grammar.specs.Spelling.{batches_start, verifier_start, sent_start
 use Rattle.eve_grammar.specs.Spelling.{votes_of, votes_at, sent_at, length_of}
 use Rattle.eve_grammar.specs.Limits.{Spells}
 use Rattle.eve_grammar.proofs.HeaderParts.{length-head_text}
+use Rattle.eve_views.proofs.Locating.{length-frames_text}
 use Rattle.eve_views.specs.declared.fault.Code.{Code}
 use Rattle.eve_views.specs.declared.fault.Code.TheVariants as code
 use Rattle.eve_views.specs.declared.fault.Fault.{Fault}
@@ -28,10 +29,6 @@ use Rattle.eve_audit.proofs.Where.{Between, at_place, all_located, mapped, front
 use Rattle.eve_audit.proofs.Kept.{none_beyond}
 use Rattle.eve_audit.proofs.Placed.{structure_lies, record_lies, chain_lies, restore_lies, token_lies, majority_lies}
 use Rattle.eve_audit.proofs.Placed.{outcome_lies}
-
-split : (xs ys : List Frame) → length (frames_text (xs ++ ys)) ≡ length (frames_text xs) + length (frames_text ys)
-split xs ys = ap length (flat_map-append frame_text xs ys)
-    ∙ length-append (flat_map frame_text xs) (flat_map frame_text ys)
 
 texts : {A : Type 0} (frames : A → List Frame) (xs : List A) → flat_map frame_text (flat_map frames xs)
     ≡ flat_map (λ x. frames_text (frames x)) xs
@@ -50,9 +47,10 @@ sent_ends t =
     let sent : List Frame = map OfSent t.sent in
     let end : List Frame = End ∷ [] in
     summed _ _ _ _ _ _ _ _ _ _ _ _ _ _ _ _
-    (split customers (batches ++ (sections ++ (verifiers ++ (sent ++ end)))))
-    (split batches (sections ++ (verifiers ++ (sent ++ end)))) (split sections (verifiers ++ (sent ++ end)))
-    (split verifiers (sent ++ end)) (split sent end)
+    (length-frames_text customers (batches ++ (sections ++ (verifiers ++ (sent ++ end)))))
+    (length-frames_text batches (sections ++ (verifiers ++ (sent ++ end))))
+    (length-frames_text sections (verifiers ++ (sent ++ end))) (length-frames_text verifiers (sent ++ end))
+    (length-frames_text sent end)
     (ap length (mapped OfCustomer t.customers)) (ap length (mapped (λ (b : ℕ × Batch). OfBatch b.0 b.1) (batches_of t)))
     (ap length (texts section_frames (sections_of t))) (ap length (texts verifier_frames (verifiers_of t)))
     (ap length (mapped OfSent t.sent))

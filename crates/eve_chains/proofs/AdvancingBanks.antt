@@ -10,10 +10,11 @@ use Rattle.eve_grammar.specs.Trace.{Access, Trace, opening_rows}
 use Rattle.eve_grammar.specs.Limits.{HasLimits}
 use Rattle.eve_history.specs.Section.{Placed}
 use Rattle.eve_history.specs.SectionHistory.{ordered, history, names_of, IsRightSection}
+use Rattle.eve_history.proofs.Finding.{get_mapped}
 use Rattle.eve_chains.specs.Visible.{rows_after}
 use Rattle.eve_chains.specs.Committed.{attempts_of, values_to, bank_after}
 use Rattle.eve_chains.specs.Along.{all_said, entries_along, AreWithin}
-use Rattle.eve_chains.proofs.Linked.{some_injective, none≢some}
+use Rattle.eve_chains.proofs.Linked.{none≢some}
 use Rattle.eve_chains.proofs.AlongLaws.{values_after-append}
 use Rattle.eve_chains.proofs.SerialSections.{take_one_more}
 use Rattle.eve_chains.proofs.Advancing.{advance_along}
@@ -79,12 +80,6 @@ batch_read records rs ends es i ys is so at =
     (subst (λ (vs : List AccessView). slice_get (parts 0 (all_said vs) es) i ≡ Some ys) is at)
 
 -- ---- the law
-
-get_mapped : {A B : Type 0} (f : A → B) (xs : List A) (i : ℕ) (x : A) → slice_get xs i ≡ Some x → slice_get (map f xs) i
-    ≡ Some (f x)
-get_mapped f [] i x at = none≢some x at
-get_mapped f (y ∷ xs) zero x at = ap (λ z. Some (f z)) (some_injective y x at)
-get_mapped f (y ∷ xs) (suc i) x at = get_mapped f xs i x at
 
 take_no_more : {A : Type 0} (xs : List A) (n : ℕ) → slice_get xs n ≡ None → take (suc n) xs ≡ take n xs
 take_no_more [] zero none = refl

@@ -17,6 +17,7 @@ use Rattle.eve_history.specs.SectionHistory.{ExecutedAttempt, SectionHistory, Is
 use Rattle.eve_history.specs.SectionHistory.{access_with, ordered, attempts_among, section_history}
 use Rattle.eve_history.specs.SectionHistory.{history, is_committed, picked, placed_at}
 use Rattle.eve_history.proofs.FateLaws.{committed_are_picked}
+use Rattle.eve_history.proofs.Finding.{rec_at}
 use Rattle.eve_chains.specs.Along.{AreWithin}
 use Rattle.eve_chains.proofs.Linked.{some_injective, none≢some, last_committed}
 use Rattle.eve_chains.specs.Parts.{parts, DoRise, ArePartsOf}
@@ -163,17 +164,11 @@ section_within t e limits =
     steps_within (row_count (head_of t)) (section_start t e + length (frame_text (OfReplica e))) (steps_of t e)
     (each_section (row_count (head_of t)) t.sections e limits.sections)
 
-all_at : {A : Type 0} (P : A → Type 0) (xs : List A) (i : ℕ) (x : A) → AllByRecursion P xs → slice_get xs i ≡ Some x
-    → P x
-all_at P [] i x own at = none≢some x at
-all_at P (y ∷ xs) zero x own at = subst P (some_injective y x at) own.0
-all_at P (y ∷ xs) (suc i) x own at = all_at P xs i x own.1 at
-
 -- the records of each attempt of a section are of the rows that the customers have
 pub attempt_within : (t : Trace) (e i : ℕ) (r : ExecutedAttempt) → HasLimits t
     → slice_get (section_history t e).attempts i ≡ Some r
     → AreWithin (row_count (head_of t)) r.ordered
-attempt_within t e i r limits at = all_at (λ q. AreWithin (row_count (head_of t)) q.ordered)
+attempt_within t e i r limits at = rec_at (λ q. AreWithin (row_count (head_of t)) q.ordered)
     (section_history t e).attempts i r
     (section_within t e limits) at
 

@@ -5,9 +5,9 @@ use Rattle.std.proofs.lemmas.List.{take_all}
 use Rattle.eve_grammar.specs.Trace.{Sent}
 use Rattle.eve_frames.specs.Views.{sent_in}
 use Rattle.eve_history.specs.SectionHistory.{SectionHistory}
+use Rattle.eve_history.proofs.Rights.{as_many_told}
 use Rattle.eve_agree.specs.SentReplies.{IsReplied}
 use Rattle.eve_agree.proofs.Sending.{sent_there, replied_more, no_fault, first_fault, is_possible, told_as}
-use Rattle.eve_agree.proofs.Sending.{length-section_histories}
 use Rattle.eve_agree.proofs.sent_replies.replies.Goals as goal
 
 pub bounds-histories-replica : goal.bounds-histories-replica
@@ -17,7 +17,7 @@ bounds-histories-replica c =
     let own = (is_possible t c.loop-i.i s c.is_whole.ensures
     (sent_there t c.loop-i.i c.sent-sent.result.offset s c.sent-sent.ensures.says)).replica in
     let many : length c.args.histories.now ≡ length t.sections =
-    ap (λ (vs : List SectionHistory). length vs) c.requires.histories ∙ length-section_histories t in
+    ap (λ (vs : List SectionHistory). length vs) c.requires.histories ∙ as_many_told t in
     let is : c.replica.result ≡ s.replica = c.replica.ensures in
     omega arith
 

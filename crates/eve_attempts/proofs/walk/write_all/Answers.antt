@@ -5,15 +5,16 @@ use Rattle.eve_smallbank.specs.declared.entry.Entry.{Entry}
 use Rattle.eve_smallbank.specs.Access.{is_write}
 use Rattle.eve_smallbank.specs.Chain.{Table, table_after}
 use Rattle.eve_grammar.specs.Limits.{is_entry}
+use Rattle.eve_grammar.proofs.Grouping.{all_at}
 use Rattle.eve_attempts.specs.Ledgers.{table_of_rows}
-use Rattle.eve_attempts.proofs.Listing.{all_test, drop_at, filter-append}
+use Rattle.eve_attempts.proofs.Listing.{drop_at, filter-append}
 use Rattle.eve_attempts.proofs.TableLaws.{writes_among}
 use Rattle.eve_attempts.proofs.walk.write_all.Goals as goal
 
 pub write_one-requires-clause-entry : goal.write_one-requires-clause-entry
 write_one-requires-clause-entry c =
     subst (λ n. IsTrue (is_entry n c.at.result)) (sym c.loop-place.invariant.as_many)
-    (all_test (is_entry (length c.args.rows.now.balances)) c.args.entries.now c.loop-place.place c.at.result
+    (all_at (is_entry (length c.args.rows.now.balances)) c.args.entries.now c.loop-place.place c.at.result
     c.requires.entries c.at.ensures)
 
 pub write_one-requires-clause-room : goal.write_one-requires-clause-room

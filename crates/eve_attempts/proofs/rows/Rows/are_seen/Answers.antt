@@ -1,12 +1,13 @@
 use Rattle.std.proofs.Common.{length, arith}
 use Rattle.eve_smallbank.specs.Chain.{Sees}
 use Rattle.eve_grammar.specs.Limits.{is_entry}
+use Rattle.eve_grammar.proofs.Grouping.{all_at}
 use Rattle.eve_attempts.specs.Ledgers.{table_of_rows}
-use Rattle.eve_attempts.proofs.Listing.{all_test, drop_at, goes_start, goes_more, goes_stop, goes_end, fails_by}
+use Rattle.eve_attempts.proofs.Listing.{drop_at, goes_start, goes_more, goes_stop, goes_end, fails_by}
 use Rattle.eve_attempts.proofs.rows.Rows.are_seen.Goals as goal
 
 pub is_seen-requires : goal.is_seen-requires
-is_seen-requires c = all_test (is_entry (length c.args.self.now.balances)) c.args.entries.now c.loop-place.place
+is_seen-requires c = all_at (is_entry (length c.args.self.now.balances)) c.args.entries.now c.loop-place.place
     c.at.result c.requires c.at.ensures
 
 pub loop-place-init : goal.loop-place-init
