@@ -10,11 +10,13 @@ use Rattle.eve_grammar.specs.declared.head.Head.{Head}
 use Rattle.eve_grammar.specs.Limits.{is_step}
 use Rattle.eve_write.specs.declared.vote.VoteData.{VoteData}
 use Rattle.eve_write.specs.Data.{section, vote}
+use Rattle.eve_workload.specs.declared.mixer.MixedBatch.{MixedBatch}
 use Rattle.eve_attempts.specs.Ledgers.{Ledger, Opened, ledger_rows, opening}
 use Rattle.eve_replica.specs.declared.server.Server.{Server}
 use Rattle.eve_replica.specs.Replicas.{Replica}
 use Rattle.eve_replica.specs.Sections.{RunPlan, GoesThrough, votes_along}
-use Rattle.eve_replica.specs.Serving.{IsPlanFor, Serves, AreVotesOn, AreOfItsView, standing_of, first_standing}
+use Rattle.eve_replica.specs.Serving.{IsPlanFor, Serves, AreVotesOn, AreOfItsView, plan_with}
+use Rattle.eve_replica.specs.Serving.{standing_of, first_standing}
 
 -- a replica with the opening balances that has done nothing
 pub begins : (p : RunPlan) (names : List (List ℕ)) (balances : List ℤ) (h : Head) (s : Server)
@@ -36,11 +38,17 @@ begins p names balances h s plan rows is none live =
         later = [];
         first = sym (append-nil (votes_along (section s.steps)) ∙ ap votes_along none);
         none_later = λ is'. refl;
+        stopped = λ stopped. absurd (false≢true (sym stopped ∙ live));
       };
       view = let view = ap (λ (x : Ledger). x.view) ledger in omega arith;
       live = λ is'. ap standing_of ledger;
       behind = λ stopped. absurd (false≢true (sym stopped ∙ live));
     }
+
+-- and its plan has nothing open
+pub plan_begun : (names : List (List ℕ)) (balances : List ℤ) (h : Head) (batches : List MixedBatch)
+    → (plan_with names balances h batches).first.opened ≡ []
+plan_begun names balances h batches = refl
 
 -- no votes are votes
 pub none_voted : (batches : ℕ) (votes : List VoteData) → votes ≡ [] → AreVotesOn batches votes

@@ -1,12 +1,20 @@
 -- How many replicas have a token.
-use Rattle.std.proofs.Common.{◌≡◌, ℕ, zero, suc, ◌+◌, ◌*◌, ◌/◌, ◌<◌, ◌≤◌, Bool, true, false, cond, List, [], ◌∷◌}
+use Rattle.std.proofs.Common.{◌≡◌, ℕ, zero, suc, ◌+◌, ◌*◌, ◌/◌, ◌<◌, ◌≤◌, Bool, true, false, cond, if◌then◌else◌}
+use Rattle.std.proofs.Common.{List, [], ◌∷◌, slice_get, option_map}
 use Rattle.std.proofs.Common.{All, length, get_or, Option, Some, None, refl, sym, ap, ◌∙◌, subst, arith}
 use Rattle.std.specs.List.{count_by}
 use Rattle.std.specs.Cmp.Lexicographic.{same_text}
 use Rattle.std.proofs.lemmas.List.Elements.{All-head, All-tail}
 use Rattle.std.proofs.lemmas.List.Sums.{sum_by-cons}
 use Rattle.eve_replica.specs.declared.server.Server.{Server}
-use Rattle.eve_replica.specs.Serving.{next_token, is_some_of, count_with}
+use Rattle.eve_replica.specs.Deciding.{is_some_of}
+use Rattle.eve_replica.specs.Serving.{next_token, count_with}
+
+-- what a replica has for the next batch, by whether it is live
+pub next_by : (s : Server) (b : Bool) → s.is_live ≡ b → Path (Option (List ℕ)) (next_token s)
+    (if b then option_map (λ o. o.token) (slice_get s.replica.ledger.opened 0) else None)
+next_by s b is =
+    ap (λ (c : Bool). if c then option_map (λ o. o.token) (slice_get s.replica.ledger.opened 0) else None) is
 
 -- one that passes
 abbrev Passes : (Server → Bool) → List Server → Type 0

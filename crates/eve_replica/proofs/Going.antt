@@ -1,19 +1,19 @@
 -- Replicas of a run go on, one after another.
 use Rattle.std.proofs.Common.{◌≡◌, ℕ, zero, suc, ◌+◌, ◌-◌, ◌*◌, ◌<◌, ◌≤◌, ◌==◌, Bool, true, false, ◌&&◌, if◌then◌else◌}
-use Rattle.std.proofs.Common.{List, [], ◌∷◌, ◌++◌, Vec, vec_len, All, length, map, get_or, slice_get, option_map, set}
+use Rattle.std.proofs.Common.{List, [], ◌∷◌, ◌++◌, Vec, vec_len, All, length, map, get_or, slice_get, option_map}
 use Rattle.std.proofs.Common.{take, drop}
 use Rattle.std.proofs.Common.{Some}
-use Rattle.std.proofs.Common.{refl, sym, ap, ◌∙◌, subst, inl, inr, append_assoc, arith}
+use Rattle.std.proofs.Common.{refl, sym, ap, ◌∙◌, subst, append_assoc, arith}
 use Rattle.std.specs.Vec.{with_items}
 use Rattle.std.specs.declared.alloc.Global.{Global}
 use Rattle.eve_write.specs.declared.vote.VoteData.{VoteData}
-use Rattle.std.proofs.lemmas.List.{with_items_is, get_or-set_same, get_or-set_other, get_or_default, length-set}
+use Rattle.std.proofs.lemmas.List.{with_items_is}
 use Rattle.std.proofs.lemmas.List.{length-append, length-drop, length-map, length-take-le, append-nil}
-use Rattle.std.proofs.lemmas.Bool.{and_right, cases_lt, false≢true}
+use Rattle.std.proofs.lemmas.Bool.{and_right, false≢true}
 use Rattle.std.proofs.lemmas.Bool.Decides.{nat_tests}
-use Rattle.std.proofs.lemmas.List.Elements.{All-append, All-cons, All-nil, AllWithin-more_set}
+use Rattle.std.proofs.lemmas.List.Elements.{All-append, All-cons, All-nil}
 use Rattle.std.proofs.lemmas.Option.{slice_get-map, slice_get_within}
-use Rattle.std.specs.List.{AllWithin, count_by}
+use Rattle.std.specs.List.{count_by}
 use Rattle.eve_grammar.specs.Trace.{Batch, Attempt, Vote}
 use Rattle.eve_write.specs.Data.{batch, section, vote}
 use Rattle.eve_workload.specs.declared.mixer.MixedBatch.{MixedBatch}
@@ -25,33 +25,63 @@ use Rattle.eve_replica.specs.declared.server.Server.{Server}
 use Rattle.eve_replica.specs.declared.deployment.Deployment.{Deployment}
 use Rattle.eve_replica.specs.Replicas.{Replica, Attempts, front_of}
 use Rattle.eve_replica.specs.Sections.{RunPlan, AttemptsNext, place_due, votes_along}
-use Rattle.eve_replica.specs.Serving.{standing_of, after_attempts, AreDue, AreVotesOn, AreOfItsView, IsLedBy, Serves}
-use Rattle.eve_replica.specs.Serving.{Move, attempt_move, AreBatchesFrom, GoesOn, IsUnderWay, live_in}
+use Rattle.eve_replica.specs.Serving.{standing_of, after_attempts, AreDue, AreVotesOn, AreOfItsView}
+use Rattle.eve_replica.specs.Serving.{IsOutvoted, IsLedBy, Serves}
+use Rattle.eve_replica.specs.Deciding.{AreUndecided}
+use Rattle.eve_replica.specs.Serving.{Move, attempt_move, rollback_move, AreBatchesFrom, GoesOn, GivesUpNext}
+use Rattle.eve_replica.specs.Serving.{IsUnderWay, live_in, sections_in}
 use Rattle.eve_replica.proofs.Counting.{counted_alike}
+use Rattle.eve_replica.proofs.Each.{AreAllOn}
 
 -- the place that is due where a replica stands
 place_at : (s : Ledger) (at : Standing) → standing_of s ≡ at → at.committed + at.opened ≡ place_due s
 place_at s at stands = ap (λ (x : Standing). x.committed + x.opened) (sym stands)
 
+-- who is outvoted stays so, whatever votes come
+more_votes : (s : Ledger) (later more : List Vote) → IsOutvoted s later → IsOutvoted s (later ++ more)
+more_votes s later more out = record {
+  own = out.own;
+  others = out.others;
+  opened = out.opened;
+  token = out.token;
+  rest = out.rest ++ more;
+  next = ap (λ (vs : List Vote). vs ++ more) out.next;
+  other = out.other;
+}
+
+-- one that stops now by these votes, and one that stopped before by those before
+outvoted_on : (votes more : List Vote) (s : Server) (b : Bool) → s.is_live ≡ b → (led : IsLedBy votes s)
+    → (s.is_live ≡ true → IsOutvoted s.replica.ledger more) → IsOutvoted s.replica.ledger (led.later ++ more)
+outvoted_on votes more s true is led stops =
+    subst (λ (vs : List Vote). IsOutvoted s.replica.ledger (vs ++ more)) (sym (led.none_later is)) (stops is)
+outvoted_on votes more s false is led stops = more_votes s.replica.ledger led.later more (led.stopped is)
+
 -- a live replica was led by all votes, one that stopped by the first of them
 led_on : (votes more : List Vote) (old new : Server) (b : Bool) → new.is_live ≡ b → IsLedBy votes old
     → votes_along (section new.steps) ≡ votes_along (section old.steps) ++ (if b then more else [])
-    → (new.is_live ≡ true → old.is_live ≡ true) → IsLedBy (votes ++ more) new
-led_on votes more old new true is led along live = record {
+    → (new.is_live ≡ true → old.is_live ≡ true)
+    → (new.is_live ≡ false → new.replica.ledger ≡ old.replica.ledger)
+    → (new.is_live ≡ false → old.is_live ≡ true → IsOutvoted old.replica.ledger more)
+    → IsLedBy (votes ++ more) new
+led_on votes more old new true is led along live stays stops = record {
   later = [];
   first = ap (λ (vs : List Vote). vs ++ more) led.first
       ∙ ap (λ (vs : List Vote). (votes_along (section old.steps) ++ vs) ++ more) (led.none_later (live is))
       ∙ ap (λ (vs : List Vote). vs ++ more) (append-nil (votes_along (section old.steps)))
       ∙ sym along ∙ sym (append-nil (votes_along (section new.steps)));
   none_later = λ h. refl;
+  stopped = λ h. absurd (false≢true (sym h ∙ is));
 }
-led_on votes more old new false is led along live = record {
+led_on votes more old new false is led along live stays stops = record {
   later = led.later ++ more;
   first = ap (λ (vs : List Vote). vs ++ more) led.first
       ∙ append_assoc (votes_along (section old.steps)) led.later more
       ∙ ap (λ (vs : List Vote). vs ++ (led.later ++ more))
       (sym (along ∙ append-nil (votes_along (section old.steps))));
   none_later = λ h. absurd (false≢true (sym is ∙ h));
+  stopped = λ h.
+      subst (λ (s : Ledger). IsOutvoted s (led.later ++ more)) (sym (stays is))
+      (outvoted_on votes more old old.is_live refl led (stops is));
 }
 
 -- a replica that went on serves, further on
@@ -70,7 +100,8 @@ goes_on p at votes m old new next goes serves = record {
       serves.through;
   of_view = goes.of_view serves.of_view;
   led = led_on votes (m.votes at) old new new.is_live refl serves.led (along new.is_live refl)
-      (λ is. (goes.live is).0);
+      (λ is. (goes.live is).0) goes.stays
+      (λ is live. subst (IsOutvoted old.replica.ledger) (ap m.votes (serves.live live)) (goes.stops is live));
   view = goes.view at serves.view;
   live = λ is. (goes.live is).1 ∙ ap m.further (serves.live (goes.live is).0);
   behind = goes.behind at serves.live serves.behind;
@@ -159,6 +190,8 @@ one_more many window w a b c there first more =
       through = λ p names follow goes. more.through p (first.names ∙ names) (λ live. next_one p follow live)
           (first.through p names follow goes);
       of_view = λ h. more.of_view (first.of_view h);
+      given_up = λ view stays.
+          more.given_up view (λ enters. omega arith) ∙ first.given_up view (λ enters. omega arith);
       votes = λ h. more.votes (first.of_view h) ∙ no_votes c.is_live _ ∙ first.votes h ∙ no_votes b.is_live _
           ∙ sym (no_votes c.is_live _);
       view = λ x h. more.view x (first.view x h);
@@ -174,8 +207,14 @@ one_more many window w a b c there first more =
           more.behind (after_attempts many x)
           (λ is. (first.live is).1 ∙ ap (after_attempts many) (stands (first.live is).0))
           (first.behind x stands was);
+      stays = λ is. more.stays is ∙ first.stays (stopped_before b.is_live refl is);
+      stops = λ is live. first.stops (stopped_before b.is_live refl is) live;
     }
   where
+    stopped_before : (l : Bool) → b.is_live ≡ l → c.is_live ≡ false → b.is_live ≡ false
+    stopped_before true live is = absurd (let next = (more.stops is live).next in cc)
+    stopped_before false live is = live
+
     next_one : (p : RunPlan) → (a.is_live ≡ true → AreBatchesFrom p.batches (place_due a.replica.ledger) window)
         → b.is_live ≡ true → AreBatchesFrom p.batches (place_due b.replica.ledger) (w ∷ [])
     next_one p follow live zero below =
@@ -243,76 +282,29 @@ due p many at votes s fits last serves live =
       in_mode = ap (λ (x : Standing). x.is_next_serial) stands;
     }
 
--- Of these replicas those below this number have gone on, and the others stand where they stood.
-pub record AreGoing (p : RunPlan) (at : Standing) (votes : List Vote) (m : Move) (number : ℕ) (servers : List Server)
-    : Type 0 where
-  pub gone : AllWithin (Serves p (m.further at) (votes ++ m.votes at)) servers 0 number
-  pub left : AllWithin (Serves p at votes) servers number (length servers)
+-- ---- all replicas
 
-pub none_gone : (p : RunPlan) (at : Standing) (votes : List Vote) (m : Move) (servers : List Server)
-    → All (Serves p at votes) servers → AreGoing p at votes m 0 servers
-none_gone p at votes m servers all =
-    record { gone = λ k d from to. absurd (omega arith); left = λ k d from to. all k d to }
+-- Replicas went on by this move, and serve further on.
+pub serve_on : (p : RunPlan) (at : Standing) (votes : List Vote) (m : Move) (was servers : List Server)
+    → AreBatchesFrom p.batches (at.committed + at.opened) m.window → AreAllOn (GoesOn m) was servers
+    → All (Serves p at votes) was → All (Serves p (m.further at) (votes ++ m.votes at)) servers
+serve_on p at votes m was servers next on serve = λ k d there.
+    goes_on p at votes m (get_or was k d) (get_or servers k d) next (on.each k d there)
+    (serve k d (omega (arith, on.many)))
 
-pub one_gone : (p : RunPlan) (at : Standing) (votes : List Vote) (m : Move) (number : ℕ) (servers : List Server)
-    (d s : Server) → number < length servers → AreBatchesFrom p.batches (at.committed + at.opened) m.window
-    → GoesOn m (get_or servers number d) s → AreGoing p at votes m number servers
-    → AreGoing p at votes m (number + 1) (set servers number s)
-one_gone p at votes m number servers d s there next goes going =
-    let old = going.left number d (omega arith) there in
-    record {
-      gone = AllWithin-more_set servers number s there (Serves p (m.further at) (votes ++ m.votes at)) going.gone
-          (goes_on p at votes m (get_or servers number d) s next goes old);
-      left = λ k e from to.
-          subst (Serves p at votes) (sym (get_or-set_other servers number k s e (λ same. omega arith)))
-          (going.left k e (omega arith) (omega (arith, length-set {A = Server}, to)));
-    }
+-- as many are live as passed
+pub live_on : (passes : Server → Bool) (was servers : List Server)
+    → AreAllOn (λ old new. new.is_live ≡ passes old) was servers → live_in servers ≡ count_by passes was
+live_on passes was servers on = counted_alike (λ s. s.is_live) passes servers was on.many on.each
 
-pub all_gone : (p : RunPlan) (at : Standing) (votes : List Vote) (m : Move) (number : ℕ) (servers : List Server)
-    → length servers ≤ number → AreGoing p at votes m number servers
-    → All (Serves p (m.further at) (votes ++ m.votes at)) servers
-all_gone p at votes m number servers end going = λ k d there. going.gone k d (omega arith) (omega arith)
+-- a replica went on by this move, and is live where it passed before
+abbrev pub Moves : Move → (Server → Bool) → Server → Server → Type 0
+Moves m passes old new = GoesOn m old new × (new.is_live ≡ passes old)
 
--- ---- how many are live
-
--- Of these replicas each below this number is live where the one that stood there passes, and the others are as they
--- were.
-pub record AreLiving (passes : Server → Bool) (was : List Server) (number : ℕ) (servers : List Server) : Type 0 where
-  pub many : length servers ≡ length was
-  pub gone : (k : ℕ) (d : Server) → k < number → (get_or servers k d).is_live ≡ passes (get_or was k d)
-  pub left : (k : ℕ) (d : Server) → number ≤ k → get_or servers k d ≡ get_or was k d
-
-pub none_living : (passes : Server → Bool) (servers : List Server) → AreLiving passes servers 0 servers
-none_living passes servers =
-    record { many = refl; gone = λ k d below. absurd (omega arith); left = λ k d from. refl }
-
-pub one_living : (passes : Server → Bool) (was : List Server) (number : ℕ) (servers : List Server) (d s : Server)
-    → number < length servers → s.is_live ≡ passes (get_or servers number d) → AreLiving passes was number servers
-    → AreLiving passes was (number + 1) (set servers number s)
-one_living passes was number servers d s there is living = record {
-  many = length-set servers number s ∙ living.many;
-  gone = λ k e below. elim (cases_lt k number) [
-    | inl less ↦ ap (λ (x : Server). x.is_live) (get_or-set_other servers number k s e (λ same. omega arith))
-        ∙ living.gone k e less
-    | inr from ↦ here k e (omega arith)
-  ];
-  left = λ k e from. get_or-set_other servers number k s e (λ same. omega arith) ∙ living.left k e (omega arith);
-}
-  where
-    here : (k : ℕ) (e : Server) → k ≡ number
-        → (get_or (set servers number s) k e).is_live ≡ passes (get_or was k e)
-    here k e same =
-        ap (λ (n : ℕ). (get_or (set servers number s) n e).is_live) same
-        ∙ ap (λ (x : Server). x.is_live) (get_or-set_same servers number s e there)
-        ∙ is
-        ∙ ap passes (get_or_default servers number d e there ∙ living.left number e (omega arith))
-        ∙ ap (λ (n : ℕ). passes (get_or was n e)) (sym same)
-
-pub all_living : (passes : Server → Bool) (was : List Server) (number : ℕ) (servers : List Server)
-    → length servers ≤ number → AreLiving passes was number servers → live_in servers ≡ count_by passes was
-all_living passes was number servers end living =
-    counted_alike (λ s. s.is_live) passes servers was living.many
-    (λ k d there. living.gone k d (omega arith))
+-- a replica rolled back, if it was live
+abbrev pub Discards : Server → Server → Type 0
+Discards old new =
+    GoesOn rollback_move old new × (new.is_live ≡ old.is_live) × ((p : RunPlan) → GivesUpNext p old new)
 
 -- ---- the run
 
@@ -322,13 +314,21 @@ pub lent_serve : (p : RunPlan) (d : Deployment) (lent : List Server) → IsUnder
 lent_serve p d lent was same =
     subst (λ (servers : List Server). All (Serves p d.standing (map vote d.votes.items)) servers) (sym same) was.servers
 
+-- what they rolled back wasn't decided
+pub lent_undecided : (p : RunPlan) (d : Deployment) (lent : List Server) → IsUnderWay p d → lent ≡ d.servers.items
+    → AreUndecided (sections_in lent)
+lent_undecided p d lent was same =
+    subst (λ (servers : List Server). AreUndecided (sections_in servers)) (sym same) was.undecided
+
 -- a run whose replicas have gone on to stand here is under way
 pub moved : (p : RunPlan) (d : Deployment) (given : List Server) (at : Standing) (votes : Vec VoteData Global)
     → IsUnderWay p d → length given ≡ vec_len d.servers
     → at.committed + at.opened ≤ length d.batches.now → AreVotesOn (length d.batches.now) votes.items
     → All (Serves p at (map vote votes.items)) given → length given < 2 * live_in given
+    → AreUndecided (sections_in given)
     → IsUnderWay p (record d { servers = with_items d.servers given; standing = at; votes = votes })
-moved p d given at votes was many due right go majority = record {
+moved p d given at votes was many due right go majority undecided = record {
+  begun = was.begun;
   customers = was.customers;
   window = was.window;
   batches = was.batches;
@@ -341,6 +341,8 @@ moved p d given at votes was many due right go majority = record {
       (sym (with_items_is d.servers given many)) go;
   majority = subst (λ (servers : List Server). length servers < 2 * live_in servers)
       (sym (with_items_is d.servers given many)) majority;
+  undecided = subst (λ (servers : List Server). AreUndecided (sections_in servers))
+      (sym (with_items_is d.servers given many)) undecided;
   votes = right;
 }
 

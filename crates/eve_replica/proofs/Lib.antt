@@ -1,5 +1,8 @@
 pub mod Cuts
 mod Counting
+mod Each
+mod GivenUp
+mod Undecided
 mod Going
 mod Through
 mod OneStep

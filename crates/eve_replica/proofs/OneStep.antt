@@ -1,25 +1,39 @@
 -- A replica that attempts, commits or rolls back goes on.
 use Rattle.std.proofs.Common.{◌≡◌, ℕ, suc, ◌+◌, ◌-◌, ◌<◌, Bool, true, false, if◌then◌else◌, List, [], ◌∷◌, ◌++◌, length}
-use Rattle.std.proofs.Common.{slice_get, Option, Some, None, option_map, All, refl, sym, ap, ◌∙◌}
+use Rattle.std.proofs.Common.{slice_get, Option, Some, option_map, All, IsTrue, refl, sym, ap, ◌∙◌}
 use Rattle.std.proofs.Common.{subst, arith}
 use Rattle.std.proofs.lemmas.List.{append-nil}
 use Rattle.std.proofs.lemmas.List.Elements.{All-head, All-tail, All-nil}
 use Rattle.std.proofs.lemmas.Bool.{false≢true}
+use Rattle.std.proofs.lemmas.Slice.Eq.{bytes_eq-Decides}
+use Rattle.std.specs.List.{list_all}
+use Rattle.eve_grammar.specs.Limits.{is_step}
 use Rattle.eve_grammar.specs.Trace.{Batch, Step, Attempt, Attempts, Commit, Rollback, Commits, RollsBack, Vote}
 use Rattle.eve_grammar.specs.Trace.{ForCommit, ForRollback}
 use Rattle.eve_write.specs.Data.{section}
 use Rattle.eve_attempts.specs.Ledgers.{Ledger, Opened, ledger_rows}
 use Rattle.eve_attempts.specs.Discarding as account
 use Rattle.eve_replica.specs.declared.server.Server.{Server}
+use Rattle.eve_replica.specs.declared.standing.Standing.{Standing}
 use Rattle.eve_replica.specs.Replicas.{Replica}
 use Rattle.eve_replica.specs.Replicas as replica
-use Rattle.eve_replica.specs.Sections.{GoesThrough, place_due, votes_on, votes_along}
+use Rattle.eve_replica.specs.Sections.{RunPlan, GoesThrough, place_due, votes_on, votes_along}
 use Rattle.eve_replica.specs.Serving.{standing_of, after_commit, AreDue, AreRightSteps, AreOfItsView, GoesOn}
-use Rattle.eve_replica.specs.Serving.{attempt_move}
-use Rattle.eve_replica.specs.Serving.{commit_move, rollback_move, next_token, is_some_of}
-use Rattle.eve_replica.proofs.Counting.{is_that}
+use Rattle.eve_replica.specs.Serving.{IsOutvoted, attempt_move}
+use Rattle.eve_replica.specs.Deciding.{is_some_of, token_given_up}
+use Rattle.eve_replica.specs.Serving.{commit_move, rollback_move, next_token, GivesUpNext}
+use Rattle.eve_replica.proofs.Counting.{is_that, next_by}
+use Rattle.eve_replica.proofs.GivenUp.{GivesNone, none_more, other_view, none_given_up, first_given_up}
 use Rattle.eve_replica.proofs.Through.{through_more, votes_more}
 use Rattle.eve_replica.proofs.Going.{stand, attempted, attempts_next, attempted_in_view, no_votes}
+
+-- ---- what is given up
+
+-- nothing more by one step more, where it gives nothing up
+same_given_up : (view : ℕ) (x : Step) (old new : Server) → section new.steps ≡ section old.steps ++ x ∷ []
+    → GivesNone view x → token_given_up view [] (section new.steps) ≡ token_given_up view [] (section old.steps)
+same_given_up view x old new added none =
+    ap (token_given_up view []) added ∙ none_more view [] (section old.steps) x none
 
 -- ---- attempts
 
@@ -43,12 +57,15 @@ attempt_goes view serial b a old new due live lives made added right =
           (through_more p steps (Attempts a) p.first old.replica.ledger new.replica.ledger goes
           (attempts_next p view serial old.replica new.replica b a due names
           (ap (slice_get p.batches) (plus_zero (place_due old.replica.ledger)) ∙ next live 0 (omega arith)) made));
+      given_up = λ v stays. same_given_up v (Attempts a) old new added (λ opened. refl);
       of_view = attempted_in_view view serial old.replica new.replica b a due made;
       votes = λ h. ap votes_along added ∙ votes_more steps (Attempts a) ∙ append-nil (votes_along steps)
           ∙ sym (no_votes new.is_live (votes_along steps));
       view = λ at le. let same = ap (λ (s : Ledger). s.view) changed in omega (arith, same, le);
       live = λ h. (live, attempted view serial old.replica new.replica b a made);
       behind = λ at stands was stopped. absurd (false≢true (sym stopped ∙ lives));
+      stays = λ stopped. absurd (false≢true (sym stopped ∙ lives));
+      stops = λ stopped was. absurd (false≢true (sym stopped ∙ lives));
     }
   where
     plus_zero : (n : ℕ) → n ≡ n + 0
@@ -62,19 +79,20 @@ live_with token s has = decide s.is_live refl
   where
     decide : (b : Bool) → s.is_live ≡ b → s.is_live ≡ true
     decide true is = is
-    decide false is = absurd (false≢true
-        (ap (λ (b : Bool). is_some_of token (if b then option_map (λ o. o.token) (slice_get s.replica.ledger.opened 0)
-        else None)) (sym is) ∙ has))
+    decide false is = absurd (false≢true (ap (is_some_of token) (sym (next_by s false is)) ∙ has))
+
+-- where a replica is live its token for the next batch is that of the first open attempt
+next_is : (s : Server) (first : Opened) (others : List Opened) → s.is_live ≡ true
+    → s.replica.ledger.opened ≡ first ∷ others → next_token s ≡ Some first.token
+next_is s first others live opened =
+    next_by s true live ∙ ap (λ (os : List Opened). option_map (λ o. o.token) (slice_get os 0)) opened
 
 -- and it is that of the first open attempt
 pub token_with : (token : List ℕ) (s : Server) (first : Opened) (others : List Opened)
     → s.replica.ledger.opened ≡ first ∷ others → is_some_of token (next_token s) ≡ true → first.token ≡ token
 token_with token s first others opened has =
     let live = live_with token s has in
-    let own : next_token s ≡ Some first.token =
-    ap (λ (b : Bool). if b then option_map (λ o. o.token) (slice_get s.replica.ledger.opened 0) else None) live
-    ∙ ap (λ (os : List Opened). option_map (λ o. o.token) (slice_get os 0)) opened in
-    some_is (sym own ∙ is_that token (next_token s) has)
+    some_is (sym (next_is s first others live opened) ∙ is_that token (next_token s) has)
   where
     some_is : {x y : List ℕ} → Path (Option (List ℕ)) (Some x) (Some y) → x ≡ y
     some_is same = cc
@@ -124,6 +142,7 @@ commit_goes token c old new has lives made added right =
       through = λ p names next goes.
           subst (λ (ss : List Step). GoesThrough p ss p.first new.replica.ledger) (sym added)
           (through_more p steps (Commits c) p.first ledger new.replica.ledger goes moved);
+      given_up = λ v stays. same_given_up v (Commits c) old new added (λ opened. refl);
       of_view = committed_in_view ledger new.replica.ledger c moved;
       votes = λ h. ap votes_along added ∙ votes_more steps (Commits c)
           ∙ ap (λ (vs : List Vote). votes_along steps ++ vs)
@@ -134,7 +153,66 @@ commit_goes token c old new has lives made added right =
       view = λ at le. let same = ap (λ (s : Ledger). s.view) moved.changed in omega (arith, same, le);
       live = λ h. (live, committed ledger new.replica.ledger c moved);
       behind = λ at stands was stopped. absurd (false≢true (sym stopped ∙ lives ∙ live));
+      stays = λ stopped. absurd (false≢true (sym stopped ∙ lives ∙ live));
+      stops = λ stopped was. absurd (false≢true (sym stopped ∙ lives ∙ live));
     }
+
+-- ---- stopping
+
+-- a live replica without this token for the next batch, which is open, is outvoted by the vote for it
+outvoted : (token : List ℕ) (s : Server) (opened : List Opened) → s.replica.ledger.opened ≡ opened → 0 < length opened
+    → s.is_live ≡ true → is_some_of token (next_token s) ≡ false
+    → IsOutvoted s.replica.ledger ((commit_move token).votes (standing_of s.replica.ledger))
+outvoted token s [] is some live other = absurd (omega arith)
+outvoted token s (own ∷ others) is some live other = record {
+  own = own;
+  others = others;
+  opened = is;
+  token = token;
+  rest = [];
+  next = refl;
+  other = λ same. false≢true (sym other ∙ ap (is_some_of token) (next_is s own others live is)
+      ∙ (bytes_eq-Decides own.token token).1 same);
+}
+
+-- The replica goes on no more, if it did.
+pub stop_goes : (token : List ℕ) (old new : Server) → (old.is_live ≡ true → 0 < length old.replica.ledger.opened)
+    → is_some_of token (next_token old) ≡ false → new.is_live ≡ false → new.replica ≡ old.replica
+    → section new.steps ≡ section old.steps → GoesOn (commit_move token) old new
+stop_goes token old new some other stopped same steps =
+    let ledger : new.replica.ledger ≡ old.replica.ledger = ap (λ (r : Replica). r.ledger) same in
+    let view = ap (λ (s : Ledger). s.view) ledger in
+    let committed = ap (λ (s : Ledger). s.committed) ledger in
+    record {
+      names = ap (λ (r : Replica). r.names) same;
+      rows = ap ledger_rows ledger;
+      room = ap (λ (s : Ledger). s.window) ledger;
+      whole = λ h. ap (λ (r : Replica). r.is_broken) same ∙ h;
+      steps = λ h.
+          subst (λ (ss : List Step). IsTrue (list_all (is_step (ledger_rows new.replica.ledger)) ss)) (sym steps)
+          (subst (λ (n : ℕ). IsTrue (list_all (is_step n) (section old.steps))) (sym (ap ledger_rows ledger)) h);
+      through = λ p names next goes.
+          subst (λ (ss : List Step). GoesThrough p ss p.first new.replica.ledger) (sym steps)
+          (subst (GoesThrough p (section old.steps) p.first) (sym ledger) goes);
+      given_up = λ v stays. ap (token_given_up v []) steps;
+      of_view = λ h. subst AreOfItsView (sym ledger) h;
+      votes = λ h. ap votes_along steps ∙ sym (append-nil (votes_along (section old.steps)))
+          ∙ ap (λ (b : Bool). votes_along (section old.steps)
+          ++ (if b then (commit_move token).votes (standing_of old.replica.ledger) else [])) (sym stopped);
+      view = λ at le. omega (arith, view, le);
+      live = λ h. absurd (false≢true (sym stopped ∙ h));
+      behind = λ at stands was h. behind_now at stands was old.is_live refl committed;
+      stays = λ h. ledger;
+      stops = λ h live. outvoted token old old.replica.ledger.opened refl (some live) live other;
+    }
+  where
+    behind_now : (at : Standing) → (old.is_live ≡ true → standing_of old.replica.ledger ≡ at)
+        → (old.is_live ≡ false → old.replica.ledger.committed < at.committed) → (b : Bool) → old.is_live ≡ b
+        → new.replica.ledger.committed ≡ old.replica.ledger.committed
+        → new.replica.ledger.committed < at.committed + 1
+    behind_now at stands was true is same =
+        let here = ap (λ (x : Standing). x.committed) (stands is) in omega arith
+    behind_now at stands was false is same = let before = was is in omega arith
 
 -- ---- rollbacks
 
@@ -168,6 +246,8 @@ rollback_goes r old new live lives some made whole added right =
       through = λ p names next goes.
           subst (λ (ss : List Step). GoesThrough p ss p.first new.replica.ledger) (sym added)
           (through_more p steps (RollsBack r) p.first ledger new.replica.ledger goes (some, made));
+      given_up = λ v stays.
+          same_given_up v (RollsBack r) old new added (other_view v r (λ same. stays (omega (arith, made.view))));
       of_view = λ h. rolled_back_in_view ledger new.replica.ledger r made;
       votes = λ h. ap votes_along added ∙ votes_more steps (RollsBack r)
           ∙ ap (λ (vs : List Vote). votes_along steps ++ vs) (vote_of_rollback ledger new.replica.ledger r made)
@@ -176,4 +256,21 @@ rollback_goes r old new live lives some made whole added right =
       view = λ at le. let same = ap (λ (s : Ledger). s.view) made.changed in omega (arith, same, le);
       live = λ h. (live, ap standing_of made.changed);
       behind = λ at stands was stopped. absurd (false≢true (sym stopped ∙ lives));
+      stays = λ stopped. absurd (false≢true (sym stopped ∙ lives));
+      stops = λ stopped was. absurd (false≢true (sym stopped ∙ lives));
     }
+
+-- by it a live replica gives up the token that it had for the next batch
+pub rollback_gives_up : (r : Rollback) (p : RunPlan) (old new : Server) → old.is_live ≡ true
+    → account.RollsBack old.replica.ledger new.replica.ledger r
+    → section new.steps ≡ section old.steps ++ RollsBack r ∷ [] → GivesUpNext p old new
+rollback_gives_up r p old new live made added = λ begun goes.
+    ap (token_given_up (old.replica.ledger.view + 1) []) added
+    ∙ first_given_up p (section old.steps) old.replica.ledger r begun goes made.view
+    ∙ sym (next_by old true live)
+
+-- and one that is live no more none
+pub stopped_gives_up : (p : RunPlan) (s : Server) → s.is_live ≡ false → GivesUpNext p s s
+stopped_gives_up p s stopped = λ begun goes.
+    none_given_up p (s.replica.ledger.view + 1) (section s.steps) s.replica.ledger begun goes (λ up. omega arith)
+    ∙ sym (next_by s false stopped)

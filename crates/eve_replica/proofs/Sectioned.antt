@@ -1,5 +1,5 @@
 -- What the sections of a run say: each is what an account went through, on the votes, and most have all commits.
-use Rattle.std.proofs.Common.{◌≡◌, ℕ, ◌*◌, ◌<◌, ◌≤◌, Bool, true, false, cond, List, [], ◌∷◌, All}
+use Rattle.std.proofs.Common.{◌≡◌, ℕ, ◌+◌, ◌*◌, ◌<◌, ◌≤◌, Bool, true, false, cond, List, [], ◌∷◌, All}
 use Rattle.std.proofs.Common.{ℤ, Vec}
 use Rattle.std.proofs.Common.{length, map, refl, sym, ap, ◌∙◌, subst, eq-eqb, arith}
 use Rattle.std.proofs.lemmas.List.{length-map}
@@ -7,7 +7,7 @@ use Rattle.std.proofs.lemmas.List.Elements.{All-head, All-tail, All-cons, All-ni
 use Rattle.std.proofs.lemmas.List.Sums.{sum_by-cons}
 use Rattle.std.specs.List.{count_by}
 use Rattle.std.specs.declared.alloc.Global.{Global}
-use Rattle.eve_grammar.specs.Trace.{Batch, Step, Vote, head_of, opening_rows}
+use Rattle.eve_grammar.specs.Trace.{Batch, Step, Vote, ForCommit, head_of, opening_rows}
 use Rattle.eve_grammar.specs.declared.head.Head as header
 use Rattle.eve_write.specs.declared.parts.Parts.{Parts}
 use Rattle.eve_write.specs.declared.vote.VoteData.{VoteData}
@@ -16,13 +16,15 @@ use Rattle.eve_write.specs.Data.{votes as votes_of}
 use Rattle.eve_workload.specs.declared.mixer.Mixer.{Mixer}
 use Rattle.eve_workload.specs.Workload.{Workload, customer_names, head_asked}
 use Rattle.eve_workload.specs.declared.mixer.MixedBatch.{MixedBatch}
-use Rattle.eve_attempts.specs.Ledgers.{Ledger, opening}
+use Rattle.eve_attempts.specs.Ledgers.{Ledger, Opened, opening}
 use Rattle.eve_replica.specs.declared.server.Server.{Server}
 use Rattle.eve_replica.specs.declared.standing.Standing.{Standing}
+use Rattle.eve_replica.specs.Deciding.{AreUndecided, StopsBefore, open_after}
 use Rattle.eve_replica.specs.Sections.{RunPlan, commits_in}
 use Rattle.eve_replica.specs.Sending.{sent_from_on}
 use Rattle.eve_replica.specs.Run.{IsSectionOf, IsDecidedBy, IsTraceOf, batches_cut, has_committed, run_plan}
 use Rattle.eve_replica.specs.Serving.{Serves, live_in, plan_with}
+use Rattle.eve_replica.proofs.GivenUp.{open_marked, open_along, first_open}
 use Rattle.eve_replica.proofs.Through.{commits_through}
 
 -- what holds of the section of each replica
@@ -48,15 +50,51 @@ commits_counted p at votes s none serves =
     let counted = commits_through p (section s.steps) p.first s.replica.ledger serves.through in
     omega arith
 
+-- who stopped was outvoted
+stopped_before : (p : RunPlan) (at : Standing) (votes : List Vote) (s : Server) → p.first.committed ≡ 0
+    → p.first.opened ≡ [] → (serves : Serves p at votes s) → s.is_live ≡ false
+    → StopsBefore (section s.steps) serves.led.later
+stopped_before p at votes s none begun serves is =
+    let ledger = s.replica.ledger in
+    let out = serves.led.stopped is in
+    let marked = open_along p (section s.steps) [] p.first ledger serves.through
+    (sym (ap (map open_marked) begun)) in
+    let first = first_open (open_after [] (section s.steps)) out.own out.others
+    (marked ∙ ap (map open_marked) out.opened) in
+    let InView : Opened → Type 0 = λ o. o.view ≡ ledger.view in
+    let own : out.own.view ≡ ledger.view =
+    All-head InView out.own out.others (subst (λ (os : List Opened). All InView os) out.opened serves.of_view) in
+    let counted = commits_counted p at votes s none serves in
+    record {
+      own = first.0;
+      first = first.1;
+      token = out.token;
+      rest = out.rest;
+      next = out.next
+          ∙ ap (λ (n : ℕ). record { seq = n + 1; view = ledger.view; choice = ForCommit out.token } ∷ out.rest)
+          (sym counted)
+          ∙ ap (λ (v : ℕ). record {
+            seq = commits_in (section s.steps) + 1;
+            view = v;
+            choice = ForCommit out.token;
+          } ∷ out.rest) (sym (first.2 ∙ own));
+      other = λ same. out.other (sym first.3 ∙ same);
+    }
+
 decided_on : (p : RunPlan) (at : Standing) (votes : List Vote) (batches : ℕ) → p.first.committed ≡ 0
-    → at.committed ≡ batches → (s : Server) → Serves p at votes s → IsDecidedBy batches (section s.steps) votes
-decided_on p at votes batches none done s serves = decide s.is_live refl
+    → p.first.opened ≡ [] → at.committed ≡ batches → (s : Server) → Serves p at votes s
+    → IsDecidedBy batches (section s.steps) votes
+decided_on p at votes batches none begun done s serves = decide s.is_live refl
   where
     decide : (b : Bool) → s.is_live ≡ b → IsDecidedBy batches (section s.steps) votes
     decide true is = record {
       later = serves.led.later;
       first = serves.led.first;
       none_later = λ all. serves.led.none_later is;
+      stopped = λ less.
+          let counted = commits_counted p at votes s none serves in
+          let stands = ap (λ (x : Standing). x.committed) (serves.live is) in
+          absurd (less (omega arith));
     }
     decide false is = record {
       later = serves.led.later;
@@ -65,14 +103,15 @@ decided_on p at votes batches none done s serves = decide s.is_live refl
           let counted = commits_counted p at votes s none serves in
           let less = serves.behind is in
           absurd (omega arith);
+      stopped = λ less. stopped_before p at votes s none begun serves is;
     }
 
 pub sections_decided : (p : RunPlan) (at : Standing) (votes : List Vote) (batches : ℕ) → p.first.committed ≡ 0
-    → at.committed ≡ batches → (servers : List Server) → All (Serves p at votes) servers
+    → p.first.opened ≡ [] → at.committed ≡ batches → (servers : List Server) → All (Serves p at votes) servers
     → All (λ steps. IsDecidedBy batches steps votes) (map (λ s. section s.steps) servers)
-sections_decided p at votes batches none done servers serve =
+sections_decided p at votes batches none begun done servers serve =
     each_section (Serves p at votes) (λ steps. IsDecidedBy batches steps votes)
-    (decided_on p at votes batches none done) servers serve
+    (decided_on p at votes batches none begun done) servers serve
 
 -- a live replica's section has all commits
 small : (b c : Bool) → (b ≡ true → c ≡ true) → cond b 1 0 ≤ cond c 1 0
@@ -125,10 +164,12 @@ pub run_of : (w : Workload) (mixer : Mixer) (p : Parts) (plan : RunPlan) (at : S
     → map section p.sections.items ≡ map (λ s. section s.steps) servers → All (Serves plan at led) servers
     → at.committed ≡ length plan.batches → at.view ≤ 2 * length plan.batches → length servers < 2 * live_in servers
     → All (λ votes. votes ≡ led) (trace p).verifiers
+    → AreUndecided (map (λ s. section s.steps) servers)
     → (trace p).sent ≡ sent_from_on plan.batches 0 (map (λ s. section s.steps) servers)
     → IsTraceOf w mixer (trace p)
-run_of w mixer p plan at led servers is head customers batches sections serve done few more gave sent =
+run_of w mixer p plan at led servers is head customers batches sections serve done few more gave undecided sent =
     let none : plan.first.committed ≡ 0 = ap (λ (x : RunPlan). x.first.committed) is in
+    let begun : plan.first.opened ≡ [] = ap (λ (x : RunPlan). x.first.opened) is in
     let many : length plan.batches ≡ length w.batches =
     ap (λ (x : RunPlan). length x.batches) is ∙ length-map w.batches _ in
     let done' : at.committed ≡ length w.batches = done ∙ many in
@@ -141,6 +182,7 @@ run_of w mixer p plan at led servers is head customers batches sections serve do
           (each_section (Serves plan at led) (IsSectionOf plan) (section_of plan at led few) servers serve));
       committed = subst (λ (ss : List (List Step)). length ss < 2 * count_by (has_committed (length w.batches)) ss)
           (sym sections) (most_commit plan at led (length w.batches) none done' servers serve more);
+      undecided = subst AreUndecided (sym sections) undecided;
       sent = sent
           ∙ ap (λ (bs : List Batch). sent_from_on bs 0 (map (λ s. section s.steps) servers))
           (ap (λ (x : RunPlan). x.batches) is)
@@ -150,7 +192,7 @@ run_of w mixer p plan at led servers is head customers batches sections serve do
           (sym sections)
           (all_gave (λ votes. All (λ steps. IsDecidedBy (length w.batches) steps votes)
           (map (λ s. section s.steps) servers)) led
-          (sections_decided plan at led (length w.batches) none done' servers serve) (trace p).verifiers gave);
+          (sections_decided plan at led (length w.batches) none begun done' servers serve) (trace p).verifiers gave);
     }
 
 -- copies of votes are those votes

@@ -1,4 +1,5 @@
 pub mod Sections
+pub mod Deciding
 pub mod Sending
 pub mod Run
 pub mod RunFaults

@@ -1,5 +1,5 @@
 -- What a run of a workload gives. docs/MODEL.md, "A run".
-use Rattle.std.specs.Prelude.{◌≡◌, ℕ, ◌*◌, ◌<◌, ◌≤◌, ◌==◌, Bool, List, map, length, ◌++◌, [], All}
+use Rattle.std.specs.Prelude.{◌≡◌, ◌≢◌, ℕ, ◌*◌, ◌<◌, ◌≤◌, ◌==◌, Bool, List, map, length, ◌++◌, [], All}
 use Rattle.std.specs.List.{count_by}
 use Rattle.eve_grammar.specs.Trace.{Batch, Step, Vote, Trace, head_of, opening_rows}
 use Rattle.eve_write.specs.declared.parts.Parts.{Parts}
@@ -10,6 +10,7 @@ use Rattle.eve_workload.specs.Mixing.{cut, batch_with}
 use Rattle.eve_workload.specs.Workload.{Workload, customer_names}
 use Rattle.eve_workload.specs.Workload.{head_asked}
 use Rattle.eve_attempts.specs.Ledgers.{Ledger, opening}
+use Rattle.eve_replica.specs.Deciding.{AreUndecided, StopsBefore}
 use Rattle.eve_replica.specs.Sending.{sent_from_on}
 use Rattle.eve_replica.specs.Sections.{RunPlan, GoesThrough, votes_along, commits_in}
 
@@ -36,23 +37,25 @@ pub record IsSectionOf (p : RunPlan) (steps : List Step) : Type 0 where
 abbrev pub has_committed : ℕ → List Step → Bool
 has_committed batches steps = commits_in steps == batches
 
--- Of these votes the first ones are those on which the replica took its steps, and all are where it committed so many
--- batches.
+-- Of these votes the first ones are those on which the replica took its steps. Where it committed so many batches they
+-- are all, and else the next one says why it stopped.
 pub record IsDecidedBy (batches : ℕ) (steps : List Step) (votes : List Vote) : Type 0 where
   pub later : List Vote
   pub first : votes ≡ votes_along steps ++ later
   pub none_later : commits_in steps ≡ batches → later ≡ []
+  pub stopped : commits_in steps ≢ batches → StopsBefore steps later
 
 -- A trace of a run of the workload. Numbers and customers are the workload's; the batches are, in order, the cut of
 -- each of its batches; each section is that of a replica that served them; more than half of the replicas committed all
--- batches; each verifier gave the votes on which the replicas took their steps; and each replica sent the replies of
--- what it committed.
+-- batches; what they rolled back wasn't decided; each verifier gave the votes on which they took their steps; and each
+-- replica sent the replies of what it committed.
 pub record IsTraceOf (w : Workload) (mixer : Mixer) (t : Trace) : Type 0 where
   pub head : head_of t ≡ head_asked w
   pub customers : t.customers ≡ w.customers
   pub batches : t.batches ≡ batches_cut w mixer
   pub sections : All (IsSectionOf (run_plan w mixer)) t.sections
   pub committed : length t.sections < 2 * count_by (has_committed (length w.batches)) t.sections
+  pub undecided : AreUndecided t.sections
   pub sent : t.sent ≡ sent_from_on (batches_cut w mixer) 0 t.sections
   pub voted : All (λ votes. All (λ steps. IsDecidedBy (length w.batches) steps votes) t.sections) t.verifiers
 

@@ -1,20 +1,20 @@
 -- What a run of a deployment keeps from window to window. docs/TRACE.md, "The deployment's procedure".
-use Rattle.std.specs.Prelude.{◌≡◌, ℕ, ℤ, ◌+◌, ◌-◌, ◌*◌, ◌<◌, ◌≤◌, ◌==◌, Bool, true, false, ◌&&◌, if◌then◌else◌, All}
-use Rattle.std.specs.Prelude.{IsTrue, List, [], ◌∷◌, ◌++◌, length, map, slice_get, vec_len, Option, Some, None}
+use Rattle.std.specs.Prelude.{◌≡◌, ◌≢◌, ℕ, ℤ, ◌+◌, ◌-◌, ◌*◌, ◌<◌, ◌≤◌, ◌==◌, Bool, true, false, ◌&&◌, if◌then◌else◌}
+use Rattle.std.specs.Prelude.{All, IsTrue, List, [], ◌∷◌, ◌++◌, length, map, slice_get, vec_len, Option, Some, None}
 use Rattle.std.specs.Prelude.{option_map}
-use Rattle.std.specs.Str.{bytes_eq}
 use Rattle.std.specs.List.{count_by, list_all}
-use Rattle.eve_grammar.specs.Trace.{Batch, Vote, ForCommit, ForRollback}
+use Rattle.eve_grammar.specs.Trace.{Batch, Step, Vote, ForCommit, ForRollback}
 use Rattle.eve_grammar.specs.declared.limits.TheConstants.{MOST_BATCHES}
 use Rattle.eve_grammar.specs.declared.head.Head.{Head}
 use Rattle.eve_grammar.specs.Limits.{is_batch, is_step, is_vote, is_sent}
 use Rattle.eve_attempts.specs.Closing.{touched_in_batch}
-use Rattle.eve_attempts.specs.Ledgers.{Ledger, ledger_rows, opening}
+use Rattle.eve_attempts.specs.Ledgers.{Ledger, Opened, ledger_rows, opening}
 use Rattle.eve_write.specs.Data.{batch as plain, section, vote, sent}
 use Rattle.eve_write.specs.Writable.{fits_vote}
 use Rattle.eve_write.specs.declared.vote.VoteData.{VoteData}
 use Rattle.eve_write.specs.declared.sent.SentData.{SentData}
 use Rattle.eve_workload.specs.declared.mixer.MixedBatch.{MixedBatch}
+use Rattle.eve_replica.specs.Deciding.{is_some_of, token_given_up, AreUndecided}
 use Rattle.eve_replica.specs.Sections.{RunPlan, GoesThrough, place_due, votes_along}
 use Rattle.eve_replica.specs.declared.standing.Standing.{Standing}
 use Rattle.eve_replica.specs.declared.server.Server.{Server}
@@ -88,11 +88,23 @@ AreRightSteps s = IsTrue (list_all (is_step (ledger_rows s.replica.ledger)) (sec
 abbrev pub AreOfItsView : Ledger → Type 0
 AreOfItsView s = All (λ o. o.view ≡ s.view) s.opened
 
--- the first of the votes so far are those on which the replica took its steps, and all are where it is live
+-- The next of the votes is for the commit of the account's first open batch, with another token than its own.
+pub record IsOutvoted (s : Ledger) (later : List Vote) : Type 0 where
+  pub own : Opened
+  pub others : List Opened
+  pub opened : s.opened ≡ own ∷ others
+  pub token : List ℕ
+  pub rest : List Vote
+  pub next : later ≡ record { seq = s.committed + 1; view = s.view; choice = ForCommit token } ∷ rest
+  pub other : own.token ≢ token
+
+-- The first of the votes so far are those on which the replica took its steps. Where it is live they are all, and else
+-- the next one says why it stopped.
 pub record IsLedBy (votes : List Vote) (s : Server) : Type 0 where
   pub later : List Vote
   pub first : votes ≡ votes_along (section s.steps) ++ later
   pub none_later : s.is_live ≡ true → later ≡ []
+  pub stopped : s.is_live ≡ false → IsOutvoted s.replica.ledger later
 
 -- A replica of a run by this plan. It isn't broken; all that it did lies within the limits, and is what its account
 -- went through, on these votes; where it is live it stands here, and where it stopped it has committed less.
@@ -137,6 +149,10 @@ rollback_move = record {
   votes = λ at. record { seq = at.committed + 1; view = at.view; choice = ForRollback } ∷ [];
 }
 
+-- they come to this view by it, from where they stand
+abbrev pub Enters : Move → Standing → ℕ → Type 0
+Enters m at view = (at.view < view) × (view ≤ (m.further at).view)
+
 -- the batches of the window are those from this place on
 abbrev pub AreBatchesFrom : List Batch → ℕ → List Batch → Type 0
 AreBatchesFrom batches place window =
@@ -144,7 +160,9 @@ AreBatchesFrom batches place window =
 
 -- A replica went on: its names, its rows and how many attempts it may have open stay; it isn't broken if it wasn't; all
 -- that it did lies within the limits if it did before, and is what its account went through where the batches of the
--- window are due; if it is still live it did so on these votes, and stands this much further, and else on none.
+-- window are due; what it gave up stays, but for the views that it comes to; if it is still live it did so on these
+-- votes, and stands this much further, and else on none; where it is live no more its account stays, and the next of
+-- these votes says why it stopped, if it did by this move.
 pub record GoesOn (m : Move) (old new : Server) : Type 0 where
   pub names : new.replica.names ≡ old.replica.names
   pub rows : ledger_rows new.replica.ledger ≡ ledger_rows old.replica.ledger
@@ -156,6 +174,8 @@ pub record GoesOn (m : Move) (old new : Server) : Type 0 where
       → GoesThrough p (section old.steps) p.first old.replica.ledger
       → GoesThrough p (section new.steps) p.first new.replica.ledger
   pub of_view : AreOfItsView old.replica.ledger → AreOfItsView new.replica.ledger
+  pub given_up : (view : ℕ) → ¬ Enters m (standing_of old.replica.ledger) view
+      → token_given_up view [] (section new.steps) ≡ token_given_up view [] (section old.steps)
   pub votes : AreOfItsView old.replica.ledger
       → votes_along (section new.steps)
       ≡ votes_along (section old.steps)
@@ -166,16 +186,15 @@ pub record GoesOn (m : Move) (old new : Server) : Type 0 where
   pub behind : (at : Standing) → (old.is_live ≡ true → standing_of old.replica.ledger ≡ at)
       → (old.is_live ≡ false → old.replica.ledger.committed < at.committed)
       → new.is_live ≡ false → new.replica.ledger.committed < (m.further at).committed
+  pub stays : new.is_live ≡ false → new.replica.ledger ≡ old.replica.ledger
+  pub stops : new.is_live ≡ false → old.is_live ≡ true
+      → IsOutvoted old.replica.ledger (m.votes (standing_of old.replica.ledger))
 
 -- ---- what is decided
 
 -- the token of its first open attempt, where a replica is live
 abbrev pub next_token : Server → Option (List ℕ)
 next_token s = if s.is_live then option_map (λ o. o.token) (slice_get s.replica.ledger.opened 0) else None
-
-abbrev pub is_some_of : List ℕ → Option (List ℕ) → Bool
-is_some_of token None = false
-is_some_of token (Some own) = bytes_eq own token
 
 -- how many live replicas have this token for the next batch
 abbrev pub count_with : List ℕ → List Server → ℕ
@@ -185,6 +204,12 @@ count_with token servers = count_by (λ s. is_some_of token (next_token s)) serv
 abbrev pub IsDecision : Option (List ℕ) → List Server → Type 0
 IsDecision (Some token) servers = length servers < 2 * count_with token servers
 IsDecision None servers = (token : List ℕ) → 2 * count_with token servers ≤ length servers
+
+-- By its rollback a replica gave up the token of its first open attempt, and where it is live no more, none.
+abbrev pub GivesUpNext : RunPlan → Server → Server → Type 0
+GivesUpNext p old new =
+    p.first.opened ≡ [] → GoesThrough p (section old.steps) p.first old.replica.ledger
+    → token_given_up (old.replica.ledger.view + 1) [] (section new.steps) ≡ next_token old
 
 -- ---- votes and replies
 
@@ -199,14 +224,19 @@ AreReplies replicas batches replies = IsTrue (list_all (is_sent replicas batches
 
 -- ---- the run
 
+-- what each replica did
+abbrev pub sections_in : List Server → List (List Step)
+sections_in servers = map (λ s. section s.steps) servers
+
 -- how many replicas are live
 abbrev pub live_in : List Server → ℕ
 live_in servers = count_by (λ s. s.is_live) servers
 
--- The state of a run by this plan: its batches are the plan's, and were looked up among its names; each replica is one
--- of this run, and each live one stands where the run does; more than half of them are live; every vote so far lies
--- within the limits.
+-- The state of a run by this plan, which begins with nothing open: its batches are the plan's, and were looked up among
+-- its names; each replica is one of this run, and each live one stands where the run does; more than half of them are
+-- live; what they rolled back wasn't decided; every vote so far lies within the limits.
 pub record IsUnderWay (p : RunPlan) (d : Deployment) : Type 0 where
+  pub begun : p.first.opened ≡ []
   pub customers : length p.names ≡ d.head.customers
   pub window : p.first.window ≡ d.head.window
   pub batches : p.batches ≡ map (λ m. plain m.batch) d.batches.now
@@ -217,6 +247,7 @@ pub record IsUnderWay (p : RunPlan) (d : Deployment) : Type 0 where
   pub many : vec_len d.servers ≡ d.head.replicas
   pub servers : All (Serves p d.standing (map vote d.votes.items)) d.servers.items
   pub majority : length d.servers.items < 2 * live_in d.servers.items
+  pub undecided : AreUndecided (sections_in d.servers.items)
   pub votes : AreVotesOn (length d.batches.now) d.votes.items
 
 -- the numbers and the batches stay

@@ -1,13 +1,14 @@
 //! The state of a run.
 
-ghost use Rattle.std.specs.Prelude.{◌≡◌, ◌≤◌, ◌+◌, ◌-◌, ◌<◌, ◌++◌, min, map, All, List, OnOk, Some, length};
+ghost use Rattle.std.specs.Prelude.{◌≡◌, ◌≤◌, ◌+◌, ◌-◌, ◌<◌, ◌++◌, min, map, All, List, [], OnOk, Some, None, length};
 ghost use Rattle.eve_grammar.specs.Trace.{Vote};
 ghost use Rattle.eve_write.specs.Data.{batch as plain};
 ghost use Rattle.eve_replica.specs.declared.standing.Standing.{Standing};
+ghost use Rattle.eve_replica.specs.Deciding.{AreUndecided};
 ghost use Rattle.eve_replica.specs.Sections.{RunPlan};
 ghost use Rattle.eve_replica.specs.Serving.{IsRightMixed, Serves, AreBatchesFrom, IsSameRun, IsUnderWay};
 ghost use Rattle.eve_replica.specs.Serving.{after_attempts, after_commit, after_rollback, commit_move, rollback_move};
-ghost use Rattle.eve_replica.specs.Serving.{IsDecision, count_with, live_in};
+ghost use Rattle.eve_replica.specs.Serving.{IsDecision, count_with, live_in, sections_in};
 
 use crate::fault::RunFault;
 use crate::server::Server;
@@ -118,6 +119,7 @@ impl<'n, 'b> Deployment<'n, 'b> {
         requires under_way { (p : RunPlan) × IsUnderWay p self.old }
         requires open { 0 < self.old.standing.opened }
         requires view { self.old.standing.view < MOST_VIEWS }
+        requires undecided { IsDecision None self.old.servers.items }
         ensures under_way { (p : RunPlan) → IsUnderWay p self.old → OnOk result (IsUnderWay p self.new) }
         ensures same { OnOk result (IsSameRun self.old self.new) }
         ensures standing { OnOk result (self.new.standing ≡ after_rollback self.old.standing) }
@@ -151,6 +153,7 @@ fn attempt_all<R: Threads + Wait + Sync, G: Gate>(
         → All (Serves p standing votes) servers.old
         → OnOk result (All (Serves p (after_attempts (length window.now) standing) votes) servers.new) }
     ensures live { OnOk result (live_in servers.new ≡ live_in servers.old) }
+    ensures undecided { AreUndecided (sections_in servers.old) → OnOk result (AreUndecided (sections_in servers.new)) }
 {
     for server in servers.iter_mut() {
         server.attempt_window(
@@ -168,10 +171,11 @@ fn attempt_all<R: Threads + Wait + Sync, G: Gate>(
 // Each live replica commits this batch, which is the next, or stops.
 fn commit_all(servers: &mut [Server], seq: u32, token: [u8; 32]) -> Result<(), AllocError>
     requires { (p : RunPlan) × (at : Standing) × (votes : List Vote) × All (Serves p at votes) servers.old
-        × (seq ≡ at.committed + 1) }
+        × (seq ≡ at.committed + 1) × (0 < at.opened) }
     ensures serve { (p : RunPlan) (at : Standing) (votes : List Vote) → All (Serves p at votes) servers.old
         → OnOk result (All (Serves p (after_commit at) (votes ++ (commit_move token).votes at)) servers.new) }
     ensures live { OnOk result (live_in servers.new ≡ count_with token servers.old) }
+    ensures undecided { AreUndecided (sections_in servers.old) → OnOk result (AreUndecided (sections_in servers.new)) }
 {
     for server in servers.iter_mut() {
         server.commit_or_stop(seq, token)?;
@@ -186,6 +190,9 @@ fn roll_back_all(servers: &mut [Server], alloc: Global) -> Result<(), AllocError
     ensures serve { (p : RunPlan) (at : Standing) (votes : List Vote) → All (Serves p at votes) servers.old
         → OnOk result (All (Serves p (after_rollback at) (votes ++ rollback_move.votes at)) servers.new) }
     ensures live { OnOk result (live_in servers.new ≡ live_in servers.old) }
+    ensures undecided { (p : RunPlan) (at : Standing) (votes : List Vote) → p.first.opened ≡ []
+        → All (Serves p at votes) servers.old → IsDecision None servers.old → AreUndecided (sections_in servers.old)
+        → OnOk result (AreUndecided (sections_in servers.new)) }
 {
     for server in servers.iter_mut() {
         server.roll_back(alloc)?;

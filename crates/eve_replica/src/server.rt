@@ -5,9 +5,11 @@ ghost use Rattle.std.specs.Prelude.{length, map};
 ghost use Rattle.eve_grammar.specs.Limits.{is_step};
 ghost use Rattle.eve_attempts.specs.Ledgers.{ledger_rows};
 ghost use Rattle.eve_write.specs.Data.{batch, section, step as plain};
-ghost use Rattle.eve_replica.specs.Serving.{IsRightMixed, AreDue, AreRightSteps, GoesOn};
+ghost use Rattle.eve_replica.specs.Deciding.{is_some_of};
+ghost use Rattle.eve_replica.specs.Sections.{RunPlan};
+ghost use Rattle.eve_replica.specs.Serving.{IsRightMixed, AreDue, AreRightSteps, GoesOn, GivesUpNext};
 ghost use Rattle.eve_replica.specs.Serving.{attempt_move, commit_move, rollback_move};
-ghost use Rattle.eve_replica.specs.Serving.{next_token, is_some_of};
+ghost use Rattle.eve_replica.specs.Serving.{next_token};
 
 use crate::fault::RunFault;
 use crate::replica::Replica;
@@ -110,6 +112,7 @@ impl<'n> Server<'n> {
     pub(crate) fn commit_or_stop(&mut self, seq: u32, token: [u8; 32]) -> Result<(), AllocError>
         requires whole { self.old.replica.is_broken ≡ false }
         requires next { self.old.is_live ≡ true → seq ≡ self.old.replica.ledger.committed + 1 }
+        requires open { self.old.is_live ≡ true → 0 < length self.old.replica.ledger.opened }
         ensures on { OnOk result (GoesOn (commit_move token) self.old self.new) }
         ensures live { OnOk result (self.new.is_live ≡ is_some_of token (next_token self.old)) }
     {
@@ -129,6 +132,7 @@ impl<'n> Server<'n> {
         requires view { self.old.is_live ≡ true → self.old.replica.ledger.view < 2 ^ 32 - 1 }
         requires open { self.old.is_live ≡ true → 0 < length self.old.replica.ledger.opened }
         ensures on { OnOk result (GoesOn rollback_move self.old self.new) }
+        ensures given_up { (p : RunPlan) → OnOk result (GivesUpNext p self.old self.new) }
         ensures live { OnOk result (self.new.is_live ≡ self.old.is_live) }
     {
         if !self.is_live {

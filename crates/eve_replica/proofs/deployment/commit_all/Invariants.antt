@@ -1,14 +1,9 @@
-use Rattle.std.proofs.Common.{List, All}
-use Rattle.eve_grammar.specs.Trace.{Vote}
-use Rattle.eve_replica.specs.declared.standing.Standing.{Standing}
-use Rattle.eve_replica.specs.Sections.{RunPlan}
-use Rattle.eve_replica.specs.Serving.{Serves, commit_move, next_token, is_some_of}
-use Rattle.eve_replica.proofs.Going.{AreGoing, AreLiving}
+use Rattle.eve_replica.specs.Deciding.{is_some_of}
+use Rattle.eve_replica.specs.Serving.{commit_move, next_token}
+use Rattle.eve_replica.proofs.Each.{AreOn}
+use Rattle.eve_replica.proofs.Going.{Moves}
 use Rattle.eve_replica.proofs.deployment.commit_all.Given as goal
 
 abbrev pub invariant-loop-server : goal.invariant-loop-server
-invariant-loop-server l = record {
-  serve : (p : RunPlan) (at : Standing) (votes : List Vote) → All (Serves p at votes) l.fn.servers
-      → AreGoing p at votes (commit_move l.token) l.server-index l.servers;
-  live : AreLiving (λ s. is_some_of l.token (next_token s)) l.fn.servers l.server-index l.servers;
-}
+invariant-loop-server l =
+    AreOn (Moves (commit_move l.token) (λ s. is_some_of l.token (next_token s))) l.fn.servers l.server-index l.servers

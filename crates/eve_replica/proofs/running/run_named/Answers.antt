@@ -92,7 +92,7 @@ returns g c =
           c.in_ok-sections_of.ensures under.servers
           (c.in_ok-servers.ensures.done ∙ sym (length-map slice (λ m. batch m.batch)))
           (omega (arith, c.in_ok-servers.ensures.view, length-map slice (λ m. batch m.batch))) under.majority
-          (copies_gave given p.verifiers.items each) sent_all;
+          (copies_gave given p.verifiers.items each) under.undecided sent_all;
     }
 
 pub run_windows-requires-clause-rows : goal.run_windows-requires-clause-rows

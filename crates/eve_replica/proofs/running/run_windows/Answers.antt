@@ -1,15 +1,19 @@
-use Rattle.std.proofs.Common.{length, refl, ap, ◌∙◌, arith}
+use Rattle.std.proofs.Common.{◌≡◌, [], length, refl, ap, ◌∙◌, arith}
 use Rattle.eve_replica.specs.Serving.{plan_with}
-use Rattle.eve_replica.proofs.Beginning.{none_led, none_voted}
+use Rattle.eve_replica.proofs.Beginning.{plan_begun, none_led, none_voted}
 use Rattle.eve_replica.proofs.Counting.{counted_all}
+use Rattle.eve_replica.proofs.Undecided.{begun_undecided}
 use Rattle.eve_replica.proofs.running.run_windows.Goals as goal
 
 pub loop-turn-init : goal.loop-turn-init
 loop-turn-init g c =
     let p = plan_with c.args.names.now.items c.args.balances.now c.args.head.now c.args.batches.now in
     let servers = c.in_ok-servers_of.field-0 in
+    let begun : p.first.opened ≡ [] =
+    plan_begun c.args.names.now.items c.args.balances.now c.args.head.now c.args.batches.now in
     record {
       under_way = record {
+        begun = begun;
         customers = c.requires.customers;
         window = refl;
         batches = refl;
@@ -27,6 +31,7 @@ loop-turn-init g c =
           servers.ok.0,
           c.requires.replicas,
         );
+        undecided = begun_undecided p servers.items begun (c.in_ok-servers_of.ensures.serve p (refl, refl));
         votes = none_voted (length c.args.batches.now) c.new.result.items c.new.ensures.items;
       };
       head = refl;

@@ -4,7 +4,8 @@ use Rattle.eve_write.specs.Data.{vote}
 use Rattle.eve_replica.specs.declared.server.Server.{Server}
 use Rattle.eve_replica.specs.declared.standing.Standing.{Standing}
 use Rattle.eve_replica.specs.Serving.{IsRightMixed, Serves, live_in}
-use Rattle.eve_replica.proofs.Going.{lent_serve, moved, window_open, window_len, window_due, still_majority}
+use Rattle.eve_replica.proofs.Going.{lent_serve, lent_undecided, moved, window_open, window_len, window_due}
+use Rattle.eve_replica.proofs.Going.{still_majority}
 use Rattle.eve_replica.proofs.deployment.Deployment.attempt.Goals as goal
 
 pub attempt_all-requires-clause-serve : goal.attempt_all-requires-clause-serve
@@ -56,3 +57,4 @@ returns-clause-under_way g c = λ p was.
     (window_due p d c.min-end.result was c.requires.none_open) (lent_serve p d lent was same)))
     (still_majority d lent c.attempt_all.new.servers (live_in lent) same as_many c.in_ok-attempt_all.ensures.live
     (subst (λ (ss : List Server). length ss < 2 * live_in ss) (sym same) was.majority))
+    (c.in_ok-attempt_all.ensures.undecided (lent_undecided p d lent was same))

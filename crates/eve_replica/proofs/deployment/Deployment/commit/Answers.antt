@@ -3,7 +3,7 @@ use Rattle.eve_grammar.specs.Trace.{Vote}
 use Rattle.eve_write.specs.Data.{vote}
 use Rattle.eve_replica.specs.declared.server.Server.{Server}
 use Rattle.eve_replica.specs.Serving.{Serves, after_commit, count_with}
-use Rattle.eve_replica.proofs.Going.{lent_serve, moved, still_majority}
+use Rattle.eve_replica.proofs.Going.{lent_serve, lent_undecided, moved, still_majority}
 use Rattle.eve_replica.proofs.deployment.Deployment.commit.Goals as goal
 
 pub commit_all-requires : goal.commit_all-requires
@@ -14,6 +14,7 @@ commit_all-requires c =
       d.standing,
       map vote d.votes.items,
       lent_serve c.requires.under_way.0 d c.as_mut_slice.result.now was c.as_mut_slice.ensures.value,
+      omega arith,
       omega arith,
     )
 
@@ -32,3 +33,4 @@ returns-clause-under_way c = λ p was.
     (still_majority d lent c.commit_all.new.servers (count_with c.args.token lent) same as_many
     c.in_ok-commit_all.ensures.live
     (subst (λ (ss : List Server). length ss < 2 * count_with c.args.token ss) (sym same) c.requires.decided))
+    (c.in_ok-commit_all.ensures.undecided (lent_undecided p d lent was same))

@@ -1,9 +1,9 @@
-use Rattle.std.proofs.Common.{◌*◌, ◌<◌, List, All, length, map, sym, ◌∙◌, subst, arith}
+use Rattle.std.proofs.Common.{◌*◌, ◌<◌, None, List, All, length, map, sym, ◌∙◌, subst, arith}
 use Rattle.eve_grammar.specs.Trace.{Vote}
 use Rattle.eve_write.specs.Data.{vote}
 use Rattle.eve_replica.specs.declared.server.Server.{Server}
-use Rattle.eve_replica.specs.Serving.{Serves, after_rollback, live_in}
-use Rattle.eve_replica.proofs.Going.{lent_serve, moved, still_majority}
+use Rattle.eve_replica.specs.Serving.{Serves, after_rollback, live_in, IsDecision}
+use Rattle.eve_replica.proofs.Going.{lent_serve, lent_undecided, moved, still_majority}
 use Rattle.eve_replica.proofs.deployment.Deployment.roll_back.Goals as goal
 
 pub roll_back_all-requires : goal.roll_back_all-requires
@@ -32,3 +32,7 @@ returns-clause-under_way c = λ p was.
     (c.in_ok-roll_back_all.ensures.serve p d.standing (map vote d.votes.items) (lent_serve p d lent was same)))
     (still_majority d lent c.roll_back_all.new.servers (live_in lent) same as_many c.in_ok-roll_back_all.ensures.live
     (subst (λ (ss : List Server). length ss < 2 * live_in ss) (sym same) was.majority))
+    (c.in_ok-roll_back_all.ensures.undecided p d.standing (map vote d.votes.items) was.begun
+    (lent_serve p d lent was same)
+    (subst (λ (ss : List Server). IsDecision None ss) (sym same) c.requires.undecided)
+    (lent_undecided p d lent was same))

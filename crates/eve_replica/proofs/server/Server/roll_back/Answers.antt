@@ -4,9 +4,9 @@ use Rattle.eve_grammar.specs.Limits.{is_step}
 use Rattle.eve_attempts.specs.Discarding.{RollsBack}
 use Rattle.eve_write.specs.Data.{rollback, section}
 use Rattle.eve_replica.specs.Replicas.{Replica}
-use Rattle.eve_replica.specs.Serving.{GoesOn, rollback_move}
-use Rattle.eve_replica.proofs.OneStep.{rollback_goes}
-use Rattle.eve_replica.proofs.WhereWell.{where_well}
+use Rattle.eve_replica.specs.Serving.{GoesOn, GivesUpNext, rollback_move}
+use Rattle.eve_replica.proofs.OneStep.{rollback_goes, rollback_gives_up, stopped_gives_up}
+use Rattle.eve_replica.proofs.WhereWell.{on_ok, where_well}
 use Rattle.eve_replica.proofs.server.Server.roll_back.Goals as goal
 
 pub returns-clause-on : goal.returns-clause-on
@@ -26,3 +26,18 @@ returns-clause-on c =
     added
     (λ h. right (subst (λ n. IsTrue (list_all (is_step n) steps)) (sym made.as_many) h)))
     c.did.ensures.steps c.did.ensures.added
+
+pub returns-clause-given_up : goal.returns-clause-given_up
+returns-clause-given_up c = λ p.
+    let made = c.in_ok-rollback.ensures.rolled_back in
+    let r = rollback c.in_ok-rollback.rollback in
+    let old = c.args.self.now.replica in
+    let live : c.args.self.now.is_live ≡ true = search rules in
+    on_ok _ (GivesUpNext p c.args.self.now c.did.new.self) c.did.result
+    (λ added. rollback_gives_up r p c.args.self.now c.did.new.self live
+    (subst (λ (x : Replica). RollsBack old.ledger x.ledger r) (sym c.did.ensures.replica) made) added)
+    c.did.ensures.added
+
+pub returns-then-not-self-clause-given_up : goal.returns-then-not-self-clause-given_up
+returns-then-not-self-clause-given_up c = λ p.
+    let stopped : c.args.self.now.is_live ≡ false = search rules in stopped_gives_up p c.args.self.now stopped
