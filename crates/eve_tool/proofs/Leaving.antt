@@ -34,7 +34,7 @@ shown_left written failures bytes text status old new said fault.TooLong stopped
 shown_left written failures bytes text status old new said fault.Broken stopped = absurd stopped
 shown_left written failures bytes text status old new said fault.Random stopped = absurd stopped
 shown_left written failures bytes text status old new said fault.Memory stopped =
-    inr (tt, record { text = text; status = status; said = said; written = stopped })
+    inr (tt, record { text = text; status = status; said = said; written = stopped.0 })
 shown_left written failures bytes text status old new said fault.Write stopped =
     (stopped.counted, record { text = text; status = status; said = said; written = stopped.front })
 
@@ -54,7 +54,7 @@ part_left written failures start old new part all (fault.Line number) fine front
 part_left written failures start old new part all fault.TooLong fine front stopped = absurd stopped
 part_left written failures start old new part all fault.Broken fine front stopped = absurd stopped
 part_left written failures start old new part all fault.Random fine front stopped = absurd stopped
-part_left written failures start old new part all fault.Memory fine front stopped = front
+part_left written failures start old new part all fault.Memory fine front stopped = (front, ap failures stopped ∙ fine)
 part_left written failures start old new part all fault.Write fine front stopped =
     record { front = front; counted = stopped.counted ∙ ap after_failure fine }
 

@@ -1,14 +1,15 @@
--- What is said of an input that was read to its end.
+-- What is said of an input that was read to its end, or to a limit.
 use Rattle.std.proofs.Common.{◌≡◌, ℕ, ◌+◌, ◌<◌, ◌≤◌, ◌⊎◌, inl, inr, List, length, take, Option, Some, None, ap, subst}
-use Rattle.std.proofs.Common.{◌∙◌, arith}
+use Rattle.std.proofs.Common.{◌++◌, drop, sym, ◌∙◌, arith}
 use Rattle.std.specs.Prelude.{IfSome}
 use Rattle.std.proofs.lemmas.Bool.{cases_lt}
-use Rattle.std.proofs.lemmas.List.{length-take, take_all}
+use Rattle.std.proofs.lemmas.List.{append_cancel_left, length-take, take-append-drop, take_all}
+use Rattle.std.specs.Io.KnownBytes.{Consumes}
 use Rattle.eve_tool.specs.declared.fault.ToolFault.{ToolFault}
 use Rattle.eve_tool.specs.declared.fault.ToolFault.TheVariants as fault
 use Rattle.eve_workload.specs.declared.mixer.Mixer.{Mixer}
 use Rattle.eve_workload.specs.Steps.{IsBadLine}
-use Rattle.eve_tool.specs.Calls.{Leaves}
+use Rattle.eve_tool.specs.Calls.{WasRead, Leaves}
 use Rattle.eve_tool.specs.Run.{IsRunnable, IsTooLong, Runs}
 use Rattle.eve_tool_arguments.specs.Words.{Run}
 use Rattle.eve_tool.specs.Writes.{WritesFront}
@@ -27,6 +28,16 @@ short_is_all limit (Some k) read bytes same e short = record { same = same ∙ e
     all : (limit + 1 < length k) ⊎ (length k ≤ limit + 1) → take (limit + 1) k ≡ k
     all (inl longer) = absurd (omega (arith, length-take (limit + 1) k, ap length e))
     all (inr reached) = take_all (limit + 1) k reached
+
+-- what is left is what is behind what was read
+pub is_read : (limit : ℕ) (known left : Option (List ℕ)) (read : List ℕ)
+    → IfSome known (λ k. read ≡ take (limit + 1) k) → Consumes known left read → WasRead limit known left
+is_read limit None left read front eaten = record { rest = tt }
+is_read limit (Some k) None read front eaten = absurd eaten
+is_read limit (Some k) (Some rest) read front eaten =
+    let whole : take (limit + 1) k ++ rest ≡ take (limit + 1) k ++ drop (limit + 1) k =
+    ap (λ l. l ++ rest) (sym front) ∙ sym eaten ∙ sym (take-append-drop (limit + 1) k) in
+    record { rest = ap Some (append_cancel_left (take (limit + 1) k) rest (drop (limit + 1) k) whole) }
 
 -- what is said of all that was left is said of what was read
 pub of_all : {known : Option (List ℕ)} {bytes : List ℕ} → IsAll known bytes → (P : List ℕ → Type 0) → P bytes

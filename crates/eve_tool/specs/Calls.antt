@@ -1,5 +1,5 @@
 -- What each call says of bytes, and what it leaves where it ends without an answer.
-use Rattle.std.specs.Prelude.{◌≡◌, ◌≢◌, ℕ, ◌⊎◌, List, Option, Some, IfSome, ⊤}
+use Rattle.std.specs.Prelude.{◌≡◌, ◌≢◌, ℕ, ◌+◌, ◌⊎◌, List, drop, Option, Some, IfSome, ⊤}
 use Rattle.eve_streams.specs.Failures.{after_failure}
 use Rattle.eve_streams.specs.Front.{AppendsFront}
 use Rattle.eve_workload.specs.Steps.{IsBadLine}
@@ -71,11 +71,17 @@ StopsSending written failures old new text fault.Memory = new ≡ old
 StopsSending written failures old new text fault.Write = Stopped written failures old new text
 StopsSending written failures old new text _ = ⊥
 
--- what was left of a text that was to be sent in parts
+-- what was left of a text that was to be sent in parts: where memory ran out, out did not fail
 abbrev pub StopsInParts : {O : Type 0} → (O → Option (List ℕ)) → (O → ℕ) → O → O → List ℕ → ToolFault → Type 0
-StopsInParts written failures old new text fault.Memory = AppendsFront (written old) (written new) text
+StopsInParts written failures old new text fault.Memory =
+    AppendsFront (written old) (written new) text × (failures new ≡ failures old)
 StopsInParts written failures old new text fault.Write = Stopped written failures old new text
 StopsInParts written failures old new text _ = ⊥
+
+-- The input was read, where its bytes are `known`: to its end, but no further than `limit + 1` bytes. `left` is what is
+-- left of them.
+pub record WasRead (limit : ℕ) (known left : Option (List ℕ)) : Type 0 where
+  pub rest : IfSome known (λ bytes. left ≡ Some (drop (limit + 1) bytes))
 
 -- the line of a fault was sent, or a front of it and then the stream failed
 abbrev pub Tells : {E : Type 0} → (E → Option (List ℕ)) → (E → ℕ) → E → E → ToolFault → Type 0
@@ -83,14 +89,18 @@ Tells written failures old new why =
     Wrote written failures old new (error_line why) ⊎ Stopped written failures old new (error_line why)
 
 -- A call ended by a fault, of which the status is that and the line was told. `fine` says that the input did not fail,
--- which is so at each fault but Read.
+-- which is so at each fault but Read, and `consumed` that it was read, which is so at each but Read and Memory. At each
+-- but Write the output did not fail.
 pub record Stops {E O : Type 0} (told : E → Option (List ℕ)) (untold : E → ℕ) (written : O → Option (List ℕ))
     (failures : O → ℕ) (call : Subcommand)
-    (known : Option (List ℕ)) (unread fine : Type 0) (err_old err_new : E) (old new : O) (status : ℕ) : Type 0 where
+    (known : Option (List ℕ)) (unread fine consumed : Type 0) (err_old err_new : E) (old new : O) (status : ℕ)
+    : Type 0 where
   pub why : ToolFault
   pub ends : status_of why ≡ status
   pub left : Leaves longest written failures call known unread old new why
   pub read : why ≢ fault.Read → fine
+  pub ended : why ≢ fault.Read → why ≢ fault.Memory → consumed
+  pub wrote : why ≢ fault.Write → failures new ≡ failures old
   pub line : Tells told untold err_old err_new why
 
 -- what was left where help was asked for, by a fault: memory ran out before any of it was sent, or a send failed

@@ -4,7 +4,7 @@ ghost use Rattle.std.specs.Prelude.{◌≡◌, ◌≢◌, ◌<◌, Some, IfOk, I
 ghost use Rattle.std.specs.Io.KnownBytes.{Appends};
 ghost use Rattle.eve_streams.specs.Failures.{after_failure};
 ghost use Rattle.eve_tool.specs.Audit.{Audits};
-ghost use Rattle.eve_tool.specs.Calls.{Leaves, StopsSending};
+ghost use Rattle.eve_tool.specs.Calls.{WasRead, Leaves, StopsSending};
 ghost use Rattle.eve_tool.specs.Lines.{status_of_verdict, verdict_line, yes_line};
 ghost use Rattle.eve_tool.specs.Run.{longest};
 ghost use Rattle.eve_tool_arguments.specs.Words.{Audit};
@@ -72,6 +72,7 @@ fn audit_bytes<R: Threads + Wait + Sync, O: Sink>(
     ensures status { IfOk result (λ status. status < 2) }
     ensures fine { OnOk result (O.failures out.new ≡ O.failures out.old) }
     ensures left { IfErr result (Leaves longest O.written O.failures Audit (Some bytes.now) ⊥ out.old out.new) }
+    ensures wrote { IfErr result (λ why. why ≢ ToolFault.Write → O.failures out.new ≡ O.failures out.old) }
 {
     let verdict = eve_audit::audit(rt, alloc, bytes, workers.get(), random, &OpenGate)?;
     send_verdict(alloc, &verdict, out)
@@ -94,6 +95,9 @@ pub(crate) fn audit<R: AllocGlobal + RandomSource + Threads + Wait + Sync, I: So
     ensures left { IfErr result (Leaves longest O.written O.failures Audit (I.remaining input.old)
         (I.failures input.new ≡ after_failure (I.failures input.old)) out.old out.new) }
     ensures read { IfErr result (λ why. why ≢ ToolFault.Read → I.failures input.new ≡ I.failures input.old) }
+    ensures ended { IfErr result (λ why. why ≢ ToolFault.Read → why ≢ ToolFault.Memory
+        → WasRead longest (I.remaining input.old) (I.remaining input.new)) }
+    ensures wrote { IfErr result (λ why. why ≢ ToolFault.Write → O.failures out.new ≡ O.failures out.old) }
 {
     let alloc = rt.alloc();
     let bytes = read_all(alloc, input, MOST_BYTES as u32)?;

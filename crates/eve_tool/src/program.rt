@@ -4,7 +4,7 @@ ghost use Rattle.std.specs.Prelude.{◌≡◌, ◌≢◌, ◌≤◌, ◌<◌, Li
 ghost use Rattle.std.specs.Prelude.{IfOk, IfErr, IfSome, OnOk, OnErr, Some, decimal};
 ghost use Rattle.eve_audit.specs.Verdict.{SpellsAudited};
 ghost use Rattle.eve_streams.specs.Failures.{after_failure};
-ghost use Rattle.eve_tool.specs.Calls.{Calls, Leaves, LeavesHelp, Stops, StopsHelp, Tells, says};
+ghost use Rattle.eve_tool.specs.Calls.{Calls, WasRead, Leaves, LeavesHelp, Stops, StopsHelp, Tells, says};
 ghost use Rattle.eve_tool.specs.Fault.{status_of};
 ghost use Rattle.eve_tool.specs.Run.{longest};
 ghost use Rattle.eve_tool_arguments.specs.Words.{AsksForHelp, Audit, AuditsBy, CallsNothing, CallsSome, GetsHelp};
@@ -51,6 +51,9 @@ fn answer_call<R: AllocGlobal + RandomSource + Threads + Wait + Sync, I: Source,
     ensures left { IfErr result (Leaves longest O.written O.failures (subcommand_of_call call) (I.remaining input.old)
         (I.failures input.new ≡ after_failure (I.failures input.old)) out.old out.new) }
     ensures read { IfErr result (λ why. why ≢ ToolFault.Read → I.failures input.new ≡ I.failures input.old) }
+    ensures ended { IfErr result (λ why. why ≢ ToolFault.Read → why ≢ ToolFault.Memory
+        → WasRead longest (I.remaining input.old) (I.remaining input.new)) }
+    ensures wrote { IfErr result (λ why. why ≢ ToolFault.Write → O.failures out.new ≡ O.failures out.old) }
 {
     match call {
         Call::Audit(workers) => audit(rt, workers, input, out),
@@ -78,6 +81,10 @@ fn answer<
         → IfErr result (Leaves longest O.written O.failures call (I.remaining input.old)
         (I.failures input.new ≡ after_failure (I.failures input.old)) out.old out.new) }
     ensures read { IfErr result (λ why. why ≢ ToolFault.Read → I.failures input.new ≡ I.failures input.old) }
+    ensures ended { CallsSome (map S.text words.now)
+        → IfErr result (λ why. why ≢ ToolFault.Read → why ≢ ToolFault.Memory
+        → WasRead longest (I.remaining input.old) (I.remaining input.new)) }
+    ensures wrote { IfErr result (λ why. why ≢ ToolFault.Write → O.failures out.new ≡ O.failures out.old) }
     ensures quiet { CallsSome (map S.text words.now) → err.new ≡ err.old }
     ensures unread { CallsNothing (map S.text words.now) → input.new ≡ input.old }
     ensures help { CallsNothing (map S.text words.now) → IfOk result (λ status. status ≡ 0
@@ -139,7 +146,7 @@ pub fn serve<
     ensures stopped { (call : Subcommand) → Calls call (map S.text words.now) → 2 ≤ result
         → Stops E.written E.failures O.written O.failures call (I.remaining input.old)
         (I.failures input.new ≡ after_failure (I.failures input.old)) (I.failures input.new ≡ I.failures input.old)
-        err.old err.new out.old out.new result }
+        (WasRead longest (I.remaining input.old) (I.remaining input.new)) err.old err.new out.old out.new result }
 
     // The arguments are no call.
     ensures unread { CallsNothing (map S.text words.now) → input.new ≡ input.old }

@@ -7,7 +7,7 @@ ghost use Rattle.eve_streams.specs.Failures.{after_failure};
 ghost use Rattle.eve_write.specs.Data.{trace};
 ghost use Rattle.eve_write.specs.Writable.{HasSpelling};
 ghost use Rattle.eve_write.specs.Writing.{Wrote, Stopped};
-ghost use Rattle.eve_tool.specs.Calls.{Leaves};
+ghost use Rattle.eve_tool.specs.Calls.{WasRead, Leaves};
 ghost use Rattle.eve_tool.specs.Run.{Runs, IsRunOfText, StopsRun, longest};
 ghost use Rattle.eve_tool_arguments.specs.Words.{Run};
 ghost use Rattle.eve_tool.specs.Writes.{WritesAll, WritesAllOf};
@@ -75,6 +75,7 @@ fn run_bytes<R: RandomSource + Threads + Wait + Sync, O: Sink>(
     ensures status { IfOk result (λ status. status ≡ 0) }
     ensures fine { OnOk result (O.failures out.new ≡ O.failures out.old) }
     ensures left { IfErr result (Leaves limit O.written O.failures (Run mixer) (Some bytes.now) ⊥ out.old out.new) }
+    ensures wrote { IfErr result (λ why. why ≢ ToolFault.Write → O.failures out.new ≡ O.failures out.old) }
 {
     let parts = parts_of(rt, alloc, bytes, mixer)?;
     send_trace(&parts, limit, out)?;
@@ -103,6 +104,9 @@ pub fn run_within<R: AllocGlobal + RandomSource + Threads + Wait + Sync, I: Sour
     ensures left { IfErr result (Leaves limit O.written O.failures (Run mixer) (I.remaining input.old)
         (I.failures input.new ≡ after_failure (I.failures input.old)) out.old out.new) }
     ensures read { IfErr result (λ why. why ≢ ToolFault.Read → I.failures input.new ≡ I.failures input.old) }
+    ensures ended { IfErr result (λ why. why ≢ ToolFault.Read → why ≢ ToolFault.Memory
+        → WasRead limit (I.remaining input.old) (I.remaining input.new)) }
+    ensures wrote { IfErr result (λ why. why ≢ ToolFault.Write → O.failures out.new ≡ O.failures out.old) }
 {
     let alloc = rt.alloc();
     let bytes = read_all(alloc, input, limit)?;
@@ -127,6 +131,9 @@ pub(crate) fn run<R: AllocGlobal + RandomSource + Threads + Wait + Sync, I: Sour
     ensures left { IfErr result (Leaves longest O.written O.failures (Run mixer) (I.remaining input.old)
         (I.failures input.new ≡ after_failure (I.failures input.old)) out.old out.new) }
     ensures read { IfErr result (λ why. why ≢ ToolFault.Read → I.failures input.new ≡ I.failures input.old) }
+    ensures ended { IfErr result (λ why. why ≢ ToolFault.Read → why ≢ ToolFault.Memory
+        → WasRead longest (I.remaining input.old) (I.remaining input.new)) }
+    ensures wrote { IfErr result (λ why. why ≢ ToolFault.Write → O.failures out.new ≡ O.failures out.old) }
 {
     run_within(rt, mixer, MOST_BYTES as u32, input, out)
 }

@@ -3,6 +3,7 @@ use Rattle.std.proofs.lemmas.Result.{IfErr-weaker, IfOk-weaker}
 use Rattle.eve_tool.specs.Audit.{Audits}
 use Rattle.eve_tool.proofs.Cutting.{Audits-cut, WritesAllOf-cut, WritesFrontOf-cut, audit_left, random_left}
 use Rattle.eve_tool.proofs.Leaving.{at_err}
+use Rattle.eve_tool.proofs.WholeInput.{is_read}
 use Rattle.eve_tool.proofs.audit.audit.Goals as goal
 
 pub returns-clause-all : goal.returns-clause-all
@@ -35,3 +36,16 @@ returns-in_err-random-clause-left g c =
     at_err c.from_residual-in_err-random.result _ why c.from_residual-in_err-random.ensures.1
     (random_left g.O.Sink.written g.O.Sink.failures (g.I.Source.remaining c.args.input.now) _ c.args.out.now why
     c.in_err-random.ensures)
+
+pub returns-in_err-random-clause-ended : goal.returns-in_err-random-clause-ended
+returns-in_err-random-clause-ended g c =
+    let read = is_read (2 ^ 30) (g.I.Source.remaining c.args.input.now) (g.I.Source.remaining c.read_all.new.source) _
+    c.in_ok-bytes.ensures.bytes c.in_ok-bytes.ensures.rest in
+    at_err c.from_residual-in_err-random.result _ c.in_err-random.field-0.0 c.from_residual-in_err-random.ensures.1
+    (λ unread scarce. read)
+
+pub returns-clause-ended : goal.returns-clause-ended
+returns-clause-ended g c =
+    let read = is_read (2 ^ 30) (g.I.Source.remaining c.args.input.now) (g.I.Source.remaining c.read_all.new.source) _
+    c.in_ok-bytes.ensures.bytes c.in_ok-bytes.ensures.rest in
+    IfErr-weaker c.audit_bytes.result _ _ (λ why left unread scarce. read) c.audit_bytes.ensures.left

@@ -13,12 +13,12 @@ use Rattle.eve_tool.proofs.show.send_frames.Goals as goal
 pub returns-in_err-text-clause-stopped : goal.returns-in_err-text-clause-stopped
 returns-in_err-text-clause-stopped g c =
     at_err c.from_residual.result _ Memory c.from_residual.ensures.1
-    (AppendsFront-none (g.O.Sink.written c.args.out.now) _ (trace_lines-some (frames_of c.args.trace.now)))
+    (AppendsFront-none (g.O.Sink.written c.args.out.now) _ (trace_lines-some (frames_of c.args.trace.now)), refl)
 
 pub returns-in_err-push_frame_line-clause-stopped : goal.returns-in_err-push_frame_line-clause-stopped
 returns-in_err-push_frame_line-clause-stopped g c =
     at_err c.from_residual-in_err-push_frame_line.result _ Memory c.from_residual-in_err-push_frame_line.ensures.1
-    (AppendsFront-none (g.O.Sink.written c.args.out.now) _ (trace_lines-some (frames_of c.args.trace.now)))
+    (AppendsFront-none (g.O.Sink.written c.args.out.now) _ (trace_lines-some (frames_of c.args.trace.now)), refl)
 
 pub frames-init : goal.frames-init
 frames-init g c =
@@ -30,7 +30,7 @@ pub returns-in_err-push_frame-clause-stopped : goal.returns-in_err-push_frame-cl
 returns-in_err-push_frame-clause-stopped g c =
     let within : c.frames.i < length (frames_of c.args.trace.now) = omega arith in
     at_err c.from_residual-in_err-push_frame.result _ Memory c.from_residual-in_err-push_frame.ensures.1
-    (front_so_far _ _ _ (frames_of c.args.trace.now) c.frames.i within c.frames.invariant.0)
+    (front_so_far _ _ _ (frames_of c.args.trace.now) c.frames.i within c.frames.invariant.0, c.frames.invariant.1)
 
 pub returns-in_err-send_text-clause-stopped : goal.returns-in_err-send_text-clause-stopped
 returns-in_err-send_text-clause-stopped g c =

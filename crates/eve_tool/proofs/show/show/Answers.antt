@@ -2,6 +2,7 @@ use Rattle.std.proofs.Common.{◌^◌, lit≤}
 use Rattle.std.proofs.lemmas.Result.{IfErr-weaker, IfOk-weaker}
 use Rattle.eve_tool.specs.Show.{Shows}
 use Rattle.eve_tool.proofs.Cutting.{Shows-cut, WritesAllOf-cut, WritesFrontOf-cut, show_left}
+use Rattle.eve_tool.proofs.WholeInput.{is_read}
 use Rattle.eve_tool.proofs.show.show.Goals as goal
 
 pub returns-clause-all : goal.returns-clause-all
@@ -27,3 +28,9 @@ returns-clause-left g c =
     (λ bytes text s. Shows-cut (2 ^ 30) bytes text s (lit≤ tt)) c.as_slice.ensures.value c.in_ok-bytes.ensures.bytes
     front))
     c.show_bytes.ensures.left
+
+pub returns-clause-ended : goal.returns-clause-ended
+returns-clause-ended g c =
+    let read = is_read (2 ^ 30) (g.I.Source.remaining c.args.input.now) (g.I.Source.remaining c.read_all.new.source) _
+    c.in_ok-bytes.ensures.bytes c.in_ok-bytes.ensures.rest in
+    IfErr-weaker c.show_bytes.result _ _ (λ why left unread scarce. read) c.show_bytes.ensures.left
