@@ -1,4 +1,4 @@
--- What a run left has no fault, or two messages have one hash.
+-- What a run left has no fault, or shows two messages with one hash.
 use Rattle.std.proofs.Common.{◌≡◌, ℕ, List, sym, ap, subst, ◌∙◌, inl, inr, ◌⊎◌}
 use Rattle.std.specs.Prelude.{IsPermutation}
 use Rattle.eve_grammar.specs.Trace.{Asked, Step, Trace, Head, opening_rows}
@@ -14,6 +14,7 @@ use Rattle.eve_votes.specs.Faults.{AreVotesSound}
 use Rattle.eve_agree.specs.Tables.{RestoresAreRight}
 use Rattle.eve_agree.specs.DueTokens.{TokensAreDue}
 use Rattle.eve_agree.specs.Majority.{AllAreBacked}
+use Rattle.eve_agree.specs.Agreement.{IsOutcomeFault}
 use Rattle.eve_agree.specs.SentReplies.{AllReplied}
 use Rattle.eve_agree.proofs.RestoresInOrder.{faultless}
 use Rattle.eve_agree.proofs.TokensInOrder.{no_token_fault}
@@ -32,7 +33,7 @@ use Rattle.eve_audit.specs.Verdict.{IsCommonFault, of_votes, of_majorities, of_a
 use Rattle.eve_audit.specs.Verdict.{in_orders, in_section, in_common, Stands, in_form, in_trace}
 use Rattle.eve_tool.specs.Audit.{Audits}
 use Rattle.eve_tool.specs.Lines.{status_of_verdict}
-use Rattle.eve_accepts.specs.Collision.{Collision}
+use Rattle.eve_accepts.specs.Collision.{Collides}
 use Rattle.eve_accepts.proofs.Alike.{IsPlanOf, AreAlike}
 use Rattle.eve_accepts.proofs.Following.{alike_first, step_alike, goes, right_section, kept}
 use Rattle.eve_accepts.proofs.Sounding.{AreSoundSoFar, sound_next, sound_first, settled_sound}
@@ -104,40 +105,40 @@ module _ (cuts : (names : List (List ℕ)) → (m : Mixer) → (requests : List 
   replied : AllReplied t
   replied = all_replied w mixer t run right
 
-  common_collides : (f : Fault) → IsCommonFault t f → Collision
+  common_collides : (f : Fault) → IsCommonFault t f → IsOutcomeFault t f × Collides t
   common_collides f (of_votes is) = absurd (no_vote_fault t votes f is)
   common_collides f (of_majorities is) = absurd (no_majority_fault t backed f is)
-  common_collides f (of_agreement is) = outcome_collides t limits right due votes backed f is
+  common_collides f (of_agreement is) = (is, outcome_collides t limits right due votes backed f is)
   common_collides f (of_replies is) = absurd (no_reply_fault t replied f is)
 
-  pub fault_collides : (f : Fault) → IsTraceFault t f → Collision
+  pub fault_collides : (f : Fault) → IsTraceFault t f → IsOutcomeFault t f × Collides t
   fault_collides f (in_orders is) =
       absurd (no_order_fault w mixer t asked run.customers run.batches cuts f is)
   fault_collides f (in_section is) = absurd (own_faultless is.0 f is.2)
   fault_collides f (in_common is) = common_collides f is
 
 -- the verdict on bytes that spell a trace each of whose faults is a collision
-module _ (bytes : List ℕ) (t : Trace) (collides : (f : Fault) → IsTraceFault t f → Collision)
+module _ (bytes : List ℕ) (t : Trace) (collides : (f : Fault) → IsTraceFault t f → Collides t)
     (once : (u : Trace) → Spells bytes u → u ≡ t) (formed : (f : Fault) → ¬ IsFormFault bytes f) where
-  standing_collides : (f : Fault) → Stands bytes f → Collision
+  standing_collides : (f : Fault) → Stands bytes f → Collides t
   standing_collides f (in_form is) = absurd (formed f is)
   standing_collides f (in_trace u other is) =
       collides f (subst (λ (v : Trace). IsTraceFault v f) (once u other) is)
 
-  pub accepted : (v : Verdict) → IsVerdict bytes v → ((s : Summary) × IsVerdict bytes (Yes s)) ⊎ Collision
+  pub accepted : (v : Verdict) → IsVerdict bytes v → ((s : Summary) × IsVerdict bytes (Yes s)) ⊎ Collides t
   accepted (Yes s) is = inl (s, is)
   accepted (No f) is = inr (standing_collides f is.judged.stands)
 
 -- what a yes says of it
 pub audited : (bytes : List ℕ) (t : Trace) → ((s : Summary) → IsVerdict bytes (Yes s) → IsAudited t)
-    → ((s : Summary) × IsVerdict bytes (Yes s)) ⊎ Collision → IsAudited t ⊎ Collision
+    → ((s : Summary) × IsVerdict bytes (Yes s)) ⊎ Collides t → IsAudited t ⊎ Collides t
 audited bytes t says (inl found) = inl (says found.0 found.1)
 audited bytes t says (inr collision) = inr collision
 
 -- what the program says of such bytes
-pub ends_well : (bytes line : List ℕ) (ended : ℕ) → Audits bytes line ended
+pub ends_well : (bytes line : List ℕ) (ended : ℕ) (t : Trace) → Audits bytes line ended
     → ((bytes : List ℕ) (v w : Verdict) → IsVerdict bytes v → IsVerdict bytes w → v ≡ w)
-    → ((s : Summary) × IsVerdict bytes (Yes s)) ⊎ Collision → (ended ≡ 0) ⊎ Collision
-ends_well bytes line ended audit unique (inl found) =
+    → ((s : Summary) × IsVerdict bytes (Yes s)) ⊎ Collides t → (ended ≡ 0) ⊎ Collides t
+ends_well bytes line ended t audit unique (inl found) =
     inl (audit.ends ∙ ap status_of_verdict (unique bytes audit.verdict (Yes found.0) audit.is found.1))
-ends_well bytes line ended audit unique (inr collision) = inr collision
+ends_well bytes line ended t audit unique (inr collision) = inr collision

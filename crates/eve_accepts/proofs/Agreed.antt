@@ -1,4 +1,4 @@
--- Where replicas differ in what a batch came to, though their tokens are due and decided, two messages have one hash.
+-- Where replicas differ in what a batch came to, though their tokens are due and decided, the trace shows a collision.
 use Rattle.std.proofs.Common.{◌≡◌, ℕ, zero, suc, ◌+◌, ◌<◌, ◌≤◌, nat_le, Bool, true, false, List, [], ◌∷◌, map, length}
 use Rattle.std.proofs.Common.{slice_get, Option, Some, IfSome, refl, sym, ap, subst, ◌∙◌, add-one, arith}
 use Rattle.std.specs.List.{enumerate_from, find}
@@ -19,7 +19,7 @@ use Rattle.eve_agree.specs.Majority.{AllAreBacked}
 use Rattle.eve_agree.proofs.Outcomes.{first_there}
 use Rattle.eve_agree.proofs.TokensInOrder.{get_at_seam}
 use Rattle.eve_audit.proofs.Decisions.{committed_decided}
-use Rattle.eve_accepts.specs.Collision.{Collision}
+use Rattle.eve_accepts.specs.Collision.{Collides}
 use Rattle.eve_accepts.proofs.Ranges.{balances_within, replies_within, balances_count}
 use Rattle.eve_accepts.proofs.Colliding.{collides}
 
@@ -62,7 +62,7 @@ module _ (t : Trace) (limits : HasLimits t) (right : (e : ℕ) → IsRightSectio
     (votes : AreVotesSound t) (backed : AllAreBacked t) where
   -- two replicas that committed a batch with other outcomes
   outcomes_collide : (e f n : ℕ) (q r : Placed) → committed_at t e n ≡ Some q → committed_at t f n ≡ Some r
-      → ¬ HaveSameOutcome t e f n → Collision
+      → ¬ HaveSameOutcome t e f n → Collides t
   outcomes_collide e f n q r at also apart =
       collides t e f n q r at also (balances_within t e n limits) (balances_within t f n limits)
       (balances_count t e n ∙ sym (balances_count t f n)) (replies_within t e n q limits at)
@@ -72,10 +72,10 @@ module _ (t : Trace) (limits : HasLimits t) (right : (e : ℕ) → IsRightSectio
       (committed_decided t e (right e) (backed e) n q at) (committed_decided t f (right f) (backed f) n r also)) apart
 
   -- a fault of agreement
-  pub outcome_collides : (f : Fault) → IsOutcomeFault t f → Collision
+  pub outcome_collides : (f : Fault) → IsOutcomeFault t f → Collides t
   outcome_collides f is = by f.code is.stands
     where
-      by : (c : Code) → StandsInAgreement c t is.replica f.offset → Collision
+      by : (c : Code) → StandsInAgreement c t is.replica f.offset → Collides t
       by code.Outcome place =
           let e = is.replica in
           let n = length place.before in

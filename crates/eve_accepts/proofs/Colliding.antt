@@ -9,6 +9,7 @@ use Rattle.std.proofs.lemmas.Bool.{lt-ltb, eq-eqb, and_from}
 use Rattle.std.proofs.lemmas.List.{length-append, append_cancel_left}
 use Rattle.std.proofs.lemmas.List.Folds.{list_all-append}
 use Rattle.byteorder.specs.Endian.{big_bytes}
+use Rattle.sha2.specs.Sha256.{sha256}
 use Rattle.eve_accounts.specs.Money.{is_balance}
 use Rattle.eve_smallbank.specs.Spelling.{money_text, reply_text}
 use Rattle.eve_smallbank.specs.declared.request.Reply.{Reply}
@@ -26,7 +27,7 @@ use Rattle.eve_history.specs.SectionHistory.{committed_at}
 use Rattle.eve_chains.specs.Committed.{balances_to}
 use Rattle.eve_agree.specs.DueTokens.{due_token}
 use Rattle.eve_agree.specs.Agreement.{HaveSameOutcome}
-use Rattle.eve_accepts.specs.Collision.{Collision}
+use Rattle.eve_accepts.specs.Collision.{message, outcome_message, Collides}
 
 -- ---- what is spelled is read in one way
 
@@ -108,10 +109,6 @@ reply_below (Aborted OutOfRange) = money_below (pos 0)
 abbrev outcome_text : List ℤ → List Reply → List ℕ
 outcome_text bs rs = flat_map money_text bs ++ flat_map reply_text rs
 
--- what the token is the hash of
-abbrev message : ℕ → List ℤ → List Reply → List ℕ
-message n bs rs = codes "EVESB1" ++ (big_bytes 4 n ++ outcome_text bs rs)
-
 message_below : (n : ℕ) (bs : List ℤ) (rs : List Reply) → IsTrue (list_all (is_number 1) (message n bs rs))
 message_below n bs rs =
     joined_below (codes "EVESB1") (big_bytes 4 n ++ outcome_text bs rs) refl
@@ -126,22 +123,19 @@ same_outcome n bs cs rs qs same =
     (append_cancel_left (codes "EVESB1") (big_bytes 4 n ++ outcome_text bs rs) (big_bytes 4 n ++ outcome_text cs qs)
     same)
 
--- two outcomes that differ and have one token
-collide : (n : ℕ) (bs cs : List ℤ) (rs qs : List Reply) → IsTrue (list_all is_balance bs)
-    → IsTrue (list_all is_balance cs) → length bs ≡ length cs → IsTrue (list_all is_reply rs)
-    → IsTrue (list_all is_reply qs) → flat_token n bs rs ≡ flat_token n cs qs → ¬ ((bs ≡ cs) × (rs ≡ qs)) → Collision
+-- the token of version 1 is its hash
+hashed : (n : ℕ) (bs : List ℤ) (rs : List Reply) → flat_token n bs rs ≡ sha256 (message n bs rs)
 unfolding flat_token
-collide n bs cs rs qs money money_too long replies replies_too tokens apart = record {
-  one = message n bs rs;
-  other = message n cs qs;
-  bytes = message_below n bs rs;
-  other_bytes = message_below n cs qs;
-  apart = λ same. apart (same_parts bs cs rs qs money money_too long replies replies_too
-      (same_outcome n bs cs rs qs same));
-  same_hash = tokens;
-}
+hashed n bs rs = refl
 
 -- ---- two replicas
+
+-- what a committed attempt's token is the hash of
+token_hashed : (t : Trace) (e n : ℕ) (p : Placed) → p.attempt.seq ≡ n → p.attempt.token ≡ due_token t e p
+    → p.attempt.token ≡ sha256 (outcome_message t e n p)
+token_hashed t e n p number due =
+    due ∙ ap (λ (m : ℕ). flat_token m (balances_to t e m) p.attempt.replies) number
+    ∙ hashed n (balances_to t e n) p.attempt.replies
 
 pub collides : (t : Trace) (e f n : ℕ) (q r : Placed) → committed_at t e n ≡ Some q → committed_at t f n ≡ Some r
     → IsTrue (list_all is_balance (balances_to t e n)) → IsTrue (list_all is_balance (balances_to t f n))
@@ -150,16 +144,26 @@ pub collides : (t : Trace) (e f n : ℕ) (q r : Placed) → committed_at t e n �
     → q.attempt.seq ≡ n → r.attempt.seq ≡ n
     → q.attempt.token ≡ due_token t e q → r.attempt.token ≡ due_token t f r
     → q.attempt.token ≡ r.attempt.token
-    → ¬ HaveSameOutcome t e f n → Collision
+    → ¬ HaveSameOutcome t e f n → Collides t
 collides t e f n q r here there money money_too long replies replies_too number number_too due due_too same apart =
-    collide n (balances_to t e n) (balances_to t f n) q.attempt.replies r.attempt.replies money money_too long replies
-    replies_too (sym (due ∙ at_number e q number) ∙ same ∙ due_too ∙ at_number f r number_too)
-    (λ parts. apart (record {
-      balances = parts.0;
-      replies = ap (option_map (λ (p : Placed). p.attempt.replies)) here ∙ ap Some parts.1
-          ∙ sym (ap (option_map (λ (p : Placed). p.attempt.replies)) there);
-    }))
-  where
-    at_number : (e : ℕ) (p : Placed) → p.attempt.seq ≡ n
-        → due_token t e p ≡ flat_token n (balances_to t e n) p.attempt.replies
-    at_number e p is = ap (λ (m : ℕ). flat_token m (balances_to t e m) p.attempt.replies) is
+    record {
+      batch = n;
+      replica = e;
+      other = f;
+      attempt = q;
+      other_attempt = r;
+      committed = here;
+      other_committed = there;
+      bytes = message_below n (balances_to t e n) q.attempt.replies;
+      other_bytes = message_below n (balances_to t f n) r.attempt.replies;
+      apart = λ one.
+          let parts = same_parts (balances_to t e n) (balances_to t f n) q.attempt.replies r.attempt.replies money
+          money_too long replies replies_too
+          (same_outcome n (balances_to t e n) (balances_to t f n) q.attempt.replies r.attempt.replies one) in
+          apart (record {
+            balances = parts.0;
+            replies = ap (option_map (λ (p : Placed). p.attempt.replies)) here ∙ ap Some parts.1
+                ∙ sym (ap (option_map (λ (p : Placed). p.attempt.replies)) there);
+          });
+      same_hash = sym (token_hashed t e n q number due) ∙ same ∙ token_hashed t f n r number_too due_too;
+    }

@@ -4,6 +4,7 @@ ghost use Rattle.std.specs.Prelude.{◌≡◌, ◌<◌, ◌^◌, ◌⊎◌, ℕ,
 ghost use Rattle.eve_grammar.specs.Trace.{Trace};
 ghost use Rattle.eve_grammar.specs.Limits.{Spells, HasLimits};
 ghost use Rattle.eve_views.specs.declared.fault.Fault.{Fault};
+ghost use Rattle.eve_agree.specs.Agreement.{IsOutcomeFault};
 ghost use Rattle.eve_workload.specs.declared.mixer.Mixer.{Mixer};
 ghost use Rattle.eve_workload.specs.Workload.{Workload, IsWorkload};
 ghost use Rattle.eve_replica.specs.Run.{IsTraceOf};
@@ -13,28 +14,28 @@ ghost use Rattle.eve_audit.specs.declared.verdict.Verdict.TheVariants.{Yes};
 ghost use Rattle.eve_audit.specs.Verdict.{IsTraceFault, IsVerdict};
 ghost use Rattle.eve_tool.specs.Audit.{Audits};
 ghost use Rattle.eve_tool.specs.Run.{Runs};
-ghost use Rattle.eve_accepts.specs.Collision.{Collision};
+ghost use Rattle.eve_accepts.specs.Collision.{Collides};
 
-/// A fault in the trace of a run is a collision of SHA-256: none stands there but one of agreement, and where one does,
-/// two replicas committed a batch by one token that is due to two outcomes.
+/// No fault stands in the trace of a run but one of agreement, and where one does the trace shows a collision of SHA-256:
+/// two replicas committed a batch by one token, the hash of two messages that differ.
 ///
 /// docs/MODEL.md, "A run is accepted".
 pub fn faults_of_runs_are_collisions()
     ensures { (w : Workload) (mixer : Mixer) (t : Trace) (f : Fault) → IsWorkload w → IsTraceOf w mixer t → HasLimits t
-        → IsTraceFault t f → Collision }
+        → IsTraceFault t f → IsOutcomeFault t f × Collides t }
 {
     eve_workload::laws::cuts_keep_requests();
     eve_chains::laws::sound_sections_have_no_fault();
 }
 
-/// The verdict on bytes that spell the trace of a run is yes, or two messages have one SHA-256. What is below 2^8 is a
-/// byte.
+/// The verdict on bytes that spell the trace of a run is yes, or the trace shows two messages that differ and have one
+/// SHA-256. What is below 2^8 is a byte.
 ///
 /// docs/MODEL.md, "A run is accepted".
 pub fn runs_are_accepted()
     ensures { (w : Workload) (mixer : Mixer) (t : Trace) (bytes : List ℕ)
         → ((i : ℕ) → slice_index_or bytes i 0 < 2 ^ 8) → IsWorkload w → IsTraceOf w mixer t → Spells bytes t
-        → ((s : Summary) × IsVerdict bytes (Yes s)) ⊎ Collision }
+        → ((s : Summary) × IsVerdict bytes (Yes s)) ⊎ Collides t }
 {
     faults_of_runs_are_collisions();
     eve_grammar::laws::bytes_spell_one_trace();
@@ -43,26 +44,26 @@ pub fn runs_are_accepted()
 }
 
 /// A run is SmallBank on one thread, batch by batch in each replica, and all else that a yes says, whether it is audited
-/// or not; or two messages have one SHA-256. What is below 2^8 is a byte.
+/// or not; or its trace shows two messages that differ and have one SHA-256. What is below 2^8 is a byte.
 ///
 /// docs/MODEL.md, "A run is accepted".
 pub fn runs_are_audited()
     ensures { (w : Workload) (mixer : Mixer) (t : Trace) (bytes : List ℕ)
         → ((i : ℕ) → slice_index_or bytes i 0 < 2 ^ 8) → IsWorkload w → IsTraceOf w mixer t → Spells bytes t
-        → IsAudited t ⊎ Collision }
+        → IsAudited t ⊎ Collides t }
 {
     runs_are_accepted();
     eve_audit::laws::a_yes_is_audited();
 }
 
 /// Of what the program wrote for `run` with status 0: where it says the verdict on that for `audit`, it is yes and the
-/// status is 0, or two messages have one SHA-256. What is below 2^8 is a byte.
+/// status is 0, or the trace shows two messages that differ and have one SHA-256. What is below 2^8 is a byte.
 ///
 /// docs/MODEL.md, "A run is accepted".
 pub fn audits_of_runs_end_well()
     ensures { (limit : ℕ) (mixer : Mixer) (input written line : List ℕ) (status ended : ℕ)
-        → ((i : ℕ) → slice_index_or written i 0 < 2 ^ 8) → Runs limit mixer input written status
-        → Audits written line ended → (ended ≡ 0) ⊎ Collision }
+        → ((i : ℕ) → slice_index_or written i 0 < 2 ^ 8) → (run : Runs limit mixer input written status)
+        → Audits written line ended → (ended ≡ 0) ⊎ Collides run.trace }
 {
     runs_are_accepted();
     eve_audit::laws::verdicts_are_unique();
