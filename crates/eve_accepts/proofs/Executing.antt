@@ -1,6 +1,6 @@
 -- What an attempt of the trace executed is what its records were, in the order of their ticks.
-use Rattle.std.proofs.Common.{◌≡◌, ℕ, ◌+◌, ◌-◌, ◌==◌, true, false, List, [], ◌∷◌, ◌++◌, map, slice_get, Some, refl, sym, subst}
-use Rattle.std.proofs.Common.{ap, ap₂, ◌∙◌, filter, append_assoc, length, arith}
+use Rattle.std.proofs.Common.{◌≡◌, ℕ, ◌+◌, ◌-◌, ◌==◌, true, false, List, [], ◌∷◌, ◌++◌, map, length, slice_get, Some}
+use Rattle.std.proofs.Common.{refl, sym, subst, ap, ap₂, ◌∙◌, filter, append_assoc, arith}
 use Rattle.std.specs.Prelude.{slice_index_or}
 use Rattle.std.specs.List.{AllByRecursion, list_any}
 use Rattle.std.proofs.lemmas.Bool.{and_parts, or_parts, not-true, eq-eqb, cond-true, cond-false}

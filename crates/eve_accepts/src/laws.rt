@@ -16,8 +16,8 @@ ghost use Rattle.eve_tool.specs.Audit.{Audits};
 ghost use Rattle.eve_tool.specs.Run.{Runs};
 ghost use Rattle.eve_accepts.specs.Collision.{Collides};
 
-/// No fault stands in the trace of a run but one of agreement, and where one does the trace shows a collision of SHA-256:
-/// two replicas committed a batch by one token, the hash of two messages that differ.
+/// No fault stands in the trace of a run but one of agreement, and where one does the trace shows a collision of
+/// SHA-256: two replicas committed a batch by one token, the hash of two messages that differ.
 ///
 /// docs/MODEL.md, "A run is accepted".
 pub fn faults_of_runs_are_collisions()
@@ -43,8 +43,8 @@ pub fn runs_are_accepted()
     eve_audit::laws::bytes_have_a_verdict();
 }
 
-/// A run is SmallBank on one thread, batch by batch in each replica, and all else that a yes says, whether it is audited
-/// or not; or its trace shows two messages that differ and have one SHA-256. What is below 2^8 is a byte.
+/// A run is SmallBank on one thread, batch by batch in each replica, and all else that a yes says, whether it is
+/// audited or not; or its trace shows two messages that differ and have one SHA-256. What is below 2^8 is a byte.
 ///
 /// docs/MODEL.md, "A run is accepted".
 pub fn runs_are_audited()
