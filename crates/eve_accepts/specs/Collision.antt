@@ -20,8 +20,8 @@ message n balances replies =
 abbrev pub outcome_message : Trace → ℕ → ℕ → Placed → List ℕ
 outcome_message t e n p = message n (balances_to t e n) p.attempt.replies
 
--- Two replicas committed a batch, and the messages of what it came to in the one and in the other are lists of bytes that
--- differ and have one SHA-256.
+-- Two replicas committed a batch, and the messages of what it came to in the one and in the other are lists of bytes
+-- that differ and have one SHA-256.
 pub record Collides (t : Trace) : Type 0 where
   pub batch : ℕ
   pub replica : ℕ
