@@ -7,23 +7,23 @@ use std::alloc::{AllocError, Global};
 use std::process::ExitCode;
 use std::{env, io};
 
-// Words that are no call.
+// Arguments that are no call.
 fn no_call(alloc: Global) -> Result<Vec<String>, AllocError> {
-    let mut words = Vec::with_capacity(alloc, 2)?;
-    words.push_reserved("eve".to_string(alloc)?);
-    words.push_reserved("\u{fffd}".to_string(alloc)?);
-    Ok(words)
+    let mut arguments = Vec::with_capacity(alloc, 2)?;
+    arguments.push_reserved("eve".to_string(alloc)?);
+    arguments.push_reserved("\u{fffd}".to_string(alloc)?);
+    Ok(arguments)
 }
 
-fn given_words(rt: &HostRuntime) -> io::Result<Vec<String>> {
+fn given_arguments(rt: &HostRuntime) -> io::Result<Vec<String>> {
     Ok(env::args(rt)?.collect(rt.alloc())?)
 }
 
 // The arguments. Those that aren't text are no call.
-fn words_of(rt: &HostRuntime) -> io::Result<Vec<String>> {
-    match given_words(rt) {
+fn arguments_of(rt: &HostRuntime) -> io::Result<Vec<String>> {
+    match given_arguments(rt) {
         Err(e) if e.kind() != io::ErrorKind::OutOfMemory => Ok(no_call(rt.alloc())?),
-        words => words,
+        arguments => arguments,
     }
 }
 
@@ -41,8 +41,8 @@ fn main(rt: HostRuntime) -> ExitCode {
     let Ok(mut out) = Buffered::new(rt.alloc(), SinkOf::new(rt.stdout())) else {
         return ExitCode::from(stop(ToolFault::Memory, &mut err));
     };
-    let status = match words_of(&rt) {
-        Ok(words) => serve(&rt, words.as_slice(), &mut input, &mut out, &mut err),
+    let status = match arguments_of(&rt) {
+        Ok(arguments) => serve(&rt, arguments.as_slice(), &mut input, &mut out, &mut err),
         Err(_) => stop(ToolFault::Memory, &mut err),
     };
     ExitCode::from(finish(status, &mut out, &mut err))

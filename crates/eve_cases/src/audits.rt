@@ -16,14 +16,14 @@ fn line_of(sink: &SinkOf<Vec<u8>>) -> Result<&str> {
 /// The exit status, and what is said on out and on the error stream.
 fn said<R: AllocGlobal + RandomSource + Threads + Wait + Sync>(
     rt: &R,
-    words: &[&str],
+    arguments: &[&str],
     bytes: &[u8],
 ) -> Result<String> {
     let alloc = rt.alloc();
     let mut input = SourceOf::new(bytes);
     let mut out = SinkOf::new(Vec::new(alloc));
     let mut err = SinkOf::new(Vec::new(alloc));
-    let status = serve(rt, words, &mut input, &mut out, &mut err);
+    let status = serve(rt, arguments, &mut input, &mut out, &mut err);
     let line = line_of(&out)?;
     let fault = line_of(&err)?;
     Ok(format!(in alloc; "{status} {line}{fault}")?)
@@ -45,8 +45,8 @@ pub fn by_all<R: AllocGlobal + RandomSource + Threads + Wait + Sync>(
     let one = by_one(rt, bytes)?;
     for workers in 1..17 {
         let number = workers.to_string(rt.alloc())?;
-        let words = ["eve", "audit", "--workers", number.as_str()];
-        let more = said(rt, &words, bytes)?;
+        let arguments = ["eve", "audit", "--workers", number.as_str()];
+        let more = said(rt, &arguments, bytes)?;
         if more != one {
             return Ok(format!(in rt.alloc(); "{one}, but by {workers} workers {more}")?);
         }

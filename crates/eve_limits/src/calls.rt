@@ -7,16 +7,16 @@ use std::random::RandomSource;
 use std::sync::Wait;
 use std::thread::Threads;
 
-/// What `eve` writes for these words and this input.
+/// What `eve` writes for these arguments and this input.
 fn said<R: AllocGlobal + RandomSource + Threads + Wait + Sync>(
     rt: &R,
-    words: &[&str],
+    arguments: &[&str],
     bytes: &[u8],
 ) -> io::Result<Vec<u8>> {
     let mut input = SourceOf::new(bytes);
     let mut out = SinkOf::new(Vec::new(rt.alloc()));
     let mut err = SinkOf::new(Vec::new(rt.alloc()));
-    serve(rt, words, &mut input, &mut out, &mut err);
+    serve(rt, arguments, &mut input, &mut out, &mut err);
     Ok(out.writer().clone()?)
 }
 

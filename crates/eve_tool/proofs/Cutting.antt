@@ -22,7 +22,7 @@ use Rattle.eve_tool.specs.Calls.{Leaves}
 use Rattle.eve_tool.specs.Lines.{status_of_verdict}
 use Rattle.eve_tool.specs.Run.{longest}
 use Rattle.eve_tool.specs.Show.{Shows}
-use Rattle.eve_tool_arguments.specs.Words.{Audit, Show}
+use Rattle.eve_tool_arguments.specs.Arguments.{Audit, Show}
 use Rattle.eve_tool.specs.Writes.{WritesAll, WritesAllOf, WritesFront, WritesFrontOf}
 
 number-least : (c : Code) → 1 ≤ code_number c

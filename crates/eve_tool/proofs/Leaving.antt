@@ -7,7 +7,7 @@ use Rattle.eve_tool.specs.declared.fault.ToolFault.{ToolFault}
 use Rattle.eve_tool.specs.declared.fault.ToolFault.TheVariants as fault
 use Rattle.eve_tool.specs.Calls.{Leaves, StopsInParts, StopsSending, says}
 use Rattle.eve_tool.specs.Run.{longest}
-use Rattle.eve_tool_arguments.specs.Words.{Subcommand, Show}
+use Rattle.eve_tool_arguments.specs.Arguments.{Subcommand, Show}
 
 -- by a text that is sent at once
 pub sent_left : {O : Type 0} (written : O → Option (List ℕ)) (failures : O → ℕ) (call : Subcommand)

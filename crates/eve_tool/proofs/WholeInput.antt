@@ -11,7 +11,7 @@ use Rattle.eve_workload.specs.declared.mixer.Mixer.{Mixer}
 use Rattle.eve_workload.specs.Steps.{IsBadLine}
 use Rattle.eve_tool.specs.Calls.{WasRead, Leaves}
 use Rattle.eve_tool.specs.Run.{IsRunnable, IsTooLong, Runs}
-use Rattle.eve_tool_arguments.specs.Words.{Run}
+use Rattle.eve_tool_arguments.specs.Arguments.{Run}
 use Rattle.eve_tool.specs.Writes.{WritesFront}
 
 -- the bytes that were read are all that was left, where that is known

@@ -10,12 +10,12 @@ use Rattle.eve_tool.specs.Audit.{Audits}
 use Rattle.eve_tool.specs.Fault.{error_line, status_of}
 use Rattle.eve_tool.specs.Run.{Runs, IsTooLong, IsRunnable, longest}
 use Rattle.eve_tool.specs.Show.{Shows}
-use Rattle.eve_tool_arguments.specs.Words.{Subcommand, Audit, Run, Show, call_of}
+use Rattle.eve_tool_arguments.specs.Arguments.{Subcommand, Audit, Run, Show, call_of}
 use Rattle.eve_tool.specs.Writes.{WritesFrontOf}
 
 -- the arguments are this call
 abbrev pub Calls : Subcommand → List (List ℕ) → Type 0
-Calls call words = call_of words ≡ Some call
+Calls call arguments = call_of arguments ≡ Some call
 
 -- The text is what the call says of the bytes, and the number is the exit status. A run is of so many bytes at most.
 abbrev pub says : ℕ → Subcommand → List ℕ → List ℕ → ℕ → Type 0

@@ -7,7 +7,7 @@ ghost use Rattle.eve_tool.specs.Audit.{Audits};
 ghost use Rattle.eve_tool.specs.Calls.{WasRead, Leaves, StopsSending};
 ghost use Rattle.eve_tool.specs.Lines.{status_of_verdict, verdict_line, yes_line};
 ghost use Rattle.eve_tool.specs.Run.{longest};
-ghost use Rattle.eve_tool_arguments.specs.Words.{Audit};
+ghost use Rattle.eve_tool_arguments.specs.Arguments.{Audit};
 ghost use Rattle.eve_tool.specs.Writes.{WritesAll, WritesAllOf};
 
 use crate::fault::ToolFault;

@@ -7,9 +7,9 @@ ghost use Rattle.eve_streams.specs.Failures.{after_failure};
 ghost use Rattle.eve_tool.specs.Calls.{Calls, WasRead, Leaves, LeavesHelp, Stops, StopsHelp, Tells, says};
 ghost use Rattle.eve_tool.specs.Fault.{status_of};
 ghost use Rattle.eve_tool.specs.Run.{longest};
-ghost use Rattle.eve_tool_arguments.specs.Words.{AsksForHelp, Audit, AuditsBy, CallsNothing, CallsSome, GetsHelp};
-ghost use Rattle.eve_tool_arguments.specs.Words.{IsRefused, Run};
-ghost use Rattle.eve_tool_arguments.specs.Words.{Show, Subcommand, subcommand_of_call, workers_of};
+ghost use Rattle.eve_tool_arguments.specs.Arguments.{AsksForHelp, Audit, AuditsBy, CallsNothing, CallsSome, GetsHelp};
+ghost use Rattle.eve_tool_arguments.specs.Arguments.{IsRefused, Run};
+ghost use Rattle.eve_tool_arguments.specs.Arguments.{Show, Subcommand, subcommand_of_call, workers_of};
 ghost use Rattle.eve_workload.specs.declared.mixer.Mixer.{Mixer};
 ghost use Rattle.eve_tool.specs.Writes.{WritesAllOf};
 
@@ -19,7 +19,7 @@ use crate::run::run;
 use crate::show::show;
 use eve_grammar::MOST_AUDIT_WORKERS;
 use eve_streams::{Sink, Source, send_all};
-use eve_tool_arguments::{Asked, Call, read_words};
+use eve_tool_arguments::{Asked, Call, read_arguments};
 use std::convert::AsStr;
 use std::random::RandomSource;
 use std::sync::Wait;
@@ -69,35 +69,35 @@ fn answer<
     I: Source,
     O: Sink,
     E: Sink,
->(rt: &R, words: &[S], input: &mut I, out: &mut O, err: &mut E) -> Result<u8, ToolFault>
-    ensures said { (call : Subcommand) → Calls call (map S.text words.now)
+>(rt: &R, arguments: &[S], input: &mut I, out: &mut O, err: &mut E) -> Result<u8, ToolFault>
+    ensures said { (call : Subcommand) → Calls call (map S.text arguments.now)
         → IfOk result (λ status. (status < 2) × WritesAllOf (says longest call) (I.remaining input.old)
         (O.written out.old) (O.written out.new) status) }
-    ensures status { CallsSome (map S.text words.now) → IfOk result (λ status. status < 2) }
-    ensures fine { CallsSome (map S.text words.now)
+    ensures status { CallsSome (map S.text arguments.now) → IfOk result (λ status. status < 2) }
+    ensures fine { CallsSome (map S.text arguments.now)
         → OnOk result ((I.failures input.new ≡ I.failures input.old)
         × (O.failures out.new ≡ O.failures out.old)) }
-    ensures left { (call : Subcommand) → Calls call (map S.text words.now)
+    ensures left { (call : Subcommand) → Calls call (map S.text arguments.now)
         → IfErr result (Leaves longest O.written O.failures call (I.remaining input.old)
         (I.failures input.new ≡ after_failure (I.failures input.old)) out.old out.new) }
     ensures read { IfErr result (λ why. why ≢ ToolFault.Read → I.failures input.new ≡ I.failures input.old) }
-    ensures ended { CallsSome (map S.text words.now)
+    ensures ended { CallsSome (map S.text arguments.now)
         → IfErr result (λ why. why ≢ ToolFault.Read → why ≢ ToolFault.Memory
         → WasRead longest (I.remaining input.old) (I.remaining input.new)) }
     ensures wrote { IfErr result (λ why. why ≢ ToolFault.Write → O.failures out.new ≡ O.failures out.old) }
-    ensures quiet { CallsSome (map S.text words.now) → err.new ≡ err.old }
-    ensures unread { CallsNothing (map S.text words.now) → input.new ≡ input.old }
-    ensures help { CallsNothing (map S.text words.now) → IfOk result (λ status. status ≡ 0
-        → AsksForHelp (map S.text words.now)) }
-    ensures heard { CallsNothing (map S.text words.now) → IfOk result (λ status. status ≡ 0
+    ensures quiet { CallsSome (map S.text arguments.now) → err.new ≡ err.old }
+    ensures unread { CallsNothing (map S.text arguments.now) → input.new ≡ input.old }
+    ensures help { CallsNothing (map S.text arguments.now) → IfOk result (λ status. status ≡ 0
+        → AsksForHelp (map S.text arguments.now)) }
+    ensures heard { CallsNothing (map S.text arguments.now) → IfOk result (λ status. status ≡ 0
         → (O.failures out.new ≡ O.failures out.old) × (err.new ≡ err.old)) }
-    ensures wrong { CallsNothing (map S.text words.now) → IfOk result (λ status. status ≢ 0
-        → (status ≡ 2) × IsRefused (map S.text words.now) × (out.new ≡ out.old)) }
-    ensures nothing { CallsNothing (map S.text words.now) → IfErr result (LeavesHelp O.failures out.old out.new) }
+    ensures wrong { CallsNothing (map S.text arguments.now) → IfOk result (λ status. status ≢ 0
+        → (status ≡ 2) × IsRefused (map S.text arguments.now) × (out.new ≡ out.old)) }
+    ensures nothing { CallsNothing (map S.text arguments.now) → IfErr result (LeavesHelp O.failures out.old out.new) }
     ensures unheard { OnErr result (err.new ≡ err.old) }
     ensures silent { IfErr result (λ e. status_of e ≡ 2 → out.new ≡ out.old) }
 {
-    match read_words(rt.alloc(), words)? {
+    match read_arguments(rt.alloc(), arguments)? {
         Asked::Call(call) => answer_call(rt, call, input, out),
         Asked::Help(text) => {
             send_all(out, text.as_str().as_bytes())?;
@@ -120,7 +120,7 @@ pub fn serve<
     I: Source,
     O: Sink,
     E: Sink,
->(rt: &R, words: &[S], input: &mut I, out: &mut O, err: &mut E) -> u8
+>(rt: &R, arguments: &[S], input: &mut I, out: &mut O, err: &mut E) -> u8
     // Which arguments, after the program's name, are calls and ask for help; how many workers those of `audit` ask for.
     ensures audit { (name : List ℕ) → Calls Audit (name ∷ codes "audit" ∷ []) }
     ensures show { (name : List ℕ) → Calls Show (name ∷ codes "show" ∷ []) }
@@ -134,36 +134,36 @@ pub fn serve<
 
     // A call that ends well: all is said, on `out`, and nothing failed. A yes of `audit` is said of bytes alone that
     // spell a trace that is audited.
-    ensures said { (call : Subcommand) → Calls call (map S.text words.now) → result < 2
+    ensures said { (call : Subcommand) → Calls call (map S.text arguments.now) → result < 2
         → WritesAllOf (says longest call) (I.remaining input.old) (O.written out.old) (O.written out.new) result }
-    ensures fine { CallsSome (map S.text words.now) → result < 2
+    ensures fine { CallsSome (map S.text arguments.now) → result < 2
         → (I.failures input.new ≡ I.failures input.old)
         × (O.failures out.new ≡ O.failures out.old) × (err.new ≡ err.old) }
-    ensures yes { Calls Audit (map S.text words.now) → result ≡ 0
+    ensures yes { Calls Audit (map S.text arguments.now) → result ≡ 0
         → IfSome (I.remaining input.old) SpellsAudited }
 
     // A call that ends by a fault: which one, what was left, and its line on `err`.
-    ensures stopped { (call : Subcommand) → Calls call (map S.text words.now) → 2 ≤ result
+    ensures stopped { (call : Subcommand) → Calls call (map S.text arguments.now) → 2 ≤ result
         → Stops E.written E.failures O.written O.failures call (I.remaining input.old)
         (I.failures input.new ≡ after_failure (I.failures input.old)) (I.failures input.new ≡ I.failures input.old)
         (WasRead longest (I.remaining input.old) (I.remaining input.new)) err.old err.new out.old out.new result }
 
     // The arguments are no call.
-    ensures unread { CallsNothing (map S.text words.now) → input.new ≡ input.old }
-    ensures helped { CallsNothing (map S.text words.now) → result ≡ 0
-        → AsksForHelp (map S.text words.now) }
-    ensures heard { CallsNothing (map S.text words.now) → result ≡ 0
+    ensures unread { CallsNothing (map S.text arguments.now) → input.new ≡ input.old }
+    ensures helped { CallsNothing (map S.text arguments.now) → result ≡ 0
+        → AsksForHelp (map S.text arguments.now) }
+    ensures heard { CallsNothing (map S.text arguments.now) → result ≡ 0
         → (O.failures out.new ≡ O.failures out.old) × (err.new ≡ err.old) }
-    ensures refused { CallsNothing (map S.text words.now) → result ≢ 1 }
-    ensures wrong { CallsNothing (map S.text words.now) → result ≡ 2
-        → IsRefused (map S.text words.now) }
-    ensures unhelped { CallsNothing (map S.text words.now) → result ≡ 3
+    ensures refused { CallsNothing (map S.text arguments.now) → result ≢ 1 }
+    ensures wrong { CallsNothing (map S.text arguments.now) → result ≡ 2
+        → IsRefused (map S.text arguments.now) }
+    ensures unhelped { CallsNothing (map S.text arguments.now) → result ≡ 3
         → StopsHelp E.written E.failures O.failures err.old err.new out.old out.new result }
 
     ensures status { result ≤ 3 }
     ensures silent { result ≡ 2 → out.new ≡ out.old }
 {
-    match answer(rt, words, input, out, err) {
+    match answer(rt, arguments, input, out, err) {
         Ok(status) => status,
         Err(fault) => stop(fault, err),
     }

@@ -9,7 +9,7 @@ ghost use Rattle.eve_write.specs.Writable.{HasSpelling};
 ghost use Rattle.eve_write.specs.Writing.{Wrote, Stopped};
 ghost use Rattle.eve_tool.specs.Calls.{WasRead, Leaves};
 ghost use Rattle.eve_tool.specs.Run.{Runs, IsRunOfText, StopsRun, longest};
-ghost use Rattle.eve_tool_arguments.specs.Words.{Run};
+ghost use Rattle.eve_tool_arguments.specs.Arguments.{Run};
 ghost use Rattle.eve_tool.specs.Writes.{WritesAll, WritesAllOf};
 
 use crate::fault::ToolFault;

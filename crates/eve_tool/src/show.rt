@@ -10,7 +10,7 @@ ghost use Rattle.eve_streams.specs.Failures.{after_failure};
 ghost use Rattle.eve_tool.specs.Calls.{WasRead, Leaves, StopsInParts};
 ghost use Rattle.eve_tool.specs.Show.{Shows, line_of, trace_lines};
 ghost use Rattle.eve_tool.specs.Run.{longest};
-ghost use Rattle.eve_tool_arguments.specs.Words.{Show};
+ghost use Rattle.eve_tool_arguments.specs.Arguments.{Show};
 ghost use Rattle.eve_tool.specs.Writes.{WritesAll, WritesAllOf};
 
 use crate::fault::ToolFault;

@@ -12,14 +12,14 @@ use Rattle.clap.specs.Faults.{check_fault, defaults_fault, entered_fault, level_
 use Rattle.clap.specs.Takes.{is_given}
 use Rattle.std.specs.List.{list_any}
 use Rattle.clap.proofs.OnLiterals.{clap_on_literals}
-use Rattle.eve_tool_arguments.specs.Words.{Answers, SaysOf, Subcommand, Run, NamesNoMixer, mixer_in, audit, run_shape}
-use Rattle.eve_tool_arguments.specs.Words.{show}
-use Rattle.eve_tool_arguments.specs.Words.{call_of, call_unless, eve, faults_of, program, subcommand_named}
+use Rattle.eve_tool_arguments.specs.Arguments.{Answers, SaysOf, Subcommand, Run, NamesNoMixer, mixer_in, audit}
+use Rattle.eve_tool_arguments.specs.Arguments.{run_shape, show}
+use Rattle.eve_tool_arguments.specs.Arguments.{call_of, call_unless, eve, faults_of, program, subcommand_named}
 use Rattle.clap.specs.declared.error.kind.ErrorKind.{ErrorKind}
 use Rattle.eve_workload.specs.declared.mixer.Mixer.{Mixer}
 use Rattle.clap.specs.declared.error.kind.ErrorKind.TheVariants as kind
-use Rattle.eve_tool_arguments.specs.declared.words.Asked.{Asked}
-use Rattle.eve_tool_arguments.specs.declared.words.Asked.TheVariants as asked
+use Rattle.eve_tool_arguments.specs.declared.arguments.Asked.{Asked}
+use Rattle.eve_tool_arguments.specs.declared.arguments.Asked.TheVariants as asked
 
 -- the program is of the kind of which clap says what it makes of the arguments
 pub eve_is_simple : is_simple eve ≡ true

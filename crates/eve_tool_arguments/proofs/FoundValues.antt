@@ -8,7 +8,7 @@ use Rattle.clap.specs.Walk.{Row, Text, row_of, rows_of, texts}
 use Rattle.clap.specs.Words.{first_value}
 use Rattle.clap.specs.declared.parser.matches.Found.{Found}
 use Rattle.clap.specs.declared.parser.matches.MatchedArg.{MatchedArg}
-use Rattle.eve_tool_arguments.specs.Words.{value_given}
+use Rattle.eve_tool_arguments.specs.Arguments.{value_given}
 
 first_text : (xs : List (Bor Text)) → option_map (λ s. s.now) (slice_get xs 0) ≡ slice_get (texts xs) 0
 first_text [] = refl

@@ -1,3 +1,3 @@
 mod CommandLine
 mod FoundValues
-pub mod PlainWords
+pub mod PlainArguments

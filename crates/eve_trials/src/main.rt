@@ -89,7 +89,7 @@ fn answer_of(status: u8, out: &Vec<u8>, err: &Vec<u8>) -> Result<Answer, AllocEr
 /// What `eve` answers, by streams that move one byte a call.
 fn said<R: AllocGlobal + RandomSource + Threads + Wait + Sync>(
     rt: &R,
-    words: &[&str],
+    arguments: &[&str],
     bytes: &[u8],
     failing: Failing,
 ) -> io::Result<Answer> {
@@ -98,7 +98,7 @@ fn said<R: AllocGlobal + RandomSource + Threads + Wait + Sync>(
     let memory = OneByte::new(SinkOf::new(Vec::new(alloc)));
     let mut out = FailsAt::new(memory, failing.write);
     let mut err = FailsAt::new(SinkOf::new(Vec::new(alloc)), failing.word);
-    let status = serve(rt, words, &mut input, &mut out, &mut err);
+    let status = serve(rt, arguments, &mut input, &mut out, &mut err);
     let (said, told) = (out.stream().stream().writer(), err.stream().writer());
     Ok(answer_of(status, said, told)?)
 }
@@ -180,7 +180,7 @@ enum Failure {
 struct Trial<'a> {
     failure: Failure,
     file: &'a str,
-    words: Vec<&'a str>,
+    arguments: Vec<&'a str>,
 }
 
 /// What the word of a trial lets fail.
@@ -198,13 +198,13 @@ fn failure_of(word: &str) -> io::Result<Failure> {
 }
 
 /// The arguments of the call that a line asks for: those after what fails and the file, after the program's name.
-fn words_of(alloc: Global, line: &str) -> Result<Vec<&str>, AllocError> {
-    let mut words = Vec::new(alloc);
-    words.push("eve")?;
+fn arguments_of(alloc: Global, line: &str) -> Result<Vec<&str>, AllocError> {
+    let mut arguments = Vec::new(alloc);
+    arguments.push("eve")?;
     for word in line.split(' ').skip(2) {
-        words.push(word)?;
+        arguments.push(word)?;
     }
-    Ok(words)
+    Ok(arguments)
 }
 
 /// The trial that a line asks for.
@@ -212,11 +212,11 @@ fn trial_of(alloc: Global, line: &str) -> io::Result<Trial<'_>> {
     let mut parts = line.split(' ');
     let failure = failure_of(parts.next().unwrap_or(""))?;
     let file = parts.next().unwrap_or("");
-    let words = words_of(alloc, line)?;
+    let arguments = arguments_of(alloc, line)?;
     Ok(Trial {
         failure,
         file,
-        words,
+        arguments,
     })
 }
 
@@ -227,7 +227,7 @@ fn tried<R: AllocGlobal + RandomSource + Threads + Wait + Sync>(
     bytes: &[u8],
     at: usize,
 ) -> io::Result<Answer> {
-    let words = trial.words.as_slice();
+    let arguments = trial.arguments.as_slice();
     let mut failing = NOTHING;
     match trial.failure {
         Failure::Nothing => {}
@@ -236,7 +236,7 @@ fn tried<R: AllocGlobal + RandomSource + Threads + Wait + Sync>(
         Failure::Word => failing.word = at as u64,
         Failure::Rest => {
             let rest = bytes.get(..at.saturating_sub(1)).unwrap_or(bytes);
-            return said(rt, words, rest, NOTHING);
+            return said(rt, arguments, rest, NOTHING);
         }
         Failure::Long => return ran_within(rt, bytes, at.saturating_sub(1)),
         Failure::Random => {
@@ -244,10 +244,10 @@ fn tried<R: AllocGlobal + RandomSource + Threads + Wait + Sync>(
                 threads: rt,
                 alloc: rt.alloc(),
             };
-            return said(&no_random, words, bytes, NOTHING);
+            return said(&no_random, arguments, bytes, NOTHING);
         }
     }
-    said(rt, words, bytes, failing)
+    said(rt, arguments, bytes, failing)
 }
 
 // How many failures a trial tries at most.
@@ -351,7 +351,7 @@ fn tell<R: AllocGlobal + Print + RandomSource + Threads + Wait + Sync>(
     match trial.failure {
         Failure::Nothing | Failure::Word | Failure::Random => tell_answer(rt, trial, bytes),
         Failure::Read | Failure::Write | Failure::Rest | Failure::Long => {
-            let whole = said(rt, trial.words.as_slice(), bytes, NOTHING)?;
+            let whole = said(rt, trial.arguments.as_slice(), bytes, NOTHING)?;
             tell_in_turn(rt, trial, bytes, &whole)
         }
     }

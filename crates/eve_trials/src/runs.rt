@@ -9,14 +9,14 @@ use std::thread::Threads;
 use std::{fs, io};
 
 /// The arguments of the call that a line asks for: after the file's name, further arguments.
-fn words_of<'a, R: AllocGlobal>(rt: &R, line: &'a str) -> io::Result<Vec<&'a str>> {
-    let mut words = Vec::new(rt.alloc());
-    words.push("eve")?;
-    words.push("run")?;
+fn arguments_of<'a, R: AllocGlobal>(rt: &R, line: &'a str) -> io::Result<Vec<&'a str>> {
+    let mut arguments = Vec::new(rt.alloc());
+    arguments.push("eve")?;
+    arguments.push("run")?;
     for word in line.split(' ').skip(1) {
-        words.push(word)?;
+        arguments.push(word)?;
     }
-    Ok(words)
+    Ok(arguments)
 }
 
 /// The bytes of the file that a line names, with this ending.
@@ -58,8 +58,8 @@ fn ran<R: AllocGlobal + Files + RandomSource + Threads + Wait + Sync>(
     line: &str,
 ) -> io::Result<Answer> {
     let workload = file_of(rt, line, ".in")?;
-    let words = words_of(rt, line)?;
-    said(rt, words.as_slice(), workload.as_slice(), NOTHING)
+    let arguments = arguments_of(rt, line)?;
+    said(rt, arguments.as_slice(), workload.as_slice(), NOTHING)
 }
 
 /// Prints what came of the audit of a run.

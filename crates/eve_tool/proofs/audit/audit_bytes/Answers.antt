@@ -1,7 +1,7 @@
 use Rattle.std.proofs.Common.{refl}
 use Rattle.std.proofs.lemmas.Result.{IfErr-weaker}
 use Rattle.eve_tool.specs.Lines.{status_of_verdict, verdict_line}
-use Rattle.eve_tool_arguments.specs.Words.{Audit}
+use Rattle.eve_tool_arguments.specs.Arguments.{Audit}
 use Rattle.eve_tool.proofs.Leaving.{sent_left}
 use Rattle.eve_tool.proofs.audit.audit_bytes.Goals as goal
 

@@ -5,7 +5,7 @@ use Rattle.clap.specs.Words.{Rule, new_rule, rule_of, signed_between}
 use Rattle.clap.specs.declared.builder.arg.Arg.{Arg}
 use Rattle.clap.specs.declared.builder.value_parser.ValueParser.{ValueParser}
 use Rattle.clap.specs.declared.builder.value_parser.ValueParser.TheVariants as vp
-use Rattle.eve_tool_arguments.proofs.words.workers_argument.Goals as goal
+use Rattle.eve_tool_arguments.proofs.arguments.workers_argument.Goals as goal
 
 abbrev any : Rule
 any = record (new_rule (codes "workers")) { long = Some (codes "workers"); value_names = 1; defaults = codes "1" ∷ [] }

@@ -1,9 +1,9 @@
 use Rattle.std.proofs.Common.{◌≡◌, ◌∙◌, codes, ap, ap₂, rules}
 use Rattle.std.proofs.lemmas.Result.{IfOk-weaker}
 use Rattle.clap.specs.Words.{App, app_of, new_app, with_rule, with_subcommand}
-use Rattle.eve_tool_arguments.specs.Words.{audit, eve, mixer, program, run_shape, workers}
+use Rattle.eve_tool_arguments.specs.Arguments.{audit, eve, mixer, program, run_shape, workers}
 use Rattle.eve_tool_arguments.proofs.CommandLine.{neither}
-use Rattle.eve_tool_arguments.proofs.words.command.Goals as goal
+use Rattle.eve_tool_arguments.proofs.arguments.command.Goals as goal
 
 pub returns : goal.returns
 returns c =

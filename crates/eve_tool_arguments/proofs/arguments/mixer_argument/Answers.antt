@@ -1,5 +1,5 @@
 use Rattle.std.proofs.Common.{rules}
-use Rattle.eve_tool_arguments.proofs.words.mixer_argument.Goals as goal
+use Rattle.eve_tool_arguments.proofs.arguments.mixer_argument.Goals as goal
 
 pub returns-clause-rule : goal.returns-clause-rule
 returns-clause-rule c = search rules

@@ -3,9 +3,9 @@
 ghost use Rattle.std.specs.Prelude.{◌≡◌, false, IfOk, IfSome, map, option_and_then, option_map};
 ghost use Rattle.clap.specs.Words.{app_of, found_of, kind_of, rule_of, subcommand_rows_of};
 ghost use Rattle.clap.specs.Walk.{rows_of};
-ghost use Rattle.eve_tool_arguments.specs.Words.{Answers, HasWorkers, SaysOf, eve, mixer, mixer_in, mixer_named};
-ghost use Rattle.eve_tool_arguments.specs.Words.{subcommand_named, subcommand_of_call, workers, workers_behind};
-ghost use Rattle.eve_tool_arguments.specs.Words.{workers_in};
+ghost use Rattle.eve_tool_arguments.specs.Arguments.{Answers, HasWorkers, SaysOf, eve, mixer, mixer_in, mixer_named};
+ghost use Rattle.eve_tool_arguments.specs.Arguments.{subcommand_named, subcommand_of_call, workers, workers_behind};
+ghost use Rattle.eve_tool_arguments.specs.Arguments.{workers_in};
 
 use crate::worker_count::WorkerCount;
 use clap::error::ErrorKind;
@@ -167,11 +167,11 @@ fn answer_of(alloc: Global, error: &Error) -> Result<Asked, AllocError>
 }
 
 /// Reads the arguments of a command line, of which the first is the program's name.
-pub fn read_words<S: AsStr>(alloc: Global, words: &[S]) -> Result<Asked, AllocError>
-    ensures { IfOk result (Answers (map S.text words.now)) }
+pub fn read_arguments<S: AsStr>(alloc: Global, arguments: &[S]) -> Result<Asked, AllocError>
+    ensures { IfOk result (Answers (map S.text arguments.now)) }
 {
     let command = command(alloc)?;
-    match command.try_get_matches_from(words) {
+    match command.try_get_matches_from(arguments) {
         Ok(matches) => match call_in(&matches) {
             Some(call) => Ok(Asked::Call(call)),
             None => Ok(Asked::Refused(String::from_str(alloc, NO_MIXER)?)),

@@ -2,9 +2,9 @@ use Rattle.std.proofs.Common.{◌≡◌, ◌∙◌, codes, ap, sym}
 use Rattle.std.specs.Prelude.{option_and_then, option_map}
 use Rattle.clap.specs.Walk.{rows_of}
 use Rattle.clap.specs.Words.{found_of}
-use Rattle.eve_tool_arguments.specs.Words.{mixer_named, value_given}
+use Rattle.eve_tool_arguments.specs.Arguments.{mixer_named, value_given}
 use Rattle.eve_tool_arguments.proofs.FoundValues.{first_value-rows}
-use Rattle.eve_tool_arguments.proofs.words.mixer_of.Goals as goal
+use Rattle.eve_tool_arguments.proofs.arguments.mixer_of.Goals as goal
 
 pub returns-in-Some : goal.returns-in-Some
 returns-in-Some c =

@@ -1,11 +1,11 @@
--- Public: other crates cite these lemmas. What plain words after the program's name ask for.
+-- Public: other crates cite these lemmas. What plain arguments after the program's name ask for.
 use Rattle.std.proofs.Common.{◌≡◌, ◌⊎◌, ℕ, suc, ◌≤◌, ◌<◌, inl, inr, arith, subst, refl, List, [], ◌∷◌, Some, codes}
 use Rattle.clap.specs.Words.{Text}
 use Rattle.std.specs.Fmt.{decimal, digits}
 use Rattle.std.proofs.lemmas.Bool.{cases_lt}
 use Rattle.clap.proofs.OnLiterals.{clap_on_literals}
-use Rattle.eve_tool_arguments.specs.Words.{AsksForHelp, AuditsBy, GetsHelp, Audit, Run, Show, call_of, faults_of}
-use Rattle.eve_tool_arguments.specs.Words.{workers_of}
+use Rattle.eve_tool_arguments.specs.Arguments.{AsksForHelp, AuditsBy, GetsHelp, Audit, Run, Show, call_of, faults_of}
+use Rattle.eve_tool_arguments.specs.Arguments.{workers_of}
 use Rattle.clap.specs.declared.error.kind.ErrorKind.TheVariants as kind
 use Rattle.eve_workload.specs.declared.mixer.Mixer.TheVariants.{First, Whole}
 use Rattle.eve_tool_arguments.proofs.CommandLine.{no_call}

@@ -10,10 +10,10 @@ use Rattle.clap.specs.declared.error.kind.ErrorKind.TheVariants as kind
 use Rattle.clap.specs.declared.error.kind.ErrorKind.{ErrorKind}
 use Rattle.eve_workload.specs.declared.mixer.Mixer.{Mixer}
 use Rattle.eve_workload.specs.declared.mixer.Mixer.TheVariants.{First, Whole}
-use Rattle.eve_tool_arguments.specs.declared.words.Call.{Call}
-use Rattle.eve_tool_arguments.specs.declared.words.Call.TheVariants as call
-use Rattle.eve_tool_arguments.specs.declared.words.Asked.{Asked}
-use Rattle.eve_tool_arguments.specs.declared.words.Asked.TheVariants as asked
+use Rattle.eve_tool_arguments.specs.declared.arguments.Call.{Call}
+use Rattle.eve_tool_arguments.specs.declared.arguments.Call.TheVariants as call
+use Rattle.eve_tool_arguments.specs.declared.arguments.Asked.{Asked}
+use Rattle.eve_tool_arguments.specs.declared.arguments.Asked.TheVariants as asked
 use Rattle.eve_grammar.specs.declared.limits.TheConstants.{MOST_AUDIT_WORKERS}
 
 -- the program wants a subcommand
@@ -90,7 +90,7 @@ subcommand_of_call call.Show = Show
 
 -- what clap finds wrong with the arguments, the program's name first, or a request for help
 unfoldable pub faults_of : List Text → Kinds
-faults_of words = fault_of eve words
+faults_of arguments = fault_of eve arguments
 
 -- a call only where nothing is wrong
 abbrev pub call_unless : Kinds → Option Subcommand → Option Subcommand
@@ -99,7 +99,7 @@ call_unless (k ∷ ks) call = None
 
 -- the call that the arguments are
 unfoldable pub call_of : List Text → Option Subcommand
-call_of words = call_unless (faults_of words) (option_and_then subcommand_named (subcommand_of eve words))
+call_of arguments = call_unless (faults_of arguments) (option_and_then subcommand_named (subcommand_of eve arguments))
 
 -- how many workers are named after the subcommand that was met
 abbrev pub workers_behind : Option (Text × List Row) → Option ℕ
@@ -107,7 +107,7 @@ workers_behind found = option_map (λ f. workers_in f.1) found
 
 -- how many workers the arguments ask for
 unfoldable pub workers_of : List Text → Option ℕ
-workers_of words = workers_behind (subcommand_of eve words)
+workers_of arguments = workers_behind (subcommand_of eve arguments)
 
 -- the call has so many workers, if it is one that has any
 abbrev pub HasWorkers : Option ℕ → Call → Type 0
@@ -122,47 +122,48 @@ SaysOf k (asked.Refused text) = (k ≢ kind.DisplayHelp) × (k ≢ kind.OutOfMem
 
 -- the arguments are the call `audit`
 abbrev pub CallsAudit : List Text → Type 0
-CallsAudit words = call_of words ≡ Some Audit
+CallsAudit arguments = call_of arguments ≡ Some Audit
 
 -- the arguments are a call
 abbrev pub CallsSome : List Text → Type 0
-CallsSome words = call_of words ≢ None
+CallsSome arguments = call_of arguments ≢ None
 
 -- the arguments are no call
 abbrev pub CallsNothing : List Text → Type 0
-CallsNothing words = call_of words ≡ None
+CallsNothing arguments = call_of arguments ≡ None
 
 -- the arguments ask for help
 abbrev pub AsksForHelp : List Text → Type 0
-AsksForHelp words = IsAmong kind.DisplayHelp (faults_of words)
+AsksForHelp arguments = IsAmong kind.DisplayHelp (faults_of arguments)
 
 -- the arguments are no call, but ask for help
 abbrev pub GetsHelp : List Text → Type 0
-GetsHelp words = CallsNothing words × AsksForHelp words
+GetsHelp arguments = CallsNothing arguments × AsksForHelp arguments
 
 -- the arguments are the call `audit`, by so many workers
 abbrev pub AuditsBy : ℕ → List Text → Type 0
-AuditsBy n words = CallsAudit words × (workers_of words ≡ Some n)
+AuditsBy n arguments = CallsAudit arguments × (workers_of arguments ≡ Some n)
 
 -- something else is wrong with the arguments
-pub record IsWrong (words : List Text) : Type 0 where
+pub record IsWrong (arguments : List Text) : Type 0 where
   pub what : ErrorKind
-  pub found : IsAmong what (faults_of words)
+  pub found : IsAmong what (faults_of arguments)
   pub no_help : what ≢ kind.DisplayHelp
 
 -- the arguments are `run` with a mixer that isn't there
-pub record NamesNoMixer (words : List Text) : Type 0 where
+pub record NamesNoMixer (arguments : List Text) : Type 0 where
   pub rows : List Row
-  pub met : subcommand_of eve words ≡ Some (codes "run", rows)
+  pub met : subcommand_of eve arguments ≡ Some (codes "run", rows)
   pub unknown : mixer_in rows ≡ None
 
 -- the arguments are refused
 abbrev pub IsRefused : List Text → Type 0
-IsRefused words = IsWrong words ⊎ NamesNoMixer words
+IsRefused arguments = IsWrong arguments ⊎ NamesNoMixer arguments
 
 -- the answer is the call that the arguments are, by as many workers as they ask for, help where they ask for it, or a
 -- refusal where they are wrong
 abbrev pub Answers : List Text → Asked → Type 0
-Answers words (asked.Call call) = (call_of words ≡ Some (subcommand_of_call call)) × HasWorkers (workers_of words) call
-Answers words (asked.Help text) = GetsHelp words
-Answers words (asked.Refused text) = CallsNothing words × IsRefused words
+Answers arguments (asked.Call call) =
+    (call_of arguments ≡ Some (subcommand_of_call call)) × HasWorkers (workers_of arguments) call
+Answers arguments (asked.Help text) = GetsHelp arguments
+Answers arguments (asked.Refused text) = CallsNothing arguments × IsRefused arguments

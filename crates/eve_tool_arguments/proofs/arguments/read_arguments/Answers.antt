@@ -4,13 +4,13 @@ use Rattle.clap.specs.Walk.{Row}
 use Rattle.std.proofs.lemmas.Result.{IfOk-weaker}
 use Rattle.clap.specs.Words.{App, HasKind, HasMatchesOf, Text, fault_of, is_simple_and_free, kind_of, subcommand_of}
 use Rattle.clap.specs.Words.{subcommand_rows_of}
-use Rattle.eve_tool_arguments.specs.Words.{Answers, HasWorkers, SaysOf, call_of, eve, subcommand_named}
-use Rattle.eve_tool_arguments.specs.Words.{subcommand_of_call}
-use Rattle.eve_tool_arguments.specs.Words.{workers_behind, workers_of}
-use Rattle.eve_tool_arguments.specs.declared.words.Call.{Call}
+use Rattle.eve_tool_arguments.specs.Arguments.{Answers, HasWorkers, SaysOf, call_of, eve, subcommand_named}
+use Rattle.eve_tool_arguments.specs.Arguments.{subcommand_of_call}
+use Rattle.eve_tool_arguments.specs.Arguments.{workers_behind, workers_of}
+use Rattle.eve_tool_arguments.specs.declared.arguments.Call.{Call}
 use Rattle.eve_tool_arguments.proofs.CommandLine.{answers_with_fault, call_without_faults, eve_is_free, eve_is_simple}
 use Rattle.eve_tool_arguments.proofs.CommandLine.{mixer_without_faults}
-use Rattle.eve_tool_arguments.proofs.words.read_words.Goals as goal
+use Rattle.eve_tool_arguments.proofs.arguments.read_arguments.Goals as goal
 
 behind : (words : List Text) (found : Option (Text × List Row)) (call : Call) → found ≡ subcommand_of eve words
     → HasWorkers (workers_behind found) call
@@ -20,7 +20,7 @@ behind words found call is has = subst (λ (o : Option (Text × List Row)). HasW
 
 pub returns-in-Some : goal.returns-in-Some
 returns-in-Some g c =
-    let words : List Text = map g.S.AsStr.text c.args.words.now in
+    let words : List Text = map g.S.AsStr.text c.args.arguments.now in
     let is_eve = c.in_ok-command.ensures in
     let right : fault_of eve words ≡ [] = subst (λ (a : App). is_simple_and_free a ≡ true → fault_of a words ≡ [])
     is_eve c.in-Ok.ensures.kinds eve_is_free in
@@ -33,7 +33,7 @@ returns-in-Some g c =
 
 pub returns-in-Ok : goal.returns-in-Ok
 returns-in-Ok g c =
-    let words : List Text = map g.S.AsStr.text c.args.words.now in
+    let words : List Text = map g.S.AsStr.text c.args.arguments.now in
     let is_eve = c.in_ok-command.ensures in
     let right : fault_of eve words ≡ [] = subst (λ (a : App). is_simple_and_free a ≡ true → fault_of a words ≡ [])
     is_eve c.in-Ok.ensures.kinds eve_is_free in
@@ -46,7 +46,7 @@ returns-in-Ok g c =
 
 pub returns : goal.returns
 returns g c =
-    let words : List Text = map g.S.AsStr.text c.args.words.now in
+    let words : List Text = map g.S.AsStr.text c.args.arguments.now in
     let found = subst (λ (a : App). is_simple_and_free a ≡ true → HasKind (fault_of a words) c.in-Err.error)
     c.in_ok-command.ensures c.in-Err.ensures.kinds eve_is_free in
     IfOk-weaker c.answer_of.result (SaysOf (kind_of c.in-Err.error)) (Answers words)

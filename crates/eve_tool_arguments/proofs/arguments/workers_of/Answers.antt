@@ -4,10 +4,10 @@ use Rattle.std.specs.Str.Parse.{ParsesUnsigned}
 use Rattle.clap.specs.Walk.{rows_of}
 use Rattle.clap.specs.Words.{found_of}
 use Rattle.clap.proofs.WalkLemmas.{byte_read}
-use Rattle.eve_tool_arguments.specs.Words.{number_named, value_given}
+use Rattle.eve_tool_arguments.specs.Arguments.{number_named, value_given}
 use Rattle.eve_tool_arguments.proofs.FoundValues.{first_value-rows}
-use Rattle.eve_tool_arguments.proofs.words.workers_of.Goals.{in-Some, in-None}
-use Rattle.eve_tool_arguments.proofs.words.workers_of.Goals as goal
+use Rattle.eve_tool_arguments.proofs.arguments.workers_of.Goals.{in-Some, in-None}
+use Rattle.eve_tool_arguments.proofs.arguments.workers_of.Goals as goal
 
 pub returns : goal.returns
 returns c =
