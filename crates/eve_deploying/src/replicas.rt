@@ -56,7 +56,7 @@ pub enum Part {
     GatesHeld,
     /// `rollback`: it puts the stripes back, so that the serial attempt sees version 0 again.
     RolledBack,
-    /// `commit-and-rollback`: of two attempts one is committed, and the other one's writes alone are taken back.
+    /// `commit-and-rollback`: of two attempts one is committed, and the other one's writes alone are undone.
     OneCommitted,
     /// `broken-until-rollback`, and that rows that only the failed attempt wrote are put back and not listed. Ann's
     /// deposit is closed of a record that was taken by hand, so that the stripes don't have it, and an attempt over her

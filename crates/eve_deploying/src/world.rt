@@ -5,12 +5,12 @@ ghost use Rattle.eve_grammar.specs.Limits.{is_batch};
 ghost use Rattle.eve_write.specs.Data.{batch as plain};
 
 use eve_accounts::{Amount, Balances, Cents, Names, Row};
-use eve_grammar::{MOST_BATCHES, MOST_BYTES, MOST_CUSTOMERS, Restore};
+use eve_grammar::{MOST_BATCHES, MOST_BYTES, MOST_CUSTOMERS};
 use eve_recorder::Gate;
 use eve_replica::eve_workload::{Mixer, Workload, mix};
 use eve_replica::{AttemptFault, CloseFault, CommitFault, Replica};
 use eve_smallbank::{Request, touched};
-use eve_stamps::{AccessRecord, Stripe, apply};
+use eve_stamps::{AccessRecord, HeldRow, Stamp, Stripe, apply};
 use eve_streams::SinkOf;
 use eve_write::{
     AttemptData, BatchData, ChoiceData, CommitData, Parts, RollbackData, Step, VoteData, gather,
@@ -154,12 +154,12 @@ pub fn record_at(alloc: Global, names: &Names, version: u64) -> io::Result<Acces
     let mut stripe = Stripe::new(
         alloc,
         &[
-            Restore {
+            HeldRow {
                 row: Row::saving(0),
                 version: 0,
                 value: Cents::ZERO,
             },
-            Restore {
+            HeldRow {
                 row: Row::checking(0),
                 version,
                 value: Cents::ZERO,
@@ -167,7 +167,13 @@ pub fn record_at(alloc: Global, names: &Names, version: u64) -> io::Result<Acces
         ],
     )?;
     let reached = touched(&deposit, names);
-    match apply(&mut stripe, &deposit, &reached, 1, 0, 0, 0) {
+    let stamp = Stamp {
+        worker: 0,
+        place: 0,
+        index: 0,
+        tick: 1,
+    };
+    match apply(&mut stripe, &deposit, &reached, stamp) {
         Ok(record) => Ok(record),
         Err(_) => Err(stopped()),
     }

@@ -9,7 +9,7 @@ ghost use Rattle.eve_floor.specs.Applying.{IsLookedUp, Applies, Refuses};
 use crate::{ExecFault, Floor};
 use eve_recorder::{Gate, TicketSeat, Tickets};
 use eve_smallbank::{Request, Touched, laws};
-use eve_stamps::{AccessRecord, Stripe, apply, apply_two, span_of, untouched};
+use eve_stamps::{AccessRecord, Stamp, Stripe, apply, apply_two, span_of, untouched};
 use std::sync::{Mutex, Wait};
 
 /// What is to be executed, and what its record says of who does it.
@@ -25,6 +25,25 @@ pub struct Task<'t> {
     pub worker: u8,
     /// The place of the record among what the worker notes.
     pub place: u16,
+}
+
+impl Task<'_> {
+    // What its record says of who does it, and when.
+    fn stamp(&self, tick: u64) -> Stamp
+        ensures { result ≡ record {
+          worker = self.now.worker;
+          place = self.now.place;
+          index = self.now.index;
+          tick = tick;
+        } }
+    {
+        Stamp {
+            worker: self.worker,
+            place: self.place,
+            index: self.index,
+            tick,
+        }
+    }
 }
 
 /// The record of the task, at a number that is drawn under the locks of its stripes.
@@ -70,7 +89,7 @@ fn on_none<R: Wait, G: Gate>(
         unreachable!()
     };
     let tick = ticket(rt, tickets, drawer, task.index, gate)?;
-    Ok(untouched(why, tick, task.worker, task.place, task.index))
+    Ok(untouched(why, task.stamp(tick)))
 }
 
 // A task whose rows lie in one stripe.
@@ -89,15 +108,7 @@ fn on_one<R: Wait, G: Gate>(
 {
     let mut stripe = lock.lock(rt);
     let tick = ticket(rt, tickets, drawer, task.index, gate)?;
-    Ok(apply(
-        &mut stripe,
-        task.request,
-        &task.reached,
-        tick,
-        task.worker,
-        task.place,
-        task.index,
-    )?)
+    Ok(apply(&mut stripe, task.request, &task.reached, task.stamp(tick))?)
 }
 
 // A task whose rows lie in two stripes, of which the first is locked first.
@@ -123,10 +134,7 @@ fn on_two<R: Wait, G: Gate>(
         &mut last,
         task.request,
         &task.reached,
-        tick,
-        task.worker,
-        task.place,
-        task.index,
+        task.stamp(tick),
     )?)
 }
 

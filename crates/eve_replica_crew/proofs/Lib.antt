@@ -1,2 +1,3 @@
 mod Batches
 mod Sizes
+mod Faults

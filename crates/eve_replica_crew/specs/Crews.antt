@@ -1,8 +1,10 @@
 -- The workers of an attempt, and what they share.
 use Rattle.std.specs.Prelude.{◌≡◌, ℕ, ◌<◌, ◌≤◌, max, min, Bool, if◌then◌else◌, All, List, [], ◌∷◌, length, map, Option}
 use Rattle.std.specs.Prelude.{Some, None, IsSome, slice_index_or}
+use Rattle.std.specs.Option.{option_or}
 use Rattle.eve_recorder.specs.Drawing.{Source, Drawer}
 use Rattle.eve_recorder.specs.Seen.{RecorderId, Noter}
+use Rattle.eve_floor.specs.declared.fault.ExecFault.{ExecFault}
 use Rattle.eve_write.specs.Data.{batch as plain}
 use Rattle.eve_smallbank.specs.declared.rows.Touched.{Touched}
 use Rattle.eve_smallbank.specs.Touch.{touched_of}
@@ -31,6 +33,12 @@ pub record IsOn (s : Stage) (m : Member) : Type 0 where
 -- and it has noted nothing
 abbrev pub IsReady : Stage → Member → Type 0
 IsReady s m = IsOn s m × (length m.worker.seat.noted ≡ 0)
+
+-- The fault of the lowest worker that has one. The last worker stands first: where none below a worker has one, it is
+-- the worker's own.
+abbrev pub lowest_fault : List Member → Option ExecFault
+lowest_fault [] = None
+lowest_fault (m ∷ members) = option_or (lowest_fault members) m.fault
 
 -- the requests of the largest parallelBatch
 abbrev pub largest : List ℕ → ℕ

@@ -5,6 +5,7 @@ ghost use Rattle.std.specs.Thread.{IsSync};
 ghost use Rattle.eve_recorder.specs.Seen.{fresh_places};
 ghost use Rattle.eve_recorder.specs.Drawing.{fresh_seats};
 ghost use Rattle.eve_replica_crew.specs.Crews.{AreNoters, AreThere, AreTickets, IsOn, IsReady, IsSet, crew_of};
+ghost use Rattle.eve_replica_crew.specs.Crews.{lowest_fault};
 
 use crate::stage::Stage;
 use crate::work::run_share;
@@ -23,6 +24,8 @@ pub(crate) struct Member {
     pub claims: TicketSeat,
     // why it gave a request up
     pub fault: Option<ExecFault>,
+    // unused: with it no two members write to one block of 128 bytes
+    pub apart: [u64; 16],
 }
 
 /// How many of so many workers can have something to do at once: in serial mode one, else as many as the largest
@@ -119,6 +122,7 @@ fn enlist(
         worker: Worker::new(seat, tick),
         claims: claim,
         fault: None,
+        apart: [0; 16],
     }
 }
 
@@ -159,6 +163,7 @@ pub(crate) fn dismiss(
     requires room { vec_len ticks.old + vec_len members ≤ vec_capacity ticks.old }
     ensures ticks { AreTickets stage.now.ticks.now ticks.new.items }
     ensures all { vec_len ticks.new ≡ vec_len ticks.old + vec_len members }
+    ensures lowest { result ≡ lowest_fault members.items }
     ensures capacity { vec_capacity ticks.new ≡ vec_capacity ticks.old }
 {
     let mut told = None;

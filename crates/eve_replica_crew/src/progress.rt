@@ -1,5 +1,6 @@
 //! How far the workers of an attempt are.
 
+use crossbeam_utils::CachePadded;
 use std::hint::spin_loop;
 use std::sync::Wait;
 use std::sync::atomic::{AtomicU64, Ordering};
@@ -11,17 +12,17 @@ const GIVEN_UP: u64 = 1 << 32;
 /// How often a worker looks at the word before it lets another thread run.
 const LOOKS: u32 = 64;
 
-/// A word that counts the requests that were noted. Workers wait on it, and nothing else rests on it: no clause says
-/// what it counts.
+/// A word that counts the requests that were noted, on cache lines of its own. Workers wait on it, and nothing else
+/// rests on it: no clause says what it counts.
 #[derive(Drop)]
 pub(crate) struct Progress {
-    ended: AtomicU64,
+    ended: CachePadded<AtomicU64>,
 }
 
 impl Progress {
     pub(crate) fn new() -> Progress {
         Progress {
-            ended: AtomicU64::new(0),
+            ended: CachePadded::new(AtomicU64::new(0)),
         }
     }
 

@@ -6,9 +6,8 @@ use Rattle.std.proofs.lemmas.Bool.{cases_lt, eqb-true, lt-leb, le-leb, lt-ltb, l
 use Rattle.eve_smallbank.specs.declared.entry.Entry.{Entry}
 use Rattle.eve_smallbank.specs.Access.{is_write, writes_row}
 use Rattle.eve_smallbank.specs.Chain.{Table, left_by, table_after}
-use Rattle.eve_grammar.specs.declared.restore.Restore.{Restore}
 use Rattle.eve_stamps.specs.declared.journal.Journaled.{Journaled}
-use Rattle.eve_stamps.specs.Stripes.{Stripe, IsStripe, lies_in, table_in, rows_in_table, committed, rows_now}
+use Rattle.eve_stamps.specs.Stripes.{HeldRow, Stripe, IsStripe, lies_in, table_in, rows_in_table, committed, rows_now}
 use Rattle.eve_stamps.specs.Stripes.{table_after_journal, IsEntryIn, JournalLiesIn, JournalRises, stripe_with}
 use Rattle.eve_stamps.specs.Stripes.{settled_to}
 use Rattle.eve_stamps.proofs.RowLaws.{table_in-outside, table_in-whole}
@@ -30,7 +29,7 @@ rows_now-noted s tick entries = table_after_journal-append (committed s) s.journ
 
 -- ---- rows that lie elsewhere are kept
 
-elsewhere : (rows : List Restore) (e : Entry) (row : ℕ) → IsEntryIn rows e → lies_in rows row ≡ false → writes_row row e
+elsewhere : (rows : List HeldRow) (e : Entry) (row : ℕ) → IsEntryIn rows e → lies_in rows row ≡ false → writes_row row e
     ≡ false
 elsewhere rows e row own out = step (is_write e.kind) (e.row == row) refl refl
   where
@@ -39,14 +38,14 @@ elsewhere rows e row own out = step (is_write e.kind) (e.row == row) refl refl
     step true false h g = refl
     step true true h g = absurd (false≢true (sym out ∙ ap (lies_in rows) (sym (eqb-true e.row row g)) ∙ own.there))
 
-pub table_after-outside : (rows : List Restore) (table : Table) (es : List Entry) (row : ℕ)
+pub table_after-outside : (rows : List HeldRow) (table : Table) (es : List Entry) (row : ℕ)
     → AllByRecursion (IsEntryIn rows) es → lies_in rows row ≡ false → table_after table es row ≡ table row
 table_after-outside rows table [] row own out = refl
 table_after-outside rows table (e ∷ es) row own out =
     table_after-outside rows (λ r. cond (writes_row r e) (left_by e) (table r)) es row own.1 out
     ∙ ap (λ b. cond b (left_by e) (table row)) (elsewhere rows e row own.0 out)
 
-pub journal_outside : (rows : List Restore) (table : Table) (js : List Journaled) (row : ℕ) → JournalLiesIn rows js
+pub journal_outside : (rows : List HeldRow) (table : Table) (js : List Journaled) (row : ℕ) → JournalLiesIn rows js
     → lies_in rows row ≡ false → table_after_journal table js row ≡ table row
 journal_outside rows table [] row own out = refl
 journal_outside rows table (j ∷ js) row own out =
@@ -54,7 +53,7 @@ journal_outside rows table (j ∷ js) row own out =
     ∙ table_after-outside rows table j.entries row own.0 out
 
 -- the rows after a journal of theirs tell the whole table
-pub table_in-journal : (rows : List Restore) (js : List Journaled) → JournalLiesIn rows js
+pub table_in-journal : (rows : List HeldRow) (js : List Journaled) → JournalLiesIn rows js
     → table_in (rows_in_table (table_after_journal (table_in rows) js) rows) ≡ table_after_journal (table_in rows) js
 table_in-journal rows js own =
     table_in-whole (table_after_journal (table_in rows) js) rows

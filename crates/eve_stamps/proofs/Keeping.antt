@@ -7,11 +7,10 @@ use Rattle.std.proofs.lemmas.Bool.{ltb-true, leb-true, le-leb, le-ltb, false≢t
 use Rattle.std.proofs.lemmas.Option.{get_or_from_slice_get}
 use Rattle.eve_smallbank.specs.declared.entry.Entry.{Entry}
 use Rattle.eve_smallbank.specs.Chain.{Table, Sees, table_after}
-use Rattle.eve_grammar.specs.declared.restore.Restore.{Restore}
 use Rattle.eve_grammar.specs.Limits.{version_limit}
 use Rattle.eve_stamps.specs.declared.journal.Journaled.{Journaled}
-use Rattle.eve_stamps.specs.Stripes.{Stripe, IsStripe, lies_in, has_row, table_in, row_in, rows_in_table, RowsRise}
-use Rattle.eve_stamps.specs.Stripes.{AreWithinLimit, committed, rows_now, table_after_journal, AreJournaled}
+use Rattle.eve_stamps.specs.Stripes.{HeldRow, Stripe, IsStripe, lies_in, has_row, table_in, row_in, rows_in_table}
+use Rattle.eve_stamps.specs.Stripes.{RowsRise, AreWithinLimit, committed, rows_now, table_after_journal, AreJournaled}
 use Rattle.eve_stamps.specs.Stripes.{JournalRises, IsEntryIn, JournalLiesIn, is_within, is_above, stripe_with}
 use Rattle.eve_stamps.specs.Stripes.{settled_to}
 use Rattle.eve_stamps.specs.Stamping.{has_row_in_two, rows_in_two, entries_within, entries_outside}
@@ -24,7 +23,7 @@ use Rattle.eve_stamps.proofs.Versions.{limit_at, limit_after, limit_before, all_
 
 -- ---- at first
 
-pub held_first : (rows : List Restore) → RowsRise rows → AreWithinLimit rows → IsHeldStripe rows rows [] None
+pub held_first : (rows : List HeldRow) → RowsRise rows → AreWithinLimit rows → IsHeldStripe rows rows [] None
 held_first rows rise limit = record {
   stands = record {
     rows = rise;
@@ -39,16 +38,16 @@ held_first rows rise limit = record {
 
 -- ---- one row
 
-pub seen_at : (base rows : List Restore) (journal : List Journaled) (greatest : Option ℕ) (row place : ℕ)
-    (held : Restore) → IsHeldStripe base rows journal greatest → IsPlaceOf base row (Some place)
+pub seen_at : (base rows : List HeldRow) (journal : List Journaled) (greatest : Option ℕ) (row place : ℕ)
+    (held : HeldRow) → IsHeldStripe base rows journal greatest → IsPlaceOf base row (Some place)
     → held ≡ get_or rows place held
     → Some held ≡ cond (has_row (stripe_held base journal greatest) row)
     (Some (row_in (rows_now (stripe_held base journal greatest)) row)) None
 seen_at base rows journal greatest row place held holds at read =
     let table : Table = rows_now (stripe_held base journal greatest) in
     let there : slice_get rows place ≡ Some (row_in table at.0.row) =
-    ap (λ (xs : List Restore). slice_get xs place) holds.as_now ∙ row_at table base place at.0 at.1 in
-    ap (λ (x : Restore). Some x) (read ∙ get_or_from_slice_get rows place (row_in table at.0.row) held there
+    ap (λ (xs : List HeldRow). slice_get xs place) holds.as_now ∙ row_at table base place at.0 at.1 in
+    ap (λ (x : HeldRow). Some x) (read ∙ get_or_from_slice_get rows place (row_in table at.0.row) held there
     ∙ ap (row_in table) at.2)
     ∙ ap (λ b. cond b (Some (row_in table row)) None) (sym (lies_at base place row at.0 at.1 at.2))
 
@@ -99,7 +98,7 @@ journaled_on : (t : Table) (js : List Journaled) (k : Journaled) → AreJournale
 journaled_on t [] k seen sees = (sees, tt)
 journaled_on t (j ∷ js) k seen sees = (seen.0, journaled_on (table_after t j.entries) js k seen.1 sees)
 
-entries_in : (base : List Restore) (t : Table) (es : List Entry) → AreWithinLimit (rows_in_table t base)
+entries_in : (base : List HeldRow) (t : Table) (es : List Entry) → AreWithinLimit (rows_in_table t base)
     → AllByRecursion (CanBeNoted (lies_in base) t) es → AllByRecursion (IsEntryIn base) es
 entries_in base t [] limit noted = tt
 entries_in base t (e ∷ es) limit noted = (
@@ -112,16 +111,16 @@ entries_in base t (e ∷ es) limit noted = (
 )
 
 -- the rows lie among themselves as they are now
-pub entries_in_rows : (base rows : List Restore) (journal : List Journaled) (greatest : Option ℕ) (es : List Entry)
+pub entries_in_rows : (base rows : List HeldRow) (journal : List Journaled) (greatest : Option ℕ) (es : List Entry)
     → IsHeldStripe base rows journal greatest
     → AllByRecursion (CanBeNoted (lies_in base) (rows_now (stripe_held base journal greatest))) es
     → AllByRecursion (IsEntryIn rows) es
 entries_in_rows base rows journal greatest es holds noted =
-    subst (λ (xs : List Restore). AllByRecursion (IsEntryIn xs) es) (sym holds.as_now)
+    subst (λ (xs : List HeldRow). AllByRecursion (IsEntryIn xs) es) (sym holds.as_now)
     (all_still_in base (rows_now (stripe_held base journal greatest)) es
     (entries_in base (rows_now (stripe_held base journal greatest)) es holds.stands.limit noted))
 
-pub rows_rise : (base rows : List Restore) (journal : List Journaled) (greatest : Option ℕ)
+pub rows_rise : (base rows : List HeldRow) (journal : List Journaled) (greatest : Option ℕ)
     → IsHeldStripe base rows journal greatest → RowsRise rows
 rows_rise base rows journal greatest holds =
     subst RowsRise (sym holds.as_now)
@@ -143,7 +142,7 @@ noted_stands s tick es stands above noted =
           (limit_after (has_row s) (rows_now s) es s.base noted stands.limit);
     }
 
-pub held_noted : (base rows written : List Restore) (journal longer : List Journaled) (greatest : Option ℕ) (tick : ℕ)
+pub held_noted : (base rows written : List HeldRow) (journal longer : List Journaled) (greatest : Option ℕ) (tick : ℕ)
     (es : List Entry) → IsHeldStripe base rows journal greatest → is_above tick greatest ≡ true
     → AllByRecursion (CanBeNoted (lies_in base) (rows_now (stripe_held base journal greatest))) es
     → written ≡ rows_in_table (table_after (table_in rows) es) rows
@@ -226,7 +225,7 @@ journaled_behind : (t : Table) (xs ys : List Journaled) → AreJournaled t (xs +
 journaled_behind t [] ys seen = seen
 journaled_behind t (x ∷ xs) ys seen = journaled_behind (table_after t x.entries) xs ys seen.1
 
-all_own_still : (base : List Restore) (t : Table) (js : List Journaled) → JournalLiesIn base js
+all_own_still : (base : List HeldRow) (t : Table) (js : List Journaled) → JournalLiesIn base js
     → JournalLiesIn (rows_in_table t base) js
 all_own_still base t [] own = tt
 all_own_still base t (j ∷ js) own = (all_still_in base t j.entries own.0, all_own_still base t js own.1)
@@ -252,7 +251,7 @@ settled_stands s tick stands =
           ∙ rows_in_table-twice (rows_now s) table s.base)) stands.limit;
     }
 
-pub held_settled : (base rows settled : List Restore) (journal rest : List Journaled) (greatest : Option ℕ) (tick : ℕ)
+pub held_settled : (base rows settled : List HeldRow) (journal rest : List Journaled) (greatest : Option ℕ) (tick : ℕ)
     → IsHeldStripe base rows journal greatest
     → settled ≡ rows_in_table (table_after_journal (table_in base) (filter (up_to tick) journal)) base
     → rest ≡ filter (behind tick) journal → IsHeldStripe settled rows rest greatest
@@ -264,12 +263,12 @@ held_settled base rows settled journal rest greatest tick holds e f =
       as_now = holds.as_now ∙ sym (ap (λ (u : Table). rows_in_table u t.base) (rows_now-settled s tick holds.stands)
           ∙ rows_in_table-twice (rows_now s) (table_after_journal (committed s) (filter (up_to tick) journal)) base);
     } in
-    subst (λ (bs : List Restore). IsHeldStripe bs rows rest greatest) (sym e)
+    subst (λ (bs : List HeldRow). IsHeldStripe bs rows rest greatest) (sym e)
     (subst (λ (js : List Journaled). IsHeldStripe t.base rows js greatest) (sym f) whole)
 
 -- ---- undone
 
-pub held_undone : (base rows : List Restore) (journal : List Journaled) (greatest : Option ℕ)
+pub held_undone : (base rows : List HeldRow) (journal : List Journaled) (greatest : Option ℕ)
     → IsHeldStripe base rows journal greatest → IsHeldStripe base base [] greatest
 held_undone base rows journal greatest holds = record {
   stands = record {

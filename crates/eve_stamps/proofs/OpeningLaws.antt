@@ -7,8 +7,7 @@ use Rattle.std.proofs.lemmas.List.{append-nil}
 use Rattle.std.proofs.lemmas.Bool.{eq-eqb, ne_eqb}
 use Rattle.std.proofs.lemmas.List.Elements.{filter-append}
 use Rattle.std.proofs.lemmas.Grind.{flat_map-append}
-use Rattle.eve_grammar.specs.declared.restore.Restore.{Restore}
-use Rattle.eve_stamps.specs.Stripes.{RowsRise, AreWithinLimit}
+use Rattle.eve_stamps.specs.Stripes.{HeldRow, RowsRise, AreWithinLimit}
 use Rattle.eve_stamps.specs.Opening.{stripe_of_customer, rows_of_customer, rows_of_stripe}
 
 -- ---- one customer more
@@ -20,7 +19,7 @@ range_more a (suc n) =
     ap (λ l. a ∷ l) (range_more (a + 1) n ∙ ap (λ x. range_with_len (a + 1) n ++ x ∷ []) e)
 
 -- the rows of the customers that pass the test
-abbrev rows_of_each : List ℤ → (ℕ → Bool) → List ℕ → List Restore
+abbrev rows_of_each : List ℤ → (ℕ → Bool) → List ℕ → List HeldRow
 rows_of_each balances p customers = flat_map (rows_of_customer balances) (filter p customers)
 
 one : (balances : List ℤ) (c : ℕ) (b : Bool)
@@ -61,28 +60,28 @@ opening_rows_without balances stripe n other =
 
 -- ---- they rise
 
-all_above : (low high : ℕ) (rows : List Restore) → low < high
+all_above : (low high : ℕ) (rows : List HeldRow) → low < high
     → AllByRecursion (λ r. high ≤ r.row) rows → AllByRecursion (λ r. low < r.row) rows
 all_above low high [] lt all = tt
 all_above low high (r ∷ rows) lt all = (let h = all.0 in omega arith, all_above low high rows lt all.1)
 
-all_from : (low high : ℕ) (rows : List Restore) → low ≤ high
+all_from : (low high : ℕ) (rows : List HeldRow) → low ≤ high
     → AllByRecursion (λ r. high ≤ r.row) rows → AllByRecursion (λ r. low ≤ r.row) rows
 all_from low high [] le all = tt
 all_from low high (r ∷ rows) le all = (let h = all.0 in omega arith, all_from low high rows le all.1)
 
 -- the rows rise, from this customer's on
-abbrev RiseFrom : ℕ → List Restore → Type 0
+abbrev RiseFrom : ℕ → List HeldRow → Type 0
 RiseFrom c rows = RowsRise rows × AllByRecursion (λ r. 2 * c ≤ r.row) rows
 
 rise_with : (balances : List ℤ) (c : ℕ) (customers : List ℕ) (b : Bool)
     → RiseFrom (c + 1) (flat_map (rows_of_customer balances) customers)
     → RiseFrom c (flat_map (rows_of_customer balances) (cond b (c ∷ customers) customers))
 rise_with balances c customers false h =
-    let rows : List Restore = flat_map (rows_of_customer balances) customers in
+    let rows : List HeldRow = flat_map (rows_of_customer balances) customers in
     (h.0, all_from (2 * c) (2 * (c + 1)) rows (omega arith) h.1)
 rise_with balances c customers true h =
-    let rows : List Restore = flat_map (rows_of_customer balances) customers in (
+    let rows : List HeldRow = flat_map (rows_of_customer balances) customers in (
       (
         (omega arith, all_above (2 * c) (2 * (c + 1)) rows (omega arith) h.1),
         (all_above (2 * c + 1) (2 * (c + 1)) rows (omega arith) h.1, h.0),

@@ -18,14 +18,13 @@ use Rattle.eve_smallbank.specs.Chain.{Table, Sees, values_of}
 use Rattle.eve_smallbank.specs.Touch.{touched_of, rows_in, knows_names, has_bad_amount}
 use Rattle.eve_smallbank.specs.Decide.{entries_from, executed_from}
 use Rattle.eve_smallbank.specs.Execution.{executed_on, entry_on}
-use Rattle.eve_grammar.specs.declared.restore.Restore.{Restore}
 use Rattle.eve_grammar.specs.Limits.{version_limit}
-use Rattle.eve_stamps.specs.Stripes.{row_in}
+use Rattle.eve_stamps.specs.Stripes.{HeldRow, row_in}
 use Rattle.eve_stamps.specs.Stamping.{is_worn}
 use Rattle.eve_stamps.specs.Holding.{entries_on, CanBeNoted}
 
 -- the rows, as a table has them
-abbrev pub seen_rows : Table → RowKinds → List Restore
+abbrev pub seen_rows : Table → RowKinds → List HeldRow
 seen_rows table rows = map (λ r. row_in table r.0) rows
 
 same_entries : (table : Table) (rows : RowKinds) (effects : List Effect)
@@ -49,7 +48,7 @@ all_see table (r ∷ rows) [] = tt
 all_see table (r ∷ rows) (effect ∷ effects) = (record { version = refl; value = refl }, all_see table rows effects)
 
 -- the record of a decision is the request, executed on the table
-pub executed_is : (names : List (List ℕ)) (table : Table) (request : Request) (rows : RowKinds) (seen : List Restore)
+pub executed_is : (names : List (List ℕ)) (table : Table) (request : Request) (rows : RowKinds) (seen : List HeldRow)
     (values : List ℤ) (entries : List Entry) (decision : Decision)
     → ((x : Executed) → Fits names x → AllByRecursion (Sees table) x.entries → x ≡ executed_on names table x.request)
     → seen ≡ seen_rows table rows → values ≡ map (λ r. r.value) seen
@@ -60,15 +59,15 @@ executed_is names table request rows seen values entries decision unique so told
     let all : List Entry = entries_on (seen_rows table rows) decision.effects in
     let x : Executed = record { request = request; reply = decision.reply; entries = all } in
     let valued : values ≡ map (λ r. r.value) (seen_rows table rows) = told
-    ∙ ap (λ (rs : List Restore). map (λ r. r.value) rs) so in
+    ∙ ap (λ (rs : List HeldRow). map (λ r. r.value) rs) so in
     let whole : executed_from request rows (map (λ r. r.version) seen) values decision ≡ x =
-    ap (λ (rs : List Restore). executed_from request rows (map (λ r. r.version) rs) values decision) so
+    ap (λ (rs : List HeldRow). executed_from request rows (map (λ r. r.version) rs) values decision) so
     ∙ ap (λ (vs : List ℤ). executed_from request rows (map (λ r. r.version) (seen_rows table rows)) vs decision) valued
     ∙ ap (λ (es : List Entry). record { request = request; reply = decision.reply; entries = es })
     (same_entries table rows decision.effects) in
     sym (unique x (subst (Fits names) whole fits) (all_see table rows decision.effects))
     ∙ ap (λ (es : List Entry). record { request = request; reply = decision.reply; entries = es })
-    (sym (made ∙ ap (λ (rs : List Restore). entries_on rs decision.effects) so))
+    (sym (made ∙ ap (λ (rs : List HeldRow). entries_on rs decision.effects) so))
 
 -- ---- the entries are of rows that are there
 

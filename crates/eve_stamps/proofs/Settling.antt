@@ -6,9 +6,8 @@ use Rattle.std.proofs.lemmas.List.{take_more, length-append}
 use Rattle.std.proofs.lemmas.Option.{get_or_from_slice_get, slice_get_within}
 use Rattle.eve_smallbank.specs.declared.entry.Entry.{Entry}
 use Rattle.eve_smallbank.specs.Chain.{Table, table_after}
-use Rattle.eve_grammar.specs.declared.restore.Restore.{Restore}
 use Rattle.eve_stamps.specs.declared.journal.Journaled.{Journaled}
-use Rattle.eve_stamps.specs.Stripes.{table_in, rows_in_table, IsEntryIn, JournalLiesIn, table_after_journal}
+use Rattle.eve_stamps.specs.Stripes.{HeldRow, table_in, rows_in_table, IsEntryIn, JournalLiesIn, table_after_journal}
 use Rattle.eve_stamps.proofs.RowLaws.{table_in-whole, table_in-outside, rows_in_table-twice, lies_in-rows}
 use Rattle.eve_stamps.proofs.JournalLaws.{table_after-append, table_after_journal-append, table_after-outside}
 use Rattle.eve_stamps.proofs.JournalLaws.{journal_outside, up_to, all_kept}
@@ -25,19 +24,19 @@ all_taken P (suc n) [] all = tt
 all_taken P (suc n) (x ∷ xs) all = (all.0, all_taken P n xs all.1)
 
 -- an entry of the rows is one of the rows after writes
-pub still_in : (rows : List Restore) (table : Table) (e : Entry) → IsEntryIn rows e
+pub still_in : (rows : List HeldRow) (table : Table) (e : Entry) → IsEntryIn rows e
     → IsEntryIn (rows_in_table table rows) e
 still_in rows table e own =
     record { there = subst IsTrue (sym (lies_in-rows table rows e.row)) own.there; limit = own.limit }
 
-pub all_still_in : (rows : List Restore) (table : Table) (es : List Entry) → AllByRecursion (IsEntryIn rows) es
+pub all_still_in : (rows : List HeldRow) (table : Table) (es : List Entry) → AllByRecursion (IsEntryIn rows) es
     → AllByRecursion (IsEntryIn (rows_in_table table rows)) es
 all_still_in rows table [] own = tt
 all_still_in rows table (e ∷ es) own = (still_in rows table e own.0, all_still_in rows table es own.1)
 
 -- ---- entry by entry
 
-pub write_more : (first now next : List Restore) (es : List Entry) (place : ℕ) (e : Entry)
+pub write_more : (first now next : List HeldRow) (es : List Entry) (place : ℕ) (e : Entry)
     → AllByRecursion (IsEntryIn first) es → slice_get es place ≡ Some e
     → now ≡ rows_in_table (table_after (table_in first) (take place es)) first
     → next ≡ rows_in_table (table_after (table_in now) (e ∷ [])) now
@@ -56,7 +55,7 @@ write_more first now next es place e own at so step =
 
 -- ---- tick by tick
 
-pub one_up_to : (rows : List Restore) (j : Journaled) (tick : ℕ) (b : Bool) → nat_le j.tick tick ≡ b
+pub one_up_to : (rows : List HeldRow) (j : Journaled) (tick : ℕ) (b : Bool) → nat_le j.tick tick ≡ b
     → filter (up_to tick) (j ∷ []) ≡ cond b (j ∷ []) []
 one_up_to rows j tick b is = ap (λ c. cond c (j ∷ []) []) is
 
@@ -69,7 +68,7 @@ filter-append {A} p (x ∷ xs) ys = step (p x) (filter-append p xs ys)
     step true rest = ap (λ (zs : List A). x ∷ zs) rest
     step false rest = rest
 
-pub settle_more : (first now next : List Restore) (js : List Journaled) (tick i : ℕ) (j : Journaled)
+pub settle_more : (first now next : List HeldRow) (js : List Journaled) (tick i : ℕ) (j : Journaled)
     → JournalLiesIn first js → slice_get js i ≡ Some j
     → now ≡ rows_in_table (table_after_journal (table_in first) (filter (up_to tick) (take i js))) first
     → next ≡ rows_in_table (table_after_journal (table_in now) (filter (up_to tick) (j ∷ []))) now

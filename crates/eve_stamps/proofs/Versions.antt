@@ -6,10 +6,10 @@ use Rattle.std.proofs.lemmas.Bool.{cases_Bool, eqb-true, eq-eqb, ne_eqb, and_par
 use Rattle.eve_smallbank.specs.declared.entry.Entry.{Entry}
 use Rattle.eve_smallbank.specs.Access.{is_write, writes_row}
 use Rattle.eve_smallbank.specs.Chain.{Table, Sees, left_by, table_after}
-use Rattle.eve_grammar.specs.declared.restore.Restore.{Restore}
 use Rattle.eve_grammar.specs.Limits.{version_limit}
 use Rattle.eve_stamps.specs.declared.journal.Journaled.{Journaled}
-use Rattle.eve_stamps.specs.Stripes.{Stripe, IsStripe, lies_in, row_in, rows_in_table, AreWithinLimit, committed}
+use Rattle.eve_stamps.specs.Stripes.{HeldRow, Stripe, IsStripe, lies_in, row_in, rows_in_table, AreWithinLimit}
+use Rattle.eve_stamps.specs.Stripes.{committed}
 use Rattle.eve_stamps.specs.Stripes.{rows_now, table_after_journal, AreJournaled, was_written, restores_of}
 use Rattle.eve_stamps.specs.Holding.{rows_changed, CanBeNoted}
 use Rattle.eve_stamps.proofs.RowLaws.{rows_in_table-self}
@@ -76,7 +76,7 @@ told_apart before after false r = eq-eqb before after (sym (r.same refl))
 -- ---- rows that were written
 
 -- rows whose versions tell what was written
-changed_rows : (table : Table) (js : List Journaled) (rows : List Restore)
+changed_rows : (table : Table) (js : List Journaled) (rows : List HeldRow)
     → AllByRecursion (λ r. (r.version == (table r.row).version) ≡ not (was_written js r.row)) rows
     → rows_changed rows (rows_in_table table rows) ≡ filter (λ r. was_written js r.row) rows
 changed_rows table js [] told = refl
@@ -88,19 +88,19 @@ changed_rows table js (r ∷ rows) told = step (was_written js r.row) told.0 (ch
         (r ∷ rows_changed rows (rows_in_table table rows))
         ≡ cond b (r ∷ filter (λ q. was_written js q.row) rows) (filter (λ q. was_written js q.row) rows)
     step true is rest = ap (λ c. cond c (rows_changed rows (rows_in_table table rows))
-        (r ∷ rows_changed rows (rows_in_table table rows))) is ∙ ap (λ (rs : List Restore). r ∷ rs) rest
+        (r ∷ rows_changed rows (rows_in_table table rows))) is ∙ ap (λ (rs : List HeldRow). r ∷ rs) rest
     step false is rest = ap (λ c. cond c (rows_changed rows (rows_in_table table rows))
         (r ∷ rows_changed rows (rows_in_table table rows))) is ∙ rest
 
 -- where a table has the versions of these rows
-versions_told : (t : Table) (js : List Journaled) (rows : List Restore) → AreJournaled t js → rows_in_table t rows
+versions_told : (t : Table) (js : List Journaled) (rows : List HeldRow) → AreJournaled t js → rows_in_table t rows
     ≡ rows
     → AllByRecursion (λ r. (r.version == (table_after_journal t js r.row).version) ≡ not (was_written js r.row)) rows
 versions_told t js [] seen same = tt
 versions_told t js (r ∷ rows) seen same =
     let here : row_in t r.row ≡ r = cc in
     let rest : rows_in_table t rows ≡ rows = cc in (
-      ap (λ (q : Restore). q.version == (table_after_journal t js r.row).version) (sym here)
+      ap (λ (q : HeldRow). q.version == (table_after_journal t js r.row).version) (sym here)
           ∙ told_apart (t r.row).version (table_after_journal t js r.row).version (was_written js r.row)
           (risen t js r.row seen),
       versions_told t js rows seen rest,
@@ -114,7 +114,7 @@ changed_is s stands =
 -- ---- the limit
 
 -- no version was higher before
-pub limit_before : (t : Table) (js : List Journaled) (rows : List Restore) → AreJournaled t js
+pub limit_before : (t : Table) (js : List Journaled) (rows : List HeldRow) → AreJournaled t js
     → AreWithinLimit (rows_in_table (table_after_journal t js) rows) → AreWithinLimit (rows_in_table t rows)
 limit_before t js [] seen limit = tt
 limit_before t js (r ∷ rows) seen limit = (
@@ -128,7 +128,7 @@ limit_before t js (r ∷ rows) seen limit = (
 )
 
 -- the versions within the limit are those of the rows
-pub limit_at : (t : Table) (rows : List Restore) (row : ℕ) → AreWithinLimit (rows_in_table t rows) → lies_in rows row
+pub limit_at : (t : Table) (rows : List HeldRow) (row : ℕ) → AreWithinLimit (rows_in_table t rows) → lies_in rows row
     ≡ true → (t row).version ≤ version_limit
 limit_at t [] row limit there = absurd (false≢true there)
 limit_at t (r ∷ rows) row limit there =
@@ -155,7 +155,7 @@ pub all_sees : (is_there : ℕ → Bool) (t : Table) (es : List Entry) → AllBy
 all_sees is_there t [] noted = tt
 all_sees is_there t (e ∷ es) noted = (noted.0.sees, all_sees is_there t es noted.1)
 
-pub limit_after : (is_there : ℕ → Bool) (t : Table) (es : List Entry) (rows : List Restore)
+pub limit_after : (is_there : ℕ → Bool) (t : Table) (es : List Entry) (rows : List HeldRow)
     → AllByRecursion (CanBeNoted is_there t) es → AreWithinLimit (rows_in_table t rows)
     → AreWithinLimit (rows_in_table (table_after t es) rows)
 limit_after is_there t es [] noted limit = tt

@@ -5,31 +5,30 @@ use Rattle.eve_smallbank.specs.declared.entry.Entry.{Entry}
 use Rattle.eve_smallbank.specs.declared.decision.Effect.{Effect}
 use Rattle.eve_smallbank.specs.Access.{is_write}
 use Rattle.eve_smallbank.specs.Chain.{Table, Sees}
-use Rattle.eve_grammar.specs.declared.restore.Restore.{Restore}
 use Rattle.eve_grammar.specs.Limits.{version_limit}
 use Rattle.eve_stamps.specs.declared.journal.Journaled.{Journaled}
-use Rattle.eve_stamps.specs.Stripes.{Stripe, IsStripe, lies_in, rows_in_table, rows_now}
+use Rattle.eve_stamps.specs.Stripes.{HeldRow, Stripe, IsStripe, lies_in, rows_in_table, rows_now}
 
-abbrev pub stripe_held : List Restore → List Journaled → Option ℕ → Stripe
+abbrev pub stripe_held : List HeldRow → List Journaled → Option ℕ → Stripe
 stripe_held base journal greatest = record { base = base; journal = journal; greatest = greatest }
 
 -- the rows now are those of the stripe that is held
-pub record IsHeldStripe (base now : List Restore) (journal : List Journaled) (greatest : Option ℕ) : Type 0 where
+pub record IsHeldStripe (base now : List HeldRow) (journal : List Journaled) (greatest : Option ℕ) : Type 0 where
   pub stands : IsStripe (stripe_held base journal greatest)
   pub as_now : now ≡ rows_in_table (rows_now (stripe_held base journal greatest)) base
 
 -- where a row stands among these, if it does
-abbrev pub IsPlaceOf : List Restore → ℕ → Option ℕ → Type 0
-IsPlaceOf rows row (Some place) = (r : Restore) × (slice_get rows place ≡ Some r) × (r.row ≡ row)
+abbrev pub IsPlaceOf : List HeldRow → ℕ → Option ℕ → Type 0
+IsPlaceOf rows row (Some place) = (r : HeldRow) × (slice_get rows place ≡ Some r) × (r.row ≡ row)
 IsPlaceOf rows row None = lies_in rows row ≡ false
 
 -- the rows of the first whose version is another in the second
-abbrev pub rows_changed : List Restore → List Restore → List Restore
+abbrev pub rows_changed : List HeldRow → List HeldRow → List HeldRow
 rows_changed (b ∷ base) (n ∷ now) = if b.version == n.version then rows_changed base now else b ∷ rows_changed base now
 rows_changed base now = []
 
 -- one entry for each row seen
-abbrev pub entries_on : List Restore → List Effect → List Entry
+abbrev pub entries_on : List HeldRow → List Effect → List Entry
 entries_on (r ∷ seen) (effect ∷ effects) =
     record { row = r.row; kind = effect.kind; version = r.version; seen = r.value; after = effect.after } ∷ entries_on
     seen effects

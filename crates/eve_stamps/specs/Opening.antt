@@ -3,8 +3,8 @@ use Rattle.std.specs.Prelude.{ℕ, ℤ, ◌/◌, ◌%◌, ◌==◌, Bool, List, 
 use Rattle.std.specs.List.{range_with_len, list_any}
 use Rattle.eve_accounts.specs.Rows.{saving_row, checking_row}
 use Rattle.eve_smallbank.specs.Access.{RowKinds, balance_of_row}
-use Rattle.eve_grammar.specs.declared.restore.Restore.{Restore}
 use Rattle.eve_stamps.specs.declared.limits.TheConstants.{STRIPES}
+use Rattle.eve_stamps.specs.Stripes.{HeldRow}
 
 abbrev pub stripe_count : ℕ
 stripe_count = STRIPES
@@ -24,15 +24,15 @@ touches rows stripe = list_any (λ r. stripe_of r.0 == stripe) rows
 -- ---- at first
 
 -- the row at version 0, with its opening balance
-abbrev pub opening_row : List ℤ → ℕ → Restore
+abbrev pub opening_row : List ℤ → ℕ → HeldRow
 opening_row balances row = record { row = row; version = 0; value = balance_of_row balances row }
 
 -- both rows of a customer
-abbrev pub rows_of_customer : List ℤ → ℕ → List Restore
+abbrev pub rows_of_customer : List ℤ → ℕ → List HeldRow
 rows_of_customer balances customer =
     opening_row balances (saving_row customer) ∷ opening_row balances (checking_row customer) ∷ []
 
 -- the rows of the stripe, where there are so many customers
-abbrev pub rows_of_stripe : List ℤ → ℕ → ℕ → List Restore
+abbrev pub rows_of_stripe : List ℤ → ℕ → ℕ → List HeldRow
 rows_of_stripe balances stripe customers =
     flat_map (rows_of_customer balances) (filter (λ c. stripe_of_customer c == stripe) (range_with_len 0 customers))

@@ -10,11 +10,10 @@ use Rattle.eve_smallbank.specs.Access.{RowKinds, Fits, is_write}
 use Rattle.eve_smallbank.specs.Chain.{Table}
 use Rattle.eve_smallbank.specs.Touch.{touched_of, rows_in}
 use Rattle.eve_smallbank.specs.Execution.{executed_on}
-use Rattle.eve_grammar.specs.declared.restore.Restore.{Restore}
 use Rattle.eve_grammar.specs.Limits.{version_limit}
 use Rattle.eve_stamps.specs.declared.fault.StampFault.{StampFault}
 use Rattle.eve_stamps.specs.declared.fault.StampFault.TheVariants as fault
-use Rattle.eve_stamps.specs.Stripes.{Stripe, has_row, row_in, rows_now, is_above}
+use Rattle.eve_stamps.specs.Stripes.{HeldRow, Stripe, has_row, row_in, rows_now, is_above}
 use Rattle.eve_stamps.specs.Holding.{CanBeNoted}
 
 -- ---- two stripes as one; a row that lies in both is the first's
@@ -36,7 +35,7 @@ entries_outside s entries = filter (λ e. not (has_row s e.row)) entries
 -- ---- what is seen
 
 -- these rows as the table has them, where all are there
-abbrev pub seen_of : (ℕ → Bool) → Table → RowKinds → Option (List Restore)
+abbrev pub seen_of : (ℕ → Bool) → Table → RowKinds → Option (List HeldRow)
 seen_of is_there now rows =
     if list_all (λ r. is_there r.0) rows then Some (map (λ r. row_in now r.0) rows) else None
 

@@ -9,41 +9,45 @@ use Rattle.eve_grammar.specs.declared.restore.Restore.{Restore}
 use Rattle.eve_grammar.specs.Limits.{version_limit}
 use Rattle.eve_stamps.specs.declared.journal.Journaled.{Journaled}
 
+-- A row with its version and its value, in the form in which a rollback gives rows back.
+abbrev pub HeldRow : Type 0
+HeldRow = Restore
+
 -- The committed base, row by row; what was read and written since, tick by tick; the greatest tick that it has had.
 pub record Stripe : Type 0 where
-  pub base : List Restore
+  pub base : List HeldRow
   pub journal : List Journaled
   pub greatest : Option ℕ
 
 -- ---- rows
 
 -- whether one of these is the row
-abbrev pub lies_in : List Restore → ℕ → Bool
+abbrev pub lies_in : List HeldRow → ℕ → Bool
 lies_in rows row = list_any (λ r. r.row == row) rows
 
 abbrev pub has_row : Stripe → ℕ → Bool
 has_row s row = lies_in s.base row
 
 -- what these rows have; a row that isn't among them is at version 0 with nothing in it
-abbrev pub table_in : List Restore → Table
+abbrev pub table_in : List HeldRow → Table
 table_in [] row = record { version = 0; value = pos 0 }
 table_in (r ∷ rows) row = if r.row == row then record { version = r.version; value = r.value } else table_in rows row
 
 -- a row, as a table has it
-abbrev pub row_in : Table → ℕ → Restore
+abbrev pub row_in : Table → ℕ → HeldRow
 row_in table row = record { row = row; version = (table row).version; value = (table row).value }
 
 -- the same rows, as a table has them
-abbrev pub rows_in_table : Table → List Restore → List Restore
+abbrev pub rows_in_table : Table → List HeldRow → List HeldRow
 rows_in_table table rows = map (λ r. row_in table r.row) rows
 
 -- each row is below the rows after it
-abbrev pub RowsRise : List Restore → Type 0
+abbrev pub RowsRise : List HeldRow → Type 0
 RowsRise [] = ⊤
 RowsRise (r ∷ rows) = AllByRecursion (λ q. r.row < q.row) rows × RowsRise rows
 
 -- no row's version is past the limit
-abbrev pub AreWithinLimit : List Restore → Type 0
+abbrev pub AreWithinLimit : List HeldRow → Type 0
 AreWithinLimit rows = AllByRecursion (λ r. r.version ≤ version_limit) rows
 
 -- ---- the journal
@@ -73,12 +77,12 @@ JournalRises [] = ⊤
 JournalRises (j ∷ journal) = AllByRecursion (λ k. j.tick < k.tick) journal × JournalRises journal
 
 -- an entry of one of these rows, that saw no version past the limit
-pub record IsEntryIn (rows : List Restore) (e : Entry) : Type 0 where
+pub record IsEntryIn (rows : List HeldRow) (e : Entry) : Type 0 where
   pub there : IsTrue (lies_in rows e.row)
   pub limit : e.version ≤ version_limit
 
 -- it has entries of these rows alone
-abbrev pub JournalLiesIn : List Restore → List Journaled → Type 0
+abbrev pub JournalLiesIn : List HeldRow → List Journaled → Type 0
 JournalLiesIn rows journal = AllByRecursion (λ j. AllByRecursion (IsEntryIn rows) j.entries) journal
 
 -- the greatest tick is no less

@@ -17,9 +17,9 @@ ghost use Rattle.eve_stamps.specs.Holding.{stripe_held, IsHeldStripe, CanBeNoted
 use crate::executing::executed;
 use crate::journal::Journaled;
 use crate::rows::write;
-use crate::{AccessRecord, StampFault, Stripe};
+use crate::{AccessRecord, HeldRow, Stamp, StampFault, Stripe};
 use eve_accounts::Row;
-use eve_grammar::{MOST_VERSIONS, Restore};
+use eve_grammar::MOST_VERSIONS;
 use eve_smallbank::{Entry, Kind, Reply, Request, Touched, UpToThree, laws};
 use std::alloc::AllocError;
 
@@ -33,29 +33,26 @@ pub fn apply(
     stripe: &mut Stripe,
     request: &Request,
     touched: &Touched,
-    tick: u64,
-    worker: u8,
-    place: u16,
-    index: u16,
+    stamp: Stamp,
 ) -> Result<AccessRecord, StampFault>
     requires touched { (names : List (List ℕ)) × (touched.now ≡ touched_of names (plain request.now)) }
 
     // The record is the request's, executed on the rows as they were, and fits it whoever the customers are.
     ensures exact { (names : List (List ℕ)) → touched.now ≡ touched_of names (plain request.now)
-        → IfOk result (λ r. r ≡ noted_of worker place index tick
+        → IfOk result (λ r. r ≡ noted_of stamp.worker stamp.place stamp.index stamp.tick
         (executed_on names (rows_now stripe.old) (plain request.now))) }
     ensures fits { (names : List (List ℕ)) → touched.now ≡ touched_of names (plain request.now)
         → IfOk result (λ r. Fits names (executed_as (plain request.now) r)) }
     ensures sees { IfOk result (λ r. AllByRecursion (Sees (rows_now stripe.old)) r.entries) }
 
     // The journal gains exactly the record's entries.
-    ensures journal { IfOk result (λ r. stripe.new ≡ stripe_with stripe.old tick r.entries) }
-    ensures refused { IsRefusedFor (refusal stripe.old tick (rows_in touched.now)) result }
+    ensures journal { IfOk result (λ r. stripe.new ≡ stripe_with stripe.old stamp.tick r.entries) }
+    ensures refused { IsRefusedFor (refusal stripe.old stamp.tick (rows_in touched.now)) result }
     ensures kept { OnErr result (stripe.new ≡ stripe.old) }
 {
     let rows = touched.rows();
     let seen = seen_in(stripe, &rows);
-    let (reply, entries) = run(request, touched, &rows, seen, stripe.is_above(tick))?;
+    let (reply, entries) = run(request, touched, &rows, seen, stripe.is_above(stamp.tick))?;
     if stripe.journal.reserve(1).is_err() {
         return Err(StampFault::Memory);
     }
@@ -64,11 +61,11 @@ pub fn apply(
         &mut stripe.rows,
         &mut stripe.journal,
         stripe.greatest,
-        tick,
+        stamp.tick,
         entries,
     );
-    stripe.greatest = Some(tick);
-    Ok(AccessRecord::new(worker, place, index, tick, reply, entries))
+    stripe.greatest = Some(stamp.tick);
+    Ok(AccessRecord::new(stamp, reply, entries))
 }
 
 /// Runs the request on the rows of both stripes as they are now: a row that lies in both is seen and written in the
@@ -84,25 +81,24 @@ pub fn apply_two(
     second: &mut Stripe,
     request: &Request,
     touched: &Touched,
-    tick: u64,
-    worker: u8,
-    place: u16,
-    index: u16,
+    stamp: Stamp,
 ) -> Result<AccessRecord, StampFault>
     requires touched { (names : List (List ℕ)) × (touched.now ≡ touched_of names (plain request.now)) }
 
     // The record is the request's, executed on the rows as they were, and fits it whoever the customers are.
     ensures exact { (names : List (List ℕ)) → touched.now ≡ touched_of names (plain request.now)
-        → IfOk result (λ r. r ≡ noted_of worker place index tick
+        → IfOk result (λ r. r ≡ noted_of stamp.worker stamp.place stamp.index stamp.tick
         (executed_on names (rows_in_two first.old second.old) (plain request.now))) }
     ensures fits { (names : List (List ℕ)) → touched.now ≡ touched_of names (plain request.now)
         → IfOk result (λ r. Fits names (executed_as (plain request.now) r)) }
     ensures sees { IfOk result (λ r. AllByRecursion (Sees (rows_in_two first.old second.old)) r.entries) }
 
     // The journals gain exactly the record's entries, each those of its rows.
-    ensures first { IfOk result (λ r. first.new ≡ stripe_with first.old tick (entries_within first.old r.entries)) }
-    ensures second { IfOk result (λ r. second.new ≡ stripe_with second.old tick (entries_outside first.old r.entries)) }
-    ensures refused { IsRefusedFor (refusal_of_two first.old second.old tick (rows_in touched.now)) result }
+    ensures first { IfOk result (λ r. first.new
+        ≡ stripe_with first.old stamp.tick (entries_within first.old r.entries)) }
+    ensures second { IfOk result (λ r. second.new
+        ≡ stripe_with second.old stamp.tick (entries_outside first.old r.entries)) }
+    ensures refused { IsRefusedFor (refusal_of_two first.old second.old stamp.tick (rows_in touched.now)) result }
     ensures first_kept { OnErr result (first.new ≡ first.old) }
     ensures second_kept { OnErr result (second.new ≡ second.old) }
 {
@@ -113,7 +109,7 @@ pub fn apply_two(
         touched,
         &rows,
         seen,
-        are_above(first, second, tick),
+        are_above(first, second, stamp.tick),
     )?;
     let (within, outside) = split(first, &entries);
     if reserve_in_both(&mut first.journal, &mut second.journal).is_err() {
@@ -124,20 +120,20 @@ pub fn apply_two(
         &mut first.rows,
         &mut first.journal,
         first.greatest,
-        tick,
+        stamp.tick,
         within,
     );
-    first.greatest = Some(tick);
+    first.greatest = Some(stamp.tick);
     note(
         &second.base,
         &mut second.rows,
         &mut second.journal,
         second.greatest,
-        tick,
+        stamp.tick,
         outside,
     );
-    second.greatest = Some(tick);
-    Ok(AccessRecord::new(worker, place, index, tick, reply, entries))
+    second.greatest = Some(stamp.tick);
+    Ok(AccessRecord::new(stamp, reply, entries))
 }
 
 /// Runs the request on the rows that were seen: its reply and its entries, or why it is refused.
@@ -145,7 +141,7 @@ fn run(
     request: &Request,
     touched: &Touched,
     rows: &UpToThree<(Row, Kind)>,
-    seen: Option<UpToThree<Restore>>,
+    seen: Option<UpToThree<HeldRow>>,
     is_new: bool,
 ) -> Result<(Reply, UpToThree<Entry>), StampFault>
     requires touched { (names : List (List ℕ)) × (touched.now ≡ touched_of names (plain request.now)) }
@@ -170,8 +166,8 @@ fn run(
 
 /// Takes the writes of one more request, and journals its entries.
 fn note(
-    base: &[Restore],
-    rows: &mut [Restore],
+    base: &[HeldRow],
+    rows: &mut [HeldRow],
     journal: &mut Vec<Journaled>,
     greatest: Option<u64>,
     tick: u64,
@@ -190,7 +186,7 @@ fn note(
 }
 
 /// The rows as they are now, where all lie in the stripe.
-fn seen_in(stripe: &Stripe, rows: &UpToThree<(Row, Kind)>) -> Option<UpToThree<Restore>>
+fn seen_in(stripe: &Stripe, rows: &UpToThree<(Row, Kind)>) -> Option<UpToThree<HeldRow>>
     ensures { result ≡ seen_of (has_row stripe.now) (rows_now stripe.now) rows.now }
 {
     let mut seen = UpToThree::new();
@@ -208,7 +204,7 @@ fn seen_in_two(
     first: &Stripe,
     second: &Stripe,
     rows: &UpToThree<(Row, Kind)>,
-) -> Option<UpToThree<Restore>>
+) -> Option<UpToThree<HeldRow>>
     ensures { result ≡ seen_of (has_row_in_two first.now second.now) (rows_in_two first.now second.now) rows.now }
 {
     let mut seen = UpToThree::new();
@@ -221,7 +217,7 @@ fn seen_in_two(
     Some(seen)
 }
 
-fn see_in_two(first: &Stripe, second: &Stripe, row: Row) -> Option<Restore>
+fn see_in_two(first: &Stripe, second: &Stripe, row: Row) -> Option<HeldRow>
     ensures { result ≡ (if has_row_in_two first.now second.now row then Some
         (row_in (rows_in_two first.now second.now) row) else None) }
 {
@@ -253,7 +249,7 @@ fn reserve_in_both(
 }
 
 /// Whether a row that is to be written has the greatest version.
-fn are_worn(rows: &UpToThree<(Row, Kind)>, seen: &UpToThree<Restore>) -> bool
+fn are_worn(rows: &UpToThree<(Row, Kind)>, seen: &UpToThree<HeldRow>) -> bool
     requires { length seen.now ≡ length rows.now }
     ensures { (now : Table) → seen.now ≡ map (λ r. row_in now r.0) rows.now → result ≡ is_worn now rows.now }
 {

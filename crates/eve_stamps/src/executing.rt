@@ -10,15 +10,15 @@ ghost use Rattle.eve_stamps.specs.Stripes.{row_in};
 ghost use Rattle.eve_stamps.specs.Holding.{entries_on, CanBeNoted};
 ghost use Rattle.eve_stamps.specs.Stamping.{is_worn};
 
+use crate::HeldRow;
 use eve_accounts::Cents;
-use eve_grammar::Restore;
 use eve_smallbank::{Effect, Entry, Kind, Reply, Request, Touched, UpToThree, decide, laws};
 
 /// What the request replies, and its entries, where it meets these rows.
 pub fn executed(
     request: &Request,
     touched: &Touched,
-    seen: &UpToThree<Restore>,
+    seen: &UpToThree<HeldRow>,
 ) -> (Reply, UpToThree<Entry>)
     requires touched { (names : List (List ℕ)) × (touched.now ≡ touched_of names (plain request.now)) }
     requires seen { length seen.now ≡ length (rows_in touched.now) }
@@ -39,7 +39,7 @@ pub fn executed(
 }
 
 /// The values of the rows, first in an array.
-fn values_in(seen: &UpToThree<Restore>) -> [Cents; 3]
+fn values_in(seen: &UpToThree<HeldRow>) -> [Cents; 3]
     ensures { take (length seen.now) result ≡ map (λ r. r.value) seen.now }
 {
     let mut values = [Cents::ZERO; 3];
@@ -50,7 +50,7 @@ fn values_in(seen: &UpToThree<Restore>) -> [Cents; 3]
 }
 
 /// An entry for each row.
-fn entries_of(seen: &UpToThree<Restore>, effects: &UpToThree<Effect>) -> UpToThree<Entry>
+fn entries_of(seen: &UpToThree<HeldRow>, effects: &UpToThree<Effect>) -> UpToThree<Entry>
     requires { length effects.now ≡ length seen.now }
     ensures { result ≡ entries_on seen.now effects.now }
 {

@@ -4,6 +4,7 @@
 mod applying;
 mod executing;
 mod fault;
+mod held_row;
 mod journal;
 pub mod laws;
 mod limits;
@@ -11,12 +12,15 @@ mod opening;
 mod record;
 mod rows;
 mod span;
+mod stamp;
 mod stripe;
 
 pub use applying::{apply, apply_two};
 pub use fault::StampFault;
+pub use held_row::HeldRow;
 pub use limits::{MOST_PLACES, STRIPES};
 pub use opening::opening_stripe;
 pub use record::{AccessRecord, untouched};
 pub use span::{Span, span_of};
+pub use stamp::Stamp;
 pub use stripe::Stripe;

@@ -3,10 +3,9 @@
 ghost use Rattle.std.specs.Prelude.{◌≡◌, ◌*◌, ◌≤◌, ◌<◌, IfOk, length, None, []};
 ghost use Rattle.eve_stamps.specs.Opening.{opening_row, rows_of_stripe};
 
-use crate::Stripe;
 use crate::limits::STRIPES;
+use crate::{HeldRow, Stripe};
 use eve_accounts::{Balances, MOST_NAMES, Row};
-use eve_grammar::Restore;
 use std::alloc::{AllocError, Global};
 
 /// The stripe with its rows of so many customers, at version 0 with their opening balances.
@@ -31,7 +30,7 @@ fn opening_rows(
     balances: &Balances,
     stripe: u32,
     customers: u32,
-) -> Result<Vec<Restore>, AllocError>
+) -> Result<Vec<HeldRow>, AllocError>
     requires few { customers ≤ MOST_NAMES }
     requires rows { length balances.now ≡ 2 * customers }
     ensures { IfOk result (λ rows. rows.items ≡ rows_of_stripe balances.now stripe customers) }
@@ -47,11 +46,11 @@ fn opening_rows(
     Ok(rows)
 }
 
-fn opening_row(balances: &Balances, row: Row) -> Restore
+fn opening_row(balances: &Balances, row: Row) -> HeldRow
     requires there { row < length balances.now }
     ensures { result ≡ opening_row balances.now row }
 {
-    Restore {
+    HeldRow {
         row,
         version: 0,
         value: balances.get(row),

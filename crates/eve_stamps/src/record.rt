@@ -3,6 +3,7 @@
 ghost use Rattle.std.specs.Prelude.{◌≡◌, []};
 ghost use Rattle.eve_smallbank.specs.declared.request.Reply.TheVariants.{Aborted};
 
+use crate::Stamp;
 use eve_smallbank::{Abort, Entry, Reply, UpToThree};
 use std::marker::Model;
 
@@ -12,10 +13,7 @@ use std::marker::Model;
 /// docs/MODEL.md, "Entries".
 #[derive(Clone, Copy, Debug, PartialEq, Eq)]
 pub struct AccessRecord {
-    worker: u8,
-    place: u16,
-    index: u16,
-    tick: u64,
+    stamp: Stamp,
     reply: Reply,
     entries: UpToThree<Entry>,
 }
@@ -26,19 +24,16 @@ impl Model for AccessRecord {
     ghost Value = { Applied };
 
     ghost view = { λ r. record {
-      worker = r.worker;
-      place = r.place;
-      index = r.index;
-      tick = r.tick;
+      worker = r.stamp.worker;
+      place = r.stamp.place;
+      index = r.stamp.index;
+      tick = r.stamp.tick;
       reply = r.reply;
       entries = r.entries;
     } };
 
     ghost inverse = { λ x. record {
-      worker = x.worker;
-      place = x.place;
-      index = x.index;
-      tick = x.tick;
+      stamp = record { worker = x.worker; place = x.place; index = x.index; tick = x.tick };
       reply = x.reply;
       entries = x.entries;
     } };
@@ -46,28 +41,18 @@ impl Model for AccessRecord {
 
 impl AccessRecord {
     /// What was noted of a request that was executed.
-    pub(crate) fn new(
-        worker: u8,
-        place: u16,
-        index: u16,
-        tick: u64,
-        reply: Reply,
-        entries: UpToThree<Entry>,
-    ) -> AccessRecord
+    pub(crate) fn new(stamp: Stamp, reply: Reply, entries: UpToThree<Entry>) -> AccessRecord
         ensures { result ≡ record {
-          worker = worker;
-          place = place;
-          index = index;
-          tick = tick;
+          worker = stamp.worker;
+          place = stamp.place;
+          index = stamp.index;
+          tick = stamp.tick;
           reply = reply;
           entries = entries;
         } }
     {
         AccessRecord {
-            worker,
-            place,
-            index,
-            tick,
+            stamp,
             reply,
             entries,
         }
@@ -77,28 +62,28 @@ impl AccessRecord {
     pub fn worker(&self) -> u8
         ensures { result ≡ self.now.worker }
     {
-        self.worker
+        self.stamp.worker
     }
 
     /// Its place among what the worker notes, from 0.
     pub fn place(&self) -> u16
         ensures { result ≡ self.now.place }
     {
-        self.place
+        self.stamp.place
     }
 
     /// The request's index in its batch, from 0.
     pub fn index(&self) -> u16
         ensures { result ≡ self.now.index }
     {
-        self.index
+        self.stamp.index
     }
 
     /// The tick at which it was applied.
     pub fn tick(&self) -> u64
         ensures { result ≡ self.now.tick }
     {
-        self.tick
+        self.stamp.tick
     }
 
     /// What the request was told.
@@ -117,22 +102,15 @@ impl AccessRecord {
 }
 
 /// The record of a request that is refused before it touches a row.
-pub fn untouched(why: Abort, tick: u64, worker: u8, place: u16, index: u16) -> AccessRecord
+pub fn untouched(why: Abort, stamp: Stamp) -> AccessRecord
     ensures { result ≡ record {
-      worker = worker;
-      place = place;
-      index = index;
-      tick = tick;
+      worker = stamp.worker;
+      place = stamp.place;
+      index = stamp.index;
+      tick = stamp.tick;
       reply = Aborted why;
       entries = [];
     } }
 {
-    AccessRecord {
-        worker,
-        place,
-        index,
-        tick,
-        reply: Reply::Aborted(why),
-        entries: UpToThree::new(),
-    }
+    AccessRecord::new(stamp, Reply::Aborted(why), UpToThree::new())
 }

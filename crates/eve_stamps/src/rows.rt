@@ -7,13 +7,14 @@ ghost use Rattle.eve_stamps.specs.Stripes.{RowsRise, IsEntryIn, JournalLiesIn, t
 ghost use Rattle.eve_stamps.specs.Stripes.{table_after_journal};
 ghost use Rattle.eve_stamps.specs.Holding.{IsPlaceOf, rows_changed};
 
+use crate::HeldRow;
 use crate::journal::Journaled;
 use eve_accounts::Row;
 use eve_grammar::Restore;
 use eve_smallbank::{Entry, Kind, UpToThree};
 
 /// Where the row stands, if it does.
-pub fn place_of(rows: &[Restore], row: Row) -> Option<usize>
+pub fn place_of(rows: &[HeldRow], row: Row) -> Option<usize>
     requires { RowsRise rows.now }
     ensures { IsPlaceOf rows.now row result }
 {
@@ -22,7 +23,7 @@ pub fn place_of(rows: &[Restore], row: Row) -> Option<usize>
 }
 
 /// Takes the writes among the entries.
-pub fn write(rows: &mut [Restore], entries: &UpToThree<Entry>)
+pub fn write(rows: &mut [HeldRow], entries: &UpToThree<Entry>)
     requires rise { RowsRise rows.old }
     requires entries { AllByRecursion (IsEntryIn rows.old) entries.now }
     ensures { rows.new ≡ rows_in_table (table_after (table_in rows.old) entries.now) rows.old }
@@ -32,7 +33,7 @@ pub fn write(rows: &mut [Restore], entries: &UpToThree<Entry>)
     }
 }
 
-fn write_one(rows: &mut [Restore], entry: &Entry)
+fn write_one(rows: &mut [HeldRow], entry: &Entry)
     requires rise { RowsRise rows.old }
     requires entry { IsEntryIn rows.old entry.now }
     ensures { rows.new ≡ rows_in_table (table_after (table_in rows.old) (entry.now ∷ [])) rows.old }
@@ -43,7 +44,7 @@ fn write_one(rows: &mut [Restore], entry: &Entry)
             let Some(place) = place_of(rows, entry.row) else {
                 unreachable!();
             };
-            rows[place] = Restore {
+            rows[place] = HeldRow {
                 row: entry.row,
                 version: entry.version + 1,
                 value: entry.after,
@@ -53,7 +54,7 @@ fn write_one(rows: &mut [Restore], entry: &Entry)
 }
 
 /// Takes the writes of the journal up to the tick.
-pub fn write_up_to(rows: &mut [Restore], journal: &[Journaled], tick: u64)
+pub fn write_up_to(rows: &mut [HeldRow], journal: &[Journaled], tick: u64)
     requires rise { RowsRise rows.old }
     requires journal { JournalLiesIn rows.old journal.now }
     ensures { rows.new ≡ rows_in_table
@@ -64,7 +65,7 @@ pub fn write_up_to(rows: &mut [Restore], journal: &[Journaled], tick: u64)
     }
 }
 
-fn write_if_up_to(rows: &mut [Restore], journaled: &Journaled, tick: u64)
+fn write_if_up_to(rows: &mut [HeldRow], journaled: &Journaled, tick: u64)
     requires rise { RowsRise rows.old }
     requires entries { AllByRecursion (IsEntryIn rows.old) journaled.now.entries }
     ensures { rows.new ≡ rows_in_table
@@ -76,7 +77,7 @@ fn write_if_up_to(rows: &mut [Restore], journaled: &Journaled, tick: u64)
 }
 
 /// How many rows have another version now.
-pub fn changed_count(base: &[Restore], now: &[Restore]) -> usize
+pub fn changed_count(base: &[HeldRow], now: &[HeldRow]) -> usize
     requires { length now.now ≡ length base.now }
     ensures { result ≡ length (rows_changed base.now now.now) }
 {
@@ -88,7 +89,7 @@ pub fn changed_count(base: &[Restore], now: &[Restore]) -> usize
 }
 
 /// Appends the rows that have another version now, where there is room.
-pub fn append_changed(base: &[Restore], now: &[Restore], restores: &mut Vec<Restore>)
+pub fn append_changed(base: &[HeldRow], now: &[HeldRow], restores: &mut Vec<Restore>)
     requires as_many { length now.now ≡ length base.now }
     requires room { vec_len restores.old + length (rows_changed base.now now.now) ≤ vec_capacity restores.old }
     ensures items { restores.new.items ≡ restores.old.items ++ rows_changed base.now now.now }
@@ -99,7 +100,7 @@ pub fn append_changed(base: &[Restore], now: &[Restore], restores: &mut Vec<Rest
     }
 }
 
-fn append_if_changed(base: Restore, now: Restore, restores: &mut Vec<Restore>)
+fn append_if_changed(base: HeldRow, now: HeldRow, restores: &mut Vec<Restore>)
     requires { vec_len restores.old + length (rows_changed (base ∷ []) (now ∷ [])) ≤ vec_capacity restores.old }
     ensures items { restores.new.items ≡ restores.old.items ++ rows_changed (base ∷ []) (now ∷ []) }
     ensures capacity { vec_capacity restores.new ≡ vec_capacity restores.old }

@@ -5,6 +5,7 @@ ghost use Rattle.std.specs.Prelude.{if◌then◌else◌, [], length, vec_len, ve
 ghost use Rattle.eve_stamps.specs.Stripes.{RowsRise, AreWithinLimit, IsStripe, has_row, row_in, rows_now, is_above};
 ghost use Rattle.eve_stamps.specs.Stripes.{settled_to, without_journal, restores_of};
 
+use crate::HeldRow;
 use crate::journal::Journaled;
 use crate::rows::{append_changed, changed_count, place_of, write_up_to};
 use eve_accounts::Row;
@@ -19,8 +20,8 @@ use std::marker::Model;
 /// the specs); `rows_now` is what the rows have now.
 #[derive(Debug, Drop)]
 pub struct Stripe {
-    pub(crate) base: Vec<Restore>,
-    pub(crate) rows: Vec<Restore>,
+    pub(crate) base: Vec<HeldRow>,
+    pub(crate) rows: Vec<HeldRow>,
     pub(crate) journal: Vec<Journaled>,
     pub(crate) greatest: Option<u64>,
 }
@@ -39,7 +40,7 @@ impl Model for Stripe {
 
 impl Stripe {
     /// These rows, committed, with nothing journaled and no tick so far.
-    pub fn new(alloc: Global, rows: &[Restore]) -> Result<Stripe, AllocError>
+    pub fn new(alloc: Global, rows: &[HeldRow]) -> Result<Stripe, AllocError>
         requires rise { RowsRise rows.now }
         requires limit { AreWithinLimit rows.now }
         ensures { IfOk result (λ stripe. stripe ≡ record { base = rows.now; journal = []; greatest = None }) }
@@ -67,7 +68,7 @@ impl Stripe {
     }
 
     /// The row, with the version and the value that it has now.
-    pub fn get(&self, row: Row) -> Restore
+    pub fn get(&self, row: Row) -> HeldRow
         requires there { IsTrue (has_row self.now row) }
         ensures { result ≡ row_in (rows_now self.now) row }
     {
@@ -120,7 +121,7 @@ impl Stripe {
     }
 
     /// The row as it is now, if it lies in the stripe.
-    pub(crate) fn see(&self, row: Row) -> Option<Restore>
+    pub(crate) fn see(&self, row: Row) -> Option<HeldRow>
         ensures { result ≡ (if has_row self.now row then Some (row_in (rows_now self.now) row) else None) }
     {
         match place_of(&self.base, row) {

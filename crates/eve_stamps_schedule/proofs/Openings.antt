@@ -11,9 +11,8 @@ use Rattle.std.proofs.lemmas.List.FromFn.{get_or-map-range_with_len, length-map-
 use Rattle.eve_smallbank.specs.Access.{balance_of_row}
 use Rattle.eve_smallbank.specs.SmallBank.{Request}
 use Rattle.eve_smallbank.specs.Chain.{Versioned, Table}
-use Rattle.eve_grammar.specs.declared.restore.Restore.{Restore}
 use Rattle.eve_stamps.specs.Applied.{Applied}
-use Rattle.eve_stamps.specs.Stripes.{Stripe, lies_in, table_in, has_row, committed, rows_now, is_above}
+use Rattle.eve_stamps.specs.Stripes.{HeldRow, Stripe, lies_in, table_in, has_row, committed, rows_now, is_above}
 use Rattle.eve_stamps.specs.Opening.{stripe_count, stripe_of, stripe_of_customer, rows_of_customer, rows_of_stripe}
 use Rattle.eve_stamps.proofs.OpeningLaws.{opening_rows_more}
 use Rattle.eve_stamps_schedule.specs.declared.stage.Stage.{Stage}
@@ -53,7 +52,7 @@ lies_opening balances i zero row =
     sym (and_right (stripe_of row == i) (nat_lt row (2 * 0)) (le-ltb row (2 * 0) (omega arith)))
 lies_opening balances i (suc n) row =
     ap (λ rs. lies_in rs row) (opening_rows_more balances i n)
-    ∙ list_any-append (λ (r : Restore). r.row == row) (rows_of_stripe balances i n)
+    ∙ list_any-append (λ (r : HeldRow). r.row == row) (rows_of_stripe balances i n)
     (cond (stripe_of_customer n == i) (rows_of_customer balances n) [])
     ∙ ap₂ (λ a b. a || b) (lies_opening balances i n row) (of_customer balances (stripe_of_customer n == i) n row)
     ∙ elim (cases_lt row (2 * n)) [
@@ -99,7 +98,7 @@ abbrev opened_at : List ℤ → ℕ → Versioned
 opened_at balances row = record { version = 0; value = balance_of_row balances row }
 
 -- each at version 0, with its balance
-abbrev AreOpening : List ℤ → List Restore → Type 0
+abbrev AreOpening : List ℤ → List HeldRow → Type 0
 AreOpening balances rows = AllByRecursion (λ r. (r.version ≡ 0) × (r.value ≡ balance_of_row balances r.row)) rows
 
 all_opening : (balances : List ℤ) (customers : List ℕ)
@@ -107,7 +106,7 @@ all_opening : (balances : List ℤ) (customers : List ℕ)
 all_opening balances [] = tt
 all_opening balances (c ∷ customers) = ((refl, refl), ((refl, refl), all_opening balances customers))
 
-table_opening : (balances : List ℤ) (rows : List Restore) (row : ℕ) → AreOpening balances rows
+table_opening : (balances : List ℤ) (rows : List HeldRow) (row : ℕ) → AreOpening balances rows
     → table_in rows row ≡ cond (lies_in rows row) (opened_at balances row) (record { version = 0; value = pos 0 })
 table_opening balances [] row are = refl
 table_opening balances (r ∷ rows) row are =

@@ -16,7 +16,7 @@ use crate::order::insert;
 use crate::stripes::{last_stripe, next_stripe};
 use crate::{Schedule, Stage, StepFault};
 use eve_smallbank::{Request, touched};
-use eve_stamps::StampFault;
+use eve_stamps::{Stamp, StampFault};
 use eve_write::BatchData;
 use std::alloc::AllocError;
 
@@ -84,15 +84,13 @@ impl<'s> Schedule<'s> {
         if self.applied.reserve(1).is_err() {
             return Err(StepFault::Memory);
         }
-        let made = applied_on(
-            self.stripes.as_mut_slice(),
-            self.names,
-            &request,
-            tick,
+        let stamp = Stamp {
             worker,
             place,
             index,
-        );
+            tick,
+        };
+        let made = applied_on(self.stripes.as_mut_slice(), self.names, &request, stamp);
         match made {
             Ok(made) => {
                 insert(&mut self.applied, made);

@@ -5,7 +5,7 @@ ghost use Rattle.std.specs.Prelude.{◌≡◌, ◌≤◌, ◌∷◌, ◌++◌, [
 use crate::seen::Seen;
 use eve_recorder::{MOST_QUEUED, MOST_SEATS, NoteFault, Recorder, Seats, TakerSeat, WorkerSeat};
 use eve_smallbank::Abort;
-use eve_stamps::{AccessRecord, untouched};
+use eve_stamps::{AccessRecord, Stamp, untouched};
 use std::alloc::{AllocError, Global};
 use std::sync::Wait;
 use std::thread::{Threads, for_each_mut, join, yield_now};
@@ -101,13 +101,13 @@ fn next_record(seat: &WorkerSeat) -> Option<AccessRecord>
     ensures { IfSome result (λ x. (x.worker ≡ seat.now.worker) × (x.place ≡ length seat.now.noted)) }
 {
     let place = u16::try_from(seat.place()).ok()?;
-    Some(untouched(
-        Abort::NoSuchName,
-        u64::from(place),
-        seat.worker(),
+    let stamp = Stamp {
+        worker: seat.worker(),
         place,
-        place,
-    ))
+        index: place,
+        tick: u64::from(place),
+    };
+    Some(untouched(Abort::NoSuchName, stamp))
 }
 
 /// What is left in a queue, first to last.

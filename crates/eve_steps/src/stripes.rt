@@ -4,15 +4,15 @@
 use crate::parts::{amount, cents, name_of};
 use crate::seen::Seen;
 use eve_accounts::{Names, Row};
-use eve_grammar::{MOST_VERSIONS, Restore};
+use eve_grammar::MOST_VERSIONS;
 use eve_smallbank::{Abort, Entry, Kind, Reply, Request, UpToThree, touched};
-use eve_stamps::{AccessRecord, StampFault, Stripe, apply, apply_two, untouched};
+use eve_stamps::{AccessRecord, HeldRow, Stamp, StampFault, Stripe, apply, apply_two, untouched};
 use std::alloc::{AllocError, Global};
 use std::io;
 
 /// A row at this version, with so many cents.
-fn held(row: Row, version: u64, value: i64) -> io::Result<Restore> {
-    Ok(Restore {
+fn held(row: Row, version: u64, value: i64) -> io::Result<HeldRow> {
+    Ok(HeldRow {
         row,
         version,
         value: cents(value)?,
@@ -33,7 +33,7 @@ fn of_one(
     Ok(stripe_of(alloc, saving, checking)?)
 }
 
-fn stripe_of(alloc: Global, saving: Restore, checking: Restore) -> Result<Stripe, AllocError> {
+fn stripe_of(alloc: Global, saving: HeldRow, checking: HeldRow) -> Result<Stripe, AllocError> {
     if checking.row.number() <= saving.row.number()
         || MOST_VERSIONS < saving.version
         || MOST_VERSIONS < checking.version
@@ -47,7 +47,17 @@ fn stripe_of(alloc: Global, saving: Restore, checking: Restore) -> Result<Stripe
     }
 }
 
-/// Worker 1 runs the request with index 3, and notes it at place 2.
+/// Worker 1 runs the request with index 3 at this tick, and notes it at place 2.
+fn stamp_at(tick: u64) -> Stamp {
+    Stamp {
+        worker: 1,
+        place: 2,
+        index: 3,
+        tick,
+    }
+}
+
+/// Runs the request at this tick.
 fn run(
     stripe: &mut Stripe,
     names: &Names,
@@ -55,13 +65,13 @@ fn run(
     tick: u64,
 ) -> Result<AccessRecord, StampFault> {
     let touched = touched(request, names);
-    match apply(stripe, request, &touched, tick, 1, 2, 3) {
-        Err(StampFault::Memory) => apply(stripe, request, &touched, tick, 1, 2, 3),
+    match apply(stripe, request, &touched, stamp_at(tick)) {
+        Err(StampFault::Memory) => apply(stripe, request, &touched, stamp_at(tick)),
         answer => answer,
     }
 }
 
-/// The same, over both stripes.
+/// The same, on both stripes.
 fn run_two(
     first: &mut Stripe,
     second: &mut Stripe,
@@ -70,8 +80,8 @@ fn run_two(
     tick: u64,
 ) -> Result<AccessRecord, StampFault> {
     let touched = touched(request, names);
-    match apply_two(first, second, request, &touched, tick, 1, 2, 3) {
-        Err(StampFault::Memory) => apply_two(first, second, request, &touched, tick, 1, 2, 3),
+    match apply_two(first, second, request, &touched, stamp_at(tick)) {
+        Err(StampFault::Memory) => apply_two(first, second, request, &touched, stamp_at(tick)),
         answer => answer,
     }
 }
@@ -188,7 +198,7 @@ pub fn worn_and_untouched(alloc: Global, names: &Names) -> io::Result<Seen> {
     let wanted = UpToThree::one(written(Row::checking(0), MOST_VERSIONS - 1, 0, 500)?);
     let made = run(&mut last, names, &deposit, 5);
     seen.want(is_made(made, 5, wanted), "a version before, it isn't");
-    let refused = untouched(Abort::BadAmount, 6, 0, 0, 0);
+    let refused = untouched(Abort::BadAmount, stamp_at(6));
     let reply = Reply::Aborted(Abort::BadAmount);
     seen.want(refused.reply() == reply, "the reason is told");
     seen.want(refused.entries().is_empty(), "no row is touched");

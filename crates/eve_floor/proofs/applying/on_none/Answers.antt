@@ -6,4 +6,4 @@ pub returns : goal.returns
 returns g c = λ names looked.
     let request = plain c.args.task.now.request.now in
     let fits = c.refused_requests_fit.ensures names request c.in-Refused.why (sym looked ∙ c.in-Refused.is) in
-    rw c.untouched.ensures (c.in_ok-tick.ensures.drawn, (refl, refl, refl, fits))
+    rw (c.untouched.ensures, c.stamp.ensures) (c.in_ok-tick.ensures.drawn, (refl, refl, refl, fits))

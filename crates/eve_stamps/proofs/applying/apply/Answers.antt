@@ -11,5 +11,5 @@ run-requires-clause-seen c =
 
 pub note-requires-clause-above : goal.note-requires-clause-above
 note-requires-clause-above c =
-    ap (λ (s : Stripe). is_above c.args.tick s.greatest) c.stripe.view_is
+    ap (λ (s : Stripe). is_above c.args.stamp.tick s.greatest) c.stripe.view_is
     ∙ sym c.is_above.ensures ∙ c.in_ok-reply.ensures.new

@@ -1,9 +1,8 @@
 use Rattle.std.proofs.Common.{List, ap, ap₂, sym, ◌∙◌}
 use Rattle.std.proofs.lemmas.Bool.{and_parts}
 use Rattle.eve_smallbank.specs.Touch.{rows_in}
-use Rattle.eve_grammar.specs.declared.restore.Restore.{Restore}
 use Rattle.eve_stamps.specs.declared.journal.Journaled.{Journaled}
-use Rattle.eve_stamps.specs.Stripes.{Stripe, is_above}
+use Rattle.eve_stamps.specs.Stripes.{HeldRow, Stripe, is_above}
 use Rattle.eve_stamps.specs.Stamping.{has_row_in_two, rows_in_two, seen_of}
 use Rattle.eve_stamps.specs.Holding.{stripe_held}
 use Rattle.eve_stamps.proofs.Refusing.{many_seen}
@@ -18,15 +17,15 @@ run-requires-clause-seen c =
 
 pub note-requires-clause-above : goal.note-requires-clause-above
 note-requires-clause-above c =
-    ap (λ (s : Stripe). is_above c.args.tick s.greatest) c.first.view_is
-    ∙ (and_parts (is_above c.args.tick c.args.first.now.greatest) (is_above c.args.tick c.args.second.now.greatest)
-    (sym c.are_above.ensures ∙ c.in_ok-reply.ensures.new)).0
+    ap (λ (s : Stripe). is_above c.args.stamp.tick s.greatest) c.first.view_is
+    ∙ (and_parts (is_above c.args.stamp.tick c.args.first.now.greatest)
+    (is_above c.args.stamp.tick c.args.second.now.greatest) (sym c.are_above.ensures ∙ c.in_ok-reply.ensures.new)).0
 
 pub note-requires-2-clause-above : goal.note-requires-2-clause-above
 note-requires-2-clause-above c =
-    ap (λ (s : Stripe). is_above c.args.tick s.greatest) c.second.view_is
-    ∙ (and_parts (is_above c.args.tick c.args.first.now.greatest) (is_above c.args.tick c.args.second.now.greatest)
-    (sym c.are_above.ensures ∙ c.in_ok-reply.ensures.new)).1
+    ap (λ (s : Stripe). is_above c.args.stamp.tick s.greatest) c.second.view_is
+    ∙ (and_parts (is_above c.args.stamp.tick c.args.first.now.greatest)
+    (is_above c.args.stamp.tick c.args.second.now.greatest) (sym c.are_above.ensures ∙ c.in_ok-reply.ensures.new)).1
 
 pub note-requires-clause-noted : goal.note-requires-clause-noted
 note-requires-clause-noted c =
@@ -35,7 +34,7 @@ note-requires-clause-noted c =
     noted_within c.args.first.now c.args.second.now
     (stripe_held c.deref.result.now c.reserve_in_both.new.first.items c.first.inside.greatest)
     c.in_ok-reply.entries c.split-within.result.0
-    (ap₂ (λ (bs : List Restore) (js : List Journaled). stripe_held bs js c.first.inside.greatest)
+    (ap₂ (λ (bs : List HeldRow) (js : List Journaled). stripe_held bs js c.first.inside.greatest)
     c.deref.ensures.value c.reserve_in_both.ensures.first_items ∙ c.first.view_is) c.split-within.ensures.within
     (c.in_ok-reply.ensures.run is_there now
     (c.seen_in_two-seen.ensures ∙ ap (seen_of is_there now) c.rows-rows.ensures)).noted
@@ -47,7 +46,7 @@ note-requires-2-clause-noted c =
     noted_outside c.args.first.now c.args.second.now
     (stripe_held c.deref-2.result.now c.reserve_in_both.new.second.items c.second.inside.greatest)
     c.in_ok-reply.entries c.split-within.result.1
-    (ap₂ (λ (bs : List Restore) (js : List Journaled). stripe_held bs js c.second.inside.greatest)
+    (ap₂ (λ (bs : List HeldRow) (js : List Journaled). stripe_held bs js c.second.inside.greatest)
     c.deref-2.ensures.value c.reserve_in_both.ensures.second_items ∙ c.second.view_is) c.split-within.ensures.outside
     (c.in_ok-reply.ensures.run is_there now
     (c.seen_in_two-seen.ensures ∙ ap (seen_of is_there now) c.rows-rows.ensures)).noted

@@ -29,7 +29,7 @@ returns-in-Refused-clause-exact c =
     let names : List (List ℕ) = c.args.names.now.items in
     let request : Request = plain c.args.request.now in
     c.untouched.ensures
-    ∙ ap (noted_of c.args.worker c.args.place c.args.index c.args.tick)
+    ∙ ap (noted_of c.args.stamp.worker c.args.stamp.place c.args.stamp.index c.args.stamp.tick)
     (made_of_table names (table_of_stripes c.args.stripes.now)
     (record { request = request; reply = Aborted c.in-Refused.why; entries = [] })
     (refused_fits names request c.in-Refused.why (sym c.touched-reached.ensures ∙ c.in-Refused.is)) tt)
@@ -54,7 +54,8 @@ returns-then-span-clause-exact c =
     let names : List (List ℕ) = c.args.names.now.items in
     let request : Request = plain c.args.request.now in
     let a : ℕ = c.span_of-span.result.first in
-    let noted = λ (x : Executed). noted_of c.args.worker c.args.place c.args.index c.args.tick x in
+    let noted =
+    λ (x : Executed). noted_of c.args.stamp.worker c.args.stamp.place c.args.stamp.index c.args.stamp.tick x in
     if_ok (λ r. r ≡ noted (executed_on names (rows_now (stripe_at c.args.stripes.now a)) request))
     (λ r. r ≡ noted (executed_on names (table_of_stripes c.args.stripes.now) request)) c.on_one.result
     (c.on_one.ensures.exact names c.touched-reached.ensures)
@@ -67,12 +68,12 @@ returns-then-span-clause-table c =
     let a : ℕ = c.span_of-span.result.first in
     let here : List Stripe = c.args.stripes.now in
     let within : a < length here = omega arith in
-    if_ok_both (λ r. r ≡ noted_of c.args.worker c.args.place c.args.index c.args.tick
+    if_ok_both (λ r. r ≡ noted_of c.args.stamp.worker c.args.stamp.place c.args.stamp.index c.args.stamp.tick
     (executed_on names (rows_now (stripe_at here a)) request))
-    (λ r. c.on_one.new.stripes ≡ set here a (stripe_with (stripe_at here a) c.args.tick r.entries))
+    (λ r. c.on_one.new.stripes ≡ set here a (stripe_with (stripe_at here a) c.args.stamp.tick r.entries))
     (λ r. table_of_stripes c.on_one.new.stripes ≡ table_after (table_of_stripes here) r.entries) c.on_one.result
     (c.on_one.ensures.exact names c.touched-reached.ensures) c.on_one.ensures.journal
-    (λ r e j. ap table_of_stripes j ∙ one_table here a c.args.tick r.entries within
+    (λ r e j. ap table_of_stripes j ∙ one_table here a c.args.stamp.tick r.entries within
     (subst (λ (x : Applied). AllByRecursion (λ (f : Entry). stripe_of f.row ≡ a) x.entries) (sym e)
     (one_own names (rows_now (stripe_at here a)) request a (one_end c))))
 
@@ -83,11 +84,13 @@ returns-then-span-clause-stripes c =
     let a : ℕ = c.span_of-span.result.first in
     let here : List Stripe = c.args.stripes.now in
     let within : a < length here = omega arith in
-    if_ok (λ r. c.on_one.new.stripes ≡ set here a (stripe_with (stripe_at here a) c.args.tick r.entries))
-    (λ r. (i : ℕ) → IsKeptAt c.args.tick (needs names request i) (stripe_at here i) (stripe_at c.on_one.new.stripes i))
+    if_ok (λ r. c.on_one.new.stripes ≡ set here a (stripe_with (stripe_at here a) c.args.stamp.tick r.entries))
+    (λ r. (i : ℕ) → IsKeptAt c.args.stamp.tick (needs names request i) (stripe_at here i)
+    (stripe_at c.on_one.new.stripes i))
     c.on_one.result c.on_one.ensures.journal
-    (λ r j i. subst (λ ss. IsKeptAt c.args.tick (needs names request i) (stripe_at here i) (stripe_at ss i)) (sym j)
-    (one_kept here a c.args.tick r.entries (needs names request) i within (one_end c)))
+    (λ r j i. subst
+    (λ ss. IsKeptAt c.args.stamp.tick (needs names request i) (stripe_at here i) (stripe_at ss i)) (sym j)
+    (one_kept here a c.args.stamp.tick r.entries (needs names request) i within (one_end c)))
 
 pub returns-then-span-clause-memory : goal.returns-then-span-clause-memory
 returns-then-span-clause-memory c =
@@ -95,9 +98,9 @@ returns-then-span-clause-memory c =
     let request : Request = plain c.args.request.now in
     let a : ℕ = c.span_of-span.result.first in
     let here : List Stripe = c.args.stripes.now in
-    one_memory names here request a c.args.tick c.on_one.result c.requires.rows (omega arith)
+    one_memory names here request a c.args.stamp.tick c.on_one.result c.requires.rows (omega arith)
     (one_end c) c.requires.above c.requires.fresh
-    (subst (λ (t : Touched). IsRefusedFor (refusal (stripe_at here a) c.args.tick (rows_in t)) c.on_one.result)
+    (subst (λ (t : Touched). IsRefusedFor (refusal (stripe_at here a) c.args.stamp.tick (rows_in t)) c.on_one.result)
     c.touched-reached.ensures c.on_one.ensures.refused)
 
 -- ---- on two
@@ -121,7 +124,8 @@ returns-clause-exact c =
     let b : ℕ = c.span_of-span.result.last in
     let here : List Stripe = c.args.stripes.now in
     let less : a < b = omega arith in
-    let noted = λ (x : Executed). noted_of c.args.worker c.args.place c.args.index c.args.tick x in
+    let noted =
+    λ (x : Executed). noted_of c.args.stamp.worker c.args.stamp.place c.args.stamp.index c.args.stamp.tick x in
     if_ok (λ r. r ≡ noted (executed_on names (rows_in_two (stripe_at here a) (stripe_at here b)) request))
     (λ r. r ≡ noted (executed_on names (table_of_stripes here) request)) c.on_two.result
     (c.on_two.ensures.exact names c.touched-reached.ensures)
@@ -137,12 +141,12 @@ returns-clause-table c =
     let here : List Stripe = c.args.stripes.now in
     let less : a < b = omega arith in
     let within : b < length here = omega arith in
-    if_ok_both (λ r. r ≡ noted_of c.args.worker c.args.place c.args.index c.args.tick
+    if_ok_both (λ r. r ≡ noted_of c.args.stamp.worker c.args.stamp.place c.args.stamp.index c.args.stamp.tick
     (executed_on names (rows_in_two (stripe_at here a) (stripe_at here b)) request))
-    (λ r. c.on_two.new.stripes ≡ both_noted here a b c.args.tick r.entries)
+    (λ r. c.on_two.new.stripes ≡ both_noted here a b c.args.stamp.tick r.entries)
     (λ r. table_of_stripes c.on_two.new.stripes ≡ table_after (table_of_stripes here) r.entries) c.on_two.result
     (c.on_two.ensures.exact names c.touched-reached.ensures) c.on_two.ensures.journals
-    (λ r e j. ap table_of_stripes j ∙ two_table here a b c.args.tick r.entries less within
+    (λ r e j. ap table_of_stripes j ∙ two_table here a b c.args.stamp.tick r.entries less within
     (subst (λ (x : Applied). AllByRecursion (IsParted (stripe_at here a) a b) x.entries) (sym e)
     (two_parted names here (rows_in_two (stripe_at here a) (stripe_at here b)) request a b c.requires.rows less
     c.span_of-span.ensures.range (two_ends c))))
@@ -156,11 +160,13 @@ returns-clause-stripes c =
     let here : List Stripe = c.args.stripes.now in
     let less : a < b = omega arith in
     let within : b < length here = omega arith in
-    if_ok (λ r. c.on_two.new.stripes ≡ both_noted here a b c.args.tick r.entries)
-    (λ r. (i : ℕ) → IsKeptAt c.args.tick (needs names request i) (stripe_at here i) (stripe_at c.on_two.new.stripes i))
+    if_ok (λ r. c.on_two.new.stripes ≡ both_noted here a b c.args.stamp.tick r.entries)
+    (λ r. (i : ℕ) → IsKeptAt c.args.stamp.tick (needs names request i) (stripe_at here i)
+    (stripe_at c.on_two.new.stripes i))
     c.on_two.result c.on_two.ensures.journals
-    (λ r j i. subst (λ ss. IsKeptAt c.args.tick (needs names request i) (stripe_at here i) (stripe_at ss i)) (sym j)
-    (two_kept here a b c.args.tick r.entries (needs names request) i less within (two_ends c)))
+    (λ r j i. subst
+    (λ ss. IsKeptAt c.args.stamp.tick (needs names request i) (stripe_at here i) (stripe_at ss i)) (sym j)
+    (two_kept here a b c.args.stamp.tick r.entries (needs names request) i less within (two_ends c)))
 
 pub returns-clause-memory : goal.returns-clause-memory
 returns-clause-memory c =
@@ -170,7 +176,8 @@ returns-clause-memory c =
     let b : ℕ = c.span_of-span.result.last in
     let here : List Stripe = c.args.stripes.now in
     let less : a < b = omega arith in
-    two_memory names here request a b c.args.tick c.on_two.result c.requires.rows less c.span_of-span.ensures.range
-    (two_ends c) c.requires.above c.requires.fresh
-    (subst (λ (t : Touched). IsRefusedFor (refusal_of_two (stripe_at here a) (stripe_at here b) c.args.tick (rows_in t))
-    c.on_two.result) c.touched-reached.ensures c.on_two.ensures.refused)
+    two_memory names here request a b c.args.stamp.tick c.on_two.result c.requires.rows less
+    c.span_of-span.ensures.range (two_ends c) c.requires.above c.requires.fresh
+    (subst (λ (t : Touched). IsRefusedFor
+    (refusal_of_two (stripe_at here a) (stripe_at here b) c.args.stamp.tick (rows_in t)) c.on_two.result)
+    c.touched-reached.ensures c.on_two.ensures.refused)

@@ -17,12 +17,12 @@ returns-clause-journals c =
     let some : 0 < length back = omega (arith, cut.front_len, cut.back_len) in
     let s : Stripe = get_or front c.args.span.first c.index-front-span.result in
     let u : Stripe = get_or back 0 c.index-back-0.result in
-    if_ok_both (λ (r : Applied). c.apply_two.new.first ≡ stripe_with s c.args.tick (entries_within s r.entries))
-    (λ (r : Applied). c.apply_two.new.second ≡ stripe_with u c.args.tick (entries_outside s r.entries))
+    if_ok_both (λ (r : Applied). c.apply_two.new.first ≡ stripe_with s c.args.stamp.tick (entries_within s r.entries))
+    (λ (r : Applied). c.apply_two.new.second ≡ stripe_with u c.args.stamp.tick (entries_outside s r.entries))
     (λ (r : Applied). set front c.args.span.first c.apply_two.new.first ++ set back 0 c.apply_two.new.second
-    ≡ both_noted here c.args.span.first c.args.span.last c.args.tick r.entries)
+    ≡ both_noted here c.args.span.first c.args.span.last c.args.stamp.tick r.entries)
     c.apply_two.result c.apply_two.ensures.first c.apply_two.ensures.second
-    (λ r x y. two_written here front back c.args.span.first c.args.span.last c.args.tick s u c.apply_two.new.first
+    (λ r x y. two_written here front back c.args.span.first c.args.span.last c.args.stamp.tick s u c.apply_two.new.first
     c.apply_two.new.second r.entries cut.value within cut.front_len
     (in_front here front back c.args.span.first c.index-front-span.result cut.value within)
     (in_back here front back c.args.span.last c.index-back-0.result cut.value cut.front_len some) x y)
@@ -38,9 +38,9 @@ returns-clause-refused c =
     let first = in_front here front back c.args.span.first c.index-front-span.result cut.value within in
     let last = in_back here front back c.args.span.last c.index-back-0.result cut.value cut.front_len some in
     subst (λ (s : Stripe). IsRefusedFor
-    (refusal_of_two s (stripe_at here c.args.span.last) c.args.tick (rows_in c.args.reached.now))
+    (refusal_of_two s (stripe_at here c.args.span.last) c.args.stamp.tick (rows_in c.args.reached.now))
     c.apply_two.result) first
     (subst (λ (u : Stripe). IsRefusedFor
-    (refusal_of_two (get_or front c.args.span.first c.index-front-span.result) u c.args.tick
+    (refusal_of_two (get_or front c.args.span.first c.index-front-span.result) u c.args.stamp.tick
     (rows_in c.args.reached.now)) c.apply_two.result) last
     c.apply_two.ensures.refused)

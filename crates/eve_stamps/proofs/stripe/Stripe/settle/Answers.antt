@@ -2,9 +2,8 @@ use Rattle.std.proofs.Common.{◌≡◌, List, [], filter, rules, sym, subst, �
 use Rattle.std.specs.Vec.{with_items}
 use Rattle.std.proofs.lemmas.List.{with_items_is}
 use Rattle.std.proofs.lemmas.Fn.{filter_same}
-use Rattle.eve_grammar.specs.declared.restore.Restore.{Restore}
 use Rattle.eve_stamps.specs.declared.journal.Journaled.{Journaled}
-use Rattle.eve_stamps.specs.Stripes.{Stripe, settled_to, table_in, rows_in_table, table_after_journal}
+use Rattle.eve_stamps.specs.Stripes.{HeldRow, Stripe, settled_to, table_in, rows_in_table, table_after_journal}
 use Rattle.eve_stamps.specs.Holding.{stripe_held}
 use Rattle.eve_stamps.proofs.JournalLaws.{up_to, behind}
 use Rattle.eve_stamps.proofs.Keeping.{held_settled}
@@ -12,7 +11,7 @@ use Rattle.eve_stamps.proofs.stripe.Stripe.settle.Goals as goal
 
 abbrev committed_to : goal.After-retain → Type 0
 committed_to c =
-    let base : List Restore = c.self.inside.base.items in
+    let base : List HeldRow = c.self.inside.base.items in
     (with_items c.self.inside.base c.write_up_to.new.rows).items
     ≡ rows_in_table (table_after_journal (table_in base) (filter (up_to c.args.tick) c.self.inside.journal.items)) base
 
@@ -20,7 +19,7 @@ settled : (c : goal.After-retain) → committed_to c
 settled c =
     with_items_is c.self.inside.base c.write_up_to.new.rows (c.write_up_to.auto.rows ∙ c.deref_mut.ensures.len)
     ∙ c.write_up_to.ensures
-    ∙ ap₂ (λ (bs : List Restore) (js : List Journaled). rows_in_table
+    ∙ ap₂ (λ (bs : List HeldRow) (js : List Journaled). rows_in_table
     (table_after_journal (table_in bs) (filter (up_to c.args.tick) js)) bs) c.deref_mut.ensures.value
     c.deref-2.ensures.value
 
@@ -40,7 +39,7 @@ whole c = let all = c.if-is_all_up_to.true in (
 as_now : (c : goal.After-clear) → c.self.inside.rows.items
     ≡ rows_in_table (table_after_journal (table_in c.self.inside.base.items)
     (filter (up_to c.args.tick) c.self.inside.journal.items)) c.self.inside.base.items
-as_now c = let base : List Restore = c.self.inside.base.items in
+as_now c = let base : List HeldRow = c.self.inside.base.items in
     c.self.invariant.as_now ∙ ap (λ (js : List Journaled). rows_in_table (table_after_journal (table_in base) js) base)
     (sym (whole c).0)
 
@@ -59,5 +58,5 @@ invariant_of-self-2 c =
 
 pub returns : goal.returns
 returns c =
-    ap₂ (λ (bs : List Restore) (js : List Journaled). stripe_held bs js c.self.inside.greatest) (settled c) (kept c)
+    ap₂ (λ (bs : List HeldRow) (js : List Journaled). stripe_held bs js c.self.inside.greatest) (settled c) (kept c)
     ∙ ap (settled_to c.args.tick) c.self.view_is

@@ -1,6 +1,5 @@
 use Rattle.std.proofs.Common.{◌≡◌, ◌++◌, List, length, ◌∙◌, ap, ap₂, refl, arith}
-use Rattle.eve_grammar.specs.declared.restore.Restore.{Restore}
-use Rattle.eve_stamps.specs.Stripes.{restores_of}
+use Rattle.eve_stamps.specs.Stripes.{HeldRow, restores_of}
 use Rattle.eve_stamps.specs.Holding.{rows_changed, stripe_held}
 use Rattle.eve_stamps.proofs.Versions.{changed_is}
 use Rattle.eve_stamps.proofs.stripe.Stripe.undo.Goals as goal
@@ -12,7 +11,7 @@ returns-then-capacity-len-clause-room c =
     ∙ ap (rows_changed c.self.inside.base.items) c.self.invariant.as_now
     ∙ changed_is (stripe_held c.self.inside.base.items c.self.inside.journal.items c.self.inside.greatest)
     c.self.invariant.stands ∙ ap restores_of c.self.view_is in
-    let many = ap (λ (rs : List Restore). length rs) told in
+    let many = ap (λ (rs : List HeldRow). length rs) told in
     (λ h. omega (arith, many), λ h. refl)
 
 pub returns-clause-restores : goal.returns-clause-restores
@@ -22,7 +21,7 @@ returns-clause-restores c =
     ∙ ap (rows_changed c.self.inside.base.items) c.self.invariant.as_now
     ∙ changed_is (stripe_held c.self.inside.base.items c.self.inside.journal.items c.self.inside.greatest)
     c.self.invariant.stands ∙ ap restores_of c.self.view_is in
-    c.append_changed.ensures.items ∙ ap (λ (rs : List Restore). c.args.restores.now.items ++ rs) told
+    c.append_changed.ensures.items ∙ ap (λ (rs : List HeldRow). c.args.restores.now.items ++ rs) told
 
 pub returns-clause-room : goal.returns-clause-room
 returns-clause-room c =
@@ -31,5 +30,5 @@ returns-clause-room c =
     ∙ ap (rows_changed c.self.inside.base.items) c.self.invariant.as_now
     ∙ changed_is (stripe_held c.self.inside.base.items c.self.inside.journal.items c.self.inside.greatest)
     c.self.invariant.stands ∙ ap restores_of c.self.view_is in
-    let many = ap (λ (rs : List Restore). length rs) told in
+    let many = ap (λ (rs : List HeldRow). length rs) told in
     (λ h. cc, λ h. absurd (omega (arith, many)))

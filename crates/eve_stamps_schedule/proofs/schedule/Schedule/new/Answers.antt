@@ -1,4 +1,4 @@
-use Rattle.std.proofs.Common.{◌≡◌, ℕ, ℤ, List, map, length, sym, subst, ap, ◌∙◌, arith}
+use Rattle.std.proofs.Common.{◌≡◌, ℕ, List, map, length, sym, subst, ap, ◌∙◌, arith}
 use Rattle.eve_stamps_schedule.specs.Schedule.{Schedule, plan_of, world_of}
 use Rattle.eve_stamps_schedule.specs.Scheduled.{IsHeldSchedule}
 use Rattle.eve_smallbank.specs.SmallBank.{Request}

@@ -5,7 +5,6 @@ use Rattle.eve_stamps_schedule.specs.declared.stage.Stage.TheVariants as at
 use Rattle.eve_stamps_schedule.specs.Events.{happens}
 use Rattle.eve_stamps_schedule.specs.Schedule.{Schedule, plan_of, world_of, allows}
 use Rattle.eve_stamps_schedule.specs.Scheduled.{schedule_of}
-use Rattle.eve_stamps.specs.Applied.{Applied}
 use Rattle.eve_stamps.specs.Opening.{stripe_count}
 use Rattle.eve_stamps_schedule.specs.Stripes.{greatest_below}
 use Rattle.eve_stamps_schedule.specs.Events.{is_owner, last_stripe}
