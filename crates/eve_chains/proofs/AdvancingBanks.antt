@@ -1,11 +1,10 @@
 -- From the balances after one batch to those after the next.
-use Rattle.std.proofs.Common.{◌≡◌, ℕ, ℤ, zero, suc, ◌-◌, ◌≤◌, List, [], ◌∷◌, ◌++◌, map, take, length, slice_get, Option}
-use Rattle.std.proofs.Common.{Some, None, refl, sym, subst, ap, ◌∙◌, append-nil, arith}
+use Rattle.std.proofs.Common.{◌≡◌, ℕ, ℤ, zero, suc, ◌-◌, ◌≤◌, List, [], ◌∷◌, ◌++◌, map, take, slice_get, Option}
+use Rattle.std.proofs.Common.{Some, None, refl, sym, ap, ◌∙◌, append-nil, arith}
 use Rattle.std.specs.List.{flat_map}
 use Rattle.std.proofs.lemmas.Grind.{flat_map-append}
 use Rattle.eve_smallbank.specs.declared.entry.Entry.{Entry}
 use Rattle.eve_smallbank.specs.Access.{balance_of_row, bank_of, values_after}
-use Rattle.eve_frames.specs.declared.access.AccessView.{AccessView}
 use Rattle.eve_grammar.specs.Trace.{Access, Trace, opening_rows}
 use Rattle.eve_grammar.specs.Limits.{HasLimits}
 use Rattle.eve_history.specs.Section.{Placed}
@@ -13,14 +12,12 @@ use Rattle.eve_history.specs.SectionHistory.{ordered, history, names_of, IsRight
 use Rattle.eve_history.proofs.Finding.{get_mapped}
 use Rattle.eve_chains.specs.Visible.{rows_after}
 use Rattle.eve_chains.specs.Committed.{attempts_of, values_to, bank_after}
-use Rattle.eve_chains.specs.Along.{all_said, entries_along, AreWithin}
+use Rattle.eve_chains.specs.Along.{entries_along}
 use Rattle.eve_chains.proofs.Linked.{none≢some}
 use Rattle.eve_chains.proofs.AlongLaws.{values_after-append}
 use Rattle.eve_chains.proofs.SerialSections.{take_one_more}
 use Rattle.eve_chains.proofs.Advancing.{advance_along}
 use Rattle.eve_chains.specs.Settling.{Settling, settling, values_in, AreBankAfter}
-use Rattle.eve_chains.specs.Parts.{parts}
-use Rattle.eve_chains.proofs.PartsInOrder.{part_within, length-parts}
 
 -- ---- one batch
 
@@ -52,32 +49,6 @@ values_then s n ys old new le at so step =
 pub values_opening : (s : Settling) → balance_of_row s.opening ≡ values_in s 0
 unfolding values_in
 values_opening s = refl
-
--- ---- the part that is kept
-
-pub batch_kept : (s : Settling) (opening : List ℤ) (xs ys : List (ℕ × Access)) (ends : List ℕ) (i : ℕ)
-    → record { opening = opening; batches = parts 0 xs ends } ≡ s
-    → slice_get (parts 0 xs ends) i ≡ Some ys → slice_get s.batches i ≡ Some ys
-batch_kept s opening xs ys ends i is at = subst (λ (v : Settling). slice_get v.batches i ≡ Some ys) is at
-
-pub count_kept : (s : Settling) (opening : List ℤ) (xs : List (ℕ × Access)) (ends : List ℕ)
-    → record { opening = opening; batches = parts 0 xs ends } ≡ s → length ends ≡ length s.batches
-count_kept s opening xs ends is = sym (length-parts 0 xs ends) ∙ ap (λ (v : Settling). length v.batches) is
-
-pub batch_within : (s : Settling) (opening : List ℤ) (xs ys : List (ℕ × Access)) (ends : List ℕ) (i rows : ℕ)
-    → record { opening = opening; batches = parts 0 xs ends } ≡ s → AreWithin (length opening) xs
-    → rows ≡ length s.opening → slice_get (parts 0 xs ends) i ≡ Some ys → AreWithin rows ys
-batch_within s opening xs ys ends i rows is own many at =
-    subst (λ n. AreWithin n ys) (ap (λ (v : Settling). length v.opening) is ∙ sym many)
-    (part_within (length opening) 0 xs ends i ys own at)
-
--- what is read is what is kept
-pub batch_read : (records rs : List AccessView) (ends es : List ℕ) (i : ℕ) (ys : List (ℕ × Access)) → rs ≡ records
-    → es ≡ ends → slice_get (parts 0 (all_said rs) es) i ≡ Some ys
-    → slice_get (parts 0 (all_said records) ends) i ≡ Some ys
-batch_read records rs ends es i ys is so at =
-    subst (λ (vs : List ℕ). slice_get (parts 0 (all_said records) vs) i ≡ Some ys) so
-    (subst (λ (vs : List AccessView). slice_get (parts 0 (all_said vs) es) i ≡ Some ys) is at)
 
 -- ---- the law
 

@@ -138,17 +138,6 @@ taken_more from base views k v old new es at so e step =
     ∙ sym (undone-append from base (entries_along (all_said (take k views))) (access_in v.bytes.now).entries)
     ∙ ap (undone from base) (sym (entries_more views k v at))
 
-pub values_more : (base : ℕ → ℤ) (views : List AccessView) (k : ℕ) (v : AccessView) (old new : ℕ → ℤ) (es : List Entry)
-    → slice_get views k ≡ Some v
-    → old ≡ values_after base (entries_along (all_said (take k views))) → es ≡ (access_in v.bytes.now).entries
-    → new ≡ values_after old es
-    → new ≡ values_after base (entries_along (all_said (take (k + 1) views)))
-values_more base views k v old new es at so e step =
-    step ∙ ap (λ (t : ℕ → ℤ). values_after t es) so
-    ∙ ap (values_after (values_after base (entries_along (all_said (take k views))))) e
-    ∙ sym (values_after-append base (entries_along (all_said (take k views))) (access_in v.bytes.now).entries)
-    ∙ ap (values_after base) (sym (entries_more views k v at))
-
 -- ---- what is seen along the records
 
 all_see_more : (table : Table) (xs : List (ℕ × Access)) (x : ℕ × Access) → AllSee table xs

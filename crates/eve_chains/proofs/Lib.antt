@@ -27,8 +27,6 @@ pub mod Least
 pub mod Attempts
 pub mod Judged
 pub mod Stretches
-mod PartsInOrder
-mod Committed
-mod Copying
+mod CommittedBatches
 mod AdvancingBanks
 pub mod ShortLists

@@ -11,4 +11,3 @@ pub mod Unfit
 pub mod Stretches
 pub mod Settling
 pub mod Checking
-pub mod Parts

@@ -1,7 +1,6 @@
 //! What an attempt's records see and leave, one after another in its certificate's order.
 
 ghost use Rattle.std.specs.Prelude.{◌≡◌, length};
-ghost use Rattle.eve_smallbank.specs.Access.{balance_of_row, values_after};
 ghost use Rattle.eve_smallbank.specs.Chain.{table_after};
 ghost use Rattle.eve_views.specs.First.{first_of};
 ghost use Rattle.eve_chains.specs.Tables.{table_of, undone};
@@ -9,8 +8,6 @@ ghost use Rattle.eve_chains.specs.Along.{all_said, entries_along, AreWithin, IsF
 
 use crate::noted::entries_of;
 use crate::table::Table;
-use crate::written::write_values;
-use eve_accounts::Balances;
 use eve_frames::AccessView;
 use eve_views::{Code, Fault, first_of};
 
@@ -53,18 +50,6 @@ pub fn undo_along(table: &mut Table, ordered: &[AccessView<'_>], from: &Table)
 {
     for access in ordered {
         table.undo(access.entries(), from);
-    }
-}
-
-/// Changes the balances of the rows that the records write.
-pub fn write_values_along(balances: &mut Balances, ordered: &[AccessView<'_>])
-    requires { AreWithin (length balances.old) (all_said ordered.now) }
-    ensures as_many { length balances.new ≡ length balances.old }
-    ensures values { balance_of_row balances.new ≡ values_after (balance_of_row balances.old)
-        (entries_along (all_said ordered.now)) }
-{
-    for access in ordered {
-        write_values(balances, access.entries());
     }
 }
 

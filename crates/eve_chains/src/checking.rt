@@ -6,7 +6,7 @@ ghost use Rattle.eve_views.specs.Form.{IfFound};
 ghost use Rattle.eve_history.specs.SectionHistory.{section_history, names_of, IsRightSection};
 ghost use Rattle.eve_chains.specs.Sound.{SettledAreSound};
 ghost use Rattle.eve_chains.specs.Faults.{HasNoFault, IsLeastFault};
-ghost use Rattle.eve_chains.specs.Checking.{AreRecordsJudged, AreChainsJudged};
+ghost use Rattle.eve_chains.specs.Checking.{AreRecordsJudged, AreChainsSettled};
 ghost use Rattle.eve_chains.specs.Settling.{settling};
 
 use crate::laws::{chains_are_judged_along_the_records, sound_sections_have_no_fault};
@@ -21,27 +21,48 @@ use std::thread::{Threads, join};
 /// How few attempts are worth a thread of their own.
 const LEAST_ATTEMPTS: usize = 32;
 
+/// A replica's history and the trace that it is of, under one lifetime: a closure that held both apart would have one
+/// for each, and what it gives is of both.
+#[derive(Clone, Copy)]
+struct Section<'b, 'a> {
+    history: &'b History<'a>,
+    trace: &'b Trace<'a>,
+}
+
+/// What the replica committed, where each entry sees what its path left; else the first fault of chains.
+fn settle<'a>(alloc: Global, section: &Section<'_, 'a>) -> Result<Settled<'a>, CheckFault>
+    requires history { section.now.history.now
+        ≡ section_history section.now.trace.now section.now.history.now.replica }
+    requires right { IsRightSection section.now.trace.now section.now.history.now.replica }
+    ensures { AreChainsSettled section.now.trace.now section.now.history.now.replica result }
+{
+    chains(alloc, section.history, section.trace)?;
+    let settled = Settled::of(alloc, section.history, section.trace)?;
+    Ok(settled)
+}
+
 /// What judging the records gives, and what judging the chains gives: one after the other on this thread, where there
 /// is one job or there are few attempts; else the chains in one thread, and the records in as many as are left. Neither
-/// waits for the other.
-fn judge_both<R: Threads + Sync>(
+/// waits for the other. What was committed is gathered where the chains were judged, which end first.
+fn judge_both<'a, R: Threads + Sync>(
     rt: &R,
     alloc: Global,
-    history: &History<'_>,
-    trace: &Trace<'_>,
+    history: &History<'a>,
+    trace: &Trace<'a>,
     names: &Names<'_>,
     jobs: u8,
-) -> (Result<(), CheckFault>, Result<(), CheckFault>)
+) -> (Result<(), CheckFault>, Result<Settled<'a>, CheckFault>)
     requires history { history.now ≡ section_history trace.now history.now.replica }
     requires right { IsRightSection trace.now history.now.replica }
     requires names { names.now.items ≡ names_of trace.now }
     requires jobs { 1 ≤ jobs }
     ensures records { AreRecordsJudged trace.now history.now.replica result.0 }
-    ensures chains { AreChainsJudged trace.now history.now.replica result.1 }
+    ensures chains { AreChainsSettled trace.now history.now.replica result.1 }
 {
+    let section = Section { history, trace };
     if jobs == 1 || history.attempts() < LEAST_ATTEMPTS {
         let fit = records(rt, alloc, history, trace, names, 1);
-        (fit, chains(alloc, history, trace))
+        (fit, settle(alloc, &section))
     } else {
         let others = jobs - 1;
         let fit = move ||
@@ -52,10 +73,11 @@ fn judge_both<R: Threads + Sync>(
             ensures { AreRecordsJudged trace.entry.now history.entry.now.replica result }
         { records(rt, alloc, history, trace, names, others) };
         let see = move ||
-            requires history { history.now ≡ section_history trace.now history.now.replica }
-            requires right { IsRightSection trace.now history.now.replica }
-            ensures { AreChainsJudged trace.entry.now history.entry.now.replica result }
-        { chains(alloc, history, trace) };
+            requires history { section.history.now
+                ≡ section_history section.trace.now section.history.now.replica }
+            requires right { IsRightSection section.trace.now section.history.now.replica }
+            ensures { AreChainsSettled section.entry.trace.now section.entry.history.now.replica result }
+        { settle(alloc, &section) };
         join(rt, fit, see)
     }
 }
@@ -87,12 +109,12 @@ pub fn check<'a, R: Threads + Sync>(
     if let Err(why) = fit {
         return Err(why);
     }
-    if let Err(why) = seen {
-        return Err(why);
-    }
+    let settled = match seen {
+        Ok(settled) => settled,
+        Err(why) => return Err(why),
+    };
     trace.is_whole();
     chains_are_judged_along_the_records();
     sound_sections_have_no_fault();
-    let settled = Settled::of(alloc, history, trace)?;
     Ok(settled)
 }

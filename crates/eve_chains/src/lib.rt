@@ -15,7 +15,7 @@ mod versioned;
 mod walk;
 mod written;
 
-pub use along::{judge_along, undo_along, write_along, write_values_along};
+pub use along::{judge_along, undo_along, write_along};
 pub use checking::check;
 pub use fitting::fits;
 pub use settled::Settled;

@@ -18,3 +18,6 @@ pub mod FrameTexts
 pub mod Standing
 pub mod Lent
 pub mod Rights
+mod PartsInOrder
+mod Copied
+mod PartsLent

@@ -7,5 +7,6 @@ pub mod Notes
 pub mod Marking
 pub mod Standing
 pub mod Coming
+pub mod Parts
 pub mod Rising
 pub mod Repeats

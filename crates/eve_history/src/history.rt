@@ -11,7 +11,7 @@ ghost use Rattle.eve_views.specs.Lent.{HasBytesAt};
 ghost use Rattle.eve_views.specs.StepKinds.{IsStep};
 ghost use Rattle.eve_history.specs.SectionHistory.{ExecutedAttempt, section_history, section_histories, IsRightSection};
 ghost use Rattle.eve_history.specs.Faults.{IsStructureFault};
-ghost use Rattle.eve_history.specs.Coming.{kept_section, HasCome, AreNotesOf};
+ghost use Rattle.eve_history.specs.Coming.{kept_section, section_history_of, HasCome, AreNotesOf, IsWholeSection};
 
 use crate::fate::Fate;
 use crate::frame::{access_at, attempt_at, rollback_at};
@@ -111,6 +111,14 @@ impl<'a> History<'a> {
         ensures section { (t : TraceValue) (e : ℕ) → self.now ≡ section_history t e → IsRightSection t e }
     {
         let _replica = self.replica;
+    }
+
+    /// What is kept of the section's steps.
+    pub(crate) fn notes(&self) -> &Notes<'a>
+        ensures tells { section_history_of self.now.replica (kept_section result.now) ≡ self.now }
+        ensures whole { IsWholeSection result.now }
+    {
+        &self.notes
     }
 
     /// The replica's number, from 0.

@@ -4,6 +4,7 @@
 
 mod arrivals;
 mod certificate;
+mod committed;
 mod fate;
 mod frame;
 mod history;
@@ -14,5 +15,6 @@ mod repeats;
 mod wrong;
 
 pub use arrivals::orders;
+pub use committed::CommittedRecords;
 pub use fate::Fate;
 pub use history::{History, are_right};

@@ -1,7 +1,7 @@
 //! What a replica's section tells, step by step.
 
 ghost use Rattle.std.specs.Prelude.{◌≡◌, ◌≤◌, ◌<◌, ◌++◌, ◌∷◌, ◌^◌, [], ℕ, List, IsTrue, IfErr, OnOk, IfNone};
-ghost use Rattle.std.specs.Prelude.{◌==◌, ◌&&◌, false, map, length};
+ghost use Rattle.std.specs.Prelude.{◌==◌, ◌&&◌, ◌+◌, false, map, length, take, drop, slice_get, Some};
 ghost use Rattle.std.specs.List.{AllByRecursion, list_any};
 ghost use Rattle.eve_grammar.specs.Trace.{Trace as TraceValue, Attempt, Step as StepValue, Attempts, Commits};
 ghost use Rattle.eve_grammar.specs.Trace.{RollsBack, head_of};
@@ -12,11 +12,13 @@ ghost use Rattle.eve_frames.specs.Said.{attempt_said, commit_said, rollback_said
 ghost use Rattle.eve_views.specs.Form.{IfFound, IsLeast};
 ghost use Rattle.eve_views.specs.declared.fault.CheckFault.TheVariants.{Found, Memory};
 ghost use Rattle.eve_history.specs.Section.{SectionState, is_due, is_right_commit, is_right_rollback, same_bytes};
-ghost use Rattle.eve_history.specs.SectionHistory.{access_with};
+ghost use Rattle.eve_history.specs.SectionHistory.{access_with, ExecutedAttempt};
 ghost use Rattle.eve_history.specs.Faults.{accesses_of, IsStructureFault};
 ghost use Rattle.eve_history.specs.FirstWrong.{wrong_attempt, wrong_step, fault_of};
 ghost use Rattle.eve_history.specs.Marking.{AreMarked};
 ghost use Rattle.eve_history.specs.Coming.{kept_section, StandsAt, HasCome, ComesNext, AreFramed, AreNotesOf};
+ghost use Rattle.eve_history.specs.Coming.{seen, executed_attempts, IsWholeSection};
+ghost use Rattle.eve_history.specs.Standing.{IsAccessAt};
 
 use crate::certificate::{is_certificate, read_order};
 use crate::fate::Fate;
@@ -102,6 +104,14 @@ fn keep_records(
     Ok(())
 }
 
+/// So many of the records, from this place on.
+fn part(records: &[u32], from: usize, count: usize) -> &[u32]
+    requires { from + count ≤ length records.now }
+    ensures { result.now ≡ take count (drop from records.now) }
+{
+    &records[from..from + count]
+}
+
 impl<'a> Notes<'a> {
     /// Before the first step.
     pub fn new(alloc: Global, bytes: &'a [u8]) -> Notes<'a>
@@ -132,6 +142,19 @@ impl<'a> Notes<'a> {
             records: Vec::new(alloc),
             rollbacks: Vec::new(alloc),
         }
+    }
+
+    /// The bytes at which an attempt's access records begin, in its certificate's order.
+    pub fn records_of(&self, i: usize) -> &[u32]
+        requires whole { IsWholeSection self.now }
+        requires there { i < length (kept_section self.now).attempts }
+        ensures says { (r : ExecutedAttempt) → slice_get (executed_attempts (kept_section self.now)) i ≡ Some r
+            → map (seen self.now.bytes.now) result.now ≡ r.ordered }
+        ensures framed { AllByRecursion (IsAccessAt self.now.bytes.now) result.now }
+    {
+        let attempted = self.attempts[i];
+        let count = attempt_at(self.bytes, attempted.at).len();
+        part(&self.records, attempted.from, count)
     }
 
     /// Whether an attempt's number, view and mode are those that are due.

@@ -1,37 +1,40 @@
-use Rattle.std.proofs.Common.{◌-◌, length, ap, arith}
+use Rattle.std.proofs.Common.{◌≡◌, ℕ, ◌-◌, ◌<◌, List, [], Some, length, slice_get, slice_index_or, sym}
+use Rattle.std.proofs.Common.{subst, ap, ◌∙◌, arith}
+use Rattle.std.specs.List.{AllByRecursion}
 use Rattle.eve_smallbank.specs.Access.{balance_of_row}
-use Rattle.eve_chains.specs.Along.{all_said}
-use Rattle.eve_chains.proofs.AdvancingBanks.{values_then, batch_kept, count_kept, batch_within, batch_read, banks_are}
+use Rattle.eve_grammar.specs.Trace.{Access}
+use Rattle.eve_history.proofs.Finding.{get_there}
+use Rattle.eve_chains.specs.Along.{AreWithin}
+use Rattle.eve_chains.specs.Settling.{Settling}
+use Rattle.eve_chains.proofs.AdvancingBanks.{values_then, banks_are}
 use Rattle.eve_chains.proofs.settled.Settled.advance.Goals as goal
 
-pub part-records-requires-clause-there : goal.part-records-requires-clause-there
-part-records-requires-clause-there c =
-    let s = c.self.inside in
-    let count = count_kept c.args.self.now s.opening (all_said s.records.items) s.ends.items c.self.view_is in
-    let same = ap length c.deref-2.ensures.value in
-    let one = c.requires.one in
-    let there = c.requires.there in
-    omega arith
+pub write_batch-requires-clause-there : goal.write_batch-requires-clause-there
+write_batch-requires-clause-there c =
+    omega (arith, c.requires.there, ap (λ (s : Settling). length s.batches) c.self.view_is)
 
-pub write_values_along-requires : goal.write_values_along-requires
-write_values_along-requires c =
-    let s = c.self.inside in
-    let ys = all_said c.part-records.result.now in
-    batch_within c.args.self.now s.opening (all_said s.records.items) ys s.ends.items (c.args.n - 1)
-    (length c.args.balances.now) c.self.view_is c.self.invariant.within c.requires.rows
-    (batch_read s.records.items c.deref.result.now s.ends.items c.deref-2.result.now
-    (c.args.n - 1) ys c.deref.ensures.value c.deref-2.ensures.value c.part-records.ensures)
+pub write_batch-requires-clause-within : goal.write_batch-requires-clause-within
+write_batch-requires-clause-within c =
+    subst (λ (rows : ℕ). AllByRecursion (AreWithin rows) c.self.inside.records)
+    (sym (c.requires.rows ∙ ap (λ (s : Settling). length s.opening) (sym c.self.view_is))) c.self.invariant
 
 pub returns-clause-values : goal.returns-clause-values
 returns-clause-values c =
-    let s = c.self.inside in
-    let ys = all_said c.part-records.result.now in
-    values_then c.args.self.now c.args.n ys (balance_of_row c.args.balances.now)
-    (balance_of_row c.write_values_along.new.balances) c.requires.one
-    (batch_kept c.args.self.now s.opening (all_said s.records.items) ys s.ends.items (c.args.n - 1) c.self.view_is
-    (batch_read s.records.items c.deref.result.now s.ends.items c.deref-2.result.now
-    (c.args.n - 1) ys c.deref.ensures.value c.deref-2.ensures.value c.part-records.ensures))
-    c.requires.before c.write_values_along.ensures.values
+    let kept = c.self.inside.records in
+    let i = c.args.n - 1 in
+    let same = ap (λ (s : Settling). s.batches) c.self.view_is in
+    let lt : i < length kept = omega (
+      arith,
+      c.requires.one,
+      c.requires.there,
+      ap (λ (s : Settling). length s.batches) c.self.view_is,
+    ) in
+    let xs = slice_index_or kept i [] in
+    let at : slice_get kept i ≡ Some xs = get_there kept i [] lt in
+    values_then c.args.self.now c.args.n xs (balance_of_row c.args.balances.now)
+    (balance_of_row c.write_batch.new.balances) c.requires.one
+    (subst (λ (zss : List (List (ℕ × Access))). slice_get zss i ≡ Some xs) same at)
+    c.requires.before (c.write_batch.ensures.values xs at)
 
 pub returns-clause-bank : goal.returns-clause-bank
-returns-clause-bank c = banks_are c.args.self.now c.args.n c.write_values_along.new.balances (returns-clause-values c)
+returns-clause-bank c = banks_are c.args.self.now c.args.n c.write_batch.new.balances (returns-clause-values c)

@@ -3,15 +3,14 @@ use Rattle.std.proofs.Common.{◌∙◌, arith, rules}
 use Rattle.std.proofs.lemmas.List.{length-map, length-take}
 use Rattle.eve_history.specs.declared.notes.Notes.{Notes}
 use Rattle.eve_history.specs.declared.notes.Attempted.{Attempted}
-use Rattle.std.specs.List.{AllByRecursion}
 use Rattle.eve_grammar.specs.Frames.{OfAccess}
 use Rattle.eve_grammar.specs.Spelling.{frame_text}
 use Rattle.eve_frames.specs.Views.{access_in}
-use Rattle.eve_history.specs.Standing.{IsAccessAt}
 use Rattle.eve_history.specs.SectionHistory.{ExecutedAttempt, SectionHistory}
 use Rattle.eve_history.specs.Coming.{kept_section, kept_attempt, kept_executed_attempt, section_history_of, IsKept}
 use Rattle.eve_history.specs.Coming.{seen}
 use Rattle.eve_history.proofs.Finding.{get_mapped, get_is, rec_at, get_in_part}
+use Rattle.eve_history.proofs.PartsLent.{found_there}
 use Rattle.eve_history.proofs.history.History.ordered.Goals as goal
 
 -- where an attempt's records are
@@ -72,13 +71,6 @@ index-at-requires c =
     let count : vec_len n.records ≡ length n.records.items = search rules in
     omega arith
 
--- where the record was found, its frame begins
-found_there : (n : Notes) (place at : ℕ) → place < length n.records.items → at ≡ get_or n.records.items place at
-    → AllByRecursion (IsAccessAt n.bytes.now) n.records.items → (slice_get n.records.items place ≡ Some at)
-    × IsAccessAt n.bytes.now at
-found_there n place at lt read all = let got = get_is n.records.items place at lt read in
-    (got, rec_at (IsAccessAt n.bytes.now) n.records.items place at all got)
-
 pub access_at-requires : goal.access_at-requires
 access_at-requires c =
     let n = c.self.inside.notes in
@@ -87,8 +79,8 @@ access_at-requires c =
     c.requires.attempt c.requires.place c.index.ensures in
     let short = h.short in
     let within = h.within in
-    (found_there n (x.from + c.args.place) c.index-at.result.now (omega arith) c.index-at.ensures
-    c.self.invariant.framed.records).1
+    (found_there n.bytes.now n.records.items (x.from + c.args.place) c.index-at.result.now (omega arith)
+    c.index-at.ensures c.self.invariant.framed.records).1
 
 pub returns-clause-says : goal.returns-clause-says
 returns-clause-says c =
@@ -100,7 +92,7 @@ returns-clause-says c =
     c.requires.attempt c.requires.place c.index.ensures in
     let short = h.short in
     let within = h.within in
-    let found = found_there n (x.from + c.args.place) at (omega arith) c.index-at.ensures
+    let found = found_there n.bytes.now n.records.items (x.from + c.args.place) at (omega arith) c.index-at.ensures
     c.self.invariant.framed.records in
     let is : seen n.bytes.now at ≡ (c.access_at.result.offset, access_in c.access_at.result.bytes.now) =
     λ i. (sym c.access_at.ensures.offset i, access_in (sym c.access_at.ensures.bytes i)) in (
@@ -120,7 +112,7 @@ returns-clause-text c =
     c.requires.attempt c.requires.place c.index.ensures in
     let short = h.short in
     let within = h.within in
-    let found = found_there n (x.from + c.args.place) c.index-at.result.now (omega arith) c.index-at.ensures
-    c.self.invariant.framed.records in
+    let found = found_there n.bytes.now n.records.items (x.from + c.args.place) c.index-at.result.now (omega arith)
+    c.index-at.ensures c.self.invariant.framed.records in
     c.access_at.ensures.bytes ∙ found.1.text
     ∙ ap (λ b. frame_text (OfAccess (access_in b))) (sym c.access_at.ensures.bytes)

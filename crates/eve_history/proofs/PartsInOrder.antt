@@ -1,16 +1,34 @@
 -- Batches kept as one list: each part, and what one more changes.
 use Rattle.std.proofs.Common.{◌≡◌, ◌≢◌, ℕ, zero, suc, ◌+◌, ◌-◌, ◌<◌, ◌≤◌, List, [], ◌∷◌, ◌++◌, take, drop, length}
-use Rattle.std.proofs.Common.{slice_get, slice_index_or, Some, refl, sym, subst, ap, ◌∙◌, arith}
-use Rattle.std.specs.List.{list_all}
-use Rattle.std.proofs.lemmas.Bool.{and_parts, and_from}
-use Rattle.std.proofs.lemmas.List.{take_all, take-map, drop-map, drop-append-le, length-append, length-drop}
+use Rattle.std.proofs.Common.{slice_get, slice_index_or, Some, None, refl, sym, subst, ap, ◌∙◌, arith}
+use Rattle.std.specs.List.{AllByRecursion}
+use Rattle.std.proofs.lemmas.List.{take_all, drop-append-le, length-append, length-drop}
 use Rattle.std.proofs.Math.Seq.{drop-append_seam}
-use Rattle.eve_frames.specs.declared.access.AccessView.{AccessView}
 use Rattle.eve_grammar.specs.Trace.{Access}
-use Rattle.eve_grammar.specs.Limits.{is_entry}
-use Rattle.eve_chains.specs.Along.{said_at, all_said, AreWithin}
-use Rattle.eve_chains.proofs.Linked.{some_injective, none≢some}
-use Rattle.eve_chains.specs.Parts.{begin, parts, DoRise}
+use Rattle.eve_history.specs.Parts.{begin, parts, DoRise}
+
+-- ---- what holds of all
+
+module _ {A : Type 0} (P : A → Type 0) where
+  pub all_joined : (xs ys : List A) → AllByRecursion P xs → AllByRecursion P ys → AllByRecursion P (xs ++ ys)
+  all_joined [] ys own other = other
+  all_joined (x ∷ xs) ys own other = (own.0, all_joined xs ys own.1 other)
+
+  pub all_dropped : (n : ℕ) (xs : List A) → AllByRecursion P xs → AllByRecursion P (drop n xs)
+  all_dropped zero xs own = own
+  all_dropped (suc n) [] own = own
+  all_dropped (suc n) (x ∷ xs) own = all_dropped n xs own.1
+
+  pub all_taken : (n : ℕ) (xs : List A) → AllByRecursion P xs → AllByRecursion P (take n xs)
+  all_taken zero xs own = tt
+  all_taken (suc n) [] own = tt
+  all_taken (suc n) (x ∷ xs) own = (own.0, all_taken n xs own.1)
+
+none_some : {A : Type 0} {B : Type 0} (x : A) → ◌≡◌ {A = _} None (Some x) → B
+none_some x e = absurd (cc)
+
+pub inside : {A : Type 0} (x y : A) → Some x ≡ Some y → x ≡ y
+inside x y e = cc
 
 -- ---- one part
 
@@ -20,8 +38,8 @@ length-parts from xs (end ∷ ends) = ap suc (length-parts end xs ends)
 
 pub part_at : (from : ℕ) (xs : List (ℕ × Access)) (ends : List ℕ) (i end : ℕ) → slice_get ends i ≡ Some end
     → slice_get (parts from xs ends) i ≡ Some (take (end - begin from ends i) (drop (begin from ends i) xs))
-part_at from xs [] i end at = none≢some end at
-part_at from xs (e ∷ ends) zero end at = ap (λ n. Some (take (n - from) (drop from xs))) (some_injective e end at)
+part_at from xs [] i end at = none_some end at
+part_at from xs (e ∷ ends) zero end at = ap (λ n. Some (take (n - from) (drop from xs))) (inside e end at)
 part_at from xs (e ∷ ends) (suc i) end at = part_at e xs ends i end at
 
 -- what is read of the ends
@@ -53,15 +71,11 @@ pub record LiesWithin (begins end to : ℕ) : Type 0 where
 
 pub lies_within : (from : ℕ) (ends : List ℕ) (to i end : ℕ) → DoRise from ends to → slice_get ends i ≡ Some end
     → LiesWithin (begin from ends i) end to
-lies_within from [] to i end rise at = none≢some end at
+lies_within from [] to i end rise at = none_some end at
 lies_within from (e ∷ ends) to zero end rise at =
-    subst (λ n. LiesWithin from n to) (some_injective e end at)
+    subst (λ n. LiesWithin from n to) (inside e end at)
     (record { rises = rise.0; inside = rise_up e ends to rise.1 })
 lies_within from (e ∷ ends) to (suc i) end rise at = lies_within e ends to i end rise.1 at
-
-pub said_between : (views : List AccessView) (from n : ℕ) → all_said (take n (drop from views))
-    ≡ take n (drop from (all_said views))
-said_between views from n = sym (take-map said_at n (drop from views)) ∙ ap (take n) (sym (drop-map said_at from views))
 
 -- ---- one part more
 
@@ -93,45 +107,3 @@ pub rise_more : (from : ℕ) (ends : List ℕ) (to more : ℕ) → to ≤ more �
     → DoRise from (ends ++ more ∷ []) more
 rise_more from [] to more le rise = (subst (λ n. n ≤ more) (sym rise) le, refl)
 rise_more from (e ∷ ends) to more le rise = (rise.0, rise_more e ends to more le rise.1)
-
--- ---- records of these rows
-
-pub within_both : (rows : ℕ) (xs ys : List (ℕ × Access)) → AreWithin rows xs → AreWithin rows ys
-    → AreWithin rows (xs ++ ys)
-within_both rows [] ys own other = other
-within_both rows (x ∷ xs) ys own other =
-    let both = and_parts (list_all (is_entry rows) x.1.entries)
-    (list_all (λ y. list_all (is_entry rows) y.1.entries) xs) own in
-    and_from (list_all (is_entry rows) x.1.entries) (list_all (λ y. list_all (is_entry rows) y.1.entries) (xs ++ ys))
-    both.0 (within_both rows xs ys both.1 other)
-
-within_drop : (rows n : ℕ) (xs : List (ℕ × Access)) → AreWithin rows xs → AreWithin rows (drop n xs)
-within_drop rows zero xs own = own
-within_drop rows (suc n) [] own = own
-within_drop rows (suc n) (x ∷ xs) own =
-    within_drop rows n xs (and_parts (list_all (is_entry rows) x.1.entries)
-    (list_all (λ y. list_all (is_entry rows) y.1.entries) xs) own).1
-
-within_take : (rows n : ℕ) (xs : List (ℕ × Access)) → AreWithin rows xs → AreWithin rows (take n xs)
-within_take rows zero xs own = refl
-within_take rows (suc n) [] own = refl
-within_take rows (suc n) (x ∷ xs) own =
-    let both = and_parts (list_all (is_entry rows) x.1.entries)
-    (list_all (λ y. list_all (is_entry rows) y.1.entries) xs) own in
-    and_from (list_all (is_entry rows) x.1.entries) (list_all (λ y. list_all (is_entry rows) y.1.entries) (take n xs))
-    both.0 (within_take rows n xs both.1)
-
--- each part is of the rows that all are of
-pub part_within : (rows from : ℕ) (xs : List (ℕ × Access)) (ends : List ℕ) (i : ℕ) (ys : List (ℕ × Access))
-    → AreWithin rows xs → slice_get (parts from xs ends) i ≡ Some ys → AreWithin rows ys
-part_within rows from xs [] i ys own at = none≢some ys at
-part_within rows from xs (e ∷ ends) zero ys own at = subst (AreWithin rows) (some_injective _ ys at)
-    (within_take rows (e - from) (drop from xs) (within_drop rows from xs own))
-part_within rows from xs (e ∷ ends) (suc i) ys own at = part_within rows e xs ends i ys own at
-
-pub part_read : (views : List AccessView) (ends : List ℕ) (i from to : ℕ) (part : List AccessView) → slice_get ends i
-    ≡ Some to → from ≡ begin 0 ends i → part ≡ take (to - from) (drop from views)
-    → slice_get (parts 0 (all_said views) ends) i ≡ Some (all_said part)
-part_read views ends i from to part at is so =
-    part_at 0 (all_said views) ends i to at ∙ ap (λ n. Some (take (to - n) (drop n (all_said views)))) (sym is)
-    ∙ ap (λ (xs : List (ℕ × Access)). Some xs) (sym (ap all_said so ∙ said_between views from (to - from)))
