@@ -38,8 +38,15 @@ struct Opened<'a> {
     names: Names<'a>,
 }
 
-/// Reads a trace and judges its orders.
-fn open<'a>(alloc: Global, bytes: &'a [u8], random: RandomState) -> Result<Opened<'a>, CheckFault>
+/// Reads a trace and judges its orders. It is read with up to so many jobs.
+fn open<'a, R: Threads + Sync>(
+    rt: &R,
+    alloc: Global,
+    bytes: &'a [u8],
+    random: RandomState,
+    jobs: u8,
+) -> Result<Opened<'a>, CheckFault>
+    requires { 1 ≤ jobs }
     ensures read { IfOk result (λ opened. IsRead bytes.now opened.trace) }
     ensures names { IfOk result (λ opened. opened.names.items ≡ names_of opened.trace) }
     ensures orders { IfOk result (λ opened. HasNone (IsOrderFault opened.trace)) }
@@ -48,7 +55,7 @@ fn open<'a>(alloc: Global, bytes: &'a [u8], random: RandomState) -> Result<Opene
     bytes_spell_one_trace();
     faults_lie_within();
     fates_are_as_the_section_ends();
-    let trace = match Trace::read(alloc, bytes) {
+    let trace = match Trace::read_side_by_side(rt, alloc, bytes, jobs) {
         Ok(trace) => trace,
         Err(why) => return Err(why),
     };
@@ -134,7 +141,7 @@ pub fn audit_one<R: Threads + Sync>(
     ensures within { IfOk result (λ v. IfNo v (λ f. f.offset ≤ length bytes.now)) }
     ensures replica { IfOk result (λ v. IfNo v (NamesItsSection bytes.now)) }
 {
-    match open(alloc, bytes, random) {
+    match open(rt, alloc, bytes, random, 1) {
         Ok(opened) => verdict_on(rt, alloc, &opened.trace, &opened.names, &mut []),
         Err(CheckFault::Found(fault)) => Ok(Verdict::No(fault)),
         Err(CheckFault::Memory) => Err(AuditFault::Memory),
@@ -144,11 +151,13 @@ pub fn audit_one<R: Threads + Sync>(
 /// Audits the bytes of a trace as `audit_one` does, the replicas side by side on up to `MOST_AUDIT_WORKERS` workers:
 /// the same verdict, for every number of workers and every order in which they end.
 ///
-/// docs/MODEL.md, "Verdict" and "The audit theorem". Worker e mod `workers` judges replica e by itself, and enters the
-/// gate with e first. No more threads than workers work at once: with one worker no thread is started, and a replica
-/// has more than one where there are two workers or more to each. A worker that can't be started is run by the caller,
-/// and a replica for which a worker had no memory is judged again by the caller. What the replicas come to together is
-/// judged once all workers have ended. Nothing is promised of which threads run, and it returns where the gate does.
+/// docs/MODEL.md, "Verdict" and "The audit theorem". The caller reads the trace and judges its orders first: the bodies
+/// of batches, attempts and access records in up to as many threads as there are workers, which have ended before a
+/// worker begins. Then worker e mod `workers` judges replica e by itself, and enters the gate with e first. No more
+/// threads than workers work at once: with one worker no thread is started, and a replica has more than one where there
+/// are two workers or more to each. A worker that can't be started is run by the caller, and a replica for which a
+/// worker had no memory is judged again by the caller. What the replicas come to together is judged once all workers
+/// have ended. Nothing is promised of which threads run, and it returns where the gate does.
 pub fn audit<R: Threads + Wait + Sync, G: Gate>(
     rt: &R,
     alloc: Global,
@@ -163,7 +172,7 @@ pub fn audit<R: Threads + Wait + Sync, G: Gate>(
     ensures within { IfOk result (λ v. IfNo v (λ f. f.offset ≤ length bytes.now)) }
     ensures replica { IfOk result (λ v. IfNo v (NamesItsSection bytes.now)) }
 {
-    let opened = match open(alloc, bytes, random) {
+    let opened = match open(rt, alloc, bytes, random, workers) {
         Ok(opened) => opened,
         Err(CheckFault::Found(fault)) => return Ok(Verdict::No(fault)),
         Err(CheckFault::Memory) => return Err(AuditFault::Memory),

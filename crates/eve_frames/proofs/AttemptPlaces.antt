@@ -1,4 +1,4 @@
--- Where an Attempt frame's fields stand.
+-- Public: other crates cite these lemmas. Where an Attempt frame's fields stand.
 use Rattle.std.proofs.Common.{◌≡◌, ℕ, ◌+◌, ◌-◌, ◌*◌, ◌≤◌, Bool, true, false, cond, leb, eqb, List, ◌++◌, length, get_or}
 use Rattle.std.proofs.Common.{take, drop, Some, None, refl, sym, ap, subst, ◌∙◌, arith}
 use Rattle.std.specs.Prelude.{IsTrue}

@@ -1,4 +1,4 @@
--- Where a Batch frame's fields stand.
+-- Public: other crates cite these lemmas. Where a Batch frame's fields stand.
 use Rattle.std.proofs.Common.{◌≡◌, ℕ, ◌+◌, ◌-◌, ◌*◌, ◌<◌, ◌≤◌, ◌&&◌, leb, List, length, take, drop, sum, Some, sym, ap}
 use Rattle.std.proofs.Common.{subst, ◌∙◌, arith}
 use Rattle.std.specs.Prelude.{IsTrue, slice_get}

@@ -2,9 +2,9 @@ mod KindNames
 mod Places
 mod Lists
 mod CustomerPlaces
-mod BatchPlaces
+pub mod BatchPlaces
 mod SentPlaces
-mod AttemptPlaces
+pub mod AttemptPlaces
 mod AccessPlaces
 mod CommitPlaces
 mod RollbackPlaces

@@ -1,14 +1,14 @@
 -- What is told of one replica after another.
 use Rattle.std.proofs.Common.{◌≡◌, ℕ, zero, suc, ◌+◌, ◌<◌, ◌≤◌, inl, inr, List, [], ◌∷◌, ◌++◌, map, length, take, refl}
 use Rattle.std.proofs.Common.{sym, ap, subst, ◌∙◌, arith}
-use Rattle.std.specs.Prelude.{slice_index_or, IsTrue}
+use Rattle.std.specs.Prelude.{IsTrue}
 use Rattle.std.specs.List.{enumerate_from}
 use Rattle.std.proofs.lemmas.Bool.{cases_lt}
 use Rattle.eve_grammar.specs.Trace.{Step, Trace}
-use Rattle.eve_grammar.specs.Frames.{OfReplica, sections_of}
-use Rattle.eve_grammar.specs.Spelling.{frame_text, step_text, located, section_start, steps_at}
+use Rattle.eve_grammar.specs.Frames.{sections_of}
 use Rattle.eve_history.specs.Section.{start, are_right}
 use Rattle.eve_history.specs.SectionHistory.{SectionHistory, section_history, section_histories, IsRightSection}
+use Rattle.eve_history.proofs.Rights.{none_at}
 use Rattle.eve_chains.specs.Settling.{Settling, settling, settlings}
 use Rattle.eve_limits.specs.SectionHistories.{AreTold}
 
@@ -62,17 +62,8 @@ module _ (t : Trace) where
       }
 
   -- after the last replica there are no steps
-  none_beyond : (place : ℕ) (xs : List (List Step)) → length xs ≤ place → slice_index_or xs place [] ≡ []
-  none_beyond place [] le = refl
-  none_beyond zero (x ∷ xs) le = absurd (omega (arith, le))
-  none_beyond (suc place) (x ∷ xs) le = none_beyond place xs (omega (arith, le))
-
   right_beyond : (e : ℕ) → length t.sections ≤ e → IsRightSection t e
-  unfolding steps_at
-  right_beyond e le =
-      subst (λ (xs : List Step). IsTrue
-      (are_right t start (located step_text (section_start t e + length (frame_text (OfReplica e))) xs)))
-      (sym (none_beyond e t.sections le)) refl
+  right_beyond e le = subst (λ (xs : List (ℕ × Step)). IsTrue (are_right t start xs)) (sym (none_at t e le)) refl
 
   module _ (tells : List SectionHistory) (settles : List Settling) (are : AreTold t (length t.sections) tells settles)
     where

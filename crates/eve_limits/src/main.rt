@@ -74,6 +74,13 @@ const WINDOW: Size = Size {
 /// after it: the frame's head, the record's, and the rest of the entry.
 const LAST_OF_AFTER: usize = 5 + 6 + 28;
 
+/// How many bytes an Access frame has in front of the count of its entries: the frame's head, worker, place and index.
+const ENTRY_COUNT: usize = 5 + 5;
+
+/// How many bytes a Batch frame has in front of the last byte of the count of its parallelBatches: the frame's head, the
+/// number, and the count's first byte.
+const GROUP_COUNT: usize = 5 + 4 + 1;
+
 /// How many bytes a Sent frame has in front of its last byte, the last of its reply.
 const LAST_OF_SENT: usize = 5 + 25;
 
@@ -86,6 +93,14 @@ fn record_of<R: AllocGlobal>(rt: &R, trace: &[u8], replica: u8, index: u16) -> i
     match found {
         Some(place) => Ok(place),
         None => Err(io::Error::from(ErrorKind::NotFound)),
+    }
+}
+
+/// Where the last batch stands.
+fn last_batch_of<R: AllocGlobal>(rt: &R, trace: &[u8]) -> io::Result<u64> {
+    match Trace::read(rt.alloc(), trace) {
+        Ok(trace) if trace.batch_count() > 0 => Ok(trace.batch(trace.batch_count()).offset()),
+        _ => Err(io::Error::from(ErrorKind::NotFound)),
     }
 }
 
@@ -265,6 +280,51 @@ fn tell_other_balance<R: AllocGlobal + RandomSource + Threads + Wait + Sync>(
     tell_call(out, "another balance, by itself", &found, attempt)
 }
 
+/// A byte of a body is changed, at so many bytes behind the frame's first one: the body is wrong.
+fn tell_wrong_body<R: AllocGlobal + RandomSource + Threads + Wait + Sync>(
+    rt: &R,
+    out: &mut Vec<u8>,
+    name: &str,
+    trace: &[u8],
+    frame: u64,
+    behind: usize,
+) -> io::Result<()> {
+    let at = usize::try_from(frame).unwrap_or(usize::MAX);
+    let other = altered(rt.alloc(), trace, at.saturating_add(behind))?;
+    let spot = Spot {
+        at: frame,
+        replica: None,
+    };
+    tell(rt, out, name, other.as_slice(), spot)
+}
+
+/// The last batch and one of the last access records have a wrong body, where the last of the threads judges that judge
+/// bodies.
+fn tell_wrong_bodies<R: AllocGlobal + RandomSource + Threads + Wait + Sync>(
+    rt: &R,
+    out: &mut Vec<u8>,
+    trace: &[u8],
+) -> io::Result<()> {
+    let batch = last_batch_of(rt, trace)?;
+    tell_wrong_body(
+        rt,
+        out,
+        "another count of groups",
+        trace,
+        batch,
+        GROUP_COUNT,
+    )?;
+    let access = record_of(rt, trace, 7, 252)?.access;
+    tell_wrong_body(
+        rt,
+        out,
+        "another count of entries",
+        trace,
+        access,
+        ENTRY_COUNT,
+    )
+}
+
 /// The last reply is changed, in a trace of several megabytes.
 fn tell_other_reply<R: AllocGlobal + RandomSource + Threads + Wait + Sync>(
     rt: &R,
@@ -319,6 +379,7 @@ fn tell_widest<R: AllocGlobal + RandomSource + Threads + Wait + Sync>(
     write!(out, "widest: {size} 4 MiB\n")?;
     tell(rt, out, "widest", trace, NOWHERE)?;
     tell_balances(rt, out, trace)?;
+    tell_wrong_bodies(rt, out, trace)?;
     tell_other_reply(rt, out, trace)?;
     tell_twice(rt, out, trace)?;
     tell_all_twice(rt, out, trace)

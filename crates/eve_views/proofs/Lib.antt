@@ -4,6 +4,7 @@ pub mod WalkLaws
 pub mod Keeping
 pub mod StartLaws
 pub mod Reaching
+pub mod Unjudged
 pub mod HeaderLaws
 pub mod FormLaws
 pub mod TraceLaws

@@ -5,7 +5,7 @@ use Rattle.std.specs.Prelude.{slice_get, IsTrue, ◌&&◌}
 use Rattle.std.specs.List.{flat_map, list_all, enumerate_from}
 use Rattle.std.proofs.lemmas.List.{length-append, length-map, length-take-le, take-append-drop}
 use Rattle.std.proofs.lemmas.List.FromFn.{length-enumerate_from}
-use Rattle.eve_grammar.specs.Trace.{Head, Batch, Access, Vote, Sent, Trace, head_of}
+use Rattle.eve_grammar.specs.Trace.{Head, Batch, Access, Vote, Trace, head_of}
 use Rattle.eve_grammar.specs.Frames.{Frame, OfCustomer, OfBatch, OfAccess, OfVote, OfSent, End, section_frames}
 use Rattle.eve_grammar.specs.Frames.{verifier_frames, batches_of, sections_of, verifiers_of, frames_of}
 use Rattle.eve_grammar.specs.Spelling.{frame_text, frames_text, spelling, located, customers_at, batches_at, sent_at}

@@ -9,6 +9,7 @@ mod frames;
 mod header;
 pub mod laws;
 mod place;
+mod side_by_side;
 mod starts;
 mod steps;
 mod trace;
@@ -20,6 +21,7 @@ pub use eve_frames::{
     AccessView, AttemptView, BatchView, Certificate, CommitView, CustomerView, Entries, FrameView,
     Replies, Requests, Restores, RollbackView, SentView, VoteView,
 };
+pub use eve_grammar;
 pub use eve_streams::{Sink, SinkOf, Source, SourceOf};
 pub use fault::{CheckFault, Code, Fault};
 pub use first::first_of;

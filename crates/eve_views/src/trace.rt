@@ -9,7 +9,9 @@ ghost use Rattle.eve_grammar.specs.Trace.{Trace as TraceValue, head_of};
 ghost use Rattle.eve_grammar.specs.Limits.{HasLimits, Spells};
 ghost use Rattle.eve_frames.specs.Said.{batch_said, customer_said, sent_said};
 ghost use Rattle.eve_grammar.specs.Bodies.{limits};
-ghost use Rattle.eve_views.specs.Form.{IsFormFault, IfFound, IsLeast, HasNone};
+ghost use Rattle.eve_views.specs.Form.{SaysHead, IsFormFault, IfFound, IsLeast, HasNone};
+ghost use Rattle.eve_views.specs.Header.{IsHeader};
+ghost use Rattle.eve_views.specs.Indexing.{IsIndex};
 ghost use Rattle.eve_views.specs.Fronts.{before_section, before_verifier, before_sent};
 ghost use Rattle.eve_views.specs.Parts.{is_in_section};
 ghost use Rattle.eve_views.specs.Lent.{HasBytesAt};
@@ -17,6 +19,7 @@ ghost use Rattle.eve_views.specs.Lent.{HasBytesAt};
 use crate::fault::{CheckFault, Fault};
 use crate::frames::Frames;
 use crate::header::head_of;
+use crate::side_by_side::index_side_by_side;
 use crate::steps::Steps;
 use crate::votes::Votes;
 use crate::walk::{Index, index_of};
@@ -24,6 +27,7 @@ use eve_frames::{BatchView, CustomerView, FrameView, SentView};
 use eve_grammar::Head;
 use std::alloc::Global;
 use std::marker::Model;
+use std::thread::Threads;
 
 /// A trace, borrowed as it stands in memory.
 ///
@@ -60,17 +64,56 @@ impl<'a> Trace<'a> {
         ensures no_trace { IfErr result (λ e. IfFound e (λ _. (t : TraceValue) → ¬ Spells bytes.now t)) }
         ensures within { IfErr result (λ e. IfFound e (λ f. f.offset ≤ length bytes.now)) }
     {
-        let head = match head_of(bytes) {
+        let head = match read_head(bytes) {
             Ok(head) => head,
-            Err(code) => {
-                return Err(CheckFault::Found(Fault {
-                    code,
-                    offset: 0,
-                    replica: None,
-                }));
-            }
+            Err(fault) => return Err(fault),
         };
-        match index_of(alloc, head, bytes) {
+        Trace::of_index(head, bytes, index_of(alloc, head, bytes))
+    }
+
+    /// Reads a trace as `read` does, with up to so many jobs: the same trace, or the same fault.
+    ///
+    /// docs/TRACE.md, "Faults of form". With two jobs or more the bodies of batches, attempts and access records are
+    /// judged side by side, in as many threads at most, and in no more than the trace has whole 64 KiB; the caller finds
+    /// the frames first, and is one of these threads. Only where a fault stands there is another pass over the bytes,
+    /// by the caller, up to the first fault. With one job no thread is started. Refused memory decides nothing.
+    pub fn read_side_by_side<R: Threads + Sync>(
+        rt: &R,
+        alloc: Global,
+        bytes: &'a [u8],
+        jobs: u8,
+    ) -> Result<Trace<'a>, CheckFault>
+        requires { 1 ≤ jobs }
+        ensures trace { IfOk result (Spells bytes.now) }
+        ensures faultless { IfOk result (λ _. HasNone (IsFormFault bytes.now)) }
+        ensures least { IfErr result (λ e. IfFound e (IsLeast (IsFormFault bytes.now))) }
+        ensures no_trace { IfErr result (λ e. IfFound e (λ _. (t : TraceValue) → ¬ Spells bytes.now t)) }
+        ensures within { IfErr result (λ e. IfFound e (λ f. f.offset ≤ length bytes.now)) }
+    {
+        let head = match read_head(bytes) {
+            Ok(head) => head,
+            Err(fault) => return Err(fault),
+        };
+        let found = index_side_by_side(rt, alloc, head, bytes, jobs);
+        Trace::of_index(head, bytes, found)
+    }
+
+    /// The trace under a head, with the index of its frames that was found, or the first fault among them.
+    fn of_index(
+        head: Head,
+        bytes: &'a [u8],
+        found: Result<Index, CheckFault>,
+    ) -> Result<Trace<'a>, CheckFault>
+        requires header { IsHeader bytes.now (limits head) }
+        requires found { IfOk found (IsIndex (limits head) bytes.now) }
+        requires fault { IfErr found (λ e. IfFound e (IsFormFault bytes.now)) }
+        ensures trace { IfOk result (Spells bytes.now) }
+        ensures faultless { IfOk result (λ _. HasNone (IsFormFault bytes.now)) }
+        ensures least { IfErr result (λ e. IfFound e (IsLeast (IsFormFault bytes.now))) }
+        ensures no_trace { IfErr result (λ e. IfFound e (λ _. (t : TraceValue) → ¬ Spells bytes.now t)) }
+        ensures within { IfErr result (λ e. IfFound e (λ f. f.offset ≤ length bytes.now)) }
+    {
+        match found {
             Ok(index) => Ok(Trace { head, bytes, index }),
             Err(fault) => Err(fault),
         }
@@ -300,4 +343,22 @@ fn part(bytes: &[u8], from: usize, to: usize) -> &[u8]
     ensures { result.now ≡ take (to - from) (drop from bytes.now) }
 {
     &bytes[from..to]
+}
+
+/// The head that the header says, or the first fault, where it is one of the header.
+fn read_head(bytes: &[u8]) -> Result<Head, CheckFault>
+    ensures header { IfOk result (λ head. IsHeader bytes.now (limits head)) }
+    ensures says { IfOk result (λ head. SaysHead bytes.now (limits head)) }
+    ensures least { IfErr result (λ e. IfFound e (IsLeast (IsFormFault bytes.now))) }
+    ensures no_trace { IfErr result (λ e. IfFound e (λ _. (t : TraceValue) → ¬ Spells bytes.now t)) }
+    ensures within { IfErr result (λ e. IfFound e (λ f. f.offset ≤ length bytes.now)) }
+{
+    match head_of(bytes) {
+        Ok(head) => Ok(head),
+        Err(code) => Err(CheckFault::Found(Fault {
+            code,
+            offset: 0,
+            replica: None,
+        })),
+    }
 }

@@ -14,12 +14,15 @@ use crate::starts::Starts;
 use eve_grammar::{FrameKind, Head, MOST_BYTES, MOST_NAMES, u8_at, u32_at};
 use std::alloc::Global;
 
-/// A whole frame at the front of bytes: its kind, its length in bytes, and how many access frames have to follow.
+/// A whole frame at the front of bytes.
 #[derive(Clone, Copy)]
-struct Framed {
-    kind: FrameKind,
-    len: usize,
-    accesses: usize,
+pub struct Framed {
+    /// The kind.
+    pub kind: FrameKind,
+    /// How many bytes it has.
+    pub len: usize,
+    /// How many access frames have to follow it.
+    pub accesses: usize,
 }
 
 /// The frame at the front of the bytes, or what is wrong there.

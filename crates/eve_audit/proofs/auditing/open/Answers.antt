@@ -7,7 +7,7 @@ use Rattle.eve_audit.proofs.Firsts.{found_weaker, order_first}
 use Rattle.eve_audit.proofs.auditing.open.Goals as goal
 
 pub returns-clause-fault : goal.returns-clause-fault
-returns-clause-fault c =
+returns-clause-fault g c =
     let bytes = c.args.bytes.now in
     let t = c.in-Ok.trace in
     found_weaker (IsLeast (IsOrderFault t)) (λ f. IsAnswer bytes (No f)) c.in-Err-orders.why
@@ -22,5 +22,5 @@ returns-clause-fault c =
     c.in-Err-orders.ensures.least
 
 pub returns-in-Err-clause-fault : goal.returns-in-Err-clause-fault
-returns-in-Err-clause-fault c = form_for c.args.bytes.now c.in-Err.why c.in-Err.ensures.least c.in-Err.ensures.no_trace
+returns-in-Err-clause-fault g c = form_for c.args.bytes.now c.in-Err.why c.in-Err.ensures.least c.in-Err.ensures.no_trace
     c.in-Err.ensures.within

@@ -1,0 +1,119 @@
+-- Frames of which bodies were not judged.
+use Rattle.std.proofs.Common.{◌≡◌, ℕ, ◌+◌, ◌-◌, ◌≤◌, Bool, true, false, List, [], ◌∷◌, ◌++◌, length, take, drop, Option}
+use Rattle.std.proofs.Common.{Some, None, refl, sym, ap, ap₂, subst, ◌∙◌, eqb, cond, is_some, arith}
+use Rattle.std.specs.Prelude.{IsTrue, All}
+use Rattle.std.specs.Option.{option_map}
+use Rattle.std.proofs.lemmas.Bool.{eq-eqb}
+use Rattle.std.proofs.lemmas.List.{take_rest, take-append-drop}
+use Rattle.std.proofs.lemmas.List.Elements.{All-cons, All-head, All-tail}
+use Rattle.byteorder.specs.Endian.{big_number}
+use Rattle.eve_grammar.specs.Trace.{Head, Batch, Attempt, Access}
+use Rattle.eve_grammar.specs.Frames.{Frame, OfBatch, OfAttempt, OfAccess, Place, is_allowed}
+use Rattle.eve_grammar.specs.Limits.{is_head, row_count}
+use Rattle.eve_grammar.specs.Reading.{◌>>=◌, batch_of, attempt_of, access_of, body_of}
+use Rattle.eve_grammar.proofs.Codec.{IsBytes}
+use Rattle.eve_frames.proofs.BatchPlaces.{batch_at}
+use Rattle.eve_frames.proofs.AttemptPlaces.{attempt_at}
+use Rattle.eve_views.specs.declared.starts.Starts.{Starts}
+use Rattle.eve_views.specs.Starting.{noted}
+use Rattle.eve_views.specs.Places.{accesses_in, place_after}
+use Rattle.eve_views.specs.Indexing.{KeptFrame}
+use Rattle.eve_views.specs.SideBySide.{is_right_body, IsRightFrame, AreRightFrames, IsFramedUnjudged}
+use Rattle.eve_views.proofs.Keeping.{FrontOf, kept_right}
+use Rattle.eve_views.proofs.Reaching.{Walking, step_here, walking_more, room_of}
+
+-- ---- what follows a body
+
+-- the body as one behind five bytes, as a frame has it
+abbrev framed : List ℕ → List ℕ
+framed body = 0 ∷ 0 ∷ 0 ∷ 0 ∷ 0 ∷ body
+
+-- so many access frames have to follow the body, which may stand there
+abbrev pub Follow : Head → Place → ℕ → List ℕ → ℕ → Type 0
+Follow h p kind body accesses = Some accesses ≡ option_map accesses_in (body_of h p kind body)
+
+pub access_followed : (h : Head) (p : Place) (body : List ℕ) → IsTrue (is_right_body (row_count h) 18 body)
+    → Follow h p 18 body 0
+unfolding body_of
+access_followed h p body right = by (access_of (row_count h) body) right
+  where
+    by : (o : Option Access) → is_some o ≡ true
+        → Some 0 ≡ option_map accesses_in (o >>= (λ (x : Access). Some (OfAccess x)))
+    by (Some x) e = refl
+    by None e = absurd cc
+
+pub attempt_followed : (h : Head) (p : Place) (body : List ℕ) (n : ℕ) → n ≡ big_number 2 (drop 9 body)
+    → IsTrue (is_right_body (row_count h) 17 body) → Follow h p 17 body n
+unfolding body_of
+attempt_followed h p body n said right = by (attempt_of body) refl right
+  where
+    by : (o : Option Attempt) → attempt_of body ≡ o → is_some o ≡ true
+        → Some n ≡ option_map accesses_in (o >>= (λ (x : Attempt). Some (OfAttempt x)))
+    by (Some a) e f =
+        let at = attempt_at (framed body) a e in
+        ap Some (said ∙ sym at.1.count ∙ sym at.1.certificate.count)
+    by None e f = absurd cc
+
+pub batch_followed : (h : Head) (p : Place) (body : List ℕ) → big_number 4 body ≡ p.batches + 1
+    → IsTrue (is_right_body (row_count h) 2 body) → Follow h p 2 body 0
+unfolding body_of
+batch_followed h p body said right = by (batch_of body) refl right
+  where
+    by : (o : Option (ℕ × Batch)) → batch_of body ≡ o → is_some o ≡ true
+        → Some 0 ≡ option_map accesses_in
+        (o >>= (λ (x : ℕ × Batch). cond (eqb x.0 (p.batches + 1)) (Some (OfBatch x.0 x.1)) None))
+    by (Some b) e f =
+        let at = batch_at (framed body) b e in
+        let same : b.0 ≡ p.batches + 1 = at.1.seq ∙ said in
+        rw (eq-eqb b.0 (p.batches + 1) same) refl
+    by None e f = absurd cc
+
+-- ---- one frame
+
+pub framed_unjudged : (h : Head) (p : Place) (bytes : List ℕ) (kind len accesses : ℕ) (rest : List ℕ)
+    → FrontOf bytes kind len rest → is_allowed h p kind ≡ true → len ≤ length rest
+    → (IsTrue (is_right_body (row_count h) kind (take len rest)) → Follow h p kind (take len rest) accesses)
+    → IsFramedUnjudged h p bytes (record { kind = kind; len = 5 + len; accesses = accesses })
+framed_unjudged h p bytes kind len accesses rest front allowed le follow = record {
+  allowed = allowed;
+  some = omega arith;
+  within = omega (arith, front.size, le);
+  right = λ right. sym (kept_right h p bytes kind len accesses rest front allowed le (follow (body right)));
+}
+  where
+    here : take (big_number 4 (drop 1 bytes)) (drop 5 bytes) ≡ take len rest
+    here = rw (front.len_is, front.rest_is) refl
+
+    body : IsRightFrame (row_count h) bytes → IsTrue (is_right_body (row_count h) kind (take len rest))
+    body right = subst (λ (b : List ℕ). IsTrue (is_right_body (row_count h) kind b)) here
+        (subst (λ (k : ℕ). IsTrue (is_right_body (row_count h) k
+        (take (big_number 4 (drop 1 bytes)) (drop 5 bytes)))) front.kind_is right)
+
+-- ---- stretches
+
+-- a list cut at a place
+pub in_two : (xs front back : List ℕ) (n : ℕ) → front ≡ take n xs → back ≡ drop n xs → front ++ back ≡ xs
+in_two xs front back n first second = ap₂ ◌++◌ first second ∙ take-append-drop n xs
+
+-- ---- one frame more
+
+all_last : {A : Type 0} (P : A → Type 0) (xs : List A) (x : A) → All P (xs ++ x ∷ []) → All P xs × P x
+all_last P [] x all = ((λ k d lt. absurd (omega arith)), All-head P x [] all)
+all_last P (y ∷ xs) x all =
+    let r = all_last P xs x (All-tail P y (xs ++ x ∷ []) all) in
+    (All-cons P y xs (All-head P y (xs ++ x ∷ []) all) r.0, r.1)
+
+pub walking_unjudged : (h g : Head) (p : Place) (bytes : List ℕ) (at : ℕ) (offsets : List ℕ) (s : Starts)
+    (k : KeptFrame) → IsTrue (is_head h) → IsBytes bytes → at ≤ length bytes → g ≡ h
+    → IsFramedUnjudged g p (take (length bytes - at) (drop at bytes)) k
+    → (AreRightFrames (row_count h) bytes offsets → Walking h bytes at p offsets s)
+    → AreRightFrames (row_count h) bytes (offsets ++ at ∷ [])
+    → Walking h bytes (at + k.len) (place_after p k.kind k.accesses) (offsets ++ at ∷ [])
+    (noted s p k.kind (length offsets))
+walking_unjudged h g p bytes at offsets s k is fits le same framed before right =
+    let parts = all_last (λ (i : ℕ). IsRightFrame (row_count h) (drop i bytes)) offsets at right in
+    let there : IsRightFrame (row_count g) (take (length bytes - at) (drop at bytes)) =
+    subst (λ (b : List ℕ). IsRightFrame (row_count g) b) (sym (take_rest bytes at))
+    (subst (λ (i : Head). IsRightFrame (row_count i) (drop at bytes)) (sym same) parts.1) in
+    let step = step_here h g p bytes at k is fits le same (framed.right there) in
+    walking_more h bytes at p offsets s k (room_of h is) (before parts.0) step

@@ -1,0 +1,40 @@
+-- The bodies of batches, attempts and access records, judged apart from the frames among which they stand.
+use Rattle.std.specs.Prelude.{◌≡◌, ℕ, ◌≤◌, ◌<◌, Bool, true, ◌==◌, if◌then◌else◌, List, length, take, drop, slice_index}
+use Rattle.std.specs.Prelude.{Ok, is_some, All, IsTrue}
+use Rattle.byteorder.specs.Endian.{big_number}
+use Rattle.eve_grammar.specs.Trace.{Head}
+use Rattle.eve_grammar.specs.Frames.{Place, is_allowed}
+use Rattle.eve_grammar.specs.Limits.{row_count}
+use Rattle.eve_grammar.specs.Reading.{batch_of, attempt_of, access_of}
+use Rattle.eve_views.specs.Walk.{frame_at}
+use Rattle.eve_views.specs.Indexing.{KeptFrame, kept, IsIndex}
+use Rattle.eve_views.specs.declared.walk.Index.{Index}
+
+-- whether it is a body of this kind, where the kind is one of these three; the access record is of one of so many rows
+abbrev pub is_right_body : ℕ → ℕ → List ℕ → Bool
+is_right_body rows kind body =
+    if kind == 2 then is_some (batch_of body)
+    else if kind == 17 then is_some (attempt_of body)
+    else if kind == 18 then is_some (access_of rows body)
+    else true
+
+-- the same of the body of the frame at the front of bytes
+abbrev pub IsRightFrame : ℕ → List ℕ → Type 0
+IsRightFrame rows bytes =
+    IsTrue (is_right_body rows (slice_index bytes 0) (take (big_number 4 (drop 1 bytes)) (drop 5 bytes)))
+
+-- the same of the frame at each of these byte offsets
+abbrev pub AreRightFrames : ℕ → List ℕ → List ℕ → Type 0
+AreRightFrames rows bytes offsets = All (λ at. IsRightFrame rows (drop at bytes)) offsets
+
+-- a frame of a kind that may stand there lies at the front of the bytes as a whole; it is right as well, if only its
+-- body is, where that wasn't judged
+pub record IsFramedUnjudged (h : Head) (p : Place) (bytes : List ℕ) (k : KeptFrame) : Type 0 where
+  pub allowed : IsTrue (is_allowed h p k.kind)
+  pub some : 0 < k.len
+  pub within : k.len ≤ length bytes
+  pub right : IsRightFrame (row_count h) bytes → Ok k ≡ kept bytes (frame_at h p bytes)
+
+-- these are the frames after the header, up to the end, if only their bodies are right, where these weren't judged
+abbrev pub IsIndexUnjudged : Head → List ℕ → Index → Type 0
+IsIndexUnjudged h bytes i = AreRightFrames (row_count h) bytes i.offsets.items → IsIndex h bytes i
