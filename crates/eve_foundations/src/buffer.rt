@@ -38,20 +38,29 @@ fn send_parts(out: &mut Tried, bytes: &[u8]) -> Result<(), SendFault> {
     Ok(())
 }
 
+/// The bytes behind so many.
+fn behind(bytes: &[u8], count: usize) -> io::Result<&[u8]> {
+    match bytes.get(count..) {
+        Some(rest) => Ok(rest),
+        None => Err(ErrorKind::InvalidData)?,
+    }
+}
+
+/// Tells how many bytes were sent on and how many are held.
+fn tell_counts(sent: usize, held: usize, said: &mut String) -> Result<(), AllocError> {
+    write!(said, " {sent} sent, {held} held,")
+}
+
 /// Tells what was sent on and what is held, whether both are in order, and how often the sink failed. Gives the bytes
 /// that come after.
 fn tell_state<'b>(out: &Tried, bytes: &'b [u8], said: &mut String) -> io::Result<&'b [u8]> {
     let (sent, held) = (out.sink().stream().writer().as_slice(), out.held());
-    let rest = bytes.get(sent.len()..).ok_or(ErrorKind::InvalidData)?;
+    tell_counts(sent.len(), held.len(), said)?;
+    let rest = behind(bytes, sent.len())?;
     let in_order = bytes.starts_with(sent) && rest.starts_with(held);
     let failed = out.sink().failures();
-    write!(
-        said,
-        " {} sent, {} held, in order {in_order}, {failed} failed",
-        sent.len(),
-        held.len()
-    )?;
-    Ok(rest.get(held.len()..).ok_or(ErrorKind::InvalidData)?)
+    write!(said, " in order {in_order}, {failed} failed")?;
+    behind(rest, held.len())
 }
 
 /// Sends the bytes in parts, then what is left of them, and flushes twice.

@@ -67,16 +67,20 @@ pub(crate) fn cents_of(word: &str) -> io::Result<Cents> {
     Ok(Cents::new(cents).ok_or(ErrorKind::InvalidData)?)
 }
 
-/// The row with this number, if one can have it.
-pub(crate) fn row_at(number: u32) -> Option<Row> {
-    let customer = number / 2;
+/// A row of the customer with this number, if one can have it.
+fn row_of(customer: u32, is_checking: bool) -> Option<Row> {
     if customer >= MOST_NAMES {
         None
-    } else if number % 2 == 0 {
-        Some(Row::saving(customer))
-    } else {
+    } else if is_checking {
         Some(Row::checking(customer))
+    } else {
+        Some(Row::saving(customer))
     }
+}
+
+/// The row with this number, if one can have it.
+pub(crate) fn row_at(number: u32) -> Option<Row> {
+    row_of(number / 2, number % 2 == 1)
 }
 
 /// The balances of all rows, separated by commas.

@@ -60,15 +60,20 @@ impl Read for Device<'_> {
     }
 }
 
+/// A turn.
+fn turn_of(word: &str) -> io::Result<Turn> {
+    match word {
+        "again" => Ok(Turn::Interrupted),
+        "fails" => Ok(Turn::Fails),
+        number => Ok(Turn::Moves(number_of(number)? as usize)),
+    }
+}
+
 /// Turns, separated by commas.
 fn turns_of(alloc: Global, words: &str) -> io::Result<Vec<Turn>> {
     let mut turns = Vec::new(alloc);
     for word in words.split(',') {
-        turns.push(match word {
-            "again" => Turn::Interrupted,
-            "fails" => Turn::Fails,
-            number => Turn::Moves(number_of(number)? as usize),
-        })?;
+        turns.push(turn_of(word)?)?;
     }
     Ok(turns)
 }
@@ -83,13 +88,9 @@ pub(crate) fn tell(
 ) -> io::Result<()> {
     write!(said, "{line}:")?;
     match (what, words) {
-        ("write-to", [turns, bytes]) => {
-            let bytes = bytes_of(alloc, bytes)?;
-            tell_write(alloc, turns, bytes.as_slice(), said)
-        }
+        ("write-to", [turns, bytes]) => tell_write(alloc, turns, bytes, said),
         ("tries", [count, turns, bytes]) => {
-            let bytes = bytes_of(alloc, bytes)?;
-            tell_tries(alloc, number_of(count)?, turns, bytes.as_slice(), said)
+            tell_tries(alloc, number_of(count)?, turns, bytes, said)
         }
         ("read-from", [turns, limit]) => tell_device_read(alloc, turns, number_of(limit)?, said),
         ("reads", [count, turns, limit]) => {
@@ -100,14 +101,15 @@ pub(crate) fn tell(
 }
 
 /// Sends bytes to a device.
-fn tell_write(alloc: Global, turns: &str, bytes: &[u8], said: &mut String) -> io::Result<()> {
+fn tell_write(alloc: Global, turns: &str, bytes: &str, said: &mut String) -> io::Result<()> {
+    let bytes = bytes_of(alloc, bytes)?;
     let turns = turns_of(alloc, turns)?;
     let device = Device {
         turns: turns.as_slice(),
         moved: 0,
     };
     let mut sink = SinkOf::new(device);
-    let sent = send_all(&mut sink, bytes);
+    let sent = send_all(&mut sink, bytes.as_slice());
     let (failed, moved) = (sink.failures(), sink.writer().moved);
     Ok(write!(said, " {sent:?}, {failed} failed, {moved} moved")?)
 }
@@ -117,16 +119,17 @@ fn tell_tries(
     alloc: Global,
     count: u32,
     turns: &str,
-    bytes: &[u8],
+    bytes: &str,
     said: &mut String,
 ) -> io::Result<()> {
+    let bytes = bytes_of(alloc, bytes)?;
     let turns = turns_of(alloc, turns)?;
     let device = Device {
         turns: turns.as_slice(),
         moved: 0,
     };
     let mut sink = SinkOf::new(device);
-    let sent = sink.send_within(bytes, count);
+    let sent = sink.send_within(bytes.as_slice(), count);
     let (failed, moved) = (sink.failures(), sink.writer().moved);
     Ok(write!(said, " {sent:?}, {failed} failed, {moved} moved")?)
 }
