@@ -17,6 +17,7 @@ use Rattle.eve_agree.specs.Majority.{AllAreBacked}
 use Rattle.eve_agree.specs.Agreement.{IsOutcomeFault}
 use Rattle.eve_agree.specs.SentReplies.{AllReplied}
 use Rattle.eve_agree.proofs.RestoresInOrder.{faultless}
+use Rattle.eve_agree.proofs.Sending.{no_fault}
 use Rattle.eve_agree.proofs.TokensInOrder.{no_token_fault}
 use Rattle.eve_workload.specs.declared.mixer.Mixer.{Mixer}
 use Rattle.eve_workload.specs.Mixing.{cut, batch_with}
@@ -42,7 +43,7 @@ use Rattle.eve_accepts.proofs.Due.{AreDueSoFar, due_next, due_first, tokens_due}
 use Rattle.eve_accepts.proofs.Voting.{votes_sound, all_backed}
 use Rattle.eve_accepts.proofs.Replied.{all_replied}
 use Rattle.eve_accepts.proofs.OrdersRight.{no_order_fault}
-use Rattle.eve_accepts.proofs.Refuted.{no_structure_fault, no_vote_fault, no_majority_fault, no_reply_fault}
+use Rattle.eve_accepts.proofs.Refuted.{no_structure_fault, no_vote_fault, no_majority_fault}
 use Rattle.eve_accepts.proofs.Agreed.{outcome_collides}
 
 -- the run's plan is one of its trace
@@ -109,7 +110,7 @@ module _ (cuts : (names : List (List ℕ)) → (m : Mixer) → (requests : List 
   common_collides f (of_votes is) = absurd (no_vote_fault t votes f is)
   common_collides f (of_majorities is) = absurd (no_majority_fault t backed f is)
   common_collides f (of_agreement is) = (is, outcome_collides t limits right due votes backed f is)
-  common_collides f (of_replies is) = absurd (no_reply_fault t replied f is)
+  common_collides f (of_replies is) = absurd (no_fault t replied f is)
 
   pub fault_collides : (f : Fault) → IsTraceFault t f → IsOutcomeFault t f × Collides t
   fault_collides f (in_orders is) =

@@ -13,11 +13,11 @@ use Rattle.eve_history.specs.Section.{Placed}
 use Rattle.eve_history.specs.SectionHistory.{history, committed_at, IsRightSection}
 use Rattle.eve_chains.proofs.Linked.{last_committed, committed_number, in_at, none≢some, some_injective}
 use Rattle.eve_votes.specs.Faults.{AreVotesSound}
+use Rattle.eve_votes.proofs.Places.{get_between}
 use Rattle.eve_agree.specs.Agreement.{first_to_commit, HaveSameOutcome, StandsInAgreement, IsOutcomeFault}
 use Rattle.eve_agree.specs.DueTokens.{due_token, TokensAreDue}
 use Rattle.eve_agree.specs.Majority.{AllAreBacked}
 use Rattle.eve_agree.proofs.Outcomes.{first_there}
-use Rattle.eve_agree.proofs.TokensInOrder.{get_at_seam}
 use Rattle.eve_audit.proofs.Decisions.{committed_decided}
 use Rattle.eve_accepts.specs.Collision.{Collides}
 use Rattle.eve_accepts.proofs.Ranges.{balances_within, replies_within, balances_count}
@@ -80,7 +80,7 @@ module _ (t : Trace) (limits : HasLimits t) (right : (e : ℕ) → IsRightSectio
           let e = is.replica in
           let n = length place.before in
           let here : committed_at t e (suc n) ≡ Some place.item = ap (λ (ps : List Placed). slice_get ps n) place.is
-          ∙ get_at_seam place.before place.item place.rest in
+          ∙ get_between place.before place.item place.rest in
           let first = first_there t e (suc n) place.item (right e) here in
           let apart : IfSome (first_to_commit t (suc n)) (λ g. ¬ HaveSameOutcome t e g (suc n)) =
           subst (λ (k : ℕ). IfSome (first_to_commit t k) (λ g. ¬ HaveSameOutcome t e g k)) (add-one n) place.holds.1 in

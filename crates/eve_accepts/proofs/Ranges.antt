@@ -16,7 +16,7 @@ use Rattle.eve_grammar.specs.Trace.{Customer, Access, Attempt, Step, Attempts, C
 use Rattle.eve_grammar.specs.Trace.{opening_rows}
 use Rattle.eve_grammar.specs.Frames.{OfReplica}
 use Rattle.eve_grammar.specs.Spelling.{frame_text, located, step_text, section_start, steps_of, steps_at}
-use Rattle.eve_grammar.specs.declared.limits.TheConstants.{MOST_REQUESTS, MOST_ENTRIES}
+use Rattle.eve_grammar.specs.declared.limits.TheConstants.{MOST_REQUESTS}
 use Rattle.eve_grammar.specs.Limits.{is_between, is_number, is_token, is_reply, is_customer, version_limit, is_entry}
 use Rattle.eve_grammar.specs.Limits.{is_access, is_attempt, is_whole_attempt, is_step, row_count, HasLimits}
 use Rattle.eve_history.specs.Section.{Placed}
@@ -30,6 +30,7 @@ use Rattle.eve_chains.proofs.Distinct.{in_map}
 use Rattle.eve_chains.proofs.Linked.{none≢some, in_at}
 use Rattle.eve_chains.proofs.Loading.{each_section}
 use Rattle.eve_chains.proofs.SettledAttempts.{all-append}
+use Rattle.eve_agree.proofs.RestoresInOrder.{entries_within as access_entries}
 
 -- ---- what is committed lies within the limits of the format
 
@@ -134,12 +135,6 @@ balances_after_all rows table (x ∷ xs) all within =
     balances_after_all rows (table_after table x.entries) xs (balances_after rows table x.entries all within.0) within.1
 
 -- ---- after batches
-
-access_entries : (rows : ℕ) (x : Access) → IsTrue (is_access rows x) → IsTrue (list_all (is_entry rows) x.entries)
-access_entries rows x h =
-    (and_parts (nat_le (length x.entries) MOST_ENTRIES) (list_all (is_entry rows) x.entries)
-    (and_parts (is_number 2 x.index) _
-    (and_parts (is_number 2 x.place) _ (and_parts (is_number 1 x.worker) _ h).1).1).1).1
 
 entries_within : (rows : ℕ) (xs : List Access) (index : ℕ) → IsTrue (list_all (is_access rows) xs)
     → IsTrue (list_all (is_entry rows) (entries_with xs index))

@@ -1,4 +1,4 @@
--- Where all is as it must be no fault stands: in structure, votes, majorities and replies.
+-- Where all is as it must be no fault stands: in structure, votes and majorities.
 use Rattle.std.proofs.Common.{◌≡◌, ℕ, ◌+◌, ◌-◌, ◌≤◌, Bool, true, false, cond, List, [], ◌∷◌, ◌++◌, map, filter, length}
 use Rattle.std.proofs.Common.{refl, sym, ap, subst, ◌∙◌, append-nil, length-append, eq-eqb, arith}
 use Rattle.std.specs.Prelude.{◌==◌, ◌||◌}
@@ -7,9 +7,8 @@ use Rattle.std.proofs.lemmas.Bool.{and_from, false≢true}
 use Rattle.std.proofs.lemmas.List.{map-append}
 use Rattle.std.proofs.lemmas.List.Elements.{filter-append}
 use Rattle.eve_grammar.specs.Trace.{Step, Attempts, Commits, RollsBack, Vote, Trace}
-use Rattle.eve_grammar.specs.Frames.{OfVerifier, OfVote, OfSent}
+use Rattle.eve_grammar.specs.Frames.{OfVerifier, OfVote}
 use Rattle.eve_grammar.specs.Spelling.{frame_text, located, steps_at, verifier_start, votes_of, votes_at}
-use Rattle.eve_grammar.specs.Spelling.{sent_start, sent_at}
 use Rattle.eve_views.specs.declared.fault.Code.{Code}
 use Rattle.eve_views.specs.declared.fault.Code.TheVariants as code
 use Rattle.eve_views.specs.declared.fault.Fault.{Fault}
@@ -22,7 +21,6 @@ use Rattle.eve_history.specs.Faults.{OfCommit, OfRollback, IsStructureFault}
 use Rattle.eve_history.specs.FirstWrong.{first_wrong}
 use Rattle.eve_history.proofs.Structure.{steps_on, none_stands}
 use Rattle.eve_agree.specs.Majority.{IsBacked, AllAreBacked, StandsInMajorities, IsMajorityFault}
-use Rattle.eve_agree.specs.SentReplies.{IsReplied, AllReplied, StandsInReplies, IsReplyFault}
 use Rattle.eve_agree.proofs.TokensInOrder.{none_fails}
 
 -- ---- structure
@@ -115,22 +113,9 @@ module _ (t : Trace) where
           (λ b step is wrong. rollback_backed step.1 is wrong.1) stands
       by c stands = absurd stands
 
--- ---- replies
+-- ---- lists with byte offsets
 
 pub all_located : {A : Type 0} (P : A → Type 0) (text : A → List ℕ) (at : ℕ) (xs : List A) → AllByRecursion P xs
     → AllByRecursion (λ x. P x.1) (located text at xs)
 all_located P text at [] all = tt
 all_located P text at (x ∷ xs) all = (all.0, all_located P text (at + length (text x)) xs all.1)
-
-module _ (t : Trace) where
-  sent_replied : AllReplied t → AllByRecursion (λ s. IsReplied t s.1) (sent_at t)
-  unfolding sent_at
-  sent_replied all = all_located (IsReplied t) (λ s. frame_text (OfSent s)) (sent_start t) t.sent all
-
-  pub no_reply_fault : AllReplied t → (f : Fault) → ¬ IsReplyFault t f
-  no_reply_fault all f fault = by f.code fault.stands
-    where
-      by : (c : Code) → StandsInReplies c t f.offset → ⊥
-      by code.Reply stands = none_fails (λ s. IsReplied t s.1) (λ _ s. (s.0 ≡ f.offset) × ¬ IsReplied t s.1)
-          (sent_at t) (sent_replied all) (λ b s is wrong. wrong.1 is) stands
-      by c stands = absurd stands

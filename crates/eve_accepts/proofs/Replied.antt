@@ -12,7 +12,7 @@ use Rattle.eve_workload.specs.declared.mixer.Mixer.{Mixer}
 use Rattle.eve_workload.specs.Workload.{Workload}
 use Rattle.eve_replica.specs.Sending.{answered, requests_there, requests_numbered, answers_of, sent_along, sent_from_on}
 use Rattle.eve_replica.specs.Run.{IsTraceOf}
-use Rattle.eve_votes.proofs.Places.{located_values}
+use Rattle.eve_votes.proofs.Places.{get_between, get_in_front, located_values}
 use Rattle.eve_history.specs.Section.{Placed, SectionState, start, path_of, committing, next, state_after, no_batch}
 use Rattle.eve_history.specs.Section.{batch_at}
 use Rattle.eve_history.specs.SectionHistory.{history, committed_at, IsRightSection}
@@ -20,7 +20,6 @@ use Rattle.eve_chains.specs.Committed.{attempts_of}
 use Rattle.eve_chains.proofs.Linked.{committed_number}
 use Rattle.eve_chains.proofs.SettledAttempts.{all-append}
 use Rattle.eve_agree.specs.SentReplies.{IsReplied, AllReplied}
-use Rattle.eve_agree.proofs.TokensInOrder.{get_at_seam}
 
 -- ---- the replies of one attempt
 
@@ -70,15 +69,10 @@ all_answer e n (asked ∷ requests) (reply ∷ replies) = (
 
 -- ---- what is committed stays
 
-get_front : {A : Type 0} (xs ys : List A) (n : ℕ) (x : A) → slice_get xs n ≡ Some x → slice_get (xs ++ ys) n ≡ Some x
-get_front [] ys n x e = absurd (cc)
-get_front (z ∷ xs) ys zero x e = e
-get_front (z ∷ xs) ys (suc n) x e = get_front xs ys n x e
-
 stays_committing : (s : SectionState) (pending : List Placed) (n : ℕ) (p : Placed) → slice_get s.committed n ≡ Some p
     → slice_get (committing s pending).committed n ≡ Some p
 stays_committing s [] n p there = there
-stays_committing s (q ∷ qs) n p there = get_front s.committed (q ∷ []) n p there
+stays_committing s (q ∷ qs) n p there = get_in_front s.committed (q ∷ []) n p there
 
 stays_next : (s : SectionState) (step : ℕ × Step) (n : ℕ) (p : Placed) → slice_get s.committed n ≡ Some p
     → slice_get (next s step).committed n ≡ Some p
@@ -116,7 +110,7 @@ module _ (batches : List Batch) (e : ℕ) where
       (λ x i. record {
         place = length s.committed;
         placed = p;
-        there = stays_committed (committing s (p ∷ ps)) steps (length s.committed) p (get_at_seam s.committed p []);
+        there = stays_committed (committing s (p ∷ ps)) steps (length s.committed) p (get_between s.committed p []);
         answer = all_in (IsAnswer e p.attempt.seq (requests_numbered batches p.attempt.seq) p.attempt.replies)
             (all_answer e p.attempt.seq (requests_numbered batches p.attempt.seq) p.attempt.replies) i;
       })

@@ -19,6 +19,7 @@ use Rattle.eve_agree.specs.Tables.{committed_rows, entries_of, open_entries, is_
 use Rattle.eve_agree.specs.Tables.{restores_rightly, all_restore_rightly}
 use Rattle.eve_attempts.specs.Ledgers.{Ledger, writes_in, open_writes, rows_committed}
 use Rattle.eve_attempts.specs.Discarding.{restore_in, AreRestores}
+use Rattle.eve_attempts.proofs.TableLaws.{writes_among}
 use Rattle.eve_replica.specs.Sections.{RunPlan, MakesOf, GoesThrough}
 use Rattle.eve_accepts.proofs.Alike.{AreAlike, opened_of, written_by}
 
@@ -37,9 +38,6 @@ passes_where p q (x ∷ xs) all = by (p x) all (passes_where p q xs)
     by false both rest = rest both
 
 -- ---- what is open
-
-abbrev writes_among : List Entry → List Entry
-writes_among es = filter (λ e. is_write e.kind) es
 
 -- what the open attempts wrote is the writes among all that they noted
 written_among : (t : Trace) (attempts : List Attempt) → writes_in (map (opened_of t) attempts)

@@ -2,16 +2,18 @@
 use Rattle.std.proofs.Common.{◌≡◌, ℕ, ◌+◌, ◌-◌, ◌<◌, ◌≤◌, ◌==◌, Bool, true, false, cond, List, [], ◌∷◌, length, filter}
 use Rattle.std.proofs.Common.{All, get_or, refl, sym, ap, ◌∙◌, subst, arith}
 use Rattle.std.specs.Bool.{⊤}
-use Rattle.std.proofs.lemmas.Bool.{and_parts, and_from, eqb-true, eq-eqb}
-use Rattle.std.proofs.lemmas.List.Elements.{All-nil, All-cons, All-head, All-tail, All-weaker, All-append}
+use Rattle.std.proofs.lemmas.Bool.{and_from, eq-eqb}
+use Rattle.std.proofs.lemmas.List.Elements.{All-nil, All-cons, All-head, All-weaker, All-append}
 use Rattle.eve_grammar.specs.Trace.{Step, Attempts, Commits, RollsBack, Attempt, Commit, Choice, ForRollback, ForCommit}
 use Rattle.eve_grammar.specs.Trace.{Vote}
 use Rattle.eve_votes.specs.Votes.{is_vote_on}
+use Rattle.eve_votes.proofs.Sifting.{voted}
 use Rattle.eve_attempts.specs.Ledgers.{Opened, Ledger}
 use Rattle.eve_attempts.specs.Closing.{opened_as}
 use Rattle.eve_attempts.specs.Discarding as account
 use Rattle.eve_replica.specs.Sections.{RunPlan, AttemptsNext, GoesThrough, votes_along}
 use Rattle.eve_replica.specs.Serving.{AreOfItsView}
+use Rattle.eve_replica.proofs.OneStep.{committed_in_view}
 
 -- ---- votes that rise
 
@@ -64,11 +66,6 @@ module _ {A : Type 0} (p : A → Bool) (x : A) (xs : List A) where
   left_out : p x ≡ false → filter p (x ∷ xs) ≡ filter p xs
   left_out fails = ap (λ (b : Bool). cond b (x ∷ filter p xs) (filter p xs)) fails
 
-vote_on : (n view : ℕ) (w : Vote) → is_vote_on n view w ≡ true → (w.seq ≡ n) × (w.view ≡ view)
-vote_on n view w on =
-    let both = and_parts (w.seq == n) (w.view == view) on in
-    (eqb-true w.seq n both.0, eqb-true w.view view both.1)
-
 on_its_own : (w : Vote) → is_vote_on w.seq w.view w ≡ true
 on_its_own w =
     and_from (w.seq == w.seq) (w.view == w.view) (eq-eqb w.seq w.seq refl) (eq-eqb w.view w.view refl)
@@ -78,7 +75,7 @@ not_on n view w apart = by (is_vote_on n view w) refl
   where
     by : (b : Bool) → is_vote_on n view w ≡ b → is_vote_on n view w ≡ false
     by false off = off
-    by true on = let both = vote_on n view w on in absurd (apart (omega (arith, both.0, both.1)))
+    by true on = let both = voted n view w on in absurd (apart (omega (arith, both.0, both.1)))
 
 -- among votes that rise from here, none is on a batch and a view of a lower sum
 none_before : (m u n view : ℕ) (ws : List Vote) → m + u < n + view → Rise n view ws → filter (is_vote_on m u) ws ≡ []
@@ -124,7 +121,7 @@ one_at_most m u n view (w ∷ ws) rise =
     by : (b : Bool) → is_vote_on m u w ≡ b → length (filter (is_vote_on m u) ws) ≤ 1
         → length (filter (is_vote_on m u) (w ∷ ws)) ≤ 1
     by true on later =
-        let both = vote_on m u w on in
+        let both = voted m u w on in
         let up = goes_up w.seq w.view w.choice in
         let none = none_before m u (batch_after w.seq w.choice) (view_after w.view w.choice) ws
         (omega (arith, both.0, both.1, up.2)) rise.1 in
@@ -178,11 +175,6 @@ opened_in_view : (old new : Ledger) (c : Commit) (made : account.Commits old new
     → All (λ o. o.view ≡ old.view) (made.first ∷ made.others)
 opened_in_view old new c made of_view =
     subst (λ (os : List Opened). All (λ o. o.view ≡ old.view) os) made.opened of_view
-
-committed_in_view : (old new : Ledger) (c : Commit) → account.Commits old new c → AreOfItsView old → AreOfItsView new
-committed_in_view old new c made of_view =
-    subst AreOfItsView (sym made.changed)
-    (All-tail (λ o. o.view ≡ old.view) made.first made.others (opened_in_view old new c made of_view))
 
 -- the votes rise from where the account stands, if its open attempts are all of its view
 pub votes_rise : (p : RunPlan) (steps : List Step) (a b : Ledger) → AreOfItsView a → GoesThrough p steps a b

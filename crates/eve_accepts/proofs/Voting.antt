@@ -1,12 +1,11 @@
 -- What the verifiers of a run voted: each once on a batch in a view, and all of them for each commit and rollback.
-use Rattle.std.proofs.Common.{◌≡◌, ℕ, ◌+◌, ◌-◌, ◌<◌, ◌≤◌, ◌==◌, Bool, true, false, cond, ◌⊎◌, inl, inr, List, []}
-use Rattle.std.proofs.Common.{◌∷◌, ◌++◌, All, length, filter, count_by, get_or, refl, sym, ap, ◌∙◌, subst, arith}
+use Rattle.std.proofs.Common.{◌≡◌, ℕ, ◌+◌, ◌-◌, ◌<◌, ◌≤◌, ◌==◌, Bool, true, false, ◌⊎◌, inl, inr, List, []}
+use Rattle.std.proofs.Common.{◌∷◌, ◌++◌, All, length, filter, get_or, refl, sym, ap, ◌∙◌, subst, arith}
 use Rattle.std.specs.List.{AllByRecursion}
 use Rattle.std.specs.Cmp.Lexicographic.{pointwise, other_text}
 use Rattle.std.proofs.lemmas.Bool.{cases_lt, eqb-true}
 use Rattle.std.proofs.lemmas.List.{append-nil, get_or_past}
 use Rattle.std.proofs.lemmas.List.Elements.{All-nil, All-cons, All-head, All-tail, recursion_from_All}
-use Rattle.std.proofs.lemmas.List.Sums.{sum_by-cons}
 use Rattle.eve_grammar.specs.Trace.{Step, Attempts, Commit, Commits, Rollback, RollsBack, Choice, ForRollback}
 use Rattle.eve_grammar.specs.Trace.{ForCommit, Vote, Trace}
 use Rattle.eve_grammar.specs.Frames.{OfReplica}
@@ -23,6 +22,7 @@ use Rattle.eve_workload.specs.Workload.{Workload}
 use Rattle.eve_attempts.specs.Ledgers.{Opened}
 use Rattle.eve_replica.specs.Sections.{votes_on, votes_along, commits_in}
 use Rattle.eve_replica.specs.Run.{IsSectionOf, IsTraceOf, has_committed, run_plan}
+use Rattle.eve_replica.proofs.Counting.{counted_all}
 use Rattle.eve_accepts.proofs.VotesApart.{Rise, IsAlone, AreOneCommit, votes_rise, all_alone, one_at_most}
 use Rattle.eve_accepts.proofs.VotesApart.{commits_apart}
 use Rattle.eve_accepts.proofs.Refuted.{all_located}
@@ -145,19 +145,12 @@ same_self (ForCommit token) = by (pointwise ◌==◌ token token) refl
     by true is = is
     by false is = absurd (other_text token token (sym is) refl)
 
-all_counted : {A : Type 0} (p : A → Bool) (xs : List A) → All (λ x. p x ≡ true) xs → count_by p xs ≡ length xs
-all_counted p [] all = refl
-all_counted p (x ∷ xs) all =
-    let first = ap {B = ℕ} (λ (b : Bool). cond b 1 0) (All-head (λ y. p y ≡ true) x xs all) in
-    let rest = all_counted p xs (All-tail (λ y. p y ≡ true) x xs all) in
-    omega (arith, sum_by-cons (λ y. cond (p y) 1 0) x xs, first, rest)
-
 module _ (t : Trace) (limits : HasLimits t) where
   -- what is each verifier's only vote on its batch in its view has all verifiers for it
   all_for : (w : Vote) → All (λ votes. IsAlone votes w) t.verifiers → t.quorum ≤ backers t w.seq w.view w.choice
   all_for w alone =
       let for_it : List Vote → Bool = λ votes. is_only w.choice (filter (is_vote_on w.seq w.view) votes) in
-      let all = all_counted for_it t.verifiers
+      let all = counted_all for_it t.verifiers
       (λ v d below. ap (is_only w.choice) (alone v d below) ∙ same_self w.choice) in
       let quorum = quorum_limits t limits in
       omega (arith, all, quorum.0)

@@ -1,9 +1,10 @@
 -- Public: other crates cite these lemmas. The least of the faults of agreement, batch after batch.
 use Rattle.std.proofs.Common.{◌≡◌, ℕ, zero, suc, ◌+◌, ◌<◌, ◌≤◌, nat_le, Bool, true, false, cond, List, [], ◌∷◌, map}
 use Rattle.std.proofs.Common.{length, take, drop, slice_get, Option, Some, None, IfSome, refl, sym, ap, subst, ◌∙◌, inl}
-use Rattle.std.proofs.Common.{inr, arith, add-one}
+use Rattle.std.proofs.Common.{inr, arith, add-one, length-take-le, le_of_lt}
 use Rattle.std.specs.List.{enumerate_from, find}
 use Rattle.std.proofs.lemmas.Bool.{cases_lt, leb-true, leb-false}
+use Rattle.std.proofs.lemmas.Option.{slice_get_within}
 use Rattle.eve_smallbank.specs.declared.request.Reply.{Reply}
 use Rattle.eve_grammar.specs.Trace.{Trace}
 use Rattle.eve_views.specs.declared.fault.Code.{Code}
@@ -11,18 +12,18 @@ use Rattle.eve_views.specs.declared.fault.Code.TheVariants as code
 use Rattle.eve_views.specs.declared.fault.Fault.{Fault}
 use Rattle.eve_views.specs.Form.{IsUpTo, IsLeast}
 use Rattle.eve_views.specs.Code.{code_number}
+use Rattle.eve_votes.proofs.Places.{get_between}
 use Rattle.eve_history.specs.Section.{Placed}
 use Rattle.eve_history.specs.SectionHistory.{SectionHistory, section_history, section_histories, history, committed_at}
 use Rattle.eve_history.specs.SectionHistory.{IsRightSection}
 use Rattle.eve_history.proofs.Places.{cut_at}
+use Rattle.eve_history.proofs.Rights.{as_many_told, section_history_at}
 use Rattle.eve_chains.proofs.Linked.{last_committed, some_injective, none≢some}
-use Rattle.eve_agree.proofs.TokensInOrder.{get_at_seam}
 use Rattle.eve_agree.specs.Agreement.{first_to_commit, HaveSameOutcome, ReplicasAgree, StandsInAgreement}
 use Rattle.eve_agree.specs.Agreement.{IsOutcomeFault}
 use Rattle.eve_agree.specs.Judging.{NoneBefore, Stand, IsUpToAt, KeepsFound, AgreesOrIsFound, outcome_fault}
 use Rattle.eve_agree.specs.Judging.{lower_outcome}
-use Rattle.eve_agree.proofs.Outcomes.{IsOf, last_told, section_history_at, committed_low, replica_there, first_there}
-use Rattle.eve_agree.proofs.Outcomes.{section_histories_count}
+use Rattle.eve_agree.proofs.Outcomes.{IsOf, last_told, committed_low, replica_there, first_there}
 
 -- ---- the lesser of two
 
@@ -59,9 +60,7 @@ judged_later t least now e n lowers judged p at =
 -- ---- one replica and one batch
 
 take_length : {A : Type 0} (xs : List A) (n : ℕ) (x : A) → slice_get xs n ≡ Some x → length (take n xs) ≡ n
-take_length [] n x e = none≢some x e
-take_length (y ∷ xs) zero x e = refl
-take_length (y ∷ xs) (suc n) x e = ap suc (take_length xs n x e)
+take_length xs n x e = length-take-le n xs (le_of_lt (slice_get_within xs n x e))
 
 -- it differs
 pub differs : (t : Trace) (e f n at : ℕ) (rs : List Reply) → IsOf t e n at rs → first_to_commit t n ≡ Some f
@@ -203,7 +202,7 @@ module _ (t : Trace) where
   up_to_each least e at right judged place =
       let n = suc (length place.before) in
       let here : committed_at t e n ≡ Some place.item = ap (λ (ps : List Placed). slice_get ps (length place.before))
-      place.is ∙ get_at_seam place.before place.item place.rest in
+      place.is ∙ get_between place.before place.item place.rest in
       let apart : IfSome (first_to_commit t n) (λ f. ¬ HaveSameOutcome t e f n) =
       subst (λ (k : ℕ). IfSome (first_to_commit t k) (λ f. ¬ HaveSameOutcome t e f k)) (add-one (length place.before))
       place.holds.1 in
@@ -254,7 +253,7 @@ pub alone_judged : (t : Trace) (hs : List SectionHistory) → hs ≡ section_his
 alone_judged t hs told few e n p at = inl (by (first_to_commit t n) refl)
   where
     sections : length t.sections < 2
-    sections = let count : length hs ≡ length t.sections = ap length told ∙ section_histories_count t in omega arith
+    sections = let count : length hs ≡ length t.sections = ap length told ∙ as_many_told t in omega arith
 
     by : (o : Option ℕ) → first_to_commit t n ≡ o → IfSome o (λ f. HaveSameOutcome t e f n)
     by None is = tt

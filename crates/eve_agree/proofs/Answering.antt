@@ -1,5 +1,5 @@
 -- What is answered, and by which reply.
-use Rattle.std.proofs.Common.{◌≡◌, ℕ, zero, suc, ◌-◌, ◌≤◌, List, [], ◌∷◌, map, slice_get, Some, None, refl}
+use Rattle.std.proofs.Common.{◌≡◌, ℕ, zero, suc, ◌-◌, ◌≤◌, List, map, slice_get, Some, None}
 use Rattle.std.proofs.Common.{sym, ap, ◌∙◌, arith}
 use Rattle.eve_smallbank.specs.declared.request.Reply.{Reply}
 use Rattle.eve_grammar.specs.Trace.{Attempt, Sent, Trace}
@@ -11,22 +11,7 @@ use Rattle.eve_history.proofs.Finding.{get_mapped}
 use Rattle.eve_chains.proofs.Linked.{some_injective, none≢some}
 use Rattle.eve_agree.specs.SentReplies.{IsReplied}
 use Rattle.eve_agree.specs.Keeping.{AnswersAt}
-
--- ---- places of lists
-
--- what stands in the image, and of what
-record Source {A B : Type 0} (f : A → B) (xs : List A) (i : ℕ) (y : B) : Type 0 where
-  item : A
-  at : slice_get xs i ≡ Some item
-  is : f item ≡ y
-
-source : {A B : Type 0} (f : A → B) (xs : List A) (i : ℕ) (y : B) → slice_get (map f xs) i ≡ Some y → Source f xs i y
-source f [] i y at = none≢some y at
-source f (x ∷ xs) zero y at = record { item = x; at = refl; is = some_injective (f x) y at }
-source f (x ∷ xs) (suc i) y at = let rest = source f xs i y at in
-    record { item = rest.item; at = rest.at; is = rest.is }
-
--- ---- one index
+use Rattle.eve_agree.proofs.Outcomes.{mapped_at}
 
 -- ---- one reply sent
 
@@ -57,29 +42,29 @@ unfolding section_history history
 is_committed t e zero v r a one is at same = absurd (omega arith)
 is_committed t e (suc n) v r a one is at same =
     let less : suc n - 1 ≡ n = omega arith in
-    let s = source (λ p. executed_attempt (placed_at p)) (history t e).committed n r
+    let s = mapped_at (λ p. executed_attempt (placed_at p)) (history t e).committed n r
     (ap (λ m. slice_get (section_history t e).commits m) (sym less)
     ∙ ap (λ (w : SectionHistory). slice_get w.commits (suc n - 1)) (sym is) ∙ at) in
     record {
-      placed = s.item;
-      at = s.at;
-      is = ap (λ (q : ExecutedAttempt). q.attempt.replies) s.is ∙ ap (λ (b : Attempt). b.replies) (sym same);
+      placed = s.0;
+      at = s.1;
+      is = ap (λ (q : ExecutedAttempt). q.attempt.replies) s.2 ∙ ap (λ (b : Attempt). b.replies) (sym same);
     }
 
 pub replied_from : (t : Trace) (s : Sent) (replies : List Reply) (request_ids : List RequestId) (i : ℕ)
     → IsCommitted t s.replica s.seq replies → request_ids ≡ map request_id (batch_at t s.seq).requests
     → AnswersAt request_ids replies s i → IsReplied t s
 replied_from t s replies request_ids i committed is answer =
-    let a = source request_id (batch_at t s.seq).requests i (s.client, s.number)
+    let a = mapped_at request_id (batch_at t s.seq).requests i (s.client, s.number)
     (ap (λ (xs : List RequestId). slice_get xs i) (sym is) ∙ answer.request_id) in
     record {
       placed = committed.placed;
       index = i;
-      asked = a.item;
+      asked = a.0;
       committed = committed.at;
-      request = a.at;
-      client = ap (λ (y : ℕ × ℕ). y.0) a.is;
-      number = ap (λ (y : ℕ × ℕ). y.1) a.is;
+      request = a.1;
+      client = ap (λ (y : ℕ × ℕ). y.0) a.2;
+      number = ap (λ (y : ℕ × ℕ). y.1) a.2;
       reply = ap (λ (rs : List Reply). slice_get rs i) committed.is ∙ answer.reply;
     }
 

@@ -19,6 +19,7 @@ use Rattle.eve_chains.specs.Visible.{opening_table, execution, executions, execu
 use Rattle.eve_chains.specs.Committed.{attempts_of}
 use Rattle.eve_chains.specs.Sound.{IsSoundAlong, SettledAreSound}
 use Rattle.eve_chains.specs.Along.{entries_along}
+use Rattle.eve_chains.proofs.Distinct.{in_right}
 use Rattle.eve_chains.proofs.Walks.{record_at, same_entries, right_one, complete_one}
 use Rattle.eve_agree.specs.Tables.{committed_rows, entries_of, open_entries}
 
@@ -105,10 +106,6 @@ follows_path t before (p ∷ ps) pathed sound =
 
 -- ---- what is discarded
 
-in_back : {A : Type 0} {x : A} {xs : List A} (ys : List A) → In x xs → In x (ys ++ xs)
-in_back [] i = i
-in_back (y ∷ ys) i = there (in_back ys i)
-
 stays_discarded : (s : SectionState) (steps : List (ℕ × Step)) (p : Placed) → In p s.discarded
     → In p (state_after s steps).discarded
 stays_discarded s [] p i = i
@@ -129,10 +126,10 @@ module _ (t : Trace) (e : ℕ) (front : List (ℕ × Step)) (at : ℕ) (r : Roll
   unfolding history
   gets_settled p i =
       let s = state_after start front in
-      in_back (history t e).committed
+      in_right (history t e).committed _
       (subst (λ (o : SectionState). In p o.discarded)
       (sym (ap (state_after start) split ∙ state_after-append start front ((at, RollsBack r) ∷ rest)))
-      (stays_discarded (next s (at, RollsBack r)) rest p (in_back s.discarded i)))
+      (stays_discarded (next s (at, RollsBack r)) rest p (in_right s.discarded _ i)))
 
   pub follows_committed : SettledAreSound t e → Follows (committed_rows t (state_after start front))
       (executions t (attempts_of (state_after start front).pending))

@@ -11,5 +11,5 @@ pub mod Backing
 pub mod Replicas
 mod Answering
 mod Reading
-mod Sending
+pub mod Sending
 pub mod Stretched

@@ -7,8 +7,8 @@ use Rattle.std.specs.Prelude.{is_some}
 use Rattle.std.proofs.lemmas.List.Sums.{sum_by-cons}
 use Rattle.std.specs.List.{AllByRecursion, list_any, list_all}
 use Rattle.std.specs.Ordering.{int_eq}
-use Rattle.std.proofs.lemmas.Bool.{cases_Bool, and_parts, and_from, and_left, and_right, or_parts, or_cases, eqb-true}
-use Rattle.std.proofs.lemmas.Bool.{eq-eqb, ne_eqb, ltb-true, false≢true}
+use Rattle.std.proofs.lemmas.Bool.{cases_Bool, and_parts, and_from, and_left, and_right, or_parts, or_cases, or_right}
+use Rattle.std.proofs.lemmas.Bool.{eqb-true, eq-eqb, ne_eqb, ltb-true, false≢true}
 use Rattle.std.proofs.lemmas.List.Folds.{list_any-append}
 use Rattle.eve_smallbank.specs.declared.entry.Entry.{Entry}
 use Rattle.eve_smallbank.specs.Access.{Executed, is_write, writes_row}
@@ -206,11 +206,7 @@ covered rs (e ∷ es) h = and_from (is_covered rs e) (list_all (is_covered rs) e
       | inl writes ↦ rw writes (h e.row (ap (λ (b : Bool). b || list_any (writes_row e.row) es) (written_by e writes)))
       | inr reads ↦ rw reads refl
     ])
-    (covered rs es (λ row some. h row (either (writes_row row e) (list_any (writes_row row) es) some)))
-  where
-    either : (b c : Bool) → c ≡ true → (b || c) ≡ true
-    either true c h = refl
-    either false c h = h
+    (covered rs es (λ row some. h row (or_right (writes_row row e) (list_any (writes_row row) es) some)))
 
 pub not_covered : (rs : List Restore) (row : ℕ) (es : List Entry) → restores_row row rs ≡ false
     → list_any (writes_row row) es ≡ true → list_all (is_covered rs) es ≡ false

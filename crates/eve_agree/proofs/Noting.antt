@@ -2,24 +2,18 @@
 use Rattle.std.proofs.Common.{◌≡◌, ℕ, zero, suc, ◌+◌, ◌-◌, ◌<◌, ◌≤◌, List, [], ◌∷◌, ◌++◌, take, drop, length, slice_get}
 use Rattle.std.proofs.Common.{Some, refl, sym, subst, ap, ◌∙◌, append-nil, arith, IsTrue}
 use Rattle.std.specs.List.{AllByRecursion, list_all, flat_map}
-use Rattle.std.proofs.lemmas.List.{take_more}
 use Rattle.std.proofs.lemmas.Grind.{flat_map-append}
 use Rattle.std.proofs.lemmas.Bool.{and_parts}
-use Rattle.std.proofs.lemmas.Option.{get_or_from_slice_get, slice_get_within}
 use Rattle.eve_smallbank.specs.declared.entry.Entry.{Entry}
 use Rattle.eve_grammar.specs.Trace.{Access}
 use Rattle.eve_grammar.specs.Limits.{is_entry}
 use Rattle.eve_history.specs.SectionHistory.{ExecutedAttempt}
 use Rattle.eve_history.proofs.Finding.{rec_at}
+use Rattle.eve_history.proofs.OrderLaws.{take_one_more}
 use Rattle.eve_chains.specs.Along.{entries_along, AreWithin}
 use Rattle.eve_chains.proofs.Linked.{some_injective, none≢some}
 use Rattle.eve_agree.specs.Marking.{Marking, marked, noted_between}
 use Rattle.eve_agree.proofs.Marking.{marked-append}
-
--- the list with one more
-take_one : {A : Type 0} (xs : List A) (k : ℕ) (x : A) → slice_get xs k ≡ Some x → take (k + 1) xs ≡ take k xs ++ x ∷ []
-take_one {A = A} xs k x at = take_more xs k x (slice_get_within xs k x at)
-    ∙ ap (λ (y : A). take k xs ++ y ∷ []) (get_or_from_slice_get xs k x x at)
 
 -- ---- the records of an attempt
 
@@ -30,8 +24,9 @@ pub records_more : (base old new : Marking) (xs : List (ℕ × Access)) (k : ℕ
 records_more base old new xs k x at so step =
     step ∙ ap (λ (marks : Marking). marked marks x.1.entries) so
     ∙ sym (marked-append base (entries_along (take k xs)) x.1.entries)
-    ∙ ap (marked base) (sym (ap entries_along (take_one xs k x at) ∙ flat_map-append (λ (y : ℕ × Access). y.1.entries)
-    (take k xs) (x ∷ []) ∙ ap (λ (es : List Entry). entries_along (take k xs) ++ es) (append-nil x.1.entries)))
+    ∙ ap (marked base) (sym (ap entries_along (take_one_more xs k x at)
+    ∙ flat_map-append (λ (y : ℕ × Access). y.1.entries) (take k xs) (x ∷ [])
+    ∙ ap (λ (es : List Entry). entries_along (take k xs) ++ es) (append-nil x.1.entries)))
 
 -- the entries of one of the records lie within
 pub record_within : (rows : ℕ) (xs : List (ℕ × Access)) (k : ℕ) (x : ℕ × Access) → AreWithin rows xs → slice_get xs k
@@ -79,7 +74,7 @@ noted_more base old new rs first i r le at so step =
     step ∙ ap (λ (marks : Marking). marked marks (along r)) so
     ∙ sym (marked-append base (noted_between rs first i) (along r))
     ∙ ap (marked base) (sym (ap (λ (n : ℕ). flat_map along (take n (drop first rs))) more
-    ∙ ap (flat_map along) (take_one (drop first rs) (i - first) r there)
+    ∙ ap (flat_map along) (take_one_more (drop first rs) (i - first) r there)
     ∙ flat_map-append along (take (i - first) (drop first rs)) (r ∷ [])
     ∙ ap (λ (es : List Entry). noted_between rs first i ++ es) (append-nil (along r))))
 

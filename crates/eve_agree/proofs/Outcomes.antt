@@ -5,12 +5,12 @@ use Rattle.std.proofs.Common.{◌++◌, map, length, take, slice_get, get_or, Op
 use Rattle.std.proofs.Common.{inl, inr, arith, take_all}
 use Rattle.std.specs.List.{enumerate_from, find}
 use Rattle.std.specs.Option.{option_map}
-use Rattle.std.specs.Prelude.{slice_index_or}
 use Rattle.std.proofs.lemmas.Bool.{cases_lt, leb-false, le-leb, lt-leb}
+use Rattle.std.proofs.lemmas.List.{length-map}
+use Rattle.std.proofs.lemmas.List.FromFn.{length-enumerate_from}
+use Rattle.std.proofs.lemmas.Option.{slice_get_within}
 use Rattle.eve_smallbank.specs.declared.request.Reply.{Reply}
 use Rattle.eve_grammar.specs.Trace.{Attempt, Step, Trace}
-use Rattle.eve_grammar.specs.Frames.{OfReplica}
-use Rattle.eve_grammar.specs.Spelling.{frame_text, located, step_text, section_start, steps_at}
 use Rattle.eve_history.specs.Section.{Placed, start, state_after}
 use Rattle.eve_history.specs.SectionHistory.{ExecutedAttempt, executed_attempt, SectionHistory, section_history}
 use Rattle.eve_history.specs.SectionHistory.{section_histories, placed_at, history, committed_at, IsRightSection}
@@ -18,6 +18,7 @@ use Rattle.eve_chains.specs.Committed.{first_rows, values_to, balances_to}
 use Rattle.eve_chains.proofs.Linked.{last_committed, some_injective, none≢some}
 use Rattle.eve_chains.specs.Settling.{Settling, settling, settlings, values_in}
 use Rattle.eve_history.proofs.OrderLaws.{take_one_more}
+use Rattle.eve_history.proofs.Rights.{as_many_told, none_at, section_history_at}
 use Rattle.eve_agree.proofs.TokensInOrder.{rows_are, rows_told}
 use Rattle.eve_agree.specs.Agreement.{first_to_commit, HaveSameOutcome}
 use Rattle.eve_agree.specs.Judging.{NoneBefore, IsAfter, AreAfter}
@@ -31,39 +32,20 @@ each_at f k (x ∷ xs) zero lt = let same : k ≡ k + 0 = omega arith in ap (λ 
 each_at f k (x ∷ xs) (suc i) lt = let same : k + 1 + i ≡ k + suc i = omega arith in each_at f (k + 1) xs i (omega arith)
     ∙ ap (λ (j : ℕ). Some (f j)) same
 
-each_count : {A B : Type 0} (f : ℕ → B) (k : ℕ) (xs : List A) → length (map (λ s. f s.0) (enumerate_from k xs))
-    ≡ length xs
-each_count f k [] = refl
-each_count f k (x ∷ xs) = ap suc (each_count f (k + 1) xs)
-
-within : {A : Type 0} (xs : List A) (i : ℕ) (x : A) → slice_get xs i ≡ Some x → i < length xs
-within [] i x e = none≢some x e
-within (y ∷ xs) zero x e = omega arith
-within (y ∷ xs) (suc i) x e = let lt = within xs i x e in omega arith
-
 module _ (t : Trace) where
-  pub section_histories_count : length (section_histories t) ≡ length t.sections
-  unfolding section_histories
-  section_histories_count = each_count (section_history t) 0 t.sections
-
-  pub section_history_at : (e : ℕ) → e < length t.sections → slice_get (section_histories t) e
-      ≡ Some (section_history t e)
-  unfolding section_histories
-  section_history_at e lt = let same : 0 + e ≡ e = omega arith in each_at (section_history t) 0 t.sections e lt
-      ∙ ap (λ (j : ℕ). Some (section_history t j)) same
-
   pub section_history_is : (hs : List SectionHistory) (e : ℕ) (h : SectionHistory) → hs ≡ section_histories t
       → slice_get hs e ≡ Some h → h ≡ section_history t e
   section_history_is hs e h is got =
       let here : slice_get (section_histories t) e ≡ Some h = ap (λ (xs : List SectionHistory). slice_get xs e) (sym is)
       ∙ got in
-      let lt = within (section_histories t) e h here in
-      let count = section_histories_count in
-      some_injective h (section_history t e) (sym here ∙ section_history_at e (omega arith))
+      let lt = slice_get_within (section_histories t) e h here in
+      let count = as_many_told t in
+      some_injective h (section_history t e) (sym here ∙ section_history_at t e (omega arith))
 
   pub settlings_count : length (settlings t) ≡ length t.sections
   unfolding settlings
-  settlings_count = each_count (settling t) 0 t.sections
+  settlings_count = length-map (enumerate_from 0 t.sections) (λ s. settling t s.0)
+      ∙ length-enumerate_from 0 t.sections
 
   pub settling_at : (e : ℕ) → e < length t.sections → slice_get (settlings t) e ≡ Some (settling t e)
   unfolding settlings
@@ -71,11 +53,6 @@ module _ (t : Trace) where
       ∙ ap (λ (j : ℕ). Some (settling t j)) same
 
 -- ---- how many batches
-
-no_steps : (place : ℕ) → (xs : List (List Step)) → length xs ≤ place → slice_index_or xs place [] ≡ []
-no_steps place [] le = refl
-no_steps zero (x ∷ xs) le = absurd (omega arith)
-no_steps (suc place) (x ∷ xs) le = no_steps place xs (omega arith)
 
 module _ (t : Trace) (e : ℕ) where
   pub last_told : (h : SectionHistory) → h ≡ section_history t e → h.committed ≡ (history t e).last
@@ -92,15 +69,13 @@ module _ (t : Trace) (e : ℕ) where
 
   -- a replica that is not there committed nothing
   none_there : length t.sections ≤ e → (history t e).committed ≡ []
-  unfolding history steps_at
-  none_there past = ap (λ (xs : List Step).
-      (state_after start (located step_text (section_start t e + length (frame_text (OfReplica e))) xs)).committed)
-      (no_steps e t.sections past)
+  unfolding history
+  none_there past = ap (λ (xs : List (ℕ × Step)). (state_after start xs).committed) (none_at t e past)
 
   -- where it committed the batch, the batch is one up to the last
   pub committed_low : (n : ℕ) (p : Placed) → IsRightSection t e → committed_at t e n ≡ Some p → n ≤ (history t e).last
   committed_low zero p right at = omega arith
-  committed_low (suc n) p right at = let lt = within (history t e).committed n p at in let last =
+  committed_low (suc n) p right at = let lt = slice_get_within (history t e).committed n p at in let last =
       last_committed t e right in omega arith
 
   pub replica_there : (n : ℕ) (p : Placed) → committed_at t e n ≡ Some p → e < length t.sections
@@ -112,7 +87,7 @@ module _ (t : Trace) (e : ℕ) where
 
 -- ---- the attempt
 
-mapped_at : {A B : Type 0} (f : A → B) (xs : List A) (i : ℕ) (y : B) → slice_get (map f xs) i ≡ Some y → (x : A)
+pub mapped_at : {A B : Type 0} (f : A → B) (xs : List A) (i : ℕ) (y : B) → slice_get (map f xs) i ≡ Some y → (x : A)
     × (slice_get xs i ≡ Some x) × (f x ≡ y)
 mapped_at f [] i y e = absurd cc
 mapped_at f (x ∷ xs) zero y e = (x, refl, some_injective (f x) y e)
@@ -226,8 +201,8 @@ module _ (t : Trace) (hs : List SectionHistory) (told : hs ≡ section_histories
   pub first_is : (e : ℕ) (h : SectionHistory) → slice_get hs e ≡ Some h → n ≤ h.committed → NoneBefore hs n e
       → first_to_commit t n ≡ Some e
   first_is e h got some none =
-      let count : length hs ≡ length t.sections = ap length told ∙ section_histories_count t in
-      let lt = within hs e h got in
+      let count : length hs ≡ length t.sections = ap length told ∙ as_many_told t in
+      let lt = slice_get_within hs e h got in
       let last = last_told t e h (section_history_is t hs e h told got) in
       let zeroth : 0 + e ≡ e = omega arith in
       find_first (λ i. nat_le n (history t i).last) 0 t.sections e (omega arith)
@@ -238,7 +213,7 @@ module _ (t : Trace) (hs : List SectionHistory) (told : hs ≡ section_histories
 
   pub first_none : (e : ℕ) → length hs ≤ e → NoneBefore hs n e → first_to_commit t n ≡ None
   first_none e past none =
-      let count : length hs ≡ length t.sections = ap length told ∙ section_histories_count t in
+      let count : length hs ≡ length t.sections = ap length told ∙ as_many_told t in
       find_none (λ i. nat_le n (history t i).last) 0 t.sections
       (λ j less. let same : 0 + j ≡ j = omega arith in ap (λ (i : ℕ). nat_le n (history t i).last) same
       ∙ not_committed (length t.sections) j (omega arith) (λ i h lt got. none i h (omega arith) got) less)

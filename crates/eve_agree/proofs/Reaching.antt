@@ -3,8 +3,9 @@ use Rattle.std.proofs.Common.{◌≡◌, ℕ, zero, suc, ◌+◌, ◌-◌, ◌<�
 use Rattle.std.proofs.Common.{set, Some, refl, sym, ap, subst, ◌∙◌, inl, inr, arith, get_or-set_same, get_or-set_other}
 use Rattle.std.proofs.lemmas.Bool.{cases_lt, cases_eq}
 use Rattle.std.proofs.lemmas.List.{length-set, length-append}
+use Rattle.std.proofs.lemmas.Option.{slice_get_within}
 use Rattle.eve_smallbank.specs.Access.{balance_of_row}
-use Rattle.eve_chains.proofs.Linked.{some_injective, none≢some}
+use Rattle.eve_chains.proofs.Linked.{some_injective}
 use Rattle.eve_chains.specs.Settling.{Settling, values_in}
 use Rattle.eve_agree.specs.Judging.{IsAfter, AreAfter}
 
@@ -50,13 +51,8 @@ opened_all settled i all is opened =
     record {
       as_many = opened.as_many
           ∙ is;
-      each = λ e s got. opened.each e s (let lt = within settled e s got in omega arith) got;
+      each = λ e s got. opened.each e s (let lt = slice_get_within settled e s got in omega arith) got;
     }
-  where
-    within : (xs : List Settling) (k : ℕ) (x : Settling) → slice_get xs k ≡ Some x → k < length xs
-    within [] k x e = none≢some x e
-    within (y ∷ xs) zero x e = omega arith
-    within (y ∷ xs) (suc k) x e = let lt = within xs k x e in omega arith
 
 -- ---- the next batch
 
@@ -113,10 +109,5 @@ reached_all settled n i all past reached =
     record {
       as_many = reached.as_many;
       each = λ e s got. reached.done e s
-          (let lt = within settled e s got in omega arith) got;
+          (let lt = slice_get_within settled e s got in omega arith) got;
     }
-  where
-    within : (xs : List Settling) (k : ℕ) (x : Settling) → slice_get xs k ≡ Some x → k < length xs
-    within [] k x e = none≢some x e
-    within (y ∷ xs) zero x e = omega arith
-    within (y ∷ xs) (suc k) x e = let lt = within xs k x e in omega arith

@@ -1,7 +1,7 @@
 -- Public: other crates cite these lemmas. Steps of a section judged one after another: which attempts are open, and the
 -- first rollback that is wrong.
 use Rattle.std.proofs.Common.{◌≡◌, ℕ, zero, suc, ◌+◌, ◌-◌, ◌*◌, ◌<◌, ◌≤◌, ◌==◌, Bool, true, false, cond, ◌&&◌, List, []}
-use Rattle.std.proofs.Common.{◌∷◌, ◌++◌, map, take, drop, length, slice_index_or, Some, refl, sym, subst, ap, ◌∙◌, inl}
+use Rattle.std.proofs.Common.{◌∷◌, ◌++◌, map, take, drop, length, Some, refl, sym, subst, ap, ◌∙◌, inl}
 use Rattle.std.proofs.Common.{inr, ◌⊎◌, append_assoc, append-nil, arith, IsTrue, IsFalse}
 use Rattle.std.specs.List.{AllByRecursion, list_all, flat_map}
 use Rattle.std.proofs.lemmas.Bool.{and_parts, and_from, cases_lt, false≢true}
@@ -35,6 +35,7 @@ use Rattle.eve_history.specs.SectionHistory.{IsRightSection}
 use Rattle.eve_history.specs.Faults.{OfRollback}
 use Rattle.eve_history.proofs.Coming.{come_start}
 use Rattle.eve_history.proofs.Structure.{state_after-append}
+use Rattle.eve_history.proofs.Rights.{none_at}
 use Rattle.eve_history.proofs.Places.{place_cases, no_place, weaker_place, Rising, located_rising, At, first_place}
 use Rattle.eve_chains.specs.Along.{entries_along, AreWithin}
 use Rattle.eve_chains.specs.Sound.{SettledAreSound}
@@ -409,19 +410,11 @@ right_without t e none = none_rolled t start (steps_at t e) none
 
 -- where there is one the section is there
 pub section_there : (t : Trace) (e : ℕ) → (length (section_history t e).rollbacks ≡ 0 → ⊥) → e < length t.sections
-unfolding section_history steps_at
+unfolding section_history
 section_there t e some = elim (cases_lt e (length t.sections)) [
   | inl lt ↦ lt
-  | inr ge ↦ absurd (some (ap
-      (λ (xs : List Step). length
-      (rollbacks_among (located step_text (section_start t e + length (frame_text (OfReplica e))) xs)))
-      (past t.sections e ge)))
+  | inr ge ↦ absurd (some (ap (λ (xs : List (ℕ × Step)). length (rollbacks_among xs)) (none_at t e ge)))
 ]
-  where
-    past : (xs : List (List Step)) (n : ℕ) → length xs ≤ n → slice_index_or xs n [] ≡ []
-    past [] n le = refl
-    past (x ∷ xs) zero le = absurd (omega arith)
-    past (x ∷ xs) (suc n) le = past xs n (omega arith)
 
 pub told_attempts : (t : Trace) (e : ℕ) → (section_history t e).attempts
     ≡ map executed_attempt (attempts_among (steps_at t e))
@@ -430,7 +423,7 @@ told_attempts t e = refl
 
 -- ---- within the limits
 
-entries_within : (rows : ℕ) (x : Access) → IsTrue (is_access rows x) → IsTrue (list_all (is_entry rows) x.entries)
+pub entries_within : (rows : ℕ) (x : Access) → IsTrue (is_access rows x) → IsTrue (list_all (is_entry rows) x.entries)
 entries_within rows x fits =
     let one = and_parts (is_number 1 x.worker) _ fits in
     let two = and_parts (is_number 2 x.place) _ one.1 in

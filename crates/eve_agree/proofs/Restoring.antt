@@ -7,6 +7,7 @@ use Rattle.std.specs.Ordering.{int_eq}
 use Rattle.std.proofs.lemmas.Bool.{cases_Bool, and_parts, or_cases, or_parts, eqb-true, false≢true}
 use Rattle.std.proofs.lemmas.Bool.Decides.{Decides-int_eq}
 use Rattle.std.proofs.lemmas.List.{map-append}
+use Rattle.std.proofs.lemmas.Option.{same_Some}
 use Rattle.std.proofs.lemmas.List.Folds.{list_any-append}
 use Rattle.std.proofs.lemmas.Grind.{flat_map-append}
 use Rattle.eve_smallbank.specs.Access.{Executed, writes_row}
@@ -146,10 +147,7 @@ along_restored t s rs right = ap (λ (table : Table). restored table rs) (line_r
     ∙ restored_rows t s rs right
 
 found_step : (x y : ℕ × Step) → Some x ≡ Some y → x.1 ≡ y.1
-found_step x y e = ap (λ (p : ℕ × Step). p.1) (same x y e)
-  where
-    same : (p q : ℕ × Step) → Some p ≡ Some q → p ≡ q
-    same p q h = cc
+found_step x y e = ap (λ (p : ℕ × Step). p.1) (same_Some x y e)
 
 no_rollback : (a : Attempt) (r : Rollback) → Attempts a ≡ RollsBack r → ⊥
 no_rollback a r e = cc

@@ -1,4 +1,4 @@
--- The replies that were sent, one after another.
+-- Public: other crates cite these lemmas. The replies that were sent, one after another.
 use Rattle.std.proofs.Common.{◌≡◌, ℕ, zero, suc, ◌+◌, ◌<◌, ◌≤◌, List, [], ◌∷◌, ◌++◌, take, drop, length, slice_get}
 use Rattle.std.proofs.Common.{slice_index_or, Some, None, refl, sym, subst, ap, ◌∙◌, inl, inr, ◌⊎◌, arith, IsTrue}
 use Rattle.std.specs.List.{AllByRecursion, list_all}
@@ -13,6 +13,7 @@ use Rattle.eve_views.specs.declared.fault.Code.{Code}
 use Rattle.eve_views.specs.declared.fault.Code.TheVariants as code
 use Rattle.eve_views.specs.declared.fault.Fault.{Fault}
 use Rattle.eve_views.specs.Form.{SomePlace, IsLeast}
+use Rattle.eve_votes.proofs.Places.{located_get}
 use Rattle.eve_history.specs.SectionHistory.{SectionHistory, section_history, section_histories}
 use Rattle.eve_history.proofs.Places.{no_place, place_cases, cut_at, Rising, located_rising, At, first_place}
 use Rattle.eve_history.proofs.Places.{weaker_place}
@@ -40,15 +41,9 @@ take_located text at (suc i) [] = refl
 take_located {A = A} text at (suc i) (x ∷ xs) = ap (λ (ys : List (ℕ × A)). (at, x) ∷ ys)
     (take_located text (at + length (text x)) i xs)
 
-of_located : {A : Type 0} (text : A → List ℕ) (at : ℕ) (xs : List A) (i o : ℕ) (x : A)
-    → slice_get (located text at xs) i ≡ Some (o, x) → slice_get xs i ≡ Some x
-of_located text at [] i o x e = none≢some (o, x) e
-of_located {A} text at (y ∷ xs) zero o x e = ap (λ (p : ℕ × A). Some p.1) (some_injective (at, y) (o, x) e)
-of_located text at (y ∷ xs) (suc i) o x e = of_located text (at + length (text y)) xs i o x e
-
 pub sent_there : (t : Trace) (i o : ℕ) (s : Sent) → slice_get (sent_at t) i ≡ Some (o, s) → slice_get t.sent i ≡ Some s
 unfolding sent_at
-sent_there t i o s e = of_located (λ s. frame_text (OfSent s)) (sent_start t) t.sent i o s e
+sent_there t i o s e = located_get (λ s. frame_text (OfSent s)) (sent_start t) t.sent i o s e
 
 -- ---- all of them
 

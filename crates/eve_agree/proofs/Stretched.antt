@@ -5,6 +5,7 @@ use Rattle.std.specs.Prelude.{All}
 use Rattle.std.specs.List.{AllByRecursion}
 use Rattle.std.proofs.lemmas.Bool.{cases_lt}
 use Rattle.std.proofs.lemmas.List.{length-map}
+use Rattle.std.proofs.lemmas.Option.{slice_get_within}
 use Rattle.eve_grammar.specs.Trace.{Attempt, Trace}
 use Rattle.eve_views.specs.declared.fault.Code.{Code}
 use Rattle.eve_views.specs.declared.fault.Code.TheVariants as code
@@ -13,6 +14,7 @@ use Rattle.eve_token.specs.Token.{token_of, flat_token}
 use Rattle.eve_history.specs.Section.{Placed}
 use Rattle.eve_history.specs.SectionHistory.{ExecutedAttempt, executed_attempt, SectionHistory, section_history}
 use Rattle.eve_history.specs.SectionHistory.{history, committed_at, placed_at, IsRightSection}
+use Rattle.eve_history.proofs.Places.{cut_at}
 use Rattle.eve_chains.specs.Committed.{balances_to, values_to}
 use Rattle.eve_chains.specs.Settling.{Settling, settling, values_in}
 use Rattle.eve_chains.proofs.Linked.{committed_number}
@@ -20,7 +22,7 @@ use Rattle.eve_agree.specs.Judging.{IsAfter}
 use Rattle.eve_agree.specs.DueTokens.{due_token, TokensAreDue, StandsInTokens, IsTokenFault, IsDueIn, IsFirstWrong}
 use Rattle.eve_agree.specs.Stretches.{IsReadyStretch, IsJudgedStretch, ReachesBatch, or_else, first_found}
 use Rattle.eve_agree.specs.declared.due_tokens.Stretch.{Stretch}
-use Rattle.eve_agree.proofs.Outcomes.{balances_are, commits_told}
+use Rattle.eve_agree.proofs.Outcomes.{balances_are, commits_told, mapped_at}
 use Rattle.eve_agree.proofs.TokensInOrder.{batches_told, first_version, IsWrong, first_committed}
 
 -- ---- one after another
@@ -99,19 +101,10 @@ module _ (t : Trace) (e : ℕ) where
   at_place [] each = tt
   at_place (p ∷ ps) each = (each 0 p refl, at_place ps (λ n q got. each (suc n) q got))
 
-  within : (xs : List Placed) (i : ℕ) (x : Placed) → slice_get xs i ≡ Some x → i < length xs
-  within [] i x e = absurd cc
-  within (y ∷ xs) zero x e = omega arith
-  within (y ∷ xs) (suc i) x e = let lt = within xs i x e in omega arith
-
   pub all_due : (last : ℕ) → length (history t e).committed ≤ last → IsFirstWrong t e 0 last None → TokensAreDue t e
   all_due last past due = at_place (history t e).committed
-      (λ n p got. (let lt = within (history t e).committed n p got in due (suc n) (omega arith) (omega arith) p got))
-
-  cut_at : (ps : List Placed) (n : ℕ) (p : Placed) → slice_get ps n ≡ Some p → ps ≡ take n ps ++ p ∷ drop (suc n) ps
-  cut_at [] n p e = absurd cc
-  cut_at (q ∷ ps) zero p e = (let same : q ≡ p = cc in ap (λ (x : Placed). x ∷ ps) same)
-  cut_at (q ∷ ps) (suc n) p e = ap (λ (xs : List Placed). q ∷ xs) (cut_at ps n p e)
+      (λ n p got. (let lt = slice_get_within (history t e).committed n p got in
+      due (suc n) (omega arith) (omega arith) p got))
 
   all_before : (ps : List Placed) (n : ℕ) → ((m : ℕ) (p : Placed) → m < n → slice_get ps m ≡ Some p →
       p.attempt.token ≡ due_token t e p) → AllByRecursion (λ p. ¬ IsWrong t e (placed_at p)) (take n ps)
@@ -159,13 +152,6 @@ module _ (t : Trace) (e : ℕ) where
 
   -- ---- one batch
 
-  mapped_at : (ps : List Placed) (i : ℕ) (r : ExecutedAttempt)
-      → slice_get (map (λ p. executed_attempt (placed_at p)) ps) i ≡ Some r →
-      (p : Placed) × (slice_get ps i ≡ Some p) × (executed_attempt (placed_at p) ≡ r)
-  mapped_at [] i r e = absurd cc
-  mapped_at (p ∷ ps) zero r e = (p, refl, (let same : executed_attempt (placed_at p) ≡ r = cc in same))
-  mapped_at (p ∷ ps) (suc i) r e = mapped_at ps i r e
-
   -- this offset, number, replies and token are those of replica e's attempt of batch n
   record IsOfBatch (n offset : ℕ) (said : Attempt) : Type 0 where
     pub item : Placed
@@ -184,7 +170,7 @@ module _ (t : Trace) (e : ℕ) where
       let here : slice_get (map (λ p. executed_attempt (placed_at p)) (history t e).committed) n ≡ Some r =
       ap (λ (rs : List ExecutedAttempt). slice_get rs n) (sym (commits_told t e)) ∙
       ap (λ (x : SectionHistory). slice_get x.commits n) (sym is) ∙ got.1 in
-      let found = mapped_at (history t e).committed n r here in
+      let found = mapped_at (λ p. executed_attempt (placed_at p)) (history t e).committed n r here in
       let own : said ≡ (executed_attempt (placed_at found.0)).attempt = got.3
       ∙ sym (ap (λ (x : ExecutedAttempt). x.attempt) found.2) in
       record {

@@ -1,6 +1,6 @@
 -- Public: other crates cite these lemmas. Balances as lists, and the order of a replica's committed attempts.
 use Rattle.std.proofs.Common.{◌≡◌, ◌≢◌, ℕ, zero, suc, ◌+◌, ◌*◌, ◌≤◌, ℤ, pos, Bool, true, false, cond, List, [], ◌∷◌}
-use Rattle.std.proofs.Common.{◌++◌, map, length, take, slice_get, Some, refl, sym, ap, subst, ◌∙◌, inl, inr, arith}
+use Rattle.std.proofs.Common.{◌++◌, map, length, take, refl, sym, ap, subst, ◌∙◌, inl, inr, arith}
 use Rattle.std.proofs.Common.{add-one, take_all}
 use Rattle.std.specs.List.{AllByRecursion}
 use Rattle.std.proofs.lemmas.List.{length-map, map-append, take_more}
@@ -49,10 +49,6 @@ mapped_place {A = A} {B = B} f P Q xs to place = record {
     mapped_split : (b : List A) → map f (b ++ place.item ∷ place.rest) ≡ map f b ++ f place.item ∷ map f place.rest
     mapped_split [] = refl
     mapped_split (y ∷ b) = ap (λ (ys : List B). f y ∷ ys) (mapped_split b)
-
-pub get_at_seam : {A : Type 0} (xs : List A) (x : A) (ys : List A) → slice_get (xs ++ x ∷ ys) (length xs) ≡ Some x
-get_at_seam [] x ys = refl
-get_at_seam (y ∷ xs) x ys = get_at_seam xs x ys
 
 -- ---- all balances
 

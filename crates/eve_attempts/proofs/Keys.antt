@@ -2,23 +2,16 @@
 use Rattle.std.proofs.Common.{◌≡◌, ℕ, suc, ◌+◌, ◌<◌, ◌≤◌, ◌==◌, Bool, true, false, cond, ltb, List, [], ◌∷◌, ◌++◌}
 use Rattle.std.proofs.Common.{length, get_or, take, drop, refl, sym, subst, ap, ap₂, ◌∙◌, append_assoc, append-nil}
 use Rattle.std.proofs.Common.{add-one, is_lt, nat_cmp, arith}
+use Rattle.std.proofs.Math.Seq.{get_or-append_seam}
 use Rattle.std.specs.declared.cmp.Ordering.{Ordering}
 use Rattle.std.specs.declared.cmp.Ordering.TheVariants.{Less, Equal, Greater}
 use Rattle.std.specs.Ordering.{ordering_then}
 use Rattle.std.proofs.lemmas.Bool.{ltb-false, eqb-false, false≢true}
 use Rattle.std.specs.List.{AllByRecursion}
-use Rattle.std.proofs.lemmas.List.{drop_all, take_all}
+use Rattle.std.proofs.lemmas.List.{drop_all, take_all, length_push}
 use Rattle.eve_stamps.specs.Applied.{Applied}
 use Rattle.eve_attempts.specs.Ordering.{Key, keys_from, no_record, record_of, records_in, IsKeyOf, IsNoLaterRecord}
 use Rattle.eve_attempts.specs.Ordering.{TicksDontFall}
-
-at_middle : (front rs : List Applied) (r d : Applied) → get_or (front ++ r ∷ rs) (length front) d ≡ r
-at_middle [] rs r d = refl
-at_middle (x ∷ front) rs r d = at_middle front rs r d
-
-pushed : (xs : List Applied) (x : Applied) → length (xs ++ x ∷ []) ≡ length xs + 1
-pushed [] x = refl
-pushed (y ∷ xs) x = let h = pushed xs x in omega arith
 
 longer : (front rs : List Applied) (r : Applied) → length front < length (front ++ r ∷ rs)
 longer [] rs r = omega arith
@@ -28,21 +21,21 @@ longer (x ∷ front) rs r = let h = longer front rs r in omega arith
 pub records_of_keys : (front rs : List Applied) → records_in (front ++ rs) (keys_from (length front) rs) ≡ rs
 records_of_keys front [] = refl
 records_of_keys front (r ∷ rs) =
-    ap₂ (λ (x : Applied) (xs : List Applied). x ∷ xs) (at_middle front rs r no_record)
+    ap₂ (λ (x : Applied) (xs : List Applied). x ∷ xs) (get_or-append_seam front r rs no_record)
     (ap₂ (λ (all : List Applied) (n : ℕ). records_in all (keys_from n rs)) (sym (append_assoc front (r ∷ []) rs))
-    (sym (pushed front r)) ∙ records_of_keys (front ++ r ∷ []) rs)
+    (sym (length_push front r)) ∙ records_of_keys (front ++ r ∷ []) rs)
 
 pub are_keys : (front rs : List Applied) → AllByRecursion (IsKeyOf (front ++ rs)) (keys_from (length front) rs)
 are_keys front [] = tt
 are_keys front (r ∷ rs) = (
   record {
     there = longer front rs r;
-    tick = ap (λ (x : Applied). x.tick) (sym (at_middle front rs r no_record));
-    index = ap (λ (x : Applied). x.index) (sym (at_middle front rs r no_record));
+    tick = ap (λ (x : Applied). x.tick) (sym (get_or-append_seam front r rs no_record));
+    index = ap (λ (x : Applied). x.index) (sym (get_or-append_seam front r rs no_record));
   },
   subst (λ (all : List Applied). AllByRecursion (IsKeyOf all) (keys_from (length front + 1) rs))
       (append_assoc front (r ∷ []) rs)
-      (subst (λ (n : ℕ). AllByRecursion (IsKeyOf ((front ++ r ∷ []) ++ rs)) (keys_from n rs)) (pushed front r)
+      (subst (λ (n : ℕ). AllByRecursion (IsKeyOf ((front ++ r ∷ []) ++ rs)) (keys_from n rs)) (length_push front r)
       (are_keys (front ++ r ∷ []) rs)),
 )
 

@@ -1,31 +1,17 @@
 -- Lists, place by place.
-use Rattle.std.proofs.Common.{◌≡◌, ℕ, zero, suc, ◌+◌, ◌-◌, ◌<◌, ◌≤◌, Bool, true, false, List, [], ◌∷◌, ◌++◌, Some, None}
-use Rattle.std.proofs.Common.{cond, filter, map, length, set, replicate, get_or, drop, slice_get, refl, sym, subst}
+use Rattle.std.proofs.Common.{◌≡◌, ℕ, zero, suc, ◌+◌, ◌-◌, ◌<◌, ◌≤◌, Bool, true, false, List, [], ◌∷◌, ◌++◌, Some}
+use Rattle.std.proofs.Common.{map, length, set, replicate, get_or, drop, slice_get, refl, sym, subst}
 use Rattle.std.proofs.Common.{ap, ◌∙◌, add-one, arith}
 use Rattle.std.specs.List.{AllByRecursion, list_all}
 use Rattle.std.proofs.lemmas.Bool.{and_parts, and_from, false≢true}
 use Rattle.std.specs.Bool.{Decides}
 use Rattle.std.proofs.lemmas.List.{drop_more, drop_all}
-use Rattle.eve_grammar.proofs.Codec.{some_is}
-
-none≢some : {A : Type 0} (x : A) → None ≡ Some x → ⊥
-none≢some x same = cc
-
--- the item at a place, where the list has it
-pub at_place : {A : Type 0} (xs : List A) (i : ℕ) (x d : A) → slice_get xs i ≡ Some x → x ≡ get_or xs i d
-at_place [] i x d e = absurd (none≢some x e)
-at_place (y ∷ xs) zero x d e = sym (some_is y x e)
-at_place (y ∷ xs) (suc i) x d e = at_place xs i x d e
-
-pub place_within : {A : Type 0} (xs : List A) (i : ℕ) (x : A) → slice_get xs i ≡ Some x → i < length xs
-place_within [] i x e = absurd (none≢some x e)
-place_within (y ∷ xs) zero x e = omega arith
-place_within (y ∷ xs) (suc i) x e = let h = place_within xs i x e in omega arith
+use Rattle.std.proofs.lemmas.Option.{get_or_from_slice_get, slice_get_within}
 
 -- the item at a place and those after it
 pub drop_at : {A : Type 0} (xs : List A) (i : ℕ) (x : A) → slice_get xs i ≡ Some x → drop i xs ≡ x ∷ drop (i + 1) xs
-drop_at xs i x e = drop_more xs i x (place_within xs i x e)
-    ∙ ap (λ (y : _). y ∷ drop (i + 1) xs) (sym (at_place xs i x x e))
+drop_at xs i x e = drop_more xs i x (slice_get_within xs i x e)
+    ∙ ap (λ (y : _). y ∷ drop (i + 1) xs) (get_or_from_slice_get xs i x x e)
 
 -- the same, where the item is told by the list
 pub drop_read : {A : Type 0} (xs : List A) (i : ℕ) (x : A) → i < length xs → x ≡ get_or xs i x
@@ -84,15 +70,6 @@ drop_before xs (suc i) x some within is =
   where
     less : (n : ℕ) → suc n - 1 ≡ n
     less n = omega arith
-
-pub filter-append : {A : Type 0} (p : A → Bool) (xs ys : List A) → filter p (xs ++ ys) ≡ filter p xs ++ filter p ys
-filter-append p [] ys = refl
-filter-append {A} p (x ∷ xs) ys = by (p x) (filter-append p xs ys)
-  where
-    by : (b : Bool) → filter p (xs ++ ys) ≡ filter p xs ++ filter p ys
-        → cond b (x ∷ filter p (xs ++ ys)) (filter p (xs ++ ys)) ≡ cond b (x ∷ filter p xs) (filter p xs) ++ filter p ys
-    by true rest = ap (λ (zs : List A). x ∷ zs) rest
-    by false rest = rest
 
 pub all_mapped : {A B : Type 0} (P : B → Type 0) (f : A → B) (xs : List A) → AllByRecursion (λ x. P (f x)) xs
     → AllByRecursion P (map f xs)

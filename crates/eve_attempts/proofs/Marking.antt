@@ -3,10 +3,11 @@ use Rattle.std.proofs.Common.{◌≡◌, ◌≢◌, ℕ, ◌+◌, ◌<◌, ◌�
 use Rattle.std.proofs.Common.{◌∷◌, ◌++◌, map, length, get_or, set, replicate, drop, count_by, refl, sym, ap, ◌∙◌, inl}
 use Rattle.std.proofs.Common.{inr, add-zero, arith}
 use Rattle.std.specs.List.{list_any}
+use Rattle.std.proofs.Math.Bool.{or-false}
 use Rattle.std.proofs.lemmas.Bool.{cases_eq, and_from, and_left, and_right, or_right, not_from_true, not_from_false}
 use Rattle.std.proofs.lemmas.Bool.{eq-eqb, ne_eqb, lt-ltb, le-ltb, cond-true, cond-false}
 use Rattle.std.proofs.lemmas.List.{length-set, length-replicate, get_or-replicate, get_or-set_same, get_or-set_other}
-use Rattle.std.proofs.lemmas.List.{drop_all}
+use Rattle.std.proofs.lemmas.List.{drop_all, length_push}
 use Rattle.std.proofs.lemmas.List.Recursion.{or_push}
 use Rattle.std.proofs.lemmas.List.Sums.{sum_by_push, count_by-le-length}
 use Rattle.eve_grammar.specs.Trace.{Access}
@@ -40,10 +41,6 @@ marked_one before seen places x marked index worker = record {
   places = places_one;
 }
   where
-    or_none : (b : Bool) → (b || false) ≡ b
-    or_none true = refl
-    or_none false = refl
-
     seen_one : (i : ℕ) → i < 256 → get_or (set seen x.index true) i false
         ≡ list_any (λ y. y.index == i) (before ++ x ∷ [])
     seen_one i lt =
@@ -58,7 +55,7 @@ marked_one before seen places x marked index worker = record {
           | inr other ↦
               get_or-set_other seen x.index i true false other ∙ marked.seen i lt
               ∙ sym (split ∙ ap (λ (b : Bool). list_any (λ y. y.index == i) before || b)
-              (ne_eqb x.index i (λ e. other (sym e))) ∙ or_none (list_any (λ y. y.index == i) before))
+              (ne_eqb x.index i (λ e. other (sym e))) ∙ or-false (list_any (λ y. y.index == i) before))
         ]
 
     places_one : (w : ℕ) → w < 256 → get_or (set places x.worker (get_or places x.worker 0 + 1)) w 0
@@ -142,7 +139,7 @@ module _ (workers count : ℕ) (records : List Applied) (k : ℕ) (seen : List B
       (set places r.worker (get_or places r.worker 0 + 1))
   marking_more worker index lt small fresh same = record {
     before = m.before ++ access_noted r ∷ [];
-    many = pushed m.before (access_noted r) ∙ ap (λ (n : ℕ). n + 1) m.many;
+    many = length_push m.before (access_noted r) ∙ ap (λ (n : ℕ). n + 1) m.many;
     marked = marked_one m.before seen places (access_noted r) m.marked lt small;
     rest = sym (next_is ∙ ap
         (λ b. b && (is_right_place m.before (access_noted r) && are_right_records workers count
@@ -152,10 +149,6 @@ module _ (workers count : ℕ) (records : List Applied) (k : ℕ) (seen : List B
         (map access_noted (drop (k + 1) records)))
         (eq-eqb r.place (count_by (λ y. y.worker == r.worker) m.before) (same ∙ m.marked.places r.worker small)));
   }
-    where
-      pushed : (xs : List Access) (x : Access) → length (xs ++ x ∷ []) ≡ length xs + 1
-      pushed [] x = refl
-      pushed (y ∷ xs) x = let h = pushed xs x in omega arith
 
   pub place_room : r.worker < 256 → get_or places r.worker 0 ≤ k
   place_room small = let a = m.marked.places r.worker small in let b =

@@ -4,7 +4,7 @@ use Rattle.std.proofs.Common.{length, get_or, set, take, replicate, slice_get, S
 use Rattle.std.proofs.Common.{append_assoc, arith}
 use Rattle.std.specs.Bool.{Decides}
 use Rattle.std.specs.List.{AllByRecursion, list_any, list_all}
-use Rattle.std.proofs.lemmas.List.{length-map}
+use Rattle.std.proofs.lemmas.List.{length-map, length-set}
 use Rattle.std.proofs.lemmas.Bool.{and_parts, not-true, or_parts, ltb-true, eqb-false, false≢true}
 use Rattle.eve_smallbank.specs.declared.request.Reply.{Reply}
 use Rattle.eve_smallbank.specs.declared.request.Reply.TheVariants.{Done}
@@ -74,14 +74,9 @@ set_there [] i x within = absurd (omega arith)
 set_there (y ∷ xs) zero x within = refl
 set_there (y ∷ xs) (suc i) x within = set_there xs i x (omega arith)
 
-long_set : (xs : List Reply) (i : ℕ) (x : Reply) → length (set xs i x) ≡ length xs
-long_set [] i x = refl
-long_set (y ∷ xs) zero x = refl
-long_set (y ∷ xs) (suc i) x = ap suc (long_set xs i x)
-
 pub length-placed : (replies : List Reply) (rs : List Applied) → length (replies_placed replies rs) ≡ length replies
 length-placed replies [] = refl
-length-placed replies (r ∷ rs) = length-placed (set replies r.index r.reply) rs ∙ long_set replies r.index r.reply
+length-placed replies (r ∷ rs) = length-placed (set replies r.index r.reply) rs ∙ length-set replies r.index r.reply
 
 -- each reply stands at its index
 pub all_placed : (workers count : ℕ) (before : List Access) (replies : List Reply) (rs : List Applied)
@@ -95,7 +90,7 @@ all_placed workers count before replies (r ∷ rs) right many =
       kept_reply (set replies r.index r.reply) r.index rs (apart workers count (access_noted r) before [] rs two.1)
           ∙ set_there replies r.index r.reply (omega arith),
       all_placed workers count (before ++ access_noted r ∷ []) (set replies r.index r.reply) rs two.1
-          (many ∙ sym (long_set replies r.index r.reply)),
+          (many ∙ sym (length-set replies r.index r.reply)),
     )
 
 -- ---- a batch and what its requests touch

@@ -17,6 +17,7 @@ use Rattle.eve_smallbank.proofs.Chains.{Follows, chain_follows, follows_chain}
 use Rattle.eve_grammar.specs.Trace.{Batch}
 use Rattle.eve_grammar.specs.Limits.{is_entry}
 use Rattle.eve_stamps.specs.Applied.{Applied}
+use Rattle.eve_stamps.proofs.JournalLaws.{table_after-append}
 use Rattle.eve_attempts.specs.Ledgers.{Rows, Opened, table_of_rows, values_before, writes_in, is_write_in, AreLaid}
 use Rattle.eve_attempts.specs.Closing.{executed, entries_in_order, writes_along}
 use Rattle.eve_attempts.specs.Ordering.{AreSeenAlong, table_after_records}
@@ -203,11 +204,6 @@ table_after-writes table (e ∷ es) = by (is_write e.kind) refl (λ t. table_aft
         rest table
         ∙ ap (λ (t : Table). table_after t es)
         (fun_ext (λ row. ap (λ b. cond (b && (e.row == row)) (left_by e) (table row)) (sym is)))
-
-pub table_after-append : (table : Table) (xs ys : List Entry) → table_after table (xs ++ ys)
-    ≡ table_after (table_after table xs) ys
-table_after-append table [] ys = refl
-table_after-append table (e ∷ xs) ys = table_after-append (λ row. cond (writes_row row e) (left_by e) (table row)) xs ys
 
 -- one more request that sees what there is
 pub undone_further : (base now : Table) (written es : List Entry) → values_before now written ≡ base

@@ -15,7 +15,8 @@ use Rattle.eve_attempts.specs.Ledgers.{values_before, is_write_in}
 use Rattle.eve_attempts.specs.Closing.{access_noted, entries_in_order, writes_along}
 use Rattle.eve_attempts.specs.Ordering.{Key, record_of, records_in, no_record, IsKeyOf, AreSeenAlong}
 use Rattle.eve_attempts.specs.Ordering.{table_after_records}
-use Rattle.eve_attempts.proofs.Listing.{filter-append, mapped_at, all_read, all_fact}
+use Rattle.std.proofs.lemmas.List.Elements.{filter-append}
+use Rattle.eve_attempts.proofs.Listing.{mapped_at, all_read, all_fact}
 use Rattle.eve_attempts.proofs.TableLaws.{writes_among, undone_further}
 
 -- so far each entry saw what it must, and these records are left; `written` goes back to where it began

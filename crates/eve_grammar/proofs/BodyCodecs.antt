@@ -86,7 +86,7 @@ grouped_codec = Codec-both_by sizes_text (λ sizes. are_sizes sizes && are_writt
     (λ sizes. are_many is_asked (sum sizes)) (λ sizes. many_at asked_at (sum sizes)) sizes_codec
     (λ sizes. Codec-many asked_text is_asked asked_at Codec-asked (sum sizes))
 
-sum_short : (sizes : List ℕ) → IsTrue (list_all (leb 1) sizes) → length sizes ≤ sum sizes
+pub sum_short : (sizes : List ℕ) → IsTrue (list_all (leb 1) sizes) → length sizes ≤ sum sizes
 sum_short [] fits = omega arith
 sum_short (n ∷ sizes) fits =
     let p = and_parts (leb 1 n) (list_all (leb 1) sizes) fits in
@@ -421,7 +421,7 @@ all_from_zero [] = refl
 all_from_zero (r ∷ restores) = and_from (leb 0 r.row) (list_all (λ r. leb 0 r.row) restores)
     (le-leb 0 r.row (omega arith)) (all_from_zero restores)
 
-few_restores : (rows : ℕ) (restores : List Restore) → IsTrue (is_rising restores)
+pub few_restores : (rows : ℕ) (restores : List Restore) → IsTrue (is_rising restores)
     → IsTrue (list_all (is_restore rows) restores) → length restores ≤ rows
 few_restores rows restores rising fits =
     elim (rising_count rows restores 0 rising fits (all_from_zero restores)) [

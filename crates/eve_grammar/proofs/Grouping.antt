@@ -7,7 +7,8 @@ use Rattle.std.proofs.lemmas.Bool.{eqb-true, lt-ltb, le-ltb, cond-true, cond-fal
 use Rattle.std.proofs.lemmas.List.{drop_more, drop_all, take_all, length-set, length-replicate, get_or-set_same}
 use Rattle.std.proofs.lemmas.List.{get_or-set_other}
 use Rattle.std.proofs.lemmas.List.Sums.{sum_by-cons}
-use Rattle.std.proofs.lemmas.Option.{slice_get_within}
+use Rattle.std.proofs.lemmas.Option.{same_Some, slice_get_within}
+use Rattle.std.proofs.Math.Bool.{and-false}
 use Rattle.std.specs.List.{list_all, AllByRecursion}
 use Rattle.eve_grammar.specs.Trace.{Batch}
 use Rattle.eve_grammar.specs.Limits.{is_batch}
@@ -18,10 +19,7 @@ use Rattle.eve_grammar.specs.Groups.{AreGroupNumbers}
 pub all_at : {A : Type 0} (p : A → Bool) (xs : List A) (i : ℕ) (x : A) → list_all p xs ≡ true → slice_get xs i ≡ Some x
     → p x ≡ true
 all_at p [] i x all e = absurd (cc)
-all_at {A = A} p (y ∷ xs) zero x all e = ap p (sym (same y x e)) ∙ (and_parts (p y) (list_all p xs) all).0
-  where
-    same : (y x : A) → Some y ≡ Some x → y ≡ x
-    same y x e = cc
+all_at p (y ∷ xs) zero x all e = ap p (sym (same_Some y x e)) ∙ (and_parts (p y) (list_all p xs) all).0
 all_at p (y ∷ xs) (suc i) x all e = all_at p xs i x (and_parts (p y) (list_all p xs) all).1 e
 
 -- none of the order lies in a parallelBatch before this one, and it is grouped
@@ -55,11 +53,7 @@ stays sizes last i xs le = by (list_all (λ j. leb (group_of sizes i) (group_of 
     by : (b : Bool) → list_all (λ j. leb (group_of sizes i) (group_of sizes j)) xs ≡ b → goes_on sizes last (i ∷ xs)
         ≡ goes_on sizes (group_of sizes i) xs
     by true e = let also = above_all sizes last (group_of sizes i) xs le e in rw (here, also, e) refl
-    by false e = rw (here, e) (both (list_all (λ j. leb last (group_of sizes j)) xs))
-      where
-        both : (b : Bool) → (b && false) ≡ false
-        both true = refl
-        both false = refl
+    by false e = rw (here, e) (and-false (list_all (λ j. leb last (group_of sizes j)) xs))
 
 at : (sizes order table : List ℕ) (k : ℕ) → AreGroupNumbers sizes order table → k < length order
     → get_or table (get_or order k 0) 0 ≡ group_of sizes (get_or order k 0)

@@ -205,11 +205,3 @@ sizes_wrong count total bytes rest behind read e wrong =
     by x s true true p q t wrong = absurd cc
     by x s true false p q t wrong = rw (p, q, t) refl
     by x s false b p q t wrong = rw p refl
-
-pub first_false : (a b : Bool) → a ≡ false → (a && b) ≡ false
-first_false true b e = absurd cc
-first_false false b e = refl
-
-pub second_false : (a b : Bool) → b ≡ false → (a && b) ≡ false
-second_false true b e = e
-second_false false b e = refl

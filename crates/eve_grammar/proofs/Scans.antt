@@ -135,7 +135,7 @@ same_tests true b to from = sym (to refl)
 same_tests false true to from = from refl
 same_tests false false to from = refl
 
-rising-cons : (least : ℕ) (r : Restore) (restores : List Restore) → is_rising_from least (r ∷ restores)
+pub rising-cons : (least : ℕ) (r : Restore) (restores : List Restore) → is_rising_from least (r ∷ restores)
     ≡ (leb least r.row && is_rising_from (r.row + 1) restores)
 rising-cons least r restores =
     let one : r.row + 1 ≡ suc r.row = omega arith in

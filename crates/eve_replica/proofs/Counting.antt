@@ -1,7 +1,8 @@
--- How many replicas have a token.
+-- Public: other crates cite these lemmas. How many replicas have a token.
 use Rattle.std.proofs.Common.{◌≡◌, ℕ, zero, suc, ◌+◌, ◌*◌, ◌/◌, ◌<◌, ◌≤◌, Bool, true, false, cond, if◌then◌else◌}
 use Rattle.std.proofs.Common.{List, [], ◌∷◌, slice_get, option_map}
 use Rattle.std.proofs.Common.{All, length, get_or, Option, Some, None, refl, sym, ap, ◌∙◌, subst, arith}
+use Rattle.std.proofs.Common.{one-add, zero-add}
 use Rattle.std.specs.List.{count_by}
 use Rattle.std.specs.Cmp.Lexicographic.{same_text}
 use Rattle.std.proofs.lemmas.List.Elements.{All-head, All-tail}
@@ -20,9 +21,6 @@ next_by s b is =
 abbrev Passes : (Server → Bool) → List Server → Type 0
 Passes p xs = (k : ℕ) × (x : Server) × (k < length xs) × ((d : Server) → p (get_or xs k d) ≡ true)
 
-zero_plus : (n : ℕ) → 0 + n ≡ n
-zero_plus n = omega arith
-
 passes_at : (p : Server → Bool) (x : Server) (xs : List Server) (b : Bool) → p x ≡ b → 0 < count_by p (x ∷ xs)
     → (0 < count_by p xs → Passes p xs) → Passes p (x ∷ xs)
 passes_at p x xs true e some rest = (0, x, omega arith, λ d. e)
@@ -30,7 +28,7 @@ passes_at p x xs false e some rest =
     let counted : count_by p (x ∷ xs) ≡ cond (p x) 1 0 + count_by p xs =
     sum_by-cons (λ (y : Server). cond (p y) 1 0) x xs in
     let none : cond (p x) 1 0 + count_by p xs ≡ count_by p xs =
-    ap (λ (b : Bool). cond b 1 0 + count_by p xs) e ∙ zero_plus (count_by p xs) in
+    ap (λ (b : Bool). cond b 1 0 + count_by p xs) e ∙ zero-add (count_by p xs) in
     let r = rest (subst (λ (n : ℕ). 0 < n) (counted ∙ none) some) in
     (suc r.0, r.1, omega arith, λ d. r.3 d)
 
@@ -81,14 +79,11 @@ counted_alike p q (x ∷ xs) (y ∷ ys) many alike =
     ∙ sym (sum_by-cons (λ (z : Server). cond (q z) 1 0) y ys)
 
 -- all pass
-pub counted_all : (p : Server → Bool) (xs : List Server) → All (λ x. p x ≡ true) xs → count_by p xs ≡ length xs
+pub counted_all : {A : Type 0} (p : A → Bool) (xs : List A) → All (λ x. p x ≡ true) xs → count_by p xs ≡ length xs
 counted_all p [] all = refl
-counted_all p (x ∷ xs) all =
+counted_all {A = A} p (x ∷ xs) all =
     let rest = counted_all p xs (All-tail (λ y. p y ≡ true) x xs all) in
-    sum_by-cons (λ (z : Server). cond (p z) 1 0) x xs
+    sum_by-cons (λ (z : A). cond (p z) 1 0) x xs
     ∙ ap (λ (n : ℕ). cond (p x) 1 0 + n) rest
     ∙ ap (λ (b : Bool). cond b 1 0 + length xs) (All-head (λ y. p y ≡ true) x xs all)
-    ∙ one_and (length xs)
-  where
-    one_and : (n : ℕ) → 1 + n ≡ suc n
-    one_and n = omega arith
+    ∙ one-add (length xs)

@@ -9,6 +9,7 @@ use Rattle.std.specs.declared.alloc.Global.{Global}
 use Rattle.eve_write.specs.declared.vote.VoteData.{VoteData}
 use Rattle.std.proofs.lemmas.List.{with_items_is}
 use Rattle.std.proofs.lemmas.List.{length-append, length-drop, length-map, length-take-le, append-nil}
+use Rattle.std.proofs.Math.Bool.{and-false}
 use Rattle.std.proofs.lemmas.Bool.{and_right, false≢true}
 use Rattle.std.proofs.lemmas.Bool.Decides.{nat_tests}
 use Rattle.std.proofs.lemmas.List.Elements.{All-append, All-cons, All-nil}
@@ -124,9 +125,6 @@ pub stand : (view committed opened opened' : ℕ) (serial serial' : Bool) → op
     (record { view = view; committed = committed; opened = opened'; is_next_serial = serial' })
 stand view committed opened opened' serial serial' e f = cc
 
-and_false : (b : Bool) → (b && false) ≡ false
-and_false b = and_right b false refl
-
 later : (many : ℕ) → 0 < many → (many == 0) ≡ false
 later many some = grind (arith, nat_tests)
 
@@ -139,7 +137,7 @@ attempted view serial old new b a made =
     ap standing_of opens.changed
     ∙ stand old.ledger.view old.ledger.committed _ (length old.ledger.opened + 1) false
     (old.ledger.is_next_serial && false)
-    (length-append old.ledger.opened _) (sym (and_false old.ledger.is_next_serial))
+    (length-append old.ledger.opened _) (sym (and-false old.ledger.is_next_serial))
 
 -- the account makes the attempt of the batch that is due
 pub attempts_next : (p : RunPlan) (view : ℕ) (serial : Bool) (old new : Replica) (b : Batch) (a : Attempt)
@@ -200,7 +198,7 @@ one_more many window w a b c there first more =
         (more.live is).1 ∙ ap (after_attempts 1) (first.live (more.live is).0).1
             ∙ stand at.view at.committed (at.opened + many + 1) (at.opened + (many + 1))
             ((at.is_next_serial && (many == 0)) && false) (at.is_next_serial && (many + 1 == 0)) (omega arith)
-            (and_false (at.is_next_serial && (many == 0))
+            (and-false (at.is_next_serial && (many == 0))
             ∙ sym (and_right at.is_next_serial (many + 1 == 0) (later (many + 1) (omega arith)))),
       );
       behind = λ x stands was.

@@ -1,11 +1,11 @@
 pub mod Cuts
-mod Counting
+pub mod Counting
 mod Each
 mod GivenUp
 mod Undecided
 mod Going
 mod Through
-mod OneStep
+pub mod OneStep
 mod Beginning
 mod Sectioned
 mod Answering

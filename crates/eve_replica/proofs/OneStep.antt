@@ -1,7 +1,7 @@
--- A replica that attempts, commits or rolls back goes on.
+-- Public: other crates cite these lemmas. A replica that attempts, commits or rolls back goes on.
 use Rattle.std.proofs.Common.{◌≡◌, ℕ, suc, ◌+◌, ◌-◌, ◌<◌, Bool, true, false, if◌then◌else◌, List, [], ◌∷◌, ◌++◌, length}
 use Rattle.std.proofs.Common.{slice_get, Option, Some, option_map, All, IsTrue, refl, sym, ap, ◌∙◌}
-use Rattle.std.proofs.Common.{subst, arith}
+use Rattle.std.proofs.Common.{subst, arith, add-zero}
 use Rattle.std.proofs.lemmas.List.{append-nil}
 use Rattle.std.proofs.lemmas.List.Elements.{All-head, All-tail, All-nil}
 use Rattle.std.proofs.lemmas.Bool.{false≢true}
@@ -56,7 +56,7 @@ attempt_goes view serial b a old new due live lives made added right =
           subst (λ (ss : List Step). GoesThrough p ss p.first new.replica.ledger) (sym added)
           (through_more p steps (Attempts a) p.first old.replica.ledger new.replica.ledger goes
           (attempts_next p view serial old.replica new.replica b a due names
-          (ap (slice_get p.batches) (plus_zero (place_due old.replica.ledger)) ∙ next live 0 (omega arith)) made));
+          (ap (slice_get p.batches) (sym (add-zero (place_due old.replica.ledger))) ∙ next live 0 (omega arith)) made));
       given_up = λ v stays. same_given_up v (Attempts a) old new added (λ opened. refl);
       of_view = attempted_in_view view serial old.replica new.replica b a due made;
       votes = λ h. ap votes_along added ∙ votes_more steps (Attempts a) ∙ append-nil (votes_along steps)
@@ -67,9 +67,6 @@ attempt_goes view serial b a old new due live lives made added right =
       stays = λ stopped. absurd (false≢true (sym stopped ∙ lives));
       stops = λ stopped was. absurd (false≢true (sym stopped ∙ lives));
     }
-  where
-    plus_zero : (n : ℕ) → n ≡ n + 0
-    plus_zero n = omega arith
 
 -- ---- commits
 

@@ -1,6 +1,6 @@
 -- What an account goes through, step after step.
-use Rattle.std.proofs.Common.{◌≡◌, ℕ, ◌+◌, List, [], ◌∷◌, ◌++◌, refl, sym, ap, ◌∙◌, subst}
-use Rattle.std.proofs.Common.{arith}
+use Rattle.std.proofs.Common.{◌≡◌, ◌+◌, List, [], ◌∷◌, ◌++◌, refl, sym, ap, ◌∙◌, subst}
+use Rattle.std.proofs.Common.{add-zero, arith}
 use Rattle.std.proofs.lemmas.List.{append-nil}
 use Rattle.std.proofs.lemmas.Grind.{flat_map-append}
 use Rattle.eve_grammar.specs.Trace.{Step, Attempts, Commits, RollsBack, Vote}
@@ -21,10 +21,7 @@ votes_more steps x =
 -- each commit of a section counts one up in the account
 pub commits_through : (p : RunPlan) (steps : List Step) (a b : Ledger) → GoesThrough p steps a b
     → b.committed ≡ a.committed + commits_in steps
-commits_through p [] a b same = ap (λ (s : Ledger). s.committed) (sym same) ∙ sym (plus_zero a.committed)
-  where
-    plus_zero : (n : ℕ) → n + 0 ≡ n
-    plus_zero n = omega arith
+commits_through p [] a b same = ap (λ (s : Ledger). s.committed) (sym same) ∙ sym (add-zero a.committed)
 commits_through p (Attempts x ∷ steps) a b goes =
     commits_through p steps goes.0 b goes.2
     ∙ ap (λ (s : Ledger). s.committed + commits_in steps) goes.1.closed.opens.changed

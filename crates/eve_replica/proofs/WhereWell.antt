@@ -1,11 +1,6 @@
 -- What holds where a call ends well.
 use Rattle.std.proofs.Common.{Result, Ok, Err, OnOk}
 
--- what one of its clauses gives
-pub on_ok : {A E : Type 0} (P Q : Type 0) (r : Result A E) → (P → Q) → OnOk r P → OnOk r Q
-on_ok P Q (Ok x) to p = to p
-on_ok P Q (Err e) to p = tt
-
 -- what two of its clauses give
 pub where_well : {A E : Type 0} (P Q R : Type 0) (r : Result A E) → (P → Q → R) → OnOk r P → OnOk r Q → OnOk r R
 where_well P Q R (Ok x) both p q = both p q

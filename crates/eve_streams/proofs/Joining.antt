@@ -1,8 +1,8 @@
 -- Public: other crates cite these lemmas. What several sends write together.
-use Rattle.std.proofs.Common.{◌≡◌, ℕ, ◌+◌, ◌-◌, ◌≤◌, ◌<◌, List, ◌++◌, Option, Some, None, length, take, drop, ap, sym}
-use Rattle.std.proofs.Common.{subst, ◌∙◌, arith, append_assoc, length-append}
+use Rattle.std.proofs.Common.{◌≡◌, ℕ, ◌+◌, ◌-◌, ◌≤◌, ◌<◌, List, ◌++◌, Option, length, take, drop, ap, sym}
+use Rattle.std.proofs.Common.{subst, ◌∙◌, arith, length-append}
 use Rattle.std.proofs.Math.Seq.{take-add, take-append-add, take-append-le, take-take}
-use Rattle.std.specs.Io.KnownBytes.{Appends, append_known}
+use Rattle.std.specs.Io.KnownBytes.{Appends}
 use Rattle.std.proofs.KnownBytes.{Appends-trans}
 use Rattle.eve_streams.specs.Front.{AppendsFront}
 
@@ -36,11 +36,3 @@ AppendsFront-more a b xs ys front = record {
       sym (take-append-le front.count xs ys (omega arith)) in
       subst (Appends a b) cut front.appended;
 }
-
--- a buffer that held old takes bytes, and what it then holds is sent on
-pub Appends-flushed : (a b c : Option (List ℕ)) (old held bytes : List ℕ)
-    → Appends (append_known a old) (append_known b held) bytes → Appends b c held → Appends a c (old ++ bytes)
-Appends-flushed None b c old held bytes taken sent = tt
-Appends-flushed (Some x) None c old held bytes taken sent = absurd taken
-Appends-flushed (Some x) (Some y) None old held bytes taken sent = absurd sent
-Appends-flushed (Some x) (Some y) (Some z) old held bytes taken sent = sent ∙ taken ∙ append_assoc x old bytes

@@ -3,17 +3,16 @@ use Rattle.std.proofs.Common.{◌≡◌, ℕ, zero, suc, ◌+◌, ◌-◌, ◌<�
 use Rattle.std.proofs.Common.{length, get_or, take, drop, refl, ap, sym, subst, ◌∙◌, arith, add-zero}
 use Rattle.std.proofs.Common.{append_assoc, append-nil, length-append, codes}
 use Rattle.std.specs.Prelude.{decimal}
-use Rattle.std.proofs.lemmas.Option.{slice_get-get_or}
+use Rattle.std.proofs.lemmas.Option.{same_Some, slice_get-get_or}
 use Rattle.std.proofs.Math.ListN.{drop_of_length-le}
 use Rattle.std.proofs.Math.Seq.{take-append_seam}
 use Rattle.std.specs.Io.KnownBytes.{Appends}
 use Rattle.std.proofs.KnownBytes.{Appends-nil, Appends-trans}
 use Rattle.std.specs.List.{flat_map, slice_get}
-use Rattle.byteorder.specs.Endian.{big_bytes}
-use Rattle.byteorder.specs.Numbers.{length-bytes_high_first}
 use Rattle.eve_frames.specs.Kinds.{kind_name}
 use Rattle.eve_grammar.specs.Frames.{Frame, End, kind_of}
 use Rattle.eve_grammar.specs.Spelling.{body_text, frame_text, frames_text, located}
+use Rattle.eve_views.proofs.FrameLaws.{length-frame_text}
 use Rattle.eve_streams.specs.Front.{AppendsFront}
 use Rattle.eve_streams.proofs.Joining.{AppendsFront-after, AppendsFront-more}
 use Rattle.eve_tool.specs.Lines.{frame_line, line_feed}
@@ -40,9 +39,6 @@ flat_map-drop_next f (y ∷ ys) zero x e = let same : y ≡ x = cc in ap (λ z. 
 flat_map-drop_next f (y ∷ ys) (suc i) x e = let behind : suc i + 1 ≡ suc (i + 1) = omega arith in
     rw behind (flat_map-drop_next f ys i x e)
 
-some_injective : {X : Type 0} (x y : X) → Some x ≡ Some y → x ≡ y
-some_injective x y e = cc
-
 -- each frame has a place
 pub located-count : (at : ℕ) (frames : List Frame) → length (located frame_text at frames) ≡ length frames
 located-count at [] = refl
@@ -54,7 +50,7 @@ pub frame_placed : (at : ℕ) (frames : List Frame) (i : ℕ) (p : ℕ × Frame)
     → (slice_get frames i ≡ Some p.1) × (p.0 ≡ at + length (frames_text (take i frames)))
 frame_placed at [] i p e = cc
 frame_placed at (f ∷ fs) zero p e =
-    let same : (at, f) ≡ p = some_injective (at, f) p e in
+    let same : (at, f) ≡ p = same_Some (at, f) p e in
     (ap (λ (q : ℕ × Frame). Some q.1) same, sym (ap (λ (q : ℕ × Frame). q.0) same) ∙ sym (add-zero at))
 frame_placed at (f ∷ fs) (suc i) p e =
     let further = frame_placed (at + length (frame_text f)) fs i p e in
@@ -175,19 +171,11 @@ pub line_of_view : (frames : List Frame) (i : ℕ) (p : ℕ × Frame) (f : Frame
     → name ≡ kind_name (kind_of f) → body_len ≡ length (body_text f) → frame_line offset name body_len ≡ line_of p
 line_of_view frames i p f offset name body_len placed got at named counted =
     let place = frame_placed 32 frames i p placed in
-    let same : f ≡ p.1 = some_injective f p.1 (sym got ∙ place.0) in
+    let same : f ≡ p.1 = same_Some f p.1 (sym got ∙ place.0) in
     let offset_is : offset ≡ p.0 = at ∙ sym place.1 in
     let name_is : name ≡ kind_name (kind_of p.1) = named ∙ ap (λ g. kind_name (kind_of g)) same in
     let len_is : body_len ≡ length (body_text p.1) = counted ∙ ap (λ g. length (body_text g)) same in
     rw (offset_is, name_is, len_is) refl
-
-length-frame_text : (f : Frame) → length (frame_text f) ≡ 5 + length (body_text f)
-length-frame_text f = omega (
-  arith,
-  length-bytes_high_first 4 (length (body_text f)),
-  length-append (big_bytes 4 (length (body_text f)))
-      (body_text f),
-)
 
 -- the body of a frame is what stands after its kind and its length
 pub length-body : (f : Frame) → length (frame_text f) - 5 ≡ length (body_text f)

@@ -45,11 +45,6 @@ pub of_all : {known : Option (List ℕ)} {bytes : List ℕ} → IsAll known byte
 of_all {known = None} all P p = tt
 of_all {known = Some k} all P p = subst P all.same p
 
-pub some_weaker : (known : Option (List ℕ)) (P Q : List ℕ → Type 0) → ((k : List ℕ) → P k → Q k) → IfSome known P
-    → IfSome known Q
-some_weaker None P Q more p = tt
-some_weaker (Some k) P Q more p = more k p
-
 -- what was left is too long where too much of it was read
 pub too_long : (limit : ℕ) (known : Option (List ℕ)) (read : List ℕ) → IfSome known (λ k. read ≡ take (limit + 1) k)
     → limit < length read → IfSome known (λ k. limit < length k)

@@ -10,6 +10,7 @@ mod run;
 mod sending;
 mod show;
 
+pub use eve_tool_arguments;
 pub use fault::ToolFault;
 pub use program::{serve, stop};
 pub use run::run_within;

@@ -14,6 +14,7 @@ use Rattle.eve_grammar.specs.Trace.{Vote, Trace}
 use Rattle.eve_grammar.specs.Spelling.{votes_of}
 use Rattle.eve_votes.specs.Ballots.{ballot, ballots_from, ballots_among, ballots_of, IsVoteOf}
 use Rattle.eve_votes.specs.declared.ballots.Ballot.{Ballot}
+use Rattle.eve_votes.proofs.Places.{get_in_front}
 
 -- ---- one after another
 
@@ -42,11 +43,6 @@ at_seam : {A : Type 0} (xs ys : List A) (i : ℕ) (x : A) → slice_get (xs ++ y
 at_seam [] ys i x e = inr (i, e)
 at_seam (y ∷ xs) ys zero x e = inl e
 at_seam (y ∷ xs) ys (suc i) x e = at_seam xs ys i x e
-
-in_front : {A : Type 0} (xs ys : List A) (i : ℕ) (x : A) → slice_get xs i ≡ Some x → slice_get (xs ++ ys) i ≡ Some x
-in_front [] ys i x e = absurd cc
-in_front (y ∷ xs) ys zero x e = e
-in_front (y ∷ xs) ys (suc i) x e = in_front xs ys i x e
 
 behind : {A : Type 0} (xs ys : List A) (i : ℕ) → slice_get (xs ++ ys) (length xs + i) ≡ slice_get ys i
 behind [] ys i = let same : 0 + i ≡ i = omega arith in ap (slice_get ys) same
@@ -124,7 +120,7 @@ among_all v (ws ∷ wss) zero i w e = (
     let same : v ≡ v + 0 = omega arith in
     let first : 0 + i ≡ i = omega arith in (
       i,
-      in_front (ballots_from v 0 ws) (ballots_among (v + 1) wss) i (ballot (v + 0) i w) (from_all v 0 ws i w e ∙
+      get_in_front (ballots_from v 0 ws) (ballots_among (v + 1) wss) i (ballot (v + 0) i w) (from_all v 0 ws i w e ∙
           (λ j. Some (ballot (same j) (first j) w))),
     ))
 among_all v (ws ∷ wss) (suc u) i w e = (

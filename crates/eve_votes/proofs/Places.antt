@@ -1,9 +1,10 @@
 -- Public: other crates cite these lemmas. Places of a list, and what stands there.
 use Rattle.std.proofs.Common.{◌≡◌, ℕ, zero, suc, ◌+◌, List, [], ◌∷◌, ◌++◌, map, length, take, drop}
-use Rattle.std.proofs.Common.{Option, Some, refl, ap, ◌∙◌, arith, add-one}
+use Rattle.std.proofs.Common.{Option, Some, refl, ap, ◌∙◌, append-nil, arith, add-one}
 use Rattle.std.specs.Prelude.{slice_get}
 use Rattle.std.specs.List.{enumerate_from}
 use Rattle.std.specs.Option.{option_map}
+use Rattle.std.proofs.lemmas.List.{take_all, drop_all}
 use Rattle.eve_grammar.specs.Trace.{Batch}
 use Rattle.eve_grammar.specs.Spelling.{located}
 use Rattle.eve_views.specs.Form.{SomePlace}
@@ -22,14 +23,20 @@ pub place_at : {A : Type 0} (P : List A → A → Type 0) (xs : List A) (i : ℕ
 place_at P xs i x e holds =
     record { before = take i xs; item = x; rest = drop (suc i) xs; is = split_at xs i x e; holds = holds }
 
-get_between : {A : Type 0} (before : List A) (x : A) (rest : List A) → slice_get (before ++ x ∷ rest) (length before)
-    ≡ Some x
+pub get_between : {A : Type 0} (before : List A) (x : A) (rest : List A)
+    → slice_get (before ++ x ∷ rest) (length before) ≡ Some x
 get_between [] x rest = refl
 get_between (y ∷ ys) x rest = get_between ys x rest
 
 pub get_place : {A : Type 0} {P : List A → A → Type 0} (xs : List A) (s : SomePlace xs P)
     → slice_get xs (length s.before) ≡ Some s.item
 get_place xs s = ap (λ (zs : List _). slice_get zs (length s.before)) s.is ∙ get_between s.before s.item s.rest
+
+pub get_in_front : {A : Type 0} (xs ys : List A) (i : ℕ) (x : A) → slice_get xs i ≡ Some x
+    → slice_get (xs ++ ys) i ≡ Some x
+get_in_front [] ys i x e = absurd cc
+get_in_front (y ∷ xs) ys zero x e = e
+get_in_front (y ∷ xs) ys (suc i) x e = get_in_front xs ys i x e
 
 -- one more
 pub take_next : {A : Type 0} (xs : List A) (i : ℕ) (x : A) → slice_get xs i ≡ Some x → take (i + 1) xs
@@ -40,6 +47,13 @@ take_next xs i x e = rw add-one (next xs i x e)
     next [] i x e = absurd cc
     next (y ∷ ys) zero x e = (let same : y ≡ x = cc in ap (λ z. z ∷ []) same)
     next (y ∷ ys) (suc i) x e = ap (λ (zs : List _). y ∷ zs) (next ys i x e)
+
+-- a vector that was sorted as a slice
+pub whole_slice : {A : Type 0} (xs ys : List A) (n : ℕ) → length ys ≡ length xs → n ≡ length xs
+    → take n (ys ++ drop (length ys) xs) ≡ ys
+whole_slice xs ys n same many =
+    ap (λ (zs : List _). take n (ys ++ zs)) (drop_all (length ys) xs (omega arith)) ∙ ap (take n) (append-nil ys)
+    ∙ take_all n ys (omega arith)
 
 -- ---- lists with byte offsets
 

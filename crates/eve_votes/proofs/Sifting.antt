@@ -1,10 +1,12 @@
--- Which votes are a verifier's only ones on their batch in their view, and which are further ones.
+-- Public: other crates cite these lemmas. Which votes are a verifier's only ones on their batch in their view, and
+-- which are further ones.
 use Rattle.std.proofs.Common.{◌≡◌, ℕ, zero, suc, ◌+◌, ◌-◌, ◌<◌, ◌≤◌, Bool, true, false, cond, List, [], ◌∷◌, ◌++◌}
 use Rattle.std.proofs.Common.{length, get_or, take, filter, Option, Some, IfSome, refl, sym, ap, subst, ◌∙◌}
 use Rattle.std.proofs.Common.{arith, ◌⊎◌, inl, inr}
 use Rattle.std.specs.Prelude.{◌==◌, ◌||◌, slice_get}
 use Rattle.std.specs.List.{list_any}
 use Rattle.std.specs.Option.{option_map}
+use Rattle.std.proofs.Math.Bool.{or-true}
 use Rattle.std.proofs.lemmas.Bool.{eqb-true, eq-eqb, and_parts, and_from, cases_lt, false≢true}
 use Rattle.std.proofs.lemmas.Option.{slice_get-get_or, slice_get_within}
 use Rattle.eve_grammar.specs.Trace.{Vote, Trace}
@@ -18,7 +20,7 @@ use Rattle.eve_votes.specs.Ballots.{ballot, is_alike, IsBefore, IsNoLaterBallot,
 use Rattle.eve_votes.specs.Ballots.{HasVotes}
 use Rattle.eve_votes.specs.Ballots.{IsOnly, HasCast}
 use Rattle.eve_votes.specs.declared.ballots.Ballot.{Ballot}
-use Rattle.eve_votes.proofs.Places.{place_at, get_place}
+use Rattle.eve_votes.proofs.Places.{place_at, get_place, get_between, get_in_front}
 use Rattle.eve_votes.proofs.Casting.{lower_lowers, lower_at, lower_stands}
 use Rattle.eve_votes.proofs.Deciding.{vote_got}
 use Rattle.eve_votes.proofs.InOrder.{Alike, alike_is, is_alike_from, adjoin_later, adjoin_next}
@@ -33,10 +35,6 @@ any_before f (y ∷ xs) zero (suc j) x less e is =
     (let same : y ≡ x = cc in ap (λ t. t || list_any f (take j xs)) (ap f same ∙ is))
 any_before f (y ∷ xs) (suc i) (suc j) x less e is = ap (λ t. f y || t) (any_before f xs i j x (omega arith) e is) ∙
     or-true (f y)
-  where
-    or-true : (b : Bool) → (b || true) ≡ true
-    or-true true = refl
-    or-true false = refl
 
 found_any : {A : Type 0} (f : A → Bool) (xs : List A) → list_any f xs ≡ true → (i : ℕ) × (x : A) ×
     (slice_get xs i ≡ Some x) × (f x ≡ true)
@@ -49,11 +47,6 @@ found_any {A} f (x ∷ xs) e = by (f x) refl e (λ more. found_any f xs more)
     by true is h rest = (0, x, refl, is)
     by false is h rest = (let found = rest h in (suc found.0, found.1, found.2, found.3))
 
-in_front : {A : Type 0} (xs ys : List A) (i : ℕ) (x : A) → slice_get xs i ≡ Some x → slice_get (xs ++ ys) i ≡ Some x
-in_front [] ys i x e = absurd cc
-in_front (y ∷ xs) ys zero x e = e
-in_front (y ∷ xs) ys (suc i) x e = in_front xs ys i x e
-
 -- what one more adds
 last_one : {A : Type 0} (xs : List A) (x : A) (j : ℕ) (y : A) → slice_get (xs ++ x ∷ []) j ≡ Some y →
     (slice_get xs j ≡ Some y) ⊎ ((j ≡ length xs) × (y ≡ x))
@@ -61,10 +54,6 @@ last_one [] x zero y e = inr (refl, cc)
 last_one [] x (suc j) y e = absurd cc
 last_one (z ∷ xs) x zero y e = inl e
 last_one (z ∷ xs) x (suc j) y e = elim (last_one xs x j y e) [ inl f ↦ inl f | inr w ↦ inr (ap suc w.0, w.1) ]
-
-at_end : {A : Type 0} (xs : List A) (x : A) → slice_get (xs ++ x ∷ []) (length xs) ≡ Some x
-at_end [] x = refl
-at_end (y ∷ xs) x = at_end xs x
 
 -- ---- those that pass
 
@@ -140,7 +129,7 @@ on_ballot : (w : Vote) (b : Ballot) → w.seq ≡ b.seq → w.view ≡ b.view �
 on_ballot w b seq view = and_from (w.seq == b.seq) (w.view == b.view) (eq-eqb w.seq b.seq seq)
     (eq-eqb w.view b.view view)
 
-voted : (n view : ℕ) (w : Vote) → is_vote_on n view w ≡ true → (w.seq ≡ n) × (w.view ≡ view)
+pub voted : (n view : ℕ) (w : Vote) → is_vote_on n view w ≡ true → (w.seq ≡ n) × (w.view ≡ view)
 voted n view w is = (let parts = and_parts (w.seq == n) (w.view == view) is in (
   eqb-true w.seq n parts.0,
   eqb-true w.view view parts.1,
@@ -275,7 +264,7 @@ module _ (t : Trace) (xs : List Ballot) (votes : HasVotes t xs) where
       let u = found.1 in
       let early = slice_get_within s.before q u found.2 in
       let got_u : slice_get ws q ≡ Some u = ap (λ (zs : List (ℕ × Vote)). slice_get zs q) s.is ∙
-      in_front s.before (s.item ∷ s.rest) q u found.2 in
+      get_in_front s.before (s.item ∷ s.rest) q u found.2 in
       let on = voted w.seq w.view u.1 found.3 in
       let mine = votes.all v p w (vote_got t v p s.item.0 w got) in
       let its = votes.all v q u.1 (vote_got t v q u.0 u.1 got_u) in
@@ -458,11 +447,12 @@ module _ (t : Trace) (xs : List Ballot) (votes : HasVotes t xs) where
       ]
     ];
     all = λ k c less got_c fresh ends. elim (cases_lt k i) [
-      | inl lt ↦ (let found = sifted.all k c lt got_c fresh ends in (found.0, in_front only (b ∷ []) found.0 c found.1))
+      | inl lt ↦ (let found = sifted.all k c lt got_c fresh ends in
+          (found.0, get_in_front only (b ∷ []) found.0 c found.1))
       | inr ge ↦ (
           let same : k ≡ i = omega arith in
           let equal = same_ballot i c b (ap (slice_get xs) (sym same) ∙ got_c) got in
-          (length only, at_end only b ∙ ap (λ (x : Ballot). Some x) (sym equal)))
+          (length only, get_between only b [] ∙ ap (λ (x : Ballot). Some x) (sym equal)))
     ];
   }
 

@@ -5,6 +5,7 @@ use Rattle.std.proofs.Common.{arith, ◌⊎◌, inl, inr}
 use Rattle.std.specs.Prelude.{◌==◌, ◌||◌, nat_lt, ◌↔◌, IsTrue, if◌then◌else◌}
 use Rattle.std.specs.List.{list_any}
 use Rattle.std.specs.Option.{option_map}
+use Rattle.std.proofs.Math.Bool.{or-true}
 use Rattle.std.proofs.lemmas.Bool.{ltb-true, ltb-false, cases_lt, and_parts, eqb-true}
 use Rattle.std.proofs.lemmas.List.{get_or_past}
 use Rattle.std.proofs.lemmas.List.Folds.{list_any-append}
@@ -173,10 +174,6 @@ two_further n view before (x ∷ xs) some =
         ∙ ap (λ (b : Bool). list_any (λ u. is_vote_on n view u.1) before || b) last
         ∙ or-true (list_any (λ u. is_vote_on n view u.1) before) in
         shifted before x xs (one_further n view (before ++ x ∷ []) xs still (omega arith))
-      where
-        or-true : (b : Bool) → (b || true) ≡ true
-        or-true true = refl
-        or-true false = refl
     by_test false on more tail = tail more
 
 pub votes_once : (t : Trace) → ((b : ℕ) → StandsInVotes code.TwoVotes t b → ⊥) → (v n view : ℕ)

@@ -1,12 +1,12 @@
 -- What a draft keeps, line by line.
 use Rattle.std.proofs.Common.{◌≡◌, ℕ, zero, suc, ◌+◌, ◌<◌, ◌≤◌, Bool, true, false, not, IsTrue, List, [], ◌∷◌, ◌++◌}
 use Rattle.std.proofs.Common.{map, length, Contains, Vec, inl, inr, refl, sym, subst, ap, ◌∙◌, arith, length-append}
-use Rattle.std.specs.Prelude.{◌||◌, if◌then◌else◌}
+use Rattle.std.specs.Prelude.{if◌then◌else◌}
 use Rattle.std.specs.List.{list_any}
 use Rattle.std.specs.Borrow.{Bor}
 use Rattle.std.specs.declared.alloc.Global.{Global}
 use Rattle.std.specs.Cmp.Lexicographic.{same_text, other_text}
-use Rattle.std.proofs.lemmas.Bool.{lt-ltb, ltb-true, or_cases, cases_Bool, false≢true}
+use Rattle.std.proofs.lemmas.Bool.{lt-ltb, ltb-true, or_cases, or_left, or_right, cases_Bool, false≢true}
 use Rattle.std.specs.BTreeSet.{BTreeSet}
 use Rattle.std.proofs.lemmas.List.{length-map, map_push}
 use Rattle.std.proofs.lemmas.List.Folds.{list_any-append}
@@ -38,19 +38,12 @@ same_name-itself : (a b : List ℕ) → a ≡ b → same_name a b ≡ true
 same_name-itself a b e =
     elim (cases_Bool (same_name a b)) [ inl h ↦ h | inr h ↦ absurd (other_text a b (sym h ∙ is_eq-slice_cmp a b) e) ]
 
-either_left : (a b : Bool) → a ≡ true → (a || b) ≡ true
-either_left a b h = ap (λ x. x || b) h
-
-either_right : (a b : Bool) → b ≡ true → (a || b) ≡ true
-either_right true b h = refl
-either_right false b h = h
-
 known_name : (names : List (List ℕ)) (name : List ℕ) → Contains names name → list_any (same_name name) names ≡ true
 known_name [] name (k, there, is) = absurd (omega arith)
-known_name (first ∷ names) name (zero, there, is) = either_left (same_name name first) (list_any (same_name name) names)
+known_name (first ∷ names) name (zero, there, is) = or_left (same_name name first) (list_any (same_name name) names)
     (same_name-itself name first (sym is))
 known_name (first ∷ names) name (suc k, there, is) =
-    either_right (same_name name first) (list_any (same_name name) names) (known_name names name (k, omega arith, is))
+    or_right (same_name name first) (list_any (same_name name) names) (known_name names name (k, omega arith, is))
 
 name_known : (names : List (List ℕ)) (name : List ℕ) → list_any (same_name name) names ≡ true → Contains names name
 name_known [] name any = cc
@@ -66,9 +59,9 @@ known_pair [] a (k, there, is) = absurd (omega arith)
 known_pair (b ∷ requests) a (zero, there, is) =
     let same = same_pair-itself (key_of a) (key_of b) (sym (ap (λ (p : ℕ × ℕ). p.0) is))
     (sym (ap (λ (p : ℕ × ℕ). p.1) is)) in
-    either_left (same_pair (key_of a) (key_of b)) (list_any (same_pair (key_of a)) (map key_of requests)) same
+    or_left (same_pair (key_of a) (key_of b)) (list_any (same_pair (key_of a)) (map key_of requests)) same
 known_pair (b ∷ requests) a (suc k, there, is) =
-    either_right (same_pair (key_of a) (key_of b)) (list_any (same_pair (key_of a)) (map key_of requests))
+    or_right (same_pair (key_of a) (key_of b)) (list_any (same_pair (key_of a)) (map key_of requests))
     (known_pair requests a (k, omega arith, is))
 
 pair_known : (requests : List Asked) (a : Asked) → list_any (same_pair (key_of a)) (map key_of requests) ≡ true

@@ -5,6 +5,7 @@ use Rattle.std.proofs.Common.{length-append, add-one, leb-true}
 use Rattle.std.specs.List.{flat_map, list_all, slice_get}
 use Rattle.std.proofs.lemmas.List.{append_assoc, length-map, take-map, drop-map}
 use Rattle.std.proofs.lemmas.Bool.{and_parts}
+use Rattle.std.proofs.Math.Seq.{take-append_seam, drop-append_seam}
 use Rattle.eve_grammar.specs.Trace.{Head}
 use Rattle.eve_grammar.specs.Limits.{is_between, is_customer, is_asked, is_head}
 use Rattle.eve_write.specs.Data.{customer, asked}
@@ -34,21 +35,13 @@ next_start : {A : Type 0} (behind : ℕ) (parts : List (List A)) (len : ℕ)
 next_start behind [] len whole = omega arith
 next_start behind (part ∷ parts) len whole = refl
 
-pub drop_front : {A : Type 0} (front items : List A) → drop (length front) (front ++ items) ≡ items
-drop_front [] items = refl
-drop_front (x ∷ front) items = drop_front front items
-
-take_front : {A : Type 0} (front items : List A) → take (length front) (front ++ items) ≡ front
-take_front [] items = refl
-take_front (x ∷ front) items = ap (λ xs. x ∷ xs) (take_front front items)
-
 pub taken : {A : Type 0} (front part rest items : List A) (from to : ℕ) → items ≡ front ++ (part ++ rest)
     → from ≡ length front → to ≡ from + length part → take (to - from) (drop from items) ≡ part
 taken front part rest items from to are starts ends =
     let size : to - from ≡ length part = omega arith in
     let behind : drop from items ≡ part ++ rest = ap (drop from) are ∙ ap (λ n. drop n (front ++ (part ++ rest))) starts
-    ∙ drop_front front (part ++ rest) in
-    rw (size, behind) (take_front part rest)
+    ∙ drop-append_seam front (part ++ rest) in
+    rw (size, behind) (take-append_seam part rest)
 
 part_at : {A : Type 0} (front : List A) (parts : List (List A)) (behind : ℕ) (items : List A) (i : ℕ)
     → behind ≡ length front → items ≡ front ++ flat_map (λ part. part) parts → i < length parts

@@ -4,7 +4,7 @@ use Rattle.std.proofs.Common.{length, sum, Some, inl, inr, refl, sym, ap, ◌∙
 use Rattle.std.specs.Prelude.{◌==◌, ◌&&◌, ◌||◌, if◌then◌else◌, slice_get, slice_set, slice_index_or}
 use Rattle.std.specs.List.{list_any, flat_map}
 use Rattle.std.proofs.lemmas.Bool.{cases_eq, cases_lt, eq-eqb, ne_eqb, both_ways}
-use Rattle.std.proofs.Math.Bool.{or-false}
+use Rattle.std.proofs.Math.Bool.{and-true, and-false, or-false}
 use Rattle.std.proofs.lemmas.List.{append-nil, length_push, get_or_past}
 use Rattle.std.proofs.lemmas.List.Concat.{flat_map-append}
 use Rattle.std.proofs.lemmas.List.Folds.{list_any-append}
@@ -139,7 +139,7 @@ module _ (rows : ℕ → RowKinds) (groups : List (List ℕ)) (g item : ℕ) (wi
       elim (cases_eq k g) [
         | inl same ↦
             ap (λ b. before || (list_any (collide row) (rows item) && b)) (eq-eqb k g same)
-            ∙ ap (λ b. before || b) (and_true (list_any (collide row) (rows item)))
+            ∙ ap (λ b. before || b) (and-true (list_any (collide row) (rows item)))
             ∙ ap (λ xs. before || list_any (collide row) xs) (sym (append-nil (rows item)))
             ∙ sym (list_any-append (collide row) (flat_map rows (group_at groups k)) (rows item ++ []))
             ∙ ap (list_any (collide row)) (sym (flat_map-append rows (group_at groups k) (item ∷ [])))
@@ -148,16 +148,9 @@ module _ (rows : ℕ → RowKinds) (groups : List (List ℕ)) (g item : ℕ) (wi
             ∙ ap (λ n. list_any (collide row) (flat_map rows (group_at (put groups g item) n))) (sym same)
         | inr apart ↦
             ap (λ b. before || (list_any (collide row) (rows item) && b)) (ne_eqb k g apart)
-            ∙ ap (λ b. before || b) (and_false (list_any (collide row) (rows item))) ∙ or-false before
+            ∙ ap (λ b. before || b) (and-false (list_any (collide row) (rows item))) ∙ or-false before
             ∙ ap (λ group. list_any (collide row) (flat_map rows group)) (sym (put_other groups g item k within apart))
-      ] where
-        and_true : (a : Bool) → (a && true) ≡ a
-        and_true true = refl
-        and_true false = refl
-
-        and_false : (a : Bool) → (a && false) ≡ false
-        and_false true = refl
-        and_false false = refl
+      ]
 
 -- ---- seats
 

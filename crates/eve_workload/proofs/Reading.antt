@@ -1,18 +1,17 @@
 -- A text that is read line by line.
 use Rattle.std.proofs.Common.{◌≡◌, ℕ, ◌+◌, ◌-◌, ◌*◌, ◌<◌, ◌≤◌, Bool, true, false, IsTrue, List, [], ◌∷◌, ◌++◌, length}
-use Rattle.std.proofs.Common.{take, drop, Some, None, refl, sym, ap, ◌∙◌, arith, length-append}
-use Rattle.std.specs.List.{join_with_byte}
+use Rattle.std.proofs.Common.{take, drop, Some, None, refl, sym, ap, ◌∙◌, arith, length-append, take-add}
 use Rattle.std.proofs.lemmas.Bool.{ltb-true, false≢true}
 use Rattle.std.proofs.lemmas.List.{length-map, take-append-drop, length-drop, take_all, append-nil}
 use Rattle.eve_grammar.specs.Trace.{Asked}
 use Rattle.eve_write.specs.Data.{customer, asked}
 use Rattle.eve_workload.specs.declared.draft.Draft.{Draft}
-use Rattle.eve_workload.specs.Lines.{Line, HeadLine, CustomerLine, BatchLine, RequestLine, line_words, line_text}
+use Rattle.eve_workload.specs.Lines.{Line, HeadLine, CustomerLine, BatchLine, RequestLine, line_text}
 use Rattle.eve_workload.specs.Steps.{customers_in, requests_in, batches_in, last_requests, may_follow, may_end}
 use Rattle.eve_workload.specs.Steps.{AreRightLines, text_before, IsBadLine}
 use Rattle.eve_workload.specs.Drafts.{IsSmall, Keeps, KeepsAll, TakesLine}
 use Rattle.eve_workload.proofs.Drafting.{batches_are}
-use Rattle.eve_workload.proofs.Splitting.{up_to}
+use Rattle.eve_workload.proofs.WholeLines.{line_long}
 
 -- ---- counts that fit
 
@@ -101,14 +100,9 @@ read_more text at len d next read (line, front, within, some, keeps) =
     record {
       before = line ∷ read.before;
       within = omega (arith, read.within, within, length-drop at text);
-      text_is = take_plus at len text ∙ (λ k. read.text_is k ++ front k);
+      text_is = take-add at len text ∙ (λ k. read.text_is k ++ front k);
       keeps = keeps;
     }
-  where
-    take_plus : (n m : ℕ) (xs : List ℕ) → take (n + m) xs ≡ take n xs ++ take m (drop n xs)
-    take_plus n m xs =
-        let size : (n + m) - n ≡ m = omega arith in
-        up_to xs n (n + m) (omega arith) ∙ ap (λ k. take n xs ++ take k (drop n xs)) size
 
 pub read_all : (text : List ℕ) (at : ℕ) (d : Draft) → (read : IsRead text at d) → length text ≤ at
     → may_end read.before ≡ true → KeepsAll d text
@@ -141,6 +135,3 @@ read_early text at number d read count whole open_end = record {
       (omega (arith, ap length is, length-append (line_text line) behind, line_long line));
   unended = λ _. open_end;
 }
-  where
-    line_long : (line : Line) → 1 ≤ length (line_text line)
-    line_long line = omega (arith, length-append (join_with_byte 32 (line_words line)) (10 ∷ []))

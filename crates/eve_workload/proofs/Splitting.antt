@@ -24,7 +24,7 @@ pub record IsSplit (text : List ℕ) (words : List (List ℕ)) (from at : ℕ) :
   pub none : (k : ℕ) → k < at → get_or text k 0 ≢ 10
 
 -- the text up to here, and one more byte
-pub up_to : (text : List ℕ) (from at : ℕ) → from ≤ at → take at text ≡ take from text ++ take (at - from)
+up_to : (text : List ℕ) (from at : ℕ) → from ≤ at → take at text ≡ take from text ++ take (at - from)
     (drop from text)
 up_to text from at order =
     let sum : from + (at - from) ≡ at = omega arith in

@@ -1,9 +1,11 @@
 -- The lines of a text that may end make up a workload.
 use Rattle.std.proofs.Common.{◌≡◌, ◌≢◌, ℕ, suc, ◌+◌, ◌<◌, ◌≤◌, Bool, true, false, ◌&&◌, IsTrue, nat_le, List, [], ◌∷◌}
-use Rattle.std.proofs.Common.{◌++◌, map, length, drop, Option, Some, None, IfSome, AllPairs, Contains, refl, sym, ap}
+use Rattle.std.proofs.Common.{◌++◌, map, length, drop, Some, IfSome, AllPairs, Contains, refl, sym, ap}
 use Rattle.std.proofs.Common.{subst, ◌∙◌, arith, length-append, append_assoc}
 use Rattle.std.specs.List.{list_all, flat_map}
 use Rattle.std.proofs.lemmas.Bool.{false≢true, and_parts, and_from, le-leb, ltb-true}
+use Rattle.std.proofs.Math.Seq.{drop-append_seam}
+use Rattle.std.proofs.lemmas.Option.{IfSome_then}
 use Rattle.std.proofs.lemmas.List.{append-nil, map_push, get_or_default}
 use Rattle.std.proofs.lemmas.List.Quantifiers.{all_pairs_push}
 use Rattle.std.proofs.lemmas.List.Folds.{list_all-append}
@@ -23,7 +25,7 @@ use Rattle.eve_workload.specs.declared.draft.Draft.{Draft}
 use Rattle.eve_workload.specs.Drafts.{starts_in, deployment_in, Keeps}
 use Rattle.eve_workload.proofs.Reading.{in_batch, request_in_batch, customers_few, batches_few}
 use Rattle.eve_workload.proofs.Deployments.{other_counts}
-use Rattle.eve_workload.proofs.Holding.{taken, drop_front}
+use Rattle.eve_workload.proofs.Holding.{taken}
 
 -- a request at the end of the last batch
 abbrev pub push_last : {A : Type 0} → List (List A) → A → List (List A)
@@ -129,7 +131,7 @@ cut_all : (front : List Asked) (parts : List (List Asked)) (behind : ℕ) (items
 cut_all front [] behind items starts are = refl
 cut_all front (part ∷ []) behind items starts are =
     ap (λ x. x ∷ []) (ap (drop behind) are ∙ ap (λ n. drop n (front ++ (part ++ []))) starts
-    ∙ drop_front front (part ++ []) ∙ append-nil part)
+    ∙ drop-append_seam front (part ++ []) ∙ append-nil part)
 cut_all front (part ∷ next ∷ parts) behind items starts are =
     let rest = requests_of (next ∷ parts) in
     let first = taken front part rest items behind (behind + length part) are starts refl in
@@ -191,10 +193,6 @@ request_line_so d before a some =
     ∙ ap (λ lines. HeadLine d ∷ lines)
     (sym (append_assoc front (flat_map batch_lines (batches_of before)) (RequestLine a ∷ [])))
 
-some_map : {A : Type 0} (o : Option A) (P Q : A → Type 0) → ((x : A) → P x → Q x) → IfSome o P → IfSome o Q
-some_map None P Q f p = tt
-some_map (Some x) P Q f p = f x p
-
 text_more : (text : List ℕ) (lines more : List Line) (line : Line) → text ≡ flat_map line_text lines
     → more ≡ lines ++ line ∷ [] → text ++ line_text line ≡ flat_map line_text more
 text_more text lines more line so_far are =
@@ -210,17 +208,16 @@ text_so (HeadLine d ∷ (CustomerLine c ∷ before)) right = let wrong = right.0
 text_so (HeadLine d ∷ (BatchLine ∷ before)) right = let wrong = right.0.follows in absurd (false≢true wrong)
 text_so (HeadLine d ∷ (RequestLine a ∷ before)) right = let wrong = right.0.follows in absurd (false≢true wrong)
 text_so (CustomerLine c ∷ before) right =
-    some_map (deployment_in before) _ _
+    IfSome_then (deployment_in before) (text_so before right.1)
     (λ d so_far. text_more (text_before before) (lines_so d before) _ (CustomerLine c) so_far
-    (customer_lines d before c (no_batches before c right.1 right.0.follows))) (text_so before right.1)
+    (customer_lines d before c (no_batches before c right.1 right.0.follows)))
 text_so (BatchLine ∷ before) right =
-    some_map (deployment_in before) _ _
+    IfSome_then (deployment_in before) (text_so before right.1)
     (λ d so_far. text_more (text_before before) (lines_so d before) _ BatchLine so_far (batch_line_so d before))
-    (text_so before right.1)
 text_so (RequestLine a ∷ before) right =
-    some_map (deployment_in before) _ _
+    IfSome_then (deployment_in before) (text_so before right.1)
     (λ d so_far. text_more (text_before before) (lines_so d before) _ (RequestLine a) so_far
-    (request_line_so d before a (batch_there before a right.0.follows))) (text_so before right.1)
+    (request_line_so d before a (batch_there before a right.0.follows)))
 
 -- ---- limits
 

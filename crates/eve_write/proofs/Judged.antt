@@ -1,6 +1,6 @@
 -- What tests of parts tell.
-use Rattle.std.proofs.Common.{◌≡◌, ℕ, ◌<◌, ◌≤◌, Bool, true, false, ◌&&◌, leb, eqb, eq-eqb, List}
-use Rattle.std.proofs.Common.{length, sum, map, refl, sym, ap, ◌∙◌}
+use Rattle.std.proofs.Common.{◌≡◌, ℕ, ◌<◌, ◌≤◌, Bool, true, ◌&&◌, leb, eqb, eq-eqb, List}
+use Rattle.std.proofs.Common.{length, sum, map, sym, ap, ◌∙◌}
 use Rattle.std.specs.List.{list_all}
 use Rattle.std.proofs.lemmas.Bool.{lt-ltb, le-leb}
 use Rattle.std.proofs.lemmas.List.Folds.{list_all-map}
@@ -10,11 +10,6 @@ use Rattle.eve_grammar.specs.Limits.{is_number, is_asked, is_batch, is_rising, i
 -- a test after one that holds
 pub and_true : (a b : Bool) → a ≡ true → (a && b) ≡ b
 and_true a b holds = ap (λ x. x && b) holds
-
--- a test that can't hold
-pub false_from : (b : Bool) → (b ≡ true → ⊥) → false ≡ b
-false_from true not = absurd (not refl)
-false_from false not = refl
 
 pub batch_is : (b : Batch) (r : Bool) → 1 ≤ length b.sizes → list_all (leb 1) b.sizes ≡ true → sum b.sizes ≤ 256
     → length b.requests ≡ sum b.sizes

@@ -1,29 +1,18 @@
 -- How long parts of frames are.
-use Rattle.std.proofs.Common.{◌≡◌, ℕ, ◌+◌, ◌*◌, ◌≤◌, ◌&&◌, IsTrue, List, [], ◌∷◌, ◌++◌, length, refl, arith}
+use Rattle.std.proofs.Common.{◌≡◌, ℕ, ◌+◌, ◌*◌, ◌≤◌, ◌&&◌, IsTrue, List, ◌++◌, length, refl, arith}
 use Rattle.std.proofs.Common.{length-append, eqb, leb, eqb-true, leb-true, Bool, map, sum, ap, sym, ◌∙◌}
 use Rattle.std.specs.List.{flat_map, list_all}
 use Rattle.std.proofs.lemmas.Bool.{and_parts}
 use Rattle.byteorder.specs.Endian.{big_bytes}
 use Rattle.eve_smallbank.specs.declared.request.Reply.{Reply}
-use Rattle.eve_smallbank.specs.declared.request.Reply.TheVariants.{Done, Total, Aborted}
 use Rattle.eve_smallbank.specs.Spelling.{reply_text}
 use Rattle.std.proofs.lemmas.List.Folds.{list_all-map}
-use Rattle.std.proofs.lemmas.List.Sums.{sum_by-cons}
 use Rattle.eve_grammar.specs.Trace.{Asked, Batch, Attempt}
 use Rattle.eve_grammar.specs.Spelling.{asked_text}
 use Rattle.eve_grammar.specs.Limits.{is_number, is_between, is_reply, is_token, is_attempt, is_asked, is_batch}
-
--- items of the same length
-pub length-flat_map-same : {X : Type 0} (f : X → List ℕ) (n : ℕ) → ((x : X) → length (f x) ≡ n) → (xs : List X)
-    → length (flat_map f xs) ≡ n * length xs
-length-flat_map-same f n each [] = omega arith
-length-flat_map-same f n each (x ∷ xs) =
-    omega (arith, length-append (f x) (flat_map f xs), each x, length-flat_map-same f n each xs)
-
-pub length-reply : (r : Reply) → length (reply_text r) ≡ 9
-length-reply Done = refl
-length-reply (Total sum) = refl
-length-reply (Aborted why) = refl
+use Rattle.eve_grammar.proofs.BodyCodecs.{sum_short}
+use Rattle.eve_grammar.proofs.PartCodecs.{reply_length}
+use Rattle.eve_grammar.proofs.Scans.{text_length}
 
 -- what an attempt's limits say of its lengths
 pub record IsCounted (a : Attempt) : Type 0 where
@@ -65,17 +54,9 @@ length-results certificate replies token same long =
       arith,
       length-append (flat_map (big_bytes 2) certificate) (flat_map reply_text replies ++ token),
       length-append (flat_map reply_text replies) token,
-      length-flat_map-same (big_bytes 2) 2 (λ n. refl) certificate,
-      length-flat_map-same reply_text 9 length-reply replies,
+      text_length 2 (big_bytes 2) (λ n. refl) certificate,
+      text_length 9 reply_text reply_length replies,
     )
-
-sum_short : (sizes : List ℕ) → IsTrue (list_all (leb 1) sizes) → length sizes ≤ sum sizes
-sum_short [] right = omega arith
-sum_short (n ∷ sizes) right =
-    let p = and_parts (leb 1 n) (list_all (leb 1) sizes) right in
-    let first = leb-true 1 n p.0 in
-    let others = sum_short sizes p.1 in
-    omega (arith, sum_by-cons (λ (x : ℕ). x) n sizes)
 
 -- what a batch's limits say of its lengths
 pub record IsGrouped (b : Batch) : Type 0 where
@@ -117,7 +98,7 @@ length-groups sizes requests =
     omega (
       arith,
       length-append (flat_map (big_bytes 2) sizes) (flat_map asked_text requests),
-      length-flat_map-same (big_bytes 2) 2 (λ n. refl) sizes,
+      text_length 2 (big_bytes 2) (λ n. refl) sizes,
     )
 
 -- all items of the code pass where all that they are do

@@ -17,7 +17,7 @@ use Rattle.eve_write.specs.declared.parts.Parts.{Parts}
 use Rattle.eve_write.specs.Data.{customer, batch, access, attempt, section, votes, step, vote, sent, trace}
 use Rattle.eve_write.specs.Writable.{fits_vote, HasSpelling}
 use Rattle.eve_write.specs.Passes.{fits_step, right_step, right_vote, are_right_parts}
-use Rattle.eve_write.proofs.Rising.{few_rising}
+use Rattle.eve_grammar.proofs.BodyCodecs.{few_restores}
 
 -- a step that a section may hold can be written
 step_fits : (rows : ℕ) → rows ≤ 131072 → (s : code.Step) → IsTrue (is_step rows (step s)) → IsTrue (fits_step s)
@@ -33,7 +33,7 @@ step_fits rows few (Rollback r) right =
     let q = and_parts (is_number 4 r.view) (is_rising restores && list_all (is_restore rows) restores) p.1 in
     let s = and_parts (is_rising restores) (list_all (is_restore rows) restores) q.1 in
     le-leb (length r.restores.items) 131072
-    (omega (arith, few_rising rows restores s.0 s.1, length-map r.restores.items restore))
+    (omega (arith, few_restores rows restores s.0 s.1, length-map r.restores.items restore))
 
 steps_fit : (rows : ℕ) → rows ≤ 131072 → (xs : List code.Step) → IsTrue (list_all (is_step rows) (map step xs))
     → IsTrue (list_all fits_step xs)

@@ -2,9 +2,10 @@ use Rattle.std.proofs.Common.{◌≡◌, ◌<◌, length, subst, sym, ap, ◌∙
 use Rattle.std.specs.Prelude.{IsTrue}
 use Rattle.std.proofs.lemmas.Option.{slice_get_read, slice_get_within}
 use Rattle.eve_frames.specs.Views.{attempt_in}
+use Rattle.eve_history.proofs.Rights.{as_many_told}
 use Rattle.eve_agree.specs.Agreement.{HaveSameOutcome}
 use Rattle.eve_agree.specs.Judging.{lower_outcome}
-use Rattle.eve_agree.proofs.Outcomes.{section_history_is, section_histories_count, settlings_count, last_told}
+use Rattle.eve_agree.proofs.Outcomes.{section_history_is, settlings_count, last_told}
 use Rattle.eve_agree.proofs.Outcomes.{outcome_of, replica_told, all_balances, same_outcome, outcome_same}
 use Rattle.eve_agree.proofs.Agreeing.{InBatch, batch_start, batch_more, batch_end, judged_none, judged_same}
 use Rattle.eve_agree.proofs.Agreeing.{judged_apart, differs, lower_lowers, lower_stands}
@@ -16,7 +17,7 @@ pub loop-e-init : goal.loop-e-init
 loop-e-init c =
     let t = c.args.trace.now in
     let there = slice_get_within c.args.histories.now c.in-Some.first _ c.in-Some.ensures.there.1 in
-    let count = ap length c.requires.histories ∙ section_histories_count t in
+    let count = ap length c.requires.histories ∙ as_many_told t in
     batch_start t c.args.least c.args.n c.in-Some.first c.args.histories.now c.requires.histories c.requires.right
     c.requires.stand c.in-Some.ensures.before (omega arith)
     (sym (c.in-Some.ensures.is t c.requires.histories))
@@ -24,7 +25,7 @@ loop-e-init c =
 pub bounds-all-e : goal.bounds-all-e
 bounds-all-e c =
     let t = c.args.trace.now in
-    let count = ap length c.requires.histories ∙ section_histories_count t in
+    let count = ap length c.requires.histories ∙ as_many_told t in
     let many = c.requires.after.as_many ∙ settlings_count t in
     omega (arith, c.loop-e-test.true)
 
@@ -32,7 +33,7 @@ pub bounds-all-first : goal.bounds-all-first
 bounds-all-first c =
     let t = c.args.trace.now in
     let there = slice_get_within c.args.histories.now c.in-Some.first _ c.in-Some.ensures.there.1 in
-    let count = ap length c.requires.histories ∙ section_histories_count t in
+    let count = ap length c.requires.histories ∙ as_many_told t in
     let many = c.requires.after.as_many ∙ settlings_count t in
     omega arith
 
@@ -44,7 +45,7 @@ loop-e-preserved c =
     let f = c.in-Some.first in
     let n = c.args.n in
     let before = c.loop-e.least in
-    let count = ap length c.requires.histories ∙ section_histories_count t in
+    let count = ap length c.requires.histories ∙ as_many_told t in
     let f_got = c.in-Some.ensures.there.1 in
     let f_there : f < length hs = slice_get_within hs f _ f_got in
     let f_told = section_history_is t hs f c.index-histories-first.result c.requires.histories
@@ -110,5 +111,5 @@ loop-e-preserved c =
 pub returns-clause-judged : goal.returns-clause-judged
 returns-clause-judged c =
     let t = c.args.trace.now in
-    let count = ap length c.requires.histories ∙ section_histories_count t in
+    let count = ap length c.requires.histories ∙ as_many_told t in
     batch_end t c.args.least c.args.n c.loop-e.e c.loop-e.least c.loop-e.invariant (omega (arith, c.loop-e-test.false))

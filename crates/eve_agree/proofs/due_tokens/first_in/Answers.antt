@@ -1,19 +1,13 @@
-use Rattle.std.proofs.Common.{◌≡◌, ◌++◌, ◌<◌, ℕ, List, length, take, drop, get_or, Option, sym, subst, ap, ◌∙◌}
-use Rattle.std.proofs.Common.{append-nil, arith}
-use Rattle.std.proofs.lemmas.List.{take_all, drop_all}
+use Rattle.std.proofs.Common.{◌≡◌, ◌<◌, ℕ, List, length, get_or, Option, sym, subst, ap, ◌∙◌}
+use Rattle.std.proofs.Common.{arith}
 use Rattle.eve_grammar.specs.Trace.{Trace}
+use Rattle.eve_votes.proofs.Places.{whole_slice}
 use Rattle.eve_chains.specs.Settling.{Settling}
 use Rattle.eve_agree.specs.DueTokens.{IsFirstWrong}
 use Rattle.eve_agree.specs.Stretches.{IsJudgedStretch, AreReadyStretches, first_found}
 use Rattle.eve_agree.specs.declared.due_tokens.Stretch.{Stretch}
 use Rattle.eve_agree.proofs.Stretched.{all_judged}
 use Rattle.eve_agree.proofs.due_tokens.first_in.Goals as goal
-
-whole_slice : {A : Type 0} (xs ys : List A) (n : ℕ) → length ys ≡ length xs → n ≡ length xs →
-    take n (ys ++ drop (length ys) xs) ≡ ys
-whole_slice xs ys n same many =
-    ap (λ (zs : List _). take n (ys ++ zs)) (drop_all (length ys) xs (omega arith)) ∙ ap (take n) (append-nil ys) ∙
-    take_all n ys (omega arith)
 
 -- what was found in all of them
 found_is : (t : Trace) (e : ℕ) (s : Settling) (xs ys old : List Stretch) (o : Option ℕ) → AreReadyStretches s 0 xs →

@@ -7,7 +7,8 @@ use Rattle.eve_smallbank.specs.Chain.{Table, table_after}
 use Rattle.eve_grammar.specs.Limits.{is_entry}
 use Rattle.eve_grammar.proofs.Grouping.{all_at}
 use Rattle.eve_attempts.specs.Ledgers.{table_of_rows}
-use Rattle.eve_attempts.proofs.Listing.{drop_at, filter-append}
+use Rattle.std.proofs.lemmas.List.Elements.{filter-append}
+use Rattle.eve_attempts.proofs.Listing.{drop_at}
 use Rattle.eve_attempts.proofs.TableLaws.{writes_among}
 use Rattle.eve_attempts.proofs.walk.write_all.Goals as goal
 

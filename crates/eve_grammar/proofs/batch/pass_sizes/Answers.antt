@@ -1,6 +1,7 @@
 use Rattle.std.proofs.Common.{◌≡◌, ◌&&◌, ◌≤◌, false, leb, arith}
 use Rattle.std.proofs.lemmas.Bool.{lt-leb}
-use Rattle.eve_grammar.proofs.Passing.{sizes_passed, sizes_none, sizes_wrong, first_false, second_false}
+use Rattle.std.proofs.lemmas.Bool.{and_left, and_right}
+use Rattle.eve_grammar.proofs.Passing.{sizes_passed, sizes_none, sizes_wrong}
 use Rattle.eve_grammar.proofs.batch.pass_sizes.Goals as goal
 use Rattle.eve_grammar.proofs.batch.pass_sizes.Goals.{
   then-count-eq0-via-then-count-eq0,
@@ -17,9 +18,9 @@ returns-then-count-eq0 c =
     let total = c.in-Some.total in
     let wrong : (leb 1 count && leb total 256) ≡ false = elim c.then-count-eq0.branch [
       | then-count-eq0-via-then-count-eq0 w ↦
-          let none = w.if-count-eq0.true in first_false (leb 1 count) (leb total 256) (lt-leb 1 count (omega arith))
+          let none = w.if-count-eq0.true in and_left (leb 1 count) (leb total 256) (lt-leb 1 count (omega arith))
       | then-count-eq0-via-else-count-eq0+then-total-gt-MOST_REQUESTS w ↦
-          second_false (leb 1 count) (leb total 256) (lt-leb total 256 w.if-total-gt-MOST_REQUESTS.true)
+          and_right (leb 1 count) (leb total 256) (lt-leb total 256 w.if-total-gt-MOST_REQUESTS.true)
     ] in
     sizes_wrong count total c.args.bytes.now c.in_ok-count.rest.now c.in-Some.behind.now c.in_ok-count.ensures
     c.in-Some.ensures wrong

@@ -1,13 +1,8 @@
-use Rattle.std.proofs.Common.{◌≡◌, true, ◌∷◌, ◌++◌, [], All, List, sym, subst, arith}
-use Rattle.std.proofs.lemmas.List.Elements.{All-append, All-cons, All-nil}
+use Rattle.std.proofs.Common.{◌≡◌, true, [], All, List, sym, subst, arith}
+use Rattle.std.proofs.lemmas.List.Elements.{All-push}
 use Rattle.eve_replica.specs.declared.server.Server.{Server}
 use Rattle.eve_replica.specs.Serving.{Serves, first_standing}
 use Rattle.eve_replica.proofs.running.servers_of.Goals as goal
-
--- one more
-more : (P : Server → Type 0) (servers : List Server) (one : Server) → All P servers → P one
-    → All P (servers ++ one ∷ [])
-more P servers one all holds = All-append P servers (one ∷ []) all (All-cons P one [] holds (All-nil P))
 
 pub loop-number-preserved : goal.loop-number-preserved
 loop-number-preserved c =
@@ -17,9 +12,9 @@ loop-number-preserved c =
       many = omega (arith, c.in_ok-push.ensures.len, c.loop-number.invariant.many);
       serve = λ p plan. subst (λ (servers : List Server). All (Serves p first_standing []) servers)
           (sym {A = List Server} c.in_ok-push.ensures.items)
-          (more (Serves p first_standing []) before one (c.loop-number.invariant.serve p plan)
+          (All-push (Serves p first_standing []) before one (c.loop-number.invariant.serve p plan)
           (c.in_ok-server_of.ensures.serve p plan));
       live = subst (λ (servers : List Server). All (λ s. s.is_live ≡ true) servers)
           (sym {A = List Server} c.in_ok-push.ensures.items)
-          (more (λ s. s.is_live ≡ true) before one c.loop-number.invariant.live c.in_ok-server_of.ensures.live);
+          (All-push (λ s. s.is_live ≡ true) before one c.loop-number.invariant.live c.in_ok-server_of.ensures.live);
     }

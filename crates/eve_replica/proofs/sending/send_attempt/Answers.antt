@@ -8,7 +8,7 @@ use Rattle.eve_write.specs.Data.{asked, attempt, batch, sent}
 use Rattle.eve_workload.specs.declared.mixer.MixedBatch.{MixedBatch}
 use Rattle.eve_replica.specs.Sending.{answered, requests_numbered}
 use Rattle.eve_replica.proofs.Answering.{none_asked, asked_there}
-use Rattle.eve_replica.proofs.WhereWell.{on_ok}
+use Rattle.std.proofs.lemmas.Result.{on_ok_weaker}
 use Rattle.eve_replica.proofs.sending.send_attempt.Goals as goal
 use Rattle.eve_replica.proofs.sending.send_attempt.Goals.{then-seq-lt1-via-then-seq-lt1}
 use Rattle.eve_replica.proofs.sending.send_attempt.Goals.{then-seq-lt1-via-else-seq-lt1+then-seq-batches}
@@ -39,7 +39,7 @@ returns-clause-sent c =
     ap (map asked) c.as_slice-requests.ensures.value
     ∙ ap (λ (m : MixedBatch). map asked m.batch.requests.items) (sym c.index-batches-seq.is)
     ∙ sym (asked_there (map plain given) a.seq (plain item) (omega arith) there) in
-    on_ok _ _ c.send_answers.result
+    on_ok_weaker c.send_answers.result
     (λ e. e
     ∙ ap (λ (qs : List Asked). map sent c.args.replies.now.items
     ++ answered c.args.place a.seq qs c.as_slice.result.now) requests

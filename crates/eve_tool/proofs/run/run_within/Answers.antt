@@ -1,16 +1,17 @@
 use Rattle.std.proofs.Common.{◌≤◌, ◌<◌, length, refl, inl, arith}
+use Rattle.std.proofs.lemmas.Option.{IfSome_then}
 use Rattle.std.proofs.lemmas.Result.{IfOk-weaker, IfErr-weaker}
 use Rattle.eve_tool.specs.Run.{Runs}
 use Rattle.eve_tool.specs.Writes.{WritesAll}
-use Rattle.eve_tool.proofs.WholeInput.{IsAll, left_of_all, of_all, short_is_all, some_weaker, too_long}
+use Rattle.eve_tool.proofs.WholeInput.{IsAll, left_of_all, of_all, short_is_all, too_long}
 use Rattle.eve_tool.proofs.run.run_within.Goals as goal
 
 pub returns-then-len-limit-clause-left : goal.returns-then-len-limit-clause-left
 returns-then-len-limit-clause-left g c =
     let known = g.I.Source.remaining c.args.input.now in
     let long : c.args.limit < length c.in_ok-bytes.bytes.items = omega arith in (
-      some_weaker known _ _ (λ k longer. inl longer)
-          (too_long c.args.limit known c.in_ok-bytes.bytes.items c.in_ok-bytes.ensures.bytes long),
+      IfSome_then known (too_long c.args.limit known c.in_ok-bytes.bytes.items c.in_ok-bytes.ensures.bytes long)
+          (λ k longer. inl longer),
       refl,
     )
 

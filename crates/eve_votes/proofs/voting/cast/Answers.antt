@@ -1,17 +1,11 @@
-use Rattle.std.proofs.Common.{◌≡◌, ℕ, List, length, take, drop, ◌++◌, sym, subst, ap, ◌∙◌, append-nil, arith}
+use Rattle.std.proofs.Common.{◌≡◌, List, length, sym, subst, ap, ◌∙◌, arith}
 use Rattle.std.specs.List.Sorted.{IsPermutation}
-use Rattle.std.proofs.lemmas.List.{take_all, drop_all}
 use Rattle.eve_votes.specs.Ballots.{ballots_of, HasVotes}
 use Rattle.eve_votes.specs.declared.ballots.Ballot.{Ballot}
+use Rattle.eve_votes.proofs.Places.{whole_slice}
 use Rattle.eve_votes.proofs.InOrder.{in_order}
 use Rattle.eve_votes.proofs.Gathered.{moved_each, moved_all, moved_once}
 use Rattle.eve_votes.proofs.voting.cast.Goals as goal
-
-whole_slice : {A : Type 0} (xs ys : List A) (n : ℕ) → length ys ≡ length xs → n ≡ length xs →
-    take n (ys ++ drop (length ys) xs) ≡ ys
-whole_slice xs ys n same many =
-    ap (λ (zs : List _). take n (ys ++ zs)) (drop_all (length ys) xs (omega arith)) ∙ ap (take n) (append-nil ys) ∙
-    take_all n ys (omega arith)
 
 pub returns : goal.returns
 returns c =

@@ -2,9 +2,9 @@
 use Rattle.std.proofs.Common.{◌≡◌, map, drop}
 use Rattle.eve_grammar.specs.Bodies.{restore}
 use Rattle.eve_grammar.specs.Limits.{is_rising}
-use Rattle.eve_write.proofs.Rising.{rising_from}
+use Rattle.eve_grammar.proofs.Scans.{is_rising_from}
 use Rattle.eve_write.proofs.rollback.is_rising.Given as goal
 
 abbrev pub invariant-loop-restore : goal.invariant-loop-restore
 invariant-loop-restore l =
-    rising_from l.least (map restore (drop l.restore-index l.restores)) ≡ is_rising (map restore l.restores)
+    is_rising_from l.least (map restore (drop l.restore-index l.restores)) ≡ is_rising (map restore l.restores)

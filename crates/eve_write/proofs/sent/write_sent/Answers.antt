@@ -3,16 +3,16 @@ use Rattle.byteorder.specs.Endian.{big_bytes}
 use Rattle.eve_smallbank.specs.Spelling.{reply_text}
 use Rattle.eve_grammar.specs.Frames.{OfSent}
 use Rattle.eve_grammar.specs.Spelling.{body_text}
+use Rattle.eve_grammar.proofs.PartCodecs.{reply_length}
 use Rattle.eve_write.specs.Data.{sent}
 use Rattle.eve_write.specs.Writing.{Writes}
-use Rattle.eve_write.proofs.Lengths.{length-reply}
 use Rattle.eve_write.proofs.Joined.{Puts-then, Puts-whole, app, led, onto}
 use Rattle.eve_write.proofs.sent.write_sent.Goals as goal
 
 pub returns : goal.returns
 returns g c =
     let s = c.args.sent.now in
-    let long : 26 ≡ length (body_text (OfSent (sent s))) = omega (arith, length-reply s.reply) in
+    let long : 26 ≡ length (body_text (OfSent (sent s))) = omega (arith, reply_length s.reply) in
     let fields = app c.to_be_bytes.ensures
     (app c.to_be_bytes-2.ensures (app c.byte.ensures (onto (reply_text s.reply) c.to_be_bytes-3.ensures))) in
     let spelled = led 48 (led 0 (led 0 (led 0 (led 26 fields))))

@@ -6,7 +6,8 @@ use Rattle.eve_write.specs.Data.{rollback, section}
 use Rattle.eve_replica.specs.Replicas.{Replica}
 use Rattle.eve_replica.specs.Serving.{GoesOn, GivesUpNext, rollback_move}
 use Rattle.eve_replica.proofs.OneStep.{rollback_goes, rollback_gives_up, stopped_gives_up}
-use Rattle.eve_replica.proofs.WhereWell.{on_ok, where_well}
+use Rattle.std.proofs.lemmas.Result.{on_ok_weaker}
+use Rattle.eve_replica.proofs.WhereWell.{where_well}
 use Rattle.eve_replica.proofs.server.Server.roll_back.Goals as goal
 
 pub returns-clause-on : goal.returns-clause-on
@@ -33,7 +34,7 @@ returns-clause-given_up c = λ p.
     let r = rollback c.in_ok-rollback.rollback in
     let old = c.args.self.now.replica in
     let live : c.args.self.now.is_live ≡ true = search rules in
-    on_ok _ (GivesUpNext p c.args.self.now c.did.new.self) c.did.result
+    on_ok_weaker {Q = GivesUpNext p c.args.self.now c.did.new.self} c.did.result
     (λ added. rollback_gives_up r p c.args.self.now c.did.new.self live
     (subst (λ (x : Replica). RollsBack old.ledger x.ledger r) (sym c.did.ensures.replica) made) added)
     c.did.ensures.added
