@@ -2,8 +2,8 @@
 
 use crate::meeting::Meeting;
 use eve_accounts::Cents;
-use eve_grammar::Restore;
 use eve_smallbank::UpToThree;
+use eve_stamps::HeldRow;
 use std::alloc::AllocError;
 
 /// A change of the records of an attempt, or of the ledger that they are handed to.
@@ -118,7 +118,7 @@ fn at_first_of(met: Meeting, worker: u8) -> Meeting {
     }
 }
 
-fn with_other_version(seen: &UpToThree<Restore>, place: usize) -> UpToThree<Restore> {
+fn with_other_version(seen: &UpToThree<HeldRow>, place: usize) -> UpToThree<HeldRow> {
     let mut other = UpToThree::new();
     for at in 0..seen.len() {
         let mut row = seen.at(at);
@@ -132,7 +132,7 @@ fn with_other_version(seen: &UpToThree<Restore>, place: usize) -> UpToThree<Rest
     other
 }
 
-fn with_other_value(seen: &UpToThree<Restore>, place: usize) -> UpToThree<Restore> {
+fn with_other_value(seen: &UpToThree<HeldRow>, place: usize) -> UpToThree<HeldRow> {
     let mut other = UpToThree::new();
     for at in 0..seen.len() {
         let mut row = seen.at(at);

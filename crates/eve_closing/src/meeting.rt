@@ -4,9 +4,9 @@ ghost use Rattle.std.specs.Prelude.{◌<◌};
 
 use eve_accounts::Names;
 use eve_frames::{AccessView, AttemptView};
-use eve_grammar::{MOST_VERSIONS, Restore};
+use eve_grammar::MOST_VERSIONS;
 use eve_smallbank::{Reply, UpToThree, touched};
-use eve_stamps::{AccessRecord, StampFault, Stripe, apply, untouched};
+use eve_stamps::{AccessRecord, HeldRow, Stamp, StampFault, Stripe, apply, untouched};
 use eve_views::Accesses;
 use eve_write::BatchData;
 use std::alloc::{AllocError, Global};
@@ -21,7 +21,7 @@ pub struct Meeting {
     pub index: u16,
     pub tick: u64,
     pub reply: Reply,
-    pub seen: UpToThree<Restore>,
+    pub seen: UpToThree<HeldRow>,
 }
 
 /// What the attempt's access frames say that workers met, at ticks in the certificate's order.
@@ -68,12 +68,12 @@ fn reply_of(attempt: &AttemptView, index: u16) -> Reply {
     }
 }
 
-fn rows_seen(access: &AccessView) -> UpToThree<Restore> {
+fn rows_seen(access: &AccessView) -> UpToThree<HeldRow> {
     let mut seen = UpToThree::new();
     for place in 0..access.len() {
         let entry = access.entry(place);
         if seen.len() < 3 {
-            seen.push(Restore {
+            seen.push(HeldRow {
                 row: entry.row,
                 version: entry.version,
                 value: entry.seen,
@@ -81,6 +81,16 @@ fn rows_seen(access: &AccessView) -> UpToThree<Restore> {
         }
     }
     seen
+}
+
+/// Who ran the request, and when.
+fn stamp_of(met: &Meeting) -> Stamp {
+    Stamp {
+        worker: met.worker,
+        place: met.place,
+        index: met.index,
+        tick: met.tick,
+    }
 }
 
 /// The record of a request that was run on rows as they were met, if they are its rows.
@@ -92,7 +102,7 @@ pub fn record_of(
 ) -> Result<Option<AccessRecord>, AllocError> {
     if let Reply::Aborted(why) = met.reply {
         if met.seen.is_empty() {
-            return Ok(Some(untouched(why, met.tick, met.worker, met.place, met.index)));
+            return Ok(Some(untouched(why, stamp_of(met))));
         }
     }
     let Some(asked) = batch.requests.get(met.asked as usize) else {
@@ -103,15 +113,7 @@ pub fn record_of(
     let Some(mut stripe) = stripe_of(alloc, &met.seen)? else {
         return Ok(None);
     };
-    match apply(
-        &mut stripe,
-        &request,
-        &reached,
-        met.tick,
-        met.worker,
-        met.place,
-        met.index,
-    ) {
+    match apply(&mut stripe, &request, &reached, stamp_of(met)) {
         Ok(record) => Ok(Some(record)),
         Err(StampFault::Memory) => Err(AllocError),
         Err(_) => Ok(None),
@@ -119,7 +121,7 @@ pub fn record_of(
 }
 
 /// The stripe of the rows as they were seen. Of three rows the first two are of one customer.
-fn stripe_of(alloc: Global, seen: &UpToThree<Restore>) -> Result<Option<Stripe>, AllocError> {
+fn stripe_of(alloc: Global, seen: &UpToThree<HeldRow>) -> Result<Option<Stripe>, AllocError> {
     match seen.len() {
         1 => of_one(alloc, seen.at(0)),
         2 => of_two(alloc, seen.at(0), seen.at(1)),
@@ -131,14 +133,14 @@ fn stripe_of(alloc: Global, seen: &UpToThree<Restore>) -> Result<Option<Stripe>,
     }
 }
 
-fn of_one(alloc: Global, row: Restore) -> Result<Option<Stripe>, AllocError> {
+fn of_one(alloc: Global, row: HeldRow) -> Result<Option<Stripe>, AllocError> {
     if row.version > MOST_VERSIONS {
         return Ok(None);
     }
     Ok(Some(Stripe::new(alloc, &[row])?))
 }
 
-fn of_two(alloc: Global, a: Restore, b: Restore) -> Result<Option<Stripe>, AllocError> {
+fn of_two(alloc: Global, a: HeldRow, b: HeldRow) -> Result<Option<Stripe>, AllocError> {
     if a.version > MOST_VERSIONS || b.version > MOST_VERSIONS {
         return Ok(None);
     }
@@ -150,9 +152,9 @@ fn of_two(alloc: Global, a: Restore, b: Restore) -> Result<Option<Stripe>, Alloc
 
 fn of_three(
     alloc: Global,
-    a: Restore,
-    b: Restore,
-    c: Restore,
+    a: HeldRow,
+    b: HeldRow,
+    c: HeldRow,
 ) -> Result<Option<Stripe>, AllocError> {
     if a.version > MOST_VERSIONS || b.version > MOST_VERSIONS || c.version > MOST_VERSIONS {
         return Ok(None);
