@@ -1,11 +1,12 @@
 -- Clients' greatest numbers: a number above its client's greatest was not noted before.
 use Rattle.std.proofs.Common.{◌≡◌, ℕ, ◌+◌, ◌≤◌, List, [], ◌∷◌, ◌++◌, length}
-use Rattle.std.proofs.Common.{slice_get, Contains, Option, Some, refl, subst}
+use Rattle.std.proofs.Common.{slice_get, Contains, Option, Some, refl, subst, rules}
 use Rattle.eve_grammar.specs.Trace.{Trace, Batch}
 use Rattle.eve_grammar.specs.Spelling.{batches_at}
-use Rattle.eve_history.specs.Faults.{RequestId, request_ids_at}
+use Rattle.eve_history.specs.Faults.{RequestId, request_ids_at, IsAskedAgain}
 use Rattle.eve_history.specs.Notes.{HasDistinctRequests}
 use Rattle.eve_history.specs.Rising.{AreReached, HaveRisen}
+use Rattle.eve_history.proofs.Places.{no_place}
 use Rattle.eve_history.proofs.RequestIds.{Noting, noting_start, noting_more, noting_end}
 use Rattle.eve_history.proofs.OrderLaws.{Asking, asking_more, asking_apart}
 
@@ -47,6 +48,14 @@ pub record RisenTo (t : Trace) (i : ℕ) (greatest : ℕ → Option ℕ) : Type 
   pub noted : List RequestId
   pub asking : Asking t i noted
   pub kept : AreReached greatest noted
+
+-- no request came
+pub risen_start : (t : Trace) (greatest : ℕ → Option ℕ) → RisenTo t 0 greatest
+risen_start t greatest = record {
+  noted = [];
+  asking = record { items = refl; apart = no_place IsAskedAgain };
+  kept = search rules;
+}
 
 pub risen_more : (t : Trace) (i : ℕ) (greatest after : ℕ → Option ℕ) (b : ℕ × (ℕ × Batch)) → RisenTo t i greatest
     → slice_get (batches_at t) i ≡ Some b

@@ -1,7 +1,13 @@
 -- The greatest number of each client so far.
-use Rattle.std.specs.Prelude.{ℕ, ◌≤◌, List, ◌++◌, All, Option, Some, None}
+use Rattle.std.specs.Prelude.{ℕ, ◌≤◌, List, ◌++◌, All, Option, Some, None, nat_eq, slice_index_or}
+use Rattle.indexmap.specs.IndexMap.{get}
 use Rattle.eve_history.specs.Faults.{RequestId}
 use Rattle.eve_history.specs.Notes.{IsRepeated}
+use Rattle.eve_history.specs.declared.greatest.Greatest.{Greatest}
+
+-- the greatest number of a client, where it came: the table has those of the first clients, the map the others'
+abbrev pub greatest_of : Greatest → ℕ → Option ℕ
+greatest_of g client = slice_index_or g.first.items client (get nat_eq g.others client)
 
 -- a client's greatest number is there, and this one isn't above it
 abbrev pub HasReached : Option ℕ → ℕ → Type 0

@@ -1,20 +1,19 @@
 //! Customers and requests, in the order in which they came.
 
-ghost use Rattle.std.specs.Prelude.{◌≡◌, ◌++◌, ◌∷◌, [], List, Contains, IfOk, IfErr, IsTrue, map, nat_eq};
-ghost use Rattle.indexmap.specs.IndexMap.{get};
+ghost use Rattle.std.specs.Prelude.{◌≡◌, ◌++◌, ◌∷◌, [], List, Contains, IfOk, IfErr, IsTrue, map};
 ghost use Rattle.eve_views.specs.Form.{IfFound, IsLeast, HasNone};
 ghost use Rattle.eve_views.specs.declared.fault.Fault.{Fault};
 ghost use Rattle.eve_views.specs.declared.fault.CheckFault.TheVariants.{Found, Memory};
 ghost use Rattle.eve_history.specs.SectionHistory.{names_of};
 ghost use Rattle.eve_history.specs.Faults.{IsOrderFault, RequestId, request_id};
-ghost use Rattle.eve_history.specs.Rising.{AreReached, HaveRisen};
+ghost use Rattle.eve_history.specs.Rising.{greatest_of, AreReached, HaveRisen};
 ghost use Rattle.eve_history.specs.Notes.{requests_said, HasDistinctNames, HasDistinctRequests};
 
+use crate::greatest::Greatest;
 use crate::repeats::first_repeat;
-use eve_accounts::{KeyedHash, NameFault, Names};
+use eve_accounts::{NameFault, Names};
 use eve_frames::BatchView;
 use eve_views::{CheckFault, Code, Fault, Trace};
-use indexmap::IndexMap;
 use std::alloc::Global;
 use std::hash::RandomState;
 
@@ -57,21 +56,14 @@ fn names_in_order<'a>(
     Ok(names)
 }
 
-/// How many clients at most have their greatest numbers kept.
-const MOST_CLIENTS: usize = 4096;
-
 /// Notes a request's number as the greatest of its client: whether it is above all numbers that the client had.
-fn is_above(
-    greatest: &mut IndexMap<u32, u64, KeyedHash>,
-    client: u32,
-    number: u64,
-) -> Result<bool, CheckFault>
+fn is_above(greatest: &mut Greatest, client: u32, number: u64) -> Result<bool, CheckFault>
     ensures above { IfOk result (λ above. IsTrue above → (noted : List RequestId)
-        → AreReached (get nat_eq greatest.old) noted
-        → (¬ Contains noted (client, number)) × AreReached (get nat_eq greatest.new) (noted ++ (client, number) ∷ [])) }
+        → AreReached (greatest_of greatest.old) noted
+        → (¬ Contains noted (client, number)) × AreReached (greatest_of greatest.new) (noted ++ (client, number) ∷ [])) }
     ensures memory { IfErr result (λ e. e ≡ Memory) }
 {
-    match greatest.insert(client, number) {
+    match greatest.keep(client, number) {
         Ok(Some(before)) => Ok(before < number),
         Ok(None) => Ok(true),
         Err(_) => Err(CheckFault::Memory),
@@ -79,13 +71,10 @@ fn is_above(
 }
 
 /// Notes the numbers of a batch's requests: whether each is above all that its client had.
-fn are_above(
-    greatest: &mut IndexMap<u32, u64, KeyedHash>,
-    batch: &BatchView<'_>,
-) -> Result<bool, CheckFault>
+fn are_above(greatest: &mut Greatest, batch: &BatchView<'_>) -> Result<bool, CheckFault>
     ensures above { IfOk result (λ above. IsTrue above → (noted : List RequestId)
-        → AreReached (get nat_eq greatest.old) noted
-        → HaveRisen noted (map request_id (requests_said batch.now.bytes.now)) (get nat_eq greatest.new)) }
+        → AreReached (greatest_of greatest.old) noted
+        → HaveRisen noted (map request_id (requests_said batch.now.bytes.now)) (greatest_of greatest.new)) }
     ensures memory { IfErr result (λ e. e ≡ Memory) }
 {
     for asked in batch.requests() {
@@ -96,17 +85,18 @@ fn are_above(
     Ok(true)
 }
 
-/// Whether the numbers of each client rise from request to request, of few clients: then no request occurs twice.
+/// Whether the numbers of each client rise from request to request, and few clients have large numbers: then no request
+/// occurs twice.
 ///
 /// Where it says no, nothing is known. It keeps one number a client.
 fn numbers_rise(alloc: Global, trace: &Trace<'_>, random: RandomState) -> Result<bool, CheckFault>
     ensures apart { IfOk result (λ rise. IsTrue rise → HasDistinctRequests trace.now) }
     ensures memory { IfErr result (λ e. e ≡ Memory) }
 {
-    let mut greatest = IndexMap::with_hasher(alloc, KeyedHash::new(&random));
+    let mut greatest = Greatest::new(alloc, random)?;
     for n in 0..trace.head().batches {
         let batch = trace.batch(n + 1);
-        if !are_above(&mut greatest, &batch)? || greatest.len() > MOST_CLIENTS {
+        if !are_above(&mut greatest, &batch)? || greatest.are_many() {
             return Ok(false);
         }
     }
@@ -131,8 +121,9 @@ fn requests_apart(alloc: Global, trace: &Trace<'_>, random: RandomState) -> Resu
 /// The customers' names, in order, where no two customers share a name and no two requests share client and
 /// number; else the first fault of orders.
 ///
-/// docs/MODEL.md, "Faults". One look-up for each customer and each request. Where some client's numbers don't rise, or
-/// there are more than 4,096 clients, the requests are sorted, in 16 bytes each. Refused memory decides nothing.
+/// docs/MODEL.md, "Faults". One look-up for each customer and each request, of a client below 4,096 in a table. Where
+/// some client's numbers don't rise, or more than 4,096 other clients come, the requests are sorted, in 16 bytes each.
+/// Refused memory decides nothing.
 pub fn orders<'a>(
     alloc: Global,
     trace: &Trace<'a>,

@@ -7,6 +7,7 @@ mod certificate;
 mod committed;
 mod fate;
 mod frame;
+mod greatest;
 mod history;
 pub mod laws;
 mod marks;
