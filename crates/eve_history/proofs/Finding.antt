@@ -1,7 +1,7 @@
 -- Public: other crates cite these lemmas. Batches and access records, where they are looked up.
 use Rattle.std.proofs.Common.{◌≡◌, ℕ, zero, suc, ◌+◌, ◌-◌, ◌<◌, ◌≤◌, ◌==◌, Bool, true, false, ◌&&◌, List, [], ◌∷◌, map}
 use Rattle.std.proofs.Common.{length, get_or, take, drop, slice_get, Some, None, refl, sym, ap, subst, ◌∙◌, inl, inr}
-use Rattle.std.proofs.Common.{arith}
+use Rattle.std.proofs.Common.{IsTrue, arith}
 use Rattle.std.specs.Prelude.{slice_index_or}
 use Rattle.std.specs.List.{AllByRecursion, list_any, enumerate_from}
 use Rattle.std.proofs.lemmas.Bool.{cases_Bool, or_cases, eqb-true, eq-eqb, ne_eqb, cond-true, cond-false}
@@ -114,19 +114,17 @@ commit_is s k f c stands at =
 
 -- ---- an access record by its index
 
-pub found_number : (xs : List (ℕ × Access)) (m : Marks) (i : ℕ) → AreMarked (accesses_of xs) m
-    → list_any (λ y. y.index == i) (accesses_of xs) ≡ true
-    → (k : ℕ) × (get_or m.numbers i 0 ≡ k) × (slice_get xs k ≡ Some (access_with xs i)) × (k < length xs)
-found_number xs m i marked some =
+pub found_offset : (xs : List (ℕ × Access)) (m : Marks) (i : ℕ) → AreMarked xs m
+    → list_any (λ y. y.index == i) (accesses_of xs) ≡ true → get_or m.offsets i 0 ≡ (access_with xs i).0
+found_offset xs m i marked some =
     let found = first xs some in
-    let own = marked.numbers found.0 found.1.1 (get_mapped (λ (x : ℕ × Access). x.1) xs found.0 found.1 found.2) in (
-      found.0,
-      ap (λ (j : ℕ). get_or m.numbers j 0) (sym found.3) ∙ own.1,
-      found.2
-          ∙ ap Some found.4,
-      within xs found.0 found.1 found.2,
-    )
+    by found.1 found.3 (marked.offsets found.0 found.1 found.2).1 found.4
   where
+    by : (x : ℕ × Access) → x.1.index ≡ i → get_or m.offsets x.1.index 0 ≡ x.0 → x ≡ access_with xs i
+        → get_or m.offsets i 0 ≡ (access_with xs i).0
+    by x same kept is =
+        ap {B = ℕ} (λ (j : ℕ). get_or m.offsets j 0) (sym same) ∙ kept ∙ ap {B = ℕ} (λ (y : ℕ × Access). y.0) is
+
     first : (ys : List (ℕ × Access)) → list_any (λ y. y.index == i) (accesses_of ys) ≡ true
         → (k : ℕ) × (x : ℕ × Access) × (slice_get ys k ≡ Some x) × (x.1.index ≡ i) × (x ≡ access_with ys i)
     first [] h = absurd (false≢true h)
@@ -144,10 +142,19 @@ found_number xs m i marked some =
           )
     ]
 
-    within : (ys : List (ℕ × Access)) (k : ℕ) (x : ℕ × Access) → slice_get ys k ≡ Some x → k < length ys
-    within [] k x e = absurd (cc)
-    within (y ∷ ys) zero x e = omega arith
-    within (y ∷ ys) (suc k) x e = omega (arith, within ys k x e)
+-- those of an order
+pub found_offsets : (xs : List (ℕ × Access)) (m : Marks) (order : List ℕ) → AreMarked xs m
+    → AllByRecursion (λ i. (i < 256) × IsTrue (list_any (λ y. y.index == i) (accesses_of xs))) order
+    → map (λ i. get_or m.offsets i 0) order ≡ map (λ i. (access_with xs i).0) order
+found_offsets xs m [] marked there = refl
+found_offsets xs m (i ∷ order) marked there =
+    λ j. found_offset xs m i marked there.0.1 j ∷ found_offsets xs m order marked there.1 j
+
+pub listed_small : (xs : List (ℕ × Access)) (order : List ℕ)
+    → AllByRecursion (λ i. (i < 256) × IsTrue (list_any (λ y. y.index == i) (accesses_of xs))) order
+    → AllByRecursion (λ i. i < 256) order
+listed_small xs [] there = tt
+listed_small xs (i ∷ order) there = (there.0.0, listed_small xs order there.1)
 
 pub each_at : {A : Type 0} (P : A → Type 0) (xs : List A) (i : ℕ) (d : A) → AllByRecursion P xs → i < length xs
     → P (get_or xs i d)

@@ -10,24 +10,25 @@ use Rattle.eve_history.specs.declared.marks.Marks.{Marks}
 use Rattle.eve_history.specs.Faults.{accesses_of}
 use Rattle.eve_history.specs.FirstWrong.{wrong_access, wrong_accesses}
 
--- the indexes and the workers of the records are marked, and each record's number under its index
-pub record AreMarked (before : List Access) (m : Marks) : Type 0 where
+-- the indexes and the workers of the records are marked, and each record's offset under its index
+pub record AreMarked (before : List (ℕ × Access)) (m : Marks) : Type 0 where
   pub indexes : length m.seen ≡ MOST_REQUESTS
-  pub slots : length m.numbers ≡ MOST_REQUESTS
+  pub slots : length m.offsets ≡ MOST_REQUESTS
   pub workers : length m.places ≡ 8
-  pub seen : (i : ℕ) → i < MOST_REQUESTS → slice_index_or m.seen i false ≡ list_any (λ y. y.index == i) before
-  pub places : (w : ℕ) → w < 8 → slice_index m.places w ≡ count_by (λ y. y.worker == w) before
-  pub numbers : (k : ℕ) (y : Access) → slice_get before k ≡ Some y → (y.index < MOST_REQUESTS)
-      × (slice_index m.numbers y.index ≡ k)
+  pub seen : (i : ℕ) → i < MOST_REQUESTS → slice_index_or m.seen i false
+      ≡ list_any (λ y. y.index == i) (accesses_of before)
+  pub places : (w : ℕ) → w < 8 → slice_index m.places w ≡ count_by (λ y. y.worker == w) (accesses_of before)
+  pub offsets : (k : ℕ) (y : ℕ × Access) → slice_get before k ≡ Some y → (y.1.index < MOST_REQUESTS)
+      × (slice_index m.offsets y.1.index ≡ y.0)
 
 -- the next record is judged, and marked where it is right
-pub record IsMarkedIfRight (workers count : ℕ) (before : List Access) (x : Access) (result : Option Code)
+pub record IsMarkedIfRight (workers count : ℕ) (before : List (ℕ × Access)) (x : ℕ × Access) (result : Option Code)
     (m : Marks) : Type 0 where
-  pub answer : result ≡ wrong_access workers count before x
+  pub answer : result ≡ wrong_access workers count (accesses_of before) x.1
   pub marked : IfNone result (AreMarked (before ++ x ∷ []) m)
 
 -- the records of an attempt are judged, and marked where all are right
 pub record AreMarkedIfRight (workers count : ℕ) (xs : List (ℕ × Access)) (result : Option Wrong)
     (m : Marks) : Type 0 where
   pub answer : result ≡ wrong_accesses workers count [] xs
-  pub marked : IfNone result (AreMarked (accesses_of xs) m)
+  pub marked : IfNone result (AreMarked xs m)

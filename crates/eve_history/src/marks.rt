@@ -1,6 +1,7 @@
 //! Which access records of an attempt have come.
 
-ghost use Rattle.std.specs.Prelude.{◌≡◌, ◌≤◌, ◌<◌, [], List, length, slice_index};
+ghost use Rattle.std.specs.Prelude.{◌≡◌, ◌≤◌, ◌<◌, ◌^◌, [], ℕ, List, length, slice_index};
+ghost use Rattle.std.specs.List.{AllByRecursion};
 ghost use Rattle.eve_grammar.specs.Trace.{Access};
 ghost use Rattle.eve_frames.specs.Said.{access_said};
 ghost use Rattle.eve_history.specs.Marking.{AreMarked, IsMarkedIfRight, AreMarkedIfRight};
@@ -15,8 +16,8 @@ use eve_views::{Accesses, Code};
 pub struct Marks {
     /// Whether the record of an index has come.
     seen: [bool; MOST_REQUESTS],
-    /// Its number in frame order, from 0.
-    numbers: [u8; MOST_REQUESTS],
+    /// The byte at which its frame begins.
+    offsets: [u32; MOST_REQUESTS],
     /// How many records of a worker have come.
     places: [u16; MOST_WORKERS as usize],
 }
@@ -28,34 +29,29 @@ impl Marks {
     {
         Marks {
             seen: [false; MOST_REQUESTS],
-            numbers: [0; MOST_REQUESTS],
+            offsets: [0; MOST_REQUESTS],
             places: [0; MOST_WORKERS as usize],
         }
     }
 
-    /// The number of the record of an index, in frame order.
-    pub fn number(&self, index: u16) -> u8
+    /// The byte at which the frame of the record of an index begins.
+    pub fn offset(&self, index: u16) -> u32
         requires { index < MOST_REQUESTS }
-        ensures { result ≡ slice_index self.now.numbers index }
+        ensures { result ≡ slice_index self.now.offsets index }
     {
-        self.numbers[index as usize]
+        self.offsets[index as usize]
     }
 
-    /// Marks the next record, which has this number, or says what is wrong with it.
+    /// Marks the next record, or says what is wrong with it.
     ///
     /// docs/MODEL.md, "Section state, fate". There are so many workers, and so many indexes.
-    fn mark(
-        &mut self,
-        workers: u8,
-        count: usize,
-        number: u8,
-        access: &AccessView<'_>,
-    ) -> Option<Code>
+    fn mark(&mut self, workers: u8, count: usize, access: &AccessView<'_>) -> Option<Code>
         requires workers { workers ≤ MOST_WORKERS }
         requires count { count ≤ MOST_REQUESTS }
-        requires marked { (before : List Access) × AreMarked before self.old × (number ≡ length before) }
-        ensures { (before : List Access) → AreMarked before self.old → number ≡ length before
-            → IsMarkedIfRight workers count before (access_said access.now) result self.new }
+        requires small { access.now.offset < 2 ^ 32 }
+        requires marked { (before : List (ℕ × Access)) × AreMarked before self.old × (length before < MOST_REQUESTS) }
+        ensures { (before : List (ℕ × Access)) → AreMarked before self.old
+            → IsMarkedIfRight workers count before (access.now.offset, access_said access.now) result self.new }
     {
         let worker = access.worker();
         let index = access.index() as usize;
@@ -66,7 +62,7 @@ impl Marks {
             return Some(Code::WorkerOrder);
         }
         self.seen[index] = true;
-        self.numbers[index] = number;
+        self.offsets[index] = access.offset() as u32;
         self.places[worker as usize] += 1;
         None
     }
@@ -81,12 +77,13 @@ impl Marks {
         requires workers { workers ≤ MOST_WORKERS }
         requires count { count ≤ MOST_REQUESTS }
         requires few { length accesses.now ≤ MOST_REQUESTS }
+        requires small { AllByRecursion (λ x. x.0 < 2 ^ 32) accesses.now }
         requires none { AreMarked [] self.old }
         ensures { AreMarkedIfRight workers count accesses.now result self.new }
     {
         for i in 0..accesses.len() {
             let access = accesses.get(i);
-            if let Some(code) = self.mark(workers, count, i as u8, &access) {
+            if let Some(code) = self.mark(workers, count, &access) {
                 return Some(Wrong {
                     code,
                     offset: access.offset(),

@@ -1,8 +1,9 @@
 //! What a replica's section tells, step by step.
 
 ghost use Rattle.std.specs.Prelude.{◌≡◌, ◌≤◌, ◌<◌, ◌++◌, ◌∷◌, ◌^◌, [], ℕ, List, IsTrue, IfErr, OnOk, IfNone};
-ghost use Rattle.std.specs.Prelude.{◌==◌, ◌&&◌, ◌+◌, false, map, length, take, drop, slice_get, Some};
-ghost use Rattle.std.specs.List.{AllByRecursion, list_any};
+ghost use Rattle.std.specs.Prelude.{◌==◌, ◌&&◌, ◌+◌, false, map, length, take, drop, slice_get, slice_index};
+ghost use Rattle.std.specs.Prelude.{Some};
+ghost use Rattle.std.specs.List.{AllByRecursion};
 ghost use Rattle.eve_grammar.specs.Trace.{Trace as TraceValue, Attempt, Step as StepValue, Attempts, Commits};
 ghost use Rattle.eve_grammar.specs.Trace.{RollsBack, head_of};
 ghost use Rattle.eve_grammar.specs.Frames.{without_accesses};
@@ -12,8 +13,8 @@ ghost use Rattle.eve_frames.specs.Said.{attempt_said, commit_said, rollback_said
 ghost use Rattle.eve_views.specs.Form.{IfFound, IsLeast};
 ghost use Rattle.eve_views.specs.declared.fault.CheckFault.TheVariants.{Found, Memory};
 ghost use Rattle.eve_history.specs.Section.{SectionState, is_due, is_right_commit, is_right_rollback, same_bytes};
-ghost use Rattle.eve_history.specs.SectionHistory.{access_with, ExecutedAttempt};
-ghost use Rattle.eve_history.specs.Faults.{accesses_of, IsStructureFault};
+ghost use Rattle.eve_history.specs.SectionHistory.{ExecutedAttempt};
+ghost use Rattle.eve_history.specs.Faults.{IsStructureFault};
 ghost use Rattle.eve_history.specs.FirstWrong.{wrong_attempt, wrong_step, fault_of};
 ghost use Rattle.eve_history.specs.Marking.{AreMarked};
 ghost use Rattle.eve_history.specs.Coming.{kept_section, StandsAt, HasCome, ComesNext, AreFramed, AreNotesOf};
@@ -81,25 +82,15 @@ fn is_of(commit: &CommitView<'_>, attempt: &AttemptView<'_>) -> bool
     attempt.view() == commit.view() && attempt.token() == commit.token()
 }
 
-/// Keeps the access records of an attempt in its certificate's order.
-fn keep_records(
-    records: &mut Vec<u32>,
-    accesses: &Accesses<'_, '_>,
-    order: &[u16],
-    marks: &Marks,
-) -> Result<(), CheckFault>
-    requires marked { AreMarked (accesses_of accesses.now) marks.now }
-    requires there { AllByRecursion
-        (λ i. (i < MOST_REQUESTS) × IsTrue (list_any (λ y. y.index == i) (accesses_of accesses.now))) order.now }
-    requires small { AllByRecursion (λ x. x.0 < 2 ^ 32) accesses.now }
+/// Keeps the access records of an attempt, which are marked, in its certificate's order.
+fn keep_records(records: &mut Vec<u32>, order: &[u16], marks: &Marks) -> Result<(), CheckFault>
+    requires { AllByRecursion (λ i. i < MOST_REQUESTS) order.now }
     ensures kept { OnOk result
-        (records.new.items ≡ records.old.items ++ map (λ i. (access_with accesses.now i).0) order.now) }
+        (records.new.items ≡ records.old.items ++ map (λ i. slice_index marks.now.offsets i) order.now) }
     ensures memory { IfErr result (λ e. e ≡ Memory) }
 {
     for index in order {
-        let number = marks.number(*index);
-        let access = accesses.get(number as usize);
-        records.push(access.offset() as u32)?;
+        records.push(marks.offset(*index))?;
     }
     Ok(())
 }
@@ -242,11 +233,12 @@ impl<'a> Notes<'a> {
         requires order { order.now ≡ (attempt_said attempt.now).certificate }
         requires few { length order.now ≤ MOST_REQUESTS }
         requires many { length accesses.now ≡ length order.now }
+        requires small { AllByRecursion (λ x. x.0 < 2 ^ 32) accesses.now }
         requires none { AreMarked [] marks.old }
         ensures wrong { (s : SectionState) (b : Attempt) → StandsAt s (kept_section self.now) → attempt_said attempt.now
             ≡ without_accesses b → accesses.now ≡ accesses_at attempt.now.offset b
             → result ≡ wrong_step trace.now s (attempt.now.offset, Attempts b) }
-        ensures marked { IfNone result (AreMarked (accesses_of accesses.now) marks.new) }
+        ensures marked { IfNone result (AreMarked accesses.now marks.new) }
     {
         trace.is_whole();
         if let Some(code) = self.wrong_attempt(trace, attempt, order) {
@@ -294,7 +286,7 @@ impl<'a> Notes<'a> {
             return Err(fault_in(e, wrong));
         }
         let from = self.records.len();
-        keep_records(&mut self.records, accesses, order, &marks)?;
+        keep_records(&mut self.records, order, &marks)?;
         self.attempts.push(Attempted {
             at: attempt.offset() as u32,
             from,

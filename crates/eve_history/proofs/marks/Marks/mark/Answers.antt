@@ -1,11 +1,17 @@
-use Rattle.std.proofs.Common.{◌<◌, ◌≤◌, arith, rules}
+use Rattle.std.proofs.Common.{ℕ, ◌<◌, ◌≤◌, ◌==◌, List, length, get_or, arith, rules}
+use Rattle.std.proofs.lemmas.List.{length-map}
+use Rattle.std.proofs.lemmas.List.Sums.{count_by-le-length}
+use Rattle.eve_grammar.specs.Trace.{Access}
 use Rattle.eve_frames.specs.Views.{access_in}
+use Rattle.eve_history.specs.declared.marks.Marks.{Marks}
+use Rattle.eve_history.specs.Faults.{accesses_of}
+use Rattle.eve_history.specs.Marking.{AreMarked}
 use Rattle.eve_history.proofs.Marking.{refused_worker, refused_index, refused_again, refused_place, taken_right}
 use Rattle.eve_history.proofs.marks.Marks.mark.Goals as goal
 
 pub returns-then-worker-workers : goal.returns-then-worker-workers
-returns-then-worker-workers c = λ before marked number.
-    let x = access_in c.args.access.now.bytes.now in
+returns-then-worker-workers c = λ before marked.
+    let x : ℕ × Access = (c.args.access.now.offset, access_in c.args.access.now.bytes.now) in
     let m = c.args.self.now in
     let few : c.args.count ≤ 256 = c.requires.count in
     elim c.then-worker-workers.branch [
@@ -22,13 +28,35 @@ returns-then-worker-workers c = λ before marked number.
     ]
 
 pub returns-then-place-self : goal.returns-then-place-self
-returns-then-place-self c = λ before marked number.
-    refused_place c.args.workers c.args.count before (access_in c.args.access.now.bytes.now) c.args.self.now
+returns-then-place-self c = λ before marked.
+    refused_place c.args.workers c.args.count before
+    (c.args.access.now.offset, access_in c.args.access.now.bytes.now) c.args.self.now
     c.worker-worker.result c.index-index.result c.worker-worker.ensures c.index-index.ensures marked
     c.requires.workers c.requires.count (search rules) (search rules) (search rules) (search rules)
 
 pub returns : goal.returns
-returns c = λ before marked number.
-    taken_right c.args.workers c.args.count before (access_in c.args.access.now.bytes.now) c.args.self.now
+returns c = λ before marked.
+    taken_right c.args.workers c.args.count before
+    (c.args.access.now.offset, access_in c.args.access.now.bytes.now) c.args.self.now
     c.worker-worker.result c.index-index.result c.worker-worker.ensures c.index-index.ensures marked
-    c.args.number number c.requires.workers c.requires.count (search rules) (search rules) (search rules) (search rules)
+    c.offset.result c.offset.ensures c.requires.workers c.requires.count (search rules) (search rules) (search rules) (search rules)
+
+-- as many have come of a worker as there are at most
+few_places : (m : Marks) (before : List (ℕ × Access)) (worker : ℕ) → AreMarked before m → worker < 8
+    → length before < 256 → get_or m.places worker 0 < 256
+few_places m before worker marked lt few =
+    let xs = accesses_of before in
+    omega (
+      arith,
+      marked.places worker lt,
+      count_by-le-length (λ (y : Access). y.worker == worker) xs,
+      length-map before (λ (x : ℕ × Access). x.1),
+    )
+
+pub overflow_add-self : goal.overflow_add-self
+overflow_add-self c =
+    let few : c.args.workers ≤ 8 = c.requires.workers in
+    let lt : c.worker-worker.result < c.args.workers = search rules in
+    let small = few_places c.args.self.now c.requires.marked.0 c.worker-worker.result c.requires.marked.1 (omega arith)
+    c.requires.marked.2 in
+    record { fits = omega (arith, small) }

@@ -1,32 +1,34 @@
-use Rattle.std.proofs.Common.{◌≡◌, ℕ, ◌≤◌, Some, List, length, take, sym, subst, ◌∙◌, arith}
-use Rattle.std.proofs.lemmas.List.{length-take-le, length-map}
+use Rattle.std.proofs.Common.{ℕ, ◌<◌, ◌≤◌, Some, length, take, sym, subst, arith}
+use Rattle.std.proofs.lemmas.List.{length-take-le}
 use Rattle.eve_grammar.specs.Trace.{Access}
 use Rattle.eve_frames.specs.Views.{access_in}
-use Rattle.eve_history.specs.Faults.{accesses_of}
 use Rattle.eve_history.specs.Marking.{AreMarkedIfRight}
+use Rattle.eve_history.proofs.Finding.{rec_at}
 use Rattle.eve_history.proofs.Marking.{marking_start, marking_more, marking_wrong, marking_end}
 use Rattle.eve_history.proofs.marks.Marks.mark_all.Goals as goal
-
--- the next record's number is how many have come
-number_is : (xs : List (ℕ × Access)) (i : ℕ) → i ≤ length xs → i ≡ length (accesses_of (take i xs))
-number_is xs i le = sym (length-map (take i xs) (λ (x : ℕ × Access). x.1) ∙ length-take-le i xs le)
 
 pub loop-i-init : goal.loop-i-init
 loop-i-init c = marking_start c.args.workers c.args.count c.args.accesses.now c.args.self.now c.requires.none
 
 pub mark-requires-clause-marked : goal.mark-requires-clause-marked
 mark-requires-clause-marked c = (
-  accesses_of (take c.loop-i.i c.args.accesses.now),
+  take c.loop-i.i c.args.accesses.now,
   c.loop-i.invariant.marked,
-  number_is c.args.accesses.now c.loop-i.i (omega arith),
+  (let lt : c.loop-i.i < length c.args.accesses.now = omega arith in
+      let few : length c.args.accesses.now ≤ 256 = c.requires.few in
+      omega (arith, length-take-le c.loop-i.i c.args.accesses.now (omega arith))),
 )
+
+pub mark-requires-clause-small : goal.mark-requires-clause-small
+mark-requires-clause-small c =
+    rec_at _ c.args.accesses.now c.loop-i.i
+    (c.get-access.result.offset, access_in c.get-access.result.bytes.now) c.requires.small c.get-access.ensures.says
 
 pub returns-in-Some : goal.returns-in-Some
 returns-in-Some c =
     let xs = c.args.accesses.now in
     let x : ℕ × Access = (c.get-access.result.offset, access_in c.get-access.result.bytes.now) in
-    let judged = c.in-Some.ensures (accesses_of (take c.loop-i.i xs)) c.loop-i.invariant.marked
-    (number_is xs c.loop-i.i (omega arith)) in
+    let judged = c.in-Some.ensures (take c.loop-i.i xs) c.loop-i.invariant.marked in
     subst (λ (o : ℕ). AreMarkedIfRight c.args.workers c.args.count xs
     (Some (record { code = c.in-Some.code; offset = o }))
     c.mark.new.self) (sym c.offset.ensures)
@@ -37,8 +39,7 @@ pub loop-i-preserved : goal.loop-i-preserved
 loop-i-preserved c =
     let xs = c.args.accesses.now in
     let x : ℕ × Access = (c.get-access.result.offset, access_in c.get-access.result.bytes.now) in
-    let judged = c.in_default.ensures (accesses_of (take c.loop-i.i xs)) c.loop-i.invariant.marked
-    (number_is xs c.loop-i.i (omega arith)) in
+    let judged = c.in_default.ensures (take c.loop-i.i xs) c.loop-i.invariant.marked in
     marking_more c.args.workers c.args.count xs c.loop-i.i c.loop-i.self c.mark.new.self x c.loop-i.invariant
     c.get-access.ensures.says judged
 

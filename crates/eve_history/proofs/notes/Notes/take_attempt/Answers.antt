@@ -14,6 +14,7 @@ use Rattle.eve_history.specs.SectionHistory.{ordered, access_with}
 use Rattle.eve_history.specs.Faults.{accesses_of, IsStructureFault}
 use Rattle.eve_history.specs.Coming.{KeptAttempt, kept_section, kept_attempt, seen, HasCome, ComesNext}
 use Rattle.eve_history.proofs.Coming.{come_wrong, come_attempt, with_attempt}
+use Rattle.eve_history.proofs.Finding.{found_offsets, listed_small}
 use Rattle.eve_history.specs.Standing.{frame_in, IsAttemptAt, IsAccessAt}
 use Rattle.eve_history.proofs.Standing.{attempt_there, all_seen, all_small, seen_in_order, access_frames}
 use Rattle.eve_history.proofs.Standing.{one_more_framed}
@@ -45,8 +46,8 @@ returns-in-Some-clause-wrong c =
     (sym (c.in-Some.ensures.wrong (state_after start comes.come.front) b comes.come.stands comes.attempt
     comes.accesses)))
 
-pub keep_records-requires-clause-there : goal.keep_records-requires-clause-there
-keep_records-requires-clause-there c =
+pub keep_records-requires : goal.keep_records-requires
+keep_records-requires c =
     let t = c.args.trace.now in
     let at = c.args.attempt.now.offset in
     let said = attempt_in c.args.attempt.now.bytes.now in
@@ -55,10 +56,11 @@ keep_records-requires-clause-there c =
     let comes = c.requires.comes.2 in
     let order : take c.len.result c.read_order.new.order ≡ said.certificate =
     ap (λ (n : ℕ). take n c.read_order.new.order) c.len.ensures.certificate ∙ c.read_order.ensures in
-    subst (AllByRecursion (λ i. (i < 256) × IsTrue (list_any (λ y. y.index == i) (accesses_of xs)))) (sym order)
+    listed_small xs (take c.len.result c.read_order.new.order)
+    (subst (AllByRecursion (λ i. (i < 256) × IsTrue (list_any (λ y. y.index == i) (accesses_of xs)))) (sym order)
     (its_indexes t c.args.e c.requires.comes.0 b (kept_section c.args.self.now) at said xs comes
     (sym (c.in_default.ensures.wrong (state_after start comes.come.front) b comes.come.stands comes.attempt
-    comes.accesses)))
+    comes.accesses))))
 
 pub overflow_cast-offset : goal.overflow_cast-offset
 overflow_cast-offset c =
@@ -102,10 +104,14 @@ returns-clause-taken c = λ rest b comes.
     comes.accesses))) in
     let again = seen_in_order n.bytes.now xs own
     (all_seen n.bytes.now t c.args.e rest b k at said xs c.requires.noted.spelled comes) listed in
+    let kept : c.keep_records.new.records.items ≡ n.records.items ++ map (λ i. (access_with xs i).0) own =
+    c.in_ok-keep_records.ensures.kept
+    ∙ ap (λ (ys : List ℕ). n.records.items ++ ys) (found_offsets xs c.judge.new.marks own c.in_default.ensures.marked
+    listed) in
     let records : k.records ++ ordered at b ≡ map (seen n.bytes.now) c.keep_records.new.records.items =
     ap (λ (ys : List (ℕ × Access)). k.records ++ ys)
     (sym (again ∙ its_order t c.args.e rest b k at said xs comes own order))
-    ∙ sym (ap (map (seen n.bytes.now)) c.in_ok-keep_records.ensures.kept ∙ map-append (seen n.bytes.now) n.records.items
+    ∙ sym (ap (map (seen n.bytes.now)) kept ∙ map-append (seen n.bytes.now) n.records.items
     (map (λ i. (access_with xs i).0) own)) in
     let is : with_attempt k at (without_accesses b) (ordered at b)
     ≡ kept_section (record n { rolled_back = false; attempts = c.push.new.self; records = c.keep_records.new.records })
@@ -116,8 +122,8 @@ returns-clause-taken c = λ rest b comes.
     (sym (c.in_default.ensures.wrong (state_after start comes.come.front) b comes.come.stands comes.attempt
     comes.accesses)))
 
-pub keep_records-requires-clause-small : goal.keep_records-requires-clause-small
-keep_records-requires-clause-small c =
+pub judge-requires-clause-small : goal.judge-requires-clause-small
+judge-requires-clause-small c =
     let n = c.args.self.now in
     let said = attempt_in c.args.attempt.now.bytes.now in
     let xs = c.args.accesses.now in
@@ -145,13 +151,17 @@ returns-clause-noted c =
     (its_indexes t c.args.e c.requires.comes.0 b (kept_section n) at said xs comes
     (sym (c.in_default.ensures.wrong (state_after start comes.come.front) b comes.come.stands comes.attempt
     comes.accesses))) in
+    let kept : c.keep_records.new.records.items ≡ n.records.items ++ map (λ i. (access_with xs i).0) own =
+    c.in_ok-keep_records.ensures.kept
+    ∙ ap (λ (ys : List ℕ). n.records.items ++ ys) (found_offsets xs c.judge.new.marks own c.in_default.ensures.marked
+    listed) in
     record {
       spelled = c.requires.noted.spelled;
       framed = record {
         attempts = subst (AllByRecursion is_there) (sym c.in_ok-push.ensures.items)
             (one_more_framed is_there n.attempts.items (record { at = c.offset.result; from = c.len-from.result })
             (subst (IsAttemptAt n.bytes.now) (sym c.offset.ensures) there.1) c.requires.noted.framed.attempts);
-        records = subst (AllByRecursion (IsAccessAt n.bytes.now)) (sym c.in_ok-keep_records.ensures.kept)
+        records = subst (AllByRecursion (IsAccessAt n.bytes.now)) (sym kept)
             (access_frames n.bytes.now xs n.records.items own
             (all_seen n.bytes.now t c.args.e c.requires.comes.0 b (kept_section n) at said xs c.requires.noted.spelled
             comes) listed c.requires.noted.framed.records);
