@@ -7,3 +7,6 @@ pub mod Keeping
 pub mod Refusing
 pub mod Outcomes
 pub mod OpeningLaws
+mod Listed
+mod Entries
+mod Seeing

@@ -19,7 +19,7 @@ pub record IsSeen (is_there : ℕ → Bool) (now : Table) (rows : RowKinds) (see
   pub there : list_all (λ r. is_there r.0) rows ≡ true
   pub as_now : seen ≡ map (λ r. row_in now r.0) rows
 
-told_some : {A : Type 0} (b : Bool) (x y : A) → Some x ≡ cond b (Some y) None → (b ≡ true) × (x ≡ y)
+pub told_some : {A : Type 0} (b : Bool) (x y : A) → Some x ≡ cond b (Some y) None → (b ≡ true) × (x ≡ y)
 told_some true x y e = (refl, some_is x y e)
 told_some false x y e = absurd (none≢some x (sym e))
 

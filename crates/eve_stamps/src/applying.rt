@@ -189,14 +189,26 @@ fn note(
 fn seen_in(stripe: &Stripe, rows: &UpToThree<(Row, Kind)>) -> Option<UpToThree<HeldRow>>
     ensures { result ≡ seen_of (has_row stripe.now) (rows_now stripe.now) rows.now }
 {
-    let mut seen = UpToThree::new();
-    for place in 0..rows.len() {
-        let Some(held) = stripe.see(rows.at(place).0) else {
-            return None;
-        };
-        seen.push(held);
+    let count = rows.len();
+    if count == 0 {
+        return Some(UpToThree::new());
     }
-    Some(seen)
+    let Some(first) = stripe.see(rows.at(0).0) else {
+        return None;
+    };
+    if count == 1 {
+        return Some(UpToThree::one(first));
+    }
+    let Some(second) = stripe.see(rows.at(1).0) else {
+        return None;
+    };
+    if count == 2 {
+        return Some(UpToThree::two(first, second));
+    }
+    let Some(third) = stripe.see(rows.at(2).0) else {
+        return None;
+    };
+    Some(UpToThree::three(first, second, third))
 }
 
 /// The rows as they are now, where each lies in the first stripe or in the second.

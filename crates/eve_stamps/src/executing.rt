@@ -1,6 +1,6 @@
 //! What a request does where it meets rows.
 
-ghost use Rattle.std.specs.Prelude.{◌≡◌, ℕ, Bool, true, false, List, length, map, take};
+ghost use Rattle.std.specs.Prelude.{◌≡◌, ◌<◌, ℕ, Bool, true, false, List, Some, length, map, take, slice_get};
 ghost use Rattle.std.specs.List.{list_all, AllByRecursion};
 ghost use Rattle.eve_smallbank.specs.SmallBank.{plain};
 ghost use Rattle.eve_smallbank.specs.Chain.{Table};
@@ -54,17 +54,31 @@ fn entries_of(seen: &UpToThree<HeldRow>, effects: &UpToThree<Effect>) -> UpToThr
     requires { length effects.now ≡ length seen.now }
     ensures { result ≡ entries_on seen.now effects.now }
 {
-    let mut entries = UpToThree::new();
-    for place in 0..seen.len() {
-        let held = seen.at(place);
-        let effect = effects.at(place);
-        entries.push(Entry {
-            row: held.row,
-            kind: effect.kind,
-            version: held.version,
-            seen: held.value,
-            after: effect.after,
-        });
+    match seen.len() {
+        0 => UpToThree::new(),
+        1 => UpToThree::one(entry_at(seen, effects, 0)),
+        2 => UpToThree::two(entry_at(seen, effects, 0), entry_at(seen, effects, 1)),
+        _ => UpToThree::three(
+            entry_at(seen, effects, 0),
+            entry_at(seen, effects, 1),
+            entry_at(seen, effects, 2),
+        ),
     }
-    entries
+}
+
+/// The entry for the row at that place.
+fn entry_at(seen: &UpToThree<HeldRow>, effects: &UpToThree<Effect>, place: usize) -> Entry
+    requires each { length effects.now ≡ length seen.now }
+    requires there { place < length seen.now }
+    ensures { slice_get (entries_on seen.now effects.now) place ≡ Some result }
+{
+    let held = seen.at(place);
+    let effect = effects.at(place);
+    Entry {
+        row: held.row,
+        kind: effect.kind,
+        version: held.version,
+        seen: held.value,
+        after: effect.after,
+    }
 }

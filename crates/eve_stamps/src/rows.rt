@@ -9,17 +9,28 @@ ghost use Rattle.eve_stamps.specs.Holding.{IsPlaceOf, rows_changed};
 
 use crate::HeldRow;
 use crate::journal::Journaled;
+use crate::limits::STRIPES;
 use eve_accounts::Row;
 use eve_grammar::Restore;
 use eve_smallbank::{Entry, Kind, UpToThree};
 
-/// Where the row stands, if it does.
+/// Where the row stands, if it does. It is looked for first where it stands in a stripe of an opening, and by halving
+/// where it isn't there.
 pub fn place_of(rows: &[HeldRow], row: Row) -> Option<usize>
     requires { RowsRise rows.now }
     ensures { IsPlaceOf rows.now row result }
 {
+    let likely = opening_place(row);
+    if likely < rows.len() && rows[likely].row == row {
+        return Some(likely);
+    }
     rows.binary_search_by_key(&row.number(), |held| held.row.number())
         .ok()
+}
+
+// Where the row stands in a stripe that has both rows of every sixteenth customer.
+fn opening_place(row: Row) -> usize {
+    (row.number() / 2 / STRIPES * 2 + row.number() % 2) as usize
 }
 
 /// Takes the writes among the entries.
