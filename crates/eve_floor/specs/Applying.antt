@@ -13,7 +13,7 @@ use Rattle.eve_floor.specs.Executing.{IsRecordOf, with_drawn, IsSpent}
 
 -- the rows that the task touches were looked up among these names
 abbrev pub IsLookedUp : List (List ℕ) → Task → Type 0
-IsLookedUp names task = task.reached ≡ touched_of names (plain task.request.now)
+IsLookedUp names task = task.reached.now ≡ touched_of names (plain task.request.now)
 
 -- the same fault, of an execution
 abbrev pub told : StampFault → ExecFault

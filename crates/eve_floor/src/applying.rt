@@ -18,7 +18,7 @@ pub struct Task<'t> {
     /// The request.
     pub request: &'t Request<'t>,
     /// The rows that it touches, as they were looked up.
-    pub reached: Touched,
+    pub reached: &'t Touched,
     /// Its index in the batch.
     pub index: u16,
     /// The worker.
@@ -59,7 +59,7 @@ pub fn applied<R: Wait, G: Gate>(
     requires touched { IsLookedUp floor.now task.now }
     ensures { Applies floor.now task.now drawer.old drawer.new result }
 {
-    let Touched::Rows(rows) = &task.reached else {
+    let Touched::Rows(rows) = task.reached else {
         return on_none(rt, tickets, drawer, task, gate);
     };
     let span = span_of(rows);
@@ -80,7 +80,7 @@ fn on_none<R: Wait, G: Gate>(
     gate: &G,
 ) -> Result<AccessRecord, ExecFault>
     requires tickets { drawer.old.tickets ≡ tickets.now }
-    requires refused { (why : Abort) × (task.now.reached ≡ Refused why) }
+    requires refused { (why : Abort) × (task.now.reached.now ≡ Refused why) }
     ensures { (names : List (List ℕ)) → IsLookedUp names task.now
         → Applies names task.now drawer.old drawer.new result }
 {
@@ -89,7 +89,7 @@ fn on_none<R: Wait, G: Gate>(
         unreachable!()
     };
     let tick = ticket(rt, tickets, drawer, task.index, gate)?;
-    Ok(untouched(why, task.stamp(tick)))
+    Ok(untouched(*why, task.stamp(tick)))
 }
 
 // A task whose rows lie in one stripe.
@@ -108,7 +108,7 @@ fn on_one<R: Wait, G: Gate>(
 {
     let mut stripe = lock.lock(rt);
     let tick = ticket(rt, tickets, drawer, task.index, gate)?;
-    Ok(apply(&mut stripe, task.request, &task.reached, task.stamp(tick))?)
+    Ok(apply(&mut stripe, task.request, task.reached, task.stamp(tick))?)
 }
 
 // A task whose rows lie in two stripes, of which the first is locked first.
@@ -133,7 +133,7 @@ fn on_two<R: Wait, G: Gate>(
         &mut first,
         &mut last,
         task.request,
-        &task.reached,
+        task.reached,
         task.stamp(tick),
     )?)
 }

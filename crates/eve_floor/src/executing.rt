@@ -75,14 +75,18 @@ pub fn execute_touched<R: Wait, G: Gate>(
     }
     let task = Task {
         request,
-        reached: *reached,
+        reached,
         index,
         worker: worker.seat.worker(),
         place: worker.seat.place() as u16,
     };
     let made = applied(rt, floor, tickets, &mut worker.tickets, &task, gate)?;
-    worker.waiting = Some(made);
-    flush(rt, recorder, worker)
+    if recorder.note(rt, &mut worker.seat, made).is_ok() {
+        Ok(())
+    } else {
+        worker.waiting = Some(made);
+        Err(ExecFault::Full)
+    }
 }
 
 /// The request with this index in the batch.
