@@ -1,6 +1,6 @@
 //! A batch that is run by a crew.
 
-ghost use Rattle.std.specs.Prelude.{◌≡◌, ◌≤◌, IsTrue, length, vec_len};
+ghost use Rattle.std.specs.Prelude.{◌≡◌, ◌≤◌, ◌+◌, IsTrue, length, vec_len, vec_capacity};
 ghost use Rattle.eve_grammar.specs.Limits.{is_batch};
 ghost use Rattle.eve_write.specs.Data.{batch as plain};
 ghost use Rattle.eve_recorder.specs.Seen.{fresh_places};
@@ -100,7 +100,7 @@ fn run_on<R: Threads + Wait + Sync, G: Gate>(
     let Some(taker) = places.taker() else {
         unreachable!()
     };
-    Ok(take_all(rt, stage.recorder, taker, records, count)?)
+    Ok(take_all(rt, stage.recorder, taker, records, count))
 }
 
 // How many requests the batch has.
@@ -119,14 +119,15 @@ fn take_all<R: Wait>(
     mut taker: TakerSeat,
     mut records: Vec<AccessRecord>,
     count: usize,
-) -> Result<Vec<AccessRecord>, AllocError>
-    requires { taker.recorder ≡ recorder.now.recorder }
+) -> Vec<AccessRecord>
+    requires own { taker.recorder ≡ recorder.now.recorder }
+    requires room { vec_len records + count ≤ vec_capacity records }
 {
     for taken in 0..count {
         let Some(record) = recorder.take(rt, &mut taker) else {
             break;
         };
-        records.push(record)?;
+        records.push_reserved(record);
     }
-    Ok(records)
+    records
 }

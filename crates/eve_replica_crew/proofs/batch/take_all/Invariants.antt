@@ -1,5 +1,6 @@
-use Rattle.std.proofs.Common.{◌≡◌}
+use Rattle.std.proofs.Common.{◌≡◌, ◌+◌, ◌≤◌, vec_len, vec_capacity}
 use Rattle.eve_replica_crew.proofs.batch.take_all.Given as goal
 
 abbrev pub invariant-loop-taken : goal.invariant-loop-taken
-invariant-loop-taken g l = l.taker.recorder ≡ l.recorder.recorder
+invariant-loop-taken g l = (l.taker.recorder ≡ l.recorder.recorder)
+    × (vec_len l.records + l.count ≤ vec_capacity l.records + l.taken)
