@@ -13,6 +13,8 @@ use Rattle.atomic_table.proofs.Lists.{at_set, at_snoc}
 use Rattle.eve_recorder.specs.declared.drawn.Drawn.{Drawn}
 use Rattle.eve_recorder.specs.Dealt.{drawn, all_parts, times, once_below, IsFair, AreBelow, IsDealt, Draws, fewer}
 use Rattle.eve_recorder.specs.Dealt.{one_part, drawn_by_both, spent}
+use Rattle.eve_recorder.specs.Drawing.{Drawer, source}
+use Rattle.atomic_table.specs.Seated.{TableId}
 
 sum_set : (f : Drawn → ℕ) (views : List Drawn) (p : ℕ) (v w : Drawn) → get_elem? views p ≡ some v
     → sum_by f (set views p w) + f v ≡ sum_by f views + f w
@@ -177,3 +179,18 @@ pub closes : {S : Type 0} (s : State S Drawn) (seat n : ℕ) (v : Drawn) → IsD
 closes s seat n v h at all word x =
     let d = h.2 in let is : h.0 ≡ n = some-injective h.0 n (ap (λ l. get_elem? l 0) (sym h.1) ∙ word) in
     sym (sum_one x h.0 s.views seat v d.3 at (d.0 ∙ sym all)) ∙ d.2 x ∙ ap (λ k. once_below x k) is
+
+abbrev pub drawer_of : TableId → ℕ → ℕ → ℕ → List ℕ → Drawer
+drawer_of table number seats limit numbers =
+    record { tickets = source table seats limit; number = number; drawn = numbers }
+
+abbrev pub drawn_more : Drawer → ℕ → Drawer
+drawn_more seat n = record { tickets = seat.tickets; number = seat.number; drawn = seat.drawn ++ n ∷ [] }
+
+-- a seat on which one more was drawn
+pub drawer_after : (table then : TableId) (numbers more : List ℕ) (n number seats limit : ℕ) (seat : Drawer)
+    → then ≡ table → more ≡ numbers ++ n ∷ [] → drawer_of table number seats limit numbers ≡ seat
+    → drawer_of then number seats limit more ≡ drawn_more seat n
+drawer_after table then numbers more n number seats limit seat same grows is =
+    ap (λ t. drawer_of t number seats limit more) same ∙ ap (drawer_of table number seats limit) grows
+    ∙ ap (λ d. drawn_more d n) is

@@ -1,13 +1,16 @@
 -- The steps of one seat.
 use Rattle.std.proofs.Common.{◌≡◌, ℕ, suc, ◌+◌, ◌≤◌, ◌<◌, true, false, cond, eq-eqb, List, [], ◌∷◌, ◌++◌, length, sym}
-use Rattle.std.proofs.Common.{refl, ap, ◌∙◌, subst, length-append, arith}
+use Rattle.std.proofs.Common.{refl, ap, ◌∙◌, subst, length-append, append-nil, arith, ◌⊎◌, inl, inr, Option, None, Some}
+use Rattle.std.specs.Prelude.{IfSome, IfNone}
+use Rattle.std.specs.Option.{MatchOption}
+use Rattle.std.proofs.lemmas.Bool.{cases_lt}
 use Rattle.atomic_table.specs.Seated.{TableId}
 use Rattle.crossbeam_queue.specs.Fifo.{Pushes, Pops, Learns, Held}
 use Rattle.eve_recorder.specs.declared.ledger.Ledger.{Ledger}
 use Rattle.eve_stamps.specs.Applied.{Applied}
 use Rattle.eve_recorder.specs.Noted.{of_worker, AllOf, IsOrderly, ComeFrom}
-use Rattle.eve_recorder.specs.Kept.{ledger, FitsPasses, IsWorkers, noting, taking, TakesFront, SeesSome, SeesAll}
-use Rattle.eve_recorder.specs.Seen.{RecorderId, recorder_id, Desk, Noter, WasFull}
+use Rattle.eve_recorder.specs.Kept.{ledger, FitsPasses, IsWorkers, noting, taking, TakesFront, SeesSome, SeesAll, KnowsOf}
+use Rattle.eve_recorder.specs.Seen.{RecorderId, recorder_id, Desk, Noter, Taker, NotedAndTaken, WasFull}
 use Rattle.eve_recorder.proofs.Keeps.{whose_is, come_rest, notes, takes, learns_all, learns_some}
 
 pub all_of-of_worker : (w : ℕ) (xs : List Applied) → AllOf w xs → of_worker w xs ≡ xs
@@ -83,3 +86,66 @@ pub take_step : (port : ℕ) (v : Ledger) → v.takes ≡ true
     → Pops FitsPasses port v (λ x u. (u ≡ taking v x) × IsOrderly u.taken × TakesFront u × (x.worker < v.workers))
     × Learns FitsPasses port v (SeesAll v)
 take_step port v may = (takes port v may, learns_all port v may)
+
+-- what is said of a record that was taken, and what is said where there was none
+pub where_taken : {A : Type 0} {P Q : A → Type 0} (N : Type 0) (r : Option A) → ((x : A) → P x → Q x)
+    → MatchOption r N P → IfSome r Q
+where_taken N None f m = tt
+where_taken N (Some x) f m = f x m
+
+pub where_none : {A : Type 0} {N M : Type 0} (P : A → Type 0) (r : Option A) → (N → M) → MatchOption r N P → IfNone r M
+where_none P None f m = f m
+where_none P (Some x) f m = tt
+
+abbrev pub taker_of_pass : TableId → Ledger → Taker
+taker_of_pass table v = record { recorder = recorder_id table v.workers; taken = v.taken }
+
+abbrev pub left_of_pass : Ledger → NotedAndTaken
+left_of_pass v = record { noted = v.noted; taken = v.taken }
+
+abbrev pub taken_on : Taker → Applied → Taker
+taken_on seat x = record { recorder = seat.recorder; taken = seat.taken ++ x ∷ [] }
+
+abbrev pub taken_of : NotedAndTaken → Applied → NotedAndTaken
+taken_of left x = record { noted = left.noted; taken = left.taken ++ x ∷ [] }
+
+-- a seat on which one more was taken
+pub taker_after : (table then : TableId) (v u : Ledger) (x : Applied) (seat : Taker) → then ≡ table → u ≡ taking v x
+    → taker_of_pass table v ≡ seat
+    → taker_of_pass then u ≡ taken_on seat x
+taker_after table then v u x seat same after is =
+    ap (λ t. taker_of_pass t u) same ∙ ap (taker_of_pass table) after
+    ∙ ap (λ s. taken_on s x) is
+
+-- a seat on which nothing more was taken
+pub taker_same : (table then : TableId) (v u : Ledger) (seat : Taker) → then ≡ table → u ≡ v
+    → taker_of_pass table v ≡ seat → taker_of_pass then u ≡ seat
+taker_same table then v u seat same after is = ap (λ t. taker_of_pass t u) same ∙ ap (taker_of_pass table) after ∙ is
+
+-- what is left where one more was taken
+pub left_after : (v u : Ledger) (x : Applied) (left : NotedAndTaken) → u ≡ taking v x → left_of_pass v ≡ left
+    → left_of_pass u ≡ taken_of left x
+left_after v u x left after is = ap left_of_pass after ∙ ap (λ l. taken_of l x) is
+
+no_length : (xs : List Applied) → length xs ≡ 0 → xs ≡ []
+no_length [] e = refl
+no_length (x ∷ xs) e = absurd (omega (arith, e))
+
+-- what is left where nothing is queued: all that was noted is taken
+pub all_taken : (v : Ledger) (left : NotedAndTaken) → v ≡ ledger true v.taken v.workers 0 v.workers v.noted
+    → Held 0 (SeesAll v) → left_of_pass v ≡ left → (w : ℕ) → of_worker w left.noted ≡ of_worker w left.taken
+all_taken v left whole held is w =
+    let none : v.taken ++ held.0 ≡ v.taken = ap (λ l. v.taken ++ l) (no_length held.0 held.1) ∙ append-nil v.taken in
+    ap (λ (l : NotedAndTaken). of_worker w l.noted) (sym is)
+    ∙ held.2.1 w (knows (cases_lt w v.workers)) ∙ ap (of_worker w) none
+    ∙ ap (λ (l : NotedAndTaken). of_worker w l.taken) is
+  where
+    from : v.from ≡ 0
+    from = ap (λ (h : Ledger). h.from) whole
+
+    below : v.below ≡ v.workers
+    below = ap (λ (h : Ledger). h.below) whole
+
+    knows : (w < v.workers) ⊎ (v.workers ≤ w) → KnowsOf v w
+    knows (inl there) = inl (omega (arith, from), omega (arith, below))
+    knows (inr absent) = inr absent
