@@ -40,6 +40,10 @@ use Rattle.eve_chains.proofs.Cuts.{filter_cut, flat_cut, map_cut}
 abbrev noted_entry : ℕ → ℕ → Bool → Entry → Noted
 noted_entry at view commits e = record { offset = at; view = view; commits = commits; entry = e }
 
+-- what stands between a front and a back is there
+in_cut : {A : Type 0} (xs front : List A) (x : A) (back : List A) → xs ≡ front ++ x ∷ back → In x xs
+in_cut xs front x back is = subst (In x) (sym is) (in_middle x front back)
+
 -- of a request's entries on distinct rows none before this one is of its row
 none_before : (at view : ℕ) (commits : Bool) (row : ℕ) (before : List Entry) (e : Entry) (rest : List Entry)
     → AreDistinct (map (λ d. d.row) (before ++ e ∷ rest)) → e.row ≡ row
@@ -128,9 +132,9 @@ module _ (t : Trace) (e : ℕ) (limits : HasLimits t) (right : IsRightSection t 
       d.back d.inner in
       let its : n.entry.row ≡ row = eqb-true n.entry.row row a.passes in
       let same : n.entry ≡ m.item = ap (λ (k : Noted). k.entry) m.it in
-      let there_is : In b.item (told_of t e) = subst (In b.item) (sym c.is) (in_middle b.item c.front c.back) in
+      let there_is : In b.item (told_of t e) = in_cut (told_of t e) c.front b.item c.back c.is in
       let record_there : In d.item (own b.item.placed) =
-      subst (In d.item) (sym d.is) (in_middle d.item d.earlier d.later) in
+      in_cut (own b.item.placed) d.earlier d.item d.later d.is in
       let none : of_row row d.front ≡ [] =
       ap (of_row row) m.same ∙ none_before d.item.0 (view_of b.item) (is_committed b.item.fate) row m.earlier m.item
       m.later
@@ -153,7 +157,7 @@ module _ (t : Trace) (e : ℕ) (limits : HasLimits t) (right : IsRightSection t 
       let other : SeesAnother f.code (table n.entry.row) n.entry =
       subst (λ (v : Versioned). SeesAnother f.code v n.entry) met place.holds.1 in
       let member : In n.entry d.item.1.entries = subst (λ (k : Entry). In k d.item.1.entries) (sym same)
-      (subst (In m.item) (sym m.is) (in_middle m.item m.earlier m.later)) in
+      (in_cut d.item.1.entries m.earlier m.item m.later m.is) in
       place_of (λ p. IsWrongAlong e (table_along t p.path) (ordered p.offset p.attempt) f) (settled (history t e))
       (settled_there t e limits right b.item there_is c.passes)
       (record {

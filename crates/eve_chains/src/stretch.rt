@@ -9,7 +9,7 @@ use std::alloc::{AllocError, Global};
 const LEAST_ATTEMPTS: usize = 16;
 
 /// Attempts of a replica that stand after one another.
-#[derive(Clone, Copy, Debug, PartialEq, Eq)]
+#[derive(Clone, Copy)]
 pub struct Stretch {
     /// The place of the first of them.
     pub from: usize,
