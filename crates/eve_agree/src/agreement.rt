@@ -16,7 +16,7 @@ use eve_accounts::Balances;
 use eve_chains::Settled;
 use eve_chains::laws::settled_values_are_the_banks;
 use eve_frames::AttemptView;
-use eve_history::{History, are_right};
+use eve_history::{History, recall_all_right};
 use eve_smallbank::Reply;
 use eve_views::{CheckFault, Code, Fault, Trace};
 use std::alloc::{AllocError, Global};
@@ -39,11 +39,11 @@ pub fn equal_balances(
     ensures none { IfOk result (λ _. HasNone (IsOutcomeFault trace.now)) }
     ensures least { IfErr result (λ why. IfFound why (IsLeast (IsOutcomeFault trace.now))) }
 {
-    are_right(histories);
+    recall_all_right(histories);
     if histories.len() < 2 {
         return Ok(());
     }
-    trace.is_whole();
+    trace.recall_limits();
     settled_values_are_the_banks();
     let mut all = opening_of_each(alloc, settled)?;
     let mut least = None;

@@ -63,8 +63,8 @@ fn wrong_at(
     requires after { IsAfter settled.now n balances.now }
     ensures { IsFirstWrong trace.now history.now.replica (n - 1) n result }
 {
-    trace.is_whole();
-    history.is_right();
+    trace.recall_limits();
+    history.recall_right();
     settled_values_are_the_banks();
     let attempt = committed_attempt(history, n);
     if is_due(&attempt, balances) {

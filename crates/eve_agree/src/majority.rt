@@ -13,7 +13,7 @@ ghost use Rattle.eve_agree.specs.Majority.{IsBacked, IsBackedSection, AllAreBack
 ghost use Rattle.eve_agree.specs.Unbacked.{HasRoom, IsUnbacked, IsFirstUnbackedIn};
 
 use eve_frames::{CommitView, RollbackView};
-use eve_history::{History, are_right};
+use eve_history::{History, recall_all_right};
 use eve_views::{CheckFault, Code, Fault, Step, Trace, first_of};
 use eve_votes::Tally;
 
@@ -76,7 +76,7 @@ fn first_in(trace: &Trace<'_>, tally: &Tally<'_, '_>, e: u8) -> Option<Fault>
     ensures backed { IfNone result (IsBackedSection trace.now e) }
     ensures first { IfSome result (IsFirstUnbackedIn trace.now e) }
 {
-    trace.is_whole();
+    trace.recall_limits();
     let mut steps = trace.section(e);
     while let Some(step) = steps.next() {
         if let Some(fault) = unbacked(tally, e, step) {
@@ -103,7 +103,7 @@ pub fn majorities(
     ensures least { IfErr result (λ why. IfFound why (IsLeast (IsMajorityFault trace.now))) }
     ensures found { IfErr result (λ why. why ≢ Memory) }
 {
-    are_right(histories);
+    recall_all_right(histories);
     let mut first = None;
     for history in histories {
         first = first_of(first, first_in(trace, tally, history.replica()));

@@ -58,7 +58,7 @@ impl RequestIds {
         ensures batch { self.new.batch ≡ batch }
     {
         if self.batch != batch {
-            trace.is_whole();
+            trace.recall_limits();
             self.count = read(&trace.batch(batch), &mut self.items);
             self.batch = batch;
             self.next = 0;

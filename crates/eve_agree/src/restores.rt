@@ -90,7 +90,7 @@ pub(crate) fn judge(
     ensures least { SettledAreSound trace.now history.now.replica
         → IfErr result (λ why. IfFound why (IsLeast (IsRestoreFault trace.now history.now.replica))) }
 {
-    trace.is_whole();
+    trace.recall_limits();
     if history.rollbacks() == 0 {
         return Ok(());
     }
@@ -134,7 +134,7 @@ pub fn rollbacks(
     ensures none { IfOk result (λ _. HasNone (IsRestoreFault trace.now history.now.replica)) }
     ensures least { IfErr result (λ why. IfFound why (IsLeast (IsRestoreFault trace.now history.now.replica))) }
 {
-    history.is_right();
+    history.recall_right();
     judge(alloc, trace, history)
 }
 

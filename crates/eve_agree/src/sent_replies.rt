@@ -27,7 +27,7 @@ pub fn replies(trace: &Trace<'_>, histories: &[History<'_>]) -> Result<(), Check
     ensures least { IfErr result (λ why. IfFound why (IsLeast (IsReplyFault trace.now))) }
     ensures found { IfErr result (λ why. why ≢ Memory) }
 {
-    trace.is_whole();
+    trace.recall_limits();
     let mut request_ids = RequestIds::new();
     for i in 0..trace.sent_count() {
         let sent = trace.sent(i);

@@ -76,7 +76,7 @@ impl Ledger {
     }
 
     /// Does nothing: its contract says what is true of every ledger.
-    pub fn is_ledger(&self)
+    pub fn recall_ledger(&self)
         ensures { IsLedger self.now }
     {
         let _ = &self.rows;
@@ -107,7 +107,7 @@ impl Ledger {
     pub fn next_number(&self) -> u32
         ensures { result ≡ self.now.committed + 1 + length self.now.opened }
     {
-        self.is_ledger();
+        self.recall_ledger();
         self.committed + 1 + self.opened.len() as u32
     }
 

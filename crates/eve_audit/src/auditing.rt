@@ -82,7 +82,7 @@ fn judge_trace<'a, R: Threads + Sync>(
     ensures none { IfOk result (λ _. HasNone (IsTraceFault trace.now)) }
     ensures first { IfErr result (λ why. IfFound why (IsFirstOf (IsTraceFault trace.now))) }
 {
-    trace.is_whole();
+    trace.recall_limits();
     requests_take_effect_once();
     let found = match judge_replicas(rt, alloc, trace, names, slots) {
         Ok(found) => found,

@@ -44,7 +44,7 @@ fn settle<'a, R: Threads + Sync>(
     ensures none { IfOk result (λ _. HasNone (IsOwnFault trace.now history.now.replica)) }
     ensures first { IfErr result (λ why. IfFound why (IsFirstOf (IsOwnFault trace.now history.now.replica))) }
 {
-    history.is_right();
+    history.recall_right();
     let settled = match check(rt, alloc, history, trace, names, jobs) {
         Ok(settled) => settled,
         Err(why) => return Err(why),

@@ -34,7 +34,7 @@ pub fn judge_side_by_side<'a, R: Threads + Wait + Sync, G: Gate>(
     ensures shares { IfOk result (λ slots. AreDealt (length slots.items) slots.items) }
     ensures workers { IfOk result (λ slots. length slots.items ≡ min workers (length trace.now.sections)) }
 {
-    trace.is_whole();
+    trace.recall_limits();
     let replicas = trace.section_count();
     let mut slots = empty_slots(alloc, workers.min(replicas))?;
     let jobs = jobs_of_each(workers, replicas);

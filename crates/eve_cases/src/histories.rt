@@ -86,7 +86,7 @@ fn push_settled(text: &mut String, alloc: Global, settled: &Settled) -> Result<(
 
 /// A replica's history, and the balances after each batch that it committed.
 fn push_replica(text: &mut String, alloc: Global, trace: &Trace, e: u8) -> Result<(), CheckFault> {
-    trace.is_whole();
+    trace.recall_limits();
     if e >= trace.section_count() {
         return Ok(());
     }
@@ -150,7 +150,7 @@ fn push_tally(text: &mut String, alloc: Global, trace: &Trace) -> Result<(), Che
 /// What two replicas come to together.
 pub fn agreement(alloc: Global, bytes: &[u8]) -> Result<(), CheckFault> {
     let trace = Trace::read(alloc, bytes)?;
-    trace.is_whole();
+    trace.recall_limits();
     if trace.section_count() != 2 {
         return Ok(());
     }

@@ -104,7 +104,7 @@ pub fn check<'a, R: Threads + Sync>(
     ensures none { IfOk result (λ _. HasNoFault trace.now history.now.replica) }
     ensures least { IfErr result (λ why. IfFound why (IsLeastFault trace.now history.now.replica)) }
 {
-    history.is_right();
+    history.recall_right();
     let (fit, seen) = judge_both(rt, alloc, history, trace, names, jobs);
     if let Err(why) = fit {
         return Err(why);
@@ -113,7 +113,7 @@ pub fn check<'a, R: Threads + Sync>(
         Ok(settled) => settled,
         Err(why) => return Err(why),
     };
-    trace.is_whole();
+    trace.recall_limits();
     chains_are_judged_along_the_records();
     sound_sections_have_no_fault();
     Ok(settled)

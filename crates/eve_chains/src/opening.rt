@@ -11,7 +11,7 @@ use std::alloc::{AllocError, Global};
 pub fn opening_balances(alloc: Global, trace: &Trace<'_>) -> Result<Balances, AllocError>
     ensures { IfOk result (λ balances. balances ≡ opening_rows trace.now.customers) }
 {
-    trace.is_whole();
+    trace.recall_limits();
     let count = trace.customer_count();
     let mut balances = Balances::new(alloc, 2 * count as usize)?;
     for i in 0..count {

@@ -50,7 +50,7 @@ impl<'a> Settled<'a> {
         requires history { history.now ≡ section_history trace.now history.now.replica }
         ensures { IfOk result (λ settled. settled ≡ settling trace.now history.now.replica) }
     {
-        trace.is_whole();
+        trace.recall_limits();
         let opening = opening_balances(alloc, trace)?;
         let records = CommittedRecords::of(alloc, history)?;
         Ok(Settled { opening, records })

@@ -50,8 +50,8 @@ pub fn records<R: Threads + Sync>(
     ensures none { IfOk result (λ _. HasNone (IsRecordFault trace.now history.now.replica)) }
     ensures least { IfErr result (λ why. IfFound why (IsLeast (IsRecordFault trace.now history.now.replica))) }
 {
-    trace.is_whole();
-    history.is_right();
+    trace.recall_limits();
+    history.recall_right();
     match first_unfit(rt, alloc, history, trace, names, jobs)? {
         None => Ok(()),
         Some(offset) => Err(CheckFault::Found(Fault {
@@ -157,7 +157,7 @@ fn judge_attempt(
     requires { CanBeJudged trace.now history.now i }
     ensures { IfOk result (IsLeastOfAttempt names.now.items trace.now history.now i) }
 {
-    trace.is_whole();
+    trace.recall_limits();
     if !is_settled(history.fate(i)) {
         return Ok(None);
     }

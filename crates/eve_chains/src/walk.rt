@@ -130,7 +130,7 @@ impl<'a> Walk<'a> {
             → HasWalked trace.now history.now.replica (next ∷ rest) self.old → IsStep step.entry next
             → HasWalked trace.now history.now.replica rest self.new) }
     {
-        trace.is_whole();
+        trace.recall_limits();
         match step {
             Step::Attempt(_, _) => {
                 let attempts = history.attempts();
@@ -160,7 +160,7 @@ pub fn chains<'a>(alloc: Global, history: &History<'a>, trace: &Trace<'a>) -> Re
     ensures see { IfOk result (λ _. AllSettledSee trace.now history.now.replica) }
     ensures least { IfErr result (λ why. IfFound why (IsLeast (IsChainFault trace.now history.now.replica))) }
 {
-    trace.is_whole();
+    trace.recall_limits();
     if history.replica() >= trace.section_count() {
         return Ok(());
     }

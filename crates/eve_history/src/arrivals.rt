@@ -38,7 +38,7 @@ fn names_in_order<'a>(
     ensures apart { IfOk result (λ _. HasDistinctNames trace.now) }
     ensures fault { IfErr result (λ e. IfFound e (IsLeast (IsOrderFault trace.now))) }
 {
-    trace.is_whole();
+    trace.recall_limits();
     let count = trace.head().customers;
     let mut names = Names::new(alloc, random, count);
     for i in 0..count {

@@ -46,11 +46,11 @@ impl<'a> Model for History<'a> {
 /// Says of the histories of all replicas that each step of each section is right. It does nothing else.
 ///
 /// docs/MODEL.md, "Section state, fate".
-pub fn are_right(histories: &[History<'_>])
+pub fn recall_all_right(histories: &[History<'_>])
     ensures { (t : TraceValue) → histories.now ≡ section_histories t → (e : ℕ) → IsRightSection t e }
 {
     for history in histories {
-        history.is_right();
+        history.recall_right();
     }
 }
 
@@ -94,7 +94,7 @@ impl<'a> History<'a> {
         ensures none { IfOk result (λ _. HasNone (IsStructureFault trace.now e)) }
         ensures least { IfErr result (λ x. IfFound x (IsLeast (IsStructureFault trace.now e))) }
     {
-        trace.is_whole();
+        trace.recall_limits();
         let mut notes = Notes::new(alloc, trace.bytes());
         let mut steps = trace.section(e);
         while let Some(step) = steps.next() {
@@ -106,7 +106,7 @@ impl<'a> History<'a> {
     /// Says that each step of the replica's section is right: there is no history of any other. It does nothing else.
     ///
     /// docs/MODEL.md, "Section state, fate".
-    pub fn is_right(&self)
+    pub fn recall_right(&self)
         ensures right { IsTrue self.now.right }
         ensures section { (t : TraceValue) (e : ℕ) → self.now ≡ section_history t e → IsRightSection t e }
     {

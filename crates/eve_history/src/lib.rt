@@ -18,4 +18,4 @@ mod wrong;
 pub use arrivals::orders;
 pub use committed::CommittedRecords;
 pub use fate::Fate;
-pub use history::{History, are_right};
+pub use history::{History, recall_all_right};

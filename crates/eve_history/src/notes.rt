@@ -180,7 +180,7 @@ impl<'a> Notes<'a> {
         ensures { (s : SectionState) → StandsAt s (kept_section self.now)
             → result ≡ wrong_attempt trace.now s (attempt_said attempt.now) }
     {
-        trace.is_whole();
+        trace.recall_limits();
         if !self.is_due(&trace.head(), attempt) {
             return Some(Code::Attempt);
         }
@@ -240,7 +240,7 @@ impl<'a> Notes<'a> {
             → result ≡ wrong_step trace.now s (attempt.now.offset, Attempts b) }
         ensures marked { IfNone result (AreMarked accesses.now marks.new) }
     {
-        trace.is_whole();
+        trace.recall_limits();
         if let Some(code) = self.wrong_attempt(trace, attempt, order) {
             return Some(Wrong {
                 code,

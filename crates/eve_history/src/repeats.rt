@@ -25,7 +25,7 @@ struct Arrival {
 fn request_count(trace: &Trace<'_>) -> usize
     ensures { result ≡ length (arrivals_of trace.now) }
 {
-    trace.is_whole();
+    trace.recall_limits();
     let mut count = 0;
     for i in 0..trace.head().batches {
         count += trace.batch(i + 1).len();
@@ -53,7 +53,7 @@ fn note(arrivals: &mut Vec<Arrival>, batch: &BatchView<'_>) -> Result<(), AllocE
 fn arrivals_in(alloc: Global, trace: &Trace<'_>) -> Result<Vec<Arrival>, AllocError>
     ensures { IfOk result (λ arrivals. arrivals.items ≡ arrivals_of trace.now) }
 {
-    trace.is_whole();
+    trace.recall_limits();
     let mut arrivals = Vec::with_capacity(alloc, request_count(trace))?;
     for i in 0..trace.head().batches {
         note(&mut arrivals, &trace.batch(i + 1))?;

@@ -19,7 +19,7 @@ pub struct Place {
 
 /// Where the record of a request stands in the last attempt of a replica, and where that attempt stands.
 pub fn last_record(trace: &Trace<'_>, replica: u8, index: u16) -> Option<Place> {
-    trace.is_whole();
+    trace.recall_limits();
     if replica >= trace.section_count() {
         return None;
     }
@@ -43,7 +43,7 @@ pub fn last_record(trace: &Trace<'_>, replica: u8, index: u16) -> Option<Place> 
 
 /// Where the first rollback of a replica stands.
 pub fn first_rollback(trace: &Trace<'_>, replica: u8) -> Option<u64> {
-    trace.is_whole();
+    trace.recall_limits();
     if replica >= trace.section_count() {
         return None;
     }

@@ -23,7 +23,7 @@ fn read_replicas<'a>(alloc: Global, trace: &Trace<'a>) -> Result<Replicas<'a>, C
     ensures settled { IfOk result (λ told. told.settled.items ≡ settlings trace.now) }
     ensures right { IfOk result (λ _. (e : ℕ) → IsRightSection trace.now e) }
 {
-    trace.is_whole();
+    trace.recall_limits();
     let mut histories = Vec::new(alloc);
     let mut settled = Vec::new(alloc);
     'replicas: for e in 0..trace.section_count() {

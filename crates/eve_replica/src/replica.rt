@@ -128,7 +128,7 @@ impl<'n> Replica<'n> {
     pub fn next_number(&self) -> u32
         ensures { result ≡ self.now.ledger.committed + 1 + length self.now.ledger.opened }
     {
-        self.ledger.is_ledger();
+        self.ledger.recall_ledger();
         self.ledger.committed() + 1 + self.ledger.opened() as u32
     }
 

@@ -54,7 +54,7 @@ impl Stripe {
     }
 
     /// Does nothing: its contract says what is true of every stripe.
-    pub fn is_stripe(&self)
+    pub fn recall_stripe(&self)
         ensures { IsStripe self.now }
     {
         let _ = &self.base;

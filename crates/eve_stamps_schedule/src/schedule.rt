@@ -133,7 +133,7 @@ impl<'s> Schedule<'s> {
     /// Does nothing: its contract says what is true of every schedule, however it came to where it is.
     ///
     /// docs/MODEL.md, "Schedule".
-    pub fn is_serial(&self)
+    pub fn recall_serial(&self)
         ensures reached { IsReachedWorld (plan_of self.now) (world_of self.now) }
         ensures serial { IsSerialWorld (plan_of self.now) (world_of self.now) }
         // The records that the workers noted or are about to note are the applied ones.

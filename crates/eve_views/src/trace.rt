@@ -178,7 +178,7 @@ impl<'a> Trace<'a> {
     }
 
     /// What is true of each trace that was read: it is within the limits.
-    pub fn is_whole(&self)
+    pub fn recall_limits(&self)
         ensures { HasLimits self.now }
     {
         let _head = self.head;
@@ -219,7 +219,7 @@ impl<'a> Trace<'a> {
         ensures text { result.bytes.now ≡ frame_text (OfCustomer (customer_said result)) }
         ensures stands { HasBytesAt self.now result.offset result.bytes.now }
     {
-        self.is_whole();
+        self.recall_limits();
         let frame = self.frame(i as usize);
         CustomerView::new(frame.offset, frame.bytes)
     }
@@ -273,7 +273,7 @@ impl<'a> Trace<'a> {
         requires { e < length self.now.sections }
         ensures { result ≡ steps_at self.now e }
     {
-        self.is_whole();
+        self.recall_limits();
         let from = self.section_from(e) as usize + 1;
         let to = self.section_from(e + 1) as usize;
         Steps::new(self, from, to)
@@ -310,7 +310,7 @@ impl<'a> Trace<'a> {
         requires { v < length self.now.verifiers }
         ensures { result ≡ votes_at self.now v }
     {
-        self.is_whole();
+        self.recall_limits();
         let from = self.verifier_from(v) as usize + 1;
         let to = self.verifier_from(v + 1) as usize;
         Votes::new(self, from, to)
@@ -330,7 +330,7 @@ impl<'a> Trace<'a> {
         ensures text { result.bytes.now ≡ frame_text (OfSent (sent_said result)) }
         ensures stands { HasBytesAt self.now result.offset result.bytes.now }
     {
-        self.is_whole();
+        self.recall_limits();
         let first = self.frame_count() - 1 - self.sent_count();
         let frame = self.frame(first + i);
         SentView::new(frame.offset, frame.bytes)

@@ -131,7 +131,7 @@ pub(crate) fn backers_from(
     requires start { IsStart ballots.now start seq view 0 }
     ensures { result ≡ backers trace.now seq view (choice_of choice.entry) }
 {
-    trace.is_whole();
+    trace.recall_limits();
     let mut at = start;
     let mut count: u8 = 0;
     for verifier in 0..trace.head().verifiers {

@@ -38,7 +38,7 @@ fn note<'a>(
     ensures lowers { Lowers least result }
     ensures found { IsFound trace.now decisions.new.items result seq decision.entry.view }
 {
-    trace.is_whole();
+    trace.recall_limits();
     let place = seq as usize;
     if decisions[place].is_some() {
         return lower(least, trace.batch(seq).offset());
@@ -91,7 +91,7 @@ pub(crate) fn decide<'a>(
     ensures least { IsLowest (StandsInVotes TwoDecisions trace.now) result }
     ensures decided { IfNone result (AreDecisions trace.now decisions.new.items) }
 {
-    trace.is_whole();
+    trace.recall_limits();
     let mut least = None;
     for i in 0..ballots.len() {
         if !continues(ballots, i) {

@@ -45,7 +45,7 @@ fn leader<'a>(trace: &Trace<'a>, ballots: &[Ballot], start: usize, seq: u32, vie
     requires start { IsStart ballots.now start seq view 0 }
     ensures { HasLead (λ token. backers trace.now seq view (ForCommit token)) (length trace.now.verifiers) result }
 {
-    trace.is_whole();
+    trace.recall_limits();
     let mut at = start;
     let mut lead = Lead { token: &[], by: 0 };
     for verifier in 0..trace.head().verifiers {
@@ -62,7 +62,7 @@ fn leader<'a>(trace: &Trace<'a>, ballots: &[Ballot], start: usize, seq: u32, vie
 pub(crate) fn is_quorum(trace: &Trace<'_>, votes: u8) -> bool
     ensures { result ≡ nat_le trace.now.quorum votes }
 {
-    trace.is_whole();
+    trace.recall_limits();
     trace.head().quorum <= votes
 }
 
@@ -78,7 +78,7 @@ pub(crate) fn decided_in<'a>(
     requires start { IsStart ballots.now start seq view 0 }
     ensures { (token : List ℕ) → IsDecided trace.now seq view token ↔ (option_map (λ r. r.now) result ≡ Some token) }
 {
-    trace.is_whole();
+    trace.recall_limits();
     let lead = leader(trace, ballots, start, seq, view);
     if lead.by == 0 {
         return None;

@@ -5,7 +5,7 @@ use Rattle.eve_agree.proofs.agreement.equal_balances.Goals as goal
 pub returns-in-Some-clause-least : goal.returns-in-Some-clause-least
 returns-in-Some-clause-least c =
     let t = c.args.trace.now in
-    let right = c.are_right.ensures t c.requires.histories in
+    let right = c.recall_all_right.ensures t c.requires.histories in
     let known = subst (Judged t c.loop-n.n) c.in-Some.is c.loop-n.invariant.judged in
     is_least t c.in-Some.fault right (all_judged t c.args.histories.now c.loop-n.n c.last_of_all-n-end.result
     (Some c.in-Some.fault) c.requires.histories right c.last_of_all-n-end.ensures
@@ -14,7 +14,7 @@ returns-in-Some-clause-least c =
 pub returns-clause-agree : goal.returns-clause-agree
 returns-clause-agree c =
     let t = c.args.trace.now in
-    let right = c.are_right.ensures t c.requires.histories in
+    let right = c.recall_all_right.ensures t c.requires.histories in
     they_agree t right
     (all_judged t c.args.histories.now c.loop-n.n c.last_of_all-n-end.result None c.requires.histories
     right c.last_of_all-n-end.ensures (omega (arith, c.loop-n-test.false))
@@ -23,7 +23,7 @@ returns-clause-agree c =
 pub returns-clause-none : goal.returns-clause-none
 returns-clause-none c =
     let t = c.args.trace.now in
-    let right = c.are_right.ensures t c.requires.histories in
+    let right = c.recall_all_right.ensures t c.requires.histories in
     none_stands t right
     (all_judged t c.args.histories.now c.loop-n.n c.last_of_all-n-end.result None c.requires.histories
     right c.last_of_all-n-end.ensures (omega (arith, c.loop-n-test.false))
@@ -32,11 +32,11 @@ returns-clause-none c =
 pub returns-then-histories-lt2-clause-agree : goal.returns-then-histories-lt2-clause-agree
 returns-then-histories-lt2-clause-agree c =
     let t = c.args.trace.now in
-    they_agree t (c.are_right.ensures c.args.trace.now c.requires.histories)
+    they_agree t (c.recall_all_right.ensures c.args.trace.now c.requires.histories)
     (alone_judged t c.args.histories.now c.requires.histories c.if-histories-lt2.true)
 
 pub returns-then-histories-lt2-clause-none : goal.returns-then-histories-lt2-clause-none
 returns-then-histories-lt2-clause-none c =
     let t = c.args.trace.now in
-    none_stands t (c.are_right.ensures c.args.trace.now c.requires.histories)
+    none_stands t (c.recall_all_right.ensures c.args.trace.now c.requires.histories)
     (alone_judged t c.args.histories.now c.requires.histories c.if-histories-lt2.true)

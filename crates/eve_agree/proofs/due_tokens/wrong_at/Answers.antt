@@ -16,10 +16,10 @@ returns-then-is_due c =
     let t = c.args.trace.now in
     let e = c.args.history.now.replica in
     let v = c.committed_attempt-attempt.result in
-    let right = c.is_right.ensures.section t e c.requires.section.history in
+    let right = c.recall_right.ensures.section t e c.requires.section.history in
     (one_judged t e c.args.n v.offset (attempt_in v.bytes.now) c.args.history.now c.args.settled.now c.args.balances.now
     c.requires.section.history c.requires.section.settled right
-    (λ m. c.settled_values_are_the_banks.ensures t e m c.is_whole.ensures right)
+    (λ m. c.settled_values_are_the_banks.ensures t e m c.recall_limits.ensures right)
     c.requires.one c.committed_attempt-attempt.ensures c.requires.after).0 (c.is_due.ensures.0 c.if-is_due.true)
 
 pub returns : goal.returns
@@ -27,10 +27,10 @@ returns c =
     let t = c.args.trace.now in
     let e = c.args.history.now.replica in
     let v = c.committed_attempt-attempt.result in
-    let right = c.is_right.ensures.section t e c.requires.section.history in
+    let right = c.recall_right.ensures.section t e c.requires.section.history in
     subst (λ (o : ℕ). IsFirstWrong t e (c.args.n - 1) c.args.n (Some o)) (sym c.offset.ensures)
     ((one_judged t e c.args.n v.offset (attempt_in v.bytes.now) c.args.history.now c.args.settled.now
     c.args.balances.now c.requires.section.history c.requires.section.settled right
-    (λ m. c.settled_values_are_the_banks.ensures t e m c.is_whole.ensures right) c.requires.one
+    (λ m. c.settled_values_are_the_banks.ensures t e m c.recall_limits.ensures right) c.requires.one
     c.committed_attempt-attempt.ensures c.requires.after).1
     (λ is. false≢true (sym c.if-is_due.false ∙ c.is_due.ensures.1 is)))

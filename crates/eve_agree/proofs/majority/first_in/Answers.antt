@@ -9,7 +9,7 @@ pub loop-step-init : goal.loop-step-init
 loop-step-init c =
     let t = c.args.trace.now in
     subst (AreLeft t c.args.e) (sym c.section-steps.ensures)
-    (left_first t c.args.e c.is_whole.ensures c.requires.right)
+    (left_first t c.args.e c.recall_limits.ensures c.requires.right)
 
 pub unbacked-requires : goal.unbacked-requires
 unbacked-requires c =

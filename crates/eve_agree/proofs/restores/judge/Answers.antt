@@ -91,7 +91,7 @@ is_right-requires-clause-there c =
 
 pub is_right-requires-clause-within : goal.is_right-requires-clause-within
 is_right-requires-clause-within c = within_told c.args.trace.now c.args.history.now c.requires.history
-    (length c.loop-step.marks) c.is_whole.ensures c.loop-step.invariant.many
+    (length c.loop-step.marks) c.recall_limits.ensures c.loop-step.invariant.many
 
 pub is_right-requires-clause-rows : goal.is_right-requires-clause-rows
 is_right-requires-clause-rows c =
@@ -102,7 +102,7 @@ is_right-requires-clause-rows c =
     c.loop-step.invariant.judged in
     subst (λ (n : ℕ). IsTrue (list_all (is_restore n) r.restores)) (sym c.loop-step.invariant.many)
     (restores_fit t c.args.history.now.replica c.in-Rollback.rollback.offset r c.next.new.self c.loop-step.first
-    c.loop-step.end here c.is_whole.ensures).0
+    c.loop-step.end here c.recall_limits.ensures).0
 
 pub is_right-requires-clause-restores : goal.is_right-requires-clause-restores
 is_right-requires-clause-restores c =
@@ -112,7 +112,7 @@ is_right-requires-clause-restores c =
     c.loop-step.end c.in-Some.step c.in-Rollback.rollback c.in-Some.ensures.some c.in-Rollback.is
     c.loop-step.invariant.judged in
     (restores_fit t c.args.history.now.replica c.in-Rollback.rollback.offset r c.next.new.self c.loop-step.first
-    c.loop-step.end here c.is_whole.ensures).1
+    c.loop-step.end here c.recall_limits.ensures).1
 
 pub returns-then-not-is_right-clause-least : goal.returns-then-not-is_right-clause-least
 returns-then-not-is_right-clause-least c = λ sound.
@@ -125,7 +125,7 @@ returns-then-not-is_right-clause-least c = λ sound.
     c.loop-step.end c.in-Some.step c.in-Rollback.rollback c.in-Some.ensures.some c.in-Rollback.is
     c.loop-step.invariant.judged in
     let found = found_told t h c.requires.history o r c.next.new.self c.loop-step.first c.loop-step.end here
-    c.is_right.result c.is_whole.ensures c.requires.right sound c.is_right.ensures.right in
+    c.is_right.result c.recall_limits.ensures c.requires.right sound c.is_right.ensures.right in
     let least = wrong_is_least t h.replica o r c.next.new.self c.loop-step.first c.loop-step.end here sound
     (sym found ∙ no) in
     let same : c.wrong.result ≡ Found (record { code = code.Restore; offset = o; replica = Some h.replica }) =
@@ -150,7 +150,7 @@ loop-step-preserved c =
     record {
       judged = judged_rollback t h.replica o r c.next.new.self c.loop-step.first c.loop-step.end here (λ sound.
           sym (found_told t h c.requires.history o r c.next.new.self c.loop-step.first c.loop-step.end here
-          c.is_right.result c.is_whole.ensures c.requires.right sound c.is_right.ensures.right) ∙ yes);
+          c.is_right.result c.recall_limits.ensures c.requires.right sound c.is_right.ensures.right) ∙ yes);
       many = c.is_right.ensures.as_many ∙ c.loop-step.invariant.many;
       none = c.is_right.ensures.none yes;
     }

@@ -14,7 +14,7 @@ pub bounds-histories-replica : goal.bounds-histories-replica
 bounds-histories-replica c =
     let t = c.args.trace.now in
     let s : Sent = sent_in c.sent-sent.result.bytes.now in
-    let own = (is_possible t c.loop-i.i s c.is_whole.ensures
+    let own = (is_possible t c.loop-i.i s c.recall_limits.ensures
     (sent_there t c.loop-i.i c.sent-sent.result.offset s c.sent-sent.ensures.says)).replica in
     let many : length c.args.histories.now ≡ length t.sections =
     ap (λ (vs : List SectionHistory). length vs) c.requires.histories ∙ as_many_told t in
@@ -25,7 +25,7 @@ pub is_replied-requires-clause-history : goal.is_replied-requires-clause-history
 is_replied-requires-clause-history c =
     let t = c.args.trace.now in
     let s : Sent = sent_in c.sent-sent.result.bytes.now in
-    let own = (is_possible t c.loop-i.i s c.is_whole.ensures
+    let own = (is_possible t c.loop-i.i s c.recall_limits.ensures
     (sent_there t c.loop-i.i c.sent-sent.result.offset s c.sent-sent.ensures.says)).replica in
     told_as t c.args.histories.now s.replica c.replica.result c.index-histories-replica.result c.requires.histories own
     c.replica.ensures c.index-histories-replica.is
@@ -34,14 +34,14 @@ pub is_replied-requires-clause-one : goal.is_replied-requires-clause-one
 is_replied-requires-clause-one c =
     let t = c.args.trace.now in
     let s : Sent = sent_in c.sent-sent.result.bytes.now in
-    (is_possible t c.loop-i.i s c.is_whole.ensures
+    (is_possible t c.loop-i.i s c.recall_limits.ensures
     (sent_there t c.loop-i.i c.sent-sent.result.offset s c.sent-sent.ensures.says)).one
 
 pub is_replied-requires-clause-there : goal.is_replied-requires-clause-there
 is_replied-requires-clause-there c =
     let t = c.args.trace.now in
     let s : Sent = sent_in c.sent-sent.result.bytes.now in
-    (is_possible t c.loop-i.i s c.is_whole.ensures
+    (is_possible t c.loop-i.i s c.recall_limits.ensures
     (sent_there t c.loop-i.i c.sent-sent.result.offset s c.sent-sent.ensures.says)).there
 
 pub returns-then-not-is_replied-clause-least : goal.returns-then-not-is_replied-clause-least

@@ -22,13 +22,13 @@ returns-in-Err-judge_together-clause-first g c =
 pub returns-clause-summary : goal.returns-clause-summary
 returns-clause-summary g c =
     let t = c.args.trace.now in
-    let some : 1 ≤ length t.sections = some_replica (head_of t) c.is_whole.ensures.head in
+    let some : 1 ≤ length t.sections = some_replica (head_of t) c.recall_limits.ensures.head in
     summary_is t _ c.section_count.ensures c.batch_count.ensures some c.in-Ok.ensures.committed
 
 pub returns-clause-accepted : goal.returns-clause-accepted
 returns-clause-accepted g c =
     let t = c.args.trace.now in
-    accepted_of t c.is_whole.ensures
+    accepted_of t c.recall_limits.ensures
     (c.requests_take_effect_once.ensures.apart t (no_request_again t c.requires.orders)) c.in-Ok.ensures.sound
     c.in-Ok-judge_together.ensures.sound
 

@@ -13,7 +13,7 @@ use Rattle.eve_chains.proofs.unfit.judge_attempt.Goals as goal
 pub batch-batch-requires-clause-from_one : goal.batch-batch-requires-clause-from_one
 batch-batch-requires-clause-from_one c =
     let r = c.attempt.ensures.says.0 in
-    let ready = ready_told c.args.trace.now c.args.history.now.replica c.is_whole.ensures
+    let ready = ready_told c.args.trace.now c.args.history.now.replica c.recall_limits.ensures
     c.requires.right c.args.history.now c.args.i r c.fate.result c.requires.told
     c.attempt.ensures.says.1 c.fate.ensures (sym c.is_settled.ensures ∙ c.if-not-is_settled.false) in
     let seq : c.seq.result ≡ r.attempt.seq = c.seq.ensures ∙ ap (λ (a : Attempt). a.seq) c.attempt.ensures.says.3 in
@@ -23,7 +23,7 @@ batch-batch-requires-clause-from_one c =
 pub batch-batch-requires-clause-there : goal.batch-batch-requires-clause-there
 batch-batch-requires-clause-there c =
     let r = c.attempt.ensures.says.0 in
-    let ready = ready_told c.args.trace.now c.args.history.now.replica c.is_whole.ensures
+    let ready = ready_told c.args.trace.now c.args.history.now.replica c.recall_limits.ensures
     c.requires.right c.args.history.now c.args.i r c.fate.result c.requires.told
     c.attempt.ensures.says.1 c.fate.ensures (sym c.is_settled.ensures ∙ c.if-not-is_settled.false) in
     let seq : c.seq.result ≡ r.attempt.seq = c.seq.ensures ∙ ap (λ (a : Attempt). a.seq) c.attempt.ensures.says.3 in
@@ -35,7 +35,7 @@ judge_records-requires-clause-requests c r at =
     let t = c.args.trace.now in
     let own : c.attempt.ensures.says.0 ≡ r = some_injective c.attempt.ensures.says.0 r
     (sym c.attempt.ensures.says.1 ∙ at) in
-    let ready = ready_told t c.args.history.now.replica c.is_whole.ensures c.requires.right c.args.history.now
+    let ready = ready_told t c.args.history.now.replica c.recall_limits.ensures c.requires.right c.args.history.now
     c.args.i r c.fate.result c.requires.told
     at c.fate.ensures (sym c.is_settled.ensures ∙ c.if-not-is_settled.false) in
     let seq : c.seq.result ≡ r.attempt.seq = c.seq.ensures ∙ ap (λ (a : Attempt). a.seq) c.attempt.ensures.says.3

@@ -11,8 +11,8 @@ returns-in-None-clause-fit g c =
     let h = c.args.history.now in
     let found = as_told t c.args.names.now.items h c.in_ok-first_unfit.field-0 c.requires.names c.requires.history
     c.in_ok-first_unfit.ensures in
-    all_fit t h.replica c.is_whole.ensures
-    (c.is_right.ensures.section c.args.trace.now c.args.history.now.replica c.requires.history)
+    all_fit t h.replica c.recall_limits.ensures
+    (c.recall_right.ensures.section c.args.trace.now c.args.history.now.replica c.requires.history)
     (subst (IsLeastUnfit _ (judged_of t h.replica)) c.in-None.is found)
 
 pub returns-in-None-clause-none : goal.returns-in-None-clause-none
@@ -21,8 +21,8 @@ returns-in-None-clause-none g c =
     let h = c.args.history.now in
     let found = as_told t c.args.names.now.items h c.in_ok-first_unfit.field-0 c.requires.names c.requires.history
     c.in_ok-first_unfit.ensures in
-    no_fault t h.replica c.is_whole.ensures
-    (c.is_right.ensures.section c.args.trace.now c.args.history.now.replica c.requires.history)
+    no_fault t h.replica c.recall_limits.ensures
+    (c.recall_right.ensures.section c.args.trace.now c.args.history.now.replica c.requires.history)
     (subst (IsLeastUnfit _ (judged_of t h.replica)) c.in-None.is found)
 
 pub returns-in-Some-clause-least : goal.returns-in-Some-clause-least
@@ -31,8 +31,8 @@ returns-in-Some-clause-least g c =
     let h = c.args.history.now in
     let found = as_told t c.args.names.now.items h c.in_ok-first_unfit.field-0 c.requires.names c.requires.history
     c.in_ok-first_unfit.ensures in
-    let least = least_fault t h.replica c.is_whole.ensures
-    (c.is_right.ensures.section c.args.trace.now c.args.history.now.replica c.requires.history)
+    let least = least_fault t h.replica c.recall_limits.ensures
+    (c.recall_right.ensures.section c.args.trace.now c.args.history.now.replica c.requires.history)
     c.in-Some.offset (subst (IsLeastUnfit _ (judged_of t h.replica)) c.in-Some.is found) in
     subst (λ (e : ℕ). IsLeast (IsRecordFault t h.replica) (record_fault e c.in-Some.offset)) (sym c.replica.ensures)
     least

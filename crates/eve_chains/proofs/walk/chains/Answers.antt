@@ -34,7 +34,7 @@ pub returns-in-Some-first-clause-least : goal.returns-in-Some-first-clause-least
 returns-in-Some-first-clause-least c =
     let t = c.args.trace.now in
     let none : c.loop-step.steps ≡ [] = search rules in
-    walked_wrong t c.args.history.now c.is_whole.ensures c.requires.history c.loop-step.walk
+    walked_wrong t c.args.history.now c.recall_limits.ensures c.requires.history c.loop-step.walk
     c.in-Some-first.fault c.requires.right
     (subst (λ (xs : List (ℕ × Step)). HasWalked t c.args.history.now.replica xs c.loop-step.walk) none
     c.loop-step.invariant) c.in-Some-first.is

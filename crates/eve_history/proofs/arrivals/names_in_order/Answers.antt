@@ -42,7 +42,7 @@ unreachable-requires c =
     let bad : is_name c.name.result.now ≡ false = c.in-Err-BadName.ensures.bad_name.0
     (ap Err c.in-Err-BadName.field-0-is) in
     let named : is_name c.name.result.now ≡ true = ap is_name c.name.ensures
-    ∙ is_named t c.loop-i.i said c.is_whole.ensures c.customer-customer.ensures.says in
+    ∙ is_named t c.loop-i.i said c.recall_limits.ensures c.customer-customer.ensures.says in
     both_ways (is_name c.name.result.now) bad named
 
 pub unreachable-requires-in-Err-Full : goal.unreachable-requires-in-Err-Full

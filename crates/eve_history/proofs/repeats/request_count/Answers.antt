@@ -14,7 +14,7 @@ pub overflow_add-count : goal.overflow_add-count
 overflow_add-count c =
     let t = c.args.trace.now in
     let said : ℕ × (ℕ × Batch) = (c.batch.result.offset, batch_in c.batch.result.bytes.now) in
-    let few = few_requests t c.loop-i.i said c.is_whole.ensures
+    let few = few_requests t c.loop-i.i said c.recall_limits.ensures
     (batch_there (batches_at t) c.loop-i.i said c.batch.ensures.says) in
     omega (arith, few, c.loop-i.invariant.1, c.len-count.ensures)
 
@@ -23,7 +23,7 @@ loop-i-preserved c =
     let t = c.args.trace.now in
     let said : ℕ × (ℕ × Batch) = (c.batch.result.offset, batch_in c.batch.result.bytes.now) in
     let at = batch_there (batches_at t) c.loop-i.i said c.batch.ensures.says in
-    let few = few_requests t c.loop-i.i said c.is_whole.ensures at in
+    let few = few_requests t c.loop-i.i said c.recall_limits.ensures at in
     let one : length (arrivals_at said) ≡ length said.1.1.requests = length-map said.1.1.requests (arrival said.1.0) in
     let front : List Arrival = flat_map arrivals_at (take c.loop-i.i (batches_at t)) in
     let more = ap length (arrivals_more t c.loop-i.i said at) ∙ length-append front (arrivals_at said) in (

@@ -82,7 +82,7 @@ returns-clause-least c =
     record {
       stands = c.loop-i.invariant.judging.stands;
       below = clashes_below t ds c.loop-i.least
-          (all_found t xs ds c.loop-i.least c.is_whole.ensures c.requires.cast all_before);
+          (all_found t xs ds c.loop-i.least c.recall_limits.ensures c.requires.cast all_before);
     }
 
 pub returns-clause-decided : goal.returns-clause-decided
@@ -93,6 +93,6 @@ returns-clause-decided c =
     let all_before = subst (λ (k : ℕ). AreJudged t xs k ds c.loop-i.least)
     (omega (arith, c.loop-i-test.false, c.loop-i.auto.i-end)) c.loop-i.invariant.judged in
     IfNone_from c.loop-i.least (AreDecisions t ds)
-    (λ none. decisions_exact t ds c.loop-i.least c.is_whole.ensures
-    (all_found t xs ds c.loop-i.least c.is_whole.ensures c.requires.cast all_before)
+    (λ none. decisions_exact t ds c.loop-i.least c.recall_limits.ensures
+    (all_found t xs ds c.loop-i.least c.recall_limits.ensures c.requires.cast all_before)
     c.loop-i.invariant.judging none)

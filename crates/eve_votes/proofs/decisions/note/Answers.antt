@@ -7,16 +7,16 @@ use Rattle.eve_votes.proofs.decisions.note.Goals as goal
 
 pub index-requires : goal.index-requires
 index-requires c =
-    let within = decided_within c.args.trace.now c.is_whole.ensures c.args.seq c.args.decision.view
+    let within = decided_within c.args.trace.now c.recall_limits.ensures c.args.seq c.args.decision.view
     c.args.decision.token.now c.requires.decided in
     omega (arith, within_table c.requires.judging within)
 
 pub batch-requires-clause-from_one : goal.batch-requires-clause-from_one
-batch-requires-clause-from_one c = (decided_within c.args.trace.now c.is_whole.ensures c.args.seq
+batch-requires-clause-from_one c = (decided_within c.args.trace.now c.recall_limits.ensures c.args.seq
     c.args.decision.view c.args.decision.token.now c.requires.decided).low
 
 pub batch-requires-clause-there : goal.batch-requires-clause-there
-batch-requires-clause-there c = (decided_within c.args.trace.now c.is_whole.ensures c.args.seq
+batch-requires-clause-there c = (decided_within c.args.trace.now c.recall_limits.ensures c.args.seq
     c.args.decision.view c.args.decision.token.now c.requires.decided).high
 
 pub returns-then-is_some-clause-judging : goal.returns-then-is_some-clause-judging
@@ -24,7 +24,7 @@ returns-then-is_some-clause-judging c =
     let t = c.args.trace.now in
     let ds = c.args.decisions.now.items in
     let n = c.args.seq in
-    let within = decided_within t c.is_whole.ensures n c.args.decision.view c.args.decision.token.now
+    let within = decided_within t c.recall_limits.ensures n c.args.decision.view c.args.decision.token.now
     c.requires.decided in
     let known = known_at ds n c.index.result.now (within_table c.requires.judging within) c.index.ensures
     (sym c.is_some.ensures ∙ c.if-is_some.true) in
@@ -38,7 +38,7 @@ returns-then-is_some-clause-found c =
     let ds = c.args.decisions.now.items in
     let n = c.args.seq in
     let view = c.args.decision.view in
-    let within = decided_within t c.is_whole.ensures n view c.args.decision.token.now c.requires.decided in
+    let within = decided_within t c.recall_limits.ensures n view c.args.decision.token.now c.requires.decided in
     let known = known_at ds n c.index.result.now (within_table c.requires.judging within) c.index.ensures
     (sym c.is_some.ensures ∙ c.if-is_some.true) in
     subst (λ (o : Option ℕ). IsFound t ds o n view) (sym (c.lower.ensures ∙ ap (lower c.args.least) c.offset.ensures))
@@ -46,28 +46,28 @@ returns-then-is_some-clause-found c =
 
 pub index_mut-requires : goal.index_mut-requires
 index_mut-requires c =
-    let within = decided_within c.args.trace.now c.is_whole.ensures c.args.seq c.args.decision.view
+    let within = decided_within c.args.trace.now c.recall_limits.ensures c.args.seq c.args.decision.view
     c.args.decision.token.now c.requires.decided in
     omega (arith, within_table c.requires.judging within)
 
 pub returns-clause-judging : goal.returns-clause-judging
 returns-clause-judging c =
     let t = c.args.trace.now in
-    let within = decided_within t c.is_whole.ensures c.args.seq c.args.decision.view c.args.decision.token.now
+    let within = decided_within t c.recall_limits.ensures c.args.seq c.args.decision.view c.args.decision.token.now
     c.requires.decided in
     first_judging t c.args.decisions.now.items c.args.least c.args.seq c.args.decision
     (within_table c.requires.judging within) c.requires.decided within.size c.requires.judging
 
 pub returns-clause-notes : goal.returns-clause-notes
 returns-clause-notes c =
-    let within = decided_within c.args.trace.now c.is_whole.ensures c.args.seq c.args.decision.view
+    let within = decided_within c.args.trace.now c.recall_limits.ensures c.args.seq c.args.decision.view
     c.args.decision.token.now c.requires.decided in
     first_noted c.args.decisions.now.items c.args.seq c.args.decision c.index.result.now
     (within_table c.requires.judging within) c.index.ensures (sym c.is_some.ensures ∙ c.if-is_some.false)
 
 pub returns-clause-found : goal.returns-clause-found
 returns-clause-found c =
-    let within = decided_within c.args.trace.now c.is_whole.ensures c.args.seq c.args.decision.view
+    let within = decided_within c.args.trace.now c.recall_limits.ensures c.args.seq c.args.decision.view
     c.args.decision.token.now c.requires.decided in
     found_first c.args.trace.now c.args.decisions.now.items c.args.least c.args.seq c.args.decision
     (within_table c.requires.judging within)

@@ -11,7 +11,7 @@ returns-then-lead-eq0 c token =
     let t = c.args.trace.now in (
       λ decided. absurd (let is = quorum_leads (λ x. backers t c.args.seq c.args.view (ForCommit x))
           (length t.verifiers) t.quorum c.leader-lead.result c.leader-lead.ensures
-          (quorum_limits t c.is_whole.ensures).1 token decided in
+          (quorum_limits t c.recall_limits.ensures).1 token decided in
           omega (arith, is.1, c.if-lead-eq0.true)),
       λ e. absurd cc,
     )
@@ -22,7 +22,7 @@ returns-then-is_quorum c token =
     let told = c.is_quorum.ensures ∙ ap (leb t.quorum) c.backers_from-votes.ensures in (
       λ decided. ap Some (sym (quorum_leads (λ x. backers t c.args.seq c.args.view (ForCommit x))
           (length t.verifiers) t.quorum c.leader-lead.result c.leader-lead.ensures
-          (quorum_limits t c.is_whole.ensures).1 token decided).0),
+          (quorum_limits t c.recall_limits.ensures).1 token decided).0),
       λ e. (let same : c.leader-lead.result.token.now ≡ token = cc in
           subst (IsDecided t c.args.seq c.args.view) same
           (leb-true t.quorum (backers t c.args.seq c.args.view (ForCommit c.leader-lead.result.token.now))
@@ -37,7 +37,7 @@ returns-else-is_quorum c token =
     (sym told ∙ c.if-is_quorum.false) in (
       λ decided. absurd (let is = quorum_leads (λ x. backers t c.args.seq c.args.view (ForCommit x))
           (length t.verifiers) t.quorum c.leader-lead.result c.leader-lead.ensures
-          (quorum_limits t c.is_whole.ensures).1 token decided in
+          (quorum_limits t c.recall_limits.ensures).1 token decided in
           let also : t.quorum ≤ backers t c.args.seq c.args.view (ForCommit c.leader-lead.result.token.now) =
           subst (IsDecided t c.args.seq c.args.view) is.0 decided in
           omega (arith, few, also)),

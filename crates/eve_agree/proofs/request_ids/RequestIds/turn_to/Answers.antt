@@ -8,7 +8,7 @@ use Rattle.eve_agree.proofs.request_ids.RequestIds.turn_to.Goals as goal
 pub read-self-requires : goal.read-self-requires
 read-self-requires c =
     let b : ℕ × (ℕ × Batch) = (c.batch.result.offset, batch_in c.batch.result.bytes.now) in
-    batch_fits c.args.trace.now c.args.batch b c.is_whole.ensures c.batch.ensures.says
+    batch_fits c.args.trace.now c.args.batch b c.recall_limits.ensures c.batch.ensures.says
 
 pub returns-then-self-batch-clause-new : goal.returns-then-self-batch-clause-new
 returns-then-self-batch-clause-new c =

@@ -17,7 +17,7 @@ invariant_of-result c =
     sym (ap (λ (xs : List ℤ). length xs) c.in_ok-opening.ensures ∙ length-opening_rows t.customers) in
     subst (λ (n : ℕ). AllByRecursion (AreWithin n) c.in_ok-records.records) rows
     (subst (AllByRecursion (AreWithin (row_count (head_of t)))) (sym batches)
-    (batches_within t v.replica c.is_whole.ensures))
+    (batches_within t v.replica c.recall_limits.ensures))
 
 pub returns : goal.returns
 unfolding settling

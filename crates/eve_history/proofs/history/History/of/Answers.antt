@@ -20,7 +20,7 @@ loop-step-init c =
     let e = c.args.e in (
       subst (λ (xs : List (ℕ × Step)). HasCome t e xs (kept_section c.new-notes.result)) (sym c.section-steps.ensures)
           (subst (λ (k : KeptSection). HasCome t e (steps_at t e) k) (sym c.new-notes.ensures.kept)
-          (come_start t e c.is_whole.ensures)),
+          (come_start t e c.recall_limits.ensures)),
       record {
         spelled = subst (λ (b : List ℕ). Spells b t) (sym c.new-notes.ensures.bytes) c.bytes.ensures;
         framed = record {

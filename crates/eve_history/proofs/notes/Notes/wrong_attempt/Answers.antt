@@ -23,7 +23,7 @@ pub is_certificate-requires-clause-whole : goal.is_certificate-requires-clause-w
 is_certificate-requires-clause-whole c =
     let t = c.args.trace.now in
     let b : ℕ × (ℕ × Batch) = (c.batch-batch.result.offset, batch_in c.batch-batch.result.bytes.now) in
-    batch_fits t c.seq.result b c.is_whole.ensures c.batch-batch.ensures.says
+    batch_fits t c.seq.result b c.recall_limits.ensures c.batch-batch.ensures.says
 
 pub returns-then-not-is_certificate : goal.returns-then-not-is_certificate
 returns-then-not-is_certificate c = λ s stands.

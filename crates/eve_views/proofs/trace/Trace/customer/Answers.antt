@@ -7,18 +7,18 @@ frame-frame-requires c = customers_within c.args.self.now c.args.i c.requires
 pub new-requires : goal.new-requires
 new-requires c =
     (customer_lent c.args.self.now c.args.i c.frame-frame.result.offset c.frame-frame.result.bytes.now
-    c.is_whole.ensures c.requires c.frame-frame.ensures.frame c.frame-frame.ensures.offset).readable
+    c.recall_limits.ensures c.requires c.frame-frame.ensures.frame c.frame-frame.ensures.offset).readable
 
 pub returns-clause-says : goal.returns-clause-says
 returns-clause-says c =
     (customer_lent c.args.self.now c.args.i c.frame-frame.result.offset c.frame-frame.result.bytes.now
-    c.is_whole.ensures c.requires c.frame-frame.ensures.frame c.frame-frame.ensures.offset).item
+    c.recall_limits.ensures c.requires c.frame-frame.ensures.frame c.frame-frame.ensures.offset).item
     c.new.result.offset c.new.result.bytes.now c.new.ensures.offset c.new.ensures.bytes
 
 pub returns-clause-text : goal.returns-clause-text
 returns-clause-text c =
     (customer_lent c.args.self.now c.args.i c.frame-frame.result.offset c.frame-frame.result.bytes.now
-    c.is_whole.ensures c.requires c.frame-frame.ensures.frame c.frame-frame.ensures.offset).text
+    c.recall_limits.ensures c.requires c.frame-frame.ensures.frame c.frame-frame.ensures.offset).text
     c.new.result.bytes.now c.new.ensures.bytes
 
 pub returns-clause-stands : goal.returns-clause-stands

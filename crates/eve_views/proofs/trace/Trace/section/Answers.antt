@@ -10,22 +10,22 @@ use Rattle.eve_views.proofs.trace.Trace.section.Goals as goal
 pub new-requires : goal.new-requires
 new-requires c =
     let t = c.args.self.now in
-    let small = (small_head (head_of t) c.is_whole.ensures.head).customers in
+    let small = (small_head (head_of t) c.recall_limits.ensures.head).customers in
     let few : row_count (head_of t) ≤ most_rows = omega (arith, small) in
     let more : c.args.e + 1 ≡ suc c.args.e = omega arith in
     let next : c.section_from-to.result ≡ length (before_section t (suc c.args.e)) =
     c.section_from-to.ensures ∙ ap (λ (k : ℕ). length (before_section t k)) more in
-    steps_cut t c.args.e (c.section_from.result + 1) c.section_from-to.result c.is_whole.ensures few c.requires
+    steps_cut t c.args.e (c.section_from.result + 1) c.section_from-to.result c.recall_limits.ensures few c.requires
     (ap (λ (k : ℕ). k + 1) c.section_from.ensures) next
 
 pub returns : goal.returns
 returns c =
     let t = c.args.self.now in
-    let small = (small_head (head_of t) c.is_whole.ensures.head).customers in
+    let small = (small_head (head_of t) c.recall_limits.ensures.head).customers in
     let few : row_count (head_of t) ≤ most_rows = omega (arith, small) in
     let more : c.args.e + 1 ≡ suc c.args.e = omega arith in
     let next : c.section_from-to.result ≡ length (before_section t (suc c.args.e)) =
     c.section_from-to.ensures ∙ ap (λ (k : ℕ). length (before_section t k)) more in
     c.new.ensures
-    ∙ steps_are_there t c.args.e (c.section_from.result + 1) c.section_from-to.result c.is_whole.ensures few c.requires
+    ∙ steps_are_there t c.args.e (c.section_from.result + 1) c.section_from-to.result c.recall_limits.ensures few c.requires
     (ap (λ (k : ℕ). k + 1) c.section_from.ensures) next

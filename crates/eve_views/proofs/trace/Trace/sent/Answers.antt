@@ -21,7 +21,7 @@ new-requires c =
     ≡ length (before_sent c.args.self.now) + c.args.i =
     omega (arith, frames_many c.args.self.now, c.frame_count.ensures, c.sent_count.ensures) in
     (sent_lent c.args.self.now (c.frame_count.result - 1 - c.sent_count.result + c.args.i) c.args.i
-    c.frame-frame.result.offset c.frame-frame.result.bytes.now c.is_whole.ensures c.requires number
+    c.frame-frame.result.offset c.frame-frame.result.bytes.now c.recall_limits.ensures c.requires number
     c.frame-frame.ensures.frame c.frame-frame.ensures.offset).readable
 
 pub returns-clause-says : goal.returns-clause-says
@@ -30,7 +30,7 @@ returns-clause-says c =
     ≡ length (before_sent c.args.self.now) + c.args.i =
     omega (arith, frames_many c.args.self.now, c.frame_count.ensures, c.sent_count.ensures) in
     (sent_lent c.args.self.now (c.frame_count.result - 1 - c.sent_count.result + c.args.i) c.args.i
-    c.frame-frame.result.offset c.frame-frame.result.bytes.now c.is_whole.ensures c.requires number
+    c.frame-frame.result.offset c.frame-frame.result.bytes.now c.recall_limits.ensures c.requires number
     c.frame-frame.ensures.frame c.frame-frame.ensures.offset).item
     c.new.result.offset c.new.result.bytes.now c.new.ensures.offset c.new.ensures.bytes
 
@@ -40,7 +40,7 @@ returns-clause-text c =
     ≡ length (before_sent c.args.self.now) + c.args.i =
     omega (arith, frames_many c.args.self.now, c.frame_count.ensures, c.sent_count.ensures) in
     (sent_lent c.args.self.now (c.frame_count.result - 1 - c.sent_count.result + c.args.i) c.args.i
-    c.frame-frame.result.offset c.frame-frame.result.bytes.now c.is_whole.ensures c.requires number
+    c.frame-frame.result.offset c.frame-frame.result.bytes.now c.recall_limits.ensures c.requires number
     c.frame-frame.ensures.frame c.frame-frame.ensures.offset).text
     c.new.result.bytes.now c.new.ensures.bytes
 

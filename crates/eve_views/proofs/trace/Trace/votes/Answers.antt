@@ -11,8 +11,8 @@ new-requires c =
     let more : c.args.v + 1 ≡ suc c.args.v = omega arith in
     let next : c.verifier_from-to.result ≡ length (before_verifier t (suc c.args.v)) =
     c.verifier_from-to.ensures ∙ ap (λ (k : ℕ). length (before_verifier t k)) more in
-    votes_cut t c.args.v (c.verifier_from.result + 1) c.verifier_from-to.result c.is_whole.ensures
-    (small_head (head_of t) c.is_whole.ensures.head).batches c.requires
+    votes_cut t c.args.v (c.verifier_from.result + 1) c.verifier_from-to.result c.recall_limits.ensures
+    (small_head (head_of t) c.recall_limits.ensures.head).batches c.requires
     (ap (λ (k : ℕ). k + 1) c.verifier_from.ensures) next
 
 pub returns : goal.returns
@@ -22,6 +22,6 @@ returns c =
     let next : c.verifier_from-to.result ≡ length (before_verifier t (suc c.args.v)) =
     c.verifier_from-to.ensures ∙ ap (λ (k : ℕ). length (before_verifier t k)) more in
     c.new.ensures
-    ∙ votes_are_there t c.args.v (c.verifier_from.result + 1) c.verifier_from-to.result c.is_whole.ensures
-    (small_head (head_of t) c.is_whole.ensures.head).batches c.requires
+    ∙ votes_are_there t c.args.v (c.verifier_from.result + 1) c.verifier_from-to.result c.recall_limits.ensures
+    (small_head (head_of t) c.recall_limits.ensures.head).batches c.requires
     (ap (λ (k : ℕ). k + 1) c.verifier_from.ensures) next

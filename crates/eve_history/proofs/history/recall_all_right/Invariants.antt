@@ -1,5 +1,5 @@
 use Rattle.eve_history.proofs.Rights.{AreRight}
-use Rattle.eve_history.proofs.history.are_right.Given as goal
+use Rattle.eve_history.proofs.history.recall_all_right.Given as goal
 
 abbrev pub invariant-loop-history : goal.invariant-loop-history
 invariant-loop-history l = AreRight l.histories l.history-index

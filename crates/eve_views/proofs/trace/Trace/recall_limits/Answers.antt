@@ -1,6 +1,6 @@
 use Rattle.std.proofs.Common.{subst}
 use Rattle.eve_grammar.specs.Limits.{Spells}
-use Rattle.eve_views.proofs.trace.Trace.is_whole.Goals as goal
+use Rattle.eve_views.proofs.trace.Trace.recall_limits.Goals as goal
 
 pub returns : goal.returns
 returns c = (subst (Spells c.self.inside.bytes.now) c.self.view_is c.self.invariant.spells).limits
