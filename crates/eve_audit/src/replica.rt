@@ -60,8 +60,9 @@ fn settle<'a, R: Threads + Sync>(
     Ok(settled)
 }
 
-/// What a replica did and committed, or the first of its own faults, by the replica's number from 0. Its records, its
-/// chains and its tokens are judged in up to so many threads as there are jobs, from 1 on; of one job none is started.
+/// What a replica did and committed, or the first of its own faults, by the replica's number from 0. Its structure,
+/// its records, its chains and its tokens are judged in up to so many threads as there are jobs, from 1 on; of one job
+/// none is started.
 pub fn judge_replica<'a, R: Threads + Sync>(
     rt: &R,
     alloc: Global,
@@ -76,7 +77,7 @@ pub fn judge_replica<'a, R: Threads + Sync>(
     ensures piece { IfOk result (IsPieceOf trace.now e) }
     ensures first { IfErr result (λ why. IfFound why (IsFirstOf (IsOwnFault trace.now e))) }
 {
-    let history = match History::of(alloc, trace, e) {
+    let history = match History::of_side_by_side(rt, alloc, trace, e, jobs) {
         Ok(history) => history,
         Err(why) => return Err(why),
     };

@@ -47,7 +47,7 @@ all_in_section p (s ∷ sections) zero all = (and_parts (list_all p s) (list_all
 all_in_section p (s ∷ sections) (suc e) all =
     all_in_section p sections e (and_parts (list_all p s) (list_all (list_all p) sections) all).1
 
-steps_fit : (t : Trace) (e : ℕ) → HasLimits t → list_all (λ x. is_step (row_count (head_of t)) x.1) (steps_at t e)
+pub steps_fit : (t : Trace) (e : ℕ) → HasLimits t → list_all (λ x. is_step (row_count (head_of t)) x.1) (steps_at t e)
     ≡ true
 unfolding steps_at
 steps_fit t e limits = all_located (is_step (row_count (head_of t))) step_text _ (steps_of t e)
@@ -65,8 +65,9 @@ nothing = record {
   rollbacks = [];
 }
 
-pub come_start : (t : Trace) (e : ℕ) → HasLimits t → HasCome t e (steps_at t e) nothing
-come_start t e limits = record {
+pub come_start_with : (t : Trace) (e : ℕ) (records : List (ℕ × Access)) → HasLimits t
+    → HasCome t e (steps_at t e) (record nothing { records = records })
+come_start_with t e records limits = record {
   front = [];
   split = refl;
   right = refl;
@@ -79,9 +80,12 @@ come_start t e limits = record {
   fit = steps_fit t e limits;
 }
 
+pub come_start : (t : Trace) (e : ℕ) → HasLimits t → HasCome t e (steps_at t e) nothing
+come_start t e limits = come_start_with t e [] limits
+
 -- ---- one step more
 
-attempts_among-push : (xs : List (ℕ × Step)) (x : ℕ × Step) → attempts_among (xs ++ x ∷ [])
+pub attempts_among-push : (xs : List (ℕ × Step)) (x : ℕ × Step) → attempts_among (xs ++ x ∷ [])
     ≡ attempts_among xs ++ attempts_among (x ∷ [])
 attempts_among-push [] x = refl
 attempts_among-push ((at, Attempts a) ∷ xs) x = ap (λ (ys : List (ℕ × Attempt)). (at, a) ∷ ys)
@@ -259,31 +263,46 @@ same_executed_attempt records more (a ∷ xs) within =
           i;
     } ∷ same_executed_attempt records more xs within.1 i
 
-still_within : (n m : ℕ) (xs : List KeptAttempt) (a : KeptAttempt) → n ≤ m
+pub still_within : (n m : ℕ) (xs : List KeptAttempt) (a : KeptAttempt) → n ≤ m
     → AllByRecursion (λ a. a.from + length a.attempt.certificate ≤ n) xs → a.from + length a.attempt.certificate ≤ m
     → AllByRecursion (λ a. a.from + length a.attempt.certificate ≤ m) (xs ++ a ∷ [])
 still_within n m [] a le within last = (last, tt)
 still_within n m (x ∷ xs) a le within last = let first : x.from + length x.attempt.certificate ≤ n = within.0 in
     (omega arith, still_within n m xs a le within.1 last)
 
+-- with the attempt, whose records begin at this place of these
+abbrev pub with_attempt_at : KeptSection → ℕ → Attempt → ℕ → List (ℕ × Access) → KeptSection
+with_attempt_at k at said from records = record k {
+  rolled_back = false;
+  attempts = k.attempts ++ record { offset = at; attempt = said; from = from } ∷ [];
+  records = records;
+}
+
 -- with the attempt and its records
 abbrev pub with_attempt : KeptSection → ℕ → Attempt → List (ℕ × Access) → KeptSection
-with_attempt k at said records = record k {
-  rolled_back = false;
-  attempts = k.attempts ++ record { offset = at; attempt = said; from = length k.records } ∷ [];
-  records = k.records ++ records;
-}
+with_attempt k at said records = with_attempt_at k at said (length k.records) (k.records ++ records)
+
+abbrev pub attempt_at : ℕ → Attempt → ℕ → KeptAttempt
+attempt_at at b from = record { offset = at; attempt = without_accesses b; from = from }
 
 module _ (t : Trace) (e at : ℕ) (b : Attempt) (rest : List (ℕ × Step)) (k : KeptSection)
     (come : HasCome t e ((at, Attempts b) ∷ rest) k)
-    (right : wrong_step t (state_after start come.front) (at, Attempts b) ≡ None) where
+    (right : wrong_step t (state_after start come.front) (at, Attempts b) ≡ None)
+    (from : ℕ) (records : List (ℕ × Access))
+    (earlier : map (kept_executed_attempt records) k.attempts ≡ executed_attempts k)
+    (own : kept_executed_attempt records (attempt_at at b from) ≡ executed_attempt (at, b))
+    (within : AllByRecursion (λ a. a.from + length a.attempt.certificate ≤ length records)
+    (k.attempts ++ attempt_at at b from ∷ [])) where
   abbrev state : SectionState
   state = state_after start come.front
 
   abbrev added : KeptAttempt
-  added = record { offset = at; attempt = without_accesses b; from = length k.records }
+  added = attempt_at at b from
 
-  attempt_stands : StandsAt (next state (at, Attempts b)) (with_attempt k at (without_accesses b) (ordered at b))
+  abbrev after : KeptSection
+  after = with_attempt_at k at (without_accesses b) from records
+
+  attempt_stands : StandsAt (next state (at, Attempts b)) after
   attempt_stands =
       let fewer : length k.fates ≤ length k.attempts = come.is_kept.fewer in
       let few : length k.fates ≤ length (map (λ (a : KeptAttempt). a.attempt) k.attempts) =
@@ -301,26 +320,13 @@ module _ (t : Trace) (e at : ℕ) (b : Attempt) (rest : List (ℕ × Step)) (k :
         fewer = omega (arith, length-append k.attempts (added ∷ []));
       }
 
-  its_records : kept_executed_attempt (k.records ++ ordered at b) added ≡ executed_attempt (at, b)
-  its_records =
-      let many : length (ordered at b) ≤ length b.certificate =
-      omega (arith, length-map b.certificate (access_with (accesses_at at b))) in
-      λ i. record {
-        offset = at;
-        attempt = without_accesses b;
-        ordered = (ap (take (length b.certificate)) (drop_at k.records (ordered at b) (length k.records) refl)
-            ∙ take_all (length b.certificate) (ordered at b) many) i;
-      }
-
-  one_executed_attempt_more : executed_attempts (with_attempt k at (without_accesses b) (ordered at b))
-      ≡ executed_attempts k ++ executed_attempt (at, b) ∷ []
+  one_executed_attempt_more : executed_attempts after ≡ executed_attempts k ++ executed_attempt (at, b) ∷ []
   one_executed_attempt_more =
-      map-append (kept_executed_attempt (k.records ++ ordered at b)) k.attempts (added ∷ [])
-      ∙ ap (λ (rs : List ExecutedAttempt). rs ++ kept_executed_attempt (k.records ++ ordered at b) added ∷ [])
-      (same_executed_attempt k.records (ordered at b) k.attempts come.is_kept.within)
-      ∙ ap (λ (r : ExecutedAttempt). executed_attempts k ++ r ∷ []) its_records
+      map-append (kept_executed_attempt records) k.attempts (added ∷ [])
+      ∙ ap (λ (rs : List ExecutedAttempt). rs ++ kept_executed_attempt records added ∷ []) earlier
+      ∙ ap (λ (r : ExecutedAttempt). executed_attempts k ++ r ∷ []) own
 
-  attempts_more : executed_attempts (with_attempt k at (without_accesses b) (ordered at b))
+  attempts_more : executed_attempts after
       ≡ map executed_attempt (attempts_among (come.front ++ (at, Attempts b) ∷ []))
   attempts_more =
       one_executed_attempt_more
@@ -329,13 +335,11 @@ module _ (t : Trace) (e at : ℕ) (b : Attempt) (rest : List (ℕ × Step)) (k :
       ∙ ap (map executed_attempt) (sym (attempts_among-push come.front (at, Attempts b)))
 
   attempt_fates : fates_from 0 (steps_at t e)
-      ≡ k.fates ++ (open_fates rest 0 (open_count (with_attempt k at (without_accesses b) (ordered at b))) ++ fates_from
-      (open_count (with_attempt k at (without_accesses b) (ordered at b))) rest)
+      ≡ k.fates ++ (open_fates rest 0 (open_count after) ++ fates_from (open_count after) rest)
   attempt_fates =
       let n = open_count k in
       let fewer : length k.fates ≤ length k.attempts = come.is_kept.fewer in
-      let more : suc n ≡ open_count (with_attempt k at (without_accesses b) (ordered at b)) =
-      omega (arith, length-append k.attempts (added ∷ [])) in
+      let more : suc n ≡ open_count after = omega (arith, length-append k.attempts (added ∷ [])) in
       let here : 0 + n ≡ n = omega arith in
       come.fates
       ∙ ap (λ (fs : List Fate). k.fates ++ fs)
@@ -345,11 +349,8 @@ module _ (t : Trace) (e at : ℕ) (b : Attempt) (rest : List (ℕ × Step)) (k :
       (ap (λ (m : ℕ). open_fates rest 0 n ++ fate_in rest m ∷ []) (sym here) ∙ sym (open_push rest 0 n))
       ∙ ap (λ (m : ℕ). open_fates rest 0 m ++ fates_from m rest) more)
 
-  pub come_attempt : HasCome t e rest (with_attempt k at (without_accesses b) (ordered at b))
-  come_attempt =
-      let long : length (k.records ++ ordered at b) ≡ length k.records + length b.certificate =
-      length-append k.records (ordered at b)
-      ∙ ap (λ (n : ℕ). length k.records + n) (length-map b.certificate (access_with (accesses_at at b))) in
+  pub come_attempt_at : HasCome t e rest after
+  come_attempt_at =
       let many : length (executed_attempts k) ≡ length k.attempts =
       length-map k.attempts (kept_executed_attempt k.records) in
       let longer : length (k.attempts ++ added ∷ []) ≡ length k.attempts + 1 = length-append k.attempts (added ∷ []) in
@@ -361,14 +362,12 @@ module _ (t : Trace) (e at : ℕ) (b : Attempt) (rest : List (ℕ × Step)) (k :
         stands = stands_next t e (at, Attempts b) rest k come right _ attempt_stands;
         attempts = attempts_more;
         settled = settled_next t e (at, Attempts b) rest k come right _ _ _
-            (settled_attempt state at b (executed_attempts k)
-            (executed_attempts (with_attempt k at (without_accesses b) (ordered at b)))
+            (settled_attempt state at b (executed_attempts k) (executed_attempts after)
             (length k.fates) k.commits one_executed_attempt_more (omega arith)
             (still_there (length k.attempts) (length (executed_attempts k)) k.commits (omega arith) come.is_kept.there)
             come.settled);
         is_kept = record {
-          within = still_within (length k.records) (length (k.records ++ ordered at b)) k.attempts added
-              (omega arith) come.is_kept.within (omega arith);
+          within = within;
           fewer = attempt_stands.fewer;
           count = come.is_kept.count;
           there = still_there (length k.attempts) (length (k.attempts ++ added ∷ [])) k.commits
@@ -379,6 +378,32 @@ module _ (t : Trace) (e at : ℕ) (b : Attempt) (rest : List (ℕ × Step)) (k :
             ∙ sym (rollbacks_among-push come.front (at, Attempts b) ∙ append-nil (rollbacks_among come.front));
         fit = rest_fits t e (at, Attempts b) rest k come right;
       }
+
+-- its records go behind those that are kept
+module _ (t : Trace) (e at : ℕ) (b : Attempt) (rest : List (ℕ × Step)) (k : KeptSection)
+    (come : HasCome t e ((at, Attempts b) ∷ rest) k)
+    (right : wrong_step t (state_after start come.front) (at, Attempts b) ≡ None) where
+  its_records : kept_executed_attempt (k.records ++ ordered at b) (attempt_at at b (length k.records))
+      ≡ executed_attempt (at, b)
+  its_records =
+      let many : length (ordered at b) ≤ length b.certificate =
+      omega (arith, length-map b.certificate (access_with (accesses_at at b))) in
+      λ i. record {
+        offset = at;
+        attempt = without_accesses b;
+        ordered = (ap (take (length b.certificate)) (drop_at k.records (ordered at b) (length k.records) refl)
+            ∙ take_all (length b.certificate) (ordered at b) many) i;
+      }
+
+  pub come_attempt : HasCome t e rest (with_attempt k at (without_accesses b) (ordered at b))
+  come_attempt =
+      let long : length (k.records ++ ordered at b) ≡ length k.records + length b.certificate =
+      length-append k.records (ordered at b)
+      ∙ ap (λ (n : ℕ). length k.records + n) (length-map b.certificate (access_with (accesses_at at b))) in
+      come_attempt_at t e at b rest k come right (length k.records) (k.records ++ ordered at b)
+      (same_executed_attempt k.records (ordered at b) k.attempts come.is_kept.within) its_records
+      (still_within (length k.records) (length (k.records ++ ordered at b)) k.attempts
+      (attempt_at at b (length k.records)) (omega arith) come.is_kept.within (omega arith))
 
 -- ---- a commit
 

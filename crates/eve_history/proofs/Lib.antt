@@ -16,6 +16,8 @@ pub mod Sorting
 pub mod Arriving
 pub mod FrameTexts
 pub mod Standing
+pub mod SideBySide
+pub mod Ahead
 pub mod Lent
 pub mod Rights
 mod PartsInOrder

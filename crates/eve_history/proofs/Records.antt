@@ -92,26 +92,24 @@ at_most_once t a i before (x ∷ xs) right few =
     apart : (i j : ℕ) → (j ≡ i → ⊥) → occurrences i (j ∷ []) ≡ 0
     apart i j other = cond-false (j == i) 1 0 (ne_eqb j i other)
 
--- the records of a right attempt have all indexes of its certificate
-pub all_there : (t : Trace) (s : SectionState) (at : ℕ) (b : Attempt) → wrong_step t s (at, Attempts b) ≡ None
+-- the records of an attempt whose certificate and access records are right have all indexes of its certificate
+pub each_there : (t : Trace) (b : Attempt) → length b.certificate ≡ request_count t b
+    → is_right_certificate t b ≡ true → are_right_accesses t b [] b.accesses ≡ true
     → length b.accesses ≡ length b.certificate → length b.certificate ≤ 256
     → AllByRecursion (λ i. (i < 256) × IsTrue (list_any (λ y. y.index == i) b.accesses)) b.certificate
-all_there t s at b nothing many few =
-    let one = and_parts (is_right_attempt t s b) _ (right_step t s (at, Attempts b) nothing) in
-    let two = and_parts (is_right_certificate t b) (are_right_accesses t b [] b.accesses) one.1 in
+each_there t b count certificate accesses many few =
     let r = request_count t b in
-    let count : length b.certificate ≡ r = eqb-true (length b.certificate) r (and_parts (is_due t s b) _ one.0).1 in
     let ys = map index_of b.accesses in
     let size : length ys ≡ r = length-map b.accesses index_of ∙ many ∙ count in
     let small : list_all (λ i. ltb i (length ys)) ys ≡ true = ap (λ (n : ℕ). list_all (λ i. ltb i n) ys) size
-    ∙ all_small t b [] b.accesses two.1 in
+    ∙ all_small t b [] b.accesses accesses in
     let once : (i : ℕ) → occurrences i ys ≤ 1 = λ i. subst (λ (n : ℕ). n ≤ 1) (zero-add (occurrences i ys))
-    (at_most_once t b i [] b.accesses two.1 (omega arith)) in
+    (at_most_once t b i [] b.accesses accesses (omega arith)) in
     let each = (and_parts (list_all (λ i. ltb i (length ys)) ys) (all_below (length ys) (λ i. occurrences i ys == 1))
     (permutes ys small (λ i lt. once i))).1 in
     let own = (and_parts (list_all (λ i. ltb i r) b.certificate) _
     (and_parts (is_permutation r b.certificate) _
-    (and_parts (keeps_groups (batch_at t b.seq).sizes r b.certificate) _ two.0).0).0).0 in
+    (and_parts (keeps_groups (batch_at t b.seq).sizes r b.certificate) _ certificate).0).0).0 in
     by b.certificate own (λ i lt. present i b.accesses
     (let e = eqb-true (occurrences i ys) 1
     (all_below_at (length ys) (λ i. occurrences i ys == 1) i each (omega (arith, size))) in omega arith))
@@ -125,6 +123,17 @@ all_there t s at b nothing many few =
         let parts = and_parts (ltb i (request_count t b)) _ all in
         let lt = ltb-true i (request_count t b) parts.0 in
         ((omega arith, there i lt), by order parts.1 there le)
+
+-- and so those of a right attempt
+pub all_there : (t : Trace) (s : SectionState) (at : ℕ) (b : Attempt) → wrong_step t s (at, Attempts b) ≡ None
+    → length b.accesses ≡ length b.certificate → length b.certificate ≤ 256
+    → AllByRecursion (λ i. (i < 256) × IsTrue (list_any (λ y. y.index == i) b.accesses)) b.certificate
+all_there t s at b nothing many few =
+    let one = and_parts (is_right_attempt t s b) _ (right_step t s (at, Attempts b) nothing) in
+    let two = and_parts (is_right_certificate t b) (are_right_accesses t b [] b.accesses) one.1 in
+    each_there t b
+    (eqb-true (length b.certificate) (request_count t b) (and_parts (is_due t s b) _ one.0).1)
+    two.0 two.1 many few
 
 -- ---- what a right form says of an attempt
 

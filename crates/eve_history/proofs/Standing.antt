@@ -296,21 +296,27 @@ seen_again bytes rows (at, x) short few fits stands =
       };
     }
 
+pub each_seen : (bytes : List ℕ) (t : Trace) (b : Attempt) (at : ℕ) → Spells bytes t
+    → is_step (row_count (head_of t)) (Attempts b) ≡ true → StandsIn bytes at (step_text (Attempts b))
+    → AllByRecursion (IsSeen bytes) (accesses_at at b)
+each_seen bytes t b at spelled fit step =
+    let few = few_rows bytes t spelled in
+    let records = (and_parts (length b.accesses == length b.certificate)
+    (list_all (is_access (row_count (head_of t))) b.accesses) (and_parts (is_attempt b) _ fit).1).1 in
+    from_each (IsSeen bytes) (accesses_at at b) (λ i x got.
+    seen_again bytes (row_count (head_of t)) x (spelled_short bytes t spelled) few
+    (all_at (is_access (row_count (head_of t))) b.accesses i x.1 records
+    (of_located (λ y. frame_text (OfAccess y)) (at + length (frame_text (OfAttempt b))) b.accesses i x got))
+    (access_stands at b i x step got))
+
 pub all_seen : (bytes : List ℕ) (t : Trace) (e : ℕ) (rest : List (ℕ × Step)) (b : Attempt) (k : KeptSection) (at : ℕ)
     (said : Attempt) (xs : List (ℕ × Access)) → Spells bytes t → ComesNext t e rest b k at said xs
     → AllByRecursion (IsSeen bytes) xs
 all_seen bytes t e rest b k at said xs spelled comes =
     let come = comes.come in
-    let few = few_rows bytes t spelled in
     let fits = (and_parts (is_step (row_count (head_of t)) (Attempts b)) _ come.fit).0 in
-    let records = (and_parts (length b.accesses == length b.certificate)
-    (list_all (is_access (row_count (head_of t))) b.accesses) (and_parts (is_attempt b) _ fits).1).1 in
-    let step = next_stands bytes t e rest k at (Attempts b) spelled come in
-    subst (AllByRecursion (IsSeen bytes)) (sym comes.accesses) (from_each (IsSeen bytes) (accesses_at at b) (λ i x got.
-    seen_again bytes (row_count (head_of t)) x (spelled_short bytes t spelled) few
-    (all_at (is_access (row_count (head_of t))) b.accesses i x.1 records
-    (of_located (λ y. frame_text (OfAccess y)) (at + length (frame_text (OfAttempt b))) b.accesses i x got))
-    (access_stands at b i x step got)))
+    subst (AllByRecursion (IsSeen bytes)) (sym comes.accesses)
+    (each_seen bytes t b at spelled fits (next_stands bytes t e rest k at (Attempts b) spelled come))
 
 -- one more of them
 pub one_more_framed : {A : Type 0} (P : A → Type 0) (xs : List A) (x : A) → P x → AllByRecursion P xs

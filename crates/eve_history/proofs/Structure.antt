@@ -97,7 +97,7 @@ none_or_two true true c f e = (refl, refl)
 none_or_two true false c f e = absurd (cc)
 none_or_two false d c f e = absurd (cc)
 
-right_records : (t : Trace) (a : Attempt) (before : List Access) (xs : List (ℕ × Access)) → wrong_records t a before xs
+pub right_records : (t : Trace) (a : Attempt) (before : List Access) (xs : List (ℕ × Access)) → wrong_records t a before xs
     ≡ None → are_right_accesses t a before (accesses_of xs) ≡ true
 right_records t a before [] e = refl
 right_records t a before (x ∷ xs) e =
@@ -131,7 +131,7 @@ right_step t s (at, Commits c) e = none_or (is_right_commit s c) code.Commit
 right_step t s (at, RollsBack r) e = none_or (is_right_rollback t s r) code.Rollback
     (found_or-none at (wrong_rollback t s r) None e).0
 
-nothing_wrong : (t : Trace) (s : SectionState) (step : ℕ × Step) → is_right t s step.1 ≡ true → wrong_step t s step
+pub nothing_wrong : (t : Trace) (s : SectionState) (step : ℕ × Step) → is_right t s step.1 ≡ true → wrong_step t s step
     ≡ None
 nothing_wrong t s (at, Attempts a) right =
     let one = and_parts (is_right_attempt t s a) _ right in

@@ -7,6 +7,7 @@ pub mod Notes
 pub mod Marking
 pub mod Standing
 pub mod Coming
+pub mod SideBySide
 pub mod Parts
 pub mod Rising
 pub mod Repeats

@@ -1,25 +1,30 @@
 //! What a replica did.
 
 ghost use Rattle.std.specs.Prelude.{◌≡◌, ◌≤◌, ◌<◌, ◌-◌, ◌∷◌, ℕ, List, Some, IfOk, IfErr, OnOk, IsTrue, length};
-ghost use Rattle.std.specs.Prelude.{slice_get};
+ghost use Rattle.std.specs.Prelude.{slice_get, IfSome, IsOk};
 ghost use Rattle.eve_grammar.specs.Trace.{Step as StepValue, Trace as TraceValue};
 ghost use Rattle.eve_grammar.specs.Frames.{OfAttempt, OfAccess, OfRollback};
 ghost use Rattle.eve_grammar.specs.Spelling.{frame_text};
+ghost use Rattle.eve_grammar.specs.Spelling.{steps_at};
 ghost use Rattle.eve_frames.specs.Said.{access_said, attempt_said, rollback_said};
 ghost use Rattle.eve_views.specs.Form.{IfFound, IsLeast, HasNone};
 ghost use Rattle.eve_views.specs.Lent.{HasBytesAt};
 ghost use Rattle.eve_views.specs.StepKinds.{IsStep};
 ghost use Rattle.eve_history.specs.SectionHistory.{ExecutedAttempt, section_history, section_histories, IsRightSection};
+ghost use Rattle.eve_history.specs.SectionHistory.{attempts_among};
 ghost use Rattle.eve_history.specs.Faults.{IsStructureFault};
 ghost use Rattle.eve_history.specs.Coming.{kept_section, section_history_of, HasCome, AreNotesOf, IsWholeSection};
+ghost use Rattle.eve_history.specs.SideBySide.{AreOrdered, IsKeptAhead};
 
 use crate::fate::Fate;
 use crate::frame::{access_at, attempt_at, rollback_at};
 use crate::notes::Notes;
+use crate::side_by_side::order_all;
 use eve_frames::{AccessView, AttemptView, RollbackView};
 use eve_views::{CheckFault, Step, Trace};
-use std::alloc::Global;
+use std::alloc::{AllocError, Global};
 use std::marker::Model;
+use std::thread::Threads;
 
 /// What a replica did, as its section tells it: its attempts, what became of each and in which order each ran, and its
 /// rollbacks. Attempts and rollbacks are numbered from 0, in the order of their frames.
@@ -80,7 +85,105 @@ fn take<'a>(
     }
 }
 
+/// Whether a step was taken, where it is right.
+fn is_taken(taken: Result<(), CheckFault>) -> Result<bool, AllocError>
+    ensures { IfOk result (λ right. IsTrue right → IsOk taken) }
+{
+    match taken {
+        Ok(()) => Ok(true),
+        Err(CheckFault::Found(_)) => Ok(false),
+        Err(CheckFault::Memory) => Err(AllocError),
+    }
+}
+
+/// Takes the next step of a replica's section, whose access records are kept already, those of the attempts that come
+/// from this place on; and gives the place of those behind it. Nothing where the step isn't right.
+fn take_ahead<'a>(
+    notes: &mut Notes<'a>,
+    trace: &Trace<'a>,
+    e: u8,
+    step: Step<'_, 'a>,
+    from: usize,
+) -> Result<Option<usize>, AllocError>
+    requires { (rest : List (ℕ × StepValue)) × (next : ℕ × StepValue)
+        × IsKeptAhead trace.now e (next ∷ rest) from notes.old × IsStep step next }
+    ensures { IfOk result (λ next. IfSome next (λ to. (rest : List (ℕ × StepValue)) (next : ℕ × StepValue)
+        → IsKeptAhead trace.now e (next ∷ rest) from notes.old → IsStep step.entry next
+        → IsKeptAhead trace.now e rest to notes.new)) }
+{
+    match step {
+        Step::Attempt(attempt, _) => notes.take_ordered(trace, &attempt, from),
+        Step::Commit(commit) => {
+            let right = is_taken(notes.take_commit(e, &commit))?;
+            Ok(if right { Some(from) } else { None })
+        }
+        Step::Rollback(rollback) => {
+            let right = is_taken(notes.take_rollback(trace, e, &rollback))?;
+            Ok(if right { Some(from) } else { None })
+        }
+    }
+}
+
 impl<'a> History<'a> {
+    /// What a replica did, whose attempts' certificates and access records are right, and whose access records these
+    /// are; nothing where another step of its section isn't right.
+    fn of_ordered(
+        alloc: Global,
+        trace: &Trace<'a>,
+        e: u8,
+        records: Vec<u32>,
+    ) -> Result<Option<History<'a>>, AllocError>
+        requires there { e < length trace.now.sections }
+        requires ordered { AreOrdered trace.now (attempts_among (steps_at trace.now e)) records.items }
+        ensures section_history { IfOk result (λ found. IfSome found (λ history.
+            history ≡ section_history trace.now e)) }
+        ensures replica { IfOk result (λ found. IfSome found (λ history. history.replica ≡ e)) }
+        ensures right { IfOk result (λ found. IfSome found (λ _. IsRightSection trace.now e)) }
+        ensures none { IfOk result (λ found. IfSome found (λ _. HasNone (IsStructureFault trace.now e))) }
+    {
+        trace.recall_limits();
+        let mut notes = Notes::with_records(alloc, trace.bytes(), records);
+        let mut from = 0;
+        let mut steps = trace.section(e);
+        while let Some(step) = steps.next() {
+            match take_ahead(&mut notes, trace, e, step, from)? {
+                Some(to) => from = to,
+                None => return Ok(None),
+            }
+        }
+        Ok(Some(History { replica: e, notes }))
+    }
+
+    /// What a replica did, as `of` says it, with up to so many jobs.
+    ///
+    /// docs/MODEL.md, "Section state, fate" and "Faults". Of two jobs or more the certificates and access records of
+    /// its attempts are judged side by side, whatever came before each, and then one pass goes over the section's steps
+    /// without them. Only where that way finds something wrong, the section is judged again from the start, frame by
+    /// frame, for the first fault. Refused memory decides nothing.
+    pub fn of_side_by_side<R: Threads + Sync>(
+        rt: &R,
+        alloc: Global,
+        trace: &Trace<'a>,
+        e: u8,
+        jobs: u8,
+    ) -> Result<History<'a>, CheckFault>
+        requires { e < length trace.now.sections }
+        ensures section_history { IfOk result (λ history. history ≡ section_history trace.now e) }
+        ensures replica { IfOk result (λ history. history.replica ≡ e) }
+        ensures right { IfOk result (λ _. IsRightSection trace.now e) }
+        ensures none { IfOk result (λ _. HasNone (IsStructureFault trace.now e)) }
+        ensures least { IfErr result (λ x. IfFound x (IsLeast (IsStructureFault trace.now e))) }
+    {
+        if 1 < jobs {
+            if let Some(records) = order_all(rt, alloc, trace, e, jobs)? {
+                if let Some(history) = History::of_ordered(alloc, trace, e, records)? {
+                    return Ok(history);
+                }
+            }
+        }
+        History::of(alloc, trace, e)
+    }
+
     /// What a replica did, by the replica's number from 0, where its section is right; else the first fault of
     /// structure in it.
     ///

@@ -13,6 +13,7 @@ pub mod laws;
 mod marks;
 mod notes;
 mod repeats;
+mod side_by_side;
 mod wrong;
 
 pub use arrivals::orders;

@@ -1,8 +1,8 @@
 //! What a replica's section tells, step by step.
 
-ghost use Rattle.std.specs.Prelude.{◌≡◌, ◌≤◌, ◌<◌, ◌++◌, ◌∷◌, ◌^◌, [], ℕ, List, IsTrue, IfErr, OnOk, IfNone};
-ghost use Rattle.std.specs.Prelude.{◌==◌, ◌&&◌, ◌+◌, false, map, length, take, drop, slice_get, slice_index};
-ghost use Rattle.std.specs.Prelude.{Some};
+ghost use Rattle.std.specs.Prelude.{◌≡◌, ◌≤◌, ◌<◌, ◌++◌, ◌∷◌, ◌^◌, [], ℕ, List, IsTrue, IfErr, OnOk, IfNone, IfOk};
+ghost use Rattle.std.specs.Prelude.{◌==◌, ◌&&◌, ◌+◌, false, map, length, take, drop, slice_get, slice_index, Some};
+ghost use Rattle.std.specs.Prelude.{IfSome};
 ghost use Rattle.std.specs.List.{AllByRecursion};
 ghost use Rattle.eve_grammar.specs.Trace.{Trace as TraceValue, Attempt, Step as StepValue, Attempts, Commits};
 ghost use Rattle.eve_grammar.specs.Trace.{RollsBack, head_of};
@@ -11,8 +11,9 @@ ghost use Rattle.eve_grammar.specs.Bodies.{limits};
 ghost use Rattle.eve_grammar.specs.Spelling.{accesses_at};
 ghost use Rattle.eve_frames.specs.Said.{attempt_said, commit_said, rollback_said};
 ghost use Rattle.eve_views.specs.Form.{IfFound, IsLeast};
-ghost use Rattle.eve_views.specs.declared.fault.CheckFault.TheVariants.{Found, Memory};
+ghost use Rattle.eve_views.specs.declared.fault.CheckFault.TheVariants.{Found};
 ghost use Rattle.eve_history.specs.Section.{SectionState, is_due, is_right_commit, is_right_rollback, same_bytes};
+ghost use Rattle.eve_history.specs.Section.{worker_count};
 ghost use Rattle.eve_history.specs.SectionHistory.{ExecutedAttempt};
 ghost use Rattle.eve_history.specs.Faults.{IsStructureFault};
 ghost use Rattle.eve_history.specs.FirstWrong.{wrong_attempt, wrong_step, fault_of};
@@ -20,6 +21,7 @@ ghost use Rattle.eve_history.specs.Marking.{AreMarked};
 ghost use Rattle.eve_history.specs.Coming.{kept_section, StandsAt, HasCome, ComesNext, AreFramed, AreNotesOf};
 ghost use Rattle.eve_history.specs.Coming.{seen, executed_attempts, IsWholeSection};
 ghost use Rattle.eve_history.specs.Standing.{IsAccessAt};
+ghost use Rattle.eve_history.specs.SideBySide.{IsKeptAhead};
 
 use crate::certificate::{is_certificate, read_order};
 use crate::fate::Fate;
@@ -27,9 +29,9 @@ use crate::frame::attempt_at;
 use crate::marks::Marks;
 use crate::wrong::Wrong;
 use eve_frames::{AttemptView, CommitView, RollbackView};
-use eve_grammar::{Head, MOST_REQUESTS};
+use eve_grammar::{Head, MOST_REQUESTS, MOST_WORKERS};
 use eve_views::{Accesses, CheckFault, Code, Fault, Trace};
-use std::alloc::Global;
+use std::alloc::{AllocError, Global};
 
 /// An attempt, and where its access records begin among those of the section.
 #[derive(Clone, Copy)]
@@ -83,16 +85,28 @@ fn is_of(commit: &CommitView<'_>, attempt: &AttemptView<'_>) -> bool
 }
 
 /// Keeps the access records of an attempt, which are marked, in its certificate's order.
-fn keep_records(records: &mut Vec<u32>, order: &[u16], marks: &Marks) -> Result<(), CheckFault>
+pub fn keep_records(records: &mut Vec<u32>, order: &[u16], marks: &Marks) -> Result<(), AllocError>
     requires { AllByRecursion (λ i. i < MOST_REQUESTS) order.now }
-    ensures kept { OnOk result
+    ensures { OnOk result
         (records.new.items ≡ records.old.items ++ map (λ i. slice_index marks.now.offsets i) order.now) }
-    ensures memory { IfErr result (λ e. e ≡ Memory) }
 {
     for index in order {
         records.push(marks.offset(*index))?;
     }
     Ok(())
+}
+
+/// How many workers an attempt may have.
+pub fn workers_of(trace: &Trace<'_>, attempt: &AttemptView<'_>) -> u8
+    ensures workers { result ≡ worker_count trace.now (attempt_said attempt.now) }
+    ensures most { result ≤ MOST_WORKERS }
+{
+    trace.recall_limits();
+    if attempt.is_serial() {
+        1
+    } else {
+        trace.head().workers
+    }
 }
 
 /// So many of the records, from this place on.
@@ -131,6 +145,37 @@ impl<'a> Notes<'a> {
             fates: Vec::new(alloc),
             commits: Vec::new(alloc),
             records: Vec::new(alloc),
+            rollbacks: Vec::new(alloc),
+        }
+    }
+
+    /// Before the first step, with the access records of all attempts that are to come.
+    pub fn with_records(alloc: Global, bytes: &'a [u8], records: Vec<u32>) -> Notes<'a>
+        ensures bytes { result.bytes.now ≡ bytes.now }
+        ensures attempts { result.attempts.items ≡ [] }
+        ensures records { result.records.items ≡ records.items }
+        ensures rollbacks { result.rollbacks.items ≡ [] }
+        ensures kept { kept_section result
+            ≡ record {
+              view = 0;
+              last = 0;
+              rolled_back = false;
+              attempts = [];
+              fates = [];
+              commits = [];
+              records = map (seen bytes.now) records.items;
+              rollbacks = [];
+            } }
+    {
+        Notes {
+            bytes,
+            view: 0,
+            last: 0,
+            rolled_back: false,
+            attempts: Vec::new(alloc),
+            fates: Vec::new(alloc),
+            commits: Vec::new(alloc),
+            records,
             rollbacks: Vec::new(alloc),
         }
     }
@@ -247,12 +292,7 @@ impl<'a> Notes<'a> {
                 offset: attempt.offset(),
             });
         }
-        let workers = if attempt.is_serial() {
-            1
-        } else {
-            trace.head().workers
-        };
-        marks.mark_all(workers, order.len(), accesses)
+        marks.mark_all(workers_of(trace, attempt), order.len(), accesses)
     }
 
     /// Takes the next attempt, which becomes open, or says which of its frames is wrong.
@@ -295,6 +335,33 @@ impl<'a> Notes<'a> {
         Ok(())
     }
 
+    /// Takes the next attempt, whose certificate and access records are right and whose records are kept from this place
+    /// on, and gives the place behind them; nothing where it isn't due.
+    pub fn take_ordered(
+        &mut self,
+        trace: &Trace<'_>,
+        attempt: &AttemptView<'_>,
+        from: usize,
+    ) -> Result<Option<usize>, AllocError>
+        requires { (e : ℕ) × (rest : List (ℕ × StepValue)) × (b : Attempt)
+            × IsKeptAhead trace.now e ((attempt.now.offset, Attempts b) ∷ rest) from self.old
+            × (attempt_said attempt.now ≡ without_accesses b) }
+        ensures { IfOk result (λ next. IfSome next (λ to. (e : ℕ) (rest : List (ℕ × StepValue)) (b : Attempt)
+            → IsKeptAhead trace.now e ((attempt.now.offset, Attempts b) ∷ rest) from self.old
+            → attempt_said attempt.now ≡ without_accesses b → IsKeptAhead trace.now e rest to self.new)) }
+    {
+        if !self.is_due(&trace.head(), attempt) {
+            return Ok(None);
+        }
+        let next = from + attempt.len();
+        self.attempts.push(Attempted {
+            at: attempt.offset() as u32,
+            from,
+        })?;
+        self.rolled_back = false;
+        Ok(Some(next))
+    }
+
     /// Takes the next commit, of the first open attempt, or says that it is wrong.
     pub fn take_commit(&mut self, e: u8, commit: &CommitView<'_>) -> Result<(), CheckFault>
         requires { AreFramed self.old }
@@ -302,6 +369,7 @@ impl<'a> Notes<'a> {
             → HasCome t e ((commit.now.offset, Commits (commit_said commit.now)) ∷ rest) (kept_section self.old)
             → HasCome t e rest (kept_section self.new)) }
         ensures noted { OnOk result ((t : TraceValue) → AreNotesOf t self.old → AreNotesOf t self.new) }
+        ensures records { OnOk result (self.new.records.items ≡ self.old.records.items) }
         ensures wrong { IfErr result
             (λ x. IfFound x (λ f. (t : TraceValue) (rest : List (ℕ × StepValue))
             → HasCome t e ((commit.now.offset, Commits (commit_said commit.now)) ∷ rest) (kept_section self.old)
@@ -341,6 +409,7 @@ impl<'a> Notes<'a> {
             (kept_section self.old)
             → HasCome trace.now e rest (kept_section self.new)) }
         ensures noted { OnOk result (AreNotesOf trace.now self.new) }
+        ensures records { OnOk result (self.new.records.items ≡ self.old.records.items) }
         ensures wrong { IfErr result
             (λ x. IfFound x (λ f. (rest : List (ℕ × StepValue))
             → HasCome trace.now e ((rollback.now.offset, RollsBack (rollback_said rollback.now)) ∷ rest)

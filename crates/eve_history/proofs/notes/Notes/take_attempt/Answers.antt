@@ -105,7 +105,7 @@ returns-clause-taken c = λ rest b comes.
     let again = seen_in_order n.bytes.now xs own
     (all_seen n.bytes.now t c.args.e rest b k at said xs c.requires.noted.spelled comes) listed in
     let kept : c.keep_records.new.records.items ≡ n.records.items ++ map (λ i. (access_with xs i).0) own =
-    c.in_ok-keep_records.ensures.kept
+    c.in_ok-keep_records.ensures
     ∙ ap (λ (ys : List ℕ). n.records.items ++ ys) (found_offsets xs c.judge.new.marks own c.in_default.ensures.marked
     listed) in
     let records : k.records ++ ordered at b ≡ map (seen n.bytes.now) c.keep_records.new.records.items =
@@ -152,7 +152,7 @@ returns-clause-noted c =
     (sym (c.in_default.ensures.wrong (state_after start comes.come.front) b comes.come.stands comes.attempt
     comes.accesses))) in
     let kept : c.keep_records.new.records.items ≡ n.records.items ++ map (λ i. (access_with xs i).0) own =
-    c.in_ok-keep_records.ensures.kept
+    c.in_ok-keep_records.ensures
     ∙ ap (λ (ys : List ℕ). n.records.items ++ ys) (found_offsets xs c.judge.new.marks own c.in_default.ensures.marked
     listed) in
     record {

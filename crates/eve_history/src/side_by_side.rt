@@ -1,0 +1,334 @@
+//! The attempts of a section, with their certificates and access records judged side by side.
+
+ghost use Rattle.std.specs.Prelude.{◌≡◌, ◌<◌, ◌∷◌, ◌++◌, [], ℕ, List, IsTrue, IfOk, OnOk, IfSome, Some, length, map};
+ghost use Rattle.std.specs.Prelude.{◌*◌, ◌-◌, ◌+◌, ◌≤◌, Ok, take, drop, slice_index_or};
+ghost use Rattle.std.specs.List.{AllByRecursion};
+ghost use Rattle.eve_grammar.specs.Trace.{Attempt, Step as StepValue, Trace as TraceValue};
+ghost use Rattle.eve_grammar.specs.Spelling.{steps_at};
+ghost use Rattle.eve_frames.specs.Said.{attempt_said};
+ghost use Rattle.eve_views.specs.StepKinds.{IsStep};
+ghost use Rattle.eve_history.specs.Section.{request_count, is_right_certificate};
+ghost use Rattle.eve_history.specs.SectionHistory.{attempts_among};
+ghost use Rattle.eve_history.specs.Marking.{AreMarked};
+ghost use Rattle.eve_history.specs.SideBySide.{placed_met, AreCounted, IsMet, HaveBeenMet, IsRightAlone, AreOrdered};
+ghost use Rattle.eve_history.specs.SideBySide.{IsPart};
+
+use crate::certificate::{is_certificate, read_order};
+use crate::marks::Marks;
+use crate::notes::{keep_records, workers_of};
+use eve_frames::AttemptView;
+use eve_grammar::MOST_REQUESTS;
+use eve_views::{Accesses, Step, Trace};
+use std::alloc::{AllocError, Global};
+use std::thread;
+use std::thread::Threads;
+
+/// An attempt that was met, with its access records in the order of their frames.
+#[derive(Drop)]
+pub struct MetAttempt<'t, 'a> {
+    attempt: AttemptView<'a>,
+    accesses: Accesses<'t, 'a>,
+}
+
+/// The bytes at which the access records of attempts begin, each attempt's in its certificate's order; nothing where
+/// one is wrong.
+type Ordered = Result<Option<Vec<u32>>, AllocError>;
+
+/// How many attempts of a section are still to be passed over, and how many are to be kept after these.
+#[derive(Clone, Copy)]
+pub struct Ahead {
+    skip: usize,
+    keep: usize,
+}
+
+/// Keeps an attempt that was met, or passes over it, and says what is to be done after it.
+fn keep<'t, 'a>(
+    mets: &mut Vec<MetAttempt<'t, 'a>>,
+    met: MetAttempt<'t, 'a>,
+    ahead: Ahead,
+) -> Result<Ahead, AllocError>
+    ensures passed { IfOk result (λ after. 0 < ahead.skip → (after.skip ≡ ahead.skip - 1) × (after.keep ≡ ahead.keep)
+        × (mets.new.items ≡ mets.old.items)) }
+    ensures kept { IfOk result (λ after. ahead.skip ≡ 0 → 0 < ahead.keep → (after.skip ≡ 0)
+        × (after.keep ≡ ahead.keep - 1) × (mets.new.items ≡ mets.old.items ++ met.entry ∷ [])) }
+    ensures full { IfOk result (λ after. ahead.skip ≡ 0 → ahead.keep ≡ 0 → (after.skip ≡ 0) × (after.keep ≡ 0)
+        × (mets.new.items ≡ mets.old.items)) }
+{
+    let Ahead { skip, keep } = ahead;
+    if skip > 0 {
+        return Ok(Ahead {
+            skip: skip - 1,
+            keep,
+        });
+    }
+    if keep == 0 {
+        return Ok(ahead);
+    }
+    mets.push(met)?;
+    Ok(Ahead {
+        skip,
+        keep: keep - 1,
+    })
+}
+
+/// Puts the next step of a section behind the attempts that were met, where it is an attempt that is to be kept.
+fn meet<'t, 'a>(
+    mets: &mut Vec<MetAttempt<'t, 'a>>,
+    step: Step<'t, 'a>,
+    ahead: Ahead,
+) -> Result<Ahead, AllocError>
+    ensures { IfOk result (λ after. (t : TraceValue) (e from most : ℕ) (rest : List (ℕ × StepValue))
+        (next : ℕ × StepValue) → HaveBeenMet t e from most (next ∷ rest) ahead mets.old.items → IsStep step.entry next
+        → HaveBeenMet t e from most rest after mets.new.items) }
+{
+    match step {
+        Step::Attempt(attempt, accesses) => keep(mets, MetAttempt { attempt, accesses }, ahead),
+        Step::Commit(_) => Ok(ahead),
+        Step::Rollback(_) => Ok(ahead),
+    }
+}
+
+/// One more than so many; nothing past the largest number.
+fn one_more(count: usize) -> Option<usize>
+    ensures { IfSome result (λ n. n ≡ count + 1) }
+{
+    count.checked_add(1)
+}
+
+/// How many attempts there are after so many, where the next step is this one; nothing past the largest number.
+fn counted(step: Step<'_, '_>, count: usize) -> Option<usize>
+    ensures { IfSome result (λ after. (t : TraceValue) (e : ℕ) (rest : List (ℕ × StepValue)) (next : ℕ × StepValue)
+        → AreCounted t e (next ∷ rest) count → IsStep step.entry next → AreCounted t e rest after) }
+{
+    match step {
+        Step::Attempt(_, _) => one_more(count),
+        Step::Commit(_) => Some(count),
+        Step::Rollback(_) => Some(count),
+    }
+}
+
+/// How many attempts there are in a replica's section; nothing past the largest number.
+fn attempt_count(trace: &Trace<'_>, e: u8) -> Option<usize>
+    requires { e < length trace.now.sections }
+    ensures { IfSome result (λ count. count ≡ length (attempts_among (steps_at trace.now e))) }
+{
+    let mut count = 0;
+    let mut steps = trace.section(e);
+    while let Some(step) = steps.next() {
+        count = counted(step, count)?;
+    }
+    Some(count)
+}
+
+/// The attempts of a replica's section in the order of their frames, from a place on, and at most so many.
+pub fn attempts_met<'t, 'a>(
+    alloc: Global,
+    trace: &'t Trace<'a>,
+    e: u8,
+    from: usize,
+    most: usize,
+) -> Result<Vec<MetAttempt<'t, 'a>>, AllocError>
+    requires { e < length trace.now.sections }
+    ensures met { IfOk result (λ mets. AllByRecursion (IsMet trace.now) mets.items) }
+    ensures all { IfOk result (λ mets. map placed_met mets.items
+        ≡ take most (drop from (attempts_among (steps_at trace.now e)))) }
+{
+    let _bytes = trace.bytes();
+    let mut mets = Vec::new(alloc);
+    let mut ahead = Ahead {
+        skip: from,
+        keep: most,
+    };
+    let mut steps = trace.section(e);
+    while let Some(step) = steps.next() {
+        ahead = meet(&mut mets, step, ahead)?;
+    }
+    Ok(mets)
+}
+
+/// Whether an attempt's certificate is right, of a batch that is there.
+fn has_right_certificate(trace: &Trace<'_>, attempt: &AttemptView<'_>, order: &[u16]) -> bool
+    requires { order.now ≡ (attempt_said attempt.now).certificate }
+    ensures count { IsTrue result → length (attempt_said attempt.now).certificate
+        ≡ request_count trace.now (attempt_said attempt.now) }
+    ensures right { IsTrue result → IsTrue (is_right_certificate trace.now (attempt_said attempt.now)) }
+{
+    trace.recall_limits();
+    let seq = attempt.seq();
+    if seq == 0 || seq > trace.head().batches {
+        return false;
+    }
+    let batch = trace.batch(seq);
+    if order.len() != batch.len() {
+        return false;
+    }
+    is_certificate(&batch, attempt.is_serial(), order)
+}
+
+/// Whether an attempt's certificate and access records are right, whatever came before it. Where they are, the records
+/// are marked.
+fn is_right_alone(
+    trace: &Trace<'_>,
+    met: &MetAttempt<'_, '_>,
+    order: &[u16],
+    marks: &mut Marks,
+) -> bool
+    requires met { IsMet trace.now met.now }
+    requires order { order.now ≡ (attempt_said met.now.attempt).certificate }
+    requires none { AreMarked [] marks.old }
+    ensures right { IsTrue result → IsRightAlone trace.now (placed_met met.now) }
+    ensures marked { IsTrue result → AreMarked met.now.accesses marks.new }
+{
+    trace.recall_limits();
+    if !has_right_certificate(trace, &met.attempt, order) {
+        return false;
+    }
+    let workers = workers_of(trace, &met.attempt);
+    match marks.mark_all(workers, order.len(), &met.accesses) {
+        None => true,
+        Some(_) => false,
+    }
+}
+
+/// Whether an attempt's certificate and access records are right, whatever came before it. Where they are, the bytes at
+/// which the records begin are put behind others.
+fn order_attempt(
+    records: &mut Vec<u32>,
+    trace: &Trace<'_>,
+    met: &MetAttempt<'_, '_>,
+) -> Result<bool, AllocError>
+    requires { IsMet trace.now met.now }
+    ensures { IfOk result (λ right. IsTrue right → (xs : List (ℕ × Attempt))
+        → AreOrdered trace.now xs records.old.items
+        → AreOrdered trace.now (xs ++ placed_met met.now ∷ []) records.new.items) }
+{
+    let mut indexes = [0; MOST_REQUESTS];
+    read_order(&met.attempt, &mut indexes);
+    let order = &indexes[..met.attempt.len()];
+    let mut marks = Marks::new();
+    if !is_right_alone(trace, met, order, &mut marks) {
+        return Ok(false);
+    }
+    keep_records(records, order, &marks)?;
+    Ok(true)
+}
+
+/// The access records of a stretch of attempts.
+fn order_stretch(alloc: Global, trace: &Trace<'_>, mets: &[MetAttempt<'_, '_>]) -> Ordered
+    requires { AllByRecursion (IsMet trace.now) mets.now }
+    ensures { IfOk result (λ found. IfSome found (λ records.
+        AreOrdered trace.now (map placed_met mets.now) records.items)) }
+{
+    let mut records = Vec::new(alloc);
+    for met in mets {
+        if !order_attempt(&mut records, trace, met)? {
+            return Ok(None);
+        }
+    }
+    Ok(Some(records))
+}
+
+/// The access records of the i-th part of the attempts of a replica's section, where each part has so many: it goes over
+/// the section, and judges those of the part.
+fn order_part(alloc: Global, trace: &Trace<'_>, e: u8, size: usize, i: usize) -> Ordered
+    requires { e < length trace.now.sections }
+    ensures { IsPart trace.now e size i result }
+{
+    let Some(from) = i.checked_mul(size) else {
+        return Ok(None);
+    };
+    let mets = attempts_met(alloc, trace, e, from, size)?;
+    order_stretch(alloc, trace, &mets)
+}
+
+/// The access records of so many parts of the attempts of a replica's section, each part's in a thread of its own.
+fn order_parts<R: Threads + Sync>(
+    rt: &R,
+    alloc: Global,
+    trace: &Trace<'_>,
+    e: u8,
+    size: usize,
+    parts: usize,
+) -> Result<Vec<Ordered>, AllocError>
+    requires { e < length trace.now.sections }
+    ensures len { IfOk result (λ found. length found.items ≡ parts) }
+    ensures each { IfOk result (λ found. (i : ℕ) (d : _) → i < length found.items
+        → IsPart trace.now e size i (slice_index_or found.items i d)) }
+{
+    thread::map_indices(
+        rt,
+        alloc,
+        parts,
+        &|i: usize|
+            requires { e < length trace.now.sections }
+            ensures { IsPart trace.entry.now e size i result }
+        { order_part(alloc, trace, e, size, i) },
+    )
+}
+
+/// Puts a part's records behind those of the parts before it; no where something is wrong in it.
+fn put_behind(records: &mut Vec<u32>, part: &Ordered) -> Result<bool, AllocError>
+    ensures { IfOk result (λ right. IsTrue right → (more : _) × (part.now ≡ Ok (Some more))
+        × (records.new.items ≡ records.old.items ++ more.items)) }
+{
+    match part {
+        Ok(Some(more)) => {
+            records.extend_from_slice(more)?;
+            Ok(true)
+        }
+        Ok(None) => Ok(false),
+        Err(AllocError) => Err(AllocError),
+    }
+}
+
+/// The records of all parts, one behind the other.
+fn joined(alloc: Global, trace: &Trace<'_>, e: u8, size: usize, parts: &[Ordered]) -> Ordered
+    requires { (i : ℕ) (d : _) → i < length parts.now
+        → IsPart trace.now e size i (slice_index_or parts.now i d) }
+    ensures { IfOk result (λ found. IfSome found (λ records.
+        AreOrdered trace.now (take (length parts.now * size) (attempts_among (steps_at trace.now e)))
+        records.items)) }
+{
+    let mut records = Vec::new(alloc);
+    for part in parts {
+        if !put_behind(&mut records, part)? {
+            return Ok(None);
+        }
+    }
+    Ok(Some(records))
+}
+
+/// How few attempts are worth a thread of their own: one has up to 256 access records.
+const LEAST_ATTEMPTS: usize = 32;
+
+/// Of how many attempts each of so many parts is, so that all are in one.
+fn part_size(count: usize, parts: usize) -> Option<usize>
+    requires { 1 ≤ parts }
+    ensures { IfSome result (λ size. count ≤ parts * size) }
+{
+    one_more(count / parts)
+}
+
+/// The access records of all attempts of a replica's section, judged in as many threads as there are jobs, or in fewer
+/// where a thread would have too little.
+pub fn order_all<R: Threads + Sync>(
+    rt: &R,
+    alloc: Global,
+    trace: &Trace<'_>,
+    e: u8,
+    jobs: u8,
+) -> Ordered
+    requires { e < length trace.now.sections }
+    ensures { IfOk result (λ found. IfSome found (λ records.
+        AreOrdered trace.now (attempts_among (steps_at trace.now e)) records.items)) }
+{
+    let Some(count) = attempt_count(trace, e) else {
+        return Ok(None);
+    };
+    let threads = usize::from(jobs).min(count / LEAST_ATTEMPTS).max(1);
+    let Some(size) = part_size(count, threads) else {
+        return Ok(None);
+    };
+    let parts = order_parts(rt, alloc, trace, e, size, threads)?;
+    joined(alloc, trace, e, size, &parts)
+}
