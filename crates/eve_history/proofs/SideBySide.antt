@@ -1,10 +1,12 @@
 -- Attempts that are judged whatever came before them.
 use Rattle.std.proofs.Common.{◌≡◌, ℕ, Bool, ◌^◌, ◌<◌, ◌≤◌, ◌==◌, true, List, [], ◌∷◌, ◌++◌, map, length, get_or, take, drop}
 use Rattle.std.proofs.Common.{◌+◌, ◌-◌, ◌*◌, ◌/◌, min, inl, inr}
-use Rattle.std.proofs.Common.{Option, Some, None, IfSome, Result, Ok, Err, IfOk, Vec, IsTrue, refl, sym, ap, subst, ◌∙◌, append_assoc, arith}
+use Rattle.std.proofs.Common.{Option, Some, None, IfSome, Result, Ok, Err, IfOk, Vec, IsTrue, refl, sym, ap, subst}
+use Rattle.std.proofs.Common.{◌∙◌, append_assoc, arith}
 use Rattle.std.specs.List.{AllByRecursion, flat_map, list_all, list_any}
 use Rattle.std.proofs.lemmas.Bool.{and_parts, cases_lt}
-use Rattle.std.proofs.lemmas.List.{append-nil, map-append, length-map, length-append, length-take, take-append-le, drop-append-le, take_all, drop_all}
+use Rattle.std.proofs.lemmas.List.{append-nil, map-append, length-map, length-append, length-take}
+use Rattle.std.proofs.lemmas.List.{take-append-le, drop-append-le, take_all, drop_all}
 use Rattle.std.proofs.Math.Seq.{take-add}
 use Rattle.std.proofs.lemmas.List.Concat.{flat_map-append}
 use Rattle.std.proofs.lemmas.List.Folds.{list_all-append}
@@ -28,7 +30,8 @@ use Rattle.eve_history.specs.FirstWrong.{wrong_accesses}
 use Rattle.eve_history.specs.Marking.{AreMarked}
 use Rattle.eve_history.specs.Standing.{IsAccessAt}
 use Rattle.eve_history.specs.Coming.{seen}
-use Rattle.eve_history.specs.SideBySide.{attempt_met, placed_met, AreCounted, IsMet, HaveBeenMet, IsRightAlone, AreOrdered}
+use Rattle.eve_history.specs.SideBySide.{attempt_met, placed_met, AreCounted, IsMet, HaveBeenMet}
+use Rattle.eve_history.specs.SideBySide.{IsRightAlone, AreOrdered}
 use Rattle.eve_history.specs.SideBySide.{IsPart}
 use Rattle.eve_history.proofs.Structure.{accesses_of-at, right_records}
 use Rattle.eve_history.proofs.Coming.{steps_fit, attempts_among-push}
@@ -117,7 +120,8 @@ module _ (t : Trace) (m : MetAttempt) (met : IsMet t m) where
       }
 
 -- what the marks say of an attempt whose certificate is right
-pub right_alone : (t : Trace) (m : MetAttempt) (workers count : ℕ) → workers ≡ worker_count t (attempt_in m.attempt.bytes.now)
+pub right_alone : (t : Trace) (m : MetAttempt) (workers count : ℕ)
+    → workers ≡ worker_count t (attempt_in m.attempt.bytes.now)
     → length (attempt_in m.attempt.bytes.now).certificate ≡ request_count t (attempt_in m.attempt.bytes.now)
     → IsTrue (is_right_certificate t (attempt_in m.attempt.bytes.now))
     → count ≡ length (attempt_in m.attempt.bytes.now).certificate

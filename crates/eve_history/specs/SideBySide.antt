@@ -1,5 +1,6 @@
 -- The attempts of a section, each judged whatever came before it.
-use Rattle.std.specs.Prelude.{◌≡◌, ℕ, ◌+◌, ◌-◌, IsTrue, ◌*◌, List, [], ◌∷◌, ◌++◌, length, map, take, drop, Option, Result, Vec, IfOk, IfSome}
+use Rattle.std.specs.Prelude.{◌≡◌, ℕ, ◌+◌, ◌-◌, IsTrue, ◌*◌, List, [], ◌∷◌, ◌++◌, length, map, take, drop}
+use Rattle.std.specs.Prelude.{Option, Result, Vec, IfOk, IfSome}
 use Rattle.std.specs.List.{AllByRecursion, flat_map}
 use Rattle.eve_grammar.specs.Trace.{Attempt, Step, Attempts, Trace}
 use Rattle.eve_grammar.specs.Frames.{without_accesses}

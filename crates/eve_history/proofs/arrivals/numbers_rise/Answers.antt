@@ -14,7 +14,8 @@ pub loop-n-preserved : goal.loop-n-preserved
 loop-n-preserved c =
     let t = c.args.trace.now in
     let said : ℕ × (ℕ × Batch) = (c.batch-batch.result.offset, batch_in c.batch-batch.result.bytes.now) in
-    risen_more t c.loop-n.n (greatest_of c.loop-n.greatest) (greatest_of c.are_above.new.greatest) said c.loop-n.invariant
+    risen_more t c.loop-n.n (greatest_of c.loop-n.greatest) (greatest_of c.are_above.new.greatest) said
+    c.loop-n.invariant
     (batch_there (batches_at t) c.loop-n.n said c.batch-batch.ensures.says)
     (c.in_ok-are_above.ensures.above c.if-not-branch.false)
 

@@ -39,7 +39,8 @@ returns c = λ before marked.
     taken_right c.args.workers c.args.count before
     (c.args.access.now.offset, access_in c.args.access.now.bytes.now) c.args.self.now
     c.worker-worker.result c.index-index.result c.worker-worker.ensures c.index-index.ensures marked
-    c.offset.result c.offset.ensures c.requires.workers c.requires.count (search rules) (search rules) (search rules) (search rules)
+    c.offset.result c.offset.ensures c.requires.workers c.requires.count (search rules) (search rules)
+    (search rules) (search rules)
 
 -- as many have come of a worker as there are at most
 few_places : (m : Marks) (before : List (ℕ × Access)) (worker : ℕ) → AreMarked before m → worker < 8
