@@ -23,7 +23,8 @@ use Rattle.eve_history.specs.Standing.{IsAttemptAt, IsAccessAt, IsRollbackAt}
 use Rattle.eve_history.specs.Coming.{KeptSection, kept_section, kept_executed_attempt, seen, HasCome, AreNotesOf}
 use Rattle.eve_history.specs.SideBySide.{IsRightAlone, AreOrdered, IsKeptAhead}
 use Rattle.eve_history.proofs.Structure.{nothing_wrong}
-use Rattle.eve_history.proofs.Coming.{nothing, come_start_with, attempt_at, with_attempt_at, come_attempt_at, still_within}
+use Rattle.eve_history.proofs.Coming.{nothing, come_start_with, attempt_at, with_attempt_at, come_attempt_at}
+use Rattle.eve_history.proofs.Coming.{still_within}
 use Rattle.eve_history.proofs.SideBySide.{all_behind}
 
 abbrev pub tell : ℕ × Attempt → List (ℕ × Access)

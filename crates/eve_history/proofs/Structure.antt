@@ -97,7 +97,8 @@ none_or_two true true c f e = (refl, refl)
 none_or_two true false c f e = absurd (cc)
 none_or_two false d c f e = absurd (cc)
 
-pub right_records : (t : Trace) (a : Attempt) (before : List Access) (xs : List (ℕ × Access)) → wrong_records t a before xs
+pub right_records : (t : Trace) (a : Attempt) (before : List Access) (xs : List (ℕ × Access))
+    → wrong_records t a before xs
     ≡ None → are_right_accesses t a before (accesses_of xs) ≡ true
 right_records t a before [] e = refl
 right_records t a before (x ∷ xs) e =

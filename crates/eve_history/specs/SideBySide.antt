@@ -36,7 +36,7 @@ pub record IsMet (t : Trace) (m : MetAttempt) : Type 0 where
   pub said : attempt_said m.attempt ≡ without_accesses (attempt_met m)
   pub accesses : m.accesses ≡ accesses_at m.attempt.offset (attempt_met m)
 
--- So many steps of replica e's section have come, and of the attempts among them these are those from a place on, and at
+-- So many steps of replica e's section have come, and of the attempts among them these are those from a place on, at
 -- most so many. What is ahead: how many are still to be passed over, and how many may be kept.
 pub record HaveBeenMet (t : Trace) (e from most : ℕ) (rest : List (ℕ × Step)) (ahead : Ahead) (ms : List MetAttempt)
     : Type 0 where

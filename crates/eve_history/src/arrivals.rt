@@ -60,7 +60,8 @@ fn names_in_order<'a>(
 fn is_above(greatest: &mut Greatest, client: u32, number: u64) -> Result<bool, CheckFault>
     ensures above { IfOk result (λ above. IsTrue above → (noted : List RequestId)
         → AreReached (greatest_of greatest.old) noted
-        → (¬ Contains noted (client, number)) × AreReached (greatest_of greatest.new) (noted ++ (client, number) ∷ [])) }
+        → (¬ Contains noted (client, number))
+        × AreReached (greatest_of greatest.new) (noted ++ (client, number) ∷ [])) }
     ensures memory { IfErr result (λ e. e ≡ Memory) }
 {
     match greatest.keep(client, number) {

@@ -13,8 +13,8 @@ const MOST_CLIENTS: usize = 4096;
 
 /// The greatest number of each client so far.
 ///
-/// Clients that are numbered from 0 stand in a table, which needs no hash. All others, which strangers may choose, go to
-/// a map whose hash nobody can foresee.
+/// Clients that are numbered from 0 stand in a table, which needs no hash. All others, which strangers may choose, go
+/// to a map whose hash nobody can foresee.
 #[derive(Drop)]
 pub struct Greatest {
     /// Of the first clients, by client.

@@ -335,8 +335,8 @@ impl<'a> Notes<'a> {
         Ok(())
     }
 
-    /// Takes the next attempt, whose certificate and access records are right and whose records are kept from this place
-    /// on, and gives the place behind them; nothing where it isn't due.
+    /// Takes the next attempt, whose certificate and access records are right and whose records are kept from this
+    /// place on, and gives the place behind them; nothing where it isn't due.
     pub fn take_ordered(
         &mut self,
         trace: &Trace<'_>,

@@ -228,8 +228,8 @@ fn order_stretch(alloc: Global, trace: &Trace<'_>, mets: &[MetAttempt<'_, '_>]) 
     Ok(Some(records))
 }
 
-/// The access records of the i-th part of the attempts of a replica's section, where each part has so many: it goes over
-/// the section, and judges those of the part.
+/// The access records of the i-th part of the attempts of a replica's section, where each part has so many: it goes
+/// over the section, and judges those of the part.
 fn order_part(alloc: Global, trace: &Trace<'_>, e: u8, size: usize, i: usize) -> Ordered
     requires { e < length trace.now.sections }
     ensures { IsPart trace.now e size i result }

@@ -9,7 +9,8 @@ use Rattle.crossbeam_queue.specs.Fifo.{Pushes, Pops, Learns, Held}
 use Rattle.eve_recorder.specs.declared.ledger.Ledger.{Ledger}
 use Rattle.eve_stamps.specs.Applied.{Applied}
 use Rattle.eve_recorder.specs.Noted.{of_worker, AllOf, IsOrderly, ComeFrom}
-use Rattle.eve_recorder.specs.Kept.{ledger, FitsPasses, IsWorkers, noting, taking, TakesFront, SeesSome, SeesAll, KnowsOf}
+use Rattle.eve_recorder.specs.Kept.{ledger, FitsPasses, IsWorkers, noting, taking, TakesFront, SeesSome}
+use Rattle.eve_recorder.specs.Kept.{SeesAll, KnowsOf}
 use Rattle.eve_recorder.specs.Seen.{RecorderId, recorder_id, Desk, Noter, Taker, NotedAndTaken, WasFull}
 use Rattle.eve_recorder.proofs.Keeps.{whose_is, come_rest, notes, takes, learns_all, learns_some}
 

@@ -11,7 +11,8 @@ pub two_listed : {A : Type 0} (xs : List A) (a b : A) → length xs ≡ 2 → sl
     → slice_get xs 1 ≡ Some b → a ∷ b ∷ [] ≡ xs
 two_listed [] a b two first second = absurd (omega arith)
 two_listed (x ∷ []) a b two first second = absurd (omega arith)
-two_listed (x ∷ y ∷ []) a b two first second = ap (λ z. z ∷ b ∷ []) (sym (get_or_from_slice_get (x ∷ y ∷ []) 0 a a first))
+two_listed (x ∷ y ∷ []) a b two first second =
+    ap (λ z. z ∷ b ∷ []) (sym (get_or_from_slice_get (x ∷ y ∷ []) 0 a a first))
     ∙ ap (λ z. x ∷ z ∷ []) (sym (get_or_from_slice_get (x ∷ y ∷ []) 1 b b second))
 two_listed (x ∷ y ∷ z ∷ xs) a b two first second = absurd (omega arith)
 

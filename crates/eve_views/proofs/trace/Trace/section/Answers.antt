@@ -27,5 +27,6 @@ returns c =
     let next : c.section_from-to.result ≡ length (before_section t (suc c.args.e)) =
     c.section_from-to.ensures ∙ ap (λ (k : ℕ). length (before_section t k)) more in
     c.new.ensures
-    ∙ steps_are_there t c.args.e (c.section_from.result + 1) c.section_from-to.result c.recall_limits.ensures few c.requires
+    ∙ steps_are_there t c.args.e (c.section_from.result + 1) c.section_from-to.result c.recall_limits.ensures few
+    c.requires
     (ap (λ (k : ℕ). k + 1) c.section_from.ensures) next
