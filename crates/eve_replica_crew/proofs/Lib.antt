@@ -1,3 +1,4 @@
 mod Batches
 mod Sizes
 mod Faults
+mod Seatings

@@ -1,106 +1,194 @@
-//! A batch that is run by a crew.
+//! Batches that are run by a crew.
 
-ghost use Rattle.std.specs.Prelude.{◌≡◌, ◌≤◌, ◌+◌, IsTrue, length, vec_len, vec_capacity};
+ghost use Rattle.std.specs.Prelude.{◌≡◌, ◌≤◌, ℕ, All, IfOk, IsTrue, List, length, vec_len, vec_capacity};
 ghost use Rattle.eve_grammar.specs.Limits.{is_batch};
 ghost use Rattle.eve_write.specs.Data.{batch as plain};
-ghost use Rattle.eve_recorder.specs.Seen.{fresh_places};
-ghost use Rattle.eve_recorder.specs.Drawing.{fresh_seats};
-ghost use Rattle.eve_replica_crew.specs.Crews.{AreTickets, AreLookedUp, IsSet};
+ghost use Rattle.eve_replica_crew.specs.Crews.{AreTickets};
+ghost use Rattle.eve_replica_crew.specs.Stages.{AreSeatingsOf, IsRightLeg, IsRightRoom, IsSeatingOf};
+ghost use Rattle.eve_replica_crew.specs.Stages.{IsSet};
 
-use crate::crew::{dismiss, muster, run_shares};
+use crate::crew::{deal, run_shares};
+use crate::leg::Leg;
 use crate::progress::Progress;
+use crate::room::{Room, Seating, requests_before};
+use crate::share::Share;
 use crate::stage::{Stage, starts_of};
 use eve_floor::{ExecFault, Floor};
-use eve_grammar::{MOST_REQUESTS, MOST_WORKERS};
-use eve_recorder::{Gate, Recorder, Seats, TakerSeat, TicketSeat, TicketSeats, Tickets};
-use eve_smallbank::Touched;
+use eve_grammar::MOST_REQUESTS;
+use eve_recorder::{Gate, Recorder, TicketSeat, Tickets};
 use eve_stamps::AccessRecord;
 use eve_write::BatchData;
 use std::alloc::{AllocError, Global};
 use std::sync::Wait;
 use std::thread::Threads;
 
-/// Runs the requests of the batch by so many workers, and answers what these noted, in the order in which it was taken.
-/// `touched` is what each request touches, as it was looked up.
+/// Runs the batches one after another by up to so many workers as there are seats, and answers what they noted of each,
+/// in the order in which it was taken. Each worker has one thread for all the batches, so that no thread is started
+/// anew for each of them.
 ///
-/// The workers lend the last of the seats at the tickets of ticks, and give them back whatever comes.
-pub fn run_batch<R: Threads + Wait + Sync, G: Gate>(
+/// The workers lend the last of the seats at the tickets of ticks, and give them back whatever comes. All memory is
+/// asked for before the first request is run.
+pub fn run_batches<R: Threads + Wait + Sync, G: Gate>(
     rt: &R,
     alloc: Global,
     floor: &Floor,
     ticks: &Tickets,
     seats: &mut Vec<TicketSeat>,
-    batch: &BatchData,
-    touched: &[Touched],
-    crew: u8,
+    legs: &[Leg],
     gate: &G,
-) -> Result<Vec<AccessRecord>, ExecFault>
-    requires batch { IsTrue (is_batch (plain batch.now)) }
-    requires touched { AreLookedUp floor.now (plain batch.now) touched.now }
-    requires crew { (1 ≤ crew) × (crew ≤ MOST_WORKERS) × (crew ≤ vec_len seats.old) }
+) -> Result<Vec<Vec<AccessRecord>>, ExecFault>
+    requires legs { All (IsRightLeg floor.now (vec_len seats.old)) legs.now }
     requires seats { AreTickets ticks.now seats.old.items }
+    ensures lists { IfOk result (λ lists. vec_len lists ≡ length legs.now) }
     ensures seats { AreTickets ticks.now seats.new.items }
     ensures many { vec_len seats.new ≡ vec_len seats.old }
 {
-    let count = count_of(batch);
-    let starts = starts_of(alloc, batch.sizes.as_slice(), count as u16)?;
-    // Seats are let go by name, so that it is proved once what this does, and not on each way out.
-    let (claims, mut own) = Tickets::new(alloc, crew, count as u64 + 1)?;
-    let Ok((recorder, mut places)) = Recorder::new(alloc, crew, count) else {
-        drop(own);
-        return Err(ExecFault::Memory);
-    };
     let progress = Progress::new();
-    let stage = Stage {
+    let (rooms, seatings) = furnish_all(alloc, legs)?;
+    let hands = deal_all(
+        alloc,
         floor,
-        ticks,
-        batch,
-        touched,
-        recorder: &recorder,
-        claims: &claims,
-        starts: starts.as_slice(),
-        progress: &progress,
-    };
-    let noted = run_on(rt, alloc, &stage, crew, &mut places, &mut own, seats, gate);
-    drop(places);
-    drop(own);
-    noted
+        &progress,
+        rooms.as_slice(),
+        seatings,
+        seats.len(),
+    )?;
+    let lists = Vec::with_capacity(alloc, legs.len())?;
+    run_shares(rt, alloc, ticks, seats, hands, gate)?;
+    Ok(take_each(rt, rooms, lists))
 }
 
-// Runs the stage's batch by a crew that takes its seats at the recorder and at the tickets of claims, and answers what
-// it noted. All memory is asked for first.
-fn run_on<R: Threads + Wait + Sync, G: Gate>(
-    rt: &R,
+// The rooms of the batches, and the seats of each.
+fn furnish_all<'b>(
     alloc: Global,
-    stage: &Stage,
-    crew: u8,
-    places: &mut Seats,
-    claims: &mut TicketSeats,
-    ticks: &mut Vec<TicketSeat>,
-    gate: &G,
-) -> Result<Vec<AccessRecord>, ExecFault>
-    requires stage { IsSet stage.now }
-    requires crew { (1 ≤ crew) × (crew ≤ MOST_WORKERS) × (crew ≤ vec_len ticks.old) }
-    requires workers { stage.now.recorder.now.recorder.workers ≡ crew }
-    requires places { places.old ≡ fresh_places stage.now.recorder.now.recorder }
-    requires claims { claims.old ≡ fresh_seats stage.now.claims.now }
-    requires seats { stage.now.claims.now.seats ≡ crew }
-    requires ticks { AreTickets stage.now.ticks.now ticks.old.items }
-    ensures ticks { AreTickets stage.now.ticks.now ticks.new.items }
-    ensures many { vec_len ticks.new ≡ vec_len ticks.old }
+    legs: &[Leg<'b>],
+) -> Result<(Vec<Room<'b>>, Vec<Seating>), AllocError>
+    requires legs { (names : List (List ℕ)) × (workers : ℕ) × All (IsRightLeg names workers) legs.now }
+    ensures rooms { (names : List (List ℕ)) (workers : ℕ) → All (IsRightLeg names workers) legs.now
+        → IfOk result (λ r. All (IsRightRoom names workers) r.0.items) }
+    ensures many { IfOk result (λ r. vec_len r.0 ≡ length legs.now) }
+    ensures seatings { IfOk result (λ r. AreSeatingsOf r.0.items r.1.items) }
+    ensures all { IfOk result (λ r. vec_len r.1 ≡ length legs.now) }
 {
-    let count = stage.batch.requests.len();
-    let records = Vec::with_capacity(alloc, count)?;
-    let members = Vec::with_capacity(alloc, crew as usize)?;
-    let members = muster(stage, crew, members, places, claims, ticks);
-    let members = run_shares(rt, stage, members, gate);
-    if let Some(why) = dismiss(stage, members, ticks) {
-        return Err(why);
+    let mut rooms = Vec::with_capacity(alloc, legs.len())?;
+    let mut seatings = Vec::with_capacity(alloc, legs.len())?;
+    for leg in legs {
+        let (room, seating) = furnish(alloc, leg)?;
+        rooms.push(room)?;
+        seatings.push(seating)?;
     }
+    Ok((rooms, seatings))
+}
+
+// For each worker its parts in the batches, the first batch last.
+fn deal_all<'s, 'b>(
+    alloc: Global,
+    floor: &'s Floor<'s>,
+    progress: &'s Progress,
+    rooms: &'s [Room<'b>],
+    mut seatings: Vec<Seating>,
+    workers: usize,
+) -> Result<Vec<Vec<Share<'s>>>, AllocError>
+    requires rooms { All (IsRightRoom floor.now workers) rooms.now }
+    requires seatings { AreSeatingsOf rooms.now seatings.items }
+    requires all { vec_len seatings ≡ length rooms.now }
+    ensures { IfOk result (λ hands. vec_len hands ≡ workers) }
+{
+    let mut hands = empty_hands(alloc, workers, rooms.len())?;
+    while let Some(seating) = seatings.pop() {
+        let place = seatings.len();
+        let room = &rooms[place];
+        let stage = stage_of(floor, progress, room, requests_before(rooms, place));
+        deal(&stage, room.leg.crew, seating, &mut hands)?;
+    }
+    Ok(hands)
+}
+
+// What the workers share while a room's batch is run, before which there are so many requests.
+fn stage_of<'s, 'b>(
+    floor: &'s Floor<'s>,
+    progress: &'s Progress,
+    room: &'s Room<'b>,
+    before: u64,
+) -> Stage<'s>
+    requires { (workers : ℕ) × IsRightRoom floor.now workers room.now }
+    ensures set { IsSet result }
+    ensures recorder { result.recorder.now ≡ room.now.recorder }
+    ensures claims { result.claims.now ≡ room.now.claims }
+{
+    Stage {
+        floor,
+        batch: room.leg.batch,
+        touched: room.leg.touched,
+        recorder: &room.recorder,
+        claims: &room.claims,
+        starts: room.starts.as_slice(),
+        progress,
+        before,
+    }
+}
+
+// For each worker a list of its parts, with room for one in each batch.
+fn empty_hands<'s>(
+    alloc: Global,
+    workers: usize,
+    legs: usize,
+) -> Result<Vec<Vec<Share<'s>>>, AllocError>
+    ensures { IfOk result (λ hands. vec_len hands ≡ workers) }
+{
+    let mut hands = Vec::with_capacity(alloc, workers)?;
+    for number in 0..workers {
+        hands.push(Vec::with_capacity(alloc, legs)?)?;
+    }
+    Ok(hands)
+}
+
+// What was noted of each batch.
+fn take_each<R: Wait>(
+    rt: &R,
+    rooms: Vec<Room<'_>>,
+    mut lists: Vec<Vec<AccessRecord>>,
+) -> Vec<Vec<AccessRecord>>
+    requires rooms { (names : List (List ℕ)) × (workers : ℕ) × All (IsRightRoom names workers) rooms.items }
+    requires room { (vec_len lists ≡ 0) × (vec_len rooms ≤ vec_capacity lists) }
+    ensures { vec_len result ≡ vec_len rooms.entry }
+{
+    for room in rooms {
+        lists.push_reserved(take_all(rt, room));
+    }
+    lists
+}
+
+// The room of a batch, with its seats.
+fn furnish<'b>(alloc: Global, leg: &Leg<'b>) -> Result<(Room<'b>, Seating), AllocError>
+    requires { (names : List (List ℕ)) × (workers : ℕ) × IsRightLeg names workers leg.now }
+    ensures room { (names : List (List ℕ)) (workers : ℕ) → IsRightLeg names workers leg.now
+        → IfOk result (λ r. IsRightRoom names workers r.0) }
+    ensures seating { IfOk result (λ r. IsSeatingOf r.0 r.1) }
+{
+    let count = count_of(leg.batch);
+    let starts = starts_of(alloc, leg.batch.sizes.as_slice(), count as u16)?;
+    let records = Vec::with_capacity(alloc, count)?;
+    let (claims, own) = Tickets::new(alloc, leg.crew, count as u64 + 1)?;
+    let (recorder, mut places) = Recorder::new(alloc, leg.crew, count)?;
     let Some(taker) = places.taker() else {
         unreachable!()
     };
-    Ok(take_all(rt, stage.recorder, taker, records, count))
+    let room = Room {
+        leg: *leg,
+        recorder,
+        taker,
+        claims,
+        starts,
+        records,
+    };
+    Ok((
+        room,
+        Seating {
+            places,
+            claims: own,
+        },
+    ))
 }
 
 // How many requests the batch has.
@@ -112,18 +200,18 @@ fn count_of(batch: &BatchData) -> usize
     batch.requests.len()
 }
 
-// Takes what was noted, up to so many records.
-fn take_all<R: Wait>(
-    rt: &R,
-    recorder: &Recorder,
-    mut taker: TakerSeat,
-    mut records: Vec<AccessRecord>,
-    count: usize,
-) -> Vec<AccessRecord>
-    requires own { taker.recorder ≡ recorder.now.recorder }
-    requires room { vec_len records + count ≤ vec_capacity records }
+// Takes what was noted in the room, up to so many records as its batch has requests.
+fn take_all<R: Wait>(rt: &R, room: Room<'_>) -> Vec<AccessRecord>
+    requires { (names : List (List ℕ)) × (workers : ℕ) × IsRightRoom names workers room }
 {
-    for taken in 0..count {
+    let Room {
+        leg,
+        recorder,
+        mut taker,
+        mut records,
+        ..
+    } = room;
+    for taken in 0..leg.batch.requests.len() {
         let Some(record) = recorder.take(rt, &mut taker) else {
             break;
         };

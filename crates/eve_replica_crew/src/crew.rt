@@ -1,31 +1,32 @@
-//! The workers that take part in an attempt.
+//! The workers that take part in batches.
 
 ghost use Rattle.std.specs.Prelude.{◌≡◌, ◌+◌, ◌-◌, ◌<◌, ◌≤◌, All, vec_len, vec_capacity};
 ghost use Rattle.std.specs.Thread.{IsSync};
-ghost use Rattle.eve_recorder.specs.Seen.{fresh_places};
-ghost use Rattle.eve_recorder.specs.Drawing.{fresh_seats};
-ghost use Rattle.eve_replica_crew.specs.Crews.{AreNoters, AreThere, AreTickets, IsOn, IsReady, IsSet, crew_of};
+ghost use Rattle.eve_replica_crew.specs.Stages.{AreSeatsAt, IsSet};
+ghost use Rattle.eve_replica_crew.specs.Crews.{AreTickets, IsSeated, crew_of};
 ghost use Rattle.eve_replica_crew.specs.Crews.{lowest_fault};
 
+use crate::room::Seating;
+use crate::share::Share;
 use crate::stage::Stage;
-use crate::work::run_share;
-use eve_floor::{ExecFault, Worker};
+use crate::work::run_parts;
+use eve_floor::ExecFault;
 use eve_grammar::MOST_WORKERS;
-use eve_recorder::{Gate, Seats, TicketSeat, TicketSeats};
+use eve_recorder::{Gate, TicketSeat, Tickets};
+use std::alloc::{AllocError, Global};
 use std::sync::Wait;
 use std::thread;
 use std::thread::Threads;
 
-/// A worker that takes part in an attempt.
+/// A worker that takes part in batches.
 #[derive(Drop)]
-pub(crate) struct Member {
-    pub worker: Worker,
-    // its seat at the tickets by which requests are claimed
-    pub claims: TicketSeat,
+pub(crate) struct Member<'s> {
+    // its parts that are left, the first batch last
+    pub shares: Vec<Share<'s>>,
+    // its seat at the tickets of ticks
+    pub tick: Option<TicketSeat>,
     // why it gave a request up
     pub fault: Option<ExecFault>,
-    // unused: with it no two members write to one block of 128 bytes
-    pub apart: [u64; 16],
 }
 
 /// How many of so many workers can have something to do at once: in serial mode one, else as many as the largest
@@ -52,137 +53,154 @@ pub fn crew_size(sizes: &[u16], workers: u8, serial: bool) -> u8
     }
 }
 
-/// So many workers, the last one first, each with its seats at the recorder and at the tickets of claims, and with one
-/// of the seats at the tickets of ticks.
-pub(crate) fn muster(
-    stage: &Stage,
+/// Gives each worker of the crew its part in the batch, after those that it has in later batches.
+pub(crate) fn deal<'s>(
+    stage: &Stage<'s>,
     crew: u8,
-    mut members: Vec<Member>,
-    places: &mut Seats,
-    claims: &mut TicketSeats,
-    ticks: &mut Vec<TicketSeat>,
-) -> Vec<Member>
-    requires crew { (crew ≤ MOST_WORKERS) × (crew ≤ vec_len ticks.old) }
-    requires room { (vec_len members ≡ 0) × (crew ≤ vec_capacity members) }
-    requires workers { stage.now.recorder.now.recorder.workers ≡ crew }
-    requires places { places.old ≡ fresh_places stage.now.recorder.now.recorder }
-    requires claims { claims.old ≡ fresh_seats stage.now.claims.now }
-    requires seats { stage.now.claims.now.seats ≡ crew }
-    requires ticks { AreTickets stage.now.ticks.now ticks.old.items }
-    ensures members { All (IsReady stage.now) result.items }
-    ensures taker { places.new.taker ≡ places.old.taker }
-    ensures many { vec_len result ≡ crew }
-    ensures ticks { AreTickets stage.now.ticks.now ticks.new.items }
-    ensures rest { vec_len ticks.new + crew ≡ vec_len ticks.old }
-    ensures capacity { vec_capacity ticks.new ≡ vec_capacity ticks.old }
+    mut seating: Seating,
+    hands: &mut Vec<Vec<Share<'s>>>,
+) -> Result<(), AllocError>
+    requires set { IsSet stage.now }
+    requires crew { (crew ≤ MOST_WORKERS) × (crew ≤ vec_len hands.old) }
+    requires seats { AreSeatsAt stage.now.recorder.now.recorder stage.now.claims.now crew seating }
+    ensures { vec_len hands.new ≡ vec_len hands.old }
 {
     let mut left = crew;
     while left > 0 {
-        let member = enlist(stage, left, places, claims, ticks);
-        members.push_reserved(member);
         left -= 1;
+        let share = part_of(stage, left, &mut seating);
+        hands[left as usize].push(share)?;
+    }
+    Ok(())
+}
+
+// The part of the worker with this number, where the seats up to it are there.
+fn part_of<'s>(stage: &Stage<'s>, number: u8, seating: &mut Seating) -> Share<'s>
+    requires set { IsSet stage.now }
+    requires seats { AreSeatsAt stage.now.recorder.now.recorder stage.now.claims.now (number + 1) seating.old }
+    ensures { AreSeatsAt stage.now.recorder.now.recorder stage.now.claims.now number seating.new }
+{
+    let Some(seat) = seating.places.worker(number) else {
+        unreachable!()
+    };
+    let Some(claims) = seating.claims.seat(number) else {
+        unreachable!()
+    };
+    Share {
+        stage: *stage,
+        seat,
+        claims,
+    }
+}
+
+/// Each worker runs its parts, in a thread of its own where one can be started, and the first worker in this one. The
+/// seats at the tickets of ticks are lent to them and given back.
+pub(crate) fn run_shares<R: Threads + Wait + Sync, G: Gate>(
+    rt: &R,
+    alloc: Global,
+    ticks: &Tickets,
+    seats: &mut Vec<TicketSeat>,
+    hands: Vec<Vec<Share<'_>>>,
+    gate: &G,
+) -> Result<(), ExecFault>
+    requires seats { AreTickets ticks.now seats.old.items }
+    requires enough { vec_len hands ≤ vec_len seats.old }
+    ensures seats { AreTickets ticks.now seats.new.items }
+    ensures many { vec_len seats.new ≡ vec_len seats.old }
+{
+    let members = Vec::with_capacity(alloc, hands.len())?;
+    let members = muster(ticks, hands, members, seats);
+    let members = run_members(rt, ticks, members, gate);
+    match dismiss(ticks, members, seats) {
+        Some(why) => Err(why),
+        None => Ok(()),
+    }
+}
+
+// The workers that have a part in some batch, the last one first, each with one of the seats at the tickets of ticks.
+fn muster<'s>(
+    tickets: &Tickets,
+    mut hands: Vec<Vec<Share<'s>>>,
+    mut members: Vec<Member<'s>>,
+    ticks: &mut Vec<TicketSeat>,
+) -> Vec<Member<'s>>
+    requires enough { vec_len hands ≤ vec_len ticks.old }
+    requires room { (vec_len members ≡ 0) × (vec_len hands ≤ vec_capacity members) }
+    requires ticks { AreTickets tickets.now ticks.old.items }
+    ensures members { All (IsSeated tickets.now) result.items }
+    ensures ticks { AreTickets tickets.now ticks.new.items }
+    ensures rest { vec_len ticks.new + vec_len result ≡ vec_len ticks.old }
+    ensures capacity { vec_capacity ticks.new ≡ vec_capacity ticks.old }
+{
+    while let Some(shares) = hands.pop() {
+        if !shares.is_empty() {
+            let Some(tick) = ticks.pop() else {
+                unreachable!()
+            };
+            members.push_reserved(Member {
+                shares,
+                tick: Some(tick),
+                fault: None,
+            });
+        }
     }
     members
 }
 
-// The last of so many workers that are left takes its seats.
-fn enlist(
-    stage: &Stage,
-    left: u8,
-    places: &mut Seats,
-    claims: &mut TicketSeats,
-    ticks: &mut Vec<TicketSeat>,
-) -> Member
-    requires left { 0 < left }
-    requires places { AreNoters stage.now.recorder.now.recorder left places.old.seats }
-    requires claims { claims.old.tickets ≡ stage.now.claims.now }
-    requires there { AreThere left claims.old.places }
-    requires ticks { AreTickets stage.now.ticks.now ticks.old.items }
-    requires some { 0 < vec_len ticks.old }
-    ensures ready { IsReady stage.now result }
-    ensures places { AreNoters stage.now.recorder.now.recorder (left - 1) places.new.seats }
-    ensures taker { places.new.taker ≡ places.old.taker }
-    ensures claims { claims.new.tickets ≡ stage.now.claims.now }
-    ensures there { AreThere (left - 1) claims.new.places }
-    ensures ticks { AreTickets stage.now.ticks.now ticks.new.items }
-    ensures rest { vec_len ticks.new + 1 ≡ vec_len ticks.old }
-    ensures capacity { vec_capacity ticks.new ≡ vec_capacity ticks.old }
-{
-    let number = left - 1;
-    let Some(seat) = places.worker(number) else {
-        unreachable!()
-    };
-    let Some(claim) = claims.seat(number) else {
-        unreachable!()
-    };
-    let Some(tick) = ticks.pop() else {
-        unreachable!()
-    };
-    Member {
-        worker: Worker::new(seat, tick),
-        claims: claim,
-        fault: None,
-        apart: [0; 16],
-    }
-}
-
-/// Each worker runs its share, in a thread of its own where one can be started. The last in the list runs in this one.
-pub(crate) fn run_shares<R: Threads + Wait + Sync, G: Gate>(
+// Each worker runs its parts. The last in the list runs in this thread.
+fn run_members<'s, R: Threads + Wait + Sync, G: Gate>(
     rt: &R,
-    stage: &Stage,
-    mut members: Vec<Member>,
+    tickets: &Tickets,
+    mut members: Vec<Member<'s>>,
     gate: &G,
-) -> Vec<Member>
-    requires set { IsSet stage.now }
-    requires some { 0 < vec_len members }
-    requires members { All (IsReady stage.now) members.items }
-    ensures members { All (IsOn stage.now) result.items }
-    ensures many { vec_len result ≡ vec_len members }
+) -> Vec<Member<'s>>
+    requires members { All (IsSeated tickets.now) members.items }
+    ensures members { All (IsSeated tickets.now) result.items }
+    ensures many { vec_len result ≡ vec_len members.entry }
 {
-    let threads = members.len();
+    let threads = members.len().max(1);
     thread::for_each_mut(
         rt,
         members.as_mut_slice(),
         threads,
         &|_: usize, member: &mut Member|
-            requires { IsSync R.row × IsSync G.row × IsSet stage.now × IsReady stage.now member.old }
-            ensures { IsOn stage.entry.now member.new }
-        { run_share(rt, stage, member, gate) },
+            requires { IsSync R.row × IsSync G.row × IsSeated tickets.now member.old }
+            ensures { IsSeated tickets.entry.now member.new }
+        { run_parts(rt, tickets, member, gate) },
     );
     members
 }
 
-/// The workers give the seats at the tickets of ticks back. The fault of the lowest worker that has one.
-pub(crate) fn dismiss(
-    stage: &Stage,
-    mut members: Vec<Member>,
+// The workers give the seats at the tickets of ticks back. The fault of the lowest worker that has one.
+fn dismiss(
+    tickets: &Tickets,
+    mut members: Vec<Member<'_>>,
     ticks: &mut Vec<TicketSeat>,
 ) -> Option<ExecFault>
-    requires members { All (IsOn stage.now) members.items }
-    requires ticks { AreTickets stage.now.ticks.now ticks.old.items }
+    requires members { All (IsSeated tickets.now) members.items }
+    requires ticks { AreTickets tickets.now ticks.old.items }
     requires room { vec_len ticks.old + vec_len members ≤ vec_capacity ticks.old }
-    ensures ticks { AreTickets stage.now.ticks.now ticks.new.items }
-    ensures all { vec_len ticks.new ≡ vec_len ticks.old + vec_len members }
-    ensures lowest { result ≡ lowest_fault members.items }
+    ensures ticks { AreTickets tickets.now ticks.new.items }
+    ensures all { vec_len ticks.new ≡ vec_len ticks.old + vec_len members.entry }
+    ensures lowest { result ≡ lowest_fault members.entry.items }
     ensures capacity { vec_capacity ticks.new ≡ vec_capacity ticks.old }
 {
     let mut told = None;
     while let Some(member) = members.pop() {
         told = told.or(member.fault);
-        ticks.push_reserved(seat_of(member));
+        ticks.push_reserved(seat_of(tickets, member));
     }
     told
 }
 
 // The seat at the tickets of ticks.
-fn seat_of(member: Member) -> TicketSeat
-    ensures { result.tickets ≡ member.worker.tickets.tickets }
+fn seat_of(tickets: &Tickets, member: Member<'_>) -> TicketSeat
+    requires { IsSeated tickets.now member }
+    ensures { result.tickets ≡ tickets.now }
 {
-    let Member { mut worker, .. } = member;
-    // what waits is noted no more: the attempt has failed
-    let _ = worker.take_waiting();
-    match worker.into_seats() {
-        Ok((_, tick)) => tick,
-        Err(_) => unreachable!(),
+    let Member { tick, .. } = member;
+    match tick {
+        Some(tick) => tick,
+        None => unreachable!(),
     }
 }

@@ -1,12 +1,16 @@
-//! A batch run by workers in threads: what they share, how they claim requests and wait for one another, and what they
-//! noted.
+//! Batches run one after another by workers in threads: what they share, how they claim requests and wait for one
+//! another, and what they noted.
 #![tactic(auto)]
 
 mod batch;
 mod crew;
+mod leg;
 mod progress;
+mod room;
+mod share;
 mod stage;
 mod work;
 
-pub use batch::run_batch;
+pub use batch::run_batches;
 pub use crew::crew_size;
+pub use leg::Leg;

@@ -1,4 +1,4 @@
-//! What the workers of an attempt share.
+//! What the workers share while a batch is run.
 
 ghost use Rattle.std.specs.Prelude.{◌≡◌, ◌<◌, IfOk, vec_len};
 
@@ -9,12 +9,11 @@ use eve_smallbank::Touched;
 use eve_write::BatchData;
 use std::alloc::{AllocError, Global};
 
-/// What the workers of an attempt share: the stripes and the ticks of the replica, the batch, the recorder, the tickets
-/// by which requests are claimed, and how far they are.
+/// What the workers share while a batch is run: the stripes of the replica, the batch, the recorder, the tickets by
+/// which requests are claimed, and how far they are.
 #[derive(Clone, Copy)]
 pub(crate) struct Stage<'s> {
     pub floor: &'s Floor<'s>,
-    pub ticks: &'s Tickets,
     pub batch: &'s BatchData,
     // what each of its requests touches
     pub touched: &'s [Touched],
@@ -23,6 +22,8 @@ pub(crate) struct Stage<'s> {
     // for each request the index of the first of its parallelBatch
     pub starts: &'s [u16],
     pub progress: &'s Progress,
+    // how many requests the batches before it have
+    pub before: u64,
 }
 
 /// For each of so many requests the index of the first in its parallelBatch.

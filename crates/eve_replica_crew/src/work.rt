@@ -1,51 +1,118 @@
-//! What each worker does in an attempt.
+//! What each worker does in its batches.
 
-ghost use Rattle.std.specs.Prelude.{◌≡◌, ◌+◌, ◌<◌, IsTrue, IfSome, length};
+ghost use Rattle.std.specs.Prelude.{◌≡◌, ◌+◌, ◌<◌, IsTrue, IfSome, OnOk, length};
 ghost use Rattle.eve_smallbank.specs.Touch.{touched_of};
 ghost use Rattle.eve_write.specs.Data.{batch as plain_batch};
-ghost use Rattle.eve_floor.specs.Executing.{request_of_index};
-ghost use Rattle.eve_replica_crew.specs.Crews.{IsOn, IsReady, IsSet};
+ghost use Rattle.eve_floor.specs.Executing.{IsSeatedAt, request_of_index};
+ghost use Rattle.eve_replica_crew.specs.Stages.{IsSet};
+ghost use Rattle.eve_replica_crew.specs.Crews.{IsSeated};
 
 use crate::crew::Member;
+use crate::share::Share;
 use crate::stage::Stage;
-use eve_floor::{execute_touched, request_at};
-use eve_recorder::Gate;
+use eve_floor::{ExecFault, Worker, execute_touched, request_at};
+use eve_recorder::{Gate, TicketSeat, Tickets};
 use eve_smallbank::Touched;
 use eve_stamps::MOST_PLACES;
 use std::sync::Wait;
 
-/// Claims requests of the batch and runs them, one after another, until they run out. A request waits until all of the
-/// parallelBatches before its own are noted.
-pub(crate) fn run_share<R: Wait, G: Gate>(rt: &R, stage: &Stage, member: &mut Member, gate: &G)
-    requires set { IsSet stage.now }
-    requires ready { IsReady stage.now member.old }
-    ensures { IsOn stage.now member.new }
+/// Runs the worker's parts in one batch after another, until one is given up, by it or by another worker.
+pub(crate) fn run_parts<R: Wait, G: Gate>(
+    rt: &R,
+    ticks: &Tickets,
+    member: &mut Member<'_>,
+    gate: &G,
+)
+    requires seated { IsSeated ticks.now member.old }
+    ensures seated { IsSeated ticks.now member.new }
 {
-    for turn in 0..stage.batch.requests.len() {
-        let Some(index) = claim(stage, member) else {
-            return;
+    while let Some(share) = member.shares.pop() {
+        let Some(tick) = member.tick.take() else {
+            unreachable!()
         };
-        if !stage
-            .progress
-            .wait_for(rt, stage.starts[index as usize] as u64)
-        {
-            return;
-        }
-        if !run_one(rt, stage, member, index, gate) {
+        let (tick, end) = run_part(rt, ticks, share, tick, gate);
+        member.tick = Some(tick);
+        if let Err(why) = end {
+            member.fault = why;
             return;
         }
     }
 }
 
-// The next request that nobody has claimed, by its index.
-fn claim(stage: &Stage, member: &mut Member) -> Option<u16>
+// Runs the worker's part in one batch, and gives the seat at the tickets of ticks back. Its fault, where it gives a
+// request up, and none where another worker did.
+fn run_part<R: Wait, G: Gate>(
+    rt: &R,
+    ticks: &Tickets,
+    share: Share<'_>,
+    tick: TicketSeat,
+    gate: &G,
+) -> (TicketSeat, Result<(), Option<ExecFault>>)
+    requires { tick.tickets ≡ ticks.now }
+    ensures { result.0.tickets ≡ ticks.now }
+{
+    let Share {
+        stage,
+        seat,
+        mut claims,
+        ..
+    } = share;
+    let mut worker = Worker::new(seat, tick);
+    let end = run_share(rt, ticks, &stage, &mut worker, &mut claims, gate);
+    (tick_of(worker), end)
+}
+
+// The worker's seat at the tickets of ticks.
+fn tick_of(mut worker: Worker) -> TicketSeat
+    ensures { result.tickets ≡ worker.tickets.tickets }
+{
+    // what waits is noted no more: the attempt has failed
+    let _ = worker.take_waiting();
+    match worker.into_seats() {
+        Ok((_, tick)) => tick,
+        Err(_) => unreachable!(),
+    }
+}
+
+// Claims requests of the batch and runs them, one after another, until they run out. A request waits until those of
+// all batches before and of all parallelBatches before its own are noted.
+fn run_share<R: Wait, G: Gate>(
+    rt: &R,
+    ticks: &Tickets,
+    stage: &Stage<'_>,
+    worker: &mut Worker,
+    claims: &mut TicketSeat,
+    gate: &G,
+) -> Result<(), Option<ExecFault>>
     requires set { IsSet stage.now }
-    requires own { IsOn stage.now member.old }
-    ensures own { IsOn stage.now member.new }
-    ensures noted { member.new.worker.seat.noted ≡ member.old.worker.seat.noted }
+    requires own { IsSeatedAt stage.now.recorder.now ticks.now worker.old }
+    requires claims { claims.old.tickets ≡ stage.now.claims.now }
+    requires fresh { length worker.old.seat.noted ≡ 0 }
+    ensures own { IsSeatedAt stage.now.recorder.now ticks.now worker.new }
+{
+    for turn in 0..stage.batch.requests.len() {
+        let Some(index) = claim(stage, claims) else {
+            return Ok(());
+        };
+        let due = stage
+            .before
+            .saturating_add(u64::from(stage.starts[index as usize]));
+        if !stage.progress.wait_for(rt, due) {
+            return Err(None);
+        }
+        run_one(rt, ticks, stage, worker, index, gate)?;
+    }
+    Ok(())
+}
+
+// The next request that nobody has claimed, by its index.
+fn claim(stage: &Stage<'_>, claims: &mut TicketSeat) -> Option<u16>
+    requires set { IsSet stage.now }
+    requires own { claims.old.tickets ≡ stage.now.claims.now }
+    ensures own { claims.new.tickets ≡ stage.now.claims.now }
     ensures there { IfSome result (λ index. index < length stage.now.batch.now.requests.items) }
 {
-    let number = stage.claims.draw(&mut member.claims)?;
+    let number = stage.claims.draw(claims)?;
     if number < stage.batch.requests.len() as u64 {
         Some(number as u16)
     } else {
@@ -53,20 +120,21 @@ fn claim(stage: &Stage, member: &mut Member) -> Option<u16>
     }
 }
 
-// Runs the request with this index. Whether to go on.
+// Runs the request with this index. Why it is given up, if it is, and none where another one was.
 fn run_one<R: Wait, G: Gate>(
     rt: &R,
-    stage: &Stage,
-    member: &mut Member,
+    ticks: &Tickets,
+    stage: &Stage<'_>,
+    worker: &mut Worker,
     index: u16,
     gate: &G,
-) -> bool
+) -> Result<(), Option<ExecFault>>
     requires set { IsSet stage.now }
     requires there { index < length stage.now.batch.now.requests.items }
-    requires place { length member.old.worker.seat.noted < MOST_PLACES }
-    requires own { IsOn stage.now member.old }
-    ensures own { IsOn stage.now member.new }
-    ensures noted { IsTrue result → length member.new.worker.seat.noted ≡ length member.old.worker.seat.noted + 1 }
+    requires place { length worker.old.seat.noted < MOST_PLACES }
+    requires own { IsSeatedAt stage.now.recorder.now ticks.now worker.old }
+    ensures own { IsSeatedAt stage.now.recorder.now ticks.now worker.new }
+    ensures noted { OnOk result (length worker.new.seat.noted ≡ length worker.old.seat.noted + 1) }
 {
     let request = request_at(stage.batch, index);
     let reached = touched_at(stage, index);
@@ -74,25 +142,26 @@ fn run_one<R: Wait, G: Gate>(
         rt,
         stage.floor,
         stage.recorder,
-        stage.ticks,
-        &mut member.worker,
+        ticks,
+        worker,
         &request,
         &reached,
         index,
         gate,
     );
-    match executed {
-        Ok(()) => stage.progress.note(),
-        Err(why) => {
-            member.fault = Some(why);
-            stage.progress.give_up();
-            false
-        }
+    if let Err(why) = executed {
+        stage.progress.give_up();
+        return Err(Some(why));
+    }
+    if stage.progress.note() {
+        Ok(())
+    } else {
+        Err(None)
     }
 }
 
 // What the request with this index touches.
-fn touched_at(stage: &Stage, index: u16) -> Touched
+fn touched_at(stage: &Stage<'_>, index: u16) -> Touched
     requires set { IsSet stage.now }
     requires there { index < length stage.now.batch.now.requests.items }
     ensures { result ≡ touched_of stage.now.floor.now (request_of_index (plain_batch stage.now.batch.now) index) }

@@ -4,19 +4,19 @@ use Rattle.std.proofs.lemmas.List.Elements.{All-pop, All-push}
 use Rattle.std.specs.Option.{option_or}
 use Rattle.eve_recorder.specs.Drawing.{Source, Drawer}
 use Rattle.eve_floor.specs.declared.fault.ExecFault.{ExecFault}
-use Rattle.eve_replica_crew.specs.Crews.{AreTickets, IsOn, lowest_fault}
+use Rattle.eve_replica_crew.specs.Crews.{AreTickets, IsSeated, lowest_fault}
 use Rattle.eve_replica_crew.proofs.Faults.{asked_last}
 use Rattle.eve_replica_crew.proofs.crew.dismiss.Goals as goal
 
 pub loop-member-preserved : goal.loop-member-preserved
 loop-member-preserved c =
-    let ticks : Source = c.args.stage.now.ticks.now in
-    let popped = All-pop (IsOn c.args.stage.now) c.loop-member.members.items c.pop.new.self.items
+    let tickets : Source = c.args.tickets.now in
+    let popped = All-pop (IsSeated tickets) c.loop-member.members.items c.pop.new.self.items
     (Some c.in-Some.member) c.in-Some.ensures.items c.loop-member.invariant.0 in (
       popped.0,
-      subst (AreTickets ticks) (sym c.push_reserved.ensures.items)
-          (All-push (λ (d : Drawer). d.tickets ≡ ticks) c.loop-member.ticks.items c.seat_of.result
-          c.loop-member.invariant.1 (c.seat_of.ensures ∙ popped.1.ticks)),
+      subst (AreTickets tickets) (sym c.push_reserved.ensures.items)
+          (All-push (λ (d : Drawer). d.tickets ≡ tickets) c.loop-member.ticks.items c.seat_of.result
+          c.loop-member.invariant.1 c.seat_of.ensures),
       grind (arith, common_steps),
       grind (arith, common_steps),
       ap (λ (x : Option ExecFault). option_or x (lowest_fault c.pop.new.self.items)) c.or-told.ensures

@@ -1,0 +1,17 @@
+use Rattle.std.proofs.Common.{ℕ, All, subst, sym}
+use Rattle.eve_replica_crew.specs.Stages.{IsRightLeg, IsRightRoom}
+use Rattle.eve_replica_crew.proofs.batch.run_batches.Goals as goal
+
+pub deal_all-requires-clause-rooms : goal.deal_all-requires-clause-rooms
+deal_all-requires-clause-rooms g c =
+    subst (All (IsRightRoom c.args.floor.now c.len.result)) (sym c.as_slice.ensures.value)
+    (c.in_ok-rooms.ensures.rooms c.args.floor.now c.len.result
+    (subst (λ (w : ℕ). All (IsRightLeg c.args.floor.now w) c.args.legs.now) (sym c.len.ensures) c.requires.legs))
+
+pub take_each-requires-clause-rooms : goal.take_each-requires-clause-rooms
+take_each-requires-clause-rooms g c = (
+  c.args.floor.now,
+  c.len.result,
+  c.in_ok-rooms.ensures.rooms c.args.floor.now c.len.result
+      (subst (λ (w : ℕ). All (IsRightLeg c.args.floor.now w) c.args.legs.now) (sym c.len.ensures) c.requires.legs),
+)

@@ -1,0 +1,75 @@
+-- What the workers share while a batch is run, and the seats of their parts in it.
+use Rattle.std.specs.Prelude.{◌≡◌, ℕ, IsTrue, ◌<◌, ◌≤◌, List, [], ◌∷◌, length, map, Option, Some, None, IsSome, ⊤}
+use Rattle.std.specs.Prelude.{slice_index_or, vec_len, vec_capacity}
+use Rattle.eve_recorder.specs.Drawing.{Drawer, Source}
+use Rattle.eve_recorder.specs.Seen.{Noter, RecorderId}
+use Rattle.eve_write.specs.Data.{batch as plain}
+use Rattle.eve_smallbank.specs.declared.rows.Touched.{Touched}
+use Rattle.eve_smallbank.specs.Touch.{touched_of}
+use Rattle.eve_grammar.specs.declared.limits.TheConstants.{MOST_REQUESTS, MOST_WORKERS}
+use Rattle.eve_grammar.specs.Limits.{is_batch}
+use Rattle.eve_grammar.specs.Trace.{Batch}
+use Rattle.eve_replica_crew.specs.declared.leg.Leg.{Leg}
+use Rattle.eve_replica_crew.specs.declared.room.Room.{Room}
+use Rattle.eve_replica_crew.specs.declared.room.Seating.{Seating}
+use Rattle.eve_replica_crew.specs.declared.stage.Stage.{Stage}
+
+-- what each of the batch's requests touches was looked up among these names
+abbrev pub AreLookedUp : List (List ℕ) → Batch → List Touched → Type 0
+AreLookedUp names b touched = touched ≡ map (λ a. touched_of names a.request) b.requests
+
+-- The stage of a batch of at most 256 requests: each has a start, and what it touches was looked up among the floor's
+-- names.
+pub record IsSet (s : Stage) : Type 0 where
+  pub few : length s.batch.now.requests.items ≤ MOST_REQUESTS
+  pub starts : length s.starts.now ≡ length s.batch.now.requests.items
+  pub touched : AreLookedUp s.floor.now (plain s.batch.now) s.touched.now
+
+-- A batch of several, for at most so many workers over stripes of these names: it is one, what its requests touch was
+-- looked up among the names, and some workers take part.
+pub record IsRightLeg (names : List (List ℕ)) (workers : ℕ) (l : Leg) : Type 0 where
+  pub batch : IsTrue (is_batch (plain l.batch.now))
+  pub touched : AreLookedUp names (plain l.batch.now) l.touched.now
+  pub some : 1 ≤ l.crew
+  pub few : l.crew ≤ workers
+  pub within : l.crew ≤ MOST_WORKERS
+
+-- Such a batch with its room: the taker is of its recorder, each request has a start, and there is a list with room for
+-- as many records.
+pub record IsRightRoom (names : List (List ℕ)) (workers : ℕ) (r : Room) : Type 0 where
+  pub leg : IsRightLeg names workers r.leg
+  pub crew : r.recorder.recorder.workers ≡ r.leg.crew
+  pub taker : r.taker.recorder ≡ r.recorder.recorder
+  pub starts : length r.starts.items ≡ length r.leg.batch.now.requests.items
+  pub empty : vec_len r.records ≡ 0
+  pub enough : length r.leg.batch.now.requests.items ≤ vec_capacity r.records
+
+-- the seats of the workers below this number are there, and nothing is noted on them
+abbrev pub AreNoters : RecorderId → ℕ → List (Option Noter) → Type 0
+AreNoters recorder n seats =
+    (w : ℕ) → w < n → slice_index_or seats w None ≡ Some record { recorder = recorder; worker = w; noted = [] }
+
+-- the seats with the numbers below this one are there
+abbrev pub AreThere : ℕ → List (Option Drawer) → Type 0
+AreThere n seats = (k : ℕ) → k < n → IsSome (slice_index_or seats k None)
+
+-- seats of this recorder and of these tickets, for the workers below this number
+pub record AreSeatsAt (recorder : RecorderId) (tickets : Source) (n : ℕ) (s : Seating) : Type 0 where
+  pub noters : AreNoters recorder n s.places.seats
+  pub claims : s.claims.tickets ≡ tickets
+  pub there : AreThere n s.claims.places
+
+-- the seats of a room
+abbrev pub IsSeatingOf : Room → Seating → Type 0
+IsSeatingOf r s = AreSeatsAt r.recorder.recorder r.claims r.leg.crew s
+
+-- the seats of each of the first rooms, as many as there are seats of
+abbrev pub AreSeatingsOf : List Room → List Seating → Type 0
+AreSeatingsOf rooms [] = ⊤
+AreSeatingsOf [] (s ∷ seatings) = ⊥
+AreSeatingsOf (r ∷ rooms) (s ∷ seatings) = IsSeatingOf r s × AreSeatingsOf rooms seatings
+
+-- the seats of a part in a batch: at the stage's recorder, with nothing noted on it, and at its tickets of claims
+abbrev pub IsReady : Stage → Noter → Drawer → Type 0
+IsReady s seat claims =
+    IsSet s × (seat.recorder ≡ s.recorder.now.recorder) × (length seat.noted ≡ 0) × (claims.tickets ≡ s.claims.now)
