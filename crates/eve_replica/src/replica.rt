@@ -1,6 +1,6 @@
 //! One replica.
 
-ghost use Rattle.std.specs.Prelude.{◌≡◌, ◌+◌, ◌-◌, ◌*◌, ◌^◌, ◌<◌, ◌≤◌, ◌↔◌, true, false, Err, Some, length};
+ghost use Rattle.std.specs.Prelude.{◌≡◌, ◌+◌, ◌-◌, ◌*◌, ◌^◌, ◌<◌, ◌≤◌, ◌↔◌, true, false, Err, Some, All, length};
 ghost use Rattle.std.specs.Prelude.{vec_len, vec_capacity, option_map, slice_get};
 ghost use Rattle.std.specs.Prelude.{IsTrue, IfOk, IfErr, OnOk, OnErr, IsOk};
 ghost use Rattle.eve_grammar.specs.Limits.{is_batch};
@@ -11,7 +11,9 @@ ghost use Rattle.eve_attempts.specs.Discarding.{RollsBack};
 ghost use Rattle.eve_recorder.specs.Drawing.{fresh_seats};
 ghost use Rattle.eve_replica.specs.Replicas.{Attempts, FailsAttempt, IsFresh, ClosesThese, ClosesSome, ClosesOwn};
 ghost use Rattle.eve_replica.specs.Replicas.{IsFirstOpen, CommitsFirst};
+ghost use Rattle.eve_replica.specs.Serving.{IsRightMixed};
 ghost use Rattle.eve_replica_crew.specs.Crews.{AreTickets};
+ghost use Rattle.eve_replica_crew.specs.Stages.{IsRightLeg};
 
 use crate::fault::{AttemptFault, CloseFault, CommitFault, fault_of};
 use eve_accounts::{Balances, Names};
@@ -19,9 +21,10 @@ use eve_attempts::{AttemptFront, CloseFault as Unclosed, Ledger};
 use eve_floor::Floor;
 use eve_grammar::{MOST_BATCHES, MOST_WINDOW, MOST_WORKERS};
 use eve_recorder::{Gate, MOST_DRAWN, TicketSeat, TicketSeats, Tickets};
-use eve_replica_crew::{crew_size, run_batch};
+use eve_replica_crew::{Leg, crew_size, run_batches};
 use eve_smallbank::{Touched, touched};
 use eve_stamps::AccessRecord;
+use eve_workload::MixedBatch;
 use eve_write::{AttemptData, BatchData, CommitData, RollbackData};
 use std::alloc::{AllocError, Global};
 use std::marker::Model;
@@ -213,14 +216,80 @@ impl<'n> Replica<'n> {
         ensures attempted { IfOk result (λ a. Attempts view serial self.old self.new (plain batch.now) (attempt a)) }
         ensures refused { IfErr result (λ why. FailsAttempt why self.old self.new) }
     {
+        match self.note(rt, alloc, batch, touched, serial, gate) {
+            Ok(records) => {
+                self.close_noted(alloc, batch, touched, records.as_slice(), view, serial)
+            }
+            Err(why) => Err(self.broken_by(why)),
+        }
+    }
+
+    /// Runs the batches of a window by the replica's workers, of a replica that isn't broken, and answers what they
+    /// noted of each: each worker has one thread for all of them. Only the first can be one in serial mode. Nothing is
+    /// attempted by it: `close_noted` makes attempts of the lists, one after another.
+    pub(crate) fn note_window<R: Threads + Wait + Sync, G: Gate>(
+        &mut self,
+        rt: &R,
+        alloc: Global,
+        window: &[MixedBatch],
+        serial: bool,
+        gate: &G,
+    ) -> Result<Vec<Vec<AccessRecord>>, AttemptFault>
+        requires mixed { All (IsRightMixed self.old.names) window.now }
+        requires whole { self.old.is_broken ≡ false }
+        ensures lists { IfOk result (λ lists. vec_len lists ≡ length window.now) }
+        ensures same { OnOk result (self.new ≡ self.old) }
+    {
+        let legs = match legs_of(alloc, &self.floor, self.seats.len() as u8, window, serial) {
+            Ok(legs) => legs,
+            Err(_) => return Err(self.broken_by(AttemptFault::Memory)),
+        };
+        let noted = run_batches(
+            rt,
+            alloc,
+            &self.floor,
+            &self.ticks,
+            &mut self.seats,
+            legs.as_slice(),
+            gate,
+        );
+        match noted {
+            Ok(lists) => Ok(lists),
+            Err(why) => Err(self.broken_by(fault_of(why))),
+        }
+    }
+
+    /// Makes an attempt of what the replica's workers noted of the batch, which is open then. The view and the mode are
+    /// the ones that are due. A refusal breaks the replica.
+    pub(crate) fn close_noted(
+        &mut self,
+        alloc: Global,
+        batch: &BatchData,
+        touched: &[Touched],
+        records: &[AccessRecord],
+        view: u32,
+        serial: bool,
+    ) -> Result<AttemptData, AttemptFault>
+        requires last { self.old.ledger.committed + 1 + length self.old.ledger.opened ≤ MOST_BATCHES }
+        requires room { length self.old.ledger.opened < self.old.ledger.window }
+        requires view { view ≡ self.old.ledger.view }
+        requires serial { serial ≡ self.old.ledger.is_next_serial }
+        requires batch { IsTrue (is_batch (plain batch.now)) }
+        requires touched { touched.now ≡ touched_in_batch self.old.names (plain batch.now) }
+        requires whole { self.old.is_broken ≡ false }
+        ensures attempted { IfOk result (λ a. Attempts view serial self.old self.new (plain batch.now) (attempt a)) }
+        ensures refused { IfErr result (λ why. FailsAttempt why self.old self.new) }
+    {
         let front = AttemptFront {
             seq: self.next_number(),
             view,
             serial,
         };
-        match self.attempt(rt, alloc, front, batch, touched, gate) {
+        let tick = greatest_tick(records);
+        match self.close(alloc, front, batch, touched, records, tick) {
             Ok(attempt) => Ok(attempt),
-            Err(why) => Err(self.broken_by(why)),
+            Err(Unclosed::Memory) => Err(self.broken_by(AttemptFault::Memory)),
+            Err(Unclosed::Mismatch) => Err(self.broken_by(AttemptFault::Mismatch)),
         }
     }
 
@@ -318,48 +387,37 @@ impl<'n> Replica<'n> {
         Ok(rollback)
     }
 
-    // Runs the batch, and closes what was noted.
-    fn attempt<R: Threads + Wait + Sync, G: Gate>(
+    // Runs the batch, and answers what was noted.
+    fn note<R: Threads + Wait + Sync, G: Gate>(
         &mut self,
         rt: &R,
         alloc: Global,
-        front: AttemptFront,
         batch: &BatchData,
         touched: &[Touched],
+        serial: bool,
         gate: &G,
-    ) -> Result<AttemptData, AttemptFault>
-        requires seq { front.seq ≡ self.old.ledger.committed + 1 + length self.old.ledger.opened }
-        requires last { front.seq ≤ MOST_BATCHES }
-        requires room { length self.old.ledger.opened < self.old.ledger.window }
-        requires view { front.view ≡ self.old.ledger.view }
-        requires serial { front.serial ≡ self.old.ledger.is_next_serial }
+    ) -> Result<Vec<AccessRecord>, AttemptFault>
         requires batch { IsTrue (is_batch (plain batch.now)) }
         requires touched { touched.now ≡ touched_in_batch self.old.names (plain batch.now) }
-        ensures closed { IfOk result (λ a. ClosesSome front self.old self.new (plain batch.now) (attempt a)) }
-        ensures refused { OnErr result (self.new ≡ self.old) }
+        ensures same { self.new ≡ self.old }
         ensures fault { IfErr result IsFresh }
     {
-        let crew = crew_size(batch.sizes.as_slice(), self.seats.len() as u8, front.serial);
-        let noted = run_batch(
+        let leg = leg_of(&self.floor, self.seats.len() as u8, batch, touched, serial);
+        let noted = run_batches(
             rt,
             alloc,
             &self.floor,
             &self.ticks,
             &mut self.seats,
-            batch,
-            touched,
-            crew,
+            &[leg],
             gate,
         );
-        let records = match noted {
-            Ok(records) => records,
-            Err(why) => return Err(fault_of(why)),
-        };
-        let tick = greatest_tick(records.as_slice());
-        match self.close(alloc, front, batch, touched, records.as_slice(), tick) {
-            Ok(attempt) => Ok(attempt),
-            Err(Unclosed::Memory) => Err(AttemptFault::Memory),
-            Err(Unclosed::Mismatch) => Err(AttemptFault::Mismatch),
+        match noted {
+            Ok(mut lists) => match lists.pop() {
+                Some(records) => Ok(records),
+                None => unreachable!(),
+            },
+            Err(why) => Err(fault_of(why)),
         }
     }
 
@@ -445,6 +503,55 @@ fn touched_in(alloc: Global, names: &Names, batch: &BatchData) -> Result<Vec<Tou
         all.push(touched(&request.request(), names))?;
     }
     Ok(all)
+}
+
+// The batches of a window, for so many workers: only the first can be one in serial mode.
+fn legs_of<'b>(
+    alloc: Global,
+    floor: &Floor,
+    workers: u8,
+    window: &'b [MixedBatch],
+    serial: bool,
+) -> Result<Vec<Leg<'b>>, AllocError>
+    requires workers { (1 ≤ workers) × (workers ≤ MOST_WORKERS) }
+    requires mixed { All (IsRightMixed floor.now) window.now }
+    ensures right { IfOk result (λ legs. All (IsRightLeg floor.now workers) legs.items) }
+    ensures many { IfOk result (λ legs. vec_len legs ≡ length window.now) }
+{
+    let mut legs = Vec::with_capacity(alloc, window.len())?;
+    let mut is_serial = serial;
+    for mixed in window {
+        legs.push(leg_of(
+            floor,
+            workers,
+            &mixed.batch,
+            mixed.touched.as_slice(),
+            is_serial,
+        ))?;
+        is_serial = false;
+    }
+    Ok(legs)
+}
+
+// The batch with as many of so many workers as can have something to do in it.
+fn leg_of<'b>(
+    floor: &Floor,
+    workers: u8,
+    batch: &'b BatchData,
+    touched: &'b [Touched],
+    serial: bool,
+) -> Leg<'b>
+    requires workers { (1 ≤ workers) × (workers ≤ MOST_WORKERS) }
+    requires batch { IsTrue (is_batch (plain batch.now)) }
+    requires touched { touched.now ≡ touched_in_batch floor.now (plain batch.now) }
+    ensures { IsRightLeg floor.now workers result }
+{
+    let crew = crew_size(batch.sizes.as_slice(), workers, serial);
+    Leg {
+        batch,
+        touched,
+        crew,
+    }
 }
 
 // The greatest tick of the records.

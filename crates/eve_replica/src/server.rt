@@ -14,6 +14,7 @@ ghost use Rattle.eve_replica.specs.Serving.{next_token};
 use crate::fault::RunFault;
 use crate::replica::Replica;
 use eve_recorder::Gate;
+use eve_stamps::AccessRecord;
 use eve_workload::MixedBatch;
 use eve_write::{Step, commit_fits};
 use std::alloc::{AllocError, Global};
@@ -73,23 +74,29 @@ impl<'n> Server<'n> {
         if !self.is_live {
             return Ok(());
         }
+        let noted = self.replica.note_window(rt, alloc, window, serial, gate)?;
         let mut is_serial = serial;
-        for mixed in window {
-            self.attempt(rt, alloc, mixed, view, is_serial, gate)?;
+        for place in 0..window.len() {
+            self.attempt(
+                alloc,
+                &window[place],
+                noted[place].as_slice(),
+                view,
+                is_serial,
+            )?;
             is_serial = false;
         }
         Ok(())
     }
 
-    // Attempts the next batch, in the view and in the mode that are due.
-    fn attempt<R: Threads + Wait + Sync, G: Gate>(
+    // Attempts the next batch, of which this was noted, in the view and in the mode that are due.
+    fn attempt(
         &mut self,
-        rt: &R,
         alloc: Global,
         mixed: &MixedBatch,
+        records: &[AccessRecord],
         view: u32,
         serial: bool,
-        gate: &G,
     ) -> Result<(), RunFault>
         requires due { AreDue 1 view serial self.old.replica.ledger }
         requires mixed { IsRightMixed self.old.replica.names mixed.now }
@@ -102,7 +109,7 @@ impl<'n> Server<'n> {
         let touched = mixed.touched.as_slice();
         let attempt = self
             .replica
-            .run_touched(rt, alloc, batch, touched, view, serial, gate)?;
+            .close_noted(alloc, batch, touched, records, view, serial)?;
         self.did(Step::Attempt(attempt))?;
         Ok(())
     }

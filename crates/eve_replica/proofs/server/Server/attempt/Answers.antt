@@ -7,7 +7,7 @@ use Rattle.eve_replica.proofs.OneStep.{attempt_goes}
 use Rattle.eve_replica.proofs.server.Server.attempt.Goals as goal
 
 pub returns-clause-on : goal.returns-clause-on
-returns-clause-on g c =
+returns-clause-on c =
     let made = c.in_ok-attempt.ensures.attempted in
     let a = attempt c.in_ok-attempt.attempt in
     let b = batch c.args.mixed.now.batch in
