@@ -147,7 +147,8 @@ fn muster<'s>(
     members
 }
 
-// Each worker runs its parts. The last in the list runs in this thread.
+// Each worker runs its parts. The last in the list runs in this thread. It is the first worker, which has a part in
+// every batch, and those that get no thread run here after it: so nobody waits for one that has not begun.
 fn run_members<'s, R: Threads + Wait + Sync, G: Gate>(
     rt: &R,
     tickets: &Tickets,

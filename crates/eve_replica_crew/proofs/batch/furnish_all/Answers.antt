@@ -12,7 +12,8 @@ loop-leg-preserved c = (
       (All-push (IsRightRoom names workers) c.loop-leg.rooms.items c.in_ok-room.room
       (c.loop-leg.invariant.0 names workers right)
       (c.in_ok-room.ensures.room names workers
-      (subst (IsRightLeg names workers) (sym c.leg-item.is) (right c.loop-leg.leg-index c.leg-item.result (omega arith))))),
+      (subst (IsRightLeg names workers) (sym c.leg-item.is)
+      (right c.loop-leg.leg-index c.leg-item.result (omega arith))))),
   grind (arith, common_steps),
   subst (λ (rooms : List Room). AreSeatingsOf rooms c.push-in-loop-leg.new.self.items) (sym c.in_ok-push.ensures.items)
       (subst (AreSeatingsOf (c.loop-leg.rooms.items ++ c.in_ok-room.room ∷ [])) (sym c.in_ok-push-2.ensures.items)
