@@ -12,11 +12,11 @@ pub record AreOfSection (t : Trace) (h : SectionHistory) (s : Settling) : Type 0
   pub history : h ≡ section_history t h.replica
   pub settled : s ≡ settling t h.replica
 
--- it has the balances at its start, and its batches are there
+-- it has the opening balances, and its batches are there
 pub record IsReadyStretch (s : Settling) (x : Stretch) : Type 0 where
   pub rising : x.before ≤ x.last
   pub there : x.last ≤ length s.batches
-  pub balances : IsAfter s x.before x.balances
+  pub balances : IsAfter s 0 x.balances
 
 -- it was judged
 pub record IsJudgedStretch (t : Trace) (e : ℕ) (old new : Stretch) : Type 0 where
@@ -29,8 +29,9 @@ abbrev pub ReachesBatch : ℕ → ℕ → List Stretch → Type 0
 ReachesBatch before last [] = before ≡ last
 ReachesBatch before last (x ∷ xs) = (x.before ≡ before) × ReachesBatch x.last last xs
 
-pub record AreReadyStretches (s : Settling) (before : ℕ) (xs : List Stretch) : Type 0 where
-  pub reaches : ReachesBatch before (length s.batches) xs
+-- they follow one another, from the first batch up to this one, and are ready
+pub record AreReadyStretches (s : Settling) (last : ℕ) (xs : List Stretch) : Type 0 where
+  pub reaches : ReachesBatch 0 last xs
   pub ready : All (IsReadyStretch s) xs
 
 abbrev pub or_else : Option ℕ → Option ℕ → Option ℕ

@@ -1,6 +1,6 @@
 //! The faults of tokens.
 
-ghost use Rattle.std.specs.Prelude.{◌≡◌, ◌≤◌, ◌<◌, ◌-◌, ◌↔◌, ℕ, All, IsTrue, IfOk, IfErr, length, slice_index_or};
+ghost use Rattle.std.specs.Prelude.{◌≡◌, ◌≤◌, ◌<◌, ◌-◌, ◌↔◌, ℕ, All, IsTrue, OnOk, IfOk, IfErr, length, slice_index_or};
 ghost use Rattle.eve_frames.specs.Said.{attempt_said};
 ghost use Rattle.eve_token.specs.Token.{token_of};
 ghost use Rattle.eve_views.specs.Form.{IfFound, IsLeast, HasNone};
@@ -34,7 +34,7 @@ fn is_due(attempt: &AttemptView<'_>, balances: &Balances) -> bool
 }
 
 /// How few batches are worth a thread of their own.
-const LEAST_BATCHES: u32 = 16;
+const LEAST_BATCHES: u64 = 16;
 
 /// Committed batches of a replica one after another, to be judged by themselves.
 #[derive(Drop)]
@@ -43,7 +43,7 @@ struct Stretch {
     before: u32,
     /// The number of the last of them.
     last: u32,
-    /// The balances after the batches before them; once they were judged, those after what was judged.
+    /// The opening balances; once they were judged, those after what was judged.
     balances: Balances,
     /// Once they were judged, the offset of the first attempt that has not the token that is due.
     wrong: Option<u64>,
@@ -99,12 +99,13 @@ fn first_wrong(
     None
 }
 
-/// Judges a stretch.
+/// Judges a stretch, from the balances that the batches before it leave.
 fn judge(trace: &Trace<'_>, history: &History<'_>, settled: &Settled<'_>, stretch: &mut Stretch)
     requires section { AreOfSection trace.now history.now settled.now }
     requires ready { IsReadyStretch settled.now stretch.old }
     ensures { IsJudgedStretch trace.now history.now.replica stretch.old stretch.new }
 {
+    go_on(settled, 0, stretch.before, &mut stretch.balances);
     stretch.wrong = first_wrong(
         trace,
         history,
@@ -127,33 +128,65 @@ fn go_on(settled: &Settled<'_>, from: u32, to: u32, balances: &mut Balances)
     }
 }
 
-/// Cuts a replica's committed batches into stretches, each as long as one of so many that are alike, but no shorter
-/// than is worth a thread.
-fn cut(alloc: Global, settled: &Settled<'_>, jobs: u8) -> Result<Vec<Stretch>, AllocError>
-    requires { 1 ≤ jobs }
-    ensures { IfOk result (λ stretches. AreReadyStretches settled.now 0 stretches.items) }
+/// How many of so many batches the first of so many stretches of them has. Each next one is shorter, since its thread
+/// goes over the batches before it first; where there are many customers hardly, since it takes far longer to hash
+/// their balances.
+fn size_of_first(batches: u32, stretches: u8, customers: u32) -> u32
+    requires { 1 ≤ stretches }
+    ensures { result ≤ batches }
 {
-    let committed = settled.committed();
-    let size = committed.div_ceil(u32::from(jobs)).max(LEAST_BATCHES);
-    let mut stretches = Vec::new(alloc);
-    let mut balances = settled.balances_after(alloc, 0)?;
-    let mut before = 0;
-    while committed - before > size {
-        stretches.push(Stretch {
-            before,
-            last: before + size,
-            balances: balances.copy(alloc)?,
-            wrong: None,
-        })?;
-        go_on(settled, before, before + size, &mut balances);
-        before += size;
-    }
+    let left = u64::from(stretches);
+    let share = u64::from(batches).div_ceil(left);
+    let more = share * (left - 1) / (left + 3 + u64::from(customers / 32));
+    (share + more).max(LEAST_BATCHES).min(u64::from(batches)) as u32
+}
+
+/// Appends the stretch of the batches after the first `before` up to the last.
+fn append(
+    alloc: Global,
+    settled: &Settled<'_>,
+    before: u32,
+    last: u32,
+    stretches: &mut Vec<Stretch>,
+) -> Result<(), AllocError>
+    requires rising { before ≤ last }
+    requires there { last ≤ length settled.now.batches }
+    requires ready { AreReadyStretches settled.now before stretches.old.items }
+    ensures { OnOk result (AreReadyStretches settled.now last stretches.new.items) }
+{
+    let balances = settled.balances_after(alloc, 0)?;
     stretches.push(Stretch {
         before,
-        last: committed,
+        last,
         balances,
         wrong: None,
     })?;
+    Ok(())
+}
+
+/// Cuts a replica's committed batches into stretches, no more than there are jobs, that take about as long as one
+/// another; none but the last is shorter than is worth a thread.
+fn cut(
+    alloc: Global,
+    settled: &Settled<'_>,
+    customers: u32,
+    jobs: u8,
+) -> Result<Vec<Stretch>, AllocError>
+    requires { 1 ≤ jobs }
+    ensures { IfOk result (λ stretches. AreReadyStretches settled.now (length settled.now.batches) stretches.items) }
+{
+    let committed = settled.committed();
+    let mut stretches = Vec::new(alloc);
+    let mut before = 0;
+    for place in 0..jobs - 1 {
+        let last = before + size_of_first(committed - before, jobs - place, customers);
+        if last == committed {
+            break;
+        }
+        append(alloc, settled, before, last, &mut stretches)?;
+        before = last;
+    }
+    append(alloc, settled, before, committed, &mut stretches)?;
     Ok(stretches)
 }
 
@@ -210,7 +243,7 @@ fn first_in<R: Threads + Sync>(
     requires some { 1 ≤ jobs }
     ensures { IfOk result (IsFirstWrong trace.now history.now.replica 0 (length settled.now.batches)) }
 {
-    let mut stretches = cut(alloc, settled, jobs)?;
+    let mut stretches = cut(alloc, settled, trace.customer_count(), jobs)?;
     judge_all(rt, trace, history, settled, stretches.as_mut_slice(), jobs);
     Ok(first_of_all(&stretches))
 }
@@ -219,8 +252,9 @@ fn first_in<R: Threads + Sync>(
 /// replies; else the first that is not.
 ///
 /// docs/MODEL.md, "Faults"; docs/TRACE.md, "Token". It hashes each batch's balances once. The batches are cut into up
-/// to so many stretches as there are jobs, from 1 on, each with the balances at its start, and judged in as many
-/// threads; of one job none is started. What is found doesn't rest on which ends first. Refused memory decides nothing.
+/// to so many stretches as there are jobs, from 1 on, and judged in as many threads; of one job none is started. Each
+/// thread has balances of its own, and goes from the opening over all that was written before its stretch, which hashes
+/// nothing. What is found doesn't rest on which ends first. Refused memory decides nothing.
 pub fn tokens<R: Threads + Sync>(
     rt: &R,
     alloc: Global,

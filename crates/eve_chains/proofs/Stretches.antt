@@ -1,11 +1,8 @@
 -- What is found in stretches of attempts, put together, is what is found in all of them.
 use Rattle.std.proofs.Common.{◌≡◌, ℕ, zero, suc, ◌+◌, ◌-◌, ◌<◌, ◌≤◌, List, [], ◌∷◌, ◌++◌, length, take, drop, get_or}
 use Rattle.std.proofs.Common.{slice_get, Option, None, Some, Result, Ok, Err, IfOk, refl, sym, subst, ap, ◌∙◌, arith}
-use Rattle.std.proofs.Common.{append-nil, append_assoc, drop-drop, ◌*◌, ◌/◌, ◌%◌, min, mul-le-mul_right, mul_comm}
-use Rattle.std.proofs.Common.{suc-mul}
-use Rattle.std.proofs.Common.{inl, inr}
-use Rattle.std.proofs.lemmas.Bool.{cases_lt}
-use Rattle.std.proofs.lemmas.Grind.{div_ceil_times}
+use Rattle.std.proofs.Common.{append-nil, append_assoc, drop-drop}
+use Rattle.std.proofs.lemmas.List.Elements.{All-push, All-weaker}
 use Rattle.std.specs.Prelude.{All}
 use Rattle.std.specs.declared.alloc.AllocError.{AllocError}
 use Rattle.std.proofs.lemmas.List.{take_all}
@@ -27,24 +24,16 @@ pub reaches_more : (from mid : ℕ) (xs : List Stretch) (x : Stretch) → Reache
 reaches_more from mid [] x same at = (at ∙ sym same, refl)
 reaches_more from mid (y ∷ xs) x reaches at = (reaches.0, reaches_more y.to mid xs x reaches.1 at)
 
--- ---- how many there are
-
--- each as long as one of so many that are alike, or longer
-pub enough_for_all : (attempts jobs size : ℕ) → 0 < jobs → attempts / jobs + min 1 (attempts % jobs) ≤ size
-    → attempts ≤ jobs * size
-enough_for_all attempts jobs size some large =
-    omega (arith, (div_ceil_times attempts jobs some).0, mul-le-mul_right jobs large, mul_comm size jobs)
-
--- where attempts reach beyond one more stretch, there is a job for yet another
-pub one_left : (attempts jobs size count from : ℕ) → attempts ≤ jobs * size → from ≡ count * size
-    → size < attempts - from → suc count < jobs
-one_left attempts jobs size count from enough at more =
-    elim (cases_lt (suc count) jobs) [
-      | inl fewer ↦ fewer
-      | inr many ↦
-          let far : jobs * size ≤ suc count * size = mul-le-mul_right size many in
-          absurd (omega (arith, suc-mul count size, far, at, more, enough))
-    ]
+-- one more stretch of all
+pub stretch_more : (from to : ℕ) (xs : List Stretch) → from ≤ to → AreStretches from xs
+    → AreStretches to (xs ++ record { from = from; to = to } ∷ [])
+stretch_more from to xs up known = record {
+  reaches = reaches_more 0 from xs (record { from = from; to = to }) known.reaches refl;
+  within = All-push (IsWithin to) xs (record { from = from; to = to })
+      (All-weaker (IsWithin from) (IsWithin to)
+      (λ x is. record { rising = is.rising; there = omega (arith, is.there) }) xs known.within)
+      (record { rising = up; there = omega arith });
+}
 
 -- ---- the records of attempts
 

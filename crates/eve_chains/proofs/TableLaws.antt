@@ -1,7 +1,7 @@
 -- Tables as lists by row: what a write leaves, and what entries that see other things come to.
 use Rattle.std.proofs.Common.{◌≡◌, ◌≢◌, ℕ, ℤ, pos, zero, suc, ◌+◌, ◌*◌, ◌==◌, Bool, true, false, cond, ◌||◌, List}
 use Rattle.std.proofs.Common.{[], ◌∷◌, ◌++◌, map, take, length, Option, Some, None, refl, sym, subst, ap}
-use Rattle.std.proofs.Common.{◌∙◌, inl, inr, ◌⊎◌, append_assoc, arith}
+use Rattle.std.proofs.Common.{◌∙◌, inl, inr, ◌⊎◌, arith}
 use mathlib.Core.Path.{fun_ext}
 use Rattle.std.specs.Prelude.{slice_get}
 use Rattle.std.specs.Ordering.{int_eq}
@@ -49,14 +49,11 @@ pub table_of-opened : (t : Trace) → table_of (opened t.customers) ≡ opening_
 table_of-opened t = fun_ext (λ row. get_or-map at_opening (opening_rows t.customers) row (pos 0))
 
 -- one customer more
-pub opened_more : (customers : List Customer) (i : ℕ) (c : Customer) (rows one two : List Versioned)
+pub opened_more : (customers : List Customer) (i : ℕ) (c : Customer) (rows new : List Versioned)
     → slice_get customers i ≡ Some c → rows ≡ opened (take i customers)
-    → one ≡ rows ++ at_opening c.saving ∷ [] → two ≡ one ++ at_opening c.checking ∷ []
-    → two ≡ opened (take (i + 1) customers)
-opened_more customers i c rows one two at so first second =
-    second ∙ ap (λ (xs : List Versioned). xs ++ at_opening c.checking ∷ []) first
-    ∙ append_assoc rows (at_opening c.saving ∷ []) (at_opening c.checking ∷ [])
-    ∙ ap (λ (xs : List Versioned). xs ++ at_opening c.saving ∷ at_opening c.checking ∷ []) so
+    → new ≡ rows ++ at_opening c.saving ∷ at_opening c.checking ∷ [] → new ≡ opened (take (i + 1) customers)
+opened_more customers i c rows new at so is =
+    is ∙ ap (λ (xs : List Versioned). xs ++ at_opening c.saving ∷ at_opening c.checking ∷ []) so
     ∙ sym (opened-append (take i customers) (c ∷ []))
     ∙ ap (λ (d : Customer). opened (take i customers ++ d ∷ [])) (sym (get_or_from_slice_get customers i c c at))
     ∙ ap opened (sym (take_more customers i c (slice_get_within customers i c at)))

@@ -1,6 +1,6 @@
 //! Stretches of attempts, whose records are judged side by side.
 
-ghost use Rattle.std.specs.Prelude.{◌≤◌, IfOk, length};
+ghost use Rattle.std.specs.Prelude.{◌≡◌, ◌≤◌, ◌+◌, IfOk, OnOk, length};
 ghost use Rattle.eve_chains.specs.Stretches.{AreStretches};
 
 use std::alloc::{AllocError, Global};
@@ -19,21 +19,36 @@ pub struct Stretch {
 
 impl Stretch {
     /// Cuts so many attempts into stretches, no more than there are jobs: each as long as one of so many that are
-    /// alike, but no shorter than is worth a thread.
+    /// alike, and none but the last shorter than is worth a thread.
     pub fn cut(alloc: Global, attempts: usize, jobs: u8) -> Result<Vec<Stretch>, AllocError>
         requires { 1 ≤ jobs }
         ensures all { IfOk result (λ stretches. AreStretches attempts stretches.items) }
         ensures few { IfOk result (λ stretches. length stretches.items ≤ jobs) }
     {
-        let size = attempts.div_ceil(usize::from(jobs)).max(LEAST_ATTEMPTS);
         let mut stretches = Vec::new(alloc);
         let mut from = 0;
-        while attempts - from > size {
-            let to = from + size;
-            stretches.push(Stretch { from, to })?;
-            from = to;
+        for place in 0..jobs - 1 {
+            let left = attempts - from;
+            let size = left.div_ceil(usize::from(jobs - place)).max(LEAST_ATTEMPTS);
+            if left <= size {
+                break;
+            }
+            append(&mut stretches, from, from + size)?;
+            from += size;
         }
-        stretches.push(Stretch { from, to: attempts })?;
+        append(&mut stretches, from, attempts)?;
         Ok(stretches)
     }
+}
+
+/// Appends the attempts from one place up to another to stretches that reach to the first.
+#[tactic(auto, using(crate::proofs::Stretches::stretch_more))]
+fn append(stretches: &mut Vec<Stretch>, from: usize, to: usize) -> Result<(), AllocError>
+    requires rising { from ≤ to }
+    requires so_far { AreStretches from stretches.old.items }
+    ensures reached { OnOk result (AreStretches to stretches.new.items) }
+    ensures one_more { OnOk result (length stretches.new.items ≡ length stretches.old.items + 1) }
+{
+    stretches.push(Stretch { from, to })?;
+    Ok(())
 }

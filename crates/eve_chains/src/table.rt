@@ -1,8 +1,8 @@
 //! Version and value of all rows.
 
-ghost use Rattle.std.specs.Prelude.{◌≡◌, ◌<◌, ◌*◌, IsTrue, IfOk, length, [], ◌∷◌};
+ghost use Rattle.std.specs.Prelude.{◌≡◌, ◌<◌, ◌*◌, ◌↔◌, ◌++◌, IsTrue, OnOk, IfOk, length, [], ◌∷◌};
 ghost use Rattle.std.specs.List.{list_all};
-ghost use Rattle.eve_smallbank.specs.Chain.{table_after};
+ghost use Rattle.eve_smallbank.specs.Chain.{Sees, table_after};
 ghost use Rattle.eve_grammar.specs.Limits.{is_entry};
 ghost use Rattle.eve_chains.specs.Visible.{opening_table};
 ghost use Rattle.eve_chains.specs.Tables.{table_of, undone, IsFirstMismatch};
@@ -42,8 +42,7 @@ impl Table {
         let mut rows = Vec::new(alloc);
         for i in 0..trace.head().customers {
             let customer = trace.customer(i);
-            rows.push(Versioned::new(0, customer.saving()))?;
-            rows.push(Versioned::new(0, customer.checking()))?;
+            push_both(&mut rows, customer.saving(), customer.checking())?;
         }
         Ok(Table { rows })
     }
@@ -78,16 +77,87 @@ impl Table {
     /// earlier entry of the same request writes its row, and takes the writes, also where something is wrong.
     ///
     /// What is wrong is `Version` where some entry sees another version than its row has, else `Value` where one sees
-    /// another value.
+    /// another value. There is a line for each number of entries: a loop over so few takes longer than what it does.
+    #[inline(always)]
     pub fn meet(&mut self, entries: &UpToThree<Entry>) -> Option<Code>
         requires { IsTrue (list_all (is_entry (length self.old)) entries.now) }
         ensures as_many { length self.new ≡ length self.old }
         ensures table { table_of self.new ≡ table_after (table_of self.old) entries.now }
         ensures wrong { IsFirstMismatch (table_of self.old) entries.now result }
     {
-        let wrong = self.wrong_in(entries);
-        self.write(entries);
+        match entries.len() {
+            0 => None,
+            1 => self.meet_one(&entries.at(0)),
+            2 => self.meet_two(&entries.at(0), &entries.at(1)),
+            3 => self.meet_three(&entries.at(0), &entries.at(1), &entries.at(2)),
+            _ => unreachable!(),
+        }
+    }
+
+    #[inline(always)]
+    fn meet_one(&mut self, one: &Entry) -> Option<Code>
+        requires { IsTrue (is_entry (length self.old) one.now) }
+        ensures as_many { length self.new ≡ length self.old }
+        ensures table { table_of self.new ≡ table_after (table_of self.old) (one.now ∷ []) }
+        ensures wrong { IsFirstMismatch (table_of self.old) (one.now ∷ []) result }
+    {
+        let wrong = if self.is_seen(one) {
+            None
+        } else {
+            self.wrong_in(&UpToThree::one(*one))
+        };
+        self.write_one(one);
         wrong
+    }
+
+    #[inline(always)]
+    fn meet_two(&mut self, one: &Entry, two: &Entry) -> Option<Code>
+        requires one { IsTrue (is_entry (length self.old) one.now) }
+        requires two { IsTrue (is_entry (length self.old) two.now) }
+        ensures as_many { length self.new ≡ length self.old }
+        ensures table { table_of self.new ≡ table_after (table_of self.old) (one.now ∷ two.now ∷ []) }
+        ensures wrong { IsFirstMismatch (table_of self.old) (one.now ∷ two.now ∷ []) result }
+    {
+        let seen = self.is_seen(one) & self.is_seen(two);
+        let wrong = if seen {
+            None
+        } else {
+            self.wrong_in(&UpToThree::two(*one, *two))
+        };
+        self.write_one(one);
+        self.write_one(two);
+        wrong
+    }
+
+    #[inline(always)]
+    fn meet_three(&mut self, one: &Entry, two: &Entry, three: &Entry) -> Option<Code>
+        requires one { IsTrue (is_entry (length self.old) one.now) }
+        requires two { IsTrue (is_entry (length self.old) two.now) }
+        requires three { IsTrue (is_entry (length self.old) three.now) }
+        ensures as_many { length self.new ≡ length self.old }
+        ensures table { table_of self.new ≡ table_after (table_of self.old) (one.now ∷ two.now ∷ three.now ∷ []) }
+        ensures wrong { IsFirstMismatch (table_of self.old) (one.now ∷ two.now ∷ three.now ∷ []) result }
+    {
+        let seen = self.is_seen(one) & self.is_seen(two) & self.is_seen(three);
+        let wrong = if seen {
+            None
+        } else {
+            self.wrong_in(&UpToThree::three(*one, *two, *three))
+        };
+        self.write_one(one);
+        self.write_one(two);
+        self.write_one(three);
+        wrong
+    }
+
+    /// Whether the entry sees what its row has, as nearly all do.
+    #[inline(always)]
+    fn is_seen(&self, entry: &Entry) -> bool
+        requires { IsTrue (is_entry (length self.now) entry.now) }
+        ensures { IsTrue result ↔ Sees (table_of self.now) entry.now }
+    {
+        let row = self.see(entry.row);
+        entry.version == row.version() && entry.seen == row.value()
     }
 
     fn wrong_in(&self, entries: &UpToThree<Entry>) -> Option<Code>
@@ -119,6 +189,7 @@ impl Table {
         }
     }
 
+    #[inline(always)]
     fn write_one(&mut self, entry: &Entry)
         requires { IsTrue (is_entry (length self.old) entry.now) }
         ensures as_many { length self.new ≡ length self.old }
@@ -158,4 +229,14 @@ impl Table {
             Kind::Write => self.rows[entry.row.number() as usize] = from.see(entry.row),
         }
     }
+}
+
+/// Appends both rows of a customer, at version 0.
+fn push_both(rows: &mut Vec<Versioned>, saving: Cents, checking: Cents) -> Result<(), AllocError>
+    ensures { OnOk result (rows.new.items ≡ rows.old.items
+        ++ record { version = 0; value = saving } ∷ record { version = 0; value = checking } ∷ []) }
+{
+    rows.push(Versioned::new(0, saving))?;
+    rows.push(Versioned::new(0, checking))?;
+    Ok(())
 }

@@ -10,8 +10,8 @@ use Rattle.eve_agree.proofs.Stretched.{all_judged}
 use Rattle.eve_agree.proofs.due_tokens.first_in.Goals as goal
 
 -- what was found in all of them
-found_is : (t : Trace) (e : ℕ) (s : Settling) (xs ys old : List Stretch) (o : Option ℕ) → AreReadyStretches s 0 xs →
-    length ys ≡ length old → old ≡ xs
+found_is : (t : Trace) (e : ℕ) (s : Settling) (xs ys old : List Stretch) (o : Option ℕ)
+    → AreReadyStretches s (length s.batches) xs → length ys ≡ length old → old ≡ xs
     → ((i : ℕ) (d : Stretch) → i < length old → IsJudgedStretch t e (get_or old i d) (get_or ys i d))
     → o ≡ first_found ys →
     IsFirstWrong t e 0 (length s.batches) o

@@ -1,7 +1,6 @@
 use Rattle.std.proofs.Common.{◌≡◌, ◌++◌, ◌∷◌, [], length, ap, ◌∙◌, arith}
 use Rattle.std.proofs.lemmas.List.{take_all}
 use Rattle.eve_frames.specs.Views.{customer_in}
-use Rattle.eve_smallbank.specs.Chain.{Versioned}
 use Rattle.eve_grammar.specs.Trace.{Customer, Head}
 use Rattle.eve_chains.specs.Tables.{table_of}
 use Rattle.eve_chains.proofs.TableLaws.{at_opening, opened, opened_more, length-opened, table_of-opened, customer_there}
@@ -11,14 +10,11 @@ use Rattle.eve_chains.proofs.table.Table.opening.Goals.{After-loop-i}
 pub loop-i-preserved : goal.loop-i-preserved
 loop-i-preserved c =
     let customer : Customer = customer_in c.customer-customer.result.bytes.now in
-    opened_more c.args.trace.now.customers c.loop-i.i customer c.loop-i.rows.items c.push.new.self.items
-    c.push-in-loop-i.new.self.items
+    opened_more c.args.trace.now.customers c.loop-i.i customer c.loop-i.rows.items c.push_both.new.rows.items
     (customer_there c.args.trace.now c.loop-i.i c.customer-customer.result.offset customer
     c.customer-customer.ensures.says) c.loop-i.invariant
-    (c.in_ok-push.ensures.items ∙ ap (λ (v : Versioned). c.loop-i.rows.items ++ v ∷ [])
-    (c.new.ensures ∙ ap at_opening c.saving.ensures))
-    (c.in_ok-push-2.ensures.items ∙ ap (λ (v : Versioned). c.push.new.self.items ++ v ∷ [])
-    (c.new-in-loop-i.ensures ∙ ap at_opening c.checking.ensures))
+    (c.in_ok-push_both.ensures
+    ∙ (λ k. c.loop-i.rows.items ++ at_opening (c.saving.ensures k) ∷ at_opening (c.checking.ensures k) ∷ []))
 
 -- the loop went through all customers
 all_opened : (c : After-loop-i) → c.loop-i.rows.items ≡ opened c.args.trace.now.customers

@@ -1,0 +1,22 @@
+use Rattle.std.proofs.Common.{List, None, sym, subst, refl}
+use Rattle.std.proofs.lemmas.List.Elements.{All-push}
+use Rattle.eve_agree.specs.Stretches.{IsReadyStretch, AreReadyStretches}
+use Rattle.eve_agree.specs.declared.due_tokens.Stretch.{Stretch}
+use Rattle.eve_agree.proofs.Stretched.{reaches_more}
+use Rattle.eve_agree.proofs.due_tokens.append.Goals as goal
+
+pub returns : goal.returns
+returns c =
+    let s = c.args.settled.now in
+    let xs = c.args.stretches.now.items in
+    let x : Stretch =
+    record { before = c.args.before; last = c.args.last; balances = c.in_ok-balances.balances; wrong = None } in
+    let ready : IsReadyStretch s x = record {
+      rising = c.requires.rising;
+      there = c.requires.there;
+      balances = record { rows = c.in_ok-balances.ensures.rows; values = c.in_ok-balances.ensures.values };
+    } in
+    subst (AreReadyStretches s c.args.last) (sym {A = List Stretch} c.in_ok-push.ensures.items) (record {
+      reaches = reaches_more 0 c.args.before xs x c.requires.ready.reaches refl;
+      ready = All-push (IsReadyStretch s) xs x c.requires.ready.ready ready;
+    })
