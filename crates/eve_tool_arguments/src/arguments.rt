@@ -1,11 +1,11 @@
 //! What the arguments of a command line ask for.
 
 ghost use Rattle.std.specs.Prelude.{◌≡◌, false, IfOk, IfSome, map, option_and_then, option_map};
-ghost use Rattle.clap.specs.Words.{app_of, found_of, kind_of, rule_of, subcommand_rows_of};
+ghost use Rattle.clap.specs.Words.{app_of, found_of, kind_of, rule_of, shape_of, subcommand_rows_of};
 ghost use Rattle.clap.specs.Walk.{rows_of};
-ghost use Rattle.eve_tool_arguments.specs.Arguments.{Answers, HasWorkers, SaysOf, eve, mixer, mixer_in, mixer_named};
-ghost use Rattle.eve_tool_arguments.specs.Arguments.{subcommand_named, subcommand_of_call, workers, workers_behind};
-ghost use Rattle.eve_tool_arguments.specs.Arguments.{workers_in};
+ghost use Rattle.eve_tool_arguments.specs.Arguments.{Answers, HasWorkers, SaysOf, audit, eve, mixer, mixer_in};
+ghost use Rattle.eve_tool_arguments.specs.Arguments.{mixer_named, program, run_shape, show, subcommand_named};
+ghost use Rattle.eve_tool_arguments.specs.Arguments.{subcommand_of_call, workers, workers_behind, workers_in};
 
 use crate::worker_count::WorkerCount;
 use clap::error::ErrorKind;
@@ -80,28 +80,62 @@ fn mixer_argument<'a>(alloc: Global) -> Arg<'a>
         .default_value("first")
 }
 
-// The command line of the program.
-fn command<'a>(alloc: Global) -> Result<Command<'a>, AllocError>
-    ensures { IfOk result (λ c. app_of c ≡ eve) }
+// The subcommand that audits.
+fn audit_command<'a>(alloc: Global) -> Result<Command<'a>, AllocError>
+    ensures { IfOk result (λ c. shape_of c ≡ audit) }
 {
-    let audit = Command::new(alloc, "audit")
+    Command::new(alloc, "audit")
         .about("Prints the verdict on the trace on standard input: yes, or the first fault")
-        .arg(workers_argument(alloc))?;
-    let run = Command::new(alloc, "run")
+        .arg(workers_argument(alloc))
+}
+
+// The subcommand that runs a workload.
+fn run_command<'a>(alloc: Global) -> Result<Command<'a>, AllocError>
+    ensures { IfOk result (λ c. shape_of c ≡ run_shape) }
+{
+    Command::new(alloc, "run")
         .about("Runs the workload on standard input on replicas, and prints the trace of the run")
         .after_help(RUN_EXAMPLE)
-        .arg(mixer_argument(alloc))?;
-    let show = Command::new(alloc, "show").about(
+        .arg(mixer_argument(alloc))
+}
+
+// The subcommand that prints the frames of a trace.
+fn show_command<'a>(alloc: Global) -> Command<'a>
+    ensures { shape_of result ≡ show }
+{
+    Command::new(alloc, "show").about(
         "Prints the frames of the trace on standard input, a line for each",
-    );
+    )
+}
+
+// The program, which wants a subcommand, and has none yet.
+fn program<'a>(alloc: Global) -> Command<'a>
+    ensures { app_of result ≡ program }
+{
     Command::new(alloc, "eve")
         .about("Records runs of replicated SmallBank servers, and audits their traces")
         .after_help(EXAMPLES)
         .disable_help_subcommand(true)
         .subcommand_required(true)
-        .subcommand(audit)?
-        .subcommand(run)?
-        .subcommand(show)
+}
+
+// The command line of the program.
+fn command<'a>(alloc: Global) -> Result<Command<'a>, AllocError>
+    ensures { IfOk result (λ c. app_of c ≡ eve) }
+{
+    let Ok(audit) = audit_command(alloc) else {
+        return Err(AllocError);
+    };
+    let Ok(audits) = program(alloc).subcommand(audit) else {
+        return Err(AllocError);
+    };
+    let Ok(run) = run_command(alloc) else {
+        return Err(AllocError);
+    };
+    let Ok(runs) = audits.subcommand(run) else {
+        return Err(AllocError);
+    };
+    runs.subcommand(show_command(alloc))
 }
 
 // How many workers were named.
