@@ -1,6 +1,6 @@
 //! What the arguments of a command line ask for.
 
-ghost use Rattle.std.specs.Prelude.{◌≡◌, false, IfOk, IfSome, map, option_and_then, option_map};
+ghost use Rattle.std.specs.Prelude.{◌≡◌, false, IfOk, IfSome, Some, map, option_and_then, option_map, pos};
 ghost use Rattle.clap.specs.Words.{app_of, found_of, kind_of, rule_of, shape_of, subcommand_rows_of};
 ghost use Rattle.clap.specs.Walk.{rows_of};
 ghost use Rattle.eve_tool_arguments.specs.Arguments.{Answers, HasWorkers, SaysOf, audit, eve, mixer, mixer_in};
@@ -8,6 +8,7 @@ ghost use Rattle.eve_tool_arguments.specs.Arguments.{mixer_named, program, run_s
 ghost use Rattle.eve_tool_arguments.specs.Arguments.{subcommand_of_call, workers, workers_behind, workers_in};
 
 use crate::worker_count::WorkerCount;
+use clap::builder::ValueParser;
 use clap::error::ErrorKind;
 use clap::{Arg, ArgMatches, Command, Error, value_parser};
 use eve_grammar::MOST_AUDIT_WORKERS;
@@ -47,12 +48,18 @@ const EXAMPLES: &str = "Examples:\n\
     \x20 eve audit --workers 2 < examples/two-orders-agree.trace\n\
     \x20 eve show < examples/empty-run.trace";
 
+// The numbers of workers that may be named.
+fn worker_counts<'a>() -> ValueParser<'a>
+    ensures { result ≡ ValueParser.Signed (pos 1) (pos MOST_AUDIT_WORKERS) }
+{
+    value_parser!(u8).range(1..=MOST_AUDIT_WORKERS as i64)
+}
+
 // How many workers audit.
 fn workers_argument<'a>(alloc: Global) -> Arg<'a>
     ensures rule { rule_of result ≡ workers }
     ensures local { result.global ≡ false }
 {
-    let parser = value_parser!(u8).range(1..=MOST_AUDIT_WORKERS as i64);
     Arg::new(alloc, "workers")
         .long("workers")
         .value_name("N")
@@ -60,7 +67,7 @@ fn workers_argument<'a>(alloc: Global) -> Arg<'a>
             "How many workers judge the replicas side by side, 1 to 16; with one, no thread is started",
         )
         .default_value("1")
-        .value_parser(parser)
+        .value_parser(worker_counts())
 }
 
 const RUN_EXAMPLE: &str =
@@ -178,13 +185,21 @@ fn call_in(matches: &ArgMatches<'_>) -> Option<Call>
         ≡ option_and_then subcommand_named (subcommand_rows_of matches.now) }
     ensures workers { IfSome result (HasWorkers (workers_behind (subcommand_rows_of matches.now))) }
 {
-    match matches.subcommand_name() {
-        Some("audit") => {
-            let workers = workers_of(matches.subcommand_matches("audit")?);
-            Some(Call::Audit(workers))
-        }
-        Some("run") => Some(Call::Run(mixer_of(matches.subcommand_matches("run")?)?)),
-        Some("show") => Some(Call::Show),
+    match matches.subcommand() {
+        Some((name, found)) => call_named(name, found),
+        None => None,
+    }
+}
+
+// The call of this name, where this was found behind it.
+fn call_named(name: &str, found: &ArgMatches<'_>) -> Option<Call>
+    ensures call { option_map subcommand_of_call result ≡ subcommand_named (name.now, rows_of (found_of found.now)) }
+    ensures workers { IfSome result (HasWorkers (Some (workers_in (rows_of (found_of found.now))))) }
+{
+    match name {
+        "audit" => Some(Call::Audit(workers_of(found))),
+        "run" => Some(Call::Run(mixer_of(found)?)),
+        "show" => Some(Call::Show),
         _ => None,
     }
 }
