@@ -1,4 +1,4 @@
-use Rattle.std.proofs.Common.{sym, ◌∙◌}
+use Rattle.std.proofs.Common.{◌∙◌}
 use Rattle.eve_workload.proofs.Options.{none_map}
 use Rattle.eve_workload.proofs.LineKinds.{no_customer, no_short_request}
 use Rattle.eve_workload.proofs.line.line_of_four.Goals as goal
