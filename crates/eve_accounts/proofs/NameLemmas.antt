@@ -12,7 +12,10 @@ use Rattle.std.proofs.lemmas.Map.Text.{is_eq-slice_cmp}
 use Rattle.std.proofs.lemmas.Option.{same_Some, slice_get_within, get_or_from_slice_get}
 use Rattle.std.specs.Cmp.Lexicographic.{pointwise, same_text, other_text}
 use Rattle.std.specs.List.{list_any, position_or_len}
+use Rattle.std.specs.Prelude.{Result, Ok, Err}
 use Rattle.eve_accounts.specs.declared.name_key.NameKey.{NameKey}
+use Rattle.eve_accounts.specs.declared.names.NameFault.{NameFault}
+use Rattle.eve_accounts.specs.declared.names.NameFault.TheVariants as fault
 use Rattle.eve_accounts.specs.Names.{is_name, same_name, customer_named_from, customer_named, NameList, IsNameList}
 use Rattle.eve_accounts.specs.Names.{CanTake}
 
@@ -204,3 +207,57 @@ IsNameList-inserted keys new key limit is can absent inserted =
     let P : List (List ℕ) → Type 0 = λ items. IsNameList (record { items = items; limit = limit }) in
     subst P (sym (ap (map text) last ∙ map-append text keys (key ∷ [])))
     (IsNameList-taken (record { items = map text keys; limit = limit }) (text key) is can)
+
+-- ---- why a name is not added
+
+-- the fault that is due where the name is not added
+abbrev pub IsDue : NameList → List ℕ → NameFault → Type 0
+IsDue names name fault.BadName = is_name name ≡ false
+IsDue names name fault.SameName = IsTrue (is_name name) × Contains names.items name
+IsDue names name fault.Full =
+    IsTrue (is_name name) × (¬ Contains names.items name) × (length names.items ≡ names.limit)
+IsDue names name fault.Memory = CanTake names name
+
+-- the answer is each fault exactly where that is due, but for the memory
+pub record TellsFaults (names : NameList) (name : List ℕ) (result : Result ℕ NameFault) : Type 0 where
+  pub bad_name : (result ≡ Err fault.BadName) ↔ (is_name name ≡ false)
+  pub same_name : (result ≡ Err fault.SameName) ↔ (IsTrue (is_name name) × Contains names.items name)
+  pub full : (result ≡ Err fault.Full)
+      ↔ (IsTrue (is_name name) × (¬ Contains names.items name) × (length names.items ≡ names.limit))
+  pub memory : result ≡ Err fault.Memory → CanTake names name
+
+pub tells_fault : (names : NameList) (name : List ℕ) (why : NameFault) → IsDue names name why
+    → TellsFaults names name (Err why)
+tells_fault names name fault.BadName due = record {
+  bad_name = (λ e. due, λ h. refl);
+  same_name = (λ e. absurd (cc), λ h. absurd (true≢false (sym h.0 ∙ due)));
+  full = (λ e. absurd (cc), λ h. absurd (true≢false (sym h.0 ∙ due)));
+  memory = λ e. absurd (cc);
+}
+tells_fault names name fault.SameName due = record {
+  bad_name = (λ e. absurd (cc), λ h. absurd (true≢false (sym due.0 ∙ h)));
+  same_name = (λ e. due, λ h. refl);
+  full = (λ e. absurd (cc), λ h. absurd (h.1 due.1));
+  memory = λ e. absurd (cc);
+}
+tells_fault names name fault.Full due = record {
+  bad_name = (λ e. absurd (cc), λ h. absurd (true≢false (sym due.0 ∙ h)));
+  same_name = (λ e. absurd (cc), λ h. absurd (due.1 h.1));
+  full = (λ e. due, λ h. refl);
+  memory = λ e. absurd (cc);
+}
+tells_fault names name fault.Memory due = record {
+  bad_name = (λ e. absurd (cc), λ h. absurd (true≢false (sym due.named ∙ h)));
+  same_name = (λ e. absurd (cc), λ h. absurd (due.new h.1));
+  full = (λ e. absurd (cc), λ h. absurd (omega (arith, due.room, h.2)));
+  memory = λ e. due;
+}
+
+-- a number is told only of a name that may be added
+pub tells_number : (names : NameList) (name : List ℕ) (n : ℕ) → CanTake names name → TellsFaults names name (Ok n)
+tells_number names name n can = record {
+  bad_name = (λ e. absurd (cc), λ h. absurd (true≢false (sym can.named ∙ h)));
+  same_name = (λ e. absurd (cc), λ h. absurd (can.new h.1));
+  full = (λ e. absurd (cc), λ h. absurd (omega (arith, can.room, h.2)));
+  memory = λ e. absurd (cc);
+}

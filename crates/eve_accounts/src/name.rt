@@ -72,9 +72,7 @@ fn padded(bytes: &[u8]) -> [u8; MOST_NAME_BYTES]
     ensures { result ≡ padded bytes.now }
 {
     let mut all = [0; MOST_NAME_BYTES];
-    for place in 0..bytes.len() {
-        all[place] = bytes[place];
-    }
+    all[..bytes.len()].copy_from_slice(bytes);
     all
 }
 

@@ -30,9 +30,13 @@ pub eve_is_free : is_simple_and_free eve ≡ true
 unfolding clap_on_literals
 eve_is_free = refl
 
--- what either would set is not set
-pub neither : (a b both : Bool) → both ≡ (a || b) → a ≡ false → b ≡ false → both ≡ false
-neither a b both is first second = is ∙ ap₂ (λ (x y : Bool). x || y) first second
+-- a command that is plain has no global argument
+pub is_local : (no_group external globals others : Bool) → (no_group && (not external && (not globals && others))) ≡ true
+    → globals ≡ false
+is_local no_group external false others h = refl
+is_local true true true others h = cc
+is_local true false true others h = cc
+is_local false external true others h = cc
 
 -- where none of five steps fails, the last doesn't
 last_is_empty : (a b c d e : Kinds) → or_else a (or_else b (or_else c (or_else d e))) ≡ [] → e ≡ []

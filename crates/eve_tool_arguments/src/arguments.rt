@@ -1,13 +1,14 @@
 //! What the arguments of a command line ask for.
 
-ghost use Rattle.std.specs.Prelude.{◌≡◌, false, IfOk, IfSome, map, option_and_then, option_map};
-ghost use Rattle.clap.specs.Words.{app_of, found_of, kind_of, rule_of, subcommand_rows_of};
+ghost use Rattle.std.specs.Prelude.{◌≡◌, false, IfOk, IfSome, Some, map, option_and_then, option_map, pos};
+ghost use Rattle.clap.specs.Words.{app_of, found_of, kind_of, rule_of, shape_of, subcommand_rows_of};
 ghost use Rattle.clap.specs.Walk.{rows_of};
-ghost use Rattle.eve_tool_arguments.specs.Arguments.{Answers, HasWorkers, SaysOf, eve, mixer, mixer_in, mixer_named};
-ghost use Rattle.eve_tool_arguments.specs.Arguments.{subcommand_named, subcommand_of_call, workers, workers_behind};
-ghost use Rattle.eve_tool_arguments.specs.Arguments.{workers_in};
+ghost use Rattle.eve_tool_arguments.specs.Arguments.{Answers, HasWorkers, SaysOf, audit, eve, mixer, mixer_in};
+ghost use Rattle.eve_tool_arguments.specs.Arguments.{mixer_named, program, run_shape, show, subcommand_named};
+ghost use Rattle.eve_tool_arguments.specs.Arguments.{subcommand_of_call, workers, workers_behind, workers_in};
 
 use crate::worker_count::WorkerCount;
+use clap::builder::ValueParser;
 use clap::error::ErrorKind;
 use clap::{Arg, ArgMatches, Command, Error, value_parser};
 use eve_grammar::MOST_AUDIT_WORKERS;
@@ -47,12 +48,18 @@ const EXAMPLES: &str = "Examples:\n\
     \x20 eve audit --workers 2 < examples/two-orders-agree.trace\n\
     \x20 eve show < examples/empty-run.trace";
 
+// The numbers of workers that may be named.
+fn worker_counts<'a>() -> ValueParser<'a>
+    ensures { result ≡ ValueParser.Signed (pos 1) (pos MOST_AUDIT_WORKERS) }
+{
+    value_parser!(u8).range(1..=MOST_AUDIT_WORKERS as i64)
+}
+
 // How many workers audit.
 fn workers_argument<'a>(alloc: Global) -> Arg<'a>
     ensures rule { rule_of result ≡ workers }
     ensures local { result.global ≡ false }
 {
-    let parser = value_parser!(u8).range(1..=MOST_AUDIT_WORKERS as i64);
     Arg::new(alloc, "workers")
         .long("workers")
         .value_name("N")
@@ -60,7 +67,7 @@ fn workers_argument<'a>(alloc: Global) -> Arg<'a>
             "How many workers judge the replicas side by side, 1 to 16; with one, no thread is started",
         )
         .default_value("1")
-        .value_parser(parser)
+        .value_parser(worker_counts())
 }
 
 const RUN_EXAMPLE: &str =
@@ -80,28 +87,62 @@ fn mixer_argument<'a>(alloc: Global) -> Arg<'a>
         .default_value("first")
 }
 
-// The command line of the program.
-fn command<'a>(alloc: Global) -> Result<Command<'a>, AllocError>
-    ensures { IfOk result (λ c. app_of c ≡ eve) }
+// The subcommand that audits.
+fn audit_command<'a>(alloc: Global) -> Result<Command<'a>, AllocError>
+    ensures { IfOk result (λ c. shape_of c ≡ audit) }
 {
-    let audit = Command::new(alloc, "audit")
+    Command::new(alloc, "audit")
         .about("Prints the verdict on the trace on standard input: yes, or the first fault")
-        .arg(workers_argument(alloc))?;
-    let run = Command::new(alloc, "run")
+        .arg(workers_argument(alloc))
+}
+
+// The subcommand that runs a workload.
+fn run_command<'a>(alloc: Global) -> Result<Command<'a>, AllocError>
+    ensures { IfOk result (λ c. shape_of c ≡ run_shape) }
+{
+    Command::new(alloc, "run")
         .about("Runs the workload on standard input on replicas, and prints the trace of the run")
         .after_help(RUN_EXAMPLE)
-        .arg(mixer_argument(alloc))?;
-    let show = Command::new(alloc, "show").about(
+        .arg(mixer_argument(alloc))
+}
+
+// The subcommand that prints the frames of a trace.
+fn show_command<'a>(alloc: Global) -> Command<'a>
+    ensures { shape_of result ≡ show }
+{
+    Command::new(alloc, "show").about(
         "Prints the frames of the trace on standard input, a line for each",
-    );
+    )
+}
+
+// The program, which wants a subcommand, and has none yet.
+fn program<'a>(alloc: Global) -> Command<'a>
+    ensures { app_of result ≡ program }
+{
     Command::new(alloc, "eve")
         .about("Records runs of replicated SmallBank servers, and audits their traces")
         .after_help(EXAMPLES)
         .disable_help_subcommand(true)
         .subcommand_required(true)
-        .subcommand(audit)?
-        .subcommand(run)?
-        .subcommand(show)
+}
+
+// The command line of the program.
+fn command<'a>(alloc: Global) -> Result<Command<'a>, AllocError>
+    ensures { IfOk result (λ c. app_of c ≡ eve) }
+{
+    let Ok(audit) = audit_command(alloc) else {
+        return Err(AllocError);
+    };
+    let Ok(audits) = program(alloc).subcommand(audit) else {
+        return Err(AllocError);
+    };
+    let Ok(run) = run_command(alloc) else {
+        return Err(AllocError);
+    };
+    let Ok(runs) = audits.subcommand(run) else {
+        return Err(AllocError);
+    };
+    runs.subcommand(show_command(alloc))
 }
 
 // How many workers were named.
@@ -144,13 +185,21 @@ fn call_in(matches: &ArgMatches<'_>) -> Option<Call>
         ≡ option_and_then subcommand_named (subcommand_rows_of matches.now) }
     ensures workers { IfSome result (HasWorkers (workers_behind (subcommand_rows_of matches.now))) }
 {
-    match matches.subcommand_name() {
-        Some("audit") => {
-            let workers = workers_of(matches.subcommand_matches("audit")?);
-            Some(Call::Audit(workers))
-        }
-        Some("run") => Some(Call::Run(mixer_of(matches.subcommand_matches("run")?)?)),
-        Some("show") => Some(Call::Show),
+    match matches.subcommand() {
+        Some((name, found)) => call_named(name, found),
+        None => None,
+    }
+}
+
+// The call of this name, where this was found behind it.
+fn call_named(name: &str, found: &ArgMatches<'_>) -> Option<Call>
+    ensures call { option_map subcommand_of_call result ≡ subcommand_named (name.now, rows_of (found_of found.now)) }
+    ensures workers { IfSome result (HasWorkers (Some (workers_in (rows_of (found_of found.now))))) }
+{
+    match name {
+        "audit" => Some(Call::Audit(workers_of(found))),
+        "run" => Some(Call::Run(mixer_of(found)?)),
+        "show" => Some(Call::Show),
         _ => None,
     }
 }

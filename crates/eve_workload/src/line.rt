@@ -43,16 +43,45 @@ pub(crate) fn line_of<'a>(words: &[&'a [u8]]) -> Option<Line<'a>>
 {
     match words.len() {
         1 => batch_line(words[0]),
-        4 => {
-            if says(words[0], b"customer") {
-                customer_line(words[1], words[2], words[3])
-            } else {
-                short_line(words[0], words[1], words[2], words[3])
-            }
-        }
+        4 => line_of_four(words),
         5 => line_of_five(words),
         6 => line_of_six(words),
         _ => None,
+    }
+}
+
+fn line_of_four<'a>(words: &[&'a [u8]]) -> Option<Line<'a>>
+    requires { length words.now ≡ 4 }
+    ensures some { IfSome result (λ l. (line_words (line_said l) ≡ bytes_of words.now)
+        × IsTrue (is_line (line_said l))) }
+    ensures none { IfNone result ((l : LineValue) → IsTrue (is_line l) → line_words l ≢ bytes_of words.now) }
+{
+    let four = four_of(words);
+    if says(four.first, b"customer") {
+        customer_line(four.second, four.third, four.fourth)
+    } else {
+        short_line(four.first, four.second, four.third, four.fourth)
+    }
+}
+
+// The words of a customer, or of a request with one name.
+#[derive(Clone, Copy)]
+struct Four<'a> {
+    first: &'a [u8],
+    second: &'a [u8],
+    third: &'a [u8],
+    fourth: &'a [u8],
+}
+
+fn four_of<'a>(words: &[&'a [u8]]) -> Four<'a>
+    requires { length words.now ≡ 4 }
+    ensures { bytes_of words.now ≡ result.first.now ∷ result.second.now ∷ result.third.now ∷ result.fourth.now ∷ [] }
+{
+    Four {
+        first: words[0],
+        second: words[1],
+        third: words[2],
+        fourth: words[3],
     }
 }
 
