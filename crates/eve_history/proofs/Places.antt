@@ -4,6 +4,7 @@ use Rattle.std.proofs.Common.{◌≡◌, ℕ, zero, suc, ◌+◌, ◌≤◌, Lis
 use Rattle.std.proofs.Common.{refl, sym, ap, subst, inl, inr, ◌⊎◌, arith}
 use Rattle.std.proofs.lemmas.List.{append-nil, length-append}
 use Rattle.std.specs.List.{flat_map}
+use Rattle.std.proofs.lemmas.Option.{same_Some}
 use Rattle.eve_grammar.specs.Spelling.{located}
 use Rattle.eve_views.specs.Form.{SomePlace}
 
@@ -87,10 +88,7 @@ weaker_place P Q xs weaker place =
 pub cut_at : {A : Type 0} (xs : List A) (i : ℕ) (x : A) → slice_get xs i ≡ Some x
     → xs ≡ take i xs ++ x ∷ drop (suc i) xs
 cut_at [] i x e = absurd (cc)
-cut_at {A = A} (y ∷ xs) zero x e = ap (λ (z : A). z ∷ xs) (same y x e)
-  where
-    same : (y x : A) → Some y ≡ Some x → y ≡ x
-    same y x e = cc
+cut_at {A = A} (y ∷ xs) zero x e = ap (λ (z : A). z ∷ xs) (same_Some y x e)
 cut_at {A = A} (y ∷ xs) (suc i) x e = ap (λ (zs : List A). y ∷ zs) (cut_at xs i x e)
 
 -- ---- offsets
