@@ -7,6 +7,7 @@ use Rattle.std.proofs.lemmas.Bool.{eqb-true, and_parts}
 use Rattle.std.proofs.lemmas.List.{length-append, length-take-le, length-drop, take-append-drop, length-map, take_at}
 use Rattle.std.proofs.lemmas.List.{drop_at, drop-drop}
 use Rattle.std.proofs.Math.Seq.{take-append-add}
+use Rattle.std.proofs.lemmas.Option.{same_Some}
 use Rattle.eve_grammar.specs.Trace.{Attempt, Commit, Rollback, Step, Attempts, Commits, RollsBack}
 use Rattle.eve_grammar.specs.Frames.{Frame, OfAttempt, OfAccess, OfCommit, OfRollback, kind_of, without_accesses}
 use Rattle.eve_grammar.specs.Frames.{step_frames}
@@ -120,9 +121,6 @@ others_of (Attempts a) = (map OfAccess a.accesses, refl)
 others_of (Commits c) = ([], refl)
 others_of (RollsBack r) = ([], refl)
 
-some_frame : (f g : Frame) → Some f ≡ Some g → f ≡ g
-some_frame f g e = cc
-
 -- a step that is there, and its first frame
 record IsMet (fs : List Frame) (at to : ℕ) (f : Frame) : Type 0 where
   rows : ℕ
@@ -152,7 +150,7 @@ met_of fs at to f are more got = by are.steps refl
           few = are.few;
           step = s;
           is = next;
-          begins = some_frame f (first s)
+          begins = same_Some f (first s)
               (sym got ∙ next.is.first (first s) o.0 o.1);
         }
 
@@ -207,8 +205,8 @@ attempt_met fs at to f bytes met kind text = by met.step met.is met.begins
         let head : IsAt fs (first (Attempts a) ∷ []) at = is_at fs (first (Attempts a) ∷ []) (own ++ next.cut.0) at
         (omega (arith, wide, inside)) next.cut.1 in
         let are : AreAccesses fs (at + 1) (at + 1 + length a.certificate) = record {
-          accesses = a.accesses;
-          rows = met.rows;
+          items = a.accesses;
+          count = met.rows;
           few = few;
           right = more.1;
           many = omega (arith, many);
