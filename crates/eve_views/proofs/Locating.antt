@@ -107,7 +107,8 @@ behind before own at text begins said = omega (arith, length-frames_text before 
 
 pub sections_begin : (t : Trace) → 32 + length (frames_text (before_sections t)) ≡ sections_start t
 sections_begin t = behind (before_batches t) (map (λ b. OfBatch b.0 b.1) (batches_of t)) (batches_start t)
-    (flat_map batch_text (batches_of t)) (batches_begin t) (flat_map-map frame_text (λ b. OfBatch b.0 b.1) (batches_of t))
+    (flat_map batch_text (batches_of t)) (batches_begin t)
+    (flat_map-map frame_text (λ b. OfBatch b.0 b.1) (batches_of t))
 
 pub section_begins : (t : Trace) (e : ℕ) → 32 + length (frames_text (before_section t e)) ≡ section_start t e
 unfolding before_section

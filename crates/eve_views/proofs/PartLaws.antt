@@ -22,7 +22,7 @@ use Rattle.eve_views.specs.declared.walk.Index.{Index}
 use Rattle.eve_views.specs.Held.{IsHeldTrace}
 use Rattle.eve_views.specs.Lent.{HasBytesAt}
 use Rattle.eve_views.specs.Fronts.{before_batches, before_sections, before_sent}
-use Rattle.eve_views.specs.Parts.{byte_of, frames_between, accesses_between, votes_between, AreOf, AreAccesses}
+use Rattle.eve_views.specs.Parts.{byte_of, frames_between, accesses_between, votes_between, AreOfOneKind, AreAccesses}
 use Rattle.eve_views.specs.Parts.{AreVotes}
 use Rattle.eve_views.proofs.Fronting.{frames_from_sections, frames_from_sent}
 use Rattle.eve_views.proofs.Locating.{IsPlaced, placed, length-located, batches_begin, sent_begin}
@@ -205,7 +205,7 @@ accesses_are fs from to are =
 
 -- what frames of one kind between two numbers say, each with its byte offset
 module _ {A : Type 0} (frame : A → Frame) (fits : ℕ → A → Bool) (most : ℕ) (fs : List Frame) (from to : ℕ)
-    (list : List (ℕ × A)) (part : AreOf frame fits most fs from to)
+    (list : List (ℕ × A)) (part : AreOfOneKind frame fits most fs from to)
     (are : list ≡ located (λ x. frame_text (frame x)) (byte_of fs from) part.items) where
   items_many : length list ≡ to - from
   items_many = ap length are ∙ length-located (λ x. frame_text (frame x)) (byte_of fs from) part.items ∙ part.many

@@ -35,7 +35,7 @@ steps_between fs from count = located step_text (byte_of fs from) (gathered (fra
 -- ---- and that they are of one kind
 
 -- frames of one kind, and no others; each fits a trace with so many rows or batches, no more than there can be
-pub record AreOf {A : Type 0} (frame : A → Frame) (fits : ℕ → A → Bool) (most : ℕ) (fs : List Frame)
+pub record AreOfOneKind {A : Type 0} (frame : A → Frame) (fits : ℕ → A → Bool) (most : ℕ) (fs : List Frame)
     (from to : ℕ) : Type 0 where
   pub items : List A
   pub count : ℕ
@@ -48,11 +48,11 @@ pub record AreOf {A : Type 0} (frame : A → Frame) (fits : ℕ → A → Bool) 
 
 -- access frames, and no others
 abbrev pub AreAccesses : List Frame → ℕ → ℕ → Type 0
-AreAccesses = AreOf OfAccess is_access most_rows
+AreAccesses = AreOfOneKind OfAccess is_access most_rows
 
 -- votes, and no others
 abbrev pub AreVotes : List Frame → ℕ → ℕ → Type 0
-AreVotes = AreOf OfVote is_vote most_batches
+AreVotes = AreOfOneKind OfVote is_vote most_batches
 
 -- steps with all their frames
 pub record AreSteps (fs : List Frame) (from to : ℕ) : Type 0 where
