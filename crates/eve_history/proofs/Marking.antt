@@ -9,7 +9,8 @@ use Rattle.std.proofs.lemmas.List.{length-set, length-replicate, get_or-replicat
 use Rattle.std.proofs.lemmas.List.{take_all, drop_all}
 use Rattle.std.proofs.lemmas.List.Recursion.{or_push}
 use Rattle.std.proofs.lemmas.List.Sums.{sum_by_push}
-use Rattle.std.proofs.lemmas.Option.{same_Some}
+use Rattle.std.proofs.lemmas.Option.{same_Some, slice_get_within, get_or_from_slice_get}
+use Rattle.std.proofs.Math.Seq.{drop-cons}
 use Rattle.eve_grammar.specs.Trace.{Access}
 use Rattle.eve_views.specs.declared.fault.Code.{Code}
 use Rattle.eve_views.specs.declared.fault.Code.TheVariants as code
@@ -40,12 +41,8 @@ none_at p (x ∷ xs) zero y none e = ap p (sym (same_Some x y e)) ∙ (or_parts 
 none_at p (x ∷ xs) (suc k) y none e = none_at p xs k y (or_parts (p x) (list_any p xs) none).1 e
 
 pub drop_here : {A : Type 0} (xs : List A) (i : ℕ) (x : A) → slice_get xs i ≡ Some x → drop i xs ≡ x ∷ drop (i + 1) xs
-drop_here {A = A} xs i x e = by xs i e ∙ ap (λ (n : ℕ). x ∷ drop n xs) (sym (add-one i))
-  where
-    by : (xs : List A) (i : ℕ) → slice_get xs i ≡ Some x → drop i xs ≡ x ∷ drop (suc i) xs
-    by [] i e = absurd (cc)
-    by (y ∷ xs) zero e = ap (λ (z : A). z ∷ xs) (same_Some y x e)
-    by (y ∷ xs) (suc i) e = by xs i e
+drop_here {A = A} xs i x e = drop-cons xs i x (slice_get_within xs i x e)
+    ∙ (λ k. get_or_from_slice_get xs i x x e k ∷ drop (sym (add-one i) k) xs)
 
 taken_at : (xs : List (ℕ × Access)) (k : ℕ) (y : ℕ × Access) → slice_get xs k ≡ Some y
     → slice_get (accesses_of xs) k ≡ Some y.1

@@ -6,7 +6,8 @@ use Rattle.std.proofs.lemmas.Bool.{and_parts, cases_lt}
 use Rattle.std.proofs.lemmas.List.{append-nil, map-append, take_all, length-map, length-take-le}
 use Rattle.std.proofs.lemmas.List.Concat.{flat_map-append}
 use Rattle.std.proofs.lemmas.List.FromFn.{length-enumerate_from}
-use Rattle.std.proofs.lemmas.Option.{same_Some}
+use Rattle.std.proofs.lemmas.Option.{same_Some, slice_get_within, get_or_from_slice_get}
+use Rattle.std.proofs.Math.Seq.{take-suc}
 use Rattle.eve_accounts.specs.Names.{is_name, NameList}
 use Rattle.eve_grammar.specs.Trace.{Customer, Batch, Trace}
 use Rattle.eve_grammar.specs.Frames.{batches_of}
@@ -30,12 +31,9 @@ use Rattle.eve_history.proofs.Places.{located_within, weaker_place}
 
 pub take_one_more : {A : Type 0} (xs : List A) (i : ℕ) (x : A) → slice_get xs i ≡ Some x → take (i + 1) xs
     ≡ take i xs ++ x ∷ []
-take_one_more {A = A} xs i x e = ap (λ (n : ℕ). take n xs) (add-one i) ∙ by xs i e
-  where
-    by : (xs : List A) (i : ℕ) → slice_get xs i ≡ Some x → take (suc i) xs ≡ take i xs ++ x ∷ []
-    by [] i e = absurd (cc)
-    by (y ∷ xs) zero e = ap (λ (z : A). z ∷ []) (same_Some y x e)
-    by (y ∷ xs) (suc i) e = ap (λ (zs : List A). y ∷ zs) (by xs i e)
+take_one_more {A = A} xs i x e =
+    ap (λ (n : ℕ). take n xs) (add-one i) ∙ take-suc xs i x (slice_get_within xs i x e)
+    ∙ ap (λ (y : A). take i xs ++ y ∷ []) (get_or_from_slice_get xs i x x e)
 
 pub of_located : {A : Type 0} (text : A → List ℕ) (at : ℕ) (xs : List A) (i : ℕ) (x : ℕ × A)
     → slice_get (located text at xs) i ≡ Some x → slice_get xs i ≡ Some x.1
