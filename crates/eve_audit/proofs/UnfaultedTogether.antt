@@ -30,7 +30,8 @@ use Rattle.eve_agree.specs.Agreement.{first_to_commit, HaveSameOutcome, Replicas
 use Rattle.eve_agree.proofs.Agreeing.{differs, they_agree}
 use Rattle.eve_agree.specs.SentReplies.{IsReplied, AllReplied, IsReplyFault}
 use Rattle.eve_views.specs.Form.{HasNone}
-use Rattle.eve_audit.proofs.Deciding.{Decided, decided_both, decided_as, all_or_place, all_if_none, below_or_none, numbers, integers}
+use Rattle.eve_audit.proofs.Deciding.{Decided, decided_both, decided_as, all_or_place, all_if_none, below_or_none}
+use Rattle.eve_audit.proofs.Deciding.{numbers, integers}
 use Rattle.eve_audit.proofs.Deciding.{lists, options, replies}
 
 -- ---- votes
