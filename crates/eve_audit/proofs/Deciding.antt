@@ -51,6 +51,21 @@ module _ {A : Type 0} (P : A → Type 0) (decided : (x : A) → Decided (P x)) w
     | inr wrong ↦ inr (place_here (λ _ y. ¬ P y) x xs wrong)
   ]
 
+  -- what fails at none of their offsets holds of all
+  pub all_if_none : (offset : A → ℕ) (xs : List A)
+      → ((x : A) → SomePlace xs (λ _ y. (offset y ≡ offset x) × ¬ P y) → ⊥) → AllByRecursion P xs
+  all_if_none offset xs none = elim (all_or_place xs) [
+    | inl all ↦ all
+    | inr place ↦ absurd (none place.item
+        (record {
+          before = place.before;
+          item = place.item;
+          rest = place.rest;
+          is = place.is;
+          holds = (refl, place.holds);
+        }))
+  ]
+
 pub some_if : {A : Type 0} (P : A → Type 0) → ((x : A) → Decided (P x)) → (o : Option A) → Decided (IfSome o P)
 some_if P decided None = inl tt
 some_if P decided (Some x) = decided x

@@ -12,7 +12,7 @@ use Rattle.eve_history.specs.Faults.{StandsInOrders}
 use Rattle.eve_votes.specs.Faults.{StandsInVotes}
 use Rattle.eve_agree.specs.SentReplies.{StandsInReplies}
 use Rattle.eve_audit.proofs.Sections.{LiesIn}
-use Rattle.eve_audit.proofs.Where.{Between, at_place, all_located, frame_has_text}
+use Rattle.eve_audit.proofs.Where.{located_within, frame_has_text}
 use Rattle.eve_audit.proofs.Within.{fewer}
 
 -- before the first section, or after the last
@@ -30,9 +30,7 @@ module _ (t : Trace) where
       ≡ before ++ c ∷ rest → IsOutside t c.0
   unfolding customers_at
   customer_outside before c rest is =
-      let within : Between 32 (batches_start t) c.0 (length (customer_text c.1)) =
-      at_place (λ x. Between 32 (batches_start t) x.0 (length (customer_text x.1)))
-      (located customer_text 32 t.customers) before c rest is (all_located customer_text 32 t.customers) in
+      let within = located_within customer_text 32 t.customers before c rest is in
       let some = frame_has_text (OfCustomer c.1) in
       let behind : batches_start t ≤ sections_start t = omega arith in
       early (omega (arith, within.1, some, behind))
@@ -41,10 +39,7 @@ module _ (t : Trace) where
       ≡ before ++ b ∷ rest → IsOutside t b.0
   unfolding batches_at
   batch_outside before b rest is =
-      let within : Between (batches_start t) (sections_start t) b.0 (length (batch_text b.1)) =
-      at_place (λ x. Between (batches_start t) (sections_start t) x.0 (length (batch_text x.1)))
-      (located batch_text (batches_start t) (batches_of t)) before b rest is
-      (all_located batch_text (batches_start t) (batches_of t)) in
+      let within = located_within batch_text (batches_start t) (batches_of t) before b rest is in
       let some = frame_has_text (OfBatch b.1.0 b.1.1) in
       early (omega (arith, within.1, some))
 
@@ -52,11 +47,8 @@ module _ (t : Trace) where
       ≡ before ++ w ∷ rest → IsOutside t w.0
   unfolding votes_at
   vote_outside v before w rest is =
-      let text : Vote → List ℕ = λ x. frame_text (OfVote x) in
-      let from : ℕ = verifier_start t v + length (frame_text (OfVerifier v)) in
-      let within : Between from (from + length (flat_map text (votes_of t v))) w.0 (length (text w.1)) =
-      at_place (λ x. Between from (from + length (flat_map text (votes_of t v))) x.0 (length (text x.1)))
-      (located text from (votes_of t v)) before w rest is (all_located text from (votes_of t v)) in
+      let within = located_within (λ x. frame_text (OfVote x))
+      (verifier_start t v + length (frame_text (OfVerifier v))) (votes_of t v) before w rest is in
       let behind : verifiers_start t ≤ verifier_start t v = omega arith in
       late (omega (arith, within.0, behind))
 
@@ -64,11 +56,7 @@ module _ (t : Trace) where
       → IsOutside t s.0
   unfolding sent_at
   sent_outside before s rest is =
-      let text : Sent → List ℕ = λ x. frame_text (OfSent x) in
-      let from : ℕ = sent_start t in
-      let within : Between from (from + length (flat_map text t.sent)) s.0 (length (text s.1)) =
-      at_place (λ x. Between from (from + length (flat_map text t.sent)) x.0 (length (text x.1)))
-      (located text from t.sent) before s rest is (all_located text from t.sent) in
+      let within = located_within (λ x. frame_text (OfSent x)) (sent_start t) t.sent before s rest is in
       let behind : verifiers_start t ≤ sent_start t = omega arith in
       late (omega (arith, within.0, behind))
 

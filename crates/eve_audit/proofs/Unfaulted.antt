@@ -20,7 +20,7 @@ use Rattle.eve_agree.specs.Tables.{are_right_restores, all_restore_rightly, Rest
 use Rattle.eve_agree.specs.Restores.{IsRestoreFault}
 use Rattle.eve_agree.specs.DueTokens.{due_token, TokensAreDue, IsTokenFault}
 use Rattle.eve_views.specs.Form.{HasNone}
-use Rattle.eve_audit.proofs.Deciding.{Decided, stable, all_or_place, numbers, lists}
+use Rattle.eve_audit.proofs.Deciding.{Decided, stable, all_if_none, numbers, lists}
 
 module _ (t : Trace) (e : ℕ) where
   -- ---- structure
@@ -97,18 +97,7 @@ module _ (t : Trace) (e : ℕ) where
   -- ---- tokens
 
   pub due_tokens : HasNone (IsTokenFault t e) → TokensAreDue t e
-  due_tokens none = elim (all_or_place (λ p. p.attempt.token ≡ due_token t e p)
-      (λ p. lists numbers p.attempt.token (due_token t e p)) (history t e).committed) [
-        | inl all ↦ all
-        | inr place ↦ absurd (none (record { code = code.Token; offset = place.item.offset; replica = Some e })
-            (record {
-              stands = record {
-                before = place.before;
-                item = place.item;
-                rest = place.rest;
-                is = place.is;
-                holds = (refl, place.holds);
-              };
-              inside = refl;
-            }))
-      ]
+  due_tokens none = all_if_none (λ p. p.attempt.token ≡ due_token t e p)
+      (λ p. lists numbers p.attempt.token (due_token t e p)) (λ p. p.offset) (history t e).committed
+      (λ p place. none (record { code = code.Token; offset = p.offset; replica = Some e })
+      (record { stands = place; inside = refl }))

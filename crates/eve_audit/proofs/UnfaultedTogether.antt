@@ -30,7 +30,8 @@ use Rattle.eve_agree.specs.Agreement.{first_to_commit, HaveSameOutcome, Replicas
 use Rattle.eve_agree.proofs.Agreeing.{differs, they_agree}
 use Rattle.eve_agree.specs.SentReplies.{IsReplied, AllReplied, IsReplyFault}
 use Rattle.eve_views.specs.Form.{HasNone}
-use Rattle.eve_audit.proofs.Deciding.{Decided, decided_both, decided_as, all_or_place, below_or_none, numbers, integers}
+use Rattle.eve_audit.proofs.Deciding.{Decided, decided_both, decided_as, all_or_place, all_if_none, below_or_none}
+use Rattle.eve_audit.proofs.Deciding.{numbers, integers}
 use Rattle.eve_audit.proofs.Deciding.{lists, options, replies}
 
 -- ---- votes
@@ -221,17 +222,7 @@ module _ (t : Trace) where
   sent_all all = all_unlocated (IsReplied t) (λ s. frame_text (OfSent s)) (sent_start t) t.sent all
 
   pub all_replied : HasNone (IsReplyFault t) → AllReplied t
-  all_replied none = elim (all_or_place (λ s. IsReplied t s.1) (λ s. replied t s.1) (sent_at t)) [
-    | inl all ↦ sent_all all
-    | inr place ↦ absurd (none (record { code = code.Reply; offset = place.item.0; replica = None })
-        (record {
-          stands = record {
-            before = place.before;
-            item = place.item;
-            rest = place.rest;
-            is = place.is;
-            holds = (refl, place.holds);
-          };
-          outside = refl;
-        }))
-  ]
+  all_replied none = sent_all
+      (all_if_none (λ s. IsReplied t s.1) (λ s. replied t s.1) (λ s. s.0) (sent_at t)
+      (λ s place. none (record { code = code.Reply; offset = s.0; replica = None })
+      (record { stands = place; outside = refl })))

@@ -64,6 +64,14 @@ module _ {A : Type 0} (text : A → List ℕ) where
             (λ y b. (omega (arith, b.0), omega (arith, b.1, more))) (located text (at + length (text x)) xs) later,
       )
 
+-- each of them stands where they all do
+pub located_within : {A : Type 0} (text : A → List ℕ) (from : ℕ) (xs : List A) (before : List (ℕ × A)) (x : ℕ × A)
+    (rest : List (ℕ × A)) → located text from xs ≡ before ++ x ∷ rest
+    → Between from (from + length (flat_map text xs)) x.0 (length (text x.1))
+located_within text from xs before x rest is =
+    at_place (λ y. Between from (from + length (flat_map text xs)) y.0 (length (text y.1))) (located text from xs)
+    before x rest is (all_located text from xs)
+
 -- ---- sections
 
 nested : (steps : List Step) → flat_map frame_text (flat_map step_frames steps) ≡ flat_map step_text steps
@@ -225,9 +233,7 @@ module _ (t : Trace) (e : ℕ) where
   access_in at a step before item rest is =
       let from : ℕ = at + length (frame_text (AttemptFrame a)) in
       let text : Access → List ℕ = λ x. frame_text (OfAccess x) in
-      let within : Between from (from + length (flat_map text a.accesses)) item.0 (length (text item.1)) =
-      at_place (λ x. Between from (from + length (flat_map text a.accesses)) x.0 (length (text x.1)))
-      (accesses_at at a) before item rest is (all_located text from a.accesses) in
+      let within = located_within text from a.accesses before item rest is in
       let long : length (step_text (Attempts a)) ≡ length (frame_text (AttemptFrame a)) + length
       (flat_map text a.accesses) =
       length-append (frame_text (AttemptFrame a)) (flat_map frame_text (map OfAccess a.accesses))

@@ -25,7 +25,7 @@ use Rattle.eve_audit.specs.Verdict.{Stands, in_form, in_trace, IsOwnFault, of_st
 use Rattle.eve_audit.specs.Verdict.{of_restores, of_tokens, IsTraceFault, of_votes, of_majorities, of_agreement}
 use Rattle.eve_audit.specs.Verdict.{of_replies, in_orders, in_section, in_common}
 use Rattle.eve_audit.proofs.Sections.{LiesIn, FatesAreAsItEnds}
-use Rattle.eve_audit.proofs.Where.{Between, at_place, all_located, mapped, front_more}
+use Rattle.eve_audit.proofs.Where.{located_within, mapped, front_more}
 use Rattle.eve_audit.proofs.Kept.{none_beyond}
 use Rattle.eve_audit.proofs.Placed.{structure_lies, record_lies, chain_lies, restore_lies, token_lies, majority_lies}
 use Rattle.eve_audit.proofs.Placed.{outcome_lies}
@@ -76,10 +76,7 @@ module _ (t : Trace) where
       ≡ before ++ b ∷ rest → b.0 ≤ length_of t
   unfolding batches_at
   batch_within before b rest is =
-      let from : ℕ = batches_start t in
-      let within : Between from (from + length (flat_map batch_text (batches_of t))) b.0 (length (batch_text b.1)) =
-      at_place (λ x. Between from (from + length (flat_map batch_text (batches_of t))) x.0 (length (batch_text x.1)))
-      (located batch_text from (batches_of t)) before b rest is (all_located batch_text from (batches_of t)) in
+      let within = located_within batch_text (batches_start t) (batches_of t) before b rest is in
       let end = sent_ends t in
       omega (arith, within.1, end)
 
@@ -87,11 +84,7 @@ module _ (t : Trace) where
       → s.0 ≤ length_of t
   unfolding sent_at
   sent_within before s rest is =
-      let text : Sent → List ℕ = λ x. frame_text (OfSent x) in
-      let from : ℕ = sent_start t in
-      let within : Between from (from + length (flat_map text t.sent)) s.0 (length (text s.1)) =
-      at_place (λ x. Between from (from + length (flat_map text t.sent)) x.0 (length (text x.1)))
-      (located text from t.sent) before s rest is (all_located text from t.sent) in
+      let within = located_within (λ x. frame_text (OfSent x)) (sent_start t) t.sent before s rest is in
       let end = sent_ends t in
       omega (arith, within.1, end)
 
@@ -105,11 +98,8 @@ module _ (t : Trace) where
   unfolding votes_at
   vote_within v before w rest is = elim (cases_lt v (length t.verifiers)) [
     | inl lt ↦
-        let text : Vote → List ℕ = λ x. frame_text (OfVote x) in
-        let from : ℕ = verifier_start t v + length (frame_text (OfVerifier v)) in
-        let within : Between from (from + length (flat_map text (votes_of t v))) w.0 (length (text w.1)) =
-        at_place (λ x. Between from (from + length (flat_map text (votes_of t v))) x.0 (length (text x.1)))
-        (located text from (votes_of t v)) before w rest is (all_located text from (votes_of t v)) in
+        let within = located_within (λ x. frame_text (OfVote x))
+        (verifier_start t v + length (frame_text (OfVerifier v))) (votes_of t v) before w rest is in
         let here : 0 + v ≡ v = omega arith in
         let more = front_more votes_text 0 v t.verifiers lt in
         let own : length (votes_text (0 + v, votes_of t v)) ≡ length (votes_text (v, votes_of t v)) =

@@ -11,7 +11,7 @@ mod world;
 
 use crate::gates::Turn;
 use crate::misses::Misses;
-use crate::replicas::{Part, of_part};
+use crate::replicas::{Case, Part};
 use crate::runs::{Ran, run_knots, run_whole};
 use crate::world::{names_of, workload_of};
 use eve_accounts::Names;
@@ -75,15 +75,27 @@ fn of_names<R: Threads + Wait + Sync>(
     names: &Names,
     trace: &[u8],
 ) -> io::Result<Misses> {
+    let case = Case {
+        rt,
+        alloc,
+        workload,
+        names,
+        wanted: trace,
+    };
+    of_case(name, &case)
+}
+
+// The same, of the case with this name.
+fn of_case<R: Threads + Wait + Sync>(name: &str, case: &Case<R>) -> io::Result<Misses> {
     match name {
         "replica-attempt-and-close" => {
-            let attempted = of_part(rt, alloc, Part::Attempted, workload, names, trace)?;
-            Ok(attempted.and(of_part(rt, alloc, Part::Closed, workload, names, trace)?))
+            let attempted = case.of_part(Part::Attempted)?;
+            Ok(attempted.and(case.of_part(Part::Closed)?))
         }
-        "gates-held" => of_part(rt, alloc, Part::GatesHeld, workload, names, trace),
-        "rollback" => of_part(rt, alloc, Part::RolledBack, workload, names, trace),
-        "commit-and-rollback" => of_part(rt, alloc, Part::OneCommitted, workload, names, trace),
-        _ => of_part(rt, alloc, Part::Broken, workload, names, trace),
+        "gates-held" => case.of_part(Part::GatesHeld),
+        "rollback" => case.of_part(Part::RolledBack),
+        "commit-and-rollback" => case.of_part(Part::OneCommitted),
+        _ => case.of_part(Part::Broken),
     }
 }
 

@@ -24,7 +24,11 @@ struct Device<'a> {
     moved: usize,
 }
 
-impl Device<'_> {
+impl<'a> Device<'a> {
+    fn of(turns: &'a [Turn]) -> Device<'a> {
+        Device { turns, moved: 0 }
+    }
+
     fn next(&mut self, most: usize) -> io::Result<usize>
         ensures { IfOk result (λ n. n ≤ most) }
     {
@@ -104,11 +108,7 @@ pub(crate) fn tell(
 fn tell_write(alloc: Global, turns: &str, bytes: &str, said: &mut String) -> io::Result<()> {
     let bytes = bytes_of(alloc, bytes)?;
     let turns = turns_of(alloc, turns)?;
-    let device = Device {
-        turns: turns.as_slice(),
-        moved: 0,
-    };
-    let mut sink = SinkOf::new(device);
+    let mut sink = SinkOf::new(Device::of(turns.as_slice()));
     let sent = send_all(&mut sink, bytes.as_slice());
     let (failed, moved) = (sink.failures(), sink.writer().moved);
     Ok(write!(said, " {sent:?}, {failed} failed, {moved} moved")?)
@@ -124,11 +124,7 @@ fn tell_tries(
 ) -> io::Result<()> {
     let bytes = bytes_of(alloc, bytes)?;
     let turns = turns_of(alloc, turns)?;
-    let device = Device {
-        turns: turns.as_slice(),
-        moved: 0,
-    };
-    let mut sink = SinkOf::new(device);
+    let mut sink = SinkOf::new(Device::of(turns.as_slice()));
     let sent = sink.send_within(bytes.as_slice(), count);
     let (failed, moved) = (sink.failures(), sink.writer().moved);
     Ok(write!(said, " {sent:?}, {failed} failed, {moved} moved")?)
@@ -137,11 +133,7 @@ fn tell_tries(
 /// Reads a device to its end, or to a limit.
 fn tell_device_read(alloc: Global, turns: &str, limit: u32, said: &mut String) -> io::Result<()> {
     let turns = turns_of(alloc, turns)?;
-    let device = Device {
-        turns: turns.as_slice(),
-        moved: 0,
-    };
-    let mut source = SourceOf::new(device);
+    let mut source = SourceOf::new(Device::of(turns.as_slice()));
     Ok(tell_source(alloc, &mut source, limit, said)?)
 }
 
@@ -154,11 +146,7 @@ fn tell_reads(
     said: &mut String,
 ) -> io::Result<()> {
     let turns = turns_of(alloc, turns)?;
-    let device = Device {
-        turns: turns.as_slice(),
-        moved: 0,
-    };
-    let mut source = SourceOf::within(device, count);
+    let mut source = SourceOf::within(Device::of(turns.as_slice()), count);
     Ok(tell_source(alloc, &mut source, limit, said)?)
 }
 

@@ -20,10 +20,11 @@ use Rattle.eve_history.specs.Section.{are_right_accesses, request_count}
 use Rattle.eve_history.specs.SectionHistory.{access_with, ordered, executed_attempt, attempts_among}
 use Rattle.eve_history.specs.FirstWrong.{wrong_step}
 use Rattle.eve_history.specs.Standing.{IsAttemptAt, IsAccessAt, IsRollbackAt}
-use Rattle.eve_history.specs.Coming.{KeptSection, kept_section, kept_executed_attempt, seen, HasCome, AreNotesOf}
+use Rattle.eve_history.specs.Coming.{KeptSection, kept_section, kept_at_first, kept_executed_attempt, seen, HasCome}
+use Rattle.eve_history.specs.Coming.{AreNotesOf}
 use Rattle.eve_history.specs.SideBySide.{IsRightAlone, AreOrdered, IsKeptAhead}
 use Rattle.eve_history.proofs.Structure.{nothing_wrong}
-use Rattle.eve_history.proofs.Coming.{nothing, come_start_with, attempt_at, with_attempt_at, come_attempt_at}
+use Rattle.eve_history.proofs.Coming.{come_start_with, attempt_at, with_attempt_at, come_attempt_at}
 use Rattle.eve_history.proofs.Coming.{still_within}
 use Rattle.eve_history.proofs.SideBySide.{all_behind}
 
@@ -42,7 +43,7 @@ attempts_among-append ((at, RollsBack r) ∷ xs) ys = attempts_among-append xs y
 
 pub ahead_start : (t : Trace) (e : ℕ) (n : Notes) (bytes records : List ℕ) → Spells bytes t → n.bytes.now ≡ bytes
     → AreOrdered t (attempts_among (steps_at t e)) records → n.records.items ≡ records → n.attempts.items ≡ []
-    → n.rollbacks.items ≡ [] → kept_section n ≡ record nothing { records = map (seen bytes) records }
+    → n.rollbacks.items ≡ [] → kept_section n ≡ kept_at_first (map (seen bytes) records)
     → IsKeptAhead t e (steps_at t e) 0 n
 ahead_start t e n bytes records spelled same ordered all none nothing_back is = record {
   come = subst (HasCome t e (steps_at t e)) (sym is)

@@ -25,7 +25,7 @@ use Rattle.eve_history.specs.SectionHistory.{rollbacks_among, access_with, secti
 use Rattle.eve_history.specs.Faults.{IsStructureFault}
 use Rattle.eve_history.specs.FirstWrong.{wrong_step, first_wrong, first_wrong_of, fault_of}
 use Rattle.eve_history.specs.Coming.{KeptAttempt, KeptSection, open_count, kept_executed_attempt, executed_attempts}
-use Rattle.eve_history.specs.Coming.{executed_attempt_at, section_history_of, StandsAt}
+use Rattle.eve_history.specs.Coming.{kept_at_first, executed_attempt_at, section_history_of, StandsAt}
 use Rattle.eve_history.specs.Coming.{AreSettled, open_fates, HasCome}
 use Rattle.eve_history.proofs.Structure.{state_after-append, are_right-push, right_step, steps_on, found_is_least}
 use Rattle.eve_history.proofs.Structure.{none_stands}
@@ -53,20 +53,8 @@ unfolding steps_at
 steps_fit t e limits = all_located (is_step (row_count (head_of t))) step_text _ (steps_of t e)
     (all_in_section (is_step (row_count (head_of t))) t.sections e limits.sections)
 
-abbrev pub nothing : KeptSection
-nothing = record {
-  view = 0;
-  last = 0;
-  rolled_back = false;
-  attempts = [];
-  fates = [];
-  commits = [];
-  records = [];
-  rollbacks = [];
-}
-
 pub come_start_with : (t : Trace) (e : ℕ) (records : List (ℕ × Access)) → HasLimits t
-    → HasCome t e (steps_at t e) (record nothing { records = records })
+    → HasCome t e (steps_at t e) (kept_at_first records)
 come_start_with t e records limits = record {
   front = [];
   split = refl;
@@ -80,7 +68,7 @@ come_start_with t e records limits = record {
   fit = steps_fit t e limits;
 }
 
-pub come_start : (t : Trace) (e : ℕ) → HasLimits t → HasCome t e (steps_at t e) nothing
+pub come_start : (t : Trace) (e : ℕ) → HasLimits t → HasCome t e (steps_at t e) (kept_at_first [])
 come_start t e limits = come_start_with t e [] limits
 
 -- ---- one step more
@@ -569,6 +557,10 @@ module _ (t : Trace) (e at : ℕ) (r : Rollback) (rest : List (ℕ × Step)) (k 
   }
 
 -- ---- after the last step
+
+pub come_ended : (t : Trace) (e : ℕ) (k : KeptSection) (steps : List (ℕ × Step)) → steps ≡ [] → HasCome t e steps k
+    → HasCome t e [] k
+come_ended t e k steps none come = subst (λ (xs : List (ℕ × Step)). HasCome t e xs k) none come
 
 module _ (t : Trace) (e : ℕ) (k : KeptSection) (come : HasCome t e [] k) where
   all_came : steps_at t e ≡ come.front

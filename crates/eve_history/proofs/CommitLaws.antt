@@ -4,6 +4,7 @@ use Rattle.std.proofs.Common.{Some, refl, sym, subst, ap, ◌∙◌, append_asso
 use Rattle.std.specs.Prelude.{⊤}
 use Rattle.std.proofs.lemmas.Bool.{and_parts, eqb-true}
 use Rattle.std.proofs.lemmas.List.{length-append, length-map}
+use Rattle.std.proofs.lemmas.Option.{same_Some}
 use Rattle.eve_grammar.specs.Trace.{Step, Attempts, Commits, RollsBack, Trace}
 use Rattle.eve_grammar.specs.Spelling.{steps_at}
 use Rattle.eve_history.specs.Section.{Placed, SectionState, start, path_of, committing, next, state_after, is_due}
@@ -28,10 +29,7 @@ numbered_at : (k : ℕ) (ps : List Placed) (n : ℕ) (p : Placed) → AreNumbere
     → p.attempt.seq ≡ suc (k + n)
 numbered_at k [] n p numbered e = absurd (cc)
 numbered_at k (q ∷ ps) zero p numbered e = let first : q.attempt.seq ≡ suc k = numbered.0 in let same =
-    ap (λ (x : Placed). x.attempt.seq) (inside q p e) in omega arith
-  where
-    inside : (v w : Placed) → Some v ≡ Some w → v ≡ w
-    inside v w e = cc
+    ap (λ (x : Placed). x.attempt.seq) (same_Some q p e) in omega arith
 numbered_at k (q ∷ ps) (suc n) p numbered e = let rest = numbered_at (suc k) ps n p numbered.1 e in omega arith
 
 -- what holds of a section's state while all steps are right

@@ -7,6 +7,7 @@ use Rattle.std.specs.List.{AllByRecursion, list_any, enumerate_from}
 use Rattle.std.proofs.lemmas.Bool.{cases_Bool, or_cases, eqb-true, eq-eqb, ne_eqb, cond-true, cond-false}
 use Rattle.std.proofs.lemmas.Bool.{false≢true}
 use Rattle.std.proofs.lemmas.List.{length-take-le, length-drop}
+use Rattle.std.proofs.lemmas.Option.{same_Some}
 use Rattle.eve_grammar.specs.Trace.{Access, Attempt, Batch, Commit, Trace}
 use Rattle.eve_grammar.specs.Frames.{batches_of, without_accesses}
 use Rattle.eve_grammar.specs.Spelling.{batch_text, batches_start, batches_at}
@@ -30,18 +31,12 @@ use Rattle.eve_history.proofs.Marking.{drop_here}
 of_numbered : {A : Type 0} (n : ℕ) (xs : List A) (i : ℕ) (x : ℕ × A) → slice_get (enumerate_from n xs) i ≡ Some x
     → slice_get xs i ≡ Some x.1
 of_numbered n [] i x e = absurd (cc)
-of_numbered {A = A} n (y ∷ xs) zero x e = ap Some (ap (λ (u : ℕ × A). u.1) (inside (n, y) x e))
-  where
-    inside : (v w : ℕ × A) → Some v ≡ Some w → v ≡ w
-    inside v w e = cc
+of_numbered {A = A} n (y ∷ xs) zero x e = ap Some (ap (λ (u : ℕ × A). u.1) (same_Some (n, y) x e))
 of_numbered n (y ∷ xs) (suc i) x e = of_numbered (n + 1) xs i x e
 
 index_or : {A : Type 0} (xs : List A) (i : ℕ) (x d : A) → slice_get xs i ≡ Some x → slice_index_or xs i d ≡ x
 index_or [] i x d e = absurd (cc)
-index_or {A = A} (y ∷ xs) zero x d e = same y x e
-  where
-    same : (y x : A) → Some y ≡ Some x → y ≡ x
-    same y x e = cc
+index_or (y ∷ xs) zero x d e = same_Some y x e
 index_or (y ∷ xs) (suc i) x d e = index_or xs i x d e
 
 batch_there : (t : Trace) (i : ℕ) (b : ℕ × (ℕ × Batch)) → slice_get (batches_at t) i ≡ Some b → slice_get t.batches i
@@ -52,6 +47,11 @@ batch_there t i b e = of_numbered 1 t.batches i b.1 (of_located batch_text (batc
 pub batch_is : (t : Trace) (n : ℕ) (b : ℕ × (ℕ × Batch)) → slice_get (batches_at t) (n - 1) ≡ Some b → batch_at t n
     ≡ b.1.1
 batch_is t n b e = index_or t.batches (n - 1) b.1.1 no_batch (batch_there t (n - 1) b e)
+
+-- the same of a number that was read
+pub named_batch : (t : Trace) (n read : ℕ) (b : ℕ × (ℕ × Batch)) → read ≡ n
+    → slice_get (batches_at t) (read - 1) ≡ Some b → batch_at t n ≡ b.1.1
+named_batch t n read b is e = batch_is t n b (ap (λ (k : ℕ). slice_get (batches_at t) (k - 1)) (sym is) ∙ e)
 
 pub batch_fits : (t : Trace) (n : ℕ) (b : ℕ × (ℕ × Batch)) → HasLimits t → slice_get (batches_at t) (n - 1) ≡ Some b
     → is_batch b.1.1 ≡ true
@@ -79,10 +79,7 @@ module _ (t : Trace) (s : SectionState) (a : Attempt) (b : Batch) (batch : batch
 pub get_mapped : {A B : Type 0} (f : A → B) (xs : List A) (i : ℕ) (x : A) → slice_get xs i ≡ Some x
     → slice_get (map f xs) i ≡ Some (f x)
 get_mapped f [] i x e = absurd (cc)
-get_mapped {A = A} {B = B} f (y ∷ xs) zero x e = ap Some (ap f (same y x e))
-  where
-    same : (y x : A) → Some y ≡ Some x → y ≡ x
-    same y x e = cc
+get_mapped f (y ∷ xs) zero x e = ap Some (ap f (same_Some y x e))
 get_mapped f (y ∷ xs) (suc i) x e = get_mapped f xs i x e
 
 abbrev without : Placed → Attempt
@@ -171,10 +168,7 @@ get_is (y ∷ xs) (suc i) x lt e = get_is xs i x (omega arith) e
 pub rec_at : {A : Type 0} (P : A → Type 0) (xs : List A) (i : ℕ) (x : A) → AllByRecursion P xs → slice_get xs i ≡ Some x
     → P x
 rec_at P [] i x all e = absurd (cc)
-rec_at {A = A} P (y ∷ xs) zero x all e = subst P (same y x e) all.0
-  where
-    same : (y x : A) → Some y ≡ Some x → y ≡ x
-    same y x e = cc
+rec_at P (y ∷ xs) zero x all e = subst P (same_Some y x e) all.0
 rec_at P (y ∷ xs) (suc i) x all e = rec_at P xs i x all.1 e
 
 -- a place in a part of a list

@@ -1,16 +1,15 @@
 -- Where steps, access frames and votes stand in the trace's bytes.
 use Rattle.std.proofs.Common.{◌≡◌, ℕ, zero, suc, ◌+◌, ◌<◌, ◌≤◌, List, [], ◌∷◌, ◌++◌, map, length, drop, slice_get}
-use Rattle.std.proofs.Common.{Option, Some, None, inl, inr, refl, sym, ap, subst, ◌∙◌, append_assoc, arith}
+use Rattle.std.proofs.Common.{Option, Some, None, inl, inr, refl, sym, ap, subst, ◌∙◌, arith}
 use Rattle.std.specs.Prelude.{slice_index_or}
 use Rattle.std.specs.List.{flat_map}
 use Rattle.std.proofs.lemmas.Bool.{cases_lt}
-use Rattle.std.proofs.lemmas.List.Concat.{flat_map-append}
-use Rattle.std.proofs.lemmas.List.{length-append, drop_at}
-use Rattle.eve_grammar.specs.Trace.{Access, Attempt, Rollback, Step, Attempts, Commits, RollsBack, Vote, Trace, head_of}
-use Rattle.eve_grammar.specs.Frames.{OfAttempt, OfAccess, OfRollback, OfVerifier, OfVote, frames_of, without_accesses}
-use Rattle.eve_grammar.specs.Spelling.{frame_text, frames_text, head_text, length_of, spelling, located, step_text}
+use Rattle.std.proofs.lemmas.List.{drop_at}
+use Rattle.std.proofs.lemmas.Option.{same_Some}
+use Rattle.eve_grammar.specs.Trace.{Access, Attempt, Rollback, Step, Attempts, Commits, RollsBack, Vote, Trace}
+use Rattle.eve_grammar.specs.Frames.{OfAttempt, OfAccess, OfRollback, OfVerifier, OfVote, without_accesses}
+use Rattle.eve_grammar.specs.Spelling.{frame_text, spelling, located, step_text}
 use Rattle.eve_grammar.specs.Spelling.{steps_at, accesses_at, verifier_start, votes_of, votes_at}
-use Rattle.eve_grammar.proofs.HeaderParts.{length-head_text}
 use Rattle.eve_frames.specs.Views.{attempt_in, rollback_in}
 use Rattle.eve_views.specs.Fronts.{before_verifier}
 use Rattle.eve_views.specs.Lent.{HasBytesAt}
@@ -19,8 +18,8 @@ use Rattle.eve_views.proofs.Locating.{verifier_begins}
 use Rattle.eve_history.proofs.FrameTexts.{mapped}
 use Rattle.eve_history.specs.SectionHistory.{ExecutedAttempt, SectionHistory, executed_attempt, section_history}
 use Rattle.eve_history.specs.SectionHistory.{attempts_among, rollbacks_among}
-use Rattle.eve_history.proofs.Standing.{StandsIn, stands_inside, located_stands, split_at, step_stands, first_stands}
-use Rattle.eve_history.proofs.Standing.{access_stands}
+use Rattle.eve_history.proofs.Standing.{StandsIn, stands_inside, located_stands, split_at, part_stands}
+use Rattle.eve_history.proofs.Standing.{step_stands, first_stands, access_stands}
 
 bytes_at : (t : Trace) (at : ℕ) (text : List ℕ) → StandsIn (spelling t) at text → HasBytesAt t at text
 bytes_at t at text stands =
@@ -50,32 +49,9 @@ accesses_stand t e k i at a x got own = bytes_at t x.0 (frame_text (OfAccess x.1
 votes_text_stands : (t : Trace) (v : ℕ) → v < length t.verifiers
     → StandsIn (spelling t) (verifier_start t v + length (frame_text (OfVerifier v)))
     (flat_map (λ w. frame_text (OfVote w)) (votes_of t v))
-unfolding spelling
-votes_text_stands t v lt =
-    let cut = verifier_cut t v lt in
-    let head = head_text (head_of t) (length_of t) in
-    let before = before_verifier t v in
-    let part = map OfVote (votes_of t v) in
-    let own = frame_text (OfVerifier v) in
-    let votes = flat_map (λ w. frame_text (OfVote w)) (votes_of t v) in
-    let text : frames_text (frames_of t) ≡ frames_text before ++ (own ++ (votes ++ frames_text cut.rest)) =
-    ap frames_text cut.whole ∙ flat_map-append frame_text before (OfVerifier v ∷ (part ++ cut.rest))
-    ∙ ap (λ (b : List ℕ). frames_text before ++ (own ++ b)) (flat_map-append frame_text part cut.rest
-    ∙ ap (λ (b : List ℕ). b ++ frames_text cut.rest) (mapped OfVote (votes_of t v))) in
-    record {
-      front = head ++ (frames_text before ++ own);
-      behind = frames_text cut.rest;
-      is = ap (λ (b : List ℕ). head ++ b)
-          (text ∙ sym (append_assoc (frames_text before) own (votes ++ frames_text cut.rest)))
-          ∙ sym (append_assoc head (frames_text before ++ own) (votes ++ frames_text cut.rest));
-      offset = omega (
-        arith,
-        length-append head (frames_text before ++ own),
-        length-append (frames_text before) own,
-        length-head_text (head_of t) (length_of t),
-        verifier_begins t v,
-      );
-    }
+votes_text_stands t v lt = part_stands t (before_verifier t v) (map OfVote (votes_of t v)) _ (OfVerifier v)
+    (verifier_start t v) (flat_map (λ w. frame_text (OfVote w)) (votes_of t v)) (verifier_cut t v lt)
+    (verifier_begins t v) (mapped OfVote (votes_of t v))
 
 -- after the last verifier there are none
 no_votes : (place : ℕ) (xs : List (List Vote)) → length xs ≤ place → slice_index_or xs place [] ≡ []
@@ -109,10 +85,7 @@ votes_stand t v k w got = elim (cases_lt v (length t.verifiers)) [
 unmapped : {A B : Type 0} (f : A → B) (xs : List A) (i : ℕ) (y : B) → slice_get (map f xs) i ≡ Some y → (x : A)
     × (slice_get xs i ≡ Some x) × (f x ≡ y)
 unmapped f [] i y e = absurd (cc)
-unmapped {A = A} {B = B} f (x ∷ xs) zero y e = (x, refl, same (f x) y e)
-  where
-    same : (z y : B) → Some z ≡ Some y → z ≡ y
-    same z y e = cc
+unmapped f (x ∷ xs) zero y e = (x, refl, same_Some (f x) y e)
 unmapped f (x ∷ xs) (suc i) y e = unmapped f xs i y e
 
 -- the step stands among these
@@ -126,10 +99,7 @@ attempt_among : (steps : List (ℕ × Step)) (i : ℕ) (x : ℕ × Attempt) → 
     → IsAmong steps (x.0, Attempts x.1)
 attempt_among [] i x e = absurd (cc)
 attempt_among ((at, Attempts a) ∷ steps) zero x e =
-    ([], steps, ap (λ (y : ℕ × Attempt). (y.0, Attempts y.1) ∷ steps) (same (at, a) x e))
-  where
-    same : (y x : ℕ × Attempt) → Some y ≡ Some x → y ≡ x
-    same y x e = cc
+    ([], steps, ap (λ (y : ℕ × Attempt). (y.0, Attempts y.1) ∷ steps) (same_Some (at, a) x e))
 attempt_among ((at, Attempts a) ∷ steps) (suc i) x e = later (at, Attempts a) steps (x.0, Attempts x.1)
     (attempt_among steps i x e)
 attempt_among ((at, Commits c) ∷ steps) i x e = later (at, Commits c) steps (x.0, Attempts x.1)
@@ -141,10 +111,7 @@ rollback_among : (steps : List (ℕ × Step)) (i : ℕ) (x : ℕ × Rollback) �
     → IsAmong steps (x.0, RollsBack x.1)
 rollback_among [] i x e = absurd (cc)
 rollback_among ((at, RollsBack r) ∷ steps) zero x e =
-    ([], steps, ap (λ (y : ℕ × Rollback). (y.0, RollsBack y.1) ∷ steps) (same (at, r) x e))
-  where
-    same : (y x : ℕ × Rollback) → Some y ≡ Some x → y ≡ x
-    same y x e = cc
+    ([], steps, ap (λ (y : ℕ × Rollback). (y.0, RollsBack y.1) ∷ steps) (same_Some (at, r) x e))
 rollback_among ((at, RollsBack r) ∷ steps) (suc i) x e = later (at, RollsBack r) steps (x.0, RollsBack x.1)
     (rollback_among steps i x e)
 rollback_among ((at, Commits c) ∷ steps) i x e = later (at, Commits c) steps (x.0, RollsBack x.1)

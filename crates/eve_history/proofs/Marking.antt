@@ -9,6 +9,8 @@ use Rattle.std.proofs.lemmas.List.{length-set, length-replicate, get_or-replicat
 use Rattle.std.proofs.lemmas.List.{take_all, drop_all}
 use Rattle.std.proofs.lemmas.List.Recursion.{or_push}
 use Rattle.std.proofs.lemmas.List.Sums.{sum_by_push}
+use Rattle.std.proofs.lemmas.Option.{same_Some, slice_get_within, get_or_from_slice_get}
+use Rattle.std.proofs.Math.Seq.{drop-cons}
 use Rattle.eve_grammar.specs.Trace.{Access}
 use Rattle.eve_views.specs.declared.fault.Code.{Code}
 use Rattle.eve_views.specs.declared.fault.Code.TheVariants as code
@@ -24,10 +26,7 @@ use Rattle.eve_history.proofs.OrderLaws.{take_one_more}
 
 pub pushed : {A : Type 0} (xs : List A) (x : A) (k : ℕ) (y : A) → slice_get (xs ++ x ∷ []) k ≡ Some y
     → (slice_get xs k ≡ Some y) ⊎ ((k ≡ length xs) × (x ≡ y))
-pushed {A = A} [] x zero y e = inr (refl, same x y e)
-  where
-    same : (x y : A) → Some x ≡ Some y → x ≡ y
-    same x y e = cc
+pushed [] x zero y e = inr (refl, same_Some x y e)
 pushed [] x (suc k) y e = absurd (cc)
 pushed (z ∷ xs) x zero y e = inl e
 pushed (z ∷ xs) x (suc k) y e = elim (pushed xs x k y e) [
@@ -38,30 +37,17 @@ pushed (z ∷ xs) x (suc k) y e = elim (pushed xs x k y e) [
 none_at : {A : Type 0} (p : A → Bool) (xs : List A) (k : ℕ) (y : A) → list_any p xs ≡ false → slice_get xs k ≡ Some y
     → p y ≡ false
 none_at p [] k y none e = absurd (cc)
-none_at {A = A} p (x ∷ xs) zero y none e = ap p (sym (same x y e)) ∙ (or_parts (p x) (list_any p xs) none).0
-  where
-    same : (x y : A) → Some x ≡ Some y → x ≡ y
-    same x y e = cc
+none_at p (x ∷ xs) zero y none e = ap p (sym (same_Some x y e)) ∙ (or_parts (p x) (list_any p xs) none).0
 none_at p (x ∷ xs) (suc k) y none e = none_at p xs k y (or_parts (p x) (list_any p xs) none).1 e
 
 pub drop_here : {A : Type 0} (xs : List A) (i : ℕ) (x : A) → slice_get xs i ≡ Some x → drop i xs ≡ x ∷ drop (i + 1) xs
-drop_here {A = A} xs i x e = by xs i e ∙ ap (λ (n : ℕ). x ∷ drop n xs) (sym (add-one i))
-  where
-    same : (y : A) → Some y ≡ Some x → y ≡ x
-    same y e = cc
-
-    by : (xs : List A) (i : ℕ) → slice_get xs i ≡ Some x → drop i xs ≡ x ∷ drop (suc i) xs
-    by [] i e = absurd (cc)
-    by (y ∷ xs) zero e = ap (λ (z : A). z ∷ xs) (same y e)
-    by (y ∷ xs) (suc i) e = by xs i e
+drop_here {A = A} xs i x e = drop-cons xs i x (slice_get_within xs i x e)
+    ∙ (λ k. get_or_from_slice_get xs i x x e k ∷ drop (sym (add-one i) k) xs)
 
 taken_at : (xs : List (ℕ × Access)) (k : ℕ) (y : ℕ × Access) → slice_get xs k ≡ Some y
     → slice_get (accesses_of xs) k ≡ Some y.1
 taken_at [] k y e = absurd (cc)
-taken_at (x ∷ xs) zero y e = ap Some (ap (λ (z : ℕ × Access). z.1) (same x y e))
-  where
-    same : (x y : ℕ × Access) → Some x ≡ Some y → x ≡ y
-    same x y e = cc
+taken_at (x ∷ xs) zero y e = ap Some (ap (λ (z : ℕ × Access). z.1) (same_Some x y e))
 taken_at (x ∷ xs) (suc k) y e = taken_at xs k y e
 
 -- ---- one record

@@ -6,6 +6,8 @@ use Rattle.std.proofs.lemmas.Bool.{and_parts, cases_lt}
 use Rattle.std.proofs.lemmas.List.{append-nil, map-append, take_all, length-map, length-take-le}
 use Rattle.std.proofs.lemmas.List.Concat.{flat_map-append}
 use Rattle.std.proofs.lemmas.List.FromFn.{length-enumerate_from}
+use Rattle.std.proofs.lemmas.Option.{same_Some, slice_get_within, get_or_from_slice_get}
+use Rattle.std.proofs.Math.Seq.{take-suc}
 use Rattle.eve_accounts.specs.Names.{is_name, NameList}
 use Rattle.eve_grammar.specs.Trace.{Customer, Batch, Trace}
 use Rattle.eve_grammar.specs.Frames.{batches_of}
@@ -29,26 +31,14 @@ use Rattle.eve_history.proofs.Places.{located_within, weaker_place}
 
 pub take_one_more : {A : Type 0} (xs : List A) (i : ℕ) (x : A) → slice_get xs i ≡ Some x → take (i + 1) xs
     ≡ take i xs ++ x ∷ []
-take_one_more {A = A} xs i x e = ap (λ (n : ℕ). take n xs) (add-one i) ∙ by xs i e
-  where
-    same : (y : A) → Some y ≡ Some x → y ≡ x
-    same y e = cc
-
-    by : (xs : List A) (i : ℕ) → slice_get xs i ≡ Some x → take (suc i) xs ≡ take i xs ++ x ∷ []
-    by [] i e = absurd (cc)
-    by (y ∷ xs) zero e = ap (λ (z : A). z ∷ []) (same y e)
-    by (y ∷ xs) (suc i) e = ap (λ (zs : List A). y ∷ zs) (by xs i e)
+take_one_more {A = A} xs i x e =
+    ap (λ (n : ℕ). take n xs) (add-one i) ∙ take-suc xs i x (slice_get_within xs i x e)
+    ∙ ap (λ (y : A). take i xs ++ y ∷ []) (get_or_from_slice_get xs i x x e)
 
 pub of_located : {A : Type 0} (text : A → List ℕ) (at : ℕ) (xs : List A) (i : ℕ) (x : ℕ × A)
     → slice_get (located text at xs) i ≡ Some x → slice_get xs i ≡ Some x.1
 of_located text at [] i x e = absurd (cc)
-of_located {A = A} text at (y ∷ xs) zero x e = ap Some (same (at, y) x e)
-  where
-    same : (v w : ℕ × A) → Some v ≡ Some w → v.1 ≡ w.1
-    same v w e = ap (λ (u : ℕ × A). u.1) (inside v w e)
-      where
-        inside : (v w : ℕ × A) → Some v ≡ Some w → v ≡ w
-        inside v w e = cc
+of_located {A = A} text at (y ∷ xs) zero x e = ap Some (ap (λ (u : ℕ × A). u.1) (same_Some (at, y) x e))
 of_located text at (y ∷ xs) (suc i) x e = of_located text (at + length (text y)) xs i x e
 
 up_to : (f g : Fault) → f.offset ≤ g.offset → code_number f.code ≤ code_number g.code → IsUpTo f g

@@ -4,6 +4,7 @@ use Rattle.std.proofs.Common.{slice_get, slice_index_or, Some, None, refl, sym, 
 use Rattle.std.specs.List.{AllByRecursion}
 use Rattle.std.proofs.lemmas.List.{take_all, drop-append-le, length-append, length-drop}
 use Rattle.std.proofs.Math.Seq.{drop-append_seam}
+use Rattle.std.proofs.lemmas.Option.{same_Some}
 use Rattle.eve_grammar.specs.Trace.{Access}
 use Rattle.eve_history.specs.Parts.{begin, parts, DoRise}
 
@@ -27,9 +28,6 @@ module _ {A : Type 0} (P : A → Type 0) where
 none_some : {A : Type 0} {B : Type 0} (x : A) → ◌≡◌ {A = _} None (Some x) → B
 none_some x e = absurd (cc)
 
-pub inside : {A : Type 0} (x y : A) → Some x ≡ Some y → x ≡ y
-inside x y e = cc
-
 -- ---- one part
 
 pub length-parts : (from : ℕ) (xs : List (ℕ × Access)) (ends : List ℕ) → length (parts from xs ends) ≡ length ends
@@ -39,7 +37,7 @@ length-parts from xs (end ∷ ends) = ap suc (length-parts end xs ends)
 pub part_at : (from : ℕ) (xs : List (ℕ × Access)) (ends : List ℕ) (i end : ℕ) → slice_get ends i ≡ Some end
     → slice_get (parts from xs ends) i ≡ Some (take (end - begin from ends i) (drop (begin from ends i) xs))
 part_at from xs [] i end at = none_some end at
-part_at from xs (e ∷ ends) zero end at = ap (λ n. Some (take (n - from) (drop from xs))) (inside e end at)
+part_at from xs (e ∷ ends) zero end at = ap (λ n. Some (take (n - from) (drop from xs))) (same_Some e end at)
 part_at from xs (e ∷ ends) (suc i) end at = part_at e xs ends i end at
 
 -- what is read of the ends
@@ -73,7 +71,7 @@ pub lies_within : (from : ℕ) (ends : List ℕ) (to i end : ℕ) → DoRise fro
     → LiesWithin (begin from ends i) end to
 lies_within from [] to i end rise at = none_some end at
 lies_within from (e ∷ ends) to zero end rise at =
-    subst (λ n. LiesWithin from n to) (inside e end at)
+    subst (λ n. LiesWithin from n to) (same_Some e end at)
     (record { rises = rise.0; inside = rise_up e ends to rise.1 })
 lies_within from (e ∷ ends) to (suc i) end rise at = lies_within e ends to i end rise.1 at
 

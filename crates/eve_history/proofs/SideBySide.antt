@@ -1,12 +1,12 @@
 -- Attempts that are judged whatever came before them.
 use Rattle.std.proofs.Common.{◌≡◌, ℕ, Bool, ◌^◌, ◌<◌, ◌≤◌, ◌==◌, true, List, [], ◌∷◌, ◌++◌, map, length}
 use Rattle.std.proofs.Common.{get_or, take, drop}
-use Rattle.std.proofs.Common.{◌+◌, ◌-◌, ◌*◌, ◌/◌, min, inl, inr}
+use Rattle.std.proofs.Common.{◌+◌, ◌-◌, ◌*◌, ◌/◌, inl, inr}
 use Rattle.std.proofs.Common.{Option, Some, None, IfSome, Result, Ok, Err, IfOk, Vec, IsTrue, refl, sym, ap, subst}
 use Rattle.std.proofs.Common.{◌∙◌, append_assoc, arith}
 use Rattle.std.specs.List.{AllByRecursion, flat_map, list_all, list_any}
 use Rattle.std.proofs.lemmas.Bool.{and_parts, cases_lt}
-use Rattle.std.proofs.lemmas.List.{append-nil, map-append, length-map, length-append, length-take}
+use Rattle.std.proofs.lemmas.List.{append-nil, map-append, length-map, length-append, length-take, nil_from_length}
 use Rattle.std.proofs.lemmas.List.{take-append-le, drop-append-le, take_all, drop_all}
 use Rattle.std.proofs.Math.Seq.{take-add}
 use Rattle.std.proofs.lemmas.List.Concat.{flat_map-append}
@@ -17,9 +17,8 @@ use Rattle.eve_grammar.specs.Spelling.{accesses_at, spelling, steps_at}
 use Rattle.eve_grammar.specs.Limits.{is_step, row_count, Spells}
 use Rattle.eve_frames.specs.Views.{attempt_in}
 use Rattle.eve_frames.specs.declared.attempt.AttemptView.{AttemptView}
-use Rattle.eve_frames.specs.declared.commit.CommitView.{CommitView}
-use Rattle.eve_frames.specs.declared.rollback.RollbackView.{RollbackView}
 use Rattle.eve_views.specs.StepKinds.{IsStep}
+use Rattle.eve_views.specs.declared.steps.Step as met
 use Rattle.eve_views.specs.declared.steps.Step.TheVariants as of
 use Rattle.eve_history.specs.declared.marks.Marks.{Marks}
 use Rattle.eve_history.specs.declared.side_by_side.MetAttempt.{MetAttempt}
@@ -209,6 +208,24 @@ part_more {A = A} {E = E} t e size i n records after more part one front own is 
 
 -- ---- step after step
 
+-- the attempts of a step that was met: itself, where it is one
+abbrev pub attempts_in : met.Step → ℕ
+attempts_in (of.Attempt a xs) = 1
+attempts_in (of.Commit c) = 0
+attempts_in (of.Rollback r) = 0
+
+pub attempts_next : (s : met.Step) (next : ℕ × Step) → IsStep s next → length (attempts_among (next ∷ []))
+    ≡ attempts_in s
+attempts_next (of.Attempt a xs) (at, Attempts b) is = refl
+attempts_next (of.Commit c) (at, Commits d) is = refl
+attempts_next (of.Rollback r) (at, RollsBack q) is = refl
+attempts_next (of.Attempt a xs) (at, Commits d) is = absurd is
+attempts_next (of.Attempt a xs) (at, RollsBack q) is = absurd is
+attempts_next (of.Commit c) (at, Attempts b) is = absurd is
+attempts_next (of.Commit c) (at, RollsBack q) is = absurd is
+attempts_next (of.Rollback r) (at, Attempts b) is = absurd is
+attempts_next (of.Rollback r) (at, Commits d) is = absurd is
+
 pub meeting_start : (t : Trace) (e from most : ℕ) (ahead : Ahead) → ahead.skip ≡ from → ahead.keep ≡ most
     → Spells (spelling t) t → HaveBeenMet t e from most (steps_at t e) ahead []
 meeting_start t e from most ahead skip keep spelled = record {
@@ -222,10 +239,11 @@ meeting_start t e from most ahead skip keep spelled = record {
 }
 
 -- a step that is no attempt
-meeting_other : (t : Trace) (e from most : ℕ) (next : ℕ × Step) (rest : List (ℕ × Step)) (ahead : Ahead)
-    (ms : List MetAttempt) → attempts_among (next ∷ []) ≡ [] → HaveBeenMet t e from most (next ∷ rest) ahead ms
-    → HaveBeenMet t e from most rest ahead ms
-meeting_other t e from most next rest ahead ms other come =
+pub meeting_other : (t : Trace) (e from most : ℕ) (next : ℕ × Step) (rest : List (ℕ × Step)) (ahead : Ahead)
+    (ms : List MetAttempt) (s : met.Step) → attempts_in s ≡ 0 → IsStep s next
+    → HaveBeenMet t e from most (next ∷ rest) ahead ms → HaveBeenMet t e from most rest ahead ms
+meeting_other t e from most next rest ahead ms s none is come =
+    let other : attempts_among (next ∷ []) ≡ [] = nil_from_length _ (attempts_next s next is ∙ none) in
     let same : attempts_among come.front ≡ attempts_among (come.front ++ next ∷ []) =
     sym (attempts_among-push come.front next
     ∙ ap (λ (xs : List (ℕ × Attempt)). attempts_among come.front ++ xs) other
@@ -365,22 +383,6 @@ pub where_ok : {E : Type 0} {P Q R S : Ahead → Type 0} (r : Result Ahead E) �
 where_ok (Ok after) p q r f = f after p q r
 where_ok (Err why) p q r f = tt
 
-pub meeting_commit : (t : Trace) (e from most : ℕ) (next : ℕ × Step) (rest : List (ℕ × Step)) (ahead : Ahead)
-    (ms : List MetAttempt) (c : CommitView) → IsStep (of.Commit c) next
-    → HaveBeenMet t e from most (next ∷ rest) ahead ms → HaveBeenMet t e from most rest ahead ms
-meeting_commit t e from most (at, Commits d) rest ahead ms c is come =
-    meeting_other t e from most (at, Commits d) rest ahead ms refl come
-meeting_commit t e from most (at, Attempts b) rest ahead ms c is come = absurd is
-meeting_commit t e from most (at, RollsBack r) rest ahead ms c is come = absurd is
-
-pub meeting_rollback : (t : Trace) (e from most : ℕ) (next : ℕ × Step) (rest : List (ℕ × Step)) (ahead : Ahead)
-    (ms : List MetAttempt) (r : RollbackView) → IsStep (of.Rollback r) next
-    → HaveBeenMet t e from most (next ∷ rest) ahead ms → HaveBeenMet t e from most rest ahead ms
-meeting_rollback t e from most (at, RollsBack q) rest ahead ms r is come =
-    meeting_other t e from most (at, RollsBack q) rest ahead ms refl come
-meeting_rollback t e from most (at, Attempts b) rest ahead ms r is come = absurd is
-meeting_rollback t e from most (at, Commits c) rest ahead ms r is come = absurd is
-
 pub meeting_end : (t : Trace) (e from most : ℕ) (ahead : Ahead) (ms : List MetAttempt)
     → HaveBeenMet t e from most [] ahead ms
     → map placed_met ms ≡ take most (drop from (attempts_among (steps_at t e)))
@@ -397,38 +399,16 @@ where_some None p f = tt
 pub counting_start : (t : Trace) (e : ℕ) → AreCounted t e (steps_at t e) 0
 counting_start t e = record { front = []; split = refl; many = refl }
 
-counting_on : (t : Trace) (e : ℕ) (next : ℕ × Step) (rest : List (ℕ × Step)) (count after : ℕ)
-    → after ≡ count + length (attempts_among (next ∷ [])) → AreCounted t e (next ∷ rest) count
-    → AreCounted t e rest after
-counting_on t e next rest count after is come = record {
+pub counting_on : (t : Trace) (e : ℕ) (next : ℕ × Step) (rest : List (ℕ × Step)) (count after : ℕ) (s : met.Step)
+    → after ≡ count + attempts_in s → IsStep s next → AreCounted t e (next ∷ rest) count → AreCounted t e rest after
+counting_on t e next rest count after s on is come = record {
   front = come.front ++ next ∷ [];
   split = come.split ∙ sym (append_assoc come.front (next ∷ []) rest);
-  many = is ∙ ap (λ (n : ℕ). n + length (attempts_among (next ∷ []))) come.many
+  many = on ∙ ap (λ (n : ℕ). count + n) (sym (attempts_next s next is))
+      ∙ ap (λ (n : ℕ). n + length (attempts_among (next ∷ []))) come.many
       ∙ sym (ap length (attempts_among-push come.front next)
       ∙ length-append (attempts_among come.front) (attempts_among (next ∷ [])));
 }
-
-pub counting_attempt : (t : Trace) (e : ℕ) (next : ℕ × Step) (rest : List (ℕ × Step)) (count after : ℕ)
-    (a : AttemptView) (xs : List (ℕ × Access)) → after ≡ count + 1 → IsStep (of.Attempt a xs) next
-    → AreCounted t e (next ∷ rest) count → AreCounted t e rest after
-counting_attempt t e (at, Attempts b) rest count after a xs one is come =
-    counting_on t e (at, Attempts b) rest count after one come
-counting_attempt t e (at, Commits c) rest count after a xs one is come = absurd is
-counting_attempt t e (at, RollsBack r) rest count after a xs one is come = absurd is
-
-pub counting_commit : (t : Trace) (e : ℕ) (next : ℕ × Step) (rest : List (ℕ × Step)) (count : ℕ) (c : CommitView)
-    → IsStep (of.Commit c) next → AreCounted t e (next ∷ rest) count → AreCounted t e rest count
-counting_commit t e (at, Commits d) rest count c is come =
-    counting_on t e (at, Commits d) rest count count (omega arith) come
-counting_commit t e (at, Attempts b) rest count c is come = absurd is
-counting_commit t e (at, RollsBack r) rest count c is come = absurd is
-
-pub counting_rollback : (t : Trace) (e : ℕ) (next : ℕ × Step) (rest : List (ℕ × Step)) (count : ℕ) (r : RollbackView)
-    → IsStep (of.Rollback r) next → AreCounted t e (next ∷ rest) count → AreCounted t e rest count
-counting_rollback t e (at, RollsBack q) rest count r is come =
-    counting_on t e (at, RollsBack q) rest count count (omega arith) come
-counting_rollback t e (at, Attempts b) rest count r is come = absurd is
-counting_rollback t e (at, Commits c) rest count r is come = absurd is
 
 pub counting_end : (t : Trace) (e count : ℕ) → AreCounted t e [] count
     → count ≡ length (attempts_among (steps_at t e))

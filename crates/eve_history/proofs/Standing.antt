@@ -6,6 +6,7 @@ use Rattle.std.specs.List.{AllByRecursion, flat_map, list_all, list_any}
 use Rattle.std.proofs.lemmas.Bool.{and_parts, cases_lt, false≢true}
 use Rattle.std.proofs.lemmas.List.{append-nil, length-append, take_at, drop_at}
 use Rattle.std.proofs.lemmas.List.Concat.{flat_map-append}
+use Rattle.std.proofs.lemmas.Option.{same_Some}
 use Rattle.byteorder.specs.Endian.{big_bytes, big_number}
 use Rattle.eve_grammar.specs.Trace.{Access, Attempt, Rollback, Step, Attempts, RollsBack, Trace, head_of}
 use Rattle.eve_grammar.specs.Frames.{Frame, OfReplica, OfAttempt, OfAccess, OfRollback, step_frames, frames_of}
@@ -17,7 +18,7 @@ use Rattle.eve_grammar.proofs.HeaderParts.{length-head_text}
 use Rattle.eve_views.specs.Fronts.{before_section}
 use Rattle.eve_views.proofs.Bytes.{number_again}
 use Rattle.eve_views.proofs.FrameLaws.{length-frame_text}
-use Rattle.eve_views.proofs.CutLaws.{section_cut}
+use Rattle.eve_views.proofs.CutLaws.{IsPart, section_cut}
 use Rattle.eve_views.proofs.Locating.{section_begins}
 use Rattle.eve_grammar.proofs.FrameLaws.{small_head}
 use Rattle.eve_frames.specs.Views.{most_rows, is_attempt_frame, attempt_in, is_access_frame, access_in}
@@ -125,44 +126,45 @@ located_stands text at (x ∷ xs) (z ∷ before) item rest e =
 pub split_at : {A : Type 0} (xs : List A) (i : ℕ) (x : A) → slice_get xs i ≡ Some x → (before : List A)
     × (rest : List A) × (xs ≡ before ++ x ∷ rest)
 split_at [] i x e = absurd (cc)
-split_at {A = A} (y ∷ xs) zero x e = ([], xs, ap (λ (z : A). z ∷ xs) (same y x e))
-  where
-    same : (y x : A) → Some y ≡ Some x → y ≡ x
-    same y x e = cc
+split_at {A = A} (y ∷ xs) zero x e = ([], xs, ap (λ (z : A). z ∷ xs) (same_Some y x e))
 split_at {A = A} (y ∷ xs) (suc i) x e = let s = split_at xs i x e in (y ∷ s.0, s.1, ap (λ (zs : List A). y ∷ zs) s.2)
 
--- ---- the steps of a section
+-- ---- the parts of a trace
 
-section_stands : (t : Trace) (e : ℕ) → e < length t.sections
-    → StandsIn (spelling t) (section_start t e + length (frame_text (OfReplica e))) (flat_map step_text (steps_of t e))
+-- a part stands behind its own first frame
+pub part_stands : (t : Trace) (before part next : List Frame) (first : Frame) (at : ℕ) (text : List ℕ)
+    → IsPart (frames_of t) before part next first → 32 + length (frames_text before) ≡ at → frames_text part ≡ text
+    → StandsIn (spelling t) (at + length (frame_text first)) text
 unfolding spelling
-section_stands t e lt =
-    let cut = section_cut t e lt in
+part_stands t before part next first at text cut begins said =
     let head = head_text (head_of t) (length_of t) in
-    let before = before_section t e in
-    let part = flat_map step_frames (steps_of t e) in
-    let own = frame_text (OfReplica e) in
-    let text : frames_text (frames_of t)
-    ≡ frames_text before ++ (own ++ (flat_map step_text (steps_of t e) ++ frames_text cut.rest)) =
-    ap frames_text cut.whole ∙ flat_map-append frame_text before (OfReplica e ∷ (part ++ cut.rest))
+    let own = frame_text first in
+    let all : frames_text (frames_of t) ≡ frames_text before ++ (own ++ (text ++ frames_text cut.rest)) =
+    ap frames_text cut.whole ∙ flat_map-append frame_text before (first ∷ (part ++ cut.rest))
     ∙ ap (λ (b : List ℕ). frames_text before ++ (own ++ b)) (flat_map-append frame_text part cut.rest
-    ∙ ap (λ (b : List ℕ). b ++ frames_text cut.rest) (nested (steps_of t e))) in
+    ∙ ap (λ (b : List ℕ). b ++ frames_text cut.rest) said) in
     record {
       front = head ++ (frames_text before ++ own);
       behind = frames_text cut.rest;
       is = ap (λ (b : List ℕ). head ++ b)
-          (text ∙ sym (append_assoc (frames_text before) own
-          (flat_map step_text (steps_of t e) ++ frames_text cut.rest)))
-          ∙ sym (append_assoc head (frames_text before ++ own)
-          (flat_map step_text (steps_of t e) ++ frames_text cut.rest));
+          (all ∙ sym (append_assoc (frames_text before) own (text ++ frames_text cut.rest)))
+          ∙ sym (append_assoc head (frames_text before ++ own) (text ++ frames_text cut.rest));
       offset = omega (
         arith,
         length-append head (frames_text before ++ own),
         length-append (frames_text before) own,
         length-head_text (head_of t) (length_of t),
-        section_begins t e,
+        begins,
       );
     }
+
+-- ---- the steps of a section
+
+section_stands : (t : Trace) (e : ℕ) → e < length t.sections
+    → StandsIn (spelling t) (section_start t e + length (frame_text (OfReplica e))) (flat_map step_text (steps_of t e))
+section_stands t e lt = part_stands t (before_section t e) (flat_map step_frames (steps_of t e)) _ (OfReplica e)
+    (section_start t e) (flat_map step_text (steps_of t e)) (section_cut t e lt) (section_begins t e)
+    (nested (steps_of t e))
 
 pub step_stands : (t : Trace) (e : ℕ) (before : List (ℕ × Step)) (step : ℕ × Step) (rest : List (ℕ × Step))
     → steps_at t e ≡ before ++ step ∷ rest → StandsIn (spelling t) step.0 (step_text step.1)

@@ -170,6 +170,15 @@ pub record IsFound (o : Option Wrong) (c : Code) (at : ℕ) : Type 0 where
   pub offset : wrong.offset ≡ at
   pub code : code_number wrong.code ≤ code_number c
 
+found_here : {o : Option Wrong} {offset at : ℕ} (c : Code) → o ≡ Some (record { offset = offset; code = c })
+    → offset ≡ at → IsFound o c at
+found_here {o = o} {offset = offset} {at = at} c is here = record {
+  wrong = record { offset = offset; code = c };
+  is = is;
+  offset = here;
+  code = omega arith;
+}
+
 abbrev FoundAt : Trace → (ℕ → SectionState → Step → Type 0) → Code → ℕ → Type 0
 FoundAt t P c at = (offset : ℕ) (s : SectionState) (step : Step) → P offset s step
     → IsFound (wrong_step t s (offset, step)) c at
@@ -190,13 +199,7 @@ found_at_step t e c at P here place =
 found_attempt : (t : Trace) (at : ℕ)
     → FoundAt t (λ offset s step. (offset ≡ at) × OfAttempt step (λ a. IsFalse (is_right_attempt t s a))) code.Attempt
     at
-found_attempt t at offset s (Attempts a) h =
-    record {
-      wrong = record { offset = offset; code = code.Attempt };
-      is = rw h.1 refl;
-      offset = h.0;
-      code = omega arith;
-    }
+found_attempt t at offset s (Attempts a) h = found_here code.Attempt (rw h.1 refl) h.0
 found_attempt t at offset s (Commits c) h = absurd h.1
 found_attempt t at offset s (RollsBack r) h = absurd h.1
 
@@ -205,12 +208,7 @@ found_certificate : (t : Trace) (at : ℕ)
     code.Certificate at
 found_certificate t at offset s (Attempts a) h =
     elim (cases_Bool (is_right_attempt t s a)) [
-      | inl right ↦ record {
-        wrong = record { offset = offset; code = code.Certificate };
-        is = rw (right, h.1) refl;
-        offset = h.0;
-        code = omega arith;
-      }
+      | inl right ↦ found_here code.Certificate (rw (right, h.1) refl) h.0
       | inr false_is ↦ record {
         wrong = record { offset = offset; code = code.Attempt };
         is = rw false_is refl;
@@ -223,26 +221,14 @@ found_certificate t at offset s (RollsBack r) h = absurd h.1
 
 found_commit : (t : Trace) (at : ℕ)
     → FoundAt t (λ offset s step. (offset ≡ at) × OfCommit step (λ c. IsFalse (is_right_commit s c))) code.Commit at
-found_commit t at offset s (Commits c) h =
-    record {
-      wrong = record { offset = offset; code = code.Commit };
-      is = rw h.1 refl;
-      offset = h.0;
-      code = omega arith;
-    }
+found_commit t at offset s (Commits c) h = found_here code.Commit (rw h.1 refl) h.0
 found_commit t at offset s (Attempts a) h = absurd h.1
 found_commit t at offset s (RollsBack r) h = absurd h.1
 
 found_rollback : (t : Trace) (at : ℕ)
     → FoundAt t (λ offset s step. (offset ≡ at) × OfRollback step (λ r. IsFalse (is_right_rollback t s r)))
     code.Rollback at
-found_rollback t at offset s (RollsBack r) h =
-    record {
-      wrong = record { offset = offset; code = code.Rollback };
-      is = rw h.1 refl;
-      offset = h.0;
-      code = omega arith;
-    }
+found_rollback t at offset s (RollsBack r) h = found_here code.Rollback (rw h.1 refl) h.0
 found_rollback t at offset s (Attempts a) h = absurd h.1
 found_rollback t at offset s (Commits c) h = absurd h.1
 

@@ -110,20 +110,18 @@ comes_next t e rest (at, Attempts b) k a xs is come = (
 comes_next t e rest (at, Commits c) k a xs is come = absurd is
 comes_next t e rest (at, RollsBack r) k a xs is come = absurd is
 
-pub commit_next : (t : Trace) (e : ℕ) (rest : List (ℕ × Step)) (next : ℕ × Step) (k : KeptSection) (c : CommitView)
-    → IsStep (of.Commit c) next → HasCome t e (next ∷ rest) k
-    → HasCome t e ((c.offset, Commits (commit_in c.bytes.now)) ∷ rest) k
-commit_next t e rest (at, Commits d) k c is come =
-    subst (λ (o : ℕ). HasCome t e ((o, Commits (commit_in c.bytes.now)) ∷ rest) k) (sym is.0)
-    (subst (λ (d : Commit). HasCome t e ((at, Commits d) ∷ rest) k) (sym is.1) come)
-commit_next t e rest (at, Attempts b) k c is come = absurd is
-commit_next t e rest (at, RollsBack r) k c is come = absurd is
+pub commit_next : (next : ℕ × Step) (c : CommitView) → IsStep (of.Commit c) next
+    → next ≡ (c.offset, Commits (commit_in c.bytes.now))
+commit_next (at, Commits d) c is = λ i. (sym is.0 i, Commits (sym is.1 i))
+commit_next (at, Attempts b) c is = absurd is
+commit_next (at, RollsBack r) c is = absurd is
 
-pub rollback_next : (t : Trace) (e : ℕ) (rest : List (ℕ × Step)) (next : ℕ × Step) (k : KeptSection) (r : RollbackView)
-    → IsStep (of.Rollback r) next → HasCome t e (next ∷ rest) k
-    → HasCome t e ((r.offset, RollsBack (rollback_in r.bytes.now)) ∷ rest) k
-rollback_next t e rest (at, RollsBack q) k r is come =
-    subst (λ (o : ℕ). HasCome t e ((o, RollsBack (rollback_in r.bytes.now)) ∷ rest) k) (sym is.0)
-    (subst (λ (q : Rollback). HasCome t e ((at, RollsBack q) ∷ rest) k) (sym is.1) come)
-rollback_next t e rest (at, Attempts b) k r is come = absurd is
-rollback_next t e rest (at, Commits c) k r is come = absurd is
+pub rollback_next : (next : ℕ × Step) (r : RollbackView) → IsStep (of.Rollback r) next
+    → next ≡ (r.offset, RollsBack (rollback_in r.bytes.now))
+rollback_next (at, RollsBack q) r is = λ i. (sym is.0 i, RollsBack (sym is.1 i))
+rollback_next (at, Attempts b) r is = absurd is
+rollback_next (at, Commits c) r is = absurd is
+
+pub come_as : (t : Trace) (e : ℕ) (rest : List (ℕ × Step)) (k : KeptSection) (next step : ℕ × Step) → next ≡ step
+    → HasCome t e (next ∷ rest) k → HasCome t e (step ∷ rest) k
+come_as t e rest k next step = subst (λ (x : ℕ × Step). HasCome t e (x ∷ rest) k)

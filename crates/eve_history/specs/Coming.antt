@@ -61,6 +61,19 @@ kept_section n = record {
   rollbacks = map (rolled n.bytes.now) n.rollbacks.items;
 }
 
+-- before the first step, where these access records are kept ahead
+abbrev pub kept_at_first : List (ℕ × Access) → KeptSection
+kept_at_first records = record {
+  view = 0;
+  last = 0;
+  rolled_back = false;
+  attempts = [];
+  fates = [];
+  commits = [];
+  records = records;
+  rollbacks = [];
+}
+
 -- how many attempts are open
 abbrev pub open_count : KeptSection → ℕ
 open_count k = length k.attempts - length k.fates

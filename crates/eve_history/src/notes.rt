@@ -19,7 +19,7 @@ ghost use Rattle.eve_history.specs.Faults.{IsStructureFault};
 ghost use Rattle.eve_history.specs.FirstWrong.{wrong_attempt, wrong_step, fault_of};
 ghost use Rattle.eve_history.specs.Marking.{AreMarked};
 ghost use Rattle.eve_history.specs.Coming.{kept_section, StandsAt, HasCome, ComesNext, AreFramed, AreNotesOf};
-ghost use Rattle.eve_history.specs.Coming.{seen, executed_attempts, IsWholeSection};
+ghost use Rattle.eve_history.specs.Coming.{kept_at_first, seen, executed_attempts, IsWholeSection};
 ghost use Rattle.eve_history.specs.Standing.{IsAccessAt};
 ghost use Rattle.eve_history.specs.SideBySide.{IsKeptAhead};
 
@@ -124,29 +124,9 @@ impl<'a> Notes<'a> {
         ensures attempts { result.attempts.items ≡ [] }
         ensures records { result.records.items ≡ [] }
         ensures rollbacks { result.rollbacks.items ≡ [] }
-        ensures kept { kept_section result
-            ≡ record {
-              view = 0;
-              last = 0;
-              rolled_back = false;
-              attempts = [];
-              fates = [];
-              commits = [];
-              records = [];
-              rollbacks = [];
-            } }
+        ensures kept { kept_section result ≡ kept_at_first [] }
     {
-        Notes {
-            bytes,
-            view: 0,
-            last: 0,
-            rolled_back: false,
-            attempts: Vec::new(alloc),
-            fates: Vec::new(alloc),
-            commits: Vec::new(alloc),
-            records: Vec::new(alloc),
-            rollbacks: Vec::new(alloc),
-        }
+        Notes::with_records(alloc, bytes, Vec::new(alloc))
     }
 
     /// Before the first step, with the access records of all attempts that are to come.
@@ -155,17 +135,7 @@ impl<'a> Notes<'a> {
         ensures attempts { result.attempts.items ≡ [] }
         ensures records { result.records.items ≡ records.items }
         ensures rollbacks { result.rollbacks.items ≡ [] }
-        ensures kept { kept_section result
-            ≡ record {
-              view = 0;
-              last = 0;
-              rolled_back = false;
-              attempts = [];
-              fates = [];
-              commits = [];
-              records = map (seen bytes.now) records.items;
-              rollbacks = [];
-            } }
+        ensures kept { kept_section result ≡ kept_at_first (map (seen bytes.now) records.items) }
     {
         Notes {
             bytes,

@@ -77,8 +77,8 @@ const LAST_OF_AFTER: usize = 5 + 6 + 28;
 /// How many bytes an Access frame has in front of the count of its entries: the frame's head, worker, place and index.
 const ENTRY_COUNT: usize = 5 + 5;
 
-/// How many bytes a Batch frame has in front of the last byte of the count of its parallelBatches: the frame's head, the
-/// number, and the count's first byte.
+/// How many bytes a Batch frame has in front of the last byte of the count of its parallelBatches: the frame's head,
+/// the number, and the count's first byte.
 const GROUP_COUNT: usize = 5 + 4 + 1;
 
 /// How many bytes a Sent frame has in front of its last byte, the last of its reply.

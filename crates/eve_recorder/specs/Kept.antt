@@ -5,6 +5,7 @@ use mathlib.Core.Option.{some}
 use lib.ListN.{get_elem?}
 use Rattle.eve_recorder.specs.Noted.{of_worker, AllOf, IsOrderly, ComeFrom}
 use Rattle.eve_recorder.specs.declared.ledger.Ledger.{Ledger}
+use Rattle.eve_recorder.specs.declared.limits.TheConstants.{MOST_SEATS}
 use Rattle.eve_stamps.specs.Applied.{Applied}
 
 abbrev pub ledger : Bool → List Applied → ℕ → ℕ → ℕ → List Applied → Ledger
@@ -41,7 +42,7 @@ pub record FitsPasses (queued : List Applied) (ledgers : List Ledger) : Type 0 w
 -- a worker's pass stands for that worker alone, and has noted so many records, all of that worker
 abbrev pub IsWorkers : ℕ → ℕ → Ledger → Type 0
 IsWorkers worker count v =
-    (v ≡ ledger false [] v.workers worker (suc worker) v.noted) × (worker < v.workers) × (v.workers ≤ 8)
+    (v ≡ ledger false [] v.workers worker (suc worker) v.noted) × (worker < v.workers) × (v.workers ≤ MOST_SEATS)
     × (count ≡ length v.noted) × AllOf worker v.noted
 
 -- what is noted is added to what was noted

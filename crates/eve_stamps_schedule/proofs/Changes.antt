@@ -3,6 +3,7 @@ use Rattle.std.proofs.Common.{◌≡◌, ℕ, zero, suc, ◌+◌, ◌-◌, ◌<�
 use Rattle.std.proofs.Common.{is_none, refl, sym, subst, ap, ◌∙◌, inl, inr, arith}
 use Rattle.std.proofs.lemmas.Bool.{cases_Bool, cases_eq, eqb-true, eqb-false, eq-eqb, ne_eqb, cond-true, cond-false}
 use Rattle.std.proofs.lemmas.Bool.{false≢true}
+use Rattle.std.proofs.lemmas.Option.{same_Some}
 use Rattle.eve_stamps_schedule.specs.Stripes.{least_from, greatest_below}
 use Rattle.eve_stamps_schedule.specs.Events.{changed}
 
@@ -73,13 +74,10 @@ greatest_passes zero test s e = absurd (none_some s e)
     none_some s e = cc
 greatest_passes (suc n) test s e =
     elim (cases_Bool (test n)) [
-      | inl t ↦ subst (λ k. test k ≡ true) (same n s (sym (cond-true (test n) (Some n) (greatest_below n test) t) ∙ e))
-          t
+      | inl t ↦ subst (λ k. test k ≡ true) (same_Some n s
+          (sym (cond-true (test n) (Some n) (greatest_below n test) t) ∙ e)) t
       | inr f ↦ greatest_passes n test s (sym (cond-false (test n) (Some n) (greatest_below n test) f) ∙ e)
     ]
-  where
-    same : (m k : ℕ) → Some m ≡ Some k → m ≡ k
-    same m k e = cc
 
 -- where there is no least, none passes
 pub none_passes : (i n : ℕ) (test : ℕ → Bool) → is_none (least_from i n test) ≡ true → (s : ℕ) → i ≤ s → s < i + n
@@ -132,15 +130,12 @@ greatest_down (suc n) test some f =
     cond-false (test n) (Some n) (greatest_below n test) (ap test (sym same) ∙ f)
     ∙ ap (λ k. greatest_below k test) (sym same)
 
-some_same : (m k : ℕ) → Some m ≡ Some k → m ≡ k
-some_same m k e = cc
-
 -- what passes is one of them
 pub least_small : (i n : ℕ) (test : ℕ → Bool) (s : ℕ) → least_from i n test ≡ Some s → s < i + n
 least_small i zero test s e = absurd (cc)
 least_small i (suc n) test s e =
     elim (cases_Bool (test i)) [
-      | inl t ↦ let same : i ≡ s = some_same i s (sym (cond-true (test i) (Some i) (least_from (suc i) n test) t) ∙ e)
+      | inl t ↦ let same : i ≡ s = same_Some i s (sym (cond-true (test i) (Some i) (least_from (suc i) n test) t) ∙ e)
           in omega arith
       | inr f ↦ let rest : s < suc i + n =
           least_small (suc i) n test s (sym (cond-false (test i) (Some i) (least_from (suc i) n test) f) ∙ e) in
@@ -151,7 +146,7 @@ pub greatest_small : (n : ℕ) (test : ℕ → Bool) (s : ℕ) → greatest_belo
 greatest_small zero test s e = absurd (cc)
 greatest_small (suc n) test s e =
     elim (cases_Bool (test n)) [
-      | inl t ↦ let same : n ≡ s = some_same n s (sym (cond-true (test n) (Some n) (greatest_below n test) t) ∙ e) in
+      | inl t ↦ let same : n ≡ s = same_Some n s (sym (cond-true (test n) (Some n) (greatest_below n test) t) ∙ e) in
           omega arith
       | inr f ↦ let rest : s < n = greatest_small n test s (sym (cond-false (test n) (Some n) (greatest_below n test) f)
           ∙ e) in omega arith

@@ -84,6 +84,11 @@ shifted test stages v n old new h stage =
     subst (λ s. held test (changed stages v new) n + flag (test s) ≡ held test stages n + flag (test new)) stage
     (counted-changed (λ s. flag (test s)) stages v new n h)
 
+-- so that each count moves by what the two stages say
+abbrev Moves : (ℕ → Stage) → ℕ → ℕ → Stage → Stage → Type 0
+Moves stages v n old new = (test : Stage → Bool)
+    → held test (changed stages v new) n + flag (test old) ≡ held test stages n + flag (test new)
+
 -- ---- events
 
 pub counts_claim : (p : Plan) (w : World) (v : ℕ) → v < p.workers → w.stages v ≡ at.Idle → may_claim p w ≡ true
@@ -91,31 +96,15 @@ pub counts_claim : (p : Plan) (w : World) (v : ℕ) → v < p.workers → w.stag
 counts_claim p w v h stage may c =
     let parts = and_parts (nat_lt w.claimed (length p.requests)) (group_of p.sizes w.claimed == current_group p w) may
     in
-    let new : Stage = at.Claimed w.claimed in
+    let move : Moves w.stages v p.workers at.Idle (at.Claimed w.claimed) =
+    λ test. shifted test w.stages v p.workers at.Idle (at.Claimed w.claimed) h stage in
     let there : w.claimed < length p.requests = ltb-true w.claimed (length p.requests) parts.0 in
     record {
-      indexes = λ i.
-          let shift : held (has_index i) (changed w.stages v new) p.workers + 0
-          ≡ held (has_index i) w.stages p.workers + flag (w.claimed == i)
-          = shifted (has_index i) w.stages v p.workers at.Idle new h stage in
-          omega (arith, shift, c.indexes i, flag_more i w.claimed);
-      ticks = λ n.
-          let shift : held (has_tick n) (changed w.stages v new) p.workers + 0
-          ≡ held (has_tick n) w.stages p.workers + 0
-          = shifted (has_tick n) w.stages v p.workers at.Idle new h stage in
-          omega (arith, shift, c.ticks n);
-      claimed =
-          let shift : held is_busy (changed w.stages v new) p.workers + 0 ≡ held is_busy w.stages p.workers + 1 =
-          shifted is_busy w.stages v p.workers at.Idle new h stage in
-          omega (arith, shift, c.claimed);
-      ticked =
-          let shift : held is_claimed (changed w.stages v new) p.workers + 0 ≡ held is_claimed w.stages p.workers + 1 =
-          shifted is_claimed w.stages v p.workers at.Idle new h stage in
-          omega (arith, shift, c.ticked);
-      applied =
-          let shift : held is_ticked (changed w.stages v new) p.workers + 0 ≡ held is_ticked w.stages p.workers + 0 =
-          shifted is_ticked w.stages v p.workers at.Idle new h stage in
-          omega (arith, shift, c.applied);
+      indexes = λ i. omega (arith, move (has_index i), c.indexes i, flag_more i w.claimed);
+      ticks = λ n. omega (arith, move (has_tick n), c.ticks n);
+      claimed = omega (arith, move is_busy, c.claimed);
+      ticked = omega (arith, move is_claimed, c.ticked);
+      applied = omega (arith, move is_ticked, c.applied);
       within = omega (arith, there);
       current = λ i below.
           elim (cases_eq i w.claimed) [
@@ -132,29 +121,13 @@ pub counts_tick : (p : Plan) (w : World) (v i : ℕ) → v < p.workers → w.sta
 counts_tick p w v i h stage c =
     let old : Stage = at.Claimed i in
     let new : Stage = at.Ticked i w.counter in
+    let move : Moves w.stages v p.workers old new = λ test. shifted test w.stages v p.workers old new h stage in
     record {
-      indexes = λ j.
-          let shift : held (has_index j) (changed w.stages v new) p.workers + flag (i == j)
-          ≡ held (has_index j) w.stages p.workers + flag (i == j)
-          = shifted (has_index j) w.stages v p.workers old new h stage in
-          omega (arith, shift, c.indexes j);
-      ticks = λ n.
-          let shift : held (has_tick n) (changed w.stages v new) p.workers + 0
-          ≡ held (has_tick n) w.stages p.workers + flag (w.counter == n)
-          = shifted (has_tick n) w.stages v p.workers old new h stage in
-          omega (arith, shift, c.ticks n, flag_more n w.counter);
-      claimed =
-          let shift : held is_busy (changed w.stages v new) p.workers + 1 ≡ held is_busy w.stages p.workers + 1 =
-          shifted is_busy w.stages v p.workers old new h stage in
-          omega (arith, shift, c.claimed);
-      ticked =
-          let shift : held is_claimed (changed w.stages v new) p.workers + 1 ≡ held is_claimed w.stages p.workers + 0 =
-          shifted is_claimed w.stages v p.workers old new h stage in
-          omega (arith, shift, c.ticked);
-      applied =
-          let shift : held is_ticked (changed w.stages v new) p.workers + 0 ≡ held is_ticked w.stages p.workers + 1 =
-          shifted is_ticked w.stages v p.workers old new h stage in
-          omega (arith, shift, c.applied);
+      indexes = λ j. omega (arith, move (has_index j), c.indexes j);
+      ticks = λ n. omega (arith, move (has_tick n), c.ticks n, flag_more n w.counter);
+      claimed = omega (arith, move is_busy, c.claimed);
+      ticked = omega (arith, move is_claimed, c.ticked);
+      applied = omega (arith, move is_ticked, c.applied);
       within = c.within;
       current = c.current;
     }
@@ -164,29 +137,13 @@ pub counts_apply : (p : Plan) (w : World) (v : ℕ) (x : Applied) → v < p.work
 counts_apply p w v x h stage c =
     let old : Stage = at.Ticked x.index x.tick in
     let new : Stage = at.Applied x in
+    let move : Moves w.stages v p.workers old new = λ test. shifted test w.stages v p.workers old new h stage in
     record {
-      indexes = λ j.
-          let shift : held (has_index j) (changed w.stages v new) p.workers + flag (x.index == j)
-          ≡ held (has_index j) w.stages p.workers + 0
-          = shifted (has_index j) w.stages v p.workers old new h stage in
-          omega (arith, shift, c.indexes j, count-placed_by_tick (λ y. y.index) j x w.applied);
-      ticks = λ n.
-          let shift : held (has_tick n) (changed w.stages v new) p.workers + flag (x.tick == n)
-          ≡ held (has_tick n) w.stages p.workers + 0
-          = shifted (has_tick n) w.stages v p.workers old new h stage in
-          omega (arith, shift, c.ticks n, count-placed_by_tick (λ y. y.tick) n x w.applied);
-      claimed =
-          let shift : held is_busy (changed w.stages v new) p.workers + 1 ≡ held is_busy w.stages p.workers + 1 =
-          shifted is_busy w.stages v p.workers old new h stage in
-          omega (arith, shift, c.claimed);
-      ticked =
-          let shift : held is_claimed (changed w.stages v new) p.workers + 0 ≡ held is_claimed w.stages p.workers + 0 =
-          shifted is_claimed w.stages v p.workers old new h stage in
-          omega (arith, shift, c.ticked);
-      applied =
-          let shift : held is_ticked (changed w.stages v new) p.workers + 1 ≡ held is_ticked w.stages p.workers + 0 =
-          shifted is_ticked w.stages v p.workers old new h stage in
-          omega (arith, shift, c.applied, length-placed_by_tick x w.applied);
+      indexes = λ j. omega (arith, move (has_index j), c.indexes j, count-placed_by_tick (λ y. y.index) j x w.applied);
+      ticks = λ n. omega (arith, move (has_tick n), c.ticks n, count-placed_by_tick (λ y. y.tick) n x w.applied);
+      claimed = omega (arith, move is_busy, c.claimed);
+      ticked = omega (arith, move is_claimed, c.ticked);
+      applied = omega (arith, move is_ticked, c.applied, length-placed_by_tick x w.applied);
       within = c.within;
       current = c.current;
     }
@@ -204,28 +161,13 @@ pub counts_note : (p : Plan) (w : World) (v : ℕ) (x : Applied) → v < p.worke
 counts_note p w v x h stage c =
     let old : Stage = at.Applied x in
     let new : Stage = at.Idle in
+    let move : Moves w.stages v p.workers old new = λ test. shifted test w.stages v p.workers old new h stage in
     record {
-      indexes = λ j.
-          let shift : held (has_index j) (changed w.stages v new) p.workers + 0
-          ≡ held (has_index j) w.stages p.workers + 0 =
-          shifted (has_index j) w.stages v p.workers old new h stage in
-          omega (arith, shift, c.indexes j);
-      ticks = λ n.
-          let shift : held (has_tick n) (changed w.stages v new) p.workers + 0
-          ≡ held (has_tick n) w.stages p.workers + 0 = shifted (has_tick n) w.stages v p.workers old new h stage in
-          omega (arith, shift, c.ticks n);
-      claimed =
-          let shift : held is_busy (changed w.stages v new) p.workers + 1 ≡ held is_busy w.stages p.workers + 0 =
-          shifted is_busy w.stages v p.workers old new h stage in
-          omega (arith, shift, c.claimed, noted_more w.noted v p.workers x h);
-      ticked =
-          let shift : held is_claimed (changed w.stages v new) p.workers + 0 ≡ held is_claimed w.stages p.workers + 0 =
-          shifted is_claimed w.stages v p.workers old new h stage in
-          omega (arith, shift, c.ticked);
-      applied =
-          let shift : held is_ticked (changed w.stages v new) p.workers + 0 ≡ held is_ticked w.stages p.workers + 0 =
-          shifted is_ticked w.stages v p.workers old new h stage in
-          omega (arith, shift, c.applied);
+      indexes = λ j. omega (arith, move (has_index j), c.indexes j);
+      ticks = λ n. omega (arith, move (has_tick n), c.ticks n);
+      claimed = omega (arith, move is_busy, c.claimed, noted_more w.noted v p.workers x h);
+      ticked = omega (arith, move is_claimed, c.ticked);
+      applied = omega (arith, move is_ticked, c.applied);
       within = c.within;
       current = λ i below. omega (arith, c.current i below, current_later p w v x h);
     }

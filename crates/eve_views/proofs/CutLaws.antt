@@ -10,7 +10,7 @@ use Rattle.std.proofs.lemmas.Grind.{flat_map-append}
 use Rattle.std.proofs.Math.Seq.{take-suc, drop-cons}
 use Rattle.eve_grammar.specs.Trace.{Trace, head_of}
 use Rattle.eve_grammar.specs.Frames.{Frame, OfReplica, OfVerifier, OfVote, step_frames, section_frames, verifier_frames}
-use Rattle.eve_grammar.specs.Frames.{sections_of, verifiers_of, frames_of}
+use Rattle.eve_grammar.specs.Frames.{frames_of}
 use Rattle.eve_grammar.specs.Spelling.{frame_text, frames_text, located, steps_of, steps_at, votes_of, votes_at}
 use Rattle.eve_grammar.specs.Spelling.{section_start, verifier_start, step_text}
 use Rattle.eve_grammar.specs.Limits.{HasLimits, is_vote, is_step, row_count}
@@ -64,46 +64,40 @@ pub record IsPart (fs before part next : List Frame) (first : Frame) : Type 0 wh
   pub whole : fs ≡ before ++ (first ∷ (part ++ rest))
   pub next_is : next ≡ before ++ (first ∷ part)
 
+-- the k-th of numbered parts, each of which begins with a frame of its own
+part_cut : {X : Type 0} (frames : ℕ × X → List Frame) (xs : List X) (k : ℕ) (d : X) (fs front others part : List Frame)
+    (first : Frame) → k < length xs → fs ≡ front ++ (flat_map frames (enumerate_from 0 xs) ++ others)
+    → frames (k, get_or xs k d) ≡ first ∷ part
+    → IsPart fs (front ++ flat_map frames (take k (enumerate_from 0 xs))) part
+    (front ++ flat_map frames (take (suc k) (enumerate_from 0 xs))) first
+part_cut frames xs k d fs front others part first lt split is =
+    let cut = cut_part frames xs k d lt in
+    let own = flat_map frames (take k (enumerate_from 0 xs)) in
+    record {
+      rest = cut.rest ++ others;
+      whole = split
+          ∙ ap (λ (gs : List Frame). front ++ (gs ++ others))
+          (cut.all ∙ ap (λ (gs : List Frame). own ++ (gs ++ cut.rest)) is)
+          ∙ ap (λ (gs : List Frame). front ++ gs)
+          (append_assoc own (first ∷ (part ++ cut.rest)) others
+          ∙ ap (λ (gs : List Frame). own ++ gs) (append_assoc (first ∷ part) cut.rest others))
+          ∙ sym (append_assoc front own (first ∷ (part ++ (cut.rest ++ others))));
+      next_is = ap (λ (gs : List Frame). front ++ gs) (cut.next ∙ ap (λ (gs : List Frame). own ++ gs) is)
+          ∙ sym (append_assoc front own (first ∷ part));
+    }
+
 pub section_cut : (t : Trace) (e : ℕ) → e < length t.sections
     → IsPart (frames_of t) (before_section t e) (flat_map step_frames (steps_of t e)) (before_section t (suc e))
     (OfReplica e)
 unfolding before_section
-section_cut t e lt =
-    let front = before_sections t in
-    let cut = cut_part section_frames t.sections e [] lt in
-    let own = flat_map section_frames (take e (sections_of t)) in
-    let others = flat_map verifier_frames (verifiers_of t) ++ _ in
-    let part = flat_map step_frames (steps_of t e) in
-    record {
-      rest = cut.rest ++ others;
-      whole = frames_from_sections t ∙ ap (λ (fs : List Frame). front ++ (fs ++ others)) cut.all
-          ∙ ap (λ (fs : List Frame). front ++ fs)
-          (append_assoc own (section_frames (e, steps_of t e) ++ cut.rest) others
-          ∙ ap (λ (fs : List Frame). own ++ fs) (append_assoc (section_frames (e, steps_of t e)) cut.rest others))
-          ∙ sym (append_assoc front own (OfReplica e ∷ (part ++ (cut.rest ++ others))));
-      next_is = ap (λ (fs : List Frame). front ++ fs) cut.next
-          ∙ sym (append_assoc front own (section_frames (e, steps_of t e)));
-    }
+section_cut t e lt = part_cut section_frames t.sections e [] (frames_of t) (before_sections t) _
+    (flat_map step_frames (steps_of t e)) (OfReplica e) lt (frames_from_sections t) refl
 
 pub verifier_cut : (t : Trace) (v : ℕ) → v < length t.verifiers
     → IsPart (frames_of t) (before_verifier t v) (map OfVote (votes_of t v)) (before_verifier t (suc v)) (OfVerifier v)
 unfolding before_verifier
-verifier_cut t v lt =
-    let front = before_verifiers t in
-    let cut = cut_part verifier_frames t.verifiers v [] lt in
-    let own = flat_map verifier_frames (take v (verifiers_of t)) in
-    let others : List Frame = _ in
-    let part = map OfVote (votes_of t v) in
-    record {
-      rest = cut.rest ++ others;
-      whole = frames_from_verifiers t ∙ ap (λ (fs : List Frame). front ++ (fs ++ others)) cut.all
-          ∙ ap (λ (fs : List Frame). front ++ fs)
-          (append_assoc own (verifier_frames (v, votes_of t v) ++ cut.rest) others
-          ∙ ap (λ (fs : List Frame). own ++ fs) (append_assoc (verifier_frames (v, votes_of t v)) cut.rest others))
-          ∙ sym (append_assoc front own (OfVerifier v ∷ (part ++ (cut.rest ++ others))));
-      next_is = ap (λ (fs : List Frame). front ++ fs) cut.next
-          ∙ sym (append_assoc front own (verifier_frames (v, votes_of t v)));
-    }
+verifier_cut t v lt = part_cut verifier_frames t.verifiers v [] (frames_of t) (before_verifiers t) _
+    (map OfVote (votes_of t v)) (OfVerifier v) lt (frames_from_verifiers t) refl
 
 -- the same by numbers of frames
 pub record IsBetween (fs part : List Frame) (from to : ℕ) : Type 0 where
@@ -171,8 +165,8 @@ votes_cut t v from to limits few lt at_from at_to =
     let b = between (frames_of t) (before_verifier t v) (map OfVote (votes_of t v)) (before_verifier t (suc v))
     (OfVerifier v) from to (verifier_cut t v lt) at_from at_to in
     record {
-      votes = votes_of t v;
-      batches = length t.batches;
+      items = votes_of t v;
+      count = length t.batches;
       few = few;
       right = all_of (is_vote (length t.batches)) t.verifiers v limits.votes lt;
       many = sym (b.many ∙ length-map (votes_of t v) OfVote);

@@ -4,6 +4,7 @@ use Rattle.std.proofs.Common.{Some, None, refl, sym, ap, ◌∙◌, append_assoc
 use Rattle.std.specs.Prelude.{slice_get}
 use Rattle.std.specs.List.{AllByRecursion, flat_map, enumerate_from}
 use Rattle.std.proofs.lemmas.List.{length-append}
+use Rattle.std.proofs.lemmas.Option.{same_Some}
 use Rattle.eve_grammar.specs.Trace.{Step, Attempts, Commits, RollsBack, Vote, Sent, Trace}
 use Rattle.eve_grammar.specs.Frames.{Frame, OfCustomer, OfBatch, OfReplica, OfAttempt, OfAccess, OfCommit, OfRollback}
 use Rattle.eve_grammar.specs.Frames.{OfVerifier, OfVote, OfSent, End, step_frames, section_frames, verifier_frames}
@@ -48,9 +49,6 @@ plain-flat_map number frames none (x ∷ xs) = plain-append number (frames x) (f
 no_number : {n : ℕ} → None ≡ Some n → ⊥
 no_number e = cc
 
-same_number : (n m : ℕ) → Some n ≡ Some m → n ≡ m
-same_number n m e = cc
-
 -- none of them has one
 plain_at : (number : Frame → Option ℕ) (fs : List Frame) (i n : ℕ) (f : Frame) → Plain number fs → slice_get fs i
     ≡ Some f → number f ≡ Some n → ⊥
@@ -82,7 +80,7 @@ numbered_at : {X : Type 0} (number : Frame → Option ℕ) (head : ℕ → Frame
 numbered_at number head body heads none [] n rest plain i e f got is = absurd (plain_at number rest i e f plain got is)
 numbered_at {X = X} number head body heads none (x ∷ xs) n rest plain zero e f got is =
     let same : head n ≡ f = cc in
-    let at : n ≡ e = same_number n e (sym (heads n) ∙ ap number same ∙ is) in
+    let at : n ≡ e = same_Some n e (sym (heads n) ∙ ap number same ∙ is) in
     let first : e - n ≡ 0 = omega arith in (
       omega arith,
       sym (ap (λ (k : ℕ). length

@@ -9,6 +9,7 @@ use Rattle.std.proofs.lemmas.Grind.{flat_map-append}
 use Rattle.std.proofs.Math.Seq.{take-append-add, take-suc, drop-cons}
 use Rattle.std.proofs.lemmas.List.{take-append-le}
 use Rattle.std.proofs.lemmas.Option.{slice_get-map, slice_get_within, get_or_from_slice_get}
+use Rattle.std.proofs.lemmas.Option.{same_Some}
 use Rattle.eve_grammar.specs.Trace.{Trace}
 use Rattle.eve_grammar.specs.Frames.{Frame, OfCustomer, OfBatch, section_frames, verifier_frames, batches_of}
 use Rattle.eve_grammar.specs.Frames.{sections_of, verifiers_of, frames_of}
@@ -45,9 +46,6 @@ item_within [] i lt = absurd (omega arith)
 item_within (x ∷ xs) zero lt = (x, refl)
 item_within (x ∷ xs) (suc i) lt = item_within xs i (omega arith)
 
-some_same : {X : Type 0} (x y : X) → Some x ≡ Some y → x ≡ y
-some_same x y e = cc
-
 -- Of the frames of one kind, after others, the i-th: what it says, and where it stands.
 pub record IsPlaced {A : Type 0} (frame : A → Frame) (xs : List A) (i at offset : ℕ) (f : Frame) : Type 0 where
   pub item : A
@@ -81,7 +79,7 @@ placed {A = A} frame before xs rest i at offset f lt begins got stands =
     record {
       item = x.0;
       got = x.1;
-      is = some_same f (frame x.0) (sym got ∙ own ∙ mapped);
+      is = same_Some f (frame x.0) (sym got ∙ own ∙ mapped);
       located_at = located-get (λ y. frame_text (frame y)) at xs i x.0 x.1 ∙ ap (λ (k : ℕ). Some (k, x.0)) there;
     }
 
@@ -102,65 +100,36 @@ length-frames_text xs ys = ap length (flat_map-append frame_text xs ys)
 pub batches_begin : (t : Trace) → 32 + length (frames_text (before_batches t)) ≡ batches_start t
 batches_begin t = ap (λ (bs : List ℕ). 32 + length bs) (flat_map-map frame_text OfCustomer t.customers)
 
+-- behind frames that begin the trace
+behind : (before own : List Frame) (at : ℕ) (text : List ℕ) → 32 + length (frames_text before) ≡ at
+    → frames_text own ≡ text → 32 + length (frames_text (before ++ own)) ≡ at + length text
+behind before own at text begins said = omega (arith, length-frames_text before own, begins, ap length said)
+
 pub sections_begin : (t : Trace) → 32 + length (frames_text (before_sections t)) ≡ sections_start t
-sections_begin t =
-    let own : frames_text (map (λ b. OfBatch b.0 b.1) (batches_of t)) ≡ flat_map batch_text (batches_of t) =
-    flat_map-map frame_text (λ b. OfBatch b.0 b.1) (batches_of t) in
-    omega (
-      arith,
-      length-frames_text (before_batches t) (map (λ b. OfBatch b.0 b.1) (batches_of t)),
-      batches_begin t,
-      ap length own,
-    )
+sections_begin t = behind (before_batches t) (map (λ b. OfBatch b.0 b.1) (batches_of t)) (batches_start t)
+    (flat_map batch_text (batches_of t)) (batches_begin t)
+    (flat_map-map frame_text (λ b. OfBatch b.0 b.1) (batches_of t))
 
 pub section_begins : (t : Trace) (e : ℕ) → 32 + length (frames_text (before_section t e)) ≡ section_start t e
 unfolding before_section
-section_begins t e =
-    let own : frames_text (flat_map section_frames (take e (sections_of t)))
-    ≡ flat_map section_text (take e (sections_of t)) = frames_text-flat_map section_frames (take e (sections_of t))
-    in
-    omega (
-      arith,
-      length-frames_text (before_sections t) (flat_map section_frames (take e (sections_of t))),
-      sections_begin t,
-      ap length own,
-    )
+section_begins t e = behind (before_sections t) (flat_map section_frames (take e (sections_of t))) (sections_start t)
+    (flat_map section_text (take e (sections_of t))) (sections_begin t)
+    (frames_text-flat_map section_frames (take e (sections_of t)))
 
 verifiers_begin : (t : Trace) → 32 + length (frames_text (before_verifiers t)) ≡ verifiers_start t
-verifiers_begin t =
-    let own : frames_text (flat_map section_frames (sections_of t)) ≡ flat_map section_text (sections_of t) =
-    frames_text-flat_map section_frames (sections_of t) in
-    omega (
-      arith,
-      length-frames_text (before_sections t) (flat_map section_frames (sections_of t)),
-      sections_begin t,
-      ap length own,
-    )
+verifiers_begin t = behind (before_sections t) (flat_map section_frames (sections_of t)) (sections_start t)
+    (flat_map section_text (sections_of t)) (sections_begin t) (frames_text-flat_map section_frames (sections_of t))
 
 pub verifier_begins : (t : Trace) (v : ℕ) → 32 + length (frames_text (before_verifier t v)) ≡ verifier_start t v
 unfolding before_verifier
-verifier_begins t v =
-    let own : frames_text (flat_map verifier_frames (take v (verifiers_of t)))
-    ≡ flat_map votes_text (take v (verifiers_of t)) = frames_text-flat_map verifier_frames (take v (verifiers_of t))
-    in
-    omega (
-      arith,
-      length-frames_text (before_verifiers t) (flat_map verifier_frames (take v (verifiers_of t))),
-      verifiers_begin t,
-      ap length own,
-    )
+verifier_begins t v = behind (before_verifiers t) (flat_map verifier_frames (take v (verifiers_of t)))
+    (verifiers_start t) (flat_map votes_text (take v (verifiers_of t))) (verifiers_begin t)
+    (frames_text-flat_map verifier_frames (take v (verifiers_of t)))
 
 pub sent_begin : (t : Trace) → 32 + length (frames_text (before_sent t)) ≡ sent_start t
 unfolding before_sent
-sent_begin t =
-    let own : frames_text (flat_map verifier_frames (verifiers_of t)) ≡ flat_map votes_text (verifiers_of t) =
-    frames_text-flat_map verifier_frames (verifiers_of t) in
-    omega (
-      arith,
-      length-frames_text (before_verifiers t) (flat_map verifier_frames (verifiers_of t)),
-      verifiers_begin t,
-      ap length own,
-    )
+sent_begin t = behind (before_verifiers t) (flat_map verifier_frames (verifiers_of t)) (verifiers_start t)
+    (flat_map votes_text (verifiers_of t)) (verifiers_begin t) (frames_text-flat_map verifier_frames (verifiers_of t))
 
 -- ---- all frames
 

@@ -12,17 +12,18 @@ use Rattle.eve_grammar.specs.Spelling.{frame_text, frames_text, spelling, locate
 use Rattle.eve_grammar.specs.Spelling.{sent_start, batches_start}
 use Rattle.eve_grammar.specs.Limits.{HasLimits, is_customer, is_batch, is_sent, is_vote, is_access}
 use Rattle.eve_grammar.specs.Gathering.{Gathered, nothing, gathered}
-use Rattle.eve_grammar.proofs.Gatherings.{gathered-votes, gathered-accesses, with_votes, with_accesses}
+use Rattle.eve_grammar.proofs.Gatherings.{gathered-votes, gathered-accesses}
 use Rattle.eve_grammar.proofs.Grouping.{all_at}
 use Rattle.eve_frames.specs.Views.{is_batch_frame, is_sent_frame, is_vote_frame, is_access_frame, batch_in, sent_in}
-use Rattle.eve_frames.specs.Views.{is_customer_frame, customer_in, vote_in, access_in, Says}
+use Rattle.eve_frames.specs.Views.{is_customer_frame, customer_in, vote_in, access_in, most_rows, most_batches, Says}
 use Rattle.eve_frames.proofs.Rereading.{customer_again, batch_again, sent_again, vote_again, access_again}
 use Rattle.eve_grammar.proofs.FrameLaws.{small_head}
 use Rattle.eve_views.specs.declared.walk.Index.{Index}
 use Rattle.eve_views.specs.Held.{IsHeldTrace}
 use Rattle.eve_views.specs.Lent.{HasBytesAt}
 use Rattle.eve_views.specs.Fronts.{before_batches, before_sections, before_sent}
-use Rattle.eve_views.specs.Parts.{byte_of, frames_between, accesses_between, votes_between, AreAccesses, AreVotes}
+use Rattle.eve_views.specs.Parts.{byte_of, frames_between, accesses_between, votes_between, AreOfOneKind, AreAccesses}
+use Rattle.eve_views.specs.Parts.{AreVotes}
 use Rattle.eve_views.proofs.Fronting.{frames_from_sections, frames_from_sent}
 use Rattle.eve_views.proofs.Locating.{IsPlaced, placed, length-located, batches_begin, sent_begin}
 
@@ -180,90 +181,80 @@ cut_at : (fs : List Frame) (from count : ℕ)
 cut_at fs from count = sym (take-append-drop from fs)
     ∙ ap (λ (gs : List Frame). take from fs ++ gs) (sym (take-append-drop count (drop from fs)))
 
+-- what is gathered of frames of one kind
+all_gathered : {A : Type 0} (frame : A → Frame) (of : Gathered → List A) (fs : List Frame) (xs : List A)
+    → fs ≡ map frame xs → of (gathered (map frame xs ++ [])) ≡ xs ++ [] → of (gathered fs) ≡ xs
+all_gathered frame of fs xs there own =
+    ap (λ (gs : List Frame). of (gathered gs)) (there ∙ sym (append-nil (map frame xs))) ∙ own ∙ append-nil xs
+
 pub votes_are : (fs : List Frame) (from to : ℕ) (are : AreVotes fs from to) → votes_between fs from (to - from)
-    ≡ located (λ v. frame_text (OfVote v)) (byte_of fs from) are.votes
+    ≡ located (λ v. frame_text (OfVote v)) (byte_of fs from) are.items
 unfolding votes_between
 votes_are fs from to are =
-    let own : gathered (map OfVote are.votes ++ []) ≡ with_votes nothing (are.votes ++ []) =
-    gathered-votes are.votes [] nothing refl in
-    let all : (gathered (frames_between fs from (to - from))).votes ≡ are.votes =
-    ap (λ (gs : List Frame). (gathered gs).votes) (are.there ∙ sym (append-nil (map OfVote are.votes)))
-    ∙ ap (λ (g : Gathered). g.votes) own ∙ append-nil are.votes in
-    ap (located (λ v. frame_text (OfVote v)) (byte_of fs from)) all
-
-vote_met : (fs : List Frame) (from to i offset : ℕ) (f : Frame) (are : AreVotes fs from to) → i < to - from
-    → slice_get fs (from + i) ≡ Some f → offset ≡ byte_of fs (from + i)
-    → Met OfVote (is_vote are.batches) (votes_between fs from (to - from)) i offset f
-vote_met fs from to i offset f are lt got stands =
-    let up = are.up in
-    let inside = are.within in
-    let long = length-take-le from fs (omega (arith, inside, up)) in
-    let cut : fs ≡ take from fs ++ (map OfVote are.votes ++ drop (to - from) (drop from fs)) =
-    cut_at fs from (to - from) ∙ ap (λ (gs : List Frame). take from fs ++ (gs ++ drop (to - from) (drop from fs)))
-    are.there in
-    let many = are.many in
-    subst (λ (list : List (ℕ × Vote)). Met OfVote (is_vote are.batches) list i offset f)
-    (sym (votes_are fs from to are))
-    (met_in OfVote (is_vote are.batches) (take from fs) are.votes (drop (to - from) (drop from fs)) fs (from + i) i
-    (byte_of fs from) offset f are.right (omega (arith, lt, many)) refl cut (omega (arith, long)) got stands)
+    ap (located (λ v. frame_text (OfVote v)) (byte_of fs from))
+    (all_gathered OfVote (λ g. g.votes) (frames_between fs from (to - from)) are.items are.there
+    (ap (λ (g : Gathered). g.votes) (gathered-votes are.items [] nothing refl)))
 
 pub accesses_are : (fs : List Frame) (from to : ℕ) (are : AreAccesses fs from to) → accesses_between fs from (to - from)
-    ≡ located (λ x. frame_text (OfAccess x)) (byte_of fs from) are.accesses
+    ≡ located (λ x. frame_text (OfAccess x)) (byte_of fs from) are.items
 unfolding accesses_between
 accesses_are fs from to are =
-    let own : gathered (map OfAccess are.accesses ++ []) ≡ with_accesses nothing (are.accesses ++ []) =
-    gathered-accesses are.accesses [] nothing refl in
-    let all : (gathered (frames_between fs from (to - from))).accesses ≡ are.accesses =
-    ap (λ (gs : List Frame). (gathered gs).accesses) (are.there ∙ sym (append-nil (map OfAccess are.accesses)))
-    ∙ ap (λ (g : Gathered). g.accesses) own ∙ append-nil are.accesses in
-    ap (located (λ x. frame_text (OfAccess x)) (byte_of fs from)) all
+    ap (located (λ x. frame_text (OfAccess x)) (byte_of fs from))
+    (all_gathered OfAccess (λ g. g.accesses) (frames_between fs from (to - from)) are.items are.there
+    (ap (λ (g : Gathered). g.accesses) (gathered-accesses are.items [] nothing refl)))
 
-access_met : (fs : List Frame) (from to i offset : ℕ) (f : Frame) (are : AreAccesses fs from to) → i < to - from
-    → slice_get fs (from + i) ≡ Some f → offset ≡ byte_of fs (from + i)
-    → Met OfAccess (is_access are.rows) (accesses_between fs from (to - from)) i offset f
-access_met fs from to i offset f are lt got stands =
-    let up = are.up in
-    let inside = are.within in
-    let long = length-take-le from fs (omega (arith, inside, up)) in
-    let cut : fs ≡ take from fs ++ (map OfAccess are.accesses ++ drop (to - from) (drop from fs)) =
-    cut_at fs from (to - from) ∙ ap (λ (gs : List Frame). take from fs ++ (gs ++ drop (to - from) (drop from fs)))
-    are.there in
-    let many = are.many in
-    subst (λ (list : List (ℕ × Access)). Met OfAccess (is_access are.rows) list i offset f)
-    (sym (accesses_are fs from to are))
-    (met_in OfAccess (is_access are.rows) (take from fs) are.accesses (drop (to - from) (drop from fs)) fs (from + i) i
-    (byte_of fs from) offset f are.right (omega (arith, lt, many)) refl cut (omega (arith, long)) got stands)
+-- what frames of one kind between two numbers say, each with its byte offset
+module _ {A : Type 0} (frame : A → Frame) (fits : ℕ → A → Bool) (most : ℕ) (fs : List Frame) (from to : ℕ)
+    (list : List (ℕ × A)) (part : AreOfOneKind frame fits most fs from to)
+    (are : list ≡ located (λ x. frame_text (frame x)) (byte_of fs from) part.items) where
+  items_many : length list ≡ to - from
+  items_many = ap length are ∙ length-located (λ x. frame_text (frame x)) (byte_of fs from) part.items ∙ part.many
+
+  item_met : (i offset : ℕ) (f : Frame) → i < to - from → slice_get fs (from + i) ≡ Some f
+      → offset ≡ byte_of fs (from + i) → Met frame (fits part.count) list i offset f
+  item_met i offset f lt got stands =
+      let up = part.up in
+      let inside = part.within in
+      let many = part.many in
+      let long = length-take-le from fs (omega (arith, inside, up)) in
+      let rest = drop (to - from) (drop from fs) in
+      let cut : fs ≡ take from fs ++ (map frame part.items ++ rest) =
+      cut_at fs from (to - from) ∙ ap (λ (gs : List Frame). take from fs ++ (gs ++ rest)) part.there in
+      subst (λ (xs : List (ℕ × A)). Met frame (fits part.count) xs i offset f) (sym are)
+      (met_in frame (fits part.count) (take from fs) part.items rest fs (from + i) i (byte_of fs from) offset f
+      part.right (omega (arith, lt, many)) refl cut (omega (arith, long)) got stands)
+
+  item_lent : (is_frame : List ℕ → Bool) (read : List ℕ → A) (i offset : ℕ) (bytes : List ℕ)
+      → ((x : A) → IsTrue (fits part.count x) → Says is_frame read (frame_text (frame x)) x) → i < length list
+      → IsFrameAt fs (from + i) bytes → offset ≡ byte_of fs (from + i) → Lends is_frame read frame list i offset bytes
+  item_lent is_frame read i offset bytes again lt f stands =
+      let met = item_met i offset f.0 (omega (arith, lt, items_many)) f.1 stands in
+      lends is_frame read frame (fits part.count) list i offset f.0 bytes met f.2 (again met.item met.right)
 
 pub votes_many : (fs : List Frame) (from to : ℕ) (xs : List (ℕ × Vote)) (are : AreVotes fs from to)
     → votes_between fs from (to - from) ≡ xs → length xs ≡ to - from
-votes_many fs from to xs are is = sym (ap length is) ∙ ap length (votes_are fs from to are)
-    ∙ length-located (λ v. frame_text (OfVote v)) (byte_of fs from) are.votes ∙ are.many
+votes_many fs from to xs are is = items_many OfVote is_vote most_batches fs from to xs are
+    (sym is ∙ votes_are fs from to are)
 
 pub accesses_many : (fs : List Frame) (from to : ℕ) (xs : List (ℕ × Access)) (are : AreAccesses fs from to)
     → accesses_between fs from (to - from) ≡ xs → length xs ≡ to - from
-accesses_many fs from to xs are is = sym (ap length is) ∙ ap length (accesses_are fs from to are)
-    ∙ length-located (λ x. frame_text (OfAccess x)) (byte_of fs from) are.accesses ∙ are.many
+accesses_many fs from to xs are is = items_many OfAccess is_access most_rows fs from to xs are
+    (sym is ∙ accesses_are fs from to are)
 
 pub vote_lent : (fs : List Frame) (from to i offset : ℕ) (bytes : List ℕ) (xs : List (ℕ × Vote))
     (are : AreVotes fs from to) → votes_between fs from (to - from) ≡ xs → i < length xs → IsFrameAt fs (from + i) bytes
     → offset ≡ byte_of fs (from + i) → Lends is_vote_frame vote_in OfVote xs i offset bytes
-vote_lent fs from to i offset bytes xs are is lt f stands =
-    let many = votes_many fs from to xs are is in
-    let met = vote_met fs from to i offset f.0 are (omega (arith, lt, many)) f.1 stands in
-    subst (λ (list : List (ℕ × Vote)). Lends is_vote_frame vote_in OfVote list i offset bytes) is
-    (lends is_vote_frame vote_in OfVote (is_vote are.batches) (votes_between fs from (to - from)) i offset f.0 bytes met
-    f.2 (vote_again are.batches met.item met.right are.few))
+vote_lent fs from to i offset bytes xs are is = item_lent OfVote is_vote most_batches fs from to xs are
+    (sym is ∙ votes_are fs from to are) is_vote_frame vote_in i offset bytes
+    (λ v right. vote_again are.count v right are.few)
 
 pub access_lent : (fs : List Frame) (from to i offset : ℕ) (bytes : List ℕ) (xs : List (ℕ × Access))
     (are : AreAccesses fs from to) → accesses_between fs from (to - from) ≡ xs → i < length xs
     → IsFrameAt fs (from + i) bytes → offset ≡ byte_of fs (from + i)
     → Lends is_access_frame access_in OfAccess xs i offset bytes
-access_lent fs from to i offset bytes xs are is lt f stands =
-    let many = accesses_many fs from to xs are is in
-    let met = access_met fs from to i offset f.0 are (omega (arith, lt, many)) f.1 stands in
-    subst (λ (list : List (ℕ × Access)). Lends is_access_frame access_in OfAccess list i offset bytes) is
-    (lends is_access_frame access_in OfAccess (is_access are.rows) (accesses_between fs from (to - from)) i offset f.0
-    bytes met f.2 (access_again are.rows met.item met.right are.few))
+access_lent fs from to i offset bytes xs are is = item_lent OfAccess is_access most_rows fs from to xs are
+    (sym is ∙ accesses_are fs from to are) is_access_frame access_in i offset bytes
+    (λ x right. access_again are.count x right are.few)
 
 -- ---- frames of customers, batches and replies sent, as they are read
 

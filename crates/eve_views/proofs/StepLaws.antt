@@ -1,12 +1,13 @@
 -- The next step of a section: its frames, and those after them.
 use Rattle.std.proofs.Common.{◌≡◌, ◌≢◌, ℕ, ◌+◌, ◌-◌, ◌≤◌, List, [], ◌∷◌, ◌++◌, map, length, take, drop, Some, refl, sym}
-use Rattle.std.proofs.Common.{ap, subst, ◌∙◌, append_assoc, arith}
+use Rattle.std.proofs.Common.{ap, subst, ◌∙◌, append_assoc, arith, Bool}
 use Rattle.std.specs.Prelude.{slice_get, slice_index, IsTrue, ◌&&◌, ◌==◌}
 use Rattle.std.specs.List.{flat_map, list_all}
 use Rattle.std.proofs.lemmas.Bool.{eqb-true, and_parts}
 use Rattle.std.proofs.lemmas.List.{length-append, length-take-le, length-drop, take-append-drop, length-map, take_at}
 use Rattle.std.proofs.lemmas.List.{drop_at, drop-drop}
 use Rattle.std.proofs.Math.Seq.{take-append-add}
+use Rattle.std.proofs.lemmas.Option.{same_Some}
 use Rattle.eve_grammar.specs.Trace.{Attempt, Commit, Rollback, Step, Attempts, Commits, RollsBack}
 use Rattle.eve_grammar.specs.Frames.{Frame, OfAttempt, OfAccess, OfCommit, OfRollback, kind_of, without_accesses}
 use Rattle.eve_grammar.specs.Frames.{step_frames}
@@ -120,9 +121,6 @@ others_of (Attempts a) = (map OfAccess a.accesses, refl)
 others_of (Commits c) = ([], refl)
 others_of (RollsBack r) = ([], refl)
 
-some_frame : (f g : Frame) → Some f ≡ Some g → f ≡ g
-some_frame f g e = cc
-
 -- a step that is there, and its first frame
 record IsMet (fs : List Frame) (at to : ℕ) (f : Frame) : Type 0 where
   rows : ℕ
@@ -152,7 +150,7 @@ met_of fs at to f are more got = by are.steps refl
           few = are.few;
           step = s;
           is = next;
-          begins = some_frame f (first s)
+          begins = same_Some f (first s)
               (sym got ∙ next.is.first (first s) o.0 o.1);
         }
 
@@ -207,8 +205,8 @@ attempt_met fs at to f bytes met kind text = by met.step met.is met.begins
         let head : IsAt fs (first (Attempts a) ∷ []) at = is_at fs (first (Attempts a) ∷ []) (own ++ next.cut.0) at
         (omega (arith, wide, inside)) next.cut.1 in
         let are : AreAccesses fs (at + 1) (at + 1 + length a.certificate) = record {
-          accesses = a.accesses;
-          rows = met.rows;
+          items = a.accesses;
+          count = met.rows;
           few = few;
           right = more.1;
           many = omega (arith, many);
@@ -235,14 +233,20 @@ attempt_met fs at to f bytes met kind text = by met.step met.is met.begins
               (step ∙ sym e);
         }
 
--- a commit is met
-pub record IsCommitMet (fs : List Frame) (at to : ℕ) (bytes : List ℕ) : Type 0 where
-  pub commit : Commit
-  pub says : Says is_commit_frame commit_in bytes commit
-  pub frame : bytes ≡ frame_text (OfCommit commit)
+-- a step of one frame is met
+pub record IsOneMet {A : Type 0} (is_frame : List ℕ → Bool) (read : List ℕ → A) (frame : A → Frame) (step : A → Step)
+    (fs : List Frame) (at to : ℕ) (bytes : List ℕ) : Type 0 where
+  pub said : A
+  pub says : Says is_frame read bytes said
+  pub text : bytes ≡ frame_text (frame said)
   pub rest : AreSteps fs (at + 1) to
-  pub value : steps_between fs at (to - at) ≡ (byte_of fs at, Commits commit) ∷ steps_between fs (at + 1)
-      (to - (at + 1))
+  pub value : steps_between fs at (to - at) ≡ (byte_of fs at, step said) ∷ steps_between fs (at + 1) (to - (at + 1))
+
+abbrev pub IsCommitMet : List Frame → ℕ → ℕ → List ℕ → Type 0
+IsCommitMet = IsOneMet is_commit_frame commit_in OfCommit Commits
+
+abbrev pub IsRollbackMet : List Frame → ℕ → ℕ → List ℕ → Type 0
+IsRollbackMet = IsOneMet is_rollback_frame rollback_in OfRollback RollsBack
 
 commit_met : (fs : List Frame) (at to : ℕ) (f : Frame) (bytes : List ℕ) → IsMet fs at to f → kind_of f ≡ 19
     → bytes ≡ frame_text f → IsCommitMet fs at to bytes
@@ -253,22 +257,12 @@ commit_met fs at to f bytes met kind text = by met.step met.is met.begins
     by (RollsBack r) next begins = absurd (omega (arith, kind, ap kind_of begins))
     by (Commits c) next begins =
         record {
-          commit = c;
-          says = says_met is_commit_frame commit_in bytes f (OfCommit c) c text begins
-              (commit_again c next.right);
-          frame = text ∙ ap frame_text begins;
+          said = c;
+          says = says_met is_commit_frame commit_in bytes f (OfCommit c) c text begins (commit_again c next.right);
+          text = text ∙ ap frame_text begins;
           rest = next.rest;
           value = next.value;
         }
-
--- a rollback is met
-pub record IsRollbackMet (fs : List Frame) (at to : ℕ) (bytes : List ℕ) : Type 0 where
-  pub rollback : Rollback
-  pub says : Says is_rollback_frame rollback_in bytes rollback
-  pub frame : bytes ≡ frame_text (OfRollback rollback)
-  pub rest : AreSteps fs (at + 1) to
-  pub value : steps_between fs at (to - at) ≡ (byte_of fs at, RollsBack rollback) ∷ steps_between fs (at + 1)
-      (to - (at + 1))
 
 rollback_met : (fs : List Frame) (at to : ℕ) (f : Frame) (bytes : List ℕ) → IsMet fs at to f → kind_of f ≢ 17
     → kind_of f ≢ 19 → bytes ≡ frame_text f → IsRollbackMet fs at to bytes
@@ -278,10 +272,10 @@ rollback_met fs at to f bytes met other another text = by met.step met.is met.be
     by (Attempts a) next begins = absurd (other (ap kind_of begins))
     by (Commits c) next begins = absurd (another (ap kind_of begins))
     by (RollsBack r) next begins = record {
-      rollback = r;
+      said = r;
       says = says_met is_rollback_frame rollback_in bytes f (OfRollback r) r text begins
           (rollback_again met.rows r next.right met.few);
-      frame = text ∙ ap frame_text begins;
+      text = text ∙ ap frame_text begins;
       rest = next.rest;
       value = next.value;
     }

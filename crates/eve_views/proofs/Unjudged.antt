@@ -1,5 +1,5 @@
 -- Frames of which bodies were not judged.
-use Rattle.std.proofs.Common.{◌≡◌, ℕ, ◌+◌, ◌-◌, ◌≤◌, Bool, true, false, List, [], ◌∷◌, ◌++◌, length, take, drop, Option}
+use Rattle.std.proofs.Common.{◌≡◌, ℕ, ◌+◌, ◌-◌, ◌≤◌, true, List, [], ◌∷◌, ◌++◌, length, take, drop, Option}
 use Rattle.std.proofs.Common.{Some, None, refl, sym, ap, ap₂, subst, ◌∙◌, eqb, cond, is_some, arith}
 use Rattle.std.specs.Prelude.{IsTrue, All}
 use Rattle.std.specs.Option.{option_map}
@@ -8,7 +8,7 @@ use Rattle.std.proofs.lemmas.List.{take_rest, take-append-drop}
 use Rattle.std.proofs.lemmas.List.Elements.{All-cons, All-head, All-tail}
 use Rattle.byteorder.specs.Endian.{big_number}
 use Rattle.eve_grammar.specs.Trace.{Head, Batch, Attempt, Access}
-use Rattle.eve_grammar.specs.Frames.{Frame, OfBatch, OfAttempt, OfAccess, Place, is_allowed}
+use Rattle.eve_grammar.specs.Frames.{OfBatch, OfAttempt, OfAccess, Place, is_allowed}
 use Rattle.eve_grammar.specs.Limits.{is_head, row_count}
 use Rattle.eve_grammar.specs.Reading.{◌>>=◌, batch_of, attempt_of, access_of, body_of}
 use Rattle.eve_grammar.proofs.Codec.{IsBytes}

@@ -34,27 +34,25 @@ steps_between fs from count = located step_text (byte_of fs from) (gathered (fra
 
 -- ---- and that they are of one kind
 
--- access frames, and no others
-pub record AreAccesses (fs : List Frame) (from to : ℕ) : Type 0 where
-  pub accesses : List Access
-  pub rows : ℕ
-  pub few : rows ≤ most_rows
-  pub right : IsTrue (list_all (is_access rows) accesses)
-  pub many : length accesses ≡ to - from
+-- frames of one kind, and no others; each fits a trace with so many rows or batches, no more than there can be
+pub record AreOfOneKind {A : Type 0} (frame : A → Frame) (fits : ℕ → A → Bool) (most : ℕ) (fs : List Frame)
+    (from to : ℕ) : Type 0 where
+  pub items : List A
+  pub count : ℕ
+  pub few : count ≤ most
+  pub right : IsTrue (list_all (fits count) items)
+  pub many : length items ≡ to - from
   pub up : from ≤ to
   pub within : to ≤ length fs
-  pub there : frames_between fs from (to - from) ≡ map OfAccess accesses
+  pub there : frames_between fs from (to - from) ≡ map frame items
+
+-- access frames, and no others
+abbrev pub AreAccesses : List Frame → ℕ → ℕ → Type 0
+AreAccesses = AreOfOneKind OfAccess is_access most_rows
 
 -- votes, and no others
-pub record AreVotes (fs : List Frame) (from to : ℕ) : Type 0 where
-  pub votes : List Vote
-  pub batches : ℕ
-  pub few : batches ≤ most_batches
-  pub right : IsTrue (list_all (is_vote batches) votes)
-  pub many : length votes ≡ to - from
-  pub up : from ≤ to
-  pub within : to ≤ length fs
-  pub there : frames_between fs from (to - from) ≡ map OfVote votes
+abbrev pub AreVotes : List Frame → ℕ → ℕ → Type 0
+AreVotes = AreOfOneKind OfVote is_vote most_batches
 
 -- steps with all their frames
 pub record AreSteps (fs : List Frame) (from to : ℕ) : Type 0 where

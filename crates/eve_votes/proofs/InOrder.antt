@@ -119,6 +119,17 @@ start_is n view xs s low high = record {
 
 -- ---- neighbours
 
+adjoined : {xs : List Ballot} {i : ℕ} {a b : Ballot} (test : Ballot → Ballot → Bool) → 1 ≤ i → slice_get xs (i - 1)
+    ≡ Some a → slice_get xs i ≡ Some b → test a b ≡ true → Adjoin test xs i
+adjoined {a = a} {b = b} test some e f alike = record {
+  some = some;
+  former = a;
+  later = b;
+  former_is = e;
+  later_is = f;
+  alike = alike;
+}
+
 -- where one stands before another so, and so does all that lies between, the other and the one before it adjoin
 pub adjoin_later : {R : Ballot → Ballot → Type 0} {xs : List Ballot} (test : Ballot → Ballot → Bool) → AreInOrder R xs
     → (i j : ℕ) (a b : Ballot) → i < j → slice_get xs i ≡ Some a → slice_get xs j ≡ Some b
@@ -130,24 +141,11 @@ adjoin_later {R} {xs} test order i j a b less e f between own = by (cases_lt i (
         let there : j - 1 < length xs = (let within = slice_get_within xs j b f in omega arith) in
         let c = get_or xs (j - 1) a in
         let got = slice_get-get_or xs (j - 1) a there in
-        record {
-          some = omega arith;
-          former = c;
-          later = b;
-          former_is = got;
-          later_is = f;
-          alike = between c (order i (j - 1) a c lt e got) (order (j - 1) j c b (omega arith) got f);
-        }
+        adjoined test (omega arith) got f
+        (between c (order i (j - 1) a c lt e got) (order (j - 1) j c b (omega arith) got f))
     by (inr ge) =
         let same : i ≡ j - 1 = omega arith in
-        record {
-          some = omega arith;
-          former = a;
-          later = b;
-          former_is = ap (slice_get xs) (sym same) ∙ e;
-          later_is = f;
-          alike = own;
-        }
+        adjoined test (omega arith) (ap (slice_get xs) (sym same) ∙ e) f own
 
 -- the same of the one and the one after it
 pub adjoin_next : {R : Ballot → Ballot → Type 0} {xs : List Ballot} (test : Ballot → Ballot → Bool) → AreInOrder R xs
@@ -163,24 +161,11 @@ adjoin_next {R} {xs} test order i j a b less e f between own = by (cases_lt (i +
         let there : i + 1 < length xs = (let within = slice_get_within xs j b f in omega arith) in
         let c = get_or xs (i + 1) a in
         let got = slice_get-get_or xs (i + 1) a there in
-        record {
-          some = omega arith;
-          former = a;
-          later = c;
-          former_is = ap (slice_get xs) (sym back) ∙ e;
-          later_is = got;
-          alike = between c (order i (i + 1) a c (omega arith) e got) (order (i + 1) j c b lt got f);
-        }
+        adjoined test (omega arith) (ap (slice_get xs) (sym back) ∙ e) got
+        (between c (order i (i + 1) a c (omega arith) e got) (order (i + 1) j c b lt got f))
     by (inr ge) =
         let same : i + 1 ≡ j = omega arith in
-        record {
-          some = omega arith;
-          former = a;
-          later = b;
-          former_is = ap (slice_get xs) (sym back) ∙ e;
-          later_is = ap (slice_get xs) same ∙ f;
-          alike = own;
-        }
+        adjoined test (omega arith) (ap (slice_get xs) (sym back) ∙ e) (ap (slice_get xs) same ∙ f) own
 
 -- ---- from one batch or view to the next
 

@@ -22,5 +22,6 @@ returns-clause-fault g c =
     c.in-Err-orders.ensures.least
 
 pub returns-in-Err-clause-fault : goal.returns-in-Err-clause-fault
-returns-in-Err-clause-fault g c = form_for c.args.bytes.now c.in-Err.why c.in-Err.ensures.least c.in-Err.ensures.no_trace
+returns-in-Err-clause-fault g c =
+    form_for c.args.bytes.now c.in-Err.why c.in-Err.ensures.least c.in-Err.ensures.no_trace
     c.in-Err.ensures.within

@@ -1,4 +1,4 @@
-use Rattle.std.proofs.Common.{ℕ, ◌≤◌, ◌*◌, ◌/◌, subst, sym}
+use Rattle.std.proofs.Common.{ℕ, ◌≤◌, ◌*◌, subst, sym}
 use Rattle.eve_history.proofs.SideBySide.{where_some, covers}
 use Rattle.eve_history.proofs.side_by_side.part_size.Goals as goal
 

@@ -1,5 +1,5 @@
 use Rattle.eve_views.specs.Form.{IsLeast}
-use Rattle.std.proofs.Common.{◌≡◌, ℕ, List, [], ◌∷◌, sym, subst, rules}
+use Rattle.std.proofs.Common.{ℕ, List, ◌∷◌, sym, subst, rules}
 use Rattle.std.proofs.lemmas.Result.{err_from_is_err_and}
 use Rattle.std.specs.List.{AllByRecursion}
 use Rattle.eve_grammar.specs.Trace.{Step}
@@ -10,7 +10,7 @@ use Rattle.eve_views.specs.StepKinds.{IsStep}
 use Rattle.eve_views.specs.declared.fault.Fault.{Fault}
 use Rattle.eve_history.specs.Faults.{IsStructureFault}
 use Rattle.eve_history.specs.Coming.{KeptSection, kept_section, HasCome}
-use Rattle.eve_history.proofs.Coming.{come_start, come_told, come_faultless}
+use Rattle.eve_history.proofs.Coming.{come_start, come_ended, come_told, come_faultless}
 use Rattle.eve_history.proofs.Taking.{weaker_found}
 use Rattle.eve_history.proofs.history.History.of.Goals as goal
 
@@ -39,9 +39,8 @@ take-requires-clause-noted c = c.loop-step.invariant.1
 
 pub invariant_of-result : goal.invariant_of-result
 invariant_of-result c =
-    let none : c.loop-step.steps ≡ [] = search rules in
-    let come = subst (λ (xs : List (ℕ × Step)). HasCome c.args.trace.now c.args.e xs (kept_section c.loop-step.notes))
-    none c.loop-step.invariant.0 in
+    let come = come_ended c.args.trace.now c.args.e (kept_section c.loop-step.notes) c.loop-step.steps (search rules)
+    c.loop-step.invariant.0 in
     record { kept = come.is_kept; framed = c.loop-step.invariant.1.framed }
 
 pub returns-in_err-take-clause-least : goal.returns-in_err-take-clause-least
@@ -63,18 +62,14 @@ returns-in_err-take-clause-least c =
 pub returns-clause-section_history : goal.returns-clause-section_history
 returns-clause-section_history c =
     let t = c.args.trace.now in
-    let none : c.loop-step.steps ≡ [] = search rules in
-    come_told t c.args.e (kept_section c.loop-step.notes)
-    (subst (λ (xs : List (ℕ × Step)). HasCome t c.args.e xs (kept_section c.loop-step.notes)) none
-    c.loop-step.invariant.0)
+    let k = kept_section c.loop-step.notes in
+    come_told t c.args.e k (come_ended t c.args.e k c.loop-step.steps (search rules) c.loop-step.invariant.0)
 
 pub returns-clause-none : goal.returns-clause-none
 returns-clause-none c =
     let t = c.args.trace.now in
-    let none : c.loop-step.steps ≡ [] = search rules in
-    come_faultless t c.args.e (kept_section c.loop-step.notes)
-    (subst (λ (xs : List (ℕ × Step)). HasCome t c.args.e xs (kept_section c.loop-step.notes)) none
-    c.loop-step.invariant.0)
+    let k = kept_section c.loop-step.notes in
+    come_faultless t c.args.e k (come_ended t c.args.e k c.loop-step.steps (search rules) c.loop-step.invariant.0)
 
 pub loop-step-preserved : goal.loop-step-preserved
 loop-step-preserved c =

@@ -1,8 +1,8 @@
-use Rattle.std.proofs.Common.{◌≡◌, ℕ, List, [], sym, subst, rules}
+use Rattle.std.proofs.Common.{ℕ, List, sym, subst, rules}
 use Rattle.eve_grammar.specs.Trace.{Step}
-use Rattle.eve_history.specs.Coming.{kept_section, HasCome}
+use Rattle.eve_history.specs.Coming.{kept_section}
 use Rattle.eve_history.specs.SideBySide.{IsKeptAhead}
-use Rattle.eve_history.proofs.Coming.{come_told, come_faultless}
+use Rattle.eve_history.proofs.Coming.{come_ended, come_told, come_faultless}
 use Rattle.eve_history.proofs.Ahead.{ahead_start}
 use Rattle.eve_history.proofs.history.History.of_ordered.Goals as goal
 
@@ -18,15 +18,11 @@ loop-step-init c =
 pub returns-clause-section_history : goal.returns-clause-section_history
 returns-clause-section_history c =
     let t = c.args.trace.now in
-    let none : c.loop-step.steps ≡ [] = search rules in
-    come_told t c.args.e (kept_section c.loop-step.notes)
-    (subst (λ (xs : List (ℕ × Step)). HasCome t c.args.e xs (kept_section c.loop-step.notes)) none
-    c.loop-step.invariant.come)
+    let k = kept_section c.loop-step.notes in
+    come_told t c.args.e k (come_ended t c.args.e k c.loop-step.steps (search rules) c.loop-step.invariant.come)
 
 pub returns-clause-none : goal.returns-clause-none
 returns-clause-none c =
     let t = c.args.trace.now in
-    let none : c.loop-step.steps ≡ [] = search rules in
-    come_faultless t c.args.e (kept_section c.loop-step.notes)
-    (subst (λ (xs : List (ℕ × Step)). HasCome t c.args.e xs (kept_section c.loop-step.notes)) none
-    c.loop-step.invariant.come)
+    let k = kept_section c.loop-step.notes in
+    come_faultless t c.args.e k (come_ended t c.args.e k c.loop-step.steps (search rules) c.loop-step.invariant.come)

@@ -5,11 +5,12 @@ use Rattle.std.specs.List.{AllByRecursion}
 use Rattle.eve_frames.specs.Views.{attempt_in}
 use Rattle.eve_history.specs.declared.notes.Notes.{Notes}
 use Rattle.eve_history.specs.declared.notes.Attempted.{Attempted}
+use Rattle.std.proofs.lemmas.Option.{same_Some}
 use Rattle.eve_history.specs.Standing.{IsAccessAt}
 use Rattle.eve_history.specs.SectionHistory.{ExecutedAttempt}
 use Rattle.eve_history.specs.Coming.{kept_section, kept_attempt, kept_executed_attempt, executed_attempts, seen, IsKept}
 use Rattle.eve_history.proofs.Finding.{get_mapped, get_is, rec_at}
-use Rattle.eve_history.proofs.PartsInOrder.{all_dropped, all_taken, inside}
+use Rattle.eve_history.proofs.PartsInOrder.{all_dropped, all_taken}
 use Rattle.eve_history.proofs.notes.Notes.records_of.Goals as goal
 
 -- the attempt at a place, as it is kept, and its records
@@ -54,7 +55,7 @@ returns-clause-says c = λ r at.
     ∙ ap (take count) (sym (drop-map look x.from n.records.items))
     ∙ ap (λ (m : ℕ). take m (drop x.from (map look n.records.items))) many
     ∙ ap (λ (q : ExecutedAttempt). q.ordered)
-    (inside (kept_executed_attempt (kept_section n).records (kept_attempt n.bytes.now x)) r (sym found.told ∙ at))
+    (same_Some (kept_executed_attempt (kept_section n).records (kept_attempt n.bytes.now x)) r (sym found.told ∙ at))
 
 pub returns-clause-framed : goal.returns-clause-framed
 returns-clause-framed c =

@@ -98,7 +98,7 @@ returns-then-first-byte-2-clause-some c =
     let met = commit_here (frames_of c.self.inside.trace.now) c.self.inside.at c.self.inside.to
     c.frame-frame.result.bytes.now c.self.invariant c.if-self.false c.frame-frame.ensures.frame
     (c.if-first-byte-2.true ∙ c.byte-else-first-byte.ensures) in (
-      (byte_of (frames_of c.self.inside.trace.now) c.self.inside.at, Commits met.commit),
+      (byte_of (frames_of c.self.inside.trace.now) c.self.inside.at, Commits met.said),
       sym c.self.view_is ∙ met.value,
       (c.new.ensures.offset ∙ c.frame-frame.ensures.offset, ap commit_in c.new.ensures.bytes ∙ met.says.1),
     )
@@ -108,7 +108,7 @@ returns-then-first-byte-2-clause-text c =
     let met = commit_here (frames_of c.self.inside.trace.now) c.self.inside.at c.self.inside.to
     c.frame-frame.result.bytes.now c.self.invariant c.if-self.false c.frame-frame.ensures.frame
     (c.if-first-byte-2.true ∙ c.byte-else-first-byte.ensures) in
-    c.new.ensures.bytes ∙ met.frame
+    c.new.ensures.bytes ∙ met.text
     ∙ ap (λ x. frame_text (OfCommit x)) (sym (ap commit_in c.new.ensures.bytes ∙ met.says.1))
 
 -- ---- a rollback
@@ -135,7 +135,7 @@ returns-else-first-byte-2-clause-some c =
     c.frame-frame.result.bytes.now c.self.invariant c.if-self.false c.frame-frame.ensures.frame
     (λ e. c.if-first-byte.false (e ∙ sym c.byte.ensures))
     (λ e. c.if-first-byte-2.false (e ∙ sym c.byte-else-first-byte.ensures)) in (
-      (byte_of (frames_of c.self.inside.trace.now) c.self.inside.at, RollsBack met.rollback),
+      (byte_of (frames_of c.self.inside.trace.now) c.self.inside.at, RollsBack met.said),
       sym c.self.view_is ∙ met.value,
       (
         c.new-else-first-byte-2.ensures.offset ∙ c.frame-frame.ensures.offset,
@@ -149,5 +149,5 @@ returns-else-first-byte-2-clause-text c =
     c.frame-frame.result.bytes.now c.self.invariant c.if-self.false c.frame-frame.ensures.frame
     (λ e. c.if-first-byte.false (e ∙ sym c.byte.ensures))
     (λ e. c.if-first-byte-2.false (e ∙ sym c.byte-else-first-byte.ensures)) in
-    c.new-else-first-byte-2.ensures.bytes ∙ met.frame
+    c.new-else-first-byte-2.ensures.bytes ∙ met.text
     ∙ ap (λ x. frame_text (OfRollback x)) (sym (ap rollback_in c.new-else-first-byte-2.ensures.bytes ∙ met.says.1))
