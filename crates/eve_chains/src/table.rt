@@ -95,58 +95,58 @@ impl Table {
     }
 
     #[inline(always)]
-    fn meet_one(&mut self, one: &Entry) -> Option<Code>
-        requires { IsTrue (is_entry (length self.old) one.now) }
+    fn meet_one(&mut self, entry: &Entry) -> Option<Code>
+        requires { IsTrue (is_entry (length self.old) entry.now) }
         ensures as_many { length self.new ≡ length self.old }
-        ensures table { table_of self.new ≡ table_after (table_of self.old) (one.now ∷ []) }
-        ensures wrong { IsFirstMismatch (table_of self.old) (one.now ∷ []) result }
+        ensures table { table_of self.new ≡ table_after (table_of self.old) (entry.now ∷ []) }
+        ensures wrong { IsFirstMismatch (table_of self.old) (entry.now ∷ []) result }
     {
-        let wrong = if self.is_seen(one) {
+        let wrong = if self.is_seen(entry) {
             None
         } else {
-            self.wrong_in(&UpToThree::one(*one))
+            self.wrong_in(&UpToThree::one(*entry))
         };
-        self.write_one(one);
+        self.write_one(entry);
         wrong
     }
 
     #[inline(always)]
-    fn meet_two(&mut self, one: &Entry, two: &Entry) -> Option<Code>
+    fn meet_two(&mut self, one: &Entry, other: &Entry) -> Option<Code>
         requires one { IsTrue (is_entry (length self.old) one.now) }
-        requires two { IsTrue (is_entry (length self.old) two.now) }
+        requires other { IsTrue (is_entry (length self.old) other.now) }
         ensures as_many { length self.new ≡ length self.old }
-        ensures table { table_of self.new ≡ table_after (table_of self.old) (one.now ∷ two.now ∷ []) }
-        ensures wrong { IsFirstMismatch (table_of self.old) (one.now ∷ two.now ∷ []) result }
+        ensures table { table_of self.new ≡ table_after (table_of self.old) (one.now ∷ other.now ∷ []) }
+        ensures wrong { IsFirstMismatch (table_of self.old) (one.now ∷ other.now ∷ []) result }
     {
-        let seen = self.is_seen(one) & self.is_seen(two);
+        let seen = self.is_seen(one) & self.is_seen(other);
         let wrong = if seen {
             None
         } else {
-            self.wrong_in(&UpToThree::two(*one, *two))
+            self.wrong_in(&UpToThree::two(*one, *other))
         };
         self.write_one(one);
-        self.write_one(two);
+        self.write_one(other);
         wrong
     }
 
     #[inline(always)]
-    fn meet_three(&mut self, one: &Entry, two: &Entry, three: &Entry) -> Option<Code>
-        requires one { IsTrue (is_entry (length self.old) one.now) }
-        requires two { IsTrue (is_entry (length self.old) two.now) }
-        requires three { IsTrue (is_entry (length self.old) three.now) }
+    fn meet_three(&mut self, first: &Entry, second: &Entry, third: &Entry) -> Option<Code>
+        requires first { IsTrue (is_entry (length self.old) first.now) }
+        requires second { IsTrue (is_entry (length self.old) second.now) }
+        requires third { IsTrue (is_entry (length self.old) third.now) }
         ensures as_many { length self.new ≡ length self.old }
-        ensures table { table_of self.new ≡ table_after (table_of self.old) (one.now ∷ two.now ∷ three.now ∷ []) }
-        ensures wrong { IsFirstMismatch (table_of self.old) (one.now ∷ two.now ∷ three.now ∷ []) result }
+        ensures table { table_of self.new ≡ table_after (table_of self.old) (first.now ∷ second.now ∷ third.now ∷ []) }
+        ensures wrong { IsFirstMismatch (table_of self.old) (first.now ∷ second.now ∷ third.now ∷ []) result }
     {
-        let seen = self.is_seen(one) & self.is_seen(two) & self.is_seen(three);
+        let seen = self.is_seen(first) & self.is_seen(second) & self.is_seen(third);
         let wrong = if seen {
             None
         } else {
-            self.wrong_in(&UpToThree::three(*one, *two, *three))
+            self.wrong_in(&UpToThree::three(*first, *second, *third))
         };
-        self.write_one(one);
-        self.write_one(two);
-        self.write_one(three);
+        self.write_one(first);
+        self.write_one(second);
+        self.write_one(third);
         wrong
     }
 

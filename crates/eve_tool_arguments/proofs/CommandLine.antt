@@ -1,5 +1,5 @@
 -- What a command line without a fault names.
-use Rattle.std.proofs.Common.{◌≡◌, ◌⊎◌, inl, inr, subst, refl, Bool, true, false, not, ◌&&◌, ◌||◌, ap₂, ◌∙◌}
+use Rattle.std.proofs.Common.{◌≡◌, ◌⊎◌, inl, inr, subst, refl, Bool, true, false, not, ◌&&◌}
 use Rattle.std.proofs.Common.{if◌then◌else◌, List, [], ◌∷◌, Option, Some, None, codes, is_some, option_map}
 use Rattle.std.proofs.Common.{option_and_then}
 use Rattle.clap.specs.Words.{IsAmong, Kinds, Row, Shape, Text, built, fault_of, is_simple, is_simple_and_free}

@@ -33,20 +33,20 @@ pub meet_two-requires-clause-one : goal.meet_two-requires-clause-one
 meet_two-requires-clause-one c =
     right_there (length c.args.self.now) c.args.entries.now 0 c.at-in-2.result c.at-in-2.ensures c.requires
 
-pub meet_two-requires-clause-two : goal.meet_two-requires-clause-two
-meet_two-requires-clause-two c =
+pub meet_two-requires-clause-other : goal.meet_two-requires-clause-other
+meet_two-requires-clause-other c =
     right_there (length c.args.self.now) c.args.entries.now 1 c.at-in-2-2.result c.at-in-2-2.ensures c.requires
 
-pub meet_three-requires-clause-one : goal.meet_three-requires-clause-one
-meet_three-requires-clause-one c =
+pub meet_three-requires-clause-first : goal.meet_three-requires-clause-first
+meet_three-requires-clause-first c =
     right_there (length c.args.self.now) c.args.entries.now 0 c.at-in-3.result c.at-in-3.ensures c.requires
 
-pub meet_three-requires-clause-two : goal.meet_three-requires-clause-two
-meet_three-requires-clause-two c =
+pub meet_three-requires-clause-second : goal.meet_three-requires-clause-second
+meet_three-requires-clause-second c =
     right_there (length c.args.self.now) c.args.entries.now 1 c.at-in-3-2.result c.at-in-3-2.ensures c.requires
 
-pub meet_three-requires-clause-three : goal.meet_three-requires-clause-three
-meet_three-requires-clause-three c =
+pub meet_three-requires-clause-third : goal.meet_three-requires-clause-third
+meet_three-requires-clause-third c =
     right_there (length c.args.self.now) c.args.entries.now 2 c.at-in-3-3.result c.at-in-3-3.ensures c.requires
 
 pub returns-in-1-clause-table : goal.returns-in-1-clause-table

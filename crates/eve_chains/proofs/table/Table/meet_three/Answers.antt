@@ -5,5 +5,5 @@ use Rattle.eve_chains.proofs.table.Table.meet_three.Goals as goal
 pub returns-clause-table : goal.returns-clause-table
 returns-clause-table c =
     c.write_one-3.ensures.table
-    ∙ ap (λ (table : Table). table_after table (c.args.three.now ∷ [])) c.write_one-2.ensures.table
-    ∙ ap (λ (table : Table). table_after table (c.args.two.now ∷ c.args.three.now ∷ [])) c.write_one.ensures.table
+    ∙ ap (λ (table : Table). table_after table (c.args.third.now ∷ [])) c.write_one-2.ensures.table
+    ∙ ap (λ (table : Table). table_after table (c.args.second.now ∷ c.args.third.now ∷ [])) c.write_one.ensures.table
