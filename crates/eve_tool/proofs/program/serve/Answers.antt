@@ -1,6 +1,7 @@
 use Rattle.std.proofs.Common.{arith}
 use Rattle.eve_tool_arguments.specs.Arguments.{Audit}
-use Rattle.eve_tool_arguments.proofs.PlainArguments.{alone, asks, asks_help, audit_call, run_call, show_call, whole_call}
+use Rattle.eve_tool_arguments.proofs.PlainArguments.{alone, asks, asks_help, audit_call, run_call, show_call}
+use Rattle.eve_tool_arguments.proofs.PlainArguments.{whole_call}
 use Rattle.eve_tool.proofs.Cutting.{audited_of}
 use Rattle.eve_tool.proofs.program.serve.Goals as goal
 
