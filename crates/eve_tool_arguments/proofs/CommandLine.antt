@@ -31,8 +31,8 @@ unfolding clap_on_literals
 eve_is_free = refl
 
 -- a command that is plain has no global argument
-pub is_local : (no_group external globals others : Bool) → (no_group && (not external && (not globals && others))) ≡ true
-    → globals ≡ false
+pub is_local : (no_group external globals others : Bool)
+    → (no_group && (not external && (not globals && others))) ≡ true → globals ≡ false
 is_local no_group external false others h = refl
 is_local true true true others h = cc
 is_local true false true others h = cc

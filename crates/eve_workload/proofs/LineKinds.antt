@@ -48,7 +48,8 @@ no_customer (CustomerLine c) kind a b d named right none is =
     none c right (is ∙ ap (λ k. FourWords k a b d) named)
 no_customer BatchLine kind a b d named right none is = omega (arith, ap length is)
 no_customer (RequestLine r) kind a b d named right none is =
-    let first : 98 ≡ 99 = ap (λ w. get_or w 0 0) (short_kind _ _ kind a b d r.request is ∙ named) in omega (arith, first)
+    let first : 98 ≡ 99 = ap (λ w. get_or w 0 0) (short_kind _ _ kind a b d r.request is ∙ named) in
+    omega (arith, first)
 
 -- any other line of four words is a request
 pub no_short_request : (l : Line) (kind a b d : List ℕ) → kind ≢ codes "customer" → IsTrue (is_line l)

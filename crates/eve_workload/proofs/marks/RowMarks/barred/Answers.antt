@@ -15,4 +15,5 @@ loop-index-preserved c = λ group.
     let done : Bool = list_any bars (take c.loop-index.index c.args.spots.now) in
     c.add_all.ensures group
     ∙ ap₂ (λ (a b : Bool). a || b) (c.loop-index.invariant group) (c.barred_at.ensures group)
-    ∙ sym (list_any_more bars c.args.spots.now c.loop-index.index c.at.result there ∙ ap (λ spot. done || bars spot) here)
+    ∙ sym (list_any_more bars c.args.spots.now c.loop-index.index c.at.result there
+    ∙ ap (λ spot. done || bars spot) here)
