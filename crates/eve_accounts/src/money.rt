@@ -41,6 +41,14 @@ impl Cents {
         }
     }
 
+    /// The balance of that many cents, which are within the range.
+    pub fn of(value: i64) -> Cents
+        requires { IsTrue (is_balance value) }
+        ensures { result ≡ value }
+    {
+        Cents { value }
+    }
+
     /// How many cents it is.
     pub fn get(self) -> i64
         ensures value { result ≡ self }

@@ -137,7 +137,7 @@ fn size_of_first(batches: u32, stretches: u8, customers: u32) -> u32
 {
     let left = u64::from(stretches);
     let share = u64::from(batches).div_ceil(left);
-    let more = share * (left - 1) / (left + 3 + u64::from(customers / 32));
+    let more = share * (left - 1) / (4 + u64::from(customers / 128));
     (share + more).max(LEAST_BATCHES).min(u64::from(batches)) as u32
 }
 

@@ -70,6 +70,10 @@ item {A = A} m one fixed (suc n) (suc i) bytes x other e lt =
           (some_is there x b.2),
     )
 
+not_none : {A : Type 0} (o : Option A) → (o ≡ None → ⊥) → IsTrue (is_some o)
+not_none None never = absurd (never refl)
+not_none (Some x) never = refl
+
 -- from this place on stand these n values of m bytes each
 pub record Stand {A : Type 0} (m n at : ℕ) (one : Reader A) (bytes : List ℕ) (xs : List A) : Type 0 where
   pub fixed : Takes m one
@@ -117,6 +121,13 @@ stand_some {A = A} m n at one bytes xs stand i place lt where_is e =
         × (one (take (length bytes - place) (drop place bytes)) ≡ Some (get_or xs i other, rest))) → ⊥
     by [] count read = absurd (omega arith)
     by (y ∷ ys) count read = let r = read y in absurd (let f = sym e ∙ r.1 in cc)
+
+pub stand_there : {A : Type 0} (m n at : ℕ) (one : Reader A) (bytes : List ℕ) (xs : List A)
+    → Stand m n at one bytes xs → (i place : ℕ) → i < n → place ≡ at + m * i
+    → IsTrue (is_some (one (take (length bytes - place) (drop place bytes))))
+stand_there m n at one bytes xs stand i place lt where_is =
+    not_none (one (take (length bytes - place) (drop place bytes)))
+    (stand_some m n at one bytes xs stand i place lt where_is)
 
 -- a number is the i-th one
 pub stand_number : (m n at : ℕ) (bytes xs : List ℕ) → Stand m n at (number_at m) bytes xs → (i place : ℕ) → i < n
@@ -181,11 +192,7 @@ there_some one (suc n) bytes some there e = let m = there_more one n bytes None 
 
 pub there_first : {A : Type 0} (one : Reader A) (n : ℕ) (bytes : List ℕ) → (n ≡ 0 → ⊥) → IsTrue (are_there one n bytes)
     → IsTrue (is_some (one bytes))
-there_first {A = A} one n bytes some there = by (one bytes) refl
-  where
-    by : (m : Option (A × List ℕ)) → one bytes ≡ m → IsTrue (is_some m)
-    by None e = absurd (there_some one n bytes some there e)
-    by (Some x) e = refl
+there_first one n bytes some there = not_none (one bytes) (there_some one n bytes some there)
 
 pub there_steps : {A : Type 0} (one : Reader A) (n : ℕ) (bytes : List ℕ) → (n ≡ 0 → ⊥) → IsTrue (are_there one n bytes)
     → (x : A) (rest : List ℕ) → one bytes ≡ Some (x, rest) → Steps one n bytes x rest

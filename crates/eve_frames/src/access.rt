@@ -6,7 +6,7 @@ ghost use Rattle.eve_frames.specs.Views.{body_in, most_rows, is_access_frame, ac
 
 use crate::entries::Entries;
 use byteorder::{BigEndian, ByteOrder};
-use eve_grammar::{MOST_ROWS, entry_at};
+use eve_grammar::entry_again;
 use eve_smallbank::Entry;
 
 /// An Access frame, where it stands.
@@ -88,10 +88,8 @@ impl<'a> AccessView<'a> {
         ensures { slice_get (access_in self.now.bytes.now).entries i ≡ Some result }
     {
         let at = 11 + 29 * i;
-        match entry_at(MOST_ROWS, &self.bytes[at..]) {
-            Some((entry, _)) => entry,
-            None => unreachable!(),
-        }
+        let (entry, _) = entry_again(&self.bytes[at..]);
+        entry
     }
 
     /// The entries, in one pass.

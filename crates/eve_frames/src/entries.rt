@@ -8,7 +8,7 @@ ghost use Rattle.eve_grammar.specs.Bodies.{list_in};
 ghost use Rattle.eve_frames.specs.Items.{are_there};
 ghost use Rattle.eve_frames.specs.Views.{most_rows};
 
-use eve_grammar::{MOST_ROWS, entry_at};
+use eve_grammar::entry_again;
 use eve_smallbank::Entry;
 use std::marker::Model;
 
@@ -51,9 +51,7 @@ impl<'a> Iterator for Entries<'a> {
         if count == 0 {
             return None;
         }
-        let Some((entry, rest)) = entry_at(MOST_ROWS, self.bytes) else {
-            unreachable!();
-        };
+        let (entry, rest) = entry_again(self.bytes);
         self.count = count - 1;
         self.bytes = rest;
         Some(entry)

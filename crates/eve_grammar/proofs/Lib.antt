@@ -4,6 +4,7 @@ pub mod PartCodecs
 pub mod BodyCodecs
 pub mod FrameLaws
 pub mod Straight
+pub mod Again
 pub mod Scans
 pub mod Loops
 pub mod Passing

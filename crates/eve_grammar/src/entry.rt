@@ -1,8 +1,10 @@
 //! Entries of access frames.
 
-ghost use Rattle.std.specs.Prelude.{◌≡◌, ◌<◌, ◌≤◌, ◌||◌};
+ghost use Rattle.std.specs.Prelude.{◌≡◌, ◌<◌, ◌≤◌, ◌+◌, ◌||◌, ℕ, IsTrue, Some, is_some, length};
 ghost use Rattle.std.specs.Ordering.{int_eq};
+ghost use Rattle.eve_accounts.specs.Money.{is_balance};
 ghost use Rattle.eve_smallbank.specs.Access.{is_write};
+ghost use Rattle.eve_grammar.specs.Places.{signed_in};
 ghost use Rattle.eve_grammar.specs.Reading.{Gives, kind_from, entry_at};
 
 use crate::limits::{MOST_NAMED_ROWS, MOST_VERSIONS};
@@ -75,4 +77,45 @@ pub fn entry_at(rows: u32, bytes: &[u8]) -> Option<(Entry, &[u8])>
         after,
     };
     Some((entry, bytes_from(bytes, 29)))
+}
+
+/// The kind of this code, which is that of one.
+#[inline(always)]
+fn kind_again(code: u8) -> Kind
+    requires { IsTrue (is_some (kind_from code)) }
+    ensures { kind_from code ≡ Some result }
+{
+    match code {
+        0 => Kind::Read,
+        1 => Kind::Write,
+        _ => unreachable!(),
+    }
+}
+
+/// The balance at this place, where one is known to stand.
+#[inline(always)]
+fn cents_again(bytes: &[u8], at: usize) -> Cents
+    requires there { at + 8 ≤ length bytes.now }
+    requires within { IsTrue (is_balance (signed_in at bytes.now)) }
+    ensures { result ≡ signed_in at bytes.now }
+{
+    Cents::of(i64_in(bytes, at))
+}
+
+/// The entry that stands in front, and the bytes after it, where an entry of one of so many rows is known to stand: no
+/// limit is tested a second time.
+#[inline(always)]
+pub fn entry_again(bytes: &[u8]) -> (Entry, &[u8])
+    requires { (rows : ℕ) × (rows ≤ MOST_NAMED_ROWS) × IsTrue (is_some (entry_at rows bytes.now)) }
+    ensures { (rows : ℕ) → IsTrue (is_some (entry_at rows bytes.now))
+        → entry_at rows bytes.now ≡ Some (result.0, result.1.now) }
+{
+    let entry = Entry {
+        row: row_of(u32_in(bytes, 0)),
+        kind: kind_again(bytes[4]),
+        version: u64_in(bytes, 5),
+        seen: cents_again(bytes, 13),
+        after: cents_again(bytes, 21),
+    };
+    (entry, bytes_from(bytes, 29))
 }

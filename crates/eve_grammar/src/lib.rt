@@ -29,7 +29,7 @@ pub use batch::batch_number;
 pub use certificate::{is_certificate, is_permutation};
 pub use commit::is_commit_body;
 pub use customer::is_customer_body;
-pub use entry::{entry_at, row_of};
+pub use entry::{entry_again, entry_at, row_of};
 pub use fields::{number_of, u8_at, u16_at, u32_at, u64_at};
 pub use fits::{reply_fits, token_fits};
 pub use frame_kind::FrameKind;
