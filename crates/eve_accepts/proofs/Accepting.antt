@@ -1,7 +1,7 @@
 -- What a run left has no fault, or shows two messages with one hash.
-use Rattle.std.proofs.Common.{◌≡◌, ℕ, List, sym, ap, subst, ◌∙◌, inl, inr, ◌⊎◌}
+use Rattle.std.proofs.Common.{◌≡◌, ℕ, List, ap, subst, ◌∙◌, inl, inr, ◌⊎◌}
 use Rattle.std.specs.Prelude.{IsPermutation}
-use Rattle.eve_grammar.specs.Trace.{Asked, Step, Trace, Head, opening_rows}
+use Rattle.eve_grammar.specs.Trace.{Asked, Step, Trace}
 use Rattle.eve_grammar.specs.Limits.{Spells, HasLimits}
 use Rattle.eve_grammar.specs.Spelling.{steps_at}
 use Rattle.eve_views.specs.declared.fault.Fault.{Fault}
@@ -21,8 +21,8 @@ use Rattle.eve_agree.proofs.Sending.{no_fault}
 use Rattle.eve_agree.proofs.TokensInOrder.{no_token_fault}
 use Rattle.eve_workload.specs.declared.mixer.Mixer.{Mixer}
 use Rattle.eve_workload.specs.Mixing.{cut, batch_with}
-use Rattle.eve_workload.specs.Workload.{Workload, IsWorkload, customer_names}
-use Rattle.eve_attempts.specs.Ledgers.{Ledger, opening}
+use Rattle.eve_workload.specs.Workload.{Workload, IsWorkload}
+use Rattle.eve_attempts.specs.Ledgers.{Ledger}
 use Rattle.eve_replica.specs.Sections.{RunPlan, MakesOf}
 use Rattle.eve_replica.specs.Run.{IsTraceOf, run_plan}
 use Rattle.eve_audit.specs.Audited.{IsAudited}
@@ -36,27 +36,15 @@ use Rattle.eve_tool.specs.Audit.{Audits}
 use Rattle.eve_tool.specs.Lines.{status_of_verdict}
 use Rattle.eve_accepts.specs.Collision.{Collides}
 use Rattle.eve_accepts.proofs.Alike.{IsPlanOf, AreAlike}
-use Rattle.eve_accepts.proofs.Following.{alike_first, step_alike, goes, right_section, kept}
+use Rattle.eve_accepts.proofs.Following.{alike_first, step_alike, goes, kept}
 use Rattle.eve_accepts.proofs.Sounding.{AreSoundSoFar, sound_next, sound_first, settled_sound}
 use Rattle.eve_accepts.proofs.Restored.{restores_along}
-use Rattle.eve_accepts.proofs.Due.{AreDueSoFar, due_next, due_first, tokens_due}
+use Rattle.eve_accepts.proofs.RightRuns.{plan_of, sections_right, sections_due}
 use Rattle.eve_accepts.proofs.Voting.{votes_sound, all_backed}
 use Rattle.eve_accepts.proofs.Replied.{all_replied}
 use Rattle.eve_accepts.proofs.OrdersRight.{no_order_fault}
 use Rattle.eve_accepts.proofs.Refuted.{no_structure_fault, no_vote_fault, no_majority_fault}
 use Rattle.eve_accepts.proofs.Agreed.{outcome_collides}
-
--- the run's plan is one of its trace
-plan_of : (w : Workload) (mixer : Mixer) (t : Trace) → IsTraceOf w mixer t → IsPlanOf (run_plan w mixer) t
-plan_of w mixer t run = record {
-  names = ap customer_names (sym run.customers);
-  batches = sym run.batches;
-  first =
-      let workers : w.deployment.workers ≡ t.workers = sym (ap (λ (h : Head). h.workers) run.head) in
-      let window : w.deployment.window ≡ t.window = sym (ap (λ (h : Head). h.window) run.head) in
-      let customers : w.customers ≡ t.customers = sym run.customers in
-      λ i. opening (opening_rows (customers i)) (workers i) (window i);
-}
 
 -- with what is known of cuts and of sound sections
 module _ (cuts : (names : List (List ℕ)) → (m : Mixer) → (requests : List Asked)
@@ -75,7 +63,7 @@ module _ (cuts : (names : List (List ℕ)) → (m : Mixer) → (requests : List 
   alike = step_alike p t plan
 
   right : (e : ℕ) → IsRightSection t e
-  right = right_section p t plan run.sections
+  right = sections_right w mixer t run
 
   sound : (e : ℕ) → SettledAreSound t e
   sound e = settled_sound t e (kept p t plan run.sections (AreSoundSoFar t) (sound_next p t plan) (sound_first t) e)
@@ -86,9 +74,7 @@ module _ (cuts : (names : List (List ℕ)) → (m : Mixer) → (requests : List 
       restores_along p t alike (steps_at t e) start p.first way.0 way.1 (alike_first p t plan)
 
   due : (e : ℕ) → TokensAreDue t e
-  due e = tokens_due t e (right e) (kept p t plan run.sections (AreDueSoFar t)
-      (λ s old new at x here makes far. due_next p t s old new at x here (alike s old new at x here makes) makes far)
-      (due_first t) e)
+  due = sections_due w mixer t run
 
   own_faultless : (e : ℕ) (f : Fault) → ¬ IsOwnFault t e f
   own_faultless e f (of_structure is) = no_structure_fault t e (right e) f is

@@ -37,7 +37,7 @@ found_passes {A} test k f (x ∷ xs) is = by (test k) refl (λ rest. found_passe
         subst (λ (m : ℕ). test m ≡ true) (some_injective k f (sym (cond-true (test k) (Some k) others here) ∙ is)) here
     by false here further = further (sym (cond-false (test k) (Some k) others here) ∙ is)
 
-got_within : {A : Type 0} (xs : List A) (i : ℕ) → i < length xs → (x : A) × (slice_get xs i ≡ Some x)
+pub got_within : {A : Type 0} (xs : List A) (i : ℕ) → i < length xs → (x : A) × (slice_get xs i ≡ Some x)
 got_within [] i lt = absurd (omega arith)
 got_within (x ∷ xs) zero lt = (x, refl)
 got_within (x ∷ xs) (suc i) lt = got_within xs i (omega arith)
@@ -61,7 +61,7 @@ due_at t e (suc n) q due at =
 module _ (t : Trace) (limits : HasLimits t) (right : (e : ℕ) → IsRightSection t e) (due : (e : ℕ) → TokensAreDue t e)
     (votes : AreVotesSound t) (backed : AllAreBacked t) where
   -- two replicas that committed a batch with other outcomes
-  outcomes_collide : (e f n : ℕ) (q r : Placed) → committed_at t e n ≡ Some q → committed_at t f n ≡ Some r
+  pub outcomes_collide : (e f n : ℕ) (q r : Placed) → committed_at t e n ≡ Some q → committed_at t f n ≡ Some r
       → ¬ HaveSameOutcome t e f n → Collides t
   outcomes_collide e f n q r at also apart =
       collides t e f n q r at also (balances_within t e n limits) (balances_within t f n limits)

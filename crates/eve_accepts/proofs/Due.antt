@@ -36,7 +36,7 @@ pub record AreDueSoFar (t : Trace) (s : SectionState) : Type 0 where
 -- ---- along a section
 
 -- the rows of an account that has come to where the section has are the balances along its path
-balances_now : (t : Trace) (l : Ledger) (path : List Attempt) → ledger_rows l ≡ 2 * length t.customers
+pub balances_now : (t : Trace) (l : Ledger) (path : List Attempt) → ledger_rows l ≡ 2 * length t.customers
     → table_now l ≡ rows_after t path → l.rows.balances ≡ balances_along t path
 balances_now t l path many now =
     rows_are l.rows.balances

@@ -109,13 +109,13 @@ same_tests t a before (x ∷ xs) =
     ap (λ (b : Bool). is_new_access (worker_count t a) (request_count t a) before x && (is_right_place before x && b))
     (same_tests t a (before ++ x ∷ []) xs)
 
-same_first : {A : Type 0} (x y : A) (xs ys : List A) → x ∷ xs ≡ y ∷ ys → x ≡ y
+pub same_first : {A : Type 0} (x y : A) (xs ys : List A) → x ∷ xs ≡ y ∷ ys → x ≡ y
 same_first x y xs ys same = cc
 
-same_others : {A : Type 0} (x y : A) (xs ys : List A) → x ∷ xs ≡ y ∷ ys → xs ≡ ys
+pub same_others : {A : Type 0} (x y : A) (xs ys : List A) → x ∷ xs ≡ y ∷ ys → xs ≡ ys
 same_others x y xs ys same = cc
 
-none_first : {A : Type 0} (x : A) (xs : List A) → ◌≡◌ {A = List A} [] (x ∷ xs) → ⊥
+pub none_first : {A : Type 0} (x : A) (xs : List A) → ◌≡◌ {A = List A} [] (x ∷ xs) → ⊥
 none_first x xs same = cc
 
 first_committed : (t : Trace) (pending : List Placed) (first : Opened) (others : List Opened) (c : Commit)
@@ -291,7 +291,7 @@ module _ (t : Trace) (s : SectionState) (old : Ledger) (alike : AreAlike t s old
 -- ---- the steps of a section
 
 -- the steps of a replica without their offsets
-plain_steps : (t : Trace) (e : ℕ) → map (λ x. x.1) (steps_at t e) ≡ steps_of t e
+pub plain_steps : (t : Trace) (e : ℕ) → map (λ x. x.1) (steps_at t e) ≡ steps_of t e
 unfolding steps_at
 plain_steps t e = located_values step_text (section_start t e + length (frame_text (OfReplica e))) (steps_of t e)
 

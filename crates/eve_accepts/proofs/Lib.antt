@@ -4,6 +4,7 @@ pub mod Following
 pub mod Sounding
 pub mod Restored
 pub mod Due
+pub mod RightRuns
 pub mod Ranges
 pub mod VotesApart
 pub mod Voting
@@ -13,3 +14,7 @@ pub mod OrdersRight
 pub mod Refuted
 pub mod Agreed
 pub mod Accepting
+pub mod SerialTokens
+pub mod GoingBack
+pub mod GivingUp
+pub mod RolledBackOnce

@@ -4,9 +4,9 @@ use Rattle.std.specs.List.{AllByRecursion}
 use Rattle.std.proofs.lemmas.List.Sorted.{IsPermutation-map}
 use Rattle.eve_smallbank.specs.declared.entry.Entry.{Entry}
 use Rattle.eve_smallbank.specs.Access.{Executed, Fits}
-use Rattle.eve_smallbank.specs.Chain.{Table, Sees, visible_at, before_next, IsChained, IsRowChained}
+use Rattle.eve_smallbank.specs.Chain.{Table, visible_at, IsChained}
 use Rattle.eve_smallbank.specs.SerialOrder.{IsSound}
-use Rattle.eve_smallbank.proofs.Chains.{Follows, follows_chain, chain_follows, visible_at-before_rest}
+use Rattle.eve_smallbank.proofs.Chains.{Follows, follows_chain, chain_follows, rows_by_chain, visible_at-before_rest}
 use Rattle.eve_grammar.specs.Trace.{Attempt, Step, Attempts, Commits, RollsBack, Trace}
 use Rattle.eve_stamps.specs.Applied.{Applied}
 use Rattle.eve_history.specs.Section.{Placed, SectionState, start, path_of, committing, next}
@@ -24,27 +24,13 @@ use Rattle.eve_accepts.proofs.Executing.{batch_due, executes}
 
 -- ---- requests that fit and are chained
 
--- each row is chained by itself where all are
-row_chained : (base : Table) (row : ℕ) (before : List Entry) (xs : List Executed) → IsChained base before xs
-    → IsRowChained base row before xs
-row_chained base row before [] chained = tt
-row_chained base row before (x ∷ xs) chained = (
-  own x.entries chained.0,
-  row_chained base row (before_next before x.entries) xs chained.1,
-)
-  where
-    own : (es : List Entry) → AllByRecursion (Sees (visible_at base before)) es
-        → AllByRecursion (λ e. e.row ≡ row → Sees (visible_at base before) e) es
-    own [] sees = tt
-    own (e ∷ es) sees = (λ _. sees.0, own es sees.1)
-
 -- Requests that fit, and that are chained from a table, are sound after the entries that left the table.
 sound_from : (names : List (List ℕ)) (base table : Table) (before : List Entry) (xs : List Executed)
     → table ≡ visible_at base before → AllByRecursion (Fits names) xs → IsChained table [] xs
     → IsSound names base before xs
 sound_from names base table before xs left fits chained = record {
   fits = fits;
-  chained = λ row. row_chained base row before xs
+  chained = rows_by_chain base before xs
       (chain_follows base before xs (subst (λ (u : Table). Follows u xs) left (follows_chain table [] xs chained)));
 }
 

@@ -15,6 +15,7 @@ ghost use Rattle.eve_audit.specs.Verdict.{IsTraceFault, IsVerdict};
 ghost use Rattle.eve_tool.specs.Audit.{Audits};
 ghost use Rattle.eve_tool.specs.Run.{Runs};
 ghost use Rattle.eve_accepts.specs.Collision.{Collides};
+ghost use Rattle.eve_accepts.specs.RolledBack.{AreRolledBackOnce};
 
 /// No fault stands in the trace of a run but one of agreement, and where one does the trace shows a collision of
 /// SHA-256: two replicas committed a batch by one token, the hash of two messages that differ.
@@ -68,3 +69,12 @@ pub fn audits_of_runs_end_well()
     runs_are_accepted();
     eve_audit::laws::verdicts_are_unique();
 }
+
+/// In a run each batch is rolled back at most once: in no section two rollbacks go back to the same number, so no batch
+/// is twice the first of those that are discarded. Or the trace shows two messages that differ and have one SHA-256.
+///
+/// docs/MODEL.md, "A run is accepted".
+pub fn runs_roll_back_a_batch_once()
+    ensures { (w : Workload) (mixer : Mixer) (t : Trace) → IsTraceOf w mixer t → HasLimits t
+        → AreRolledBackOnce t ⊎ Collides t }
+{}

@@ -12,11 +12,11 @@ pub record AreOfSection (t : Trace) (h : SectionHistory) (s : Settling) : Type 0
   pub history : h ≡ section_history t h.replica
   pub settled : s ≡ settling t h.replica
 
--- it has the opening balances, and its batches are there
+-- it has the balances before it, and its batches are there
 pub record IsReadyStretch (s : Settling) (x : Stretch) : Type 0 where
   pub rising : x.before ≤ x.last
   pub there : x.last ≤ length s.batches
-  pub balances : IsAfter s 0 x.balances
+  pub balances : IsAfter s x.before x.balances
 
 -- it was judged
 pub record IsJudgedStretch (t : Trace) (e : ℕ) (old new : Stretch) : Type 0 where

@@ -33,9 +33,6 @@ fn is_due(attempt: &AttemptView<'_>, balances: &Balances) -> bool
     attempt.token() == due.as_slice()
 }
 
-/// How few batches are worth a thread of their own.
-const LEAST_BATCHES: u64 = 16;
-
 /// Committed batches of a replica one after another, to be judged by themselves.
 #[derive(Drop)]
 struct Stretch {
@@ -43,7 +40,7 @@ struct Stretch {
     before: u32,
     /// The number of the last of them.
     last: u32,
-    /// The opening balances; once they were judged, those after what was judged.
+    /// The balances before them; once they were judged, those after what was judged.
     balances: Balances,
     /// Once they were judged, the offset of the first attempt that has not the token that is due.
     wrong: Option<u64>,
@@ -90,7 +87,7 @@ fn first_wrong(
     ensures { IsFirstWrong trace.now history.now.replica before last result }
 {
     for n in before..last {
-        go_on(settled, n, n + 1, balances);
+        settled.advance(n + 1, balances);
         let wrong = wrong_at(trace, history, settled, n + 1, balances);
         if wrong.is_some() {
             return wrong;
@@ -105,7 +102,6 @@ fn judge(trace: &Trace<'_>, history: &History<'_>, settled: &Settled<'_>, stretc
     requires ready { IsReadyStretch settled.now stretch.old }
     ensures { IsJudgedStretch trace.now history.now.replica stretch.old stretch.new }
 {
-    go_on(settled, 0, stretch.before, &mut stretch.balances);
     stretch.wrong = first_wrong(
         trace,
         history,
@@ -116,45 +112,20 @@ fn judge(trace: &Trace<'_>, history: &History<'_>, settled: &Settled<'_>, stretc
     );
 }
 
-/// Goes from the balances after one number of batches to those after another.
-fn go_on(settled: &Settled<'_>, from: u32, to: u32, balances: &mut Balances)
-    requires there { to ≤ length settled.now.batches }
-    requires rising { from ≤ to }
-    requires before { IsAfter settled.now from balances.old }
-    ensures { IsAfter settled.now to balances.new }
-{
-    for n in from..to {
-        settled.advance(n + 1, balances);
-    }
-}
-
-/// How many of so many batches the first of so many stretches of them has. Each next one is shorter, since its thread
-/// goes over the batches before it first; where there are many customers hardly, since it takes far longer to hash
-/// their balances.
-fn size_of_first(batches: u32, stretches: u8, customers: u32) -> u32
-    requires { 1 ≤ stretches }
-    ensures { result ≤ batches }
-{
-    let left = u64::from(stretches);
-    let share = u64::from(batches).div_ceil(left);
-    let more = share * (left - 1) / (4 + u64::from(customers / 128));
-    (share + more).max(LEAST_BATCHES).min(u64::from(batches)) as u32
-}
-
-/// Appends the stretch of the batches after the first `before` up to the last.
+/// Appends the stretch of the batches after the first `before`, which leave these balances, up to the last.
 fn append(
-    alloc: Global,
     settled: &Settled<'_>,
     before: u32,
+    balances: Balances,
     last: u32,
     stretches: &mut Vec<Stretch>,
 ) -> Result<(), AllocError>
     requires rising { before ≤ last }
     requires there { last ≤ length settled.now.batches }
+    requires balances { IsAfter settled.now before balances }
     requires ready { AreReadyStretches settled.now before stretches.old.items }
     ensures { OnOk result (AreReadyStretches settled.now last stretches.new.items) }
 {
-    let balances = settled.balances_after(alloc, 0)?;
     stretches.push(Stretch {
         before,
         last,
@@ -164,29 +135,32 @@ fn append(
     Ok(())
 }
 
-/// Cuts a replica's committed batches into stretches, no more than there are jobs, that take about as long as one
-/// another; none but the last is shorter than is worth a thread.
-fn cut(
-    alloc: Global,
-    settled: &Settled<'_>,
-    customers: u32,
-    jobs: u8,
-) -> Result<Vec<Stretch>, AllocError>
+/// Cuts a replica's committed batches into stretches, no more than there are jobs: each begins where balances are at
+/// hand.
+fn cut(alloc: Global, settled: &Settled<'_>, jobs: u8) -> Result<Vec<Stretch>, AllocError>
     requires { 1 ≤ jobs }
     ensures { IfOk result (λ stretches. AreReadyStretches settled.now (length settled.now.batches) stretches.items) }
 {
-    let committed = settled.committed();
     let mut stretches = Vec::new(alloc);
     let mut before = 0;
+    let mut balances = settled.balances_after(alloc, 0)?;
     for place in 0..jobs - 1 {
-        let last = before + size_of_first(committed - before, jobs - place, customers);
-        if last == committed {
+        let Some((after, marked)) = settled.mark(alloc, place as usize)? else {
             break;
+        };
+        if before < after {
+            append(settled, before, balances, after, &mut stretches)?;
+            before = after;
+            balances = marked;
         }
-        append(alloc, settled, before, last, &mut stretches)?;
-        before = last;
     }
-    append(alloc, settled, before, committed, &mut stretches)?;
+    append(
+        settled,
+        before,
+        balances,
+        settled.committed(),
+        &mut stretches,
+    )?;
     Ok(stretches)
 }
 
@@ -243,7 +217,7 @@ fn first_in<R: Threads + Sync>(
     requires some { 1 ≤ jobs }
     ensures { IfOk result (IsFirstWrong trace.now history.now.replica 0 (length settled.now.batches)) }
 {
-    let mut stretches = cut(alloc, settled, trace.customer_count(), jobs)?;
+    let mut stretches = cut(alloc, settled, jobs)?;
     judge_all(rt, trace, history, settled, stretches.as_mut_slice(), jobs);
     Ok(first_of_all(&stretches))
 }
@@ -253,8 +227,8 @@ fn first_in<R: Threads + Sync>(
 ///
 /// docs/MODEL.md, "Faults"; docs/TRACE.md, "Token". It hashes each batch's balances once. The batches are cut into up
 /// to so many stretches as there are jobs, from 1 on, and judged in as many threads; of one job none is started. Each
-/// thread has balances of its own, and goes from the opening over all that was written before its stretch, which hashes
-/// nothing. What is found doesn't rest on which ends first. Refused memory decides nothing.
+/// thread has balances of its own, which were noted where its stretch begins while the chains were judged (`check`, with
+/// as many jobs). What is found doesn't rest on which ends first. Refused memory decides nothing.
 pub fn tokens<R: Threads + Sync>(
     rt: &R,
     alloc: Global,

@@ -54,6 +54,7 @@ pub data Stands (bytes : List ℕ) (f : Fault) : Type 0 where
 abbrev pub Hinders : Fault → Fault → Type 0
 Hinders g f = (phase_of g.code < phase_of f.code) × (3 ≤ phase_of g.code → phase_of f.code ≤ 7 → g.replica ≡ f.replica)
 
+-- a fault that stands, and that no fault of an earlier phase hinders
 pub record IsJudged (bytes : List ℕ) (f : Fault) : Type 0 where
   pub stands : Stands bytes f
   pub alone : (g : Fault) → Stands bytes g → ¬ Hinders g f

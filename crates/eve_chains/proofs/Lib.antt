@@ -24,6 +24,7 @@ pub mod Advancing
 mod WorkedCases
 pub mod Nearest
 pub mod Least
+pub mod Marked
 pub mod Attempts
 pub mod Judged
 pub mod Stretches

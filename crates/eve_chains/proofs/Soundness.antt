@@ -7,9 +7,9 @@ use Rattle.std.proofs.lemmas.List.{length-map}
 use Rattle.std.specs.List.{AllByRecursion, list_any}
 use Rattle.eve_smallbank.specs.declared.entry.Entry.{Entry}
 use Rattle.eve_smallbank.specs.Access.{Executed, Fits}
-use Rattle.eve_smallbank.specs.Chain.{Table, Sees, visible_at, before_next, before_rest, IsChained, IsRowChained}
+use Rattle.eve_smallbank.specs.Chain.{Table, Sees, visible_at, before_next, before_rest, IsChained}
 use Rattle.eve_smallbank.proofs.Members.{In, here, there, all_in, all_from_in, none_of_list_any, in_front, in_middle}
-use Rattle.eve_smallbank.proofs.Chains.{chained_by_rows}
+use Rattle.eve_smallbank.proofs.Chains.{chained_by_rows, rows_by_chain}
 use Rattle.eve_grammar.specs.Trace.{Access, Attempt, Trace}
 use Rattle.eve_grammar.specs.Limits.{HasLimits}
 use Rattle.eve_grammar.specs.Certificate.{is_permutation, keeps_groups}
@@ -138,20 +138,6 @@ chain_from base f before (j ∷ order) d sees = (
       (sees_later order i j (ne_eqb j i (λ e. d.0 (subst (λ n. In n order) (sym e) k)))) (sees i (there k))),
 )
 
--- each row is chained where all are
-own_row : (base : Table) (row : ℕ) (before : List Entry) (xs : List Executed) → IsChained base before xs
-    → IsRowChained base row before xs
-own_row base row before [] chained = tt
-own_row base row before (x ∷ xs) chained = (
-  of_row (visible_at base before) x.entries chained.0,
-  own_row base row (before_next before x.entries) xs chained.1,
-)
-  where
-    of_row : (table : Table) (es : List Entry) → AllByRecursion (Sees table) es
-        → AllByRecursion (λ e. e.row ≡ row → Sees table e) es
-    of_row table [] sees = tt
-    of_row table (e ∷ es) sees = (λ same. sees.0, of_row table es sees.1)
-
 -- ---- one attempt
 
 module _ (t : Trace) (p : Placed) (right : IsRightAlone t p.attempt) where
@@ -214,7 +200,7 @@ module _ (t : Trace) (p : Placed) (right : IsRightAlone t p.attempt) where
     fits = all_from_in (Fits (names_of t)) (execution t p.attempt) (λ y i.
         let s = in_source (executed_at t p.attempt) p.attempt.certificate i in
         subst (Fits (names_of t)) (sym s.is) (by_record complete (λ _ x. Fits (names_of t) x) fits s.item s.there_is));
-    chained = λ row. own_row (opening_table t) row (entries_before t p.path) (execution t p.attempt) chained;
+    chained = rows_by_chain (opening_table t) (entries_before t p.path) (execution t p.attempt) chained;
   }
 
   pub sound_alone : IsComplete p.attempt

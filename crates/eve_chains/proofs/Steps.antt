@@ -213,7 +213,7 @@ pub record HasFirst (ps : List Placed) : Type 0 where
   pub others : List Placed
   pub is : ps ≡ first ∷ others
 
-first_open : (t : Trace) (s : SectionState) (c : Commit) → IsTrue (is_right_commit s c) → HasFirst s.pending
+pub first_open : (t : Trace) (s : SectionState) (c : Commit) → IsTrue (is_right_commit s c) → HasFirst s.pending
 first_open t s c right = there_is s.pending (and_parts (c.seq == s.last + 1) (commits_first s.pending c) right).1
   where
     there_is : (ps : List Placed) → IsTrue (commits_first ps c) → HasFirst ps

@@ -29,15 +29,21 @@ struct Section<'b, 'a> {
     trace: &'b Trace<'a>,
 }
 
-/// What the replica committed, where each entry sees what its path left; else the first fault of chains.
-fn settle<'a>(alloc: Global, section: &Section<'_, 'a>) -> Result<Settled<'a>, CheckFault>
+/// What the replica committed, with balances noted for so many stretches, where each entry sees what its path left; else
+/// the first fault of chains.
+fn settle<'a>(
+    alloc: Global,
+    section: &Section<'_, 'a>,
+    stretches: u8,
+) -> Result<Settled<'a>, CheckFault>
     requires history { section.now.history.now
         ≡ section_history section.now.trace.now section.now.history.now.replica }
     requires right { IsRightSection section.now.trace.now section.now.history.now.replica }
+    requires stretches { 1 ≤ stretches }
     ensures { AreChainsSettled section.now.trace.now section.now.history.now.replica result }
 {
-    chains(alloc, section.history, section.trace)?;
-    let settled = Settled::of(alloc, section.history, section.trace)?;
+    let marks = chains(alloc, section.history, section.trace, stretches)?;
+    let settled = Settled::marked(alloc, section.history, section.trace, marks)?;
     Ok(settled)
 }
 
@@ -62,7 +68,7 @@ fn judge_both<'a, R: Threads + Sync>(
     let section = Section { history, trace };
     if jobs == 1 || history.attempts() < LEAST_ATTEMPTS {
         let fit = records(rt, alloc, history, trace, names, 1);
-        (fit, settle(alloc, &section))
+        (fit, settle(alloc, &section, 1))
     } else {
         let others = jobs - 1;
         let fit = move ||
@@ -76,8 +82,9 @@ fn judge_both<'a, R: Threads + Sync>(
             requires history { section.history.now
                 ≡ section_history section.trace.now section.history.now.replica }
             requires right { IsRightSection section.trace.now section.history.now.replica }
+            requires jobs { 1 ≤ jobs }
             ensures { AreChainsSettled section.entry.trace.now section.entry.history.now.replica result }
-        { settle(alloc, &section) };
+        { settle(alloc, &section, jobs) };
         join(rt, fit, see)
     }
 }

@@ -5,6 +5,7 @@ mod along;
 mod checking;
 mod fitting;
 pub mod laws;
+mod marks;
 mod noted;
 mod opening;
 mod settled;

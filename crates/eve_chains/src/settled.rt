@@ -1,13 +1,15 @@
 //! What a replica committed.
 
-ghost use Rattle.std.specs.Prelude.{◌≡◌, ◌≤◌, ◌-◌, ℕ, List, Some, IfOk, length, slice_get};
+ghost use Rattle.std.specs.Prelude.{◌≡◌, ◌≤◌, ◌-◌, ℕ, List, Some, All, IfOk, IfSome, length, slice_get};
 ghost use Rattle.std.specs.List.{AllByRecursion};
 ghost use Rattle.eve_smallbank.specs.Access.{balance_of_row, values_after};
 ghost use Rattle.eve_grammar.specs.Trace.{Access};
 ghost use Rattle.eve_history.specs.SectionHistory.{section_history};
 ghost use Rattle.eve_chains.specs.Along.{entries_along, AreWithin};
 ghost use Rattle.eve_chains.specs.Settling.{settling, values_in, AreBankAfter};
+ghost use Rattle.eve_chains.specs.Marks.{IsMark};
 
+use crate::marks::Mark;
 use crate::opening::opening_balances;
 use crate::write_values;
 use eve_accounts::Balances;
@@ -23,19 +25,19 @@ use std::marker::Model;
 pub struct Settled<'a> {
     opening: Balances,
     records: CommittedRecords<'a>,
+    // balances that were noted on the way, so that nobody has to go over all batches before a stretch
+    marks: Vec<Mark>,
 }
 
 impl<'a> Model for Settled<'a> {
-    ghost use Rattle.std.specs.Prelude.{length};
-    ghost use Rattle.std.specs.List.{AllByRecursion};
-    ghost use Rattle.eve_chains.specs.Along.{AreWithin};
     ghost use Rattle.eve_chains.specs.Settling.{Settling};
+    ghost use Rattle.eve_chains.specs.Marks.{IsWellMarked};
 
     ghost Value = { Settling };
 
     ghost view = { λ s. record { opening = s.opening; batches = s.records } };
 
-    ghost invariant = { λ s. AllByRecursion (AreWithin (length s.opening)) s.records };
+    ghost invariant = { λ s. IsWellMarked (record { opening = s.opening; batches = s.records }) s.marks.items };
 }
 
 impl<'a> Settled<'a> {
@@ -50,10 +52,28 @@ impl<'a> Settled<'a> {
         requires history { history.now ≡ section_history trace.now history.now.replica }
         ensures { IfOk result (λ settled. settled ≡ settling trace.now history.now.replica) }
     {
+        Settled::marked(alloc, history, trace, Vec::new(alloc))
+    }
+
+    /// The same, with balances that were noted on the way.
+    pub(crate) fn marked(
+        alloc: Global,
+        history: &History<'a>,
+        trace: &Trace<'a>,
+        marks: Vec<Mark>,
+    ) -> Result<Settled<'a>, AllocError>
+        requires history { history.now ≡ section_history trace.now history.now.replica }
+        requires marks { All (IsMark (settling trace.now history.now.replica)) marks.items }
+        ensures { IfOk result (λ settled. settled ≡ settling trace.now history.now.replica) }
+    {
         trace.recall_limits();
         let opening = opening_balances(alloc, trace)?;
         let records = CommittedRecords::of(alloc, history)?;
-        Ok(Settled { opening, records })
+        Ok(Settled {
+            opening,
+            records,
+            marks,
+        })
     }
 
     /// How many batches the replica committed.
@@ -78,6 +98,22 @@ impl<'a> Settled<'a> {
             self.advance(before + 1, &mut balances);
         }
         Ok(balances)
+    }
+
+    /// Balances that are at hand without going over what was written: of place 0, 1 and so on how many batches stand
+    /// before them and the balances, in memory of their own; None past the last. How many there are no clause says:
+    /// where `check` had n jobs and enough batches, n - 1, each as many batches after the one before.
+    pub fn mark(&self, alloc: Global, place: usize) -> Result<Option<(u32, Balances)>, AllocError>
+        ensures there { IfOk result (λ mark. IfSome mark (λ m. m.0 ≤ length self.now.batches)) }
+        ensures rows { IfOk result (λ mark. IfSome mark (λ m. length m.1 ≡ length self.now.opening)) }
+        ensures values { IfOk result (λ mark. IfSome mark (λ m. balance_of_row m.1 ≡ values_in self.now m.0)) }
+    {
+        if place >= self.marks.len() {
+            return Ok(None);
+        }
+        let mark = &self.marks[place];
+        let balances = mark.balances.copy(alloc)?;
+        Ok(Some((mark.after, balances)))
     }
 
     /// Goes from the balances after the batch before to those after batch n, of the batches from 1 on, which are the

@@ -1,6 +1,7 @@
 //! A walk along a replica's section, which judges each attempt's entries once the attempt settles.
 
-ghost use Rattle.std.specs.Prelude.{◌≡◌, ℕ, List, ◌≤◌, ◌<◌, ◌-◌, ◌∷◌, IfOk, IfErr, OnOk, IsTrue, length};
+ghost use Rattle.std.specs.Prelude.{◌≡◌, ℕ, List, ◌≤◌, ◌<◌, ◌+◌, ◌-◌, ◌∷◌, All, IfOk, IfErr, OnOk, IsTrue, length};
+ghost use Rattle.std.specs.Prelude.{if◌then◌else◌};
 ghost use Rattle.std.specs.List.{AllByRecursion};
 ghost use Rattle.eve_grammar.specs.Trace.{Step as StepValue};
 ghost use Rattle.eve_views.specs.Form.{IfFound, IsLeast};
@@ -10,10 +11,14 @@ ghost use Rattle.eve_chains.specs.Faults.{IsChainFault};
 ghost use Rattle.eve_chains.specs.Along.{all_said, AreWithin, AllSettledSee};
 ghost use Rattle.eve_chains.specs.Walking.{records_of, records_from, IsCommitted, AreTried, AreUndone, HasWalked};
 ghost use Rattle.eve_chains.specs.Walking.{parted};
+ghost use Rattle.eve_chains.specs.Settling.{settling};
+ghost use Rattle.eve_chains.specs.Marks.{IsMark, commits_among};
 
+use crate::marks::{Mark, Marks};
 use crate::{Table, judge_along, undo_along, write_along};
 use eve_frames::AccessView;
 use eve_history::History;
+use eve_history::laws::committed_attempts_are_the_sections;
 use eve_views::{CheckFault, Fault, Step, Trace, first_of};
 use std::alloc::{AllocError, Global};
 
@@ -149,20 +154,40 @@ impl<'a> Walk<'a> {
     }
 }
 
+/// Whether the step is a commit.
+fn is_commit(step: &Step<'_, '_>) -> bool
+    ensures { (x : ℕ × StepValue) (rest : List (ℕ × StepValue)) → IsStep step.now x
+        → commits_among (x ∷ rest) ≡ (if result then 1 else 0) + commits_among rest }
+{
+    match step {
+        Step::Attempt(_, _) => false,
+        Step::Commit(_) => true,
+        Step::Rollback(_) => false,
+    }
+}
+
 /// Judges what the entries of a replica's settled attempts see: each sees what its path left, or the first fault of
-/// chains, by offset and then by number.
+/// chains, by offset and then by number. On the way it notes the balances at the starts of so many stretches of the
+/// committed batches, the first of which begins with the opening.
 ///
 /// docs/MODEL.md, "What an entry must see" and "Faults". One walk along the section; a discarded attempt's writes are
 /// undone row by row. Refused memory decides nothing.
-pub fn chains<'a>(alloc: Global, history: &History<'a>, trace: &Trace<'a>) -> Result<(), CheckFault>
+pub fn chains<'a>(
+    alloc: Global,
+    history: &History<'a>,
+    trace: &Trace<'a>,
+    stretches: u8,
+) -> Result<Vec<Mark>, CheckFault>
     requires history { history.now ≡ section_history trace.now history.now.replica }
     requires right { IsRightSection trace.now history.now.replica }
+    requires stretches { 1 ≤ stretches }
     ensures see { IfOk result (λ _. AllSettledSee trace.now history.now.replica) }
+    ensures marks { IfOk result (λ marks. All (IsMark (settling trace.now history.now.replica)) marks.items) }
     ensures least { IfErr result (λ why. IfFound why (IsLeast (IsChainFault trace.now history.now.replica))) }
 {
     trace.recall_limits();
     if history.replica() >= trace.section_count() {
-        return Ok(());
+        return Ok(Vec::new(alloc));
     }
     let mut walk = Walk {
         committed: Table::opening(alloc, trace)?,
@@ -173,12 +198,21 @@ pub fn chains<'a>(alloc: Global, history: &History<'a>, trace: &Trace<'a>) -> Re
         first: None,
         records: Vec::new(alloc),
     };
+    committed_attempts_are_the_sections();
+    let mut marks = Marks::new(alloc, history.committed(), stretches);
     let mut steps = trace.section(history.replica());
     while let Some(step) = steps.next() {
+        let commits = is_commit(&step);
         walk.take(alloc, history, trace, step)?;
+        if commits {
+            marks.note(alloc, trace, &walk.committed)?;
+        }
     }
     match walk.first {
         Some(fault) => Err(CheckFault::Found(fault)),
-        None => Ok(()),
+        None => {
+            let Marks { list, .. } = marks;
+            Ok(list)
+        }
     }
 }

@@ -1,6 +1,7 @@
 -- Where steps, access frames and votes stand in the trace's bytes.
-use Rattle.std.proofs.Common.{◌≡◌, ℕ, zero, suc, ◌+◌, ◌<◌, ◌≤◌, List, [], ◌∷◌, ◌++◌, map, length, drop, slice_get}
-use Rattle.std.proofs.Common.{Option, Some, None, inl, inr, refl, sym, ap, subst, ◌∙◌, arith}
+use Rattle.std.proofs.Common.{◌≡◌, ℕ, zero, suc, ◌+◌, ◌<◌, ◌≤◌, ◌==◌, Bool, true, false, cond, List, [], ◌∷◌, ◌++◌}
+use Rattle.std.proofs.Common.{map, length, drop, slice_get, Option, Some, None, inl, inr, refl, sym, ap, subst, ◌∙◌}
+use Rattle.std.proofs.Common.{arith}
 use Rattle.std.specs.Prelude.{slice_index_or}
 use Rattle.std.specs.List.{flat_map}
 use Rattle.std.proofs.lemmas.Bool.{cases_lt}
@@ -10,14 +11,20 @@ use Rattle.eve_grammar.specs.Trace.{Access, Attempt, Rollback, Step, Attempts, C
 use Rattle.eve_grammar.specs.Frames.{OfAttempt, OfAccess, OfRollback, OfVerifier, OfVote, without_accesses}
 use Rattle.eve_grammar.specs.Spelling.{frame_text, spelling, located, step_text}
 use Rattle.eve_grammar.specs.Spelling.{steps_at, accesses_at, verifier_start, votes_of, votes_at}
-use Rattle.eve_frames.specs.Views.{attempt_in, rollback_in}
+use Rattle.eve_frames.specs.Views.{attempt_in, access_in, rollback_in}
 use Rattle.eve_views.specs.Fronts.{before_verifier}
 use Rattle.eve_views.specs.Lent.{HasBytesAt}
 use Rattle.eve_views.proofs.CutLaws.{verifier_cut}
 use Rattle.eve_views.proofs.Locating.{verifier_begins}
 use Rattle.eve_history.proofs.FrameTexts.{mapped}
 use Rattle.eve_history.specs.SectionHistory.{ExecutedAttempt, SectionHistory, executed_attempt, section_history}
-use Rattle.eve_history.specs.SectionHistory.{attempts_among, rollbacks_among}
+use Rattle.eve_history.specs.SectionHistory.{attempts_among, rollbacks_among, access_with, ordered, placed_at, history}
+use Rattle.eve_history.specs.SectionHistory.{picked, is_committed}
+use Rattle.eve_history.specs.declared.fate.Fate.{Fate}
+use Rattle.eve_history.specs.Section.{Placed}
+use Rattle.eve_history.specs.Fates.{fates_from}
+use Rattle.eve_history.proofs.FateLaws.{committed_are_picked}
+use Rattle.eve_history.proofs.Finding.{get_mapped}
 use Rattle.eve_history.proofs.Standing.{StandsIn, stands_inside, located_stands, split_at, part_stands}
 use Rattle.eve_history.proofs.Standing.{step_stands, first_stands, access_stands}
 
@@ -160,3 +167,77 @@ lent_rollback t e i offset h bytes is got text =
     (ap (λ (v : SectionHistory). slice_get v.rollbacks i) (sym is)
     ∙ got) in
     record { behind = told.behind; is = told.is ∙ ap (λ (b : List ℕ). b ++ told.behind) (sym text) }
+
+-- ---- access records in a certificate's order
+
+-- the record of an index is one of these, where it doesn't begin at byte 0, as none does
+own_record : (xs : List (ℕ × Access)) (index : ℕ) → 0 < (access_with xs index).0 → (i : ℕ)
+    × (slice_get xs i ≡ Some (access_with xs index))
+own_record [] index later = absurd (omega (arith, later))
+own_record (x ∷ xs) index later = by (x.1.index == index) later (own_record xs index)
+  where
+    by : (b : Bool) → 0 < (cond b x (access_with xs index)).0
+        → (0 < (access_with xs index).0 → (i : ℕ) × (slice_get xs i ≡ Some (access_with xs index)))
+        → (i : ℕ) × (slice_get (x ∷ xs) i ≡ Some (cond b x (access_with xs index)))
+    by true later rest = (0, refl)
+    by false later rest = let own = rest later in (suc own.0, own.1)
+
+-- an attempt's record, whose text a view lends
+lent_record : (t : Trace) (e place offset : ℕ) (a : ℕ × Attempt) (bytes : List ℕ)
+    → IsAmong (steps_at t e) (a.0, Attempts a.1) → slice_get (ordered a.0 a.1) place ≡ Some (offset, access_in bytes)
+    → 0 < offset → bytes ≡ frame_text (OfAccess (access_in bytes)) → HasBytesAt t offset bytes
+lent_record t e place offset a bytes among got later text =
+    let own = accesses_at a.0 a.1 in
+    let index = unmapped (access_with own) a.1.certificate place (offset, access_in bytes) got in
+    let found = own_record own index.0 (subst (λ (x : ℕ × Access). 0 < x.0) (sym index.2) later) in
+    subst (λ (b : List ℕ). HasBytesAt t offset b) (sym text)
+    (bytes_at t offset (frame_text (OfAccess (access_in bytes)))
+    (access_stands a.0 a.1 found.0 (offset, access_in bytes)
+    (step_stands t e among.0 (a.0, Attempts a.1) among.1 among.2)
+    (found.1 ∙ ap Some index.2)))
+
+-- of an attempt that is told
+pub lent_ordered : (t : Trace) (e i place offset : ℕ) (h : SectionHistory) (r : ExecutedAttempt) (bytes : List ℕ)
+    → h ≡ section_history t e → slice_get h.attempts i ≡ Some r
+    → slice_get r.ordered place ≡ Some (offset, access_in bytes) → 0 < offset
+    → bytes ≡ frame_text (OfAccess (access_in bytes)) → HasBytesAt t offset bytes
+unfolding section_history
+lent_ordered t e i place offset h r bytes is got says later text =
+    let a = unmapped executed_attempt (attempts_among (steps_at t e)) i r
+    (ap (λ (v : SectionHistory). slice_get v.attempts i) (sym is) ∙ got) in
+    lent_record t e place offset a.0 bytes (attempt_among (steps_at t e) i a.0 a.1)
+    (ap (λ (q : ExecutedAttempt). slice_get q.ordered place) a.2 ∙ says) later text
+
+-- an attempt that was picked is one of all
+picked_among : (test : Fate → Bool) (xs : List (ℕ × Attempt)) (fates : List Fate) (i : ℕ) (x : ℕ × Attempt)
+    → slice_get (picked test xs fates) i ≡ Some x → (k : ℕ) × (slice_get xs k ≡ Some x)
+picked_among test [] fates i x got = absurd (cc)
+picked_among test (y ∷ ys) [] i x got = absurd (cc)
+picked_among test (y ∷ ys) (fate ∷ fates) i x got =
+    by (test fate) (picked test ys fates) i got (λ j found. picked_among test ys fates j x found)
+  where
+    by : (b : Bool) (zs : List (ℕ × Attempt)) (j : ℕ) → slice_get (cond b (y ∷ zs) zs) j ≡ Some x
+        → ((m : ℕ) → slice_get zs m ≡ Some x → (k : ℕ) × (slice_get ys k ≡ Some x))
+        → (k : ℕ) × (slice_get (y ∷ ys) k ≡ Some x)
+    by true zs zero got rest = (0, got)
+    by true zs (suc j) got rest = let own = rest j got in (suc own.0, own.1)
+    by false zs j got rest = let own = rest j got in (suc own.0, own.1)
+
+-- and of an attempt that is told to be committed
+pub lent_committed : (t : Trace) (e i place offset : ℕ) (v : List (List (ℕ × Access))) (xs : List (ℕ × Access))
+    (bytes : List ℕ) → v ≡ map (λ r. r.ordered) (section_history t e).commits → slice_get v i ≡ Some xs
+    → slice_get xs place ≡ Some (offset, access_in bytes) → 0 < offset
+    → bytes ≡ frame_text (OfAccess (access_in bytes)) → HasBytesAt t offset bytes
+unfolding section_history history
+lent_committed t e i place offset v xs bytes is got says later text =
+    let steps = steps_at t e in
+    let committed = (history t e).committed in
+    let r = unmapped (λ (r : ExecutedAttempt). r.ordered) (section_history t e).commits i xs
+    (ap (λ (yss : List (List (ℕ × Access))). slice_get yss i) (sym is) ∙ got) in
+    let p = unmapped (λ (p : Placed). executed_attempt (placed_at p)) committed i r.0 r.1 in
+    let own = picked_among is_committed (attempts_among steps) (fates_from 0 steps) i (placed_at p.0)
+    (ap (λ (ys : List (ℕ × Attempt)). slice_get ys i) (sym (committed_are_picked t e))
+    ∙ get_mapped placed_at committed i p.0 p.1) in
+    lent_record t e place offset (placed_at p.0) bytes (attempt_among steps own.0 (placed_at p.0) own.1)
+    (ap (λ (q : ExecutedAttempt). slice_get q.ordered place) p.2
+    ∙ ap (λ (ys : List (ℕ × Access)). slice_get ys place) r.2 ∙ says) later text

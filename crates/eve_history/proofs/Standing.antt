@@ -1,7 +1,7 @@
 -- Where the frames of a section stand in a trace's bytes.
 use Rattle.std.proofs.Common.{◌≡◌, ℕ, zero, suc, ◌+◌, ◌^◌, ◌<◌, ◌≤◌, ◌==◌, Bool, true, false, ◌||◌, cond, List, [], ◌∷◌}
-use Rattle.std.proofs.Common.{◌++◌, map, length, take, drop, slice_get, Some, refl, sym, ap, subst, ◌∙◌, append_assoc}
-use Rattle.std.proofs.Common.{IsTrue, inl, inr, arith}
+use Rattle.std.proofs.Common.{◌++◌, map, length, take, drop, slice_get, slice_index, Some, refl, sym, ap, subst, ◌∙◌}
+use Rattle.std.proofs.Common.{append_assoc, IsTrue, inl, inr, arith}
 use Rattle.std.specs.List.{AllByRecursion, flat_map, list_all, list_any}
 use Rattle.std.proofs.lemmas.Bool.{and_parts, cases_lt, false≢true}
 use Rattle.std.proofs.lemmas.List.{append-nil, length-append, take_at, drop_at}
@@ -9,7 +9,7 @@ use Rattle.std.proofs.lemmas.List.Concat.{flat_map-append}
 use Rattle.std.proofs.lemmas.Option.{same_Some}
 use Rattle.byteorder.specs.Endian.{big_bytes, big_number}
 use Rattle.eve_grammar.specs.Trace.{Access, Attempt, Rollback, Step, Attempts, RollsBack, Trace, head_of}
-use Rattle.eve_grammar.specs.Frames.{Frame, OfReplica, OfAttempt, OfAccess, OfRollback, step_frames, frames_of}
+use Rattle.eve_grammar.specs.Frames.{Frame, OfReplica, OfAttempt, OfAccess, OfRollback, kind_of, step_frames, frames_of}
 use Rattle.eve_grammar.specs.Frames.{without_accesses}
 use Rattle.eve_grammar.specs.Spelling.{body_text, frame_text, frames_text, head_text, length_of, spelling, located}
 use Rattle.eve_grammar.specs.Spelling.{step_text, section_start, steps_of, steps_at, accesses_at}
@@ -55,9 +55,33 @@ stands_inside {bytes = bytes} {text = text} {inner = inner} {at = at} {o = o} ou
 
 -- ---- a frame that stands in bytes
 
-pub framed_there : {bytes : List ℕ} {at : ℕ} (f : Frame) → length bytes ≤ 2 ^ 30 → StandsIn bytes at (frame_text f)
-    → (frame_in bytes at ≡ frame_text f) × IsFramed bytes at
-framed_there {bytes = bytes} {at = at} f short stands =
+-- how many bytes a trace has at most
+spelled_short : (bytes : List ℕ) (t : Trace) → Spells bytes t → length bytes ≤ 2 ^ 30
+unfolding spelling length_of
+spelled_short bytes t spelled =
+    let few = spelled.short in
+    omega (
+      arith,
+      ap length spelled.spelled,
+      length-append (head_text (head_of t) (length_of t))
+          (frames_text (frames_of t)),
+      length-head_text (head_of t) (length_of t),
+    )
+
+-- a trace's first byte is an E, so that no frame of a lower kind begins there
+not_first : (t : Trace) (at : ℕ) (f : Frame) → kind_of f < 69 → StandsIn (spelling t) at (frame_text f) → 0 < at
+unfolding spelling head_text
+not_first t at f kind stands = subst (λ (n : ℕ). 0 < n) stands.offset (by stands.front stands.is)
+  where
+    by : (front : List ℕ) → spelling t ≡ front ++ (frame_text f ++ stands.behind) → 0 < length front
+    by [] e = let first : 69 ≡ kind_of f = ap (λ (b : List ℕ). slice_index b 0) e in absurd (omega arith)
+    by (x ∷ front) e = omega arith
+
+pub framed_there : {bytes : List ℕ} {at : ℕ} (t : Trace) (f : Frame) → Spells bytes t → kind_of f < 69
+    → StandsIn bytes at (frame_text f) → (frame_in bytes at ≡ frame_text f) × IsFramed bytes at
+framed_there {bytes = bytes} {at = at} t f spelled kind stands =
+    let short = spelled_short bytes t spelled in
+    let own = subst (λ (b : List ℕ). StandsIn b at (frame_text f)) spelled.spelled stands in
     let n = length (body_text f) in
     let cut : drop at bytes ≡ frame_text f ++ stands.behind = ap (drop at) stands.is
     ∙ drop_at stands.front (frame_text f ++ stands.behind) at stands.offset in
@@ -72,7 +96,11 @@ framed_there {bytes = bytes} {at = at} f short stands =
     omega (arith, number, length-frame_text f) in (
       ap (take (5 + big_number 4 (drop 1 (drop at bytes)))) cut
           ∙ take_at (frame_text f) stands.behind (5 + big_number 4 (drop 1 (drop at bytes))) wide,
-      record { within = omega (arith, long, number); small = omega (arith, long, short) },
+      record {
+        not_first = not_first t at f kind own;
+        within = omega (arith, long, number);
+        small = omega (arith, long, short);
+      },
     )
 
 -- ---- located texts
@@ -213,18 +241,6 @@ access_stands {bytes = bytes} at b i x stands got =
 
 -- ---- the step that comes next
 
-spelled_short : (bytes : List ℕ) (t : Trace) → Spells bytes t → length bytes ≤ 2 ^ 30
-unfolding spelling length_of
-spelled_short bytes t spelled =
-    let few = spelled.short in
-    omega (
-      arith,
-      ap length spelled.spelled,
-      length-append (head_text (head_of t) (length_of t))
-          (frames_text (frames_of t)),
-      length-head_text (head_of t) (length_of t),
-    )
-
 -- the trace's bytes hold it where it is said to stand
 next_stands : (bytes : List ℕ) (t : Trace) (e : ℕ) (rest : List (ℕ × Step)) (k : KeptSection) (at : ℕ) (step : Step)
     → Spells bytes t → HasCome t e ((at, step) ∷ rest) k → StandsIn bytes at (step_text step)
@@ -244,7 +260,7 @@ attempt_there bytes t e rest k at b spelled come =
     let fits = (and_parts (is_step (row_count (head_of t)) (Attempts b)) _ come.fit).0 in
     let stands = first_stands (OfAttempt b) (map OfAccess b.accesses)
     (next_stands bytes t e rest k at (Attempts b) spelled come) in
-    let framed = framed_there (OfAttempt b) (spelled_short bytes t spelled) stands in
+    let framed = framed_there t (OfAttempt b) spelled (omega arith) stands in
     let says = attempt_again b (and_parts (is_attempt b) _ fits).0 in (
       ap attempt_in framed.0 ∙ says.1,
       record {
@@ -262,7 +278,7 @@ pub rollback_there : (bytes : List ℕ) (t : Trace) (e : ℕ) (rest : List (ℕ 
 rollback_there bytes t e rest k at r spelled come =
     let fits = (and_parts (is_step (row_count (head_of t)) (RollsBack r)) _ come.fit).0 in
     let stands = first_stands (OfRollback r) [] (next_stands bytes t e rest k at (RollsBack r) spelled come) in
-    let framed = framed_there (OfRollback r) (spelled_short bytes t spelled) stands in
+    let framed = framed_there t (OfRollback r) spelled (omega arith) stands in
     let says = rollback_again (row_count (head_of t)) r fits (few_rows bytes t spelled) in (
       ap rollback_in framed.0 ∙ says.1,
       record {
@@ -284,11 +300,12 @@ from_each : {A : Type 0} (P : A → Type 0) (xs : List A) → ((i : ℕ) (x : A)
 from_each P [] each = tt
 from_each P (x ∷ xs) each = (each 0 x refl, from_each P xs (λ i y e. each (suc i) y e))
 
-seen_again : (bytes : List ℕ) (rows : ℕ) (x : ℕ × Access) → length bytes ≤ 2 ^ 30 → rows ≤ most_rows
-    → IsTrue (is_access rows x.1) → StandsIn bytes x.0 (frame_text (OfAccess x.1)) → IsSeen bytes x
-seen_again bytes rows (at, x) short few fits stands =
-    let framed = framed_there (OfAccess x) short stands in
-    let says = access_again rows x fits few in
+seen_again : (bytes : List ℕ) (t : Trace) (x : ℕ × Access) → Spells bytes t
+    → IsTrue (is_access (row_count (head_of t)) x.1)
+    → StandsIn bytes x.0 (frame_text (OfAccess x.1)) → IsSeen bytes x
+seen_again bytes t (at, x) spelled fits stands =
+    let framed = framed_there t (OfAccess x) spelled (omega arith) stands in
+    let says = access_again (row_count (head_of t)) x fits (few_rows bytes t spelled) in
     record {
       again = ap (λ (y : Access). (at, y)) (ap access_in framed.0 ∙ says.1);
       there = record {
@@ -302,11 +319,10 @@ pub each_seen : (bytes : List ℕ) (t : Trace) (b : Attempt) (at : ℕ) → Spel
     → is_step (row_count (head_of t)) (Attempts b) ≡ true → StandsIn bytes at (step_text (Attempts b))
     → AllByRecursion (IsSeen bytes) (accesses_at at b)
 each_seen bytes t b at spelled fit step =
-    let few = few_rows bytes t spelled in
     let records = (and_parts (length b.accesses == length b.certificate)
     (list_all (is_access (row_count (head_of t))) b.accesses) (and_parts (is_attempt b) _ fit).1).1 in
     from_each (IsSeen bytes) (accesses_at at b) (λ i x got.
-    seen_again bytes (row_count (head_of t)) x (spelled_short bytes t spelled) few
+    seen_again bytes t x spelled
     (all_at (is_access (row_count (head_of t))) b.accesses i x.1 records
     (of_located (λ y. frame_text (OfAccess y)) (at + length (frame_text (OfAttempt b))) b.accesses i x got))
     (access_stands at b i x step got))

@@ -77,6 +77,7 @@ is_due t s a =
 abbrev pub is_right_attempt : Trace → SectionState → Attempt → Bool
 is_right_attempt t s a = is_due t s a && (length a.certificate == request_count t a)
 
+-- the certificate orders the attempt's batch: it keeps the groups, and in serial mode it is the listed order
 abbrev pub is_right_certificate : Trace → Attempt → Bool
 is_right_certificate t a = is_certificate (batch_at t a.seq).sizes (request_count t a) a.serial a.certificate
 
@@ -96,9 +97,11 @@ abbrev pub commits_first : List Placed → Commit → Bool
 commits_first [] c = false
 commits_first (p ∷ ps) c = (p.attempt.view == c.view) && same_bytes p.attempt.token c.token
 
+-- the commit is of the next number, and of the first open attempt
 abbrev pub is_right_commit : SectionState → Commit → Bool
 is_right_commit s c = (c.seq == s.last + 1) && commits_first s.pending c
 
+-- the rollback goes back to the last commit, some batch is left, and the next view begins
 abbrev pub is_right_rollback : Trace → SectionState → Rollback → Bool
 is_right_rollback t s r = (r.to == s.last) && (nat_lt s.last (length t.batches) && (r.view == s.view + 1))
 
@@ -108,6 +111,7 @@ are_right_accesses t a before [] = true
 are_right_accesses t a before (x ∷ xs) =
     is_right_access t a before x && (is_right_place before x && are_right_accesses t a (before ++ x ∷ []) xs)
 
+-- the step is right where the section has come to this
 abbrev pub is_right : Trace → SectionState → Step → Bool
 is_right t s (Attempts a) =
     is_right_attempt t s a && (is_right_certificate t a && are_right_accesses t a [] a.accesses)

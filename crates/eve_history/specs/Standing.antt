@@ -14,8 +14,9 @@ frame_length bytes at = 5 + big_number 4 (drop 1 (drop at bytes))
 abbrev pub frame_in : List ℕ → ℕ → List ℕ
 frame_in bytes at = take (frame_length bytes at) (drop at bytes)
 
--- it lies within the bytes
+-- it lies within the bytes, and doesn't begin at the first of them, where a trace's header does
 pub record IsFramed (bytes : List ℕ) (at : ℕ) : Type 0 where
+  pub not_first : 0 < at
   pub within : at + frame_length bytes at ≤ length bytes
   pub small : at < 2 ^ 32
 

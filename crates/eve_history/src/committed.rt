@@ -1,10 +1,12 @@
 //! The access records of what a replica committed.
 
 ghost use Rattle.std.specs.Prelude.{◌≡◌, ◌≤◌, ◌<◌, ◌-◌, ℕ, List, Some, IfOk, map, length, slice_get};
-ghost use Rattle.eve_grammar.specs.Trace.{Access};
+ghost use Rattle.eve_grammar.specs.Trace.{Access, Trace as TraceValue};
 ghost use Rattle.eve_grammar.specs.Frames.{OfAccess};
 ghost use Rattle.eve_grammar.specs.Spelling.{frame_text};
 ghost use Rattle.eve_frames.specs.Said.{access_said};
+ghost use Rattle.eve_views.specs.Lent.{HasBytesAt};
+ghost use Rattle.eve_history.specs.SectionHistory.{section_history};
 ghost use Rattle.eve_history.specs.Parts.{begin};
 
 use crate::frame::access_at;
@@ -88,6 +90,8 @@ impl<'a> CommittedRecords<'a> {
         ensures says { (xs : List (ℕ × Access)) × (slice_get self.now (n - 1) ≡ Some xs)
             × (slice_get xs place ≡ Some (result.offset, access_said result)) }
         ensures text { result.bytes.now ≡ frame_text (OfAccess (access_said result)) }
+        ensures stands { (t : TraceValue) (e : ℕ) → self.now ≡ map (λ r. r.ordered) (section_history t e).commits
+            → HasBytesAt t result.offset result.bytes.now }
     {
         let from = begin(&self.ends, n as usize - 1);
         let at = self.records[from + place];

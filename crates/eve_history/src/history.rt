@@ -288,6 +288,8 @@ impl<'a> History<'a> {
         ensures says { (r : ExecutedAttempt) × (slice_get self.now.attempts i ≡ Some r)
             × (slice_get r.ordered place ≡ Some (result.offset, access_said result)) }
         ensures text { result.bytes.now ≡ frame_text (OfAccess (access_said result)) }
+        ensures stands { (t : TraceValue) (e : ℕ) → self.now ≡ section_history t e
+            → HasBytesAt t result.offset result.bytes.now }
     {
         let from = self.notes.attempts[i].from;
         let at = self.notes.records[from + place];

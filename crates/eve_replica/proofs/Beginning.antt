@@ -1,6 +1,6 @@
 -- How replicas of a run begin.
-use Rattle.std.proofs.Common.{◌≡◌, ℕ, ℤ, ◌*◌, true, false, List, [], All, length, map, refl, sym, ap, ◌∙◌, subst}
-use Rattle.std.proofs.Common.{arith}
+use Rattle.std.proofs.Common.{◌≡◌, ℕ, ℤ, ◌-◌, ◌*◌, true, false, List, [], All, length, map, refl, sym, ap, ◌∙◌}
+use Rattle.std.proofs.Common.{subst, arith}
 use Rattle.std.proofs.lemmas.Bool.{false≢true}
 use Rattle.std.proofs.lemmas.List.{append-nil}
 use Rattle.std.proofs.lemmas.List.Elements.{All-nil}
@@ -16,7 +16,8 @@ use Rattle.eve_replica.specs.declared.server.Server.{Server}
 use Rattle.eve_replica.specs.Replicas.{Replica}
 use Rattle.eve_replica.specs.Sections.{RunPlan, GoesThrough, votes_along}
 use Rattle.eve_replica.specs.Serving.{IsPlanFor, Serves, AreVotesOn, AreOfItsView, plan_with}
-use Rattle.eve_replica.specs.Serving.{standing_of, first_standing}
+use Rattle.eve_replica.specs.Serving.{standing_of, first_standing, ComesTo, window_at}
+use Rattle.eve_replica.specs.Windows.{WindowState, window_with}
 
 -- a replica with the opening balances that has done nothing
 pub begins : (p : RunPlan) (names : List (List ℕ)) (balances : List ℤ) (h : Head) (s : Server)
@@ -26,6 +27,8 @@ pub begins : (p : RunPlan) (names : List (List ℕ)) (balances : List ℤ) (h : 
 begins p names balances h s plan rows is none live =
     let ledger : s.replica.ledger ≡ opening balances h.workers h.window = ap (λ (r : Replica). r.ledger) is in
     let first : p.first ≡ s.replica.ledger = plan.1 ∙ sym ledger in
+    let window_of : Ledger → WindowState = λ x. window_at p (standing_of x) in
+    let all_left : length p.batches ≡ length p.batches - 0 = omega arith in
     record {
       names = ap (λ (r : Replica). r.names) is ∙ sym plan.0;
       rows = ap ledger_rows ledger ∙ rows ∙ ap (λ (ns : List (List ℕ)). 2 * length ns) (sym plan.0);
@@ -33,6 +36,10 @@ begins p names balances h s plan rows is none live =
       whole = ap (λ (r : Replica). r.is_broken) is;
       steps = ap (list_all (is_step (ledger_rows s.replica.ledger))) none;
       through = subst (λ (ss : List Step). GoesThrough p ss p.first s.replica.ledger) (sym none) first;
+      windows = subst (λ (ss : List Step). ComesTo p.first.window (length p.batches) ss (window_of s.replica.ledger))
+          (sym none)
+          (subst (ComesTo p.first.window (length p.batches) [])
+          (ap (λ (n : ℕ). window_with p.first.window n 0) all_left ∙ ap window_of (sym ledger)) (λ rest goes. goes));
       of_view = subst AreOfItsView (sym ledger) (All-nil (λ (o : Opened). o.view ≡ 0));
       led = record {
         later = [];

@@ -27,12 +27,14 @@ use Rattle.eve_replica.specs.declared.deployment.Deployment.{Deployment}
 use Rattle.eve_replica.specs.Replicas.{Replica, Attempts, front_of}
 use Rattle.eve_replica.specs.Sections.{RunPlan, AttemptsNext, place_due, votes_along}
 use Rattle.eve_replica.specs.Serving.{standing_of, after_attempts, AreDue, AreVotesOn, AreOfItsView}
-use Rattle.eve_replica.specs.Serving.{IsOutvoted, IsLedBy, Serves}
+use Rattle.eve_replica.specs.Serving.{ComesTo, window_at, IsOutvoted, IsLedBy, Serves}
 use Rattle.eve_replica.specs.Deciding.{AreUndecided}
+use Rattle.eve_replica.specs.Windows.{WindowState}
 use Rattle.eve_replica.specs.Serving.{Move, attempt_move, rollback_move, AreBatchesFrom, GoesOn, GivesUpNext}
 use Rattle.eve_replica.specs.Serving.{IsUnderWay, live_in, sections_in}
 use Rattle.eve_replica.proofs.Counting.{counted_alike}
 use Rattle.eve_replica.proofs.Each.{AreAllOn}
+use Rattle.eve_replica.proofs.Windows.{same_state}
 
 -- the place that is due where a replica stands
 place_at : (s : Ledger) (at : Standing) → standing_of s ≡ at → at.committed + at.opened ≡ place_due s
@@ -87,9 +89,10 @@ led_on votes more old new false is led along live stays stops = record {
 
 -- a replica that went on serves, further on
 pub goes_on : (p : RunPlan) (at : Standing) (votes : List Vote) (m : Move) (old new : Server)
-    → AreBatchesFrom p.batches (at.committed + at.opened) m.window → GoesOn m old new → Serves p at votes old
-    → Serves p (m.further at) (votes ++ m.votes at) new
-goes_on p at votes m old new next goes serves = record {
+    → AreBatchesFrom p.batches (at.committed + at.opened) m.window
+    → (old.is_live ≡ true → m.InWindow p.first.window (window_at p at) (window_at p (m.further at)))
+    → GoesOn m old new → Serves p at votes old → Serves p (m.further at) (votes ++ m.votes at) new
+goes_on p at votes m old new next leads goes serves = record {
   names = goes.names ∙ serves.names;
   rows = goes.rows ∙ serves.rows;
   room = goes.room ∙ serves.room;
@@ -99,6 +102,8 @@ goes_on p at votes m old new next goes serves = record {
       (λ is. subst (λ (n : ℕ). AreBatchesFrom p.batches n m.window)
       (place_at old.replica.ledger at (serves.live is)) next)
       serves.through;
+  windows = goes.windows p.first.window (length p.batches) (window_of old) (window_of new) in_window
+      (λ is. ap (λ (s : Ledger). window_at p (standing_of s)) (sym (goes.stays is))) serves.windows;
   of_view = goes.of_view serves.of_view;
   led = led_on votes (m.votes at) old new new.is_live refl serves.led (along new.is_live refl)
       (λ is. (goes.live is).0) goes.stays
@@ -108,6 +113,17 @@ goes_on p at votes m old new next goes serves = record {
   behind = goes.behind at serves.live serves.behind;
 }
   where
+    window_of : Server → WindowState
+    window_of s = window_at p (standing_of s.replica.ledger)
+
+    in_window : new.is_live ≡ true → m.InWindow p.first.window (window_of old) (window_of new)
+    in_window is =
+        let live = goes.live is in
+        let stood = serves.live live.0 in
+        subst (λ (x : Standing). m.InWindow p.first.window (window_at p x) (window_of new)) (sym stood)
+        (subst (λ (x : Standing). m.InWindow p.first.window (window_at p at) (window_at p x))
+        (sym (live.1 ∙ ap m.further stood)) (leads live.0))
+
     here : (b : Bool) → new.is_live ≡ b → Path (List Vote)
         (if b then m.votes (standing_of old.replica.ledger) else []) (if b then m.votes at else [])
     here true is = ap m.votes (serves.live (goes.live is).0)
@@ -187,6 +203,7 @@ one_more many window w a b c there first more =
       steps = λ h. more.steps (first.steps h);
       through = λ p names follow goes. more.through p (first.names ∙ names) (λ live. next_one p follow live)
           (first.through p names follow goes);
+      windows = λ size batches from to. windows_on size batches from to c.is_live refl;
       of_view = λ h. more.of_view (first.of_view h);
       given_up = λ view stays.
           more.given_up view (λ enters. omega arith) ∙ first.given_up view (λ enters. omega arith);
@@ -212,6 +229,24 @@ one_more many window w a b c there first more =
     stopped_before : (l : Bool) → b.is_live ≡ l → c.is_live ≡ false → b.is_live ≡ false
     stopped_before true live is = absurd (let next = (more.stops is live).next in cc)
     stopped_before false live is = live
+
+    windows_on : (size batches : ℕ) (from to : WindowState) (l : Bool) → c.is_live ≡ l
+        → (c.is_live ≡ true → (attempt_move (many + 1) window).InWindow size from to) → (c.is_live ≡ false → from ≡ to)
+        → ComesTo size batches (section a.steps) from → ComesTo size batches (section c.steps) to
+    windows_on size batches from to true live leads stays comes =
+        let made = leads live in
+        let mid : WindowState = record from { due = from.due - many; opened = from.opened + many } in
+        let due : from.due - (many + 1) ≡ from.due - many - 1 = omega arith in
+        let opened : from.opened + (many + 1) ≡ from.opened + many + 1 = omega arith in
+        more.windows size batches mid to
+        (λ is. (omega (arith, made.0), made.1 ∙ same_state from.left due opened))
+        (λ is. absurd (false≢true (sym is ∙ live)))
+        (first.windows size batches from mid (λ is. (omega (arith, made.0), refl))
+        (λ is. absurd (false≢true (sym is ∙ (more.live live).0))) comes)
+    windows_on size batches from to false stopped leads stays comes =
+        more.windows size batches from to (λ is. absurd (false≢true (sym stopped ∙ is))) stays
+        (first.windows size batches from from
+        (λ is. absurd (false≢true (sym (stopped_before b.is_live refl stopped) ∙ is))) (λ is. refl) comes)
 
     next_one : (p : RunPlan) → (a.is_live ≡ true → AreBatchesFrom p.batches (place_due a.replica.ledger) window)
         → b.is_live ≡ true → AreBatchesFrom p.batches (place_due b.replica.ledger) (w ∷ [])
@@ -284,11 +319,23 @@ due p many at votes s fits last serves live =
 
 -- Replicas went on by this move, and serve further on.
 pub serve_on : (p : RunPlan) (at : Standing) (votes : List Vote) (m : Move) (was servers : List Server)
-    → AreBatchesFrom p.batches (at.committed + at.opened) m.window → AreAllOn (GoesOn m) was servers
-    → All (Serves p at votes) was → All (Serves p (m.further at) (votes ++ m.votes at)) servers
-serve_on p at votes m was servers next on serve = λ k d there.
-    goes_on p at votes m (get_or was k d) (get_or servers k d) next (on.each k d there)
-    (serve k d (omega (arith, on.many)))
+    → AreBatchesFrom p.batches (at.committed + at.opened) m.window
+    → ((k : ℕ) (d : Server) → k < length was → (get_or was k d).is_live ≡ true
+    → m.InWindow p.first.window (window_at p at) (window_at p (m.further at)))
+    → AreAllOn (GoesOn m) was servers → All (Serves p at votes) was
+    → All (Serves p (m.further at) (votes ++ m.votes at)) servers
+serve_on p at votes m was servers next leads on serve = λ k d there.
+    let before : k < length was = omega (arith, on.many) in
+    goes_on p at votes m (get_or was k d) (get_or servers k d) next (leads k d before) (on.each k d there)
+    (serve k d before)
+
+-- wherever a live replica is said to stand, it has as many attempts open
+pub open_there : (p p' : RunPlan) (at at' : Standing) (votes votes' : List Vote) (s : Server) → Serves p at votes s
+    → Serves p' at' votes' s → s.is_live ≡ true → 0 < at.opened → 0 < at'.opened
+open_there p p' at at' votes votes' s one other live some =
+    let here = ap (λ (x : Standing). x.opened) (one.live live) in
+    let there = ap (λ (x : Standing). x.opened) (other.live live) in
+    omega arith
 
 -- as many are live as passed
 pub live_on : (passes : Server → Bool) (was servers : List Server)

@@ -5,6 +5,7 @@ mod GivenUp
 mod Undecided
 mod Going
 mod Through
+mod Windows
 pub mod OneStep
 mod Beginning
 mod Sectioned

@@ -1,9 +1,10 @@
 -- Public: other crates cite these lemmas. A replica that attempts, commits or rolls back goes on.
-use Rattle.std.proofs.Common.{◌≡◌, ℕ, suc, ◌+◌, ◌-◌, ◌<◌, Bool, true, false, if◌then◌else◌, List, [], ◌∷◌, ◌++◌, length}
-use Rattle.std.proofs.Common.{slice_get, Option, Some, option_map, All, IsTrue, refl, sym, ap, ◌∙◌}
-use Rattle.std.proofs.Common.{subst, arith, add-zero}
+use Rattle.std.proofs.Common.{◌≡◌, ℕ, suc, ◌+◌, ◌-◌, ◌<◌, ◌≤◌, Bool, true, false, ◌&&◌, if◌then◌else◌}
+use Rattle.std.proofs.Common.{List, [], ◌∷◌, ◌++◌, length, slice_get, Option, Some, option_map, All, IsTrue, refl}
+use Rattle.std.proofs.Common.{sym, ap, ◌∙◌, subst, arith, add-zero}
 use Rattle.std.proofs.lemmas.List.{append-nil}
 use Rattle.std.proofs.lemmas.List.Elements.{All-head, All-tail, All-nil}
+use Rattle.std.proofs.Math.Bool.{and-true}
 use Rattle.std.proofs.lemmas.Bool.{false≢true}
 use Rattle.std.proofs.lemmas.Slice.Eq.{bytes_eq-Decides}
 use Rattle.std.specs.List.{list_all}
@@ -18,13 +19,15 @@ use Rattle.eve_replica.specs.declared.standing.Standing.{Standing}
 use Rattle.eve_replica.specs.Replicas.{Replica}
 use Rattle.eve_replica.specs.Replicas as replica
 use Rattle.eve_replica.specs.Sections.{RunPlan, GoesThrough, place_due, votes_on, votes_along}
-use Rattle.eve_replica.specs.Serving.{standing_of, after_commit, AreDue, AreRightSteps, AreOfItsView, GoesOn}
-use Rattle.eve_replica.specs.Serving.{IsOutvoted, attempt_move}
+use Rattle.eve_replica.specs.Serving.{standing_of, after_attempts, after_commit, AreDue, AreRightSteps, AreOfItsView}
+use Rattle.eve_replica.specs.Serving.{GoesOn, IsOutvoted, ComesTo, Move, attempt_move}
+use Rattle.eve_replica.specs.Windows.{WindowState, GoByWindows}
 use Rattle.eve_replica.specs.Deciding.{is_some_of, token_given_up}
 use Rattle.eve_replica.specs.Serving.{commit_move, rollback_move, next_token, GivesUpNext}
 use Rattle.eve_replica.proofs.Counting.{is_that, next_by}
 use Rattle.eve_replica.proofs.GivenUp.{GivesNone, none_more, other_view, none_given_up, first_given_up}
 use Rattle.eve_replica.proofs.Through.{through_more, votes_more}
+use Rattle.eve_replica.proofs.Windows.{same_state, comes_more}
 use Rattle.eve_replica.proofs.Going.{stand, attempted, attempts_next, attempted_in_view, no_votes}
 
 -- ---- what is given up
@@ -57,6 +60,12 @@ attempt_goes view serial b a old new due live lives made added right =
           (through_more p steps (Attempts a) p.first old.replica.ledger new.replica.ledger goes
           (attempts_next p view serial old.replica new.replica b a due names
           (ap (slice_get p.batches) (sym (add-zero (place_due old.replica.ledger))) ∙ next live 0 (omega arith)) made));
+      windows = λ size batches from to leads stays comes.
+          let turn = leads lives in
+          subst (λ (ss : List Step). ComesTo size batches ss to) (sym added)
+          (comes_more size batches steps (Attempts a) from to
+          (λ rest goes. (omega (arith, turn.0), subst (λ (s : WindowState). GoByWindows size s rest) turn.1 goes))
+          comes);
       given_up = λ v stays. same_given_up v (Attempts a) old new added (λ opened. refl);
       of_view = attempted_in_view view serial old.replica new.replica b a due made;
       votes = λ h. ap votes_along added ∙ votes_more steps (Attempts a) ∙ append-nil (votes_along steps)
@@ -67,6 +76,34 @@ attempt_goes view serial b a old new due live lives made added right =
       stays = λ stopped. absurd (false≢true (sym stopped ∙ lives));
       stops = λ stopped was. absurd (false≢true (sym stopped ∙ lives));
     }
+
+-- before the first attempt of a window
+pub none_made : (window : List Batch) (s : Server) → s.is_live ≡ true → GoesOn (attempt_move 0 window) s s
+none_made window s live = record {
+  names = refl;
+  rows = refl;
+  room = refl;
+  whole = λ h. h;
+  steps = λ h. h;
+  through = λ p names next goes. goes;
+  windows = λ size batches from to leads stays comes.
+      let due : from.due ≡ from.due - 0 = omega arith in
+      let opened : from.opened ≡ from.opened + 0 = omega arith in
+      subst (ComesTo size batches (section s.steps)) (same_state from.left due opened ∙ sym (leads live).1) comes;
+  of_view = λ h. h;
+  given_up = λ v stays. refl;
+  votes = λ h. sym (no_votes s.is_live (votes_along (section s.steps)));
+  view = λ at le. le;
+  live = λ h. (live, none_further (standing_of s.replica.ledger));
+  behind = λ at stands was stopped. was stopped;
+  stays = λ stopped. refl;
+  stops = λ stopped was. absurd (false≢true (sym stopped ∙ live));
+}
+  where
+    none_further : (at : Standing) → at ≡ after_attempts 0 at
+    none_further at =
+        stand at.view at.committed at.opened (at.opened + 0) at.is_next_serial (at.is_next_serial && true)
+        (omega arith) (sym (and-true at.is_next_serial))
 
 -- ---- commits
 
@@ -139,6 +176,11 @@ commit_goes token c old new has lives made added right =
       through = λ p names next goes.
           subst (λ (ss : List Step). GoesThrough p ss p.first new.replica.ledger) (sym added)
           (through_more p steps (Commits c) p.first ledger new.replica.ledger goes moved);
+      windows = λ size batches from to leads stays comes.
+          let turn = leads (lives ∙ live) in
+          subst (λ (ss : List Step). ComesTo size batches ss to) (sym added)
+          (comes_more size batches steps (Commits c) from to
+          (λ rest goes. (turn.0, subst (λ (s : WindowState). GoByWindows size s rest) turn.1 goes)) comes);
       given_up = λ v stays. same_given_up v (Commits c) old new added (λ opened. refl);
       of_view = committed_in_view ledger new.replica.ledger c moved;
       votes = λ h. ap votes_along added ∙ votes_more steps (Commits c)
@@ -191,6 +233,9 @@ stop_goes token old new some other stopped same steps =
       through = λ p names next goes.
           subst (λ (ss : List Step). GoesThrough p ss p.first new.replica.ledger) (sym steps)
           (subst (GoesThrough p (section old.steps) p.first) (sym ledger) goes);
+      windows = λ size batches from to leads stays comes.
+          subst (λ (ss : List Step). ComesTo size batches ss to) (sym steps)
+          (subst (ComesTo size batches (section old.steps)) (stays stopped) comes);
       given_up = λ v stays. ap (token_given_up v []) steps;
       of_view = λ h. subst AreOfItsView (sym ledger) h;
       votes = λ h. ap votes_along steps ∙ sym (append-nil (votes_along (section old.steps)))
@@ -210,6 +255,30 @@ stop_goes token old new some other stopped same steps =
     behind_now at stands was true is same =
         let here = ap (λ (x : Standing). x.committed) (stands is) in omega arith
     behind_now at stands was false is same = let before = was is in omega arith
+
+-- and one that is live no more stays as it is, whatever the others do
+pub rests : (m : Move) (s : Server) → ((at : Standing) → at.view ≤ (m.further at).view)
+    → ((at : Standing) → at.committed ≤ (m.further at).committed) → s.is_live ≡ false → GoesOn m s s
+rests m s views commits stopped = record {
+  names = refl;
+  rows = refl;
+  room = refl;
+  whole = λ h. h;
+  steps = λ h. h;
+  through = λ p names next goes. goes;
+  windows = λ size batches from to leads stays comes.
+      subst (ComesTo size batches (section s.steps)) (stays stopped) comes;
+  of_view = λ h. h;
+  given_up = λ v stays. refl;
+  votes = λ h. sym (append-nil (votes_along (section s.steps)))
+      ∙ ap (λ (b : Bool). votes_along (section s.steps)
+      ++ (if b then m.votes (standing_of s.replica.ledger) else [])) (sym stopped);
+  view = λ at le. let up = views at in omega arith;
+  live = λ h. absurd (false≢true (sym stopped ∙ h));
+  behind = λ at stands was h. let before = was h in let up = commits at in omega arith;
+  stays = λ h. refl;
+  stops = λ h live. absurd (false≢true (sym stopped ∙ live));
+}
 
 -- ---- rollbacks
 
@@ -243,6 +312,11 @@ rollback_goes r old new live lives some made whole added right =
       through = λ p names next goes.
           subst (λ (ss : List Step). GoesThrough p ss p.first new.replica.ledger) (sym added)
           (through_more p steps (RollsBack r) p.first ledger new.replica.ledger goes (some, made));
+      windows = λ size batches from to leads stays comes.
+          let turn = leads lives in
+          subst (λ (ss : List Step). ComesTo size batches ss to) (sym added)
+          (comes_more size batches steps (RollsBack r) from to
+          (λ rest goes. (turn.0, subst (λ (s : WindowState). GoByWindows size s rest) turn.1 goes)) comes);
       given_up = λ v stays.
           same_given_up v (RollsBack r) old new added (other_view v r (λ same. stays (omega (arith, made.view))));
       of_view = λ h. rolled_back_in_view ledger new.replica.ledger r made;

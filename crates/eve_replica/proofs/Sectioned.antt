@@ -2,7 +2,7 @@
 use Rattle.std.proofs.Common.{◌≡◌, ℕ, ◌+◌, ◌*◌, ◌<◌, ◌≤◌, Bool, true, false, cond, List, [], ◌∷◌, All}
 use Rattle.std.proofs.Common.{ℤ, Vec}
 use Rattle.std.proofs.Common.{length, map, refl, sym, ap, ◌∙◌, subst, eq-eqb, arith}
-use Rattle.std.proofs.lemmas.List.{length-map}
+use Rattle.std.proofs.lemmas.List.{append-nil, length-map}
 use Rattle.std.proofs.lemmas.List.Elements.{All-head, All-tail, All-cons, All-nil}
 use Rattle.std.proofs.lemmas.List.Sums.{sum_by-cons}
 use Rattle.std.specs.List.{count_by}
@@ -23,7 +23,9 @@ use Rattle.eve_replica.specs.Deciding.{AreUndecided, StopsBefore, open_after}
 use Rattle.eve_replica.specs.Sections.{RunPlan, commits_in}
 use Rattle.eve_replica.specs.Sending.{sent_from_on}
 use Rattle.eve_replica.specs.Run.{IsSectionOf, IsDecidedBy, IsTraceOf, batches_cut, has_committed, run_plan}
-use Rattle.eve_replica.specs.Serving.{Serves, live_in, plan_with}
+use Rattle.eve_replica.specs.Serving.{Serves, live_in, plan_with, standing_of, window_at}
+use Rattle.eve_replica.specs.Windows.{GoByWindows, window_with}
+use Rattle.eve_replica.proofs.Windows.{window_ends, windows_end}
 use Rattle.eve_replica.proofs.GivenUp.{open_marked, open_along, first_open}
 use Rattle.eve_replica.proofs.Through.{commits_through}
 
@@ -35,13 +37,24 @@ each_section P Q gives (s ∷ servers) all =
     All-cons Q (section s.steps) (map (λ t. section t.steps) servers) (gives s (All-head P s servers all))
     (each_section P Q gives servers (All-tail P s servers all))
 
-pub section_of : (p : RunPlan) (at : Standing) (votes : List Vote) → at.view ≤ 2 * length p.batches → (s : Server)
-    → Serves p at votes s → IsSectionOf p (section s.steps)
-section_of p at votes few s serves = record {
+pub section_of : (p : RunPlan) (at : Standing) (votes : List Vote) → at.committed ≡ length p.batches
+    → at.view ≤ 2 * length p.batches → (s : Server) → Serves p at votes s → IsSectionOf p (section s.steps)
+section_of p at votes done few s serves = record {
   last = s.replica.ledger;
   through = serves.through;
+  windows = subst (GoByWindows p.first.window (window_with p.first.window (length p.batches) 0))
+      (append-nil (section s.steps)) (serves.windows [] (ended s.is_live refl));
   views = omega (arith, serves.view);
 }
+  where
+    here : Standing
+    here = standing_of s.replica.ledger
+
+    ended : (b : Bool) → s.is_live ≡ b → (window_at p here).due ≡ 0
+    ended true is =
+        let stands = ap (λ (x : Standing). x.committed) (serves.live is) in windows_end p here (omega arith)
+    ended false is =
+        let out = ap length (serves.led.stopped is).opened in window_ends p here (omega arith)
 
 -- as many are committed in its section as in its account
 commits_counted : (p : RunPlan) (at : Standing) (votes : List Vote) (s : Server) → p.first.committed ≡ 0
@@ -179,7 +192,7 @@ run_of w mixer p plan at led servers is head customers batches sections serve do
       batches = batches;
       sections = subst (λ (ss : List (List Step)). All (IsSectionOf (run_plan w mixer)) ss) (sym sections)
           (subst (λ (x : RunPlan). All (IsSectionOf x) (map (λ s. section s.steps) servers)) is
-          (each_section (Serves plan at led) (IsSectionOf plan) (section_of plan at led few) servers serve));
+          (each_section (Serves plan at led) (IsSectionOf plan) (section_of plan at led done few) servers serve));
       committed = subst (λ (ss : List (List Step)). length ss < 2 * count_by (has_committed (length w.batches)) ss)
           (sym sections) (most_commit plan at led (length w.batches) none done' servers serve more);
       undecided = subst AreUndecided (sym sections) undecided;

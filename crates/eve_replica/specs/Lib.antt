@@ -1,4 +1,5 @@
 pub mod Sections
+pub mod Windows
 pub mod Deciding
 pub mod Sending
 pub mod Run

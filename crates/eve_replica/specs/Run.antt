@@ -13,6 +13,7 @@ use Rattle.eve_attempts.specs.Ledgers.{Ledger, opening}
 use Rattle.eve_replica.specs.Deciding.{AreUndecided, StopsBefore}
 use Rattle.eve_replica.specs.Sending.{sent_from_on}
 use Rattle.eve_replica.specs.Sections.{RunPlan, GoesThrough, votes_along, commits_in}
+use Rattle.eve_replica.specs.Windows.{GoByWindows, window_with}
 
 -- each batch of the workload, cut into parallelBatches
 abbrev pub batches_cut : Workload → Mixer → List Batch
@@ -26,11 +27,12 @@ run_plan w mixer = record {
   first = opening (opening_rows w.customers) w.deployment.workers w.deployment.window;
 }
 
--- The section of a replica: its steps are what its account went through, which began with the opening balances, and
--- there are no more rollbacks than two for each batch.
+-- The section of a replica: its steps are what its account went through, which began with the opening balances; they
+-- go window by window; and there are no more rollbacks than two for each batch.
 pub record IsSectionOf (p : RunPlan) (steps : List Step) : Type 0 where
   pub last : Ledger
   pub through : GoesThrough p steps p.first last
+  pub windows : GoByWindows p.first.window (window_with p.first.window (length p.batches) 0) steps
   pub views : last.view ≤ 2 * length p.batches
 
 -- whether so many batches are committed in a section

@@ -1,7 +1,7 @@
 -- What a run of a deployment keeps from window to window. docs/TRACE.md, "The deployment's procedure".
 use Rattle.std.specs.Prelude.{◌≡◌, ◌≢◌, ℕ, ℤ, ◌+◌, ◌-◌, ◌*◌, ◌<◌, ◌≤◌, ◌==◌, Bool, true, false, ◌&&◌, if◌then◌else◌}
 use Rattle.std.specs.Prelude.{All, IsTrue, List, [], ◌∷◌, ◌++◌, length, map, slice_get, vec_len, Option, Some, None}
-use Rattle.std.specs.Prelude.{option_map}
+use Rattle.std.specs.Prelude.{option_map, min}
 use Rattle.std.specs.List.{count_by, list_all}
 use Rattle.eve_grammar.specs.Trace.{Batch, Step, Vote, ForCommit, ForRollback}
 use Rattle.eve_grammar.specs.declared.limits.TheConstants.{MOST_BATCHES}
@@ -16,6 +16,7 @@ use Rattle.eve_write.specs.declared.sent.SentData.{SentData}
 use Rattle.eve_workload.specs.declared.mixer.MixedBatch.{MixedBatch}
 use Rattle.eve_replica.specs.Deciding.{is_some_of, token_given_up, AreUndecided}
 use Rattle.eve_replica.specs.Sections.{RunPlan, GoesThrough, place_due, votes_along}
+use Rattle.eve_replica.specs.Windows.{WindowState, GoByWindows, window_with}
 use Rattle.eve_replica.specs.declared.standing.Standing.{Standing}
 use Rattle.eve_replica.specs.declared.server.Server.{Server}
 use Rattle.eve_replica.specs.declared.deployment.Deployment.{Deployment}
@@ -78,6 +79,25 @@ pub record AreDue (many view : ℕ) (serial : Bool) (s : Ledger) : Type 0 where
   pub in_view : s.view ≡ view
   pub in_mode : s.is_next_serial ≡ serial
 
+-- ---- windows
+
+-- These steps have come to this state of a window: whatever goes on window by window from there does so after them from
+-- the first on.
+abbrev pub ComesTo : (window batches : ℕ) → List Step → WindowState → Type 0
+ComesTo window batches steps at =
+    (rest : List Step) → GoByWindows window at rest → GoByWindows window (window_with window batches 0) (steps ++ rest)
+
+-- the state of a window where a replica stands here
+abbrev pub window_at : RunPlan → Standing → WindowState
+window_at p at = window_with p.first.window (length p.batches - at.committed) at.opened
+
+-- So many attempts are those of a whole window: none is open; there is one for each batch that is left, but no more
+-- than a window has.
+pub record AreWholeWindow (p : RunPlan) (at : Standing) (many : ℕ) : Type 0 where
+  pub none_open : at.opened ≡ 0
+  pub some : 0 < many
+  pub whole : many ≡ min p.first.window (length p.batches - at.committed)
+
 -- ---- replicas of a run
 
 -- all that a replica did lies within the limits
@@ -106,8 +126,9 @@ pub record IsLedBy (votes : List Vote) (s : Server) : Type 0 where
   pub none_later : s.is_live ≡ true → later ≡ []
   pub stopped : s.is_live ≡ false → IsOutvoted s.replica.ledger later
 
--- A replica of a run by this plan. It isn't broken; all that it did lies within the limits, and is what its account
--- went through, on these votes; where it is live it stands here, and where it stopped it has committed less.
+-- A replica of a run by this plan. It isn't broken; all that it did lies within the limits, is what its account went
+-- through, on these votes, and goes window by window; where it is live it stands here, and where it stopped it has
+-- committed less.
 pub record Serves (p : RunPlan) (at : Standing) (votes : List Vote) (s : Server) : Type 0 where
   pub names : s.replica.names ≡ p.names
   pub rows : ledger_rows s.replica.ledger ≡ 2 * length p.names
@@ -115,6 +136,8 @@ pub record Serves (p : RunPlan) (at : Standing) (votes : List Vote) (s : Server)
   pub whole : s.replica.is_broken ≡ false
   pub steps : AreRightSteps s
   pub through : GoesThrough p (section s.steps) p.first s.replica.ledger
+  pub windows : ComesTo p.first.window (length p.batches) (section s.steps)
+      (window_at p (standing_of s.replica.ledger))
   pub of_view : AreOfItsView s.replica.ledger
   pub led : IsLedBy votes s
   pub view : s.replica.ledger.view ≤ at.view
@@ -123,20 +146,29 @@ pub record Serves (p : RunPlan) (at : Standing) (votes : List Vote) (s : Server)
 
 -- ---- how a replica goes on
 
--- What live replicas do together: how far it takes them, which batches they attempt, and the votes on which they do it.
-pub record Move : Type 0 where
+-- What live replicas do together: how far it takes them, at which state of a window it may come and to which it leads,
+-- which batches they attempt, and the votes on which they do it.
+pub record Move : Type 1 where
   pub further : Standing → Standing
+  pub InWindow : (size : ℕ) → (old new : WindowState) → Type 0
   pub window : List Batch
   pub votes : Standing → List Vote
 
 -- so many attempts, of the first batches of a window
 abbrev pub attempt_move : ℕ → List Batch → Move
-attempt_move many window = record { further = after_attempts many; window = window; votes = λ at. [] }
+attempt_move many window = record {
+  further = after_attempts many;
+  InWindow = λ size old new.
+      (many ≤ old.due) × (new ≡ record old { due = old.due - many; opened = old.opened + many });
+  window = window;
+  votes = λ at. [];
+}
 
 -- the commit of the first open batch, with this token
 abbrev pub commit_move : List ℕ → Move
 commit_move token = record {
   further = after_commit;
+  InWindow = λ size old new. (old.due ≡ 0) × (new ≡ window_with size (old.left - 1) (old.opened - 1));
   window = [];
   votes = λ at. record { seq = at.committed + 1; view = at.view; choice = ForCommit token } ∷ [];
 }
@@ -145,6 +177,7 @@ commit_move token = record {
 abbrev pub rollback_move : Move
 rollback_move = record {
   further = after_rollback;
+  InWindow = λ size old new. (old.due ≡ 0) × (new ≡ window_with size old.left 0);
   window = [];
   votes = λ at. record { seq = at.committed + 1; view = at.view; choice = ForRollback } ∷ [];
 }
@@ -160,9 +193,9 @@ AreBatchesFrom batches place window =
 
 -- A replica went on: its names, its rows and how many attempts it may have open stay; it isn't broken if it wasn't; all
 -- that it did lies within the limits if it did before, and is what its account went through where the batches of the
--- window are due; what it gave up stays, but for the views that it comes to; if it is still live it did so on these
--- votes, and stands this much further, and else on none; where it is live no more its account stays, and the next of
--- these votes says why it stopped, if it did by this move.
+-- window are due, and goes on window by window where this may come now; what it gave up stays, but for the views that
+-- it comes to; if it is still live it did so on these votes, and stands this much further, and else on none; where it is
+-- live no more its account stays, and the next of these votes says why it stopped, if it did by this move.
 pub record GoesOn (m : Move) (old new : Server) : Type 0 where
   pub names : new.replica.names ≡ old.replica.names
   pub rows : ledger_rows new.replica.ledger ≡ ledger_rows old.replica.ledger
@@ -173,6 +206,9 @@ pub record GoesOn (m : Move) (old new : Server) : Type 0 where
       → (old.is_live ≡ true → AreBatchesFrom p.batches (place_due old.replica.ledger) m.window)
       → GoesThrough p (section old.steps) p.first old.replica.ledger
       → GoesThrough p (section new.steps) p.first new.replica.ledger
+  pub windows : (size batches : ℕ) (from to : WindowState) → (new.is_live ≡ true → m.InWindow size from to)
+      → (new.is_live ≡ false → from ≡ to) → ComesTo size batches (section old.steps) from
+      → ComesTo size batches (section new.steps) to
   pub of_view : AreOfItsView old.replica.ledger → AreOfItsView new.replica.ledger
   pub given_up : (view : ℕ) → ¬ Enters m (standing_of old.replica.ledger) view
       → token_given_up view [] (section new.steps) ≡ token_given_up view [] (section old.steps)

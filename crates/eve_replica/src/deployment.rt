@@ -6,7 +6,8 @@ ghost use Rattle.eve_write.specs.Data.{batch as plain};
 ghost use Rattle.eve_replica.specs.declared.standing.Standing.{Standing};
 ghost use Rattle.eve_replica.specs.Deciding.{AreUndecided};
 ghost use Rattle.eve_replica.specs.Sections.{RunPlan};
-ghost use Rattle.eve_replica.specs.Serving.{IsRightMixed, Serves, AreBatchesFrom, IsSameRun, IsUnderWay};
+ghost use Rattle.eve_replica.specs.Serving.{IsRightMixed, Serves, AreBatchesFrom, AreWholeWindow};
+ghost use Rattle.eve_replica.specs.Serving.{IsSameRun, IsUnderWay};
 ghost use Rattle.eve_replica.specs.Serving.{after_attempts, after_commit, after_rollback, commit_move, rollback_move};
 ghost use Rattle.eve_replica.specs.Serving.{IsDecision, count_with, live_in, sections_in};
 
@@ -150,7 +151,7 @@ fn attempt_all<R: Threads + Wait + Sync, G: Gate>(
         × (standing.committed + standing.opened + length window.now ≤ MOST_BATCHES) }
     ensures serve { (p : RunPlan) (votes : List Vote)
         → AreBatchesFrom p.batches (standing.committed + standing.opened) (map (λ m. plain m.batch) window.now)
-        → All (Serves p standing votes) servers.old
+        → AreWholeWindow p standing (length window.now) → All (Serves p standing votes) servers.old
         → OnOk result (All (Serves p (after_attempts (length window.now) standing) votes) servers.new) }
     ensures live { OnOk result (live_in servers.new ≡ live_in servers.old) }
     ensures undecided { AreUndecided (sections_in servers.old) → OnOk result (AreUndecided (sections_in servers.new)) }

@@ -3,11 +3,10 @@
 ghost use Rattle.std.specs.Prelude.{◌≡◌};
 ghost use Rattle.eve_replica.specs.Replicas.{IsFresh};
 ghost use Rattle.eve_replica.specs.RunFaults.{run_fault_of};
-ghost use Rattle.eve_replica.specs.declared.fault.AttemptFault.TheVariants as attempt;
 ghost use Rattle.eve_replica.specs.declared.fault.RunFault.TheVariants as run;
 
 use eve_floor::ExecFault;
-use std::alloc::{AllocError, AllocFailed};
+use std::alloc::AllocError;
 use thiserror::Error;
 
 /// Why a batch was not attempted. Every fault but `Broken` breaks the replica.
@@ -62,34 +61,10 @@ pub enum RunFault {
     Broken,
 }
 
-impl From<AllocError> for AttemptFault {
-    ghost from_gives = { λ _ e. e ≡ attempt.Memory };
-
-    fn from(_e: AllocError) -> AttemptFault {
-        AttemptFault::Memory
-    }
-}
-
-impl<T: Drop> From<AllocFailed<T>> for AttemptFault {
-    ghost from_gives = { λ _ e. e ≡ attempt.Memory };
-
-    fn from(_e: AllocFailed<T>) -> AttemptFault {
-        AttemptFault::Memory
-    }
-}
-
 impl From<AllocError> for RunFault {
     ghost from_gives = { λ _ e. e ≡ run.Memory };
 
     fn from(_e: AllocError) -> RunFault {
-        RunFault::Memory
-    }
-}
-
-impl<T: Drop> From<AllocFailed<T>> for RunFault {
-    ghost from_gives = { λ _ e. e ≡ run.Memory };
-
-    fn from(_e: AllocFailed<T>) -> RunFault {
         RunFault::Memory
     }
 }

@@ -1,6 +1,6 @@
 //! Where the live replicas of a run stand.
 
-/// Views of a run: two for each batch that there may be, and none beyond.
+/// Views of a run: two for each of at most 65,535 batches, and none beyond.
 pub(crate) const MOST_VIEWS: u32 = 131_072;
 
 /// What all live replicas of a run have in common: their view, the last batch that they committed, how many attempts

@@ -26,8 +26,8 @@ use std::thread::Threads;
 /// in the order in which it was taken. Each worker has one thread for all the batches, so that no thread is started
 /// anew for each of them.
 ///
-/// The workers lend the last of the seats at the tickets of ticks, and give them back whatever comes. All memory is
-/// asked for before the first request is run.
+/// The workers lend the last of the seats at the tickets of ticks, and give them back whatever comes. The lists of what
+/// they note are asked for before the first request is run.
 pub fn run_batches<R: Threads + Wait + Sync, G: Gate>(
     rt: &R,
     alloc: Global,

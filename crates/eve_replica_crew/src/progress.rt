@@ -1,4 +1,4 @@
-//! How far the workers of an attempt are.
+//! How far the workers are with the batches of a window.
 
 use crossbeam_utils::CachePadded;
 use std::hint::spin_loop;

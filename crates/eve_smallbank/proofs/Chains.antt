@@ -71,6 +71,20 @@ chained_by_rows base before (x ∷ xs) rows = (
   chained_by_rows base (before_next before x.entries) xs (λ n. (rows n).1),
 )
 
+-- each row is chained by itself where all are
+pub rows_by_chain : (base : Table) (before : List Entry) (xs : List Executed)
+    → IsChained base before xs → (row : ℕ) → IsRowChained base row before xs
+rows_by_chain base before [] chained row = tt
+rows_by_chain base before (x ∷ xs) chained row = (
+  of_row x.entries chained.0,
+  rows_by_chain base (before_next before x.entries) xs chained.1 row,
+)
+  where
+    of_row : (es : List Entry) → AllByRecursion (Sees (visible_at base before)) es
+        → AllByRecursion (λ e. e.row ≡ row → Sees (visible_at base before) e) es
+    of_row [] sees = tt
+    of_row (e ∷ es) sees = (λ _. sees.0, of_row es sees.1)
+
 -- ---- one request after another
 
 value_if : (b : Bool) (e : Entry) (v : Versioned) → (cond b (left_by e) v).value ≡ cond b e.after v.value

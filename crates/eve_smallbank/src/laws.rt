@@ -1,6 +1,6 @@
 //! Laws about the definitions. Each body is empty: the contract is the law.
 
-ghost use Rattle.std.specs.Prelude.{◌≡◌, ℕ, List, [], map};
+ghost use Rattle.std.specs.Prelude.{◌≡◌, ◌↔◌, ℕ, List, [], map};
 ghost use Rattle.std.specs.List.{AllByRecursion};
 ghost use Rattle.eve_smallbank.specs.SmallBank.{Request};
 ghost use Rattle.eve_smallbank.specs.declared.entry.Entry.{Entry};
@@ -9,7 +9,8 @@ ghost use Rattle.eve_smallbank.specs.declared.request.Reply.TheVariants.{Aborted
 ghost use Rattle.eve_smallbank.specs.declared.rows.Touched.TheVariants.{Refused};
 ghost use Rattle.eve_smallbank.specs.Access.{Executed, Fits};
 ghost use Rattle.eve_smallbank.specs.Touch.{touched_of, rows_in};
-ghost use Rattle.eve_smallbank.specs.Chain.{Table, visible_at, Sees, IsRowChained, HasOneEach, IsWalk, row_entries};
+ghost use Rattle.eve_smallbank.specs.Chain.{Table, visible_at, Sees, IsChained, IsRowChained, HasOneEach, IsWalk};
+ghost use Rattle.eve_smallbank.specs.Chain.{row_entries};
 ghost use Rattle.eve_smallbank.specs.Execution.{executed_on};
 ghost use Rattle.eve_smallbank.specs.SerialOrder.{IsSound, IsSerial};
 
@@ -29,6 +30,12 @@ pub fn refused_requests_fit()
 pub fn serial_order_from_chains()
     ensures { (names : List (List ℕ)) (base : Table) (before : List Entry) (xs : List Executed)
         → IsSound names base before xs → IsSerial names base before xs }
+{}
+
+/// Executed requests are chained exactly where each row is chained by itself.
+pub fn requests_are_chained_row_by_row()
+    ensures { (base : Table) (before : List Entry) (xs : List Executed)
+        → IsChained base before xs ↔ ((row : ℕ) → IsRowChained base row before xs) }
 {}
 
 /// A row is chained where its own entries, gathered along the requests, each see what those before it leave.

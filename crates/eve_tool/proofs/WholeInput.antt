@@ -58,13 +58,13 @@ pub left_of_all : {O : Type 0} (limit : ℕ) (written : O → Option (List ℕ))
     → Leaves limit written failures (Run mixer) known unread old new why
 left_of_all limit written failures mixer known unread bytes old new fault.Read all left = absurd left.0
 left_of_all limit written failures mixer known unread bytes old new (fault.Line number) all left =
-    (of_all all (λ b. IsBadLine b number) left.0, left.1)
+    (of_all all (λ b. (length b ≤ limit) × IsBadLine b number) left.0, left.1)
 left_of_all limit written failures mixer known unread bytes old new fault.TooLong all left =
     (of_all all (IsTooLong limit mixer) left.0, left.1)
 left_of_all limit written failures mixer known unread bytes old new fault.Broken all left =
-    (of_all all IsRunnable left.0, left.1)
+    (of_all all (λ b. (length b ≤ limit) × IsRunnable b) left.0, left.1)
 left_of_all limit written failures mixer known unread bytes old new fault.Random all left =
-    (of_all all IsRunnable left.0, left.1)
+    (of_all all (λ b. (length b ≤ limit) × IsRunnable b) left.0, left.1)
 left_of_all limit written failures mixer known unread bytes old new fault.Memory all (inl same) = inl same
 left_of_all limit written failures mixer known unread bytes old new fault.Memory all (inr front) = absurd front.0
 left_of_all limit written failures mixer known unread bytes old new fault.Write all left =

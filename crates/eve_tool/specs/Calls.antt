@@ -1,5 +1,5 @@
 -- What each call says of bytes, and what it leaves where it ends without an answer.
-use Rattle.std.specs.Prelude.{◌≡◌, ◌≢◌, ℕ, ◌+◌, ◌⊎◌, List, drop, Option, Some, IfSome, ⊤}
+use Rattle.std.specs.Prelude.{◌≡◌, ◌≢◌, ℕ, ◌+◌, ◌≤◌, ◌⊎◌, List, length, drop, Option, Some, IfSome, ⊤}
 use Rattle.eve_streams.specs.Failures.{after_failure}
 use Rattle.eve_streams.specs.Front.{AppendsFront}
 use Rattle.eve_workload.specs.Steps.{IsBadLine}
@@ -23,26 +23,26 @@ says limit Audit = Audits
 says limit (Run mixer) = Runs limit mixer
 says limit Show = Shows
 
--- the number is that of a bad line of the bytes, which `run` alone reads by lines
-abbrev pub has_bad_line : Subcommand → Option (List ℕ) → ℕ → Type 0
-has_bad_line (Run mixer) known number = IfSome known (λ bytes. IsBadLine bytes number)
-has_bad_line _ known number = ⊥
+-- the number is that of a bad line of the bytes, which `run` alone reads by lines, and only where they are not too long
+abbrev pub has_bad_line : ℕ → Subcommand → Option (List ℕ) → ℕ → Type 0
+has_bad_line limit (Run mixer) known number = IfSome known (λ bytes. (length bytes ≤ limit) × IsBadLine bytes number)
+has_bad_line limit _ known number = ⊥
 
 -- the bytes are too long for `run`, or the trace of them is
 abbrev pub is_too_long : ℕ → Subcommand → Option (List ℕ) → Type 0
 is_too_long limit (Run mixer) known = IfSome known (IsTooLong limit mixer)
 is_too_long limit _ known = ⊥
 
--- the call runs the bytes
-abbrev pub runs : Subcommand → Option (List ℕ) → Type 0
-runs (Run mixer) known = IfSome known IsRunnable
-runs _ known = ⊥
+-- the call runs the bytes, which are not too long
+abbrev pub runs : ℕ → Subcommand → Option (List ℕ) → Type 0
+runs limit (Run mixer) known = IfSome known (λ bytes. (length bytes ≤ limit) × IsRunnable bytes)
+runs limit _ known = ⊥
 
 -- the call asks for random words, once the bytes are read
-abbrev pub asks_for_random : Subcommand → Option (List ℕ) → Type 0
-asks_for_random Audit known = ⊤
-asks_for_random (Run mixer) known = IfSome known IsRunnable
-asks_for_random Show known = ⊥
+abbrev pub asks_for_random : ℕ → Subcommand → Option (List ℕ) → Type 0
+asks_for_random limit Audit known = ⊤
+asks_for_random limit (Run mixer) known = runs limit (Run mixer) known
+asks_for_random limit Show known = ⊥
 
 -- the call sends in parts what it says
 abbrev pub sends_in_parts : Subcommand → Type 0
@@ -56,10 +56,11 @@ abbrev pub Leaves : ℕ → {O : Type 0} → (O → Option (List ℕ)) → (O �
     → ToolFault → Type 0
 Leaves limit written failures call known unread old new fault.Read = unread × (new ≡ old)
 Leaves limit written failures call known unread old new (fault.Line number) =
-    has_bad_line call known number × (new ≡ old)
+    has_bad_line limit call known number × (new ≡ old)
 Leaves limit written failures call known unread old new fault.TooLong = is_too_long limit call known × (new ≡ old)
-Leaves limit written failures call known unread old new fault.Broken = runs call known × (new ≡ old)
-Leaves limit written failures call known unread old new fault.Random = asks_for_random call known × (new ≡ old)
+Leaves limit written failures call known unread old new fault.Broken = runs limit call known × (new ≡ old)
+Leaves limit written failures call known unread old new fault.Random =
+    asks_for_random limit call known × (new ≡ old)
 Leaves limit written failures call known unread old new fault.Memory =
     (new ≡ old) ⊎ (sends_in_parts call × WritesFrontOf (says limit call) known (written old) (written new))
 Leaves limit written failures call known unread old new fault.Write =

@@ -1,6 +1,6 @@
 //! The program over any streams.
 
-ghost use Rattle.std.specs.Prelude.{◌≡◌, ◌≢◌, ◌≤◌, ◌<◌, List, ℕ, [], ◌∷◌, codes, map};
+ghost use Rattle.std.specs.Prelude.{◌≡◌, ◌≢◌, ◌≤◌, ◌<◌, ◌+◌, List, ℕ, [], ◌∷◌, codes, map};
 ghost use Rattle.std.specs.Prelude.{IfOk, IfErr, IfSome, OnOk, OnErr, Some, decimal};
 ghost use Rattle.eve_audit.specs.Verdict.{SpellsAudited};
 ghost use Rattle.eve_streams.specs.Failures.{after_failure};
@@ -127,9 +127,14 @@ pub fn serve<
     ensures run { (name : List ℕ) → Calls (Run Mixer.First) (name ∷ codes "run" ∷ []) }
     ensures run_whole { (name : List ℕ)
         → Calls (Run Mixer.Whole) (name ∷ codes "run" ∷ codes "--mixer" ∷ codes "whole" ∷ []) }
+    ensures run_first { (name : List ℕ)
+        → Calls (Run Mixer.First) (name ∷ codes "run" ∷ codes "--mixer" ∷ codes "first" ∷ []) }
     ensures one_worker { (name : List ℕ) → workers_of (name ∷ codes "audit" ∷ []) ≡ Some 1 }
     ensures workers { (name : List ℕ) (n : ℕ) → 1 ≤ n → n ≤ MOST_AUDIT_WORKERS
         → AuditsBy n (name ∷ codes "audit" ∷ codes "--workers" ∷ decimal n ∷ []) }
+    ensures no_worker { (name : List ℕ) → CallsNothing (name ∷ codes "audit" ∷ codes "--workers" ∷ decimal 0 ∷ []) }
+    ensures too_many { (name : List ℕ)
+        → CallsNothing (name ∷ codes "audit" ∷ codes "--workers" ∷ decimal (MOST_AUDIT_WORKERS + 1) ∷ []) }
     ensures help { (name : List ℕ) → GetsHelp (name ∷ codes "--help" ∷ []) }
 
     // A call that ends well: all is said, on `out`, and nothing failed. A yes of `audit` is said of bytes alone that

@@ -4,8 +4,8 @@ use Rattle.clap.specs.Words.{Text}
 use Rattle.std.specs.Fmt.{decimal, digits}
 use Rattle.std.proofs.lemmas.Bool.{cases_lt}
 use Rattle.clap.proofs.OnLiterals.{clap_on_literals}
-use Rattle.eve_tool_arguments.specs.Arguments.{AsksForHelp, AuditsBy, GetsHelp, Audit, Run, Show, call_of, faults_of}
-use Rattle.eve_tool_arguments.specs.Arguments.{workers_of}
+use Rattle.eve_tool_arguments.specs.Arguments.{AsksForHelp, AuditsBy, CallsNothing, GetsHelp, Audit, Run, Show, call_of}
+use Rattle.eve_tool_arguments.specs.Arguments.{faults_of, workers_of}
 use Rattle.clap.specs.declared.error.kind.ErrorKind.TheVariants as kind
 use Rattle.eve_workload.specs.declared.mixer.Mixer.TheVariants.{First, Whole}
 use Rattle.eve_tool_arguments.proofs.CommandLine.{no_call}
@@ -21,6 +21,10 @@ run_call name = refl
 pub whole_call : (name : Text) → call_of (name ∷ codes "run" ∷ codes "--mixer" ∷ codes "whole" ∷ []) ≡ Some (Run Whole)
 unfolding call_of faults_of clap_on_literals
 whole_call name = refl
+
+pub first_call : (name : Text) → call_of (name ∷ codes "run" ∷ codes "--mixer" ∷ codes "first" ∷ []) ≡ Some (Run First)
+unfolding call_of faults_of clap_on_literals
+first_call name = refl
 
 pub show_call : (name : Text) → call_of (name ∷ codes "show" ∷ []) ≡ Some Show
 unfolding call_of faults_of clap_on_literals
@@ -125,6 +129,15 @@ asks name = up_to 15 (up_to 14
     (asks_2 name)) (asks_3 name)) (asks_4 name)) (asks_5 name)) (asks_6 name)) (asks_7 name)) (asks_8 name))
     (asks_9 name)) (asks_10 name)) (asks_11 name)) (asks_12 name)) (asks_13 name)) (asks_14 name)) (asks_15 name))
     (asks_16 name)
+
+-- a number beside those is no call
+pub no_worker : (name : Text) → CallsNothing (asking name 0)
+unfolding call_of faults_of clap_on_literals digits
+no_worker name = refl
+
+pub too_many : (name : Text) → CallsNothing (asking name 17)
+unfolding call_of faults_of clap_on_literals digits
+too_many name = refl
 
 pub alone : (name : Text) → workers_of (name ∷ codes "audit" ∷ []) ≡ Some 1
 unfolding workers_of clap_on_literals

@@ -10,11 +10,11 @@ returns c =
     let s = c.args.settled.now in
     let xs = c.args.stretches.now.items in
     let x : Stretch =
-    record { before = c.args.before; last = c.args.last; balances = c.in_ok-balances.balances; wrong = None } in
+    record { before = c.args.before; last = c.args.last; balances = c.args.balances; wrong = None } in
     let ready : IsReadyStretch s x = record {
       rising = c.requires.rising;
       there = c.requires.there;
-      balances = record { rows = c.in_ok-balances.ensures.rows; values = c.in_ok-balances.ensures.values };
+      balances = c.requires.balances;
     } in
     subst (AreReadyStretches s c.args.last) (sym {A = List Stretch} c.in_ok-push.ensures.items) (record {
       reaches = reaches_more 0 c.args.before xs x c.requires.ready.reaches refl;

@@ -1,9 +1,14 @@
-use Rattle.std.proofs.Common.{◌≡◌, ℕ, List, [], None, false, refl, sym, subst, ap, ◌∙◌, arith, rules}
-use Rattle.eve_grammar.specs.Trace.{Step}
+use Rattle.std.proofs.Common.{◌≡◌, ℕ, List, [], ◌∷◌, None, length, false, refl, sym, subst, ap, ◌∙◌, arith, rules}
+use Rattle.std.proofs.lemmas.List.{length-map}
+use Rattle.eve_grammar.specs.Trace.{Step, Trace}
 use Rattle.eve_grammar.specs.Spelling.{steps_at}
+use Rattle.eve_history.specs.SectionHistory.{ExecutedAttempt, SectionHistory, history}
 use Rattle.eve_chains.specs.declared.walk.Walk.{Walk}
+use Rattle.eve_chains.specs.declared.marks.Marks.{Marks}
 use Rattle.eve_chains.specs.Walking.{HasWalked}
+use Rattle.eve_chains.specs.Marks.{AreMarkedSoFar}
 use Rattle.eve_chains.proofs.Steps.{none_outside, walked_start, walked_wrong}
+use Rattle.eve_chains.proofs.Marked.{marked_start, marked_other, marked_commit}
 use Rattle.eve_chains.proofs.walk.chains.Goals as goal
 
 pub returns-then-replica-section_count-clause-see : goal.returns-then-replica-section_count-clause-see
@@ -24,11 +29,69 @@ loop-step-init c =
       settled = 0;
       come = 0;
       first = None;
-      records = c.new.result;
+      records = c.new-2.result;
     } in
-    subst (λ (xs : List (ℕ × Step)). HasWalked t e xs w)
-    (sym (c.section-steps.ensures ∙ ap (steps_at t) c.replica-2.ensures))
-    (walked_start t e w c.requires.right refl refl refl refl c.in_ok-opening.ensures.rows c.in_ok-opening.ensures.table)
+    let steps : c.section-steps.result ≡ steps_at t e = c.section-steps.ensures ∙ ap (steps_at t) c.replica-2.ensures in
+    let count : c.committed.result ≡ length (history t e).committed =
+    c.committed.ensures.count ∙ ap (λ (h : SectionHistory). length h.commits) c.requires.history
+    ∙ ap (λ (rs : List ExecutedAttempt). length rs) (c.committed_attempts_are_the_sections.ensures.commits t e)
+    ∙ length-map (history t e).committed _ in
+    record {
+      walked = subst (λ (xs : List (ℕ × Step)). HasWalked t e xs w) (sym steps)
+          (walked_start t e w c.requires.right refl refl refl refl c.in_ok-opening.ensures.rows
+          c.in_ok-opening.ensures.table);
+      marked = subst (λ (xs : List (ℕ × Step)). AreMarkedSoFar t e xs c.new-marks.result) (sym steps)
+          (marked_start t e c.recall_limits.ensures c.requires.right c.new-marks.result c.committed.result
+          c.new-marks.ensures.all c.new-marks.ensures.after c.new-marks.ensures.none count);
+    }
+
+-- the walk goes on by a step that is at hand
+on : (t : Trace) (e : ℕ) (steps rest : List (ℕ × Step)) (x : ℕ × Step) (w : Walk) → HasWalked t e steps w
+    → steps ≡ x ∷ rest → HasWalked t e (x ∷ rest) w
+on t e steps rest x w known is = subst (λ (xs : List (ℕ × Step)). HasWalked t e xs w) is known
+
+marked_on : (t : Trace) (e : ℕ) (steps rest : List (ℕ × Step)) (x : ℕ × Step) (m : Marks) → AreMarkedSoFar t e steps m
+    → steps ≡ x ∷ rest → AreMarkedSoFar t e (x ∷ rest) m
+marked_on t e steps rest x m known is = subst (λ (xs : List (ℕ × Step)). AreMarkedSoFar t e xs m) is known
+
+pub note-requires-clause-rows : goal.note-requires-clause-rows
+note-requires-clause-rows c =
+    let t = c.args.trace.now in
+    let e = c.args.history.now.replica in
+    let found = c.in-Some.ensures.some in
+    (c.in_ok-take.ensures c.next.new.self found.0
+    (on t e c.loop-step.steps c.next.new.self found.0 c.loop-step.walk c.loop-step.invariant.walked found.1)
+    found.2).rows
+
+pub loop-step-preserved-in_ok-note : goal.loop-step-preserved-in_ok-note
+loop-step-preserved-in_ok-note c =
+    let t = c.args.trace.now in
+    let e = c.args.history.now.replica in
+    let rest = c.next.new.self in
+    let found = c.in-Some.ensures.some in
+    let walked = c.in_ok-take.ensures rest found.0
+    (on t e c.loop-step.steps rest found.0 c.loop-step.walk c.loop-step.invariant.walked found.1) found.2 in
+    record {
+      walked = walked;
+      marked = marked_commit t e c.recall_limits.ensures c.requires.right found.0 rest c.take.new.self
+          c.loop-step.marks c.note.new.self
+          (marked_on t e c.loop-step.steps rest found.0 c.loop-step.marks c.loop-step.invariant.marked found.1)
+          (c.if-commits.ensures found.0 rest found.2) walked c.in_ok-note.ensures;
+    }
+
+pub loop-step-preserved : goal.loop-step-preserved
+loop-step-preserved c =
+    let t = c.args.trace.now in
+    let e = c.args.history.now.replica in
+    let rest = c.next.new.self in
+    let found = c.in-Some.ensures.some in
+    record {
+      walked = c.in_ok-take.ensures rest found.0
+          (on t e c.loop-step.steps rest found.0 c.loop-step.walk c.loop-step.invariant.walked found.1) found.2;
+      marked = marked_other t e c.recall_limits.ensures c.requires.right found.0 rest c.loop-step.marks
+          (marked_on t e c.loop-step.steps rest found.0 c.loop-step.marks c.loop-step.invariant.marked found.1)
+          (c.if-commits.ensures found.0 rest found.2);
+    }
 
 pub returns-in-Some-first-clause-least : goal.returns-in-Some-first-clause-least
 returns-in-Some-first-clause-least c =
@@ -37,4 +100,4 @@ returns-in-Some-first-clause-least c =
     walked_wrong t c.args.history.now c.recall_limits.ensures c.requires.history c.loop-step.walk
     c.in-Some-first.fault c.requires.right
     (subst (λ (xs : List (ℕ × Step)). HasWalked t c.args.history.now.replica xs c.loop-step.walk) none
-    c.loop-step.invariant) c.in-Some-first.is
+    c.loop-step.invariant.walked) c.in-Some-first.is

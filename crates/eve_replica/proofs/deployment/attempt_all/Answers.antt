@@ -8,6 +8,7 @@ use Rattle.eve_replica.specs.Serving.{IsRightMixed, Serves, Move, GoesOn, attemp
 use Rattle.eve_replica.proofs.Each.{none_on, one_on, all_on, all_so, still}
 use Rattle.eve_replica.proofs.Going.{Moves, serve_on, live_on, due}
 use Rattle.eve_replica.proofs.Undecided.{still_undecided}
+use Rattle.eve_replica.proofs.Windows.{window_attempted}
 use Rattle.eve_replica.proofs.deployment.attempt_all.Goals as goal
 
 -- the attempts of a window
@@ -49,12 +50,14 @@ loop-server-preserved g c =
     (c.in_ok-attempt_window.ensures.on, c.attempt_window.ensures.live) c.loop-server.invariant
 
 pub returns-clause-serve : goal.returns-clause-serve
-returns-clause-serve g c = λ p votes next serve.
+returns-clause-serve g c = λ p votes next whole serve.
     let all = all_on (Made c.args.window.now) c.args.servers.now c.loop-server.server-index c.loop-server.servers
     (omega arith) c.loop-server.invariant in
     subst (λ (vs : List Vote). All (Serves p (after_attempts (length c.args.window.now) c.args.standing) vs)
     c.loop-server.servers) (append-nil votes)
     (serve_on p c.args.standing votes (attempts_of c.args.window.now) c.args.servers.now c.loop-server.servers next
+    (λ k d there live. window_attempted p c.args.standing (length c.args.window.now)
+    (map (λ m. batch m.batch) c.args.window.now) whole)
     (all_so (Made c.args.window.now) (GoesOn (attempts_of c.args.window.now)) c.args.servers.now c.loop-server.servers
     (λ old new m. m.0) all) serve)
 

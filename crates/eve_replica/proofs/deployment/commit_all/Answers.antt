@@ -1,9 +1,10 @@
-use Rattle.std.proofs.Common.{ap, arith}
+use Rattle.std.proofs.Common.{get_or, ap, arith}
 use Rattle.eve_replica.specs.declared.standing.Standing.{Standing}
 use Rattle.eve_replica.specs.Deciding.{is_some_of}
 use Rattle.eve_replica.specs.Serving.{Serves, GoesOn, commit_move, next_token}
 use Rattle.eve_replica.proofs.Each.{none_on, one_on, all_on, all_so, still}
-use Rattle.eve_replica.proofs.Going.{Moves, serve_on, live_on}
+use Rattle.eve_replica.proofs.Going.{Moves, open_there, serve_on, live_on}
+use Rattle.eve_replica.proofs.Windows.{window_committed}
 use Rattle.eve_replica.proofs.Undecided.{still_undecided}
 use Rattle.eve_replica.proofs.deployment.commit_all.Goals as goal
 
@@ -41,12 +42,15 @@ loop-server-preserved c =
     (c.in_ok-commit_or_stop.ensures.on, c.in_ok-commit_or_stop.ensures.live) c.loop-server.invariant
 
 pub returns-clause-serve : goal.returns-clause-serve
-returns-clause-serve c = λ p at votes.
+returns-clause-serve c = λ p at votes serve.
+    let r = c.requires in
     let all = all_on (Moves (commit_move c.args.token) (λ s. is_some_of c.args.token (next_token s)))
     c.args.servers.now c.loop-server.server-index c.loop-server.servers (omega arith) c.loop-server.invariant in
     serve_on p at votes (commit_move c.args.token) c.args.servers.now c.loop-server.servers
     (λ k below. absurd (omega arith))
-    (all_so _ (GoesOn (commit_move c.args.token)) c.args.servers.now c.loop-server.servers (λ old new m. m.0) all)
+    (λ k d there live. window_committed p at c.args.token
+    (open_there r.0 p r.1 at r.2 votes (get_or c.args.servers.now k d) (r.3 k d there) (serve k d there) live r.5))
+    (all_so _ (GoesOn (commit_move c.args.token)) c.args.servers.now c.loop-server.servers (λ old new m. m.0) all) serve
 
 pub returns-clause-live : goal.returns-clause-live
 returns-clause-live c =

@@ -1,8 +1,9 @@
-use Rattle.std.proofs.Common.{ap, arith}
+use Rattle.std.proofs.Common.{get_or, ap, arith}
 use Rattle.eve_replica.specs.declared.standing.Standing.{Standing}
 use Rattle.eve_replica.specs.Serving.{Serves, GoesOn, GivesUpNext, rollback_move}
 use Rattle.eve_replica.proofs.Each.{none_on, one_on, all_on, all_so, still}
-use Rattle.eve_replica.proofs.Going.{Discards, serve_on, live_on}
+use Rattle.eve_replica.proofs.Going.{Discards, open_there, serve_on, live_on}
+use Rattle.eve_replica.proofs.Windows.{window_rolled_back}
 use Rattle.eve_replica.proofs.Undecided.{rolled_back_undecided}
 use Rattle.eve_replica.proofs.deployment.roll_back_all.Goals as goal
 
@@ -30,11 +31,14 @@ loop-server-preserved c =
     c.roll_back.new.self (omega arith) (made.on, made.live, made.given_up) c.loop-server.invariant
 
 pub returns-clause-serve : goal.returns-clause-serve
-returns-clause-serve c = λ p at votes.
+returns-clause-serve c = λ p at votes serve.
+    let r = c.requires in
     let all = all_on Discards c.args.servers.now c.loop-server.server-index c.loop-server.servers (omega arith)
     c.loop-server.invariant in
     serve_on p at votes rollback_move c.args.servers.now c.loop-server.servers (λ k below. absurd (omega arith))
-    (all_so Discards (GoesOn rollback_move) c.args.servers.now c.loop-server.servers (λ old new m. m.0) all)
+    (λ k d there live. window_rolled_back p at
+    (open_there r.0 p r.1 at r.2 votes (get_or c.args.servers.now k d) (r.3 k d there) (serve k d there) live r.5))
+    (all_so Discards (GoesOn rollback_move) c.args.servers.now c.loop-server.servers (λ old new m. m.0) all) serve
 
 pub returns-clause-live : goal.returns-clause-live
 returns-clause-live c =

@@ -1,7 +1,7 @@
 use Rattle.std.proofs.Common.{arith}
 use Rattle.eve_tool_arguments.specs.Arguments.{Audit}
 use Rattle.eve_tool_arguments.proofs.PlainArguments.{alone, asks, asks_help, audit_call, run_call, show_call}
-use Rattle.eve_tool_arguments.proofs.PlainArguments.{whole_call}
+use Rattle.eve_tool_arguments.proofs.PlainArguments.{first_call, no_worker, too_many, whole_call}
 use Rattle.eve_tool.proofs.Cutting.{audited_of}
 use Rattle.eve_tool.proofs.program.serve.Goals as goal
 
@@ -55,3 +55,21 @@ returns-in-Err-clause-run_whole g c = whole_call
 
 pub returns-in-Err-clause-one_worker : goal.returns-in-Err-clause-one_worker
 returns-in-Err-clause-one_worker g c = alone
+
+pub returns-in-Ok-clause-run_first : goal.returns-in-Ok-clause-run_first
+returns-in-Ok-clause-run_first g c = first_call
+
+pub returns-in-Ok-clause-no_worker : goal.returns-in-Ok-clause-no_worker
+returns-in-Ok-clause-no_worker g c = no_worker
+
+pub returns-in-Ok-clause-too_many : goal.returns-in-Ok-clause-too_many
+returns-in-Ok-clause-too_many g c = too_many
+
+pub returns-in-Err-clause-run_first : goal.returns-in-Err-clause-run_first
+returns-in-Err-clause-run_first g c = first_call
+
+pub returns-in-Err-clause-no_worker : goal.returns-in-Err-clause-no_worker
+returns-in-Err-clause-no_worker g c = no_worker
+
+pub returns-in-Err-clause-too_many : goal.returns-in-Err-clause-too_many
+returns-in-Err-clause-too_many g c = too_many

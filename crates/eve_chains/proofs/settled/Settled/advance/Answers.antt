@@ -16,7 +16,7 @@ write_batch-requires-clause-there c =
 pub write_batch-requires-clause-within : goal.write_batch-requires-clause-within
 write_batch-requires-clause-within c =
     subst (λ (rows : ℕ). AllByRecursion (AreWithin rows) c.self.inside.records)
-    (sym (c.requires.rows ∙ ap (λ (s : Settling). length s.opening) (sym c.self.view_is))) c.self.invariant
+    (sym (c.requires.rows ∙ ap (λ (s : Settling). length s.opening) (sym c.self.view_is))) c.self.invariant.within
 
 pub returns-clause-values : goal.returns-clause-values
 returns-clause-values c =

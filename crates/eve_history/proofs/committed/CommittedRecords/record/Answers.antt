@@ -7,6 +7,7 @@ use Rattle.eve_frames.specs.Views.{access_in}
 use Rattle.eve_history.specs.Coming.{seen}
 use Rattle.eve_history.specs.Parts.{begin, parts, AreParts}
 use Rattle.eve_history.proofs.Finding.{get_mapped, get_in_part}
+use Rattle.eve_history.proofs.Lent.{lent_committed}
 use Rattle.eve_history.proofs.PartsInOrder.{end_at}
 use Rattle.eve_history.proofs.PartsLent.{IsPart, as_many_parts, is_part, part_count, found_there}
 use Rattle.eve_history.proofs.committed.CommittedRecords.record.Goals as goal
@@ -103,3 +104,17 @@ returns-clause-text c =
     ∙ (found_there s.bytes.now s.records.items (c.begin-from.result + c.args.place) c.index-at.result.now h.inside
     c.index-at.ensures c.self.invariant.framed).1.text
     ∙ ap (λ (b : List ℕ). frame_text (OfAccess (access_in b))) (sym c.access_at.ensures.bytes)
+
+pub returns-clause-stands : goal.returns-clause-stands
+returns-clause-stands c =
+    let s = c.self.inside in
+    let h = here s.bytes.now s.records.items s.ends.items c.args.self.now c.args.n c.begin-from.result c.args.place
+    c.deref.result.now c.self.view_is c.self.invariant c.requires.one c.requires.there c.requires.place
+    c.deref.ensures.value c.begin-from.ensures in
+    let found = found_there s.bytes.now s.records.items (c.begin-from.result + c.args.place) c.index-at.result.now
+    h.inside c.index-at.ensures c.self.invariant.framed in
+    let later : 0 < c.access_at.result.offset =
+    omega (arith, found.1.framed.not_first, c.access_at.ensures.offset) in
+    let says = returns-clause-says c in
+    λ t e is. lent_committed t e (c.args.n - 1) c.args.place c.access_at.result.offset c.args.self.now says.0
+    c.access_at.result.bytes.now is says.1 says.2 later (returns-clause-text c)

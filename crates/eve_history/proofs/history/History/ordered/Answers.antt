@@ -10,6 +10,7 @@ use Rattle.eve_history.specs.SectionHistory.{ExecutedAttempt, SectionHistory}
 use Rattle.eve_history.specs.Coming.{kept_section, kept_attempt, kept_executed_attempt, section_history_of, IsKept}
 use Rattle.eve_history.specs.Coming.{seen}
 use Rattle.eve_history.proofs.Finding.{get_mapped, get_is, rec_at, get_in_part}
+use Rattle.eve_history.proofs.Lent.{lent_ordered}
 use Rattle.eve_history.proofs.PartsLent.{found_there}
 use Rattle.eve_history.proofs.history.History.ordered.Goals as goal
 
@@ -116,3 +117,19 @@ returns-clause-text c =
     c.index-at.ensures c.self.invariant.framed.records in
     c.access_at.ensures.bytes ∙ found.1.text
     ∙ ap (λ b. frame_text (OfAccess (access_in b))) (sym c.access_at.ensures.bytes)
+
+pub returns-clause-stands : goal.returns-clause-stands
+returns-clause-stands c =
+    let n = c.self.inside.notes in
+    let x = c.index.result.now in
+    let h = here c.self.inside.replica n c.args.self.now c.args.i c.args.place x c.self.view_is c.self.invariant.kept
+    c.requires.attempt c.requires.place c.index.ensures in
+    let short = h.short in
+    let within = h.within in
+    let found = found_there n.bytes.now n.records.items (x.from + c.args.place) c.index-at.result.now (omega arith)
+    c.index-at.ensures c.self.invariant.framed.records in
+    let later : 0 < c.access_at.result.offset =
+    omega (arith, found.1.framed.not_first, c.access_at.ensures.offset) in
+    let says = returns-clause-says c in
+    λ t e is. lent_ordered t e c.args.i c.args.place c.access_at.result.offset c.args.self.now says.0
+    c.access_at.result.bytes.now is says.1 says.2 later (returns-clause-text c)

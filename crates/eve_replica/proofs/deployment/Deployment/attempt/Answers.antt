@@ -1,9 +1,10 @@
-use Rattle.std.proofs.Common.{false, ◌-◌, ◌*◌, ◌<◌, ℕ, All, List, length, map, take, drop, sym, ◌∙◌, subst, arith}
+use Rattle.std.proofs.Common.{false, ◌-◌, ◌*◌, ◌<◌, ℕ, All, List, length, map, take, drop, sym, ap, ◌∙◌, subst, arith}
+use Rattle.std.proofs.lemmas.List.{length-map}
 use Rattle.std.proofs.lemmas.List.Elements.{All-drop, All-take}
-use Rattle.eve_write.specs.Data.{vote}
+use Rattle.eve_write.specs.Data.{batch, vote}
 use Rattle.eve_replica.specs.declared.server.Server.{Server}
 use Rattle.eve_replica.specs.declared.standing.Standing.{Standing}
-use Rattle.eve_replica.specs.Serving.{IsRightMixed, Serves, live_in}
+use Rattle.eve_replica.specs.Serving.{IsRightMixed, AreWholeWindow, Serves, live_in}
 use Rattle.eve_replica.proofs.Going.{lent_serve, lent_undecided, moved, window_open, window_len, window_due}
 use Rattle.eve_replica.proofs.Going.{still_majority}
 use Rattle.eve_replica.proofs.deployment.Deployment.attempt.Goals as goal
@@ -47,6 +48,11 @@ returns-clause-under_way g c = λ p was.
     let some : 0 < length window = omega (arith, was.room) in
     let now : Standing =
     record { view = d.standing.view; committed = from; opened = length window; is_next_serial = false } in
+    let whole : AreWholeWindow p d.standing (length window) = record {
+      none_open = c.requires.none_open;
+      some = some;
+      whole = omega (arith, many, was.window, ap length was.batches, length-map d.batches.now (λ m. batch m.batch));
+    } in
     let as_many = c.attempt_all.auto.servers ∙ c.as_mut_slice.ensures.len in
     let lent = c.as_mut_slice.result.now in
     let same = c.as_mut_slice.ensures.value in
@@ -54,7 +60,7 @@ returns-clause-under_way g c = λ p was.
     (subst (λ (x : Standing). All (Serves p x (map vote d.votes.items)) c.attempt_all.new.servers)
     (sym (window_open (length window) d.standing c.requires.none_open some))
     (c.in_ok-attempt_all.ensures.serve p (map vote d.votes.items)
-    (window_due p d c.min-end.result was c.requires.none_open) (lent_serve p d lent was same)))
+    (window_due p d c.min-end.result was c.requires.none_open) whole (lent_serve p d lent was same)))
     (still_majority d lent c.attempt_all.new.servers (live_in lent) same as_many c.in_ok-attempt_all.ensures.live
     (subst (λ (ss : List Server). length ss < 2 * live_in ss) (sym same) was.majority))
     (c.in_ok-attempt_all.ensures.undecided (lent_undecided p d lent was same))

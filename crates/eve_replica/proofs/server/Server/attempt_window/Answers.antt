@@ -1,9 +1,28 @@
-use Rattle.std.proofs.Common.{◌+◌, ◌∙◌, map, length, option_map, refl, ap, arith}
+use Rattle.std.proofs.Common.{rules, ◌≡◌, true, ◌+◌, sym, ◌∙◌, map, length, option_map, refl, ap, subst, arith}
 use Rattle.std.proofs.lemmas.Option.{slice_get-map, slice_get_read}
 use Rattle.eve_write.specs.Data.{batch}
 use Rattle.eve_workload.specs.declared.mixer.MixedBatch.{MixedBatch}
+use Rattle.eve_replica.specs.Replicas.{Replica}
+use Rattle.eve_replica.specs.Serving.{GoesOn, attempt_move}
+use Rattle.std.proofs.Math.Bool.{and-true}
 use Rattle.eve_replica.proofs.Going.{none_later, one_more}
+use Rattle.eve_replica.proofs.OneStep.{none_made, rests}
 use Rattle.eve_replica.proofs.server.Server.attempt_window.Goals as goal
+
+pub returns-then-not-self-clause-on : goal.returns-then-not-self-clause-on
+returns-then-not-self-clause-on g c =
+    rests _ c.args.self.now (λ at. omega arith) (λ at. omega arith) (search rules)
+
+pub loop-place-init : goal.loop-place-init
+loop-place-init g c =
+    let old = c.args.self.now in
+    let live : old.is_live ≡ true = search rules in
+    let window = map (λ (m : MixedBatch). batch m.batch) c.args.window.now in (
+      subst (λ (r : Replica). GoesOn (attempt_move 0 window) old (record old { replica = r }))
+          (sym c.in_ok-noted.ensures.same) (none_made window old live),
+      live,
+      sym (and-true c.args.serial),
+    )
 
 pub loop-place-preserved : goal.loop-place-preserved
 loop-place-preserved g c = (

@@ -1,11 +1,11 @@
-use Rattle.std.proofs.Common.{rules, ◌≡◌, true, false, IsTrue, sym, ◌∙◌, subst}
+use Rattle.std.proofs.Common.{rules, ◌≡◌, true, false, IsTrue, sym, ◌∙◌, subst, arith}
 use Rattle.std.specs.List.{list_all}
 use Rattle.eve_grammar.specs.Limits.{is_step}
 use Rattle.eve_attempts.specs.Discarding.{RollsBack}
 use Rattle.eve_write.specs.Data.{rollback, section}
 use Rattle.eve_replica.specs.Replicas.{Replica}
 use Rattle.eve_replica.specs.Serving.{GoesOn, GivesUpNext, rollback_move}
-use Rattle.eve_replica.proofs.OneStep.{rollback_goes, rollback_gives_up, stopped_gives_up}
+use Rattle.eve_replica.proofs.OneStep.{rests, rollback_goes, rollback_gives_up, stopped_gives_up}
 use Rattle.std.proofs.lemmas.Result.{on_ok_weaker}
 use Rattle.eve_replica.proofs.WhereWell.{where_well}
 use Rattle.eve_replica.proofs.server.Server.roll_back.Goals as goal
@@ -38,6 +38,10 @@ returns-clause-given_up c = λ p.
     (λ added. rollback_gives_up r p c.args.self.now c.did.new.self live
     (subst (λ (x : Replica). RollsBack old.ledger x.ledger r) (sym c.did.ensures.replica) made) added)
     c.did.ensures.added
+
+pub returns-then-not-self-clause-on : goal.returns-then-not-self-clause-on
+returns-then-not-self-clause-on c =
+    rests rollback_move c.args.self.now (λ at. omega arith) (λ at. omega arith) (search rules)
 
 pub returns-then-not-self-clause-given_up : goal.returns-then-not-self-clause-given_up
 returns-then-not-self-clause-given_up c = λ p.

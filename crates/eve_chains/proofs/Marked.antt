@@ -1,0 +1,208 @@
+-- Balances that are noted along a walk: after each commit the committed table has the values of the bank.
+use Rattle.std.proofs.Common.{◌≡◌, ℕ, ℤ, suc, ◌+◌, ◌*◌, ◌<◌, List, [], ◌∷◌, ◌++◌, map, take, length, set}
+use Rattle.std.proofs.Common.{length-append, append_assoc, append-nil, refl, sym, subst, ap, ◌∙◌, inl, inr, arith}
+use Rattle.std.proofs.Common.{IsTrue}
+use mathlib.Core.Path.{fun_ext}
+use Rattle.std.specs.Prelude.{All}
+use Rattle.std.proofs.lemmas.Bool.{and_parts}
+use Rattle.std.proofs.lemmas.List.{length-map, length-set, take_more, take_more_set, take_all, map-append}
+use Rattle.std.proofs.Math.ListN.{get_or-map}
+use Rattle.std.proofs.lemmas.List.Elements.{All-push}
+use Rattle.eve_smallbank.specs.Access.{balance_of_row}
+use Rattle.eve_smallbank.specs.Chain.{Versioned, Table, table_after_all, values_of}
+use Rattle.eve_smallbank.proofs.Chains.{visible_at-before_rest}
+use Rattle.eve_grammar.specs.Trace.{Attempt, Step, Attempts, Commits, RollsBack, Trace, head_of}
+use Rattle.eve_grammar.specs.Limits.{HasLimits, row_count}
+use Rattle.eve_grammar.specs.Spelling.{steps_at}
+use Rattle.eve_grammar.proofs.OpeningRows.{length-opening_rows}
+use Rattle.eve_history.specs.Section.{Placed, SectionState, start, committing, next, state_after, is_right, are_right}
+use Rattle.eve_history.specs.SectionHistory.{history, IsRightSection}
+use Rattle.eve_chains.specs.Visible.{opening_table, executions, rows_after, table_along}
+use Rattle.eve_chains.specs.Committed.{attempts_of}
+use Rattle.eve_chains.specs.Tables.{table_of, untouched}
+use Rattle.eve_chains.specs.Settling.{settling, values_in}
+use Rattle.eve_chains.specs.Walking.{HasWalked}
+use Rattle.eve_chains.specs.Marks.{IsMark, HasValuesOf, HasNoted, commits_among, AreMarkedSoFar}
+use Rattle.eve_chains.specs.declared.walk.Walk.{Walk}
+use Rattle.eve_chains.specs.declared.marks.Mark.{Mark}
+use Rattle.eve_chains.specs.declared.marks.Marks.{Marks}
+use Rattle.eve_chains.proofs.AdvancingBanks.{settled_values}
+use Rattle.eve_chains.proofs.Steps.{first_open}
+
+-- ---- how many batches are committed
+
+-- by these steps the section commits as many attempts as there are commits, after those that it has
+record CommitsMore (s : SectionState) (steps : List (ℕ × Step)) : Type 0 where
+  more : List Placed
+  committed : (state_after s steps).committed ≡ s.committed ++ more
+  many : length more ≡ commits_among steps
+
+commits_more : (t : Trace) (s : SectionState) (steps : List (ℕ × Step)) → IsTrue (are_right t s steps)
+    → CommitsMore s steps
+commits_more t s [] right = record { more = []; committed = sym (append-nil s.committed); many = refl }
+commits_more t s ((at, Attempts a) ∷ steps) right =
+    let rest = commits_more t (next s (at, Attempts a)) steps
+    (and_parts (is_right t s (Attempts a)) (are_right t (next s (at, Attempts a)) steps) right).1 in
+    record { more = rest.more; committed = rest.committed; many = rest.many }
+commits_more t s ((at, Commits c) ∷ steps) right =
+    let parts = and_parts (is_right t s (Commits c)) (are_right t (next s (at, Commits c)) steps) right in
+    let first = first_open t s c parts.0 in
+    let rest = commits_more t (next s (at, Commits c)) steps parts.1 in
+    record {
+      more = first.first ∷ rest.more;
+      committed = rest.committed
+          ∙ ap (λ (ps : List Placed). (committing s ps).committed ++ rest.more) first.is
+          ∙ append_assoc s.committed (first.first ∷ []) rest.more;
+      many = ap suc rest.many;
+    }
+commits_more t s ((at, RollsBack r) ∷ steps) right =
+    let rest = commits_more t (next s (at, RollsBack r)) steps
+    (and_parts (is_right t s (RollsBack r)) (are_right t (next s (at, RollsBack r)) steps) right).1 in
+    record { more = rest.more; committed = rest.committed; many = rest.many }
+
+pub all_commits : (t : Trace) (e : ℕ) → IsRightSection t e → length (history t e).committed
+    ≡ commits_among (steps_at t e)
+unfolding history
+all_commits t e right =
+    let all = commits_more t start (steps_at t e) right in
+    ap length all.committed ∙ all.many
+
+-- ---- values
+
+take_front : {A : Type 0} (xs ys : List A) → take (length xs) (xs ++ ys) ≡ xs
+take_front [] ys = refl
+take_front (x ∷ xs) ys = ap (λ zs. x ∷ zs) (take_front xs ys)
+
+along_is_after : (t : Trace) (path : List Attempt) → table_along t path ≡ rows_after t path
+along_is_after t path =
+    visible_at-before_rest (opening_table t) [] (executions t path)
+    ∙ ap (λ (table : Table). table_after_all table (executions t path)) (fun_ext (λ row. refl))
+
+batches_counted : (t : Trace) (e : ℕ) → length (settling t e).batches ≡ length (history t e).committed
+unfolding settling
+batches_counted t e = length-map (history t e).committed _
+
+opening_counted : (t : Trace) (e : ℕ) → length (settling t e).opening ≡ row_count (head_of t)
+unfolding settling
+opening_counted t e = length-opening_rows t.customers
+
+module _ (t : Trace) (e : ℕ) (limits : HasLimits t) (right : IsRightSection t e) where
+  -- where the walk has come to, the committed table has the values after what is committed so far
+  walked_values : (rest : List (ℕ × Step)) (w : Walk) (known : HasWalked t e rest w) → values_of (table_of w.committed)
+      ≡ values_in (settling t e) (length known.state.committed)
+  walked_values rest w known =
+      let s = known.state in
+      let on = commits_more t s rest known.right in
+      let front : take (length s.committed) (history t e).committed ≡ s.committed =
+      ap (λ (h : SectionState). take (length s.committed) h.committed) (sym known.leads)
+      ∙ ap (take (length s.committed)) on.committed ∙ take_front s.committed on.more in
+      ap values_of (known.committed ∙ along_is_after t (attempts_of s.committed)
+      ∙ ap (λ (ps : List Placed). rows_after t (attempts_of ps)) (sym front))
+      ∙ sym (settled_values t e (length s.committed) limits right)
+
+  walked_count : (rest : List (ℕ × Step)) (w : Walk) (known : HasWalked t e rest w)
+      → length known.state.committed + commits_among rest ≡ length (settling t e).batches
+  walked_count rest w known =
+      let s = known.state in
+      let on = commits_more t s rest known.right in
+      ap (λ (n : ℕ). length s.committed + n) (sym on.many) ∙ sym (length-append s.committed on.more)
+      ∙ ap length (sym on.committed) ∙ ap (λ (h : SectionState). length h.committed) known.leads
+      ∙ sym (batches_counted t e)
+
+  -- nothing is committed yet
+  pub marked_start : (m : Marks) (all : ℕ) → m.all ≡ all → m.after ≡ 0 → m.list.items ≡ []
+      → all ≡ length (history t e).committed → AreMarkedSoFar t e (steps_at t e) m
+  marked_start m all is none empty count = record {
+    count = omega (arith, none, all_commits t e right, count, is);
+    all = is ∙ count ∙ sym (batches_counted t e);
+    marks = subst (All (IsMark (settling t e))) (sym empty) (λ k d lt. absurd (omega (arith, lt)));
+  }
+
+  -- a step that is no commit
+  pub marked_other : (x : ℕ × Step) (rest : List (ℕ × Step)) (m : Marks) → AreMarkedSoFar t e (x ∷ rest) m
+      → commits_among (x ∷ rest) ≡ 0 + commits_among rest → AreMarkedSoFar t e rest m
+  marked_other x rest m marked same = record {
+    count = omega (arith, same, marked.count);
+    all = marked.all;
+    marks = marked.marks;
+  }
+
+  -- what is noted where the walk has come to
+  marked_here : (rest : List (ℕ × Step)) (w : Walk) (n : ℕ) (m : Mark) → HasWalked t e rest w
+      → n + commits_among rest ≡ length (settling t e).batches → m.after ≡ n → HasValuesOf w.committed m
+      → IsMark (settling t e) m
+  marked_here rest w n m known count is values =
+      let same : length known.state.committed ≡ n = omega (arith, walked_count rest w known, count) in
+      record {
+        there = omega (arith, count, is);
+        rows = values.0 ∙ known.rows ∙ sym (opening_counted t e);
+        values = values.1 ∙ walked_values rest w known ∙ ap (values_in (settling t e)) (same ∙ sym is);
+      }
+
+  -- a commit
+  pub marked_commit : (x : ℕ × Step) (rest : List (ℕ × Step)) (w : Walk) (old new : Marks)
+      → AreMarkedSoFar t e (x ∷ rest) old → commits_among (x ∷ rest) ≡ 1 + commits_among rest → HasWalked t e rest w
+      → HasNoted w.committed old new → AreMarkedSoFar t e rest new
+  marked_commit x rest w old new marked one known noted =
+      let count : new.after + commits_among rest ≡ new.all = omega (
+        arith,
+        marked.count,
+        one,
+        noted.after,
+        noted.all,
+      ) in
+      let all : new.all ≡ length (settling t e).batches = noted.all ∙ marked.all in
+      record {
+        count = count;
+        all = all;
+        marks = elim noted.list [
+          | inl same ↦ subst (All (IsMark (settling t e))) (sym same) marked.marks
+          | inr more ↦ subst (All (IsMark (settling t e))) (sym more.1)
+              (All-push (IsMark (settling t e)) old.list.items more.0 marked.marks
+              (marked_here rest w new.after more.0 known (count ∙ all) more.2 more.3))
+        ];
+      }
+
+-- ---- the values of a table
+
+pub values_more : (rows : List Versioned) (i : ℕ) (old : List ℤ) (saving checking : ℤ) → 2 * i + 1 < length rows
+    → length old ≡ length rows → take (2 * i) old ≡ map (λ v. v.value) (take (2 * i) rows)
+    → saving ≡ (table_of rows (2 * i)).value → checking ≡ (table_of rows (2 * i + 1)).value
+    → take (2 * (i + 1)) (set (set old (2 * i) saving) (2 * i + 1) checking)
+    ≡ map (λ v. v.value) (take (2 * (i + 1)) rows)
+values_more rows i old saving checking lt long so own other =
+    let to : 2 * (i + 1) ≡ 2 * i + 1 + 1 = omega arith in
+    let one : 2 * i < length old = omega arith in
+    let same : length (set old (2 * i) saving) ≡ length old = length-set old (2 * i) saving in
+    let two : 2 * i + 1 < length (set old (2 * i) saving) = omega arith in
+    let first : 2 * i < length rows = omega arith in
+    let front : take (2 * i + 1) rows ≡ take (2 * i) rows ++ table_of rows (2 * i) ∷ [] =
+    take_more rows (2 * i) untouched first in
+    let both : take (2 * i + 1 + 1) rows
+    ≡ (take (2 * i) rows ++ table_of rows (2 * i) ∷ []) ++ table_of rows (2 * i + 1) ∷ [] =
+    take_more rows (2 * i + 1) untouched lt
+    ∙ ap (λ (xs : List Versioned). xs ++ table_of rows (2 * i + 1) ∷ []) front in
+    ap (λ n. take n (set (set old (2 * i) saving) (2 * i + 1) checking)) to
+    ∙ take_more_set (set old (2 * i) saving) (2 * i + 1) checking two
+    ∙ ap (λ (xs : List ℤ). xs ++ checking ∷ []) (take_more_set old (2 * i) saving one
+    ∙ ap (λ (xs : List ℤ). xs ++ saving ∷ []) so)
+    ∙ ap (λ (z : ℤ). (map (λ (v : Versioned). v.value) (take (2 * i) rows) ++ z ∷ []) ++ checking ∷ []) own
+    ∙ ap (λ (z : ℤ). (map (λ (v : Versioned). v.value) (take (2 * i) rows)
+    ++ (table_of rows (2 * i)).value ∷ []) ++ z ∷ []) other
+    ∙ ap (λ (xs : List ℤ). xs ++ (table_of rows (2 * i + 1)).value ∷ [])
+    (sym (map-append (λ (v : Versioned). v.value) (take (2 * i) rows) (table_of rows (2 * i) ∷ [])))
+    ∙ sym (map-append (λ (v : Versioned). v.value) (take (2 * i) rows ++ table_of rows (2 * i) ∷ [])
+    (table_of rows (2 * i + 1) ∷ []))
+    ∙ ap (map (λ (v : Versioned). v.value)) (sym both)
+    ∙ ap (λ n. map (λ (v : Versioned). v.value) (take n rows)) (sym to)
+
+pub values_all : (rows : List Versioned) (n : ℕ) (b : List ℤ) → length rows ≡ n → length b ≡ length rows
+    → take n b ≡ map (λ v. v.value) (take n rows) → b ≡ map (λ v. v.value) rows
+values_all rows n b many long is =
+    sym (take_all n b (omega arith)) ∙ is ∙ ap (map (λ (v : Versioned). v.value)) (take_all n rows (omega arith))
+
+pub has_values : (rows : List Versioned) (m : Mark) → m.balances ≡ map (λ v. v.value) rows → HasValuesOf rows m
+has_values rows m is = (
+  ap length is ∙ length-map rows (λ (v : Versioned). v.value),
+  ap balance_of_row is ∙ fun_ext (λ row. get_or-map (λ (v : Versioned). v.value) rows row untouched),
+)
