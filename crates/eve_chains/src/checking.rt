@@ -29,8 +29,8 @@ struct Section<'b, 'a> {
     trace: &'b Trace<'a>,
 }
 
-/// What the replica committed, with balances noted for so many stretches, where each entry sees what its path left; else
-/// the first fault of chains.
+/// What the replica committed, with balances noted for so many stretches, where each entry sees what its path left;
+/// else the first fault of chains.
 fn settle<'a>(
     alloc: Global,
     section: &Section<'_, 'a>,

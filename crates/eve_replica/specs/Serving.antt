@@ -194,8 +194,8 @@ AreBatchesFrom batches place window =
 -- A replica went on: its names, its rows and how many attempts it may have open stay; it isn't broken if it wasn't; all
 -- that it did lies within the limits if it did before, and is what its account went through where the batches of the
 -- window are due, and goes on window by window where this may come now; what it gave up stays, but for the views that
--- it comes to; if it is still live it did so on these votes, and stands this much further, and else on none; where it is
--- live no more its account stays, and the next of these votes says why it stopped, if it did by this move.
+-- it comes to; if it is still live it did so on these votes, and stands this much further, and else on none; where it
+-- is live no more its account stays, and the next of these votes says why it stopped, if it did by this move.
 pub record GoesOn (m : Move) (old new : Server) : Type 0 where
   pub names : new.replica.names ≡ old.replica.names
   pub rows : ledger_rows new.replica.ledger ≡ ledger_rows old.replica.ledger
