@@ -12,7 +12,7 @@ use Rattle.eve_agree.specs.Majority.{AllAreBacked}
 use Rattle.eve_agree.specs.Agreement.{ReplicasAgree}
 use Rattle.eve_agree.specs.SentReplies.{AllReplied}
 
--- nothing is wrong in any phase, said of each
+-- what the audit theorem needs of the phases, each by itself
 pub record IsAccepted (t : Trace) : Type 0 where
   pub limits : HasLimits t
   -- no two requests have one client and number
