@@ -94,7 +94,7 @@ deployment_small d right =
 same_number : (m n : ℕ) → m < 2 ^ 8 → n < 2 ^ 8 → decimal m ≡ decimal n → m ≡ n
 same_number m n low_m low_n same = decimal_injective m n (omega arith) (omega arith) same
 
-word_at : ℕ → List (List ℕ) → List ℕ
+unfoldable pub word_at : ℕ → List (List ℕ) → List ℕ
 word_at n words = get_or words n []
 
 pub same_deployment : (d e : Deployment) → IsSmall d → IsSmall e → line_words (HeadLine d) ≡ line_words (HeadLine e)

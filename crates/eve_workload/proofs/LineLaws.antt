@@ -20,7 +20,8 @@ use Rattle.eve_workload.specs.Lines.{request_words, text_of_words}
 use Rattle.eve_workload.specs.Steps.{is_line}
 use Rattle.eve_workload.specs.Words.{is_inside, IsFirstLine}
 use Rattle.eve_workload.proofs.Decimals.{same_balance, saving_balance, amount_balance}
-use Rattle.eve_workload.proofs.Deployments.{deployment_small, same_deployment}
+use Rattle.eve_workload.proofs.Deployments.{word_at, deployment_small, same_deployment}
+use Rattle.eve_workload.proofs.Splitting.{spaced, IsSplit}
 
 -- ---- words without spaces
 
@@ -66,9 +67,6 @@ name_inside name right =
 
 first_byte : List (List ℕ) → ℕ
 first_byte words = get_or (get_or words 0 []) 0 0
-
-word_at : ℕ → List (List ℕ) → List ℕ
-word_at n words = get_or words n []
 
 same_amount : (y z : ℤ) → IsTrue (is_amount y) → IsTrue (is_amount z) → signed_decimal y ≡ signed_decimal z → y ≡ z
 same_amount y z right right' same = same_balance (signed_decimal y) y z (amount_balance y right)
@@ -276,6 +274,13 @@ line_inside (RequestLine a) right =
     request_inside (decimal a.client) (decimal a.number) a.request
     (decimal_inside a.client (omega arith)) (decimal_inside a.number (ltb-true a.number (256 ^ 8) rest.0)) rest.1
 
+-- no line has more than six words
+pub line_few : (l : Line) → length (line_words l) ≤ 6
+line_few (HeadLine d) = omega arith
+line_few (CustomerLine c) = omega arith
+line_few BatchLine = omega arith
+line_few (RequestLine a) = omega (arith, (four_or_five (decimal a.client) (decimal a.number) a.request).1)
+
 pub line_some : (l : Line) → 1 ≤ length (line_words l)
 line_some (HeadLine d) = omega arith
 line_some (CustomerLine c) = omega arith
@@ -334,6 +339,40 @@ unique_words (w ∷ w' ∷ ws) (v ∷ v' ∷ vs) r s some some' in_ws in_vs same
     refl (sym (more_words w w' ws r) ∙ same ∙ more_words v v' vs s) in
     let rest = unique_words (w' ∷ ws) (v' ∷ vs) r s (omega arith) (omega arith) parts.1 parts'.1 first.2 in
     (λ k. first.0 k ∷ rest k)
+
+spaced_words : (w : List ℕ) (ws : List (List ℕ)) (r : List ℕ) → spaced (w ∷ ws) ++ r ≡ w ++ (32 ∷ (spaced ws ++ r))
+spaced_words w ws r = append_assoc (w ++ 32 ∷ []) (spaced ws) r ∙ append_assoc w (32 ∷ []) (spaced ws ++ r)
+
+-- a line that begins with these words and a space after each has one more
+more_than : (ws : List (List ℕ)) (v : List ℕ) (vs : List (List ℕ)) (r s : List ℕ)
+    → IsTrue (list_all (list_all is_inside) ws) → IsTrue (list_all (list_all is_inside) (v ∷ vs)) → spaced ws ++ r
+    ≡ text_of_words (v ∷ vs) ++ s → length ws ≤ length vs
+more_than [] v vs r s in_ws in_vs same = omega arith
+more_than (w ∷ ws) v [] r s in_ws in_vs same =
+    let first = first_word w v 32 10 (spaced ws ++ r) s
+    (and_parts (list_all is_inside w) (list_all (list_all is_inside) ws) in_ws).0
+    (and_parts (list_all is_inside v) true in_vs).0 refl refl (sym (spaced_words w ws r) ∙ same ∙ one_word v s) in
+    absurd (omega (arith, first.1))
+more_than (w ∷ ws) v (v' ∷ vs) r s in_ws in_vs same =
+    let parts = and_parts (list_all is_inside w) (list_all (list_all is_inside) ws) in_ws in
+    let parts' = and_parts (list_all is_inside v) (list_all (list_all is_inside) (v' ∷ vs)) in_vs in
+    let first = first_word w v 32 32 (spaced ws ++ r) (text_of_words (v' ∷ vs) ++ s) parts.0 parts'.0 refl refl
+    (sym (spaced_words w ws r) ∙ same ∙ more_words v v' vs s) in
+    let rest = more_than ws v' vs r s parts.1 parts'.1 first.2 in
+    omega arith
+
+-- a text that is split into so many words with more behind them begins with no line of so few
+pub no_line_of_few : (text : List ℕ) (words : List (List ℕ)) (at : ℕ) → IsSplit text words at at → 1 ≤ length words
+    → (ws : List (List ℕ)) (behind : List ℕ) → length ws ≤ length words → IsTrue (list_all (list_all is_inside) ws)
+    → text ≢ text_of_words ws ++ behind
+no_line_of_few text words at split some [] behind few inside is =
+    let most = more_than words [] [] (drop at text) behind split.inside refl
+    (sym (ap (λ t. t ++ drop at text) split.text_is) ∙ take-append-drop at text ∙ is) in
+    omega arith
+no_line_of_few text words at split some (w ∷ ws) behind few inside is =
+    let most = more_than words w ws (drop at text) behind split.inside inside
+    (sym (ap (λ t. t ++ drop at text) split.text_is) ∙ take-append-drop at text ∙ is) in
+    omega arith
 
 -- ---- the line in front of a text
 

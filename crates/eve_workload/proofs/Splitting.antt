@@ -129,10 +129,12 @@ split_inside text words from at split there inside =
     }
 
 pub split_none : (text : List ℕ) (words : List (List ℕ)) (from at : ℕ) → IsSplit text words from at → length text ≤ at
-    → (front behind : List ℕ) → text ≢ front ++ 10 ∷ behind
-split_none text words from at split whole front behind is =
-    let long = ap length is ∙ length-append front (10 ∷ behind) in
-    split.none (length front) (omega arith) (ap (λ t. get_or t (length front) 0) is
+    → (ws : List (List ℕ)) (behind : List ℕ) → text ≢ text_of_words ws ++ behind
+split_none text words from at split whole ws behind is =
+    let front = join_with_byte 32 ws in
+    let same = is ∙ append_assoc front (10 ∷ []) behind in
+    let long = ap length same ∙ length-append front (10 ∷ behind) in
+    split.none (length front) (omega arith) (ap (λ t. get_or t (length front) 0) same
     ∙ get_or_at front 10 behind 0 (length front) refl)
 
 -- the bytes of a word, one after another

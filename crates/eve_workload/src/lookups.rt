@@ -11,7 +11,9 @@ use eve_write::RequestData;
 use std::alloc::{AllocError, Global};
 
 /// What each request touches, in the requests' order.
-pub(crate) fn look_up(
+///
+/// docs/MODEL.md, "Transactions". It is refused only where memory runs out.
+pub fn look_up(
     alloc: Global,
     requests: &[RequestData],
     names: &Names,

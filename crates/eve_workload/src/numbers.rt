@@ -10,8 +10,6 @@ use eve_accounts::{Amount, Cents};
 
 const MINUS: u8 = b'-';
 
-const MOST_CENTS: u64 = 1_000_000_000_000_000;
-
 const LEAST_SAVING: i64 = 0;
 
 /// The number that the word spells, where it is below 2^64.
@@ -126,7 +124,7 @@ fn below_zero(value: u64) -> Option<Cents>
     ensures some { IfSome result (λ z. (1 ≤ value) × (z ≡ negsuc (value - 1))) }
     ensures none { IfNone result (1 ≤ value → 1000000000000000 < value) }
 {
-    if value == 0 || value > MOST_CENTS {
+    if value == 0 || value > i64::MAX as u64 {
         return None;
     }
     Cents::new(-(value as i64))
@@ -136,7 +134,7 @@ fn not_below_zero(value: u64) -> Option<Cents>
     ensures some { IfSome result (λ z. z ≡ pos value) }
     ensures none { IfNone result (1000000000000000 < value) }
 {
-    if value > MOST_CENTS {
+    if value > i64::MAX as u64 {
         return None;
     }
     Cents::new(value as i64)

@@ -1,7 +1,9 @@
 //! Words of a line.
 
-ghost use Rattle.std.specs.Prelude.{◌≡◌, ◌≢◌, ◌↔◌, ℕ, ◌<◌, ◌≤◌, true, false, List, ◌∷◌, ◌++◌, length, slice_index};
+ghost use Rattle.std.specs.Prelude.{◌≡◌, ◌≢◌, ◌↔◌, ℕ, ◌<◌, ◌≤◌, true, false, List, ◌++◌, length, slice_index};
 ghost use Rattle.std.specs.Prelude.{IfOk, IfSome, IfNone, IsTrue};
+ghost use Rattle.std.specs.List.{list_all};
+ghost use Rattle.eve_workload.specs.Lines.{text_of_words};
 ghost use Rattle.eve_workload.specs.Words.{is_inside, bytes_of, IsFirstLine};
 
 use std::alloc::AllocError;
@@ -10,18 +12,25 @@ const SPACE: u8 = b' ';
 
 const LINE_FEED: u8 = b'\n';
 
+/// How many words a line of a workload has at most.
+pub(crate) const MOST_WORDS: usize = 6;
+
 /// The words of the first line, which stand in place of those before, and how long it is with its line feed.
-/// `None` where no line feed ends it.
+/// `None` where no line feed ends it, or it has more words than a line of a workload.
 pub(crate) fn split_line<'a>(
     text: &'a [u8],
     words: &mut Vec<&'a [u8]>,
 ) -> Result<Option<usize>, AllocError>
     ensures found { IfOk result (λ o. IfSome o (IsFirstLine text.entry.now (bytes_of words.new.items))) }
-    ensures none { IfOk result (λ o. IfNone o ((front behind : List ℕ) → text.entry.now ≢ front ++ 10 ∷ behind)) }
+    ensures none { IfOk result (λ o. IfNone o ((ws : List (List ℕ)) (behind : List ℕ) → length ws ≤ MOST_WORDS
+        → IsTrue (list_all (list_all is_inside) ws) → text.entry.now ≢ text_of_words ws ++ behind)) }
 {
     words.clear();
     let mut from = 0;
     while from < text.len() {
+        if words.len() == MOST_WORDS {
+            return Ok(None);
+        }
         let to = word_end(text, from);
         if to == text.len() {
             return Ok(None);

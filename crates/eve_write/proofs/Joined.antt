@@ -1,7 +1,6 @@
 -- What several writes do together.
 use Rattle.std.proofs.Common.{◌≡◌, ℕ, ◌+◌, ◌<◌, List, [], ◌∷◌, ◌++◌, Option, length, get_or, take, drop, refl, sym}
-use Rattle.std.proofs.Common.{subst, ◌∙◌, ap, append_assoc, append-nil, Result, Ok, Err, Some, true, slice_get, zero}
-use Rattle.std.proofs.Common.{suc, map}
+use Rattle.std.proofs.Common.{subst, ◌∙◌, ap, append_assoc, append-nil, map, Result, Ok, Err, true}
 use Rattle.std.specs.Borrow.{Bor}
 use Rattle.std.specs.List.{flat_map, list_all}
 use Rattle.std.proofs.lemmas.List.{drop_more, take_more, take-append-drop}
@@ -117,12 +116,6 @@ pub Wrote-more : {S X : Type 0} {written : S → Option (List ℕ)} {failures : 
     → Wrote written failures b c (f x) → Wrote written failures a c (flat_map f (take (i + 1) xs))
 Wrote-more {written = written} {failures = failures} {a = a} {c = c} f xs i x within is one two =
     subst (Wrote written failures a c) (flat_map-more f xs i x within is) (Wrote-then one two)
-
--- what stands at a place, by the list
-pub at_place : {X : Type 0} (xs : List X) (i : ℕ) (x : X) → slice_get xs i ≡ Some x → x ≡ get_or xs i x
-at_place [] i x found = cc
-at_place (y ∷ ys) zero x found = cc
-at_place (y ∷ ys) (suc i) x found = at_place ys i x found
 
 -- items of the code as what they are
 pub each_as : {X Y : Type 0} (f : Y → List ℕ) (view : X → Y) (xs ys : List X) → xs ≡ ys → flat_map (λ x. f (view x)) xs

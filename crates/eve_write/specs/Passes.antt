@@ -15,7 +15,7 @@ use Rattle.eve_write.specs.declared.parts.Parts.{Parts}
 use Rattle.eve_write.specs.Data.{customer, batch, attempt, step, vote, sent, trace}
 use Rattle.eve_write.specs.Writable.{fits_vote}
 
--- whether the lengths in a step fit the fields that say them
+-- whether a step may be written: lengths fit their fields, numbers lie in their ranges
 abbrev pub fits_step : Step → Bool
 fits_step (Attempt a) = is_attempt (attempt a)
 fits_step (Commit c) = true

@@ -1,20 +1,19 @@
 //! Accesses and their frames.
 
 ghost use Rattle.std.specs.Prelude.{◌≡◌, ◌+◌, ◌≤◌, ◌∷◌, ◌++◌, true, length};
-ghost use Rattle.std.specs.List.{list_all};
 ghost use Rattle.arrayvec.specs.ArrayVec.{array_vec_len};
 ghost use Rattle.byteorder.specs.Endian.{big_bytes};
 ghost use Rattle.eve_grammar.specs.Frames.{OfAccess};
 ghost use Rattle.eve_grammar.specs.Spelling.{body_text, frame_text};
-ghost use Rattle.eve_grammar.specs.Limits.{row_count, is_entry, is_access};
-ghost use Rattle.eve_grammar.specs.Bodies.{limits};
+ghost use Rattle.eve_grammar.specs.Limits.{row_count, is_access};
 ghost use Rattle.eve_write.specs.Data.{access as plain};
 ghost use Rattle.eve_write.specs.Writing.{Puts, Writes};
 
+use crate::entries::are_entries;
 use crate::fields::{byte, put_entries};
 use crate::measure::Measure;
 use crate::pieces::{put, send};
-use crate::right::Judge;
+use crate::right::{Judge, row_count};
 use crate::spell::Spell;
 use arrayvec::ArrayVec;
 use eve_grammar::Head;
@@ -89,22 +88,11 @@ impl Spell for AccessData {
 impl Measure for AccessData {
     ghost size = { λ x. length (frame_text (OfAccess (plain x))) };
 
-    ghost sound = { λ _. true };
+    ghost fits = { λ _. true };
 
     fn text_len(&self) -> u64 {
         5 + self.body_len() as u64
     }
-}
-
-fn entries_are_right(entries: &UpToThree<Entry>, head: &Head) -> bool
-    ensures { result ≡ list_all (is_entry (row_count (limits head.now))) entries.now }
-{
-    for i in 0..entries.len() {
-        if !entries.at(i).is_right(head) {
-            return false;
-        }
-    }
-    true
 }
 
 impl Judge for AccessData {
@@ -115,6 +103,6 @@ impl Judge for AccessData {
         let _place = self.place;
         let _index = self.index;
         let _count = self.entries.len();
-        entries_are_right(&self.entries, head)
+        are_entries(&self.entries, row_count(head))
     }
 }

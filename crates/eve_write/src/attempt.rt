@@ -94,7 +94,7 @@ impl AttemptData {
 // How many bytes an Attempt frame has at most.
 const LONGEST_ATTEMPT: usize = 48 + 11 * MOST_REQUESTS;
 
-/// Writes an Attempt frame, without the frames of its accesses.
+/// Writes an Attempt frame, without the frames of its accesses, of an attempt within the limits but for those.
 ///
 /// docs/TRACE.md, "Frames". After a fault a front of the frame has been taken, and not all of it.
 pub fn write_attempt<W: Sink>(out: &mut W, attempt: &AttemptData) -> Result<(), SendFault>

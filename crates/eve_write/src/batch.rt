@@ -49,7 +49,7 @@ impl BatchData {
     }
 }
 
-/// Writes a Batch frame with this number.
+/// Writes a Batch frame with this number, of a batch within the limits.
 ///
 /// docs/TRACE.md, "Frames". After a fault a front of the frame has been taken, and not all of it.
 pub fn write_batch<W: Sink>(out: &mut W, number: u32, batch: &BatchData) -> Result<(), SendFault>
@@ -82,7 +82,7 @@ fn none_is_empty(sizes: &[u16]) -> bool
 impl Measure for BatchData {
     ghost size = { λ b. length (frame_text (OfBatch 1 (plain b))) };
 
-    ghost sound = { λ b. is_batch (plain b) };
+    ghost fits = { λ b. is_batch (plain b) };
 
     fn text_len(&self) -> u64 {
         5 + self.body_len() as u64

@@ -54,7 +54,7 @@ impl Spell for CustomerData {
     }
 }
 
-/// Writes a Customer frame.
+/// Writes a Customer frame, of a customer within the limits.
 ///
 /// docs/TRACE.md, "Frames". After a fault a front of the frame has been taken, and not all of it.
 pub fn write_customer<W: Sink>(out: &mut W, customer: &CustomerData) -> Result<(), SendFault>
@@ -67,7 +67,7 @@ pub fn write_customer<W: Sink>(out: &mut W, customer: &CustomerData) -> Result<(
 impl Measure for CustomerData {
     ghost size = { λ c. length (customer_text (plain c)) };
 
-    ghost sound = { λ c. is_customer (plain c) };
+    ghost fits = { λ c. is_customer (plain c) };
 
     fn text_len(&self) -> u64 {
         5 + self.body_len() as u64

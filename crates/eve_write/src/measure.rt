@@ -9,18 +9,19 @@ pub(crate) trait Measure {
     // How many bytes.
     ghost size: { Self → ℕ };
 
-    // Whether a value's lengths fit the fields that say them.
-    ghost sound: { Self → Bool };
+    // Whether `write` may be called of the value: lengths fit their fields, numbers lie in their ranges, a vote for
+    // a rollback has zeros.
+    ghost fits: { Self → Bool };
 
     /// How many bytes it takes.
     fn text_len(&self) -> u64
-        requires { IsTrue (sound self.now) }
+        requires { IsTrue (fits self.now) }
         ensures { result ≡ min (size self.now) (2 ^ 64 - 1) };
 }
 
 /// How many bytes all of them take.
 pub(crate) fn len_of_each<T: Measure>(items: &[T]) -> u64
-    requires { IsTrue (list_all T.sound items.now) }
+    requires { IsTrue (list_all T.fits items.now) }
     ensures { result ≡ min (sum_by T.size items.now) (2 ^ 64 - 1) }
 {
     let mut len: u64 = 0;

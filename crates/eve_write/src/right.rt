@@ -3,11 +3,11 @@
 ghost use Rattle.std.specs.Prelude.{◌≡◌, Bool};
 ghost use Rattle.std.specs.List.{list_all};
 ghost use Rattle.eve_grammar.specs.Trace.{Head};
-ghost use Rattle.eve_grammar.specs.Limits.{row_count, is_entry, is_restore, is_reply};
+ghost use Rattle.eve_grammar.specs.Limits.{row_count, is_restore, is_reply};
 ghost use Rattle.eve_grammar.specs.Bodies.{limits, restore};
 
 use eve_grammar::{Head, MOST_VERSIONS, Restore};
-use eve_smallbank::{Entry, Reply};
+use eve_smallbank::Reply;
 
 /// What a trace under a header may hold or not.
 pub(crate) trait Judge {
@@ -31,22 +31,11 @@ pub(crate) fn all_right<T: Judge>(items: &[T], head: &Head) -> bool
     true
 }
 
-// How many rows a trace with this header has.
-fn row_count(head: &Head) -> u64
+/// How many rows a trace with this header has.
+pub(crate) fn row_count(head: &Head) -> usize
     ensures { result ≡ row_count (limits head.now) }
 {
-    2 * head.customers as u64
-}
-
-impl Judge for Entry {
-    ghost right = { λ h e. is_entry (row_count h) e };
-
-    fn is_right(&self, head: &Head) -> bool {
-        let (seen, after) = (self.seen.get(), self.after.get());
-        (self.row.number() as u64) < row_count(head)
-            && self.version <= MOST_VERSIONS
-            && (self.kind.is_write() || after == seen)
-    }
+    2 * head.customers as usize
 }
 
 impl Judge for Restore {
@@ -54,7 +43,7 @@ impl Judge for Restore {
 
     fn is_right(&self, head: &Head) -> bool {
         let _value = self.value.get();
-        (self.row.number() as u64) < row_count(head) && self.version <= MOST_VERSIONS
+        (self.row.number() as usize) < row_count(head) && self.version <= MOST_VERSIONS
     }
 }
 

@@ -84,7 +84,7 @@ pub(crate) fn write_verifiers<W: Sink>(
 impl Measure for Vec<Step> {
     ghost size = { λ s. 6 + sum_by step_size s.items };
 
-    ghost sound = { λ s. list_all fits_step s.items };
+    ghost fits = { λ s. list_all fits_step s.items };
 
     fn text_len(&self) -> u64 {
         len_of_each(self.as_slice()).saturating_add(6)
@@ -94,7 +94,7 @@ impl Measure for Vec<Step> {
 impl Measure for Vec<VoteData> {
     ghost size = { λ v. 6 + sum_by vote_size v.items };
 
-    ghost sound = { λ v. list_all fits_vote v.items };
+    ghost fits = { λ v. list_all fits_vote v.items };
 
     fn text_len(&self) -> u64 {
         len_of_each(self.as_slice()).saturating_add(6)

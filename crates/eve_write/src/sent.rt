@@ -64,7 +64,7 @@ impl Spell for SentData {
 impl Measure for SentData {
     ghost size = { λ s. length (frame_text (OfSent (plain s))) };
 
-    ghost sound = { λ _. true };
+    ghost fits = { λ _. true };
 
     fn text_len(&self) -> u64 {
         LEN_OF_SENT as u64

@@ -11,7 +11,8 @@ pub(crate) trait Spell {
     // The bytes of a value.
     ghost text: { Self → List ℕ };
 
-    // Whether a value's lengths fit the fields that say them.
+    // Whether `write` may be called of the value: lengths fit their fields, numbers lie in their ranges, a vote for
+    // a rollback has zeros.
     ghost fits: { Self → Bool };
 
     /// Writes the bytes.

@@ -41,7 +41,7 @@ impl Spell for Step {
 impl Measure for Step {
     ghost size = { step_size };
 
-    ghost sound = { fits_step };
+    ghost fits = { fits_step };
 
     fn text_len(&self) -> u64 {
         match self {

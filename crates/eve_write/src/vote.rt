@@ -46,7 +46,7 @@ fn choice_code(choice: ChoiceData) -> u8
     }
 }
 
-/// Writes a Vote frame.
+/// Writes a Vote frame. A vote for a rollback has zeros for its token.
 ///
 /// docs/TRACE.md, "Frames". After a fault a front of the frame has been taken, and not all of it.
 pub fn write_vote<W: Sink>(out: &mut W, vote: &VoteData) -> Result<(), SendFault>
@@ -85,7 +85,7 @@ impl Spell for VoteData {
 impl Measure for VoteData {
     ghost size = { vote_size };
 
-    ghost sound = { fits_vote };
+    ghost fits = { fits_vote };
 
     fn text_len(&self) -> u64 {
         46

@@ -2,9 +2,14 @@ use Rattle.std.proofs.Common.{◌≡◌, take, sym, ap, subst, ◌∙◌}
 use Rattle.eve_workload.specs.Steps.{IsRightBehind}
 use Rattle.eve_workload.specs.Said.{line_said}
 use Rattle.eve_workload.specs.Words.{bytes_of, IsFirstLine}
-use Rattle.eve_workload.specs.Lines.{line_text, text_of_words}
-use Rattle.eve_workload.proofs.LineLaws.{no_line_here, line_here, some_bytes}
+use Rattle.eve_workload.specs.Lines.{line_text, line_words, text_of_words}
+use Rattle.eve_workload.proofs.LineLaws.{line_few, line_inside, no_line_here, line_here, some_bytes}
 use Rattle.eve_workload.proofs.draft.Draft.take_line.Goals as goal
+
+pub returns-in_default : goal.returns-in_default
+returns-in_default c = λ before keeps line behind is right.
+    let none = rw c.in_default.is at c.in_ok-len.ensures.none in
+    none (line_words line) behind (line_few line) (line_inside line right.ranges) is
 
 pub returns-in_default-line_of : goal.returns-in_default-line_of
 returns-in_default-line_of c = λ before keeps line behind is right.

@@ -1,0 +1,32 @@
+//! Which entries lie within the limits of a trace.
+
+ghost use Rattle.std.specs.Prelude.{◌≡◌};
+ghost use Rattle.std.specs.List.{list_all};
+ghost use Rattle.eve_grammar.specs.Limits.{is_entry};
+
+use eve_grammar::MOST_VERSIONS;
+use eve_smallbank::{Entry, UpToThree};
+
+// Whether the entry is of one of so many rows, at a version within the limit, and leaves what it saw if it is a read.
+fn is_entry(entry: &Entry, rows: usize) -> bool
+    ensures { result ≡ is_entry rows entry.now }
+{
+    let (seen, after) = (entry.seen.get(), entry.after.get());
+    (entry.row.number() as usize) < rows
+        && entry.version <= MOST_VERSIONS
+        && (entry.kind.is_write() || after == seen)
+}
+
+/// Whether each entry is of one of so many rows, at a version within the limit, and leaves what it saw if it is a read.
+///
+/// docs/MODEL.md, "Entries" and "Limits".
+pub fn are_entries(entries: &UpToThree<Entry>, rows: usize) -> bool
+    ensures { result ≡ list_all (is_entry rows) entries.now }
+{
+    for place in 0..entries.len() {
+        if !is_entry(&entries.at(place), rows) {
+            return false;
+        }
+    }
+    true
+}
