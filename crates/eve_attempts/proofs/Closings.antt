@@ -1,6 +1,6 @@
 -- The records of a batch become an attempt.
-use Rattle.std.proofs.Common.{◌≡◌, ℕ, ℤ, ◌+◌, ◌≤◌, ◌==◌, nat_le, true, false, ltb, leb, IsTrue, List, [], ◌∷◌, ◌++◌}
-use Rattle.std.proofs.Common.{map, length, replicate, sum, slice_get, Some, refl, sym, subst, ap, ◌∙◌, append-nil}
+use Rattle.std.proofs.Common.{◌≡◌, ℕ, ℤ, ◌+◌, ◌<◌, ◌≤◌, ◌==◌, nat_le, true, false, ltb, leb, IsTrue, List, [], ◌∷◌}
+use Rattle.std.proofs.Common.{◌++◌, map, length, replicate, sum, slice_get, Some, refl, sym, subst, ap, ◌∙◌, append-nil}
 use Rattle.std.proofs.Common.{arith}
 use Rattle.std.specs.List.{AllByRecursion, list_all}
 use Rattle.std.proofs.lemmas.Bool.{and_parts, and_from, eq-eqb, lt-ltb, ltb-true, le-leb, leb-true}
@@ -152,11 +152,12 @@ module _ (old new : Ledger) (o : Opened) (rows : Rows) (is : new ≡ with_open o
           (table_of_rows rows) p.written
       one p = ap (values_before (table_of_rows rows)) (append-nil p.written)
 
-  pub ledger_further : IsLedger old → old.committed + 1 + length old.opened ≤ 65535 → table_of_rows rows
-      ≡ table_after (table_now old) o.written → list_all (is_write_in (length rows.balances)) o.written ≡ true
-      → IsLedger new
-  ledger_further l last table right = subst IsLedger (sym is) (record {
+  pub ledger_further : IsLedger old → old.committed + 1 + length old.opened ≤ 65535 → length old.opened < old.window
+      → table_of_rows rows ≡ table_after (table_now old) o.written
+      → list_all (is_write_in (length rows.balances)) o.written ≡ true → IsLedger new
+  ledger_further l last room table right = subst IsLedger (sym is) (record {
     counted = let h = pushed old.opened in omega arith;
+    room = let h = pushed old.opened in omega arith;
     written = ap (list_all (is_write_in (length rows.balances))) (writes_in-append old.opened (o ∷ []))
         ∙ list_all-append (is_write_in (length rows.balances)) (open_writes old) (writes_in (o ∷ []))
         ∙ and_from (list_all (is_write_in (length rows.balances)) (open_writes old)) _

@@ -43,6 +43,8 @@ module _ (s : Ledger) (first : Opened) (others : List Opened) (is : s.opened ≡
   ledger_next = record {
     counted = let h : length s.opened ≡ length (first ∷ others) = ap (λ (os : List Opened). length os) is in
         omega (arith, l.counted);
+    room = let h : length s.opened ≡ length (first ∷ others) = ap (λ (os : List Opened). length os) is in
+        omega (arith, l.room);
     written = (and_parts (list_all (is_write_in (ledger_rows s)) first.written) _
         (sym (list_all-append (is_write_in (ledger_rows s)) first.written (writes_in others))
         ∙ ap (λ (os : List Opened). list_all (is_write_in (ledger_rows s)) (writes_in os)) (sym is) ∙ l.written)).1;
@@ -270,7 +272,8 @@ module _ (s : Ledger) (l : IsLedger s) (numbers : List ℕ) (moved : IsPermutati
 -- with nothing open
 pub ledger_empty : (s : Ledger) (rows : Rows) (view : ℕ) (serial : Bool) → IsLedger s
     → IsLedger (record s { rows = rows; opened = []; view = view; is_next_serial = serial })
-ledger_empty s rows view serial l = record { counted = let h = l.counted in omega arith; written = refl; laid = refl }
+ledger_empty s rows view serial l =
+    record { counted = let h = l.counted in omega arith; room = omega arith; written = refl; laid = refl }
 
 pub rolled_back : (s : Ledger) (l : IsLedger s) (numbers : List ℕ)
     (moved : IsPermutation (entry_rows (open_writes s)) numbers) (up : IsNonDecreasing numbers) (new : Ledger)

@@ -9,7 +9,7 @@ use Rattle.eve_smallbank.specs.SmallBank.{Request}
 use Rattle.eve_smallbank.specs.Access.{Executed, Fits, is_write}
 use Rattle.eve_smallbank.specs.Chain.{IsChained, table_after_all}
 use Rattle.eve_smallbank.specs.Touch.{touched_of}
-use Rattle.eve_grammar.specs.Trace.{Asked, Batch, Access, Attempt, no_request}
+use Rattle.eve_grammar.specs.Trace.{Batch, Access, Attempt, no_request}
 use Rattle.eve_grammar.specs.Limits.{is_access, is_whole_attempt}
 use Rattle.eve_grammar.specs.Certificate.{is_certificate}
 use Rattle.eve_grammar.specs.Accesses.{is_new_access, is_right_place}

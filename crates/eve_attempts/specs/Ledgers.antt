@@ -93,7 +93,10 @@ AreLaid base [] now = base ≡ now
 AreLaid base (o ∷ opened) now =
     (values_before (table_after base o.written) o.written ≡ base) × AreLaid (table_after base o.written) opened now
 
+-- The numbers lie within the limit, and no more attempts are open than may be. What they wrote lies within the limits
+-- of the format, and was laid on the rows as they are committed, one attempt after another.
 pub record IsLedger (s : Ledger) : Type 0 where
   pub counted : s.committed + length s.opened ≤ MOST_BATCHES
+  pub room : length s.opened ≤ s.window
   pub written : IsTrue (list_all (is_write_in (ledger_rows s)) (open_writes s))
   pub laid : AreLaid (rows_committed s) s.opened (table_now s)

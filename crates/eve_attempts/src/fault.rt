@@ -9,6 +9,6 @@ pub enum CloseFault {
     Mismatch,
 }
 
-/// No open attempt is the next to be committed, or another one is.
+/// No attempt is open, or the first open one is of another batch.
 #[derive(Clone, Copy, Debug, PartialEq, Eq)]
 pub struct NotOpen;

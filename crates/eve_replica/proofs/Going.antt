@@ -1,5 +1,5 @@
 -- Replicas of a run go on, one after another.
-use Rattle.std.proofs.Common.{◌≡◌, ℕ, zero, suc, ◌+◌, ◌-◌, ◌*◌, ◌<◌, ◌≤◌, ◌==◌, Bool, true, false, ◌&&◌, if◌then◌else◌}
+use Rattle.std.proofs.Common.{◌≡◌, ℕ, zero, suc, ◌+◌, ◌-◌, ◌*◌, ◌<◌, ◌≤◌, Bool, true, false, if◌then◌else◌}
 use Rattle.std.proofs.Common.{List, [], ◌∷◌, ◌++◌, Vec, vec_len, All, length, map, get_or, slice_get, option_map}
 use Rattle.std.proofs.Common.{take, drop}
 use Rattle.std.proofs.Common.{Some}
@@ -9,9 +9,7 @@ use Rattle.std.specs.declared.alloc.Global.{Global}
 use Rattle.eve_write.specs.declared.vote.VoteData.{VoteData}
 use Rattle.std.proofs.lemmas.List.{with_items_is}
 use Rattle.std.proofs.lemmas.List.{length-append, length-drop, length-map, length-take-le, append-nil}
-use Rattle.std.proofs.Math.Bool.{and-false}
-use Rattle.std.proofs.lemmas.Bool.{and_right, false≢true}
-use Rattle.std.proofs.lemmas.Bool.Decides.{nat_tests}
+use Rattle.std.proofs.lemmas.Bool.{false≢true}
 use Rattle.std.proofs.lemmas.List.Elements.{All-append, All-cons, All-nil}
 use Rattle.std.proofs.lemmas.Option.{slice_get-map, slice_get_within}
 use Rattle.std.specs.List.{count_by}
@@ -23,8 +21,8 @@ use Rattle.eve_attempts.specs.Ledgers.{Ledger, Opened}
 use Rattle.eve_attempts.specs.Closing.{touched_in_batch, Closes, opened_as}
 use Rattle.eve_replica.specs.declared.standing.Standing.{Standing}
 use Rattle.eve_replica.specs.declared.server.Server.{Server}
-use Rattle.eve_replica.specs.declared.deployment.Deployment.{Deployment}
-use Rattle.eve_replica.specs.Replicas.{Replica, Attempts, front_of}
+use Rattle.eve_replica.specs.declared.run_state.RunState.{RunState}
+use Rattle.eve_replica.specs.Replicas.{Replica, AttemptsDue, front_of}
 use Rattle.eve_replica.specs.Sections.{RunPlan, AttemptsNext, place_due, votes_along}
 use Rattle.eve_replica.specs.Serving.{standing_of, after_attempts, AreDue, AreVotesOn, AreOfItsView}
 use Rattle.eve_replica.specs.Serving.{ComesTo, window_at, IsOutvoted, IsLedBy, Serves}
@@ -136,54 +134,46 @@ goes_on p at votes m old new next leads goes serves = record {
         ++ (if c then m.votes (standing_of old.replica.ledger) else [])) is
         ∙ ap (λ (vs : List Vote). votes_along (section old.steps) ++ vs) (here b is)
 
-pub stand : (view committed opened opened' : ℕ) (serial serial' : Bool) → opened ≡ opened' → serial ≡ serial'
-    → Path Standing (record { view = view; committed = committed; opened = opened; is_next_serial = serial })
-    (record { view = view; committed = committed; opened = opened'; is_next_serial = serial' })
-stand view committed opened opened' serial serial' e f = cc
-
-later : (many : ℕ) → 0 < many → (many == 0) ≡ false
-later many some = grind (arith, nat_tests)
+pub stand : (view committed opened opened' : ℕ) → opened ≡ opened'
+    → Path Standing (record { view = view; committed = committed; opened = opened })
+    (record { view = view; committed = committed; opened = opened' })
+stand view committed opened opened' same =
+    ap (λ (n : ℕ). record { view = view; committed = committed; opened = n }) same
 
 -- an attempt was made
-pub attempted : (view : ℕ) (serial : Bool) (old new : Replica) (b : Batch) (a : Attempt)
-    → Attempts view serial old new b a
+pub attempted : (old new : Replica) (b : Batch) (a : Attempt) → AttemptsDue old new b a
     → standing_of new.ledger ≡ after_attempts 1 (standing_of old.ledger)
-attempted view serial old new b a made =
+attempted old new b a made =
     let opens = made.1.1.closed.opens in
     ap standing_of opens.changed
-    ∙ stand old.ledger.view old.ledger.committed _ (length old.ledger.opened + 1) false
-    (old.ledger.is_next_serial && false)
-    (length-append old.ledger.opened _) (sym (and-false old.ledger.is_next_serial))
+    ∙ stand old.ledger.view old.ledger.committed _ (length old.ledger.opened + 1) (length-append old.ledger.opened _)
 
 -- the account makes the attempt of the batch that is due
-pub attempts_next : (p : RunPlan) (view : ℕ) (serial : Bool) (old new : Replica) (b : Batch) (a : Attempt)
-    → AreDue 1 view serial old.ledger → old.names ≡ p.names → slice_get p.batches (place_due old.ledger) ≡ Some b
-    → Attempts view serial old new b a → AttemptsNext p old.ledger new.ledger a
-attempts_next p view serial old new b a due names is made =
-    let Closing : AttemptFront → List (List ℕ) → Type 0 = λ front ns.
+pub attempts_next : (p : RunPlan) (old new : Replica) (b : Batch) (a : Attempt) → AreDue 1 old.ledger
+    → old.names ≡ p.names → slice_get p.batches (place_due old.ledger) ≡ Some b → AttemptsDue old new b a
+    → AttemptsNext p old.ledger new.ledger a
+attempts_next p old new b a due names is made =
+    let front : AttemptFront = front_of old.ledger old.ledger.view old.ledger.is_next_serial in
+    let Closing : List (List ℕ) → Type 0 = λ ns.
     Closes front old.ledger new.ledger b (touched_in_batch ns b) made.1.0 a in
     record {
       room = omega (arith, due.room);
       batch = b;
       due = is;
       records = made.1.0;
-      closed = subst (λ (serial' : Bool). Closing (front_of old.ledger old.ledger.view serial') p.names)
-          (sym due.in_mode)
-          (subst (λ (view' : ℕ). Closing (front_of old.ledger view' serial) p.names) (sym due.in_view)
-          (subst (Closing (front_of old.ledger view serial)) names made.1.1.closed));
+      closed = subst Closing names made.1.1.closed;
     }
 
 -- and its open attempts stay of its view
-pub attempted_in_view : (view : ℕ) (serial : Bool) (old new : Replica) (b : Batch) (a : Attempt)
-    → AreDue 1 view serial old.ledger → Attempts view serial old new b a → AreOfItsView old.ledger
-    → AreOfItsView new.ledger
-attempted_in_view view serial old new b a due made of_view =
+pub attempted_in_view : (old new : Replica) (b : Batch) (a : Attempt) → AttemptsDue old new b a
+    → AreOfItsView old.ledger → AreOfItsView new.ledger
+attempted_in_view old new b a made of_view =
     let closed = made.1.1.closed in
     let one = opened_as a closed.ordered in
     let InView : Opened → Type 0 = λ o. o.view ≡ old.ledger.view in
     subst AreOfItsView (sym closed.opens.changed)
     (All-append InView old.ledger.opened (one ∷ []) of_view
-    (All-cons InView one [] (closed.attempt.view ∙ sym due.in_view) (All-nil InView)))
+    (All-cons InView one [] closed.attempt.view (All-nil InView)))
 
 pub no_votes : (b : Bool) (vs : List Vote) → vs ++ (if b then [] else []) ≡ vs
 no_votes true vs = append-nil vs
@@ -213,10 +203,7 @@ one_more many window w a b c there first more =
       live = λ is. (
         (first.live (more.live is).0).0,
         (more.live is).1 ∙ ap (after_attempts 1) (first.live (more.live is).0).1
-            ∙ stand at.view at.committed (at.opened + many + 1) (at.opened + (many + 1))
-            ((at.is_next_serial && (many == 0)) && false) (at.is_next_serial && (many + 1 == 0)) (omega arith)
-            (and-false (at.is_next_serial && (many == 0))
-            ∙ sym (and_right at.is_next_serial (many + 1 == 0) (later (many + 1) (omega arith)))),
+            ∙ stand at.view at.committed (at.opened + many + 1) (at.opened + (many + 1)) (omega arith),
       );
       behind = λ x stands was.
           more.behind (after_attempts many x)
@@ -258,17 +245,10 @@ one_more many window w a b c there first more =
         ∙ follow stood.0 many (slice_get_within window many w there) ∙ there
     next_one p follow live (suc k) below = absurd (omega arith)
 
--- in serial mode is none but the first
-pub none_later : (serial : Bool) (many : ℕ) → 0 < many → false ≡ (serial && (many == 0))
-none_later serial many some = sym (and_right serial (many == 0) (later many some))
-
 -- where a whole window was attempted
-pub window_open : (many : ℕ) (at : Standing) → at.opened ≡ 0 → 0 < many
-    → Path Standing (record { view = at.view; committed = at.committed; opened = many; is_next_serial = false })
-    (after_attempts many at)
-window_open many at none some =
-    stand at.view at.committed many (at.opened + many) false (at.is_next_serial && (many == 0)) (omega arith)
-    (none_later at.is_next_serial many some)
+pub window_open : (many : ℕ) (at : Standing) → at.opened ≡ 0
+    → Path Standing (record { view = at.view; committed = at.committed; opened = many }) (after_attempts many at)
+window_open many at none = stand at.view at.committed many (at.opened + many) (omega arith)
 
 -- how many batches a window has
 pub window_len : (batches : List MixedBatch) (from end : ℕ) → from ≤ end → end ≤ length batches
@@ -303,17 +283,12 @@ window_follows batches from many = λ k below.
 -- what is due of a live replica, by where it stands
 pub due : (p : RunPlan) (many : ℕ) (at : Standing) (votes : List Vote) (s : Server) → at.opened + many ≤ p.first.window
     → at.committed + at.opened + many ≤ 65535 → Serves p at votes s → s.is_live ≡ true
-    → AreDue many at.view at.is_next_serial s.replica.ledger
+    → AreDue many s.replica.ledger
 due p many at votes s fits last serves live =
     let stands = serves.live live in
     let opened = ap (λ (x : Standing). x.opened) stands in
     let committed = ap (λ (x : Standing). x.committed) stands in
-    record {
-      last = omega arith;
-      room = omega (arith, serves.room);
-      in_view = ap (λ (x : Standing). x.view) stands;
-      in_mode = ap (λ (x : Standing). x.is_next_serial) stands;
-    }
+    record { last = omega arith; room = omega (arith, serves.room) }
 
 -- ---- all replicas
 
@@ -354,19 +329,19 @@ Discards old new =
 -- ---- the run
 
 -- the replicas of a run, as they are lent
-pub lent_serve : (p : RunPlan) (d : Deployment) (lent : List Server) → IsUnderWay p d → lent ≡ d.servers.items
+pub lent_serve : (p : RunPlan) (d : RunState) (lent : List Server) → IsUnderWay p d → lent ≡ d.servers.items
     → All (Serves p d.standing (map vote d.votes.items)) lent
 lent_serve p d lent was same =
     subst (λ (servers : List Server). All (Serves p d.standing (map vote d.votes.items)) servers) (sym same) was.servers
 
 -- what they rolled back wasn't decided
-pub lent_undecided : (p : RunPlan) (d : Deployment) (lent : List Server) → IsUnderWay p d → lent ≡ d.servers.items
+pub lent_undecided : (p : RunPlan) (d : RunState) (lent : List Server) → IsUnderWay p d → lent ≡ d.servers.items
     → AreUndecided (sections_in lent)
 lent_undecided p d lent was same =
     subst (λ (servers : List Server). AreUndecided (sections_in servers)) (sym same) was.undecided
 
 -- a run whose replicas have gone on to stand here is under way
-pub moved : (p : RunPlan) (d : Deployment) (given : List Server) (at : Standing) (votes : Vec VoteData Global)
+pub moved : (p : RunPlan) (d : RunState) (given : List Server) (at : Standing) (votes : Vec VoteData Global)
     → IsUnderWay p d → length given ≡ vec_len d.servers
     → at.committed + at.opened ≤ length d.batches.now → AreVotesOn (length d.batches.now) votes.items
     → All (Serves p at (map vote votes.items)) given → length given < 2 * live_in given
@@ -392,7 +367,7 @@ moved p d given at votes was many due right go majority undecided = record {
 }
 
 -- the batches of a run's next window
-pub window_due : (p : RunPlan) (d : Deployment) (end : ℕ) → IsUnderWay p d → d.standing.opened ≡ 0
+pub window_due : (p : RunPlan) (d : RunState) (end : ℕ) → IsUnderWay p d → d.standing.opened ≡ 0
     → AreBatchesFrom p.batches (d.standing.committed + d.standing.opened)
     (map (λ m. batch m.batch) (take (end - d.standing.committed) (drop d.standing.committed d.batches.now)))
 window_due p d end was none =
@@ -405,7 +380,7 @@ window_due p d end was none =
     (window_follows d.batches.now from many))
 
 -- as many replicas are live as were more than half of all
-pub still_majority : (d : Deployment) (lent given : List Server) (count : ℕ) → lent ≡ d.servers.items
+pub still_majority : (d : RunState) (lent given : List Server) (count : ℕ) → lent ≡ d.servers.items
     → length given ≡ vec_len d.servers → live_in given ≡ count → length lent < 2 * count
     → length given < 2 * live_in given
 still_majority d lent given count same many lives more =

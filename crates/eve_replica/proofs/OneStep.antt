@@ -1,10 +1,9 @@
 -- Public: other crates cite these lemmas. A replica that attempts, commits or rolls back goes on.
-use Rattle.std.proofs.Common.{◌≡◌, ℕ, suc, ◌+◌, ◌-◌, ◌<◌, ◌≤◌, Bool, true, false, ◌&&◌, if◌then◌else◌}
+use Rattle.std.proofs.Common.{◌≡◌, ℕ, suc, ◌+◌, ◌-◌, ◌<◌, ◌≤◌, Bool, true, false, if◌then◌else◌}
 use Rattle.std.proofs.Common.{List, [], ◌∷◌, ◌++◌, length, slice_get, Option, Some, option_map, All, IsTrue, refl}
 use Rattle.std.proofs.Common.{sym, ap, ◌∙◌, subst, arith, add-zero}
 use Rattle.std.proofs.lemmas.List.{append-nil}
 use Rattle.std.proofs.lemmas.List.Elements.{All-head, All-tail, All-nil}
-use Rattle.std.proofs.Math.Bool.{and-true}
 use Rattle.std.proofs.lemmas.Bool.{false≢true}
 use Rattle.std.proofs.lemmas.Slice.Eq.{bytes_eq-Decides}
 use Rattle.std.specs.List.{list_all}
@@ -19,7 +18,7 @@ use Rattle.eve_replica.specs.declared.standing.Standing.{Standing}
 use Rattle.eve_replica.specs.Replicas.{Replica}
 use Rattle.eve_replica.specs.Replicas as replica
 use Rattle.eve_replica.specs.Sections.{RunPlan, GoesThrough, place_due, votes_on, votes_along}
-use Rattle.eve_replica.specs.Serving.{standing_of, after_attempts, after_commit, AreDue, AreRightSteps, AreOfItsView}
+use Rattle.eve_replica.specs.Serving.{standing_of, after_commit, AreDue, AreRightSteps, AreOfItsView}
 use Rattle.eve_replica.specs.Serving.{GoesOn, IsOutvoted, ComesTo, Move, attempt_move}
 use Rattle.eve_replica.specs.Windows.{WindowState, GoByWindows}
 use Rattle.eve_replica.specs.Deciding.{is_some_of, token_given_up}
@@ -40,12 +39,11 @@ same_given_up view x old new added none =
 
 -- ---- attempts
 
-pub attempt_goes : (view : ℕ) (serial : Bool) (b : Batch) (a : Attempt) (old new : Server)
-    → AreDue 1 view serial old.replica.ledger → old.is_live ≡ true → new.is_live ≡ true
-    → replica.Attempts view serial old.replica new.replica b a
+pub attempt_goes : (b : Batch) (a : Attempt) (old new : Server) → AreDue 1 old.replica.ledger → old.is_live ≡ true
+    → new.is_live ≡ true → replica.AttemptsDue old.replica new.replica b a
     → section new.steps ≡ section old.steps ++ Attempts a ∷ [] → (AreRightSteps old → AreRightSteps new)
     → GoesOn (attempt_move 1 (b ∷ [])) old new
-attempt_goes view serial b a old new due live lives made added right =
+attempt_goes b a old new due live lives made added right =
     let closed = made.1.1 in
     let changed = closed.closed.opens.changed in
     let steps = section old.steps in
@@ -58,7 +56,7 @@ attempt_goes view serial b a old new due live lives made added right =
       through = λ p names next goes.
           subst (λ (ss : List Step). GoesThrough p ss p.first new.replica.ledger) (sym added)
           (through_more p steps (Attempts a) p.first old.replica.ledger new.replica.ledger goes
-          (attempts_next p view serial old.replica new.replica b a due names
+          (attempts_next p old.replica new.replica b a due names
           (ap (slice_get p.batches) (sym (add-zero (place_due old.replica.ledger))) ∙ next live 0 (omega arith)) made));
       windows = λ size batches from to leads stays comes.
           let turn = leads lives in
@@ -67,43 +65,76 @@ attempt_goes view serial b a old new due live lives made added right =
           (λ rest goes. (omega (arith, turn.0), subst (λ (s : WindowState). GoByWindows size s rest) turn.1 goes))
           comes);
       given_up = λ v stays. same_given_up v (Attempts a) old new added (λ opened. refl);
-      of_view = attempted_in_view view serial old.replica new.replica b a due made;
+      of_view = attempted_in_view old.replica new.replica b a made;
       votes = λ h. ap votes_along added ∙ votes_more steps (Attempts a) ∙ append-nil (votes_along steps)
           ∙ sym (no_votes new.is_live (votes_along steps));
       view = λ at le. let same = ap (λ (s : Ledger). s.view) changed in omega (arith, same, le);
-      live = λ h. (live, attempted view serial old.replica new.replica b a made);
+      live = λ h. (live, attempted old.replica new.replica b a made);
       behind = λ at stands was stopped. absurd (false≢true (sym stopped ∙ lives));
       stays = λ stopped. absurd (false≢true (sym stopped ∙ lives));
       stops = λ stopped was. absurd (false≢true (sym stopped ∙ lives));
     }
 
--- before the first attempt of a window
-pub none_made : (window : List Batch) (s : Server) → s.is_live ≡ true → GoesOn (attempt_move 0 window) s s
-none_made window s live = record {
+-- ---- staying
+
+-- by this move who stands here stays, and gives no vote
+record LeavesAlone (m : Move) (at : Standing) : Type 0 where
+  stands : at ≡ m.further at
+  windows : (size : ℕ) (from to : WindowState) → m.InWindow size from to → from ≡ to
+  votes : m.votes at ≡ []
+
+-- A replica that stays as it is goes on by a move that takes nobody back, and leaves it alone if it is live.
+stays_so : (m : Move) (s : Server) → ((at : Standing) → at.view ≤ (m.further at).view)
+    → ((at : Standing) → at.committed ≤ (m.further at).committed)
+    → (s.is_live ≡ true → LeavesAlone m (standing_of s.replica.ledger)) → GoesOn m s s
+stays_so m s views commits alone = record {
   names = refl;
   rows = refl;
   room = refl;
   whole = λ h. h;
   steps = λ h. h;
   through = λ p names next goes. goes;
-  windows = λ size batches from to leads stays comes.
-      let due : from.due ≡ from.due - 0 = omega arith in
-      let opened : from.opened ≡ from.opened + 0 = omega arith in
-      subst (ComesTo size batches (section s.steps)) (same_state from.left due opened ∙ sym (leads live).1) comes;
+  windows = λ size batches from to leads stays.
+      subst (ComesTo size batches (section s.steps)) (same_window size from to leads stays s.is_live refl);
   of_view = λ h. h;
   given_up = λ v stays. refl;
-  votes = λ h. sym (no_votes s.is_live (votes_along (section s.steps)));
-  view = λ at le. le;
-  live = λ h. (live, none_further (standing_of s.replica.ledger));
-  behind = λ at stands was stopped. was stopped;
-  stays = λ stopped. refl;
-  stops = λ stopped was. absurd (false≢true (sym stopped ∙ live));
+  votes = λ h. sym (append-nil (votes_along (section s.steps)))
+      ∙ ap (λ (vs : List Vote). votes_along (section s.steps) ++ vs) (sym (no_vote s.is_live refl));
+  view = λ at le. let up = views at in omega arith;
+  live = λ h. (h, (alone h).stands);
+  behind = λ at stands was h. let before = was h in let up = commits at in omega arith;
+  stays = λ h. refl;
+  stops = λ h live. absurd (false≢true (sym h ∙ live));
 }
   where
-    none_further : (at : Standing) → at ≡ after_attempts 0 at
-    none_further at =
-        stand at.view at.committed at.opened (at.opened + 0) at.is_next_serial (at.is_next_serial && true)
-        (omega arith) (sym (and-true at.is_next_serial))
+    same_window : (size : ℕ) (from to : WindowState) → (s.is_live ≡ true → m.InWindow size from to)
+        → (s.is_live ≡ false → from ≡ to) → (b : Bool) → s.is_live ≡ b → from ≡ to
+    same_window size from to leads stays true is = (alone is).windows size from to (leads is)
+    same_window size from to leads stays false is = stays is
+
+    no_vote : (b : Bool) → s.is_live ≡ b
+        → Path (List Vote) (if b then m.votes (standing_of s.replica.ledger) else []) []
+    no_vote true is = (alone is).votes
+    no_vote false is = refl
+
+-- before the first attempt of a window
+pub none_made : (window : List Batch) (s : Server) → GoesOn (attempt_move 0 window) s s
+none_made window s = stays_so (attempt_move 0 window) s (λ at. omega arith) (λ at. omega arith)
+    (λ live.
+    let at = standing_of s.replica.ledger in
+    record {
+      stands = stand at.view at.committed at.opened (at.opened + 0) (omega arith);
+      windows = λ size from to made.
+          let due : from.due ≡ from.due - 0 = omega arith in
+          let opened : from.opened ≡ from.opened + 0 = omega arith in
+          same_state from.left due opened ∙ sym made.1;
+      votes = refl;
+    })
+
+-- one that is live no more stays as it is, whatever the others do
+pub rests : (m : Move) (s : Server) → ((at : Standing) → at.view ≤ (m.further at).view)
+    → ((at : Standing) → at.committed ≤ (m.further at).committed) → s.is_live ≡ false → GoesOn m s s
+rests m s views commits stopped = stays_so m s views commits (λ live. absurd (false≢true (sym stopped ∙ live)))
 
 -- ---- commits
 
@@ -155,8 +186,7 @@ pub committed : (old new : Ledger) (c : Commit) → account.Commits old new c
 committed old new c made =
     let many : length old.opened ≡ suc (length made.others) = ap length made.opened in
     ap standing_of made.changed
-    ∙ stand old.view (old.committed + 1) (length made.others) (length old.opened - 1) old.is_next_serial
-    old.is_next_serial (omega arith) refl
+    ∙ stand old.view (old.committed + 1) (length made.others) (length old.opened - 1) (omega arith)
 
 pub commit_goes : (token : List ℕ) (c : Commit) (old new : Server)
     → is_some_of token (next_token old) ≡ true → new.is_live ≡ old.is_live
@@ -255,30 +285,6 @@ stop_goes token old new some other stopped same steps =
     behind_now at stands was true is same =
         let here = ap (λ (x : Standing). x.committed) (stands is) in omega arith
     behind_now at stands was false is same = let before = was is in omega arith
-
--- and one that is live no more stays as it is, whatever the others do
-pub rests : (m : Move) (s : Server) → ((at : Standing) → at.view ≤ (m.further at).view)
-    → ((at : Standing) → at.committed ≤ (m.further at).committed) → s.is_live ≡ false → GoesOn m s s
-rests m s views commits stopped = record {
-  names = refl;
-  rows = refl;
-  room = refl;
-  whole = λ h. h;
-  steps = λ h. h;
-  through = λ p names next goes. goes;
-  windows = λ size batches from to leads stays comes.
-      subst (ComesTo size batches (section s.steps)) (stays stopped) comes;
-  of_view = λ h. h;
-  given_up = λ v stays. refl;
-  votes = λ h. sym (append-nil (votes_along (section s.steps)))
-      ∙ ap (λ (b : Bool). votes_along (section s.steps)
-      ++ (if b then m.votes (standing_of s.replica.ledger) else [])) (sym stopped);
-  view = λ at le. let up = views at in omega arith;
-  live = λ h. absurd (false≢true (sym stopped ∙ h));
-  behind = λ at stands was h. let before = was h in let up = commits at in omega arith;
-  stays = λ h. refl;
-  stops = λ h live. absurd (false≢true (sym stopped ∙ live));
-}
 
 -- ---- rollbacks
 

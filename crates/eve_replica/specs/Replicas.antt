@@ -34,6 +34,10 @@ front_of s view serial = record { seq = s.committed + 1 + length s.opened; view 
 abbrev pub Attempts : ℕ → Bool → Replica → Replica → Batch → Attempt → Type 0
 Attempts view serial old new b a = (old.is_broken ≡ false) × ClosesSome (front_of old.ledger view serial) old new b a
 
+-- The same, in the view and in the mode that are due.
+abbrev pub AttemptsDue : Replica → Replica → Batch → Attempt → Type 0
+AttemptsDue old new b a = Attempts old.ledger.view old.ledger.is_next_serial old new b a
+
 -- its account stays, and it is broken
 abbrev pub Breaks : Replica → Replica → Type 0
 Breaks old new = (old.is_broken ≡ false) × (new ≡ record old { is_broken = true })

@@ -1,5 +1,5 @@
 -- What a run of a deployment keeps from window to window. docs/TRACE.md, "The deployment's procedure".
-use Rattle.std.specs.Prelude.{◌≡◌, ◌≢◌, ℕ, ℤ, ◌+◌, ◌-◌, ◌*◌, ◌<◌, ◌≤◌, ◌==◌, Bool, true, false, ◌&&◌, if◌then◌else◌}
+use Rattle.std.specs.Prelude.{◌≡◌, ◌≢◌, ℕ, ℤ, ◌+◌, ◌-◌, ◌*◌, ◌<◌, ◌≤◌, true, false, if◌then◌else◌}
 use Rattle.std.specs.Prelude.{All, IsTrue, List, [], ◌∷◌, ◌++◌, length, map, slice_get, vec_len, Option, Some, None}
 use Rattle.std.specs.Prelude.{option_map, min}
 use Rattle.std.specs.List.{count_by, list_all}
@@ -19,7 +19,7 @@ use Rattle.eve_replica.specs.Sections.{RunPlan, GoesThrough, place_due, votes_al
 use Rattle.eve_replica.specs.Windows.{WindowState, GoByWindows, window_with}
 use Rattle.eve_replica.specs.declared.standing.Standing.{Standing}
 use Rattle.eve_replica.specs.declared.server.Server.{Server}
-use Rattle.eve_replica.specs.declared.deployment.Deployment.{Deployment}
+use Rattle.eve_replica.specs.declared.run_state.RunState.{RunState}
 
 -- a batch within the limits; what its requests touch was looked up among these names
 pub record IsRightMixed (names : List (List ℕ)) (m : MixedBatch) : Type 0 where
@@ -42,42 +42,28 @@ IsPlanFor names balances h p = (p.names ≡ names) × (p.first ≡ opening balan
 
 -- where a replica stands by its own account
 abbrev pub standing_of : Ledger → Standing
-standing_of s =
-    record { view = s.view; committed = s.committed; opened = length s.opened; is_next_serial = s.is_next_serial }
+standing_of s = record { view = s.view; committed = s.committed; opened = length s.opened }
 
 -- at first
 abbrev pub first_standing : Standing
-first_standing = record { view = 0; committed = 0; opened = 0; is_next_serial = false }
+first_standing = record { view = 0; committed = 0; opened = 0 }
 
 -- so many attempts on
 abbrev pub after_attempts : ℕ → Standing → Standing
-after_attempts many at = record {
-  view = at.view;
-  committed = at.committed;
-  opened = at.opened + many;
-  is_next_serial = at.is_next_serial && (many == 0);
-}
+after_attempts many at = record { view = at.view; committed = at.committed; opened = at.opened + many }
 
 -- one commit on
 abbrev pub after_commit : Standing → Standing
-after_commit at = record {
-  view = at.view;
-  committed = at.committed + 1;
-  opened = at.opened - 1;
-  is_next_serial = at.is_next_serial;
-}
+after_commit at = record { view = at.view; committed = at.committed + 1; opened = at.opened - 1 }
 
 -- one rollback on
 abbrev pub after_rollback : Standing → Standing
-after_rollback at = record { view = at.view + 1; committed = at.committed; opened = 0; is_next_serial = true }
+after_rollback at = record { view = at.view + 1; committed = at.committed; opened = 0 }
 
--- so many more attempts are due, in this view and the first of them in this mode: there is room for them, and for their
--- numbers
-pub record AreDue (many view : ℕ) (serial : Bool) (s : Ledger) : Type 0 where
+-- so many more attempts are due: there is room for them, and for their numbers
+pub record AreDue (many : ℕ) (s : Ledger) : Type 0 where
   pub last : s.committed + length s.opened + many ≤ MOST_BATCHES
   pub room : length s.opened + many ≤ s.window
-  pub in_view : s.view ≡ view
-  pub in_mode : s.is_next_serial ≡ serial
 
 -- ---- windows
 
@@ -271,7 +257,7 @@ live_in servers = count_by (λ s. s.is_live) servers
 -- The state of a run by this plan, which begins with nothing open: its batches are the plan's, and were looked up among
 -- its names; each replica is one of this run, and each live one stands where the run does; more than half of them are
 -- live; what they rolled back wasn't decided; every vote so far lies within the limits.
-pub record IsUnderWay (p : RunPlan) (d : Deployment) : Type 0 where
+pub record IsUnderWay (p : RunPlan) (d : RunState) : Type 0 where
   pub begun : p.first.opened ≡ []
   pub customers : length p.names ≡ d.head.customers
   pub window : p.first.window ≡ d.head.window
@@ -287,5 +273,5 @@ pub record IsUnderWay (p : RunPlan) (d : Deployment) : Type 0 where
   pub votes : AreVotesOn (length d.batches.now) d.votes.items
 
 -- the numbers and the batches stay
-abbrev pub IsSameRun : Deployment → Deployment → Type 0
+abbrev pub IsSameRun : RunState → RunState → Type 0
 IsSameRun old new = (new.head ≡ old.head) × (new.batches ≡ old.batches)

@@ -44,7 +44,7 @@ pub enum CloseFault {
 /// Why nothing was committed.
 #[derive(Clone, Copy, Debug, PartialEq, Eq)]
 pub enum CommitFault {
-    /// The first open attempt, if there is one, is of another batch.
+    /// No attempt is open, or the first open one is of another batch.
     NotOpen,
     /// An attempt failed, and no rollback has succeeded since.
     Broken,

@@ -1,10 +1,10 @@
 //! Attempts by running threads, and the run of a whole deployment.
 #![tactic(auto)]
 
-mod deployment;
 mod fault;
 mod opening;
 mod replica;
+mod run_state;
 mod running;
 mod sending;
 mod server;

@@ -2,14 +2,14 @@
 
 ghost use Rattle.std.specs.Prelude.{◌≡◌, ◌+◌, ◌-◌, ◌*◌, ◌^◌, ◌<◌, ◌≤◌, ◌↔◌, true, false, Err, Some, All, length};
 ghost use Rattle.std.specs.Prelude.{vec_len, vec_capacity, option_map, slice_get};
-ghost use Rattle.std.specs.Prelude.{IsTrue, IfOk, IfErr, OnOk, OnErr, IsOk};
+ghost use Rattle.std.specs.Prelude.{IsTrue, IfOk, IfErr, IfSome, IfNone, OnOk, OnErr, IsOk, Contains, [], map};
 ghost use Rattle.eve_grammar.specs.Limits.{is_batch};
 ghost use Rattle.eve_write.specs.Data.{batch as plain, attempt, commit, rollback};
 ghost use Rattle.eve_attempts.specs.Ledgers.{opening};
 ghost use Rattle.eve_attempts.specs.Closing.{touched_in_batch, AreMismatched};
 ghost use Rattle.eve_attempts.specs.Discarding.{RollsBack};
 ghost use Rattle.eve_recorder.specs.Drawing.{fresh_seats};
-ghost use Rattle.eve_replica.specs.Replicas.{Attempts, FailsAttempt, IsFresh, ClosesThese, ClosesSome, ClosesOwn};
+ghost use Rattle.eve_replica.specs.Replicas.{Attempts, AttemptsDue, FailsAttempt, ClosesThese, ClosesSome, ClosesOwn};
 ghost use Rattle.eve_replica.specs.Replicas.{IsFirstOpen, CommitsFirst};
 ghost use Rattle.eve_replica.specs.Serving.{IsRightMixed};
 ghost use Rattle.eve_replica_crew.specs.Crews.{AreTickets};
@@ -22,9 +22,9 @@ use eve_floor::Floor;
 use eve_grammar::{MOST_BATCHES, MOST_WINDOW, MOST_WORKERS};
 use eve_recorder::{Gate, MOST_DRAWN, TicketSeat, TicketSeats, Tickets};
 use eve_replica_crew::{Leg, crew_size, run_batches};
-use eve_smallbank::{Touched, touched};
+use eve_smallbank::Touched;
 use eve_stamps::AccessRecord;
-use eve_workload::MixedBatch;
+use eve_workload::{MixedBatch, look_up};
 use eve_write::{AttemptData, BatchData, CommitData, RollbackData};
 use std::alloc::{AllocError, Global};
 use std::marker::Model;
@@ -46,7 +46,6 @@ pub struct Replica<'n> {
     seats: Vec<TicketSeat>,
     // for each open attempt the greatest tick of its records, where this replica's workers ran it
     settles: Vec<Option<u64>>,
-    window: u8,
     is_broken: bool,
 }
 
@@ -63,8 +62,8 @@ impl<'n> Model for Replica<'n> {
 
     ghost invariant = { λ r. AreTickets r.ticks r.seats.items
         × (1 ≤ vec_len r.seats) × (vec_len r.seats ≤ MOST_WORKERS)
-        × (r.floor ≡ r.names.now.items) × (vec_len r.settles ≡ length r.ledger.opened) × (r.ledger.window ≡ r.window)
-        × (ledger_rows r.ledger ≡ 2 * length r.names.now.items) };
+        × (r.floor ≡ r.names.now.items) × (vec_len r.settles ≡ length r.ledger.opened)
+        × (vec_len r.seats ≡ r.ledger.workers) × (ledger_rows r.ledger ≡ 2 * length r.names.now.items) };
 }
 
 impl<'n> Replica<'n> {
@@ -94,7 +93,6 @@ impl<'n> Replica<'n> {
             ticks,
             seats,
             settles,
-            window,
             is_broken: false,
         })
     }
@@ -124,15 +122,14 @@ impl<'n> Replica<'n> {
     pub fn has_room(&self) -> bool
         ensures { IsTrue result ↔ (length self.now.ledger.opened < self.now.ledger.window) }
     {
-        self.ledger.opened() < self.window as usize
+        self.ledger.has_room()
     }
 
     /// The number of the batch that is attempted next.
     pub fn next_number(&self) -> u32
         ensures { result ≡ self.now.ledger.committed + 1 + length self.now.ledger.opened }
     {
-        self.ledger.recall_ledger();
-        self.ledger.committed() + 1 + self.ledger.opened() as u32
+        self.ledger.next_number()
     }
 
     /// Whether no attempt came since a rollback, so that the next is serial.
@@ -161,9 +158,10 @@ impl<'n> Replica<'n> {
 impl<'n> Replica<'n> {
     /// Runs the batch by the replica's workers in threads, and makes an attempt of what they noted, which is open then.
     ///
-    /// docs/TRACE.md, "The deployment's procedure". `view` and `serial` are the ones that are due. The gate is entered
-    /// before each execution, with the request's index. Nothing that the threads did is believed: the attempt is what
-    /// the replica's own account says of the records (`Closes`). Of the faults of workers one is told;
+    /// docs/TRACE.md, "The deployment's procedure". There is room (`has_room`), the number is at most 65,535
+    /// (`next_number`), `view` and `serial` are the ones that are due, and the batch lies within the limits. The gate
+    /// is entered before each execution, with the request's index. Nothing that the threads did is believed: the
+    /// attempt is what the replica's own account says of the records (`Closes`). Of the faults of workers one is told;
     /// each fault but `Broken` leaves the account as it was, and breaks the replica until `rollback` succeeds. May wait
     /// for other threads.
     pub fn run_attempt<R: Threads + Wait + Sync, G: Gate>(
@@ -186,71 +184,65 @@ impl<'n> Replica<'n> {
         if self.is_broken {
             return Err(AttemptFault::Broken);
         }
-        match touched_in(alloc, self.names, batch) {
-            Ok(touched) => {
-                self.run_touched(rt, alloc, batch, touched.as_slice(), view, serial, gate)
-            }
-            Err(_) => Err(self.broken_by(AttemptFault::Memory)),
-        }
-    }
-
-    /// Runs the batch as `run_attempt` does, of a replica that isn't broken, with what its requests touch as it was
-    /// looked up among the replica's names: a run looks them up once for all replicas.
-    pub(crate) fn run_touched<R: Threads + Wait + Sync, G: Gate>(
-        &mut self,
-        rt: &R,
-        alloc: Global,
-        batch: &BatchData,
-        touched: &[Touched],
-        view: u32,
-        serial: bool,
-        gate: &G,
-    ) -> Result<AttemptData, AttemptFault>
-        requires last { self.old.ledger.committed + 1 + length self.old.ledger.opened ≤ MOST_BATCHES }
-        requires room { length self.old.ledger.opened < self.old.ledger.window }
-        requires view { view ≡ self.old.ledger.view }
-        requires serial { serial ≡ self.old.ledger.is_next_serial }
-        requires batch { IsTrue (is_batch (plain batch.now)) }
-        requires touched { touched.now ≡ touched_in_batch self.old.names (plain batch.now) }
-        requires whole { self.old.is_broken ≡ false }
-        ensures attempted { IfOk result (λ a. Attempts view serial self.old self.new (plain batch.now) (attempt a)) }
-        ensures refused { IfErr result (λ why. FailsAttempt why self.old self.new) }
-    {
-        match self.note(rt, alloc, batch, touched, serial, gate) {
-            Ok(records) => {
-                self.close_noted(alloc, batch, touched, records.as_slice(), view, serial)
-            }
-            Err(why) => Err(self.broken_by(why)),
+        let Ok(touched) = look_up(alloc, batch.requests.as_slice(), self.names) else {
+            return Err(self.broken_by(AttemptFault::Memory));
+        };
+        let touched = touched.as_slice();
+        let leg = leg_of(&self.floor, self.seats.len() as u8, batch, touched, serial);
+        match self.note_legs(rt, alloc, &[leg], gate) {
+            Ok(mut lists) => match lists.pop() {
+                Some(records) => self.close_noted(alloc, batch, touched, records.as_slice()),
+                None => unreachable!(),
+            },
+            Err(why) => Err(why),
         }
     }
 
     /// Runs the batches of a window by the replica's workers, of a replica that isn't broken, and answers what they
-    /// noted of each: each worker has one thread for all of them. Only the first can be one in serial mode. Nothing is
-    /// attempted by it: `close_noted` makes attempts of the lists, one after another.
+    /// noted of each: each worker has one thread for all of them. The first is run in the mode that is due, the others
+    /// are never serial. Nothing is attempted by it: `close_noted` makes attempts of the lists, one after another.
     pub(crate) fn note_window<R: Threads + Wait + Sync, G: Gate>(
         &mut self,
         rt: &R,
         alloc: Global,
         window: &[MixedBatch],
-        serial: bool,
         gate: &G,
     ) -> Result<Vec<Vec<AccessRecord>>, AttemptFault>
         requires mixed { All (IsRightMixed self.old.names) window.now }
         requires whole { self.old.is_broken ≡ false }
         ensures lists { IfOk result (λ lists. vec_len lists ≡ length window.now) }
         ensures same { OnOk result (self.new ≡ self.old) }
+        ensures refused { IfErr result (λ why. FailsAttempt why self.old self.new) }
     {
-        let legs = match legs_of(alloc, &self.floor, self.seats.len() as u8, window, serial) {
-            Ok(legs) => legs,
-            Err(_) => return Err(self.broken_by(AttemptFault::Memory)),
+        let workers = self.seats.len() as u8;
+        let Ok(legs) = legs_of(alloc, &self.floor, workers, window, self.is_next_serial()) else {
+            return Err(self.broken_by(AttemptFault::Memory));
         };
+        self.note_legs(rt, alloc, legs.as_slice(), gate)
+    }
+
+    // Runs these batches by the replica's workers, of a replica that isn't broken, and answers what they noted of each.
+    // A fault breaks the replica.
+    fn note_legs<R: Threads + Wait + Sync, G: Gate>(
+        &mut self,
+        rt: &R,
+        alloc: Global,
+        legs: &[Leg],
+        gate: &G,
+    ) -> Result<Vec<Vec<AccessRecord>>, AttemptFault>
+        requires legs { All (IsRightLeg self.old.names self.old.ledger.workers) legs.now }
+        requires whole { self.old.is_broken ≡ false }
+        ensures lists { IfOk result (λ lists. vec_len lists ≡ length legs.now) }
+        ensures same { OnOk result (self.new ≡ self.old) }
+        ensures refused { IfErr result (λ why. FailsAttempt why self.old self.new) }
+    {
         let noted = run_batches(
             rt,
             alloc,
             &self.floor,
             &self.ticks,
             &mut self.seats,
-            legs.as_slice(),
+            legs,
             gate,
         );
         match noted {
@@ -259,31 +251,27 @@ impl<'n> Replica<'n> {
         }
     }
 
-    /// Makes an attempt of what the replica's workers noted of the batch, which is open then. The view and the mode are
-    /// the ones that are due. A refusal breaks the replica.
+    /// Makes an attempt of what the replica's workers noted of the batch, which is open then, in the view and in the
+    /// mode that are due. A refusal breaks the replica.
     pub(crate) fn close_noted(
         &mut self,
         alloc: Global,
         batch: &BatchData,
         touched: &[Touched],
         records: &[AccessRecord],
-        view: u32,
-        serial: bool,
     ) -> Result<AttemptData, AttemptFault>
         requires last { self.old.ledger.committed + 1 + length self.old.ledger.opened ≤ MOST_BATCHES }
         requires room { length self.old.ledger.opened < self.old.ledger.window }
-        requires view { view ≡ self.old.ledger.view }
-        requires serial { serial ≡ self.old.ledger.is_next_serial }
         requires batch { IsTrue (is_batch (plain batch.now)) }
         requires touched { touched.now ≡ touched_in_batch self.old.names (plain batch.now) }
         requires whole { self.old.is_broken ≡ false }
-        ensures attempted { IfOk result (λ a. Attempts view serial self.old self.new (plain batch.now) (attempt a)) }
+        ensures attempted { IfOk result (λ a. AttemptsDue self.old self.new (plain batch.now) (attempt a)) }
         ensures refused { IfErr result (λ why. FailsAttempt why self.old self.new) }
     {
         let front = AttemptFront {
             seq: self.next_number(),
-            view,
-            serial,
+            view: self.view(),
+            serial: self.is_next_serial(),
         };
         let tick = greatest_tick(records);
         match self.close(alloc, front, batch, touched, records, tick) {
@@ -304,9 +292,11 @@ impl<'n> Replica<'n> {
 
     /// Makes an attempt of records that a caller took, which is open then.
     ///
-    /// The number, the view and the mode are the ones that are due. The stripes stay as they were, so that a later
-    /// `run_attempt` over the rows that it wrote can be `Mismatch` until a rollback discards it. `Broken` is tested
-    /// first, and comes exactly where the replica is broken. After a refusal nothing has changed.
+    /// There is room (`has_room`), the number is the next (`next_number`) and at most 65,535, the view and the mode are
+    /// the ones that are due, and the batch lies within the limits. The stripes stay as they were: a later
+    /// `run_attempt` over the rows that it wrote can be `Mismatch` until a rollback discards it, and for good once it
+    /// is committed. `Broken` is tested first, and comes exactly where the replica is broken. After a refusal nothing
+    /// has changed.
     pub fn close_attempt(
         &mut self,
         alloc: Global,
@@ -333,7 +323,7 @@ impl<'n> Replica<'n> {
         if self.is_broken {
             return Err(CloseFault::Broken);
         }
-        let Ok(touched) = touched_in(alloc, self.names, batch) else {
+        let Ok(touched) = look_up(alloc, batch.requests.as_slice(), self.names) else {
             return Err(CloseFault::Memory);
         };
         let front = AttemptFront { seq, view, serial };
@@ -348,7 +338,8 @@ impl<'n> Replica<'n> {
     /// nobody.
     ///
     /// docs/MODEL.md, "Section state, fate". `Broken` is tested first, so that `NotOpen` comes exactly where the
-    /// replica isn't broken and the first open attempt, if there is one, has another number. A refusal changes nothing.
+    /// replica isn't broken, and no attempt is open or the first open one has another number. A refusal changes
+    /// nothing.
     pub fn commit(&mut self, seq: u32) -> Result<CommitData, CommitFault>
         ensures committed { IfOk result (λ c. CommitsFirst self.old self.new (commit c)) }
         ensures there { IsOk result ↔ ((self.old.is_broken ≡ false) × IsFirstOpen self.old.ledger seq) }
@@ -385,40 +376,6 @@ impl<'n> Replica<'n> {
         self.settles.clear();
         self.is_broken = false;
         Ok(rollback)
-    }
-
-    // Runs the batch, and answers what was noted.
-    fn note<R: Threads + Wait + Sync, G: Gate>(
-        &mut self,
-        rt: &R,
-        alloc: Global,
-        batch: &BatchData,
-        touched: &[Touched],
-        serial: bool,
-        gate: &G,
-    ) -> Result<Vec<AccessRecord>, AttemptFault>
-        requires batch { IsTrue (is_batch (plain batch.now)) }
-        requires touched { touched.now ≡ touched_in_batch self.old.names (plain batch.now) }
-        ensures same { self.new ≡ self.old }
-        ensures fault { IfErr result IsFresh }
-    {
-        let leg = leg_of(&self.floor, self.seats.len() as u8, batch, touched, serial);
-        let noted = run_batches(
-            rt,
-            alloc,
-            &self.floor,
-            &self.ticks,
-            &mut self.seats,
-            &[leg],
-            gate,
-        );
-        match noted {
-            Ok(mut lists) => match lists.pop() {
-                Some(records) => Ok(records),
-                None => unreachable!(),
-            },
-            Err(why) => Err(fault_of(why)),
-        }
     }
 
     // Closes the records, and keeps up to which tick the stripes are settled when the attempt is committed.
@@ -494,17 +451,6 @@ fn seats_of(
     seats
 }
 
-// What each request of the batch touches.
-fn touched_in(alloc: Global, names: &Names, batch: &BatchData) -> Result<Vec<Touched>, AllocError>
-    ensures { IfOk result (λ t. t.items ≡ touched_in_batch names.now.items (plain batch.now)) }
-{
-    let mut all = Vec::with_capacity(alloc, batch.requests.len())?;
-    for request in &batch.requests {
-        all.push(touched(&request.request(), names))?;
-    }
-    Ok(all)
-}
-
 // The batches of a window, for so many workers: only the first can be one in serial mode.
 fn legs_of<'b>(
     alloc: Global,
@@ -555,6 +501,10 @@ fn leg_of<'b>(
 }
 
 // The greatest tick of the records.
-fn greatest_tick(records: &[AccessRecord]) -> Option<u64> {
+fn greatest_tick(records: &[AccessRecord]) -> Option<u64>
+    ensures none { IfNone result (records.now ≡ []) }
+    ensures greatest { IfSome result (λ t. All (λ r. r.tick ≤ t) records.now) }
+    ensures one { IfSome result (Contains (map (λ r. r.tick) records.now)) }
+{
     records.iter().map(|record| record.tick()).max()
 }

@@ -8,10 +8,10 @@ ghost use Rattle.eve_replica.specs.Sections.{RunPlan};
 ghost use Rattle.eve_replica.specs.Serving.{IsRightMixed, IsPlanFor, Serves, IsUnderWay};
 ghost use Rattle.eve_replica.specs.Serving.{plan_with, first_standing};
 
-use crate::deployment::Deployment;
 use crate::fault::RunFault;
 use crate::opening::{balances_of, batches_of, names_of};
 use crate::replica::Replica;
+use crate::run_state::RunState;
 use crate::sending::replies_of;
 use crate::server::Server;
 use crate::standing::Standing;
@@ -60,7 +60,7 @@ fn run_named<R: Threads + Wait + Sync, G: Gate>(
     let head = workload.head();
     let balances = balances_of(alloc, workload.customers())?;
     let batches = batches_of(alloc, workload, names, mixer)?;
-    let Deployment { servers, votes, .. } = run_windows(
+    let RunState { servers, votes, .. } = run_windows(
         rt,
         alloc,
         &head,
@@ -91,7 +91,7 @@ fn run_windows<'n, 'b, R: Threads + Wait + Sync, G: Gate>(
     balances: &Balances,
     batches: &'b [MixedBatch],
     gate: &G,
-) -> Result<Deployment<'n, 'b>, RunFault>
+) -> Result<RunState<'n, 'b>, RunFault>
     requires rows { length balances.now ≡ 2 * length names.now.items }
     requires workers { (1 ≤ head.now.workers) × (head.now.workers ≤ MOST_WORKERS) }
     requires window { (1 ≤ head.now.window) × (head.now.window ≤ MOST_WINDOW) }
@@ -105,7 +105,7 @@ fn run_windows<'n, 'b, R: Threads + Wait + Sync, G: Gate>(
     ensures done { IfOk result (λ d. d.standing.committed ≡ length batches.now) }
     ensures view { IfOk result (λ d. d.standing.view ≤ 2 * length batches.now) }
 {
-    let mut deployment = Deployment {
+    let mut state = RunState {
         head: *head,
         batches,
         servers: servers_of(alloc, head, names, balances)?,
@@ -113,20 +113,19 @@ fn run_windows<'n, 'b, R: Threads + Wait + Sync, G: Gate>(
             view: 0,
             committed: 0,
             opened: 0,
-            is_next_serial: false,
         },
         votes: Vec::new(alloc),
     };
     for turn in 0..2 * batches.len() {
-        if deployment.standing.committed as usize >= batches.len() {
+        if state.standing.committed as usize >= batches.len() {
             break;
         }
-        deployment.run_window(rt, alloc, gate)?;
+        state.run_window(rt, alloc, gate)?;
     }
-    if (deployment.standing.committed as usize) < batches.len() {
+    if (state.standing.committed as usize) < batches.len() {
         return Err(RunFault::Broken);
     }
-    Ok(deployment)
+    Ok(state)
 }
 
 fn servers_of<'n>(

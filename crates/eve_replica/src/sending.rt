@@ -58,7 +58,7 @@ fn send_section(
             Step::Commit(_) => {
                 if !opened.is_empty() {
                     let attempt = opened.remove(0);
-                    send_attempt(replies, place, servers, attempt, batches)?;
+                    send_attempt(replies, place, servers.len(), attempt, batches)?;
                 }
             }
             Step::Rollback(_) => opened.clear(),
@@ -67,17 +67,17 @@ fn send_section(
     Ok(())
 }
 
-// The replies of the attempt, of the replica at this place.
+// The replies of the attempt, of the replica at this place among so many.
 fn send_attempt(
     replies: &mut Vec<SentData>,
     place: u8,
-    servers: &[Server],
+    replicas: usize,
     attempt: &AttemptData,
     batches: &[MixedBatch],
 ) -> Result<(), AllocError>
-    requires there { place < length servers.now }
-    requires right { AreReplies (length servers.now) (length batches.now) replies.old.items }
-    ensures limits { OnOk result (AreReplies (length servers.now) (length batches.now) replies.new.items) }
+    requires there { place < replicas }
+    requires right { AreReplies replicas (length batches.now) replies.old.items }
+    ensures limits { OnOk result (AreReplies replicas (length batches.now) replies.new.items) }
     ensures sent { OnOk result (map plain replies.new.items ≡ map plain replies.old.items
         ++ answers_of (map (λ m. batch m.batch) batches.now) place (plain_attempt attempt.now)) }
 {
@@ -89,7 +89,7 @@ fn send_attempt(
     send_answers(
         replies,
         place,
-        servers,
+        replicas,
         seq,
         batches,
         requests,
@@ -101,16 +101,16 @@ fn send_attempt(
 fn send_answers(
     replies: &mut Vec<SentData>,
     place: u8,
-    servers: &[Server],
+    replicas: usize,
     seq: u32,
     batches: &[MixedBatch],
     requests: &[RequestData],
     answers: &[Reply],
 ) -> Result<(), AllocError>
-    requires there { place < length servers.now }
+    requires there { place < replicas }
     requires seq { (1 ≤ seq) × (seq ≤ length batches.now) }
-    requires right { AreReplies (length servers.now) (length batches.now) replies.old.items }
-    ensures limits { OnOk result (AreReplies (length servers.now) (length batches.now) replies.new.items) }
+    requires right { AreReplies replicas (length batches.now) replies.old.items }
+    ensures limits { OnOk result (AreReplies replicas (length batches.now) replies.new.items) }
     ensures sent { OnOk result (map plain replies.new.items ≡ map plain replies.old.items
         ++ answered place seq (map asked requests.now) answers.now) }
 {
@@ -118,7 +118,7 @@ fn send_answers(
         send(
             replies,
             place,
-            servers,
+            replicas,
             seq,
             batches,
             &requests[index],
@@ -132,16 +132,16 @@ fn send_answers(
 fn send(
     replies: &mut Vec<SentData>,
     place: u8,
-    servers: &[Server],
+    replicas: usize,
     seq: u32,
     batches: &[MixedBatch],
     request: &RequestData,
     reply: Reply,
 ) -> Result<(), AllocError>
-    requires there { place < length servers.now }
+    requires there { place < replicas }
     requires seq { (1 ≤ seq) × (seq ≤ length batches.now) }
-    requires right { AreReplies (length servers.now) (length batches.now) replies.old.items }
-    ensures limits { OnOk result (AreReplies (length servers.now) (length batches.now) replies.new.items) }
+    requires right { AreReplies replicas (length batches.now) replies.old.items }
+    ensures limits { OnOk result (AreReplies replicas (length batches.now) replies.new.items) }
     ensures sent { OnOk result (map plain replies.new.items ≡ map plain replies.old.items
         ++ answered place seq (asked request.now ∷ []) (reply ∷ [])) }
 {
@@ -152,7 +152,7 @@ fn send(
         seq,
         reply,
     };
-    sent_fits(&sent, servers.len(), batches.len());
+    sent_fits(&sent, replicas, batches.len());
     replies.push(sent)?;
     Ok(())
 }

@@ -53,20 +53,17 @@ impl<'n> Server<'n> {
         }
     }
 
-    /// Attempts these batches, which are the next, if the replica is live: in this view, and only the first of them in
-    /// serial mode, where `serial` says so.
+    /// Attempts these batches, which are the next, if the replica is live.
     pub(crate) fn attempt_window<R: Threads + Wait + Sync, G: Gate>(
         &mut self,
         rt: &R,
         alloc: Global,
         window: &[MixedBatch],
-        view: u32,
-        serial: bool,
         gate: &G,
     ) -> Result<(), RunFault>
         requires mixed { All (IsRightMixed self.old.replica.names) window.now }
         requires whole { self.old.replica.is_broken ≡ false }
-        requires due { self.old.is_live ≡ true → AreDue (length window.now) view serial self.old.replica.ledger }
+        requires due { self.old.is_live ≡ true → AreDue (length window.now) self.old.replica.ledger }
         ensures on { OnOk result (GoesOn (attempt_move (length window.now) (map (λ m. batch m.batch) window.now))
             self.old self.new) }
         ensures live { self.new.is_live ≡ self.old.is_live }
@@ -74,31 +71,21 @@ impl<'n> Server<'n> {
         if !self.is_live {
             return Ok(());
         }
-        let noted = self.replica.note_window(rt, alloc, window, serial, gate)?;
-        let mut is_serial = serial;
+        let noted = self.replica.note_window(rt, alloc, window, gate)?;
         for place in 0..window.len() {
-            self.attempt(
-                alloc,
-                &window[place],
-                noted[place].as_slice(),
-                view,
-                is_serial,
-            )?;
-            is_serial = false;
+            self.attempt(alloc, &window[place], noted[place].as_slice())?;
         }
         Ok(())
     }
 
-    // Attempts the next batch, of which this was noted, in the view and in the mode that are due.
+    // Attempts the next batch, of which this was noted.
     fn attempt(
         &mut self,
         alloc: Global,
         mixed: &MixedBatch,
         records: &[AccessRecord],
-        view: u32,
-        serial: bool,
     ) -> Result<(), RunFault>
-        requires due { AreDue 1 view serial self.old.replica.ledger }
+        requires due { AreDue 1 self.old.replica.ledger }
         requires mixed { IsRightMixed self.old.replica.names mixed.now }
         requires whole { self.old.replica.is_broken ≡ false }
         requires live { self.old.is_live ≡ true }
@@ -107,9 +94,7 @@ impl<'n> Server<'n> {
     {
         let batch = &mixed.batch;
         let touched = mixed.touched.as_slice();
-        let attempt = self
-            .replica
-            .close_noted(alloc, batch, touched, records, view, serial)?;
+        let attempt = self.replica.close_noted(alloc, batch, touched, records)?;
         self.did(Step::Attempt(attempt))?;
         Ok(())
     }

@@ -57,4 +57,4 @@ pub returns-clause-done : goal.returns-clause-done
 returns-clause-done g c =
     let was = c.loop-turn.invariant in
     let same = ap length was.batches in
-    omega (arith, was.under_way.due, c.if-deployment-batches-2.false)
+    omega (arith, was.under_way.due, c.if-state-batches-2.false)

@@ -6,7 +6,7 @@ use Rattle.eve_replica.proofs.sending.send_answers.Given as goal
 
 abbrev pub invariant-loop-index : goal.invariant-loop-index
 invariant-loop-index l = record {
-  limits : AreReplies (length l.servers) (length l.batches) l.replies.items;
+  limits : AreReplies l.replicas (length l.batches) l.replies.items;
   sent : map sent l.replies.items
       ++ answered l.place l.seq (drop l.index (map asked l.requests)) (drop l.index l.answers)
       ≡ map sent l.fn.replies.items ++ answered l.place l.seq (map asked l.requests) l.answers;

@@ -59,8 +59,11 @@ invariant_of-self-2 c =
     c.push_reserved.ensures.items c.reserve.ensures.items in
     let last : s.committed + 1 + length s.opened ≡ c.args.self.now.committed + 1 + length c.args.self.now.opened =
     ap (λ (l : Ledger). l.committed + 1 + length l.opened) c.self.view_is in
+    let many : length s.opened ≡ length c.args.self.now.opened = ap (λ (l : Ledger). length l.opened) c.self.view_is in
+    let most : s.window ≡ c.args.self.now.window = ap (λ (l : Ledger). l.window) c.self.view_is in
     ledger_further s new o c.write_along.new.rows is c.if-not-write_along.ensures.as_many
     c.if-not-write_along.ensures.undone c.self.invariant (omega (arith, c.requires.seq, c.requires.last))
+    (omega (arith, c.requires.room))
     (c.if-not-write_along.ensures.table ∙ table_after_records-writes (table_now s) mine
     ∙ ap (table_after (table_now s)) (sym c.if-not-write_along.ensures.written)) c.if-not-write_along.ensures.right
 

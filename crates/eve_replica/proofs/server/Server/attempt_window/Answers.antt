@@ -1,11 +1,10 @@
-use Rattle.std.proofs.Common.{rules, ◌≡◌, true, ◌+◌, sym, ◌∙◌, map, length, option_map, refl, ap, subst, arith}
+use Rattle.std.proofs.Common.{rules, ◌≡◌, true, sym, ◌∙◌, map, length, option_map, refl, ap, subst, arith}
 use Rattle.std.proofs.lemmas.Option.{slice_get-map, slice_get_read}
 use Rattle.eve_write.specs.Data.{batch}
 use Rattle.eve_workload.specs.declared.mixer.MixedBatch.{MixedBatch}
 use Rattle.eve_replica.specs.Replicas.{Replica}
 use Rattle.eve_replica.specs.Serving.{GoesOn, attempt_move}
-use Rattle.std.proofs.Math.Bool.{and-true}
-use Rattle.eve_replica.proofs.Going.{none_later, one_more}
+use Rattle.eve_replica.proofs.Going.{one_more}
 use Rattle.eve_replica.proofs.OneStep.{none_made, rests}
 use Rattle.eve_replica.proofs.server.Server.attempt_window.Goals as goal
 
@@ -19,9 +18,8 @@ loop-place-init g c =
     let live : old.is_live ≡ true = search rules in
     let window = map (λ (m : MixedBatch). batch m.batch) c.args.window.now in (
       subst (λ (r : Replica). GoesOn (attempt_move 0 window) old (record old { replica = r }))
-          (sym c.in_ok-noted.ensures.same) (none_made window old live),
+          (sym c.in_ok-noted.ensures.same) (none_made window old),
       live,
-      sym (and-true c.args.serial),
     )
 
 pub loop-place-preserved : goal.loop-place-preserved
@@ -34,5 +32,4 @@ loop-place-preserved g c = (
       (omega arith) c.index-window-place.is))
       c.loop-place.invariant.0 c.in_ok-attempt.ensures.on,
   c.in_ok-attempt.ensures.live,
-  none_later c.args.serial (c.loop-place.place + 1) (omega arith),
 )

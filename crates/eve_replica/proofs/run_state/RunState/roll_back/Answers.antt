@@ -4,7 +4,7 @@ use Rattle.eve_write.specs.Data.{vote}
 use Rattle.eve_replica.specs.declared.server.Server.{Server}
 use Rattle.eve_replica.specs.Serving.{Serves, after_rollback, live_in, IsDecision}
 use Rattle.eve_replica.proofs.Going.{lent_serve, lent_undecided, moved, still_majority}
-use Rattle.eve_replica.proofs.deployment.Deployment.roll_back.Goals as goal
+use Rattle.eve_replica.proofs.run_state.RunState.roll_back.Goals as goal
 
 pub roll_back_all-requires : goal.roll_back_all-requires
 roll_back_all-requires c =

@@ -4,7 +4,7 @@ use Rattle.eve_write.specs.Data.{vote}
 use Rattle.eve_replica.specs.declared.server.Server.{Server}
 use Rattle.eve_replica.specs.Serving.{Serves, after_commit, count_with}
 use Rattle.eve_replica.proofs.Going.{lent_serve, lent_undecided, moved, still_majority}
-use Rattle.eve_replica.proofs.deployment.Deployment.commit.Goals as goal
+use Rattle.eve_replica.proofs.run_state.RunState.commit.Goals as goal
 
 pub commit_all-requires : goal.commit_all-requires
 commit_all-requires c =

@@ -26,7 +26,7 @@ use std::thread::Threads;
 /// How far a run is: its numbers and its batches, its replicas, where those of them that are live stand, and the votes
 /// that each verifier gave.
 #[derive(Drop)]
-pub(crate) struct Deployment<'n, 'b> {
+pub(crate) struct RunState<'n, 'b> {
     pub head: Head,
     pub batches: &'b [MixedBatch],
     pub servers: Vec<Server<'n>>,
@@ -34,7 +34,7 @@ pub(crate) struct Deployment<'n, 'b> {
     pub votes: Vec<VoteData>,
 }
 
-impl<'n, 'b> Deployment<'n, 'b> {
+impl<'n, 'b> RunState<'n, 'b> {
     /// One window: the batches that aren't committed are attempted, as many as a window has, and decided in order.
     ///
     /// docs/TRACE.md, "The deployment's procedure".
@@ -84,16 +84,8 @@ impl<'n, 'b> Deployment<'n, 'b> {
         let from = self.standing.committed as usize;
         let end = batches.len().min(from + self.head.window as usize);
         let window = &batches[from..end];
-        attempt_all(
-            rt,
-            alloc,
-            self.servers.as_mut_slice(),
-            window,
-            self.standing,
-            gate,
-        )?;
+        attempt_all(rt, alloc, self.servers.as_mut_slice(), window, gate)?;
         self.standing.opened = window.len() as u32;
-        self.standing.is_next_serial = false;
         Ok(())
     }
 
@@ -131,7 +123,6 @@ impl<'n, 'b> Deployment<'n, 'b> {
         roll_back_all(self.servers.as_mut_slice(), alloc)?;
         self.standing.view += 1;
         self.standing.opened = 0;
-        self.standing.is_next_serial = true;
         Ok(())
     }
 }
@@ -142,29 +133,21 @@ fn attempt_all<R: Threads + Wait + Sync, G: Gate>(
     alloc: Global,
     servers: &mut [Server],
     window: &[MixedBatch],
-    standing: Standing,
     gate: &G,
 ) -> Result<(), RunFault>
-    requires serve { (p : RunPlan) × (votes : List Vote) × All (IsRightMixed p.names) window.now
-        × AreBatchesFrom p.batches (standing.committed + standing.opened) (map (λ m. plain m.batch) window.now)
-        × All (Serves p standing votes) servers.old × (standing.opened + length window.now ≤ p.first.window)
-        × (standing.committed + standing.opened + length window.now ≤ MOST_BATCHES) }
-    ensures serve { (p : RunPlan) (votes : List Vote)
-        → AreBatchesFrom p.batches (standing.committed + standing.opened) (map (λ m. plain m.batch) window.now)
-        → AreWholeWindow p standing (length window.now) → All (Serves p standing votes) servers.old
-        → OnOk result (All (Serves p (after_attempts (length window.now) standing) votes) servers.new) }
+    requires serve { (p : RunPlan) × (at : Standing) × (votes : List Vote) × All (IsRightMixed p.names) window.now
+        × AreBatchesFrom p.batches (at.committed + at.opened) (map (λ m. plain m.batch) window.now)
+        × All (Serves p at votes) servers.old × (at.opened + length window.now ≤ p.first.window)
+        × (at.committed + at.opened + length window.now ≤ MOST_BATCHES) }
+    ensures serve { (p : RunPlan) (at : Standing) (votes : List Vote)
+        → AreBatchesFrom p.batches (at.committed + at.opened) (map (λ m. plain m.batch) window.now)
+        → AreWholeWindow p at (length window.now) → All (Serves p at votes) servers.old
+        → OnOk result (All (Serves p (after_attempts (length window.now) at) votes) servers.new) }
     ensures live { OnOk result (live_in servers.new ≡ live_in servers.old) }
     ensures undecided { AreUndecided (sections_in servers.old) → OnOk result (AreUndecided (sections_in servers.new)) }
 {
     for server in servers.iter_mut() {
-        server.attempt_window(
-            rt,
-            alloc,
-            window,
-            standing.view,
-            standing.is_next_serial,
-            gate,
-        )?;
+        server.attempt_window(rt, alloc, window, gate)?;
     }
     Ok(())
 }

@@ -1,7 +1,7 @@
 use Rattle.std.proofs.Common.{◌≡◌, ℕ, List, Option, Some, None, refl, subst}
 use Rattle.eve_replica.specs.declared.server.Server.{Server}
 use Rattle.eve_replica.specs.Serving.{IsDecision}
-use Rattle.eve_replica.proofs.deployment.Deployment.run_window.Goals as goal
+use Rattle.eve_replica.proofs.run_state.RunState.run_window.Goals as goal
 
 is_none : {A : Type 0} (o : Option A) → ((x : A) → o ≡ Some x → ⊥) → o ≡ None
 is_none None not = refl

@@ -1,7 +1,7 @@
 use Rattle.std.proofs.Common.{◌≡◌}
 use Rattle.eve_replica.specs.Sections.{RunPlan}
 use Rattle.eve_replica.specs.Serving.{IsSameRun, IsUnderWay}
-use Rattle.eve_replica.proofs.deployment.Deployment.run_window.Given as goal
+use Rattle.eve_replica.proofs.run_state.RunState.run_window.Given as goal
 
 abbrev pub invariant-loop-self : goal.invariant-loop-self
 invariant-loop-self g l = record {

@@ -1,8 +1,8 @@
 use Rattle.std.proofs.Common.{sym, ◌∙◌, below_more, arith}
 use Rattle.std.proofs.lemmas.List.Elements.{at_read}
 use Rattle.eve_replica.proofs.Counting.{IsNoMajority, bound, none_decided}
-use Rattle.eve_replica.proofs.deployment.decided.Goals as goal
-use Rattle.eve_replica.proofs.deployment.decided.Goals.{in-Some+else-count_with-servers, in_default}
+use Rattle.eve_replica.proofs.run_state.decided.Goals as goal
+use Rattle.eve_replica.proofs.run_state.decided.Goals.{in-Some+else-count_with-servers, in_default}
 
 pub loop-server-preserved : goal.loop-server-preserved
 loop-server-preserved c =

@@ -5,7 +5,7 @@ use Rattle.eve_replica.proofs.Each.{none_on, one_on, all_on, all_so, still}
 use Rattle.eve_replica.proofs.Going.{Discards, open_there, serve_on, live_on}
 use Rattle.eve_replica.proofs.Windows.{window_rolled_back}
 use Rattle.eve_replica.proofs.Undecided.{rolled_back_undecided}
-use Rattle.eve_replica.proofs.deployment.roll_back_all.Goals as goal
+use Rattle.eve_replica.proofs.run_state.roll_back_all.Goals as goal
 
 pub roll_back-requires-clause-view : goal.roll_back-requires-clause-view
 roll_back-requires-clause-view c = λ live.

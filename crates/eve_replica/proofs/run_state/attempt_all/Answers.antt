@@ -9,7 +9,7 @@ use Rattle.eve_replica.proofs.Each.{none_on, one_on, all_on, all_so, still}
 use Rattle.eve_replica.proofs.Going.{Moves, serve_on, live_on, due}
 use Rattle.eve_replica.proofs.Undecided.{still_undecided}
 use Rattle.eve_replica.proofs.Windows.{window_attempted}
-use Rattle.eve_replica.proofs.deployment.attempt_all.Goals as goal
+use Rattle.eve_replica.proofs.run_state.attempt_all.Goals as goal
 
 -- the attempts of a window
 abbrev attempts_of : List MixedBatch → Move
@@ -22,23 +22,23 @@ Made window = Moves (attempts_of window) (λ s. s.is_live)
 pub attempt_window-requires-clause-mixed : goal.attempt_window-requires-clause-mixed
 attempt_window-requires-clause-mixed g c κs within =
     let r = c.requires.serve in
-    let old = still (Serves r.0 c.args.standing r.1) (Made c.args.window.now) c.args.servers.now
-    c.loop-server.server-index c.loop-server.servers c.server-item.result r.4 c.loop-server.invariant (omega arith) in
-    subst (λ (ns : List (List ℕ)). All (IsRightMixed ns) c.args.window.now) (sym old.names) r.2
+    let old = still (Serves r.0 r.1 r.2) (Made c.args.window.now) c.args.servers.now
+    c.loop-server.server-index c.loop-server.servers c.server-item.result r.5 c.loop-server.invariant (omega arith) in
+    subst (λ (ns : List (List ℕ)). All (IsRightMixed ns) c.args.window.now) (sym old.names) r.3
 
 pub attempt_window-requires-clause-whole : goal.attempt_window-requires-clause-whole
 attempt_window-requires-clause-whole g c κs within =
     let r = c.requires.serve in
-    (still (Serves r.0 c.args.standing r.1) (Made c.args.window.now) c.args.servers.now
-    c.loop-server.server-index c.loop-server.servers c.server-item.result r.4 c.loop-server.invariant
+    (still (Serves r.0 r.1 r.2) (Made c.args.window.now) c.args.servers.now
+    c.loop-server.server-index c.loop-server.servers c.server-item.result r.5 c.loop-server.invariant
     (omega arith)).whole
 
 pub attempt_window-requires-clause-due : goal.attempt_window-requires-clause-due
 attempt_window-requires-clause-due g c κs within = λ live.
     let r = c.requires.serve in
-    let old = still (Serves r.0 c.args.standing r.1) (Made c.args.window.now) c.args.servers.now
-    c.loop-server.server-index c.loop-server.servers c.server-item.result r.4 c.loop-server.invariant (omega arith) in
-    due r.0 (length c.args.window.now) c.args.standing r.1 _ r.5 r.6 old live
+    let old = still (Serves r.0 r.1 r.2) (Made c.args.window.now) c.args.servers.now
+    c.loop-server.server-index c.loop-server.servers c.server-item.result r.5 c.loop-server.invariant (omega arith) in
+    due r.0 (length c.args.window.now) r.1 r.2 _ r.6 r.7 old live
 
 pub loop-server-init : goal.loop-server-init
 loop-server-init g c = none_on (Made c.args.window.now) c.args.servers.now
@@ -50,13 +50,13 @@ loop-server-preserved g c =
     (c.in_ok-attempt_window.ensures.on, c.attempt_window.ensures.live) c.loop-server.invariant
 
 pub returns-clause-serve : goal.returns-clause-serve
-returns-clause-serve g c = λ p votes next whole serve.
+returns-clause-serve g c = λ p at votes next whole serve.
     let all = all_on (Made c.args.window.now) c.args.servers.now c.loop-server.server-index c.loop-server.servers
     (omega arith) c.loop-server.invariant in
-    subst (λ (vs : List Vote). All (Serves p (after_attempts (length c.args.window.now) c.args.standing) vs)
+    subst (λ (vs : List Vote). All (Serves p (after_attempts (length c.args.window.now) at) vs)
     c.loop-server.servers) (append-nil votes)
-    (serve_on p c.args.standing votes (attempts_of c.args.window.now) c.args.servers.now c.loop-server.servers next
-    (λ k d there live. window_attempted p c.args.standing (length c.args.window.now)
+    (serve_on p at votes (attempts_of c.args.window.now) c.args.servers.now c.loop-server.servers next
+    (λ k d there live. window_attempted p at (length c.args.window.now)
     (map (λ m. batch m.batch) c.args.window.now) whole)
     (all_so (Made c.args.window.now) (GoesOn (attempts_of c.args.window.now)) c.args.servers.now c.loop-server.servers
     (λ old new m. m.0) all) serve)

@@ -6,7 +6,7 @@ use Rattle.eve_replica.proofs.Each.{none_on, one_on, all_on, all_so, still}
 use Rattle.eve_replica.proofs.Going.{Moves, open_there, serve_on, live_on}
 use Rattle.eve_replica.proofs.Windows.{window_committed}
 use Rattle.eve_replica.proofs.Undecided.{still_undecided}
-use Rattle.eve_replica.proofs.deployment.commit_all.Goals as goal
+use Rattle.eve_replica.proofs.run_state.commit_all.Goals as goal
 
 pub commit_or_stop-requires-clause-whole : goal.commit_or_stop-requires-clause-whole
 commit_or_stop-requires-clause-whole c =

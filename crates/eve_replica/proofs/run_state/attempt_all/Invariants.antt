@@ -3,7 +3,7 @@ use Rattle.eve_write.specs.Data.{batch}
 use Rattle.eve_replica.specs.Serving.{attempt_move}
 use Rattle.eve_replica.proofs.Each.{AreOn}
 use Rattle.eve_replica.proofs.Going.{Moves}
-use Rattle.eve_replica.proofs.deployment.attempt_all.Given as goal
+use Rattle.eve_replica.proofs.run_state.attempt_all.Given as goal
 
 abbrev pub invariant-loop-server : goal.invariant-loop-server
 invariant-loop-server g l =

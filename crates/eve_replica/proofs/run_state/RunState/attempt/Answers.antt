@@ -1,4 +1,4 @@
-use Rattle.std.proofs.Common.{false, ◌-◌, ◌*◌, ◌<◌, ℕ, All, List, length, map, take, drop, sym, ap, ◌∙◌, subst, arith}
+use Rattle.std.proofs.Common.{◌-◌, ◌*◌, ◌<◌, ℕ, All, List, length, map, take, drop, sym, ap, ◌∙◌, subst, arith}
 use Rattle.std.proofs.lemmas.List.{length-map}
 use Rattle.std.proofs.lemmas.List.Elements.{All-drop, All-take}
 use Rattle.eve_write.specs.Data.{batch, vote}
@@ -7,7 +7,7 @@ use Rattle.eve_replica.specs.declared.standing.Standing.{Standing}
 use Rattle.eve_replica.specs.Serving.{IsRightMixed, AreWholeWindow, Serves, live_in}
 use Rattle.eve_replica.proofs.Going.{lent_serve, lent_undecided, moved, window_open, window_len, window_due}
 use Rattle.eve_replica.proofs.Going.{still_majority}
-use Rattle.eve_replica.proofs.deployment.Deployment.attempt.Goals as goal
+use Rattle.eve_replica.proofs.run_state.RunState.attempt.Goals as goal
 
 pub attempt_all-requires-clause-serve : goal.attempt_all-requires-clause-serve
 attempt_all-requires-clause-serve g c κs within =
@@ -18,6 +18,7 @@ attempt_all-requires-clause-serve g c κs within =
     let least = c.min-end.ensures in
     let many = window_len d.batches.now from c.min-end.result (omega arith) (omega arith) in (
       p,
+      d.standing,
       map vote d.votes.items,
       All-take (IsRightMixed p.names) (c.min-end.result - from) (drop from d.batches.now)
           (All-drop (IsRightMixed p.names) from d.batches.now was.mixed),
@@ -37,7 +38,7 @@ pub returns-clause-standing : goal.returns-clause-standing
 returns-clause-standing g c =
     let d = c.args.self.now in
     let many = window_len d.batches.now d.standing.committed c.min-end.result (omega arith) (omega arith) in
-    window_open _ d.standing c.requires.none_open (omega (arith, c.requires.under_way.1.room))
+    window_open _ d.standing c.requires.none_open
 
 pub returns-clause-under_way : goal.returns-clause-under_way
 returns-clause-under_way g c = λ p was.
@@ -47,7 +48,7 @@ returns-clause-under_way g c = λ p was.
     let many = window_len d.batches.now from c.min-end.result (omega arith) (omega arith) in
     let some : 0 < length window = omega (arith, was.room) in
     let now : Standing =
-    record { view = d.standing.view; committed = from; opened = length window; is_next_serial = false } in
+    record { view = d.standing.view; committed = from; opened = length window } in
     let whole : AreWholeWindow p d.standing (length window) = record {
       none_open = c.requires.none_open;
       some = some;
@@ -58,8 +59,8 @@ returns-clause-under_way g c = λ p was.
     let same = c.as_mut_slice.ensures.value in
     moved p d c.attempt_all.new.servers now d.votes was as_many (omega (arith, many)) was.votes
     (subst (λ (x : Standing). All (Serves p x (map vote d.votes.items)) c.attempt_all.new.servers)
-    (sym (window_open (length window) d.standing c.requires.none_open some))
-    (c.in_ok-attempt_all.ensures.serve p (map vote d.votes.items)
+    (sym (window_open (length window) d.standing c.requires.none_open))
+    (c.in_ok-attempt_all.ensures.serve p d.standing (map vote d.votes.items)
     (window_due p d c.min-end.result was c.requires.none_open) whole (lent_serve p d lent was same)))
     (still_majority d lent c.attempt_all.new.servers (live_in lent) same as_many c.in_ok-attempt_all.ensures.live
     (subst (λ (ss : List Server). length ss < 2 * live_in ss) (sym same) was.majority))

@@ -1,6 +1,6 @@
 use Rattle.eve_replica.proofs.Each.{AreOn}
 use Rattle.eve_replica.proofs.Going.{Discards}
-use Rattle.eve_replica.proofs.deployment.roll_back_all.Given as goal
+use Rattle.eve_replica.proofs.run_state.roll_back_all.Given as goal
 
 abbrev pub invariant-loop-server : goal.invariant-loop-server
 invariant-loop-server l = AreOn Discards l.fn.servers l.server-index l.servers
