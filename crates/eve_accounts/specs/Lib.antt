@@ -1,3 +1,4 @@
+pub mod Keyed
 pub mod Money
 pub mod Rows
 pub mod Names

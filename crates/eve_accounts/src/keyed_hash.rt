@@ -1,5 +1,8 @@
 //! A cheap hash that nobody can foresee.
 
+ghost use Rattle.std.specs.Prelude.{◌≡◌};
+ghost use Rattle.eve_accounts.specs.Keyed.{keyed_by};
+
 use std::hash::{BuildHasher, FoldHasher, Hasher, RandomState};
 
 /// Makes hashers that begin with one secret word. Names and clients are short and looked up for each request, so the
@@ -11,7 +14,9 @@ pub struct KeyedHash {
 
 impl KeyedHash {
     /// It begins with a word that these random ones give.
-    pub fn new(random: &RandomState) -> KeyedHash {
+    pub fn new(random: &RandomState) -> KeyedHash
+        ensures { result.first ≡ keyed_by random.now }
+    {
         let mut first = FoldHasher::default();
         first.write_u64(random.hash_one(0u64));
         KeyedHash { first }
