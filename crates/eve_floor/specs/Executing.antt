@@ -75,8 +75,9 @@ Gains with_record names request index old new =
     (r : Applied) × (new ≡ with_record r (drawing r.tick old))
     × IsRecordOf names request index old.seat.worker (length old.seat.noted) r
 
--- What one execution makes of a worker, by its answer. Where a record waits already, nothing is done. Else one number
--- is drawn, which is the tick of the request's record: at Ok the record is noted, at Full of the queue it waits.
+-- What one execution makes of a worker, by its answer. Where a record waits already, or the seat is spent, nothing is
+-- done. Else one number is drawn: at Ok and at Full of the queue it is the tick of the request's record, which is noted
+-- or waits; after another refusal no record has it.
 abbrev pub Executes : {A : Type 0} → Desk → List (List ℕ) → Request → ℕ
     → Executor → Executor → Result A ExecFault → Type 0
 Executes recorder names request index old new (Ok _) = (old.waiting ≡ None)
@@ -99,13 +100,8 @@ abbrev pub with_waiting_noted : Option Applied → Executor → Executor
 with_waiting_noted None w = w
 with_waiting_noted (Some r) w = noting_record r w
 
--- what a flush makes of a worker, by its answer
+-- What a flush makes of a worker, by its answer. No fault is answered but Full.
 abbrev pub Flushes : {A : Type 0} → Desk → Executor → Executor → Result A ExecFault → Type 0
 Flushes recorder old new (Ok _) = new ≡ with_waiting_noted old.waiting old
-Flushes recorder old new (Err fault.Full) =
-    IsSome old.waiting × (new ≡ old) × WasFull recorder old.seat
-Flushes recorder old new (Err fault.Spent) = ⊥
-Flushes recorder old new (Err fault.NoRow) = ⊥
-Flushes recorder old new (Err fault.TickOrder) = ⊥
-Flushes recorder old new (Err fault.Worn) = ⊥
-Flushes recorder old new (Err fault.Memory) = ⊥
+Flushes recorder old new (Err why) =
+    (why ≡ fault.Full) × IsSome old.waiting × (new ≡ old) × WasFull recorder old.seat

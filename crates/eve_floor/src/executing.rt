@@ -20,6 +20,8 @@ use std::sync::Wait;
 /// for its tick; then the request is applied, the locks are released, and the record is noted. A request that is
 /// refused before it touches a row takes no lock; the gate is entered and a number is drawn all the same.
 ///
+/// The ticks of a floor are drawn from one `Tickets`; numbers of others can be TickOrder.
+///
 /// Refused, in the order of the tests: Full, where a record waits already; Spent; NoRow; TickOrder; Worn; Memory, and
 /// the stripes are then as they were; and Full, where the queue was full: the request stands, and its record waits.
 /// May wait for other threads.
@@ -44,16 +46,42 @@ pub fn execute<R: Wait, G: Gate>(
 {
     let request = request_at(batch, index);
     let reached = touched(&request, floor.names);
-    execute_touched(
+    execute_request(
         rt, floor, recorder, tickets, worker, &request, &reached, index, gate,
     )
 }
 
 /// Executes the request as `execute` does, with the rows that it touches as they were looked up among the floor's
-/// names. It has this index in its batch.
+/// names.
 ///
 /// docs/MODEL.md, "Executions".
 pub fn execute_touched<R: Wait, G: Gate>(
+    rt: &R,
+    floor: &Floor,
+    recorder: &Recorder,
+    tickets: &Tickets,
+    worker: &mut Worker,
+    batch: &BatchData,
+    reached: &Touched,
+    index: u16,
+    gate: &G,
+) -> Result<(), ExecFault>
+    requires seats { IsSeatedAt recorder.now tickets.now worker.old }
+    requires index { index < length batch.now.requests.items }
+    requires touched { reached.now ≡ touched_of floor.now (request_of_index (plain_batch batch.now) index) }
+    requires place { length worker.old.seat.noted < MOST_PLACES }
+    ensures executes { let request = request_of_index (plain_batch batch.now) index in
+        Executes recorder.now floor.now request index worker.old worker.new result }
+    ensures seats { KeepsSeats worker.old worker.new }
+{
+    let request = request_at(batch, index);
+    execute_request(
+        rt, floor, recorder, tickets, worker, &request, reached, index, gate,
+    )
+}
+
+// Executes the request, which has this index in its batch, and notes its record.
+fn execute_request<R: Wait, G: Gate>(
     rt: &R,
     floor: &Floor,
     recorder: &Recorder,
@@ -89,8 +117,8 @@ pub fn execute_touched<R: Wait, G: Gate>(
     }
 }
 
-/// The request with this index in the batch.
-pub fn request_at(batch: &BatchData, index: u16) -> Request<'_>
+// The request with this index in the batch.
+fn request_at(batch: &BatchData, index: u16) -> Request<'_>
     requires { index < length batch.now.requests.items }
     ensures { plain result ≡ request_of_index (plain_batch batch.now) index }
 {

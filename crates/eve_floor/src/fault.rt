@@ -7,7 +7,7 @@ ghost use Rattle.eve_floor.specs.declared.fault.ExecFault.TheVariants as fault;
 use eve_stamps::StampFault;
 use std::alloc::AllocError;
 
-/// Why an execution notes no record, or `flush` none.
+/// Why an execution notes no record. `flush` answers Full alone.
 #[derive(Clone, Copy, Debug, PartialEq, Eq)]
 pub enum ExecFault {
     /// A record waits already, and nothing is done; or the queue was full at one moment, and the record waits.

@@ -7,7 +7,7 @@ mod fault;
 mod floor;
 mod worker;
 
-pub use executing::{execute, execute_touched, flush, request_at};
+pub use executing::{execute, execute_touched, flush};
 pub use fault::ExecFault;
 pub use floor::Floor;
 pub use worker::Worker;

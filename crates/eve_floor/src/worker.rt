@@ -61,13 +61,6 @@ impl Worker {
         self.waiting.take()
     }
 
-    /// The worker's number at its recorder, from 0.
-    pub fn worker(&self) -> u8
-        ensures { result ≡ self.now.seat.worker }
-    {
-        self.seat.worker()
-    }
-
     /// The place of the record that it notes next, from 0.
     pub fn place(&self) -> u32
         ensures { result ≡ length self.now.seat.noted }

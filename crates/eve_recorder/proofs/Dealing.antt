@@ -11,6 +11,7 @@ use native.Mathlib.Nat.{mod-eq_of_lt}
 use Rattle.atomic_table.specs.Table.{State, Me, Step, Allows, Splits, Joins, keeps}
 use Rattle.atomic_table.proofs.Lists.{at_set, at_snoc}
 use Rattle.eve_recorder.specs.declared.drawn.Drawn.{Drawn}
+use Rattle.eve_recorder.specs.declared.limits.TheConstants.{MOST_DRAWN}
 use Rattle.eve_recorder.specs.Dealt.{drawn, all_parts, times, once_below, IsFair, AreBelow, IsDealt, Draws, fewer}
 use Rattle.eve_recorder.specs.Dealt.{one_part, drawn_by_both, spent}
 use Rattle.eve_recorder.specs.Drawing.{Drawer, source}
@@ -41,7 +42,7 @@ below_one n m lt zero d h = lt
 below_one n m lt (suc k) d h = absurd (omega arith)
 
 fair_total : (n : ℕ) (views : List Drawn) → ((p : ℕ) (v : Drawn) → get_elem? views p ≡ some v → IsFair n v)
-    → sum_by (λ v. length v.numbers) views ≤ sum_by (λ v. v.parts) views * 2 ^ 40
+    → sum_by (λ v. length v.numbers) views ≤ sum_by (λ v. v.parts) views * MOST_DRAWN
 fair_total n [] h = omega arith
 fair_total n (y ∷ ys) h = let a = (h zero y refl).0 in let b = fair_total n ys (λ p v e. h (suc p) v e) in
     omega (arith, sum_by-cons (λ (v : Drawn). length v.numbers) y ys, sum_by-cons (λ (v : Drawn). v.parts) y ys)
@@ -58,17 +59,17 @@ each_more F views w mine others j u e = ⊎_elim (λ x. others j u x) (λ x. sub
 fair_more : (n m : ℕ) (views : List Drawn) → n ≤ m → Each (IsFair n) views → Each (IsFair m) views
 fair_more n m views le h p v e = let f = h p v e in (f.0, below_more n m v.numbers le f.1)
 
-few_drawn : (n : ℕ) (views : List Drawn) → AreBelow n views → n ≤ 9 * 2 ^ 40
+few_drawn : (n : ℕ) (views : List Drawn) → AreBelow n views → n ≤ all_parts * MOST_DRAWN
 few_drawn n views d = let a = fair_total n views d.3 in let p = d.0 in let q = d.1 in omega arith
 
-pub draws : {S : Type 0} (t : Step S) (slots seat : ℕ) (me : Me S Drawn) → length me.0.numbers < me.0.parts * 2 ^ 40
+pub draws : {S : Type 0} (t : Step S) (slots seat : ℕ) (me : Me S Drawn) → length me.0.numbers < me.0.parts * MOST_DRAWN
     → Allows IsDealt slots seat me 0 (λ n. (n + 1) % 2 ^ 64) (Draws t me)
 draws {S} t slots seat me room s h len at small =
     let n = h.0 in let i = slice_index s.words 0 in let d = h.2 in
     let is : i ≡ n = ap (λ l. slice_index l 0) h.1 in
     let v : Drawn = me.0 in let w : Drawn = drawn v.parts (v.numbers ++ i ∷ []) in
     let mine = d.3 seat v at in
-    let few : n ≤ 9 * 2 ^ 40 = few_drawn n s.views d in
+    let few : n ≤ all_parts * MOST_DRAWN = few_drawn n s.views d in
     let next : (i + 1) % 2 ^ 64 ≡ n + 1 = mod-eq_of_lt (omega arith) ∙ ap (λ k. k + 1) is in
     let fair : IsFair (n + 1) w = (
       (let e = length-append v.numbers (i ∷ []) in omega arith),
@@ -98,7 +99,7 @@ pub splits : {S : Type 0} (seat : ℕ) (v : Drawn) → 0 < v.parts → v.numbers
     → Splits {S = S} IsDealt seat v (fewer v) (one_part v)
 splits seat v some_part none s h at =
     let n = h.0 in let d = h.2 in let l = fewer v in let r = one_part v in let vs = set s.views seat l in
-    let fair : IsFair n l = subst (λ k. (length k ≤ l.parts * 2 ^ 40) × All (λ x. x < n) k) (sym none)
+    let fair : IsFair n l = subst (λ k. (length k ≤ l.parts * MOST_DRAWN) × All (λ x. x < n) k) (sym none)
     (omega arith, none_below n) in (
       n,
       h.1,

@@ -11,6 +11,7 @@ use Rattle.crossbeam_queue.proofs.Lists.{at_set}
 use Rattle.eve_recorder.specs.declared.ledger.Ledger.{Ledger}
 use Rattle.eve_stamps.specs.Applied.{Applied}
 use Rattle.eve_recorder.specs.Noted.{of_worker, IsPlaced, IsOrderly, ComeFrom}
+use Rattle.eve_recorder.specs.declared.limits.TheConstants.{MOST_SEATS}
 use Rattle.eve_recorder.specs.Kept.{StandsFor, FitsPass, FitsPasses, noting, taking, newcomer, nobody, one_less}
 use Rattle.eve_recorder.specs.Kept.{rest_of, last_pass}
 use Rattle.eve_recorder.specs.Kept.{no_taker, taker_of, with_last, with_taker, TakesFront, SeesSome, SeesAll}
@@ -106,13 +107,13 @@ come_rest n x xs h w le = nothing_behind (of_worker w (x ∷ [])) (of_worker w x
 
 pub begins : FitsPasses [] (newcomer ∷ [])
 begins = record {
-  workers = 8;
+  workers = MOST_SEATS;
   taker = 0;
   seat = λ _. 0;
   taken = [];
   orderly = λ w. tt;
   whose = λ w le. refl;
-  fits = all_set (FitsPass 8 0 (λ _. 0) [] []) (newcomer ∷ []) 0 newcomer
+  fits = all_set (FitsPass MOST_SEATS 0 (λ _. 0) [] []) (newcomer ∷ []) 0 newcomer
       ((λ _. (refl, refl, refl)), (λ w s. (refl, refl, refl, s.1)), λ w _. refl)
       (λ j u other e. absurd (other (at_end [] newcomer u j (λ x. some-ne-none u (sym x)) e)));
 }

@@ -79,7 +79,3 @@ all_gathered on m0 m1 m2 m3 m4 m5 m6 m7 m8 s0 s1 s2 s3 s4 s5 s6 s7 none e0 e1 e2
     ∙ gathered on m2 m3 s2 r2 e2 ∙ gathered on m3 m4 s3 r3 e3
     ∙ gathered on m4 m5 s4 r4 e4 ∙ gathered on m5 m6 s5 r5 e5 ∙ gathered on m6 m7 s6 r6 e6 ∙ gathered on m7 m8 s7 [] e7
     ∙ append-nil m8
-
-pub each_some : {A : Type 0} {P Q : A → Type 0} (r : Option A) → ((s : A) → P s → Q s) → IfSome r P → IfSome r Q
-each_some None f h = tt
-each_some (Some s) f h = f s h

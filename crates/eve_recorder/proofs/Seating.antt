@@ -2,8 +2,9 @@
 use Rattle.std.proofs.Common.{◌≡◌, ℕ, ◌<◌, nat_lt, if◌then◌else◌, Bool, true, false, List, [], refl, ◌∙◌, subst, get_or}
 use Rattle.std.proofs.Common.{Option, Some, None, IfSome}
 use Rattle.std.proofs.lemmas.Bool.{ltb-true}
+use Rattle.std.proofs.lemmas.Option.{IfSome_then}
 use Rattle.eve_recorder.specs.Drawing.{Source, Drawer, IsDrawerOf, AreDrawersSeated, fresh_seat, fresh_seats}
-use Rattle.eve_recorder.proofs.SeatTable.{own_of, seated_by, each_some}
+use Rattle.eve_recorder.proofs.SeatTable.{own_of, seated_by}
 
 fresh_by : (t : Source) (k : ℕ) (x : Drawer) (b : Bool) → (b ≡ true → k < t.seats)
     → (if b then Some record { tickets = t; number = k; drawn = [] } else None) ≡ Some x → IsDrawerOf t k x
@@ -21,5 +22,5 @@ pub own_at : (t u : Source) (places : List (Option Drawer)) (k : ℕ) (r : Optio
     → AreDrawersSeated t places
     → r ≡ get_or places k None
     → IfSome r (λ s. (s.tickets ≡ u) × (k < u.seats))
-own_at t u places k r same h e = each_some r (λ s f. (f.0 ∙ same, subst (λ (v : Source). k < v.seats) same f.2))
-    (own_of (IsDrawerOf t) places k r h e)
+own_at t u places k r same h e = IfSome_then r (own_of (IsDrawerOf t) places k r h e)
+    (λ s f. (f.0 ∙ same, subst (λ (v : Source). k < v.seats) same f.2))

@@ -1,15 +1,15 @@
 -- The rule over the counter and all seats: the numbers drawn are those below the counter, each once.
--- The right to know all numbers has nine parts: one for each of eight seats, and one that stays.
+-- The right to know all numbers has a part for each seat that there may be, and one that stays.
 use Rattle.std.specs.Prelude.{◌≡◌, ℕ, ◌+◌, ◌-◌, ◌*◌, ◌≤◌, ◌<◌, ◌==◌, if◌then◌else◌, nat_lt, List, [], ◌∷◌, ◌++◌}
 use Rattle.std.specs.Prelude.{length, All, count_by, sum_by}
 use mathlib.Core.Option.{some}
 use lib.ListN.{get_elem?}
 use Rattle.atomic_table.specs.Table.{State, Me, Step}
-use Rattle.eve_recorder.specs.declared.limits.TheConstants.{MOST_DRAWN}
+use Rattle.eve_recorder.specs.declared.limits.TheConstants.{MOST_DRAWN, MOST_SEATS}
 use Rattle.eve_recorder.specs.declared.drawn.Drawn.{Drawn}
 
 abbrev pub all_parts : ℕ
-all_parts = 9
+all_parts = MOST_SEATS + 1
 
 abbrev pub drawn : ℕ → List ℕ → Drawn
 drawn parts numbers = record { parts = parts; numbers = numbers }

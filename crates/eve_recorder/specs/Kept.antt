@@ -26,9 +26,9 @@ FitsPass workers taker seat taken all pass v =
     → (pass ≡ seat w) × (of_worker w v.noted ≡ of_worker w all) × (v.workers ≡ workers) × (w < workers))
     × ((w : ℕ) → ¬ (StandsFor v w) → of_worker w v.noted ≡ [])
 
--- At every moment there are so many workers, one pass takes and each worker has one pass; and all that there is, what
--- was taken and then what is queued, is of these workers, has each worker's records in their places, and fits each
--- pass.
+-- At every moment there are so many workers, at most one pass takes and each worker has one at most; and all that there
+-- is, what was taken and then what is queued, is of these workers, has each worker's records in their places, and fits
+-- each pass.
 pub record FitsPasses (queued : List Applied) (ledgers : List Ledger) : Type 0 where
   pub workers : ℕ
   pub taker : ℕ
@@ -53,9 +53,9 @@ noting v x = ledger v.takes v.taken v.workers v.from v.below (v.noted ++ x ∷ [
 abbrev pub taking : Ledger → Applied → Ledger
 taking v x = ledger v.takes (v.taken ++ x ∷ []) v.workers v.from v.below v.noted
 
--- the first pass stands for eight workers, and takes
+-- the first pass stands for as many workers as there may be, and takes
 abbrev pub newcomer : Ledger
-newcomer = ledger true [] 8 0 8 []
+newcomer = ledger true [] MOST_SEATS 0 MOST_SEATS []
 
 -- a pass that was joined to another, or that stands for nobody
 abbrev pub nobody : Ledger
@@ -95,15 +95,16 @@ KnowsOf v w = StandsFor v w ⊎ (v.workers ≤ w)
 abbrev pub TakesFront : Ledger → Type 0
 TakesFront v = (w : ℕ) → KnowsOf v w → IsPrefix (of_worker w v.taken) (of_worker w v.noted)
 
--- What a worker sees of a full queue: after some taken records it holds what the worker noted, and all these are of
--- workers that are there.
+-- What a worker sees of a full queue: what was taken before and what it holds are, each worker's in their places, of
+-- workers that are there, and of the worker itself are what it noted.
 abbrev pub SeesSome : Ledger → List Applied → Type 0
 SeesSome v queued =
     (taken : List Applied) × IsOrderly (taken ++ queued)
     × ((w : ℕ) → StandsFor v w
     → (of_worker w v.noted ≡ of_worker w (taken ++ queued)) × ComeFrom v.workers (taken ++ queued))
 
--- what the taker sees of an empty queue: after what it took the queue holds what was noted
+-- What the taker sees of an empty queue: what it took and what the queue holds are, each worker's in their places, what
+-- was noted by each worker that it knows of.
 abbrev pub SeesAll : Ledger → List Applied → Type 0
 SeesAll v queued =
     IsOrderly (v.taken ++ queued) × ((w : ℕ) → KnowsOf v w → of_worker w v.noted ≡ of_worker w (v.taken ++ queued))

@@ -80,8 +80,8 @@ fresh_places recorder = record {
   taker = Some record { recorder = recorder; taken = [] };
 }
 
--- At one moment the queue was full, of records of workers that are there; and after some taken records, each worker's
--- in their places, it held what was noted on this seat.
+-- At one moment the queue was full. What was taken before and what it held then are of workers that are there, each
+-- worker's in their places, and of this seat's worker are what was noted on the seat.
 abbrev pub WasFull : Desk → Noter → Type 0
 WasFull desk seat =
     (taken : List Applied) × (queued : List Applied) × (length queued ≡ desk.room)

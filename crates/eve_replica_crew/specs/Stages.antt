@@ -12,15 +12,15 @@ use Rattle.eve_grammar.specs.Trace.{Batch}
 use Rattle.eve_replica_crew.specs.declared.leg.Leg.{Leg}
 use Rattle.eve_replica_crew.specs.declared.room.Room.{Room}
 use Rattle.eve_replica_crew.specs.declared.room.Seating.{Seating}
-use Rattle.eve_replica_crew.specs.declared.stage.Stage.{Stage}
+use Rattle.eve_replica_crew.specs.declared.shared.Shared.{Shared}
 
 -- what each of the batch's requests touches was looked up among these names
 abbrev pub AreLookedUp : List (List ℕ) → Batch → List Touched → Type 0
 AreLookedUp names b touched = touched ≡ map (λ a. touched_of names a.request) b.requests
 
--- The stage of a batch of at most 256 requests: each has a start, and what it touches was looked up among the floor's
--- names.
-pub record IsSet (s : Stage) : Type 0 where
+-- What is shared is of a batch of at most 256 requests: each has a start, and what it touches was looked up among the
+-- floor's names.
+pub record IsSet (s : Shared) : Type 0 where
   pub few : length s.batch.now.requests.items ≤ MOST_REQUESTS
   pub starts : length s.starts.now ≡ length s.batch.now.requests.items
   pub touched : AreLookedUp s.floor.now (plain s.batch.now) s.touched.now
@@ -69,7 +69,8 @@ AreSeatingsOf rooms [] = ⊤
 AreSeatingsOf [] (s ∷ seatings) = ⊥
 AreSeatingsOf (r ∷ rooms) (s ∷ seatings) = IsSeatingOf r s × AreSeatingsOf rooms seatings
 
--- the seats of a part in a batch: at the stage's recorder, with nothing noted on it, and at its tickets of claims
-abbrev pub IsReady : Stage → Noter → Drawer → Type 0
+-- the seats of a part in a batch: at the recorder that is shared, with nothing noted on it, and at the
+-- tickets of claims
+abbrev pub IsReady : Shared → Noter → Drawer → Type 0
 IsReady s seat claims =
     IsSet s × (seat.recorder ≡ s.recorder.now.recorder) × (length seat.noted ≡ 0) × (claims.tickets ≡ s.claims.now)

@@ -12,7 +12,7 @@ use crate::leg::Leg;
 use crate::progress::Progress;
 use crate::room::{Room, Seating, requests_before};
 use crate::share::Share;
-use crate::stage::{Stage, starts_of};
+use crate::shared::{Shared, starts_of};
 use eve_floor::{ExecFault, Floor};
 use eve_grammar::MOST_REQUESTS;
 use eve_recorder::{Gate, Recorder, TicketSeat, Tickets};
@@ -26,8 +26,8 @@ use std::thread::Threads;
 /// in the order in which it was taken. Each worker has one thread for all the batches, so that no thread is started
 /// anew for each of them.
 ///
-/// The workers lend the last of the seats at the tickets of ticks, and give them back whatever comes. The lists of what
-/// they note are asked for before the first request is run.
+/// The workers are lent the last of the seats at the tickets of ticks, and give them back whatever comes. The lists of
+/// what they note are asked for before the first request is run.
 pub fn run_batches<R: Threads + Wait + Sync, G: Gate>(
     rt: &R,
     alloc: Global,
@@ -98,25 +98,25 @@ fn deal_all<'s, 'b>(
     while let Some(seating) = seatings.pop() {
         let place = seatings.len();
         let room = &rooms[place];
-        let stage = stage_of(floor, progress, room, requests_before(rooms, place));
-        deal(&stage, room.leg.crew, seating, &mut hands)?;
+        let shared = shared_of(floor, progress, room, requests_before(rooms, place));
+        deal(&shared, room.leg.crew, seating, &mut hands)?;
     }
     Ok(hands)
 }
 
 // What the workers share while a room's batch is run, before which there are so many requests.
-fn stage_of<'s, 'b>(
+fn shared_of<'s, 'b>(
     floor: &'s Floor<'s>,
     progress: &'s Progress,
     room: &'s Room<'b>,
     before: u64,
-) -> Stage<'s>
+) -> Shared<'s>
     requires { (workers : ℕ) × IsRightRoom floor.now workers room.now }
     ensures set { IsSet result }
     ensures recorder { result.recorder.now ≡ room.now.recorder }
     ensures claims { result.claims.now ≡ room.now.claims }
 {
-    Stage {
+    Shared {
         floor,
         batch: room.leg.batch,
         touched: room.leg.touched,
@@ -169,7 +169,7 @@ fn furnish<'b>(alloc: Global, leg: &Leg<'b>) -> Result<(Room<'b>, Seating), Allo
     let count = count_of(leg.batch);
     let starts = starts_of(alloc, leg.batch.sizes.as_slice(), count as u16)?;
     let records = Vec::with_capacity(alloc, count)?;
-    let (claims, own) = Tickets::new(alloc, leg.crew, count as u64 + 1)?;
+    let (claims, own) = Tickets::new(alloc, leg.crew, count as u64)?;
     let (recorder, mut places) = Recorder::new(alloc, leg.crew, count)?;
     let Some(taker) = places.taker() else {
         unreachable!()

@@ -1,6 +1,6 @@
 //! The workers that take part in batches.
 
-ghost use Rattle.std.specs.Prelude.{◌≡◌, ◌+◌, ◌-◌, ◌<◌, ◌≤◌, All, vec_len, vec_capacity};
+ghost use Rattle.std.specs.Prelude.{◌≡◌, ◌+◌, ◌≤◌, All, vec_len, vec_capacity};
 ghost use Rattle.std.specs.Thread.{IsSync};
 ghost use Rattle.eve_replica_crew.specs.Stages.{AreSeatsAt, IsSet};
 ghost use Rattle.eve_replica_crew.specs.Crews.{AreTickets, IsSeated, crew_of};
@@ -8,7 +8,7 @@ ghost use Rattle.eve_replica_crew.specs.Crews.{lowest_fault};
 
 use crate::room::Seating;
 use crate::share::Share;
-use crate::stage::Stage;
+use crate::shared::Shared;
 use crate::work::run_parts;
 use eve_floor::ExecFault;
 use eve_grammar::MOST_WORKERS;
@@ -55,30 +55,30 @@ pub fn crew_size(sizes: &[u16], workers: u8, serial: bool) -> u8
 
 /// Gives each worker of the crew its part in the batch, after those that it has in later batches.
 pub(crate) fn deal<'s>(
-    stage: &Stage<'s>,
+    shared: &Shared<'s>,
     crew: u8,
     mut seating: Seating,
     hands: &mut Vec<Vec<Share<'s>>>,
 ) -> Result<(), AllocError>
-    requires set { IsSet stage.now }
+    requires set { IsSet shared.now }
     requires crew { (crew ≤ MOST_WORKERS) × (crew ≤ vec_len hands.old) }
-    requires seats { AreSeatsAt stage.now.recorder.now.recorder stage.now.claims.now crew seating }
+    requires seats { AreSeatsAt shared.now.recorder.now.recorder shared.now.claims.now crew seating }
     ensures { vec_len hands.new ≡ vec_len hands.old }
 {
     let mut left = crew;
     while left > 0 {
         left -= 1;
-        let share = part_of(stage, left, &mut seating);
+        let share = part_of(shared, left, &mut seating);
         hands[left as usize].push(share)?;
     }
     Ok(())
 }
 
 // The part of the worker with this number, where the seats up to it are there.
-fn part_of<'s>(stage: &Stage<'s>, number: u8, seating: &mut Seating) -> Share<'s>
-    requires set { IsSet stage.now }
-    requires seats { AreSeatsAt stage.now.recorder.now.recorder stage.now.claims.now (number + 1) seating.old }
-    ensures { AreSeatsAt stage.now.recorder.now.recorder stage.now.claims.now number seating.new }
+fn part_of<'s>(shared: &Shared<'s>, number: u8, seating: &mut Seating) -> Share<'s>
+    requires set { IsSet shared.now }
+    requires seats { AreSeatsAt shared.now.recorder.now.recorder shared.now.claims.now (number + 1) seating.old }
+    ensures { AreSeatsAt shared.now.recorder.now.recorder shared.now.claims.now number seating.new }
 {
     let Some(seat) = seating.places.worker(number) else {
         unreachable!()
@@ -87,7 +87,7 @@ fn part_of<'s>(stage: &Stage<'s>, number: u8, seating: &mut Seating) -> Share<'s
         unreachable!()
     };
     Share {
-        stage: *stage,
+        shared: *shared,
         seat,
         claims,
     }

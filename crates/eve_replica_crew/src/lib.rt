@@ -8,7 +8,7 @@ mod leg;
 mod progress;
 mod room;
 mod share;
-mod stage;
+mod shared;
 mod work;
 
 pub use batch::run_batches;

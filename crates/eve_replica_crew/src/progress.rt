@@ -6,7 +6,7 @@ use std::sync::Wait;
 use std::sync::atomic::{AtomicU64, Ordering};
 use std::thread::yield_now;
 
-/// What the word is raised by where a worker gives a request up: more than all requests of a batch.
+/// What the word is raised by where a worker gives a request up: more than all requests of a window.
 const GIVEN_UP: u64 = 1 << 32;
 
 /// How often a worker looks at the word before it lets another thread run.

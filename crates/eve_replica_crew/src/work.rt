@@ -1,6 +1,6 @@
 //! What each worker does in its batches.
 
-ghost use Rattle.std.specs.Prelude.{◌≡◌, ◌+◌, ◌<◌, IsTrue, IfSome, OnOk, length};
+ghost use Rattle.std.specs.Prelude.{◌≡◌, ◌+◌, ◌<◌, IfSome, OnOk, length};
 ghost use Rattle.eve_smallbank.specs.Touch.{touched_of};
 ghost use Rattle.eve_write.specs.Data.{batch as plain_batch};
 ghost use Rattle.eve_floor.specs.Executing.{IsSeatedAt, request_of_index};
@@ -9,8 +9,8 @@ ghost use Rattle.eve_replica_crew.specs.Crews.{IsSeated};
 
 use crate::crew::Member;
 use crate::share::Share;
-use crate::stage::Stage;
-use eve_floor::{ExecFault, Worker, execute_touched, request_at};
+use crate::shared::Shared;
+use eve_floor::{ExecFault, Worker, execute_touched};
 use eve_recorder::{Gate, TicketSeat, Tickets};
 use eve_smallbank::Touched;
 use eve_stamps::MOST_PLACES;
@@ -52,13 +52,13 @@ fn run_part<R: Wait, G: Gate>(
     ensures { result.0.tickets ≡ ticks.now }
 {
     let Share {
-        stage,
+        shared,
         seat,
         mut claims,
         ..
     } = share;
     let mut worker = Worker::new(seat, tick);
-    let end = run_share(rt, ticks, &stage, &mut worker, &mut claims, gate);
+    let end = run_share(rt, ticks, &shared, &mut worker, &mut claims, gate);
     (tick_of(worker), end)
 }
 
@@ -79,41 +79,41 @@ fn tick_of(mut worker: Worker) -> TicketSeat
 fn run_share<R: Wait, G: Gate>(
     rt: &R,
     ticks: &Tickets,
-    stage: &Stage<'_>,
+    shared: &Shared<'_>,
     worker: &mut Worker,
     claims: &mut TicketSeat,
     gate: &G,
 ) -> Result<(), Option<ExecFault>>
-    requires set { IsSet stage.now }
-    requires own { IsSeatedAt stage.now.recorder.now ticks.now worker.old }
-    requires claims { claims.old.tickets ≡ stage.now.claims.now }
+    requires set { IsSet shared.now }
+    requires own { IsSeatedAt shared.now.recorder.now ticks.now worker.old }
+    requires claims { claims.old.tickets ≡ shared.now.claims.now }
     requires fresh { length worker.old.seat.noted ≡ 0 }
-    ensures own { IsSeatedAt stage.now.recorder.now ticks.now worker.new }
+    ensures own { IsSeatedAt shared.now.recorder.now ticks.now worker.new }
 {
-    for turn in 0..stage.batch.requests.len() {
-        let Some(index) = claim(stage, claims) else {
+    for turn in 0..shared.batch.requests.len() {
+        let Some(index) = claim(shared, claims) else {
             return Ok(());
         };
-        let due = stage
+        let due = shared
             .before
-            .saturating_add(u64::from(stage.starts[index as usize]));
-        if !stage.progress.wait_for(rt, due) {
+            .saturating_add(u64::from(shared.starts[index as usize]));
+        if !shared.progress.wait_for(rt, due) {
             return Err(None);
         }
-        run_one(rt, ticks, stage, worker, index, gate)?;
+        run_one(rt, ticks, shared, worker, index, gate)?;
     }
     Ok(())
 }
 
 // The next request that nobody has claimed, by its index.
-fn claim(stage: &Stage<'_>, claims: &mut TicketSeat) -> Option<u16>
-    requires set { IsSet stage.now }
-    requires own { claims.old.tickets ≡ stage.now.claims.now }
-    ensures own { claims.new.tickets ≡ stage.now.claims.now }
-    ensures there { IfSome result (λ index. index < length stage.now.batch.now.requests.items) }
+fn claim(shared: &Shared<'_>, claims: &mut TicketSeat) -> Option<u16>
+    requires set { IsSet shared.now }
+    requires own { claims.old.tickets ≡ shared.now.claims.now }
+    ensures own { claims.new.tickets ≡ shared.now.claims.now }
+    ensures there { IfSome result (λ index. index < length shared.now.batch.now.requests.items) }
 {
-    let number = stage.claims.draw(claims)?;
-    if number < stage.batch.requests.len() as u64 {
+    let number = shared.claims.draw(claims)?;
+    if number < shared.batch.requests.len() as u64 {
         Some(number as u16)
     } else {
         None
@@ -124,36 +124,35 @@ fn claim(stage: &Stage<'_>, claims: &mut TicketSeat) -> Option<u16>
 fn run_one<R: Wait, G: Gate>(
     rt: &R,
     ticks: &Tickets,
-    stage: &Stage<'_>,
+    shared: &Shared<'_>,
     worker: &mut Worker,
     index: u16,
     gate: &G,
 ) -> Result<(), Option<ExecFault>>
-    requires set { IsSet stage.now }
-    requires there { index < length stage.now.batch.now.requests.items }
+    requires set { IsSet shared.now }
+    requires there { index < length shared.now.batch.now.requests.items }
     requires place { length worker.old.seat.noted < MOST_PLACES }
-    requires own { IsSeatedAt stage.now.recorder.now ticks.now worker.old }
-    ensures own { IsSeatedAt stage.now.recorder.now ticks.now worker.new }
+    requires own { IsSeatedAt shared.now.recorder.now ticks.now worker.old }
+    ensures own { IsSeatedAt shared.now.recorder.now ticks.now worker.new }
     ensures noted { OnOk result (length worker.new.seat.noted ≡ length worker.old.seat.noted + 1) }
 {
-    let request = request_at(stage.batch, index);
-    let reached = touched_at(stage, index);
+    let reached = touched_at(shared, index);
     let executed = execute_touched(
         rt,
-        stage.floor,
-        stage.recorder,
+        shared.floor,
+        shared.recorder,
         ticks,
         worker,
-        &request,
+        shared.batch,
         &reached,
         index,
         gate,
     );
     if let Err(why) = executed {
-        stage.progress.give_up();
+        shared.progress.give_up();
         return Err(Some(why));
     }
-    if stage.progress.note() {
+    if shared.progress.note() {
         Ok(())
     } else {
         Err(None)
@@ -161,10 +160,10 @@ fn run_one<R: Wait, G: Gate>(
 }
 
 // What the request with this index touches.
-fn touched_at(stage: &Stage<'_>, index: u16) -> Touched
-    requires set { IsSet stage.now }
-    requires there { index < length stage.now.batch.now.requests.items }
-    ensures { result ≡ touched_of stage.now.floor.now (request_of_index (plain_batch stage.now.batch.now) index) }
+fn touched_at(shared: &Shared<'_>, index: u16) -> Touched
+    requires set { IsSet shared.now }
+    requires there { index < length shared.now.batch.now.requests.items }
+    ensures { result ≡ touched_of shared.now.floor.now (request_of_index (plain_batch shared.now.batch.now) index) }
 {
-    stage.touched[index as usize]
+    shared.touched[index as usize]
 }

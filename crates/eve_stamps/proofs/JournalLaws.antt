@@ -12,6 +12,12 @@ use Rattle.eve_stamps.specs.Stripes.{table_after_journal, IsEntryIn, JournalLies
 use Rattle.eve_stamps.specs.Stripes.{settled_to}
 use Rattle.eve_stamps.proofs.RowLaws.{table_in-outside, table_in-whole}
 
+-- what holds of each item holds of each where one that has it is added
+pub all_append : {A : Type 0} (P : A → Type 0) (xs : List A) (x : A) → AllByRecursion P xs → P x
+    → AllByRecursion P (xs ++ x ∷ [])
+all_append P [] x all here = (here, tt)
+all_append P (y ∷ xs) x all here = (all.0, all_append P xs x all.1 here)
+
 pub table_after-append : (table : Table) (es fs : List Entry) → table_after table (es ++ fs)
     ≡ table_after (table_after table es) fs
 table_after-append table [] fs = refl

@@ -17,7 +17,7 @@ use Rattle.eve_stamps.specs.Stamping.{has_row_in_two, rows_in_two, entries_withi
 use Rattle.eve_stamps.specs.Holding.{stripe_held, IsHeldStripe, IsPlaceOf, CanBeNoted}
 use Rattle.eve_stamps.proofs.RowLaws.{rows_in_table-self, rows_in_table-twice, RowsRise-rows, row_at, lies_at}
 use Rattle.eve_stamps.proofs.JournalLaws.{rows_now-noted, rows_now-settled, table_in-journal, up_to, behind, all_kept}
-use Rattle.eve_stamps.proofs.JournalLaws.{split_at_tick}
+use Rattle.eve_stamps.proofs.JournalLaws.{split_at_tick, all_append}
 use Rattle.eve_stamps.proofs.Settling.{all_still_in}
 use Rattle.eve_stamps.proofs.Versions.{limit_at, limit_after, limit_before, all_sees}
 
@@ -52,11 +52,6 @@ seen_at base rows journal greatest row place held holds at read =
     ∙ ap (λ b. cond b (Some (row_in table row)) None) (sym (lies_at base place row at.0 at.1 at.2))
 
 -- ---- one request more
-
-all_append : {A : Type 0} (P : A → Type 0) (xs : List A) (x : A) → AllByRecursion P xs → P x
-    → AllByRecursion P (xs ++ x ∷ [])
-all_append P [] x all here = (here, tt)
-all_append P (y ∷ xs) x all here = (all.0, all_append P xs x all.1 here)
 
 below_all : (greatest : Option ℕ) (tick : ℕ) (js : List Journaled) → is_above tick greatest ≡ true
     → AllByRecursion (λ j. IsTrue (is_within greatest j.tick)) js → AllByRecursion (λ j. j.tick < tick) js

@@ -5,6 +5,7 @@ use Rattle.std.specs.Prelude.{IfSome}
 use Rattle.std.specs.List.{list_all}
 use Rattle.std.proofs.lemmas.Bool.{or_left, or_right, and_left, and_right, le-leb, and_from}
 use Rattle.std.proofs.lemmas.List.{length-map}
+use Rattle.std.proofs.lemmas.Option.{none-some}
 use Rattle.eve_smallbank.specs.declared.entry.Kind.{Kind}
 use Rattle.eve_smallbank.specs.Access.{RowKinds, is_write}
 use Rattle.eve_smallbank.specs.Chain.{Table}
@@ -13,7 +14,6 @@ use Rattle.eve_grammar.specs.Limits.{version_limit}
 use Rattle.eve_stamps.specs.declared.fault.StampFault.TheVariants as fault
 use Rattle.eve_stamps.specs.Stripes.{HeldRow, row_in}
 use Rattle.eve_stamps.specs.Stamping.{seen_of, is_worn, refused_for}
-use Rattle.eve_stamps.proofs.RowLaws.{none≢some}
 
 pub record IsSeen (is_there : ℕ → Bool) (now : Table) (rows : RowKinds) (seen : List HeldRow) : Type 0 where
   pub there : list_all (λ r. is_there r.0) rows ≡ true
@@ -21,10 +21,10 @@ pub record IsSeen (is_there : ℕ → Bool) (now : Table) (rows : RowKinds) (see
 
 pub told_some : {A : Type 0} (b : Bool) (x y : A) → Some x ≡ cond b (Some y) None → (b ≡ true) × (x ≡ y)
 told_some true x y e = (refl, some_is x y e)
-told_some false x y e = absurd (none≢some x (sym e))
+told_some false x y e = absurd (none-some x (sym e))
 
 told_none : {A : Type 0} (b : Bool) (y : A) → None ≡ cond b (Some y) None → b ≡ false
-told_none true y e = absurd (none≢some y e)
+told_none true y e = absurd (none-some y e)
 told_none false y e = refl
 
 pub seen_is : (is_there : ℕ → Bool) (now : Table) (rows found : RowKinds) (seen : List HeldRow) → found ≡ rows
@@ -56,7 +56,7 @@ not_refused is_there is_new now rows seen is timely fresh =
 
 pub missing_at : {A : Type 0} (p : A → Bool) (xs : List A) (i : ℕ) (x : A) → slice_get xs i ≡ Some x → p x ≡ false
     → list_all p xs ≡ false
-missing_at p [] i x at out = absurd (none≢some x at)
+missing_at p [] i x at out = absurd (none-some x at)
 missing_at p (y ∷ xs) zero x at out = ap (λ z. p z && list_all p xs) (some_is y x at)
     ∙ and_left (p x) (list_all p xs) out
 missing_at p (y ∷ xs) (suc i) x at out = and_right (p y) (list_all p xs) (missing_at p xs i x at out)
@@ -64,8 +64,8 @@ missing_at p (y ∷ xs) (suc i) x at out = and_right (p y) (list_all p xs) (miss
 pub worn_at : (now : Table) (rows : RowKinds) (seen : List HeldRow) (i : ℕ) (r : ℕ × Kind) (held : HeldRow)
     → slice_get rows i ≡ Some r → slice_get seen i ≡ Some held → seen ≡ map (λ q. row_in now q.0) rows
     → is_write r.1 ≡ true → version_limit ≤ held.version → is_worn now rows ≡ true
-worn_at now [] seen i r held at there so writes old = absurd (none≢some r at)
-worn_at now (q ∷ rows) [] i r held at there so writes old = absurd (none≢some held there)
+worn_at now [] seen i r held at there so writes old = absurd (none-some r at)
+worn_at now (q ∷ rows) [] i r held at there so writes old = absurd (none-some held there)
 worn_at now (q ∷ rows) (h ∷ seen) zero r held at there so writes old =
     let here : q ≡ r = some_is q r at in
     let same : h ≡ held = some_is h held there in

@@ -1,9 +1,10 @@
 -- Rows as a list and as a table.
 use Rattle.std.proofs.Common.{◌≡◌, ℕ, pos, zero, suc, ◌+◌, ◌<◌, ◌==◌, Bool, true, false, cond, ◌||◌, ◌&&◌, List, []}
-use Rattle.std.proofs.Common.{◌∷◌, set, slice_get, Some, None, refl, sym, subst, ap, ap₂, ◌∙◌, inl, inr, arith}
+use Rattle.std.proofs.Common.{◌∷◌, set, slice_get, Some, refl, sym, subst, ap, ap₂, ◌∙◌, inl, inr, arith}
 use mathlib.Core.Path.{fun_ext}
 use Rattle.std.specs.List.{AllByRecursion}
 use Rattle.std.proofs.lemmas.Bool.{cases_Bool, eqb-true, eq-eqb, ne_eqb, or_parts, or_right}
+use Rattle.std.proofs.lemmas.Option.{none-some}
 use Rattle.eve_smallbank.specs.declared.entry.Kind.TheVariants.{Read, Write}
 use Rattle.eve_smallbank.specs.declared.entry.Entry.{Entry}
 use Rattle.eve_smallbank.specs.Access.{is_write}
@@ -99,24 +100,21 @@ rows_in_table-self (r ∷ rows) rise =
 
 -- ---- one row of them
 
-pub none≢some : {A : Type 0} (x : A) → None ≡ Some x → ⊥
-none≢some x same = cc
-
 pub all_at : {A : Type 0} (P : A → Type 0) (xs : List A) (i : ℕ) (x : A) → AllByRecursion P xs → slice_get xs i ≡ Some x
     → P x
-all_at P [] i x all at = absurd (none≢some x at)
+all_at P [] i x all at = absurd (none-some x at)
 all_at P (y ∷ xs) zero x all at = subst P (some_is y x at) all.0
 all_at P (y ∷ xs) (suc i) x all at = all_at P xs i x all.1 at
 
 pub row_at : (table : Table) (rows : List HeldRow) (place : ℕ) (r : HeldRow) → slice_get rows place ≡ Some r
     → slice_get (rows_in_table table rows) place ≡ Some (row_in table r.row)
-row_at table [] place r at = absurd (none≢some r at)
+row_at table [] place r at = absurd (none-some r at)
 row_at table (q ∷ rows) zero r at = ap (λ (x : HeldRow). Some (row_in table x.row)) (some_is q r at)
 row_at table (q ∷ rows) (suc place) r at = row_at table rows place r at
 
 pub lies_at : (rows : List HeldRow) (place row : ℕ) (r : HeldRow) → slice_get rows place ≡ Some r → r.row ≡ row
     → lies_in rows row ≡ true
-lies_at [] place row r at same = absurd (none≢some r at)
+lies_at [] place row r at same = absurd (none-some r at)
 lies_at (q ∷ rows) zero row r at same =
     ap (λ b. b || lies_in rows row) (eq-eqb q.row row (ap (λ (x : HeldRow). x.row) (some_is q r at) ∙ same))
 lies_at (q ∷ rows) (suc place) row r at same = or_right (q.row == row) (lies_in rows row)
@@ -155,7 +153,7 @@ kept_above table e row (r ∷ rows) written same above = (
 pub written_at : (table : Table) (rows : List HeldRow) (place : ℕ) (r : HeldRow) (e : Entry) → RowsRise rows
     → slice_get rows place ≡ Some r → r.row ≡ e.row → e.kind ≡ Write
     → set (rows_in_table table rows) place (left_in e) ≡ rows_in_table (table_after table (e ∷ [])) rows
-written_at table [] place r e rise at same written = absurd (none≢some r at)
+written_at table [] place r e rise at same written = absurd (none-some r at)
 written_at table (q ∷ rows) zero r e rise at same written =
     let here : q.row ≡ e.row = ap (λ (x : HeldRow). x.row) (some_is q r at) ∙ same in
     ap₂ (λ (x : HeldRow) (rest : List HeldRow). x ∷ rest)

@@ -1,8 +1,9 @@
 -- What write after write makes of rows.
 use Rattle.std.proofs.Common.{◌≡◌, ℕ, zero, suc, ◌+◌, ◌++◌, nat_le, Bool, true, false, cond, IsTrue, List, [], ◌∷◌}
-use Rattle.std.proofs.Common.{take, filter, length, slice_get, Some, refl, sym, subst, ap, ◌∙◌, ◌≤◌, arith}
+use Rattle.std.proofs.Common.{take, filter, length, slice_get, Some, sym, subst, ap, ◌∙◌, ◌≤◌, arith}
 use Rattle.std.specs.List.{AllByRecursion}
 use Rattle.std.proofs.lemmas.List.{take_more, length-append}
+use Rattle.std.proofs.lemmas.List.Elements.{filter-append}
 use Rattle.std.proofs.lemmas.Option.{get_or_from_slice_get, slice_get_within}
 use Rattle.eve_smallbank.specs.declared.entry.Entry.{Entry}
 use Rattle.eve_smallbank.specs.Chain.{Table, table_after}
@@ -58,15 +59,6 @@ write_more first now next es place e own at so step =
 pub one_up_to : (rows : List HeldRow) (j : Journaled) (tick : ℕ) (b : Bool) → nat_le j.tick tick ≡ b
     → filter (up_to tick) (j ∷ []) ≡ cond b (j ∷ []) []
 one_up_to rows j tick b is = ap (λ c. cond c (j ∷ []) []) is
-
-pub filter-append : {A : Type 0} (p : A → Bool) (xs ys : List A) → filter p (xs ++ ys) ≡ filter p xs ++ filter p ys
-filter-append p [] ys = refl
-filter-append {A} p (x ∷ xs) ys = step (p x) (filter-append p xs ys)
-  where
-    step : (b : Bool) → filter p (xs ++ ys) ≡ filter p xs ++ filter p ys
-        → cond b (x ∷ filter p (xs ++ ys)) (filter p (xs ++ ys)) ≡ cond b (x ∷ filter p xs) (filter p xs) ++ filter p ys
-    step true rest = ap (λ (zs : List A). x ∷ zs) rest
-    step false rest = rest
 
 pub settle_more : (first now next : List HeldRow) (js : List Journaled) (tick i : ℕ) (j : Journaled)
     → JournalLiesIn first js → slice_get js i ≡ Some j

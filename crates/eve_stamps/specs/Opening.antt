@@ -6,12 +6,9 @@ use Rattle.eve_smallbank.specs.Access.{RowKinds, balance_of_row}
 use Rattle.eve_stamps.specs.declared.limits.TheConstants.{STRIPES}
 use Rattle.eve_stamps.specs.Stripes.{HeldRow}
 
-abbrev pub stripe_count : ℕ
-stripe_count = STRIPES
-
 -- customer c lies in stripe c mod 16
 abbrev pub stripe_of_customer : ℕ → ℕ
-stripe_of_customer customer = customer % stripe_count
+stripe_of_customer customer = customer % STRIPES
 
 -- and so does each of its two rows
 abbrev pub stripe_of : ℕ → ℕ

@@ -12,7 +12,7 @@ ghost use Rattle.eve_stamps.specs.Stamping.{is_worn};
 
 use crate::HeldRow;
 use eve_accounts::Cents;
-use eve_smallbank::{Effect, Entry, Kind, Reply, Request, Touched, UpToThree, decide, laws};
+use eve_smallbank::{Effect, Entry, Reply, Request, Touched, UpToThree, decide, laws};
 
 /// What the request replies, and its entries, where it meets these rows.
 pub fn executed(

@@ -27,7 +27,7 @@ pub struct Span {
 }
 
 /// The stripes of a request's rows: those of its first row and of its last, since a request has the rows of two
-/// customers at most, one after the other.
+/// customers at most, one after the other. Of no rows it says nothing.
 ///
 /// docs/MODEL.md, "Schedule".
 pub fn span_of(rows: &UpToThree<(Row, Kind)>) -> Span

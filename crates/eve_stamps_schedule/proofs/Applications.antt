@@ -23,11 +23,13 @@ use Rattle.eve_stamps.specs.declared.fault.StampFault.TheVariants as fault
 use Rattle.eve_stamps.specs.Stripes.{Stripe, has_row, rows_now, is_above, stripe_with}
 use Rattle.eve_stamps.specs.Stamping.{has_row_in_two, rows_in_two, entries_within, entries_outside, is_worn}
 use Rattle.eve_stamps.specs.Stamping.{refused_for, refusal, refusal_of_two, IsRefusedFor}
-use Rattle.eve_stamps.specs.Opening.{stripe_count, stripe_of}
+use Rattle.eve_stamps.specs.declared.limits.TheConstants.{STRIPES}
+use Rattle.eve_stamps.specs.Opening.{stripe_of}
 use Rattle.eve_stamps.proofs.JournalLaws.{rows_now-noted}
 use Rattle.eve_stamps_schedule.specs.Stripes.{needs}
 use Rattle.eve_stamps_schedule.specs.Schedule.{stripe_at, table_of_stripes}
 use Rattle.eve_stamps_schedule.specs.Applying.{HaveTheirRows, AreFresh, IsKeptAt}
+use Rattle.eve_stamps_schedule.proofs.Changes.{below_itself, all_weaker}
 use Rattle.eve_stamps_schedule.proofs.Spans.{AreEnds}
 use Rattle.eve_stamps_schedule.proofs.Tables.{table_after-at, table_after-none, table_after-some}
 use Rattle.eve_stamps_schedule.proofs.Reaches.{IsPlaced, rows_placed, entries_placed, executed_alike}
@@ -100,9 +102,6 @@ IsParted s a b e = ((stripe_of e.row ≡ a) × (has_row s e.row ≡ true))
 not_same : {m n k : ℕ} → m ≡ n → m ≡ k → n < k → ⊥
 not_same e f h = omega arith
 
-below_same : {m n : ℕ} → m ≡ n → m < n → ⊥
-below_same e h = omega arith
-
 within_first : (s : Stripe) (a b row : ℕ) (es : List Entry) → a < b → stripe_of row ≡ a
     → AllByRecursion (IsParted s a b) es
     → AllByRecursion (λ e. e.row ≡ row → has_row s e.row ≡ true) es
@@ -111,7 +110,7 @@ within_first s a b row (e ∷ es) less at parted = (
   (λ same. elim parted.0 [
     | inl one ↦ one.1
     | inr two
-        ↦ absurd (below_same (sym at ∙ ap stripe_of (sym same) ∙ two.0) less)
+        ↦ absurd (below_itself (sym at ∙ ap stripe_of (sym same) ∙ two.0) less)
   ]),
   within_first s a b row es less at parted.1,
 )
@@ -122,7 +121,7 @@ within_last : (s : Stripe) (a b row : ℕ) (es : List Entry) → a < b → strip
 within_last s a b row [] less at parted = tt
 within_last s a b row (e ∷ es) less at parted = (
   (λ same. elim parted.0 [
-    | inl one ↦ absurd (below_same (sym one.0 ∙ ap stripe_of same ∙ at) less)
+    | inl one ↦ absurd (below_itself (sym one.0 ∙ ap stripe_of same ∙ at) less)
     | inr two
         ↦ ap not two.1
   ]),
@@ -271,7 +270,7 @@ same_end i a (inr e) = e
 
 -- it lies in its stripe
 has_own : (names : List (List ℕ)) (ss : List Stripe) (request : Request) (i row : ℕ) → HaveTheirRows (length names) ss
-    → i < stripe_count → IsPlaced names request row → stripe_of row ≡ i
+    → i < STRIPES → IsPlaced names request row → stripe_of row ≡ i
     → has_row (stripe_at ss i) row ≡ true
 has_own names ss request i row have small placed own =
     have i row small ∙ and_from (stripe_of row == i) (nat_lt row (2 * length names)) (eq-eqb (stripe_of row) i own)
@@ -279,7 +278,7 @@ has_own names ss request i row have small placed own =
 
 -- and in no other
 has_no_other : (names : List (List ℕ)) (ss : List Stripe) (i row : ℕ) → HaveTheirRows (length names) ss
-    → i < stripe_count → ¬ (stripe_of row ≡ i)
+    → i < STRIPES → ¬ (stripe_of row ≡ i)
     → has_row (stripe_at ss i) row ≡ false
 has_no_other names ss i row have small other =
     have i row small ∙ ap (λ b. b && nat_lt row (2 * length names)) (ne_eqb (stripe_of row) i other)
@@ -304,7 +303,7 @@ one_own names table request a ends =
 
 -- a row is the first stripe's where it has it
 two_rows : (names : List (List ℕ)) (ss : List Stripe) (request : Request) (a b row : ℕ)
-    → HaveTheirRows (length names) ss → a < b → b < stripe_count → IsPlaced names request row
+    → HaveTheirRows (length names) ss → a < b → b < STRIPES → IsPlaced names request row
     → (stripe_of row ≡ a) ⊎ (stripe_of row ≡ b) → rows_in_two (stripe_at ss a) (stripe_at ss b) row
     ≡ table_of_stripes ss row
 two_rows names ss request a b row have less small placed (inl one) =
@@ -317,7 +316,7 @@ two_rows names ss request a b row have less small placed (inr two) =
     ∙ ap (λ i. rows_now (stripe_at ss i) row) (sym two)
 
 pub two_made : (names : List (List ℕ)) (ss : List Stripe) (request : Request) (a b : ℕ)
-    → HaveTheirRows (length names) ss → a < b → b < stripe_count → AreEnds (needs names request) a b
+    → HaveTheirRows (length names) ss → a < b → b < STRIPES → AreEnds (needs names request) a b
     → executed_on names (rows_in_two (stripe_at ss a) (stripe_at ss b)) request
     ≡ executed_on names (table_of_stripes ss) request
 two_made names ss request a b have less small ends =
@@ -326,7 +325,7 @@ two_made names ss request a b have less small ends =
     (in_ends (needs names request) a b (stripe_of row) ends placed.needed))
 
 pub two_parted : (names : List (List ℕ)) (ss : List Stripe) (table : Table) (request : Request) (a b : ℕ)
-    → HaveTheirRows (length names) ss → a < b → b < stripe_count
+    → HaveTheirRows (length names) ss → a < b → b < STRIPES
     → AreEnds (needs names request) a b → AllByRecursion (IsParted (stripe_at ss a) a b)
     (executed_on names table request).entries
 two_parted names ss table request a b have less small ends =
@@ -364,13 +363,8 @@ memory_alone : {A : Type 0} (o : Option StampFault) (result : Result A StampFaul
     → IfErr result (λ why. why ≡ fault.Memory)
 memory_alone {A} o result none refused = subst (λ (p : Option StampFault). IsRefusedFor {A = A} p result) none refused
 
-all_of : {A : Type 0} (P Q : A → Type 0) (xs : List A) → ((x : A) → P x → Q x) → AllByRecursion P xs
-    → AllByRecursion Q xs
-all_of P Q [] h all = tt
-all_of P Q (x ∷ xs) h all = (h x all.0, all_of P Q xs h all.1)
-
 pub one_memory : {A : Type 0} (names : List (List ℕ)) (ss : List Stripe) (request : Request) (a tick : ℕ)
-    (result : Result A StampFault) → HaveTheirRows (length names) ss → a < stripe_count
+    (result : Result A StampFault) → HaveTheirRows (length names) ss → a < STRIPES
     → AreEnds (needs names request) a a
     → ((i : ℕ) → needs names request i ≡ true → is_above tick (stripe_at ss i).greatest ≡ true)
     → AreFresh (table_of_stripes ss)
@@ -383,17 +377,17 @@ one_memory names ss request a tick result have small ends above fresh refused =
     memory_alone (refusal (stripe_at ss a) tick rows) result
     (none_refused (has_row (stripe_at ss a)) (is_above tick (stripe_at ss a).greatest) (rows_now (stripe_at ss a)) rows
     (all_numbers (has_row (stripe_at ss a)) rows
-    (all_of (IsPlaced names request) (λ row. has_row (stripe_at ss a) row ≡ true) (numbers rows)
+    (all_weaker (IsPlaced names request) (λ row. has_row (stripe_at ss a) row ≡ true) (numbers rows)
     (λ row placed. has_own names ss request a row have small placed (at row placed)) (rows_placed names request)))
     (above a (ends a ∙ ap₂ (λ b c. b || c) (eq-eqb a a refl) (eq-eqb a a refl)))
     (none_worn (rows_now (stripe_at ss a)) rows
-    (all_of (IsPlaced names request) (λ row. (rows_now (stripe_at ss a) row).version < version_limit) (numbers rows)
+    (all_weaker (IsPlaced names request) (λ row. (rows_now (stripe_at ss a) row).version < version_limit) (numbers rows)
     (λ row placed. subst (λ i. (rows_now (stripe_at ss i) row).version < version_limit) (at row placed) (fresh row))
     (rows_placed names request))))
     refused
 
 pub two_memory : {A : Type 0} (names : List (List ℕ)) (ss : List Stripe) (request : Request) (a b tick : ℕ)
-    (result : Result A StampFault) → HaveTheirRows (length names) ss → a < b → b < stripe_count
+    (result : Result A StampFault) → HaveTheirRows (length names) ss → a < b → b < STRIPES
     → AreEnds (needs names request) a b
     → ((i : ℕ) → needs names request i ≡ true → is_above tick (stripe_at ss i).greatest ≡ true)
     → AreFresh (table_of_stripes ss)
@@ -407,7 +401,7 @@ two_memory names ss request a b tick result have less small ends above fresh ref
     (none_refused (has_row_in_two first last) (is_above tick first.greatest && is_above tick last.greatest)
     (rows_in_two first last) rows
     (all_numbers (has_row_in_two first last) rows
-    (all_of (IsPlaced names request) (λ row. has_row_in_two first last row ≡ true) (numbers rows) (λ row placed.
+    (all_weaker (IsPlaced names request) (λ row. has_row_in_two first last row ≡ true) (numbers rows) (λ row placed.
     elim (in_ends (needs names request) a b (stripe_of row) ends placed.needed) [
       | inl one ↦ ap (λ c. c || has_row last row) (has_own names ss request a row have (omega arith) placed one)
       | inr two ↦ ap₂ (λ c d. c || d) (has_no_other names ss a row have (omega arith) (λ one. not_same one two less))
@@ -417,7 +411,7 @@ two_memory names ss request a b tick result have less small ends above fresh ref
     (above a (ends a ∙ ap (λ c. c || (b == a)) (eq-eqb a a refl)))
     (above b (ends b ∙ ap₂ (λ c d. c || d) (ne_eqb a b (λ e. omega arith)) (eq-eqb b b refl))))
     (none_worn (rows_in_two first last) rows
-    (all_of (IsPlaced names request) (λ row. (rows_in_two first last row).version < version_limit) (numbers rows)
+    (all_weaker (IsPlaced names request) (λ row. (rows_in_two first last row).version < version_limit) (numbers rows)
     (λ row placed. subst (λ v. v.version < version_limit)
     (sym (two_rows names ss request a b row have less small placed
     (in_ends (needs names request) a b (stripe_of row) ends placed.needed))) (fresh row))
@@ -425,11 +419,6 @@ two_memory names ss request a b tick result have less small ends above fresh ref
     refused
 
 -- ---- by the answer
-
-pub if_ok : {A E : Type 0} (P Q : A → Type 0) (result : Result A E) → IfOk result P → ((x : A) → P x → Q x)
-    → IfOk result Q
-if_ok P Q (Ok x) p h = h x p
-if_ok P Q (Err e) p h = tt
 
 pub if_ok_both : {A E : Type 0} (P R Q : A → Type 0) (result : Result A E) → IfOk result P → IfOk result R
     → ((x : A) → P x → R x → Q x) → IfOk result Q

@@ -9,7 +9,7 @@ use Rattle.eve_stamps_schedule.specs.declared.stage.Stage.{Stage}
 use Rattle.eve_stamps_schedule.specs.declared.stage.Stage.TheVariants as at
 use Rattle.eve_stamps_schedule.specs.World.{World, pending, records_at, records_below}
 use Rattle.eve_stamps_schedule.specs.Events.{changed, with_owner, with_applied, with_noted, placed_by_tick}
-use Rattle.eve_stamps_schedule.proofs.Changes.{changed-here, changed-other}
+use Rattle.eve_stamps_schedule.proofs.Changes.{below_itself, changed-here, changed-other}
 use Rattle.eve_stamps_schedule.proofs.Inserting.{permutation-placed_by_tick}
 
 records_alike : (w x : World) (n : ℕ) → ((u : ℕ) → u < n → records_at x u ≡ records_at w u) → records_below x n
@@ -96,9 +96,6 @@ more_by w v (suc n) x h none =
                 ∙ append_assoc rest.front (x ∷ rest.back) (records_at w n);
           }
     ]
-  where
-    below_itself : {m n : ℕ} → m ≡ n → m < n → ⊥
-    below_itself e h = omega arith
 
 pub gathered_apply : (w : World) (v n : ℕ) (x : Applied) → v < n → pending (w.stages v) ≡ []
     → IsPermutation (records_below w n) w.applied

@@ -15,32 +15,24 @@ use Rattle.eve_stamps.specs.Applied.{Applied}
 use Rattle.eve_stamps_schedule.specs.declared.event.Event.TheVariants.{Claim, Tick}
 use Rattle.eve_stamps_schedule.specs.declared.stage.Stage.{Stage}
 use Rattle.eve_stamps_schedule.specs.declared.stage.Stage.TheVariants as at
-use Rattle.eve_stamps.specs.Opening.{stripe_count}
+use Rattle.eve_stamps.specs.declared.limits.TheConstants.{STRIPES}
+use Rattle.eve_stamps.proofs.JournalLaws.{all_append}
 use Rattle.eve_stamps_schedule.specs.Before.{EachBefore}
 use Rattle.eve_stamps_schedule.specs.World.{Plan, World, planned_request, executed_record, noted_count}
 use Rattle.eve_stamps_schedule.specs.Events.{changed, current_group, may_claim, is_owner, needs_at, next_stripe}
 use Rattle.eve_stamps_schedule.specs.Events.{last_stripe, is_free, with_owner, record_made, with_applied, with_noted}
 use Rattle.eve_stamps_schedule.specs.Events.{then_happens}
-use Rattle.eve_stamps_schedule.proofs.Changes.{at_change, changed-other, counted-at_least, greatest_passes, none_passes}
+use Rattle.eve_stamps_schedule.proofs.Changes.{below_itself, all_weaker, at_change, changed-other, counted-at_least}
+use Rattle.eve_stamps_schedule.proofs.Changes.{greatest_passes, none_passes}
 use Rattle.eve_stamps_schedule.proofs.Holding.{flag, held, is_busy, Counts, Bound, IsMade, IsReady, executed, Holds}
 use Rattle.eve_stamps_schedule.proofs.Counting.{counts_note, current_later}
 
 -- ---- lists
 
-pub all-push : {A : Type 0} (P : A → Type 0) (xs : List A) (x : A) → AllByRecursion P xs → P x
-    → AllByRecursion P (xs ++ x ∷ [])
-all-push P [] x all p = (p, tt)
-all-push P (y ∷ xs) x all p = (all.0, all-push P xs x all.1 p)
-
-pub all_weaker : {A : Type 0} (P Q : A → Type 0) (xs : List A) → ((x : A) → P x → Q x) → AllByRecursion P xs
-    → AllByRecursion Q xs
-all_weaker P Q [] h all = tt
-all_weaker P Q (x ∷ xs) h all = (h x all.0, all_weaker P Q xs h all.1)
-
 each_before-push : {A : Type 0} (R : A → A → Type 0) (xs : List A) (x : A) → EachBefore R xs
     → AllByRecursion (λ y. R y x) xs → EachBefore R (xs ++ x ∷ [])
 each_before-push R [] x each all = (tt, tt)
-each_before-push R (y ∷ xs) x each all = (all-push (R y) xs x each.0 all.0, each_before-push R xs x each.1 all.1)
+each_before-push R (y ∷ xs) x each all = (all_append (R y) xs x each.0 all.0, each_before-push R xs x each.1 all.1)
 
 -- ---- workers that wait
 
@@ -86,7 +78,7 @@ ready_applied p n current owners history x v (at.Ticked i k) h ready = (
   ready.0,
   ready.1,
   ready.2,
-  all-push (λ y. Bound p y.index i → y.tick < k) history x ready.3
+  all_append (λ y. Bound p y.index i → y.tick < k) history x ready.3
       (λ bound. absurd (h i k refl ready bound)),
 )
 ready_applied p n current owners history x v (at.Applied y) h ready = tt
@@ -102,11 +94,11 @@ one_owner u v None h k = absurd (false≢true h)
 one_owner u v (Some w) h k = sym (eqb-true w u h) ∙ eqb-true w v k
 
 -- a worker that needs no further stripe owns those that it needs
-owned : (p : Plan) (w : World) (v i s : ℕ) → is_none (next_stripe p w v i) ≡ true → s < stripe_count → needs_at p i s
+owned : (p : Plan) (w : World) (v i s : ℕ) → is_none (next_stripe p w v i) ≡ true → s < STRIPES → needs_at p i s
     ≡ true → is_owner v (w.owners s) ≡ true
 owned p w v i s none l need =
     elim (and_cases (needs_at p i s) (not (is_owner v (w.owners s)))
-    (none_passes 0 stripe_count (λ r. needs_at p i r && not (is_owner v (w.owners r))) none s (omega arith) l)) [
+    (none_passes 0 STRIPES (λ r. needs_at p i r && not (is_owner v (w.owners r))) none s (omega arith) l)) [
       | inl e ↦ absurd (true≢false (sym need ∙ e))
       | inr e ↦ not-false (is_owner v (w.owners s)) e
     ]
@@ -161,7 +153,7 @@ pub holds_unlock : (p : Plan) (w : World) (v : ℕ) (x : Applied) (o : Option �
     → Holds p (with_owner w o None) history
 holds_unlock p w v x None history stage e holds = holds
 holds_unlock p w v x (Some s) history stage e holds =
-    let own = greatest_passes stripe_count (λ r. is_owner v (w.owners r)) s e in
+    let own = greatest_passes STRIPES (λ r. is_owner v (w.owners r)) s e in
     holds_later p w (with_owner w (Some s) None) history refl (omega arith) (omega arith)
     (λ u l. ready_owned p w.counter (current_group p w) w.owners (changed w.owners s None) history u (w.stages u)
     (λ i k r ticked mine. at_change (λ j owner. is_owner u (w.owners j) ≡ true → is_owner u owner ≡ true) w.owners s
@@ -195,15 +187,12 @@ sees_on names table bank (r ∷ rows) = (record { version = refl; value = refl }
 
 -- no other worker that has its tick is bound by what this one applies
 apart : (p : Plan) (w : World) (v i : ℕ) (history : List Applied) → group_of p.sizes i ≡ current_group p w
-    → ((s : ℕ) → s < stripe_count → needs_at p i s ≡ true → is_owner v (w.owners s) ≡ true)
+    → ((s : ℕ) → s < STRIPES → needs_at p i s ≡ true → is_owner v (w.owners s) ≡ true)
     → (u j k : ℕ) → IsReady p w.counter (current_group p w) w.owners history u (at.Ticked j k) → ¬ (u ≡ v)
     → ¬ Bound p i j
 apart p w v i history group own u j k other ne (inl share) =
     ne (one_owner u v (w.owners share.0) (other.2 share.0 share.1 share.3) (own share.0 share.1 share.2))
-apart p w v i history group own u j k other ne (inr less) = not_less (group ∙ sym other.1) less
-  where
-    not_less : {m n : ℕ} → m ≡ n → m < n → ⊥
-    not_less e h = omega arith
+apart p w v i history group own u j k other ne (inr less) = below_itself (group ∙ sym other.1) less
 
 -- the record of a worker that has its tick is the last of all that bind it
 pub holds_apply : (p : Plan) (w : World) (v i n : ℕ) (history : List Applied) → v < p.workers → w.stages v
@@ -220,20 +209,20 @@ holds_apply p w v i n history h stage holds =
     map-append (executed_record p) history (x ∷ []) in
     let first : group_of p.sizes i ≡ current_group p w = mine.1 in
     record {
-      made = all-push (IsMade p) history x holds.made (w.table, refl);
+      made = all_append (IsMade p) history x holds.made (w.table, refl);
       follows = subst (Follows (visible_at p.base [])) (sym pushed)
           (follows-push (visible_at p.base []) (executed p history) (executed_record p x) holds.follows
           (subst (λ t. AllByRecursion (Sees t) x.entries) holds.table sees));
       table = ap (λ (t : Table). table_after t x.entries) holds.table
           ∙ sym (ap (table_after_all (visible_at p.base [])) pushed
           ∙ table_after_all-push (visible_at p.base []) (executed p history) (executed_record p x));
-      below = all-push (λ y. y.tick < w.counter) history x holds.below mine.0;
+      below = all_append (λ y. y.tick < w.counter) history x holds.below mine.0;
       ordered = each_before-push (λ y z. Bound p y.index z.index → y.tick < z.tick) history x holds.ordered mine.3;
       grouped = each_before-push (λ y z. group_of p.sizes y.index ≤ group_of p.sizes z.index) history x holds.grouped
           (all_weaker (λ y. group_of p.sizes y.index ≤ current_group p w)
           (λ y. group_of p.sizes y.index ≤ group_of p.sizes i) history (λ y l. omega (arith, first, l))
           holds.passed);
-      passed = all-push (λ y. group_of p.sizes y.index ≤ current_group p w) history x holds.passed
+      passed = all_append (λ y. group_of p.sizes y.index ≤ current_group p w) history x holds.passed
           (omega (arith, first));
       ready = λ u l. at_change (λ k s. IsReady p w.counter (current_group p w) w.owners (history ++ x ∷ []) k s)
           w.stages v (at.Applied x) u tt

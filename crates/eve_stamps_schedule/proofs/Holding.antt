@@ -12,7 +12,7 @@ use Rattle.eve_grammar.specs.Certificate.{group_of}
 use Rattle.eve_stamps.specs.Applied.{Applied}
 use Rattle.eve_stamps_schedule.specs.declared.stage.Stage.{Stage}
 use Rattle.eve_stamps_schedule.specs.declared.stage.Stage.TheVariants as at
-use Rattle.eve_stamps.specs.Opening.{stripe_count}
+use Rattle.eve_stamps.specs.declared.limits.TheConstants.{STRIPES}
 use Rattle.eve_stamps_schedule.specs.Before.{EachBefore}
 use Rattle.eve_stamps_schedule.specs.World.{Plan, World, planned_request, executed_record, noted_count, records_below}
 use Rattle.eve_stamps_schedule.specs.Events.{current_group, is_owner, needs_at}
@@ -81,7 +81,7 @@ pub record Counts (p : Plan) (w : World) : Type 0 where
 
 -- some stripe is needed by both requests of the batch
 abbrev pub Share : Plan → ℕ → ℕ → Type 0
-Share p i j = (s : ℕ) × (s < stripe_count) × (needs_at p i s ≡ true) × (needs_at p j s ≡ true)
+Share p i j = (s : ℕ) × (s < STRIPES) × (needs_at p i s ≡ true) × (needs_at p j s ≡ true)
 
 -- the one has to tick before the other if it was applied before it
 abbrev pub Bound : Plan → ℕ → ℕ → Type 0
@@ -97,7 +97,7 @@ IsReady p counter current owners history v at.Idle = Unit {0}
 IsReady p counter current owners history v (at.Claimed i) = group_of p.sizes i ≡ current
 IsReady p counter current owners history v (at.Ticked i n) =
     (n < counter) × (group_of p.sizes i ≡ current)
-    × ((s : ℕ) → s < stripe_count → needs_at p i s ≡ true → is_owner v (owners s) ≡ true)
+    × ((s : ℕ) → s < STRIPES → needs_at p i s ≡ true → is_owner v (owners s) ≡ true)
     × AllByRecursion (λ x. Bound p x.index i → x.tick < n) history
 IsReady p counter current owners history v (at.Applied x) = Unit {0}
 

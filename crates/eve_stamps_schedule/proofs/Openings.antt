@@ -13,7 +13,8 @@ use Rattle.eve_smallbank.specs.SmallBank.{Request}
 use Rattle.eve_smallbank.specs.Chain.{Versioned, Table}
 use Rattle.eve_stamps.specs.Applied.{Applied}
 use Rattle.eve_stamps.specs.Stripes.{HeldRow, Stripe, lies_in, table_in, has_row, committed, rows_now, is_above}
-use Rattle.eve_stamps.specs.Opening.{stripe_count, stripe_of, stripe_of_customer, rows_of_customer, rows_of_stripe}
+use Rattle.eve_stamps.specs.declared.limits.TheConstants.{STRIPES}
+use Rattle.eve_stamps.specs.Opening.{stripe_of, stripe_of_customer, rows_of_customer, rows_of_stripe}
 use Rattle.eve_stamps.proofs.OpeningLaws.{opening_rows_more}
 use Rattle.eve_stamps_schedule.specs.declared.stage.Stage.{Stage}
 use Rattle.eve_stamps_schedule.specs.declared.stage.Stage.TheVariants as at
@@ -26,6 +27,7 @@ use Rattle.eve_stamps_schedule.proofs.Places.{all_alike}
 use Rattle.eve_stamps_schedule.proofs.Sharing.{stripe_below}
 use Rattle.eve_stamps_schedule.proofs.Keeping.{nothing_noted}
 use Rattle.eve_stamps_schedule.proofs.Reaching.{reached_first}
+use Rattle.eve_stamps_schedule.proofs.Stepping.{idle_not_ticked}
 
 -- ---- the rows of a stripe
 
@@ -138,12 +140,12 @@ opening_stripe balances customers i = record {
 }
 
 abbrev pub opening_stripes : List ℤ → ℕ → List Stripe
-opening_stripes balances customers = map (opening_stripe balances customers) (range_with_len 0 stripe_count)
+opening_stripes balances customers = map (opening_stripe balances customers) (range_with_len 0 STRIPES)
 
-at_first : (balances : List ℤ) (customers i : ℕ) → i < stripe_count → stripe_at (opening_stripes balances customers) i
+at_first : (balances : List ℤ) (customers i : ℕ) → i < STRIPES → stripe_at (opening_stripes balances customers) i
     ≡ opening_stripe balances customers i
 at_first balances customers i small =
-    get_or-map-range_with_len (opening_stripe balances customers) 0 stripe_count i i
+    get_or-map-range_with_len (opening_stripe balances customers) 0 STRIPES i i
     (record { base = []; journal = []; greatest = None }) small (omega arith)
 
 pub opening_have : (balances : List ℤ) (customers : ℕ) → HaveTheirRows customers (opening_stripes balances customers)
@@ -185,7 +187,7 @@ opening_schedule names balances sizes requests workers = record {
   sizes = sizes;
   requests = requests;
   stripes = opening_stripes balances (length names);
-  owners = replicate stripe_count None;
+  owners = replicate STRIPES None;
   claimed = 0;
   counter = 0;
   stages = replicate workers at.Idle;
@@ -214,7 +216,7 @@ pub opening_world : (names : List (List ℕ)) (balances : List ℤ) (sizes : Lis
 opening_world names balances sizes requests workers =
     let none : List Applied = [] in
     let table = opening_table balances (length names) in
-    let owners = all_alike {A = Option ℕ} stripe_count None in
+    let owners = all_alike {A = Option ℕ} STRIPES None in
     let stages = all_alike workers at.Idle in
     let noted = all_alike workers none in
     (λ k. record {
@@ -235,8 +237,8 @@ opening_held names balances sizes requests workers long few =
     let none : List Applied = [] in
     record {
       few = few;
-      stripes = length-map-range_with_len (opening_stripe balances (length names)) 0 stripe_count;
-      owners = length-replicate {A = Option ℕ} stripe_count None;
+      stripes = length-map-range_with_len (opening_stripe balances (length names)) 0 STRIPES;
+      owners = length-replicate {A = Option ℕ} STRIPES None;
       noted = length-replicate workers none ∙ sym (length-replicate workers at.Idle);
       counted = sym (ap (λ (f : ℕ → List Applied). noted_count f (length s.stages)) (all_alike workers none)
           ∙ nothing_noted (length s.stages));
@@ -250,6 +252,3 @@ opening_held names balances sizes requests workers long few =
             (idle_not_ticked index tick (sym (ap (λ (f : ℕ → Stage). f v) (all_alike workers at.Idle)) ∙ stage));
       };
     }
-  where
-    idle_not_ticked : (i n : ℕ) → at.Idle ≡ at.Ticked i n → ⊥
-    idle_not_ticked i n e = cc

@@ -4,7 +4,7 @@ use Rattle.std.proofs.Common.{count_by, refl, sym, subst, ap, ◌∙◌, ◌⊎�
 use Rattle.std.specs.Prelude.{IsPermutation}
 use Rattle.std.specs.List.{AllByRecursion, list_any}
 use Rattle.std.proofs.lemmas.Bool.{cases_Bool, cases_lt, and_left, eqb-true}
-use Rattle.std.proofs.lemmas.List.{map-append}
+use Rattle.std.proofs.lemmas.List.{append-nil, map-append}
 use Rattle.eve_smallbank.specs.Access.{Executed, bank_of, Fits}
 use Rattle.eve_smallbank.specs.Chain.{Table, table_after, values_of, visible_at}
 use Rattle.eve_smallbank.specs.Conflict.{entry_precedes, precedes, AgreesWithConflicts, IsReordering}
@@ -18,10 +18,12 @@ use Rattle.eve_stamps_schedule.specs.declared.stage.Stage.{Stage}
 use Rattle.eve_stamps_schedule.specs.declared.stage.Stage.TheVariants as at
 use Rattle.eve_stamps.specs.Opening.{stripe_of}
 use Rattle.eve_stamps_schedule.specs.Before.{EachBefore}
-use Rattle.eve_stamps_schedule.specs.World.{Plan, World, planned_request, executed_record, noted_count, records_below}
+use Rattle.eve_stamps_schedule.specs.World.{Plan, World, planned_request, executed_record, noted_count, pending}
+use Rattle.eve_stamps_schedule.specs.World.{records_at, records_below, noted_below}
 use Rattle.eve_stamps_schedule.specs.Events.{needs_at}
 use Rattle.eve_stamps_schedule.specs.Serial.{IsReachedWorld, executed_so_far, IsSerialWorld, order_of, is_done}
 use Rattle.eve_stamps_schedule.specs.Serial.{IsComplete}
+use Rattle.eve_stamps_schedule.proofs.Changes.{below_itself}
 use Rattle.eve_stamps_schedule.proofs.Holding.{flag, held, is_busy, has_index, Share, Bound, IsMade, executed, Holds}
 use Rattle.eve_stamps_schedule.proofs.Holding.{IsKept}
 use Rattle.eve_stamps_schedule.proofs.Sharing.{in_map, needed_by, stripe_below}
@@ -59,9 +61,6 @@ above_before p table x y (z ∷ xs) follows (first i) = stands_above_head table 
     (executed p xs) follows (in_map (executed_record p) i)
 above_before p table x y (z ∷ xs) follows (later before) = above_before p (table_after table z.entries) x y xs follows.1
     before
-
-below_itself : {m n : ℕ} → m ≡ n → m < n → ⊥
-below_itself e h = omega arith
 
 both_below : {m n : ℕ} → m < n → n < m → ⊥
 both_below h k = omega arith
@@ -182,12 +181,34 @@ no_less stages i (suc n) h =
     let before : held is_busy stages n ≡ 0 = omega (arith, h) in
     omega (arith, no_less stages i n before, idle_has_none i (stages n) here)
 
+idle_done : (p : Plan) (w : World) → IsKept p w → is_done p w ≡ true → held is_busy w.stages p.workers ≡ 0
+idle_done p w kept done =
+    let all : noted_count w.noted p.workers ≡ length p.requests = eqb-true (noted_count w.noted p.workers)
+    (length p.requests) done in
+    omega (arith, all, kept.counts.claimed, kept.counts.within)
+
+idle_waits_for_none : (stage : Stage) → flag (is_busy stage) ≡ 0 → pending stage ≡ []
+idle_waits_for_none at.Idle h = refl
+idle_waits_for_none (at.Claimed j) h = refl
+idle_waits_for_none (at.Ticked j n) h = refl
+idle_waits_for_none (at.Applied x) h = absurd (omega (arith, h))
+
+-- where no worker is busy, all of their records are noted
+all_noted : (w : World) (n : ℕ) → held is_busy w.stages n ≡ 0 → records_below w n ≡ noted_below w n
+all_noted w zero h = refl
+all_noted w (suc n) h =
+    let here : flag (is_busy (w.stages n)) ≡ 0 = omega (arith, h) in
+    let before : held is_busy w.stages n ≡ 0 = omega (arith, h) in
+    ap (λ xs. xs ++ records_at w n) (all_noted w n before)
+    ∙ ap (λ xs. noted_below w n ++ (w.noted n ++ xs)) (idle_waits_for_none (w.stages n) here)
+    ∙ ap (λ ys. noted_below w n ++ ys) (append-nil (w.noted n))
+
 groups_kept : (p : Plan) (w : World) → IsKept p w → is_done p w ≡ true
     → KeepsGroups p.sizes (length p.requests) (order_of w)
 groups_kept p w kept done =
     let all : noted_count w.noted p.workers ≡ length p.requests = eqb-true (noted_count w.noted p.workers)
     (length p.requests) done in
-    let idle : held is_busy w.stages p.workers ≡ 0 = omega (arith, all, kept.counts.claimed, kept.counts.within) in
+    let idle : held is_busy w.stages p.workers ≡ 0 = idle_done p w kept done in
     let claimed : w.claimed ≡ length p.requests = omega (arith, all, kept.counts.claimed, kept.counts.within) in
     keeps p.sizes (length p.requests) (order_of w)
     (λ i.
@@ -212,6 +233,7 @@ gathered p w reached = (reached_kept p w reached).gathered
 
 pub complete : (p : Plan) (w : World) → IsReachedWorld p w → IsTrue (is_done p w) → IsComplete p w
 complete p w reached done = record {
-  noted = gathered p w reached;
+  noted = subst (λ xs. IsPermutation xs w.applied)
+      (all_noted w p.workers (idle_done p w (reached_kept p w reached) done)) (gathered p w reached);
   groups = groups_kept p w (reached_kept p w reached) done;
 }

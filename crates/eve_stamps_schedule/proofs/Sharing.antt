@@ -12,7 +12,8 @@ use Rattle.eve_smallbank.proofs.Members.{In, here, there}
 use Rattle.eve_smallbank.proofs.Fitting.{always_fits}
 use Rattle.eve_smallbank.proofs.Records.{touches_rows}
 use Rattle.eve_stamps.specs.Applied.{Applied}
-use Rattle.eve_stamps.specs.Opening.{stripe_count, stripe_of}
+use Rattle.eve_stamps.specs.declared.limits.TheConstants.{STRIPES}
+use Rattle.eve_stamps.specs.Opening.{stripe_of}
 use Rattle.eve_stamps_schedule.specs.Stripes.{needs}
 use Rattle.eve_stamps_schedule.specs.World.{Plan, executed_record}
 use Rattle.eve_stamps_schedule.specs.Events.{needs_at}
@@ -43,16 +44,16 @@ pub needed_by : (p : Plan) (x : Applied) → IsMade p x → (e : Entry) → In e
 needed_by p x made e i = needed p.names made.0 (executed_record p x).request e
     (subst (λ (y : Executed). In e y.entries) made.1 i)
 
-pub stripe_below : (row : ℕ) → stripe_of row < stripe_count
+pub stripe_below : (row : ℕ) → stripe_of row < STRIPES
 stripe_below row = omega arith
 
 -- a request needs stripes that are there
-pub needs_small : (names : List (List ℕ)) (request : Request) (s : ℕ) → needs names request s ≡ true → s < stripe_count
+pub needs_small : (names : List (List ℕ)) (request : Request) (s : ℕ) → needs names request s ≡ true → s < STRIPES
 needs_small names request s need = by (rows_in (touched_of names request)) need
   where
-    by : (rows : RowKinds) → list_any (λ r. stripe_of r.0 == s) rows ≡ true → s < stripe_count
+    by : (rows : RowKinds) → list_any (λ r. stripe_of r.0 == s) rows ≡ true → s < STRIPES
     by [] need = absurd (false≢true need)
     by (r ∷ rows) need = elim (or_cases (stripe_of r.0 == s) (list_any (λ q. stripe_of q.0 == s) rows) need) [
-      | inl first ↦ subst (λ k. k < stripe_count) (eqb-true (stripe_of r.0) s first) (stripe_below r.0)
+      | inl first ↦ subst (λ k. k < STRIPES) (eqb-true (stripe_of r.0) s first) (stripe_below r.0)
       | inr rest ↦ by rows rest
     ]

@@ -12,7 +12,8 @@ use Rattle.eve_smallbank.specs.Chain.{Table, table_after, visible_at, table_afte
 use Rattle.eve_smallbank.specs.Conflict.{IsReordering}
 use Rattle.eve_stamps.specs.Applied.{Applied}
 use Rattle.eve_stamps.specs.Stripes.{Stripe, lies_in, table_in, is_above}
-use Rattle.eve_stamps.specs.Opening.{stripe_count, stripe_of}
+use Rattle.eve_stamps.specs.declared.limits.TheConstants.{STRIPES}
+use Rattle.eve_stamps.specs.Opening.{stripe_of}
 use Rattle.eve_stamps_schedule.specs.declared.event.Event.{Event}
 use Rattle.eve_stamps_schedule.specs.declared.event.Event.TheVariants.{Claim, LockStripe, Tick, Apply, Unlock, Note}
 use Rattle.eve_stamps_schedule.specs.declared.stage.Stage.{Stage}
@@ -140,7 +141,7 @@ timely_stage counter more v x owner stages greatest there le new old = record {
   ];
 }
 
-idle_not_ticked : (i n : ℕ) → at.Idle ≡ at.Ticked i n → ⊥
+pub idle_not_ticked : (i n : ℕ) → at.Idle ≡ at.Ticked i n → ⊥
 idle_not_ticked i n e = cc
 
 claimed_not_ticked : (j i n : ℕ) → at.Claimed j ≡ at.Ticked i n → ⊥
@@ -276,7 +277,7 @@ owner_held : (s : Schedule) (count k : ℕ) (owner : Option ℕ) (event : Event)
     → k < length s.owners
     → allows s event ≡ true
     → world_of (with_lock s k owner) ≡ happens (plan_of s) (world_of s) event
-    → ((i : ℕ) → i < stripe_count → IsTimely s.counter owner s.stages (stripe_at s.stripes i).greatest)
+    → ((i : ℕ) → i < STRIPES → IsTimely s.counter owner s.stages (stripe_at s.stripes i).greatest)
     → IsHeldSchedule (with_lock s k owner) count
 owner_held s count k owner event is there allowed world timely = record {
   few = is.few;
@@ -427,7 +428,7 @@ pub above_owned : (s : Schedule) (count v i n : ℕ) → IsHeldSchedule s count 
     ≡ at.Ticked i n → (k : ℕ)
     → needs s.names (planned_request (plan_of s) i) k ≡ true → is_above n (stripe_at s.stripes k).greatest ≡ true
 above_owned s count v i n is there stage k need =
-    let small : k < stripe_count = needs_small s.names (planned_request (plan_of s) i) k need in
+    let small : k < STRIPES = needs_small s.names (planned_request (plan_of s) i) k need in
     (is.timely k small).owned v i n stage ((tick_ready s count v i n is there stage).2 k small need)
 
 -- no row is at the greatest version: a request raises a version by 1 at most, and there are few requests

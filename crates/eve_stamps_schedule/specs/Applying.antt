@@ -3,13 +3,14 @@ use Rattle.std.specs.Prelude.{◌≡◌, ℕ, ◌<◌, ◌*◌, ◌==◌, nat_lt
 use Rattle.eve_smallbank.specs.Chain.{Table}
 use Rattle.eve_grammar.specs.Limits.{version_limit}
 use Rattle.eve_stamps.specs.Stripes.{Stripe, has_row}
-use Rattle.eve_stamps.specs.Opening.{stripe_count, stripe_of}
+use Rattle.eve_stamps.specs.declared.limits.TheConstants.{STRIPES}
+use Rattle.eve_stamps.specs.Opening.{stripe_of}
 use Rattle.eve_stamps_schedule.specs.Schedule.{stripe_at}
 
 -- each stripe has the rows of its customers, of whom there are so many
 abbrev pub HaveTheirRows : ℕ → List Stripe → Type 0
 HaveTheirRows customers stripes =
-    (i row : ℕ) → i < stripe_count → has_row (stripe_at stripes i) row
+    (i row : ℕ) → i < STRIPES → has_row (stripe_at stripes i) row
     ≡ ((stripe_of row == i) && nat_lt row (2 * customers))
 
 -- no row is at the greatest version

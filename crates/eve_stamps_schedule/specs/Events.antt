@@ -9,7 +9,7 @@ use Rattle.eve_stamps_schedule.specs.declared.event.Event.{Event}
 use Rattle.eve_stamps_schedule.specs.declared.event.Event.TheVariants.{Claim, LockStripe, Tick, Apply, Unlock, Note}
 use Rattle.eve_stamps_schedule.specs.declared.stage.Stage.{Stage}
 use Rattle.eve_stamps_schedule.specs.declared.stage.Stage.TheVariants as at
-use Rattle.eve_stamps.specs.Opening.{stripe_count}
+use Rattle.eve_stamps.specs.declared.limits.TheConstants.{STRIPES}
 use Rattle.eve_stamps_schedule.specs.Stripes.{needs, least_from, greatest_below}
 use Rattle.eve_stamps_schedule.specs.World.{Plan, World, planned_request, noted_count}
 
@@ -41,11 +41,11 @@ needs_at p index = needs p.names (planned_request p index)
 
 -- the least stripe that the request needs and the worker doesn't own
 abbrev pub next_stripe : Plan → World → ℕ → ℕ → Option ℕ
-next_stripe p w worker index = least_from 0 stripe_count (λ s. needs_at p index s && not (is_owner worker (w.owners s)))
+next_stripe p w worker index = least_from 0 STRIPES (λ s. needs_at p index s && not (is_owner worker (w.owners s)))
 
 -- the greatest stripe that the worker owns
 abbrev pub last_stripe : World → ℕ → Option ℕ
-last_stripe w worker = greatest_below stripe_count (λ s. is_owner worker (w.owners s))
+last_stripe w worker = greatest_below STRIPES (λ s. is_owner worker (w.owners s))
 
 -- there is such a stripe, and nobody owns it
 abbrev pub is_free : World → Option ℕ → Bool

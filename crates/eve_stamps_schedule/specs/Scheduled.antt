@@ -1,8 +1,7 @@
 -- How a schedule is held.
 use Rattle.std.specs.Prelude.{◌≡◌, ℕ, ◌<◌, true, List, map, length, slice_index_or, Option, None}
-use Rattle.eve_stamps.specs.declared.limits.TheConstants.{MOST_PLACES}
+use Rattle.eve_stamps.specs.declared.limits.TheConstants.{MOST_PLACES, STRIPES}
 use Rattle.eve_stamps.specs.Stripes.{is_above}
-use Rattle.eve_stamps.specs.Opening.{stripe_count}
 use Rattle.eve_write.specs.Data.{batch}
 use Rattle.eve_stamps_schedule.specs.declared.schedule.Schedule.TheInside.{Inside}
 use Rattle.eve_stamps_schedule.specs.declared.stage.Stage.{Stage}
@@ -37,12 +36,12 @@ pub record IsTimely (count : ℕ) (owner : Option ℕ) (stages : List Stage) (gr
 -- so many records are noted, and the world is reached
 pub record IsHeldSchedule (s : Schedule) (count : ℕ) : Type 0 where
   pub few : length s.requests < MOST_PLACES
-  pub stripes : length s.stripes ≡ stripe_count
-  pub owners : length s.owners ≡ stripe_count
+  pub stripes : length s.stripes ≡ STRIPES
+  pub owners : length s.owners ≡ STRIPES
   pub noted : length s.noted ≡ length s.stages
   pub counted : count ≡ noted_count (world_of s).noted (length s.stages)
   pub reached : IsReachedWorld (plan_of s) (world_of s)
   pub opened : (row : ℕ) → (base_of s.stripes row).version ≡ 0
   pub rows : HaveTheirRows (length s.names) s.stripes
-  pub timely : (i : ℕ) → i < stripe_count → IsTimely s.counter (slice_index_or s.owners i None) s.stages
+  pub timely : (i : ℕ) → i < STRIPES → IsTimely s.counter (slice_index_or s.owners i None) s.stages
       (stripe_at s.stripes i).greatest

@@ -8,7 +8,7 @@ use Rattle.eve_grammar.specs.Certificate.{KeepsGroups}
 use Rattle.eve_stamps.specs.Applied.{Applied}
 use Rattle.eve_stamps_schedule.specs.declared.event.Event.{Event}
 use Rattle.eve_stamps_schedule.specs.Before.{EachBefore}
-use Rattle.eve_stamps_schedule.specs.World.{Plan, World, first_world, executed_record, noted_count, records_below}
+use Rattle.eve_stamps_schedule.specs.World.{Plan, World, first_world, executed_record, noted_count, noted_below}
 use Rattle.eve_stamps_schedule.specs.Events.{are_allowed, world_after}
 
 -- the world comes of events of which each was allowed
@@ -45,5 +45,5 @@ is_done p w = noted_count w.noted p.workers == length p.requests
 
 -- Every request is noted: the noted records are the applied ones, and the order keeps the parallelBatches.
 pub record IsComplete (p : Plan) (w : World) : Type 0 where
-  pub noted : IsPermutation (records_below w p.workers) w.applied
+  pub noted : IsPermutation (noted_below w p.workers) w.applied
   pub groups : KeepsGroups p.sizes (length p.requests) (order_of w)

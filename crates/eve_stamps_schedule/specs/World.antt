@@ -66,3 +66,8 @@ records_at w v = w.noted v ++ pending (w.stages v)
 abbrev pub records_below : World → ℕ → List Applied
 records_below w zero = []
 records_below w (suc n) = records_below w n ++ records_at w n
+
+-- those of them that are noted
+abbrev pub noted_below : World → ℕ → List Applied
+noted_below w zero = []
+noted_below w (suc n) = noted_below w n ++ w.noted n

@@ -9,7 +9,7 @@ ghost use Rattle.eve_stamps.specs.Stripes.{is_above, rows_now, stripe_with};
 ghost use Rattle.eve_stamps.specs.Stamping.{rows_in_two, entries_within, entries_outside};
 ghost use Rattle.eve_stamps.specs.Stamping.{refusal, refusal_of_two, IsRefusedFor};
 ghost use Rattle.eve_smallbank.specs.Touch.{touched_of, rows_in};
-ghost use Rattle.eve_stamps.specs.Opening.{stripe_count};
+ghost use Rattle.eve_stamps.specs.declared.limits.TheConstants.{STRIPES};
 ghost use Rattle.eve_stamps_schedule.specs.Stripes.{needs};
 ghost use Rattle.eve_stamps_schedule.specs.Schedule.{stripe_at, table_of_stripes};
 ghost use Rattle.eve_stamps_schedule.specs.Applying.{HaveTheirRows, AreFresh, IsKeptAt};
@@ -20,15 +20,15 @@ use eve_stamps::{
     AccessRecord, Span, Stamp, StampFault, Stripe, apply, apply_two, span_of, untouched,
 };
 
-/// The record of the request, applied to the stripes that it needs. They have had no tick above this one, and no row is
-/// at the greatest version. For lack of memory it is not applied, and the stripes are as they were.
+/// The record of the request, applied to the stripes that it needs. The tick is above all that these have had, and no
+/// row is at the greatest version. For lack of memory it is not applied, and the stripes are as they were.
 pub fn applied_on(
     stripes: &mut [Stripe],
     names: &Names,
     request: &Request,
     stamp: Stamp,
 ) -> Result<AccessRecord, StampFault>
-    requires stripes { length stripes.old ≡ stripe_count }
+    requires stripes { length stripes.old ≡ STRIPES }
     requires rows { HaveTheirRows (length names.now.items) stripes.old }
     requires above { (i : ℕ) → needs names.now.items (plain request.now) i ≡ true
         → is_above stamp.tick (stripe_at stripes.old i).greatest ≡ true }

@@ -18,4 +18,3 @@ mod stripes;
 pub use event::Event;
 pub use fault::StepFault;
 pub use schedule::Schedule;
-pub use stage::Stage;

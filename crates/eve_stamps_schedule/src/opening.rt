@@ -2,9 +2,10 @@
 
 ghost use Rattle.std.specs.Prelude.{◌≡◌, ◌*◌, ◌≤◌, IfOk, length, map, replicate, [], None};
 ghost use Rattle.std.specs.List.{range_with_len};
-ghost use Rattle.eve_stamps.specs.Opening.{rows_of_stripe, stripe_count};
+ghost use Rattle.eve_stamps.specs.declared.limits.TheConstants.{STRIPES};
+ghost use Rattle.eve_stamps.specs.Opening.{rows_of_stripe};
 
-use crate::Stage;
+use crate::stage::Stage;
 use eve_accounts::{Balances, MOST_NAMES};
 use eve_stamps::{AccessRecord, STRIPES, Stripe, opening_stripe};
 use std::alloc::{AllocError, Global};
@@ -19,7 +20,7 @@ pub fn opening_stripes(
     requires rows { length balances.now ≡ 2 * customers }
     ensures { IfOk result (λ stripes. stripes.items
         ≡ map (λ i. record { base = rows_of_stripe balances.now i customers; journal = []; greatest = None })
-        (range_with_len 0 stripe_count)) }
+        (range_with_len 0 STRIPES)) }
 {
     let mut stripes = Vec::with_capacity(alloc, STRIPES as usize)?;
     for stripe in 0..STRIPES {
@@ -41,7 +42,7 @@ pub fn no_records(alloc: Global, workers: u8) -> Result<Vec<Vec<AccessRecord>>, 
 
 /// For each stripe no owner.
 pub fn no_owners(alloc: Global) -> Result<Vec<Option<u8>>, AllocError>
-    ensures { IfOk result (λ owners. owners.items ≡ replicate stripe_count None) }
+    ensures { IfOk result (λ owners. owners.items ≡ replicate STRIPES None) }
 {
     vec![in alloc; None; STRIPES as usize]
 }

@@ -8,7 +8,8 @@ ghost use Rattle.eve_stamps_schedule.specs.Serial.{IsComplete};
 ghost use Rattle.eve_stamps_schedule.specs.Schedule.{opening_plan, plan_of, world_of, Steps};
 
 use crate::opening::{all_idle, no_owners, no_records, opening_stripes};
-use crate::{Event, Stage, StepFault};
+use crate::stage::Stage;
+use crate::{Event, StepFault};
 use eve_accounts::{Balances, Names};
 use eve_stamps::{AccessRecord, MOST_PLACES, Stripe};
 use eve_write::BatchData;
@@ -78,8 +79,9 @@ impl<'s> Schedule<'s> {
 
     /// Takes a step.
     ///
-    /// A claim looks through the sizes of the parallelBatches; every other step costs the same whatever the batch, but
-    /// for the search of a row in its stripe. After a refusal nothing has changed, and the step can be taken again.
+    /// A claim looks through the sizes of the parallelBatches; an Apply searches rows in their stripes and goes back
+    /// over the records that others applied since its tick; every other step costs the same whatever the batch. After a
+    /// refusal nothing has changed, and the step can be taken again.
     ///
     /// docs/MODEL.md, "Schedule".
     pub fn step(&mut self, event: Event) -> Result<(), StepFault>

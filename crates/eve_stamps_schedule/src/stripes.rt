@@ -1,9 +1,10 @@
 //! Who owns which stripe, and which one is next.
 
-ghost use Rattle.std.specs.Prelude.{◌≡◌, ◌<◌, ℕ, List, ◌&&◌, not, length, slice_index_or, Some, None};
+ghost use Rattle.std.specs.Prelude.{◌≡◌, ◌<◌, ℕ, List, ◌&&◌, not, length, slice_index_or, None};
 ghost use Rattle.eve_smallbank.specs.SmallBank.{Request};
 ghost use Rattle.eve_smallbank.specs.Touch.{touched_of, rows_in};
-ghost use Rattle.eve_stamps.specs.Opening.{stripe_count, touches};
+ghost use Rattle.eve_stamps.specs.declared.limits.TheConstants.{STRIPES};
+ghost use Rattle.eve_stamps.specs.Opening.{touches};
 ghost use Rattle.eve_stamps_schedule.specs.Stripes.{least_from, greatest_below};
 ghost use Rattle.eve_stamps_schedule.specs.Events.{is_owner};
 
@@ -17,9 +18,9 @@ pub fn next_stripe(
     rows: &UpToThree<(Row, Kind)>,
     worker: u8,
 ) -> Option<usize>
-    requires owners { length owners.now ≡ stripe_count }
+    requires owners { length owners.now ≡ STRIPES }
     ensures { (names : List (List ℕ)) (request : Request) → rows.now ≡ rows_in (touched_of names request)
-        → result ≡ least_from 0 stripe_count
+        → result ≡ least_from 0 STRIPES
         (λ s. touches rows.now s && not (is_owner worker (slice_index_or owners.now s None))) }
 {
     if rows.is_empty() {
@@ -37,8 +38,8 @@ pub fn next_stripe(
 
 /// The greatest stripe that the worker owns.
 pub fn last_stripe(owners: &[Option<u8>], worker: u8) -> Option<usize>
-    requires owners { length owners.now ≡ stripe_count }
-    ensures { result ≡ greatest_below stripe_count (λ s. is_owner worker (slice_index_or owners.now s None)) }
+    requires owners { length owners.now ≡ STRIPES }
+    ensures { result ≡ greatest_below STRIPES (λ s. is_owner worker (slice_index_or owners.now s None)) }
 {
     for stripe in (0..owners.len()).rev() {
         if is_owner(owners, stripe, worker) {

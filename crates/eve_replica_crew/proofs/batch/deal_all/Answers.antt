@@ -7,10 +7,10 @@ use Rattle.eve_replica_crew.proofs.batch.deal_all.Goals as goal
 pub deal-requires-clause-seats : goal.deal-requires-clause-seats
 deal-requires-clause-seats c =
     seats_seen c.args.rooms.now c.pop.new.self.items c.in-Some.seating c.index-rooms-place.result c.len-place.result
-    c.stage_of-stage.result.recorder.now c.stage_of-stage.result.claims.now
+    c.shared_of-shared.result.recorder.now c.shared_of-shared.result.claims.now
     (subst (AreSeatingsOf c.args.rooms.now) c.in-Some.ensures.items c.loop-seating.invariant.0)
-    (grind (arith, common_steps)) c.index-rooms-place.is c.stage_of-stage.ensures.recorder
-    c.stage_of-stage.ensures.claims
+    (grind (arith, common_steps)) c.index-rooms-place.is c.shared_of-shared.ensures.recorder
+    c.shared_of-shared.ensures.claims
 
 pub loop-seating-preserved : goal.loop-seating-preserved
 loop-seating-preserved c = (

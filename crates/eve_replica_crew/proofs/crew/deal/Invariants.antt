@@ -4,7 +4,7 @@ use Rattle.eve_replica_crew.proofs.crew.deal.Given as goal
 
 abbrev pub invariant-loop-left : goal.invariant-loop-left
 invariant-loop-left l =
-    AreSeatsAt l.stage.recorder.now.recorder l.stage.claims.now l.left l.seating × (l.left ≤ l.crew)
+    AreSeatsAt l.shared.recorder.now.recorder l.shared.claims.now l.left l.seating × (l.left ≤ l.crew)
     × (vec_len l.hands ≡ vec_len l.fn.hands)
 
 abbrev pub decreases-loop-left : goal.decreases-loop-left

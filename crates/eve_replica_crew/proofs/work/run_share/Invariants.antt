@@ -4,5 +4,5 @@ use Rattle.eve_replica_crew.proofs.work.run_share.Given as goal
 
 abbrev pub invariant-loop-turn : goal.invariant-loop-turn
 invariant-loop-turn g l =
-    IsSeatedAt l.stage.recorder.now l.ticks l.worker × (l.claims.tickets ≡ l.stage.claims.now)
+    IsSeatedAt l.shared.recorder.now l.ticks l.worker × (l.claims.tickets ≡ l.shared.claims.now)
     × (length l.worker.seat.noted ≤ l.turn)

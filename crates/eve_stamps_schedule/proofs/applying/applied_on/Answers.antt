@@ -1,5 +1,6 @@
 use Rattle.std.proofs.Common.{◌≡◌, ℕ, ◌<◌, List, [], length, set, sym, subst, ap, ◌∙◌, arith}
 use Rattle.std.specs.List.{AllByRecursion}
+use Rattle.std.proofs.lemmas.Result.{IfOk-weaker}
 use Rattle.eve_smallbank.specs.declared.entry.Entry.{Entry}
 use Rattle.eve_smallbank.specs.declared.request.Reply.TheVariants.{Aborted}
 use Rattle.eve_smallbank.specs.declared.rows.Touched.{Touched}
@@ -21,7 +22,7 @@ use Rattle.eve_stamps_schedule.proofs.Spans.{AreEnds}
 use Rattle.eve_stamps_schedule.proofs.Reaches.{some_touched}
 use Rattle.eve_stamps_schedule.proofs.Applications.{one_table, one_kept, one_made, one_own, one_memory, IsParted}
 use Rattle.eve_stamps_schedule.proofs.Applications.{both_noted, two_table, two_kept, two_made, two_parted, two_memory}
-use Rattle.eve_stamps_schedule.proofs.Applications.{if_ok, if_ok_both}
+use Rattle.eve_stamps_schedule.proofs.Applications.{if_ok_both}
 use Rattle.eve_stamps_schedule.proofs.applying.applied_on.Goals as goal
 
 pub returns-in-Refused-clause-exact : goal.returns-in-Refused-clause-exact
@@ -56,10 +57,11 @@ returns-then-span-clause-exact c =
     let a : ℕ = c.span_of-span.result.first in
     let noted =
     λ (x : Executed). noted_of c.args.stamp.worker c.args.stamp.place c.args.stamp.index c.args.stamp.tick x in
-    if_ok (λ r. r ≡ noted (executed_on names (rows_now (stripe_at c.args.stripes.now a)) request))
-    (λ r. r ≡ noted (executed_on names (table_of_stripes c.args.stripes.now) request)) c.on_one.result
-    (c.on_one.ensures.exact names c.touched-reached.ensures)
+    IfOk-weaker c.on_one.result
+    (λ r. r ≡ noted (executed_on names (rows_now (stripe_at c.args.stripes.now a)) request))
+    (λ r. r ≡ noted (executed_on names (table_of_stripes c.args.stripes.now) request))
     (λ r e. e ∙ ap noted (one_made names c.args.stripes.now request a (one_end c)))
+    (c.on_one.ensures.exact names c.touched-reached.ensures)
 
 pub returns-then-span-clause-table : goal.returns-then-span-clause-table
 returns-then-span-clause-table c =
@@ -84,13 +86,14 @@ returns-then-span-clause-stripes c =
     let a : ℕ = c.span_of-span.result.first in
     let here : List Stripe = c.args.stripes.now in
     let within : a < length here = omega arith in
-    if_ok (λ r. c.on_one.new.stripes ≡ set here a (stripe_with (stripe_at here a) c.args.stamp.tick r.entries))
+    IfOk-weaker c.on_one.result
+    (λ r. c.on_one.new.stripes ≡ set here a (stripe_with (stripe_at here a) c.args.stamp.tick r.entries))
     (λ r. (i : ℕ) → IsKeptAt c.args.stamp.tick (needs names request i) (stripe_at here i)
     (stripe_at c.on_one.new.stripes i))
-    c.on_one.result c.on_one.ensures.journal
     (λ r j i. subst
     (λ ss. IsKeptAt c.args.stamp.tick (needs names request i) (stripe_at here i) (stripe_at ss i)) (sym j)
     (one_kept here a c.args.stamp.tick r.entries (needs names request) i within (one_end c)))
+    c.on_one.ensures.journal
 
 pub returns-then-span-clause-memory : goal.returns-then-span-clause-memory
 returns-then-span-clause-memory c =
@@ -126,11 +129,12 @@ returns-clause-exact c =
     let less : a < b = omega arith in
     let noted =
     λ (x : Executed). noted_of c.args.stamp.worker c.args.stamp.place c.args.stamp.index c.args.stamp.tick x in
-    if_ok (λ r. r ≡ noted (executed_on names (rows_in_two (stripe_at here a) (stripe_at here b)) request))
-    (λ r. r ≡ noted (executed_on names (table_of_stripes here) request)) c.on_two.result
-    (c.on_two.ensures.exact names c.touched-reached.ensures)
+    IfOk-weaker c.on_two.result
+    (λ r. r ≡ noted (executed_on names (rows_in_two (stripe_at here a) (stripe_at here b)) request))
+    (λ r. r ≡ noted (executed_on names (table_of_stripes here) request))
     (λ r e. e ∙ ap noted (two_made names here request a b c.requires.rows less c.span_of-span.ensures.range
     (two_ends c)))
+    (c.on_two.ensures.exact names c.touched-reached.ensures)
 
 pub returns-clause-table : goal.returns-clause-table
 returns-clause-table c =
@@ -160,13 +164,13 @@ returns-clause-stripes c =
     let here : List Stripe = c.args.stripes.now in
     let less : a < b = omega arith in
     let within : b < length here = omega arith in
-    if_ok (λ r. c.on_two.new.stripes ≡ both_noted here a b c.args.stamp.tick r.entries)
+    IfOk-weaker c.on_two.result (λ r. c.on_two.new.stripes ≡ both_noted here a b c.args.stamp.tick r.entries)
     (λ r. (i : ℕ) → IsKeptAt c.args.stamp.tick (needs names request i) (stripe_at here i)
     (stripe_at c.on_two.new.stripes i))
-    c.on_two.result c.on_two.ensures.journals
     (λ r j i. subst
     (λ ss. IsKeptAt c.args.stamp.tick (needs names request i) (stripe_at here i) (stripe_at ss i)) (sym j)
     (two_kept here a b c.args.stamp.tick r.entries (needs names request) i less within (two_ends c)))
+    c.on_two.ensures.journals
 
 pub returns-clause-memory : goal.returns-clause-memory
 returns-clause-memory c =

@@ -1,8 +1,9 @@
 use Rattle.std.proofs.Common.{sym, ◌≡◌, ◌<◌, IfSome, subst}
 use Rattle.std.specs.Prelude.{List, Option}
+use Rattle.std.proofs.lemmas.Option.{IfSome_then}
 use Rattle.eve_recorder.specs.Seen.{recorder_id, Noter, Places, IsNoterOf, AreNotersSeated}
 use Rattle.eve_recorder.specs.Rows.{row_of}
-use Rattle.eve_recorder.proofs.SeatTable.{own_of, seated_without, each_some}
+use Rattle.eve_recorder.proofs.SeatTable.{own_of, seated_without}
 use Rattle.eve_recorder.proofs.seats.Seats.worker.Goals as goal
 
 pub invariant_of-self : goal.invariant_of-self
@@ -15,5 +16,6 @@ pub returns-clause-own : goal.returns-clause-own
 returns-clause-own c = let s = c.self.inside in let here = recorder_id s.main.table_id s.workers in
     subst (λ (p : Places). IfSome c.take.result (λ s. (s.recorder ≡ p.recorder) × (s.worker ≡ c.args.w)
     × (c.args.w < p.recorder.workers))) c.self.view_is
-    (each_some c.take.result (λ s h. (h.0, h.1, h.2))
-    (own_of (IsNoterOf here) (row_of s.row) c.args.w c.take.result c.self.invariant.3 c.take.ensures.out))
+    (IfSome_then c.take.result
+    (own_of (IsNoterOf here) (row_of s.row) c.args.w c.take.result c.self.invariant.3 c.take.ensures.out)
+    (λ s h. (h.0, h.1, h.2)))

@@ -1,7 +1,8 @@
 use Rattle.std.proofs.Common.{◌≡◌, ◌<◌, IfSome, sym, subst, List, Option}
+use Rattle.std.proofs.lemmas.Option.{IfSome_then}
 use Rattle.eve_recorder.specs.Drawing.{Drawer, Drawers, IsDrawerOf, AreDrawersSeated, source}
 use Rattle.eve_recorder.specs.Rows.{row_of}
-use Rattle.eve_recorder.proofs.SeatTable.{own_of, seated_without, each_some}
+use Rattle.eve_recorder.proofs.SeatTable.{own_of, seated_without}
 use Rattle.eve_recorder.proofs.ticket_seats.TicketSeats.seat.Goals as goal
 
 pub invariant_of-self : goal.invariant_of-self
@@ -19,7 +20,7 @@ own c = let s = c.self.inside in let t = source s.rest.table_id s.seats s.limit 
     (own_of (IsDrawerOf t) (row_of s.row) c.args.number c.take.result c.self.invariant.4 c.take.ensures.out)
 
 pub returns-clause-tickets : goal.returns-clause-tickets
-returns-clause-tickets c = each_some c.take.result (λ s h. h.0) (own c)
+returns-clause-tickets c = IfSome_then c.take.result (own c) (λ s h. h.0)
 
 pub returns-clause-number : goal.returns-clause-number
-returns-clause-number c = each_some c.take.result (λ s h. h.1) (own c)
+returns-clause-number c = IfSome_then c.take.result (own c) (λ s h. h.1)

@@ -7,7 +7,7 @@ use Rattle.eve_stamps_schedule.specs.Schedule.{Schedule, plan_of, world_of, allo
 use Rattle.eve_stamps_schedule.specs.Scheduled.{schedule_of}
 use Rattle.std.proofs.Common.{◌&&◌, not}
 use Rattle.std.proofs.lemmas.List.{get_or_default}
-use Rattle.eve_stamps.specs.Opening.{stripe_count}
+use Rattle.eve_stamps.specs.declared.limits.TheConstants.{STRIPES}
 use Rattle.eve_stamps_schedule.specs.Events.{is_owner, is_free, needs_at, next_stripe}
 use Rattle.eve_stamps_schedule.proofs.Changes.{least_small}
 use Rattle.eve_stamps_schedule.proofs.Stepping.{allowed_by, refused_by, lock_held, lock_world, with_lock, is_taken}
@@ -34,8 +34,8 @@ next c =
 within : (c : In-Some) → c.in-Some.stripe < length (schedule_of c.self.inside).owners
 within c =
     let s : Schedule = schedule_of c.self.inside in
-    let small : c.in-Some.stripe < 0 + stripe_count =
-    least_small 0 stripe_count
+    let small : c.in-Some.stripe < 0 + STRIPES =
+    least_small 0 STRIPES
     (λ j. needs_at (plan_of s) c.in-Claimed.index j && not (is_owner c.args.worker ((world_of s).owners j)))
     c.in-Some.stripe (next c) in
     omega (arith, c.self.invariant.owners)

@@ -6,7 +6,7 @@ use Rattle.eve_stamps_schedule.specs.Events.{happens}
 use Rattle.eve_stamps_schedule.specs.Schedule.{Schedule, plan_of, world_of, allows}
 use Rattle.eve_stamps_schedule.specs.Scheduled.{schedule_of, IsHeldSchedule}
 use Rattle.eve_stamps.specs.Applied.{Applied}
-use Rattle.eve_stamps.specs.Opening.{stripe_count}
+use Rattle.eve_stamps.specs.declared.limits.TheConstants.{STRIPES}
 use Rattle.eve_stamps_schedule.specs.Stripes.{greatest_below}
 use Rattle.eve_stamps_schedule.specs.Events.{is_owner, last_stripe}
 use Rattle.eve_stamps_schedule.proofs.Stepping.{allowed_by, note_held, note_plan, note_world, with_note, few_noted}
@@ -28,7 +28,7 @@ allowed : (c : After-append) → allows (schedule_of c.self.inside) (Note c.args
 allowed c =
     let w : ℕ = c.args.worker in
     let none : is_none (last_stripe (world_of (schedule_of c.self.inside)) w) ≡ true =
-    ap (λ (os : List (Option ℕ)). is_none (greatest_below stripe_count (λ j. is_owner w (get_or os j None))))
+    ap (λ (os : List (Option ℕ)). is_none (greatest_below STRIPES (λ j. is_owner w (get_or os j None))))
     (sym c.as_slice.ensures.value)
     ∙ ap is_none (sym c.last_stripe.ensures)
     ∙ is_nobodys c.last_stripe.result (sym c.is_some.ensures ∙ c.if-is_some.false) in

@@ -5,7 +5,7 @@ use Rattle.eve_stamps_schedule.specs.declared.stage.Stage.TheVariants as at
 use Rattle.eve_stamps_schedule.specs.Events.{happens}
 use Rattle.eve_stamps_schedule.specs.Schedule.{Schedule, plan_of, world_of, allows}
 use Rattle.eve_stamps_schedule.specs.Scheduled.{schedule_of}
-use Rattle.eve_stamps.specs.Opening.{stripe_count}
+use Rattle.eve_stamps.specs.declared.limits.TheConstants.{STRIPES}
 use Rattle.eve_stamps_schedule.specs.Stripes.{greatest_below}
 use Rattle.eve_stamps_schedule.specs.Events.{is_owner, last_stripe}
 use Rattle.eve_stamps_schedule.proofs.Changes.{greatest_small}
@@ -25,15 +25,15 @@ stage c =
 -- the stripe is the highest that it owns, and one of the sixteen
 last : (c : In-Some) → last_stripe (world_of (schedule_of c.self.inside)) c.args.worker ≡ Some c.in-Some.stripe
 last c =
-    ap (λ (os : List (Option ℕ)). greatest_below stripe_count (λ j. is_owner c.args.worker (get_or os j None)))
+    ap (λ (os : List (Option ℕ)). greatest_below STRIPES (λ j. is_owner c.args.worker (get_or os j None)))
     (sym c.as_slice.ensures.value)
     ∙ sym c.last_stripe.ensures ∙ c.in-Some.is
 
 within : (c : In-Some) → c.in-Some.stripe < length (schedule_of c.self.inside).owners
 within c =
     let s : Schedule = schedule_of c.self.inside in
-    let small : c.in-Some.stripe < stripe_count =
-    greatest_small stripe_count (λ j. is_owner c.args.worker ((world_of s).owners j)) c.in-Some.stripe (last c) in
+    let small : c.in-Some.stripe < STRIPES =
+    greatest_small STRIPES (λ j. is_owner c.args.worker ((world_of s).owners j)) c.in-Some.stripe (last c) in
     omega (arith, c.self.invariant.owners)
 
 allowed : (c : In-Some) → allows (schedule_of c.self.inside) (Unlock c.args.worker) ≡ true

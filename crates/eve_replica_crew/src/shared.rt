@@ -1,6 +1,6 @@
 //! What the workers share while a batch is run.
 
-ghost use Rattle.std.specs.Prelude.{◌≡◌, ◌<◌, IfOk, vec_len};
+ghost use Rattle.std.specs.Prelude.{◌≡◌, IfOk, vec_len};
 
 use crate::progress::Progress;
 use eve_floor::Floor;
@@ -12,7 +12,7 @@ use std::alloc::{AllocError, Global};
 /// What the workers share while a batch is run: the stripes of the replica, the batch, the recorder, the tickets by
 /// which requests are claimed, and how far they are.
 #[derive(Clone, Copy)]
-pub(crate) struct Stage<'s> {
+pub(crate) struct Shared<'s> {
     pub floor: &'s Floor<'s>,
     pub batch: &'s BatchData,
     // what each of its requests touches
