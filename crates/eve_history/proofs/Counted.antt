@@ -1,13 +1,9 @@
 -- How many of a list pass a test: where two do, they stand at two places.
-use Rattle.std.proofs.Common.{◌≡◌, ℕ, zero, suc, ◌+◌, ◌<◌, ◌≤◌, Bool, true, false, cond, List, [], ◌∷◌, Some, refl}
+use Rattle.std.proofs.Common.{◌≡◌, ℕ, zero, suc, ◌<◌, ◌≤◌, Bool, true, false, cond, List, [], ◌∷◌, Some, refl}
 use Rattle.std.proofs.Common.{ap, ◌∙◌, arith}
 use Rattle.std.specs.Prelude.{slice_get}
 use Rattle.std.specs.List.{count_by}
-use Rattle.std.proofs.lemmas.List.Sums.{sum_by-cons}
-
-pub count-cons : {A : Type 0} (p : A → Bool) (x : A) (xs : List A) → count_by p (x ∷ xs)
-    ≡ cond (p x) 1 0 + count_by p xs
-count-cons p x xs = sum_by-cons (λ y. cond (p y) 1 0) x xs
+use Rattle.eve_views.proofs.Lists.{count-cons}
 
 -- one at this place passes
 pub one_there : {A : Type 0} (p : A → Bool) (xs : List A) (i : ℕ) (x : A) → slice_get xs i ≡ Some x → p x ≡ true

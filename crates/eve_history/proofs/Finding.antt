@@ -1,7 +1,7 @@
 -- Public: other crates cite these lemmas. Batches and access records, where they are looked up.
 use Rattle.std.proofs.Common.{◌≡◌, ℕ, zero, suc, ◌+◌, ◌-◌, ◌<◌, ◌≤◌, ◌==◌, Bool, true, false, ◌&&◌, List, [], ◌∷◌, map}
 use Rattle.std.proofs.Common.{length, get_or, take, drop, slice_get, Some, None, refl, sym, ap, subst, ◌∙◌, inl, inr}
-use Rattle.std.proofs.Common.{IsTrue, arith}
+use Rattle.std.proofs.Common.{IsTrue, is_some, cond, arith}
 use Rattle.std.specs.Prelude.{slice_index_or}
 use Rattle.std.specs.List.{AllByRecursion, list_any, enumerate_from}
 use Rattle.std.proofs.lemmas.Bool.{cases_Bool, or_cases, eqb-true, eq-eqb, ne_eqb, cond-true, cond-false}
@@ -13,13 +13,13 @@ use Rattle.eve_grammar.specs.Frames.{batches_of, without_accesses}
 use Rattle.eve_grammar.specs.Spelling.{batch_text, batches_start, batches_at}
 use Rattle.eve_grammar.specs.Limits.{is_batch, HasLimits}
 use Rattle.eve_views.specs.declared.fault.Code.TheVariants as code
-use Rattle.eve_history.specs.declared.marks.Marks.{Marks}
+use Rattle.eve_history.specs.declared.marks.AccessMarks.{AccessMarks}
 use Rattle.eve_grammar.specs.Certificate.{is_certificate}
 use Rattle.eve_history.specs.Section.{Placed, SectionState, no_batch, batch_at, is_due, same_bytes, commits_first}
-use Rattle.eve_history.specs.Section.{is_right_commit}
+use Rattle.eve_history.specs.Section.{request_count, is_right_certificate, is_right_commit}
 use Rattle.eve_history.specs.SectionHistory.{access_with}
 use Rattle.eve_history.specs.Faults.{accesses_of}
-use Rattle.eve_history.specs.FirstWrong.{wrong_attempt}
+use Rattle.eve_history.specs.FirstWrong.{wrong_certificate, wrong_attempt}
 use Rattle.eve_history.specs.Marking.{AreMarked}
 use Rattle.eve_history.specs.Coming.{KeptAttempt, KeptSection, StandsAt}
 use Rattle.eve_grammar.proofs.Grouping.{all_at}
@@ -59,20 +59,35 @@ batch_fits t n b limits e = all_at is_batch t.batches (n - 1) b.1.1 limits.batch
 
 -- ---- an attempt, where its batch is found
 
-module _ (t : Trace) (s : SectionState) (a : Attempt) (b : Batch) (batch : batch_at t a.seq ≡ b) where
-  pub wrong_count : is_due t s a ≡ true → (length a.certificate ≡ length b.requests → ⊥) → Some code.Attempt
-      ≡ wrong_attempt t s a
-  wrong_count due other = rw (due, batch, ne_eqb (length a.certificate) (length b.requests) other) refl
+module _ (t : Trace) (a : Attempt) (b : Batch) (batch : batch_at t a.seq ≡ b) where
+  pub wrong_count : (length a.certificate ≡ length b.requests → ⊥) → Some code.Attempt ≡ wrong_certificate t a
+  wrong_count other = rw (batch, ne_eqb (length a.certificate) (length b.requests) other) refl
 
-  pub wrong_certificate : is_due t s a ≡ true → length a.certificate ≡ length b.requests
+  pub wrong_order : length a.certificate ≡ length b.requests
       → is_certificate b.sizes (length b.requests) a.serial a.certificate ≡ false → Some code.Certificate
-      ≡ wrong_attempt t s a
-  wrong_certificate due count wrong = rw (due, batch, eq-eqb (length a.certificate) (length b.requests) count, wrong)
-      refl
+      ≡ wrong_certificate t a
+  wrong_order count wrong = rw (batch, eq-eqb (length a.certificate) (length b.requests) count, wrong) refl
 
-  pub right_attempt : is_due t s a ≡ true → length a.certificate ≡ length b.requests
-      → is_certificate b.sizes (length b.requests) a.serial a.certificate ≡ true → None ≡ wrong_attempt t s a
-  right_attempt due count right = rw (due, batch, eq-eqb (length a.certificate) (length b.requests) count, right) refl
+  pub right_order : length a.certificate ≡ length b.requests
+      → is_certificate b.sizes (length b.requests) a.serial a.certificate ≡ true → None ≡ wrong_certificate t a
+  right_order count right = rw (batch, eq-eqb (length a.certificate) (length b.requests) count, right) refl
+
+-- of an attempt that is due nothing else is wrong
+pub wrong_if_due : (t : Trace) (s : SectionState) (a : Attempt) → is_due t s a ≡ true → wrong_certificate t a
+    ≡ wrong_attempt t s a
+wrong_if_due t s a due = rw due refl
+
+-- where nothing is wrong with it, it is right
+pub certificate_right : (t : Trace) (a : Attempt) → is_some (wrong_certificate t a) ≡ false
+    → (length a.certificate ≡ request_count t a) × (is_right_certificate t a ≡ true)
+certificate_right t a none = by (length a.certificate == request_count t a) (is_right_certificate t a) refl refl none
+  where
+    by : (many right : Bool) → (length a.certificate == request_count t a) ≡ many → is_right_certificate t a ≡ right
+        → is_some (cond many (cond right None (Some code.Certificate)) (Some code.Attempt)) ≡ false
+        → (length a.certificate ≡ request_count t a) × (is_right_certificate t a ≡ true)
+    by true true e f g = (eqb-true _ _ e, f)
+    by true false e f g = absurd cc
+    by false right e f g = absurd cc
 
 -- ---- the first open attempt
 
@@ -111,7 +126,7 @@ commit_is s k f c stands at =
 
 -- ---- an access record by its index
 
-pub found_offset : (xs : List (ℕ × Access)) (m : Marks) (i : ℕ) → AreMarked xs m
+pub found_offset : (xs : List (ℕ × Access)) (m : AccessMarks) (i : ℕ) → AreMarked xs m
     → list_any (λ y. y.index == i) (accesses_of xs) ≡ true → get_or m.offsets i 0 ≡ (access_with xs i).0
 found_offset xs m i marked some =
     let found = first xs some in
@@ -140,7 +155,7 @@ found_offset xs m i marked some =
     ]
 
 -- those of an order
-pub found_offsets : (xs : List (ℕ × Access)) (m : Marks) (order : List ℕ) → AreMarked xs m
+pub found_offsets : (xs : List (ℕ × Access)) (m : AccessMarks) (order : List ℕ) → AreMarked xs m
     → AllByRecursion (λ i. (i < 256) × IsTrue (list_any (λ y. y.index == i) (accesses_of xs))) order
     → map (λ i. get_or m.offsets i 0) order ≡ map (λ i. (access_with xs i).0) order
 found_offsets xs m [] marked there = refl

@@ -1,20 +1,24 @@
--- Where steps, access frames and votes stand in the trace's bytes.
+-- Where frames, steps, access frames and votes stand in the trace's bytes.
 use Rattle.std.proofs.Common.{◌≡◌, ℕ, zero, suc, ◌+◌, ◌<◌, ◌≤◌, ◌==◌, Bool, true, false, cond, List, [], ◌∷◌, ◌++◌}
-use Rattle.std.proofs.Common.{map, length, drop, slice_get, Option, Some, None, inl, inr, refl, sym, ap, subst, ◌∙◌}
+use Rattle.std.proofs.Common.{map, length, take, drop, slice_get, Option, Some, None, inl, inr, refl, sym, ap, subst, ◌∙◌}
 use Rattle.std.proofs.Common.{arith}
 use Rattle.std.specs.Prelude.{slice_index_or}
 use Rattle.std.specs.List.{flat_map}
 use Rattle.std.proofs.lemmas.Bool.{cases_lt}
-use Rattle.std.proofs.lemmas.List.{drop_at}
+use Rattle.std.proofs.lemmas.List.{append-nil, drop_at}
 use Rattle.std.proofs.lemmas.Option.{same_Some}
 use Rattle.eve_grammar.specs.Trace.{Access, Attempt, Rollback, Step, Attempts, Commits, RollsBack, Vote, Trace}
-use Rattle.eve_grammar.specs.Frames.{OfAttempt, OfAccess, OfRollback, OfVerifier, OfVote, without_accesses}
-use Rattle.eve_grammar.specs.Spelling.{frame_text, spelling, located, step_text}
-use Rattle.eve_grammar.specs.Spelling.{steps_at, accesses_at, verifier_start, votes_of, votes_at}
+use Rattle.eve_grammar.specs.Trace.{head_of}
+use Rattle.eve_grammar.specs.Frames.{Frame, OfAttempt, OfAccess, OfRollback, OfVerifier, OfVote, without_accesses}
+use Rattle.eve_grammar.specs.Frames.{frames_of}
+use Rattle.eve_grammar.specs.Spelling.{frame_text, frames_text, head_text, length_of, spelling, located, step_text}
+use Rattle.eve_grammar.specs.Spelling.{frames_at, steps_at, accesses_at, verifier_start, votes_of, votes_at}
 use Rattle.eve_frames.specs.Views.{attempt_in, access_in, rollback_in}
 use Rattle.eve_views.specs.Fronts.{before_verifier}
 use Rattle.eve_views.specs.Lent.{HasBytesAt}
+use Rattle.eve_grammar.proofs.HeaderParts.{length-head_text}
 use Rattle.eve_views.proofs.CutLaws.{verifier_cut}
+use Rattle.eve_views.proofs.Lists.{cut_at}
 use Rattle.eve_views.proofs.Locating.{verifier_begins}
 use Rattle.eve_history.proofs.FrameTexts.{mapped}
 use Rattle.eve_history.specs.SectionHistory.{ExecutedAttempt, SectionHistory, executed_attempt, section_history}
@@ -25,7 +29,7 @@ use Rattle.eve_history.specs.Section.{Placed}
 use Rattle.eve_history.specs.Fates.{fates_from}
 use Rattle.eve_history.proofs.FateLaws.{committed_are_picked}
 use Rattle.eve_history.proofs.Finding.{get_mapped}
-use Rattle.eve_history.proofs.Standing.{StandsIn, stands_inside, located_stands, split_at, part_stands}
+use Rattle.eve_history.proofs.Standing.{StandsIn, stands_inside, located_stands, part_stands}
 use Rattle.eve_history.proofs.Standing.{step_stands, first_stands, access_stands}
 
 bytes_at : (t : Trace) (at : ℕ) (text : List ℕ) → StandsIn (spelling t) at text → HasBytesAt t at text
@@ -36,11 +40,36 @@ bytes_at t at text stands =
           ∙ drop_at stands.front (text ++ stands.behind) at stands.offset;
     }
 
+-- ---- frames
+
+all_frames_stand : (t : Trace) → StandsIn (spelling t) 32 (frames_text (frames_of t))
+unfolding spelling
+all_frames_stand t =
+    let head = head_text (head_of t) (length_of t) in
+    record {
+      front = head;
+      behind = [];
+      is = ap (λ (b : List ℕ). head ++ b) (sym (append-nil (frames_text (frames_of t))));
+      offset = length-head_text (head_of t) (length_of t);
+    }
+
+pub frames_stand : (t : Trace) (k : ℕ) (x : ℕ × Frame) → slice_get (frames_at t) k ≡ Some x
+    → HasBytesAt t x.0 (frame_text x.1)
+unfolding frames_at
+frames_stand t k x got =
+    let xs = located frame_text 32 (frames_of t) in
+    let found = located_stands frame_text 32 (frames_of t) (take k xs) x (drop (suc k) xs) (cut_at xs k x got) in
+    bytes_at t x.0 (frame_text x.1)
+    (subst (λ (at : ℕ). StandsIn (spelling t) at (frame_text x.1)) (sym found.offset)
+    (stands_inside (all_frames_stand t) found.stands))
+
 -- ---- steps, and the access frames of attempts
 
 stands : (t : Trace) (e k : ℕ) (step : ℕ × Step) → slice_get (steps_at t e) k ≡ Some step
     → StandsIn (spelling t) step.0 (step_text step.1)
-stands t e k step got = let s = split_at (steps_at t e) k step got in step_stands t e s.0 step s.1 s.2
+stands t e k step got =
+    let xs = steps_at t e in
+    step_stands t e (take k xs) step (drop (suc k) xs) (cut_at xs k step got)
 
 pub steps_stand : (t : Trace) (e k : ℕ) (step : ℕ × Step) → slice_get (steps_at t e) k ≡ Some step
     → HasBytesAt t step.0 (step_text step.1)
@@ -71,10 +100,10 @@ pub votes_stand : (t : Trace) (v k : ℕ) (w : ℕ × Vote) → slice_get (votes
 unfolding votes_at
 votes_stand t v k w got = elim (cases_lt v (length t.verifiers)) [
   | inl lt ↦
-      let s = split_at (located (λ x. frame_text (OfVote x)) (verifier_start t v + length (frame_text (OfVerifier v)))
-      (votes_of t v)) k w got in
-      let found = located_stands (λ x. frame_text (OfVote x)) (verifier_start t v + length (frame_text (OfVerifier v)))
-      (votes_of t v) s.0 w s.1 s.2 in
+      let text : Vote → List ℕ = λ x. frame_text (OfVote x) in
+      let from = verifier_start t v + length (frame_text (OfVerifier v)) in
+      let xs = located text from (votes_of t v) in
+      let found = located_stands text from (votes_of t v) (take k xs) w (drop (suc k) xs) (cut_at xs k w got) in
       bytes_at t w.0 (frame_text (OfVote w.1))
       (subst (λ (at : ℕ). StandsIn (spelling t) at (frame_text (OfVote w.1))) (sym found.offset)
       (stands_inside (votes_text_stands t v lt) found.stands))

@@ -14,13 +14,13 @@ use Rattle.std.proofs.Math.Seq.{drop-cons}
 use Rattle.eve_grammar.specs.Trace.{Access}
 use Rattle.eve_views.specs.declared.fault.Code.{Code}
 use Rattle.eve_views.specs.declared.fault.Code.TheVariants as code
-use Rattle.eve_history.specs.declared.marks.Marks.{Marks}
+use Rattle.eve_history.specs.declared.marks.AccessMarks.{AccessMarks}
 use Rattle.eve_grammar.specs.Accesses.{is_new_access, is_right_place}
 use Rattle.eve_history.specs.Faults.{accesses_of}
 use Rattle.eve_history.specs.FirstWrong.{found_or, wrong_accesses}
 use Rattle.eve_history.specs.Marking.{AreMarked, IsMarkedIfRight, AreMarkedIfRight}
 use Rattle.eve_history.proofs.Structure.{accesses_of-append}
-use Rattle.eve_history.proofs.OrderLaws.{take_one_more}
+use Rattle.eve_views.proofs.Lists.{take_one_more}
 
 -- ---- lists
 
@@ -66,14 +66,14 @@ marked_none = record {
     none : (k : ℕ) (y : ℕ × Access) → ◌≡◌ {A = Option (ℕ × Access)} None (Some y) → ⊥
     none k y e = cc
 
-abbrev pub with_mark : Marks → ℕ × Access → Marks
+abbrev pub with_mark : AccessMarks → ℕ × Access → AccessMarks
 with_mark m x = record {
   seen = set m.seen x.1.index true;
   offsets = set m.offsets x.1.index x.0;
   places = set m.places x.1.worker (get_or m.places x.1.worker 0 + 1);
 }
 
-pub marked_one : (before : List (ℕ × Access)) (m : Marks) (x : ℕ × Access) → AreMarked before m
+pub marked_one : (before : List (ℕ × Access)) (m : AccessMarks) (x : ℕ × Access) → AreMarked before m
     → x.1.index < 256 → x.1.worker < 8 → list_any (λ y. y.index == x.1.index) (accesses_of before) ≡ false
     → AreMarked (before ++ x ∷ []) (with_mark m x)
 marked_one before m (at, x) marked index worker new = record {
@@ -171,23 +171,23 @@ new_index workers count before x worker index new =
     (and_from (ltb x.index count) _ (lt-ltb x.index count index)
     (not_from_false (list_any (λ y. y.index == x.index) before) new))
 
-pub judged_access : (workers count : ℕ) (before : List (ℕ × Access)) (x : ℕ × Access) (m : Marks)
+pub judged_access : (workers count : ℕ) (before : List (ℕ × Access)) (x : ℕ × Access) (m : AccessMarks)
     → is_new_access workers count (accesses_of before) x.1 ≡ false
     → IsMarkedIfRight workers count before x (Some code.Access) m
 judged_access workers count before x m wrong = record { answer = rw wrong refl; marked = tt }
 
-pub judged_place : (workers count : ℕ) (before : List (ℕ × Access)) (x : ℕ × Access) (m : Marks)
+pub judged_place : (workers count : ℕ) (before : List (ℕ × Access)) (x : ℕ × Access) (m : AccessMarks)
     → is_new_access workers count (accesses_of before) x.1 ≡ true → is_right_place (accesses_of before) x.1 ≡ false
     → IsMarkedIfRight workers count before x (Some code.WorkerOrder) m
 judged_place workers count before x m right wrong = record { answer = rw (right, wrong) refl; marked = tt }
 
-pub judged_right : (workers count : ℕ) (before : List (ℕ × Access)) (x : ℕ × Access) (m : Marks)
+pub judged_right : (workers count : ℕ) (before : List (ℕ × Access)) (x : ℕ × Access) (m : AccessMarks)
     → is_new_access workers count (accesses_of before) x.1 ≡ true → is_right_place (accesses_of before) x.1 ≡ true
     → AreMarked (before ++ x ∷ []) m → IsMarkedIfRight workers count before x None m
 judged_right workers count before x m right place marked = record { answer = rw (right, place) refl; marked = marked }
 
 -- the answers, where the worker and the index stand in variables
-module _ (workers count : ℕ) (before : List (ℕ × Access)) (x : ℕ × Access) (m : Marks) (worker index : ℕ)
+module _ (workers count : ℕ) (before : List (ℕ × Access)) (x : ℕ × Access) (m : AccessMarks) (worker index : ℕ)
     (worker_is : worker ≡ x.1.worker) (index_is : index ≡ x.1.index) (marked : AreMarked before m) where
   abbrev others : List Access
   others = accesses_of before
@@ -261,11 +261,11 @@ module _ (workers count : ℕ) (before : List (ℕ × Access)) (x : ℕ × Acces
 -- ---- record by record
 
 -- so many are marked, and nothing was wrong with them
-pub record Marking (workers count : ℕ) (xs : List (ℕ × Access)) (i : ℕ) (m : Marks) : Type 0 where
+pub record Marking (workers count : ℕ) (xs : List (ℕ × Access)) (i : ℕ) (m : AccessMarks) : Type 0 where
   pub marked : AreMarked (take i xs) m
   pub rest : wrong_accesses workers count [] xs ≡ wrong_accesses workers count (accesses_of (take i xs)) (drop i xs)
 
-pub marking_start : (workers count : ℕ) (xs : List (ℕ × Access)) (m : Marks) → AreMarked [] m
+pub marking_start : (workers count : ℕ) (xs : List (ℕ × Access)) (m : AccessMarks) → AreMarked [] m
     → Marking workers count xs 0 m
 marking_start workers count xs m marked = record { marked = marked; rest = refl }
 
@@ -273,7 +273,7 @@ front_more : (xs : List (ℕ × Access)) (i : ℕ) (x : ℕ × Access) → slice
     ≡ accesses_of (take i xs) ++ x.1 ∷ []
 front_more xs i x e = ap accesses_of (take_one_more xs i x e) ∙ accesses_of-append (take i xs) (x ∷ [])
 
-pub marking_more : (workers count : ℕ) (xs : List (ℕ × Access)) (i : ℕ) (m after : Marks) (x : ℕ × Access)
+pub marking_more : (workers count : ℕ) (xs : List (ℕ × Access)) (i : ℕ) (m after : AccessMarks) (x : ℕ × Access)
     → Marking workers count xs i m → slice_get xs i ≡ Some x
     → IsMarkedIfRight workers count (take i xs) x None after → Marking workers count xs (i + 1) after
 marking_more workers count xs i m after x marking at judged = record {
@@ -284,7 +284,7 @@ marking_more workers count xs i m after x marking at judged = record {
       ∙ ap (λ (b : List Access). wrong_accesses workers count b (drop (i + 1) xs)) (sym (front_more xs i x at));
 }
 
-pub marking_wrong : (workers count : ℕ) (xs : List (ℕ × Access)) (i : ℕ) (m after : Marks) (x : ℕ × Access) (c : Code)
+pub marking_wrong : (workers count : ℕ) (xs : List (ℕ × Access)) (i : ℕ) (m after : AccessMarks) (x : ℕ × Access) (c : Code)
     → Marking workers count xs i m → slice_get xs i ≡ Some x
     → IsMarkedIfRight workers count (take i xs) x (Some c) after
     → AreMarkedIfRight workers count xs (Some (record { code = c; offset = x.0 })) after
@@ -295,7 +295,7 @@ marking_wrong workers count xs i m after x c marking at judged = record {
   marked = tt;
 }
 
-pub marking_end : (workers count : ℕ) (xs : List (ℕ × Access)) (i : ℕ) (m : Marks) → Marking workers count xs i m
+pub marking_end : (workers count : ℕ) (xs : List (ℕ × Access)) (i : ℕ) (m : AccessMarks) → Marking workers count xs i m
     → length xs ≤ i → AreMarkedIfRight workers count xs None m
 marking_end workers count xs i m marking le = record {
   answer = sym (marking.rest ∙ ap (wrong_accesses workers count (accesses_of (take i xs))) (drop_all i xs le));

@@ -1,13 +1,12 @@
 -- Public: other crates cite these lemmas. Customers and batches, one after another: the first that is there again.
 use Rattle.std.proofs.Common.{◌≡◌, ℕ, zero, suc, ◌+◌, ◌-◌, ◌<◌, ◌≤◌, true, List, [], ◌∷◌, ◌++◌, map, length, take, drop}
-use Rattle.std.proofs.Common.{slice_get, Contains, Some, None, refl, sym, ap, subst, ◌∙◌, inl, inr, add-one, arith}
+use Rattle.std.proofs.Common.{slice_get, Contains, Some, None, refl, sym, ap, subst, ◌∙◌, inl, inr, arith}
 use Rattle.std.specs.List.{flat_map}
 use Rattle.std.proofs.lemmas.Bool.{and_parts, cases_lt}
 use Rattle.std.proofs.lemmas.List.{append-nil, map-append, take_all, length-map, length-take-le}
 use Rattle.std.proofs.lemmas.List.Concat.{flat_map-append}
 use Rattle.std.proofs.lemmas.List.FromFn.{length-enumerate_from}
-use Rattle.std.proofs.lemmas.Option.{same_Some, slice_get_within, get_or_from_slice_get}
-use Rattle.std.proofs.Math.Seq.{take-suc}
+use Rattle.std.proofs.lemmas.Option.{same_Some}
 use Rattle.eve_accounts.specs.Names.{is_name, NameList}
 use Rattle.eve_grammar.specs.Trace.{Customer, Batch, Trace}
 use Rattle.eve_grammar.specs.Frames.{batches_of}
@@ -21,9 +20,11 @@ use Rattle.eve_views.specs.Form.{IsUpTo, SomePlace, IsLeast}
 use Rattle.eve_history.specs.SectionHistory.{names_of}
 use Rattle.eve_history.specs.Faults.{name_in, RequestId, request_ids_at, IsNamedAgain, IsAskedAgain, StandsInOrders}
 use Rattle.eve_history.specs.Faults.{IsOrderFault}
-use Rattle.eve_history.specs.Notes.{IsRepeated, AreNewAndNoted, HasDistinctNames, HasDistinctRequests}
+use Rattle.eve_history.specs.Notes.{IsRepeated, HasDistinctNames, HasDistinctRequests}
 use Rattle.eve_grammar.proofs.Grouping.{all_at}
+use Rattle.eve_views.proofs.Lists.{take_one_more as one_more}
 use Rattle.eve_views.proofs.Locating.{length-located}
+use Rattle.eve_history.proofs.RequestIds.{AreNewAndNoted}
 use Rattle.eve_history.proofs.Places.{no_place, place_push, cut_at, Rising, located_rising, first_place, from_low}
 use Rattle.eve_history.proofs.Places.{located_within, weaker_place}
 
@@ -31,9 +32,7 @@ use Rattle.eve_history.proofs.Places.{located_within, weaker_place}
 
 pub take_one_more : {A : Type 0} (xs : List A) (i : ℕ) (x : A) → slice_get xs i ≡ Some x → take (i + 1) xs
     ≡ take i xs ++ x ∷ []
-take_one_more {A = A} xs i x e =
-    ap (λ (n : ℕ). take n xs) (add-one i) ∙ take-suc xs i x (slice_get_within xs i x e)
-    ∙ ap (λ (y : A). take i xs ++ y ∷ []) (get_or_from_slice_get xs i x x e)
+take_one_more = one_more
 
 pub of_located : {A : Type 0} (text : A → List ℕ) (at : ℕ) (xs : List A) (i : ℕ) (x : ℕ × A)
     → slice_get (located text at xs) i ≡ Some x → slice_get xs i ≡ Some x.1
@@ -123,7 +122,7 @@ batches_rise : (t : Trace) → Rising (batches_start t) (batches_at t)
 unfolding batches_at
 batches_rise t = located_rising batch_text (batches_start t) (batches_of t)
 
-customers_within : (t : Trace) (at : ℕ) → StandsInOrders code.SameName t at → at ≤ batches_start t
+pub customers_within : (t : Trace) (at : ℕ) → StandsInOrders code.SameName t at → at ≤ batches_start t
 unfolding customers_at
 customers_within t at again = located_within IsNamedAgain customer_text 32 at t.customers again
 

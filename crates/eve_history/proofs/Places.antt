@@ -1,13 +1,12 @@
 -- Public: other crates cite these lemmas. Places of lists at which something holds, of what stands before and of what
 -- stands there.
 use Rattle.std.proofs.Common.{◌≡◌, ℕ, suc, ◌+◌, ◌≤◌, List, [], ◌∷◌, ◌++◌, length, take, drop, slice_get, Some}
-use Rattle.std.proofs.Common.{refl, sym, ap, subst, ◌∙◌, inl, inr, ◌⊎◌, arith}
-use Rattle.std.proofs.lemmas.List.{append-nil, length-append, take-append-drop}
+use Rattle.std.proofs.Common.{refl, sym, ap, subst, inl, inr, ◌⊎◌, arith}
+use Rattle.std.proofs.lemmas.List.{append-nil, length-append}
 use Rattle.std.specs.List.{flat_map}
-use Rattle.std.proofs.lemmas.Option.{slice_get_within, get_or_from_slice_get}
-use Rattle.std.proofs.Math.Seq.{drop-cons}
 use Rattle.eve_grammar.specs.Spelling.{located}
 use Rattle.eve_views.specs.Form.{SomePlace}
+use Rattle.eve_views.proofs.Lists.{cut_at as cut}
 
 pub place_here : {A : Type 0} (P : List A → A → Type 0) (x : A) (xs : List A) → P [] x → SomePlace (x ∷ xs) P
 place_here P x xs h = record { before = []; item = x; rest = xs; is = refl; holds = h }
@@ -88,9 +87,7 @@ weaker_place P Q xs weaker place =
 -- a list at one of its places
 pub cut_at : {A : Type 0} (xs : List A) (i : ℕ) (x : A) → slice_get xs i ≡ Some x
     → xs ≡ take i xs ++ x ∷ drop (suc i) xs
-cut_at {A = A} xs i x e = sym (take-append-drop i xs)
-    ∙ ap (λ (ys : List A). take i xs ++ ys) (drop-cons xs i x (slice_get_within xs i x e)
-    ∙ ap (λ (y : A). y ∷ drop (suc i) xs) (get_or_from_slice_get xs i x x e))
+cut_at = cut
 
 -- ---- offsets
 

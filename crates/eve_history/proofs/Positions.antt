@@ -11,7 +11,7 @@ use Rattle.eve_grammar.specs.Frames.{Frame, OfCustomer, OfBatch, OfReplica, OfAt
 use Rattle.eve_grammar.specs.Frames.{batches_of, sections_of, verifiers_of, section_frames, step_frames}
 use Rattle.eve_grammar.specs.Frames.{verifier_frames, OfSent, End, frames_of}
 use Rattle.eve_grammar.specs.Spelling.{frame_text, located, customer_text, batch_text, step_text, section_text}
-use Rattle.eve_grammar.specs.Spelling.{batches_start, sections_start, section_start, length_of, customers_at}
+use Rattle.eve_grammar.specs.Spelling.{batches_start, sections_start, section_start, length_of}
 use Rattle.eve_grammar.specs.Spelling.{batches_at, steps_of, steps_at, accesses_at}
 use Rattle.eve_views.specs.declared.fault.Code.{Code}
 use Rattle.eve_views.specs.declared.fault.Code.TheVariants as code
@@ -21,9 +21,10 @@ use Rattle.eve_history.specs.Section.{SectionState, start, state_after, is_right
 use Rattle.eve_history.specs.Section.{is_right_access, is_right_commit, is_right_rollback, are_right_accesses}
 use Rattle.eve_views.specs.Form.{SomePlace}
 use Rattle.eve_history.specs.Faults.{accesses_of, OfAttempt, OfCommit, OfRollback, AtStep, AtAccess, StandsInStructure}
-use Rattle.eve_history.specs.Faults.{IsStructureFault, IsNamedAgain, IsAskedAgain, StandsInOrders, IsOrderFault}
+use Rattle.eve_history.specs.Faults.{IsStructureFault, IsAskedAgain, StandsInOrders, IsOrderFault}
 use Rattle.eve_history.proofs.FrameTexts.{mapped, nested, no_steps}
 use Rattle.eve_history.proofs.Places.{located_within, weaker_place}
+use Rattle.eve_history.proofs.OrderLaws.{customers_within}
 
 -- the whole is as long as the shared parts and what follows them
 sections_within : (t : Trace) → sections_start t ≤ length_of t
@@ -46,10 +47,6 @@ sections_within t =
     longer : (a b whole behind last : ℕ) → whole ≡ a + behind → behind ≡ b + last → 32 + a + b ≤ 32 + whole
     longer a b whole behind last e f = omega arith
 
-customer_within : (t : Trace) (at : ℕ) → StandsInOrders code.SameName t at → at ≤ batches_start t
-unfolding customers_at
-customer_within t at again = located_within IsNamedAgain customer_text 32 at t.customers again
-
 batch_within : (t : Trace) (at : ℕ) → StandsInOrders code.SameRequest t at → at ≤ sections_start t
 unfolding batches_at
 batch_within t at again = located_within IsAskedAgain batch_text (batches_start t) at (batches_of t) again
@@ -58,7 +55,7 @@ pub order_fault_within : (t : Trace) (f : Fault) → IsOrderFault t f → f.offs
 order_fault_within t f is = by f.code is.stands
   where
     by : (c : Code) → StandsInOrders c t f.offset → f.offset ≤ length_of t
-    by code.SameName stands = let one = customer_within t f.offset stands in let two = sections_within t in omega arith
+    by code.SameName stands = let one = customers_within t f.offset stands in let two = sections_within t in omega arith
     by code.SameRequest stands = let one = batch_within t f.offset stands in let two = sections_within t in omega arith
     by c stands = absurd stands
 

@@ -3,8 +3,13 @@ use Rattle.std.proofs.Common.{◌≡◌, List, [], ◌∷◌, ◌++◌, Contains
 use Rattle.std.proofs.Common.{refl, sym, ap, subst, ◌∙◌, append_assoc, inl, inr}
 use Rattle.std.proofs.lemmas.List.{append-nil}
 use Rattle.eve_history.specs.Faults.{RequestId}
-use Rattle.eve_history.specs.Notes.{IsRepeated, AreNewAndNoted}
+use Rattle.eve_history.specs.Notes.{IsRepeated}
 use Rattle.eve_history.proofs.Places.{no_place, place_push}
+
+-- none of a batch's own occurs earlier, among them or among what was noted, and they are noted after the others
+pub record AreNewAndNoted (before own after : List RequestId) : Type 0 where
+  pub new : ¬ IsRepeated before own
+  pub noted : after ≡ before ++ own
 
 -- some of a batch's requests were noted, and all of them were new
 pub record Noting (before own rest now : List RequestId) : Type 0 where

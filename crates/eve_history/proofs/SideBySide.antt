@@ -20,7 +20,7 @@ use Rattle.eve_frames.specs.declared.attempt.AttemptView.{AttemptView}
 use Rattle.eve_views.specs.StepKinds.{IsStep}
 use Rattle.eve_views.specs.declared.steps.Step as met
 use Rattle.eve_views.specs.declared.steps.Step.TheVariants as of
-use Rattle.eve_history.specs.declared.marks.Marks.{Marks}
+use Rattle.eve_history.specs.declared.marks.AccessMarks.{AccessMarks}
 use Rattle.eve_history.specs.declared.side_by_side.MetAttempt.{MetAttempt}
 use Rattle.eve_history.specs.declared.side_by_side.Ahead.{Ahead}
 use Rattle.eve_history.specs.Section.{request_count, worker_count, is_right_certificate}
@@ -95,7 +95,7 @@ module _ (t : Trace) (m : MetAttempt) (met : IsMet t m) where
       each_there t own right.count right.certificate right.accesses its_fit.1 its_fit.0
 
   -- its records behind others
-  pub ordered_more : (xs : List (ℕ × Attempt)) (records after order : List ℕ) (marks : Marks)
+  pub ordered_more : (xs : List (ℕ × Attempt)) (records after order : List ℕ) (marks : AccessMarks)
       → IsRightAlone t (placed_met m) → AreMarked m.accesses marks → order ≡ own.certificate
       → after ≡ records ++ map (λ i. get_or marks.offsets i 0) order
       → AreOrdered t xs records → AreOrdered t (xs ++ placed_met m ∷ []) after

@@ -4,16 +4,18 @@ use Rattle.std.proofs.Common.{length, get_or, Option, Some, None, IfSome, refl, 
 use Rattle.std.specs.Prelude.{◌==◌, ◌&&◌, nat_le, slice_get, IfNone}
 use Rattle.std.specs.declared.cmp.Ordering.TheVariants.{Less, Equal, Greater}
 use Rattle.std.specs.Ordering.{ordering_then}
-use Rattle.std.proofs.lemmas.Bool.{ltb-false, leb-true, leb-false, le-leb, eqb-true, eqb-false, eq-eqb, and_parts}
+use Rattle.std.proofs.lemmas.Bool.{ltb-false, leb-true, le-leb, eqb-true, eqb-false, eq-eqb, and_parts}
 use Rattle.std.proofs.lemmas.Bool.{and_from, cases_lt, false≢true}
 use Rattle.std.proofs.lemmas.Option.{slice_get-get_or, slice_get_within}
 use Rattle.eve_history.specs.Faults.{RequestId}
+use Rattle.eve_views.specs.Least.{lower, IsBelow}
 use Rattle.eve_views.specs.Order.{AreInOrder}
-use Rattle.eve_history.specs.Repeats.{is_same, earlier, IsNoLaterArrival, is_by, OccursTwice}
+use Rattle.eve_history.specs.Repeats.{is_same, IsNoLaterArrival, is_by, OccursTwice}
 use Rattle.eve_history.specs.Repeats.{NoneOccursTwice}
 use Rattle.eve_history.specs.Repeats.{IsFirstTwice}
 use Rattle.eve_history.specs.declared.repeats.Arrival.{Arrival}
 use Rattle.eve_views.proofs.Lists.{all_after}
+use Rattle.eve_views.proofs.Lowering.{lower_lowers, lower_at, lower_stands}
 use Rattle.eve_history.proofs.Counted.{two_there, two_found}
 
 -- ---- sorted
@@ -198,39 +200,10 @@ module _ (xs : List Arrival) (order : AreInOrder IsNoLaterArrival xs) where
 
 -- ---- the earliest
 
--- one was found, and it is at most this
-abbrev IsUpTo : Option ℕ → ℕ → Type 0
-IsUpTo None n = ⊥
-IsUpTo (Some first) n = first ≤ n
-
-earlier_keeps : (first : Option ℕ) (n m : ℕ) → IsUpTo first m → IsUpTo (earlier first n) m
-earlier_keeps None n m le = absurd le
-earlier_keeps (Some before) n m le = by_test (nat_le before n) refl
-  where
-    by_test : (t : Bool) → nat_le before n ≡ t → IsUpTo (cond t (Some before) (Some n)) m
-    by_test true e = le
-    by_test false e = omega (arith, leb-false before n e, le)
-
-earlier_at : (first : Option ℕ) (n : ℕ) → IsUpTo (earlier first n) n
-earlier_at None n = omega arith
-earlier_at (Some before) n = by_test (nat_le before n) refl
-  where
-    by_test : (t : Bool) → nat_le before n ≡ t → IsUpTo (cond t (Some before) (Some n)) n
-    by_test true e = leb-true before n e
-    by_test false e = omega arith
-
-earlier_is : (P : ℕ → Type 0) (first : Option ℕ) (n : ℕ) → IfSome first P → P n → IfSome (earlier first n) P
-earlier_is P None n before here = here
-earlier_is P (Some m) n before here = by_test (nat_le m n)
-  where
-    by_test : (t : Bool) → IfSome (cond t (Some m) (Some n)) P
-    by_test true = before
-    by_test false = here
-
 -- of the neighbours up to this place that are one request, the earliest batch of a later one
 pub record Seen (xs : List Arrival) (i : ℕ) (first : Option ℕ) : Type 0 where
   pub found : IfSome first (Neighbours xs)
-  pub below : (n : ℕ) (h : Neighbours xs n) → h.place + 1 < i → IsUpTo first n
+  pub below : (n : ℕ) (h : Neighbours xs n) → h.place + 1 < i → IsBelow first n
 
 module _ (xs : List Arrival) (i : ℕ) (first : Option ℕ) (a b : Arrival) (some : 1 ≤ i)
     (former : slice_get xs (i - 1) ≡ Some a) (later : slice_get xs i ≡ Some b) (seen : Seen xs i first) where
@@ -247,9 +220,9 @@ module _ (xs : List Arrival) (i : ℕ) (first : Option ℕ) (a b : Arrival) (som
       let y : h.later ≡ b = cc in
       (sym (λ k. is_same (x k) (y k)) ∙ h.same, sym h.batch ∙ ap (λ (z : Arrival). z.batch) y)
 
-  pub seen_same : is_same a b ≡ true → Seen xs (i + 1) (earlier first b.batch)
+  pub seen_same : is_same a b ≡ true → Seen xs (i + 1) (lower first b.batch)
   seen_same same = record {
-    found = earlier_is (Neighbours xs) first b.batch seen.found (record {
+    found = lower_stands (Neighbours xs) first b.batch seen.found (record {
       place = i - 1;
       former = a;
       later = b;
@@ -259,10 +232,10 @@ module _ (xs : List Arrival) (i : ℕ) (first : Option ℕ) (a b : Arrival) (som
       batch = refl;
     });
     below = λ n h lt. elim (cases_lt (h.place + 1) i) [
-      | inl less ↦ earlier_keeps first b.batch n (seen.below n h less)
+      | inl less ↦ lower_lowers first b.batch n (seen.below n h less)
       | inr ge ↦
           let here = is_here n h (omega arith) in
-          subst (IsUpTo (earlier first b.batch)) (sym here.1) (earlier_at first b.batch)
+          subst (IsBelow (lower first b.batch)) (sym here.1) (lower_at first b.batch)
     ];
   }
 
@@ -276,7 +249,7 @@ module _ (xs : List Arrival) (i : ℕ) (first : Option ℕ) (a b : Arrival) (som
   }
 
 module _ (xs : List Arrival) (order : AreInOrder IsNoLaterArrival xs) (i : ℕ) (past : length xs ≤ i) where
-  all_seen : (first : Option ℕ) → Seen xs i first → (n : ℕ) → OccursTwice xs n → (m : ℕ) × (m ≤ n) × IsUpTo first m
+  all_seen : (first : Option ℕ) → Seen xs i first → (n : ℕ) → OccursTwice xs n → (m : ℕ) × (m ≤ n) × IsBelow first m
   all_seen first seen n twice =
       let found = twice_neighbours xs order n twice in
       let h = found.2 in

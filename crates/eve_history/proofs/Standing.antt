@@ -1,12 +1,11 @@
 -- Where the frames of a section stand in a trace's bytes.
-use Rattle.std.proofs.Common.{◌≡◌, ℕ, zero, suc, ◌+◌, ◌^◌, ◌<◌, ◌≤◌, ◌==◌, Bool, true, false, ◌||◌, cond, List, [], ◌∷◌}
+use Rattle.std.proofs.Common.{◌≡◌, ℕ, suc, ◌+◌, ◌^◌, ◌<◌, ◌≤◌, ◌==◌, Bool, true, false, ◌||◌, cond, List, [], ◌∷◌}
 use Rattle.std.proofs.Common.{◌++◌, map, length, take, drop, slice_get, slice_index, Some, refl, sym, ap, subst, ◌∙◌}
 use Rattle.std.proofs.Common.{append_assoc, IsTrue, inl, inr, arith}
 use Rattle.std.specs.List.{AllByRecursion, flat_map, list_all, list_any}
 use Rattle.std.proofs.lemmas.Bool.{and_parts, cases_lt, false≢true}
 use Rattle.std.proofs.lemmas.List.{append-nil, length-append, take_at, drop_at}
 use Rattle.std.proofs.lemmas.List.Concat.{flat_map-append}
-use Rattle.std.proofs.lemmas.Option.{same_Some}
 use Rattle.byteorder.specs.Endian.{big_bytes, big_number}
 use Rattle.eve_grammar.specs.Trace.{Access, Attempt, Rollback, Step, Attempts, RollsBack, Trace, head_of}
 use Rattle.eve_grammar.specs.Frames.{Frame, OfReplica, OfAttempt, OfAccess, OfRollback, kind_of, step_frames, frames_of}
@@ -19,6 +18,7 @@ use Rattle.eve_views.specs.Fronts.{before_section}
 use Rattle.eve_views.proofs.Bytes.{number_again}
 use Rattle.eve_views.proofs.FrameLaws.{length-frame_text}
 use Rattle.eve_views.proofs.CutLaws.{IsPart, section_cut}
+use Rattle.eve_views.proofs.Lists.{cut_at}
 use Rattle.eve_views.proofs.Locating.{section_begins}
 use Rattle.eve_grammar.proofs.FrameLaws.{small_head}
 use Rattle.eve_frames.specs.Views.{most_rows, is_attempt_frame, attempt_in, is_access_frame, access_in}
@@ -150,13 +150,6 @@ located_stands text at (x ∷ xs) (z ∷ before) item rest e =
       offset = omega (arith, o);
     }
 
--- where what was found at a place stands
-pub split_at : {A : Type 0} (xs : List A) (i : ℕ) (x : A) → slice_get xs i ≡ Some x → (before : List A)
-    × (rest : List A) × (xs ≡ before ++ x ∷ rest)
-split_at [] i x e = absurd (cc)
-split_at {A = A} (y ∷ xs) zero x e = ([], xs, ap (λ (z : A). z ∷ xs) (same_Some y x e))
-split_at {A = A} (y ∷ xs) (suc i) x e = let s = split_at xs i x e in (y ∷ s.0, s.1, ap (λ (zs : List A). y ∷ zs) s.2)
-
 -- ---- the parts of a trace
 
 -- a part stands behind its own first frame
@@ -223,10 +216,11 @@ pub access_stands : {bytes : List ℕ} (at : ℕ) (b : Attempt) (i : ℕ) (x : �
     → StandsIn bytes at (step_text (Attempts b)) → slice_get (accesses_at at b) i ≡ Some x
     → StandsIn bytes x.0 (frame_text (OfAccess x.1))
 access_stands {bytes = bytes} at b i x stands got =
-    let s = split_at (accesses_at at b) i x got in
+    let xs = accesses_at at b in
     let own = frame_text (OfAttempt b) in
     let all = flat_map (λ y. frame_text (OfAccess y)) b.accesses in
-    let found = located_stands (λ y. frame_text (OfAccess y)) (at + length own) b.accesses s.0 x s.1 s.2 in
+    let found = located_stands (λ y. frame_text (OfAccess y)) (at + length own) b.accesses (take i xs) x
+    (drop (suc i) xs) (cut_at xs i x got) in
     let inside : StandsIn (step_text (Attempts b)) (length own) all =
     record {
       front = own;

@@ -15,12 +15,12 @@ use Rattle.eve_views.specs.Code.{code_number}
 use Rattle.eve_grammar.specs.Accesses.{is_right_place}
 use Rattle.eve_history.specs.Section.{SectionState, start, next, state_after, is_right_attempt, is_right_certificate}
 use Rattle.eve_history.specs.Section.{is_right_access, is_right_commit, is_right_rollback, are_right_accesses, is_right}
-use Rattle.eve_history.specs.Section.{are_right}
+use Rattle.eve_history.specs.Section.{request_count, worker_count, are_right}
 use Rattle.eve_views.specs.Form.{SomePlace, IsLeast}
 use Rattle.eve_history.specs.Faults.{OfAttempt, OfCommit, OfRollback, accesses_of, AtStep, AtAccess, StandsInStructure}
 use Rattle.eve_history.specs.Faults.{IsStructureFault}
 use Rattle.eve_history.specs.declared.wrong.Wrong.{Wrong}
-use Rattle.eve_history.specs.FirstWrong.{found_or, first_wrong_of, wrong_record, wrong_records, wrong_attempt}
+use Rattle.eve_history.specs.FirstWrong.{found_or, first_wrong_of, wrong_access, wrong_records, wrong_attempt}
 use Rattle.eve_history.specs.FirstWrong.{wrong_commit}
 use Rattle.eve_history.specs.FirstWrong.{wrong_rollback, wrong_step, first_wrong, fault_of}
 
@@ -96,6 +96,10 @@ none_or_two : (b d : Bool) (c f : Code) → cond b (cond d None (Some f)) (Some 
 none_or_two true true c f e = (refl, refl)
 none_or_two true false c f e = absurd (cc)
 none_or_two false d c f e = absurd (cc)
+
+-- what is wrong with an access record of an attempt
+abbrev wrong_record : Trace → Attempt → List Access → Access → Option Code
+wrong_record t a = wrong_access (worker_count t a) (request_count t a)
 
 pub right_records : (t : Trace) (a : Attempt) (before : List Access) (xs : List (ℕ × Access))
     → wrong_records t a before xs

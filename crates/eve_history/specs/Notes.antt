@@ -1,5 +1,5 @@
 -- What is noted of requests and names, one after another.
-use Rattle.std.specs.Prelude.{◌≡◌, ℕ, List, ◌++◌, Contains}
+use Rattle.std.specs.Prelude.{ℕ, List, ◌++◌, Contains}
 use Rattle.eve_grammar.specs.Trace.{Asked, Trace}
 use Rattle.eve_frames.specs.Views.{batch_in}
 use Rattle.eve_views.specs.declared.fault.Code.TheVariants as code
@@ -13,11 +13,6 @@ requests_said bytes = (batch_in bytes).1.requests
 -- one of these occurs earlier, among them or among what was noted
 abbrev pub IsRepeated : List RequestId → List RequestId → Type 0
 IsRepeated noted own = SomePlace own (λ earlier t. Contains (noted ++ earlier) t)
-
--- none does, and they are noted after the others
-pub record AreNewAndNoted (before own after : List RequestId) : Type 0 where
-  pub new : ¬ IsRepeated before own
-  pub noted : after ≡ before ++ own
 
 -- no customer has the name of an earlier one
 abbrev pub HasDistinctNames : Trace → Type 0

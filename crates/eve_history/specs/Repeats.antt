@@ -1,6 +1,6 @@
 -- The requests of all batches, and the first batch with one that occurs earlier.
-use Rattle.std.specs.Prelude.{◌≡◌, ℕ, ◌≤◌, ◌-◌, ◌==◌, nat_le, Bool, ◌&&◌, if◌then◌else◌, List, map, take, length}
-use Rattle.std.specs.Prelude.{slice_get, Option, Some, None}
+use Rattle.std.specs.Prelude.{◌≡◌, ℕ, ◌≤◌, ◌-◌, ◌==◌, nat_le, Bool, ◌&&◌, List, map, take, length}
+use Rattle.std.specs.Prelude.{slice_get, Some}
 use Rattle.std.specs.List.{flat_map, count_by}
 use Rattle.eve_grammar.specs.Trace.{Asked, Batch, Trace}
 use Rattle.eve_grammar.specs.Spelling.{batches_at}
@@ -23,11 +23,6 @@ arrivals_of t = flat_map arrivals_at (batches_at t)
 -- both are of one client and number
 abbrev pub is_same : Arrival → Arrival → Bool
 is_same a b = (a.number == b.number) && (a.client == b.client)
-
--- the earlier of a batch and those found before it
-abbrev pub earlier : Option ℕ → ℕ → Option ℕ
-earlier None n = Some n
-earlier (Some before) n = if nat_le before n then Some before else Some n
 
 -- the one doesn't come after the other: by number, then by client, then by batch
 pub record IsNoLaterArrival (a b : Arrival) : Type 0 where

@@ -113,9 +113,10 @@ fn requests_apart(alloc: Global, trace: &Trace<'_>, random: RandomState) -> Resu
     if numbers_rise(alloc, trace, random)? {
         return Ok(());
     }
+    trace.recall_limits();
     match first_repeat(alloc, trace)? {
         None => Ok(()),
-        Some(n) => Err(outside(Code::SameRequest, trace.batch(n).offset())),
+        Some(n) => Err(outside(Code::SameRequest, trace.batch(n as u32).offset())),
     }
 }
 

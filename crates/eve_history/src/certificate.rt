@@ -4,9 +4,11 @@ ghost use Rattle.std.specs.Prelude.{◌≡◌, ◌≤◌, ◌<◌, ℕ, IsTrue, 
 ghost use Rattle.eve_grammar.specs.Limits.{is_batch};
 ghost use Rattle.eve_grammar.specs.Certificate.{group_of, is_certificate};
 ghost use Rattle.eve_frames.specs.Said.{attempt_said, batch_said};
+ghost use Rattle.eve_history.specs.FirstWrong.{wrong_certificate};
 
 use eve_frames::{AttemptView, BatchView};
 use eve_grammar::MOST_REQUESTS;
+use eve_views::{Code, Trace};
 
 /// The indexes of a certificate, in its order.
 pub fn read_order(attempt: &AttemptView<'_>, order: &mut [u16; MOST_REQUESTS])
@@ -41,11 +43,33 @@ fn groups_of(batch: &BatchView<'_>) -> [u8; MOST_REQUESTS]
 /// Whether a certificate keeps the groups of its batch, and in serial mode is the listed order.
 ///
 /// docs/MODEL.md, "Certificate order, keeps the groups" and "Section state, fate".
-pub fn is_certificate(batch: &BatchView<'_>, serial: bool, order: &[u16]) -> bool
+fn is_certificate(batch: &BatchView<'_>, serial: bool, order: &[u16]) -> bool
     requires whole { IsTrue (is_batch (batch_said batch.now).1) }
     requires count { length order.now ≡ length (batch_said batch.now).1.requests }
     ensures { result ≡ is_certificate (batch_said batch.now).1.sizes
         (length (batch_said batch.now).1.requests) serial order.now }
 {
     eve_grammar::is_certificate(&groups_of(batch), serial, order)
+}
+
+/// What is wrong with the certificate of an attempt whose batch is there: the number of its indexes, or their order.
+pub fn wrong_certificate(
+    trace: &Trace<'_>,
+    attempt: &AttemptView<'_>,
+    order: &[u16],
+) -> Option<Code>
+    requires one { 1 ≤ (attempt_said attempt.now).seq }
+    requires there { (attempt_said attempt.now).seq ≤ length trace.now.batches }
+    requires order { order.now ≡ (attempt_said attempt.now).certificate }
+    ensures { result ≡ wrong_certificate trace.now (attempt_said attempt.now) }
+{
+    trace.recall_limits();
+    let batch = trace.batch(attempt.seq());
+    if order.len() != batch.len() {
+        return Some(Code::Attempt);
+    }
+    if !is_certificate(&batch, attempt.is_serial(), order) {
+        return Some(Code::Certificate);
+    }
+    None
 }

@@ -159,7 +159,8 @@ impl<'a> History<'a> {
     /// docs/MODEL.md, "Section state, fate" and "Faults". Of two jobs or more the certificates and access records of
     /// its attempts are judged side by side, whatever came before each, and then one pass goes over the section's steps
     /// without them. Only where that way finds something wrong, the section is judged again from the start, frame by
-    /// frame, for the first fault. Refused memory decides nothing.
+    /// frame, for the first fault. With one job, or with fewer than 64 attempts, it is judged as `of` does. Refused
+    /// memory decides nothing.
     pub fn of_side_by_side<R: Threads + Sync>(
         rt: &R,
         alloc: Global,

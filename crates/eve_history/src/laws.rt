@@ -2,11 +2,12 @@
 
 ghost use Rattle.std.specs.Prelude.{◌≡◌, ◌≤◌, ℕ, suc, Some, map, length, slice_get};
 ghost use Rattle.eve_grammar.specs.Trace.{Step, Access, Attempt, Attempts, Vote, Trace};
-ghost use Rattle.eve_grammar.specs.Frames.{OfAccess, OfVote};
+ghost use Rattle.eve_grammar.specs.Frames.{Frame, OfAccess, OfVote};
 ghost use Rattle.eve_history.specs.SectionHistory.{executed_attempt, section_history, IsRightSection, history};
 ghost use Rattle.eve_history.specs.SectionHistory.{placed_at, picked, is_committed};
 ghost use Rattle.eve_history.specs.SectionHistory.{is_discarded, attempts_among};
-ghost use Rattle.eve_grammar.specs.Spelling.{length_of, frame_text, step_text, steps_at, accesses_at, votes_at};
+ghost use Rattle.eve_grammar.specs.Spelling.{length_of, frame_text, step_text, frames_at, steps_at, accesses_at};
+ghost use Rattle.eve_grammar.specs.Spelling.{votes_at};
 ghost use Rattle.eve_views.specs.Lent.{HasBytesAt};
 ghost use Rattle.eve_views.specs.declared.fault.Fault.{Fault};
 ghost use Rattle.eve_history.specs.Section.{Placed};
@@ -39,11 +40,13 @@ pub fn faults_lie_within()
     ensures structure { (t : Trace) (e : ℕ) (f : Fault) → IsStructureFault t e f → f.offset ≤ length_of t }
 {}
 
-/// Each step of a section stands in the trace's bytes at its offset, its frames one after another; and so does each
-/// access frame of an attempt, and each vote, at its own.
+/// Each frame of a trace stands in its bytes at its offset. So does each step of a section, its frames one after
+/// another, and so do each access frame of an attempt, and each vote, at their own.
 ///
 /// docs/TRACE.md, "Frames".
 pub fn frames_stand_where_they_are_said_to()
+    ensures frames { (t : Trace) (k : ℕ) (x : ℕ × Frame) → slice_get (frames_at t) k ≡ Some x
+        → HasBytesAt t x.0 (frame_text x.1) }
     ensures steps { (t : Trace) (e k : ℕ) (step : ℕ × Step) → slice_get (steps_at t e) k ≡ Some step
         → HasBytesAt t step.0 (step_text step.1) }
     ensures accesses { (t : Trace) (e k i at : ℕ) (a : Attempt) (x : ℕ × Access) → slice_get (steps_at t e) k

@@ -13,7 +13,7 @@ use eve_views::{Accesses, Code};
 
 /// Which access records of an attempt have come, and how many of each worker.
 #[derive(Drop)]
-pub struct Marks {
+pub struct AccessMarks {
     /// Whether the record of an index has come.
     seen: [bool; MOST_REQUESTS],
     /// The byte at which its frame begins.
@@ -22,12 +22,12 @@ pub struct Marks {
     places: [u16; MOST_WORKERS as usize],
 }
 
-impl Marks {
+impl AccessMarks {
     /// None.
-    pub fn new() -> Marks
+    pub fn new() -> AccessMarks
         ensures { AreMarked [] result }
     {
-        Marks {
+        AccessMarks {
             seen: [false; MOST_REQUESTS],
             offsets: [0; MOST_REQUESTS],
             places: [0; MOST_WORKERS as usize],

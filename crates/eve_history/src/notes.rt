@@ -23,10 +23,10 @@ ghost use Rattle.eve_history.specs.Coming.{kept_at_first, seen, executed_attempt
 ghost use Rattle.eve_history.specs.Standing.{IsAccessAt};
 ghost use Rattle.eve_history.specs.SideBySide.{IsKeptAhead};
 
-use crate::certificate::{is_certificate, read_order};
+use crate::certificate::{read_order, wrong_certificate};
 use crate::fate::Fate;
 use crate::frame::attempt_at;
-use crate::marks::Marks;
+use crate::marks::AccessMarks;
 use crate::wrong::Wrong;
 use eve_frames::{AttemptView, CommitView, RollbackView};
 use eve_grammar::{Head, MOST_REQUESTS, MOST_WORKERS};
@@ -85,7 +85,11 @@ fn is_of(commit: &CommitView<'_>, attempt: &AttemptView<'_>) -> bool
 }
 
 /// Keeps the access records of an attempt, which are marked, in its certificate's order.
-pub fn keep_records(records: &mut Vec<u32>, order: &[u16], marks: &Marks) -> Result<(), AllocError>
+pub fn keep_records(
+    records: &mut Vec<u32>,
+    order: &[u16],
+    marks: &AccessMarks,
+) -> Result<(), AllocError>
     requires { AllByRecursion (λ i. i < MOST_REQUESTS) order.now }
     ensures { OnOk result
         (records.new.items ≡ records.old.items ++ map (λ i. slice_index marks.now.offsets i) order.now) }
@@ -195,22 +199,14 @@ impl<'a> Notes<'a> {
         ensures { (s : SectionState) → StandsAt s (kept_section self.now)
             → result ≡ wrong_attempt trace.now s (attempt_said attempt.now) }
     {
-        trace.recall_limits();
         if !self.is_due(&trace.head(), attempt) {
             return Some(Code::Attempt);
         }
-        let batch = trace.batch(attempt.seq());
-        if order.len() != batch.len() {
-            return Some(Code::Attempt);
-        }
-        if !is_certificate(&batch, attempt.is_serial(), order) {
-            return Some(Code::Certificate);
-        }
-        None
+        wrong_certificate(trace, attempt, order)
     }
 
     /// Whether the commit is of the first open attempt.
-    fn commits_first(&self, commit: &CommitView<'_>) -> bool
+    fn is_right_commit(&self, commit: &CommitView<'_>) -> bool
         requires { AreFramed self.now }
         ensures { (s : SectionState) → StandsAt s (kept_section self.now)
             → result ≡ is_right_commit s (commit_said commit.now) }
@@ -242,7 +238,7 @@ impl<'a> Notes<'a> {
         attempt: &AttemptView<'_>,
         accesses: &Accesses<'_, '_>,
         order: &[u16],
-        marks: &mut Marks,
+        marks: &mut AccessMarks,
     ) -> Option<Wrong>
         requires fewer { length (kept_section self.now).fates ≤ length (kept_section self.now).attempts }
         requires order { order.now ≡ (attempt_said attempt.now).certificate }
@@ -291,7 +287,7 @@ impl<'a> Notes<'a> {
         let mut indexes = [0; MOST_REQUESTS];
         read_order(attempt, &mut indexes);
         let order = &indexes[..attempt.len()];
-        let mut marks = Marks::new();
+        let mut marks = AccessMarks::new();
         if let Some(wrong) = self.judge(trace, attempt, accesses, order, &mut marks) {
             return Err(fault_in(e, wrong));
         }
@@ -345,7 +341,7 @@ impl<'a> Notes<'a> {
             → HasCome t e ((commit.now.offset, Commits (commit_said commit.now)) ∷ rest) (kept_section self.old)
             → IsLeast (IsStructureFault t e) f)) }
     {
-        if !self.commits_first(commit) {
+        if !self.is_right_commit(commit) {
             return Err(fault_in(
                 e,
                 Wrong {

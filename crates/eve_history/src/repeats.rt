@@ -4,11 +4,11 @@ ghost use Rattle.std.specs.Prelude.{◌≡◌, ◌++◌, length, IfOk, OnOk, IfS
 ghost use Rattle.eve_frames.specs.Said.{batch_said};
 ghost use Rattle.eve_history.specs.Notes.{HasDistinctRequests};
 ghost use Rattle.eve_views.specs.Order.{AreInOrder};
-ghost use Rattle.eve_history.specs.Repeats.{arrivals_at, arrivals_of, is_same, earlier};
+ghost use Rattle.eve_history.specs.Repeats.{arrivals_at, arrivals_of, is_same};
 ghost use Rattle.eve_history.specs.Repeats.{IsNoLaterArrival, NoneOccursTwice, IsFirstTwice, IsFirstRepeat};
 
 use eve_frames::BatchView;
-use eve_views::Trace;
+use eve_views::{Trace, lower};
 use std::alloc::{AllocError, Global};
 
 /// A request that came: its client, the client's number for it, and the number of its batch, from 1.
@@ -68,18 +68,8 @@ fn is_same(a: Arrival, b: Arrival) -> bool
     a.number == b.number && a.client == b.client
 }
 
-/// The earlier of a batch and those found before it.
-fn earlier(first: Option<u32>, batch: u32) -> Option<u32>
-    ensures { result ≡ earlier first batch }
-{
-    match first {
-        Some(before) if before <= batch => first,
-        _ => Some(batch),
-    }
-}
-
 /// The least batch that, with those before it, has a request twice.
-fn first_twice(arrivals: &[Arrival]) -> Option<u32>
+fn first_twice(arrivals: &[Arrival]) -> Option<u64>
     requires { AreInOrder IsNoLaterArrival arrivals.now }
     ensures none { IfNone result (NoneOccursTwice arrivals.now) }
     ensures first { IfSome result (IsFirstTwice arrivals.now) }
@@ -87,7 +77,7 @@ fn first_twice(arrivals: &[Arrival]) -> Option<u32>
     let mut first = None;
     for i in 1..arrivals.len() {
         if is_same(arrivals[i - 1], arrivals[i]) {
-            first = earlier(first, arrivals[i].batch);
+            first = lower(first, arrivals[i].batch as u64);
         }
     }
     first
@@ -96,7 +86,7 @@ fn first_twice(arrivals: &[Arrival]) -> Option<u32>
 /// The number, from 1, of the first batch with a request that occurs earlier, in the batch or before it.
 ///
 /// It keeps 16 bytes a request, and takes the time of a sort whatever the requests are.
-pub(crate) fn first_repeat(alloc: Global, trace: &Trace<'_>) -> Result<Option<u32>, AllocError>
+pub(crate) fn first_repeat(alloc: Global, trace: &Trace<'_>) -> Result<Option<u64>, AllocError>
     ensures none { IfOk result (λ found. IfNone found (HasDistinctRequests trace.now)) }
     ensures first { IfOk result (λ found. IfSome found (IsFirstRepeat trace.now)) }
 {

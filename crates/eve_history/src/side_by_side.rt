@@ -13,8 +13,8 @@ ghost use Rattle.eve_history.specs.Marking.{AreMarked};
 ghost use Rattle.eve_history.specs.SideBySide.{placed_met, AreCounted, IsMet, HaveBeenMet, IsRightAlone, AreOrdered};
 ghost use Rattle.eve_history.specs.SideBySide.{IsPart};
 
-use crate::certificate::{is_certificate, read_order};
-use crate::marks::Marks;
+use crate::certificate::{read_order, wrong_certificate};
+use crate::marks::AccessMarks;
 use crate::notes::{keep_records, workers_of};
 use eve_frames::AttemptView;
 use eve_grammar::MOST_REQUESTS;
@@ -153,16 +153,11 @@ fn has_right_certificate(trace: &Trace<'_>, attempt: &AttemptView<'_>, order: &[
         ≡ request_count trace.now (attempt_said attempt.now) }
     ensures right { IsTrue result → IsTrue (is_right_certificate trace.now (attempt_said attempt.now)) }
 {
-    trace.recall_limits();
     let seq = attempt.seq();
     if seq == 0 || seq > trace.head().batches {
         return false;
     }
-    let batch = trace.batch(seq);
-    if order.len() != batch.len() {
-        return false;
-    }
-    is_certificate(&batch, attempt.is_serial(), order)
+    wrong_certificate(trace, attempt, order).is_none()
 }
 
 /// Whether an attempt's certificate and access records are right, whatever came before it. Where they are, the records
@@ -171,7 +166,7 @@ fn is_right_alone(
     trace: &Trace<'_>,
     met: &MetAttempt<'_, '_>,
     order: &[u16],
-    marks: &mut Marks,
+    marks: &mut AccessMarks,
 ) -> bool
     requires met { IsMet trace.now met.now }
     requires order { order.now ≡ (attempt_said met.now.attempt).certificate }
@@ -205,7 +200,7 @@ fn order_attempt(
     let mut indexes = [0; MOST_REQUESTS];
     read_order(&met.attempt, &mut indexes);
     let order = &indexes[..met.attempt.len()];
-    let mut marks = Marks::new();
+    let mut marks = AccessMarks::new();
     if !is_right_alone(trace, met, order, &mut marks) {
         return Ok(false);
     }
@@ -310,7 +305,7 @@ fn part_size(count: usize, parts: usize) -> Option<usize>
 }
 
 /// The access records of all attempts of a replica's section, judged in as many threads as there are jobs, or in fewer
-/// where a thread would have too little.
+/// where a thread would have too little; nothing where one is wrong, or where one thread is enough.
 pub fn order_all<R: Threads + Sync>(
     rt: &R,
     alloc: Global,
@@ -325,7 +320,10 @@ pub fn order_all<R: Threads + Sync>(
     let Some(count) = attempt_count(trace, e) else {
         return Ok(None);
     };
-    let threads = usize::from(jobs).min(count / LEAST_ATTEMPTS).max(1);
+    let threads = usize::from(jobs).min(count / LEAST_ATTEMPTS);
+    if threads < 2 {
+        return Ok(None);
+    }
     let Some(size) = part_size(count, threads) else {
         return Ok(None);
     };

@@ -12,7 +12,7 @@ use Rattle.eve_grammar.specs.Trace.{Trace, head_of}
 use Rattle.eve_grammar.specs.Frames.{Frame, OfReplica, OfVerifier, OfVote, step_frames, section_frames, verifier_frames}
 use Rattle.eve_grammar.specs.Frames.{frames_of}
 use Rattle.eve_grammar.specs.Spelling.{frame_text, frames_text, located, steps_of, steps_at, votes_of, votes_at}
-use Rattle.eve_grammar.specs.Spelling.{section_start, verifier_start, step_text}
+use Rattle.eve_grammar.specs.Spelling.{section_start, verifier_start, step_text, length_of}
 use Rattle.eve_grammar.specs.Limits.{HasLimits, is_vote, is_step, row_count}
 use Rattle.eve_grammar.specs.Gathering.{Gathered, nothing, gathered}
 use Rattle.eve_grammar.proofs.Gatherings.{gathered-steps, with_steps}
@@ -22,6 +22,7 @@ use Rattle.eve_views.specs.Parts.{byte_of, frames_between, votes_between, steps_
 use Rattle.eve_views.proofs.Fronting.{frames_from_sections, frames_from_verifiers}
 use Rattle.eve_views.proofs.Locating.{length-frames_text, section_begins, verifier_begins}
 use Rattle.eve_views.proofs.PartLaws.{votes_are}
+use Rattle.eve_views.proofs.WalkLaws.{front_short}
 
 -- ---- the k-th of numbered parts
 
@@ -98,6 +99,21 @@ pub verifier_cut : (t : Trace) (v : ℕ) → v < length t.verifiers
 unfolding before_verifier
 verifier_cut t v lt = part_cut verifier_frames t.verifiers v [] (frames_of t) (before_verifiers t) _
     (map OfVote (votes_of t v)) (OfVerifier v) lt (frames_from_verifiers t) refl
+
+-- a verifier has no more votes than the trace has bytes
+pub few_votes : (t : Trace) (v : ℕ) → v < length t.verifiers → length (votes_of t v) ≤ length_of t
+unfolding length_of
+few_votes t v lt =
+    let cut = verifier_cut t v lt in
+    let part = map OfVote (votes_of t v) in
+    omega (
+      arith,
+      ap length cut.whole,
+      length-append (before_verifier t v) (OfVerifier v ∷ (part ++ cut.rest)),
+      length-append part cut.rest,
+      length-map (votes_of t v) OfVote,
+      front_short (frames_of t),
+    )
 
 -- the same by numbers of frames
 pub record IsBetween (fs part : List Frame) (from to : ℕ) : Type 0 where

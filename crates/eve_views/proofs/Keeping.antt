@@ -4,7 +4,7 @@ use Rattle.std.proofs.Common.{[], ◌∷◌, length, take, drop, Option, Some, N
 use Rattle.std.specs.Prelude.{slice_index}
 use Rattle.std.specs.Option.{option_map}
 use Rattle.std.proofs.lemmas.Bool.{le-leb, ltb-false, and_from}
-use Rattle.std.proofs.lemmas.List.{length-drop}
+use Rattle.std.proofs.lemmas.List.{length-drop, length-take-le}
 use Rattle.byteorder.specs.Endian.{big_number}
 use Rattle.eve_grammar.specs.Trace.{Head}
 use Rattle.eve_grammar.specs.Frames.{Frame, OfCustomer, OfBatch, OfReplica, OfAttempt, OfAccess, OfCommit, OfRollback}
@@ -13,7 +13,7 @@ use Rattle.eve_grammar.specs.Reading.{number_at, body_of}
 use Rattle.eve_views.specs.declared.fault.Code.TheVariants as code
 use Rattle.eve_views.specs.Form.{is_framed}
 use Rattle.eve_views.specs.Places.{accesses_in, place_after}
-use Rattle.eve_views.specs.Walk.{with_rest, frame_at}
+use Rattle.eve_views.specs.Walk.{with_rest, frame_at, IsFrontOf}
 use Rattle.eve_views.specs.Indexing.{kept}
 
 -- ---- the front of bytes
@@ -53,12 +53,19 @@ front_of (b ∷ bytes) kind len rest more one two =
       size = omega (arith, length-drop 4 bytes, ap length u.2, u.0);
     }
 
--- ---- what is kept
+-- what follows the length is the body and more
+pub front_whole : (bytes : List ℕ) (kind len : ℕ) (rest : List ℕ) → FrontOf bytes kind len rest → len ≤ length rest
+    → IsFrontOf bytes kind (take len rest)
+front_whole bytes kind len rest front le =
+    let many : length (take len rest) ≡ len = length-take-le len rest le in
+    record {
+      kind_is = front.kind_is;
+      len_is = front.len_is ∙ sym many;
+      body_is = ap (λ (n : ℕ). take n (drop 5 bytes)) many ∙ ap (take len) front.rest_is;
+      whole = omega (arith, many, le, front.size);
+    }
 
-pub kept_unframed : (h : Head) (p : Place) (bytes : List ℕ) → is_framed h p bytes ≡ false
-    → kept bytes (frame_at h p bytes) ≡ Err code.Frame
-unfolding frame_at
-kept_unframed h p bytes e = rw e refl
+-- ---- bytes with no frame at their front
 
 and_first : (b c : Bool) → b ≡ false → (b && c) ≡ false
 and_first true c e = absurd cc
@@ -68,57 +75,61 @@ and_second : (b c : Bool) → c ≡ false → (b && c) ≡ false
 and_second true c e = e
 and_second false c e = refl
 
-pub kept_not_allowed : (h : Head) (p : Place) (bytes : List ℕ) (kind len : ℕ) (rest : List ℕ)
-    → FrontOf bytes kind len rest → is_allowed h p kind ≡ false → kept bytes (frame_at h p bytes) ≡ Err code.Frame
-kept_not_allowed h p bytes kind len rest front banned =
-    kept_unframed h p bytes (and_second _ _ (and_first _ _ (ap (is_allowed h p) front.kind_is ∙ banned)))
+pub unframed_kind : (h : Head) (p : Place) (bytes : List ℕ) (kind : ℕ) → slice_index bytes 0 ≡ kind
+    → is_allowed h p kind ≡ false → is_framed h p bytes ≡ false
+unframed_kind h p bytes kind is banned = and_second _ _ (and_first _ _ (ap (is_allowed h p) is ∙ banned))
 
-pub kept_past : (h : Head) (p : Place) (bytes : List ℕ) (kind len : ℕ) (rest : List ℕ) → FrontOf bytes kind len rest
-    → length rest < len → kept bytes (frame_at h p bytes) ≡ Err code.Frame
-kept_past h p bytes kind len rest front lt =
-    kept_unframed h p bytes (and_second _ _ (and_second _ _ (past front.len_is front.size)))
+pub unframed_past : (h : Head) (p : Place) (bytes : List ℕ) (kind len : ℕ) (rest : List ℕ)
+    → FrontOf bytes kind len rest → length rest < len → is_framed h p bytes ≡ false
+unframed_past h p bytes kind len rest front lt = and_second _ _ (and_second _ _ (past front.len_is front.size))
   where
     past : big_number 4 (drop 1 bytes) ≡ len → length bytes ≡ 5 + length rest
         → leb (5 + big_number 4 (drop 1 bytes)) (length bytes) ≡ false
     past e s = grind arith
 
-framed_from : (h : Head) (p : Place) (bytes : List ℕ) (kind len : ℕ) (rest : List ℕ) → FrontOf bytes kind len rest
-    → is_allowed h p kind ≡ true → len ≤ length rest → is_framed h p bytes ≡ true
-framed_from h p bytes kind len rest front allowed le =
-    and_from _ _ (le-leb 5 (length bytes) (omega (arith, front.size)))
-    (and_from _ _ (ap (is_allowed h p) front.kind_is ∙ allowed)
-    (le-leb _ _ (omega (arith, front.size, front.len_is))))
+-- ---- what is kept
 
-body_is : (h : Head) (p : Place) (bytes : List ℕ) (kind len : ℕ) (rest : List ℕ) → FrontOf bytes kind len rest
-    → body_of h p (slice_index bytes 0) (take (big_number 4 (drop 1 bytes)) (drop 5 bytes))
-    ≡ body_of h p kind (take len rest)
-body_is h p bytes kind len rest front = rw (front.kind_is, front.len_is, front.rest_is) refl
-
-pub kept_wrong : (h : Head) (p : Place) (bytes : List ℕ) (kind len : ℕ) (rest : List ℕ) → FrontOf bytes kind len rest
-    → is_allowed h p kind ≡ true → len ≤ length rest
-    → None ≡ option_map accesses_in (body_of h p kind (take len rest)) → kept bytes (frame_at h p bytes) ≡ Err code.Body
+pub kept_unframed : (h : Head) (p : Place) (bytes : List ℕ) → is_framed h p bytes ≡ false
+    → kept bytes (frame_at h p bytes) ≡ Err code.Frame
 unfolding frame_at
-kept_wrong h p bytes kind len rest front allowed le e =
-    rw (framed_from h p bytes kind len rest front allowed le, body_is h p bytes kind len rest front)
-    (by (body_of h p kind (take len rest)) e)
+kept_unframed h p bytes e = rw e refl
+
+framed_from : (h : Head) (p : Place) (bytes : List ℕ) (kind : ℕ) (body : List ℕ) → IsFrontOf bytes kind body
+    → is_allowed h p kind ≡ true → is_framed h p bytes ≡ true
+framed_from h p bytes kind body front allowed =
+    and_from _ _ (le-leb 5 (length bytes) (omega (arith, front.whole)))
+    (and_from _ _ (ap (is_allowed h p) front.kind_is ∙ allowed)
+    (le-leb _ _ (omega (arith, front.whole, front.len_is))))
+
+body_is : (h : Head) (p : Place) (bytes : List ℕ) (kind : ℕ) (body : List ℕ) → IsFrontOf bytes kind body
+    → body_of h p (slice_index bytes 0) (take (big_number 4 (drop 1 bytes)) (drop 5 bytes)) ≡ body_of h p kind body
+body_is h p bytes kind body front = rw (front.kind_is, front.len_is, front.body_is) refl
+
+pub kept_wrong : (h : Head) (p : Place) (bytes : List ℕ) (kind : ℕ) (body : List ℕ) → IsFrontOf bytes kind body
+    → is_allowed h p kind ≡ true → None ≡ option_map accesses_in (body_of h p kind body)
+    → kept bytes (frame_at h p bytes) ≡ Err code.Body
+unfolding frame_at
+kept_wrong h p bytes kind body front allowed e =
+    rw (framed_from h p bytes kind body front allowed, body_is h p bytes kind body front)
+    (by (body_of h p kind body) e)
   where
     by : (o : Option Frame) → None ≡ option_map accesses_in o
         → kept bytes (with_rest (drop (big_number 4 (drop 1 bytes)) (drop 5 bytes)) o) ≡ Err code.Body
     by (Some f) e = absurd cc
     by None e = refl
 
-pub kept_right : (h : Head) (p : Place) (bytes : List ℕ) (kind len accesses : ℕ) (rest : List ℕ)
-    → FrontOf bytes kind len rest → is_allowed h p kind ≡ true → len ≤ length rest
-    → Some accesses ≡ option_map accesses_in (body_of h p kind (take len rest)) → kept bytes (frame_at h p bytes)
-    ≡ Ok (record { kind = kind; len = 5 + len; accesses = accesses })
+pub kept_right : (h : Head) (p : Place) (bytes : List ℕ) (kind accesses : ℕ) (body : List ℕ)
+    → IsFrontOf bytes kind body → is_allowed h p kind ≡ true
+    → Some accesses ≡ option_map accesses_in (body_of h p kind body)
+    → kept bytes (frame_at h p bytes) ≡ Ok (record { kind = kind; len = 5 + length body; accesses = accesses })
 unfolding frame_at
-kept_right h p bytes kind len accesses rest front allowed le e =
-    rw (framed_from h p bytes kind len rest front allowed le, body_is h p bytes kind len rest front)
-    (by (body_of h p kind (take len rest)) e)
+kept_right h p bytes kind accesses body front allowed e =
+    rw (framed_from h p bytes kind body front allowed, body_is h p bytes kind body front)
+    (by (body_of h p kind body) e)
   where
     by : (o : Option Frame) → Some accesses ≡ option_map accesses_in o
         → kept bytes (with_rest (drop (big_number 4 (drop 1 bytes)) (drop 5 bytes)) o)
-        ≡ Ok (record { kind = kind; len = 5 + len; accesses = accesses })
+        ≡ Ok (record { kind = kind; len = 5 + length body; accesses = accesses })
     by (Some f) e =
         let same : accesses_in f ≡ accesses = cc in
         rw (front.kind_is, front.len_is, same) refl

@@ -16,5 +16,6 @@ pub mod CutLaws
 pub mod StartsAt
 pub mod StepLaws
 pub mod Firsts
+pub mod Lowering
 pub mod Lists
 pub mod FormDecided

@@ -18,6 +18,7 @@ use Rattle.eve_views.proofs.FrameLaws.{true_false}
 
 -- ---- what an allowed kind says of the place
 
+-- no frame may stand after the end
 pub allowed_open : (h : Head) (p : Place) (kind : ℕ) → is_allowed h p kind ≡ true → p.ended ≡ false
 allowed_open h p kind e = grind arith
 

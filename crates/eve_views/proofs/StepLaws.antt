@@ -8,7 +8,7 @@ use Rattle.std.proofs.lemmas.List.{length-append, length-take-le, length-drop, t
 use Rattle.std.proofs.lemmas.List.{drop_at, drop-drop}
 use Rattle.std.proofs.Math.Seq.{take-append-add}
 use Rattle.std.proofs.lemmas.Option.{same_Some}
-use Rattle.eve_grammar.specs.Trace.{Attempt, Commit, Rollback, Step, Attempts, Commits, RollsBack}
+use Rattle.eve_grammar.specs.Trace.{Attempt, Step, Attempts, Commits, RollsBack}
 use Rattle.eve_grammar.specs.Frames.{Frame, OfAttempt, OfAccess, OfCommit, OfRollback, kind_of, without_accesses}
 use Rattle.eve_grammar.specs.Frames.{step_frames}
 use Rattle.eve_grammar.specs.Spelling.{frame_text, frames_text, located, accesses_at, step_text}

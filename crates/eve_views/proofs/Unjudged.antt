@@ -1,7 +1,7 @@
 -- Frames of which bodies were not judged.
-use Rattle.std.proofs.Common.{◌≡◌, ℕ, ◌+◌, ◌-◌, ◌≤◌, true, List, [], ◌∷◌, ◌++◌, length, take, drop, Option}
+use Rattle.std.proofs.Common.{◌≡◌, ℕ, ◌+◌, ◌-◌, ◌≤◌, Bool, true, List, [], ◌∷◌, ◌++◌, length, take, drop, Option}
 use Rattle.std.proofs.Common.{Some, None, refl, sym, ap, ap₂, subst, ◌∙◌, eqb, cond, is_some, arith}
-use Rattle.std.specs.Prelude.{IsTrue, All}
+use Rattle.std.specs.Prelude.{IsTrue, All, slice_index}
 use Rattle.std.specs.Option.{option_map}
 use Rattle.std.proofs.lemmas.Bool.{eq-eqb}
 use Rattle.std.proofs.lemmas.List.{take_rest, take-append-drop}
@@ -17,9 +17,10 @@ use Rattle.eve_frames.proofs.AttemptPlaces.{attempt_at}
 use Rattle.eve_views.specs.declared.starts.Starts.{Starts}
 use Rattle.eve_views.specs.Starting.{noted}
 use Rattle.eve_views.specs.Places.{accesses_in, place_after}
+use Rattle.eve_views.specs.Walk.{IsFrontOf}
 use Rattle.eve_views.specs.Indexing.{KeptFrame}
 use Rattle.eve_views.specs.SideBySide.{is_right_body, IsRightFrame, AreRightFrames, IsFramedUnjudged}
-use Rattle.eve_views.proofs.Keeping.{FrontOf, kept_right}
+use Rattle.eve_views.proofs.Keeping.{kept_right}
 use Rattle.eve_views.proofs.Reaching.{Walking, step_here, walking_more, room_of}
 
 -- ---- what follows a body
@@ -70,24 +71,22 @@ batch_followed h p body said right = by (batch_of body) refl right
 
 -- ---- one frame
 
-pub framed_unjudged : (h : Head) (p : Place) (bytes : List ℕ) (kind len accesses : ℕ) (rest : List ℕ)
-    → FrontOf bytes kind len rest → is_allowed h p kind ≡ true → len ≤ length rest
-    → (IsTrue (is_right_body (row_count h) kind (take len rest)) → Follow h p kind (take len rest) accesses)
-    → IsFramedUnjudged h p bytes (record { kind = kind; len = 5 + len; accesses = accesses })
-framed_unjudged h p bytes kind len accesses rest front allowed le follow = record {
+pub right_body : (rows : ℕ) (bytes : List ℕ) (kind : ℕ) (body : List ℕ) → IsFrontOf bytes kind body
+    → is_right_body rows (slice_index bytes 0) (take (big_number 4 (drop 1 bytes)) (drop 5 bytes))
+    ≡ is_right_body rows kind body
+right_body rows bytes kind body front = rw (front.kind_is, front.len_is, front.body_is) refl
+
+pub framed_unjudged : (h : Head) (p : Place) (bytes : List ℕ) (kind accesses : ℕ) (body : List ℕ)
+    → IsFrontOf bytes kind body → is_allowed h p kind ≡ true
+    → (IsTrue (is_right_body (row_count h) kind body) → Follow h p kind body accesses)
+    → IsFramedUnjudged h p bytes (record { kind = kind; len = 5 + length body; accesses = accesses })
+framed_unjudged h p bytes kind accesses body front allowed follow = record {
   allowed = allowed;
   some = omega arith;
-  within = omega (arith, front.size, le);
-  right = λ right. sym (kept_right h p bytes kind len accesses rest front allowed le (follow (body right)));
+  within = front.whole;
+  right = λ right. sym (kept_right h p bytes kind accesses body front allowed
+      (follow (subst (λ (t : Bool). t ≡ true) (right_body (row_count h) bytes kind body front) right)));
 }
-  where
-    here : take (big_number 4 (drop 1 bytes)) (drop 5 bytes) ≡ take len rest
-    here = rw (front.len_is, front.rest_is) refl
-
-    body : IsRightFrame (row_count h) bytes → IsTrue (is_right_body (row_count h) kind (take len rest))
-    body right = subst (λ (b : List ℕ). IsTrue (is_right_body (row_count h) kind b)) here
-        (subst (λ (k : ℕ). IsTrue (is_right_body (row_count h) k
-        (take (big_number 4 (drop 1 bytes)) (drop 5 bytes)))) front.kind_is right)
 
 -- ---- stretches
 

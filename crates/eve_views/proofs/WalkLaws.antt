@@ -1,12 +1,12 @@
 -- Frames, one after the other.
-use Rattle.std.proofs.Common.{◌≡◌, ℕ, suc, ◌+◌, ◌-◌, ◌<◌, ◌≤◌, Bool, true, false, ◌&&◌, cond, eqb, List, [], ◌∷◌, ◌++◌}
+use Rattle.std.proofs.Common.{◌≡◌, ℕ, suc, ◌+◌, ◌-◌, ◌<◌, ◌≤◌, Bool, true, false, ◌&&◌, eqb, List, [], ◌∷◌, ◌++◌}
 use Rattle.std.proofs.Common.{length, Ok, Err, refl, sym, ap, subst, ◌∙◌, append_assoc, zero-add, arith}
 use Rattle.std.specs.Prelude.{IsTrue, slice_index}
 use Rattle.std.proofs.lemmas.Bool.{eqb-true}
 use Rattle.std.proofs.lemmas.List.{length-append, append-nil, nil_from_length}
 use Rattle.std.proofs.lemmas.List.Concat.{flat_map-append}
 use Rattle.eve_grammar.specs.Trace.{Head}
-use Rattle.eve_grammar.specs.Frames.{Frame, Place, start_place, next_place, kind_of, is_allowed}
+use Rattle.eve_grammar.specs.Frames.{Frame, Place, start_place, next_place, kind_of}
 use Rattle.eve_grammar.specs.Spelling.{frame_text, frames_text}
 use Rattle.eve_grammar.specs.Limits.{is_head, FitsAt}
 use Rattle.eve_grammar.specs.Following.{Follow, after, AreAllFrames}
@@ -16,18 +16,11 @@ use Rattle.eve_views.specs.Walk.{frame_at, Walked, with_frame, walk_on, walk, fr
 use Rattle.eve_grammar.proofs.Codec.{IsBytes}
 use Rattle.eve_views.proofs.Bytes.{IsBytes-behind}
 use Rattle.eve_views.proofs.FrameLaws.{StandsHere, frame_again, frame_stands, Framed-from, true_false}
+use Rattle.eve_views.proofs.StartLaws.{allowed_open}
 
 abbrev pub with_front : List Frame → Walked → Walked
 with_front [] r = r
 with_front (f ∷ fs) r = with_frame f (with_front fs r)
-
-ended_or : (b c : Bool) → cond b false c ≡ true → b ≡ false
-ended_or true c e = absurd cc
-ended_or false c e = refl
-
--- no frame may stand after the end
-pub allowed_open : (h : Head) (p : Place) (kind : ℕ) → is_allowed h p kind ≡ true → p.ended ≡ false
-allowed_open h p kind e = ended_or p.ended _ e
 
 walk_step : (n : ℕ) (h : Head) (p : Place) (bytes : List ℕ) → p.ended ≡ false → walk (suc n) h p bytes
     ≡ walk_on bytes (frame_at h p bytes) (λ f rest. walk n h (next_place p f) rest)

@@ -1,6 +1,7 @@
 pub mod Code
 pub mod Form
 pub mod First
+pub mod Least
 pub mod Header
 pub mod Walk
 pub mod Places

@@ -1,6 +1,6 @@
 -- Which frames lie in bytes, by taking one after another. A device: it names the frames of a trace that was
 -- read. What a trace is, and what is wrong with other bytes, is said without it.
-use Rattle.std.specs.Prelude.{ℕ, zero, suc, ◌==◌, ◌&&◌, if◌then◌else◌, List, [], ◌∷◌, length, take, drop, slice_index}
+use Rattle.std.specs.Prelude.{◌≡◌, ℕ, zero, suc, ◌+◌, ◌≤◌, ◌==◌, ◌&&◌, if◌then◌else◌, List, [], ◌∷◌, length, take, drop, slice_index}
 use Rattle.std.specs.Prelude.{Option, Some, None, Result, Ok, Err}
 use Rattle.byteorder.specs.Endian.{big_number}
 use Rattle.eve_grammar.specs.Trace.{Head}
@@ -24,6 +24,13 @@ inside h p bytes =
 -- the frame at the front of the bytes, or what is wrong there
 unfoldable pub frame_at : Head → Place → List ℕ → Result (Frame × List ℕ) Code
 frame_at h p bytes = if is_framed h p bytes then inside h p bytes else Err code.Frame
+
+-- a frame that begins with this byte and has this body lies at the front of bytes as a whole
+pub record IsFrontOf (bytes : List ℕ) (kind : ℕ) (body : List ℕ) : Type 0 where
+  pub kind_is : slice_index bytes 0 ≡ kind
+  pub len_is : big_number 4 (drop 1 bytes) ≡ length body
+  pub body_is : take (length body) (drop 5 bytes) ≡ body
+  pub whole : 5 + length body ≤ length bytes
 
 -- the frames that were found, or what is wrong and the bytes from there on
 abbrev pub Walked : Type 0

@@ -27,7 +27,7 @@ pub enum Code {
     SameRequest,
     /// The attempt's batch, view, mode or number of requests is not the one that is due.
     Attempt,
-    /// The certificate is no order that keeps the groups.
+    /// The certificate is no order that keeps the groups, or, in serial mode, isn't the listed order.
     Certificate,
     /// The worker or the request's index is none that may be there.
     Access,
@@ -158,7 +158,7 @@ pub struct Fault {
     pub replica: Option<u8>,
 }
 
-/// What a check answers where it has nothing else to say.
+/// Why a check doesn't answer Ok: what it looks for was found, or memory was refused.
 #[derive(Debug, Drop, PartialEq, Eq)]
 pub enum CheckFault {
     /// The first fault of those that the check looks for.

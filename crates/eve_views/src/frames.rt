@@ -40,6 +40,7 @@ impl<'t, 'a> Frames<'t, 'a> {
     /// The next frame.
     pub fn next(&mut self) -> Option<FrameView<'a>>
         ensures none { IfNone result (self.old ≡ []) }
+        ensures left { IfNone result (self.new ≡ self.old) }
         ensures some { IfSome result (λ v. (f : Frame) × (self.old ≡ (v.offset, f) ∷ self.new)
             × (v.bytes.now ≡ frame_text f)) }
     {

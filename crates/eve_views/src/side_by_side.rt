@@ -18,11 +18,11 @@ use crate::body::accesses_behind;
 use crate::fault::CheckFault;
 use crate::place::Place;
 use crate::starts::Starts;
-use crate::walk::{Framed, Index, index_of};
+use crate::walk::{Framed, Index, index_of, kind_and_body};
 use byteorder::{BigEndian, ByteOrder};
 use eve_grammar::{
     FrameKind, Head, MOST_BYTES, MOST_NAMED_ROWS, MOST_NAMES, batch_number, certificate_len,
-    is_access_body, u8_at, u32_at,
+    is_access_body,
 };
 use std::alloc::{AllocError, Global};
 use std::thread;
@@ -75,17 +75,14 @@ fn frame_unjudged(at: &Place, bytes: &[u8]) -> Option<Framed>
     requires { at.now.head.customers ≤ MOST_NAMES }
     ensures { IfSome result (λ f. IsFramedUnjudged (limits at.now.head) (place at.now) bytes.now (kept_in f)) }
 {
-    let (first, rest) = u8_at(bytes)?;
-    let (len, rest) = u32_at(rest)?;
-    let kind = FrameKind::of(first)?;
-    let len = len as usize;
-    if !at.allows(kind) || rest.len() < len {
+    let (kind, body) = kind_and_body(bytes)?;
+    if !at.allows(kind) {
         return None;
     }
-    let accesses = accesses_unjudged(at, kind, &rest[..len])?;
+    let accesses = accesses_unjudged(at, kind, body)?;
     Some(Framed {
         kind,
-        len: 5 + len,
+        len: 5 + body.len(),
         accesses,
     })
 }
@@ -132,17 +129,10 @@ fn is_right_frame(rows: u32, bytes: &[u8]) -> bool
     requires { rows ≤ MOST_NAMED_ROWS }
     ensures { IsTrue result → IsRightFrame rows bytes.now }
 {
-    let Some((first, rest)) = u8_at(bytes) else {
-        return false;
-    };
-    let Some((len, rest)) = u32_at(rest) else {
-        return false;
-    };
-    let Some(kind) = FrameKind::of(first) else {
-        return false;
-    };
-    let len = len as usize;
-    len <= rest.len() && is_right_body(rows, kind, &rest[..len])
+    match kind_and_body(bytes) {
+        Some((kind, body)) => is_right_body(rows, kind, body),
+        None => false,
+    }
 }
 
 /// Whether the frames at these offsets have right bodies, where they are batches, attempts or access records.
@@ -209,7 +199,8 @@ fn are_right_in_two<R: Threads + Sync>(
 }
 
 /// Finds the frames after a header, with the bodies of batches, attempts and access records judged in as many threads
-/// as there are jobs, or in fewer where a thread would have too little; nothing where anything is wrong.
+/// as there are jobs, or in fewer where a thread would have too little; nothing where anything is wrong, or where one
+/// thread is enough.
 fn index_by_threads<R: Threads + Sync>(
     rt: &R,
     alloc: Global,
@@ -222,10 +213,13 @@ fn index_by_threads<R: Threads + Sync>(
     requires length { length bytes.now ≤ MOST_BYTES }
     ensures { IfOk result (λ found. IfSome found (IsIndex (limits head) bytes.now)) }
 {
+    let threads = usize::from(jobs).min(bytes.len() / LEAST_BYTES);
+    if threads < 2 {
+        return Ok(None);
+    }
     let Some(index) = index_unjudged(alloc, head, bytes)? else {
         return Ok(None);
     };
-    let threads = usize::from(jobs).min(bytes.len() / LEAST_BYTES);
     if are_right_in_two(rt, head, bytes, index.offsets.as_slice(), threads) {
         Ok(Some(index))
     } else {
@@ -235,7 +229,7 @@ fn index_by_threads<R: Threads + Sync>(
 
 /// Finds the frames after a header, or the first fault among them, as `index_of` does, with up to so many jobs.
 ///
-/// Of two jobs or more the caller walks over the frames without judging the bodies of batches, attempts and access
+/// For two threads or more the caller walks over the frames without judging the bodies of batches, attempts and access
 /// records, which are most of a trace, and then these are judged side by side. Only where that way finds something
 /// wrong, the walk is gone again from the start, frame by frame, for the first fault.
 pub fn index_side_by_side<R: Threads + Sync>(
@@ -251,10 +245,8 @@ pub fn index_side_by_side<R: Threads + Sync>(
     ensures found { IfOk result (IsIndex (limits head) bytes.now) }
     ensures fault { IfErr result (λ e. IfFound e (IsFormFault bytes.now)) }
 {
-    if 1 < jobs {
-        if let Some(index) = index_by_threads(rt, alloc, head, bytes, jobs)? {
-            return Ok(index);
-        }
+    if let Some(index) = index_by_threads(rt, alloc, head, bytes, jobs)? {
+        return Ok(index);
     }
     index_of(alloc, head, bytes)
 }

@@ -60,6 +60,7 @@ impl<'t, 'a> Steps<'t, 'a> {
     /// The next step.
     pub fn next(&mut self) -> Option<Step<'t, 'a>>
         ensures none { IfNone result (self.old ≡ []) }
+        ensures left { IfNone result (self.new ≡ self.old) }
         ensures some { IfSome result (λ s. (step : ℕ × StepValue) × (self.old ≡ step ∷ self.new) × IsStep s step) }
         ensures text { IfSome result LendsFrame }
     {

@@ -76,14 +76,14 @@ impl<'a> Trace<'a> {
     /// docs/TRACE.md, "Faults of form". With two jobs or more the bodies of batches, attempts and access records are
     /// judged side by side, in as many threads at most, and in no more than the trace has whole 64 KiB; the caller
     /// finds the frames first, and is one of these threads. Only where a fault stands there is another pass over the
-    /// bytes, by the caller, up to the first fault. With one job no thread is started. Refused memory decides nothing.
+    /// bytes, by the caller, up to the first fault. With one job, or in a trace of less than 128 KiB, no thread is
+    /// started, and it is read as `read` does. Refused memory decides nothing.
     pub fn read_side_by_side<R: Threads + Sync>(
         rt: &R,
         alloc: Global,
         bytes: &'a [u8],
         jobs: u8,
     ) -> Result<Trace<'a>, CheckFault>
-        requires { 1 ≤ jobs }
         ensures trace { IfOk result (Spells bytes.now) }
         ensures faultless { IfOk result (λ _. HasNone (IsFormFault bytes.now)) }
         ensures least { IfErr result (λ e. IfFound e (IsLeast (IsFormFault bytes.now))) }
@@ -331,8 +331,8 @@ impl<'a> Trace<'a> {
         ensures stands { HasBytesAt self.now result.offset result.bytes.now }
     {
         self.recall_limits();
-        let first = self.frame_count() - 1 - self.sent_count();
-        let frame = self.frame(first + i);
+        prove!(i < self.frame_count());
+        let frame = self.frame(self.sent_from() as usize + i);
         SentView::new(frame.offset, frame.bytes)
     }
 }

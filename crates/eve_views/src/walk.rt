@@ -1,10 +1,13 @@
 //! The walk over a trace, frame by frame.
 
-ghost use Rattle.std.specs.Prelude.{◌≡◌, ◌≤◌, length, IfOk, IfErr};
+ghost use Rattle.std.specs.Prelude.{◌≡◌, ◌≤◌, length, IfOk, IfErr, IfSome, IfNone, IsFalse};
+ghost use Rattle.eve_grammar.specs.Trace.{Head as HeadValue};
+ghost use Rattle.eve_grammar.specs.Frames.{Place as PlaceValue};
 ghost use Rattle.eve_grammar.specs.Bodies.{limits};
-ghost use Rattle.eve_views.specs.Form.{SaysHead, IsFormFault, IfFound};
+ghost use Rattle.eve_grammar.specs.Kinds.{kind_byte};
+ghost use Rattle.eve_views.specs.Form.{is_framed, SaysHead, IsFormFault, IfFound};
 ghost use Rattle.eve_views.specs.Places.{place};
-ghost use Rattle.eve_views.specs.Walk.{frame_at};
+ghost use Rattle.eve_views.specs.Walk.{frame_at, IsFrontOf};
 ghost use Rattle.eve_views.specs.Indexing.{answer_in, kept, IsIndex};
 
 use crate::body::accesses_behind;
@@ -25,29 +28,38 @@ pub struct Framed {
     pub accesses: usize,
 }
 
+/// The kind and the body of the frame at the front of the bytes, where one of some kind lies there as a whole.
+#[inline(always)]
+pub fn kind_and_body(bytes: &[u8]) -> Option<(FrameKind, &[u8])>
+    ensures some { IfSome result (λ f. IsFrontOf bytes.now (kind_byte f.0) f.1.now) }
+    ensures none { IfNone result ((h : HeadValue) (p : PlaceValue) → IsFalse (is_framed h p bytes.now)) }
+{
+    let (first, rest) = u8_at(bytes)?;
+    let (len, rest) = u32_at(rest)?;
+    let kind = FrameKind::of(first)?;
+    let len = len as usize;
+    if rest.len() < len {
+        return None;
+    }
+    Some((kind, &rest[..len]))
+}
+
 /// The frame at the front of the bytes, or what is wrong there.
 #[tactic(auto, unfolding(crate::specs::Walk::frame_at))]
 fn frame_in_front(at: &Place, bytes: &[u8]) -> Result<Framed, Code>
     requires { at.now.head.customers ≤ MOST_NAMES }
     ensures { answer_in result ≡ kept bytes.now (frame_at (limits at.now.head) (place at.now) bytes.now) }
 {
-    let Some((first, rest)) = u8_at(bytes) else {
+    let Some((kind, body)) = kind_and_body(bytes) else {
         return Err(Code::Frame);
     };
-    let Some((len, rest)) = u32_at(rest) else {
-        return Err(Code::Frame);
-    };
-    let Some(kind) = FrameKind::of(first) else {
-        return Err(Code::Frame);
-    };
-    let len = len as usize;
-    if !at.allows(kind) || rest.len() < len {
+    if !at.allows(kind) {
         return Err(Code::Frame);
     }
-    match accesses_behind(at, kind, &rest[..len]) {
+    match accesses_behind(at, kind, body) {
         Some(accesses) => Ok(Framed {
             kind,
-            len: 5 + len,
+            len: 5 + body.len(),
             accesses,
         }),
         None => Err(Code::Body),

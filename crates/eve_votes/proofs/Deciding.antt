@@ -17,7 +17,8 @@ use Rattle.eve_grammar.specs.Limits.{HasLimits, is_vote, is_between, is_number, 
 use Rattle.eve_views.specs.declared.fault.Code.TheVariants as code
 use Rattle.eve_votes.specs.Votes.{is_vote_on, is_only, IsDecided}
 use Rattle.eve_votes.specs.Faults.{HasTwoDecisions, StandsInVotes}
-use Rattle.eve_votes.specs.Least.{lower, IsBelow, IsBelowAll, Lowers}
+use Rattle.eve_views.specs.Least.{lower, IsBelow, Lowers}
+use Rattle.eve_votes.specs.Least.{IsBelowAll}
 use Rattle.eve_votes.specs.Ballots.{IsStart, Continues, IsAmong, HasCast}
 use Rattle.eve_votes.specs.declared.ballots.Ballot.{Ballot}
 use Rattle.eve_votes.specs.Decisions.{decision_said, decision_on, IsKnown, Judging, IsUnnoted, Notes, IsBatchAt}
@@ -26,7 +27,7 @@ use Rattle.eve_votes.specs.Decisions.{IsFound, Agrees, AreDecisions}
 use Rattle.eve_votes.specs.declared.decisions.Decision.{Decision}
 use Rattle.eve_votes.proofs.Places.{place_at, get_place, located_get, numbered}
 use Rattle.eve_votes.proofs.InOrder.{fellow_is}
-use Rattle.eve_votes.proofs.Casting.{lower_at, lower_stands}
+use Rattle.eve_views.proofs.Lowering.{lower_at, lower_stands}
 use Rattle.eve_votes.proofs.Counting.{counted, decided_backs, one_token}
 use Rattle.eve_grammar.proofs.Grouping.{all_at}
 use Rattle.eve_views.proofs.Locating.{length-located}

@@ -1,29 +1,19 @@
 -- Public: other crates cite these lemmas. Places of a list, and what stands there.
-use Rattle.std.proofs.Common.{◌≡◌, ℕ, zero, suc, ◌+◌, List, [], ◌∷◌, ◌++◌, map, length, take, drop, sym}
-use Rattle.std.proofs.Common.{Option, Some, refl, ap, ◌∙◌, append-nil, arith, add-one}
+use Rattle.std.proofs.Common.{◌≡◌, ℕ, zero, suc, ◌+◌, List, [], ◌∷◌, ◌++◌, map, length, take, drop}
+use Rattle.std.proofs.Common.{Option, Some, refl, ap, ◌∙◌, append-nil, arith}
 use Rattle.std.specs.Prelude.{slice_get}
 use Rattle.std.specs.List.{enumerate_from}
 use Rattle.std.specs.Option.{option_map}
-use Rattle.std.proofs.lemmas.List.{take_all, drop_all, take-append-drop}
-use Rattle.std.proofs.Math.Seq.{take-suc, drop-cons}
-use Rattle.std.proofs.lemmas.Option.{slice_get_within, get_or_from_slice_get}
+use Rattle.std.proofs.lemmas.List.{take_all, drop_all}
 use Rattle.eve_grammar.specs.Trace.{Batch}
 use Rattle.eve_grammar.specs.Spelling.{located}
 use Rattle.eve_views.specs.Form.{SomePlace}
-
--- ---- the last place, and those before it
-
--- ---- by number
-
-split_at : {A : Type 0} (xs : List A) (i : ℕ) (x : A) → slice_get xs i ≡ Some x → xs ≡ take i xs ++ x ∷ drop (suc i) xs
-split_at {A = A} xs i x e = sym (take-append-drop i xs)
-    ∙ ap (λ (ys : List A). take i xs ++ ys) (drop-cons xs i x (slice_get_within xs i x e)
-    ∙ ap (λ (y : A). y ∷ drop (suc i) xs) (get_or_from_slice_get xs i x x e))
+use Rattle.eve_views.proofs.Lists.{cut_at}
 
 pub place_at : {A : Type 0} (P : List A → A → Type 0) (xs : List A) (i : ℕ) (x : A) → slice_get xs i ≡ Some x
     → P (take i xs) x → SomePlace xs P
 place_at P xs i x e holds =
-    record { before = take i xs; item = x; rest = drop (suc i) xs; is = split_at xs i x e; holds = holds }
+    record { before = take i xs; item = x; rest = drop (suc i) xs; is = cut_at xs i x e; holds = holds }
 
 pub get_between : {A : Type 0} (before : List A) (x : A) (rest : List A)
     → slice_get (before ++ x ∷ rest) (length before) ≡ Some x
@@ -39,13 +29,6 @@ pub get_in_front : {A : Type 0} (xs ys : List A) (i : ℕ) (x : A) → slice_get
 get_in_front [] ys i x e = absurd cc
 get_in_front (y ∷ xs) ys zero x e = e
 get_in_front (y ∷ xs) ys (suc i) x e = get_in_front xs ys i x e
-
--- one more
-pub take_next : {A : Type 0} (xs : List A) (i : ℕ) (x : A) → slice_get xs i ≡ Some x → take (i + 1) xs
-    ≡ take i xs ++ x ∷ []
-take_next {A = A} xs i x e =
-    ap (λ (n : ℕ). take n xs) (add-one i) ∙ take-suc xs i x (slice_get_within xs i x e)
-    ∙ ap (λ (y : A). take i xs ++ y ∷ []) (get_or_from_slice_get xs i x x e)
 
 -- a vector that was sorted as a slice
 pub whole_slice : {A : Type 0} (xs ys : List A) (n : ℕ) → length ys ≡ length xs → n ≡ length xs

@@ -14,14 +14,15 @@ use Rattle.eve_grammar.specs.Spelling.{votes_of, votes_at}
 use Rattle.eve_views.specs.declared.fault.Code.TheVariants as code
 use Rattle.eve_votes.specs.Votes.{is_vote_on}
 use Rattle.eve_votes.specs.Faults.{IsFurther, IsFurtherAt, StandsInVotes}
-use Rattle.eve_votes.specs.Least.{lower, IsBelow, IsLowest}
+use Rattle.eve_views.specs.Least.{lower, IsBelow}
+use Rattle.eve_votes.specs.Least.{IsLowest}
 use Rattle.eve_views.specs.Order.{AreInOrder}
 use Rattle.eve_votes.specs.Ballots.{ballot, is_alike, IsBefore, IsNoLaterBallot, FollowsAlike, IsVoteOf}
 use Rattle.eve_votes.specs.Ballots.{HasVotes}
 use Rattle.eve_votes.specs.Ballots.{IsOnly, HasCast}
 use Rattle.eve_votes.specs.declared.ballots.Ballot.{Ballot}
 use Rattle.eve_votes.proofs.Places.{place_at, get_place, get_between, get_in_front}
-use Rattle.eve_votes.proofs.Casting.{lower_lowers, lower_at, lower_stands}
+use Rattle.eve_views.proofs.Lowering.{lower_lowers, lower_at, lower_stands}
 use Rattle.eve_votes.proofs.Deciding.{vote_got}
 use Rattle.eve_votes.proofs.InOrder.{Alike, alike_is, is_alike_from, adjoin_later, adjoin_next}
 

@@ -20,7 +20,8 @@ use Rattle.eve_views.specs.declared.fault.Fault.{Fault}
 use Rattle.eve_votes.specs.Votes.{is_vote_on, IsDecided}
 use Rattle.eve_views.proofs.Firsts.{before_precedes, behind_precedes, precedes-refl, up_to_from, first_of_two}
 use Rattle.eve_votes.specs.Faults.{IsFurther, IsFurtherAt, StandsInVotes, outside, IsVoteFault, AreVotesSound}
-use Rattle.eve_votes.specs.Least.{IsBelow, IsBelowAll, IsLowest}
+use Rattle.eve_views.specs.Least.{IsBelow}
+use Rattle.eve_votes.specs.Least.{IsBelowAll, IsLowest}
 use Rattle.eve_votes.specs.Decisions.{decision_said, decision_on, IsKnown, AreDecisions}
 use Rattle.eve_votes.specs.declared.decisions.Decision.{Decision}
 use Rattle.eve_votes.proofs.Places.{located_values}

@@ -7,7 +7,7 @@ use Rattle.eve_views.specs.declared.fault.Code.TheVariants as code
 use Rattle.eve_votes.specs.Votes.{IsDecided}
 use Rattle.eve_views.specs.Form.{SomePlace}
 use Rattle.eve_votes.specs.Faults.{StandsInVotes}
-use Rattle.eve_votes.specs.Least.{IsBelow}
+use Rattle.eve_views.specs.Least.{IsBelow}
 use Rattle.eve_votes.specs.declared.decisions.Decision.{Decision}
 
 abbrev pub decision_said : Decision → ℕ × List ℕ

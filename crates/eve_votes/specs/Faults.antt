@@ -42,7 +42,7 @@ pub record IsVoteFault (t : Trace) (f : Fault) : Type 0 where
   pub stands : StandsInVotes f.code t f.offset
   pub outside : f.replica ≡ None
 
--- what holds where no fault of votes stands: each verifier votes once on a batch in a view, and a batch
+-- what holds where no fault of votes stands: each verifier votes at most once on a batch in a view, and a batch
 -- is decided as commit in one view, with one token
 pub record AreVotesSound (t : Trace) : Type 0 where
   pub once : (v n view : ℕ) → length (filter (is_vote_on n view) (votes_of t v)) ≤ 1

@@ -21,7 +21,7 @@ pub(crate) struct Ballot {
     pub seq: u32,
     pub view: u32,
     pub verifier: u8,
-    pub place: usize,
+    pub place: u32,
 }
 
 /// Whether two votes are a verifier's on one batch in one view.
@@ -52,7 +52,7 @@ pub(crate) fn vote_at<'a>(trace: &Trace<'a>, ballot: Ballot) -> VoteView<'a>
     ensures { slice_get (votes_at trace.now ballot.verifier) ballot.place
         ≡ Some (result.offset, vote_said result) }
 {
-    trace.votes(ballot.verifier).get(ballot.place)
+    trace.votes(ballot.verifier).get(ballot.place as usize)
 }
 
 /// Where the votes on the batch in this view begin.

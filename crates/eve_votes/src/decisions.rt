@@ -5,14 +5,14 @@ ghost use Rattle.std.specs.List.{All};
 ghost use Rattle.eve_views.specs.declared.fault.Code.TheVariants.{TwoDecisions};
 ghost use Rattle.eve_votes.specs.Votes.{IsDecided};
 ghost use Rattle.eve_votes.specs.Faults.{StandsInVotes};
-ghost use Rattle.eve_votes.specs.Least.{Lowers, IsLowest};
+ghost use Rattle.eve_views.specs.Least.{Lowers};
+ghost use Rattle.eve_votes.specs.Least.{IsLowest};
 ghost use Rattle.eve_votes.specs.Ballots.{IsStart, Continues, HasCast};
 ghost use Rattle.eve_votes.specs.Decisions.{Judging, IsUnnoted, Notes, IsFound, Agrees, AreDecisions};
 
 use crate::ballots::{Ballot, is_fellow};
-use crate::least::lower;
 use crate::majority::decided_in;
-use eve_views::Trace;
+use eve_views::{Trace, lower};
 
 /// A view in which a batch is decided as commit, and with which token.
 #[derive(Clone, Copy)]

@@ -3,7 +3,6 @@
 
 mod ballots;
 mod decisions;
-mod least;
 mod majority;
 mod tally;
 mod voting;

@@ -90,6 +90,7 @@ impl<'t, 'a> Tally<'t, 'a> {
         let cast = cast(alloc, trace)?;
         let mut ballots = Vec::with_capacity(alloc, cast.len())?;
         let again = sift(trace, &cast, &mut ballots)?;
+        drop(cast);
         let mut decisions = none_decided(alloc, trace.head().batches)?;
         let apart = decide(trace, &ballots, &mut decisions);
         match first_of(

@@ -8,8 +8,7 @@ ghost use Rattle.eve_votes.specs.Least.{IsLowest};
 ghost use Rattle.eve_votes.specs.Ballots.{ballots_from, ballots_of, FollowsAlike, HasVotes, HasCast};
 
 use crate::ballots::{Ballot, is_alike, vote_at};
-use crate::least::lower;
-use eve_views::Trace;
+use eve_views::{Trace, lower};
 use std::alloc::{AllocError, Global};
 
 /// Appends the votes of a verifier.
@@ -18,6 +17,7 @@ fn append(trace: &Trace<'_>, ballots: &mut Vec<Ballot>, verifier: u8) -> Result<
     ensures { OnOk result (ballots.new.items
         ≡ ballots.old.items ++ ballots_from verifier 0 (votes_of trace.now verifier)) }
 {
+    let _bytes = trace.bytes();
     let votes = trace.votes(verifier);
     ballots.reserve(votes.len())?;
     for place in 0..votes.len() {
@@ -26,7 +26,7 @@ fn append(trace: &Trace<'_>, ballots: &mut Vec<Ballot>, verifier: u8) -> Result<
             seq: vote.seq(),
             view: vote.view(),
             verifier,
-            place,
+            place: place as u32,
         })?;
     }
     Ok(())

@@ -1,6 +1,6 @@
-use Rattle.std.proofs.Common.{◌-◌, ℕ, Option, IfSome, take, refl, ap, sym, subst, ◌∙◌}
+use Rattle.std.proofs.Common.{◌-◌, ℕ, Option, IfSome, take, refl, ap, sym, subst, ◌∙◌, arith}
 use Rattle.std.specs.List.{flat_map}
-use Rattle.eve_grammar.specs.Trace.{Batch}
+use Rattle.eve_grammar.specs.Trace.{Batch, head_of}
 use Rattle.eve_grammar.specs.Spelling.{batches_at}
 use Rattle.eve_frames.specs.Views.{batch_in}
 use Rattle.eve_views.specs.declared.fault.Code.TheVariants as code
@@ -9,11 +9,21 @@ use Rattle.eve_views.specs.declared.fault.CheckFault.TheVariants.{Found}
 use Rattle.eve_views.specs.Form.{IfFound, IsLeast}
 use Rattle.eve_history.specs.Faults.{request_ids_at, IsOrderFault}
 use Rattle.eve_history.specs.Repeats.{IsFirstRepeat}
+use Rattle.eve_grammar.proofs.FrameLaws.{small_head}
 use Rattle.eve_history.proofs.OrderLaws.{asked_again, fault}
 use Rattle.eve_history.proofs.arrivals.requests_apart.Goals as goal
 
 pub returns-then-branch-clause-apart : goal.returns-then-branch-clause-apart
 returns-then-branch-clause-apart c = c.in_ok-numbers_rise.ensures.apart c.if-branch.true
+
+pub overflow_cast-n : goal.overflow_cast-n
+overflow_cast-n c =
+    let t = c.args.trace.now in
+    let repeat : IsFirstRepeat t c.in-Some.n = subst (λ (o : Option ℕ). IfSome o (IsFirstRepeat t)) c.in-Some.is
+    c.in_ok-first_repeat.ensures.first in
+    let few = (small_head (head_of t) c.recall_limits.ensures.head).batches in
+    let there = repeat.there in
+    record { fits = omega (arith, few, there) }
 
 pub returns-in-Some-clause-fault : goal.returns-in-Some-clause-fault
 returns-in-Some-clause-fault c =

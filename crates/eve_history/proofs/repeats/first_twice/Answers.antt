@@ -18,7 +18,7 @@ loop-i-preserved c =
     let later = slice_get-get_or xs i none (omega arith) in
     elim c.if-is_same.branch [
       | then-is_same w ↦
-          subst (Seen xs (i + 1)) (sym (w.first-is ∙ w.earlier-first.ensures))
+          subst (Seen xs (i + 1)) (sym (w.first-is ∙ w.lower-first.ensures))
           (seen_same xs i c.loop-i.first a b (omega arith) former later c.loop-i.invariant
           (sym c.is_same.ensures ∙ w.if-is_same.true))
       | else-is_same w ↦

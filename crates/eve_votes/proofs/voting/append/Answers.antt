@@ -8,10 +8,29 @@ use Rattle.eve_grammar.specs.Spelling.{votes_of}
 use Rattle.eve_frames.specs.Views.{vote_in}
 use Rattle.eve_votes.specs.Ballots.{ballot, ballots_from}
 use Rattle.eve_votes.specs.declared.ballots.Ballot.{Ballot}
-use Rattle.eve_votes.proofs.Places.{take_next}
+use Rattle.eve_views.proofs.CutLaws.{few_votes}
+use Rattle.eve_views.proofs.Lists.{take_one_more}
 use Rattle.eve_votes.proofs.Deciding.{vote_got, vote_count}
 use Rattle.eve_votes.proofs.Gathered.{from_more}
 use Rattle.eve_votes.proofs.voting.append.Goals as goal
+
+pub overflow_cast-place : goal.overflow_cast-place
+overflow_cast-place c =
+    let t = c.args.trace.now in
+    let v = c.args.verifier in
+    let few = few_votes t v c.requires in
+    let short = c.bytes-bytes.ensures.short in
+    record {
+      fits = omega (
+        arith,
+        few,
+        short,
+        vote_count t v,
+        ap length c.votes-votes.ensures,
+        c.loop-place-test.true,
+        c.len-place-end.ensures,
+      );
+    }
 
 pub loop-place-preserved : goal.loop-place-preserved
 loop-place-preserved c =
@@ -26,7 +45,7 @@ loop-place-preserved c =
     let many : length (take i ws) ≡ i = length-take-le i ws (omega arith) in
     let place : 0 + length (take i ws) ≡ i = omega arith in
     let all : ballots_from v 0 (take (i + 1) ws) ≡ ballots_from v 0 (take i ws) ++ ballot v i w ∷ [] =
-    ap (ballots_from v 0) (take_next ws i w got) ∙ from_more v 0 (take i ws) w ∙
+    ap (ballots_from v 0) (take_one_more ws i w got) ∙ from_more v 0 (take i ws) w ∙
     ap (λ (k : ℕ). ballots_from v 0 (take i ws) ++ ballot v k w ∷ []) place in
     let pushed : Ballot = record { seq = c.seq.result; view = c.view.result; verifier = v; place = i } in
     let same : pushed ≡ ballot v i w =

@@ -3,7 +3,7 @@ use Rattle.std.proofs.lemmas.Bool.{false≢true}
 use Rattle.std.proofs.lemmas.Option.{slice_get-get_or, slice_get_within}
 use Rattle.eve_grammar.specs.Spelling.{votes_of}
 use Rattle.eve_frames.specs.Views.{vote_in}
-use Rattle.eve_votes.specs.Least.{lower}
+use Rattle.eve_views.specs.Least.{lower}
 use Rattle.eve_votes.specs.Ballots.{FollowsAlike}
 use Rattle.eve_votes.specs.declared.ballots.Ballot.{Ballot}
 use Rattle.eve_votes.proofs.Gathered.{verifier_there}

@@ -14,8 +14,8 @@ use Rattle.eve_history.proofs.Coming.{come_wrong, come_commit, with_commit}
 use Rattle.eve_history.proofs.Taking.{commit_wrong, commit_right}
 use Rattle.eve_history.proofs.notes.Notes.take_commit.Goals as goal
 
-pub returns-then-not-commits_first-clause-wrong : goal.returns-then-not-commits_first-clause-wrong
-returns-then-not-commits_first-clause-wrong c =
+pub returns-then-not-is_right_commit-clause-wrong : goal.returns-then-not-is_right_commit-clause-wrong
+returns-then-not-is_right_commit-clause-wrong c =
     let e = c.args.e in
     let k = kept_section c.args.self.now in
     let at = c.args.commit.now.offset in
@@ -28,7 +28,7 @@ returns-then-not-commits_first-clause-wrong c =
     (λ t rest come.
     come_wrong t e (at, Commits said) rest k (record { code = code.Commit; offset = at }) come
     (commit_wrong t (state_after start come.front) at said
-    (sym (c.commits_first.ensures (state_after start come.front) come.stands) ∙ c.if-not-commits_first.true)))
+    (sym (c.is_right_commit.ensures (state_after start come.front) come.stands) ∙ c.if-not-is_right_commit.true)))
 
 pub returns-clause-taken : goal.returns-clause-taken
 returns-clause-taken c = λ t rest come.
@@ -47,4 +47,4 @@ returns-clause-taken c = λ t rest come.
     subst (HasCome t e rest) is
     (come_commit t e at said rest k come
     (commit_right t (state_after start come.front) at said
-    (sym (c.commits_first.ensures (state_after start come.front) come.stands) ∙ c.if-not-commits_first.false)))
+    (sym (c.is_right_commit.ensures (state_after start come.front) come.stands) ∙ c.if-not-is_right_commit.false)))

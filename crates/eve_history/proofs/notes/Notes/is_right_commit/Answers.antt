@@ -8,7 +8,7 @@ use Rattle.eve_history.specs.Standing.{IsAttemptAt}
 use Rattle.eve_history.specs.Section.{same_bytes}
 use Rattle.eve_history.specs.Coming.{kept_section, kept_attempt}
 use Rattle.eve_history.proofs.Finding.{commit_is, get_mapped, get_is, rec_at}
-use Rattle.eve_history.proofs.notes.Notes.commits_first.Goals as goal
+use Rattle.eve_history.proofs.notes.Notes.is_right_commit.Goals as goal
 
 number_is : (seq last : ℕ) (b : Bool) → seq ≡ last + 1 → ((seq == last + 1) && b) ≡ b
 number_is seq last b e = rw (eq-eqb seq (last + 1) e) refl

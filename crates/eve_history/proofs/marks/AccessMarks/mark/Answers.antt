@@ -3,11 +3,11 @@ use Rattle.std.proofs.lemmas.List.{length-map}
 use Rattle.std.proofs.lemmas.List.Sums.{count_by-le-length}
 use Rattle.eve_grammar.specs.Trace.{Access}
 use Rattle.eve_frames.specs.Views.{access_in}
-use Rattle.eve_history.specs.declared.marks.Marks.{Marks}
+use Rattle.eve_history.specs.declared.marks.AccessMarks.{AccessMarks}
 use Rattle.eve_history.specs.Faults.{accesses_of}
 use Rattle.eve_history.specs.Marking.{AreMarked}
 use Rattle.eve_history.proofs.Marking.{refused_worker, refused_index, refused_again, refused_place, taken_right}
-use Rattle.eve_history.proofs.marks.Marks.mark.Goals as goal
+use Rattle.eve_history.proofs.marks.AccessMarks.mark.Goals as goal
 
 pub returns-then-worker-workers : goal.returns-then-worker-workers
 returns-then-worker-workers c = λ before marked.
@@ -43,7 +43,7 @@ returns c = λ before marked.
     (search rules) (search rules)
 
 -- as many have come of a worker as there are at most
-few_places : (m : Marks) (before : List (ℕ × Access)) (worker : ℕ) → AreMarked before m → worker < 8
+few_places : (m : AccessMarks) (before : List (ℕ × Access)) (worker : ℕ) → AreMarked before m → worker < 8
     → length before < 256 → get_or m.places worker 0 < 256
 few_places m before worker marked lt few =
     let xs = accesses_of before in
