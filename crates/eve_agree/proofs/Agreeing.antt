@@ -1,56 +1,76 @@
 -- Public: other crates cite these lemmas. The least of the faults of agreement, batch after batch.
 use Rattle.std.proofs.Common.{◌≡◌, ℕ, zero, suc, ◌+◌, ◌<◌, ◌≤◌, nat_le, Bool, true, false, cond, List, [], ◌∷◌, map}
 use Rattle.std.proofs.Common.{length, take, drop, slice_get, Option, Some, None, IfSome, refl, sym, ap, subst, ◌∙◌, inl}
-use Rattle.std.proofs.Common.{inr, arith, add-one, length-take-le, le_of_lt}
+use Rattle.std.proofs.Common.{inr, ◌⊎◌, if◌then◌else◌, arith, add-one}
 use Rattle.std.specs.List.{enumerate_from, find}
-use Rattle.std.proofs.lemmas.Bool.{cases_lt, leb-true, leb-false}
-use Rattle.std.proofs.lemmas.Option.{slice_get_within}
+use Rattle.std.proofs.lemmas.Bool.{cases_lt}
 use Rattle.eve_smallbank.specs.declared.request.Reply.{Reply}
 use Rattle.eve_grammar.specs.Trace.{Trace}
 use Rattle.eve_views.specs.declared.fault.Code.{Code}
 use Rattle.eve_views.specs.declared.fault.Code.TheVariants as code
 use Rattle.eve_views.specs.declared.fault.Fault.{Fault}
 use Rattle.eve_views.specs.Form.{IsUpTo, IsLeast}
-use Rattle.eve_views.specs.Code.{code_number}
+use Rattle.eve_views.specs.Code.{code_number, phase_of}
+use Rattle.eve_views.specs.First.{is_before, first_of}
+use Rattle.eve_views.proofs.Firsts.{before_precedes, behind_precedes, up_to_from}
 use Rattle.eve_votes.proofs.Places.{get_between}
 use Rattle.eve_history.specs.Section.{Placed}
 use Rattle.eve_history.specs.SectionHistory.{SectionHistory, section_history, section_histories, history, committed_at}
 use Rattle.eve_history.specs.SectionHistory.{IsRightSection}
 use Rattle.eve_history.proofs.Places.{cut_at}
 use Rattle.eve_history.proofs.Rights.{as_many_told, section_history_at}
-use Rattle.eve_chains.proofs.Linked.{last_committed, some_injective, none≢some}
+use Rattle.eve_chains.proofs.Linked.{last_committed, some_injective, none≢some, take_length}
 use Rattle.eve_agree.specs.Agreement.{first_to_commit, HaveSameOutcome, ReplicasAgree, StandsInAgreement}
 use Rattle.eve_agree.specs.Agreement.{IsOutcomeFault}
-use Rattle.eve_agree.specs.Judging.{NoneBefore, Stand, IsUpToAt, KeepsFound, AgreesOrIsFound, outcome_fault}
-use Rattle.eve_agree.specs.Judging.{lower_outcome}
+use Rattle.eve_agree.specs.Judging.{NoneBefore, Stand, IsUpToAt, KeepsFound, AgreesOrIsFound}
 use Rattle.eve_agree.proofs.Outcomes.{IsOf, last_told, committed_low, replica_there, first_there}
 
--- ---- the lesser of two
+-- ---- the first of two
 
-pub lower_lowers : (least : Option Fault) (at e : ℕ) → KeepsFound least (lower_outcome least at e)
-lower_lowers None at e to up = absurd up
-lower_lowers (Some f) at e to up = by (nat_le f.offset at) refl
-  where
-    by : (b : Bool) → nat_le f.offset at ≡ b → IsUpToAt (cond b (Some f) (Some (outcome_fault at e))) to
-    by true le = up
-    by false le = (let more = leb-false f.offset at le in let is : f.offset ≤ to = up in omega arith)
+-- a fault of replica e at this offset
+abbrev pub outcome_fault : ℕ → ℕ → Fault
+outcome_fault at e = record { code = code.Outcome; offset = at; replica = Some e }
 
-pub lower_here : (least : Option Fault) (at e : ℕ) → IsUpToAt (lower_outcome least at e) at
-lower_here None at e = omega arith
-lower_here (Some f) at e = by (nat_le f.offset at) refl
+-- it, or what was found before it
+abbrev pub with_outcome : Option Fault → ℕ → ℕ → Option Fault
+with_outcome least at e = first_of least (Some (outcome_fault at e))
+
+offset_up : (f g : Fault) → IsUpTo f g → f.offset ≤ g.offset
+offset_up f g (inl lt) = omega (arith, lt)
+offset_up f g (inr same) = omega (arith, same.0)
+
+up_to_both : (f : Fault) (at e n : ℕ) → f.code ≡ code.Outcome → (f.offset ≤ n) ⊎ (at ≤ n)
+    → IsUpToAt (with_outcome (Some f) at e) n
+up_to_both f at e n outcome up = by (is_before g f) refl
   where
-    by : (b : Bool) → nat_le f.offset at ≡ b → IsUpToAt (cond b (Some f) (Some (outcome_fault at e))) at
-    by true le = leb-true f.offset at le
-    by false le = omega arith
+    g : Fault
+    g = outcome_fault at e
+
+    by : (b : Bool) → is_before g f ≡ b → IsUpToAt (if b then Some g else Some f) n
+    by true is =
+        let le = offset_up g f (up_to_from g f (ap phase_of (sym outcome)) (before_precedes g f is)) in
+        elim up [ inl own ↦ omega (arith, le, own) | inr its ↦ its ]
+    by false is =
+        let le = offset_up f g (up_to_from f g (ap phase_of outcome) (behind_precedes g f is)) in
+        elim up [ inl own ↦ own | inr its ↦ omega (arith, le, its) ]
+
+pub lower_lowers : (t : Trace) (least : Option Fault) (at e : ℕ) → Stand t least
+    → KeepsFound least (with_outcome least at e)
+lower_lowers t None at e stand to up = absurd up
+lower_lowers t (Some f) at e stand to up = up_to_both f at e to stand.0 (inl up)
+
+lower_here : (t : Trace) (least : Option Fault) (at e : ℕ) → Stand t least → IsUpToAt (with_outcome least at e) at
+lower_here t None at e stand = omega arith
+lower_here t (Some f) at e stand = up_to_both f at e at stand.0 (inr (omega arith))
 
 pub lower_stands : (t : Trace) (least : Option Fault) (at e : ℕ) → Stand t least → IsOutcomeFault t (outcome_fault at e)
-    → Stand t (lower_outcome least at e)
+    → Stand t (with_outcome least at e)
 lower_stands t None at e stand is = (refl, is)
-lower_stands t (Some f) at e stand is = by (nat_le f.offset at)
+lower_stands t (Some f) at e stand is = by (is_before (outcome_fault at e) f)
   where
-    by : (b : Bool) → Stand t (cond b (Some f) (Some (outcome_fault at e)))
-    by true = stand
-    by false = (refl, is)
+    by : (b : Bool) → Stand t (if b then Some (outcome_fault at e) else Some f)
+    by true = (refl, is)
+    by false = stand
 
 pub judged_later : (t : Trace) (least now : Option Fault) (e n : ℕ) → KeepsFound least now → AgreesOrIsFound t least e n
     → AgreesOrIsFound t now e n
@@ -58,9 +78,6 @@ judged_later t least now e n lowers judged p at =
     elim (judged p at) [ inl same ↦ inl same | inr up ↦ inr (lowers p.offset up) ]
 
 -- ---- one replica and one batch
-
-take_length : {A : Type 0} (xs : List A) (n : ℕ) (x : A) → slice_get xs n ≡ Some x → length (take n xs) ≡ n
-take_length xs n x e = length-take-le n xs (le_of_lt (slice_get_within xs n x e))
 
 -- it differs
 pub differs : (t : Trace) (e f n at : ℕ) (rs : List Reply) → IsOf t e n at rs → first_to_commit t n ≡ Some f
@@ -95,12 +112,12 @@ pub judged_same : (t : Trace) (least : Option Fault) (e f n : ℕ) → first_to_
 judged_same t least e f n first same p at =
     inl (subst (λ (o : Option ℕ). IfSome o (λ g. HaveSameOutcome t e g n)) (sym first) same)
 
-pub judged_apart : (t : Trace) (least : Option Fault) (e n at : ℕ) (rs : List Reply) → IsOf t e n at rs
-    → AgreesOrIsFound t (lower_outcome least at e) e n
-judged_apart t least e n at rs own p here =
+pub judged_apart : (t : Trace) (least : Option Fault) (e n at : ℕ) (rs : List Reply) → Stand t least → IsOf t e n at rs
+    → AgreesOrIsFound t (with_outcome least at e) e n
+judged_apart t least e n at rs stand own p here =
     let same : p ≡ own.item = some_injective p own.item (sym here ∙ own.at) in
-    inr (subst (IsUpToAt (lower_outcome least at e)) (own.offset_is ∙ sym (ap (λ (q : Placed). q.offset) same))
-    (lower_here least at e))
+    inr (subst (IsUpToAt (with_outcome least at e)) (own.offset_is ∙ sym (ap (λ (q : Placed). q.offset) same))
+    (lower_here t least at e stand))
 
 -- it didn't commit the batch
 pub judged_none : (t : Trace) (least : Option Fault) (e n : ℕ) → IsRightSection t e → (history t e).last < n

@@ -26,12 +26,23 @@ use Rattle.eve_history.specs.Faults.{OfCommit, OfRollback}
 use Rattle.eve_votes.specs.Votes.{IsDecided, IsRolledBack}
 use Rattle.eve_history.proofs.Places.{place_here, place_later, no_place, place_cases, located_rising, from_low}
 use Rattle.eve_agree.specs.Majority.{IsBacked, IsBackedSection, AllAreBacked, StandsInMajorities, IsMajorityFault}
-use Rattle.eve_agree.specs.Unbacked.{HasRoom, lacks, IsUnbacked, IsUnbackedIn, IsFirstUnbackedIn, IsFirstBelow}
-use Rattle.eve_agree.specs.Unbacked.{IsFirstUnbackedBelow}
+use Rattle.eve_agree.specs.Unbacked.{HasRoom, lacks, IsUnbacked, IsUnbackedIn, IsFirstUnbackedIn}
 use Rattle.eve_views.specs.First.{first_of}
 use Rattle.eve_views.proofs.Firsts.{first_of_two, up_to_from}
 use Rattle.eve_history.proofs.Rights.{none_at}
 use Rattle.eve_views.proofs.Firsts.{up_to-trans}
+
+-- it is the first in the sections of the replicas below n
+pub record IsFirstBelow (t : Trace) (n : ℕ) (f : Fault) : Type 0 where
+  pub replica : ℕ
+  pub below : replica < n
+  pub is : IsUnbackedIn t replica f
+  pub first : (e : ℕ) (g : Fault) → e < n → IsUnbackedIn t e g → IsUpTo f g
+
+-- what was found in those sections, if anything was
+abbrev pub IsFirstUnbackedBelow : Trace → ℕ → Option Fault → Type 0
+IsFirstUnbackedBelow t n (Some f) = IsFirstBelow t n f
+IsFirstUnbackedBelow t n None = (e : ℕ) → e < n → IsBackedSection t e
 
 -- ---- faults of majorities are steps that lack a majority
 

@@ -19,6 +19,7 @@ use Rattle.eve_chains.specs.Visible.{opening_table, execution, executions, execu
 use Rattle.eve_chains.specs.Committed.{attempts_of}
 use Rattle.eve_chains.specs.Sound.{IsSoundAlong, SettledAreSound}
 use Rattle.eve_chains.specs.Along.{entries_along}
+use Rattle.eve_chains.proofs.AlongLaws.{table_after_all-append}
 use Rattle.eve_chains.proofs.Distinct.{in_right}
 use Rattle.eve_chains.proofs.Walks.{record_at, same_entries, right_one, complete_one}
 use Rattle.eve_agree.specs.Tables.{committed_rows, entries_of, open_entries}
@@ -77,11 +78,6 @@ follows-append : (table : Table) (xs ys : List Executed) → Follows table xs �
     → Follows table (xs ++ ys)
 follows-append table [] ys first rest = rest
 follows-append table (x ∷ xs) ys first rest = (first.0, follows-append (table_after table x.entries) xs ys first.1 rest)
-
-pub table_after_all-append : (table : Table) (xs ys : List Executed) → table_after_all table (xs ++ ys)
-    ≡ table_after_all (table_after_all table xs) ys
-table_after_all-append table [] ys = refl
-table_after_all-append table (x ∷ xs) ys = table_after_all-append (table_after table x.entries) xs ys
 
 pub left_more : (t : Trace) (path : List Attempt) (a : Attempt) → rows_after t (path ++ a ∷ [])
     ≡ table_after_all (rows_after t path) (execution t a)

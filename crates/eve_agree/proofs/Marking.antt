@@ -16,10 +16,10 @@ use Rattle.eve_smallbank.specs.Chain.{Versioned, Table, Sees, table_after}
 use Rattle.eve_smallbank.proofs.Chains.{Follows}
 use Rattle.eve_grammar.specs.Trace.{Restore}
 use Rattle.eve_grammar.specs.Limits.{is_rising}
-use Rattle.eve_chains.proofs.AlongLaws.{undone_is_before}
-use Rattle.eve_agree.specs.Tables.{entries_of}
+use Rattle.eve_chains.proofs.AlongLaws.{unwritten}
+use Rattle.eve_agree.specs.Tables.{entries_of, are_written_in}
 use Rattle.eve_agree.specs.Marking.{Marking, marking_of, unmarked, marked_count, seen_by, marked_once, marked}
-use Rattle.eve_agree.specs.Marking.{written_in, is_marked, restores_row, taken, are_written_in}
+use Rattle.eve_agree.specs.Marking.{written_in, is_marked, restores_row, taken}
 
 some≢none : {A : Type 0} (x : A) → ◌≡◌ {A = Option A} (Some x) None → ⊥
 some≢none x e = cc
@@ -113,11 +113,6 @@ marked_request base table before (e ∷ es) left sees =
     (λ row none. left row (or_parts (list_any (writes_row row) before) (list_any (writes_row row) (e ∷ []))
     (sym (list_any-append (writes_row row) before (e ∷ [])) ∙ none)).0) sees.1
     ∙ ap (written_in base) (append_assoc before (e ∷ []) es)
-
-pub unwritten : (table : Table) (es : List Entry) (row : ℕ) → list_any (writes_row row) es ≡ false
-    → table_after table es row ≡ table row
-unwritten table es row none = ap (λ (b : Bool). cond b (table row) (table_after table es row)) (sym none)
-    ∙ ap (λ (old : Table). old row) (undone_is_before table es)
 
 marked_requests : (base table : Table) (before : List Entry) (xs : List Executed) → IsLeft base table before
     → Follows table xs

@@ -1,17 +1,15 @@
 -- What attempts noted, one after another.
 use Rattle.std.proofs.Common.{◌≡◌, ℕ, zero, suc, ◌+◌, ◌-◌, ◌<◌, ◌≤◌, List, [], ◌∷◌, ◌++◌, take, drop, length, slice_get}
-use Rattle.std.proofs.Common.{Some, refl, sym, subst, ap, ◌∙◌, append-nil, arith, IsTrue}
-use Rattle.std.specs.List.{AllByRecursion, list_all, flat_map}
+use Rattle.std.proofs.Common.{Some, refl, sym, ap, ◌∙◌, append-nil, arith}
+use Rattle.std.specs.List.{AllByRecursion, flat_map}
 use Rattle.std.proofs.lemmas.Grind.{flat_map-append}
-use Rattle.std.proofs.lemmas.Bool.{and_parts}
 use Rattle.eve_smallbank.specs.declared.entry.Entry.{Entry}
 use Rattle.eve_grammar.specs.Trace.{Access}
-use Rattle.eve_grammar.specs.Limits.{is_entry}
 use Rattle.eve_history.specs.SectionHistory.{ExecutedAttempt}
 use Rattle.eve_history.proofs.Finding.{rec_at}
 use Rattle.eve_history.proofs.OrderLaws.{take_one_more}
 use Rattle.eve_chains.specs.Along.{entries_along, AreWithin}
-use Rattle.eve_chains.proofs.Linked.{some_injective, none≢some}
+use Rattle.eve_chains.proofs.Linked.{some_injective}
 use Rattle.eve_agree.specs.Marking.{Marking, marked, noted_between}
 use Rattle.eve_agree.proofs.Marking.{marked-append}
 
@@ -27,19 +25,6 @@ records_more base old new xs k x at so step =
     ∙ ap (marked base) (sym (ap entries_along (take_one_more xs k x at)
     ∙ flat_map-append (λ (y : ℕ × Access). y.1.entries) (take k xs) (x ∷ [])
     ∙ ap (λ (es : List Entry). entries_along (take k xs) ++ es) (append-nil x.1.entries)))
-
--- the entries of one of the records lie within
-pub record_within : (rows : ℕ) (xs : List (ℕ × Access)) (k : ℕ) (x : ℕ × Access) → AreWithin rows xs → slice_get xs k
-    ≡ Some x → IsTrue (list_all (is_entry rows) x.1.entries)
-record_within rows [] k x within at = none≢some x at
-record_within rows (y ∷ xs) zero x within at =
-    subst (λ (z : ℕ × Access). IsTrue (list_all (is_entry rows) z.1.entries)) (some_injective y x at)
-    (and_parts (list_all (is_entry rows) y.1.entries) (list_all (λ z. list_all (is_entry rows) z.1.entries) xs)
-    within).0
-record_within rows (y ∷ xs) (suc k) x within at =
-    record_within rows xs k x
-    (and_parts (list_all (is_entry rows) y.1.entries) (list_all (λ z. list_all (is_entry rows) z.1.entries) xs)
-    within).1 at
 
 -- ---- one attempt after another
 

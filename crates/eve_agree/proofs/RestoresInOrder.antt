@@ -1,6 +1,6 @@
 -- Public: other crates cite these lemmas. Steps of a section judged one after another: which attempts are open, and the
 -- first rollback that is wrong.
-use Rattle.std.proofs.Common.{◌≡◌, ℕ, zero, suc, ◌+◌, ◌-◌, ◌*◌, ◌<◌, ◌≤◌, ◌==◌, Bool, true, false, cond, ◌&&◌, List, []}
+use Rattle.std.proofs.Common.{◌≡◌, ℕ, zero, suc, ◌+◌, ◌-◌, ◌*◌, ◌<◌, ◌≤◌, ◌==◌, Bool, true, false, ◌&&◌, List, []}
 use Rattle.std.proofs.Common.{◌∷◌, ◌++◌, map, take, drop, length, Some, refl, sym, subst, ap, ◌∙◌, inl}
 use Rattle.std.proofs.Common.{inr, ◌⊎◌, append_assoc, append-nil, arith, IsTrue, IsFalse}
 use Rattle.std.specs.List.{AllByRecursion, list_all, flat_map}
@@ -11,8 +11,8 @@ use Rattle.eve_smallbank.specs.Chain.{Table}
 use Rattle.eve_smallbank.specs.declared.entry.Entry.{Entry}
 use Rattle.eve_grammar.specs.Trace.{Access, Attempt, Commit, Rollback, Step, Attempts, Commits, RollsBack, Trace}
 use Rattle.eve_grammar.specs.Trace.{head_of}
-use Rattle.eve_grammar.specs.Frames.{OfReplica, OfAttempt as AttemptFrame, OfAccess}
-use Rattle.eve_grammar.specs.Spelling.{frame_text, located, step_text, section_start, steps_of, steps_at, accesses_at}
+use Rattle.eve_grammar.specs.Frames.{OfReplica}
+use Rattle.eve_grammar.specs.Spelling.{frame_text, step_text, section_start, steps_of, steps_at}
 use Rattle.eve_grammar.specs.Limits.{HasLimits, is_number, is_attempt, is_entry, is_access, is_step, is_rising}
 use Rattle.eve_grammar.specs.Limits.{is_restore, is_rollback, row_count}
 use Rattle.eve_frames.specs.Views.{rollback_in}
@@ -29,7 +29,7 @@ use Rattle.eve_views.specs.declared.fault.Code.TheVariants as code
 use Rattle.eve_views.specs.declared.fault.Fault.{Fault}
 use Rattle.eve_history.specs.Section.{Placed, SectionState, start, path_of, committing, next, state_after}
 use Rattle.eve_history.specs.Section.{commits_first, is_right_commit, is_right, are_right}
-use Rattle.eve_history.specs.SectionHistory.{ExecutedAttempt, SectionHistory, executed_attempt, ordered, access_with}
+use Rattle.eve_history.specs.SectionHistory.{ExecutedAttempt, SectionHistory, executed_attempt}
 use Rattle.eve_history.specs.SectionHistory.{attempts_among, rollbacks_among, section_history, placed_at}
 use Rattle.eve_history.specs.SectionHistory.{IsRightSection}
 use Rattle.eve_history.specs.Faults.{OfRollback}
@@ -38,13 +38,14 @@ use Rattle.eve_history.proofs.Structure.{state_after-append}
 use Rattle.eve_history.proofs.Rights.{none_at}
 use Rattle.eve_history.proofs.Places.{place_cases, no_place, weaker_place, Rising, located_rising, At, first_place}
 use Rattle.eve_chains.specs.Along.{entries_along, AreWithin}
+use Rattle.eve_chains.proofs.Loading.{its_entries, within_ordered}
 use Rattle.eve_chains.specs.Sound.{SettledAreSound}
 use Rattle.eve_chains.specs.Visible.{executions}
 use Rattle.eve_chains.specs.Committed.{attempts_of}
 use Rattle.eve_agree.specs.Tables.{committed_rows, open_entries, are_right_restores, restores_rightly}
-use Rattle.eve_agree.specs.Tables.{all_restore_rightly, RestoresAreRight}
+use Rattle.eve_agree.specs.Tables.{all_restore_rightly, are_written_in, RestoresAreRight}
 use Rattle.eve_agree.specs.Restores.{StandsInRestores, IsRestoreFault}
-use Rattle.eve_agree.specs.Marking.{unmarked, marked, noted_between, written_in, are_written_in}
+use Rattle.eve_agree.specs.Marking.{unmarked, marked, noted_between, written_in}
 use Rattle.eve_agree.proofs.Marking.{first_writes}
 use Rattle.eve_agree.proofs.Discarding.{follows_committed, open_noted}
 
@@ -424,37 +425,7 @@ told_attempts t e = refl
 -- ---- within the limits
 
 pub entries_within : (rows : ℕ) (x : Access) → IsTrue (is_access rows x) → IsTrue (list_all (is_entry rows) x.entries)
-entries_within rows x fits =
-    let one = and_parts (is_number 1 x.worker) _ fits in
-    let two = and_parts (is_number 2 x.place) _ one.1 in
-    let three = and_parts (is_number 2 x.index) _ two.1 in
-    (and_parts _ (list_all (is_entry rows) x.entries) three.1).1
-
-access_within : (rows : ℕ) (text : Access → List ℕ) (at : ℕ) (xs : List Access) (i : ℕ)
-    → IsTrue (list_all (is_access rows) xs)
-    → IsTrue (list_all (is_entry rows) (access_with (located text at xs) i).1.entries)
-access_within rows text at [] i fits = refl
-access_within rows text at (x ∷ xs) i fits =
-    let parts = and_parts (is_access rows x) (list_all (is_access rows) xs) fits in
-    by (x.index == i) (entries_within rows x parts.0) (access_within rows text (at + length (text x)) xs i parts.1)
-  where
-    by : (b : Bool) → IsTrue (list_all (is_entry rows) x.entries)
-        → IsTrue (list_all (is_entry rows) (access_with (located text (at + length (text x)) xs) i).1.entries)
-        → IsTrue (list_all (is_entry rows)
-        (cond b (at, x) (access_with (located text (at + length (text x)) xs) i)).1.entries)
-    by true own later = own
-    by false own later = later
-
-ordered_within : (rows at : ℕ) (a : Attempt) → IsTrue (list_all (is_access rows) a.accesses)
-    → AreWithin rows (ordered at a)
-ordered_within rows at a fits = by a.certificate
-  where
-    by : (order : List ℕ) → AreWithin rows (map (access_with (accesses_at at a)) order)
-    by [] = refl
-    by (i ∷ order) = and_from (list_all (is_entry rows) (access_with (accesses_at at a) i).1.entries)
-        (list_all (λ x. list_all (is_entry rows) x.1.entries) (map (access_with (accesses_at at a)) order))
-        (access_within rows (λ x. frame_text (OfAccess x)) (at + length (frame_text (AttemptFrame a))) a.accesses i
-        fits) (by order)
+entries_within = its_entries
 
 executed_attempts_within : (rows : ℕ) (steps : List (ℕ × Step)) → IsTrue (list_all (λ x. is_step rows x.1) steps)
     → AllByRecursion (λ r. AreWithin rows r.ordered) (map executed_attempt (attempts_among steps))
@@ -463,7 +434,7 @@ executed_attempts_within rows ((at, Attempts a) ∷ steps) fits =
     let parts = and_parts (is_step rows (Attempts a)) (list_all (λ x. is_step rows x.1) steps) fits in
     let whole = and_parts (is_attempt a) _ parts.0 in
     let own = and_parts (length a.accesses == length a.certificate) (list_all (is_access rows) a.accesses) whole.1 in
-    (ordered_within rows at a own.1, executed_attempts_within rows steps parts.1)
+    (within_ordered rows at a own.1, executed_attempts_within rows steps parts.1)
 executed_attempts_within rows ((at, Commits c) ∷ steps) fits = executed_attempts_within rows steps
     (and_parts (is_step rows (Commits c)) (list_all (λ x. is_step rows x.1) steps) fits).1
 executed_attempts_within rows ((at, RollsBack r) ∷ steps) fits = executed_attempts_within rows steps

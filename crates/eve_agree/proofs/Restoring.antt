@@ -22,8 +22,8 @@ use Rattle.eve_agree.specs.Marking.{restores_row}
 use Rattle.eve_agree.specs.Tables.{restored, worked, committed_rows, working_table, committed_table, IsRestored}
 use Rattle.eve_agree.specs.Tables.{entries_of, open_entries, is_right_restore, are_right_restores, all_restore_rightly}
 use Rattle.eve_agree.specs.Tables.{RestoresAreRight}
-use Rattle.eve_agree.proofs.Marking.{is_covered, not_covered, unwritten}
-use Rattle.eve_agree.proofs.Discarding.{table_after_all-append}
+use Rattle.eve_chains.proofs.AlongLaws.{table_after_all-append, unwritten}
+use Rattle.eve_agree.proofs.Marking.{is_covered, not_covered}
 
 -- ---- one rollback
 

@@ -17,13 +17,13 @@ use Rattle.eve_history.specs.SectionHistory.{history, committed_at, placed_at, I
 use Rattle.eve_history.proofs.Places.{cut_at}
 use Rattle.eve_chains.specs.Committed.{balances_to, values_to}
 use Rattle.eve_chains.specs.Settling.{Settling, settling, values_in}
-use Rattle.eve_chains.proofs.Linked.{committed_number}
+use Rattle.eve_chains.proofs.Linked.{committed_number, batches_counted}
 use Rattle.eve_agree.specs.Judging.{IsAfter}
 use Rattle.eve_agree.specs.DueTokens.{due_token, TokensAreDue, StandsInTokens, IsTokenFault, IsDueIn, IsFirstWrong}
 use Rattle.eve_agree.specs.Stretches.{IsReadyStretch, IsJudgedStretch, ReachesBatch, or_else, first_found}
 use Rattle.eve_agree.specs.declared.due_tokens.Stretch.{Stretch}
 use Rattle.eve_agree.proofs.Outcomes.{balances_are, commits_told, mapped_at}
-use Rattle.eve_agree.proofs.TokensInOrder.{batches_told, first_version, IsWrong, first_committed}
+use Rattle.eve_agree.proofs.TokensInOrder.{first_version, IsWrong, first_committed}
 
 -- ---- one after another
 
@@ -198,7 +198,7 @@ module _ (t : Trace) (e : ℕ) where
   commits_there h s is settled =
       ap (λ (x : SectionHistory). length x.commits) is ∙ ap length (commits_told t e) ∙
       length-map (history t e).committed (λ p. executed_attempt (placed_at p))
-      ∙ sym (ap (λ (x : Settling). length x.batches) settled ∙ batches_told t e)
+      ∙ sym (ap (λ (x : Settling). length x.batches) settled ∙ batches_counted t e)
 
   one_due : (n offset : ℕ) (said : Attempt) (of : IsOfBatch (suc n) offset said) → said.token ≡ due_token t e of.item
       → IsFirstWrong t e n (n + 1) None

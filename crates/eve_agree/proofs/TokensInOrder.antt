@@ -3,7 +3,7 @@ use Rattle.std.proofs.Common.{◌≡◌, ◌≢◌, ℕ, zero, suc, ◌+◌, ◌
 use Rattle.std.proofs.Common.{◌++◌, map, length, take, refl, sym, ap, subst, ◌∙◌, inl, inr, arith}
 use Rattle.std.proofs.Common.{add-one, take_all}
 use Rattle.std.specs.List.{AllByRecursion}
-use Rattle.std.proofs.lemmas.List.{length-map, map-append, take_more}
+use Rattle.std.proofs.lemmas.List.{map-append, take_more}
 use Rattle.eve_smallbank.specs.Access.{balance_of_row}
 use Rattle.eve_smallbank.specs.declared.request.Reply.{Reply}
 use Rattle.eve_grammar.specs.Trace.{Attempt, Step, Attempts, Commits, RollsBack, Trace}
@@ -17,7 +17,7 @@ use Rattle.eve_token.specs.Token.{token_of, flat_token}
 use Rattle.eve_history.specs.declared.fate.Fate.{Fate}
 use Rattle.eve_history.specs.Section.{Placed}
 use Rattle.eve_history.specs.Fates.{fates_from}
-use Rattle.eve_history.specs.SectionHistory.{ordered, attempts_among, history, is_committed, picked, placed_at}
+use Rattle.eve_history.specs.SectionHistory.{attempts_among, history, is_committed, picked, placed_at}
 use Rattle.eve_history.proofs.FateLaws.{committed_are_picked}
 use Rattle.eve_history.proofs.Places.{Rising, At, located_rising, first_place, no_place, place_cases}
 use Rattle.eve_grammar.proofs.OpeningRows.{length-opening_rows}
@@ -63,10 +63,6 @@ pub rows_are : (b : List ℤ) → b ≡ first_rows (length b) (balance_of_row b)
 rows_are b = sym (take_all (length b) b (omega arith)) ∙ rows_to b (length b) (omega arith)
 
 -- ---- what was told
-
-pub batches_told : (t : Trace) (e : ℕ) → length (settling t e).batches ≡ length (history t e).committed
-unfolding settling
-batches_told t e = length-map (history t e).committed (λ p. ordered p.offset p.attempt)
 
 pub rows_told : (t : Trace) (e : ℕ) → length (settling t e).opening ≡ 2 * length t.customers
 unfolding settling

@@ -1,5 +1,5 @@
 -- What is kept while the batches are judged one after another.
-use Rattle.std.specs.Prelude.{◌≡◌, ℕ, ℤ, ◌≤◌, ◌<◌, nat_le, if◌then◌else◌, List, [], length, Option, Some, None, IfSome}
+use Rattle.std.specs.Prelude.{◌≡◌, ℕ, ℤ, ◌≤◌, ◌<◌, List, [], length, Option, Some, None, IfSome}
 use Rattle.std.specs.Prelude.{slice_get, slice_index_or, ◌⊎◌}
 use Rattle.eve_smallbank.specs.Access.{balance_of_row}
 use Rattle.eve_grammar.specs.Trace.{Trace}
@@ -41,12 +41,3 @@ KeepsFound least now = (at : ℕ) → IsUpToAt least at → IsUpToAt now at
 abbrev pub AgreesOrIsFound : Trace → Option Fault → ℕ → ℕ → Type 0
 AgreesOrIsFound t least e n = (p : Placed) → committed_at t e n ≡ Some p
     → IfSome (first_to_commit t n) (λ f. HaveSameOutcome t e f n) ⊎ IsUpToAt least p.offset
-
--- a fault of replica e at this offset
-abbrev pub outcome_fault : ℕ → ℕ → Fault
-outcome_fault at e = record { code = code.Outcome; offset = at; replica = Some e }
-
--- the lesser of what was found and a fault of replica e at this offset
-abbrev pub lower_outcome : Option Fault → ℕ → ℕ → Option Fault
-lower_outcome None at e = Some (outcome_fault at e)
-lower_outcome (Some f) at e = if nat_le f.offset at then Some f else Some (outcome_fault at e)

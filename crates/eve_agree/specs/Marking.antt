@@ -1,10 +1,10 @@
 -- What the first write of a row saw, marked by row, and restores that take the marks away.
-use Rattle.std.specs.Prelude.{ℕ, ◌-◌, ◌==◌, Bool, false, not, ◌&&◌, ◌||◌, if◌then◌else◌, is_some, List, [], ◌∷◌, take}
+use Rattle.std.specs.Prelude.{ℕ, ◌-◌, ◌==◌, Bool, false, ◌&&◌, if◌then◌else◌, is_some, List, [], ◌∷◌, take}
 use Rattle.std.specs.Prelude.{drop, Option, Some, None, slice_index_or}
-use Rattle.std.specs.List.{list_all, list_any, flat_map, sum_by}
+use Rattle.std.specs.List.{list_any, flat_map, sum_by}
 use Rattle.std.specs.Ordering.{int_eq}
 use Rattle.eve_smallbank.specs.declared.entry.Entry.{Entry}
-use Rattle.eve_smallbank.specs.Access.{is_write, writes_row}
+use Rattle.eve_smallbank.specs.Access.{writes_row}
 use Rattle.eve_smallbank.specs.Chain.{Versioned, Table}
 use Rattle.eve_grammar.specs.Trace.{Restore}
 use Rattle.eve_history.specs.SectionHistory.{ExecutedAttempt}
@@ -62,10 +62,3 @@ restores_row row rs = list_any (λ r. r.row == row) rs
 -- without the rows of these restores
 abbrev pub taken : Marking → List Restore → Marking
 taken marks rs row = if restores_row row rs then None else marks row
-
--- the restores are the rows that these entries write, each with what it has in the table
-abbrev pub are_written_in : Table → List Entry → List Restore → Bool
-are_written_in table es rs =
-    list_all (λ r. list_any (writes_row r.row) es &&
-    ((r.version == (table r.row).version) && int_eq r.value (table r.row).value)) rs
-    && list_all (λ e. not (is_write e.kind) || restores_row e.row rs) es

@@ -60,11 +60,16 @@ is_right_restore t s r =
     list_any (writes_row r.row) (open_entries t s)
     && ((r.version == (committed_rows t s r.row).version) && int_eq r.value (committed_rows t s r.row).value)
 
--- they are rows that open attempts wrote, and no such row is left out; that rows rise is a matter of form
+-- rows that these entries write, each as it is in the table, and no such row is left out
+abbrev pub are_written_in : Table → List Entry → List Restore → Bool
+are_written_in table es rs =
+    list_all (λ r. list_any (writes_row r.row) es
+    && ((r.version == (table r.row).version) && int_eq r.value (table r.row).value)) rs
+    && list_all (λ e. not (is_write e.kind) || list_any (λ r. r.row == e.row) rs) es
+
+-- the rows that open attempts wrote, as they are committed; that rows rise is a matter of form
 abbrev pub are_right_restores : Trace → SectionState → List Restore → Bool
-are_right_restores t s rs =
-    list_all (is_right_restore t s) rs && list_all (λ e. not (is_write e.kind) || list_any (λ r. r.row == e.row) rs)
-    (open_entries t s)
+are_right_restores t s rs = are_written_in (committed_rows t s) (open_entries t s) rs
 
 abbrev pub restores_rightly : Trace → SectionState → Step → Bool
 restores_rightly t s (Attempts a) = true

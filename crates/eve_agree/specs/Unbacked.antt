@@ -1,12 +1,12 @@
 -- The commits and rollbacks that no majority voted for, section by section.
-use Rattle.std.specs.Prelude.{◌≡◌, ℕ, ◌+◌, ◌^◌, ◌<◌, ◌≤◌, ⊤, Option, Some, None}
+use Rattle.std.specs.Prelude.{◌≡◌, ℕ, ◌+◌, ◌^◌, ◌<◌, ◌≤◌, ⊤, Some}
 use Rattle.eve_grammar.specs.Trace.{Step, Attempts, Commits, RollsBack, Trace}
 use Rattle.eve_grammar.specs.Spelling.{steps_at}
 use Rattle.eve_views.specs.declared.fault.Code.{Code}
 use Rattle.eve_views.specs.declared.fault.Code.TheVariants as code
 use Rattle.eve_views.specs.declared.fault.Fault.{Fault}
 use Rattle.eve_views.specs.Form.{IsUpTo, SomePlace}
-use Rattle.eve_agree.specs.Majority.{IsBacked, IsBackedSection}
+use Rattle.eve_agree.specs.Majority.{IsBacked}
 
 -- a rollback's next number has room in 32 bits, and it has a view before its own
 abbrev pub HasRoom : Step → Type 0
@@ -34,15 +34,3 @@ IsUnbackedIn t e f = SomePlace (steps_at t e) (λ _ step. IsUnbacked t e step f)
 pub record IsFirstUnbackedIn (t : Trace) (e : ℕ) (f : Fault) : Type 0 where
   pub is : IsUnbackedIn t e f
   pub first : (g : Fault) → IsUnbackedIn t e g → IsUpTo f g
-
--- it is the first in the sections of the replicas below n
-pub record IsFirstBelow (t : Trace) (n : ℕ) (f : Fault) : Type 0 where
-  pub replica : ℕ
-  pub below : replica < n
-  pub is : IsUnbackedIn t replica f
-  pub first : (e : ℕ) (g : Fault) → e < n → IsUnbackedIn t e g → IsUpTo f g
-
--- what was found in those sections, if anything was
-abbrev pub IsFirstUnbackedBelow : Trace → ℕ → Option Fault → Type 0
-IsFirstUnbackedBelow t n (Some f) = IsFirstBelow t n f
-IsFirstUnbackedBelow t n None = (e : ℕ) → e < n → IsBackedSection t e

@@ -4,13 +4,13 @@ ghost use Rattle.std.specs.Prelude.{◌≡◌, ◌≤◌, ◌<◌, ◌-◌, ◌�
 ghost use Rattle.std.specs.Prelude.{slice_get};
 ghost use Rattle.eve_frames.specs.Said.{attempt_said};
 ghost use Rattle.eve_views.specs.Form.{IfFound, IsLeast, HasNone};
+ghost use Rattle.eve_views.specs.declared.fault.Code.TheVariants as code;
 ghost use Rattle.eve_grammar.specs.Trace.{Trace as TraceValue};
 ghost use Rattle.eve_history.specs.SectionHistory.{ExecutedAttempt, SectionHistory, section_histories, IsRightSection};
 ghost use Rattle.eve_chains.specs.Settling.{settling, settlings, values_in};
 ghost use Rattle.eve_chains.specs.Committed.{values_to};
 ghost use Rattle.eve_agree.specs.Agreement.{first_to_commit, ReplicasAgree, IsOutcomeFault};
 ghost use Rattle.eve_agree.specs.Judging.{NoneBefore, IsAfter, AreAfter, Stand, KeepsFound, AgreesOrIsFound};
-ghost use Rattle.eve_agree.specs.Judging.{lower_outcome};
 
 use eve_accounts::Balances;
 use eve_chains::Settled;
@@ -18,7 +18,7 @@ use eve_chains::laws::settled_values_are_the_banks;
 use eve_frames::AttemptView;
 use eve_history::{History, recall_all_right};
 use eve_smallbank::Reply;
-use eve_views::{CheckFault, Code, Fault, Trace};
+use eve_views::{CheckFault, Code, Fault, Trace, first_of};
 use std::alloc::{AllocError, Global};
 
 /// Judges the outcomes of all committed batches: each replica has the balances after a batch, and the replies to it, of
@@ -129,11 +129,25 @@ fn judge_batch(
         if n <= histories[e].committed() {
             let attempt = committed_attempt(&histories[e], n);
             if !is_same(&attempt, &all[e], &reference, &all[first]) {
-                least = lower(least, attempt.offset(), histories[e].replica());
+                least = first_of(
+                    least,
+                    Some(fault_at(attempt.offset(), histories[e].replica())),
+                );
             }
         }
     }
     least
+}
+
+/// The fault of an attempt whose outcome differs.
+fn fault_at(offset: u64, replica: u8) -> Fault
+    ensures { result ≡ record { code = code.Outcome; offset = offset; replica = Some replica } }
+{
+    Fault {
+        code: Code::Outcome,
+        offset,
+        replica: Some(replica),
+    }
 }
 
 /// The number of the first replica that committed batch n, if one did.
@@ -206,18 +220,4 @@ fn is_reply(own: Reply, its: Reply) -> bool
     ensures { IsTrue result ↔ (own ≡ its) }
 {
     own == its
-}
-
-/// The lesser of a fault and the one at this offset, by offset.
-fn lower(least: Option<Fault>, offset: u64, replica: u8) -> Option<Fault>
-    ensures { result ≡ lower_outcome least offset replica }
-{
-    match least {
-        Some(fault) if fault.offset <= offset => Some(fault),
-        _ => Some(Fault {
-            code: Code::Outcome,
-            offset,
-            replica: Some(replica),
-        }),
-    }
 }

@@ -3,9 +3,9 @@
 
 mod agreement;
 mod due_tokens;
+mod first_seen;
 pub mod laws;
 mod majority;
-mod marks;
 mod request_ids;
 mod restores;
 mod sent_replies;

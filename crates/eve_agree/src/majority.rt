@@ -90,7 +90,7 @@ fn first_in(trace: &Trace<'_>, tally: &Tally<'_, '_>, e: u8) -> Option<Fault>
 /// without.
 ///
 /// docs/MODEL.md, "Decided, rolled back" and "Faults". The votes are those of the trace. It takes no memory, and never
-/// answers Memory; it looks up one vote count for each commit and rollback.
+/// answers Memory. For a commit it looks up the decision that is kept of its number; for a rollback it counts votes.
 pub fn majorities(
     trace: &Trace<'_>,
     histories: &[History<'_>],

@@ -12,11 +12,11 @@ ghost use Rattle.eve_views.specs.declared.fault.Code.TheVariants as code;
 ghost use Rattle.eve_history.specs.SectionHistory.{ExecutedAttempt, section_history, IsRightSection};
 ghost use Rattle.eve_chains.specs.Along.{entries_along, AreWithin};
 ghost use Rattle.eve_chains.specs.Sound.{SettledAreSound};
-ghost use Rattle.eve_agree.specs.Tables.{RestoresAreRight};
+ghost use Rattle.eve_agree.specs.Tables.{RestoresAreRight, are_written_in};
 ghost use Rattle.eve_agree.specs.Restores.{IsRestoreFault};
-ghost use Rattle.eve_agree.specs.Marking.{marking_of, unmarked, marked, noted_between, written_in, are_written_in};
+ghost use Rattle.eve_agree.specs.Marking.{marking_of, unmarked, marked, noted_between, written_in};
 
-use crate::marks::Marks;
+use crate::first_seen::FirstSeen;
 use eve_chains::Settled;
 use eve_frames::RollbackView;
 use eve_history::History;
@@ -24,7 +24,7 @@ use eve_views::{CheckFault, Code, Fault, Step, Trace};
 use std::alloc::Global;
 
 /// Marks the rows that an attempt wrote, in its certificate's order.
-fn note_attempt(marks: &mut Marks, history: &History<'_>, i: usize)
+fn note_attempt(marks: &mut FirstSeen, history: &History<'_>, i: usize)
     requires there { i < length history.now.attempts }
     requires within { AllByRecursion (λ r. AreWithin (length marks.old) r.ordered) history.now.attempts }
     ensures as_many { length marks.new ≡ length marks.old }
@@ -37,7 +37,7 @@ fn note_attempt(marks: &mut Marks, history: &History<'_>, i: usize)
 }
 
 /// Marks the rows that the attempts from one number up to another wrote, one after another.
-fn note_attempts(marks: &mut Marks, history: &History<'_>, first: usize, end: usize)
+fn note_attempts(marks: &mut FirstSeen, history: &History<'_>, first: usize, end: usize)
     requires rising { first ≤ end }
     requires there { end ≤ length history.now.attempts }
     requires within { AllByRecursion (λ r. AreWithin (length marks.old) r.ordered) history.now.attempts }
@@ -53,7 +53,7 @@ fn note_attempts(marks: &mut Marks, history: &History<'_>, first: usize, end: us
 /// Whether a rollback that discards these attempts restores exactly the rows that they wrote, as the first write of
 /// each saw it.
 fn is_right(
-    marks: &mut Marks,
+    marks: &mut FirstSeen,
     history: &History<'_>,
     first: usize,
     end: usize,
@@ -94,7 +94,7 @@ pub(crate) fn judge(
     if history.rollbacks() == 0 {
         return Ok(());
     }
-    let mut marks = Marks::new(alloc, 2 * trace.customer_count() as usize)?;
+    let mut marks = FirstSeen::new(alloc, 2 * trace.customer_count() as usize)?;
     let mut first = 0;
     let mut end = 0;
     let mut steps = trace.section(history.replica());

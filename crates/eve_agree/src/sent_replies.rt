@@ -10,6 +10,7 @@ ghost use Rattle.eve_history.specs.SectionHistory.{ExecutedAttempt, section_hist
 ghost use Rattle.eve_agree.specs.SentReplies.{IsReplied, AllReplied, IsReplyFault};
 ghost use Rattle.eve_agree.specs.Keeping.{AreOf};
 
+use crate::agreement::committed_attempt;
 use crate::request_ids::RequestIds;
 use eve_frames::{AttemptView, SentView};
 use eve_history::History;
@@ -83,5 +84,5 @@ fn committed<'a>(history: &History<'a>, batch: u32) -> Option<AttemptView<'a>>
     if batch > history.committed() {
         return None;
     }
-    Some(history.attempt(history.committed_attempt(batch)))
+    Some(committed_attempt(history, batch))
 }

@@ -1,5 +1,5 @@
 -- From the balances after one committed batch to those after the next, record after record.
-use Rattle.std.proofs.Common.{◌≡◌, ℕ, ℤ, suc, List, [], ◌∷◌, ◌++◌, map, Some, refl, sym, ap, ◌∙◌}
+use Rattle.std.proofs.Common.{◌≡◌, ℕ, ℤ, suc, List, [], ◌∷◌, map, Some, refl, sym, ap, ◌∙◌}
 use Rattle.eve_smallbank.specs.declared.entry.Entry.{Entry}
 use Rattle.eve_smallbank.specs.Access.{Executed, values_after}
 use Rattle.eve_smallbank.specs.Chain.{Table, table_after, table_after_all, values_of}
@@ -16,7 +16,7 @@ use Rattle.eve_chains.specs.Along.{entries_along}
 use Rattle.eve_chains.proofs.Distinct.{in_left}
 use Rattle.eve_chains.proofs.Linked.{in_at}
 use Rattle.eve_chains.proofs.SerialSections.{one_more}
-use Rattle.eve_chains.proofs.AlongLaws.{values_after-append}
+use Rattle.eve_chains.proofs.AlongLaws.{values_after-append, table_after_all-append}
 use Rattle.eve_chains.proofs.Walks.{record_at, same_entries, right_one, complete_one}
 
 -- values after the writes of executed requests, one after another
@@ -31,11 +31,6 @@ values_of-all table [] = refl
 values_of-all table (x ∷ xs) =
     values_of-all (table_after table x.entries) xs ∙ ap (λ (values : ℕ → ℤ). values_after_all values xs)
     (values_of-table_after table x.entries)
-
-table_after_all-append : (table : Table) (xs ys : List Executed) → table_after_all table (xs ++ ys)
-    ≡ table_after_all (table_after_all table xs) ys
-table_after_all-append table [] ys = refl
-table_after_all-append table (x ∷ xs) ys = table_after_all-append (table_after table x.entries) xs ys
 
 -- the writes of records that have the entries of what was executed
 values_between : (values : ℕ → ℤ) (f : ℕ → Executed) (g : ℕ → ℕ × Access) (order : List ℕ)

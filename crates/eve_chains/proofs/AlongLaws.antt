@@ -6,25 +6,22 @@ use Rattle.std.proofs.Common.{◌⊎◌, append_assoc, append-nil, arith, IsTrue
 use mathlib.Core.Path.{fun_ext}
 use Rattle.std.specs.List.{AllByRecursion, list_any, list_all}
 use Rattle.std.proofs.lemmas.Bool.{cases_Bool, and_parts, or_parts}
-use Rattle.std.proofs.lemmas.List.{map-append, take_more}
 use Rattle.std.proofs.lemmas.Grind.{flat_map-append}
 use Rattle.std.proofs.lemmas.List.Folds.{list_any-append}
-use Rattle.std.proofs.lemmas.Option.{get_or_from_slice_get, slice_get_within}
 use Rattle.eve_smallbank.specs.declared.entry.Entry.{Entry}
-use Rattle.eve_smallbank.specs.Access.{writes_row, values_after}
-use Rattle.eve_smallbank.specs.Chain.{Versioned, Table, left_by, Sees, table_after}
+use Rattle.eve_smallbank.specs.Access.{Executed, writes_row, values_after}
+use Rattle.eve_smallbank.specs.Chain.{Versioned, Table, left_by, Sees, table_after, table_after_all}
 use Rattle.eve_smallbank.proofs.Members.{all_in}
 use Rattle.eve_grammar.specs.Trace.{Access}
 use Rattle.eve_grammar.specs.Limits.{is_entry}
-use Rattle.eve_frames.specs.Views.{access_in}
-use Rattle.eve_frames.specs.declared.access.AccessView.{AccessView}
 use Rattle.eve_views.specs.Code.{code_number, phase_of}
 use Rattle.eve_views.specs.Form.{IsUpTo}
 use Rattle.eve_views.specs.declared.fault.Code.{Code}
 use Rattle.eve_views.specs.declared.fault.Code.TheVariants as code
 use Rattle.eve_views.specs.declared.fault.Fault.{Fault}
+use Rattle.eve_history.proofs.OrderLaws.{take_one_more}
 use Rattle.eve_chains.specs.Tables.{undone, IsFirstMismatch}
-use Rattle.eve_chains.specs.Along.{said_at, all_said, entries_along, AreWithin, SeesOther, IsWrongAlong, AllSee}
+use Rattle.eve_chains.specs.Along.{entries_along, AreWithin, SeesOther, IsWrongAlong, AllSee}
 use Rattle.eve_chains.specs.Along.{IsFirstAlong, fault_if}
 use Rattle.eve_chains.proofs.Linked.{some_injective, none≢some}
 use Rattle.eve_chains.proofs.Faultless.{in_place}
@@ -37,6 +34,11 @@ pub table_after-append : (table : Table) (es fs : List Entry) → table_after ta
     ≡ table_after (table_after table es) fs
 table_after-append table [] fs = refl
 table_after-append table (e ∷ es) fs = table_after-append (λ row. cond (writes_row row e) (left_by e) (table row)) es fs
+
+pub table_after_all-append : (table : Table) (xs ys : List Executed) → table_after_all table (xs ++ ys)
+    ≡ table_after_all (table_after_all table xs) ys
+table_after_all-append table [] ys = refl
+table_after_all-append table (x ∷ xs) ys = table_after_all-append (table_after table x.entries) xs ys
 
 pub values_after-append : (values : ℕ → ℤ) (es fs : List Entry) → values_after values (es ++ fs)
     ≡ values_after (values_after values es) fs
@@ -57,7 +59,7 @@ undone-append from table es fs =
 
 -- ---- writes undone
 
-unwritten : (table : Table) (es : List Entry) (row : ℕ) → list_any (writes_row row) es ≡ false
+pub unwritten : (table : Table) (es : List Entry) (row : ℕ) → list_any (writes_row row) es ≡ false
     → table_after table es row ≡ table row
 unwritten table [] row h = refl
 unwritten table (e ∷ es) row h =
@@ -75,68 +77,53 @@ undone_is_before table es =
 
 -- ---- one record more
 
-pub all_said_more : (views : List AccessView) (k : ℕ) (v : AccessView) → slice_get views k ≡ Some v
-    → all_said (take (k + 1) views) ≡ all_said (take k views) ++ said_at v ∷ []
-all_said_more views k v at =
-    ap all_said (take_more views k v (slice_get_within views k v at) ∙ ap (λ (x : AccessView). take k views ++ x ∷ [])
-    (get_or_from_slice_get views k v v at))
-    ∙ map-append said_at (take k views) (v ∷ [])
-
 pub entries_along-push : (xs : List (ℕ × Access)) (x : ℕ × Access) → entries_along (xs ++ x ∷ [])
     ≡ entries_along xs ++ x.1.entries
 entries_along-push xs x =
     flat_map-append (λ (y : ℕ × Access). y.1.entries) xs (x ∷ []) ∙ ap (λ (es : List Entry). entries_along xs ++ es)
     (append-nil x.1.entries)
 
-pub entries_more : (views : List AccessView) (k : ℕ) (v : AccessView) → slice_get views k ≡ Some v
-    → entries_along (all_said (take (k + 1) views)) ≡ entries_along (all_said (take k views)) ++
-    (access_in v.bytes.now).entries
-entries_more views k v at = ap entries_along (all_said_more views k v at)
-    ∙ entries_along-push (all_said (take k views)) (said_at v)
+pub entries_more : (xs : List (ℕ × Access)) (k : ℕ) (x : ℕ × Access) → slice_get xs k ≡ Some x
+    → entries_along (take (k + 1) xs) ≡ entries_along (take k xs) ++ x.1.entries
+entries_more xs k x at = ap entries_along (take_one_more xs k x at) ∙ entries_along-push (take k xs) x
 
-pub within_at : (rows : ℕ) (views : List AccessView) (k : ℕ) (v : AccessView) → AreWithin rows (all_said views)
-    → slice_get views k ≡ Some v → IsTrue (list_all (is_entry rows) (access_in v.bytes.now).entries)
-within_at rows [] k v within at = none≢some v at
-within_at rows (w ∷ views) zero v within at =
-    subst (λ (x : AccessView). IsTrue (list_all (is_entry rows) (access_in x.bytes.now).entries))
-    (some_injective w v at)
-    (and_parts (list_all (is_entry rows) (access_in w.bytes.now).entries)
-    (list_all (λ x. list_all (is_entry rows) x.1.entries) (all_said views)) within).0
-within_at rows (w ∷ views) (suc k) v within at =
-    within_at rows views k v
-    (and_parts (list_all (is_entry rows) (access_in w.bytes.now).entries)
-    (list_all (λ x. list_all (is_entry rows) x.1.entries) (all_said views)) within).1 at
+-- the entries of one of the records lie within
+pub record_within : (rows : ℕ) (xs : List (ℕ × Access)) (k : ℕ) (x : ℕ × Access) → AreWithin rows xs
+    → slice_get xs k ≡ Some x → IsTrue (list_all (is_entry rows) x.1.entries)
+record_within rows [] k x within at = none≢some x at
+record_within rows (y ∷ xs) zero x within at =
+    subst (λ (z : ℕ × Access). IsTrue (list_all (is_entry rows) z.1.entries)) (some_injective y x at)
+    (and_parts (list_all (is_entry rows) y.1.entries) (list_all (λ z. list_all (is_entry rows) z.1.entries) xs)
+    within).0
+record_within rows (y ∷ xs) (suc k) x within at =
+    record_within rows xs k x
+    (and_parts (list_all (is_entry rows) y.1.entries) (list_all (λ z. list_all (is_entry rows) z.1.entries) xs)
+    within).1 at
 
 -- the entries of a record that stands there, where the table has that many rows
-pub item_within : (rows n : ℕ) (views : List AccessView) (k : ℕ) (v : AccessView) (es : List Entry)
-    → AreWithin rows (all_said views) → n ≡ rows → slice_get views k ≡ Some v
-    → es ≡ (access_in v.bytes.now).entries → IsTrue (list_all (is_entry n) es)
-item_within rows n views k v es within many at e =
-    subst (λ (xs : List Entry). IsTrue (list_all (is_entry n) xs)) (sym e)
-    (subst (λ m. IsTrue (list_all (is_entry m) (access_in v.bytes.now).entries)) (sym many)
-    (within_at rows views k v within at))
+pub item_within : (rows n : ℕ) (xs : List (ℕ × Access)) (k : ℕ) (x : ℕ × Access) (es : List Entry)
+    → AreWithin rows xs → n ≡ rows → slice_get xs k ≡ Some x → es ≡ x.1.entries → IsTrue (list_all (is_entry n) es)
+item_within rows n xs k x es within many at e =
+    subst (λ (ys : List Entry). IsTrue (list_all (is_entry n) ys)) (sym e)
+    (subst (λ m. IsTrue (list_all (is_entry m) x.1.entries)) (sym many) (record_within rows xs k x within at))
 
-pub table_more : (base : Table) (views : List AccessView) (k : ℕ) (v : AccessView) (old new : Table) (es : List Entry)
-    → slice_get views k ≡ Some v
-    → old ≡ table_after base (entries_along (all_said (take k views))) → es ≡ (access_in v.bytes.now).entries
-    → new ≡ table_after old es
-    → new ≡ table_after base (entries_along (all_said (take (k + 1) views)))
-table_more base views k v old new es at so e step =
+pub table_more : (base : Table) (xs : List (ℕ × Access)) (k : ℕ) (x : ℕ × Access) (old new : Table) (es : List Entry)
+    → slice_get xs k ≡ Some x → old ≡ table_after base (entries_along (take k xs)) → es ≡ x.1.entries
+    → new ≡ table_after old es → new ≡ table_after base (entries_along (take (k + 1) xs))
+table_more base xs k x old new es at so e step =
     step ∙ ap (λ (t : Table). table_after t es) so
-    ∙ ap (table_after (table_after base (entries_along (all_said (take k views))))) e
-    ∙ sym (table_after-append base (entries_along (all_said (take k views))) (access_in v.bytes.now).entries)
-    ∙ ap (table_after base) (sym (entries_more views k v at))
+    ∙ ap (table_after (table_after base (entries_along (take k xs)))) e
+    ∙ sym (table_after-append base (entries_along (take k xs)) x.1.entries)
+    ∙ ap (table_after base) (sym (entries_more xs k x at))
 
-pub taken_more : (from base : Table) (views : List AccessView) (k : ℕ) (v : AccessView) (old new : Table)
-    (es : List Entry) → slice_get views k ≡ Some v
-    → old ≡ undone from base (entries_along (all_said (take k views))) → es ≡ (access_in v.bytes.now).entries
-    → new ≡ undone from old es
-    → new ≡ undone from base (entries_along (all_said (take (k + 1) views)))
-taken_more from base views k v old new es at so e step =
+pub taken_more : (from base : Table) (xs : List (ℕ × Access)) (k : ℕ) (x : ℕ × Access) (old new : Table)
+    (es : List Entry) → slice_get xs k ≡ Some x → old ≡ undone from base (entries_along (take k xs))
+    → es ≡ x.1.entries → new ≡ undone from old es → new ≡ undone from base (entries_along (take (k + 1) xs))
+taken_more from base xs k x old new es at so e step =
     step ∙ ap (λ (t : Table). undone from t es) so
-    ∙ ap (undone from (undone from base (entries_along (all_said (take k views))))) e
-    ∙ sym (undone-append from base (entries_along (all_said (take k views))) (access_in v.bytes.now).entries)
-    ∙ ap (undone from base) (sym (entries_more views k v at))
+    ∙ ap (undone from (undone from base (entries_along (take k xs)))) e
+    ∙ sym (undone-append from base (entries_along (take k xs)) x.1.entries)
+    ∙ ap (undone from base) (sym (entries_more xs k x at))
 
 -- ---- what is seen along the records
 
@@ -162,7 +149,7 @@ sees_at table (x ∷ before) y rest all =
 no_other : (c : Code) (table : Table) (es : List Entry) → AllByRecursion (Sees table) es → SeesOther c table es → ⊥
 no_other code.Version table es all place = place.holds (all_in (Sees table) all (in_place es place)).version
 no_other code.Value table es all place = place.holds (all_in (Sees table) all (in_place es place)).value
-no_other _ table es all place = absurd place
+no_other _ table es all place = absurd place.holds
 
 pub nothing_wrong : (e : ℕ) (table : Table) (xs : List (ℕ × Access)) (g : Fault) → AllSee table xs
     → IsWrongAlong e table xs g → ⊥
@@ -241,7 +228,7 @@ wrong_split e table xs x g wrong =
 other_phase : (c : Code) (table : Table) (es : List Entry) → SeesOther c table es → phase_of c ≡ 5
 other_phase code.Version table es other = refl
 other_phase code.Value table es other = refl
-other_phase _ table es other = absurd other
+other_phase _ table es other = absurd other.holds
 
 pub wrong_phase : (e : ℕ) (table : Table) (xs : List (ℕ × Access)) (f : Fault) → IsWrongAlong e table xs f
     → phase_of f.code ≡ 5
@@ -268,8 +255,8 @@ found_least code.Version code.Value table es wrong other = omega arith
 found_least code.Value code.Version table es wrong other =
     absurd (other.holds (all_in (λ e. e.version ≡ (table e.row).version) wrong.0 (in_place es other)))
 found_least code.Value code.Value table es wrong other = omega arith
-found_least code.Version _ table es wrong other = absurd other
-found_least code.Value _ table es wrong other = absurd other
+found_least code.Version _ table es wrong other = absurd other.holds
+found_least code.Value _ table es wrong other = absurd other.holds
 found_least _ d table es wrong other = absurd wrong
 
 last_up : (e : ℕ) (table : Table) (x : ℕ × Access) (c : Code) (g : Fault) → IsFirstMismatch table x.1.entries (Some c)
@@ -330,18 +317,17 @@ module _ (e : ℕ) (table : Table) (xs : List (ℕ × Access)) (x : ℕ × Acces
   )
   first_more (Some f) (Some c) first wrong = choose f c first wrong (is_before (last_fault e x c) f) refl
 
--- and over the views of the records
-pub first_next : (e : ℕ) (base : Table) (views : List AccessView) (k : ℕ) (v : AccessView) (now : Table)
+-- and over the first of the records
+pub first_next : (e : ℕ) (base : Table) (xs : List (ℕ × Access)) (k : ℕ) (x : ℕ × Access) (now : Table)
     (es : List Entry) (o : Option Fault) (found : Option Code) (offset : ℕ) (fault result : Option Fault)
-    → slice_get views k ≡ Some v → now ≡ table_after base (entries_along (all_said (take k views)))
-    → es ≡ (access_in v.bytes.now).entries
-    → IsFirstAlong e base (all_said (take k views)) o → IsFirstMismatch now es found → offset ≡ v.offset
+    → slice_get xs k ≡ Some x → now ≡ table_after base (entries_along (take k xs)) → es ≡ x.1.entries
+    → IsFirstAlong e base (take k xs) o → IsFirstMismatch now es found → offset ≡ x.0
     → fault ≡ fault_if e offset found → result ≡ first_of o fault
-    → IsFirstAlong e base (all_said (take (k + 1) views)) result
-first_next e base views k v now es o found offset fault result at so same first wrong where_it_is fault_is result_is =
-    subst (λ (xs : List (ℕ × Access)). IsFirstAlong e base xs result) (sym (all_said_more views k v at))
-    (subst (IsFirstAlong e base (all_said (take k views) ++ said_at v ∷ []))
+    → IsFirstAlong e base (take (k + 1) xs) result
+first_next e base xs k x now es o found offset fault result at so same first wrong where_it_is fault_is result_is =
+    subst (λ (ys : List (ℕ × Access)). IsFirstAlong e base ys result) (sym (take_one_more xs k x at))
+    (subst (IsFirstAlong e base (take k xs ++ x ∷ []))
     (sym (result_is ∙ ap (first_of o) (fault_is ∙ ap (λ (n : ℕ). fault_if e n found) where_it_is)))
-    (first_more e base (all_said (take k views)) (said_at v) o found first
-    (subst (λ (t : Table). IsFirstMismatch t (access_in v.bytes.now).entries found) so
-    (subst (λ (xs : List Entry). IsFirstMismatch now xs found) same wrong))))
+    (first_more e base (take k xs) x o found first
+    (subst (λ (t : Table). IsFirstMismatch t x.1.entries found) so
+    (subst (λ (ys : List Entry). IsFirstMismatch now ys found) same wrong))))

@@ -24,12 +24,12 @@ use Rattle.eve_chains.proofs.Faultless.{in_located}
 
 -- ---- the access records of one attempt
 
-abbrev access_text : Access → List ℕ
+abbrev pub access_text : Access → List ℕ
 access_text x = frame_text (OfAccess x)
 
 -- the record of an index that stands among them
-found_in : (at : ℕ) (xs : List Access) (x : ℕ × Access) → Distinct (indexes_of xs) → In x (located access_text at xs)
-    → access_with (located access_text at xs) x.1.index ≡ x
+pub found_in : (at : ℕ) (xs : List Access) (x : ℕ × Access) → Distinct (indexes_of xs)
+    → In x (located access_text at xs) → access_with (located access_text at xs) x.1.index ≡ x
 found_in at [] x d i = elim i [ ]
 found_in at (y ∷ xs) x d here = cond-true (y.index == y.index) (at, y) _ (eq-eqb y.index y.index refl)
 found_in at (y ∷ xs) x d (there i) =

@@ -1,15 +1,14 @@
 -- The records of the committed batches: whose they are, and what they write, one after another.
-use Rattle.std.proofs.Common.{◌≡◌, ℕ, ℤ, zero, suc, ◌+◌, Bool, true, false, cond, List, [], ◌∷◌, ◌++◌, map, take}
-use Rattle.std.proofs.Common.{slice_get, Some, IsTrue, refl, sym, subst, ap, ◌∙◌}
-use Rattle.std.specs.List.{AllByRecursion, list_all}
-use Rattle.std.proofs.lemmas.Bool.{and_parts}
+use Rattle.std.proofs.Common.{◌≡◌, ℕ, ℤ, ◌+◌, Bool, true, false, cond, List, [], ◌∷◌, ◌++◌, map, take}
+use Rattle.std.proofs.Common.{slice_get, Some, refl, sym, subst, ap, ◌∙◌}
+use Rattle.std.specs.List.{AllByRecursion}
 use Rattle.std.proofs.lemmas.List.{take_more}
 use Rattle.std.proofs.lemmas.Option.{get_or_from_slice_get, slice_get_within}
 use Rattle.eve_smallbank.specs.declared.entry.Entry.{Entry}
 use Rattle.eve_smallbank.specs.Access.{values_after}
 use Rattle.eve_grammar.specs.Trace.{Access, Attempt, Trace, head_of}
 use Rattle.eve_grammar.specs.Spelling.{steps_at}
-use Rattle.eve_grammar.specs.Limits.{is_entry, row_count, HasLimits}
+use Rattle.eve_grammar.specs.Limits.{row_count, HasLimits}
 use Rattle.eve_history.specs.declared.fate.Fate.{Fate}
 use Rattle.eve_history.specs.Section.{Placed}
 use Rattle.eve_history.specs.Fates.{fates_from}
@@ -17,7 +16,6 @@ use Rattle.eve_history.specs.SectionHistory.{ExecutedAttempt, SectionHistory, ex
 use Rattle.eve_history.specs.SectionHistory.{attempts_among, section_history, history, is_committed, picked}
 use Rattle.eve_history.proofs.FateLaws.{committed_are_picked}
 use Rattle.eve_chains.specs.Along.{entries_along, AreWithin}
-use Rattle.eve_chains.proofs.Linked.{some_injective, none≢some}
 use Rattle.eve_chains.proofs.AlongLaws.{values_after-append, entries_along-push}
 use Rattle.eve_chains.proofs.Loading.{own, IsWithin, within_section, within_own}
 
@@ -63,26 +61,7 @@ batches_within t e limits =
 
 -- ---- one record of a batch
 
-record_within : (rows : ℕ) (xs : List (ℕ × Access)) (k : ℕ) (x : ℕ × Access) → AreWithin rows xs
-    → slice_get xs k ≡ Some x → IsTrue (list_all (is_entry rows) x.1.entries)
-record_within rows [] k x own at = none≢some x at
-record_within rows (y ∷ xs) zero x own at =
-    subst (λ (z : ℕ × Access). IsTrue (list_all (is_entry rows) z.1.entries)) (some_injective y x at)
-    (and_parts (list_all (is_entry rows) y.1.entries) (list_all (λ z. list_all (is_entry rows) z.1.entries) xs) own).0
-record_within rows (y ∷ xs) (suc k) x own at =
-    record_within rows xs k x
-    (and_parts (list_all (is_entry rows) y.1.entries) (list_all (λ z. list_all (is_entry rows) z.1.entries) xs) own).1
-    at
-
--- its entries, where the table has that many rows
-pub entries_within : (rows n : ℕ) (xs : List (ℕ × Access)) (k : ℕ) (x : ℕ × Access) (es : List Entry)
-    → AreWithin rows xs → n ≡ rows → slice_get xs k ≡ Some x → es ≡ x.1.entries
-    → IsTrue (list_all (is_entry n) es)
-entries_within rows n xs k x es own many at is =
-    subst (λ (ys : List Entry). IsTrue (list_all (is_entry n) ys)) (sym is)
-    (subst (λ m. IsTrue (list_all (is_entry m) x.1.entries)) (sym many) (record_within rows xs k x own at))
-
--- and what they write after those before it
+-- what it writes after those before it
 pub values_more : (base : ℕ → ℤ) (xs : List (ℕ × Access)) (k : ℕ) (x : ℕ × Access) (old new : ℕ → ℤ) (es : List Entry)
     → slice_get xs k ≡ Some x → old ≡ values_after base (entries_along (take k xs)) → es ≡ x.1.entries
     → new ≡ values_after old es → new ≡ values_after base (entries_along (take (k + 1) xs))

@@ -12,6 +12,7 @@ use Rattle.eve_history.specs.Section.{is_right_attempt, is_right_certificate, ar
 use Rattle.eve_history.specs.SectionHistory.{history, committed_at, IsRightSection}
 use Rattle.eve_smallbank.proofs.Members.{In, here, there}
 use Rattle.eve_chains.specs.Committed.{attempts_of}
+use Rattle.eve_chains.specs.Settling.{settling}
 
 -- The attempt's path is what stands before it, its number is the next, and its certificate is right.
 pub record IsLinked (t : Trace) (before : List Attempt) (p : Placed) : Type 0 where
@@ -140,10 +141,15 @@ in_at [] n x e = none≢some x e
 in_at (y ∷ xs) zero x e = subst (λ z. In z (y ∷ xs)) (some_injective y x e) here
 in_at (y ∷ xs) (suc n) x e = there (in_at xs n x e)
 
-take_length : {A : Type 0} (xs : List A) (n : ℕ) (x : A) → slice_get xs n ≡ Some x → length (take n xs) ≡ n
+pub take_length : {A : Type 0} (xs : List A) (n : ℕ) (x : A) → slice_get xs n ≡ Some x → length (take n xs) ≡ n
 take_length [] n x e = none≢some x e
 take_length (y ∷ xs) zero x e = refl
 take_length (y ∷ xs) (suc n) x e = ap suc (take_length xs n x e)
+
+-- as many batches are kept as were committed
+pub batches_counted : (t : Trace) (e : ℕ) → length (settling t e).batches ≡ length (history t e).committed
+unfolding settling
+batches_counted t e = length-map (history t e).committed _
 
 -- the attempt by which batch n was committed has that number
 pub committed_number : (t : Trace) (e n : ℕ) (p : Placed) → IsRightSection t e → committed_at t e n ≡ Some p

@@ -1,21 +1,18 @@
 -- Public: other crates cite these lemmas. The access records of attempts, as they are loaded.
-use Rattle.std.proofs.Common.{◌≡◌, ℕ, zero, suc, ◌+◌, ◌≤◌, ◌==◌, Bool, true, false, cond, List, [], ◌∷◌, ◌++◌, map}
-use Rattle.std.proofs.Common.{take, length, length-append, slice_get, Some, refl, sym, ap, ◌∙◌, append_assoc, arith}
+use Rattle.std.proofs.Common.{◌≡◌, ℕ, zero, suc, ◌+◌, ◌==◌, Bool, true, false, cond, List, [], ◌∷◌, ◌++◌, map}
+use Rattle.std.proofs.Common.{length, length-append, slice_get, Some, refl, sym, ap, ◌∙◌, append_assoc, arith}
 use Rattle.std.proofs.Common.{IsTrue}
 use Rattle.std.specs.Prelude.{slice_index_or, nat_le}
 use Rattle.std.specs.List.{AllByRecursion, list_all}
 use Rattle.std.proofs.lemmas.Bool.{and_parts, and_from, eqb-true}
-use Rattle.std.proofs.lemmas.List.{map-append, take_more, take_all}
-use Rattle.std.proofs.lemmas.Option.{get_or_from_slice_get, slice_get_within}
 use Rattle.eve_grammar.specs.Trace.{Access, Attempt, Step, Attempts, Commits, RollsBack, Trace, head_of}
 use Rattle.eve_grammar.specs.Frames.{OfReplica, OfAccess}
 use Rattle.eve_grammar.specs.Spelling.{frame_text, located, step_text, section_start, steps_of, steps_at, accesses_at}
 use Rattle.eve_grammar.specs.Limits.{is_number, is_entry, is_access, is_attempt, is_step, row_count, HasLimits}
-use Rattle.eve_frames.specs.declared.access.AccessView.{AccessView}
 use Rattle.eve_history.specs.Section.{Placed}
 use Rattle.eve_history.specs.SectionHistory.{ExecutedAttempt, executed_attempt, SectionHistory, access_with, ordered}
 use Rattle.eve_history.specs.SectionHistory.{attempts_among, placed_at}
-use Rattle.eve_chains.specs.Along.{said_at, all_said, AreWithin}
+use Rattle.eve_chains.specs.Along.{AreWithin}
 use Rattle.eve_chains.proofs.Linked.{some_injective, none≢some}
 use Rattle.eve_chains.specs.Walking.{records_of, records_from}
 
@@ -31,29 +28,10 @@ records_is : (h : SectionHistory) (i : ℕ) (r : ExecutedAttempt) → slice_get 
     ≡ r.ordered
 records_is h i r e = at_mapped h.attempts i r e
 
-pub load_more : (h : SectionHistory) (i place : ℕ) (r : ExecutedAttempt) (v : AccessView) (old new : List AccessView)
-    → all_said old
-    ≡ take place (records_of h i) → slice_get h.attempts i ≡ Some r
-    → slice_get r.ordered place ≡ Some (said_at v) → new ≡ old ++ v ∷ []
-    → all_said new ≡ take (place + 1) (records_of h i)
-load_more h i place r v old new so there at is =
-    let own : records_of h i ≡ r.ordered = records_is h i r there in
-    ap all_said is ∙ map-append said_at old (v ∷ []) ∙ ap (λ (xs : List (ℕ × Access)). xs ++ said_at v ∷ [])
-    (so ∙ ap (take place) own)
-    ∙ ap (λ (x : ℕ × Access). take place r.ordered ++ x ∷ [])
-    (sym (get_or_from_slice_get r.ordered place (said_at v) (said_at v) at))
-    ∙ sym (take_more r.ordered place (said_at v) (slice_get_within r.ordered place (said_at v) at))
-    ∙ ap (take (place + 1)) (sym own)
-
-pub load_all : (h : SectionHistory) (i n place : ℕ) (r : ExecutedAttempt) (items : List AccessView) → all_said items
-    ≡ take place (records_of h i) → slice_get h.attempts i ≡ Some r
-    → length r.ordered ≡ length r.attempt.certificate → n ≡ length r.attempt.certificate → n ≤ place → all_said items
-    ≡ records_of h i
-load_all h i n place r items so there count is past = so
-    ∙ take_all place (records_of h i) (long (ap length (records_is h i r there)))
-  where
-    long : length (records_of h i) ≡ length r.ordered → length (records_of h i) ≤ place
-    long e = omega arith
+pub record_there : (h : SectionHistory) (i place : ℕ) (r : ExecutedAttempt) (x : ℕ × Access)
+    → slice_get h.attempts i ≡ Some r → slice_get r.ordered place ≡ Some x
+    → slice_get (records_of h i) place ≡ Some x
+record_there h i place r x there at = ap (λ (xs : List (ℕ × Access)). slice_get xs place) (records_is h i r there) ∙ at
 
 -- ---- several attempts' records
 
@@ -113,13 +91,13 @@ pub record IsWithin (rows : ℕ) (x : ℕ × Attempt) : Type 0 where
   pub within : AreWithin rows (ordered x.0 x.1)
   pub complete : length x.1.accesses ≡ length x.1.certificate
 
-its_entries : (rows : ℕ) (x : Access) → IsTrue (is_access rows x) → IsTrue (list_all (is_entry rows) x.entries)
+pub its_entries : (rows : ℕ) (x : Access) → IsTrue (is_access rows x) → IsTrue (list_all (is_entry rows) x.entries)
 its_entries rows x h =
     (and_parts (nat_le (length x.entries) 3) (list_all (is_entry rows) x.entries)
     (and_parts (is_number 2 x.index) _
     (and_parts (is_number 2 x.place) _ (and_parts (is_number 1 x.worker) _ h).1).1).1).1
 
-within_found : (rows at : ℕ) (xs : List Access) (index : ℕ) → IsTrue (list_all (is_access rows) xs)
+pub within_found : (rows at : ℕ) (xs : List Access) (index : ℕ) → IsTrue (list_all (is_access rows) xs)
     → IsTrue (list_all (is_entry rows) (access_with (located (λ y. frame_text (OfAccess y)) at xs) index).1.entries)
 within_found rows at [] index h = refl
 within_found rows at (x ∷ xs) index h =
@@ -133,7 +111,7 @@ within_found rows at (x ∷ xs) index h =
     pick true y this other = this
     pick false y this other = other
 
-within_ordered : (rows at : ℕ) (a : Attempt) → IsTrue (list_all (is_access rows) a.accesses)
+pub within_ordered : (rows at : ℕ) (a : Attempt) → IsTrue (list_all (is_access rows) a.accesses)
     → AreWithin rows (ordered at a)
 within_ordered rows at a h = along a.certificate
   where

@@ -22,12 +22,20 @@ use Rattle.eve_chains.specs.Committed.{attempts_of}
 use Rattle.eve_chains.specs.Tables.{table_of, untouched}
 use Rattle.eve_chains.specs.Settling.{settling, values_in}
 use Rattle.eve_chains.specs.Walking.{HasWalked}
-use Rattle.eve_chains.specs.Marks.{IsMark, HasValuesOf, HasNoted, commits_among, AreMarkedSoFar}
+use Rattle.eve_chains.specs.NotedBalances.{IsMark, HasValuesOf, HasNoted, commits_among}
 use Rattle.eve_chains.specs.declared.walk.Walk.{Walk}
-use Rattle.eve_chains.specs.declared.marks.Mark.{Mark}
-use Rattle.eve_chains.specs.declared.marks.Marks.{Marks}
+use Rattle.eve_chains.specs.declared.noted_balances.Mark.{Mark}
+use Rattle.eve_chains.specs.declared.noted_balances.NotedBalances.{NotedBalances}
 use Rattle.eve_chains.proofs.AdvancingBanks.{settled_values}
+use Rattle.eve_chains.proofs.Linked.{batches_counted}
 use Rattle.eve_chains.proofs.Steps.{first_open}
+
+-- These steps of replica e's section are still to come: of all its batches so many are committed, and each mark has the
+-- balances after a front of them.
+pub record AreMarkedSoFar (t : Trace) (e : ℕ) (rest : List (ℕ × Step)) (m : NotedBalances) : Type 0 where
+  pub count : m.after + commits_among rest ≡ m.all
+  pub all : m.all ≡ length (settling t e).batches
+  pub marks : All (IsMark (settling t e)) m.list.items
 
 -- ---- how many batches are committed
 
@@ -78,10 +86,6 @@ along_is_after t path =
     visible_at-before_rest (opening_table t) [] (executions t path)
     ∙ ap (λ (table : Table). table_after_all table (executions t path)) (fun_ext (λ row. refl))
 
-batches_counted : (t : Trace) (e : ℕ) → length (settling t e).batches ≡ length (history t e).committed
-unfolding settling
-batches_counted t e = length-map (history t e).committed _
-
 opening_counted : (t : Trace) (e : ℕ) → length (settling t e).opening ≡ row_count (head_of t)
 unfolding settling
 opening_counted t e = length-opening_rows t.customers
@@ -110,7 +114,7 @@ module _ (t : Trace) (e : ℕ) (limits : HasLimits t) (right : IsRightSection t 
       ∙ sym (batches_counted t e)
 
   -- nothing is committed yet
-  pub marked_start : (m : Marks) (all : ℕ) → m.all ≡ all → m.after ≡ 0 → m.list.items ≡ []
+  pub marked_start : (m : NotedBalances) (all : ℕ) → m.all ≡ all → m.after ≡ 0 → m.list.items ≡ []
       → all ≡ length (history t e).committed → AreMarkedSoFar t e (steps_at t e) m
   marked_start m all is none empty count = record {
     count = omega (arith, none, all_commits t e right, count, is);
@@ -119,7 +123,7 @@ module _ (t : Trace) (e : ℕ) (limits : HasLimits t) (right : IsRightSection t 
   }
 
   -- a step that is no commit
-  pub marked_other : (x : ℕ × Step) (rest : List (ℕ × Step)) (m : Marks) → AreMarkedSoFar t e (x ∷ rest) m
+  pub marked_other : (x : ℕ × Step) (rest : List (ℕ × Step)) (m : NotedBalances) → AreMarkedSoFar t e (x ∷ rest) m
       → commits_among (x ∷ rest) ≡ 0 + commits_among rest → AreMarkedSoFar t e rest m
   marked_other x rest m marked same = record {
     count = omega (arith, same, marked.count);
@@ -140,7 +144,7 @@ module _ (t : Trace) (e : ℕ) (limits : HasLimits t) (right : IsRightSection t 
       }
 
   -- a commit
-  pub marked_commit : (x : ℕ × Step) (rest : List (ℕ × Step)) (w : Walk) (old new : Marks)
+  pub marked_commit : (x : ℕ × Step) (rest : List (ℕ × Step)) (w : Walk) (old new : NotedBalances)
       → AreMarkedSoFar t e (x ∷ rest) old → commits_among (x ∷ rest) ≡ 1 + commits_among rest → HasWalked t e rest w
       → HasNoted w.committed old new → AreMarkedSoFar t e rest new
   marked_commit x rest w old new marked one known noted =

@@ -20,13 +20,13 @@ use Rattle.eve_chains.specs.Along.{entries_along}
 use Rattle.eve_chains.proofs.AlongLaws.{table_after-append}
 use Rattle.eve_chains.proofs.Distinct.{in_map, in_cons, in_left, in_right}
 use Rattle.eve_chains.proofs.SettledAttempts.{all-append}
-use Rattle.eve_chains.specs.Rows.{Fated, told_of, counts_in, counting, settles, Noted, noted_by, noted_in, all_noted}
+use Rattle.eve_chains.specs.Rows.{Fated, told_of, settles, Noted, noted_by, noted_in, all_noted}
 use Rattle.eve_chains.specs.Rows.{of_row, met_by, pair_after}
 use Rattle.eve_chains.proofs.Loading.{own}
 use Rattle.eve_chains.proofs.Judging.{Advances}
 use Rattle.eve_chains.proofs.Steps.{lead_all}
-use Rattle.eve_chains.proofs.Paths.{all_placed, will_commit, will_fall, view_of, AreCounting, counting_told}
-use Rattle.eve_chains.proofs.Paths.{committed_told, discarded_told}
+use Rattle.eve_chains.proofs.Paths.{all_placed, counts_in, counting, will_commit, will_fall, view_of, AreCounting}
+use Rattle.eve_chains.proofs.Paths.{counting_told, committed_told, discarded_told}
 use Rattle.eve_chains.proofs.RowWalks.{counts, entries, after_all, AreRising, own_of, table_row, meets_what_counts}
 
 -- ---- lists

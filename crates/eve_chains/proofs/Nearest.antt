@@ -1,11 +1,18 @@
 -- What the rows have after executed requests is what their nearest writes left.
-use Rattle.std.proofs.Common.{◌≡◌, ℕ, [], List, sym, ap, ◌∙◌}
-use Rattle.eve_smallbank.specs.Chain.{Table, visible_at, before_rest, table_after_all}
+use Rattle.std.proofs.Common.{◌≡◌, ℕ, [], List, ◌∷◌, ◌++◌, refl, sym, ap, ◌∙◌}
+use Rattle.eve_smallbank.specs.declared.entry.Entry.{Entry}
+use Rattle.eve_smallbank.specs.Access.{Executed}
+use Rattle.eve_smallbank.specs.Chain.{Table, visible_at, before_next, before_rest, table_after_all}
 use Rattle.eve_smallbank.proofs.Chains.{visible_at-before_rest}
 use Rattle.eve_grammar.specs.Trace.{Attempt, Trace}
 use Rattle.eve_history.specs.Section.{Placed}
 use Rattle.eve_chains.specs.Visible.{opening_table, executed_in, executions, rows_after, before_index, visible_to}
 use Rattle.eve_chains.specs.Visible.{entries_before, table_along}
+
+pub before_rest-append : (before : List Entry) (xs ys : List Executed) → before_rest before (xs ++ ys)
+    ≡ before_rest (before_rest before xs) ys
+before_rest-append before [] ys = refl
+before_rest-append before (x ∷ xs) ys = before_rest-append (before_next before x.entries) xs ys
 
 -- after the attempts on a path
 pub rows_visible : (t : Trace) (path : List Attempt) → rows_after t path ≡ table_along t path

@@ -17,7 +17,7 @@ use Rattle.eve_history.specs.Section.{request_count, commits_first, is_right_rol
 use Rattle.eve_history.specs.Fates.{fate_in}
 use Rattle.eve_history.specs.SectionHistory.{is_committed, is_discarded, history, IsRightSection}
 use Rattle.eve_chains.proofs.SettledAttempts.{all-append}
-use Rattle.eve_chains.specs.Rows.{Fated, to_come, counts_in, counting, settles, told_of}
+use Rattle.eve_chains.specs.Rows.{Fated, to_come, settles, told_of}
 
 abbrev pub all_placed : List Fated → List Placed
 all_placed xs = map (λ x. x.placed) xs
@@ -30,6 +30,13 @@ will_fall x = is_discarded x.fate
 
 abbrev pub view_of : Fated → ℕ
 view_of x = x.placed.attempt.view
+
+-- its writes count for what comes in this view: it will be committed, or no rollback came since
+abbrev pub counts_in : ℕ → Fated → Bool
+counts_in view x = is_committed x.fate || (x.placed.attempt.view == view)
+
+abbrev pub counting : ℕ → List Fated → List Fated
+counting view xs = filter (counts_in view) xs
 
 -- each attempt's path is what counts of those before it, none of which has a later view
 abbrev pub AreCounting : List Fated → List Fated → Type 0

@@ -1,5 +1,5 @@
 -- What is wrong on the rows is what is wrong along the records.
-use Rattle.std.proofs.Common.{◌≡◌, ◌≢◌, inl, inr, ℕ, ◌+◌, ◌||◌, Some, length, ◌==◌, Bool, true, List, [], ◌∷◌, ◌++◌}
+use Rattle.std.proofs.Common.{◌≡◌, inl, inr, ℕ, ◌+◌, ◌||◌, Some, length, ◌==◌, Bool, true, List, [], ◌∷◌, ◌++◌}
 use Rattle.std.proofs.Common.{map, filter, flat_map, refl, sym, subst, ap, ◌∙◌, append_assoc, append-nil}
 use Rattle.std.proofs.lemmas.Bool.{eqb-true, eq-eqb, ne_eqb}
 use Rattle.std.proofs.lemmas.List.{map-append}
@@ -14,7 +14,6 @@ use Rattle.eve_smallbank.specs.Access.{Fits}
 use Rattle.eve_grammar.specs.Limits.{HasLimits}
 use Rattle.eve_grammar.specs.Trace.{Access, Trace}
 use Rattle.eve_views.specs.declared.fault.Code.{Code}
-use Rattle.eve_views.specs.declared.fault.Code.TheVariants as code
 use Rattle.eve_views.specs.declared.fault.Fault.{Fault}
 use Rattle.eve_history.specs.Section.{Placed, settled}
 use Rattle.eve_history.specs.SectionHistory.{ordered, history, names_of, IsRightSection, is_committed, is_discarded}
@@ -24,14 +23,15 @@ use Rattle.eve_grammar.specs.Frames.{OfAccess, OfAttempt}
 use Rattle.eve_grammar.specs.Spelling.{frame_text}
 use Rattle.eve_chains.specs.Visible.{opening_table, table_along, executed_by}
 use Rattle.eve_chains.specs.Sound.{RecordsFit}
-use Rattle.eve_chains.specs.Along.{entries_along, SeesOther, IsWrongAlong, IsWrongSomewhere, AllSee, AllSettledSee}
+use Rattle.eve_chains.specs.Along.{entries_along, SeesAnother, SeesOther, IsWrongAlong, IsWrongSomewhere, AllSee}
+use Rattle.eve_chains.specs.Along.{AllSettledSee}
 use Rattle.eve_chains.proofs.AlongLaws.{table_after-append}
 use Rattle.eve_chains.proofs.Distinct.{in_map, in_source, in_split}
 use Rattle.eve_chains.proofs.Faultless.{place_of, in_place, standing, in_located}
 use Rattle.eve_chains.proofs.Walks.{right_one, complete_one}
 use Rattle.eve_chains.proofs.Attempts.{from_ordered}
 use Rattle.eve_chains.specs.Rows.{Fated, told_of, settles, Noted, noted_by, noted_in, all_noted, of_row, met_by}
-use Rattle.eve_chains.specs.Rows.{pair_after, SeesAnother, IsWrongOnRow, EachSees}
+use Rattle.eve_chains.specs.Rows.{pair_after, IsWrongOnRow, EachSees}
 use Rattle.eve_chains.proofs.Loading.{own}
 use Rattle.eve_chains.proofs.Paths.{all_placed, view_of, committed_told, discarded_told}
 use Rattle.eve_chains.proofs.Meeting.{filter_kept, filter_dropped, settled_there, meets_visible}
@@ -61,24 +61,7 @@ none_before at view commits row (d ∷ before) e rest apart its =
 -- the fault at an entry is one at its record
 at_record : (c : Code) (table : Table) (es : List Entry) (e : Entry) → In e es → SeesAnother c (table e.row) e
     → SeesOther c table es
-at_record code.Version table es e i other = place_of (λ d. d.version ≢ (table d.row).version) es i other
-at_record code.Value table es e i other = place_of (λ d. d.seen ≢ (table d.row).value) es i other
-at_record _ table es e i other = absurd other
-
--- and the fault at a record is one at an entry
-record OtherAt (c : Code) (table : Table) (es : List Entry) : Type 0 where
-  before : List Entry
-  item : Entry
-  rest : List Entry
-  is : es ≡ before ++ item ∷ rest
-  other : SeesAnother c (table item.row) item
-
-other_at : (c : Code) (table : Table) (es : List Entry) → SeesOther c table es → OtherAt c table es
-other_at code.Version table es place =
-    record { before = place.before; item = place.item; rest = place.rest; is = place.is; other = place.holds }
-other_at code.Value table es place =
-    record { before = place.before; item = place.item; rest = place.rest; is = place.is; other = place.holds }
-other_at _ table es place = absurd place
+at_record c table es e i other = place_of (λ d. SeesAnother c (table d.row) d) es i other
 
 -- where an attempt stands among those told
 record ToldAt (told : List Fated) (p : Placed) : Type 0 where
@@ -297,11 +280,10 @@ module _ (t : Trace) (e : ℕ) (limits : HasLimits t) (right : IsRightSection t 
       let own_wrong = subst (λ q. IsWrongAlong e (table_along t q.path) (ordered q.offset q.attempt) f)
       (sym p.same) wrong.holds in
       let place = own_wrong.stands in
-      let at = other_at f.code (table_after (table_along t p.item.placed.path) (entries_along place.before))
-      place.item.1.entries place.holds.1 in (
+      let at = place.holds.1 in (
         at.item.row,
         found_there p.front p.item p.back p.is p.passes place.before place.item place.rest place.is at.before at.item
-            at.rest at.is f place.holds.0 at.other own_wrong.inside,
+            at.rest at.is f place.holds.0 at.holds own_wrong.inside,
       )
 
   -- where each row's entries see what its walk meets, each record sees what it must

@@ -6,11 +6,10 @@ use Rattle.eve_smallbank.specs.Conflict.{IsReordering}
 use Rattle.std.proofs.lemmas.List.{map-append}
 use Rattle.std.proofs.lemmas.Grind.{flat_map-append}
 use Rattle.std.specs.List.{AllByRecursion}
-use Rattle.eve_smallbank.specs.declared.entry.Entry.{Entry}
 use Rattle.eve_smallbank.specs.declared.request.Reply.{Reply}
 use Rattle.eve_smallbank.specs.SmallBank.{Bank, Request, run, does}
 use Rattle.eve_smallbank.specs.Access.{Executed, bank_of}
-use Rattle.eve_smallbank.specs.Chain.{Table, before_next, before_rest, values_of}
+use Rattle.eve_smallbank.specs.Chain.{Table, before_rest, values_of}
 use Rattle.eve_smallbank.specs.SerialOrder.{bank_at, IsSound, IsSerial}
 use Rattle.eve_smallbank.proofs.Members.{all_in}
 use Rattle.eve_smallbank.proofs.SerialOrders.{serial}
@@ -22,7 +21,7 @@ use Rattle.eve_chains.specs.Visible.{opening_table, executed_at, executed_in, ex
 use Rattle.eve_chains.specs.Visible.{entries_before}
 use Rattle.eve_chains.specs.Committed.{attempts_of, committed_to, bank_after, opening_bank, Leads, IsSerialBetween}
 use Rattle.eve_chains.specs.Sound.{IsSoundAlong, SettledAreSound}
-use Rattle.eve_chains.proofs.Nearest.{rows_visible}
+use Rattle.eve_chains.proofs.Nearest.{rows_visible, before_rest-append}
 use Rattle.eve_chains.proofs.Permutations.{reordering_of_permutations}
 use Rattle.eve_chains.proofs.Linked.{linked_history, some_injective, none≢some, linked_at, in_at}
 
@@ -45,11 +44,6 @@ all-front P [] ys all = tt
 all-front P (x ∷ xs) ys all = (all.0, all-front P xs ys all.1)
 
 -- ---- banks
-
-before_rest-append : (before : List Entry) (xs ys : List Executed) → before_rest before (xs ++ ys)
-    ≡ before_rest (before_rest before xs) ys
-before_rest-append before [] ys = refl
-before_rest-append before (x ∷ xs) ys = before_rest-append (before_next before x.entries) xs ys
 
 -- the bank after n batches is what is visible along the path of the next
 bank_along : (t : Trace) (e n : ℕ) → bank_after t e n ≡ bank_at (names_of t) (opening_table t)

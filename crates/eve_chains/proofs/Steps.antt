@@ -11,7 +11,7 @@ use Rattle.std.proofs.lemmas.List.{map-append, length-map, get_or_past}
 use Rattle.std.proofs.lemmas.Grind.{flat_map-append}
 use Rattle.eve_smallbank.specs.declared.entry.Entry.{Entry}
 use Rattle.eve_smallbank.specs.Access.{Executed}
-use Rattle.eve_smallbank.specs.Chain.{Table, visible_at, before_next, before_rest, table_after}
+use Rattle.eve_smallbank.specs.Chain.{Table, visible_at, before_rest, table_after}
 use Rattle.eve_smallbank.proofs.Members.{In, here, there}
 use Rattle.eve_grammar.specs.Trace.{Access, Attempt, Commit, Rollback, Step, Attempts, Commits, RollsBack, Trace}
 use Rattle.eve_grammar.specs.Trace.{head_of}
@@ -47,6 +47,7 @@ use Rattle.eve_chains.specs.Walking.{parted}
 use Rattle.eve_chains.proofs.Loading.{own, IsWithin, records_first, records_behind, within_section, within_behind}
 use Rattle.eve_chains.proofs.Loading.{within_own}
 use Rattle.eve_chains.proofs.Judging.{first_with, Advances, first_with_all}
+use Rattle.eve_chains.proofs.Nearest.{before_rest-append}
 
 -- ---- settled attempts stay so
 
@@ -73,11 +74,6 @@ stays s [] i = i
 stays s (step ∷ steps) i = stays (next s step) steps (stays_next s step i)
 
 -- ---- what an attempt leaves
-
-before_rest-append : (before : List Entry) (xs ys : List Executed) → before_rest before (xs ++ ys)
-    ≡ before_rest (before_rest before xs) ys
-before_rest-append before [] ys = refl
-before_rest-append before (x ∷ xs) ys = before_rest-append (before_next before x.entries) xs ys
 
 -- an attempt that settles leads from what its path left to what it leaves with it
 pub leads : (t : Trace) (e : ℕ) (p : Placed) (path : List Attempt) → HasLimits t → IsRightSection t e

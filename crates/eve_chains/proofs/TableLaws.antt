@@ -3,7 +3,7 @@ use Rattle.std.proofs.Common.{◌≡◌, ◌≢◌, ℕ, ℤ, pos, zero, suc, �
 use Rattle.std.proofs.Common.{[], ◌∷◌, ◌++◌, map, take, length, Option, Some, None, refl, sym, subst, ap}
 use Rattle.std.proofs.Common.{◌∙◌, inl, inr, ◌⊎◌, arith}
 use mathlib.Core.Path.{fun_ext}
-use Rattle.std.specs.Prelude.{slice_get}
+use Rattle.std.specs.Prelude.{slice_get, if◌then◌else◌}
 use Rattle.std.specs.Ordering.{int_eq}
 use Rattle.std.specs.List.{AllByRecursion, list_any}
 use Rattle.std.proofs.lemmas.Bool.{cases_Bool, eqb-true, ne_eqb, eq-eqb, false≢true}
@@ -21,7 +21,7 @@ use Rattle.eve_grammar.specs.Trace.{Customer, Trace, opening_rows}
 use Rattle.eve_grammar.specs.Spelling.{located, customer_text, customers_at}
 use Rattle.eve_views.specs.Form.{SomePlace}
 use Rattle.eve_chains.specs.Visible.{opening_table}
-use Rattle.eve_chains.specs.Tables.{table_of, undone, IsFirstMismatch, wrong_behind}
+use Rattle.eve_chains.specs.Tables.{table_of, undone, IsFirstMismatch}
 use Rattle.eve_chains.proofs.Linked.{some_injective, none≢some}
 
 -- ---- the opening
@@ -112,6 +112,14 @@ differs m n h e = false≢true (sym h ∙ eq-eqb m n e)
 int_differs : (m n : ℤ) → int_eq m n ≡ false → m ≢ n
 int_differs m n h e = false≢true (sym h ∙ (Decides-int_eq m n).1 e)
 
+-- the first thing that is wrong, found entry by entry, where this was found before
+abbrev pub wrong_behind : Option Code → Table → List Entry → Option Code
+wrong_behind found table [] = found
+wrong_behind found table (e ∷ es) =
+    if e.version == (table e.row).version then
+    (if int_eq e.seen (table e.row).value then wrong_behind found table es else wrong_behind (Some code.Value) table es)
+    else Some code.Version
+
 -- where some value was wrong before
 abbrev WrongLater : Table → List Entry → Type 0
 WrongLater table es =
@@ -120,22 +128,22 @@ WrongLater table es =
     ⊎ ((wrong_behind (Some code.Value) table es ≡ Some code.Value) × AllByRecursion (SeesVersion table) es)
 
 -- by whether the version and the value are right
-abbrev section_history_by : Option Code → Bool → Bool → Option Code
-section_history_by after b c = cond b (cond c after after) (Some code.Version)
+abbrev by_both : Option Code → Bool → Bool → Option Code
+by_both after b c = cond b (cond c after after) (Some code.Version)
 
 later : (table : Table) (es : List Entry) → WrongLater table es
 later table [] = inr (refl, tt)
 later table (e ∷ es) = step (e.version == (table e.row).version) (int_eq e.seen (table e.row).value) refl refl
     (later table es)
   where
-    next : (b c : Bool) → b ≡ true → section_history_by (wrong_behind (Some code.Value) table es) b c
+    next : (b c : Bool) → b ≡ true → by_both (wrong_behind (Some code.Value) table es) b c
         ≡ wrong_behind (Some code.Value) table es
     next true true h = refl
     next true false h = refl
     next false c h = absurd (false≢true h)
 
     whole : (b c : Bool) → (e.version == (table e.row).version) ≡ b → int_eq e.seen (table e.row).value ≡ c
-        → wrong_behind (Some code.Value) table (e ∷ es) ≡ section_history_by (wrong_behind (Some code.Value) table es) b
+        → wrong_behind (Some code.Value) table (e ∷ es) ≡ by_both (wrong_behind (Some code.Value) table es) b
         c
     whole b c g h =
         ap (λ x. cond x (cond (int_eq e.seen (table e.row).value) (wrong_behind (Some code.Value) table es)

@@ -12,7 +12,7 @@ use Rattle.eve_smallbank.proofs.Chains.{visible_at-before_next}
 use Rattle.eve_grammar.specs.Trace.{Access, Trace}
 use Rattle.eve_grammar.specs.Limits.{HasLimits}
 use Rattle.eve_grammar.specs.Frames.{OfAccess, OfAttempt}
-use Rattle.eve_grammar.specs.Spelling.{frame_text, located, accesses_at}
+use Rattle.eve_grammar.specs.Spelling.{frame_text, accesses_at}
 use Rattle.eve_views.specs.declared.fault.Code.{Code}
 use Rattle.eve_views.specs.declared.fault.Code.TheVariants as code
 use Rattle.eve_views.specs.declared.fault.Fault.{Fault}
@@ -24,36 +24,14 @@ use Rattle.eve_chains.specs.Visible.{before_index, table_along, visible_to}
 use Rattle.eve_chains.specs.Sound.{RecordsFit, IsSoundAlong, SettledAreSound}
 use Rattle.eve_chains.specs.Faults.{AtSettledAccess, StandsInChains, IsChainFault}
 use Rattle.eve_chains.specs.Along.{entries_along, SeesOther, IsWrongAlong, AllSee, IsWrongSomewhere, AllSettledSee}
-use Rattle.eve_chains.proofs.Distinct.{Distinct, in_left, in_map, distinct_permutation}
+use Rattle.eve_chains.proofs.Distinct.{Distinct, in_left, distinct_permutation}
 use Rattle.eve_chains.proofs.AlongLaws.{table_after-append}
 use Rattle.eve_chains.proofs.SettledAttempts.{IsRightAlone, IsComplete, settled_right, settled_complete}
-use Rattle.eve_chains.proofs.Soundness.{indexes_of, permutes, distinct_indexes, its_place, its_record, as_executed}
+use Rattle.eve_chains.proofs.Soundness.{permutes, distinct_indexes, its_place, its_record, as_executed}
 use Rattle.eve_chains.proofs.Soundness.{sound_chain}
 use Rattle.eve_chains.proofs.Faultless.{standing, place_of, in_located, in_place}
 use Rattle.eve_chains.proofs.Nearest.{seen_visible}
-
--- ---- an access record by its index
-
--- the located record of an index that stands among them
-found_in : (at : ℕ) (xs : List Access) (x : ℕ × Access) → Distinct (indexes_of xs)
-    → In x (located (λ y. frame_text (OfAccess y)) at xs)
-    → access_with (located (λ y. frame_text (OfAccess y)) at xs) x.1.index ≡ x
-found_in at [] x d i = elim i [ ]
-found_in at (y ∷ xs) x d here = cond-true (y.index == y.index) (at, y) _ (eq-eqb y.index y.index refl)
-found_in at (y ∷ xs) x d (there i) =
-    cond-false (y.index == x.1.index) (at, y) _
-    (ne_eqb y.index x.1.index (λ e. d.0 (subst (λ j. In j (indexes_of xs)) (sym e)
-    (in_map (λ (z : Access). z.index) xs
-    (in_located (λ z. frame_text (OfAccess z)) (at + length (frame_text (OfAccess y))) xs x i)))))
-    ∙ found_in (at + length (frame_text (OfAccess y))) xs x d.1 i
-
--- one that stands there has a place among the located ones
-located_in : {y : Access} (at : ℕ) (xs : List Access) → In y xs → (o : ℕ)
-    × In (o, y) (located (λ z. frame_text (OfAccess z)) at xs)
-located_in at [] i = elim i [ ]
-located_in at (y ∷ xs) here = (at, here)
-located_in at (x ∷ xs) (there i) = let rest = located_in (at + length (frame_text (OfAccess x))) xs i in
-    (rest.0, there rest.1)
+use Rattle.eve_chains.proofs.Attempts.{found_in, located_in}
 
 -- ---- the table between the records
 
@@ -204,7 +182,7 @@ module _ (t : Trace) (p : Placed) (right : IsRightAlone t p.attempt) where
       (settled (history t e)) i
       (place_of (λ y. (y.0 ≡ at) × SomePlace y.1.entries (λ _ z. z.seen ≢ (visible_to t p y.1.index z.row).value))
       (accesses_at p.offset p.attempt) j (same, other))
-  chain_stands e at _ x i j same other = absurd other
+  chain_stands e at _ x i j same other = absurd other.holds
 
   -- what is wrong along the records is a fault of chains
   pub wrong_along_stands : (e : ℕ) (f : Fault) → IsComplete p.attempt → In p (settled (history t e))

@@ -1,8 +1,8 @@
 -- What is wrong with what an attempt's records see, one after another. docs/MODEL.md, "What an entry must see".
-use Rattle.std.specs.Prelude.{◌≡◌, ◌≢◌, ℕ, IsTrue, ⊤, List, [], ◌∷◌, map, Option, Some, None}
+use Rattle.std.specs.Prelude.{◌≡◌, ◌≢◌, ℕ, IsTrue, ⊤, List, [], ◌∷◌, Option, Some, None}
 use Rattle.std.specs.List.{AllByRecursion, list_all, flat_map}
 use Rattle.eve_smallbank.specs.declared.entry.Entry.{Entry}
-use Rattle.eve_smallbank.specs.Chain.{Table, Sees, table_after}
+use Rattle.eve_smallbank.specs.Chain.{Versioned, Table, Sees, table_after}
 use Rattle.eve_grammar.specs.Trace.{Access, Trace}
 use Rattle.eve_grammar.specs.Limits.{is_entry}
 use Rattle.eve_frames.specs.Said.{access_said}
@@ -19,9 +19,6 @@ use Rattle.eve_chains.specs.Visible.{table_along}
 abbrev pub said_at : AccessView → ℕ × Access
 said_at v = (v.offset, access_said v)
 
-abbrev pub all_said : List AccessView → List (ℕ × Access)
-all_said views = map said_at views
-
 -- the entries of one record after another
 abbrev pub entries_along : List (ℕ × Access) → List Entry
 entries_along xs = flat_map (λ x. x.1.entries) xs
@@ -30,11 +27,15 @@ entries_along xs = flat_map (λ x. x.1.entries) xs
 abbrev pub AreWithin : ℕ → List (ℕ × Access) → Type 0
 AreWithin rows xs = IsTrue (list_all (λ x. list_all (is_entry rows) x.1.entries) xs)
 
--- some entry sees another version, or another value, than its row has
+-- the entry sees another version, or another value, than its row has
+abbrev pub SeesAnother : Code → Versioned → Entry → Type 0
+SeesAnother code.Version v e = e.version ≢ v.version
+SeesAnother code.Value v e = e.seen ≢ v.value
+SeesAnother _ v e = ⊥
+
+-- some entry does, where the rows have what the table has
 abbrev pub SeesOther : Code → Table → List Entry → Type 0
-SeesOther code.Version table es = SomePlace es (λ _ e. e.version ≢ (table e.row).version)
-SeesOther code.Value table es = SomePlace es (λ _ e. e.seen ≢ (table e.row).value)
-SeesOther _ table es = ⊥
+SeesOther c table es = SomePlace es (λ _ e. SeesAnother c (table e.row) e)
 
 -- A fault of replica e at one of these records: it sees something else than the records before it leave in the table.
 pub record IsWrongAlong (e : ℕ) (table : Table) (xs : List (ℕ × Access)) (f : Fault) : Type 0 where

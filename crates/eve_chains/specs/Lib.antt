@@ -10,5 +10,5 @@ pub mod Along
 pub mod Unfit
 pub mod Stretches
 pub mod Settling
-pub mod Marks
+pub mod NotedBalances
 pub mod Checking

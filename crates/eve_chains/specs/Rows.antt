@@ -1,5 +1,5 @@
 -- The entries of each row, gathered along a replica's section. docs/MODEL.md, "What an entry must see".
-use Rattle.std.specs.Prelude.{◌≡◌, ◌≢◌, Some, ℕ, ◌==◌, Bool, ◌||◌, List, [], ◌∷◌, ◌++◌, map, length, filter, fold}
+use Rattle.std.specs.Prelude.{◌≡◌, Some, ℕ, ◌==◌, Bool, List, [], ◌∷◌, ◌++◌, map, length, filter, fold}
 use Rattle.std.specs.Prelude.{if◌then◌else◌}
 use Rattle.std.specs.List.{flat_map}
 use Rattle.eve_smallbank.specs.declared.entry.Entry.{Entry}
@@ -7,13 +7,13 @@ use Rattle.eve_smallbank.specs.Chain.{Versioned, after_own}
 use Rattle.eve_grammar.specs.Trace.{Access, Step, Attempts, Commits, RollsBack, Trace}
 use Rattle.eve_grammar.specs.Spelling.{steps_at}
 use Rattle.eve_views.specs.Form.{SomePlace}
-use Rattle.eve_views.specs.declared.fault.Code.{Code}
-use Rattle.eve_views.specs.declared.fault.Code.TheVariants as code
 use Rattle.eve_views.specs.declared.fault.Fault.{Fault}
 use Rattle.eve_history.specs.declared.fate.Fate.{Fate}
 use Rattle.eve_history.specs.Section.{Placed, SectionState, start, path_of, next}
 use Rattle.eve_history.specs.Fates.{fate_in}
-use Rattle.eve_history.specs.SectionHistory.{ordered, is_committed, is_discarded}
+use Rattle.eve_history.specs.SectionHistory.{ordered, is_committed}
+use Rattle.eve_chains.specs.Along.{SeesAnother}
+use Rattle.eve_chains.specs.Unfit.{is_settled}
 
 -- ---- attempts and what becomes of them
 
@@ -30,16 +30,9 @@ to_come s ((at, Attempts a) ∷ rest) =
 to_come s ((at, Commits c) ∷ rest) = to_come (next s (at, Commits c)) rest
 to_come s ((at, RollsBack r) ∷ rest) = to_come (next s (at, RollsBack r)) rest
 
--- its writes count for what comes in this view: it will be committed, or no rollback came since
-abbrev pub counts_in : ℕ → Fated → Bool
-counts_in view x = is_committed x.fate || (x.placed.attempt.view == view)
-
-abbrev pub counting : ℕ → List Fated → List Fated
-counting view xs = filter (counts_in view) xs
-
 -- it is committed or discarded in the end
 abbrev pub settles : Fated → Bool
-settles x = is_committed x.fate || is_discarded x.fate
+settles x = is_settled x.fate
 
 -- the attempts of replica e's section
 abbrev pub told_of : Trace → ℕ → List Fated
@@ -96,12 +89,6 @@ at_first v = record { view = 0; committed = v; working = v }
 -- after these entries of the row
 abbrev pub pair_after : Versioned → List Noted → Pair
 pair_after v ns = fold next_pair (at_first v) ns
-
--- the entry sees another version, or another value, than its row has
-abbrev pub SeesAnother : Code → Versioned → Entry → Type 0
-SeesAnother code.Version v e = e.version ≢ v.version
-SeesAnother code.Value v e = e.seen ≢ v.value
-SeesAnother _ v e = ⊥
 
 -- A fault of replica e at one of these entries of a row, which had this at first: the entry sees something else than
 -- the row's walk meets there.

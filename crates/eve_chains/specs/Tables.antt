@@ -1,6 +1,5 @@
 -- Tables of all rows, as lists by row. docs/MODEL.md, "Visible version, chained".
-use Rattle.std.specs.Prelude.{◌≡◌, ◌≢◌, pos, ◌==◌, if◌then◌else◌, List, [], ◌∷◌, Option, Some, None, slice_index_or}
-use Rattle.std.specs.Ordering.{int_eq}
+use Rattle.std.specs.Prelude.{◌≡◌, ◌≢◌, pos, if◌then◌else◌, List, Option, Some, None, slice_index_or}
 use Rattle.std.specs.List.{AllByRecursion, list_any}
 use Rattle.eve_smallbank.specs.declared.entry.Entry.{Entry}
 use Rattle.eve_smallbank.specs.Access.{writes_row}
@@ -29,11 +28,3 @@ IsFirstMismatch table es (Some code.Version) = SomePlace es (λ _ e. e.version �
 IsFirstMismatch table es (Some code.Value) =
     AllByRecursion (λ e. e.version ≡ (table e.row).version) es × SomePlace es (λ _ e. e.seen ≢ (table e.row).value)
 IsFirstMismatch table es (Some _) = ⊥
-
--- the same, found entry by entry, where this was found before
-abbrev pub wrong_behind : Option Code → Table → List Entry → Option Code
-wrong_behind found table [] = found
-wrong_behind found table (e ∷ es) =
-    if e.version == (table e.row).version then
-    (if int_eq e.seen (table e.row).value then wrong_behind found table es else wrong_behind (Some code.Value) table es)
-    else Some code.Version

@@ -1,6 +1,6 @@
 -- The records of settled attempts, one after another, and the first that doesn't fit its request.
 -- docs/MODEL.md, "A record fits its request".
-use Rattle.std.specs.Prelude.{◌≡◌, ℕ, ◌<◌, ◌≤◌, nat_lt, Bool, true, false, if◌then◌else◌, List, [], ◌∷◌, ◌++◌, map}
+use Rattle.std.specs.Prelude.{◌≡◌, ℕ, ◌<◌, ◌≤◌, nat_lt, Bool, ◌||◌, if◌then◌else◌, List, [], ◌∷◌, ◌++◌, map}
 use Rattle.std.specs.Prelude.{length, Option, Some, None, Result, Ok, Err, slice_get, slice_index_or}
 use Rattle.std.specs.List.{AllByRecursion, slice_range}
 use Rattle.eve_smallbank.specs.declared.request.Reply.{Reply}
@@ -9,8 +9,8 @@ use Rattle.eve_smallbank.specs.SmallBank.{Request, Balance}
 use Rattle.eve_smallbank.specs.Access.{Executed, Fits}
 use Rattle.eve_grammar.specs.Trace.{Access, Trace}
 use Rattle.eve_history.specs.declared.fate.Fate.{Fate}
-use Rattle.eve_history.specs.declared.fate.Fate.TheVariants.{Committed, Discarded, Open}
 use Rattle.eve_history.specs.SectionHistory.{ExecutedAttempt, SectionHistory, section_history, IsRightSection}
+use Rattle.eve_history.specs.SectionHistory.{is_committed, is_discarded}
 use Rattle.eve_views.specs.Form.{SomePlace}
 use Rattle.eve_chains.specs.Visible.{executed_by}
 use Rattle.eve_chains.specs.Records.{recorded}
@@ -32,9 +32,7 @@ pub record HasRequests (count : ℕ) (r : ExecutedAttempt) : Type 0 where
   pub there : AllByRecursion (λ x. x.1.index < count) r.ordered
 
 abbrev pub is_settled : Fate → Bool
-is_settled Committed = true
-is_settled Discarded = true
-is_settled Open = false
+is_settled fate = is_committed fate || is_discarded fate
 
 -- of an attempt that is settled
 abbrev pub records_if_settled : Trace → ExecutedAttempt → Fate → List (ℕ × Executed)

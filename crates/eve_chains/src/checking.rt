@@ -10,16 +10,17 @@ ghost use Rattle.eve_chains.specs.Checking.{AreRecordsJudged, AreChainsSettled};
 ghost use Rattle.eve_chains.specs.Settling.{settling};
 
 use crate::laws::{chains_are_judged_along_the_records, sound_sections_have_no_fault};
+use crate::settled::Settled;
+use crate::unfit::records;
 use crate::walk::chains;
-use crate::{Settled, records};
 use eve_accounts::Names;
 use eve_history::History;
 use eve_views::{CheckFault, Trace};
 use std::alloc::Global;
 use std::thread::{Threads, join};
 
-/// How few attempts are worth a thread of their own.
-const LEAST_ATTEMPTS: usize = 32;
+/// From how many attempts on records and chains are judged side by side.
+const LEAST_SIDE_BY_SIDE: usize = 32;
 
 /// A replica's history and the trace that it is of, under one lifetime: a closure that held both apart would have one
 /// for each, and what it gives is of both.
@@ -66,7 +67,7 @@ fn judge_both<'a, R: Threads + Sync>(
     ensures chains { AreChainsSettled trace.now history.now.replica result.1 }
 {
     let section = Section { history, trace };
-    if jobs == 1 || history.attempts() < LEAST_ATTEMPTS {
+    if jobs == 1 || history.attempts() < LEAST_SIDE_BY_SIDE {
         let fit = records(rt, alloc, history, trace, names, 1);
         (fit, settle(alloc, &section, 1))
     } else {

@@ -15,7 +15,7 @@ use eve_smallbank::{Reply, Request, touched};
 /// customers that has the values seen.
 ///
 /// docs/MODEL.md, "A record fits its request".
-pub fn fits(request: &Request, names: &Names, reply: Reply, access: &AccessView<'_>) -> bool
+pub(crate) fn fits(request: &Request, names: &Names, reply: Reply, access: &AccessView<'_>) -> bool
     ensures { Decides result
         (Fits names.now.items (recorded (plain request.now) reply (access_said access.now).entries)) }
 {

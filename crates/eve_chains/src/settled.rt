@@ -7,11 +7,11 @@ ghost use Rattle.eve_grammar.specs.Trace.{Access};
 ghost use Rattle.eve_history.specs.SectionHistory.{section_history};
 ghost use Rattle.eve_chains.specs.Along.{entries_along, AreWithin};
 ghost use Rattle.eve_chains.specs.Settling.{settling, values_in, AreBankAfter};
-ghost use Rattle.eve_chains.specs.Marks.{IsMark};
+ghost use Rattle.eve_chains.specs.NotedBalances.{IsMark};
 
-use crate::marks::Mark;
+use crate::noted_balances::Mark;
 use crate::opening::opening_balances;
-use crate::write_values;
+use crate::written::write_values;
 use eve_accounts::Balances;
 use eve_history::{CommittedRecords, History};
 use eve_views::Trace;
@@ -31,7 +31,7 @@ pub struct Settled<'a> {
 
 impl<'a> Model for Settled<'a> {
     ghost use Rattle.eve_chains.specs.Settling.{Settling};
-    ghost use Rattle.eve_chains.specs.Marks.{IsWellMarked};
+    ghost use Rattle.eve_chains.specs.NotedBalances.{IsWellMarked};
 
     ghost Value = { Settling };
 
@@ -43,7 +43,8 @@ impl<'a> Model for Settled<'a> {
 impl<'a> Settled<'a> {
     /// What a replica committed, of its history in the trace.
     ///
-    /// It goes once through the committed attempts, and takes four bytes for each of their records.
+    /// It goes once through the committed attempts. It takes eight bytes for each row, four for each access record of
+    /// the section, also those of discarded and open attempts, and eight for each committed batch.
     pub fn of(
         alloc: Global,
         history: &History<'a>,

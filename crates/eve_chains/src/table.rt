@@ -20,7 +20,7 @@ use std::marker::Model;
 /// docs/MODEL.md, "Visible version, chained". Contracts see it as the list of what the rows have, and as the
 /// table of it (`table_of`).
 #[derive(Drop)]
-pub struct Table {
+pub(crate) struct Table {
     rows: Vec<Versioned>,
 }
 

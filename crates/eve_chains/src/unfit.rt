@@ -1,6 +1,6 @@
 //! The faults of records.
 
-ghost use Rattle.std.specs.Prelude.{◌≡◌, ◌≤◌, ◌<◌, ◌∷◌, [], ℕ, All, None, Ok, Some, OnOk, IfOk, IfErr, length, map};
+ghost use Rattle.std.specs.Prelude.{◌≡◌, ◌≤◌, ◌<◌, ◌∷◌, [], ℕ, All, None, Ok, Some, IfOk, IfErr, length, map};
 ghost use Rattle.std.specs.Prelude.{slice_get, slice_index_or};
 ghost use Rattle.eve_smallbank.specs.SmallBank.{plain};
 ghost use Rattle.eve_frames.specs.Said.{access_said, batch_said};
@@ -15,7 +15,7 @@ ghost use Rattle.eve_chains.specs.Unfit.{IsLeastOfAttempt, lesser, lesser_found}
 ghost use Rattle.eve_chains.specs.Stretches.{IsWithin, IsFoundIn, least_found};
 ghost use Rattle.eve_chains.specs.declared.stretch.Stretch.{Stretch as StretchValue};
 
-use crate::fits;
+use crate::fitting::fits;
 use crate::stretch::Stretch;
 use eve_accounts::Names;
 use eve_frames::{AccessView, BatchView};
@@ -35,7 +35,7 @@ type Found = Result<Option<u64>, AllocError>;
 /// docs/MODEL.md, "A record fits its request" and "Faults". The attempts are cut into up to so many stretches as there
 /// are jobs, from 1 on, and judged in as many threads; of one job none is started. What is kept of an attempt is the
 /// requests of its batch. What is found doesn't rest on which ends first. Refused memory decides nothing.
-pub fn records<R: Threads + Sync>(
+pub(crate) fn records<R: Threads + Sync>(
     rt: &R,
     alloc: Global,
     history: &History<'_>,
@@ -162,8 +162,7 @@ fn judge_attempt(
         return Ok(None);
     }
     let batch = trace.batch(history.attempt(i).seq());
-    let mut requests = Vec::new(alloc);
-    read_requests(&mut requests, &batch)?;
+    let requests = requests_of(alloc, &batch)?;
     Ok(judge_records(history, i, &requests, names))
 }
 
@@ -177,20 +176,16 @@ fn is_settled(fate: Fate) -> bool
     }
 }
 
-/// Puts the requests of a batch into a list that has none.
-fn read_requests<'a>(
-    requests: &mut Vec<Request<'a>>,
-    batch: &BatchView<'a>,
-) -> Result<(), AllocError>
-    requires { requests.old.items ≡ [] }
-    ensures { OnOk result (map plain requests.new.items
+/// The requests of a batch.
+fn requests_of<'a>(alloc: Global, batch: &BatchView<'a>) -> Result<Vec<Request<'a>>, AllocError>
+    ensures { IfOk result (λ requests. map plain requests.items
         ≡ map (λ a. a.request) (batch_said batch.now).1.requests) }
 {
+    let mut requests = Vec::with_capacity(alloc, batch.len())?;
     for asked in batch.requests() {
-        requests.reserve(1)?;
         requests.push_reserved(asked.request);
     }
-    Ok(())
+    Ok(requests)
 }
 
 /// The least offset of an attempt's records that don't fit these requests.

@@ -8,15 +8,15 @@ ghost use Rattle.eve_views.specs.Form.{IfFound, IsLeast};
 ghost use Rattle.eve_views.specs.StepKinds.{IsStep};
 ghost use Rattle.eve_history.specs.SectionHistory.{section_history, IsRightSection};
 ghost use Rattle.eve_chains.specs.Faults.{IsChainFault};
-ghost use Rattle.eve_chains.specs.Along.{all_said, AreWithin, AllSettledSee};
+ghost use Rattle.eve_chains.specs.Along.{AreWithin, AllSettledSee};
 ghost use Rattle.eve_chains.specs.Walking.{records_of, records_from, IsCommitted, AreTried, AreUndone, HasWalked};
 ghost use Rattle.eve_chains.specs.Walking.{parted};
 ghost use Rattle.eve_chains.specs.Settling.{settling};
-ghost use Rattle.eve_chains.specs.Marks.{IsMark, commits_among};
+ghost use Rattle.eve_chains.specs.NotedBalances.{IsMark, commits_among};
 
-use crate::marks::{Mark, Marks};
-use crate::{Table, judge_along, undo_along, write_along};
-use eve_frames::AccessView;
+use crate::along::{judge_along, undo_along, write_along};
+use crate::noted_balances::{Mark, NotedBalances};
+use crate::table::Table;
 use eve_history::History;
 use eve_history::laws::committed_attempts_are_the_sections;
 use eve_views::{CheckFault, Fault, Step, Trace, first_of};
@@ -24,7 +24,7 @@ use std::alloc::{AllocError, Global};
 
 /// Where a walk has come to.
 #[derive(Drop)]
-pub struct Walk<'a> {
+pub struct Walk {
     /// What each row has after the committed attempts.
     pub committed: Table,
     /// Where it stands apart, the same, except while the attempts are judged that a rollback discards.
@@ -37,43 +37,23 @@ pub struct Walk<'a> {
     pub come: usize,
     /// The first fault in the settled attempts.
     pub first: Option<Fault>,
-    /// Room for the access records of one attempt.
-    pub records: Vec<AccessView<'a>>,
 }
 
-/// Makes the list that of an attempt's access records, in its certificate's order.
-fn load<'a>(
-    records: &mut Vec<AccessView<'a>>,
-    history: &History<'a>,
-    i: usize,
-) -> Result<(), AllocError>
-    requires { i < length history.now.attempts }
-    ensures { OnOk result (all_said records.new.items ≡ records_of history.now i) }
-{
-    records.clear();
-    for place in 0..history.attempt(i).len() {
-        records.push(history.ordered(i, place))?;
-    }
-    Ok(())
-}
-
-impl<'a> Walk<'a> {
+impl Walk {
     /// Judges the first open attempt, and takes its writes.
-    fn commit(&mut self, history: &History<'a>) -> Result<(), AllocError>
+    fn commit(&mut self, history: &History<'_>)
         requires open { self.old.settled < self.old.come }
         requires come { self.old.come ≤ length history.now.attempts }
         requires rows { IsTrue self.old.apart → length self.old.working ≡ length self.old.committed }
         requires within { AreWithin (length self.old.committed) (records_of history.now self.old.settled) }
-        ensures { OnOk result (IsCommitted history.now self.old self.new) }
+        ensures { IsCommitted history.now self.old self.new }
     {
-        load(&mut self.records, history, self.settled)?;
-        let found = judge_along(&mut self.committed, history.replica(), &self.records);
+        let found = judge_along(&mut self.committed, history, self.settled);
         if self.apart {
-            write_along(&mut self.working, &self.records);
+            write_along(&mut self.working, history, self.settled);
         }
         self.first = first_of(self.first, found);
         self.settled += 1;
-        Ok(())
     }
 
     /// Has the working table stand apart.
@@ -88,44 +68,40 @@ impl<'a> Walk<'a> {
     }
 
     /// Judges the open attempts one after another.
-    fn try_open(&mut self, history: &History<'a>) -> Result<(), AllocError>
+    fn try_open(&mut self, history: &History<'_>)
         requires open { self.old.settled ≤ self.old.come }
         requires come { self.old.come ≤ length history.now.attempts }
         requires within { AllByRecursion (AreWithin (length self.old.working))
             (records_from history.now self.old.settled (self.old.come - self.old.settled)) }
-        ensures { OnOk result (AreTried history.now (self.old.come - self.old.settled) self.old self.new) }
+        ensures { AreTried history.now (self.old.come - self.old.settled) self.old self.new }
     {
         for i in self.settled..self.come {
-            load(&mut self.records, history, i)?;
-            let found = judge_along(&mut self.working, history.replica(), &self.records);
+            let found = judge_along(&mut self.working, history, i);
             self.first = first_of(self.first, found);
         }
-        Ok(())
     }
 
     /// Gives the rows that the open attempts write what they have after the committed ones.
-    fn undo(&mut self, history: &History<'a>) -> Result<(), AllocError>
+    fn undo(&mut self, history: &History<'_>)
         requires open { self.old.settled ≤ self.old.come }
         requires come { self.old.come ≤ length history.now.attempts }
         requires rows { length self.old.committed ≡ length self.old.working }
         requires within { AllByRecursion (AreWithin (length self.old.working))
             (records_from history.now self.old.settled (self.old.come - self.old.settled)) }
-        ensures { OnOk result (AreUndone history.now (self.old.come - self.old.settled) self.old self.new) }
+        ensures { AreUndone history.now (self.old.come - self.old.settled) self.old self.new }
     {
         for i in self.settled..self.come {
-            load(&mut self.records, history, i)?;
-            undo_along(&mut self.working, &self.records, &self.committed);
+            undo_along(&mut self.working, history, i, &self.committed);
         }
-        Ok(())
     }
 
     /// Takes the next step.
     fn take(
         &mut self,
         alloc: Global,
-        history: &History<'a>,
-        trace: &Trace<'a>,
-        step: Step<'_, 'a>,
+        history: &History<'_>,
+        trace: &Trace<'_>,
+        step: Step<'_, '_>,
     ) -> Result<(), AllocError>
         requires history { history.now ≡ section_history trace.now history.now.replica }
         requires right { IsRightSection trace.now history.now.replica }
@@ -142,11 +118,11 @@ impl<'a> Walk<'a> {
                 prove!(self.come < attempts);
                 self.come += 1;
             }
-            Step::Commit(_) => self.commit(history)?,
+            Step::Commit(_) => self.commit(history),
             Step::Rollback(_) => {
                 self.part(alloc)?;
-                self.try_open(history)?;
-                self.undo(history)?;
+                self.try_open(history);
+                self.undo(history);
                 self.settled = self.come;
             }
         }
@@ -172,10 +148,10 @@ fn is_commit(step: &Step<'_, '_>) -> bool
 ///
 /// docs/MODEL.md, "What an entry must see" and "Faults". One walk along the section; a discarded attempt's writes are
 /// undone row by row. Refused memory decides nothing.
-pub fn chains<'a>(
+pub fn chains(
     alloc: Global,
-    history: &History<'a>,
-    trace: &Trace<'a>,
+    history: &History<'_>,
+    trace: &Trace<'_>,
     stretches: u8,
 ) -> Result<Vec<Mark>, CheckFault>
     requires history { history.now ≡ section_history trace.now history.now.replica }
@@ -196,10 +172,9 @@ pub fn chains<'a>(
         settled: 0,
         come: 0,
         first: None,
-        records: Vec::new(alloc),
     };
     committed_attempts_are_the_sections();
-    let mut marks = Marks::new(alloc, history.committed(), stretches);
+    let mut marks = NotedBalances::new(alloc, history.committed(), stretches);
     let mut steps = trace.section(history.replica());
     while let Some(step) = steps.next() {
         let commits = is_commit(&step);
@@ -211,7 +186,7 @@ pub fn chains<'a>(
     match walk.first {
         Some(fault) => Err(CheckFault::Found(fault)),
         None => {
-            let Marks { list, .. } = marks;
+            let NotedBalances { list, .. } = marks;
             Ok(list)
         }
     }

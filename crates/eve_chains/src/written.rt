@@ -12,7 +12,7 @@ use eve_smallbank::{Entry, Kind};
 /// Changes the balances of the rows that the entries write.
 ///
 /// docs/MODEL.md, "Bank and replies after a committed batch".
-pub fn write_values(balances: &mut Balances, entries: Entries<'_>)
+pub(crate) fn write_values(balances: &mut Balances, entries: Entries<'_>)
     requires { IsTrue (list_all (is_entry (length balances.old)) entries) }
     ensures as_many { length balances.new ≡ length balances.old }
     ensures values { balance_of_row balances.new ≡ values_after (balance_of_row balances.old) entries.entry }

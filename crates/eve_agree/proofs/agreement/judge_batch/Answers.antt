@@ -1,14 +1,15 @@
-use Rattle.std.proofs.Common.{◌≡◌, ◌<◌, length, subst, sym, ap, ◌∙◌, ◌+◌, arith, refl, rules}
+use Rattle.std.proofs.Common.{◌≡◌, ◌<◌, Some, length, subst, sym, ap, ◌∙◌, ◌+◌, arith, refl, rules}
 use Rattle.std.specs.Prelude.{IsTrue}
 use Rattle.std.proofs.lemmas.Option.{slice_get_read, slice_get_within}
 use Rattle.eve_frames.specs.Views.{attempt_in}
 use Rattle.eve_history.proofs.Rights.{as_many_told}
 use Rattle.eve_agree.specs.Agreement.{HaveSameOutcome}
-use Rattle.eve_agree.specs.Judging.{lower_outcome}
+use Rattle.eve_views.specs.First.{first_of}
+use Rattle.eve_views.specs.declared.fault.Fault.{Fault}
 use Rattle.eve_agree.proofs.Outcomes.{section_history_is, settlings_count, last_told}
 use Rattle.eve_agree.proofs.Outcomes.{outcome_of, replica_told, all_balances, same_outcome, outcome_same}
 use Rattle.eve_agree.proofs.Agreeing.{InBatch, batch_start, batch_more, batch_end, judged_none, judged_same}
-use Rattle.eve_agree.proofs.Agreeing.{judged_apart, differs, lower_lowers, lower_stands}
+use Rattle.eve_agree.proofs.Agreeing.{judged_apart, differs, lower_lowers, lower_stands, outcome_fault, with_outcome}
 use Rattle.eve_agree.proofs.agreement.judge_batch.Goals as goal
 use Rattle.eve_agree.proofs.agreement.judge_batch.Goals.{then-n-committed+then-not-is_same}
 use Rattle.eve_agree.proofs.agreement.judge_batch.Goals.{then-n-committed+else-not-is_same, else-n-committed}
@@ -77,12 +78,14 @@ loop-e-preserved c =
           w.index-histories-e-then-not-is_same.is) in
           let replica : w.replica.result ≡ e = w.replica.ensures
           ∙ replica_told t e w.index-histories-e-then-not-is_same.result told in
-          let is : c.if-n-committed.least ≡ lower_outcome before v.offset e = w.least-is ∙ w.lower-least.ensures
-          ∙ (λ k. lower_outcome before (w.offset.ensures k) (replica k)) in
+          let is : c.if-n-committed.least ≡ with_outcome before v.offset e = w.least-is ∙ w.first_of-least.ensures
+          ∙ ap (λ (f : Fault). first_of before (Some f))
+          (w.fault_at.ensures ∙ (λ k. outcome_fault (w.offset.ensures k) (replica k))) in
           subst (InBatch t c.args.least n (e + 1)) (sym is)
-          (batch_more t c.args.least n e before (lower_outcome before v.offset e) c.loop-e.invariant
+          (batch_more t c.args.least n e before (with_outcome before v.offset e) c.loop-e.invariant
           (lower_stands t before v.offset e c.loop-e.invariant.stand (differs t e f n v.offset _ own first apart))
-          (lower_lowers before v.offset e) (judged_apart t before e n v.offset _ own))
+          (lower_lowers t before v.offset e c.loop-e.invariant.stand)
+          (judged_apart t before e n v.offset _ c.loop-e.invariant.stand own))
       | then-n-committed+else-not-is_same w ↦
           let v = w.committed_attempt-attempt.result in
           let again = section_history_is t hs e w.index-histories-e-then-n-committed.result c.requires.histories

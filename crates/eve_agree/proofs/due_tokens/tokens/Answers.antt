@@ -1,7 +1,8 @@
 use Rattle.std.proofs.Common.{length, ap, subst, arith}
 use Rattle.eve_chains.specs.Settling.{Settling}
 use Rattle.eve_agree.specs.DueTokens.{IsFirstWrong}
-use Rattle.eve_agree.proofs.TokensInOrder.{batches_told, no_token_fault}
+use Rattle.eve_chains.proofs.Linked.{batches_counted}
+use Rattle.eve_agree.proofs.TokensInOrder.{no_token_fault}
 use Rattle.eve_agree.proofs.Stretched.{all_due, first_is_least}
 use Rattle.eve_agree.proofs.due_tokens.tokens.Goals as goal
 
@@ -18,7 +19,7 @@ returns-in-None-clause-due g c =
     let t = c.args.trace.now in
     let e = c.args.history.now.replica in
     let last = length c.args.settled.now.batches in
-    let past = batches_told t e in
+    let past = batches_counted t e in
     let many = ap (λ (s : Settling). length s.batches) c.requires.settled in
     all_due t e last (omega arith) (subst (IsFirstWrong t e 0 last) c.in-None.is c.in_ok-offset.ensures)
 

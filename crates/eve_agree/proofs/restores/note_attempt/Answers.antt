@@ -8,7 +8,8 @@ use Rattle.eve_frames.specs.Views.{access_in}
 use Rattle.eve_history.specs.SectionHistory.{ExecutedAttempt}
 use Rattle.eve_chains.specs.Along.{entries_along}
 use Rattle.eve_agree.specs.Marking.{marking_of, marked}
-use Rattle.eve_agree.proofs.Noting.{records_more, record_within, same_found, executed_attempt_within}
+use Rattle.eve_chains.proofs.AlongLaws.{record_within}
+use Rattle.eve_agree.proofs.Noting.{records_more, same_found, executed_attempt_within}
 use Rattle.eve_agree.proofs.restores.note_attempt.Goals as goal
 
 pub note-requires : goal.note-requires

@@ -5,7 +5,8 @@ use Rattle.eve_grammar.specs.Trace.{Access}
 use Rattle.eve_history.proofs.Finding.{rec_at}
 use Rattle.eve_chains.specs.Along.{said_at, entries_along, AreWithin}
 use Rattle.eve_chains.proofs.Linked.{some_injective}
-use Rattle.eve_chains.proofs.CommittedBatches.{entries_within, values_more}
+use Rattle.eve_chains.proofs.AlongLaws.{item_within}
+use Rattle.eve_chains.proofs.CommittedBatches.{values_more}
 use Rattle.eve_chains.proofs.settled.write_batch.Goals as goal
 
 pub loop-place-init : goal.loop-place-init
@@ -21,7 +22,7 @@ pub write_values-requires : goal.write_values-requires
 write_values-requires c =
     let xs = c.record.ensures.says.0 in
     let at = c.record.ensures.says.1 in
-    entries_within (length c.args.balances.now) (length c.loop-place.balances) xs c.loop-place.place
+    item_within (length c.args.balances.now) (length c.loop-place.balances) xs c.loop-place.place
     (said_at c.record.result) c.entries.result
     (rec_at (AreWithin (length c.args.balances.now)) c.args.records.now (c.args.n - 1) xs c.requires.within at)
     c.loop-place.invariant.as_many c.record.ensures.says.2 c.entries.ensures

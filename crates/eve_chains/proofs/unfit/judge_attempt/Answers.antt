@@ -41,8 +41,8 @@ judge_records-requires-clause-requests c r at =
     let seq : c.seq.result ≡ r.attempt.seq = c.seq.ensures ∙ ap (λ (a : Attempt). a.seq) c.attempt.ensures.says.3
     ∙ ap (λ (q : ExecutedAttempt). q.attempt.seq) own in
     let said : ℕ × (ℕ × Batch) = (c.batch-batch.result.offset, batch_in c.batch-batch.result.bytes.now) in
-    let lent : c.deref.result.now ≡ c.read_requests.new.requests.items = search rules in
-    let read = ap (map plain) lent ∙ c.in_ok-read_requests.ensures in
+    let lent : c.deref.result.now ≡ c.in_ok-requests.requests.items = search rules in
+    let read = ap (map plain) lent ∙ c.in_ok-requests.ensures in
     subst (λ (n : ℕ). HasRequests n r)
     (as_many t r c.seq.result said c.deref.result.now c.batch-batch.ensures.says seq read) ready.requests
 
@@ -54,8 +54,8 @@ returns c r fate at its =
     let seq : c.seq.result ≡ r.attempt.seq = c.seq.ensures ∙ ap (λ (a : Attempt). a.seq) c.attempt.ensures.says.3
     ∙ ap (λ (q : ExecutedAttempt). q.attempt.seq) own in
     let said : ℕ × (ℕ × Batch) = (c.batch-batch.result.offset, batch_in c.batch-batch.result.bytes.now) in
-    let lent : c.deref.result.now ≡ c.read_requests.new.requests.items = search rules in
-    let read = ap (map plain) lent ∙ c.in_ok-read_requests.ensures in
+    let lent : c.deref.result.now ≡ c.in_ok-requests.requests.items = search rules in
+    let read = ap (map plain) lent ∙ c.in_ok-requests.ensures in
     let passes = ap is_settled (some_injective fate c.fate.result (sym its ∙ c.fate.ensures)) ∙ sym c.is_settled.ensures
     ∙ c.if-not-is_settled.false in
     subst (λ (xs : List (ℕ × Executed)). IsLeastUnfit c.args.names.now.items xs c.judge_records.result)

@@ -4,11 +4,10 @@ use Rattle.eve_grammar.specs.Trace.{Step, Trace}
 use Rattle.eve_grammar.specs.Spelling.{steps_at}
 use Rattle.eve_history.specs.SectionHistory.{ExecutedAttempt, SectionHistory, history}
 use Rattle.eve_chains.specs.declared.walk.Walk.{Walk}
-use Rattle.eve_chains.specs.declared.marks.Marks.{Marks}
+use Rattle.eve_chains.specs.declared.noted_balances.NotedBalances.{NotedBalances}
 use Rattle.eve_chains.specs.Walking.{HasWalked}
-use Rattle.eve_chains.specs.Marks.{AreMarkedSoFar}
 use Rattle.eve_chains.proofs.Steps.{none_outside, walked_start, walked_wrong}
-use Rattle.eve_chains.proofs.Marked.{marked_start, marked_other, marked_commit}
+use Rattle.eve_chains.proofs.Marked.{AreMarkedSoFar, marked_start, marked_other, marked_commit}
 use Rattle.eve_chains.proofs.walk.chains.Goals as goal
 
 pub returns-then-replica-section_count-clause-see : goal.returns-then-replica-section_count-clause-see
@@ -29,7 +28,6 @@ loop-step-init c =
       settled = 0;
       come = 0;
       first = None;
-      records = c.new-2.result;
     } in
     let steps : c.section-steps.result ≡ steps_at t e = c.section-steps.ensures ∙ ap (steps_at t) c.replica-2.ensures in
     let count : c.committed.result ≡ length (history t e).committed =
@@ -50,8 +48,8 @@ on : (t : Trace) (e : ℕ) (steps rest : List (ℕ × Step)) (x : ℕ × Step) (
     → steps ≡ x ∷ rest → HasWalked t e (x ∷ rest) w
 on t e steps rest x w known is = subst (λ (xs : List (ℕ × Step)). HasWalked t e xs w) is known
 
-marked_on : (t : Trace) (e : ℕ) (steps rest : List (ℕ × Step)) (x : ℕ × Step) (m : Marks) → AreMarkedSoFar t e steps m
-    → steps ≡ x ∷ rest → AreMarkedSoFar t e (x ∷ rest) m
+marked_on : (t : Trace) (e : ℕ) (steps rest : List (ℕ × Step)) (x : ℕ × Step) (m : NotedBalances)
+    → AreMarkedSoFar t e steps m → steps ≡ x ∷ rest → AreMarkedSoFar t e (x ∷ rest) m
 marked_on t e steps rest x m known is = subst (λ (xs : List (ℕ × Step)). AreMarkedSoFar t e xs m) is known
 
 pub note-requires-clause-rows : goal.note-requires-clause-rows

@@ -1,6 +1,6 @@
 use Rattle.std.proofs.Common.{length}
 use Rattle.eve_chains.specs.Walking.{HasWalked}
-use Rattle.eve_chains.specs.Marks.{AreMarkedSoFar}
+use Rattle.eve_chains.proofs.Marked.{AreMarkedSoFar}
 use Rattle.eve_chains.proofs.walk.chains.Given as goal
 
 abbrev pub invariant-loop-step : goal.invariant-loop-step

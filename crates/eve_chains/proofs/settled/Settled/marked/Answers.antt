@@ -6,7 +6,7 @@ use Rattle.eve_grammar.specs.Limits.{row_count}
 use Rattle.eve_grammar.proofs.OpeningRows.{length-opening_rows}
 use Rattle.eve_chains.specs.Along.{AreWithin}
 use Rattle.eve_chains.specs.Settling.{Settling, settling}
-use Rattle.eve_chains.specs.Marks.{IsMark}
+use Rattle.eve_chains.specs.NotedBalances.{IsMark}
 use Rattle.eve_chains.proofs.CommittedBatches.{batches_of_section, batches_within}
 use Rattle.eve_chains.proofs.settled.Settled.marked.Goals as goal
 

@@ -5,9 +5,9 @@ use Rattle.std.proofs.lemmas.Bool.Decides.{Decides-int_eq}
 use Rattle.std.proofs.lemmas.List.{drop_all}
 use Rattle.eve_smallbank.specs.Chain.{Versioned}
 use Rattle.eve_views.specs.declared.fault.Code.{Code}
-use Rattle.eve_chains.specs.Tables.{table_of, IsFirstMismatch, wrong_behind}
+use Rattle.eve_chains.specs.Tables.{table_of, IsFirstMismatch}
 use Rattle.eve_chains.proofs.Entries.{from_entry, right_there, row_there}
-use Rattle.eve_chains.proofs.TableLaws.{version_found, value_found, nothing_found, found_is_wrong}
+use Rattle.eve_chains.proofs.TableLaws.{wrong_behind, version_found, value_found, nothing_found, found_is_wrong}
 use Rattle.eve_chains.proofs.table.Table.wrong_in.Goals as goal
 use Rattle.eve_chains.proofs.table.Table.wrong_in.Goals.{then-ne, else-ne}
 

@@ -1,5 +1,6 @@
 use Rattle.std.proofs.Common.{◌≡◌, drop, None}
-use Rattle.eve_chains.specs.Tables.{table_of, wrong_behind}
+use Rattle.eve_chains.specs.Tables.{table_of}
+use Rattle.eve_chains.proofs.TableLaws.{wrong_behind}
 use Rattle.eve_chains.proofs.table.Table.wrong_in.Given as goal
 
 abbrev pub invariant-loop-place : goal.invariant-loop-place

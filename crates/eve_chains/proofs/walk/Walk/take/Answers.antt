@@ -47,18 +47,18 @@ try_open-requires-clause-within c =
 
 pub undo-requires-clause-come : goal.undo-requires-clause-come
 undo-requires-clause-come c =
-    subst (λ (n : ℕ). n ≤ length c.args.history.now.attempts) (sym c.in_ok-try_open-in-Rollback.ensures.come)
+    subst (λ (n : ℕ). n ≤ length c.args.history.now.attempts) (sym c.try_open.ensures.come)
     (ready c.args.trace.now c.args.history.now c.recall_limits.ensures c.requires.history
     (c.requires.next.1 ∷ c.requires.next.0) c.args.self.now c.part.new.self c.in_ok-part-in-Rollback.ensures
     c.requires.next.2).come
 
 pub undo-requires-clause-rows : goal.undo-requires-clause-rows
 undo-requires-clause-rows c =
-    ap length c.in_ok-try_open-in-Rollback.ensures.committed
+    ap length c.try_open.ensures.committed
     ∙ sym (ready c.args.trace.now c.args.history.now c.recall_limits.ensures c.requires.history
     (c.requires.next.1 ∷ c.requires.next.0) c.args.self.now c.part.new.self c.in_ok-part-in-Rollback.ensures
     c.requires.next.2).rows
-    ∙ sym c.in_ok-try_open-in-Rollback.ensures.rows
+    ∙ sym c.try_open.ensures.rows
 
 pub undo-requires-clause-within : goal.undo-requires-clause-within
 undo-requires-clause-within c =
@@ -67,7 +67,7 @@ undo-requires-clause-within c =
     (ready c.args.trace.now c.args.history.now c.recall_limits.ensures c.requires.history
     (c.requires.next.1 ∷ c.requires.next.0) c.args.self.now c.part.new.self c.in_ok-part-in-Rollback.ensures
     c.requires.next.2).within
-    c.in_ok-try_open-in-Rollback.ensures
+    c.try_open.ensures
 
 pub returns-in-Attempt : goal.returns-in-Attempt
 returns-in-Attempt c = λ rest next known is.
@@ -75,14 +75,14 @@ returns-in-Attempt c = λ rest next known is.
     c.in-Attempt.field-0 c.in-Attempt.field-1 next rest c.args.self.now _
     c.in-Attempt.is is known refl
 
-pub returns-in_ok-commit-in-Commit : goal.returns-in_ok-commit-in-Commit
-returns-in_ok-commit-in-Commit c = λ rest next known is.
+pub returns-in-Commit : goal.returns-in-Commit
+returns-in-Commit c = λ rest next known is.
     met_commit c.args.trace.now c.args.history.now c.recall_limits.ensures c.requires.history c.requires.right
     c.args.step c.in-Commit.field-0 next rest c.args.self.now c.commit.new.self
-    c.in-Commit.is is known c.in_ok-commit-in-Commit.ensures
+    c.in-Commit.is is known c.commit.ensures
 
-pub returns-in_ok-undo-in-Rollback : goal.returns-in_ok-undo-in-Rollback
-returns-in_ok-undo-in-Rollback c = λ rest next known is.
+pub returns-in_ok-part-in-Rollback : goal.returns-in_ok-part-in-Rollback
+returns-in_ok-part-in-Rollback c = λ rest next known is.
     let t = c.args.trace.now in
     let h = c.args.history.now in
     met_rollback t h c.recall_limits.ensures c.requires.history c.requires.right c.args.step
@@ -90,7 +90,7 @@ returns-in_ok-undo-in-Rollback c = λ rest next known is.
     (parted_there t h c.recall_limits.ensures c.requires.history (next ∷ rest) c.args.self.now c.part.new.self
     c.in_ok-part-in-Rollback.ensures known)
     (ap (λ (w : Walk). w.apart) c.in_ok-part-in-Rollback.ensures)
-    c.in_ok-try_open-in-Rollback.ensures c.in_ok-undo-in-Rollback.ensures refl
+    c.try_open.ensures c.undo.ensures refl
 
 pub prove-unreachable-requires : goal.prove-unreachable-requires
 prove-unreachable-requires c =

@@ -1,6 +1,5 @@
-use Rattle.std.proofs.Common.{length, refl, subst, ap, ◌∙◌, ◌-◌, ℕ, arith}
-use Rattle.eve_chains.specs.Along.{all_said}
-use Rattle.eve_chains.specs.Walking.{AreUndone}
+use Rattle.std.proofs.Common.{length, refl, subst, ◌-◌, ℕ, arith}
+use Rattle.eve_chains.specs.Walking.{records_of, AreUndone}
 use Rattle.eve_chains.proofs.Rolling.{open_within, taken_start, taken_more}
 use Rattle.eve_chains.proofs.walk.Walk.undo.Goals as goal
 
@@ -10,15 +9,13 @@ loop-i-init c = taken_start c.args.history.now c.args.self.now
 pub undo_along-requires-clause-within : goal.undo_along-requires-clause-within
 undo_along-requires-clause-within c =
     open_within c.args.history.now (length c.args.self.now.working) (length c.loop-i.self.working) c.loop-i.i
-    c.args.self.now (all_said c.deref.result.now) c.requires.within
-    c.loop-i.auto.i c.loop-i-test.true c.loop-i.invariant.rows
-    (ap all_said c.deref.ensures.value ∙ c.in_ok-load.ensures)
+    c.args.self.now (records_of c.args.history.now c.loop-i.i) c.requires.within
+    c.loop-i.auto.i c.loop-i-test.true c.loop-i.invariant.rows refl
 
 pub loop-i-preserved : goal.loop-i-preserved
 loop-i-preserved c =
-    taken_more c.args.history.now c.loop-i.i c.args.self.now c.loop-i.self _ (all_said c.deref.result.now)
-    c.loop-i.auto.i c.loop-i.invariant
-    (ap all_said c.deref.ensures.value ∙ c.in_ok-load.ensures) refl refl refl refl refl
+    taken_more c.args.history.now c.loop-i.i c.args.self.now c.loop-i.self _ (records_of c.args.history.now c.loop-i.i)
+    c.loop-i.auto.i c.loop-i.invariant refl refl refl refl refl refl
     c.undo_along.ensures.as_many c.undo_along.ensures.table
 
 pub returns : goal.returns

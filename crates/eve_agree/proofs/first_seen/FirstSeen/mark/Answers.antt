@@ -3,7 +3,7 @@ use Rattle.std.specs.Prelude.{List, Option}
 use Rattle.eve_smallbank.specs.Chain.{Versioned}
 use Rattle.eve_agree.specs.Marking.{marked_count}
 use Rattle.eve_agree.proofs.Marking.{one_less}
-use Rattle.eve_agree.proofs.marks.Marks.mark.Goals as goal
+use Rattle.eve_agree.proofs.first_seen.FirstSeen.mark.Goals as goal
 
 pub overflow_add-self : goal.overflow_add-self
 overflow_add-self c =

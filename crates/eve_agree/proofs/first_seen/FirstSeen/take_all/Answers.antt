@@ -6,7 +6,7 @@ use Rattle.eve_grammar.specs.Bodies.{restore}
 use Rattle.eve_grammar.specs.Limits.{is_restore}
 use Rattle.eve_agree.specs.Marking.{marking_of}
 use Rattle.eve_agree.proofs.Marking.{IsTaking, taking_next, found_wrong, found_left, found_right}
-use Rattle.eve_agree.proofs.marks.Marks.take_all.Goals as goal
+use Rattle.eve_agree.proofs.first_seen.FirstSeen.take_all.Goals as goal
 
 pub returns-then-not-take-clause-right : goal.returns-then-not-take-clause-right
 returns-then-not-take-clause-right c =

@@ -1,9 +1,9 @@
 //! Balances that are noted along a walk.
 
 ghost use Rattle.std.specs.Prelude.{◌≡◌, ◌*◌, ◌<◌, ◌≤◌, [], IfOk, OnOk, IsTrue, length, map};
-ghost use Rattle.eve_chains.specs.Marks.{HasNoted};
+ghost use Rattle.eve_chains.specs.NotedBalances.{HasNoted};
 
-use crate::Table;
+use crate::table::Table;
 use eve_accounts::{Balances, Row};
 use eve_views::Trace;
 use std::alloc::{AllocError, Global};
@@ -20,7 +20,7 @@ pub struct Mark {
 
 /// What is noted along a walk: the balances after every so many batches, but not after the last.
 #[derive(Drop)]
-pub struct Marks {
+pub struct NotedBalances {
     /// How many batches are committed in the end.
     pub all: u32,
     /// How many are committed so far.
@@ -49,16 +49,16 @@ fn values_of(alloc: Global, trace: &Trace<'_>, table: &Table) -> Result<Balances
     Ok(balances)
 }
 
-impl Marks {
+impl NotedBalances {
     /// None yet, of so many batches that will be committed, in so many stretches.
-    pub fn new(alloc: Global, all: u32, stretches: u8) -> Marks
+    pub fn new(alloc: Global, all: u32, stretches: u8) -> NotedBalances
         requires { 1 ≤ stretches }
         ensures all { result.all ≡ all }
         ensures after { result.after ≡ 0 }
         ensures none { result.list.items ≡ [] }
     {
         let every = all.div_ceil(u32::from(stretches)).max(LEAST_BATCHES);
-        Marks {
+        NotedBalances {
             all,
             after: 0,
             next: every,

@@ -4,7 +4,7 @@ use Rattle.eve_smallbank.specs.declared.entry.Entry.{Entry}
 use Rattle.eve_grammar.specs.Limits.{is_entry}
 use Rattle.eve_chains.proofs.Entries.{first_right, rest_right}
 use Rattle.eve_agree.specs.Marking.{Marking, marking_of, marked}
-use Rattle.eve_agree.proofs.marks.Marks.note.Goals as goal
+use Rattle.eve_agree.proofs.first_seen.FirstSeen.note.Goals as goal
 
 pub loop-entry-init : goal.loop-entry-init
 loop-entry-init c = record {

@@ -8,7 +8,7 @@ ghost use Rattle.eve_smallbank.specs.declared.entry.Entry as noted;
 ghost use Rattle.eve_grammar.specs.Bodies.{restore};
 ghost use Rattle.eve_grammar.specs.Limits.{is_entry, is_restore, is_rising};
 ghost use Rattle.eve_agree.specs.Marking.{marking_of, unmarked, marked_once, marked, written_in, is_marked, taken};
-ghost use Rattle.eve_agree.specs.Marking.{are_written_in};
+ghost use Rattle.eve_agree.specs.Tables.{are_written_in};
 
 use eve_accounts::Row;
 use eve_chains::Versioned;
@@ -22,13 +22,13 @@ use std::marker::Model;
 ///
 /// Contracts see the list of them by row.
 #[derive(Drop)]
-pub struct Marks {
+pub struct FirstSeen {
     rows: Vec<Option<Versioned>>,
     // how many rows are marked
     count: usize,
 }
 
-impl Model for Marks {
+impl Model for FirstSeen {
     ghost use Rattle.std.specs.Prelude.{◌≡◌, List, Option};
     ghost use Rattle.eve_smallbank.specs.Chain as chain;
     ghost use Rattle.eve_agree.specs.Marking.{marked_count};
@@ -40,14 +40,14 @@ impl Model for Marks {
     ghost invariant = { λ m. m.count ≡ marked_count m.rows.items };
 }
 
-impl Marks {
+impl FirstSeen {
     /// No mark on this many rows.
-    pub fn new(alloc: Global, count: usize) -> Result<Marks, AllocError>
+    pub fn new(alloc: Global, count: usize) -> Result<FirstSeen, AllocError>
         ensures { IfOk result (λ marks. marks ≡ replicate count None) }
     {
         let mut rows = Vec::new(alloc);
         rows.resize(count, None)?;
-        Ok(Marks { rows, count: 0 })
+        Ok(FirstSeen { rows, count: 0 })
     }
 
     /// Whether no row is marked.

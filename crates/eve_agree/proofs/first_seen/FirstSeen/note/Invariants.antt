@@ -2,7 +2,7 @@ use Rattle.std.proofs.Common.{◌≡◌, IsTrue, length}
 use Rattle.std.specs.List.{list_all}
 use Rattle.eve_grammar.specs.Limits.{is_entry}
 use Rattle.eve_agree.specs.Marking.{marking_of, marked}
-use Rattle.eve_agree.proofs.marks.Marks.note.Given as goal
+use Rattle.eve_agree.proofs.first_seen.FirstSeen.note.Given as goal
 
 abbrev pub invariant-loop-entry : goal.invariant-loop-entry
 invariant-loop-entry l = record {

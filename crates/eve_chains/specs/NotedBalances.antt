@@ -3,12 +3,12 @@ use Rattle.std.specs.Prelude.{◌≡◌, ℕ, suc, ◌+◌, ◌≤◌, ◌⊎◌
 use Rattle.std.specs.List.{AllByRecursion}
 use Rattle.eve_smallbank.specs.Access.{balance_of_row}
 use Rattle.eve_smallbank.specs.Chain.{Versioned, values_of}
-use Rattle.eve_grammar.specs.Trace.{Step, Attempts, Commits, RollsBack, Trace}
+use Rattle.eve_grammar.specs.Trace.{Step, Attempts, Commits, RollsBack}
 use Rattle.eve_chains.specs.Along.{AreWithin}
 use Rattle.eve_chains.specs.Tables.{table_of}
-use Rattle.eve_chains.specs.Settling.{Settling, settling, values_in}
-use Rattle.eve_chains.specs.declared.marks.Mark.{Mark}
-use Rattle.eve_chains.specs.declared.marks.Marks.{Marks}
+use Rattle.eve_chains.specs.Settling.{Settling, values_in}
+use Rattle.eve_chains.specs.declared.noted_balances.Mark.{Mark}
+use Rattle.eve_chains.specs.declared.noted_balances.NotedBalances.{NotedBalances}
 
 -- the mark has the balances after the first of the batches, so many
 pub record IsMark (s : Settling) (m : Mark) : Type 0 where
@@ -26,7 +26,7 @@ abbrev pub HasValuesOf : List Versioned → Mark → Type 0
 HasValuesOf table m = (length m.balances ≡ length table) × (balance_of_row m.balances ≡ values_of (table_of table))
 
 -- One more batch is committed, of which the table has what it left; it may be marked.
-pub record HasNoted (table : List Versioned) (old new : Marks) : Type 0 where
+pub record HasNoted (table : List Versioned) (old new : NotedBalances) : Type 0 where
   pub all : new.all ≡ old.all
   pub after : new.after ≡ old.after + 1
   pub list : (new.list.items ≡ old.list.items)
@@ -40,10 +40,3 @@ commits_among [] = 0
 commits_among ((at, Attempts a) ∷ steps) = commits_among steps
 commits_among ((at, Commits c) ∷ steps) = suc (commits_among steps)
 commits_among ((at, RollsBack r) ∷ steps) = commits_among steps
-
--- These steps of replica e's section are still to come: of all its batches so many are committed, and each mark has the
--- balances after a front of them.
-pub record AreMarkedSoFar (t : Trace) (e : ℕ) (rest : List (ℕ × Step)) (m : Marks) : Type 0 where
-  pub count : m.after + commits_among rest ≡ m.all
-  pub all : m.all ≡ length (settling t e).batches
-  pub marks : All (IsMark (settling t e)) m.list.items

@@ -3,7 +3,7 @@ use Rattle.std.specs.List.{list_all}
 use Rattle.eve_grammar.specs.Limits.{is_restore}
 use Rattle.eve_agree.specs.Marking.{marking_of}
 use Rattle.eve_agree.proofs.Marking.{IsTaking}
-use Rattle.eve_agree.proofs.marks.Marks.take_all.Given as goal
+use Rattle.eve_agree.proofs.first_seen.FirstSeen.take_all.Given as goal
 
 abbrev pub invariant-loop-restored : goal.invariant-loop-restored
 invariant-loop-restored l = record {

@@ -1,8 +1,0 @@
-use Rattle.std.proofs.Common.{◌≡◌, ◌++◌, map}
-use Rattle.eve_smallbank.specs.SmallBank.{plain}
-use Rattle.eve_frames.specs.Views.{batch_in}
-use Rattle.eve_chains.proofs.unfit.read_requests.Given as goal
-
-abbrev pub invariant-loop-asked : goal.invariant-loop-asked
-invariant-loop-asked l = map plain l.requests.items ++ map (λ a. a.request) l.asked-iterator
-    ≡ map (λ a. a.request) (batch_in l.batch.bytes.now).1.requests
