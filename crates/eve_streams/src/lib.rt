@@ -3,6 +3,7 @@
 
 mod buffered;
 pub mod failing;
+pub mod laws;
 pub mod one_byte;
 mod reading;
 mod sink;
@@ -12,7 +13,7 @@ mod source_of;
 
 pub use buffered::Buffered;
 pub use reading::{ReadFault, read_all};
-pub use sink::{SendFault, Sink, a_failure_shows, send_all};
+pub use sink::{SendFault, Sink, send_all};
 pub use sink_of::SinkOf;
 pub use source::{FetchFault, Source};
 pub use source_of::SourceOf;

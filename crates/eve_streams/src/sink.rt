@@ -1,6 +1,6 @@
 //! Sinks: what takes bytes, and counts how often it failed.
 
-ghost use Rattle.std.specs.Prelude.{◌≡◌, ◌≢◌, ◌≤◌, ◌<◌, ℕ, Option, List, length, take, IfOk, OnOk, OnErr};
+ghost use Rattle.std.specs.Prelude.{◌≡◌, ◌≤◌, ◌<◌, ℕ, Option, List, length, take, IfOk, OnOk, OnErr};
 ghost use Rattle.std.specs.Io.KnownBytes.{Appends, Keeps};
 ghost use Rattle.eve_streams.specs.Failures.{after_failure};
 ghost use Rattle.eve_streams.specs.Front.{AppendsFront};
@@ -29,11 +29,6 @@ pub trait Sink {
         ensures fine { OnOk result (failures self.new ≡ failures self.old) }
         ensures counted { OnErr result (failures self.new ≡ after_failure (failures self.old)) };
 }
-
-/// A failure shows: a count is never the same after one more failure.
-pub fn a_failure_shows()
-    ensures { (failures : ℕ) → after_failure failures ≢ failures }
-{}
 
 /// Sends all of `bytes`. After a fault a front of them has been taken, and not all of them; the
 /// sink failed once, in this call.

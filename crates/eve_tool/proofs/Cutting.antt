@@ -20,7 +20,7 @@ use Rattle.eve_tool.specs.declared.fault.ToolFault.TheVariants as fault
 use Rattle.eve_tool.specs.Audit.{Audits}
 use Rattle.eve_tool.specs.Calls.{Leaves}
 use Rattle.eve_tool.specs.Lines.{status_of_verdict}
-use Rattle.eve_tool.specs.Run.{longest}
+use Rattle.eve_grammar.specs.declared.limits.TheConstants.{MOST_BYTES}
 use Rattle.eve_tool.specs.Show.{Shows}
 use Rattle.eve_tool_arguments.specs.Arguments.{Audit, Show}
 use Rattle.eve_tool.specs.Writes.{WritesAll, WritesAllOf, WritesFront, WritesFrontOf}
@@ -217,35 +217,35 @@ audited_of (Some bytes) old new status all is = by all.said.verdict (sym all.sai
 
 -- where no random words were given, nothing is asked of the bytes
 pub random_left : {O : Type 0} (written : O → Option (List ℕ)) (failures : O → ℕ) (known : Option (List ℕ))
-    (unread : Type 0) (old : O) (why : ToolFault)
-    → why ≡ fault.Random → Leaves longest written failures Audit known unread old old why
-random_left written failures known unread old why is = rw is (tt, refl)
+    (failed : Type 0) (old : O) (why : ToolFault)
+    → why ≡ fault.Random → Leaves MOST_BYTES written failures Audit known failed old old why
+random_left written failures known failed old why is = rw is (tt, refl)
 
 -- what a call that reads no further than a limit left of the bytes that were read
 pub audit_left : {O : Type 0} (written : O → Option (List ℕ)) (failures : O → ℕ) (known : Option (List ℕ))
-    (unread : Type 0) (bytes : List ℕ) (old new : O) (why : ToolFault)
+    (failed : Type 0) (bytes : List ℕ) (old new : O) (why : ToolFault)
     → (WritesFront Audits bytes (written old) (written new) → WritesFrontOf Audits known (written old) (written new))
-    → Leaves longest written failures Audit (Some bytes) ⊥ old new why
-    → Leaves longest written failures Audit known unread old new why
-audit_left written failures known unread bytes old new fault.Read cut left = absurd left.0
-audit_left written failures known unread bytes old new (fault.Line number) cut left = absurd left.0
-audit_left written failures known unread bytes old new fault.TooLong cut left = absurd left.0
-audit_left written failures known unread bytes old new fault.Broken cut left = absurd left.0
-audit_left written failures known unread bytes old new fault.Random cut left = left
-audit_left written failures known unread bytes old new fault.Memory cut (inl same) = inl same
-audit_left written failures known unread bytes old new fault.Memory cut (inr front) = absurd front.0
-audit_left written failures known unread bytes old new fault.Write cut left = (left.0, cut left.1)
+    → Leaves MOST_BYTES written failures Audit (Some bytes) ⊥ old new why
+    → Leaves MOST_BYTES written failures Audit known failed old new why
+audit_left written failures known failed bytes old new fault.Read cut left = absurd left.0
+audit_left written failures known failed bytes old new (fault.Line number) cut left = absurd left.0
+audit_left written failures known failed bytes old new fault.TooLong cut left = absurd left.0
+audit_left written failures known failed bytes old new fault.Broken cut left = absurd left.0
+audit_left written failures known failed bytes old new fault.Random cut left = left
+audit_left written failures known failed bytes old new fault.Memory cut (inl same) = inl same
+audit_left written failures known failed bytes old new fault.Memory cut (inr front) = absurd front.0
+audit_left written failures known failed bytes old new fault.Write cut left = (left.0, cut left.1)
 
 pub show_left : {O : Type 0} (written : O → Option (List ℕ)) (failures : O → ℕ) (known : Option (List ℕ))
-    (unread : Type 0) (bytes : List ℕ) (old new : O) (why : ToolFault)
+    (failed : Type 0) (bytes : List ℕ) (old new : O) (why : ToolFault)
     → (WritesFront Shows bytes (written old) (written new) → WritesFrontOf Shows known (written old) (written new))
-    → Leaves longest written failures Show (Some bytes) ⊥ old new why
-    → Leaves longest written failures Show known unread old new why
-show_left written failures known unread bytes old new fault.Read cut left = absurd left.0
-show_left written failures known unread bytes old new (fault.Line number) cut left = absurd left.0
-show_left written failures known unread bytes old new fault.TooLong cut left = absurd left.0
-show_left written failures known unread bytes old new fault.Broken cut left = absurd left.0
-show_left written failures known unread bytes old new fault.Random cut left = absurd left.0
-show_left written failures known unread bytes old new fault.Memory cut (inl same) = inl same
-show_left written failures known unread bytes old new fault.Memory cut (inr front) = inr (front.0, cut front.1)
-show_left written failures known unread bytes old new fault.Write cut left = (left.0, cut left.1)
+    → Leaves MOST_BYTES written failures Show (Some bytes) ⊥ old new why
+    → Leaves MOST_BYTES written failures Show known failed old new why
+show_left written failures known failed bytes old new fault.Read cut left = absurd left.0
+show_left written failures known failed bytes old new (fault.Line number) cut left = absurd left.0
+show_left written failures known failed bytes old new fault.TooLong cut left = absurd left.0
+show_left written failures known failed bytes old new fault.Broken cut left = absurd left.0
+show_left written failures known failed bytes old new fault.Random cut left = absurd left.0
+show_left written failures known failed bytes old new fault.Memory cut (inl same) = inl same
+show_left written failures known failed bytes old new fault.Memory cut (inr front) = inr (front.0, cut front.1)
+show_left written failures known failed bytes old new fault.Write cut left = (left.0, cut left.1)

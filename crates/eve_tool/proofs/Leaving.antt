@@ -5,15 +5,15 @@ use Rattle.eve_streams.specs.Failures.{after_failure}
 use Rattle.eve_streams.specs.Front.{AppendsFront}
 use Rattle.eve_tool.specs.declared.fault.ToolFault.{ToolFault}
 use Rattle.eve_tool.specs.declared.fault.ToolFault.TheVariants as fault
-use Rattle.eve_tool.specs.Calls.{Leaves, StopsInParts, StopsSending, says}
-use Rattle.eve_tool.specs.Run.{longest}
+use Rattle.eve_tool.specs.Calls.{Leaves, StopsInParts, StopsSending, CallSays}
+use Rattle.eve_grammar.specs.declared.limits.TheConstants.{MOST_BYTES}
 use Rattle.eve_tool_arguments.specs.Arguments.{Subcommand, Show}
 
 -- by a text that is sent at once
 pub sent_left : {O : Type 0} (written : O → Option (List ℕ)) (failures : O → ℕ) (call : Subcommand)
     (bytes text : List ℕ) (status : ℕ) (old new : O)
-    → says longest call bytes text status → (why : ToolFault) → StopsSending written failures old new text why
-    → Leaves longest written failures call (Some bytes) ⊥ old new why
+    → CallSays MOST_BYTES call bytes text status → (why : ToolFault) → StopsSending written failures old new text why
+    → Leaves MOST_BYTES written failures call (Some bytes) ⊥ old new why
 sent_left written failures call bytes text status old new said fault.Read stopped = absurd stopped
 sent_left written failures call bytes text status old new said (fault.Line number) stopped = absurd stopped
 sent_left written failures call bytes text status old new said fault.TooLong stopped = absurd stopped
@@ -26,8 +26,8 @@ sent_left written failures call bytes text status old new said fault.Write stopp
 -- by the lines of `show`, which are sent in parts
 pub shown_left : {O : Type 0} (written : O → Option (List ℕ)) (failures : O → ℕ) (bytes text : List ℕ) (status : ℕ)
     (old new : O)
-    → says longest Show bytes text status → (why : ToolFault) → StopsInParts written failures old new text why
-    → Leaves longest written failures Show (Some bytes) ⊥ old new why
+    → CallSays MOST_BYTES Show bytes text status → (why : ToolFault) → StopsInParts written failures old new text why
+    → Leaves MOST_BYTES written failures Show (Some bytes) ⊥ old new why
 shown_left written failures bytes text status old new said fault.Read stopped = absurd stopped
 shown_left written failures bytes text status old new said (fault.Line number) stopped = absurd stopped
 shown_left written failures bytes text status old new said fault.TooLong stopped = absurd stopped

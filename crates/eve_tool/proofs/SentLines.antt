@@ -13,6 +13,7 @@ use Rattle.eve_frames.specs.Kinds.{kind_name}
 use Rattle.eve_grammar.specs.Frames.{Frame, End, kind_of}
 use Rattle.eve_grammar.specs.Spelling.{body_text, frame_text, frames_text, located}
 use Rattle.eve_views.proofs.FrameLaws.{length-frame_text}
+use Rattle.eve_views.proofs.Locating.{length-located}
 use Rattle.eve_streams.specs.Front.{AppendsFront}
 use Rattle.eve_streams.proofs.Joining.{AppendsFront-after, AppendsFront-more}
 use Rattle.eve_tool.specs.Lines.{frame_line, line_feed}
@@ -38,11 +39,6 @@ flat_map-drop_next f [] i x e = cc
 flat_map-drop_next f (y ∷ ys) zero x e = let same : y ≡ x = cc in ap (λ z. f z ++ flat_map f ys) same
 flat_map-drop_next f (y ∷ ys) (suc i) x e = let behind : suc i + 1 ≡ suc (i + 1) = omega arith in
     rw behind (flat_map-drop_next f ys i x e)
-
--- each frame has a place
-pub located-count : (at : ℕ) (frames : List Frame) → length (located frame_text at frames) ≡ length frames
-located-count at [] = refl
-located-count at (f ∷ fs) = ap suc (located-count (at + length (frame_text f)) fs)
 
 -- the frame at a place, and where it begins
 pub frame_placed : (at : ℕ) (frames : List Frame) (i : ℕ) (p : ℕ × Frame) → slice_get (located frame_text at frames) i
@@ -95,7 +91,7 @@ header_is_held a held frames e = record {
 pub placed_at : (frames : List Frame) (i : ℕ) → i < length frames → (p : ℕ × Frame)
     × (slice_get (located frame_text 32 frames) i ≡ Some p)
 placed_at frames i within =
-    let count = located-count 32 frames in (
+    let count = length-located frame_text 32 frames in (
       get_or (located frame_text 32 frames) i (0, End),
       slice_get-get_or (located frame_text 32 frames) i (0, End)
           (omega (arith, count)),
@@ -134,7 +130,7 @@ held_is_sent a b c held none frames i empty sends far =
 pub all_is_sent : (a b c : Option (List ℕ)) (held : List ℕ) (frames : List Frame) (i : ℕ) → length frames ≤ i
     → SendsSoFar a b held frames i → Appends b c held → Appends a c (trace_lines frames)
 all_is_sent a b c held frames i past far sends =
-    let count = located-count 32 frames in
+    let count = length-located frame_text 32 frames in
     let none : drop i (located frame_text 32 frames) ≡ [] = drop_of_length-le (located frame_text 32 frames) {i = i}
     (omega (arith, count)) in
     let whole : far.sent ++ held ≡ trace_lines frames =

@@ -2,13 +2,14 @@
 use Rattle.std.specs.Prelude.{◌≡◌, ◌≢◌, ℕ, ◌+◌, ◌≤◌, ◌⊎◌, List, length, drop, Option, Some, IfSome, ⊤}
 use Rattle.eve_streams.specs.Failures.{after_failure}
 use Rattle.eve_streams.specs.Front.{AppendsFront}
+use Rattle.eve_grammar.specs.declared.limits.TheConstants.{MOST_BYTES}
 use Rattle.eve_workload.specs.Steps.{IsBadLine}
 use Rattle.eve_write.specs.Writing.{Wrote, Stopped}
 use Rattle.eve_tool.specs.declared.fault.ToolFault.{ToolFault}
 use Rattle.eve_tool.specs.declared.fault.ToolFault.TheVariants as fault
 use Rattle.eve_tool.specs.Audit.{Audits}
 use Rattle.eve_tool.specs.Fault.{error_line, status_of}
-use Rattle.eve_tool.specs.Run.{Runs, IsTooLong, IsRunnable, longest}
+use Rattle.eve_tool.specs.Run.{Runs, IsTooLong, IsRunnable}
 use Rattle.eve_tool.specs.Show.{Shows}
 use Rattle.eve_tool_arguments.specs.Arguments.{Subcommand, Audit, Run, Show, call_of}
 use Rattle.eve_tool.specs.Writes.{WritesFrontOf}
@@ -18,53 +19,54 @@ abbrev pub Calls : Subcommand → List (List ℕ) → Type 0
 Calls call arguments = call_of arguments ≡ Some call
 
 -- The text is what the call says of the bytes, and the number is the exit status. A run is of so many bytes at most.
-abbrev pub says : ℕ → Subcommand → List ℕ → List ℕ → ℕ → Type 0
-says limit Audit = Audits
-says limit (Run mixer) = Runs limit mixer
-says limit Show = Shows
+abbrev pub CallSays : ℕ → Subcommand → List ℕ → List ℕ → ℕ → Type 0
+CallSays limit Audit = Audits
+CallSays limit (Run mixer) = Runs limit mixer
+CallSays limit Show = Shows
 
 -- the number is that of a bad line of the bytes, which `run` alone reads by lines, and only where they are not too long
-abbrev pub has_bad_line : ℕ → Subcommand → Option (List ℕ) → ℕ → Type 0
-has_bad_line limit (Run mixer) known number = IfSome known (λ bytes. (length bytes ≤ limit) × IsBadLine bytes number)
-has_bad_line limit _ known number = ⊥
+abbrev pub HasBadLine : ℕ → Subcommand → Option (List ℕ) → ℕ → Type 0
+HasBadLine limit (Run mixer) known number = IfSome known (λ bytes. (length bytes ≤ limit) × IsBadLine bytes number)
+HasBadLine limit _ known number = ⊥
 
 -- the bytes are too long for `run`, or the trace of them is
-abbrev pub is_too_long : ℕ → Subcommand → Option (List ℕ) → Type 0
-is_too_long limit (Run mixer) known = IfSome known (IsTooLong limit mixer)
-is_too_long limit _ known = ⊥
+abbrev pub IsTooLongFor : ℕ → Subcommand → Option (List ℕ) → Type 0
+IsTooLongFor limit (Run mixer) known = IfSome known (IsTooLong limit mixer)
+IsTooLongFor limit _ known = ⊥
 
 -- the call runs the bytes, which are not too long
-abbrev pub runs : ℕ → Subcommand → Option (List ℕ) → Type 0
-runs limit (Run mixer) known = IfSome known (λ bytes. (length bytes ≤ limit) × IsRunnable bytes)
-runs limit _ known = ⊥
+abbrev pub CallRuns : ℕ → Subcommand → Option (List ℕ) → Type 0
+CallRuns limit (Run mixer) known = IfSome known (λ bytes. (length bytes ≤ limit) × IsRunnable bytes)
+CallRuns limit _ known = ⊥
 
 -- the call asks for random words, once the bytes are read
-abbrev pub asks_for_random : ℕ → Subcommand → Option (List ℕ) → Type 0
-asks_for_random limit Audit known = ⊤
-asks_for_random limit (Run mixer) known = runs limit (Run mixer) known
-asks_for_random limit Show known = ⊥
+abbrev pub AsksForRandom : ℕ → Subcommand → Option (List ℕ) → Type 0
+AsksForRandom limit Audit known = ⊤
+AsksForRandom limit (Run mixer) known = CallRuns limit (Run mixer) known
+AsksForRandom limit Show known = ⊥
 
 -- the call sends in parts what it says
-abbrev pub sends_in_parts : Subcommand → Type 0
-sends_in_parts Show = ⊤
-sends_in_parts _ = ⊥
+abbrev pub SendsInParts : Subcommand → Type 0
+SendsInParts Show = ⊤
+SendsInParts _ = ⊥
 
 -- What a call left that ended by a fault: what stands of the bytes that were in the input, where they are `known`, and
--- of out, `old` before the call and `new` after it. `unread` says that the input failed. A run is of so many bytes at
+-- of out, `old` before the call and `new` after it. `failed` says that the input failed. A run is of so many bytes at
 -- most.
 abbrev pub Leaves : ℕ → {O : Type 0} → (O → Option (List ℕ)) → (O → ℕ) → Subcommand → Option (List ℕ) → Type 0 → O → O
     → ToolFault → Type 0
-Leaves limit written failures call known unread old new fault.Read = unread × (new ≡ old)
-Leaves limit written failures call known unread old new (fault.Line number) =
-    has_bad_line limit call known number × (new ≡ old)
-Leaves limit written failures call known unread old new fault.TooLong = is_too_long limit call known × (new ≡ old)
-Leaves limit written failures call known unread old new fault.Broken = runs limit call known × (new ≡ old)
-Leaves limit written failures call known unread old new fault.Random =
-    asks_for_random limit call known × (new ≡ old)
-Leaves limit written failures call known unread old new fault.Memory =
-    (new ≡ old) ⊎ (sends_in_parts call × WritesFrontOf (says limit call) known (written old) (written new))
-Leaves limit written failures call known unread old new fault.Write =
-    (failures new ≡ after_failure (failures old)) × WritesFrontOf (says limit call) known (written old) (written new)
+Leaves limit written failures call known failed old new fault.Read = failed × (new ≡ old)
+Leaves limit written failures call known failed old new (fault.Line number) =
+    HasBadLine limit call known number × (new ≡ old)
+Leaves limit written failures call known failed old new fault.TooLong = IsTooLongFor limit call known × (new ≡ old)
+Leaves limit written failures call known failed old new fault.Broken = CallRuns limit call known × (new ≡ old)
+Leaves limit written failures call known failed old new fault.Random =
+    AsksForRandom limit call known × (new ≡ old)
+Leaves limit written failures call known failed old new fault.Memory =
+    (new ≡ old) ⊎ (SendsInParts call × WritesFrontOf (CallSays limit call) known (written old) (written new))
+Leaves limit written failures call known failed old new fault.Write =
+    (failures new ≡ after_failure (failures old))
+    × WritesFrontOf (CallSays limit call) known (written old) (written new)
 
 -- what was left of a text that was to be sent, by a fault: the text is held whole before any of it is sent
 abbrev pub StopsSending : {O : Type 0} → (O → Option (List ℕ)) → (O → ℕ) → O → O → List ℕ → ToolFault → Type 0
@@ -89,16 +91,16 @@ abbrev pub Tells : {E : Type 0} → (E → Option (List ℕ)) → (E → ℕ) �
 Tells written failures old new why =
     Wrote written failures old new (error_line why) ⊎ Stopped written failures old new (error_line why)
 
--- A call ended by a fault, of which the status is that and the line was told. `fine` says that the input did not fail,
--- which is so at each fault but Read, and `consumed` that it was read, which is so at each but Read and Memory. At each
--- but Write the output did not fail.
+-- A call ended by a fault, of which the status is that and the line was told. `failed` says that the input failed,
+-- `fine` that it did not, which is so at each fault but Read, and `consumed` that it was read, which is so at each but
+-- Read and Memory. At each but Write the output did not fail.
 pub record Stops {E O : Type 0} (told : E → Option (List ℕ)) (untold : E → ℕ) (written : O → Option (List ℕ))
     (failures : O → ℕ) (call : Subcommand)
-    (known : Option (List ℕ)) (unread fine consumed : Type 0) (err_old err_new : E) (old new : O) (status : ℕ)
+    (known : Option (List ℕ)) (failed fine consumed : Type 0) (err_old err_new : E) (old new : O) (status : ℕ)
     : Type 0 where
   pub why : ToolFault
   pub ends : status_of why ≡ status
-  pub left : Leaves longest written failures call known unread old new why
+  pub left : Leaves MOST_BYTES written failures call known failed old new why
   pub read : why ≢ fault.Read → fine
   pub ended : why ≢ fault.Read → why ≢ fault.Memory → consumed
   pub wrote : why ≢ fault.Write → failures new ≡ failures old

@@ -3,7 +3,6 @@ use Rattle.std.specs.Prelude.{◌≡◌, ℕ, ◌<◌, ◌≤◌, List, length, 
 use Rattle.eve_grammar.specs.Trace.{Trace}
 use Rattle.eve_grammar.specs.Spelling.{length_of}
 use Rattle.eve_grammar.specs.Limits.{HasLimits, Spells}
-use Rattle.eve_grammar.specs.declared.limits.TheConstants.{MOST_BYTES}
 use Rattle.eve_workload.specs.declared.mixer.Mixer.{Mixer}
 use Rattle.eve_workload.specs.Workload.{Workload, IsWorkload}
 use Rattle.eve_workload.specs.Lines.{workload_text}
@@ -27,10 +26,6 @@ pub record IsRunOfText (mixer : Mixer) (bytes : List ℕ) (parts : Parts) : Type
   pub workload : Workload
   pub typed : IsText bytes workload
   pub run : IsRunOf workload mixer parts
-
--- how many bytes a workload and the trace of its run have at most
-abbrev pub longest : ℕ
-longest = MOST_BYTES
 
 -- the bytes are a workload, and the text spells a trace of a run of it, both of `limit` bytes at most; the exit status
 -- is 0

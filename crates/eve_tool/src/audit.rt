@@ -6,7 +6,6 @@ ghost use Rattle.eve_streams.specs.Failures.{after_failure};
 ghost use Rattle.eve_tool.specs.Audit.{Audits};
 ghost use Rattle.eve_tool.specs.Calls.{WasRead, Leaves, StopsSending};
 ghost use Rattle.eve_tool.specs.Lines.{status_of_verdict, verdict_line, yes_line};
-ghost use Rattle.eve_tool.specs.Run.{longest};
 ghost use Rattle.eve_tool_arguments.specs.Arguments.{Audit};
 ghost use Rattle.eve_tool.specs.Writes.{WritesAll, WritesAllOf};
 
@@ -71,7 +70,7 @@ fn audit_bytes<R: Threads + Wait + Sync, O: Sink>(
     ensures all { IfOk result (WritesAll Audits bytes.now (O.written out.old) (O.written out.new)) }
     ensures status { IfOk result (λ status. status < 2) }
     ensures fine { OnOk result (O.failures out.new ≡ O.failures out.old) }
-    ensures left { IfErr result (Leaves longest O.written O.failures Audit (Some bytes.now) ⊥ out.old out.new) }
+    ensures left { IfErr result (Leaves MOST_BYTES O.written O.failures Audit (Some bytes.now) ⊥ out.old out.new) }
     ensures wrote { IfErr result (λ why. why ≢ ToolFault.Write → O.failures out.new ≡ O.failures out.old) }
 {
     let verdict = eve_audit::audit(rt, alloc, bytes, workers.get(), random, &OpenGate)?;
@@ -92,11 +91,12 @@ pub(crate) fn audit<R: AllocGlobal + RandomSource + Threads + Wait + Sync, I: So
     ensures status { IfOk result (λ status. status < 2) }
     ensures fine { OnOk result ((I.failures input.new ≡ I.failures input.old)
         × (O.failures out.new ≡ O.failures out.old)) }
-    ensures left { IfErr result (Leaves longest O.written O.failures Audit (I.remaining input.old)
+    ensures left { IfErr result (Leaves MOST_BYTES O.written O.failures Audit (I.remaining input.old)
         (I.failures input.new ≡ after_failure (I.failures input.old)) out.old out.new) }
     ensures read { IfErr result (λ why. why ≢ ToolFault.Read → I.failures input.new ≡ I.failures input.old) }
     ensures ended { IfErr result (λ why. why ≢ ToolFault.Read → why ≢ ToolFault.Memory
-        → WasRead longest (I.remaining input.old) (I.remaining input.new)) }
+        → WasRead MOST_BYTES (I.remaining input.old) (I.remaining input.new)) }
+    ensures consumed { OnOk result (WasRead MOST_BYTES (I.remaining input.old) (I.remaining input.new)) }
     ensures wrote { IfErr result (λ why. why ≢ ToolFault.Write → O.failures out.new ≡ O.failures out.old) }
 {
     let alloc = rt.alloc();

@@ -19,7 +19,7 @@ pub enum ToolFault {
     Read,
     /// This line of the workload, counted from 1, is the first that isn't right.
     Line(u32),
-    /// The workload has more than 2^30 bytes, or the trace would have.
+    /// The workload has more than 2^30 bytes (of `run_within`, than its limit), or the trace would have.
     TooLong,
     /// The run is broken: a replica failed, or a batch was not committed.
     Broken,

@@ -4,9 +4,8 @@ ghost use Rattle.std.specs.Prelude.{◌≡◌, ◌≢◌, ◌≤◌, ◌<◌, �
 ghost use Rattle.std.specs.Prelude.{IfOk, IfErr, IfSome, OnOk, OnErr, Some, decimal};
 ghost use Rattle.eve_audit.specs.Verdict.{SpellsAudited};
 ghost use Rattle.eve_streams.specs.Failures.{after_failure};
-ghost use Rattle.eve_tool.specs.Calls.{Calls, WasRead, Leaves, LeavesHelp, Stops, StopsHelp, Tells, says};
+ghost use Rattle.eve_tool.specs.Calls.{Calls, WasRead, Leaves, LeavesHelp, Stops, StopsHelp, Tells, CallSays};
 ghost use Rattle.eve_tool.specs.Fault.{status_of};
-ghost use Rattle.eve_tool.specs.Run.{longest};
 ghost use Rattle.eve_tool_arguments.specs.Arguments.{AsksForHelp, Audit, AuditsBy, CallsNothing, CallsSome, GetsHelp};
 ghost use Rattle.eve_tool_arguments.specs.Arguments.{IsRefused, Run};
 ghost use Rattle.eve_tool_arguments.specs.Arguments.{Show, Subcommand, subcommand_of_call, workers_of};
@@ -15,9 +14,9 @@ ghost use Rattle.eve_tool.specs.Writes.{WritesAllOf};
 
 use crate::audit::audit;
 use crate::fault::ToolFault;
-use crate::run::run;
+use crate::run::run_within;
 use crate::show::show;
-use eve_grammar::MOST_AUDIT_WORKERS;
+use eve_grammar::{MOST_AUDIT_WORKERS, MOST_BYTES};
 use eve_streams::{Sink, Source, send_all};
 use eve_tool_arguments::{Asked, Call, read_arguments};
 use std::convert::AsStr;
@@ -43,21 +42,22 @@ fn answer_call<R: AllocGlobal + RandomSource + Threads + Wait + Sync, I: Source,
     input: &mut I,
     out: &mut O,
 ) -> Result<u8, ToolFault>
-    ensures said { IfOk result (WritesAllOf (says longest (subcommand_of_call call)) (I.remaining input.old)
+    ensures said { IfOk result (WritesAllOf (CallSays MOST_BYTES (subcommand_of_call call)) (I.remaining input.old)
         (O.written out.old) (O.written out.new)) }
     ensures status { IfOk result (λ status. status < 2) }
     ensures fine { OnOk result ((I.failures input.new ≡ I.failures input.old)
         × (O.failures out.new ≡ O.failures out.old)) }
-    ensures left { IfErr result (Leaves longest O.written O.failures (subcommand_of_call call) (I.remaining input.old)
-        (I.failures input.new ≡ after_failure (I.failures input.old)) out.old out.new) }
+    ensures left { IfErr result (Leaves MOST_BYTES O.written O.failures (subcommand_of_call call)
+        (I.remaining input.old) (I.failures input.new ≡ after_failure (I.failures input.old)) out.old out.new) }
     ensures read { IfErr result (λ why. why ≢ ToolFault.Read → I.failures input.new ≡ I.failures input.old) }
     ensures ended { IfErr result (λ why. why ≢ ToolFault.Read → why ≢ ToolFault.Memory
-        → WasRead longest (I.remaining input.old) (I.remaining input.new)) }
+        → WasRead MOST_BYTES (I.remaining input.old) (I.remaining input.new)) }
+    ensures consumed { OnOk result (WasRead MOST_BYTES (I.remaining input.old) (I.remaining input.new)) }
     ensures wrote { IfErr result (λ why. why ≢ ToolFault.Write → O.failures out.new ≡ O.failures out.old) }
 {
     match call {
         Call::Audit(workers) => audit(rt, workers, input, out),
-        Call::Run(mixer) => run(rt, mixer, input, out),
+        Call::Run(mixer) => run_within(rt, mixer, MOST_BYTES as u32, input, out),
         Call::Show => show(rt.alloc(), input, out),
     }
 }
@@ -71,19 +71,21 @@ fn answer<
     E: Sink,
 >(rt: &R, arguments: &[S], input: &mut I, out: &mut O, err: &mut E) -> Result<u8, ToolFault>
     ensures said { (call : Subcommand) → Calls call (map S.text arguments.now)
-        → IfOk result (λ status. (status < 2) × WritesAllOf (says longest call) (I.remaining input.old)
+        → IfOk result (λ status. (status < 2) × WritesAllOf (CallSays MOST_BYTES call) (I.remaining input.old)
         (O.written out.old) (O.written out.new) status) }
     ensures status { CallsSome (map S.text arguments.now) → IfOk result (λ status. status < 2) }
     ensures fine { CallsSome (map S.text arguments.now)
         → OnOk result ((I.failures input.new ≡ I.failures input.old)
         × (O.failures out.new ≡ O.failures out.old)) }
     ensures left { (call : Subcommand) → Calls call (map S.text arguments.now)
-        → IfErr result (Leaves longest O.written O.failures call (I.remaining input.old)
+        → IfErr result (Leaves MOST_BYTES O.written O.failures call (I.remaining input.old)
         (I.failures input.new ≡ after_failure (I.failures input.old)) out.old out.new) }
     ensures read { IfErr result (λ why. why ≢ ToolFault.Read → I.failures input.new ≡ I.failures input.old) }
     ensures ended { CallsSome (map S.text arguments.now)
         → IfErr result (λ why. why ≢ ToolFault.Read → why ≢ ToolFault.Memory
-        → WasRead longest (I.remaining input.old) (I.remaining input.new)) }
+        → WasRead MOST_BYTES (I.remaining input.old) (I.remaining input.new)) }
+    ensures consumed { CallsSome (map S.text arguments.now)
+        → OnOk result (WasRead MOST_BYTES (I.remaining input.old) (I.remaining input.new)) }
     ensures wrote { IfErr result (λ why. why ≢ ToolFault.Write → O.failures out.new ≡ O.failures out.old) }
     ensures quiet { CallsSome (map S.text arguments.now) → err.new ≡ err.old }
     ensures unread { CallsNothing (map S.text arguments.now) → input.new ≡ input.old }
@@ -113,7 +115,8 @@ fn answer<
 /// Runs the program: does what the arguments of the command line ask for, the first of which is the
 /// program's name, and answers the exit status. Memory, the random words and the threads of `audit` and
 /// `run` come from `rt`; random words are asked for once the input is read. How many workers audit changes
-/// nothing of what is said. It returns where the threads that it started do.
+/// nothing of what is said. It returns where the threads that it started do. docs/ARCHITECTURE.md, "The program", has
+/// each line and status.
 pub fn serve<
     R: AllocGlobal + RandomSource + Threads + Wait + Sync,
     S: AsStr,
@@ -137,13 +140,16 @@ pub fn serve<
         → CallsNothing (name ∷ codes "audit" ∷ codes "--workers" ∷ decimal (MOST_AUDIT_WORKERS + 1) ∷ []) }
     ensures help { (name : List ℕ) → GetsHelp (name ∷ codes "--help" ∷ []) }
 
-    // A call that ends well: all is said, on `out`, and nothing failed. A yes of `audit` is said of bytes alone that
-    // spell a trace that is audited.
+    // A call that ends well: all is said, on `out`, nothing failed, and the input was read. A yes of `audit` is said of
+    // bytes alone that spell a trace that is audited.
     ensures said { (call : Subcommand) → Calls call (map S.text arguments.now) → result < 2
-        → WritesAllOf (says longest call) (I.remaining input.old) (O.written out.old) (O.written out.new) result }
+        → WritesAllOf (CallSays MOST_BYTES call) (I.remaining input.old) (O.written out.old) (O.written out.new)
+        result }
     ensures fine { CallsSome (map S.text arguments.now) → result < 2
         → (I.failures input.new ≡ I.failures input.old)
         × (O.failures out.new ≡ O.failures out.old) × (err.new ≡ err.old) }
+    ensures consumed { CallsSome (map S.text arguments.now) → result < 2
+        → WasRead MOST_BYTES (I.remaining input.old) (I.remaining input.new) }
     ensures yes { Calls Audit (map S.text arguments.now) → result ≡ 0
         → IfSome (I.remaining input.old) SpellsAudited }
 
@@ -151,7 +157,7 @@ pub fn serve<
     ensures stopped { (call : Subcommand) → Calls call (map S.text arguments.now) → 2 ≤ result
         → Stops E.written E.failures O.written O.failures call (I.remaining input.old)
         (I.failures input.new ≡ after_failure (I.failures input.old)) (I.failures input.new ≡ I.failures input.old)
-        (WasRead longest (I.remaining input.old) (I.remaining input.new)) err.old err.new out.old out.new result }
+        (WasRead MOST_BYTES (I.remaining input.old) (I.remaining input.new)) err.old err.new out.old out.new result }
 
     // The arguments are no call.
     ensures unread { CallsNothing (map S.text arguments.now) → input.new ≡ input.old }

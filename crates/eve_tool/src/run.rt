@@ -8,7 +8,7 @@ ghost use Rattle.eve_write.specs.Data.{trace};
 ghost use Rattle.eve_write.specs.Writable.{HasSpelling};
 ghost use Rattle.eve_write.specs.Writing.{Wrote, Stopped};
 ghost use Rattle.eve_tool.specs.Calls.{WasRead, Leaves};
-ghost use Rattle.eve_tool.specs.Run.{Runs, IsRunOfText, StopsRun, longest};
+ghost use Rattle.eve_tool.specs.Run.{Runs, IsRunOfText, StopsRun};
 ghost use Rattle.eve_tool_arguments.specs.Arguments.{Run};
 ghost use Rattle.eve_tool.specs.Writes.{WritesAll, WritesAllOf};
 
@@ -106,6 +106,7 @@ pub fn run_within<R: AllocGlobal + RandomSource + Threads + Wait + Sync, I: Sour
     ensures read { IfErr result (λ why. why ≢ ToolFault.Read → I.failures input.new ≡ I.failures input.old) }
     ensures ended { IfErr result (λ why. why ≢ ToolFault.Read → why ≢ ToolFault.Memory
         → WasRead limit (I.remaining input.old) (I.remaining input.new)) }
+    ensures consumed { OnOk result (WasRead limit (I.remaining input.old) (I.remaining input.new)) }
     ensures wrote { IfErr result (λ why. why ≢ ToolFault.Write → O.failures out.new ≡ O.failures out.old) }
 {
     let alloc = rt.alloc();
@@ -114,26 +115,4 @@ pub fn run_within<R: AllocGlobal + RandomSource + Threads + Wait + Sync, I: Sour
         return Err(ToolFault::TooLong);
     }
     run_bytes(rt, alloc, bytes.as_slice(), mixer, limit, out)
-}
-
-/// The call `run`: `run_within` the limit of a trace.
-pub(crate) fn run<R: AllocGlobal + RandomSource + Threads + Wait + Sync, I: Source, O: Sink>(
-    rt: &R,
-    mixer: Mixer,
-    input: &mut I,
-    out: &mut O,
-) -> Result<u8, ToolFault>
-    ensures all { IfOk result (WritesAllOf (Runs longest mixer) (I.remaining input.old) (O.written out.old)
-        (O.written out.new)) }
-    ensures status { IfOk result (λ status. status ≡ 0) }
-    ensures fine { OnOk result ((I.failures input.new ≡ I.failures input.old)
-        × (O.failures out.new ≡ O.failures out.old)) }
-    ensures left { IfErr result (Leaves longest O.written O.failures (Run mixer) (I.remaining input.old)
-        (I.failures input.new ≡ after_failure (I.failures input.old)) out.old out.new) }
-    ensures read { IfErr result (λ why. why ≢ ToolFault.Read → I.failures input.new ≡ I.failures input.old) }
-    ensures ended { IfErr result (λ why. why ≢ ToolFault.Read → why ≢ ToolFault.Memory
-        → WasRead longest (I.remaining input.old) (I.remaining input.new)) }
-    ensures wrote { IfErr result (λ why. why ≢ ToolFault.Write → O.failures out.new ≡ O.failures out.old) }
-{
-    run_within(rt, mixer, MOST_BYTES as u32, input, out)
 }

@@ -9,7 +9,6 @@ ghost use Rattle.eve_grammar.specs.Spelling.{frame_text, located};
 ghost use Rattle.eve_streams.specs.Failures.{after_failure};
 ghost use Rattle.eve_tool.specs.Calls.{WasRead, Leaves, StopsInParts};
 ghost use Rattle.eve_tool.specs.Show.{Shows, line_of, trace_lines};
-ghost use Rattle.eve_tool.specs.Run.{longest};
 ghost use Rattle.eve_tool_arguments.specs.Arguments.{Show};
 ghost use Rattle.eve_tool.specs.Writes.{WritesAll, WritesAllOf};
 
@@ -59,7 +58,7 @@ fn send_frames<O: Sink>(alloc: Global, trace: &Trace<'_>, out: &mut O) -> Result
 fn show_bytes<O: Sink>(alloc: Global, bytes: &[u8], out: &mut O) -> Result<u8, ToolFault>
     ensures all { IfOk result (WritesAll Shows bytes.now (O.written out.old) (O.written out.new)) }
     ensures fine { OnOk result (O.failures out.new ≡ O.failures out.old) }
-    ensures left { IfErr result (Leaves longest O.written O.failures Show (Some bytes.now) ⊥ out.old out.new) }
+    ensures left { IfErr result (Leaves MOST_BYTES O.written O.failures Show (Some bytes.now) ⊥ out.old out.new) }
     ensures wrote { IfErr result (λ why. why ≢ ToolFault.Write → O.failures out.new ≡ O.failures out.old) }
 {
     match Trace::read(alloc, bytes) {
@@ -87,11 +86,12 @@ pub(crate) fn show<I: Source, O: Sink>(
     ensures status { IfOk result (λ status. status < 2) }
     ensures fine { OnOk result ((I.failures input.new ≡ I.failures input.old)
         × (O.failures out.new ≡ O.failures out.old)) }
-    ensures left { IfErr result (Leaves longest O.written O.failures Show (I.remaining input.old)
+    ensures left { IfErr result (Leaves MOST_BYTES O.written O.failures Show (I.remaining input.old)
         (I.failures input.new ≡ after_failure (I.failures input.old)) out.old out.new) }
     ensures read { IfErr result (λ why. why ≢ ToolFault.Read → I.failures input.new ≡ I.failures input.old) }
     ensures ended { IfErr result (λ why. why ≢ ToolFault.Read → why ≢ ToolFault.Memory
-        → WasRead longest (I.remaining input.old) (I.remaining input.new)) }
+        → WasRead MOST_BYTES (I.remaining input.old) (I.remaining input.new)) }
+    ensures consumed { OnOk result (WasRead MOST_BYTES (I.remaining input.old) (I.remaining input.new)) }
     ensures wrote { IfErr result (λ why. why ≢ ToolFault.Write → O.failures out.new ≡ O.failures out.old) }
 {
     let bytes = read_all(alloc, input, MOST_BYTES as u32)?;

@@ -40,7 +40,8 @@ pub enum Asked {
 
 // What is said where another mixer is named.
 const NO_MIXER: &str =
-    "error: invalid value for '--mixer <MIXER>': it is 'first' or 'whole'\n\nFor more information, try '--help'.\n";
+    "error: invalid value for '--mixer <MIXER>': it has to be 'first' or 'whole'\n\n\
+    For more information, try '--help'.\n";
 
 const EXAMPLES: &str = "Examples:\n\
     \x20 eve run < examples/two-deposits.workload | eve audit\n\
@@ -82,7 +83,7 @@ fn mixer_argument<'a>(alloc: Global) -> Arg<'a>
         .long("mixer")
         .value_name("MIXER")
         .help(
-            "How batches are cut into groups that run in parallel: 'first' fit, or each batch 'whole'",
+            "How batches are cut into groups of requests that may run in parallel: 'first' fit, or each batch 'whole'",
         )
         .default_value("first")
 }

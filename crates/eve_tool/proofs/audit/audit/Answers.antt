@@ -1,5 +1,5 @@
 use Rattle.std.proofs.Common.{◌^◌, lit≤}
-use Rattle.std.proofs.lemmas.Result.{IfErr-weaker, IfOk-weaker}
+use Rattle.std.proofs.lemmas.Result.{IfErr-weaker, IfOk-weaker, on_ok_weaker}
 use Rattle.eve_tool.specs.Audit.{Audits}
 use Rattle.eve_tool.proofs.Cutting.{Audits-cut, WritesAllOf-cut, WritesFrontOf-cut, audit_left, random_left}
 use Rattle.eve_tool.proofs.Leaving.{at_err}
@@ -49,3 +49,9 @@ returns-clause-ended g c =
     let read = is_read (2 ^ 30) (g.I.Source.remaining c.args.input.now) (g.I.Source.remaining c.read_all.new.source) _
     c.in_ok-bytes.ensures.bytes c.in_ok-bytes.ensures.rest in
     IfErr-weaker c.audit_bytes.result _ _ (λ why left unread scarce. read) c.audit_bytes.ensures.left
+
+pub returns-clause-consumed : goal.returns-clause-consumed
+returns-clause-consumed g c =
+    let read = is_read (2 ^ 30) (g.I.Source.remaining c.args.input.now) (g.I.Source.remaining c.read_all.new.source) _
+    c.in_ok-bytes.ensures.bytes c.in_ok-bytes.ensures.rest in
+    on_ok_weaker c.audit_bytes.result (λ fine. read) c.audit_bytes.ensures.fine
