@@ -16,8 +16,8 @@ use Rattle.eve_grammar.specs.Trace.{Customer, Access, Attempt, Step, Attempts, C
 use Rattle.eve_grammar.specs.Trace.{opening_rows}
 use Rattle.eve_grammar.specs.Frames.{OfReplica}
 use Rattle.eve_grammar.specs.Spelling.{frame_text, located, step_text, section_start, steps_of, steps_at}
-use Rattle.eve_grammar.specs.declared.limits.TheConstants.{MOST_REQUESTS}
-use Rattle.eve_grammar.specs.Limits.{is_between, is_number, is_token, is_reply, is_customer, version_limit, is_entry}
+use Rattle.eve_grammar.specs.declared.limits.TheConstants.{MOST_REQUESTS, MOST_VERSIONS}
+use Rattle.eve_grammar.specs.Limits.{is_between, is_number, is_token, is_reply, is_customer, is_entry}
 use Rattle.eve_grammar.specs.Limits.{is_access, is_attempt, is_whole_attempt, is_step, row_count, HasLimits}
 use Rattle.eve_history.specs.Section.{Placed}
 use Rattle.eve_history.specs.Fates.{fates_from}
@@ -109,7 +109,7 @@ leaves_balance : (rows : ℕ) (e : Entry) → IsTrue (is_entry rows e) → IsTru
 leaves_balance rows e h =
     (and_parts (is_balance e.after) _
     (and_parts (is_balance e.seen) _
-    (and_parts (nat_le e.version version_limit) _ (and_parts (nat_lt e.row rows) _ h).1).1).1).0
+    (and_parts (nat_le e.version MOST_VERSIONS) _ (and_parts (nat_lt e.row rows) _ h).1).1).1).0
 
 balances_after : (rows : ℕ) (table : Table) (es : List Entry) → AreBalances table
     → IsTrue (list_all (is_entry rows) es) → AreBalances (table_after table es)

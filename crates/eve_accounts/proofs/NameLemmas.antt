@@ -1,4 +1,5 @@
--- Lists of names: who has which number, and what the words of a set say of them.
+-- Public: other crates cite these lemmas. Lists of names: who has which number, and what the words of a set say of
+-- them.
 use Rattle.std.proofs.Common.{◌≡◌, ◌≢◌, ℕ, zero, suc, ◌+◌, ◌<◌, ◌↔◌, Bool, true, false, cond, not, IsTrue, nat_lt}
 use Rattle.std.proofs.Common.{nat_eq, List, [], ◌∷◌, ◌++◌, map, length, get_or, slice_get, Contains, AllPairs, is_some}
 use Rattle.std.proofs.Common.{IfNone, Option, Some, None, position, refl, sym, ap, subst, ◌∙◌, inl, inr, arith}
@@ -27,7 +28,7 @@ same_name-true a b h = same_text a b (sym h ∙ is_eq-slice_cmp a b)
 pub same_name-false : (a b : List ℕ) → same_name a b ≡ false → a ≢ b
 same_name-false a b h = other_text a b (sym h ∙ is_eq-slice_cmp a b)
 
-same_name-itself : (a b : List ℕ) → a ≡ b → same_name a b ≡ true
+pub same_name-itself : (a b : List ℕ) → a ≡ b → same_name a b ≡ true
 same_name-itself a b e = elim (cases_Bool (same_name a b)) [ inl h ↦ h | inr h ↦ absurd (same_name-false a b h e) ]
 
 same_name-other : (a b : List ℕ) → a ≢ b → same_name a b ≡ false
@@ -35,7 +36,7 @@ same_name-other a b apart = false_from_ne_true (same_name a b) (λ h. apart (sam
 
 -- ---- a customer's number
 
-no_number : (n : ℕ) → ◌≡◌ {A = Option ℕ} None (Some n) → ⊥
+pub no_number : (n : ℕ) → ◌≡◌ {A = Option ℕ} None (Some n) → ⊥
 no_number n e = cc
 
 -- the number of a name is its place

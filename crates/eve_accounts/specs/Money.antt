@@ -1,10 +1,11 @@
 -- Ranges of money, in cents.
-use Rattle.std.specs.Prelude.{ℤ, pos, negsuc, Bool, ◌&&◌, Option, Some, None, if◌then◌else◌}
+use Rattle.std.specs.Prelude.{ℤ, pos, neg_ℤ, Bool, ◌&&◌, Option, Some, None, if◌then◌else◌}
 use Rattle.std.specs.Int.RustNames.{int_le}
+use Rattle.eve_accounts.specs.declared.limits.TheConstants.{MOST_BALANCE, MOST_AMOUNT}
 
 -- a balance lies within 10^15 of zero
 abbrev pub is_balance : ℤ → Bool
-is_balance z = int_le (negsuc 999999999999999) z && int_le z (pos 1000000000000000)
+is_balance z = int_le (neg_ℤ MOST_BALANCE) z && int_le z MOST_BALANCE
 
 -- savings start at 0 or more
 abbrev pub is_saving : ℤ → Bool
@@ -12,7 +13,7 @@ is_saving z = is_balance z && int_le (pos 0) z
 
 -- an amount lies within 10^12 of zero
 abbrev pub is_amount : ℤ → Bool
-is_amount z = int_le (negsuc 999999999999) z && int_le z (pos 1000000000000)
+is_amount z = int_le (neg_ℤ MOST_AMOUNT) z && int_le z MOST_AMOUNT
 
 -- the number, if it is a balance
 abbrev pub balance_of : ℤ → Option ℤ

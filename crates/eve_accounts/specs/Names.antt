@@ -5,11 +5,12 @@ use Rattle.std.specs.List.{list_all}
 use Rattle.std.specs.declared.cmp.Ordering.{Ordering}
 use Rattle.std.specs.Ordering.{nat_cmp, is_eq}
 use Rattle.std.specs.Cmp.Lexicographic.{slice_cmp}
-use Rattle.eve_accounts.specs.declared.limits.TheConstants.{MOST_NAMES, MOST_NAME_BYTES}
+use Rattle.eve_accounts.specs.declared.limits.TheConstants.{MOST_NAMES, MOST_NAME_BYTES, FIRST_NAME_BYTE}
+use Rattle.eve_accounts.specs.declared.limits.TheConstants.{LAST_NAME_BYTE}
 
 -- a byte of printed ASCII, not a space
 abbrev pub is_printable : ℕ → Bool
-is_printable byte = nat_le 33 byte && nat_le byte 126
+is_printable byte = nat_le FIRST_NAME_BYTE byte && nat_le byte LAST_NAME_BYTE
 
 -- 1 to 24 printable bytes
 abbrev pub is_name : List ℕ → Bool

@@ -3,6 +3,7 @@
 ghost use Rattle.std.specs.Prelude.{◌≡◌, IsTrue};
 ghost use Rattle.eve_accounts.specs.Money.{is_balance, is_amount, balance_of, amount_of};
 
+use crate::limits::{MOST_AMOUNT, MOST_BALANCE};
 use std::marker::Model;
 
 /// A balance in cents, within 10^15 of zero.
@@ -34,7 +35,7 @@ impl Cents {
     pub fn new(value: i64) -> Option<Cents>
         ensures { result ≡ balance_of value }
     {
-        if -1_000_000_000_000_000 <= value && value <= 1_000_000_000_000_000 {
+        if -MOST_BALANCE <= value && value <= MOST_BALANCE {
             Some(Cents { value })
         } else {
             None
@@ -84,11 +85,19 @@ impl Amount {
     pub fn new(cents: i64) -> Option<Amount>
         ensures { result ≡ amount_of cents }
     {
-        if -1_000_000_000_000 <= cents && cents <= 1_000_000_000_000 {
+        if -MOST_AMOUNT <= cents && cents <= MOST_AMOUNT {
             Some(Amount { cents })
         } else {
             None
         }
+    }
+
+    /// The amount of that many cents, which are within the range.
+    pub fn of(cents: i64) -> Amount
+        requires { IsTrue (is_amount cents) }
+        ensures { result ≡ cents }
+    {
+        Amount { cents }
     }
 
     /// How many cents it is.

@@ -6,7 +6,7 @@ ghost use Rattle.std.specs.List.{list_all};
 ghost use Rattle.eve_accounts.specs.Names.{NameList, IsNameList, CanTake, is_printable, is_name, customer_named};
 
 use crate::keyed_hash::KeyedHash;
-use crate::limits::{MOST_NAME_BYTES, MOST_NAMES};
+use crate::limits::{FIRST_NAME_BYTE, LAST_NAME_BYTE, MOST_NAME_BYTES, MOST_NAMES};
 use crate::name_key::NameKey;
 use indexmap::IndexSet;
 use std::alloc::Global;
@@ -26,7 +26,9 @@ pub fn is_name(bytes: &[u8]) -> bool
 fn are_printable(bytes: &[u8]) -> bool
     ensures { result ≡ list_all is_printable bytes.now }
 {
-    bytes.iter().all(|&byte| (0x21..=0x7E).contains(&byte))
+    bytes
+        .iter()
+        .all(|&byte| (FIRST_NAME_BYTE..=LAST_NAME_BYTE).contains(&byte))
 }
 
 /// Why a name was not added.

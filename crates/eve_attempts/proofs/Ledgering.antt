@@ -15,7 +15,8 @@ use Rattle.eve_smallbank.specs.Access.{is_write, writes_row}
 use Rattle.eve_smallbank.specs.Chain.{Table, table_after}
 use Rattle.eve_smallbank.proofs.Members.{In, here, there, all_in, all_from_in}
 use Rattle.eve_grammar.specs.Trace.{Restore, Rollback}
-use Rattle.eve_grammar.specs.Limits.{is_entry, is_restore, is_rising, is_rollback, is_number, version_limit}
+use Rattle.eve_grammar.specs.declared.limits.TheConstants.{MOST_VERSIONS}
+use Rattle.eve_grammar.specs.Limits.{is_entry, is_restore, is_rising, is_rollback, is_number}
 use Rattle.eve_attempts.specs.Ledgers.{Opened, Rows, Ledger, ledger_rows, table_of_rows, table_now, values_before}
 use Rattle.eve_attempts.specs.Ledgers.{writes_in}
 use Rattle.eve_attempts.specs.Ledgers.{open_writes, rows_committed, is_write_in, AreLaid, IsLedger}
@@ -171,11 +172,11 @@ restore_fits rows table row (e ∷ es) all some =
         let right = (and_parts (is_write e.kind) (is_entry rows e)
         (and_parts (is_write_in rows e) (list_all (is_write_in rows) es) all).0).1 in
         let one = and_parts (ltb e.row rows) _ right in
-        let two = and_parts (leb e.version version_limit) _ one.1 in
+        let two = and_parts (leb e.version MOST_VERSIONS) _ one.1 in
         let three = and_parts (is_balance e.seen) _ two.1 in
         let same : e.row ≡ row = eqb-true e.row row (and_parts (is_write e.kind) (e.row == row) is).1 in
         and_from (ltb row rows) _ (ap (λ (r : ℕ). ltb r rows) (sym same) ∙ one.0)
-        (and_from (leb e.version version_limit) (is_balance e.seen) two.0 three.0)
+        (and_from (leb e.version MOST_VERSIONS) (is_balance e.seen) two.0 three.0)
     by false is some rest = rest some
 
 rows_in : (P : ℕ → Type 0) (es : List Entry) → ((e : Entry) → In e es → P e.row) → AllByRecursion P (entry_rows es)

@@ -10,7 +10,8 @@ use Rattle.eve_grammar.specs.Limits.{is_entry}
 use Rattle.eve_grammar.specs.Reading.{number_at, signed_at, both, made, made_if, only, many_at, kind_from, entry_from}
 use Rattle.eve_grammar.specs.Reading.{entry_fields_at, entry_at, access_from, entries_at, access_of}
 use Rattle.eve_grammar.proofs.Scans.{many_length}
-use Rattle.eve_frames.specs.Views.{most_rows, is_access_frame, access_in}
+use Rattle.eve_grammar.specs.declared.limits.TheConstants.{MOST_ROWS}
+use Rattle.eve_frames.specs.Views.{is_access_frame, access_in}
 use Rattle.eve_frames.proofs.Places.{Takes, found, number_from, number_some, made_some, only_some, whole_some}
 use Rattle.eve_frames.proofs.Places.{both_some, led_some, Takes-number, Takes-signed, Takes-only, Takes-made}
 use Rattle.eve_frames.proofs.Places.{Takes-made_if, Takes-both, byte_at}
@@ -39,13 +40,13 @@ pub record AccessAt (bytes : List ℕ) (n : ℕ) (x : Access) : Type 0 where
   pub place : x.place ≡ big_number 2 (drop 6 bytes)
   pub index : x.index ≡ big_number 2 (drop 8 bytes)
   pub count : n ≡ get_or bytes 10 0
-  pub entries : Stand 29 n 11 (entry_at most_rows) bytes x.entries
+  pub entries : Stand 29 n 11 (entry_at MOST_ROWS) bytes x.entries
 
-pub access_at : (bytes : List ℕ) (x : Access) → access_of most_rows (drop 5 bytes) ≡ Some x → (n : ℕ)
+pub access_at : (bytes : List ℕ) (x : Access) → access_of MOST_ROWS (drop 5 bytes) ≡ Some x → (n : ℕ)
     × AccessAt bytes n x
 unfolding access_of entries_at
 access_at bytes x e =
-    let list_at = entries_at most_rows in
+    let list_at = entries_at MOST_ROWS in
     let w = whole_some (made access_from (both (number_at 1) (both (number_at 2) (both (number_at 2) list_at))))
     (drop 5 bytes) x e in
     let m = made_some access_from (both (number_at 1) (both (number_at 2) (both (number_at 2) list_at))) (drop 5 bytes)
@@ -54,7 +55,7 @@ access_at bytes x e =
     (m.0, w.0) m.1 in
     let q = both_some 2 6 (number_at 2) (both (number_at 2) list_at) (Takes-number 2) bytes (m.0.1, w.0) p.1 in
     let r = both_some 2 8 (number_at 2) list_at (Takes-number 2) bytes (m.0.1.1, w.0) q.1 in
-    let t = led_some 1 10 (only (λ count. leb count 3) (number_at 1)) (many_at (entry_at most_rows))
+    let t = led_some 1 10 (only (λ count. leb count 3) (number_at 1)) (many_at (entry_at MOST_ROWS))
     (Takes-only 1 (λ count. leb count 3) (number_at 1) (Takes-number 1)) bytes (m.0.1.1.1, w.0) r.1 in
     let n = t.0 in
     let small = only_some (λ count. leb count 3) (number_at 1) (drop 10 bytes) (n, drop 11 bytes) t.1 in
@@ -62,7 +63,7 @@ access_at bytes x e =
     let place = number_some 2 (drop 6 bytes) (m.0.1.0, drop 8 bytes) q.0 in
     let index = number_some 2 (drop 8 bytes) (m.0.1.1.0, drop 10 bytes) r.0 in
     let count = number_some 1 (drop 10 bytes) (n, drop 11 bytes) small.0 in
-    let entries = (Takes-many 29 (entry_at most_rows) (Takes-entry most_rows) n).by (drop 11 bytes)
+    let entries = (Takes-many 29 (entry_at MOST_ROWS) (Takes-entry MOST_ROWS) n).by (drop 11 bytes)
     (m.0.1.1.1, w.0) t.2 in
     let room = entries.0 in
     let before = count.0 in
@@ -85,10 +86,10 @@ access_at bytes x e =
         place = ap (λ (y : Access). y.place) m.2 ∙ place.1;
         index = ap (λ (y : Access). y.index) m.2 ∙ index.1;
         count = count.1 ∙ byte_at 10 bytes;
-        entries = subst (λ (y : Access). Stand 29 n 11 (entry_at most_rows) bytes y.entries) (sym m.2)
+        entries = subst (λ (y : Access). Stand 29 n 11 (entry_at MOST_ROWS) bytes y.entries) (sym m.2)
             (record {
-              fixed = Takes-entry most_rows;
-              count = many_length (entry_at most_rows) n (drop 11 bytes)
+              fixed = Takes-entry MOST_ROWS;
+              count = many_length (entry_at MOST_ROWS) n (drop 11 bytes)
                   (m.0.1.1.1, w.0) t.2;
               long = omega (arith, size);
               rest = w.0;
@@ -97,10 +98,10 @@ access_at bytes x e =
       },
     )
 
-pub access_read : (bytes : List ℕ) → IsTrue (is_access_frame bytes) → access_of most_rows (drop 5 bytes)
+pub access_read : (bytes : List ℕ) → IsTrue (is_access_frame bytes) → access_of MOST_ROWS (drop 5 bytes)
     ≡ Some (access_in bytes)
 unfolding access_in
-access_read bytes there = found (access_of most_rows (drop 5 bytes)) _ there
+access_read bytes there = found (access_of MOST_ROWS (drop 5 bytes)) _ there
 
 -- how many entries
 abbrev pub entries_of : List ℕ → ℕ

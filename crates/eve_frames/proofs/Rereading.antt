@@ -16,7 +16,8 @@ use Rattle.eve_grammar.specs.Reading.{sent_of}
 use Rattle.eve_grammar.proofs.BodyCodecs.{Exact-customer, Exact-batch, Exact-attempt, Exact-access, Exact-commit}
 use Rattle.eve_grammar.proofs.BodyCodecs.{Exact-rollback, Exact-vote, Exact-sent}
 use Rattle.eve_smallbank.specs.declared.entry.Entry.{Entry}
-use Rattle.eve_frames.specs.Views.{most_rows, most_replicas, most_batches, is_customer_frame, is_batch_frame}
+use Rattle.eve_grammar.specs.declared.limits.TheConstants.{MOST_ROWS, MOST_REPLICAS, MOST_BATCHES}
+use Rattle.eve_frames.specs.Views.{is_customer_frame, is_batch_frame}
 use Rattle.eve_frames.specs.Views.{is_attempt_frame, is_access_frame, is_commit_frame, is_rollback_frame, is_vote_frame}
 use Rattle.eve_frames.specs.Views.{is_sent_frame, customer_in, batch_in, attempt_in, access_in, commit_in, rollback_in}
 use Rattle.eve_frames.specs.Views.{vote_in, sent_in, Says}
@@ -77,8 +78,8 @@ vote_more few most le v fits =
     let p = and_parts (is_between 1 few v.seq) (is_number 4 v.view && is_choice v.choice) fits in
     and_from (is_between 1 most v.seq) _ (between_more v.seq few most le p.0) p.1
 
-sent_more : (replicas batches : ℕ) → replicas ≤ most_replicas → batches ≤ most_batches → (s : Sent)
-    → IsTrue (is_sent replicas batches s) → IsTrue (is_sent most_replicas most_batches s)
+sent_more : (replicas batches : ℕ) → replicas ≤ MOST_REPLICAS → batches ≤ MOST_BATCHES → (s : Sent)
+    → IsTrue (is_sent replicas batches s) → IsTrue (is_sent MOST_REPLICAS MOST_BATCHES s)
 sent_more replicas batches r b s fits =
     let p = and_parts (is_number 4 s.client) _ fits in
     let q = and_parts (is_number 8 s.number) _ p.1 in
@@ -86,8 +87,8 @@ sent_more replicas batches r b s fits =
     let u = and_parts (is_between 1 batches s.seq) (is_reply s.reply) t.1 in
     and_from (is_number 4 s.client) _ p.0
     (and_from (is_number 8 s.number) _ q.0
-    (and_from (ltb s.replica most_replicas) _ (below_more s.replica replicas most_replicas r t.0)
-    (and_from (is_between 1 most_batches s.seq) _ (between_more s.seq batches most_batches b u.0) u.1)))
+    (and_from (ltb s.replica MOST_REPLICAS) _ (below_more s.replica replicas MOST_REPLICAS r t.0)
+    (and_from (is_between 1 MOST_BATCHES s.seq) _ (between_more s.seq batches MOST_BATCHES b u.0) u.1)))
 
 -- ---- kind by kind
 
@@ -109,32 +110,32 @@ unfolding attempt_in
 attempt_again a fits = says attempt_of _ (without_accesses a) (OfAttempt a)
     (Exact-attempt.again (without_accesses a) (and_from (is_attempt a) true fits refl))
 
-pub access_again : (rows : ℕ) (x : Access) → IsTrue (is_access rows x) → rows ≤ most_rows
+pub access_again : (rows : ℕ) (x : Access) → IsTrue (is_access rows x) → rows ≤ MOST_ROWS
     → Says is_access_frame access_in (frame_text (OfAccess x)) x
 unfolding access_in
-access_again rows x fits le = says (access_of most_rows) _ x (OfAccess x)
-    ((Exact-access most_rows (omega arith)).again x (access_more rows most_rows le x fits))
+access_again rows x fits le = says (access_of MOST_ROWS) _ x (OfAccess x)
+    ((Exact-access MOST_ROWS (omega arith)).again x (access_more rows MOST_ROWS le x fits))
 
 pub commit_again : (c : Commit) → IsTrue (is_commit c) → Says is_commit_frame commit_in (frame_text (OfCommit c)) c
 unfolding commit_in
 commit_again c fits = says commit_of _ c (OfCommit c) (Exact-commit.again c fits)
 
-pub rollback_again : (rows : ℕ) (r : Rollback) → IsTrue (is_rollback rows r) → rows ≤ most_rows
+pub rollback_again : (rows : ℕ) (r : Rollback) → IsTrue (is_rollback rows r) → rows ≤ MOST_ROWS
     → Says is_rollback_frame rollback_in (frame_text (OfRollback r)) r
 unfolding rollback_in
-rollback_again rows r fits le = says (rollback_of most_rows) _ r (OfRollback r)
-    ((Exact-rollback most_rows (omega arith)).again r (rollback_more rows most_rows le r fits))
+rollback_again rows r fits le = says (rollback_of MOST_ROWS) _ r (OfRollback r)
+    ((Exact-rollback MOST_ROWS (omega arith)).again r (rollback_more rows MOST_ROWS le r fits))
 
-pub vote_again : (batches : ℕ) (v : Vote) → IsTrue (is_vote batches v) → batches ≤ most_batches
+pub vote_again : (batches : ℕ) (v : Vote) → IsTrue (is_vote batches v) → batches ≤ MOST_BATCHES
     → Says is_vote_frame vote_in (frame_text (OfVote v)) v
 unfolding vote_in
-vote_again batches v fits le = says (vote_of most_batches) _ v (OfVote v)
-    ((Exact-vote most_batches (omega arith)).again v (vote_more batches most_batches le v fits))
+vote_again batches v fits le = says (vote_of MOST_BATCHES) _ v (OfVote v)
+    ((Exact-vote MOST_BATCHES (omega arith)).again v (vote_more batches MOST_BATCHES le v fits))
 
-pub sent_again : (replicas batches : ℕ) (s : Sent) → IsTrue (is_sent replicas batches s) → replicas ≤ most_replicas
-    → batches ≤ most_batches → Says is_sent_frame sent_in (frame_text (OfSent s)) s
+pub sent_again : (replicas batches : ℕ) (s : Sent) → IsTrue (is_sent replicas batches s) → replicas ≤ MOST_REPLICAS
+    → batches ≤ MOST_BATCHES → Says is_sent_frame sent_in (frame_text (OfSent s)) s
 unfolding sent_in
 sent_again replicas batches s fits r b =
-    says (sent_of most_replicas most_batches) _ s (OfSent s)
-    ((Exact-sent most_replicas most_batches (omega arith) (omega arith)).again s
+    says (sent_of MOST_REPLICAS MOST_BATCHES) _ s (OfSent s)
+    ((Exact-sent MOST_REPLICAS MOST_BATCHES (omega arith) (omega arith)).again s
     (sent_more replicas batches r b s fits))

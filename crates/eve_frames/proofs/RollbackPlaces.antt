@@ -8,7 +8,8 @@ use Rattle.eve_grammar.specs.Limits.{is_restore, is_rising}
 use Rattle.eve_grammar.specs.Reading.{number_at, signed_at, both, led_by, made, only, many_at, restore_from}
 use Rattle.eve_grammar.specs.Reading.{restore_fields_at, restore_at, restores_at, rollback_from, rollback_of}
 use Rattle.eve_grammar.proofs.Scans.{many_length}
-use Rattle.eve_frames.specs.Views.{most_rows, is_rollback_frame, rollback_in}
+use Rattle.eve_grammar.specs.declared.limits.TheConstants.{MOST_ROWS}
+use Rattle.eve_frames.specs.Views.{is_rollback_frame, rollback_in}
 use Rattle.eve_frames.proofs.Places.{Takes, found, number_from, number_some, made_some, only_some, whole_some}
 use Rattle.eve_frames.proofs.Places.{both_some, led_some, Takes-number, Takes-signed, Takes-only, Takes-made}
 use Rattle.eve_frames.proofs.Places.{Takes-both}
@@ -28,13 +29,13 @@ pub record RollbackAt (bytes : List ℕ) (n : ℕ) (r : Rollback) : Type 0 where
   pub to : r.to ≡ big_number 4 (drop 5 bytes)
   pub view : r.view ≡ big_number 4 (drop 9 bytes)
   pub count : n ≡ big_number 4 (drop 13 bytes)
-  pub restores : Stand 20 n 17 (restore_at most_rows) bytes r.restores
+  pub restores : Stand 20 n 17 (restore_at MOST_ROWS) bytes r.restores
 
-pub rollback_at : (bytes : List ℕ) (r : Rollback) → rollback_of most_rows (drop 5 bytes) ≡ Some r → (n : ℕ)
+pub rollback_at : (bytes : List ℕ) (r : Rollback) → rollback_of MOST_ROWS (drop 5 bytes) ≡ Some r → (n : ℕ)
     × RollbackAt bytes n r
 unfolding rollback_of restores_at
 rollback_at bytes r e =
-    let list_at = led_by (number_at 4) (many_at (restore_at most_rows)) in
+    let list_at = led_by (number_at 4) (many_at (restore_at MOST_ROWS)) in
     let w = whole_some (made rollback_from (both (number_at 4) (both (number_at 4) (only is_rising list_at))))
     (drop 5 bytes) r e in
     let m = made_some rollback_from (both (number_at 4) (both (number_at 4) (only is_rising list_at))) (drop 5 bytes)
@@ -43,13 +44,13 @@ rollback_at bytes r e =
     (m.0, w.0) m.1 in
     let q = both_some 4 9 (number_at 4) (only is_rising list_at) (Takes-number 4) bytes (m.0.1, w.0) p.1 in
     let rising = only_some is_rising list_at (drop 13 bytes) (m.0.1.1, w.0) q.1 in
-    let t = led_some 4 13 (number_at 4) (many_at (restore_at most_rows)) (Takes-number 4) bytes (m.0.1.1, w.0) rising.0
+    let t = led_some 4 13 (number_at 4) (many_at (restore_at MOST_ROWS)) (Takes-number 4) bytes (m.0.1.1, w.0) rising.0
     in
     let n = t.0 in
     let to = number_some 4 (drop 5 bytes) (m.0.0, drop 9 bytes) p.0 in
     let view = number_some 4 (drop 9 bytes) (m.0.1.0, drop 13 bytes) q.0 in
     let count = number_some 4 (drop 13 bytes) (n, drop 17 bytes) t.1 in
-    let restores = (Takes-many 20 (restore_at most_rows) (Takes-restore most_rows) n).by (drop 17 bytes)
+    let restores = (Takes-many 20 (restore_at MOST_ROWS) (Takes-restore MOST_ROWS) n).by (drop 17 bytes)
     (m.0.1.1, w.0) t.2 in
     let room = restores.0 in
     let before = count.0 in
@@ -70,10 +71,10 @@ rollback_at bytes r e =
         to = ap (λ (y : Rollback). y.to) m.2 ∙ to.1;
         view = ap (λ (y : Rollback). y.view) m.2 ∙ view.1;
         count = count.1;
-        restores = subst (λ (y : Rollback). Stand 20 n 17 (restore_at most_rows) bytes y.restores) (sym m.2)
+        restores = subst (λ (y : Rollback). Stand 20 n 17 (restore_at MOST_ROWS) bytes y.restores) (sym m.2)
             (record {
-              fixed = Takes-restore most_rows;
-              count = many_length (restore_at most_rows) n (drop 17 bytes)
+              fixed = Takes-restore MOST_ROWS;
+              count = many_length (restore_at MOST_ROWS) n (drop 17 bytes)
                   (m.0.1.1, w.0) t.2;
               long = omega (arith, size);
               rest = w.0;
@@ -82,10 +83,10 @@ rollback_at bytes r e =
       },
     )
 
-pub rollback_read : (bytes : List ℕ) → IsTrue (is_rollback_frame bytes) → rollback_of most_rows (drop 5 bytes)
+pub rollback_read : (bytes : List ℕ) → IsTrue (is_rollback_frame bytes) → rollback_of MOST_ROWS (drop 5 bytes)
     ≡ Some (rollback_in bytes)
 unfolding rollback_in
-rollback_read bytes there = found (rollback_of most_rows (drop 5 bytes)) _ there
+rollback_read bytes there = found (rollback_of MOST_ROWS (drop 5 bytes)) _ there
 
 -- how many restores
 abbrev pub restores_of : List ℕ → ℕ

@@ -7,7 +7,8 @@ use Rattle.eve_smallbank.specs.declared.request.Reply.{Reply}
 use Rattle.eve_grammar.specs.Trace.{Sent}
 use Rattle.eve_grammar.specs.Limits.{is_between}
 use Rattle.eve_grammar.specs.Reading.{number_at, signed_at, both, made, only, reply_from, reply_at, sent_from, sent_of}
-use Rattle.eve_frames.specs.Views.{most_replicas, most_batches, is_sent_frame, sent_in}
+use Rattle.eve_grammar.specs.declared.limits.TheConstants.{MOST_REPLICAS, MOST_BATCHES}
+use Rattle.eve_frames.specs.Views.{is_sent_frame, sent_in}
 use Rattle.eve_frames.proofs.Places.{Takes, found, number_some, made_some, only_some, whole_some, both_some}
 use Rattle.eve_frames.proofs.Places.{Takes-number, Takes-signed, Takes-only, Takes-both, Takes-made_if, byte_at}
 
@@ -24,11 +25,11 @@ pub record SentAt (bytes : List ℕ) (s : Sent) : Type 0 where
   pub seq : s.seq ≡ big_number 4 (drop 18 bytes)
   pub reply : reply_at (drop 22 bytes) ≡ Some (s.reply, drop 31 bytes)
 
-pub sent_at : (bytes : List ℕ) (s : Sent) → sent_of most_replicas most_batches (drop 5 bytes) ≡ Some s → SentAt bytes s
+pub sent_at : (bytes : List ℕ) (s : Sent) → sent_of MOST_REPLICAS MOST_BATCHES (drop 5 bytes) ≡ Some s → SentAt bytes s
 unfolding sent_of
 sent_at bytes s e =
-    let replica_at = only (λ replica. nat_lt replica most_replicas) (number_at 1) in
-    let seq_at = only (is_between 1 most_batches) (number_at 4) in
+    let replica_at = only (λ replica. nat_lt replica MOST_REPLICAS) (number_at 1) in
+    let seq_at = only (is_between 1 MOST_BATCHES) (number_at 4) in
     let fields = both (number_at 4) (both (number_at 8) (both replica_at (both seq_at reply_at))) in
     let w = whole_some (made sent_from fields) (drop 5 bytes) s e in
     let m = made_some sent_from fields (drop 5 bytes) (s, w.0) w.1 in
@@ -37,17 +38,17 @@ sent_at bytes s e =
     let b = both_some 8 9 (number_at 8) (both replica_at (both seq_at reply_at)) (Takes-number 8) bytes
     (m.0.1, w.0) a.1 in
     let c = both_some 1 17 replica_at (both seq_at reply_at)
-    (Takes-only 1 (λ replica. nat_lt replica most_replicas) (number_at 1) (Takes-number 1)) bytes
+    (Takes-only 1 (λ replica. nat_lt replica MOST_REPLICAS) (number_at 1) (Takes-number 1)) bytes
     (m.0.1.1, w.0) b.1 in
-    let d = both_some 4 18 seq_at reply_at (Takes-only 4 (is_between 1 most_batches) (number_at 4) (Takes-number 4))
+    let d = both_some 4 18 seq_at reply_at (Takes-only 4 (is_between 1 MOST_BATCHES) (number_at 4) (Takes-number 4))
     bytes (m.0.1.1.1, w.0) c.1 in
     let client = number_some 4 (drop 5 bytes) (m.0.0, drop 9 bytes) a.0 in
     let number = number_some 8 (drop 9 bytes) (m.0.1.0, drop 17 bytes) b.0 in
     let replica = number_some 1 (drop 17 bytes) (m.0.1.1.0, drop 18 bytes)
-    (only_some (λ replica. nat_lt replica most_replicas) (number_at 1) (drop 17 bytes) (m.0.1.1.0, drop 18 bytes)
+    (only_some (λ replica. nat_lt replica MOST_REPLICAS) (number_at 1) (drop 17 bytes) (m.0.1.1.0, drop 18 bytes)
     c.0).0 in
     let seq = number_some 4 (drop 18 bytes) (m.0.1.1.1.0, drop 22 bytes)
-    (only_some (is_between 1 most_batches) (number_at 4) (drop 18 bytes) (m.0.1.1.1.0, drop 22 bytes) d.0).0 in
+    (only_some (is_between 1 MOST_BATCHES) (number_at 4) (drop 18 bytes) (m.0.1.1.1.0, drop 22 bytes) d.0).0 in
     let reply = Takes-reply.by (drop 22 bytes) (m.0.1.1.1.1, w.0) d.1 in
     let more = reply.0 in
     let behind : w.0 ≡ drop 31 bytes = reply.1 ∙ drop-drop 9 22 bytes in
@@ -64,10 +65,10 @@ sent_at bytes s e =
     some_reply : Reply → List ℕ → Option (Reply × List ℕ)
     some_reply r rest = Some (r, rest)
 
-pub sent_read : (bytes : List ℕ) → IsTrue (is_sent_frame bytes) → sent_of most_replicas most_batches (drop 5 bytes)
+pub sent_read : (bytes : List ℕ) → IsTrue (is_sent_frame bytes) → sent_of MOST_REPLICAS MOST_BATCHES (drop 5 bytes)
     ≡ Some (sent_in bytes)
 unfolding sent_in
-sent_read bytes there = found (sent_of most_replicas most_batches (drop 5 bytes)) _ there
+sent_read bytes there = found (sent_of MOST_REPLICAS MOST_BATCHES (drop 5 bytes)) _ there
 
 abbrev placed : (bytes : List ℕ) → IsTrue (is_sent_frame bytes) → SentAt bytes (sent_in bytes)
 placed bytes there = sent_at bytes (sent_in bytes) (sent_read bytes there)

@@ -9,7 +9,8 @@ use Rattle.byteorder.specs.Endian.{big_number}
 use Rattle.eve_grammar.specs.Trace.{Choice, ForRollback, ForCommit, Vote}
 use Rattle.eve_grammar.specs.Limits.{is_between}
 use Rattle.eve_grammar.specs.Reading.{number_at, both, made, made_if, only, choice_from, vote_from, token_at, vote_of}
-use Rattle.eve_frames.specs.Views.{most_batches, is_vote_frame, vote_in}
+use Rattle.eve_grammar.specs.declared.limits.TheConstants.{MOST_BATCHES}
+use Rattle.eve_frames.specs.Views.{is_vote_frame, vote_in}
 use Rattle.eve_frames.proofs.Places.{found, number_some, bytes_some, made_some, made_if_some, only_some}
 use Rattle.eve_grammar.proofs.Codec.{some_is}
 use Rattle.eve_frames.proofs.Places.{whole_some, both_some, Takes-number, Takes-only, byte_at}
@@ -35,20 +36,20 @@ chosen code token c = by (eqb code 1) (eqb code 0) (list_all (λ byte. eqb byte 
     by false true false e = absurd cc
     by false false zeros e = absurd cc
 
-pub vote_at : (bytes : List ℕ) (v : Vote) → vote_of most_batches (drop 5 bytes) ≡ Some v → VoteAt bytes v
+pub vote_at : (bytes : List ℕ) (v : Vote) → vote_of MOST_BATCHES (drop 5 bytes) ≡ Some v → VoteAt bytes v
 unfolding vote_of token_at
 vote_at bytes v e =
-    let seq_at = only (is_between 1 most_batches) (number_at 4) in
+    let seq_at = only (is_between 1 MOST_BATCHES) (number_at 4) in
     let choice_at = made_if choice_from (both (number_at 1) token_at) in
     let w = whole_some (made vote_from (both seq_at (both (number_at 4) choice_at))) (drop 5 bytes) v e in
     let m = made_some vote_from (both seq_at (both (number_at 4) choice_at)) (drop 5 bytes) (v, w.0) w.1 in
     let a = both_some 4 5 seq_at (both (number_at 4) choice_at)
-    (Takes-only 4 (is_between 1 most_batches) (number_at 4) (Takes-number 4)) bytes (m.0, w.0) m.1 in
+    (Takes-only 4 (is_between 1 MOST_BATCHES) (number_at 4) (Takes-number 4)) bytes (m.0, w.0) m.1 in
     let b = both_some 4 9 (number_at 4) choice_at (Takes-number 4) bytes (m.0.1, w.0) a.1 in
     let c = made_if_some choice_from (both (number_at 1) token_at) (drop 13 bytes) (m.0.1.1, w.0) b.1 in
     let d = both_some 1 13 (number_at 1) token_at (Takes-number 1) bytes (c.0, w.0) c.1 in
     let seq = number_some 4 (drop 5 bytes) (m.0.0, drop 9 bytes)
-    (only_some (is_between 1 most_batches) (number_at 4) (drop 5 bytes) (m.0.0, drop 9 bytes) a.0).0 in
+    (only_some (is_between 1 MOST_BATCHES) (number_at 4) (drop 5 bytes) (m.0.0, drop 9 bytes) a.0).0 in
     let view = number_some 4 (drop 9 bytes) (m.0.1.0, drop 13 bytes) b.0 in
     let code = number_some 1 (drop 13 bytes) (c.0.0, drop 14 bytes) d.0 in
     let token = bytes_some 32 (drop 14 bytes) (c.0.1, w.0) d.1 in
@@ -62,10 +63,10 @@ vote_at bytes v e =
           ∙ ap (λ (t : List ℕ). cond (eqb (get_or bytes 13 0) 1) (ForCommit t) ForRollback) token.1;
     }
 
-pub vote_read : (bytes : List ℕ) → IsTrue (is_vote_frame bytes) → vote_of most_batches (drop 5 bytes)
+pub vote_read : (bytes : List ℕ) → IsTrue (is_vote_frame bytes) → vote_of MOST_BATCHES (drop 5 bytes)
     ≡ Some (vote_in bytes)
 unfolding vote_in
-vote_read bytes there = found (vote_of most_batches (drop 5 bytes)) _ there
+vote_read bytes there = found (vote_of MOST_BATCHES (drop 5 bytes)) _ there
 
 abbrev placed : (bytes : List ℕ) → IsTrue (is_vote_frame bytes) → VoteAt bytes (vote_in bytes)
 placed bytes there = vote_at bytes (vote_in bytes) (vote_read bytes there)

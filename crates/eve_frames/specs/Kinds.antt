@@ -1,7 +1,8 @@
 -- The names of the kinds of frames.
 use Rattle.std.specs.Prelude.{ℕ, ◌==◌, if◌then◌else◌, List, codes}
 
--- the name of the kind that a frame begins with
+-- the name of the kind that a frame begins with: End also of a byte that no kind has, with which no frame of a trace
+-- begins
 abbrev pub kind_name : ℕ → List ℕ
 kind_name kind =
     if kind == 1 then codes "Customer"

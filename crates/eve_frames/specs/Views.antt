@@ -1,5 +1,5 @@
--- What frames say, by their bytes: a body of the kind stands after the five bytes of the head.
-use Rattle.std.specs.Prelude.{ℕ, pos, Bool, false, IsTrue, ◌≡◌, List, [], drop, is_some, unwrap_or, ◌<◌, get_or}
+-- What frames say, by their bytes: by the body after the first five, which are the kind and the length.
+use Rattle.std.specs.Prelude.{ℕ, pos, Bool, false, IsTrue, ◌≡◌, List, [], drop, is_some, unwrap_or}
 use Rattle.eve_smallbank.specs.declared.request.Reply.TheVariants.{Done}
 use Rattle.eve_grammar.specs.Trace.{Customer, Batch, Attempt, Access, Commit, Rollback, ForRollback, Vote, Sent}
 use Rattle.eve_grammar.specs.declared.limits.TheConstants.{MOST_ROWS, MOST_REPLICAS, MOST_BATCHES}
@@ -10,55 +10,41 @@ use Rattle.eve_grammar.specs.Reading.{sent_of}
 abbrev pub body_in : List ℕ → List ℕ
 body_in bytes = drop 5 bytes
 
--- ---- the format's limits
+-- ---- whether a body of the kind stands after the first five bytes, whatever these are
 
--- rows of a trace
-abbrev pub most_rows : ℕ
-most_rows = MOST_ROWS
-
--- replicas of a trace
-abbrev pub most_replicas : ℕ
-most_replicas = MOST_REPLICAS
-
--- batches of a trace
-abbrev pub most_batches : ℕ
-most_batches = MOST_BATCHES
-
--- ---- whether the bytes are a frame of the kind
-
--- a Customer frame
+-- the body of a Customer frame
 abbrev pub is_customer_frame : List ℕ → Bool
 is_customer_frame bytes = is_some (customer_of (body_in bytes))
 
--- a Batch frame
+-- the body of a Batch frame
 abbrev pub is_batch_frame : List ℕ → Bool
 is_batch_frame bytes = is_some (batch_of (body_in bytes))
 
--- an Attempt frame
+-- the body of an Attempt frame
 abbrev pub is_attempt_frame : List ℕ → Bool
 is_attempt_frame bytes = is_some (attempt_of (body_in bytes))
 
--- an Access frame
+-- the body of an Access frame
 abbrev pub is_access_frame : List ℕ → Bool
-is_access_frame bytes = is_some (access_of most_rows (body_in bytes))
+is_access_frame bytes = is_some (access_of MOST_ROWS (body_in bytes))
 
--- a Commit frame
+-- the body of a Commit frame
 abbrev pub is_commit_frame : List ℕ → Bool
 is_commit_frame bytes = is_some (commit_of (body_in bytes))
 
--- a Rollback frame
+-- the body of a Rollback frame
 abbrev pub is_rollback_frame : List ℕ → Bool
-is_rollback_frame bytes = is_some (rollback_of most_rows (body_in bytes))
+is_rollback_frame bytes = is_some (rollback_of MOST_ROWS (body_in bytes))
 
--- a Vote frame
+-- the body of a Vote frame
 abbrev pub is_vote_frame : List ℕ → Bool
-is_vote_frame bytes = is_some (vote_of most_batches (body_in bytes))
+is_vote_frame bytes = is_some (vote_of MOST_BATCHES (body_in bytes))
 
--- a Sent frame
+-- the body of a Sent frame
 abbrev pub is_sent_frame : List ℕ → Bool
-is_sent_frame bytes = is_some (sent_of most_replicas most_batches (body_in bytes))
+is_sent_frame bytes = is_some (sent_of MOST_REPLICAS MOST_BATCHES (body_in bytes))
 
--- ---- what a frame says, and a value of no meaning where the bytes are none
+-- ---- what the body after the first five bytes says, and a value of no meaning where it is none of the kind
 
 -- a customer
 unfoldable pub customer_in : List ℕ → Customer
@@ -76,7 +62,7 @@ attempt_in bytes =
 
 -- an access record
 unfoldable pub access_in : List ℕ → Access
-access_in bytes = unwrap_or (access_of most_rows (body_in bytes))
+access_in bytes = unwrap_or (access_of MOST_ROWS (body_in bytes))
     (record { worker = 0; place = 0; index = 0; entries = [] })
 
 -- a commit
@@ -85,23 +71,19 @@ commit_in bytes = unwrap_or (commit_of (body_in bytes)) (record { seq = 0; view 
 
 -- a rollback
 unfoldable pub rollback_in : List ℕ → Rollback
-rollback_in bytes = unwrap_or (rollback_of most_rows (body_in bytes)) (record { to = 0; view = 0; restores = [] })
+rollback_in bytes = unwrap_or (rollback_of MOST_ROWS (body_in bytes)) (record { to = 0; view = 0; restores = [] })
 
 -- a vote
 unfoldable pub vote_in : List ℕ → Vote
-vote_in bytes = unwrap_or (vote_of most_batches (body_in bytes)) (record { seq = 0; view = 0; choice = ForRollback })
+vote_in bytes = unwrap_or (vote_of MOST_BATCHES (body_in bytes)) (record { seq = 0; view = 0; choice = ForRollback })
 
 -- a reply sent
 unfoldable pub sent_in : List ℕ → Sent
-sent_in bytes = unwrap_or (sent_of most_replicas most_batches (body_in bytes))
+sent_in bytes = unwrap_or (sent_of MOST_REPLICAS MOST_BATCHES (body_in bytes))
     (record { client = 0; number = 0; replica = 0; seq = 0; reply = Done })
 
--- ---- the bytes are a frame of the kind, and say this
+-- ---- a body of the kind stands there, and says this
 
--- a frame by this test, and this is what it says
+-- by this test, and this is what is read of the bytes
 abbrev pub Says : {A : Type 0} → (List ℕ → Bool) → (List ℕ → A) → List ℕ → A → Type 0
 Says is_frame read bytes x = IsTrue (is_frame bytes) × (read bytes ≡ x)
-
--- each is a byte
-abbrev pub AreBytes : List ℕ → Type 0
-AreBytes bytes = (i : ℕ) → get_or bytes i 0 < 256

@@ -2,7 +2,8 @@
 
 ghost use Rattle.std.specs.Prelude.{◌≡◌, ◌<◌, ◌≤◌, IsTrue, Some, length, slice_get};
 ghost use Rattle.eve_grammar.specs.Reading.{access_of};
-ghost use Rattle.eve_frames.specs.Views.{body_in, most_rows, is_access_frame, access_in};
+ghost use Rattle.eve_grammar.specs.declared.limits.TheConstants.{MOST_ROWS, MOST_ENTRIES};
+ghost use Rattle.eve_frames.specs.Views.{body_in, is_access_frame, access_in};
 
 use crate::entries::Entries;
 use byteorder::{BigEndian, ByteOrder};
@@ -22,13 +23,14 @@ pub struct AccessView<'a> {
 }
 
 impl<'a> AccessView<'a> {
-    /// The view of the frame that these bytes are.
+    /// The view of bytes that have such a body after their first five; that those are the frame's kind and length its
+    /// maker sees to.
     #[tactic(auto, using(crate::proofs::AccessPlaces::access_laws))]
     pub fn new(offset: u64, bytes: &'a [u8]) -> AccessView<'a>
         requires { IsTrue (is_access_frame bytes.now) }
         ensures offset { result.offset ≡ offset }
         ensures bytes { result.bytes.now ≡ bytes.now }
-        ensures read { access_of most_rows (body_in bytes.now) ≡ Some (access_in bytes.now) }
+        ensures read { access_of MOST_ROWS (body_in bytes.now) ≡ Some (access_in bytes.now) }
     {
         AccessView { offset, bytes }
     }
@@ -76,7 +78,7 @@ impl<'a> AccessView<'a> {
     #[tactic(auto, using(crate::proofs::AccessPlaces::access_laws))]
     pub fn len(&self) -> usize
         ensures len { result ≡ length (access_in self.now.bytes.now).entries }
-        ensures limit { result ≤ 3 }
+        ensures limit { result ≤ MOST_ENTRIES }
     {
         self.bytes[10] as usize
     }

@@ -31,10 +31,8 @@ fn move_again(bytes: &[u8]) -> ((&[u8], Amount), &[u8])
     ensures { move_at bytes.now ≡ Some ((result.0.0.now, result.0.1), result.1.now) }
 {
     let (name, rest) = name_again(bytes);
-    match Amount::new(BigEndian::read_i64(rest)) {
-        Some(amount) => ((name, amount), &rest[8..]),
-        None => unreachable!(),
-    }
+    let amount = Amount::of(BigEndian::read_i64(rest));
+    ((name, amount), &rest[8..])
 }
 
 /// What stands after the code of a request.

@@ -36,7 +36,8 @@ pub struct AttemptView<'a> {
 }
 
 impl<'a> AttemptView<'a> {
-    /// The view of the frame that these bytes are.
+    /// The view of bytes that have such a body after their first five; that those are the frame's kind and length its
+    /// maker sees to.
     #[tactic(auto, using(crate::proofs::AttemptPlaces::attempt_laws))]
     pub fn new(offset: u64, bytes: &'a [u8]) -> AttemptView<'a>
         requires { IsTrue (is_attempt_frame bytes.now) }

@@ -23,7 +23,8 @@ pub struct BatchView<'a> {
 }
 
 impl<'a> BatchView<'a> {
-    /// The view of the frame that these bytes are.
+    /// The view of bytes that have such a body after their first five; that those are the frame's kind and length its
+    /// maker sees to.
     #[tactic(auto, using(crate::proofs::BatchPlaces::batch_laws))]
     pub fn new(offset: u64, bytes: &'a [u8]) -> BatchView<'a>
         requires { IsTrue (is_batch_frame bytes.now) }

@@ -1,4 +1,4 @@
-//! Going through the indices of an attempt's certificate.
+//! Going through the indexes of an attempt's certificate.
 
 ghost use Rattle.std.specs.Prelude.{◌≡◌, ℕ, IsTrue, List};
 ghost use Rattle.std.specs.Iterator.{YieldsFirst, item_count};
@@ -9,7 +9,7 @@ ghost use Rattle.eve_frames.specs.Items.{are_there};
 use eve_grammar::u16_at;
 use std::marker::Model;
 
-/// The indices of an attempt's certificate that are still to come.
+/// The indexes of an attempt's certificate that are still to come.
 #[derive(Drop)]
 pub struct Certificate<'a> {
     // how many
@@ -27,7 +27,7 @@ impl<'a> Model for Certificate<'a> {
 }
 
 impl<'a> Certificate<'a> {
-    /// This many indices, which stand in front of the bytes.
+    /// This many indexes, which stand in front of the bytes.
     pub(crate) fn new(count: usize, bytes: &'a [u8]) -> Certificate<'a>
         requires { IsTrue (are_there (number_at 2) count bytes.now) }
         ensures { result ≡ list_in (number_at 2) count bytes.now }

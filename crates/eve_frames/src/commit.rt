@@ -17,7 +17,8 @@ pub struct CommitView<'a> {
 }
 
 impl<'a> CommitView<'a> {
-    /// The view of the frame that these bytes are.
+    /// The view of bytes that have such a body after their first five; that those are the frame's kind and length its
+    /// maker sees to.
     #[tactic(auto, using(crate::proofs::CommitPlaces::commit_laws))]
     pub fn new(offset: u64, bytes: &'a [u8]) -> CommitView<'a>
         requires { IsTrue (is_commit_frame bytes.now) }

@@ -28,14 +28,12 @@ fn cents_in(bytes: &[u8]) -> Cents
     requires fits { IsTrue (is_balance (cast_signed w64 (big_number 8 bytes.now))) }
     ensures { result ≡ cast_signed w64 (big_number 8 bytes.now) }
 {
-    match Cents::new(BigEndian::read_i64(bytes)) {
-        Some(cents) => cents,
-        None => unreachable!(),
-    }
+    Cents::of(BigEndian::read_i64(bytes))
 }
 
 impl<'a> CustomerView<'a> {
-    /// The view of the frame that these bytes are.
+    /// The view of bytes that have such a body after their first five; that those are the frame's kind and length its
+    /// maker sees to.
     #[tactic(auto, using(crate::proofs::CustomerPlaces::customer_laws))]
     pub fn new(offset: u64, bytes: &'a [u8]) -> CustomerView<'a>
         requires { IsTrue (is_customer_frame bytes.now) }

@@ -6,7 +6,7 @@ ghost use Rattle.eve_smallbank.specs.declared.entry.Entry.{Entry};
 ghost use Rattle.eve_grammar.specs.Reading.{entry_at};
 ghost use Rattle.eve_grammar.specs.Bodies.{list_in};
 ghost use Rattle.eve_frames.specs.Items.{are_there};
-ghost use Rattle.eve_frames.specs.Views.{most_rows};
+ghost use Rattle.eve_grammar.specs.declared.limits.TheConstants.{MOST_ROWS};
 
 use eve_grammar::entry_again;
 use eve_smallbank::Entry;
@@ -24,16 +24,16 @@ pub struct Entries<'a> {
 impl<'a> Model for Entries<'a> {
     ghost Value = { List Entry };
 
-    ghost view = { λ it. list_in (entry_at most_rows) it.count it.bytes.now };
+    ghost view = { λ it. list_in (entry_at MOST_ROWS) it.count it.bytes.now };
 
-    ghost invariant = { λ it. IsTrue (are_there (entry_at most_rows) it.count it.bytes.now) };
+    ghost invariant = { λ it. IsTrue (are_there (entry_at MOST_ROWS) it.count it.bytes.now) };
 }
 
 impl<'a> Entries<'a> {
     /// This many entries, which stand in front of the bytes.
     pub(crate) fn new(count: usize, bytes: &'a [u8]) -> Entries<'a>
-        requires { IsTrue (are_there (entry_at most_rows) count bytes.now) }
-        ensures { result ≡ list_in (entry_at most_rows) count bytes.now }
+        requires { IsTrue (are_there (entry_at MOST_ROWS) count bytes.now) }
+        ensures { result ≡ list_in (entry_at MOST_ROWS) count bytes.now }
     {
         Entries { count, bytes }
     }

@@ -32,7 +32,7 @@ impl<'a> FrameView<'a> {
         bytes
     }
 
-    /// The name of its kind.
+    /// The name of its kind: End also of a byte that no kind has, with which no frame of a trace begins.
     ///
     /// docs/TRACE.md, "Frames".
     pub fn kind_name(&self) -> &'static str

@@ -3,10 +3,10 @@
 ghost use Rattle.std.specs.Prelude.{◌≡◌, IsTrue, List};
 ghost use Rattle.std.specs.Iterator.{YieldsFirstBy, item_count};
 ghost use Rattle.eve_grammar.specs.Trace.{Restore};
+ghost use Rattle.eve_grammar.specs.declared.limits.TheConstants.{MOST_ROWS};
 ghost use Rattle.eve_grammar.specs.Reading.{restore_at};
 ghost use Rattle.eve_grammar.specs.Bodies.{list_in, restore};
 ghost use Rattle.eve_frames.specs.Items.{are_there};
-ghost use Rattle.eve_frames.specs.Views.{most_rows};
 
 use eve_grammar::{MOST_ROWS, Restore, restore_at};
 use std::marker::Model;
@@ -23,16 +23,16 @@ pub struct Restores<'a> {
 impl<'a> Model for Restores<'a> {
     ghost Value = { List Restore };
 
-    ghost view = { λ it. list_in (restore_at most_rows) it.count it.bytes.now };
+    ghost view = { λ it. list_in (restore_at MOST_ROWS) it.count it.bytes.now };
 
-    ghost invariant = { λ it. IsTrue (are_there (restore_at most_rows) it.count it.bytes.now) };
+    ghost invariant = { λ it. IsTrue (are_there (restore_at MOST_ROWS) it.count it.bytes.now) };
 }
 
 impl<'a> Restores<'a> {
     /// This many restores, which stand in front of the bytes.
     pub(crate) fn new(count: usize, bytes: &'a [u8]) -> Restores<'a>
-        requires { IsTrue (are_there (restore_at most_rows) count bytes.now) }
-        ensures { result ≡ list_in (restore_at most_rows) count bytes.now }
+        requires { IsTrue (are_there (restore_at MOST_ROWS) count bytes.now) }
+        ensures { result ≡ list_in (restore_at MOST_ROWS) count bytes.now }
     {
         Restores { count, bytes }
     }

@@ -3,7 +3,7 @@
 ghost use Rattle.std.specs.Prelude.{◌≡◌, ◌<◌, IsTrue, Some, length, slice_get};
 ghost use Rattle.eve_grammar.specs.Reading.{rollback_of};
 ghost use Rattle.eve_grammar.specs.Bodies.{restore};
-ghost use Rattle.eve_frames.specs.Views.{body_in, most_rows, is_rollback_frame, rollback_in};
+ghost use Rattle.eve_frames.specs.Views.{body_in, is_rollback_frame, rollback_in};
 
 use crate::restores::Restores;
 use byteorder::{BigEndian, ByteOrder};
@@ -22,13 +22,14 @@ pub struct RollbackView<'a> {
 }
 
 impl<'a> RollbackView<'a> {
-    /// The view of the frame that these bytes are.
+    /// The view of bytes that have such a body after their first five; that those are the frame's kind and length its
+    /// maker sees to.
     #[tactic(auto, using(crate::proofs::RollbackPlaces::rollback_laws))]
     pub fn new(offset: u64, bytes: &'a [u8]) -> RollbackView<'a>
         requires { IsTrue (is_rollback_frame bytes.now) }
         ensures offset { result.offset ≡ offset }
         ensures bytes { result.bytes.now ≡ bytes.now }
-        ensures read { rollback_of most_rows (body_in bytes.now) ≡ Some (rollback_in bytes.now) }
+        ensures read { rollback_of MOST_ROWS (body_in bytes.now) ≡ Some (rollback_in bytes.now) }
     {
         RollbackView { offset, bytes }
     }

@@ -2,7 +2,8 @@
 
 ghost use Rattle.std.specs.Prelude.{◌≡◌, IsTrue, Some};
 ghost use Rattle.eve_grammar.specs.Reading.{sent_of};
-ghost use Rattle.eve_frames.specs.Views.{body_in, most_replicas, most_batches, is_sent_frame, sent_in};
+ghost use Rattle.eve_grammar.specs.declared.limits.TheConstants.{MOST_REPLICAS, MOST_BATCHES};
+ghost use Rattle.eve_frames.specs.Views.{body_in, is_sent_frame, sent_in};
 
 use byteorder::{BigEndian, ByteOrder};
 use eve_grammar::reply_at;
@@ -19,13 +20,14 @@ pub struct SentView<'a> {
 }
 
 impl<'a> SentView<'a> {
-    /// The view of the frame that these bytes are.
+    /// The view of bytes that have such a body after their first five; that those are the frame's kind and length its
+    /// maker sees to.
     #[tactic(auto, using(crate::proofs::SentPlaces::sent_laws))]
     pub fn new(offset: u64, bytes: &'a [u8]) -> SentView<'a>
         requires { IsTrue (is_sent_frame bytes.now) }
         ensures offset { result.offset ≡ offset }
         ensures bytes { result.bytes.now ≡ bytes.now }
-        ensures read { sent_of most_replicas most_batches (body_in bytes.now) ≡ Some (sent_in bytes.now) }
+        ensures read { sent_of MOST_REPLICAS MOST_BATCHES (body_in bytes.now) ≡ Some (sent_in bytes.now) }
     {
         SentView { offset, bytes }
     }

@@ -3,7 +3,8 @@
 ghost use Rattle.std.specs.Prelude.{◌≡◌, IsTrue, Some};
 ghost use Rattle.eve_grammar.specs.Reading.{vote_of};
 ghost use Rattle.eve_grammar.specs.Bodies.{borrowed_choice};
-ghost use Rattle.eve_frames.specs.Views.{body_in, most_batches, is_vote_frame, vote_in};
+ghost use Rattle.eve_grammar.specs.declared.limits.TheConstants.{MOST_BATCHES};
+ghost use Rattle.eve_frames.specs.Views.{body_in, is_vote_frame, vote_in};
 
 use byteorder::{BigEndian, ByteOrder};
 use eve_grammar::Choice;
@@ -19,13 +20,14 @@ pub struct VoteView<'a> {
 }
 
 impl<'a> VoteView<'a> {
-    /// The view of the frame that these bytes are.
+    /// The view of bytes that have such a body after their first five; that those are the frame's kind and length its
+    /// maker sees to.
     #[tactic(auto, using(crate::proofs::VotePlaces::vote_laws))]
     pub fn new(offset: u64, bytes: &'a [u8]) -> VoteView<'a>
         requires { IsTrue (is_vote_frame bytes.now) }
         ensures offset { result.offset ≡ offset }
         ensures bytes { result.bytes.now ≡ bytes.now }
-        ensures read { vote_of most_batches (body_in bytes.now) ≡ Some (vote_in bytes.now) }
+        ensures read { vote_of MOST_BATCHES (body_in bytes.now) ≡ Some (vote_in bytes.now) }
     {
         VoteView { offset, bytes }
     }

@@ -4,13 +4,14 @@ use Rattle.std.proofs.Common.{Some, None, is_some, refl, sym, subst, ◌∙◌}
 use Rattle.std.specs.Prelude.{IsTrue}
 use Rattle.std.specs.Ordering.{int_eq}
 use Rattle.std.proofs.lemmas.Bool.{ltb-false, ltb-true}
+use Rattle.std.proofs.lemmas.Option.{same_Some}
 use Rattle.eve_accounts.specs.Money.{is_balance}
 use Rattle.eve_accounts.specs.declared.limits.TheConstants.{MOST_NAMED_ROWS}
 use Rattle.eve_smallbank.specs.Access.{is_write}
 use Rattle.eve_smallbank.specs.declared.entry.Kind.{Kind}
 use Rattle.eve_grammar.specs.Places.{number_in, signed_in}
 use Rattle.eve_grammar.specs.Reading.{◌>>=◌, kind_from, entry_at}
-use Rattle.eve_grammar.proofs.Codec.{IsBytes, some_is}
+use Rattle.eve_grammar.proofs.Codec.{IsBytes}
 use Rattle.eve_grammar.proofs.Straight.{entry_found, entry_if, entry_is}
 
 -- what is known of the bytes
@@ -55,7 +56,7 @@ entry_stands rows bytes fits there =
           coded = rw f refl;
           seen = t.0;
           after = t.1;
-          is = λ other g. subst (λ k. entry_at rows bytes ≡ entry_found bytes k) (some_is kind other (sym f ∙ g)) found;
+          is = λ other g. subst (λ k. entry_at rows bytes ≡ entry_found bytes k) (same_Some kind other (sym f ∙ g)) found;
         }
 
 -- of so many rows as there are names for, which is all that the code knows

@@ -6,6 +6,7 @@ use Rattle.std.specs.Prelude.{IsTrue}
 use Rattle.std.specs.List.{flat_map, list_all}
 use Rattle.std.proofs.lemmas.Bool.{ltb-true, lt-ltb, le-leb, leb-true, eqb-true, and_parts, and_from}
 use Rattle.std.proofs.lemmas.List.Sums.{sum_by-cons}
+use Rattle.std.proofs.lemmas.Option.{same_Some}
 use Rattle.byteorder.specs.Endian.{big_bytes}
 use Rattle.eve_accounts.specs.Money.{is_balance, is_saving}
 use Rattle.eve_accounts.specs.Names.{is_name}
@@ -25,7 +26,7 @@ use Rattle.eve_grammar.specs.Reading.{customer_from, customer_of, are_sizes, siz
 use Rattle.eve_grammar.specs.Reading.{serial_from, certified_at, attempt_from, attempt_of, access_from, entries_at}
 use Rattle.eve_grammar.specs.Reading.{access_of, commit_from, commit_of, restores_at, rollback_from, rollback_of}
 use Rattle.eve_grammar.specs.Reading.{choice_from, vote_from, vote_of, sent_from, sent_of}
-use Rattle.eve_grammar.proofs.Codec.{IsBytes, guard_some, some_is, Codec, Codec-as, Codec-made, Codec-made_if}
+use Rattle.eve_grammar.proofs.Codec.{IsBytes, guard_some, Codec, Codec-as, Codec-made, Codec-made_if}
 use Rattle.eve_grammar.proofs.Codec.{Codec-led_by, Codec-both, Codec-both_by, Codec-only, Codec-many, Codec-counted}
 use Rattle.eve_grammar.proofs.Codec.{are_many, are_many_of, whole_takes, whole_again}
 use Rattle.eve_grammar.proofs.FieldCodecs.{Codec-number1, Codec-number2, Codec-number4, Codec-number8, are_bytes}
@@ -169,9 +170,9 @@ mode_back : (mode : ℕ) (serial : Bool) → IsTrue (is_number 1 mode) → seria
     → (mode_of serial ≡ mode) × IsTrue true
 mode_back mode serial fits e =
     elim (chosen (eqb mode 0) _ _ (Some serial) e) [
-      | inl p ↦ (ap mode_of (sym (some_is false serial p.1)) ∙ sym (eqb-true mode 0 p.0), refl)
+      | inl p ↦ (ap mode_of (sym (same_Some false serial p.1)) ∙ sym (eqb-true mode 0 p.0), refl)
       | inr p ↦ let g = guard_some (eqb mode 1) _ serial p.1 in
-          (ap mode_of (sym (some_is true serial g.1)) ∙ sym (eqb-true mode 1 g.0), refl)
+          (ap mode_of (sym (same_Some true serial g.1)) ∙ sym (eqb-true mode 1 g.0), refl)
     ]
 
 mode_forth : (serial : Bool) → IsTrue true → (serial_from (mode_of serial) ≡ Some serial)
@@ -493,13 +494,13 @@ choice_back p c fits e =
     let b = and_parts (is_number 1 p.0) (are_bytes 32 p.1) fits in
     elim (chosen (eqb p.0 1) _ _ (Some c) e) [
       | inl q ↦
-          subst (λ (c : Choice). (choice_parts c ≡ p) × IsTrue (is_choice c)) (some_is (ForCommit p.1) c q.1)
+          subst (λ (c : Choice). (choice_parts c ≡ p) × IsTrue (is_choice c)) (same_Some (ForCommit p.1) c q.1)
           (ap (λ (k : ℕ). (k, p.1)) (sym (eqb-true p.0 1 q.0)), b.1)
       | inr q ↦
           let g = guard_some (eqb p.0 0) _ c q.1 in
           let h = guard_some (list_all (λ byte. eqb byte 0) p.1) _ c g.1 in
           let len = eqb-true (length p.1) 32 (and_parts (eqb (length p.1) 32) (list_all (is_number 1) p.1) b.1).0 in
-          subst (λ (c : Choice). (choice_parts c ≡ p) × IsTrue (is_choice c)) (some_is ForRollback c h.1) (
+          subst (λ (c : Choice). (choice_parts c ≡ p) × IsTrue (is_choice c)) (same_Some ForRollback c h.1) (
             ap (λ (k : ℕ). (k, replicate 32 0)) (sym (eqb-true p.0 0 g.0))
                 ∙ ap (λ (xs : List ℕ). (p.0, xs)) (zeros_are p.1 32 len h.0),
             refl,

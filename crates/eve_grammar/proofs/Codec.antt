@@ -1,16 +1,15 @@
 -- Public: other crates cite these lemmas. A codec: what is read is spelled so, and what is spelled is read again.
-use Rattle.std.proofs.Common.{◌≡◌, ℕ, zero, suc, ◌+◌, ◌<◌, Bool, true, false, ◌&&◌, cond, eqb, List, [], ◌∷◌, ◌++◌}
-use Rattle.std.proofs.Common.{length, get_or, take, drop, Option, Some, None, refl, sym, ap, subst, ◌∙◌, append_assoc}
+use Rattle.std.proofs.Common.{◌≡◌, ℕ, zero, suc, ◌+◌, Bool, true, false, ◌&&◌, cond, eqb, List, [], ◌∷◌, ◌++◌}
+use Rattle.std.proofs.Common.{length, take, drop, Option, Some, None, refl, sym, ap, subst, ◌∙◌, append_assoc}
 use Rattle.std.proofs.Common.{arith, inl, inr}
 use Rattle.std.specs.Prelude.{IsTrue}
 use Rattle.std.specs.List.{flat_map, list_all}
 use Rattle.std.proofs.lemmas.Bool.{cases_lt, eqb-true, eq-eqb, and_parts, and_from}
 use Rattle.std.proofs.lemmas.List.{length-take, get_or-drop, get_or-take, get_or_past, append-nil, nil_from_length}
+use Rattle.std.proofs.lemmas.Option.{same_Some}
 use Rattle.eve_grammar.specs.Reading.{Reader, ◌>>=◌, both_by, led_by, made_if, only, whole, many_at}
-
--- each is below 256
-abbrev pub IsBytes : List ℕ → Type 0
-IsBytes bytes = (i : ℕ) → get_or bytes i 0 < 256
+pub use Rattle.eve_grammar.specs.Places.{IsBytes}
+pub use Rattle.std.proofs.lemmas.Option.{same_Some as some_is}
 
 pub IsBytes-drop : (n : ℕ) (bytes : List ℕ) → IsBytes bytes → IsBytes (drop n bytes)
 IsBytes-drop n bytes h i = rw get_or-drop (h (n + i))
@@ -36,9 +35,6 @@ guard_some false o y e = absurd cc
 pub guard_none : {A : Type 0} (b : Bool) (o : Option A) (y : A) → cond b None o ≡ Some y → (b ≡ false) × (o ≡ Some y)
 guard_none true o y e = absurd cc
 guard_none false o y e = (refl, e)
-
-pub some_is : {A : Type 0} (x y : A) → Some x ≡ Some y → x ≡ y
-some_is x y e = cc
 
 -- what a reader took from the front
 pub record Takes (bytes text rest : List ℕ) : Type 0 where
@@ -81,7 +77,7 @@ Codec-both_by {A = A} {B = B} ta fa ra tb fb rb one two = record {
       let both = Takes-then bytes (ta a.0.0) a.0.1 (tb b.0.0) b.0.1 first.0 second.0 in
       let there : (A × B) × List ℕ = ((a.0.0, b.0.0), b.0.1) in
       subst (λ (y : (A × B) × List ℕ). Takes bytes (ta y.0.0 ++ tb y.0.1) y.1 × IsTrue (fa y.0.0 && fb y.0.0 y.0.1))
-      (some_is there x b.2) (both, and_from (fa a.0.0) (fb a.0.0 b.0.0) first.1 second.1);
+      (same_Some there x b.2) (both, and_from (fa a.0.0) (fb a.0.0 b.0.0) first.1 second.1);
   again = λ x rest fits.
       let regrouped : (ta x.0 ++ tb x.1) ++ rest ≡ ta x.0 ++ (tb x.1 ++ rest) = append_assoc (ta x.0) (tb x.1) rest in
       let parts = and_parts (fa x.0) (fb x.0 x.1) fits in
@@ -129,7 +125,7 @@ Codec-made_if {A = A} {B = B} ta fa ra to from fb back forth one = record {
       let same = back a.0.0 b.0 first.1 b.1 in
       let moved : Takes bytes (ta (from b.0)) a.0.1 × IsTrue (fb b.0) =
       (subst (λ (z : A). Takes bytes (ta z) a.0.1) (sym same.0) first.0, same.1) in
-      subst (λ (y : B × List ℕ). Takes bytes (ta (from y.0)) y.1 × IsTrue (fb y.0)) (some_is there x b.2) moved;
+      subst (λ (y : B × List ℕ). Takes bytes (ta (from y.0)) y.1 × IsTrue (fb y.0)) (same_Some there x b.2) moved;
   again = λ x rest fits.
       let f = forth x fits in
       rw (one.again (from x) rest f.1, f.0) refl;
@@ -143,7 +139,7 @@ pub Codec-made : {A B : Type 0} (ta : A → List ℕ) (fa : A → Bool) (ra : Re
     → Codec ta fa ra → Codec (λ b. ta (from b)) fb (made_if (λ a. Some (to a)) ra)
 Codec-made {A = A} {B = B} ta fa ra to from fb back forth one =
     Codec-made_if ta fa ra (λ a. Some (to a)) from fb
-    (λ a b fits e. let t = back a fits in subst (λ (y : B). (from y ≡ a) × IsTrue (fb y)) (some_is (to a) b e) t)
+    (λ a b fits e. let t = back a fits in subst (λ (y : B). (from y ≡ a) × IsTrue (fb y)) (same_Some (to a) b e) t)
     (λ b fits. let f = forth b fits in (ap (λ (y : B). Some y) f.0, f.1)) one
 
 pub Codec-only : {A : Type 0} (ta : A → List ℕ) (fa : A → Bool) (ra : Reader A) (test : A → Bool)
@@ -153,7 +149,7 @@ Codec-only {A = A} ta fa ra test one = record {
       let a = bind_some (ra bytes) (λ a. cond (test a.0) (Some a) None) x e in
       let g = guard_some (test a.0.0) (Some a.0) x a.2 in
       let first = one.takes bytes a.0 fits a.1 in
-      subst (λ (y : A × List ℕ). Takes bytes (ta y.0) y.1 × IsTrue (test y.0 && fa y.0)) (some_is a.0 x g.1)
+      subst (λ (y : A × List ℕ). Takes bytes (ta y.0) y.1 × IsTrue (test y.0 && fa y.0)) (same_Some a.0 x g.1)
       (first.0, and_from (test a.0.0) (fa a.0.0) g.0 first.1);
   again = λ x rest fits.
       let parts = and_parts (test x) (fa x) fits in
@@ -172,7 +168,7 @@ unfolding many_at
 many_takes {A = A} ta fa ra one zero bytes x fits e =
     let there : List A × List ℕ = ([], bytes) in
     subst (λ (y : List A × List ℕ). Takes bytes (flat_map ta y.0) y.1 × ((length y.0 ≡ 0) × IsTrue (list_all fa y.0)))
-    (some_is there x e) (record { parts = refl; rest_fits = fits }, (refl, refl))
+    (same_Some there x e) (record { parts = refl; rest_fits = fits }, (refl, refl))
 many_takes {A = A} ta fa ra one (suc n) bytes x fits e =
     let a = bind_some (ra bytes) (λ a. many_at ra n a.1 >>= λ y. Some (a.0 ∷ y.0, y.1)) x e in
     let b = bind_some (many_at ra n a.0.1) (λ y. Some (a.0.0 ∷ y.0, y.1)) x a.2 in
@@ -181,7 +177,7 @@ many_takes {A = A} ta fa ra one (suc n) bytes x fits e =
     let both = Takes-then bytes (ta a.0.0) a.0.1 (flat_map ta b.0.0) b.0.1 first.0 second.0 in
     let there : List A × List ℕ = (a.0.0 ∷ b.0.0, b.0.1) in
     subst (λ (y : List A × List ℕ). Takes bytes (flat_map ta y.0) y.1
-    × ((length y.0 ≡ suc n) × IsTrue (list_all fa y.0))) (some_is there x b.2)
+    × ((length y.0 ≡ suc n) × IsTrue (list_all fa y.0))) (same_Some there x b.2)
     (both, (ap suc second.1.0, and_from (fa a.0.0) (list_all fa b.0.0) first.1 second.1.1))
 
 many_again : {A : Type 0} (ta : A → List ℕ) (fa : A → Bool) (ra : Reader A) → Codec ta fa ra
@@ -233,7 +229,7 @@ whole_takes {A = A} ta fa ra one bytes x fits e =
     let first = one.takes bytes a.0 fits a.1 in
     let nothing : a.0.1 ≡ [] = nil_from_length a.0.1 (eqb-true _ _ g.0) in
     let all : bytes ≡ ta a.0.0 = first.0.parts ∙ ap (λ (r : List ℕ). ta a.0.0 ++ r) nothing ∙ append-nil (ta a.0.0) in
-    subst (λ (y : A). (bytes ≡ ta y) × IsTrue (fa y)) (some_is a.0.0 x g.1) (all, first.1)
+    subst (λ (y : A). (bytes ≡ ta y) × IsTrue (fa y)) (same_Some a.0.0 x g.1) (all, first.1)
 
 pub whole_again : {A : Type 0} (ta : A → List ℕ) (fa : A → Bool) (ra : Reader A) → Codec ta fa ra
     → (x : A) → IsTrue (fa x) → whole ra (ta x) ≡ Some x

@@ -11,6 +11,7 @@ use Rattle.std.proofs.lemmas.Bool.{and_parts, and_from}
 use Rattle.std.proofs.lemmas.Int.{to_z-of_z, of_z-to_z, to_z_pos}
 use Rattle.std.proofs.lemmas.Nat.{be_bytes_2, be_bytes_4, be_bytes_8}
 use Rattle.std.proofs.lemmas.List.{take_at, drop_at, take-append-drop, length-append, length-take}
+use Rattle.std.proofs.lemmas.Option.{same_Some}
 use Rattle.byteorder.specs.Endian.{big_bytes, big_number}
 use Rattle.byteorder.specs.Numbers.{big_number-reads_back, big_from-take, big_from-lt, length-bytes_high_first}
 use Rattle.eve_accounts.specs.Money.{is_balance, is_saving, is_amount}
@@ -20,7 +21,7 @@ use Rattle.eve_grammar.specs.Limits.{is_number}
 use Rattle.eve_grammar.specs.Spelling.{name_text}
 use Rattle.eve_grammar.specs.Reading.{Reader, number_at, bytes_at, signed_at, led_by, behind, only, balance_at}
 use Rattle.eve_grammar.specs.Reading.{saving_at, amount_at, name_at, move_at, token_at}
-use Rattle.eve_grammar.proofs.Codec.{IsBytes, IsBytes-drop, IsBytes-take, bind_some, guard_some, guard_none, some_is}
+use Rattle.eve_grammar.proofs.Codec.{IsBytes, IsBytes-drop, IsBytes-take, bind_some, guard_some, guard_none}
 use Rattle.eve_grammar.proofs.Codec.{Takes, Takes-then, Codec, Codec-as, Codec-made, Codec-led_by, Codec-both}
 use Rattle.eve_grammar.proofs.Codec.{Codec-only}
 
@@ -74,7 +75,7 @@ Codec-wide n wide = record {
       let same : big_number n (take n bytes) ≡ big_number n bytes = big_from-take 0 n n bytes (omega arith) in
       let front : big_bytes n (big_number n bytes) ≡ take n bytes = ap (big_bytes n) (sym same)
       ∙ wide.back (take n bytes) (omega (arith, length-take n bytes)) (IsBytes-take n bytes fits) in
-      subst (λ (y : ℕ × List ℕ). Takes bytes (big_bytes n y.0) y.1 × IsTrue (is_number n y.0)) (some_is there x g.1) (
+      subst (λ (y : ℕ × List ℕ). Takes bytes (big_bytes n y.0) y.1 × IsTrue (is_number n y.0)) (same_Some there x g.1) (
         record { parts = rw front (sym (take-append-drop n bytes)); rest_fits = IsBytes-drop n bytes fits },
         lt-ltb _ _ (big_from-lt 0 n bytes fits),
       );
@@ -117,7 +118,7 @@ Codec-bytes n = record {
       let g = guard_none (ltb (length bytes) n) (Some there) x e in
       let long : n ≤ length bytes = ltb-false _ _ g.0 in
       let len : length (take n bytes) ≡ n = omega (arith, length-take n bytes) in
-      subst (λ (y : List ℕ × List ℕ). Takes bytes y.0 y.1 × IsTrue (are_bytes n y.0)) (some_is there x g.1) (
+      subst (λ (y : List ℕ × List ℕ). Takes bytes y.0 y.1 × IsTrue (are_bytes n y.0)) (same_Some there x g.1) (
         record { parts = sym (take-append-drop n bytes); rest_fits = IsBytes-drop n bytes fits },
         and_from (eqb (length (take n bytes)) n) (list_all (is_number 1) (take n bytes)) (eq-eqb _ _ len)
             (all_bytes (take n bytes) (IsBytes-take n bytes fits)),

@@ -5,6 +5,7 @@ use Rattle.std.proofs.Common.{◌⊎◌, List, ◌++◌, length, Some, None, ref
 use Rattle.std.specs.Prelude.{IsTrue, codes}
 use Rattle.std.proofs.lemmas.Bool.{ltb-true, lt-ltb, leb-true, eqb-true, and_parts, and_from}
 use Rattle.std.proofs.lemmas.List.{nil_from_length}
+use Rattle.std.proofs.lemmas.Option.{same_Some}
 use Rattle.byteorder.specs.Endian.{big_bytes}
 use Rattle.eve_grammar.specs.Trace.{Head}
 use Rattle.eve_grammar.specs.Frames.{Frame, OfCustomer, OfBatch, OfReplica, OfAttempt, OfAccess, OfCommit, OfRollback}
@@ -14,7 +15,7 @@ use Rattle.eve_grammar.specs.Spelling.{body_text, head_text}
 use Rattle.eve_grammar.specs.Reading.{number_at, both, made, only, behind, customer_of, batch_of, number_of, attempt_of}
 use Rattle.eve_grammar.specs.Reading.{access_of, commit_of, rollback_of, vote_of, sent_of, body_of, head_from}
 use Rattle.eve_grammar.specs.Reading.{header_of}
-use Rattle.eve_grammar.proofs.Codec.{IsBytes, bind_some, guard_some, some_is, Codec, Codec-as, Codec-made, Codec-both}
+use Rattle.eve_grammar.proofs.Codec.{IsBytes, bind_some, guard_some, Codec, Codec-as, Codec-made, Codec-both}
 use Rattle.eve_grammar.proofs.Codec.{Codec-only, whole_takes, whole_again}
 use Rattle.eve_grammar.proofs.FieldCodecs.{Codec-number1, Codec-number2, Codec-number3, Codec-number4, Codec-behind}
 use Rattle.eve_grammar.proofs.PartCodecs.{chosen}
@@ -149,7 +150,7 @@ body_of-takes h p kind body f right fits e =
           let a = bind_some (customer_of body) (λ c. Some (OfCustomer c)) f c.1 in
           let t = Exact-customer.takes body a.0 fits a.1 in
           at_kind h p body kind 1 f c.0
-          (subst (BodyOf h p 1 body) (some_is (OfCustomer a.0) f a.2)
+          (subst (BodyOf h p 1 body) (same_Some (OfCustomer a.0) f a.2)
           (record { kind_is = refl; text = t.0; fits = t.1 }))
       | inr c ↦ elim (chosen (eqb kind 2) _ _ (Some f) c.1) [
         | inl c ↦
@@ -158,7 +159,7 @@ body_of-takes h p kind body f right fits e =
             let g = guard_some (eqb a.0.0 (p.batches + 1)) _ f a.2 in
             let t = Exact-batch.takes body a.0 fits a.1 in
             at_kind h p body kind 2 f c.0
-            (subst (BodyOf h p 2 body) (some_is (OfBatch a.0.0 a.0.1) f g.1)
+            (subst (BodyOf h p 2 body) (same_Some (OfBatch a.0.0 a.0.1) f g.1)
             (record {
               kind_is = refl;
               text = t.0;
@@ -171,14 +172,14 @@ body_of-takes h p kind body f right fits e =
               let g = guard_some (eqb a.0 p.replicas) _ f a.2 in
               let t = Exact-number.takes body a.0 fits a.1 in
               at_kind h p body kind 16 f c.0
-              (subst (BodyOf h p 16 body) (some_is (OfReplica a.0) f g.1)
+              (subst (BodyOf h p 16 body) (same_Some (OfReplica a.0) f g.1)
               (record { kind_is = refl; text = t.0; fits = g.0 }))
           | inr c ↦ elim (chosen (eqb kind 17) _ _ (Some f) c.1) [
             | inl c ↦
                 let a = bind_some (attempt_of body) (λ a. Some (OfAttempt a)) f c.1 in
                 let t = Exact-attempt.takes body a.0 fits a.1 in
                 at_kind h p body kind 17 f c.0
-                (subst (BodyOf h p 17 body) (some_is (OfAttempt a.0) f a.2)
+                (subst (BodyOf h p 17 body) (same_Some (OfAttempt a.0) f a.2)
                 (record { kind_is = refl; text = t.0; fits = t.1 }))
             | inr c ↦ elim (chosen (eqb kind 18) _ _ (Some f) c.1) [
               | inl c ↦
@@ -186,21 +187,21 @@ body_of-takes h p kind body f right fits e =
                   let few = few_rows h right in
                   let t = (Exact-access (row_count h) (omega arith)).takes body a.0 fits a.1 in
                   at_kind h p body kind 18 f c.0
-                  (subst (BodyOf h p 18 body) (some_is (OfAccess a.0) f a.2)
+                  (subst (BodyOf h p 18 body) (same_Some (OfAccess a.0) f a.2)
                   (record { kind_is = refl; text = t.0; fits = t.1 }))
               | inr c ↦ elim (chosen (eqb kind 19) _ _ (Some f) c.1) [
                 | inl c ↦
                     let a = bind_some (commit_of body) (λ c. Some (OfCommit c)) f c.1 in
                     let t = Exact-commit.takes body a.0 fits a.1 in
                     at_kind h p body kind 19 f c.0
-                    (subst (BodyOf h p 19 body) (some_is (OfCommit a.0) f a.2)
+                    (subst (BodyOf h p 19 body) (same_Some (OfCommit a.0) f a.2)
                     (record { kind_is = refl; text = t.0; fits = t.1 }))
                 | inr c ↦ elim (chosen (eqb kind 20) _ _ (Some f) c.1) [
                   | inl c ↦
                       let a = bind_some (rollback_of (row_count h) body) (λ r. Some (OfRollback r)) f c.1 in
                       let t = (Exact-rollback (row_count h) (few_rows h right)).takes body a.0 fits a.1 in
                       at_kind h p body kind 20 f c.0
-                      (subst (BodyOf h p 20 body) (some_is (OfRollback a.0) f a.2)
+                      (subst (BodyOf h p 20 body) (same_Some (OfRollback a.0) f a.2)
                       (record { kind_is = refl; text = t.0; fits = t.1 }))
                   | inr c ↦ elim (chosen (eqb kind 32) _ _ (Some f) c.1) [
                     | inl c ↦
@@ -209,7 +210,7 @@ body_of-takes h p kind body f right fits e =
                         let g = guard_some (eqb a.0 p.verifiers) _ f a.2 in
                         let t = Exact-number.takes body a.0 fits a.1 in
                         at_kind h p body kind 32 f c.0
-                        (subst (BodyOf h p 32 body) (some_is (OfVerifier a.0) f g.1)
+                        (subst (BodyOf h p 32 body) (same_Some (OfVerifier a.0) f g.1)
                         (record { kind_is = refl; text = t.0; fits = g.0 }))
                     | inr c ↦ elim (chosen (eqb kind 33) _ _ (Some f) c.1) [
                       | inl c ↦
@@ -217,7 +218,7 @@ body_of-takes h p kind body f right fits e =
                           let s = (small_head h right).batches in
                           let t = (Exact-vote h.batches (omega arith)).takes body a.0 fits a.1 in
                           at_kind h p body kind 33 f c.0
-                          (subst (BodyOf h p 33 body) (some_is (OfVote a.0) f a.2)
+                          (subst (BodyOf h p 33 body) (same_Some (OfVote a.0) f a.2)
                           (record { kind_is = refl; text = t.0; fits = t.1 }))
                       | inr c ↦ elim (chosen (eqb kind 48) _ _ (Some f) c.1) [
                         | inl c ↦
@@ -226,13 +227,13 @@ body_of-takes h p kind body f right fits e =
                             let t = (Exact-sent h.replicas h.batches (let x = s.replicas in omega arith)
                             (let x = s.batches in omega arith)).takes body a.0 fits a.1 in
                             at_kind h p body kind 48 f c.0
-                            (subst (BodyOf h p 48 body) (some_is (OfSent a.0) f a.2)
+                            (subst (BodyOf h p 48 body) (same_Some (OfSent a.0) f a.2)
                             (record { kind_is = refl; text = t.0; fits = t.1 }))
                         | inr c ↦
                             let g = guard_some (eqb kind 127) _ f c.1 in
                             let n = guard_some (eqb (length body) 0) _ f g.1 in
                             at_kind h p body kind 127 f g.0
-                            (subst (BodyOf h p 127 body) (some_is End f n.1)
+                            (subst (BodyOf h p 127 body) (same_Some End f n.1)
                             (record {
                               kind_is = refl;
                               text = nil_from_length body (eqb-true _ _ n.0);

@@ -12,9 +12,10 @@ use Rattle.eve_grammar.specs.Kinds.{kind_byte, BeginsNone}
 pub other_byte : (byte : ℕ) → BeginsNone byte → (kind : FrameKind) → (byte == kind_byte kind) ≡ false
 other_byte byte none kind = ne_eqb byte (kind_byte kind) (λ e. none kind (sym e))
 
-off : (x : Bool) → ((x && false) || false) ≡ false
-off true = refl
-off false = refl
+-- what the tests in the sections come to for a kind that stands elsewhere
+pub sections_none : (q : Bool) → ((q && false) || false) ≡ false
+sections_none true = refl
+sections_none false = refl
 
 both_off : (x y : Bool) → ((x && false) || (y && false)) ≡ false
 both_off true true = refl
@@ -25,7 +26,7 @@ both_off false false = refl
 none_in_sections : (h : Head) (p : Place) (byte : ℕ) → BeginsNone byte → is_allowed_in_sections h p byte ≡ false
 none_in_sections h p byte none =
     let other = other_byte byte none in
-    rw (other of.Replica, other of.Attempt, other of.Commit, other of.Rollback, other of.Verifier) (off _)
+    rw (other of.Replica, other of.Attempt, other of.Commit, other of.Rollback, other of.Verifier) (sections_none _)
 
 none_behind : (h : Head) (p : Place) (byte : ℕ) → BeginsNone byte → is_allowed_behind_sections h p byte ≡ false
 none_behind h p byte none =

@@ -4,6 +4,7 @@ use Rattle.std.proofs.Common.{sym, ap, subst, ◌∙◌, append_assoc, arith}
 use Rattle.std.specs.Prelude.{IsTrue, slice_index}
 use Rattle.std.proofs.lemmas.Bool.{lt-ltb}
 use Rattle.std.proofs.lemmas.List.{take_at, drop_at}
+use Rattle.std.proofs.lemmas.Option.{same_Some}
 use Rattle.byteorder.specs.Endian.{big_bytes}
 use Rattle.eve_grammar.specs.Trace.{Trace, Head, head_of}
 use Rattle.eve_grammar.specs.Frames.{Frame, kind_of, Place, start_place, next_place, frames_of}
@@ -12,7 +13,6 @@ use Rattle.eve_grammar.specs.Limits.{is_head, FitsAt, Spells}
 use Rattle.eve_grammar.specs.Following.{Follow, after, AreAllFrames}
 use Rattle.eve_grammar.specs.Reading.{number_at, body_of, header_of}
 use Rattle.eve_grammar.specs.Gathering.{trace_of}
-use Rattle.eve_grammar.proofs.Codec.{some_is}
 use Rattle.eve_grammar.proofs.FieldCodecs.{Codec-number4}
 use Rattle.eve_grammar.proofs.FrameLaws.{limits_text, Exact-header, body_of-again}
 use Rattle.eve_grammar.proofs.HeaderParts.{in_parts, header_parts, length-limits_text, behind_magic, behind_total}
@@ -36,7 +36,7 @@ same_part a x b y a_short b_short e =
     Codec-number4.again (length b) (b ++ y) (lt-ltb (length b) (256 ^ 4) (omega arith)) in
     let one : ℕ × List ℕ = (length a, a ++ x) in
     let other : ℕ × List ℕ = (length b, b ++ y) in
-    let same : one ≡ other = some_is one other (sym first ∙ ap (number_at 4) e ∙ second) in
+    let same : one ≡ other = same_Some one other (sym first ∙ ap (number_at 4) e ∙ second) in
     let long : length a ≡ length b = ap (λ (p : ℕ × List ℕ). p.0) same in
     let text : a ++ x ≡ b ++ y = ap (λ (p : ℕ × List ℕ). p.1) same in
     record {
@@ -62,7 +62,7 @@ same_frame h p f g rest more right f_fits g_fits e =
     let one : body_of h p (kind_of f) (body_text f) ≡ Some f = body_of-again h p f right f_fits in
     let other : body_of h p (kind_of g) (body_text g) ≡ Some g = body_of-again h p g right g_fits in
     record {
-      frame = some_is f g (sym one ∙ ap (λ (k : ℕ). body_of h p k (body_text f)) kind
+      frame = same_Some f g (sym one ∙ ap (λ (k : ℕ). body_of h p k (body_text f)) kind
           ∙ ap (body_of h p (kind_of g)) tail.part ∙ other);
       behind = tail.rest;
     }
@@ -100,7 +100,7 @@ same_head h k n m rest more h_right k_right e =
     sym (take_at (limits_text h) (big_bytes 8 n ++ rest) 18 (length-limits_text h))
     ∙ ap (take 18) (sym (behind_magic h n rest) ∙ ap (drop 6) e ∙ behind_magic k m more)
     ∙ take_at (limits_text k) (big_bytes 8 m ++ more) 18 (length-limits_text k) in
-    some_is h k (sym (Exact-header.again h h_right) ∙ ap header_of texts ∙ Exact-header.again k k_right)
+    same_Some h k (sym (Exact-header.again h h_right) ∙ ap header_of texts ∙ Exact-header.again k k_right)
 
 -- ---- the whole
 

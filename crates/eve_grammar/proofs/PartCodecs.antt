@@ -5,6 +5,7 @@ use Rattle.std.specs.Prelude.{IsTrue}
 use Rattle.std.specs.Ordering.{int_eq}
 use Rattle.std.proofs.lemmas.Bool.Decides.{Decides-int_eq}
 use Rattle.std.proofs.lemmas.Bool.{ltb-true, lt-ltb, leb-true, eqb-true, eq-eqb, and_parts, and_from}
+use Rattle.std.proofs.lemmas.Option.{same_Some}
 use Rattle.byteorder.specs.Endian.{big_bytes}
 use Rattle.eve_accounts.specs.Money.{is_balance}
 use Rattle.eve_accounts.specs.Names.{is_name}
@@ -17,13 +18,14 @@ use Rattle.eve_smallbank.specs.declared.entry.Kind.{Kind}
 use Rattle.eve_smallbank.specs.declared.entry.Kind.TheVariants.{Read, Write}
 use Rattle.eve_smallbank.specs.declared.entry.Entry.{Entry}
 use Rattle.eve_grammar.specs.Trace.{Asked, Restore}
-use Rattle.eve_grammar.specs.Limits.{is_number, is_request, is_asked, is_reply, version_limit, is_entry, is_restore}
+use Rattle.eve_grammar.specs.declared.limits.TheConstants.{MOST_VERSIONS}
+use Rattle.eve_grammar.specs.Limits.{is_number, is_request, is_asked, is_reply, is_entry, is_restore}
 use Rattle.eve_grammar.specs.Spelling.{name_text, request_text, asked_text, kind_code, entry_text, restore_text}
 use Rattle.eve_grammar.specs.Reading.{Reader, number_at, signed_at, both, made, made_if, only, name_at, move_at}
 use Rattle.eve_grammar.specs.Reading.{coded_at, request_at, asked_from, asked_at, plain_reply, reply_from, reply_at}
 use Rattle.eve_grammar.specs.Reading.{kind_from, entry_from, entry_fields_at, entry_at, restore_from, restore_fields_at}
 use Rattle.eve_grammar.specs.Reading.{restore_at}
-use Rattle.eve_grammar.proofs.Codec.{IsBytes, bind_some, guard_some, some_is, Takes, Codec, Codec-as, Codec-made}
+use Rattle.eve_grammar.proofs.Codec.{IsBytes, bind_some, guard_some, Takes, Codec, Codec-as, Codec-made}
 use Rattle.eve_grammar.proofs.Codec.{Codec-made_if, Codec-led_by, Codec-both, Codec-only}
 use Rattle.eve_grammar.proofs.FieldCodecs.{Codec-number1, Codec-number4, Codec-number8, is_signed, Codec-signed}
 use Rattle.eve_grammar.proofs.FieldCodecs.{balance_signed, Codec-name, move_text, is_move, Codec-move}
@@ -81,7 +83,7 @@ alternative {A = A} ta fa ra one code n known to is bytes x fits e =
     let right : IsTrue (is_request (to a.0.0)) = is.is_fit a.0.0 ∙ t.1 in
     let code_is : IsTrue (eqb (code_of (to a.0.0)) code) = eq-eqb _ _ (is.is_code a.0.0 ∙ sym (eqb-true code n known))
     in
-    subst (λ (y : Request × List ℕ). Coded code bytes y) (some_is there x a.2)
+    subst (λ (y : Request × List ℕ). Coded code bytes y) (same_Some there x a.2)
     (text, and_from (eqb (code_of (to a.0.0)) code) (is_request (to a.0.0)) code_is right)
 
 coded_takes : (code : ℕ) (bytes : List ℕ) (x : Request × List ℕ) → IsBytes bytes → coded_at code bytes ≡ Some x
@@ -183,7 +185,7 @@ coded_reply code value r = (reply_parts r ≡ (code, value)) × IsTrue (is_reply
 plain_back : (code n : ℕ) (value : ℤ) (s r : Reply) → eqb code n ≡ true → value ≡ pos 0 → reply_parts s ≡ (n, pos 0)
     → IsTrue (is_reply s) → Some s ≡ Some r → coded_reply code value r
 plain_back code n value s r known zero_is parts fits e =
-    subst (λ (r : Reply). coded_reply code value r) (some_is s r e) (
+    subst (λ (r : Reply). coded_reply code value r) (same_Some s r e) (
       parts ∙ ap (λ (p : ℕ). (p, pos 0)) (sym (eqb-true code n known)) ∙ ap (λ (v : ℤ). (code, v)) (sym zero_is),
       fits,
     )
@@ -197,7 +199,7 @@ reply_back p r fits e =
     elim (chosen (eqb p.0 1) _ _ (Some r) e) [
       | inl q ↦
           let signed = (and_parts (is_number 1 p.0) (is_signed p.1) fits).1 in
-          subst (λ (r : Reply). coded_reply p.0 p.1 r) (some_is (Total p.1) r q.1)
+          subst (λ (r : Reply). coded_reply p.0 p.1 r) (same_Some (Total p.1) r q.1)
           (ap (λ (k : ℕ). (k, p.1)) (sym (eqb-true p.0 1 q.0)), signed)
       | inr q ↦
           let g = guard_some (int_eq p.1 (pos 0)) (plain_reply p.0) r q.1 in
@@ -258,9 +260,9 @@ kind_back : (code : ℕ) (k : Kind) → IsTrue (is_number 1 code) → kind_from 
     × IsTrue true
 kind_back code k fits e =
     elim (chosen (eqb code 0) _ _ (Some k) e) [
-      | inl p ↦ (ap kind_code (sym (some_is Read k p.1)) ∙ sym (eqb-true code 0 p.0), refl)
+      | inl p ↦ (ap kind_code (sym (same_Some Read k p.1)) ∙ sym (eqb-true code 0 p.0), refl)
       | inr p ↦ let g = guard_some (eqb code 1) _ k p.1 in
-          (ap kind_code (sym (some_is Write k g.1)) ∙ sym (eqb-true code 1 g.0), refl)
+          (ap kind_code (sym (same_Some Write k g.1)) ∙ sym (eqb-true code 1 g.0), refl)
     ]
 
 kind_forth : (k : Kind) → IsTrue true → (kind_from (kind_code k) ≡ Some k) × IsTrue (is_number 1 (kind_code k))
@@ -305,7 +307,7 @@ Codec-entry_fields =
     (Codec-both money_text is_signed signed_at money_text is_signed signed_at Codec-signed Codec-signed))))
 
 -- the versions that may be written have eight bytes
-version_below : (n : ℕ) → IsTrue (leb n version_limit) → IsTrue (is_number 8 n)
+version_below : (n : ℕ) → IsTrue (leb n MOST_VERSIONS) → IsTrue (is_number 8 n)
 version_below n fits = let h = leb-true n (2 ^ 40) fits in lt-ltb n (256 ^ 8) (omega arith)
 
 row_below : (rows row : ℕ) → rows ≤ 2 ^ 32 → IsTrue (ltb row rows) → IsTrue (is_number 4 row)
@@ -314,7 +316,7 @@ row_below rows row few fits = let h = ltb-true row rows fits in lt-ltb row (256 
 entry_written : (rows : ℕ) → rows ≤ 2 ^ 32 → (e : Entry) → IsTrue (is_entry rows e) → IsTrue (is_written e)
 entry_written rows few e fits =
     let a = and_parts (ltb e.row rows) _ fits in
-    let b = and_parts (leb e.version version_limit) _ a.1 in
+    let b = and_parts (leb e.version MOST_VERSIONS) _ a.1 in
     let c = and_parts (is_balance e.seen) _ b.1 in
     let d = and_parts (is_balance e.after) _ c.1 in
     and_from (is_number 4 e.row) (true && (is_number 8 e.version && are_values (e.seen, e.after)))
@@ -356,7 +358,7 @@ Codec-restore_fields =
 restore_written : (rows : ℕ) → rows ≤ 2 ^ 32 → (r : Restore) → IsTrue (is_restore rows r) → IsTrue (is_restored r)
 restore_written rows few r fits =
     let a = and_parts (ltb r.row rows) _ fits in
-    let b = and_parts (leb r.version version_limit) _ a.1 in
+    let b = and_parts (leb r.version MOST_VERSIONS) _ a.1 in
     and_from (is_number 4 r.row) (is_number 8 r.version && is_signed r.value) (row_below rows r.row few a.0)
     (and_from (is_number 8 r.version) (is_signed r.value) (version_below r.version b.0)
     (balance_signed r.value b.1))

@@ -4,6 +4,7 @@ use Rattle.std.proofs.Common.{length, drop, sum, Option, Some, None, refl, sym, 
 use Rattle.std.specs.List.{list_all}
 use Rattle.std.proofs.lemmas.Bool.{le-leb, ltb-false, leb-true, and_parts, and_from}
 use Rattle.std.proofs.lemmas.List.{length-drop}
+use Rattle.std.proofs.lemmas.Option.{same_Some}
 use Rattle.eve_smallbank.specs.declared.request.Reply.{Reply}
 use Rattle.eve_grammar.specs.Trace.{Restore}
 use Rattle.eve_grammar.specs.Limits.{is_between, is_rising}
@@ -11,9 +12,9 @@ use Rattle.eve_grammar.specs.Reading.{◌>>=◌, Reader, number_at, both, many_a
 use Rattle.eve_grammar.specs.Reading.{sizes_at}
 use Rattle.eve_grammar.specs.Reading.{certified_at, restores_at, Gives}
 use Rattle.eve_grammar.specs.Scanning.{Passes, total_at, rest_at, rising_at}
-use Rattle.eve_grammar.proofs.Codec.{bind_some, guard_some, some_is}
+use Rattle.eve_grammar.proofs.Codec.{bind_some, guard_some}
 use Rattle.eve_grammar.proofs.Scans.{rest_some, rest_none, many_length, many_numbers, summed, total_is, risen}
-use Rattle.eve_grammar.proofs.Scans.{rising_is}
+use Rattle.eve_grammar.proofs.Scans.{rising_is, counted}
 use Rattle.eve_grammar.proofs.Scans.{is_rising_from, rising_from_zero}
 use Rattle.eve_grammar.proofs.Loops.{rest_short}
 
@@ -57,7 +58,7 @@ restores_passed view (Some x) rows count bytes restores read e =
     (view x) (sym (rising_is rows 0 count restores) ∙ e) in
     let g = guard_some (is_rising_from 0 r.0.0) (Some r.0.1) (view x) r.2 in
     let rising : is_rising r.0.0 ≡ true = sym (rising_from_zero r.0.0) ∙ g.0 in
-    let same : r.0.1 ≡ view x = some_is r.0.1 (view x) g.1 in
+    let same : r.0.1 ≡ view x = same_Some r.0.1 (view x) g.1 in
     (r.0.0, restores_are rows count bytes restores r.0.1 (view x) r.0.0 read r.1 rising same)
 restores_passed view None rows count bytes restores read e =
     rw read (by (many_at (restore_at rows) count restores) (sym (rising_is rows 0 count restores) ∙ e))
@@ -73,9 +74,6 @@ restores_passed view None rows count bytes restores read e =
     by (Some x) e = all x.0 x.1 (is_rising_from 0 x.0) refl e
 
 -- ---- certificates and replies
-
-abbrev some_number : ℕ → List ℕ → Option (ℕ × List ℕ)
-some_number n rest = Some (n, rest)
 
 -- a certificate of a right length, and its replies
 pub certified_passed : (count : ℕ) (bytes rest behind : List ℕ) (replies : List Reply)
@@ -114,7 +112,7 @@ unfolding certified_at
 after_count count bytes rest read none = rw read (by (is_between 1 256 count) refl)
   where
     by : (b : Bool) → is_between 1 256 count ≡ b
-        → (cond b (some_number count rest) None >>= λ x. both (many_at (number_at 2) x.0) (many_at reply_at x.0) x.1)
+        → (cond b (counted count rest) None >>= λ x. both (many_at (number_at 2) x.0) (many_at reply_at x.0) x.1)
         ≡ None
     by true e = let p = and_parts (leb 1 count) (leb count 256) e in
         none (leb-true 1 count p.0) (leb-true count 256 p.1)
@@ -158,12 +156,12 @@ sizes_passed count total bytes rest behind read low high e =
     (total, behind) (sym (total_is count rest) ∙ e) in
     let there : ℕ × List ℕ = (sum r.0.0, r.0.1) in
     let g = guard_some (list_all (leb 1) r.0.0) (Some there) (total, behind) r.2 in
-    let same = some_is there (total, behind) g.1 in
+    let same = same_Some there (total, behind) g.1 in
     let sum_same : sum r.0.0 ≡ total = ap (λ (x : ℕ × List ℕ). x.0) same in
     let rest_same : r.0.1 ≡ behind = ap (λ (x : ℕ × List ℕ). x.1) same in
-    let counted : length r.0.0 ≡ count = many_length (number_at 2) count rest r.0 r.1 in
+    let as_many : length r.0.0 ≡ count = many_length (number_at 2) count rest r.0 r.1 in
     let test : are_sizes r.0.0 ≡ true = and_from (leb 1 (length r.0.0)) (list_all (leb 1) r.0.0 && leb (sum r.0.0) 256)
-    (le-leb 1 (length r.0.0) (omega (arith, counted)))
+    (le-leb 1 (length r.0.0) (omega (arith, as_many)))
     (and_from (list_all (leb 1) r.0.0) (leb (sum r.0.0) 256) g.0 (le-leb (sum r.0.0) 256 (omega (arith, sum_same))))
     in (r.0.0, sizes_are count bytes rest r.0.1 behind r.0.0 read r.1 test rest_same, sum_same)
 
@@ -173,7 +171,7 @@ pub sizes_none : (count : ℕ) (bytes rest : List ℕ) → number_at 2 bytes ≡
 unfolding sizes_at
 sizes_none count bytes rest read e = rw read (by (many_at (number_at 2) count rest) (sym (total_is count rest) ∙ e))
   where
-    all : (s rest : List ℕ) (b : Bool) → list_all (leb 1) s ≡ b → cond b (some_number (sum s) rest) None ≡ None
+    all : (s rest : List ℕ) (b : Bool) → list_all (leb 1) s ≡ b → cond b (counted (sum s) rest) None ≡ None
         → cond (are_sizes s) (some_sizes s rest) None ≡ None
     all s rest true e f = absurd cc
     all s rest false e f = first (leb 1 (length s))
@@ -195,9 +193,9 @@ sizes_wrong count total bytes rest behind read e wrong =
     (total, behind) (sym (total_is count rest) ∙ e) in
     let there : ℕ × List ℕ = (sum r.0.0, r.0.1) in
     let g = guard_some (list_all (leb 1) r.0.0) (Some there) (total, behind) r.2 in
-    let sum_same : sum r.0.0 ≡ total = ap (λ (x : ℕ × List ℕ). x.0) (some_is there (total, behind) g.1) in
-    let counted : length r.0.0 ≡ count = many_length (number_at 2) count rest r.0 r.1 in
-    rw (read, r.1) (by r.0 r.0.0 (leb 1 count) (leb total 256) (ap (leb 1) counted) g.0
+    let sum_same : sum r.0.0 ≡ total = ap (λ (x : ℕ × List ℕ). x.0) (same_Some there (total, behind) g.1) in
+    let as_many : length r.0.0 ≡ count = many_length (number_at 2) count rest r.0 r.1 in
+    rw (read, r.1) (by r.0 r.0.0 (leb 1 count) (leb total 256) (ap (leb 1) as_many) g.0
     (ap (λ (k : ℕ). leb k 256) sum_same) wrong)
   where
     by : {X : Type 0} (x : X) (s : List ℕ) (a b : Bool) → leb 1 (length s) ≡ a → list_all (leb 1) s ≡ true

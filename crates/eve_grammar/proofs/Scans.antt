@@ -6,12 +6,13 @@ use Rattle.std.specs.List.{flat_map, list_all}
 use Rattle.std.proofs.lemmas.Bool.{and_parts, and_from, le-ltb, leb-true, le-leb}
 use Rattle.std.proofs.lemmas.List.{length-append, length-drop, drop-drop}
 use Rattle.std.proofs.lemmas.List.Sums.{sum_by-cons}
+use Rattle.std.proofs.lemmas.Option.{same_Some}
 use Rattle.byteorder.specs.Endian.{big_number}
 use Rattle.eve_grammar.specs.Trace.{Restore}
 use Rattle.eve_grammar.specs.Limits.{is_rising}
 use Rattle.eve_grammar.specs.Reading.{◌>>=◌, Reader, number_at, many_at, restore_at}
 use Rattle.eve_grammar.specs.Scanning.{total_at, rest_at, rising_at}
-use Rattle.eve_grammar.proofs.Codec.{bind_some, some_is}
+use Rattle.eve_grammar.proofs.Codec.{bind_some}
 
 -- ---- this many of a field
 
@@ -40,7 +41,7 @@ rest_some {A = A} one n bytes rest e = by (many_at one n bytes) (sym (rest_is on
   where
     by : (m : Option (List A × List ℕ)) → (m >>= λ x. Some x.1) ≡ Some rest → (xs : List A) × (m ≡ Some (xs, rest))
     by None e = absurd cc
-    by (Some x) e = (x.0, ap (λ (r : List ℕ). Some (x.0, r)) (some_is x.1 rest e))
+    by (Some x) e = (x.0, ap (λ (r : List ℕ). Some (x.0, r)) (same_Some x.1 rest e))
 
 pub rest_none : {A : Type 0} (one : Reader A) (n : ℕ) (bytes : List ℕ) → rest_at one n bytes ≡ None
     → many_at one n bytes ≡ None
@@ -54,12 +55,12 @@ pub many_length : {A : Type 0} (one : Reader A) (n : ℕ) (bytes : List ℕ) (x 
     ≡ Some x → length x.0 ≡ n
 unfolding many_at
 many_length {A = A} one zero bytes x e = let there : List A × List ℕ = ([], bytes) in
-    ap (λ (y : List A × List ℕ). length y.0) (sym (some_is there x e))
+    ap (λ (y : List A × List ℕ). length y.0) (sym (same_Some there x e))
 many_length {A = A} one (suc n) bytes x e =
     let a = bind_some (one bytes) (λ a. many_at one n a.1 >>= λ y. Some (a.0 ∷ y.0, y.1)) x e in
     let b = bind_some (many_at one n a.0.1) (λ y. Some (a.0.0 ∷ y.0, y.1)) x a.2 in
     let there : List A × List ℕ = (a.0.0 ∷ b.0.0, b.0.1) in
-    ap (λ (y : List A × List ℕ). length y.0) (sym (some_is there x b.2)) ∙ ap suc (many_length one n a.0.1 b.0 b.1)
+    ap (λ (y : List A × List ℕ). length y.0) (sym (same_Some there x b.2)) ∙ ap suc (many_length one n a.0.1 b.0 b.1)
 
 -- ---- of a fixed length
 
@@ -83,7 +84,7 @@ many_numbers (suc n) bytes le =
 
 -- ---- sizes
 
-abbrev counted : ℕ → List ℕ → Option (ℕ × List ℕ)
+abbrev pub counted : ℕ → List ℕ → Option (ℕ × List ℕ)
 counted n rest = Some (n, rest)
 
 -- the sum of sizes, if none is 0

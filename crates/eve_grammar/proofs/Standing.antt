@@ -5,6 +5,7 @@ use Rattle.std.specs.Prelude.{IsTrue, nat_lt, ◌==◌}
 use Rattle.std.proofs.lemmas.Bool.{both_ways, and_parts, and_right, eqb-false, not-true}
 use Rattle.eve_grammar.specs.Trace.{Head}
 use Rattle.eve_grammar.specs.Frames.{Place, is_allowed_in_sections, is_allowed_behind_sections, is_allowed}
+use Rattle.eve_grammar.proofs.KindBytes.{sections_none}
 
 -- ---- tests one after another
 
@@ -28,11 +29,7 @@ or_second : (x y : Bool) → x ≡ false → IsTrue (x || y) → IsTrue y
 or_second true y e t = absurd (both_ways true e refl)
 or_second false y e t = t
 
--- what the tests in the sections, after them, and in either come to for a kind that stands elsewhere
-sections_none : (q : Bool) → ((q && false) || false) ≡ false
-sections_none true = refl
-sections_none false = refl
-
+-- what the tests after the sections, and in either part, come to for a kind that stands elsewhere
 votes_none : (s w : Bool) → ((not s && false) || (w && false)) ≡ false
 votes_none true w = and_right w false refl
 votes_none false w = and_right w false refl

@@ -64,14 +64,10 @@ is_batch b =
     nat_le 1 (length b.sizes) && (list_all (nat_le 1) b.sizes && (nat_le (sum b.sizes) MOST_REQUESTS
     && ((length b.requests == sum b.sizes) && list_all is_asked b.requests)))
 
--- the greatest version of a row
-abbrev pub version_limit : ℕ
-version_limit = MOST_VERSIONS
-
 -- an entry of one of this many rows; a read leaves what it saw
 abbrev pub is_entry : ℕ → Entry → Bool
 is_entry rows e =
-    nat_lt e.row rows && (nat_le e.version version_limit
+    nat_lt e.row rows && (nat_le e.version MOST_VERSIONS
     && (is_balance e.seen && (is_balance e.after && (is_write e.kind || int_eq e.after e.seen))))
 
 -- numbers of one and two bytes, and no more entries than a request may have
@@ -98,7 +94,7 @@ is_commit c = is_number 4 c.seq && (is_number 4 c.view && is_token c.token)
 
 -- one of this many rows, within the limits
 abbrev pub is_restore : ℕ → Restore → Bool
-is_restore rows r = nat_lt r.row rows && (nat_le r.version version_limit && is_balance r.value)
+is_restore rows r = nat_lt r.row rows && (nat_le r.version MOST_VERSIONS && is_balance r.value)
 
 -- each row is below the rows after it
 abbrev pub is_rising : List Restore → Bool

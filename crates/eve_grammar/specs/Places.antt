@@ -1,7 +1,11 @@
--- What stands at a place of bytes.
-use Rattle.std.specs.Prelude.{ℕ, ℤ, List, drop}
+-- Bytes, and what stands at a place of them.
+use Rattle.std.specs.Prelude.{ℕ, ◌<◌, ℤ, List, drop, get_or}
 use Rattle.std.specs.Int.{w64, cast_signed}
 use Rattle.byteorder.specs.Endian.{big_number}
+
+-- each is a byte
+abbrev pub IsBytes : List ℕ → Type 0
+IsBytes bytes = (i : ℕ) → get_or bytes i 0 < 256
 
 -- the bytes from a place on
 unfoldable pub bytes_from : ℕ → List ℕ → List ℕ

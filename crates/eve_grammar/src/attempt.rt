@@ -32,7 +32,7 @@ fn pass_replies(count: u16, bytes: &[u8]) -> Option<&[u8]>
     Some(rest)
 }
 
-/// A count of 1 to `MOST_REQUESTS`, and what stands after a certificate of as many indices and as many replies.
+/// A count of 1 to `MOST_REQUESTS`, and what stands after a certificate of as many indexes and as many replies.
 #[tactic(auto, unfolding(crate::specs::Reading::certified_at))]
 fn pass_certified(bytes: &[u8]) -> Option<(u16, &[u8])>
     ensures { Measures (λ x. (x.0, x.1.now)) (λ c. length c.0) result (certified_at bytes.now) }
@@ -47,7 +47,7 @@ fn pass_certified(bytes: &[u8]) -> Option<(u16, &[u8])>
     Some((count, behind))
 }
 
-/// How many indices the certificate has in the body of an Attempt frame that these bytes are, and no more; `None`
+/// How many indexes the certificate has in the body of an Attempt frame that these bytes are, and no more; `None`
 /// where they are no such body.
 ///
 /// docs/TRACE.md, "Frames". As many Access frames follow: 1 to `MOST_REQUESTS`.

@@ -8,7 +8,7 @@ ghost use Rattle.eve_grammar.specs.Groups.{AreGroupNumbers};
 use crate::limits::MOST_REQUESTS;
 
 /// Whether each number below their count stands in the order once.
-pub fn is_permutation(order: &[u16]) -> bool
+pub(crate) fn is_permutation(order: &[u16]) -> bool
     requires { length order.now ≤ MOST_REQUESTS }
     ensures { result ≡ is_permutation (length order.now) order.now }
 {

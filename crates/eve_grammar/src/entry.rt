@@ -47,7 +47,7 @@ fn agree(kind: Kind, seen: Cents, after: Cents) -> bool
 /// An entry in 29 bytes, of one of this many rows.
 ///
 /// docs/TRACE.md, "Parts": a version of at most `MOST_VERSIONS`, and a read leaves what it saw.
-pub fn entry_at(rows: u32, bytes: &[u8]) -> Option<(Entry, &[u8])>
+pub(crate) fn entry_at(rows: u32, bytes: &[u8]) -> Option<(Entry, &[u8])>
     requires { rows ≤ MOST_NAMED_ROWS }
     ensures { Gives (λ x. (x.0, x.1.now)) result (entry_at rows bytes.now) }
 {

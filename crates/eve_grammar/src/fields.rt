@@ -2,7 +2,6 @@
 //!
 //! Each reader gives the value and the bytes after it, or `None` where no such value stands in front.
 
-ghost use Rattle.eve_accounts.specs.Names.{is_name};
 ghost use Rattle.eve_grammar.specs.Reading.{Gives, number_at, name_at, balance_at, saving_at, amount_at, move_at};
 ghost use Rattle.eve_grammar.specs.Reading.{token_at, number_of};
 
@@ -93,16 +92,15 @@ pub fn balance_at(bytes: &[u8]) -> Option<(Cents, &[u8])>
 }
 
 /// A balance in cents that isn't below 0, in eight bytes.
-#[tactic(auto, unfolding(crate::specs::Reading::saving_at))]
+#[tactic(auto, unfolding(crate::specs::Reading::saving_at, crate::specs::Reading::balance_at))]
 pub fn saving_at(bytes: &[u8]) -> Option<(Cents, &[u8])>
     ensures { Gives (λ x. (x.0, x.1.now)) result (saving_at bytes.now) }
 {
-    if bytes.len() < 8 {
+    let Some((cents, rest)) = balance_at(bytes) else {
         return None;
-    }
-    let cents = Cents::new(BigEndian::read_i64(bytes))?;
+    };
     if 0 <= cents.get() {
-        Some((cents, &bytes[8..]))
+        Some((cents, rest))
     } else {
         None
     }

@@ -26,10 +26,10 @@ mod vote;
 pub use access::is_access_body;
 pub use attempt::certificate_len;
 pub use batch::batch_number;
-pub use certificate::{is_certificate, is_permutation};
+pub use certificate::is_certificate;
 pub use commit::is_commit_body;
 pub use customer::is_customer_body;
-pub use entry::{entry_again, entry_at, row_of};
+pub use entry::{entry_again, row_of};
 pub use fields::{number_of, u8_at, u16_at, u32_at, u64_at};
 pub use fits::{reply_fits, token_fits};
 pub use frame_kind::FrameKind;
@@ -40,7 +40,7 @@ pub use limits::{
     MOST_WINDOW, MOST_WORKERS,
 };
 pub use reply::reply_at;
-pub use request::{Asked, asked_at};
+pub use request::Asked;
 pub use restore::{Restore, restore_at};
 pub use rollback::is_rollback_body;
 pub use sent::is_sent_body;

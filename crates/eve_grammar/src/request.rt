@@ -59,7 +59,7 @@ fn coded_at(code: u8, bytes: &[u8]) -> Option<(Request<'_>, &[u8])>
 
 /// A client, its number for the request, and the request.
 #[tactic(auto, unfolding(crate::specs::Reading::asked_at, crate::specs::Reading::request_at))]
-pub fn asked_at(bytes: &[u8]) -> Option<(Asked<'_>, &[u8])>
+pub(crate) fn asked_at(bytes: &[u8]) -> Option<(Asked<'_>, &[u8])>
     ensures { Gives (λ x. (borrowed_asked x.0, x.1.now)) result (asked_at bytes.now) }
 {
     let (client, rest) = u32_at(bytes)?;

@@ -1,6 +1,6 @@
 //! Restores of rollback frames.
 
-ghost use Rattle.std.specs.Prelude.{◌<◌, ◌≤◌};
+ghost use Rattle.std.specs.Prelude.{◌≤◌};
 ghost use Rattle.eve_grammar.specs.Reading.{Gives, restore_at};
 ghost use Rattle.eve_grammar.specs.Bodies.{restore};
 

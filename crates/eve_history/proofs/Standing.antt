@@ -21,7 +21,8 @@ use Rattle.eve_views.proofs.CutLaws.{IsPart, section_cut}
 use Rattle.eve_views.proofs.Lists.{cut_at}
 use Rattle.eve_views.proofs.Locating.{section_begins}
 use Rattle.eve_grammar.proofs.FrameLaws.{small_head}
-use Rattle.eve_frames.specs.Views.{most_rows, is_attempt_frame, attempt_in, is_access_frame, access_in}
+use Rattle.eve_grammar.specs.declared.limits.TheConstants.{MOST_ROWS}
+use Rattle.eve_frames.specs.Views.{is_attempt_frame, attempt_in, is_access_frame, access_in}
 use Rattle.eve_frames.specs.Views.{is_rollback_frame, rollback_in}
 use Rattle.eve_frames.proofs.Rereading.{attempt_again, access_again, rollback_again}
 use Rattle.eve_history.specs.Standing.{frame_in, IsFramed, IsAttemptAt, IsAccessAt, IsRollbackAt}
@@ -242,7 +243,7 @@ next_stands bytes t e rest k at step spelled come =
     subst (λ (c : List ℕ). StandsIn c at (step_text step)) (sym spelled.spelled)
     (step_stands t e come.front (at, step) rest come.split)
 
-few_rows : (bytes : List ℕ) (t : Trace) → Spells bytes t → row_count (head_of t) ≤ most_rows
+few_rows : (bytes : List ℕ) (t : Trace) → Spells bytes t → row_count (head_of t) ≤ MOST_ROWS
 few_rows bytes t spelled = let small = (small_head (head_of t) spelled.limits.head).customers in omega (arith, small)
 
 -- an attempt is found again by the byte at which its frame begins

@@ -2,15 +2,12 @@
 use Rattle.std.proofs.Common.{◌≡◌, ℕ, ℤ, ◌+◌, ◌≤◌, ◌==◌, ◌⊎◌, Bool, true, false, cond, List, [], ◌∷◌, Option, Some}
 use Rattle.std.proofs.Common.{None, option_map, refl, sym, ap, ◌∙◌, inl, inr, arith}
 use Rattle.std.proofs.lemmas.Bool.{cases_Bool, eq-eqb, ne_eqb, cond-true, cond-false, false≢true}
-use Rattle.std.specs.declared.cmp.Ordering.{Ordering}
-use Rattle.std.specs.declared.cmp.Ordering.TheVariants.{Less, Equal, Greater}
-use Rattle.std.specs.Ordering.{is_eq}
-use Rattle.std.specs.Cmp.{eq_by_cmp_equiv}
 use Rattle.std.specs.Cmp.Lexicographic.{nat_list_cmp_total}
 use Rattle.std.specs.FinMap.{get, insert, get-empty, get-insert, same_map, IsAntisymmetric, nat_cmp-IsAntisymmetric}
 use Rattle.std.specs.FinMap.{slice_cmp-IsAntisymmetric}
 use Rattle.eve_accounts.specs.Names.{name_cmp, same_name, customer_named_from, customer_named}
 use Rattle.eve_accounts.specs.Rows.{saving_row, checking_row}
+use Rattle.eve_accounts.proofs.NameLemmas.{same_name-true, same_name-itself}
 use Rattle.eve_smallbank.specs.SmallBank.{Account}
 use Rattle.eve_smallbank.specs.Access.{account_at, bank_from, bank_of}
 
@@ -100,17 +97,6 @@ from_below c n (first ∷ names) name e =
     lower : {a b : ℕ} → a + 1 ≤ b → a ≤ b
     lower h = omega arith
 
-is_equal : (o : Ordering) → is_eq o ≡ true → o ≡ Equal
-is_equal Less h = absurd (false≢true h)
-is_equal Equal h = refl
-is_equal Greater h = absurd (false≢true h)
-
-pub same_name-true : (a b : List ℕ) → same_name a b ≡ true → a ≡ b
-same_name-true a b h = names_exact a b (is_equal (name_cmp a b) h)
-
-same_name-refl : (a : List ℕ) → same_name a a ≡ true
-same_name-refl a = (eq_by_cmp_equiv nat_list_cmp_total).refl a
-
 -- a number belongs to one name
 one_name : (c n : ℕ) (names : List (List ℕ)) (a b : List ℕ) → customer_named_from c names a ≡ Some n
     → customer_named_from c names b
@@ -152,7 +138,7 @@ insert-bank_of names values name customer a is =
     other q None e n = refl
     other q (Some d) e n = ap Some (sym (put_account-other values customer d a (λ h.
         absurd (false≢true (sym n ∙ ap (λ r. same_name r name) (one_name 0 customer names q name (e ∙ ap Some h) is)
-        ∙ same_name-refl name)))))
+        ∙ same_name-itself name name refl)))))
 
     at : (q : List ℕ) → cond (same_name q name) (Some a) (option_map (account_at values) (customer_named names q))
         ≡ option_map (account_at (put_account values customer a)) (customer_named names q)

@@ -25,7 +25,8 @@ use Rattle.eve_smallbank.specs.Access.{values_after, AreSeen, IsKeptIfRead, Fits
 use Rattle.eve_smallbank.specs.Chain.{Table, values_of}
 use Rattle.eve_smallbank.specs.Execution.{account_value, value_in, entry_on, executed_on}
 use Rattle.eve_smallbank.proofs.Members.{In, here, there}
-use Rattle.eve_smallbank.proofs.Banks.{put_account, put_account-own, put_account-row, put_account-other, same_name-true}
+use Rattle.eve_accounts.proofs.NameLemmas.{same_name-true}
+use Rattle.eve_smallbank.proofs.Banks.{put_account, put_account-own, put_account-row, put_account-other}
 use Rattle.eve_smallbank.proofs.Banks.{chosen, from_below, get-bank_of, insert-bank_of}
 
 -- ---- the value of a row in a bank

@@ -55,7 +55,7 @@ floor_if false n = omega arith
 floor_of_read : (b : Bool) (n : ℕ) → b ≡ false → cond b (n + 1) n ≡ n
 floor_of_read b n h = ap (λ c. cond c (n + 1) n) h
 
-writes_own : (e : Entry) → is_write e.kind ≡ true → writes_row e.row e ≡ true
+pub writes_own : (e : Entry) → is_write e.kind ≡ true → writes_row e.row e ≡ true
 writes_own e h = ap (λ b. b && (e.row == e.row)) h ∙ eq-eqb e.row e.row refl
 
 -- an entry's own row is at its floor once the entry has taken effect
@@ -188,7 +188,7 @@ untouched table row (e ∷ es) h =
     ∙ ap (λ b. cond b (left_by e) (table row)) (h e here)
 
 -- what a row has afterwards depends on that row alone
-same_row : (table other : Table) (row : ℕ) (es : List Entry) → table row ≡ other row → table_after table es row
+pub same_row : (table other : Table) (row : ℕ) (es : List Entry) → table row ≡ other row → table_after table es row
     ≡ table_after other es row
 same_row table other row [] h = h
 same_row table other row (e ∷ es) h =

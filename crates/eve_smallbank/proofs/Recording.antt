@@ -1,9 +1,10 @@
 -- Entries beside what was decided for their request.
 use Rattle.std.proofs.Common.{◌≡◌, ◌≢◌, ℕ, ℤ, zero, suc, ◌<◌, Bool, true, false, List, [], ◌∷◌, map, length}
-use Rattle.std.proofs.Common.{take, slice_get, Option, Some, None, refl, sym, subst, ap, ap₂, ◌∙◌, arith}
+use Rattle.std.proofs.Common.{take, slice_get, Some, refl, sym, subst, ap, ap₂, ◌∙◌, arith}
 use Rattle.std.specs.Bool.{Decides}
 use Rattle.std.proofs.lemmas.Bool.{false≢true}
 use Rattle.std.proofs.lemmas.List.{length-map}
+use Rattle.std.proofs.lemmas.Option.{same_Some, none-some}
 use Rattle.eve_smallbank.specs.declared.request.Reply.{Reply}
 use Rattle.eve_smallbank.specs.declared.entry.Kind.{Kind}
 use Rattle.eve_smallbank.specs.declared.entry.Entry.{Entry}
@@ -17,12 +18,6 @@ use Rattle.eve_smallbank.specs.Decide.{executed_from}
 use Rattle.eve_smallbank.proofs.Records.{touches_rows}
 use Rattle.eve_smallbank.specs.Recorded.{noted_from, HasEffect}
 
-some_injective : {A : Type 0} (x y : A) → Some x ≡ Some y → x ≡ y
-some_injective x y e = cc
-
-none≢some : {A B : Type 0} (x : A) → ◌≡◌ {A = Option A} None (Some x) → B
-none≢some x e = absurd (cc)
-
 -- the record of a request
 abbrev recorded : Request → Reply → List Entry → Executed
 recorded request reply entries = record { request = request; reply = reply; entries = entries }
@@ -32,7 +27,7 @@ recorded request reply entries = record { request = request; reply = reply; entr
 pub seen_by_one : (es : List Entry) (a : Entry) (rest : List ℤ) → length es ≡ 1 → slice_get es 0 ≡ Some a
     → take (length es) (a.seen ∷ rest) ≡ map (λ e. e.seen) es
 seen_by_one [] a rest n at = absurd (omega (arith, n))
-seen_by_one (d ∷ []) a rest n at = ap (λ (e : Entry). e.seen ∷ []) (sym (some_injective d a at))
+seen_by_one (d ∷ []) a rest n at = ap (λ (e : Entry). e.seen ∷ []) (sym (same_Some d a at))
 seen_by_one (d ∷ e ∷ es) a rest n at = absurd (omega (arith, n))
 
 pub seen_by_two : (es : List Entry) (a b : Entry) (rest : List ℤ) → length es ≡ 2 → slice_get es 0 ≡ Some a
@@ -40,7 +35,7 @@ pub seen_by_two : (es : List Entry) (a b : Entry) (rest : List ℤ) → length e
 seen_by_two [] a b rest n at next = absurd (omega (arith, n))
 seen_by_two (d ∷ es) a b rest n at next =
     let few : length es ≡ 1 = omega (arith, n) in
-    ap₂ (λ (e : Entry) (xs : List ℤ). e.seen ∷ xs) (sym (some_injective d a at)) (seen_by_one es b rest few next)
+    ap₂ (λ (e : Entry) (xs : List ℤ). e.seen ∷ xs) (sym (same_Some d a at)) (seen_by_one es b rest few next)
 
 pub seen_by_three : (es : List Entry) (a b c : Entry) → length es ≡ 3 → slice_get es 0 ≡ Some a
     → slice_get es 1 ≡ Some b → slice_get es 2 ≡ Some c
@@ -48,7 +43,7 @@ pub seen_by_three : (es : List Entry) (a b c : Entry) → length es ≡ 3 → sl
 seen_by_three [] a b c n at next last = absurd (omega (arith, n))
 seen_by_three (d ∷ es) a b c n at next last =
     let few : length es ≡ 2 = omega (arith, n) in
-    ap₂ (λ (e : Entry) (xs : List ℤ). e.seen ∷ xs) (sym (some_injective d a at))
+    ap₂ (λ (e : Entry) (xs : List ℤ). e.seen ∷ xs) (sym (same_Some d a at))
     (seen_by_two es b c [] few next last)
 
 -- ---- entries beside rows and effects
@@ -66,13 +61,13 @@ pub noted_get : (rows : RowKinds) (es : List Entry) (effects : List Effect) (j :
     (f : Effect)
     → slice_get rows j ≡ Some r → slice_get es j ≡ Some e → slice_get effects j ≡ Some f
     → slice_get (noted_from rows es effects) j ≡ Some (noted r e f)
-noted_get [] es effects j r e f a b c = none≢some r a
-noted_get (q ∷ rows) [] effects j r e f a b c = none≢some e b
-noted_get (q ∷ rows) (d ∷ es) [] j r e f a b c = none≢some f c
+noted_get [] es effects j r e f a b c = absurd (none-some r a)
+noted_get (q ∷ rows) [] effects j r e f a b c = absurd (none-some e b)
+noted_get (q ∷ rows) (d ∷ es) [] j r e f a b c = absurd (none-some f c)
 noted_get (q ∷ rows) (d ∷ es) (g ∷ effects) zero r e f a b c =
-    ap (λ (x : ℕ × Kind). Some (noted x d g)) (some_injective q r a)
-    ∙ ap (λ (x : Entry). Some (noted r x g)) (some_injective d e b)
-    ∙ ap (λ (x : Effect). Some (noted r e x)) (some_injective g f c)
+    ap (λ (x : ℕ × Kind). Some (noted x d g)) (same_Some q r a)
+    ∙ ap (λ (x : Entry). Some (noted r x g)) (same_Some d e b)
+    ∙ ap (λ (x : Effect). Some (noted r e x)) (same_Some g f c)
 noted_get (q ∷ rows) (d ∷ es) (g ∷ effects) (suc j) r e f a b c = noted_get rows es effects j r e f a b c
 
 -- at each place
@@ -101,7 +96,7 @@ pub noted_at : (rows : RowKinds) (es : List Entry) (effects : List Effect) (j : 
     → slice_get rows j ≡ Some r → slice_get es j ≡ Some e → slice_get effects j ≡ Some f
     → es ≡ noted_from rows es effects → HasEffect r.0 e f
 noted_at rows es effects j r e f a b c all =
-    let same : e ≡ noted r e f = some_injective e (noted r e f) (sym b ∙ ap (λ (xs : List Entry). slice_get xs j) all
+    let same : e ≡ noted r e f = same_Some e (noted r e f) (sym b ∙ ap (λ (xs : List Entry). slice_get xs j) all
     ∙ noted_get rows es effects j r e f a b c) in
     record {
       row = ap (λ (x : Entry). x.row) same;

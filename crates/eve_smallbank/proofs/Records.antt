@@ -34,6 +34,10 @@ use Rattle.eve_smallbank.proofs.Deciding as deciding
 
 -- ---- which requests are refused
 
+-- the decision of a request that is refused
+abbrev refusal : Abort → Decision
+refusal why = record { reply = Aborted why; effects = [] }
+
 -- the customers and the amount of a request that isn't refused
 pub record IsAccepted (names : List (List ℕ)) (request : Request) (rows : RowKinds) : Type 0 where
   pub known : knows_names names request ≡ true
@@ -125,9 +129,6 @@ module _ (names : List (List ℕ)) (table : Table) where
       (λ c e. deciding.checked names table name amount c e a.amount)
 
   -- ---- refused requests
-
-  abbrev refusal : Abort → Decision
-  refusal why = record { reply = Aborted why; effects = [] }
 
   no_name : (request : Request) → does (bank_of names (values_of table)) request
       ≡ (bank_of names (values_of table), Aborted NoSuchName)
@@ -362,7 +363,7 @@ values_at table [] = refl
 values_at table (r ∷ rows) = ap (λ (zs : List ℤ). (table r.0).value ∷ zs) (values_at table rows)
 
 -- what an execution noted sees its table
-noted_sees : (names : List (List ℕ)) (table : Table) (bank : Bank) (rows : RowKinds)
+pub noted_sees : (names : List (List ℕ)) (table : Table) (bank : Bank) (rows : RowKinds)
     → AllByRecursion (Sees table) (map (entry_on names table bank) rows)
 noted_sees names table bank [] = tt
 noted_sees names table bank (r ∷ rows) = (record { version = refl; value = refl }, noted_sees names table bank rows)
@@ -604,10 +605,7 @@ one_each request values d e = absurd (nothing d e)
 
 -- ---- a request that is refused
 
-abbrev refusal_of : Abort → Decision
-refusal_of why = record { reply = Aborted why; effects = [] }
-
-as_refused : (x : Executed) (why : Abort) → decision_in x ≡ refusal_of why
+as_refused : (x : Executed) (why : Abort) → decision_in x ≡ refusal why
     → x ≡ record { request = x.request; reply = Aborted why; entries = [] }
 as_refused x why is =
     ap₂ (λ (r : Reply) (es : List Entry). let y : Executed = record { request = x.request; reply = r; entries = es } in

@@ -38,7 +38,8 @@ pub fn requests_are_chained_row_by_row()
         → IsChained base before xs ↔ ((row : ℕ) → IsRowChained base row before xs) }
 {}
 
-/// A row is chained where its own entries, gathered along the requests, each see what those before it leave.
+/// A row of which no request has two entries is chained where its own entries, gathered along the requests, each see
+/// what those before them leave.
 pub fn rows_are_chained_by_walks()
     ensures { (base : Table) (row : ℕ) (before : List Entry) (xs : List Executed) → HasOneEach row xs
         → IsWalk (visible_at base before row) (row_entries row xs) → IsRowChained base row before xs }

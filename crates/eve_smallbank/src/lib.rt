@@ -11,6 +11,7 @@ pub mod laws;
 mod limits;
 mod request;
 mod rows;
+mod spelling;
 mod touch;
 
 pub use apply_request::apply;
@@ -21,4 +22,5 @@ pub use fit::fits;
 pub use limits::PENALTY;
 pub use request::{Abort, Reply, Request};
 pub use rows::Touched;
+pub use spelling::reply_bytes;
 pub use touch::touched;

@@ -7,7 +7,7 @@ use Rattle.std.proofs.lemmas.Bool.{ltb-true, leb-true, le-leb, le-ltb, false≢t
 use Rattle.std.proofs.lemmas.Option.{get_or_from_slice_get}
 use Rattle.eve_smallbank.specs.declared.entry.Entry.{Entry}
 use Rattle.eve_smallbank.specs.Chain.{Table, Sees, table_after}
-use Rattle.eve_grammar.specs.Limits.{version_limit}
+use Rattle.eve_grammar.specs.declared.limits.TheConstants.{MOST_VERSIONS}
 use Rattle.eve_stamps.specs.declared.journal.Journaled.{Journaled}
 use Rattle.eve_stamps.specs.Stripes.{HeldRow, Stripe, IsStripe, lies_in, has_row, table_in, row_in, rows_in_table}
 use Rattle.eve_stamps.specs.Stripes.{RowsRise, AreWithinLimit, committed, rows_now, table_after_journal, AreJournaled}
@@ -99,7 +99,7 @@ entries_in base t [] limit noted = tt
 entries_in base t (e ∷ es) limit noted = (
   record {
     there = noted.0.there;
-    limit = subst (λ n. n ≤ version_limit) (sym noted.0.sees.version)
+    limit = subst (λ n. n ≤ MOST_VERSIONS) (sym noted.0.sees.version)
         (limit_at t base e.row limit noted.0.there);
   },
   entries_in base t es limit noted.1,
@@ -175,7 +175,7 @@ noted_as is_there also t u e there same noted = record {
     value = noted.sees.value
         ∙ ap (λ v. v.value) same;
   };
-  fresh = λ writes. ap (λ v. nat_le version_limit v.version) (sym same) ∙ noted.fresh writes;
+  fresh = λ writes. ap (λ v. nat_le MOST_VERSIONS v.version) (sym same) ∙ noted.fresh writes;
 }
 
 -- of the first stripe's rows, in a stripe that is the first

@@ -18,7 +18,7 @@ use Rattle.eve_smallbank.specs.Chain.{Table, Sees, values_of}
 use Rattle.eve_smallbank.specs.Touch.{touched_of, rows_in, knows_names, has_bad_amount}
 use Rattle.eve_smallbank.specs.Decide.{entries_from, executed_from}
 use Rattle.eve_smallbank.specs.Execution.{executed_on, entry_on}
-use Rattle.eve_grammar.specs.Limits.{version_limit}
+use Rattle.eve_grammar.specs.declared.limits.TheConstants.{MOST_VERSIONS}
 use Rattle.eve_stamps.specs.Stripes.{HeldRow, row_in}
 use Rattle.eve_stamps.specs.Stamping.{is_worn}
 use Rattle.eve_stamps.specs.Holding.{entries_on, CanBeNoted}
@@ -73,17 +73,17 @@ executed_is names table request rows seen values entries decision unique so told
 
 record IsNotable (is_there : ℕ → Bool) (table : Table) (r : ℕ × Kind) : Type 0 where
   there : is_there r.0 ≡ true
-  fresh : is_write r.1 ≡ true → nat_le version_limit (table r.0).version ≡ false
+  fresh : is_write r.1 ≡ true → nat_le MOST_VERSIONS (table r.0).version ≡ false
 
 notable : (is_there : ℕ → Bool) (table : Table) (rows : RowKinds) → list_all (λ r. is_there r.0) rows ≡ true
     → is_worn table rows ≡ false → AllByRecursion (IsNotable is_there table) rows
 notable is_there table [] there fresh = tt
 notable is_there table (r ∷ rows) there fresh =
     let here = and_parts (is_there r.0) (list_all (λ q. is_there q.0) rows) there in
-    let worn = or_parts (is_write r.1 && nat_le version_limit (table r.0).version) (is_worn table rows) fresh in (
+    let worn = or_parts (is_write r.1 && nat_le MOST_VERSIONS (table r.0).version) (is_worn table rows) fresh in (
       record {
         there = here.0;
-        fresh = λ writes. ap (λ b. b && nat_le version_limit (table r.0).version) (sym writes)
+        fresh = λ writes. ap (λ b. b && nat_le MOST_VERSIONS (table r.0).version) (sym writes)
             ∙ worn.0;
       },
       notable is_there table rows here.1 worn.1,

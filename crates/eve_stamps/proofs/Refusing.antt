@@ -10,7 +10,7 @@ use Rattle.eve_smallbank.specs.declared.entry.Kind.{Kind}
 use Rattle.eve_smallbank.specs.Access.{RowKinds, is_write}
 use Rattle.eve_smallbank.specs.Chain.{Table}
 use Rattle.eve_grammar.proofs.Codec.{some_is}
-use Rattle.eve_grammar.specs.Limits.{version_limit}
+use Rattle.eve_grammar.specs.declared.limits.TheConstants.{MOST_VERSIONS}
 use Rattle.eve_stamps.specs.declared.fault.StampFault.TheVariants as fault
 use Rattle.eve_stamps.specs.Stripes.{HeldRow, row_in}
 use Rattle.eve_stamps.specs.Stamping.{seen_of, is_worn, refused_for}
@@ -63,19 +63,19 @@ missing_at p (y ∷ xs) (suc i) x at out = and_right (p y) (list_all p xs) (miss
 
 pub worn_at : (now : Table) (rows : RowKinds) (seen : List HeldRow) (i : ℕ) (r : ℕ × Kind) (held : HeldRow)
     → slice_get rows i ≡ Some r → slice_get seen i ≡ Some held → seen ≡ map (λ q. row_in now q.0) rows
-    → is_write r.1 ≡ true → version_limit ≤ held.version → is_worn now rows ≡ true
+    → is_write r.1 ≡ true → MOST_VERSIONS ≤ held.version → is_worn now rows ≡ true
 worn_at now [] seen i r held at there so writes old = absurd (none-some r at)
 worn_at now (q ∷ rows) [] i r held at there so writes old = absurd (none-some held there)
 worn_at now (q ∷ rows) (h ∷ seen) zero r held at there so writes old =
     let here : q ≡ r = some_is q r at in
     let same : h ≡ held = some_is h held there in
     let version : held.version ≡ (now q.0).version = cc in
-    or_left (is_write q.1 && nat_le version_limit (now q.0).version) (is_worn now rows)
-    (and_from (is_write q.1) (nat_le version_limit (now q.0).version) (ap (λ x. is_write x.1) here ∙ writes)
-    (le-leb version_limit (now q.0).version (subst (λ n. version_limit ≤ n) version old)))
+    or_left (is_write q.1 && nat_le MOST_VERSIONS (now q.0).version) (is_worn now rows)
+    (and_from (is_write q.1) (nat_le MOST_VERSIONS (now q.0).version) (ap (λ x. is_write x.1) here ∙ writes)
+    (le-leb MOST_VERSIONS (now q.0).version (subst (λ n. MOST_VERSIONS ≤ n) version old)))
 worn_at now (q ∷ rows) (h ∷ seen) (suc i) r held at there so writes old =
     let rest : seen ≡ map (λ q. row_in now q.0) rows = cc in
-    or_right (is_write q.1 && nat_le version_limit (now q.0).version) (is_worn now rows)
+    or_right (is_write q.1 && nat_le MOST_VERSIONS (now q.0).version) (is_worn now rows)
     (worn_at now rows seen i r held at there rest writes old)
 
 pub not_seen : (is_there : ℕ → Bool) (now : Table) (rows : RowKinds) (i : ℕ) (r : ℕ × Kind) → slice_get rows i ≡ Some r

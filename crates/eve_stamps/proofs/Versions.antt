@@ -6,7 +6,7 @@ use Rattle.std.proofs.lemmas.Bool.{cases_Bool, eqb-true, eq-eqb, ne_eqb, and_par
 use Rattle.eve_smallbank.specs.declared.entry.Entry.{Entry}
 use Rattle.eve_smallbank.specs.Access.{is_write, writes_row}
 use Rattle.eve_smallbank.specs.Chain.{Table, Sees, left_by, table_after}
-use Rattle.eve_grammar.specs.Limits.{version_limit}
+use Rattle.eve_grammar.specs.declared.limits.TheConstants.{MOST_VERSIONS}
 use Rattle.eve_stamps.specs.declared.journal.Journaled.{Journaled}
 use Rattle.eve_stamps.specs.Stripes.{HeldRow, Stripe, IsStripe, lies_in, row_in, rows_in_table, AreWithinLimit}
 use Rattle.eve_stamps.specs.Stripes.{committed}
@@ -129,24 +129,24 @@ limit_before t js (r ∷ rows) seen limit = (
 
 -- the versions within the limit are those of the rows
 pub limit_at : (t : Table) (rows : List HeldRow) (row : ℕ) → AreWithinLimit (rows_in_table t rows) → lies_in rows row
-    ≡ true → (t row).version ≤ version_limit
+    ≡ true → (t row).version ≤ MOST_VERSIONS
 limit_at t [] row limit there = absurd (false≢true there)
 limit_at t (r ∷ rows) row limit there =
     elim (or_cases (r.row == row) (lies_in rows row) there) [
-      | inl here ↦ subst (λ q. (t q).version ≤ version_limit) (eqb-true r.row row here) limit.0
+      | inl here ↦ subst (λ q. (t q).version ≤ MOST_VERSIONS) (eqb-true r.row row here) limit.0
       | inr rest ↦ limit_at t rows row limit.1 rest
     ]
 
 -- a row that is written was below it
 fresh_below : (is_there : ℕ → Bool) (t : Table) (es : List Entry) (row : ℕ) → AllByRecursion (CanBeNoted is_there t) es
-    → list_any (writes_row row) es ≡ true → (t row).version < version_limit
+    → list_any (writes_row row) es ≡ true → (t row).version < MOST_VERSIONS
 fresh_below is_there t [] row noted writes = absurd (false≢true writes)
 fresh_below is_there t (e ∷ es) row noted writes =
     elim (or_cases (writes_row row e) (list_any (writes_row row) es) writes) [
       | inl here ↦
           let parts = and_parts (is_write e.kind) (e.row == row) here in
-          subst (λ q. (t q).version < version_limit) (eqb-true e.row row parts.1)
-          (leb-false version_limit (t e.row).version (noted.0.fresh parts.0))
+          subst (λ q. (t q).version < MOST_VERSIONS) (eqb-true e.row row parts.1)
+          (leb-false MOST_VERSIONS (t e.row).version (noted.0.fresh parts.0))
       | inr rest ↦ fresh_below is_there t es row noted.1 rest
     ]
 
@@ -165,7 +165,7 @@ limit_after is_there t es (r ∷ rows) noted limit = (
   limit_after is_there t es rows noted limit.1,
 )
   where
-    step : (b : Bool) → (b ≡ true → (t r.row).version < version_limit) → (table_after t es r.row).version
-        ≡ cond b ((t r.row).version + 1) (t r.row).version → (table_after t es r.row).version ≤ version_limit
-    step true below is = let less : (t r.row).version < version_limit = below refl in omega (arith, is)
-    step false below is = subst (λ n. n ≤ version_limit) (sym is) limit.0
+    step : (b : Bool) → (b ≡ true → (t r.row).version < MOST_VERSIONS) → (table_after t es r.row).version
+        ≡ cond b ((t r.row).version + 1) (t r.row).version → (table_after t es r.row).version ≤ MOST_VERSIONS
+    step true below is = let less : (t r.row).version < MOST_VERSIONS = below refl in omega (arith, is)
+    step false below is = subst (λ n. n ≤ MOST_VERSIONS) (sym is) limit.0

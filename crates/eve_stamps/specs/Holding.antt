@@ -5,7 +5,7 @@ use Rattle.eve_smallbank.specs.declared.entry.Entry.{Entry}
 use Rattle.eve_smallbank.specs.declared.decision.Effect.{Effect}
 use Rattle.eve_smallbank.specs.Access.{is_write}
 use Rattle.eve_smallbank.specs.Chain.{Table, Sees}
-use Rattle.eve_grammar.specs.Limits.{version_limit}
+use Rattle.eve_grammar.specs.declared.limits.TheConstants.{MOST_VERSIONS}
 use Rattle.eve_stamps.specs.declared.journal.Journaled.{Journaled}
 use Rattle.eve_stamps.specs.Stripes.{HeldRow, Stripe, IsStripe, lies_in, rows_in_table, rows_now}
 
@@ -38,4 +38,4 @@ entries_on seen effects = []
 pub record CanBeNoted (is_there : ℕ → Bool) (table : Table) (e : Entry) : Type 0 where
   pub there : is_there e.row ≡ true
   pub sees : Sees table e
-  pub fresh : is_write e.kind ≡ true → nat_le version_limit (table e.row).version ≡ false
+  pub fresh : is_write e.kind ≡ true → nat_le MOST_VERSIONS (table e.row).version ≡ false

@@ -10,7 +10,7 @@ use Rattle.eve_smallbank.specs.Access.{RowKinds, Fits, is_write}
 use Rattle.eve_smallbank.specs.Chain.{Table}
 use Rattle.eve_smallbank.specs.Touch.{touched_of, rows_in}
 use Rattle.eve_smallbank.specs.Execution.{executed_on}
-use Rattle.eve_grammar.specs.Limits.{version_limit}
+use Rattle.eve_grammar.specs.declared.limits.TheConstants.{MOST_VERSIONS}
 use Rattle.eve_stamps.specs.declared.fault.StampFault.{StampFault}
 use Rattle.eve_stamps.specs.declared.fault.StampFault.TheVariants as fault
 use Rattle.eve_stamps.specs.Stripes.{HeldRow, Stripe, has_row, row_in, rows_now, is_above}
@@ -43,7 +43,7 @@ seen_of is_there now rows =
 
 -- some row that is to be written has the greatest version
 abbrev pub is_worn : Table → RowKinds → Bool
-is_worn now rows = list_any (λ r. is_write r.1 && nat_le version_limit (now r.0).version) rows
+is_worn now rows = list_any (λ r. is_write r.1 && nat_le MOST_VERSIONS (now r.0).version) rows
 
 -- Why a request of these rows is refused, if it is: a row isn't there, the tick is no new one, or a row is worn.
 abbrev pub refused_for : (ℕ → Bool) → Bool → Table → RowKinds → Option StampFault

@@ -6,7 +6,7 @@ use Rattle.eve_smallbank.specs.declared.entry.Entry.{Entry}
 use Rattle.eve_smallbank.specs.Access.{writes_row}
 use Rattle.eve_smallbank.specs.Chain.{Table, Sees, table_after}
 use Rattle.eve_grammar.specs.declared.restore.Restore.{Restore}
-use Rattle.eve_grammar.specs.Limits.{version_limit}
+use Rattle.eve_grammar.specs.declared.limits.TheConstants.{MOST_VERSIONS}
 use Rattle.eve_stamps.specs.declared.journal.Journaled.{Journaled}
 
 -- A row with its version and its value, in the form in which a rollback gives rows back.
@@ -48,7 +48,7 @@ RowsRise (r ∷ rows) = AllByRecursion (λ q. r.row < q.row) rows × RowsRise ro
 
 -- no row's version is past the limit
 abbrev pub AreWithinLimit : List HeldRow → Type 0
-AreWithinLimit rows = AllByRecursion (λ r. r.version ≤ version_limit) rows
+AreWithinLimit rows = AllByRecursion (λ r. r.version ≤ MOST_VERSIONS) rows
 
 -- ---- the journal
 
@@ -79,7 +79,7 @@ JournalRises (j ∷ journal) = AllByRecursion (λ k. j.tick < k.tick) journal ×
 -- an entry of one of these rows, that saw no version past the limit
 pub record IsEntryIn (rows : List HeldRow) (e : Entry) : Type 0 where
   pub there : IsTrue (lies_in rows e.row)
-  pub limit : e.version ≤ version_limit
+  pub limit : e.version ≤ MOST_VERSIONS
 
 -- it has entries of these rows alone
 abbrev pub JournalLiesIn : List HeldRow → List Journaled → Type 0

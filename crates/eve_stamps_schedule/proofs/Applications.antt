@@ -17,7 +17,7 @@ use Rattle.eve_smallbank.specs.Touch.{touched_of, rows_in}
 use Rattle.eve_smallbank.specs.Execution.{executed_on}
 use Rattle.eve_smallbank.proofs.Members.{all_in, all_from_in}
 use Rattle.eve_smallbank.proofs.Unique.{numbers}
-use Rattle.eve_grammar.specs.Limits.{version_limit}
+use Rattle.eve_grammar.specs.declared.limits.TheConstants.{MOST_VERSIONS}
 use Rattle.eve_stamps.specs.declared.fault.StampFault.{StampFault}
 use Rattle.eve_stamps.specs.declared.fault.StampFault.TheVariants as fault
 use Rattle.eve_stamps.specs.Stripes.{Stripe, has_row, rows_now, is_above, stripe_with}
@@ -344,12 +344,12 @@ all_numbers : (p : ℕ → Bool) (rows : RowKinds) → AllByRecursion (λ row. p
 all_numbers p [] all = refl
 all_numbers p (r ∷ rows) all = and_from (p r.0) (list_all (λ q. p q.0) rows) all.0 (all_numbers p rows all.1)
 
-none_worn : (now : Table) (rows : RowKinds) → AllByRecursion (λ row. (now row).version < version_limit) (numbers rows)
+none_worn : (now : Table) (rows : RowKinds) → AllByRecursion (λ row. (now row).version < MOST_VERSIONS) (numbers rows)
     → is_worn now rows ≡ false
 none_worn now [] fresh = refl
 none_worn now (r ∷ rows) fresh =
-    ap₂ (λ b c. b || c) (and_right (is_write r.1) (nat_le version_limit (now r.0).version)
-    (lt-leb version_limit (now r.0).version fresh.0)) (none_worn now rows fresh.1)
+    ap₂ (λ b c. b || c) (and_right (is_write r.1) (nat_le MOST_VERSIONS (now r.0).version)
+    (lt-leb MOST_VERSIONS (now r.0).version fresh.0)) (none_worn now rows fresh.1)
 
 none_refused : (is_there : ℕ → Bool) (is_new : Bool) (now : Table) (rows : RowKinds) → list_all (λ r. is_there r.0) rows
     ≡ true → is_new ≡ true → is_worn now rows ≡ false
@@ -381,8 +381,8 @@ one_memory names ss request a tick result have small ends above fresh refused =
     (λ row placed. has_own names ss request a row have small placed (at row placed)) (rows_placed names request)))
     (above a (ends a ∙ ap₂ (λ b c. b || c) (eq-eqb a a refl) (eq-eqb a a refl)))
     (none_worn (rows_now (stripe_at ss a)) rows
-    (all_weaker (IsPlaced names request) (λ row. (rows_now (stripe_at ss a) row).version < version_limit) (numbers rows)
-    (λ row placed. subst (λ i. (rows_now (stripe_at ss i) row).version < version_limit) (at row placed) (fresh row))
+    (all_weaker (IsPlaced names request) (λ row. (rows_now (stripe_at ss a) row).version < MOST_VERSIONS) (numbers rows)
+    (λ row placed. subst (λ i. (rows_now (stripe_at ss i) row).version < MOST_VERSIONS) (at row placed) (fresh row))
     (rows_placed names request))))
     refused
 
@@ -411,8 +411,8 @@ two_memory names ss request a b tick result have less small ends above fresh ref
     (above a (ends a ∙ ap (λ c. c || (b == a)) (eq-eqb a a refl)))
     (above b (ends b ∙ ap₂ (λ c d. c || d) (ne_eqb a b (λ e. omega arith)) (eq-eqb b b refl))))
     (none_worn (rows_in_two first last) rows
-    (all_weaker (IsPlaced names request) (λ row. (rows_in_two first last row).version < version_limit) (numbers rows)
-    (λ row placed. subst (λ v. v.version < version_limit)
+    (all_weaker (IsPlaced names request) (λ row. (rows_in_two first last row).version < MOST_VERSIONS) (numbers rows)
+    (λ row placed. subst (λ v. v.version < MOST_VERSIONS)
     (sym (two_rows names ss request a b row have less small placed
     (in_ends (needs names request) a b (stripe_of row) ends placed.needed))) (fresh row))
     (rows_placed names request))))

@@ -1,7 +1,7 @@
 -- Stripes that a request is applied to.
 use Rattle.std.specs.Prelude.{◌≡◌, ℕ, ◌<◌, ◌*◌, ◌==◌, nat_lt, Bool, ◌&&◌, if◌then◌else◌, List, Some}
 use Rattle.eve_smallbank.specs.Chain.{Table}
-use Rattle.eve_grammar.specs.Limits.{version_limit}
+use Rattle.eve_grammar.specs.declared.limits.TheConstants.{MOST_VERSIONS}
 use Rattle.eve_stamps.specs.Stripes.{Stripe, has_row}
 use Rattle.eve_stamps.specs.declared.limits.TheConstants.{STRIPES}
 use Rattle.eve_stamps.specs.Opening.{stripe_of}
@@ -15,7 +15,7 @@ HaveTheirRows customers stripes =
 
 -- no row is at the greatest version
 abbrev pub AreFresh : Table → Type 0
-AreFresh table = (row : ℕ) → (table row).version < version_limit
+AreFresh table = (row : ℕ) → (table row).version < MOST_VERSIONS
 
 -- it has the committed rows that it had, and where it was changed the tick is its greatest
 pub record IsKeptAt (tick : ℕ) (is_changed : Bool) (old new : Stripe) : Type 0 where

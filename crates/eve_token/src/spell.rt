@@ -8,7 +8,7 @@ ghost use Rattle.eve_token.specs.declared.TheConstants.{BLOCK};
 
 use byteorder::{BigEndian, ByteOrder};
 use eve_accounts::Cents;
-use eve_smallbank::{Abort, Reply};
+use eve_smallbank::{Reply, reply_bytes};
 
 /// What a token spells by a fixed number of bytes.
 ///
@@ -70,15 +70,6 @@ impl Spell for Reply {
     ghost short = { lit≤ tt };
 
     fn spell(&self, out: &mut [u8]) {
-        let (kind, total) = match *self {
-            Reply::Done => (0, 0),
-            Reply::Total(total) => (1, total),
-            Reply::Aborted(Abort::NoSuchName) => (2, 0),
-            Reply::Aborted(Abort::BadAmount) => (3, 0),
-            Reply::Aborted(Abort::Insufficient) => (4, 0),
-            Reply::Aborted(Abort::OutOfRange) => (5, 0),
-        };
-        out[0] = kind;
-        BigEndian::write_i64(&mut out[1..], total);
+        out[..9].copy_from_slice(&reply_bytes(*self));
     }
 }

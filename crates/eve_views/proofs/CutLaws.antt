@@ -16,7 +16,7 @@ use Rattle.eve_grammar.specs.Spelling.{section_start, verifier_start, step_text,
 use Rattle.eve_grammar.specs.Limits.{HasLimits, is_vote, is_step, row_count}
 use Rattle.eve_grammar.specs.Gathering.{Gathered, nothing, gathered}
 use Rattle.eve_grammar.proofs.Gatherings.{gathered-steps, with_steps}
-use Rattle.eve_frames.specs.Views.{most_rows, most_batches}
+use Rattle.eve_grammar.specs.declared.limits.TheConstants.{MOST_ROWS, MOST_BATCHES}
 use Rattle.eve_views.specs.Fronts.{before_sections, before_section, before_verifiers, before_verifier}
 use Rattle.eve_views.specs.Parts.{byte_of, frames_between, votes_between, steps_between, AreVotes, AreSteps}
 use Rattle.eve_views.proofs.Fronting.{frames_from_sections, frames_from_verifiers}
@@ -174,7 +174,7 @@ all_of test (x ∷ xs) (suc k) all lt = all_of test xs k (and_second (list_all t
     and_second true b t = t
     and_second false b t = absurd cc
 
-pub votes_cut : (t : Trace) (v from to : ℕ) → HasLimits t → length t.batches ≤ most_batches → v < length t.verifiers
+pub votes_cut : (t : Trace) (v from to : ℕ) → HasLimits t → length t.batches ≤ MOST_BATCHES → v < length t.verifiers
     → from ≡ length (before_verifier t v) + 1 → to ≡ length (before_verifier t (suc v))
     → AreVotes (frames_of t) from to
 votes_cut t v from to limits few lt at_from at_to =
@@ -191,7 +191,7 @@ votes_cut t v from to limits few lt at_from at_to =
       there = b.there;
     }
 
-pub votes_are_there : (t : Trace) (v from to : ℕ) → HasLimits t → length t.batches ≤ most_batches
+pub votes_are_there : (t : Trace) (v from to : ℕ) → HasLimits t → length t.batches ≤ MOST_BATCHES
     → (lt : v < length t.verifiers) → from ≡ length (before_verifier t v) + 1 → to ≡ length (before_verifier t (suc v))
     → votes_between (frames_of t) from (to - from) ≡ votes_at t v
 unfolding votes_at votes_cut
@@ -217,7 +217,7 @@ steps_are fs from to are =
     ∙ ap (λ (g : Gathered). g.steps) own in
     ap (located step_text (byte_of fs from)) all
 
-pub steps_cut : (t : Trace) (e from to : ℕ) → HasLimits t → row_count (head_of t) ≤ most_rows → e < length t.sections
+pub steps_cut : (t : Trace) (e from to : ℕ) → HasLimits t → row_count (head_of t) ≤ MOST_ROWS → e < length t.sections
     → from ≡ length (before_section t e) + 1 → to ≡ length (before_section t (suc e))
     → AreSteps (frames_of t) from to
 steps_cut t e from to limits few lt at_from at_to =
@@ -233,7 +233,7 @@ steps_cut t e from to limits few lt at_from at_to =
       there = b.there;
     }
 
-pub steps_are_there : (t : Trace) (e from to : ℕ) → HasLimits t → row_count (head_of t) ≤ most_rows
+pub steps_are_there : (t : Trace) (e from to : ℕ) → HasLimits t → row_count (head_of t) ≤ MOST_ROWS
     → (lt : e < length t.sections) → from ≡ length (before_section t e) + 1 → to ≡ length (before_section t (suc e))
     → steps_between (frames_of t) from (to - from) ≡ steps_at t e
 unfolding steps_at steps_cut

@@ -15,7 +15,8 @@ use Rattle.eve_grammar.specs.Gathering.{Gathered, nothing, gathered}
 use Rattle.eve_grammar.proofs.Gatherings.{gathered-votes, gathered-accesses}
 use Rattle.eve_grammar.proofs.Grouping.{all_at}
 use Rattle.eve_frames.specs.Views.{is_batch_frame, is_sent_frame, is_vote_frame, is_access_frame, batch_in, sent_in}
-use Rattle.eve_frames.specs.Views.{is_customer_frame, customer_in, vote_in, access_in, most_rows, most_batches, Says}
+use Rattle.eve_grammar.specs.declared.limits.TheConstants.{MOST_ROWS, MOST_BATCHES}
+use Rattle.eve_frames.specs.Views.{is_customer_frame, customer_in, vote_in, access_in, Says}
 use Rattle.eve_frames.proofs.Rereading.{customer_again, batch_again, sent_again, vote_again, access_again}
 use Rattle.eve_grammar.proofs.FrameLaws.{small_head}
 use Rattle.eve_views.specs.declared.walk.Index.{Index}
@@ -233,18 +234,18 @@ module _ {A : Type 0} (frame : A → Frame) (fits : ℕ → A → Bool) (most : 
 
 pub votes_many : (fs : List Frame) (from to : ℕ) (xs : List (ℕ × Vote)) (are : AreVotes fs from to)
     → votes_between fs from (to - from) ≡ xs → length xs ≡ to - from
-votes_many fs from to xs are is = items_many OfVote is_vote most_batches fs from to xs are
+votes_many fs from to xs are is = items_many OfVote is_vote MOST_BATCHES fs from to xs are
     (sym is ∙ votes_are fs from to are)
 
 pub accesses_many : (fs : List Frame) (from to : ℕ) (xs : List (ℕ × Access)) (are : AreAccesses fs from to)
     → accesses_between fs from (to - from) ≡ xs → length xs ≡ to - from
-accesses_many fs from to xs are is = items_many OfAccess is_access most_rows fs from to xs are
+accesses_many fs from to xs are is = items_many OfAccess is_access MOST_ROWS fs from to xs are
     (sym is ∙ accesses_are fs from to are)
 
 pub vote_lent : (fs : List Frame) (from to i offset : ℕ) (bytes : List ℕ) (xs : List (ℕ × Vote))
     (are : AreVotes fs from to) → votes_between fs from (to - from) ≡ xs → i < length xs → IsFrameAt fs (from + i) bytes
     → offset ≡ byte_of fs (from + i) → Lends is_vote_frame vote_in OfVote xs i offset bytes
-vote_lent fs from to i offset bytes xs are is = item_lent OfVote is_vote most_batches fs from to xs are
+vote_lent fs from to i offset bytes xs are is = item_lent OfVote is_vote MOST_BATCHES fs from to xs are
     (sym is ∙ votes_are fs from to are) is_vote_frame vote_in i offset bytes
     (λ v right. vote_again are.count v right are.few)
 
@@ -252,7 +253,7 @@ pub access_lent : (fs : List Frame) (from to i offset : ℕ) (bytes : List ℕ) 
     (are : AreAccesses fs from to) → accesses_between fs from (to - from) ≡ xs → i < length xs
     → IsFrameAt fs (from + i) bytes → offset ≡ byte_of fs (from + i)
     → Lends is_access_frame access_in OfAccess xs i offset bytes
-access_lent fs from to i offset bytes xs are is = item_lent OfAccess is_access most_rows fs from to xs are
+access_lent fs from to i offset bytes xs are is = item_lent OfAccess is_access MOST_ROWS fs from to xs are
     (sym is ∙ accesses_are fs from to are) is_access_frame access_in i offset bytes
     (λ x right. access_again are.count x right are.few)
 

@@ -13,7 +13,8 @@ use Rattle.eve_grammar.specs.Frames.{Frame, OfAttempt, OfAccess, OfCommit, OfRol
 use Rattle.eve_grammar.specs.Frames.{step_frames}
 use Rattle.eve_grammar.specs.Spelling.{frame_text, frames_text, located, accesses_at, step_text}
 use Rattle.eve_grammar.specs.Limits.{is_step, is_access, is_attempt}
-use Rattle.eve_frames.specs.Views.{most_rows, is_attempt_frame, is_commit_frame, is_rollback_frame, attempt_in}
+use Rattle.eve_grammar.specs.declared.limits.TheConstants.{MOST_ROWS}
+use Rattle.eve_frames.specs.Views.{is_attempt_frame, is_commit_frame, is_rollback_frame, attempt_in}
 use Rattle.eve_frames.specs.Views.{commit_in, rollback_in, Says}
 use Rattle.eve_frames.proofs.Rereading.{attempt_again, commit_again, rollback_again}
 use Rattle.eve_views.specs.Parts.{byte_of, frames_between, accesses_between, steps_between, AreAccesses, AreSteps}
@@ -124,7 +125,7 @@ others_of (RollsBack r) = ([], refl)
 -- a step that is there, and its first frame
 record IsMet (fs : List Frame) (at to : ℕ) (f : Frame) : Type 0 where
   rows : ℕ
-  few : rows ≤ most_rows
+  few : rows ≤ MOST_ROWS
   step : Step
   is : IsNext fs at to rows step
   begins : f ≡ first step

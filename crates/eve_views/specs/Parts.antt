@@ -6,7 +6,7 @@ use Rattle.eve_grammar.specs.Frames.{Frame, OfAccess, OfVote, step_frames}
 use Rattle.eve_grammar.specs.Spelling.{frame_text, frames_text, located, step_text, section_start}
 use Rattle.eve_grammar.specs.Limits.{is_access, is_step, is_vote}
 use Rattle.eve_grammar.specs.Gathering.{gathered}
-use Rattle.eve_frames.specs.Views.{most_rows, most_batches}
+use Rattle.eve_grammar.specs.declared.limits.TheConstants.{MOST_ROWS, MOST_BATCHES}
 
 -- the byte at which the frame of this number begins
 abbrev pub byte_of : List Frame → ℕ → ℕ
@@ -48,17 +48,17 @@ pub record AreOfOneKind {A : Type 0} (frame : A → Frame) (fits : ℕ → A →
 
 -- access frames, and no others
 abbrev pub AreAccesses : List Frame → ℕ → ℕ → Type 0
-AreAccesses = AreOfOneKind OfAccess is_access most_rows
+AreAccesses = AreOfOneKind OfAccess is_access MOST_ROWS
 
 -- votes, and no others
 abbrev pub AreVotes : List Frame → ℕ → ℕ → Type 0
-AreVotes = AreOfOneKind OfVote is_vote most_batches
+AreVotes = AreOfOneKind OfVote is_vote MOST_BATCHES
 
 -- steps with all their frames
 pub record AreSteps (fs : List Frame) (from to : ℕ) : Type 0 where
   pub steps : List Step
   pub rows : ℕ
-  pub few : rows ≤ most_rows
+  pub few : rows ≤ MOST_ROWS
   pub right : IsTrue (list_all (is_step rows) steps)
   pub up : from ≤ to
   pub within : to ≤ length fs

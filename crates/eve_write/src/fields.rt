@@ -18,7 +18,7 @@ use crate::spell::{Spell, send_texts};
 use arrayvec::ArrayVec;
 use eve_accounts::{Amount, Cents, MOST_NAME_BYTES, Row};
 use eve_grammar::Restore;
-use eve_smallbank::{Abort, Entry, Kind, Reply, Request, UpToThree};
+use eve_smallbank::{Entry, Kind, Reply, Request, UpToThree, reply_bytes};
 use eve_streams::{SendFault, Sink};
 
 /// The length of a name.
@@ -106,16 +106,7 @@ pub(crate) fn put_reply<const N: usize>(frame: &mut ArrayVec<u8, N>, reply: Repl
     ensures puts { Puts frame.old.items frame.new.items (reply_text reply) }
     ensures len { array_vec_len frame.new ≡ array_vec_len frame.old + 9 }
 {
-    let (code, value) = match reply {
-        Reply::Done => (0, 0),
-        Reply::Total(total) => (1, total),
-        Reply::Aborted(Abort::NoSuchName) => (2, 0),
-        Reply::Aborted(Abort::BadAmount) => (3, 0),
-        Reply::Aborted(Abort::Insufficient) => (4, 0),
-        Reply::Aborted(Abort::OutOfRange) => (5, 0),
-    };
-    put(frame, &[code]);
-    put(frame, &value.to_be_bytes());
+    put(frame, &reply_bytes(reply));
 }
 
 /// Appends replies one after the other.

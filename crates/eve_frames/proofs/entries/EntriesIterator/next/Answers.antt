@@ -3,27 +3,27 @@ use Rattle.std.specs.Prelude.{IsTrue}
 use Rattle.eve_smallbank.specs.declared.entry.Entry.{Entry}
 use Rattle.eve_grammar.specs.Reading.{entry_at}
 use Rattle.eve_frames.specs.Items.{are_there}
-use Rattle.eve_frames.specs.Views.{most_rows}
+use Rattle.eve_grammar.specs.declared.limits.TheConstants.{MOST_ROWS}
 use Rattle.eve_frames.proofs.Lists.{Steps, none_left, there_first, there_steps, goes_on}
 use Rattle.eve_frames.proofs.entries.EntriesIterator.next.Goals as goal
 
-entry_steps : (n : ℕ) (bytes : List ℕ) → (n ≡ 0 → ⊥) → IsTrue (are_there (entry_at most_rows) n bytes)
+entry_steps : (n : ℕ) (bytes : List ℕ) → (n ≡ 0 → ⊥) → IsTrue (are_there (entry_at MOST_ROWS) n bytes)
     → (entry : Entry) (rest : List ℕ)
     → ((rows : ℕ) → IsTrue (is_some (entry_at rows bytes)) → entry_at rows bytes ≡ Some (entry, rest))
-    → Steps (entry_at most_rows) n bytes entry rest
+    → Steps (entry_at MOST_ROWS) n bytes entry rest
 entry_steps n bytes some there entry rest read =
-    there_steps (entry_at most_rows) n bytes some there entry rest
-    (read most_rows (there_first (entry_at most_rows) n bytes some there))
+    there_steps (entry_at MOST_ROWS) n bytes some there entry rest
+    (read MOST_ROWS (there_first (entry_at MOST_ROWS) n bytes some there))
 
 pub returns-then-count-eq0-clause-steps : goal.returns-then-count-eq0-clause-steps
 returns-then-count-eq0-clause-steps c = let none = sym c.self.view_is
-    ∙ none_left (entry_at most_rows) c.self.inside.count c.self.inside.bytes.now c.if-count-eq0.true in (none, none)
+    ∙ none_left (entry_at MOST_ROWS) c.self.inside.count c.self.inside.bytes.now c.if-count-eq0.true in (none, none)
 
 pub entry_again-entry-requires : goal.entry_again-entry-requires
 entry_again-entry-requires c = (
-  most_rows,
+  MOST_ROWS,
   omega arith,
-  there_first (entry_at most_rows) c.self.inside.count c.self.inside.bytes.now c.if-count-eq0.false c.self.invariant,
+  there_first (entry_at MOST_ROWS) c.self.inside.count c.self.inside.bytes.now c.if-count-eq0.false c.self.invariant,
 )
 
 pub invariant_of-self : goal.invariant_of-self

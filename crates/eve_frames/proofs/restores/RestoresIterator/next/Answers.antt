@@ -1,29 +1,29 @@
 use Rattle.std.proofs.Common.{sym, ◌∙◌}
 use Rattle.eve_grammar.specs.Reading.{restore_at}
 use Rattle.eve_grammar.specs.Bodies.{restore}
-use Rattle.eve_frames.specs.Views.{most_rows}
+use Rattle.eve_grammar.specs.declared.limits.TheConstants.{MOST_ROWS}
 use Rattle.eve_frames.proofs.Lists.{none_left, there_some, there_steps, goes_on}
 use Rattle.eve_frames.proofs.restores.RestoresIterator.next.Goals as goal
 
 pub returns-then-count-eq0-clause-steps : goal.returns-then-count-eq0-clause-steps
 returns-then-count-eq0-clause-steps c = let none = sym c.self.view_is
-    ∙ none_left (restore_at most_rows) c.self.inside.count c.self.inside.bytes.now c.if-count-eq0.true in (none, none)
+    ∙ none_left (restore_at MOST_ROWS) c.self.inside.count c.self.inside.bytes.now c.if-count-eq0.true in (none, none)
 
 pub unreachable-requires : goal.unreachable-requires
-unreachable-requires c = there_some (restore_at most_rows) c.self.inside.count c.self.inside.bytes.now
+unreachable-requires c = there_some (restore_at MOST_ROWS) c.self.inside.count c.self.inside.bytes.now
     c.if-count-eq0.false c.self.invariant c.in_default.ensures
 
 pub invariant_of-self : goal.invariant_of-self
-invariant_of-self c = (there_steps (restore_at most_rows) c.self.inside.count c.self.inside.bytes.now
+invariant_of-self c = (there_steps (restore_at MOST_ROWS) c.self.inside.count c.self.inside.bytes.now
     c.if-count-eq0.false c.self.invariant (restore c.in-Some.found) c.in-Some.rest.now c.in-Some.ensures).there
 
 pub returns-clause-steps : goal.returns-clause-steps
 returns-clause-steps c =
-    sym c.self.view_is ∙ (there_steps (restore_at most_rows) c.self.inside.count c.self.inside.bytes.now
+    sym c.self.view_is ∙ (there_steps (restore_at MOST_ROWS) c.self.inside.count c.self.inside.bytes.now
     c.if-count-eq0.false c.self.invariant (restore c.in-Some.found) c.in-Some.rest.now c.in-Some.ensures).list
 
 pub returns-clause-goes : goal.returns-clause-goes
 returns-clause-goes c =
     goes_on _ (λ _. tt) _ _ _ (restore c.in-Some.found)
-    (sym c.self.view_is ∙ (there_steps (restore_at most_rows) c.self.inside.count c.self.inside.bytes.now
+    (sym c.self.view_is ∙ (there_steps (restore_at MOST_ROWS) c.self.inside.count c.self.inside.bytes.now
     c.if-count-eq0.false c.self.invariant (restore c.in-Some.found) c.in-Some.rest.now c.in-Some.ensures).list)

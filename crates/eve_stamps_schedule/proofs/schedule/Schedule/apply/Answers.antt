@@ -9,7 +9,7 @@ use Rattle.std.proofs.lemmas.List.{with_items_is}
 use Rattle.eve_smallbank.specs.SmallBank.{plain, Request}
 use Rattle.eve_smallbank.specs.Chain.{table_after}
 use Rattle.eve_smallbank.specs.Execution.{executed_on}
-use Rattle.eve_grammar.specs.Limits.{version_limit}
+use Rattle.eve_grammar.specs.declared.limits.TheConstants.{MOST_VERSIONS}
 use Rattle.eve_stamps.specs.Applied.{Applied, noted_of}
 use Rattle.eve_stamps.specs.Stripes.{Stripe, is_above}
 use Rattle.eve_stamps_schedule.specs.Before.{EachBefore}
@@ -105,7 +105,7 @@ applied_on-made-requires-clause-above c k need =
 
 pub applied_on-made-requires-clause-fresh : goal.applied_on-made-requires-clause-fresh
 applied_on-made-requires-clause-fresh c row =
-    subst (λ (l : List Stripe). (table_of_stripes l row).version < version_limit) (sym c.as_mut_slice.ensures.value)
+    subst (λ (l : List Stripe). (table_of_stripes l row).version < MOST_VERSIONS) (sym c.as_mut_slice.ensures.value)
     (fresh_rows (schedule_of c.self.inside) c.self.inside.noted_count c.self.invariant row)
 
 pub insert-requires-clause-rises : goal.insert-requires-clause-rises

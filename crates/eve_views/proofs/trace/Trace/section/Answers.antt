@@ -1,7 +1,7 @@
 use Rattle.std.proofs.Common.{◌≡◌, ◌≤◌, ◌+◌, ℕ, suc, length, ap, ◌∙◌, arith}
 use Rattle.eve_grammar.specs.Trace.{head_of}
 use Rattle.eve_grammar.specs.Limits.{row_count}
-use Rattle.eve_frames.specs.Views.{most_rows}
+use Rattle.eve_grammar.specs.declared.limits.TheConstants.{MOST_ROWS}
 use Rattle.eve_grammar.proofs.FrameLaws.{small_head}
 use Rattle.eve_views.specs.Fronts.{before_section}
 use Rattle.eve_views.proofs.CutLaws.{steps_cut, steps_are_there}
@@ -11,7 +11,7 @@ pub new-requires : goal.new-requires
 new-requires c =
     let t = c.args.self.now in
     let small = (small_head (head_of t) c.recall_limits.ensures.head).customers in
-    let few : row_count (head_of t) ≤ most_rows = omega (arith, small) in
+    let few : row_count (head_of t) ≤ MOST_ROWS = omega (arith, small) in
     let more : c.args.e + 1 ≡ suc c.args.e = omega arith in
     let next : c.section_from-to.result ≡ length (before_section t (suc c.args.e)) =
     c.section_from-to.ensures ∙ ap (λ (k : ℕ). length (before_section t k)) more in
@@ -22,7 +22,7 @@ pub returns : goal.returns
 returns c =
     let t = c.args.self.now in
     let small = (small_head (head_of t) c.recall_limits.ensures.head).customers in
-    let few : row_count (head_of t) ≤ most_rows = omega (arith, small) in
+    let few : row_count (head_of t) ≤ MOST_ROWS = omega (arith, small) in
     let more : c.args.e + 1 ≡ suc c.args.e = omega arith in
     let next : c.section_from-to.result ≡ length (before_section t (suc c.args.e)) =
     c.section_from-to.ensures ∙ ap (λ (k : ℕ). length (before_section t k)) more in
