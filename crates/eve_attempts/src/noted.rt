@@ -4,37 +4,15 @@ ghost use Rattle.std.specs.Prelude.{◌≡◌, ◌<◌, ℕ, List, IsTrue, map, 
 ghost use Rattle.std.specs.Bool.{Decides};
 ghost use Rattle.std.specs.List.{list_all, AllByRecursion};
 ghost use Rattle.eve_smallbank.specs.Access.{Fits};
-ghost use Rattle.eve_grammar.specs.Limits.{is_entry, is_access, is_batch};
+ghost use Rattle.eve_grammar.specs.Limits.{is_access, is_batch};
 ghost use Rattle.eve_write.specs.Data.{batch as plain};
 ghost use Rattle.eve_attempts.specs.Closing.{touched_in_batch, access_noted, executed, AreNoted};
 
 use crate::accesses::are_right_accesses;
 use crate::groups::count_of;
-use eve_grammar::MOST_VERSIONS;
-use eve_smallbank::{Entry, Touched, UpToThree, fits};
+use eve_smallbank::{Touched, fits};
 use eve_stamps::AccessRecord;
-use eve_write::BatchData;
-
-/// Whether the entry is of one of so many rows, at a version within the limit, and leaves what it saw if it is a read.
-fn is_entry(entry: &Entry, rows: usize) -> bool
-    ensures { result ≡ is_entry rows entry.now }
-{
-    let (seen, after) = (entry.seen.get(), entry.after.get());
-    (entry.row.number() as usize) < rows
-        && entry.version <= MOST_VERSIONS
-        && (entry.kind.is_write() || after == seen)
-}
-
-fn are_entries(entries: &UpToThree<Entry>, rows: usize) -> bool
-    ensures { result ≡ list_all (is_entry rows) entries.now }
-{
-    for place in 0..entries.len() {
-        if !is_entry(&entries.at(place), rows) {
-            return false;
-        }
-    }
-    true
-}
+use eve_write::{BatchData, are_entries};
 
 /// Whether the record lies within the limits of the format.
 fn is_access(taken: &AccessRecord, rows: usize) -> bool

@@ -3,11 +3,9 @@
 ghost use Rattle.std.specs.Prelude.{◌≡◌, ◌*◌, ◌<◌, ◌≤◌, IsTrue, IfOk, length};
 ghost use Rattle.eve_grammar.specs.Limits.{is_batch};
 ghost use Rattle.eve_write.specs.Data.{batch as plain};
-ghost use Rattle.eve_attempts.specs.Closing.{touched_in_batch};
 
 use eve_accounts::{Balances, Names, Row};
 use eve_grammar::MOST_CUSTOMERS;
-use eve_smallbank::{Touched, touched};
 use eve_workload::{Mixer, Workload, mix};
 use eve_write::{BatchData, CustomerData};
 use std::alloc::{AllocError, Global};
@@ -53,19 +51,4 @@ pub fn batch_of(
     ensures { IfOk result (λ b. IsTrue (is_batch (plain b))) }
 {
     mix(alloc, workload.batch(number), names, mixer)
-}
-
-/// What each request of the batch touches.
-pub fn touched_in(
-    alloc: Global,
-    names: &Names,
-    batch: &BatchData,
-) -> Result<Vec<Touched>, AllocError>
-    ensures { IfOk result (λ t. t.items ≡ touched_in_batch names.now.items (plain batch.now)) }
-{
-    let mut all = Vec::with_capacity(alloc, batch.requests.len())?;
-    for request in &batch.requests {
-        all.push(touched(&request.request(), names))?;
-    }
-    Ok(all)
 }

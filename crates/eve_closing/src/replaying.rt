@@ -10,7 +10,7 @@ use crate::comparing::{
     Shown, has_token_of, is_attempt_of, is_batch_of, is_commit_of, is_rollback_of,
 };
 use crate::meeting::{meetings_of, record_of};
-use crate::opening::{balances_of, batch_of, touched_in};
+use crate::opening::{balances_of, batch_of};
 use eve_accounts::Names;
 use eve_attempts::{AttemptFront, CloseFault, Ledger};
 use eve_frames::{AttemptView, CommitView, RollbackView};
@@ -18,7 +18,7 @@ use eve_grammar::MOST_BATCHES;
 use eve_smallbank::Touched;
 use eve_stamps::AccessRecord;
 use eve_views::{Accesses, Step, Trace};
-use eve_workload::{Mixer, Workload};
+use eve_workload::{Mixer, Workload, look_up};
 use eve_write::{AttemptData, BatchData, RollbackData};
 use std::alloc::{AllocError, Global};
 use std::io;
@@ -182,7 +182,7 @@ fn close_records(
     requires room { length ledger.old.opened < ledger.old.window }
     requires batch { IsTrue (is_batch (plain batch.now)) }
 {
-    let touched = touched_in(alloc, case.names, batch)?;
+    let touched = look_up(alloc, batch.requests.as_slice(), case.names)?;
     let before = Shown::of(alloc, ledger)?;
     match close_due(alloc, ledger, batch, touched.as_slice(), records) {
         Ok(attempt) if is_attempt_of(alloc, &attempt, frame, accesses)? => Ok("as written"),
