@@ -15,7 +15,7 @@ use Rattle.eve_grammar.specs.Trace.{Attempt, Restore, Step, Attempts, Commits, R
 use Rattle.eve_history.specs.Section.{SectionState, next}
 use Rattle.eve_chains.specs.Visible.{execution, executions}
 use Rattle.eve_chains.specs.Committed.{attempts_of}
-use Rattle.eve_agree.specs.Tables.{committed_rows, entries_of, open_entries, is_right_restore, are_right_restores}
+use Rattle.eve_agree.specs.Tables.{committed_rows, entries_of, open_entries, is_written_in, are_right_restores}
 use Rattle.eve_agree.specs.Tables.{restores_rightly, all_restore_rightly}
 use Rattle.eve_attempts.specs.Ledgers.{Ledger, writes_in, open_writes, rows_committed}
 use Rattle.eve_attempts.specs.Discarding.{restore_in, AreRestores}
@@ -64,7 +64,7 @@ module _ (t : Trace) (s : SectionState) (old : Ledger) (alike : AreAlike t s old
       (λ e writes. (and_parts (is_write e.kind) (e.row == row) writes).0) (open_entries t s)
 
   right_restore : (r : Restore) → IsTrue (list_any (writes_row r.row) (open_writes old))
-      → r ≡ restore_in (rows_committed old) r.row → IsTrue (is_right_restore t s r)
+      → r ≡ restore_in (rows_committed old) r.row → IsTrue (is_written_in (committed_rows t s) (open_entries t s) r)
   right_restore r written is =
       and_from (list_any (writes_row r.row) (open_entries t s)) _ (sym (row_written r.row) ∙ written)
       (and_from (r.version == (committed_rows t s r.row).version) (int_eq r.value (committed_rows t s r.row).value)
@@ -76,16 +76,18 @@ module _ (t : Trace) (s : SectionState) (old : Ledger) (alike : AreAlike t s old
   each_right : (rs : List Restore)
       → AllByRecursion (λ r. IsTrue (list_any (writes_row r.row) (open_writes old))) rs
       → AllByRecursion (λ r. r ≡ restore_in (rows_committed old) r.row) rs
-      → list_all (is_right_restore t s) rs ≡ true
+      → list_all (is_written_in (committed_rows t s) (open_entries t s)) rs ≡ true
   each_right [] written are = refl
   each_right (r ∷ rs) written are =
-      and_from (is_right_restore t s r) (list_all (is_right_restore t s) rs) (right_restore r written.0 are.0)
+      and_from (is_written_in (committed_rows t s) (open_entries t s) r)
+      (list_all (is_written_in (committed_rows t s) (open_entries t s)) rs) (right_restore r written.0 are.0)
       (each_right rs written.1 are.1)
 
 pub restores_right : (t : Trace) (s : SectionState) (old : Ledger) (rs : List Restore) → AreAlike t s old
     → AreRestores old rs → IsTrue (are_right_restores t s rs)
 restores_right t s old rs alike restores =
-    and_from (list_all (is_right_restore t s) rs) _ (each_right t s old alike rs restores.written restores.committed)
+    and_from (list_all (is_written_in (committed_rows t s) (open_entries t s)) rs) _
+    (each_right t s old alike rs restores.written restores.committed)
     (passes_where (λ e. is_write e.kind) (λ e. list_any (λ r. r.row == e.row) rs) (open_entries t s)
     (subst (AllByRecursion (λ e. IsTrue (list_any (λ r. r.row == e.row) rs))) (open_written t s old alike)
     restores.all))

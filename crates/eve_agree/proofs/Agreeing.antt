@@ -13,11 +13,11 @@ use Rattle.eve_views.specs.Form.{IsUpTo, IsLeast}
 use Rattle.eve_views.specs.Code.{code_number, phase_of}
 use Rattle.eve_views.specs.First.{is_before, first_of}
 use Rattle.eve_views.proofs.Firsts.{before_precedes, behind_precedes, up_to_from}
+use Rattle.eve_views.proofs.Lists.{cut_at}
 use Rattle.eve_votes.proofs.Places.{get_between}
 use Rattle.eve_history.specs.Section.{Placed}
 use Rattle.eve_history.specs.SectionHistory.{SectionHistory, section_history, section_histories, history, committed_at}
 use Rattle.eve_history.specs.SectionHistory.{IsRightSection}
-use Rattle.eve_history.proofs.Places.{cut_at}
 use Rattle.eve_history.proofs.Rights.{as_many_told, section_history_at}
 use Rattle.eve_chains.proofs.Linked.{last_committed, some_injective, none≢some, take_length}
 use Rattle.eve_agree.specs.Agreement.{first_to_commit, HaveSameOutcome, ReplicasAgree, StandsInAgreement}

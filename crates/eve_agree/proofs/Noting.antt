@@ -5,9 +5,9 @@ use Rattle.std.specs.List.{AllByRecursion, flat_map}
 use Rattle.std.proofs.lemmas.Grind.{flat_map-append}
 use Rattle.eve_smallbank.specs.declared.entry.Entry.{Entry}
 use Rattle.eve_grammar.specs.Trace.{Access}
+use Rattle.eve_views.proofs.Lists.{take_one_more}
 use Rattle.eve_history.specs.SectionHistory.{ExecutedAttempt}
 use Rattle.eve_history.proofs.Finding.{rec_at}
-use Rattle.eve_history.proofs.OrderLaws.{take_one_more}
 use Rattle.eve_chains.specs.Along.{entries_along, AreWithin}
 use Rattle.eve_chains.proofs.Linked.{some_injective}
 use Rattle.eve_agree.specs.Marking.{Marking, marked, noted_between}

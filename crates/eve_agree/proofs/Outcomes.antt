@@ -11,13 +11,13 @@ use Rattle.std.proofs.lemmas.List.FromFn.{length-enumerate_from}
 use Rattle.std.proofs.lemmas.Option.{slice_get_within}
 use Rattle.eve_smallbank.specs.declared.request.Reply.{Reply}
 use Rattle.eve_grammar.specs.Trace.{Attempt, Step, Trace}
+use Rattle.eve_views.proofs.Lists.{take_one_more}
 use Rattle.eve_history.specs.Section.{Placed, start, state_after}
 use Rattle.eve_history.specs.SectionHistory.{ExecutedAttempt, executed_attempt, SectionHistory, section_history}
 use Rattle.eve_history.specs.SectionHistory.{section_histories, placed_at, history, committed_at, IsRightSection}
 use Rattle.eve_chains.specs.Committed.{first_rows, values_to, balances_to}
 use Rattle.eve_chains.proofs.Linked.{last_committed, some_injective, none≢some}
 use Rattle.eve_chains.specs.Settling.{Settling, settling, settlings, values_in}
-use Rattle.eve_history.proofs.OrderLaws.{take_one_more}
 use Rattle.eve_history.proofs.Rights.{as_many_told, none_at, section_history_at}
 use Rattle.eve_agree.proofs.TokensInOrder.{rows_are, rows_told}
 use Rattle.eve_agree.specs.Agreement.{first_to_commit, HaveSameOutcome}

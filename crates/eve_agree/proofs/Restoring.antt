@@ -20,7 +20,7 @@ use Rattle.eve_chains.specs.Visible.{opening_table, execution, executions}
 use Rattle.eve_chains.specs.Committed.{attempts_of}
 use Rattle.eve_agree.specs.Marking.{restores_row}
 use Rattle.eve_agree.specs.Tables.{restored, worked, committed_rows, working_table, committed_table, IsRestored}
-use Rattle.eve_agree.specs.Tables.{entries_of, open_entries, is_right_restore, are_right_restores, all_restore_rightly}
+use Rattle.eve_agree.specs.Tables.{entries_of, open_entries, is_written_in, are_right_restores, all_restore_rightly}
 use Rattle.eve_agree.specs.Tables.{RestoresAreRight}
 use Rattle.eve_chains.proofs.AlongLaws.{table_after_all-append, unwritten}
 use Rattle.eve_agree.proofs.Marking.{is_covered, not_covered}
@@ -77,11 +77,15 @@ same_versioned : (r : Restore) (v : Versioned) → r.version ≡ v.version → r
 same_versioned r v e f = λ i. record { version = e i; value = f i }
 
 module _ (t : Trace) (s : SectionState) (rs : List Restore) (right : are_right_restores t s rs ≡ true) where
-  exact : list_all (is_right_restore t s) rs ≡ true
-  exact = (and_parts (list_all (is_right_restore t s) rs) (list_all (is_covered rs) (open_entries t s)) right).0
+  exact : list_all (is_written_in (committed_rows t s) (open_entries t s)) rs ≡ true
+  exact =
+      (and_parts (list_all (is_written_in (committed_rows t s) (open_entries t s)) rs)
+      (list_all (is_covered rs) (open_entries t s)) right).0
 
   covers : list_all (is_covered rs) (open_entries t s) ≡ true
-  covers = (and_parts (list_all (is_right_restore t s) rs) (list_all (is_covered rs) (open_entries t s)) right).1
+  covers =
+      (and_parts (list_all (is_written_in (committed_rows t s) (open_entries t s)) rs)
+      (list_all (is_covered rs) (open_entries t s)) right).1
 
   -- a row without a restore was not written
   not_written : (row : ℕ) → restores_row row rs ≡ false → list_any (writes_row row) (open_entries t s) ≡ false
@@ -100,7 +104,7 @@ module _ (t : Trace) (s : SectionState) (rs : List Restore) (right : are_right_r
             let own = and_parts (found.0.version == (committed_rows t s found.0.row).version)
             (int_eq found.0.value (committed_rows t s found.0.row).value)
             (and_parts (list_any (writes_row found.0.row) (open_entries t s)) _
-            (list_all_at (is_right_restore t s) rs exact found.1)).1 in
+            (list_all_at (is_written_in (committed_rows t s) (open_entries t s)) rs exact found.1)).1 in
             found.3
             ∙ same_versioned found.0 (committed_rows t s found.0.row)
             (eqb-true found.0.version (committed_rows t s found.0.row).version own.0)

@@ -10,11 +10,11 @@ use Rattle.eve_grammar.specs.Trace.{Attempt, Trace}
 use Rattle.eve_views.specs.declared.fault.Code.{Code}
 use Rattle.eve_views.specs.declared.fault.Code.TheVariants as code
 use Rattle.eve_views.specs.Form.{IsUpTo, IsLeast}
+use Rattle.eve_views.proofs.Lists.{cut_at}
 use Rattle.eve_token.specs.Token.{token_of, flat_token}
 use Rattle.eve_history.specs.Section.{Placed}
 use Rattle.eve_history.specs.SectionHistory.{ExecutedAttempt, executed_attempt, SectionHistory, section_history}
 use Rattle.eve_history.specs.SectionHistory.{history, committed_at, placed_at, IsRightSection}
-use Rattle.eve_history.proofs.Places.{cut_at}
 use Rattle.eve_chains.specs.Committed.{balances_to, values_to}
 use Rattle.eve_chains.specs.Settling.{Settling, settling, values_in}
 use Rattle.eve_chains.proofs.Linked.{committed_number, batches_counted}

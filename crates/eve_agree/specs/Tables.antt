@@ -54,17 +54,15 @@ entries_of xs = flat_map (λ x. x.entries) xs
 abbrev pub open_entries : Trace → SectionState → List Entry
 open_entries t s = entries_of (executions t (attempts_of s.pending))
 
--- a row that an open attempt wrote, as it is committed
-abbrev pub is_right_restore : Trace → SectionState → Restore → Bool
-is_right_restore t s r =
-    list_any (writes_row r.row) (open_entries t s)
-    && ((r.version == (committed_rows t s r.row).version) && int_eq r.value (committed_rows t s r.row).value)
+-- a row that these entries write, as it is in the table
+abbrev pub is_written_in : Table → List Entry → Restore → Bool
+is_written_in table es r =
+    list_any (writes_row r.row) es && ((r.version == (table r.row).version) && int_eq r.value (table r.row).value)
 
--- rows that these entries write, each as it is in the table, and no such row is left out
+-- such rows, and none is left out
 abbrev pub are_written_in : Table → List Entry → List Restore → Bool
 are_written_in table es rs =
-    list_all (λ r. list_any (writes_row r.row) es
-    && ((r.version == (table r.row).version) && int_eq r.value (table r.row).value)) rs
+    list_all (is_written_in table es) rs
     && list_all (λ e. not (is_write e.kind) || list_any (λ r. r.row == e.row) rs) es
 
 -- the rows that open attempts wrote, as they are committed; that rows rise is a matter of form

@@ -1,9 +1,8 @@
 -- What stands before the sections, or after them, lies in none.
 use Rattle.std.proofs.Common.{◌≡◌, ℕ, ◌+◌, ◌<◌, ◌≤◌, List, ◌∷◌, ◌++◌, length, subst, arith}
-use Rattle.std.specs.List.{flat_map}
 use Rattle.eve_grammar.specs.Trace.{Customer, Batch, Vote, Sent, Trace}
 use Rattle.eve_grammar.specs.Frames.{OfCustomer, OfBatch, OfVerifier, OfVote, OfSent, batches_of, sections_of}
-use Rattle.eve_grammar.specs.Spelling.{frame_text, located, customer_text, batch_text, section_text, batches_start}
+use Rattle.eve_grammar.specs.Spelling.{frame_text, customer_text, batch_text, section_text, batches_start}
 use Rattle.eve_grammar.specs.Spelling.{sections_start, section_start, verifiers_start, verifier_start, sent_start}
 use Rattle.eve_grammar.specs.Spelling.{customers_at, batches_at, votes_of, votes_at, sent_at}
 use Rattle.eve_views.specs.declared.fault.Code.{Code}

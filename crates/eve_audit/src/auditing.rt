@@ -46,7 +46,6 @@ fn open<'a, R: Threads + Sync>(
     random: RandomState,
     jobs: u8,
 ) -> Result<Opened<'a>, CheckFault>
-    requires { 1 ≤ jobs }
     ensures read { IfOk result (λ opened. IsRead bytes.now opened.trace) }
     ensures names { IfOk result (λ opened. opened.names.items ≡ names_of opened.trace) }
     ensures orders { IfOk result (λ opened. HasNone (IsOrderFault opened.trace)) }

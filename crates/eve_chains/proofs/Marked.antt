@@ -1,15 +1,12 @@
 -- Balances that are noted along a walk: after each commit the committed table has the values of the bank.
-use Rattle.std.proofs.Common.{◌≡◌, ℕ, ℤ, suc, ◌+◌, ◌*◌, ◌<◌, List, [], ◌∷◌, ◌++◌, map, take, length, set}
+use Rattle.std.proofs.Common.{◌≡◌, ℕ, suc, ◌+◌, List, [], ◌∷◌, ◌++◌, take, length}
 use Rattle.std.proofs.Common.{length-append, append_assoc, append-nil, refl, sym, subst, ap, ◌∙◌, inl, inr, arith}
 use Rattle.std.proofs.Common.{IsTrue}
 use mathlib.Core.Path.{fun_ext}
 use Rattle.std.specs.Prelude.{All}
 use Rattle.std.proofs.lemmas.Bool.{and_parts}
-use Rattle.std.proofs.lemmas.List.{length-map, length-set, take_more, take_more_set, take_all, map-append}
-use Rattle.std.proofs.Math.ListN.{get_or-map}
 use Rattle.std.proofs.lemmas.List.Elements.{All-push}
-use Rattle.eve_smallbank.specs.Access.{balance_of_row}
-use Rattle.eve_smallbank.specs.Chain.{Versioned, Table, table_after_all, values_of}
+use Rattle.eve_smallbank.specs.Chain.{Table, table_after_all, values_of}
 use Rattle.eve_smallbank.proofs.Chains.{visible_at-before_rest}
 use Rattle.eve_grammar.specs.Trace.{Attempt, Step, Attempts, Commits, RollsBack, Trace, head_of}
 use Rattle.eve_grammar.specs.Limits.{HasLimits, row_count}
@@ -19,7 +16,7 @@ use Rattle.eve_history.specs.Section.{Placed, SectionState, start, committing, n
 use Rattle.eve_history.specs.SectionHistory.{history, IsRightSection}
 use Rattle.eve_chains.specs.Visible.{opening_table, executions, rows_after, table_along}
 use Rattle.eve_chains.specs.Committed.{attempts_of}
-use Rattle.eve_chains.specs.Tables.{table_of, untouched}
+use Rattle.eve_chains.specs.Tables.{table_of}
 use Rattle.eve_chains.specs.Settling.{settling, values_in}
 use Rattle.eve_chains.specs.Walking.{HasWalked}
 use Rattle.eve_chains.specs.NotedBalances.{IsMark, HasValuesOf, HasNoted, commits_among}
@@ -166,47 +163,3 @@ module _ (t : Trace) (e : ℕ) (limits : HasLimits t) (right : IsRightSection t 
               (marked_here rest w new.after more.0 known (count ∙ all) more.2 more.3))
         ];
       }
-
--- ---- the values of a table
-
-pub values_more : (rows : List Versioned) (i : ℕ) (old : List ℤ) (saving checking : ℤ) → 2 * i + 1 < length rows
-    → length old ≡ length rows → take (2 * i) old ≡ map (λ v. v.value) (take (2 * i) rows)
-    → saving ≡ (table_of rows (2 * i)).value → checking ≡ (table_of rows (2 * i + 1)).value
-    → take (2 * (i + 1)) (set (set old (2 * i) saving) (2 * i + 1) checking)
-    ≡ map (λ v. v.value) (take (2 * (i + 1)) rows)
-values_more rows i old saving checking lt long so own other =
-    let to : 2 * (i + 1) ≡ 2 * i + 1 + 1 = omega arith in
-    let one : 2 * i < length old = omega arith in
-    let same : length (set old (2 * i) saving) ≡ length old = length-set old (2 * i) saving in
-    let two : 2 * i + 1 < length (set old (2 * i) saving) = omega arith in
-    let first : 2 * i < length rows = omega arith in
-    let front : take (2 * i + 1) rows ≡ take (2 * i) rows ++ table_of rows (2 * i) ∷ [] =
-    take_more rows (2 * i) untouched first in
-    let both : take (2 * i + 1 + 1) rows
-    ≡ (take (2 * i) rows ++ table_of rows (2 * i) ∷ []) ++ table_of rows (2 * i + 1) ∷ [] =
-    take_more rows (2 * i + 1) untouched lt
-    ∙ ap (λ (xs : List Versioned). xs ++ table_of rows (2 * i + 1) ∷ []) front in
-    ap (λ n. take n (set (set old (2 * i) saving) (2 * i + 1) checking)) to
-    ∙ take_more_set (set old (2 * i) saving) (2 * i + 1) checking two
-    ∙ ap (λ (xs : List ℤ). xs ++ checking ∷ []) (take_more_set old (2 * i) saving one
-    ∙ ap (λ (xs : List ℤ). xs ++ saving ∷ []) so)
-    ∙ ap (λ (z : ℤ). (map (λ (v : Versioned). v.value) (take (2 * i) rows) ++ z ∷ []) ++ checking ∷ []) own
-    ∙ ap (λ (z : ℤ). (map (λ (v : Versioned). v.value) (take (2 * i) rows)
-    ++ (table_of rows (2 * i)).value ∷ []) ++ z ∷ []) other
-    ∙ ap (λ (xs : List ℤ). xs ++ (table_of rows (2 * i + 1)).value ∷ [])
-    (sym (map-append (λ (v : Versioned). v.value) (take (2 * i) rows) (table_of rows (2 * i) ∷ [])))
-    ∙ sym (map-append (λ (v : Versioned). v.value) (take (2 * i) rows ++ table_of rows (2 * i) ∷ [])
-    (table_of rows (2 * i + 1) ∷ []))
-    ∙ ap (map (λ (v : Versioned). v.value)) (sym both)
-    ∙ ap (λ n. map (λ (v : Versioned). v.value) (take n rows)) (sym to)
-
-pub values_all : (rows : List Versioned) (n : ℕ) (b : List ℤ) → length rows ≡ n → length b ≡ length rows
-    → take n b ≡ map (λ v. v.value) (take n rows) → b ≡ map (λ v. v.value) rows
-values_all rows n b many long is =
-    sym (take_all n b (omega arith)) ∙ is ∙ ap (map (λ (v : Versioned). v.value)) (take_all n rows (omega arith))
-
-pub has_values : (rows : List Versioned) (m : Mark) → m.balances ≡ map (λ v. v.value) rows → HasValuesOf rows m
-has_values rows m is = (
-  ap length is ∙ length-map rows (λ (v : Versioned). v.value),
-  ap balance_of_row is ∙ fun_ext (λ row. get_or-map (λ (v : Versioned). v.value) rows row untouched),
-)

@@ -22,17 +22,13 @@ use Rattle.eve_history.specs.Faults.{name_in, RequestId, request_ids_at, IsNamed
 use Rattle.eve_history.specs.Faults.{IsOrderFault}
 use Rattle.eve_history.specs.Notes.{IsRepeated, HasDistinctNames, HasDistinctRequests}
 use Rattle.eve_grammar.proofs.Grouping.{all_at}
-use Rattle.eve_views.proofs.Lists.{take_one_more as one_more}
+use Rattle.eve_views.proofs.Lists.{cut_at, take_one_more}
 use Rattle.eve_views.proofs.Locating.{length-located}
 use Rattle.eve_history.proofs.RequestIds.{AreNewAndNoted}
-use Rattle.eve_history.proofs.Places.{no_place, place_push, cut_at, Rising, located_rising, first_place, from_low}
+use Rattle.eve_history.proofs.Places.{no_place, place_push, Rising, located_rising, first_place, from_low}
 use Rattle.eve_history.proofs.Places.{located_within, weaker_place}
 
 -- ---- lists
-
-pub take_one_more : {A : Type 0} (xs : List A) (i : ℕ) (x : A) → slice_get xs i ≡ Some x → take (i + 1) xs
-    ≡ take i xs ++ x ∷ []
-take_one_more = one_more
 
 pub of_located : {A : Type 0} (text : A → List ℕ) (at : ℕ) (xs : List A) (i : ℕ) (x : ℕ × A)
     → slice_get (located text at xs) i ≡ Some x → slice_get xs i ≡ Some x.1

@@ -1,12 +1,11 @@
 -- Public: other crates cite these lemmas. Places of lists at which something holds, of what stands before and of what
 -- stands there.
-use Rattle.std.proofs.Common.{◌≡◌, ℕ, suc, ◌+◌, ◌≤◌, List, [], ◌∷◌, ◌++◌, length, take, drop, slice_get, Some}
+use Rattle.std.proofs.Common.{◌≡◌, ℕ, ◌+◌, ◌≤◌, List, [], ◌∷◌, ◌++◌, length}
 use Rattle.std.proofs.Common.{refl, sym, ap, subst, inl, inr, ◌⊎◌, arith}
 use Rattle.std.proofs.lemmas.List.{append-nil, length-append}
 use Rattle.std.specs.List.{flat_map}
 use Rattle.eve_grammar.specs.Spelling.{located}
 use Rattle.eve_views.specs.Form.{SomePlace}
-use Rattle.eve_views.proofs.Lists.{cut_at as cut}
 
 pub place_here : {A : Type 0} (P : List A → A → Type 0) (x : A) (xs : List A) → P [] x → SomePlace (x ∷ xs) P
 place_here P x xs h = record { before = []; item = x; rest = xs; is = refl; holds = h }
@@ -83,11 +82,6 @@ weaker_place P Q xs weaker place =
       is = place.is;
       holds = weaker place.before place.item place.holds;
     }
-
--- a list at one of its places
-pub cut_at : {A : Type 0} (xs : List A) (i : ℕ) (x : A) → slice_get xs i ≡ Some x
-    → xs ≡ take i xs ++ x ∷ drop (suc i) xs
-cut_at = cut
 
 -- ---- offsets
 

@@ -14,7 +14,7 @@ use Rattle.std.proofs.lemmas.List.Folds.{list_all-append}
 use Rattle.eve_grammar.specs.Trace.{Access, Attempt, Step, Attempts, Commits, RollsBack, Trace, head_of}
 use Rattle.eve_grammar.specs.Frames.{without_accesses}
 use Rattle.eve_grammar.specs.Spelling.{accesses_at, spelling, steps_at}
-use Rattle.eve_grammar.specs.Limits.{is_step, row_count, Spells}
+use Rattle.eve_grammar.specs.Limits.{is_step, row_count}
 use Rattle.eve_frames.specs.Views.{attempt_in}
 use Rattle.eve_frames.specs.declared.attempt.AttemptView.{AttemptView}
 use Rattle.eve_views.specs.StepKinds.{IsStep}
@@ -176,13 +176,6 @@ module _ {A : Type 0} (xs : List A) (x : A) (from most : ℕ) where
       ∙ take_all most (zs ++ x ∷ []) (omega (arith, length-append zs (x ∷ [])))
       ∙ ap (λ (ys : List A). ys ++ x ∷ []) (sym (take_all most zs (omega arith)))
 
--- where these attempts are those, their records are those records
-pub ordered_as : {A E : Type 0} (t : Trace) (xs ys : List (ℕ × Attempt)) (found : Result (Option (Vec ℕ A)) E)
-    → xs ≡ ys → IfOk found (λ o. IfSome o (λ r. AreOrdered t xs r.items))
-    → IfOk found (λ o. IfSome o (λ r. AreOrdered t ys r.items))
-ordered_as t xs ys found same h =
-    subst (λ (zs : List (ℕ × Attempt)). IfOk found (λ o. IfSome o (λ r. AreOrdered t zs r.items))) same h
-
 one_more_times : (i size : ℕ) → (i + 1) * size ≡ i * size + size
 one_more_times i size = omega arith
 
@@ -225,18 +218,6 @@ attempts_next (of.Commit c) (at, Attempts b) is = absurd is
 attempts_next (of.Commit c) (at, RollsBack q) is = absurd is
 attempts_next (of.Rollback r) (at, Attempts b) is = absurd is
 attempts_next (of.Rollback r) (at, Commits d) is = absurd is
-
-pub meeting_start : (t : Trace) (e from most : ℕ) (ahead : Ahead) → ahead.skip ≡ from → ahead.keep ≡ most
-    → Spells (spelling t) t → HaveBeenMet t e from most (steps_at t e) ahead []
-meeting_start t e from most ahead skip keep spelled = record {
-  spelled = spelled;
-  front = [];
-  split = refl;
-  met = tt;
-  all = sym (ap (take most) (drop_all from [] (omega arith)) ∙ take_all most [] (omega arith));
-  skip = omega (arith, skip);
-  keep = omega (arith, keep);
-}
 
 -- a step that is no attempt
 pub meeting_other : (t : Trace) (e from most : ℕ) (next : ℕ × Step) (rest : List (ℕ × Step)) (ahead : Ahead)
@@ -383,21 +364,11 @@ pub where_ok : {E : Type 0} {P Q R S : Ahead → Type 0} (r : Result Ahead E) �
 where_ok (Ok after) p q r f = f after p q r
 where_ok (Err why) p q r f = tt
 
-pub meeting_end : (t : Trace) (e from most : ℕ) (ahead : Ahead) (ms : List MetAttempt)
-    → HaveBeenMet t e from most [] ahead ms
-    → map placed_met ms ≡ take most (drop from (attempts_among (steps_at t e)))
-meeting_end t e from most ahead ms come =
-    come.all ∙ ap (λ (xs : List (ℕ × Step)). take most (drop from (attempts_among xs)))
-    (sym (come.split ∙ append-nil come.front))
-
 -- ---- attempts that are counted
 
 pub where_some : {P Q : ℕ → Type 0} (o : Option ℕ) → IfSome o P → ((n : ℕ) → P n → Q n) → IfSome o Q
 where_some (Some n) p f = f n p
 where_some None p f = tt
-
-pub counting_start : (t : Trace) (e : ℕ) → AreCounted t e (steps_at t e) 0
-counting_start t e = record { front = []; split = refl; many = refl }
 
 pub counting_on : (t : Trace) (e : ℕ) (next : ℕ × Step) (rest : List (ℕ × Step)) (count after : ℕ) (s : met.Step)
     → after ≡ count + attempts_in s → IsStep s next → AreCounted t e (next ∷ rest) count → AreCounted t e rest after
@@ -409,9 +380,3 @@ counting_on t e next rest count after s on is come = record {
       ∙ sym (ap length (attempts_among-push come.front next)
       ∙ length-append (attempts_among come.front) (attempts_among (next ∷ [])));
 }
-
-pub counting_end : (t : Trace) (e count : ℕ) → AreCounted t e [] count
-    → count ≡ length (attempts_among (steps_at t e))
-counting_end t e count come =
-    come.many ∙ ap (λ (xs : List (ℕ × Step)). length (attempts_among xs))
-    (sym (come.split ∙ append-nil come.front))

@@ -4,7 +4,7 @@ use Rattle.std.proofs.Common.{[], ◌∷◌, length, take, drop, Option, Some, N
 use Rattle.std.specs.Prelude.{slice_index}
 use Rattle.std.specs.Option.{option_map}
 use Rattle.std.proofs.lemmas.Bool.{le-leb, ltb-false, and_from}
-use Rattle.std.proofs.lemmas.List.{length-drop, length-take-le}
+use Rattle.std.proofs.lemmas.List.{length-drop}
 use Rattle.byteorder.specs.Endian.{big_number}
 use Rattle.eve_grammar.specs.Trace.{Head}
 use Rattle.eve_grammar.specs.Frames.{Frame, OfCustomer, OfBatch, OfReplica, OfAttempt, OfAccess, OfCommit, OfRollback}
@@ -51,18 +51,6 @@ front_of (b ∷ bytes) kind len rest more one two =
       len_is = u.1;
       rest_is = u.2;
       size = omega (arith, length-drop 4 bytes, ap length u.2, u.0);
-    }
-
--- what follows the length is the body and more
-pub front_whole : (bytes : List ℕ) (kind len : ℕ) (rest : List ℕ) → FrontOf bytes kind len rest → len ≤ length rest
-    → IsFrontOf bytes kind (take len rest)
-front_whole bytes kind len rest front le =
-    let many : length (take len rest) ≡ len = length-take-le len rest le in
-    record {
-      kind_is = front.kind_is;
-      len_is = front.len_is ∙ sym many;
-      body_is = ap (λ (n : ℕ). take n (drop 5 bytes)) many ∙ ap (take len) front.rest_is;
-      whole = omega (arith, many, le, front.size);
     }
 
 -- ---- bytes with no frame at their front

@@ -62,11 +62,6 @@ pub found_none : (bytes : List ℕ) (h : Head) (e : CheckFault) → IsBytes byte
 found_none bytes h Memory fits is s = tt
 found_none bytes h (Found f) fits is s = (refused_behind bytes h f is fits s).none
 
-pub found_within : (bytes : List ℕ) (h : Head) (e : CheckFault) → IsBytes bytes → IsHeader bytes h
-    → IfFound e (IsFormFault bytes) → IfFound e (λ f. f.offset ≤ length bytes)
-found_within bytes h Memory fits is s = tt
-found_within bytes h (Found f) fits is s = (refused_behind bytes h f is fits s).within
-
 -- ---- the i-th frame
 
 pub record IsAt (fs : List Frame) (i : ℕ) (f : Frame) (rest : List ℕ) : Type 0 where

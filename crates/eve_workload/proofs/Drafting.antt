@@ -5,18 +5,17 @@ use Rattle.std.specs.Prelude.{if◌then◌else◌}
 use Rattle.std.specs.List.{list_any}
 use Rattle.std.specs.Borrow.{Bor}
 use Rattle.std.specs.declared.alloc.Global.{Global}
-use Rattle.std.specs.Cmp.Lexicographic.{same_text, other_text}
 use Rattle.std.proofs.lemmas.Bool.{lt-ltb, ltb-true, or_cases, or_left, or_right, cases_Bool, false≢true}
 use Rattle.std.specs.BTreeSet.{BTreeSet}
 use Rattle.std.proofs.lemmas.List.{length-map, map_push}
 use Rattle.std.proofs.lemmas.List.Folds.{list_any-append}
-use Rattle.std.proofs.lemmas.Map.Text.{is_eq-slice_cmp}
 use Rattle.eve_accounts.specs.Names.{same_name}
 use Rattle.eve_grammar.specs.Trace.{Customer, Asked}
 use Rattle.eve_grammar.specs.Limits.{is_customer, is_asked}
 use Rattle.eve_write.specs.Data.{customer, asked}
 use Rattle.eve_write.specs.declared.customer.CustomerData.{CustomerData}
 use Rattle.eve_write.specs.declared.request.RequestData.{RequestData}
+use Rattle.eve_accounts.proofs.NameLemmas.{same_name-true, same_name-itself}
 use Rattle.eve_workload.specs.declared.deployment.Deployment.{Deployment}
 use Rattle.eve_workload.specs.declared.draft.Last.TheVariants as last
 use Rattle.eve_workload.specs.declared.pairs.Pairs.{Pairs}
@@ -30,13 +29,6 @@ use Rattle.eve_workload.specs.Drafts.{starts_in, next_of, has_name, Keeps}
 use Rattle.eve_workload.proofs.Pairing.{same_pair-true, same_pair-itself, last_or}
 
 -- ---- names and pairs that are known
-
-same_name-true : (a b : List ℕ) → same_name a b ≡ true → a ≡ b
-same_name-true a b h = same_text a b (sym h ∙ is_eq-slice_cmp a b)
-
-same_name-itself : (a b : List ℕ) → a ≡ b → same_name a b ≡ true
-same_name-itself a b e =
-    elim (cases_Bool (same_name a b)) [ inl h ↦ h | inr h ↦ absurd (other_text a b (sym h ∙ is_eq-slice_cmp a b) e) ]
 
 known_name : (names : List (List ℕ)) (name : List ℕ) → Contains names name → list_any (same_name name) names ≡ true
 known_name [] name (k, there, is) = absurd (omega arith)
