@@ -1,5 +1,5 @@
 -- What the requests touch was looked up among the customers' names.
-use Rattle.std.proofs.Common.{◌≡◌, map, ap, ◌∙◌}
+use Rattle.std.proofs.Common.{map, ap, ◌∙◌}
 use Rattle.eve_smallbank.specs.Touch.{touched_of}
 use Rattle.eve_write.specs.Data.{asked}
 use Rattle.eve_closing.proofs.replaying.close_records.Goals as goal
