@@ -9,5 +9,5 @@ close_due-requires-clause-touched c =
     let names = c.args.case.now.names.now.items in (
       names,
       c.as_slice-2.ensures.value ∙ c.in_ok-touched.ensures
-      ∙ ap (λ rs. map (λ a. touched_of names a.request) (map asked rs)) c.as_slice.ensures.value,
+          ∙ ap (λ rs. map (λ a. touched_of names a.request) (map asked rs)) c.as_slice.ensures.value,
     )
