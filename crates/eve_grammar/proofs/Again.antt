@@ -56,7 +56,8 @@ entry_stands rows bytes fits there =
           coded = rw f refl;
           seen = t.0;
           after = t.1;
-          is = λ other g. subst (λ k. entry_at rows bytes ≡ entry_found bytes k) (same_Some kind other (sym f ∙ g)) found;
+          is = λ other g.
+              subst (λ k. entry_at rows bytes ≡ entry_found bytes k) (same_Some kind other (sym f ∙ g)) found;
         }
 
 -- of so many rows as there are names for, which is all that the code knows
