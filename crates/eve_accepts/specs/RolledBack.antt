@@ -9,7 +9,7 @@ rolled_back_to (Attempts a ∷ steps) = rolled_back_to steps
 rolled_back_to (Commits c ∷ steps) = rolled_back_to steps
 rolled_back_to (RollsBack r ∷ steps) = r.to ∷ rolled_back_to steps
 
--- Each batch is rolled back at most once, as the first of those that a rollback discards: in no section two rollbacks
--- go back to the same number. A batch behind the first may be discarded again, by a rollback to a greater number.
+-- Each batch is at most once the first of those that a rollback discards: in no section two rollbacks go back to the
+-- same number. A batch behind the first may be discarded again, by a rollback to a greater number.
 abbrev pub AreRolledBackOnce : Trace → Type 0
 AreRolledBackOnce t = All (λ steps. AllPairs (λ a b. a ≢ b) (rolled_back_to steps)) t.sections

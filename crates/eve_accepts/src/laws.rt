@@ -70,8 +70,8 @@ pub fn audits_of_runs_end_well()
     eve_audit::laws::verdicts_are_unique();
 }
 
-/// In a run each batch is rolled back at most once: in no section two rollbacks go back to the same number, so no batch
-/// is twice the first of those that are discarded. Or the trace shows two messages that differ and have one SHA-256.
+/// In a run each batch is at most once the first of those that are rolled back: in no section two rollbacks go back to
+/// the same number. Or the trace shows two messages that differ and have one SHA-256.
 ///
 /// docs/MODEL.md, "A run is accepted".
 pub fn runs_roll_back_a_batch_once()
