@@ -11,7 +11,7 @@ use Rattle.eve_grammar.specs.Reading.{number_at, signed_at, both, made, made_if,
 use Rattle.eve_grammar.specs.Reading.{entry_fields_at, entry_at, access_from, entries_at, access_of}
 use Rattle.eve_grammar.proofs.Scans.{many_length}
 use Rattle.eve_grammar.specs.declared.limits.TheConstants.{MOST_ROWS}
-use Rattle.eve_frames.specs.Views.{is_access_frame, access_in}
+use Rattle.eve_frames.specs.Views.{has_access_body, access_in}
 use Rattle.eve_frames.proofs.Places.{Takes, found, number_from, number_some, made_some, only_some, whole_some}
 use Rattle.eve_frames.proofs.Places.{both_some, led_some, Takes-number, Takes-signed, Takes-only, Takes-made}
 use Rattle.eve_frames.proofs.Places.{Takes-made_if, Takes-both, byte_at}
@@ -98,7 +98,7 @@ access_at bytes x e =
       },
     )
 
-pub access_read : (bytes : List ℕ) → IsTrue (is_access_frame bytes) → access_of MOST_ROWS (drop 5 bytes)
+pub access_read : (bytes : List ℕ) → IsTrue (has_access_body bytes) → access_of MOST_ROWS (drop 5 bytes)
     ≡ Some (access_in bytes)
 unfolding access_in
 access_read bytes there = found (access_of MOST_ROWS (drop 5 bytes)) _ there
@@ -107,30 +107,30 @@ access_read bytes there = found (access_of MOST_ROWS (drop 5 bytes)) _ there
 abbrev pub entries_of : List ℕ → ℕ
 entries_of bytes = length (access_in bytes).entries
 
-pub access_placed : (bytes : List ℕ) → IsTrue (is_access_frame bytes)
+pub access_placed : (bytes : List ℕ) → IsTrue (has_access_body bytes)
     → AccessAt bytes (entries_of bytes) (access_in bytes)
 access_placed bytes there =
     let p = access_at bytes (access_in bytes) (access_read bytes there) in
     subst (λ (n : ℕ). AccessAt bytes n (access_in bytes)) (sym p.1.entries.count) p.1
 
-pub access_long : (bytes : List ℕ) → IsTrue (is_access_frame bytes) → length bytes ≡ 11 + 29 * entries_of bytes
+pub access_long : (bytes : List ℕ) → IsTrue (has_access_body bytes) → length bytes ≡ 11 + 29 * entries_of bytes
 access_long bytes there = (access_placed bytes there).long
 
-pub access_few : (bytes : List ℕ) → IsTrue (is_access_frame bytes) → entries_of bytes ≤ 3
+pub access_few : (bytes : List ℕ) → IsTrue (has_access_body bytes) → entries_of bytes ≤ 3
 access_few bytes there = (access_placed bytes there).few
 
-pub access_worker : (bytes : List ℕ) → IsTrue (is_access_frame bytes) → (access_in bytes).worker ≡ get_or bytes 5 0
+pub access_worker : (bytes : List ℕ) → IsTrue (has_access_body bytes) → (access_in bytes).worker ≡ get_or bytes 5 0
 access_worker bytes there = (access_placed bytes there).worker
 
-pub access_place : (bytes : List ℕ) → IsTrue (is_access_frame bytes) → (access_in bytes).place
+pub access_place : (bytes : List ℕ) → IsTrue (has_access_body bytes) → (access_in bytes).place
     ≡ big_number 2 (take (length bytes - 6) (drop 6 bytes))
 access_place bytes there = (access_placed bytes there).place ∙ number_from 2 6 bytes
 
-pub access_index : (bytes : List ℕ) → IsTrue (is_access_frame bytes) → (access_in bytes).index
+pub access_index : (bytes : List ℕ) → IsTrue (has_access_body bytes) → (access_in bytes).index
     ≡ big_number 2 (take (length bytes - 8) (drop 8 bytes))
 access_index bytes there = (access_placed bytes there).index ∙ number_from 2 8 bytes
 
-pub access_count : (bytes : List ℕ) → IsTrue (is_access_frame bytes) → entries_of bytes ≡ get_or bytes 10 0
+pub access_count : (bytes : List ℕ) → IsTrue (has_access_body bytes) → entries_of bytes ≡ get_or bytes 10 0
 access_count bytes there = (access_placed bytes there).count
 
 pub ruleset access_laws =

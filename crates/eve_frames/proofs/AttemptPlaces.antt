@@ -16,7 +16,7 @@ use Rattle.eve_grammar.specs.Limits.{is_reply}
 use Rattle.eve_grammar.proofs.Codec.{IsBytes, IsBytes-drop, Codec-many}
 use Rattle.eve_grammar.proofs.PartCodecs.{reply_length, Codec-reply}
 use Rattle.eve_grammar.proofs.Scans.{many_length, text_length}
-use Rattle.eve_frames.specs.Views.{is_attempt_frame, attempt_in}
+use Rattle.eve_frames.specs.Views.{has_attempt_body, attempt_in}
 use Rattle.eve_frames.proofs.Places.{found, number_from, number_some, bytes_some, made_some, made_if_some}
 use Rattle.eve_grammar.proofs.Codec.{some_is}
 use Rattle.eve_frames.proofs.Places.{only_some, whole_some, both_some, both_any, led_some, Takes-number, Takes-only}
@@ -121,7 +121,7 @@ attempt_at bytes a e =
       },
     )
 
-pub attempt_read : (bytes : List ℕ) → IsTrue (is_attempt_frame bytes) → attempt_of (drop 5 bytes)
+pub attempt_read : (bytes : List ℕ) → IsTrue (has_attempt_body bytes) → attempt_of (drop 5 bytes)
     ≡ Some (attempt_in bytes)
 unfolding attempt_in
 attempt_read bytes there = found (attempt_of (drop 5 bytes)) _ there
@@ -130,45 +130,45 @@ attempt_read bytes there = found (attempt_of (drop 5 bytes)) _ there
 abbrev pub requests_of : List ℕ → ℕ
 requests_of bytes = length (attempt_in bytes).certificate
 
-pub attempt_placed : (bytes : List ℕ) → IsTrue (is_attempt_frame bytes)
+pub attempt_placed : (bytes : List ℕ) → IsTrue (has_attempt_body bytes)
     → AttemptAt bytes (requests_of bytes) (attempt_in bytes)
 attempt_placed bytes there =
     let p = attempt_at bytes (attempt_in bytes) (attempt_read bytes there) in
     subst (λ (n : ℕ). AttemptAt bytes n (attempt_in bytes)) (sym p.1.certificate.count) p.1
 
-pub attempt_long : (bytes : List ℕ) → IsTrue (is_attempt_frame bytes) → length bytes ≡ 48 + 11 * requests_of bytes
+pub attempt_long : (bytes : List ℕ) → IsTrue (has_attempt_body bytes) → length bytes ≡ 48 + 11 * requests_of bytes
 attempt_long bytes there = (attempt_placed bytes there).long
 
-pub attempt_few : (bytes : List ℕ) → IsTrue (is_attempt_frame bytes) → requests_of bytes ≤ 256
+pub attempt_few : (bytes : List ℕ) → IsTrue (has_attempt_body bytes) → requests_of bytes ≤ 256
 attempt_few bytes there = (attempt_placed bytes there).few
 
-pub attempt_seq : (bytes : List ℕ) → IsTrue (is_attempt_frame bytes) → (attempt_in bytes).seq
+pub attempt_seq : (bytes : List ℕ) → IsTrue (has_attempt_body bytes) → (attempt_in bytes).seq
     ≡ big_number 4 (take (length bytes - 5) (drop 5 bytes))
 attempt_seq bytes there = (attempt_placed bytes there).seq ∙ number_from 4 5 bytes
 
-pub attempt_view : (bytes : List ℕ) → IsTrue (is_attempt_frame bytes) → (attempt_in bytes).view
+pub attempt_view : (bytes : List ℕ) → IsTrue (has_attempt_body bytes) → (attempt_in bytes).view
     ≡ big_number 4 (take (length bytes - 9) (drop 9 bytes))
 attempt_view bytes there = (attempt_placed bytes there).view ∙ number_from 4 9 bytes
 
-pub attempt_serial : (bytes : List ℕ) → IsTrue (is_attempt_frame bytes) → (attempt_in bytes).serial
+pub attempt_serial : (bytes : List ℕ) → IsTrue (has_attempt_body bytes) → (attempt_in bytes).serial
     ≡ eqb (get_or bytes 13 0) 1
 attempt_serial bytes there = (attempt_placed bytes there).serial
 
-pub attempt_count : (bytes : List ℕ) → IsTrue (is_attempt_frame bytes) → requests_of bytes
+pub attempt_count : (bytes : List ℕ) → IsTrue (has_attempt_body bytes) → requests_of bytes
     ≡ big_number 2 (take (length bytes - 14) (drop 14 bytes))
 attempt_count bytes there = (attempt_placed bytes there).count ∙ number_from 2 14 bytes
 
 -- a reply for each index
-pub attempt_even : (bytes : List ℕ) → IsTrue (is_attempt_frame bytes) → length (attempt_in bytes).replies
+pub attempt_even : (bytes : List ℕ) → IsTrue (has_attempt_body bytes) → length (attempt_in bytes).replies
     ≡ requests_of bytes
 attempt_even bytes there = (attempt_placed bytes there).replies.count
 
-pub attempt_token : (bytes : List ℕ) → IsTrue (is_attempt_frame bytes) → (attempt_in bytes).token
+pub attempt_token : (bytes : List ℕ) → IsTrue (has_attempt_body bytes) → (attempt_in bytes).token
     ≡ take 32 (drop (16 + 11 * requests_of bytes) bytes)
 attempt_token bytes there = (attempt_placed bytes there).token
 
 -- the replies' spelling
-pub attempt_replies : (bytes : List ℕ) → IsTrue (is_attempt_frame bytes) → IsBytes bytes
+pub attempt_replies : (bytes : List ℕ) → IsTrue (has_attempt_body bytes) → IsBytes bytes
     → take (9 * requests_of bytes) (drop (16 + 2 * requests_of bytes) bytes)
     ≡ flat_map reply_text (attempt_in bytes).replies
 attempt_replies bytes there fits =

@@ -12,7 +12,7 @@ use Rattle.eve_grammar.specs.Trace.{Batch}
 use Rattle.eve_grammar.specs.Reading.{number_at, both, both_by, led_by, made, only, many_at, asked_at, are_sizes}
 use Rattle.eve_grammar.specs.Reading.{sizes_at, batch_from, batch_of}
 use Rattle.eve_grammar.proofs.Scans.{many_length}
-use Rattle.eve_frames.specs.Views.{is_batch_frame, batch_in}
+use Rattle.eve_frames.specs.Views.{has_batch_body, batch_in}
 use Rattle.eve_frames.proofs.Places.{found, number_from, number_some, made_some, only_some, whole_some, both_some}
 use Rattle.eve_frames.proofs.Places.{by_some, led_some, Takes-number}
 use Rattle.eve_frames.proofs.Lists.{Takes-many, Stand}
@@ -79,7 +79,7 @@ batch_at bytes b e =
       }),
     )
 
-pub batch_read : (bytes : List ℕ) → IsTrue (is_batch_frame bytes) → batch_of (drop 5 bytes) ≡ Some (batch_in bytes)
+pub batch_read : (bytes : List ℕ) → IsTrue (has_batch_body bytes) → batch_of (drop 5 bytes) ≡ Some (batch_in bytes)
 unfolding batch_in
 batch_read bytes there = found (batch_of (drop 5 bytes)) _ there
 
@@ -87,26 +87,26 @@ batch_read bytes there = found (batch_of (drop 5 bytes)) _ there
 abbrev pub groups_of : List ℕ → ℕ
 groups_of bytes = length (batch_in bytes).1.sizes
 
-pub batch_placed : (bytes : List ℕ) → IsTrue (is_batch_frame bytes) → BatchAt bytes (groups_of bytes) (batch_in bytes)
+pub batch_placed : (bytes : List ℕ) → IsTrue (has_batch_body bytes) → BatchAt bytes (groups_of bytes) (batch_in bytes)
 batch_placed bytes there =
     let p = batch_at bytes (batch_in bytes) (batch_read bytes there) in
     subst (λ (n : ℕ). BatchAt bytes n (batch_in bytes)) (sym p.1.sizes.count) p.1
 
-pub batch_long : (bytes : List ℕ) → IsTrue (is_batch_frame bytes) → 11 + 2 * groups_of bytes ≤ length bytes
+pub batch_long : (bytes : List ℕ) → IsTrue (has_batch_body bytes) → 11 + 2 * groups_of bytes ≤ length bytes
 batch_long bytes there = (batch_placed bytes there).sizes.long
 
-pub batch_few : (bytes : List ℕ) → IsTrue (is_batch_frame bytes) → sum (batch_in bytes).1.sizes ≤ 256
+pub batch_few : (bytes : List ℕ) → IsTrue (has_batch_body bytes) → sum (batch_in bytes).1.sizes ≤ 256
 batch_few bytes there = (batch_placed bytes there).few
 
-pub batch_total : (bytes : List ℕ) → IsTrue (is_batch_frame bytes) → length (batch_in bytes).1.requests
+pub batch_total : (bytes : List ℕ) → IsTrue (has_batch_body bytes) → length (batch_in bytes).1.requests
     ≡ sum (batch_in bytes).1.sizes
 batch_total bytes there = (batch_placed bytes there).total
 
-pub batch_seq : (bytes : List ℕ) → IsTrue (is_batch_frame bytes) → (batch_in bytes).0
+pub batch_seq : (bytes : List ℕ) → IsTrue (has_batch_body bytes) → (batch_in bytes).0
     ≡ big_number 4 (take (length bytes - 5) (drop 5 bytes))
 batch_seq bytes there = (batch_placed bytes there).seq ∙ number_from 4 5 bytes
 
-pub batch_count : (bytes : List ℕ) → IsTrue (is_batch_frame bytes) → groups_of bytes
+pub batch_count : (bytes : List ℕ) → IsTrue (has_batch_body bytes) → groups_of bytes
     ≡ big_number 2 (take (length bytes - 9) (drop 9 bytes))
 batch_count bytes there = (batch_placed bytes there).count ∙ number_from 2 9 bytes
 

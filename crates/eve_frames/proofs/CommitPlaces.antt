@@ -5,7 +5,7 @@ use Rattle.std.proofs.lemmas.List.{length-drop}
 use Rattle.byteorder.specs.Endian.{big_number}
 use Rattle.eve_grammar.specs.Trace.{Commit}
 use Rattle.eve_grammar.specs.Reading.{number_at, both, made, commit_from, token_at, commit_of}
-use Rattle.eve_frames.specs.Views.{is_commit_frame, commit_in}
+use Rattle.eve_frames.specs.Views.{has_commit_body, commit_in}
 use Rattle.eve_frames.proofs.Places.{found, number_some, bytes_some, made_some, whole_some, both_some, Takes-number}
 
 pub record CommitAt (bytes : List ℕ) (c : Commit) : Type 0 where
@@ -32,21 +32,21 @@ commit_at bytes c e =
       token = ap (λ (x : Commit). x.token) m.2 ∙ token.1;
     }
 
-pub commit_read : (bytes : List ℕ) → IsTrue (is_commit_frame bytes) → commit_of (drop 5 bytes) ≡ Some (commit_in bytes)
+pub commit_read : (bytes : List ℕ) → IsTrue (has_commit_body bytes) → commit_of (drop 5 bytes) ≡ Some (commit_in bytes)
 unfolding commit_in
 commit_read bytes there = found (commit_of (drop 5 bytes)) _ there
 
-pub commit_long : (bytes : List ℕ) → IsTrue (is_commit_frame bytes) → length bytes ≡ 45
+pub commit_long : (bytes : List ℕ) → IsTrue (has_commit_body bytes) → length bytes ≡ 45
 commit_long bytes there = (commit_at bytes (commit_in bytes) (commit_read bytes there)).long
 
-pub commit_seq : (bytes : List ℕ) → IsTrue (is_commit_frame bytes) → (commit_in bytes).seq ≡ big_number 4 (drop 5 bytes)
+pub commit_seq : (bytes : List ℕ) → IsTrue (has_commit_body bytes) → (commit_in bytes).seq ≡ big_number 4 (drop 5 bytes)
 commit_seq bytes there = (commit_at bytes (commit_in bytes) (commit_read bytes there)).seq
 
-pub commit_view : (bytes : List ℕ) → IsTrue (is_commit_frame bytes) → (commit_in bytes).view
+pub commit_view : (bytes : List ℕ) → IsTrue (has_commit_body bytes) → (commit_in bytes).view
     ≡ big_number 4 (drop 9 bytes)
 commit_view bytes there = (commit_at bytes (commit_in bytes) (commit_read bytes there)).view
 
-pub commit_token : (bytes : List ℕ) → IsTrue (is_commit_frame bytes) → (commit_in bytes).token ≡ take 32 (drop 13 bytes)
+pub commit_token : (bytes : List ℕ) → IsTrue (has_commit_body bytes) → (commit_in bytes).token ≡ take 32 (drop 13 bytes)
 commit_token bytes there = (commit_at bytes (commit_in bytes) (commit_read bytes there)).token
 
 pub ruleset commit_laws = (commit_read, commit_long, commit_seq, commit_view, commit_token)

@@ -12,7 +12,7 @@ use Rattle.eve_accounts.specs.Names.{is_name, is_printable}
 use Rattle.eve_grammar.specs.Trace.{Customer}
 use Rattle.eve_grammar.specs.Reading.{number_at, bytes_at, signed_at, both, led_by, made, only, name_at, saving_at}
 use Rattle.eve_grammar.specs.Reading.{balance_at, customer_from, customer_of}
-use Rattle.eve_frames.specs.Views.{is_customer_frame, customer_in}
+use Rattle.eve_frames.specs.Views.{has_customer_body, customer_in}
 use Rattle.eve_frames.proofs.Places.{found, number_some, bytes_some, made_some, only_some, whole_some, both_some}
 use Rattle.eve_frames.proofs.Places.{both_any, led_some, Takes-number, Takes-signed, Takes-only, byte_at}
 
@@ -91,7 +91,7 @@ customer_at bytes c e =
       }),
     )
 
-pub customer_read : (bytes : List ℕ) → IsTrue (is_customer_frame bytes) → customer_of (drop 5 bytes)
+pub customer_read : (bytes : List ℕ) → IsTrue (has_customer_body bytes) → customer_of (drop 5 bytes)
     ≡ Some (customer_in bytes)
 unfolding customer_in
 customer_read bytes there = found (customer_of (drop 5 bytes)) _ there
@@ -100,44 +100,44 @@ customer_read bytes there = found (customer_of (drop 5 bytes)) _ there
 abbrev pub name_length : List ℕ → ℕ
 name_length bytes = length (customer_in bytes).name
 
-pub customer_placed : (bytes : List ℕ) → IsTrue (is_customer_frame bytes)
+pub customer_placed : (bytes : List ℕ) → IsTrue (has_customer_body bytes)
     → CustomerAt bytes (name_length bytes) (customer_in bytes)
 customer_placed bytes there =
     let p = customer_at bytes (customer_in bytes) (customer_read bytes there) in
     subst (λ (n : ℕ). CustomerAt bytes n (customer_in bytes)) (sym p.1.named) p.1
 
-pub customer_long : (bytes : List ℕ) → IsTrue (is_customer_frame bytes) → length bytes ≡ 22 + name_length bytes
+pub customer_long : (bytes : List ℕ) → IsTrue (has_customer_body bytes) → length bytes ≡ 22 + name_length bytes
 customer_long bytes there = (customer_placed bytes there).long
 
-pub customer_few : (bytes : List ℕ) → IsTrue (is_customer_frame bytes) → name_length bytes ≤ 24
+pub customer_few : (bytes : List ℕ) → IsTrue (has_customer_body bytes) → name_length bytes ≤ 24
 customer_few bytes there = (customer_placed bytes there).few
 
-pub customer_count : (bytes : List ℕ) → IsTrue (is_customer_frame bytes) → name_length bytes ≡ get_or bytes 5 0
+pub customer_count : (bytes : List ℕ) → IsTrue (has_customer_body bytes) → name_length bytes ≡ get_or bytes 5 0
 customer_count bytes there = (customer_placed bytes there).count
 
-pub customer_name : (bytes : List ℕ) → IsTrue (is_customer_frame bytes) → (customer_in bytes).name
+pub customer_name : (bytes : List ℕ) → IsTrue (has_customer_body bytes) → (customer_in bytes).name
     ≡ take (name_length bytes) (drop 6 bytes)
 customer_name bytes there = (customer_placed bytes there).name
 
 pub ruleset customer_laws = (customer_read, customer_long, customer_few, customer_count)
 
 -- the balances, where the name ends at this place
-pub customer_saving : (bytes : List ℕ) (end : ℕ) → IsTrue (is_customer_frame bytes) → end ≡ 6 + name_length bytes
+pub customer_saving : (bytes : List ℕ) (end : ℕ) → IsTrue (has_customer_body bytes) → end ≡ 6 + name_length bytes
     → signed_from end bytes ≡ (customer_in bytes).saving
 customer_saving bytes end there e = ap (λ (k : ℕ). signed_from k bytes) e ∙ sym (customer_placed bytes there).saving
 
-pub customer_saved : (bytes : List ℕ) (end : ℕ) → IsTrue (is_customer_frame bytes) → end ≡ 6 + name_length bytes
+pub customer_saved : (bytes : List ℕ) (end : ℕ) → IsTrue (has_customer_body bytes) → end ≡ 6 + name_length bytes
     → IsTrue (is_balance (signed_from end bytes))
 customer_saved bytes end there e = ap is_balance (customer_saving bytes end there e)
     ∙ (customer_placed bytes there).saved
 
-pub customer_checking : (bytes : List ℕ) (end : ℕ) → IsTrue (is_customer_frame bytes) → end ≡ 6 + name_length bytes
+pub customer_checking : (bytes : List ℕ) (end : ℕ) → IsTrue (has_customer_body bytes) → end ≡ 6 + name_length bytes
     → signed_from (end + 8) bytes ≡ (customer_in bytes).checking
 customer_checking bytes end there e =
     let place : end + 8 ≡ 14 + name_length bytes = omega (arith, e) in
     ap (λ (k : ℕ). signed_from k bytes) place ∙ sym (customer_placed bytes there).checking
 
-pub customer_owed : (bytes : List ℕ) (end : ℕ) → IsTrue (is_customer_frame bytes) → end ≡ 6 + name_length bytes
+pub customer_owed : (bytes : List ℕ) (end : ℕ) → IsTrue (has_customer_body bytes) → end ≡ 6 + name_length bytes
     → IsTrue (is_balance (signed_from (end + 8) bytes))
 customer_owed bytes end there e = ap is_balance (customer_checking bytes end there e)
     ∙ (customer_placed bytes there).owed

@@ -11,9 +11,9 @@ use Rattle.eve_grammar.proofs.Codec.{IsBytes-drop}
 use Rattle.eve_grammar.proofs.BodyCodecs.{Exact, Exact-customer, Exact-batch, Exact-attempt, Exact-access, Exact-commit}
 use Rattle.eve_grammar.proofs.BodyCodecs.{Exact-rollback, Exact-vote, Exact-sent}
 use Rattle.eve_grammar.specs.declared.limits.TheConstants.{MOST_ROWS, MOST_REPLICAS, MOST_BATCHES}
-use Rattle.eve_frames.specs.Views.{is_customer_frame, is_batch_frame}
-use Rattle.eve_frames.specs.Views.{is_attempt_frame, is_access_frame, is_commit_frame, is_rollback_frame, is_vote_frame}
-use Rattle.eve_frames.specs.Views.{is_sent_frame, customer_in, batch_in, attempt_in, access_in, commit_in, rollback_in}
+use Rattle.eve_frames.specs.Views.{has_customer_body, has_batch_body}
+use Rattle.eve_frames.specs.Views.{has_attempt_body, has_access_body, has_commit_body, has_rollback_body, has_vote_body}
+use Rattle.eve_frames.specs.Views.{has_sent_body, customer_in, batch_in, attempt_in, access_in, commit_in, rollback_in}
 use Rattle.eve_grammar.specs.Places.{IsBytes}
 use Rattle.eve_frames.specs.Views.{vote_in, sent_in}
 use Rattle.eve_frames.proofs.Places.{found}
@@ -25,18 +25,18 @@ fits text test read exact bytes none whole there =
     (exact.takes (drop 5 bytes) (unwrap_or (read (drop 5 bytes)) none) (IsBytes-drop 5 bytes whole)
     (found (read (drop 5 bytes)) none there)).1
 
-pub customer_fits : (bytes : List ℕ) → IsBytes bytes → IsTrue (is_customer_frame bytes)
+pub customer_fits : (bytes : List ℕ) → IsBytes bytes → IsTrue (has_customer_body bytes)
     → IsTrue (is_customer (customer_in bytes))
 unfolding customer_in
 customer_fits bytes whole there = fits _ is_customer customer_of Exact-customer bytes _ whole there
 
-pub batch_fits : (bytes : List ℕ) → IsBytes bytes → IsTrue (is_batch_frame bytes)
+pub batch_fits : (bytes : List ℕ) → IsBytes bytes → IsTrue (has_batch_body bytes)
     → IsTrue (is_number 4 (batch_in bytes).0) × IsTrue (is_batch (batch_in bytes).1)
 unfolding batch_in
 batch_fits bytes whole there = and_parts (is_number 4 (batch_in bytes).0) (is_batch (batch_in bytes).1)
     (fits _ _ batch_of Exact-batch bytes _ whole there)
 
-pub attempt_fits : (bytes : List ℕ) → IsBytes bytes → IsTrue (is_attempt_frame bytes)
+pub attempt_fits : (bytes : List ℕ) → IsBytes bytes → IsTrue (has_attempt_body bytes)
     → IsTrue (is_attempt (attempt_in bytes)) × ((attempt_in bytes).accesses ≡ [])
 unfolding attempt_in
 attempt_fits bytes whole there =
@@ -44,30 +44,30 @@ attempt_fits bytes whole there =
     (fits _ _ attempt_of Exact-attempt bytes _ whole there) in
     (p.0, nil_from_length (attempt_in bytes).accesses (eqb-true (length (attempt_in bytes).accesses) 0 p.1))
 
-pub access_fits : (bytes : List ℕ) → IsBytes bytes → IsTrue (is_access_frame bytes)
+pub access_fits : (bytes : List ℕ) → IsBytes bytes → IsTrue (has_access_body bytes)
     → IsTrue (is_access MOST_ROWS (access_in bytes))
 unfolding access_in
 access_fits bytes whole there = fits _ (is_access MOST_ROWS) (access_of MOST_ROWS)
     (Exact-access MOST_ROWS (omega arith)) bytes _ whole there
 
-pub commit_fits : (bytes : List ℕ) → IsBytes bytes → IsTrue (is_commit_frame bytes)
+pub commit_fits : (bytes : List ℕ) → IsBytes bytes → IsTrue (has_commit_body bytes)
     → IsTrue (is_commit (commit_in bytes))
 unfolding commit_in
 commit_fits bytes whole there = fits _ is_commit commit_of Exact-commit bytes _ whole there
 
-pub rollback_fits : (bytes : List ℕ) → IsBytes bytes → IsTrue (is_rollback_frame bytes)
+pub rollback_fits : (bytes : List ℕ) → IsBytes bytes → IsTrue (has_rollback_body bytes)
     → IsTrue (is_rollback MOST_ROWS (rollback_in bytes))
 unfolding rollback_in
 rollback_fits bytes whole there = fits _ (is_rollback MOST_ROWS) (rollback_of MOST_ROWS)
     (Exact-rollback MOST_ROWS (omega arith)) bytes _ whole there
 
-pub vote_fits : (bytes : List ℕ) → IsBytes bytes → IsTrue (is_vote_frame bytes)
+pub vote_fits : (bytes : List ℕ) → IsBytes bytes → IsTrue (has_vote_body bytes)
     → IsTrue (is_vote MOST_BATCHES (vote_in bytes))
 unfolding vote_in
 vote_fits bytes whole there = fits _ (is_vote MOST_BATCHES) (vote_of MOST_BATCHES)
     (Exact-vote MOST_BATCHES (omega arith)) bytes _ whole there
 
-pub sent_fits : (bytes : List ℕ) → IsBytes bytes → IsTrue (is_sent_frame bytes)
+pub sent_fits : (bytes : List ℕ) → IsBytes bytes → IsTrue (has_sent_body bytes)
     → IsTrue (is_sent MOST_REPLICAS MOST_BATCHES (sent_in bytes))
 unfolding sent_in
 sent_fits bytes whole there = fits _ (is_sent MOST_REPLICAS MOST_BATCHES) (sent_of MOST_REPLICAS MOST_BATCHES)

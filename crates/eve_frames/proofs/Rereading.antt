@@ -17,9 +17,9 @@ use Rattle.eve_grammar.proofs.BodyCodecs.{Exact-customer, Exact-batch, Exact-att
 use Rattle.eve_grammar.proofs.BodyCodecs.{Exact-rollback, Exact-vote, Exact-sent}
 use Rattle.eve_smallbank.specs.declared.entry.Entry.{Entry}
 use Rattle.eve_grammar.specs.declared.limits.TheConstants.{MOST_ROWS, MOST_REPLICAS, MOST_BATCHES}
-use Rattle.eve_frames.specs.Views.{is_customer_frame, is_batch_frame}
-use Rattle.eve_frames.specs.Views.{is_attempt_frame, is_access_frame, is_commit_frame, is_rollback_frame, is_vote_frame}
-use Rattle.eve_frames.specs.Views.{is_sent_frame, customer_in, batch_in, attempt_in, access_in, commit_in, rollback_in}
+use Rattle.eve_frames.specs.Views.{has_customer_body, has_batch_body}
+use Rattle.eve_frames.specs.Views.{has_attempt_body, has_access_body, has_commit_body, has_rollback_body, has_vote_body}
+use Rattle.eve_frames.specs.Views.{has_sent_body, customer_in, batch_in, attempt_in, access_in, commit_in, rollback_in}
 use Rattle.eve_frames.specs.Views.{vote_in, sent_in, Says}
 
 -- what is read of a body is what its frame says
@@ -93,47 +93,47 @@ sent_more replicas batches r b s fits =
 -- ---- kind by kind
 
 pub customer_again : (c : Customer) → IsTrue (is_customer c)
-    → Says is_customer_frame customer_in (frame_text (OfCustomer c)) c
+    → Says has_customer_body customer_in (frame_text (OfCustomer c)) c
 unfolding customer_in
 customer_again c fits = says customer_of _ c (OfCustomer c) (Exact-customer.again c fits)
 
 pub batch_again : (number : ℕ) (b : Batch) → number < 2 ^ 32 → IsTrue (is_batch b)
-    → Says is_batch_frame batch_in (frame_text (OfBatch number b)) (number, b)
+    → Says has_batch_body batch_in (frame_text (OfBatch number b)) (number, b)
 unfolding batch_in
 batch_again number b lt fits = says batch_of _ (number, b) (OfBatch number b)
     (Exact-batch.again (number, b)
     (and_from (is_number 4 number) (is_batch b) (lt-ltb number (256 ^ 4) (omega arith)) fits))
 
-pub attempt_again : (a : Attempt) → IsTrue (is_attempt a) → Says is_attempt_frame attempt_in (frame_text (OfAttempt a))
+pub attempt_again : (a : Attempt) → IsTrue (is_attempt a) → Says has_attempt_body attempt_in (frame_text (OfAttempt a))
     (without_accesses a)
 unfolding attempt_in
 attempt_again a fits = says attempt_of _ (without_accesses a) (OfAttempt a)
     (Exact-attempt.again (without_accesses a) (and_from (is_attempt a) true fits refl))
 
 pub access_again : (rows : ℕ) (x : Access) → IsTrue (is_access rows x) → rows ≤ MOST_ROWS
-    → Says is_access_frame access_in (frame_text (OfAccess x)) x
+    → Says has_access_body access_in (frame_text (OfAccess x)) x
 unfolding access_in
 access_again rows x fits le = says (access_of MOST_ROWS) _ x (OfAccess x)
     ((Exact-access MOST_ROWS (omega arith)).again x (access_more rows MOST_ROWS le x fits))
 
-pub commit_again : (c : Commit) → IsTrue (is_commit c) → Says is_commit_frame commit_in (frame_text (OfCommit c)) c
+pub commit_again : (c : Commit) → IsTrue (is_commit c) → Says has_commit_body commit_in (frame_text (OfCommit c)) c
 unfolding commit_in
 commit_again c fits = says commit_of _ c (OfCommit c) (Exact-commit.again c fits)
 
 pub rollback_again : (rows : ℕ) (r : Rollback) → IsTrue (is_rollback rows r) → rows ≤ MOST_ROWS
-    → Says is_rollback_frame rollback_in (frame_text (OfRollback r)) r
+    → Says has_rollback_body rollback_in (frame_text (OfRollback r)) r
 unfolding rollback_in
 rollback_again rows r fits le = says (rollback_of MOST_ROWS) _ r (OfRollback r)
     ((Exact-rollback MOST_ROWS (omega arith)).again r (rollback_more rows MOST_ROWS le r fits))
 
 pub vote_again : (batches : ℕ) (v : Vote) → IsTrue (is_vote batches v) → batches ≤ MOST_BATCHES
-    → Says is_vote_frame vote_in (frame_text (OfVote v)) v
+    → Says has_vote_body vote_in (frame_text (OfVote v)) v
 unfolding vote_in
 vote_again batches v fits le = says (vote_of MOST_BATCHES) _ v (OfVote v)
     ((Exact-vote MOST_BATCHES (omega arith)).again v (vote_more batches MOST_BATCHES le v fits))
 
 pub sent_again : (replicas batches : ℕ) (s : Sent) → IsTrue (is_sent replicas batches s) → replicas ≤ MOST_REPLICAS
-    → batches ≤ MOST_BATCHES → Says is_sent_frame sent_in (frame_text (OfSent s)) s
+    → batches ≤ MOST_BATCHES → Says has_sent_body sent_in (frame_text (OfSent s)) s
 unfolding sent_in
 sent_again replicas batches s fits r b =
     says (sent_of MOST_REPLICAS MOST_BATCHES) _ s (OfSent s)

@@ -9,7 +9,7 @@ use Rattle.eve_grammar.specs.Reading.{number_at, signed_at, both, led_by, made, 
 use Rattle.eve_grammar.specs.Reading.{restore_fields_at, restore_at, restores_at, rollback_from, rollback_of}
 use Rattle.eve_grammar.proofs.Scans.{many_length}
 use Rattle.eve_grammar.specs.declared.limits.TheConstants.{MOST_ROWS}
-use Rattle.eve_frames.specs.Views.{is_rollback_frame, rollback_in}
+use Rattle.eve_frames.specs.Views.{has_rollback_body, rollback_in}
 use Rattle.eve_frames.proofs.Places.{Takes, found, number_from, number_some, made_some, only_some, whole_some}
 use Rattle.eve_frames.proofs.Places.{both_some, led_some, Takes-number, Takes-signed, Takes-only, Takes-made}
 use Rattle.eve_frames.proofs.Places.{Takes-both}
@@ -83,7 +83,7 @@ rollback_at bytes r e =
       },
     )
 
-pub rollback_read : (bytes : List ℕ) → IsTrue (is_rollback_frame bytes) → rollback_of MOST_ROWS (drop 5 bytes)
+pub rollback_read : (bytes : List ℕ) → IsTrue (has_rollback_body bytes) → rollback_of MOST_ROWS (drop 5 bytes)
     ≡ Some (rollback_in bytes)
 unfolding rollback_in
 rollback_read bytes there = found (rollback_of MOST_ROWS (drop 5 bytes)) _ there
@@ -92,24 +92,24 @@ rollback_read bytes there = found (rollback_of MOST_ROWS (drop 5 bytes)) _ there
 abbrev pub restores_of : List ℕ → ℕ
 restores_of bytes = length (rollback_in bytes).restores
 
-pub rollback_placed : (bytes : List ℕ) → IsTrue (is_rollback_frame bytes)
+pub rollback_placed : (bytes : List ℕ) → IsTrue (has_rollback_body bytes)
     → RollbackAt bytes (restores_of bytes) (rollback_in bytes)
 rollback_placed bytes there =
     let p = rollback_at bytes (rollback_in bytes) (rollback_read bytes there) in
     subst (λ (n : ℕ). RollbackAt bytes n (rollback_in bytes)) (sym p.1.restores.count) p.1
 
-pub rollback_long : (bytes : List ℕ) → IsTrue (is_rollback_frame bytes) → length bytes ≡ 17 + 20 * restores_of bytes
+pub rollback_long : (bytes : List ℕ) → IsTrue (has_rollback_body bytes) → length bytes ≡ 17 + 20 * restores_of bytes
 rollback_long bytes there = (rollback_placed bytes there).long
 
-pub rollback_to : (bytes : List ℕ) → IsTrue (is_rollback_frame bytes) → (rollback_in bytes).to
+pub rollback_to : (bytes : List ℕ) → IsTrue (has_rollback_body bytes) → (rollback_in bytes).to
     ≡ big_number 4 (take (length bytes - 5) (drop 5 bytes))
 rollback_to bytes there = (rollback_placed bytes there).to ∙ number_from 4 5 bytes
 
-pub rollback_view : (bytes : List ℕ) → IsTrue (is_rollback_frame bytes) → (rollback_in bytes).view
+pub rollback_view : (bytes : List ℕ) → IsTrue (has_rollback_body bytes) → (rollback_in bytes).view
     ≡ big_number 4 (take (length bytes - 9) (drop 9 bytes))
 rollback_view bytes there = (rollback_placed bytes there).view ∙ number_from 4 9 bytes
 
-pub rollback_count : (bytes : List ℕ) → IsTrue (is_rollback_frame bytes) → restores_of bytes
+pub rollback_count : (bytes : List ℕ) → IsTrue (has_rollback_body bytes) → restores_of bytes
     ≡ big_number 4 (take (length bytes - 13) (drop 13 bytes))
 rollback_count bytes there = (rollback_placed bytes there).count ∙ number_from 4 13 bytes
 

@@ -8,7 +8,7 @@ use Rattle.eve_grammar.specs.Trace.{Sent}
 use Rattle.eve_grammar.specs.Limits.{is_between}
 use Rattle.eve_grammar.specs.Reading.{number_at, signed_at, both, made, only, reply_from, reply_at, sent_from, sent_of}
 use Rattle.eve_grammar.specs.declared.limits.TheConstants.{MOST_REPLICAS, MOST_BATCHES}
-use Rattle.eve_frames.specs.Views.{is_sent_frame, sent_in}
+use Rattle.eve_frames.specs.Views.{has_sent_body, sent_in}
 use Rattle.eve_frames.proofs.Places.{Takes, found, number_some, made_some, only_some, whole_some, both_some}
 use Rattle.eve_frames.proofs.Places.{Takes-number, Takes-signed, Takes-only, Takes-both, Takes-made_if, byte_at}
 
@@ -65,31 +65,31 @@ sent_at bytes s e =
     some_reply : Reply → List ℕ → Option (Reply × List ℕ)
     some_reply r rest = Some (r, rest)
 
-pub sent_read : (bytes : List ℕ) → IsTrue (is_sent_frame bytes) → sent_of MOST_REPLICAS MOST_BATCHES (drop 5 bytes)
+pub sent_read : (bytes : List ℕ) → IsTrue (has_sent_body bytes) → sent_of MOST_REPLICAS MOST_BATCHES (drop 5 bytes)
     ≡ Some (sent_in bytes)
 unfolding sent_in
 sent_read bytes there = found (sent_of MOST_REPLICAS MOST_BATCHES (drop 5 bytes)) _ there
 
-abbrev placed : (bytes : List ℕ) → IsTrue (is_sent_frame bytes) → SentAt bytes (sent_in bytes)
+abbrev placed : (bytes : List ℕ) → IsTrue (has_sent_body bytes) → SentAt bytes (sent_in bytes)
 placed bytes there = sent_at bytes (sent_in bytes) (sent_read bytes there)
 
-pub sent_long : (bytes : List ℕ) → IsTrue (is_sent_frame bytes) → length bytes ≡ 31
+pub sent_long : (bytes : List ℕ) → IsTrue (has_sent_body bytes) → length bytes ≡ 31
 sent_long bytes there = (placed bytes there).long
 
-pub sent_client : (bytes : List ℕ) → IsTrue (is_sent_frame bytes) → (sent_in bytes).client ≡ big_number 4 (drop 5 bytes)
+pub sent_client : (bytes : List ℕ) → IsTrue (has_sent_body bytes) → (sent_in bytes).client ≡ big_number 4 (drop 5 bytes)
 sent_client bytes there = (placed bytes there).client
 
-pub sent_number : (bytes : List ℕ) → IsTrue (is_sent_frame bytes) → (sent_in bytes).number ≡ big_number 8 (drop 9 bytes)
+pub sent_number : (bytes : List ℕ) → IsTrue (has_sent_body bytes) → (sent_in bytes).number ≡ big_number 8 (drop 9 bytes)
 sent_number bytes there = (placed bytes there).number
 
-pub sent_replica : (bytes : List ℕ) → IsTrue (is_sent_frame bytes) → (sent_in bytes).replica ≡ get_or bytes 17 0
+pub sent_replica : (bytes : List ℕ) → IsTrue (has_sent_body bytes) → (sent_in bytes).replica ≡ get_or bytes 17 0
 sent_replica bytes there = (placed bytes there).replica
 
-pub sent_seq : (bytes : List ℕ) → IsTrue (is_sent_frame bytes) → (sent_in bytes).seq ≡ big_number 4 (drop 18 bytes)
+pub sent_seq : (bytes : List ℕ) → IsTrue (has_sent_body bytes) → (sent_in bytes).seq ≡ big_number 4 (drop 18 bytes)
 sent_seq bytes there = (placed bytes there).seq
 
 -- the reply is read from byte 22 on
-pub sent_reply : (bytes : List ℕ) → IsTrue (is_sent_frame bytes) → reply_at (take (length bytes - 22) (drop 22 bytes))
+pub sent_reply : (bytes : List ℕ) → IsTrue (has_sent_body bytes) → reply_at (take (length bytes - 22) (drop 22 bytes))
     ≡ Some ((sent_in bytes).reply, drop 31 bytes)
 sent_reply bytes there = ap reply_at (take_rest bytes 22) ∙ (placed bytes there).reply
 

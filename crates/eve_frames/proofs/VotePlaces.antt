@@ -10,7 +10,7 @@ use Rattle.eve_grammar.specs.Trace.{Choice, ForRollback, ForCommit, Vote}
 use Rattle.eve_grammar.specs.Limits.{is_between}
 use Rattle.eve_grammar.specs.Reading.{number_at, both, made, made_if, only, choice_from, vote_from, token_at, vote_of}
 use Rattle.eve_grammar.specs.declared.limits.TheConstants.{MOST_BATCHES}
-use Rattle.eve_frames.specs.Views.{is_vote_frame, vote_in}
+use Rattle.eve_frames.specs.Views.{has_vote_body, vote_in}
 use Rattle.eve_frames.proofs.Places.{found, number_some, bytes_some, made_some, made_if_some, only_some}
 use Rattle.eve_grammar.proofs.Codec.{some_is}
 use Rattle.eve_frames.proofs.Places.{whole_some, both_some, Takes-number, Takes-only, byte_at}
@@ -63,28 +63,28 @@ vote_at bytes v e =
           ∙ ap (λ (t : List ℕ). cond (eqb (get_or bytes 13 0) 1) (ForCommit t) ForRollback) token.1;
     }
 
-pub vote_read : (bytes : List ℕ) → IsTrue (is_vote_frame bytes) → vote_of MOST_BATCHES (drop 5 bytes)
+pub vote_read : (bytes : List ℕ) → IsTrue (has_vote_body bytes) → vote_of MOST_BATCHES (drop 5 bytes)
     ≡ Some (vote_in bytes)
 unfolding vote_in
 vote_read bytes there = found (vote_of MOST_BATCHES (drop 5 bytes)) _ there
 
-abbrev placed : (bytes : List ℕ) → IsTrue (is_vote_frame bytes) → VoteAt bytes (vote_in bytes)
+abbrev placed : (bytes : List ℕ) → IsTrue (has_vote_body bytes) → VoteAt bytes (vote_in bytes)
 placed bytes there = vote_at bytes (vote_in bytes) (vote_read bytes there)
 
-pub vote_long : (bytes : List ℕ) → IsTrue (is_vote_frame bytes) → length bytes ≡ 46
+pub vote_long : (bytes : List ℕ) → IsTrue (has_vote_body bytes) → length bytes ≡ 46
 vote_long bytes there = (placed bytes there).long
 
-pub vote_seq : (bytes : List ℕ) → IsTrue (is_vote_frame bytes) → (vote_in bytes).seq ≡ big_number 4 (drop 5 bytes)
+pub vote_seq : (bytes : List ℕ) → IsTrue (has_vote_body bytes) → (vote_in bytes).seq ≡ big_number 4 (drop 5 bytes)
 vote_seq bytes there = (placed bytes there).seq
 
-pub vote_view : (bytes : List ℕ) → IsTrue (is_vote_frame bytes) → (vote_in bytes).view ≡ big_number 4 (drop 9 bytes)
+pub vote_view : (bytes : List ℕ) → IsTrue (has_vote_body bytes) → (vote_in bytes).view ≡ big_number 4 (drop 9 bytes)
 vote_view bytes there = (placed bytes there).view
 
-pub vote_choice : (bytes : List ℕ) → IsTrue (is_vote_frame bytes) → (vote_in bytes).choice ≡ choice_at bytes
+pub vote_choice : (bytes : List ℕ) → IsTrue (has_vote_body bytes) → (vote_in bytes).choice ≡ choice_at bytes
 vote_choice bytes there = (placed bytes there).choice
 
 -- where the choice isn't 1
-pub vote_rollback : (bytes : List ℕ) → IsTrue (is_vote_frame bytes) → (get_or bytes 13 0 ≡ 1 → ⊥)
+pub vote_rollback : (bytes : List ℕ) → IsTrue (has_vote_body bytes) → (get_or bytes 13 0 ≡ 1 → ⊥)
     → (vote_in bytes).choice ≡ ForRollback
 vote_rollback bytes there other = (placed bytes there).choice ∙ by (eqb (get_or bytes 13 0) 1) refl
   where

@@ -13,36 +13,36 @@ body_in bytes = drop 5 bytes
 -- ---- whether a body of the kind stands after the first five bytes, whatever these are
 
 -- the body of a Customer frame
-abbrev pub is_customer_frame : List ℕ → Bool
-is_customer_frame bytes = is_some (customer_of (body_in bytes))
+abbrev pub has_customer_body : List ℕ → Bool
+has_customer_body bytes = is_some (customer_of (body_in bytes))
 
 -- the body of a Batch frame
-abbrev pub is_batch_frame : List ℕ → Bool
-is_batch_frame bytes = is_some (batch_of (body_in bytes))
+abbrev pub has_batch_body : List ℕ → Bool
+has_batch_body bytes = is_some (batch_of (body_in bytes))
 
 -- the body of an Attempt frame
-abbrev pub is_attempt_frame : List ℕ → Bool
-is_attempt_frame bytes = is_some (attempt_of (body_in bytes))
+abbrev pub has_attempt_body : List ℕ → Bool
+has_attempt_body bytes = is_some (attempt_of (body_in bytes))
 
 -- the body of an Access frame
-abbrev pub is_access_frame : List ℕ → Bool
-is_access_frame bytes = is_some (access_of MOST_ROWS (body_in bytes))
+abbrev pub has_access_body : List ℕ → Bool
+has_access_body bytes = is_some (access_of MOST_ROWS (body_in bytes))
 
 -- the body of a Commit frame
-abbrev pub is_commit_frame : List ℕ → Bool
-is_commit_frame bytes = is_some (commit_of (body_in bytes))
+abbrev pub has_commit_body : List ℕ → Bool
+has_commit_body bytes = is_some (commit_of (body_in bytes))
 
 -- the body of a Rollback frame
-abbrev pub is_rollback_frame : List ℕ → Bool
-is_rollback_frame bytes = is_some (rollback_of MOST_ROWS (body_in bytes))
+abbrev pub has_rollback_body : List ℕ → Bool
+has_rollback_body bytes = is_some (rollback_of MOST_ROWS (body_in bytes))
 
 -- the body of a Vote frame
-abbrev pub is_vote_frame : List ℕ → Bool
-is_vote_frame bytes = is_some (vote_of MOST_BATCHES (body_in bytes))
+abbrev pub has_vote_body : List ℕ → Bool
+has_vote_body bytes = is_some (vote_of MOST_BATCHES (body_in bytes))
 
 -- the body of a Sent frame
-abbrev pub is_sent_frame : List ℕ → Bool
-is_sent_frame bytes = is_some (sent_of MOST_REPLICAS MOST_BATCHES (body_in bytes))
+abbrev pub has_sent_body : List ℕ → Bool
+has_sent_body bytes = is_some (sent_of MOST_REPLICAS MOST_BATCHES (body_in bytes))
 
 -- ---- what the body after the first five bytes says, and a value of no meaning where it is none of the kind
 

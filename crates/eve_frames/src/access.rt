@@ -3,7 +3,7 @@
 ghost use Rattle.std.specs.Prelude.{◌≡◌, ◌<◌, ◌≤◌, IsTrue, Some, length, slice_get};
 ghost use Rattle.eve_grammar.specs.Reading.{access_of};
 ghost use Rattle.eve_grammar.specs.declared.limits.TheConstants.{MOST_ROWS, MOST_ENTRIES};
-ghost use Rattle.eve_frames.specs.Views.{body_in, is_access_frame, access_in};
+ghost use Rattle.eve_frames.specs.Views.{body_in, has_access_body, access_in};
 
 use crate::entries::Entries;
 use byteorder::{BigEndian, ByteOrder};
@@ -19,15 +19,15 @@ pub struct AccessView<'a> {
     pub offset: u64,
     /// Its kind, the length of its body, and the body, as they stand.
     pub bytes: &'a [u8],
-    pub ghost whole: { IsTrue (is_access_frame bytes.now) },
+    pub ghost whole: { IsTrue (has_access_body bytes.now) },
 }
 
 impl<'a> AccessView<'a> {
-    /// The view of bytes that have such a body after their first five; that those are the frame's kind and length its
-    /// maker sees to.
+    /// The view of these bytes, which have such a body after the first five. The first five are the frame's kind and
+    /// length: the caller sees to that, no clause does.
     #[tactic(auto, using(crate::proofs::AccessPlaces::access_laws))]
     pub fn new(offset: u64, bytes: &'a [u8]) -> AccessView<'a>
-        requires { IsTrue (is_access_frame bytes.now) }
+        requires { IsTrue (has_access_body bytes.now) }
         ensures offset { result.offset ≡ offset }
         ensures bytes { result.bytes.now ≡ bytes.now }
         ensures read { access_of MOST_ROWS (body_in bytes.now) ≡ Some (access_in bytes.now) }

@@ -4,7 +4,7 @@ ghost use Rattle.std.specs.Prelude.{◌≡◌, ◌<◌, IsTrue, Some, length, sl
 ghost use Rattle.std.specs.List.{flat_map};
 ghost use Rattle.eve_smallbank.specs.Spelling.{reply_text};
 ghost use Rattle.eve_grammar.specs.Reading.{attempt_of};
-ghost use Rattle.eve_frames.specs.Views.{body_in, is_attempt_frame, attempt_in};
+ghost use Rattle.eve_frames.specs.Views.{body_in, has_attempt_body, attempt_in};
 
 use crate::certificate::Certificate;
 use crate::replies::Replies;
@@ -15,7 +15,7 @@ use eve_smallbank::Reply;
 /// The replies of an Attempt frame of so many requests, as they stand.
 #[tactic(auto, using(crate::proofs::AttemptPlaces::attempt_laws))]
 fn replies_of(frame: &[u8], count: usize) -> &[u8]
-    requires frame { IsTrue (is_attempt_frame frame.now) }
+    requires frame { IsTrue (has_attempt_body frame.now) }
     requires count { count ≡ length (attempt_in frame.now).certificate }
     ensures { result.now ≡ flat_map reply_text (attempt_in frame.now).replies }
 {
@@ -32,15 +32,15 @@ pub struct AttemptView<'a> {
     pub offset: u64,
     /// Its kind, the length of its body, and the body, as they stand.
     pub bytes: &'a [u8],
-    pub ghost whole: { IsTrue (is_attempt_frame bytes.now) },
+    pub ghost whole: { IsTrue (has_attempt_body bytes.now) },
 }
 
 impl<'a> AttemptView<'a> {
-    /// The view of bytes that have such a body after their first five; that those are the frame's kind and length its
-    /// maker sees to.
+    /// The view of these bytes, which have such a body after the first five. The first five are the frame's kind and
+    /// length: the caller sees to that, no clause does.
     #[tactic(auto, using(crate::proofs::AttemptPlaces::attempt_laws))]
     pub fn new(offset: u64, bytes: &'a [u8]) -> AttemptView<'a>
-        requires { IsTrue (is_attempt_frame bytes.now) }
+        requires { IsTrue (has_attempt_body bytes.now) }
         ensures offset { result.offset ≡ offset }
         ensures bytes { result.bytes.now ≡ bytes.now }
         ensures read { attempt_of (body_in bytes.now) ≡ Some (attempt_in bytes.now) }

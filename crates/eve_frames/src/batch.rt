@@ -4,7 +4,7 @@ ghost use Rattle.std.specs.Prelude.{◌≡◌, ◌<◌, IsTrue, Some, length, sl
 ghost use Rattle.std.specs.Option.{option_map};
 ghost use Rattle.eve_smallbank.specs.SmallBank.{plain};
 ghost use Rattle.eve_grammar.specs.Reading.{batch_of};
-ghost use Rattle.eve_frames.specs.Views.{body_in, is_batch_frame, batch_in};
+ghost use Rattle.eve_frames.specs.Views.{body_in, has_batch_body, batch_in};
 
 use crate::requests::Requests;
 use byteorder::{BigEndian, ByteOrder};
@@ -19,15 +19,15 @@ pub struct BatchView<'a> {
     pub offset: u64,
     /// Its kind, the length of its body, and the body, as they stand.
     pub bytes: &'a [u8],
-    pub ghost whole: { IsTrue (is_batch_frame bytes.now) },
+    pub ghost whole: { IsTrue (has_batch_body bytes.now) },
 }
 
 impl<'a> BatchView<'a> {
-    /// The view of bytes that have such a body after their first five; that those are the frame's kind and length its
-    /// maker sees to.
+    /// The view of these bytes, which have such a body after the first five. The first five are the frame's kind and
+    /// length: the caller sees to that, no clause does.
     #[tactic(auto, using(crate::proofs::BatchPlaces::batch_laws))]
     pub fn new(offset: u64, bytes: &'a [u8]) -> BatchView<'a>
-        requires { IsTrue (is_batch_frame bytes.now) }
+        requires { IsTrue (has_batch_body bytes.now) }
         ensures offset { result.offset ≡ offset }
         ensures bytes { result.bytes.now ≡ bytes.now }
         ensures read { batch_of (body_in bytes.now) ≡ Some (batch_in bytes.now) }

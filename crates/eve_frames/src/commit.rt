@@ -2,7 +2,7 @@
 
 ghost use Rattle.std.specs.Prelude.{◌≡◌, IsTrue, Some};
 ghost use Rattle.eve_grammar.specs.Reading.{commit_of};
-ghost use Rattle.eve_frames.specs.Views.{body_in, is_commit_frame, commit_in};
+ghost use Rattle.eve_frames.specs.Views.{body_in, has_commit_body, commit_in};
 
 use byteorder::{BigEndian, ByteOrder};
 
@@ -13,15 +13,15 @@ pub struct CommitView<'a> {
     pub offset: u64,
     /// Its kind, the length of its body, and the body, as they stand.
     pub bytes: &'a [u8],
-    pub ghost whole: { IsTrue (is_commit_frame bytes.now) },
+    pub ghost whole: { IsTrue (has_commit_body bytes.now) },
 }
 
 impl<'a> CommitView<'a> {
-    /// The view of bytes that have such a body after their first five; that those are the frame's kind and length its
-    /// maker sees to.
+    /// The view of these bytes, which have such a body after the first five. The first five are the frame's kind and
+    /// length: the caller sees to that, no clause does.
     #[tactic(auto, using(crate::proofs::CommitPlaces::commit_laws))]
     pub fn new(offset: u64, bytes: &'a [u8]) -> CommitView<'a>
-        requires { IsTrue (is_commit_frame bytes.now) }
+        requires { IsTrue (has_commit_body bytes.now) }
         ensures offset { result.offset ≡ offset }
         ensures bytes { result.bytes.now ≡ bytes.now }
         ensures read { commit_of (body_in bytes.now) ≡ Some (commit_in bytes.now) }

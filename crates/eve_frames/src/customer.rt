@@ -5,7 +5,7 @@ ghost use Rattle.std.specs.Int.{w64, cast_signed};
 ghost use Rattle.byteorder.specs.Endian.{big_number};
 ghost use Rattle.eve_accounts.specs.Money.{is_balance};
 ghost use Rattle.eve_grammar.specs.Reading.{customer_of};
-ghost use Rattle.eve_frames.specs.Views.{body_in, is_customer_frame, customer_in};
+ghost use Rattle.eve_frames.specs.Views.{body_in, has_customer_body, customer_in};
 
 use byteorder::{BigEndian, ByteOrder};
 use eve_accounts::Cents;
@@ -19,7 +19,7 @@ pub struct CustomerView<'a> {
     pub offset: u64,
     /// Its kind, the length of its body, and the body, as they stand.
     pub bytes: &'a [u8],
-    pub ghost whole: { IsTrue (is_customer_frame bytes.now) },
+    pub ghost whole: { IsTrue (has_customer_body bytes.now) },
 }
 
 /// The balance in eight bytes.
@@ -32,11 +32,11 @@ fn cents_in(bytes: &[u8]) -> Cents
 }
 
 impl<'a> CustomerView<'a> {
-    /// The view of bytes that have such a body after their first five; that those are the frame's kind and length its
-    /// maker sees to.
+    /// The view of these bytes, which have such a body after the first five. The first five are the frame's kind and
+    /// length: the caller sees to that, no clause does.
     #[tactic(auto, using(crate::proofs::CustomerPlaces::customer_laws))]
     pub fn new(offset: u64, bytes: &'a [u8]) -> CustomerView<'a>
-        requires { IsTrue (is_customer_frame bytes.now) }
+        requires { IsTrue (has_customer_body bytes.now) }
         ensures offset { result.offset ≡ offset }
         ensures bytes { result.bytes.now ≡ bytes.now }
         ensures read { customer_of (body_in bytes.now) ≡ Some (customer_in bytes.now) }

@@ -3,7 +3,7 @@
 ghost use Rattle.std.specs.Prelude.{◌≡◌, ◌<◌, IsTrue, Some, length, slice_get};
 ghost use Rattle.eve_grammar.specs.Reading.{rollback_of};
 ghost use Rattle.eve_grammar.specs.Bodies.{restore};
-ghost use Rattle.eve_frames.specs.Views.{body_in, is_rollback_frame, rollback_in};
+ghost use Rattle.eve_frames.specs.Views.{body_in, has_rollback_body, rollback_in};
 
 use crate::restores::Restores;
 use byteorder::{BigEndian, ByteOrder};
@@ -18,15 +18,15 @@ pub struct RollbackView<'a> {
     pub offset: u64,
     /// Its kind, the length of its body, and the body, as they stand.
     pub bytes: &'a [u8],
-    pub ghost whole: { IsTrue (is_rollback_frame bytes.now) },
+    pub ghost whole: { IsTrue (has_rollback_body bytes.now) },
 }
 
 impl<'a> RollbackView<'a> {
-    /// The view of bytes that have such a body after their first five; that those are the frame's kind and length its
-    /// maker sees to.
+    /// The view of these bytes, which have such a body after the first five. The first five are the frame's kind and
+    /// length: the caller sees to that, no clause does.
     #[tactic(auto, using(crate::proofs::RollbackPlaces::rollback_laws))]
     pub fn new(offset: u64, bytes: &'a [u8]) -> RollbackView<'a>
-        requires { IsTrue (is_rollback_frame bytes.now) }
+        requires { IsTrue (has_rollback_body bytes.now) }
         ensures offset { result.offset ≡ offset }
         ensures bytes { result.bytes.now ≡ bytes.now }
         ensures read { rollback_of MOST_ROWS (body_in bytes.now) ≡ Some (rollback_in bytes.now) }

@@ -3,7 +3,7 @@
 ghost use Rattle.std.specs.Prelude.{◌≡◌, IsTrue, Some};
 ghost use Rattle.eve_grammar.specs.Reading.{sent_of};
 ghost use Rattle.eve_grammar.specs.declared.limits.TheConstants.{MOST_REPLICAS, MOST_BATCHES};
-ghost use Rattle.eve_frames.specs.Views.{body_in, is_sent_frame, sent_in};
+ghost use Rattle.eve_frames.specs.Views.{body_in, has_sent_body, sent_in};
 
 use byteorder::{BigEndian, ByteOrder};
 use eve_grammar::reply_at;
@@ -16,15 +16,15 @@ pub struct SentView<'a> {
     pub offset: u64,
     /// Its kind, the length of its body, and the body, as they stand.
     pub bytes: &'a [u8],
-    pub ghost whole: { IsTrue (is_sent_frame bytes.now) },
+    pub ghost whole: { IsTrue (has_sent_body bytes.now) },
 }
 
 impl<'a> SentView<'a> {
-    /// The view of bytes that have such a body after their first five; that those are the frame's kind and length its
-    /// maker sees to.
+    /// The view of these bytes, which have such a body after the first five. The first five are the frame's kind and
+    /// length: the caller sees to that, no clause does.
     #[tactic(auto, using(crate::proofs::SentPlaces::sent_laws))]
     pub fn new(offset: u64, bytes: &'a [u8]) -> SentView<'a>
-        requires { IsTrue (is_sent_frame bytes.now) }
+        requires { IsTrue (has_sent_body bytes.now) }
         ensures offset { result.offset ≡ offset }
         ensures bytes { result.bytes.now ≡ bytes.now }
         ensures read { sent_of MOST_REPLICAS MOST_BATCHES (body_in bytes.now) ≡ Some (sent_in bytes.now) }

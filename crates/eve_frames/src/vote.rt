@@ -4,7 +4,7 @@ ghost use Rattle.std.specs.Prelude.{◌≡◌, IsTrue, Some};
 ghost use Rattle.eve_grammar.specs.Reading.{vote_of};
 ghost use Rattle.eve_grammar.specs.Bodies.{borrowed_choice};
 ghost use Rattle.eve_grammar.specs.declared.limits.TheConstants.{MOST_BATCHES};
-ghost use Rattle.eve_frames.specs.Views.{body_in, is_vote_frame, vote_in};
+ghost use Rattle.eve_frames.specs.Views.{body_in, has_vote_body, vote_in};
 
 use byteorder::{BigEndian, ByteOrder};
 use eve_grammar::Choice;
@@ -16,15 +16,15 @@ pub struct VoteView<'a> {
     pub offset: u64,
     /// Its kind, the length of its body, and the body, as they stand.
     pub bytes: &'a [u8],
-    pub ghost whole: { IsTrue (is_vote_frame bytes.now) },
+    pub ghost whole: { IsTrue (has_vote_body bytes.now) },
 }
 
 impl<'a> VoteView<'a> {
-    /// The view of bytes that have such a body after their first five; that those are the frame's kind and length its
-    /// maker sees to.
+    /// The view of these bytes, which have such a body after the first five. The first five are the frame's kind and
+    /// length: the caller sees to that, no clause does.
     #[tactic(auto, using(crate::proofs::VotePlaces::vote_laws))]
     pub fn new(offset: u64, bytes: &'a [u8]) -> VoteView<'a>
-        requires { IsTrue (is_vote_frame bytes.now) }
+        requires { IsTrue (has_vote_body bytes.now) }
         ensures offset { result.offset ≡ offset }
         ensures bytes { result.bytes.now ≡ bytes.now }
         ensures read { vote_of MOST_BATCHES (body_in bytes.now) ≡ Some (vote_in bytes.now) }

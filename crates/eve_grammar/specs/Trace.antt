@@ -1,6 +1,6 @@
 -- A trace, as its parts in the grammar's order. What the grammar counts is the length of a list here,
 -- and what it numbers is the place in a list.
-use Rattle.std.specs.Prelude.{ℕ, ℤ, Bool, List, [], ◌∷◌, length}
+use Rattle.std.specs.Prelude.{ℕ, ℤ, Bool, ◌×◌, List, [], ◌∷◌, length, slice_index_or}
 use Rattle.std.specs.List.{flat_map}
 use Rattle.eve_smallbank.specs.SmallBank.{Request, Balance}
 use Rattle.eve_smallbank.specs.declared.request.Reply.{Reply}
@@ -22,6 +22,13 @@ pub record Asked : Type 0 where
   pub number : ℕ
   pub request : Request
 
+-- what tells one request from another: the client, and the client's number for it
+abbrev pub RequestId : Type 0
+RequestId = ℕ × ℕ
+
+abbrev pub request_id : Asked → RequestId
+request_id a = (a.client, a.number)
+
 -- what stands where no request does
 abbrev pub no_request : Asked
 no_request = record { client = 0; number = 0; request = Balance [] }
@@ -30,6 +37,10 @@ no_request = record { client = 0; number = 0; request = Balance [] }
 pub record Batch : Type 0 where
   pub sizes : List ℕ
   pub requests : List Asked
+
+-- the request with this index in its batch
+abbrev pub request_with : Batch → ℕ → Request
+request_with b index = (slice_index_or b.requests index no_request).request
 
 -- what a worker noted of the request with this index
 pub record Access : Type 0 where

@@ -22,8 +22,8 @@ use Rattle.eve_views.proofs.Lists.{cut_at}
 use Rattle.eve_views.proofs.Locating.{section_begins}
 use Rattle.eve_grammar.proofs.FrameLaws.{small_head}
 use Rattle.eve_grammar.specs.declared.limits.TheConstants.{MOST_ROWS}
-use Rattle.eve_frames.specs.Views.{is_attempt_frame, attempt_in, is_access_frame, access_in}
-use Rattle.eve_frames.specs.Views.{is_rollback_frame, rollback_in}
+use Rattle.eve_frames.specs.Views.{has_attempt_body, attempt_in, has_access_body, access_in}
+use Rattle.eve_frames.specs.Views.{has_rollback_body, rollback_in}
 use Rattle.eve_frames.proofs.Rereading.{attempt_again, access_again, rollback_again}
 use Rattle.eve_history.specs.Standing.{frame_in, IsFramed, IsAttemptAt, IsAccessAt, IsRollbackAt}
 use Rattle.eve_history.specs.SectionHistory.{access_with}
@@ -260,7 +260,7 @@ attempt_there bytes t e rest k at b spelled come =
       ap attempt_in framed.0 ∙ says.1,
       record {
         framed = framed.1;
-        attempt = subst (λ (c : List ℕ). IsTrue (is_attempt_frame c)) (sym framed.0) says.0;
+        attempt = subst (λ (c : List ℕ). IsTrue (has_attempt_body c)) (sym framed.0) says.0;
         text = framed.0 ∙ ap (λ (a : Attempt). frame_text (OfAttempt a)) (sym (ap attempt_in framed.0 ∙ says.1));
       },
     )
@@ -278,7 +278,7 @@ rollback_there bytes t e rest k at r spelled come =
       ap rollback_in framed.0 ∙ says.1,
       record {
         framed = framed.1;
-        rollback = subst (λ (c : List ℕ). IsTrue (is_rollback_frame c)) (sym framed.0) says.0;
+        rollback = subst (λ (c : List ℕ). IsTrue (has_rollback_body c)) (sym framed.0) says.0;
         text = framed.0 ∙ ap (λ (q : Rollback). frame_text (OfRollback q)) (sym (ap rollback_in framed.0 ∙ says.1));
       },
     )
@@ -305,7 +305,7 @@ seen_again bytes t (at, x) spelled fits stands =
       again = ap (λ (y : Access). (at, y)) (ap access_in framed.0 ∙ says.1);
       there = record {
         framed = framed.1;
-        access = subst (λ (b : List ℕ). IsTrue (is_access_frame b)) (sym framed.0) says.0;
+        access = subst (λ (b : List ℕ). IsTrue (has_access_body b)) (sym framed.0) says.0;
         text = framed.0 ∙ ap (λ (y : Access). frame_text (OfAccess y)) (sym (ap access_in framed.0 ∙ says.1));
       };
     }

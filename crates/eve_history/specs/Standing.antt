@@ -3,7 +3,7 @@ use Rattle.std.specs.Prelude.{◌≡◌, ℕ, ◌+◌, ◌^◌, ◌<◌, ◌≤�
 use Rattle.byteorder.specs.Endian.{big_number}
 use Rattle.eve_grammar.specs.Frames.{OfAttempt, OfAccess, OfRollback}
 use Rattle.eve_grammar.specs.Spelling.{frame_text}
-use Rattle.eve_frames.specs.Views.{is_attempt_frame, is_access_frame, is_rollback_frame, attempt_in, access_in}
+use Rattle.eve_frames.specs.Views.{has_attempt_body, has_access_body, has_rollback_body, attempt_in, access_in}
 use Rattle.eve_frames.specs.Views.{rollback_in}
 
 -- how long the frame is that begins at this byte
@@ -23,17 +23,17 @@ pub record IsFramed (bytes : List ℕ) (at : ℕ) : Type 0 where
 -- and it is an Attempt frame, whole and no more
 pub record IsAttemptAt (bytes : List ℕ) (at : ℕ) : Type 0 where
   pub framed : IsFramed bytes at
-  pub attempt : IsTrue (is_attempt_frame (frame_in bytes at))
+  pub attempt : IsTrue (has_attempt_body (frame_in bytes at))
   pub text : frame_in bytes at ≡ frame_text (OfAttempt (attempt_in (frame_in bytes at)))
 
 -- and it is an Access frame, whole and no more
 pub record IsAccessAt (bytes : List ℕ) (at : ℕ) : Type 0 where
   pub framed : IsFramed bytes at
-  pub access : IsTrue (is_access_frame (frame_in bytes at))
+  pub access : IsTrue (has_access_body (frame_in bytes at))
   pub text : frame_in bytes at ≡ frame_text (OfAccess (access_in (frame_in bytes at)))
 
 -- and it is a Rollback frame, whole and no more
 pub record IsRollbackAt (bytes : List ℕ) (at : ℕ) : Type 0 where
   pub framed : IsFramed bytes at
-  pub rollback : IsTrue (is_rollback_frame (frame_in bytes at))
+  pub rollback : IsTrue (has_rollback_body (frame_in bytes at))
   pub text : frame_in bytes at ≡ frame_text (OfRollback (rollback_in (frame_in bytes at)))

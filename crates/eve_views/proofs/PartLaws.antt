@@ -14,9 +14,9 @@ use Rattle.eve_grammar.specs.Limits.{HasLimits, is_customer, is_batch, is_sent, 
 use Rattle.eve_grammar.specs.Gathering.{Gathered, nothing, gathered}
 use Rattle.eve_grammar.proofs.Gatherings.{gathered-votes, gathered-accesses}
 use Rattle.eve_grammar.proofs.Grouping.{all_at}
-use Rattle.eve_frames.specs.Views.{is_batch_frame, is_sent_frame, is_vote_frame, is_access_frame, batch_in, sent_in}
+use Rattle.eve_frames.specs.Views.{has_batch_body, has_sent_body, has_vote_body, has_access_body, batch_in, sent_in}
 use Rattle.eve_grammar.specs.declared.limits.TheConstants.{MOST_ROWS, MOST_BATCHES}
-use Rattle.eve_frames.specs.Views.{is_customer_frame, customer_in, vote_in, access_in, Says}
+use Rattle.eve_frames.specs.Views.{has_customer_body, customer_in, vote_in, access_in, Says}
 use Rattle.eve_frames.proofs.Rereading.{customer_again, batch_again, sent_again, vote_again, access_again}
 use Rattle.eve_grammar.proofs.FrameLaws.{small_head}
 use Rattle.eve_views.specs.declared.walk.Index.{Index}
@@ -244,17 +244,17 @@ accesses_many fs from to xs are is = items_many OfAccess is_access MOST_ROWS fs 
 
 pub vote_lent : (fs : List Frame) (from to i offset : ℕ) (bytes : List ℕ) (xs : List (ℕ × Vote))
     (are : AreVotes fs from to) → votes_between fs from (to - from) ≡ xs → i < length xs → IsFrameAt fs (from + i) bytes
-    → offset ≡ byte_of fs (from + i) → Lends is_vote_frame vote_in OfVote xs i offset bytes
+    → offset ≡ byte_of fs (from + i) → Lends has_vote_body vote_in OfVote xs i offset bytes
 vote_lent fs from to i offset bytes xs are is = item_lent OfVote is_vote MOST_BATCHES fs from to xs are
-    (sym is ∙ votes_are fs from to are) is_vote_frame vote_in i offset bytes
+    (sym is ∙ votes_are fs from to are) has_vote_body vote_in i offset bytes
     (λ v right. vote_again are.count v right are.few)
 
 pub access_lent : (fs : List Frame) (from to i offset : ℕ) (bytes : List ℕ) (xs : List (ℕ × Access))
     (are : AreAccesses fs from to) → accesses_between fs from (to - from) ≡ xs → i < length xs
     → IsFrameAt fs (from + i) bytes → offset ≡ byte_of fs (from + i)
-    → Lends is_access_frame access_in OfAccess xs i offset bytes
+    → Lends has_access_body access_in OfAccess xs i offset bytes
 access_lent fs from to i offset bytes xs are is = item_lent OfAccess is_access MOST_ROWS fs from to xs are
-    (sym is ∙ accesses_are fs from to are) is_access_frame access_in i offset bytes
+    (sym is ∙ accesses_are fs from to are) has_access_body access_in i offset bytes
     (λ x right. access_again are.count x right are.few)
 
 -- ---- frames of customers, batches and replies sent, as they are read
@@ -298,10 +298,10 @@ few_replicas t limits = (small_head (head_of t) limits.head).replicas
 
 pub customer_lent : (t : Trace) (i offset : ℕ) (bytes : List ℕ) → HasLimits t → i < length t.customers
     → IsFrameAt (frames_of t) i bytes → offset ≡ byte_of (frames_of t) i
-    → Lends is_customer_frame customer_in OfCustomer (customers_at t) i offset bytes
+    → Lends has_customer_body customer_in OfCustomer (customers_at t) i offset bytes
 customer_lent t i offset bytes limits lt f stands =
     let met = customer_met t i offset f.0 limits lt f.1 stands in
-    lends is_customer_frame customer_in OfCustomer is_customer (customers_at t) i offset f.0 bytes met f.2
+    lends has_customer_body customer_in OfCustomer is_customer (customers_at t) i offset f.0 bytes met f.2
     (customer_again met.item met.right)
 
 -- the number of a batch's frame, by the header that the trace is held under
@@ -314,19 +314,19 @@ batch_held bytes h index t u n same held from_one =
 
 pub batch_lent : (t : Trace) (n k offset : ℕ) (bytes : List ℕ) → HasLimits t → k < length t.batches
     → n ≡ length t.customers + k → IsFrameAt (frames_of t) n bytes → offset ≡ byte_of (frames_of t) n
-    → Lends is_batch_frame batch_in of_batch (batches_at t) k offset bytes
+    → Lends has_batch_body batch_in of_batch (batches_at t) k offset bytes
 batch_lent t n k offset bytes limits lt number f stands =
     let met = batch_met t n k offset f.0 limits lt number f.1 stands in
     let few = few_batches t limits in
     let small : met.item.0 < 2 ^ 32 = omega (arith, few, lt, batch_number t k offset met.item met.there) in
-    lends is_batch_frame batch_in of_batch is_batch_of (batches_at t) k offset f.0 bytes met f.2
+    lends has_batch_body batch_in of_batch is_batch_of (batches_at t) k offset f.0 bytes met f.2
     (batch_again met.item.0 met.item.1 small met.right)
 
 pub sent_lent : (t : Trace) (n i offset : ℕ) (bytes : List ℕ) → HasLimits t → i < length t.sent
     → n ≡ length (before_sent t) + i → IsFrameAt (frames_of t) n bytes → offset ≡ byte_of (frames_of t) n
-    → Lends is_sent_frame sent_in OfSent (sent_at t) i offset bytes
+    → Lends has_sent_body sent_in OfSent (sent_at t) i offset bytes
 sent_lent t n i offset bytes limits lt number f stands =
     let met = sent_met t n i offset f.0 limits lt number f.1 stands in
-    lends is_sent_frame sent_in OfSent (is_sent (length t.sections) (length t.batches)) (sent_at t) i offset f.0 bytes
+    lends has_sent_body sent_in OfSent (is_sent (length t.sections) (length t.batches)) (sent_at t) i offset f.0 bytes
     met f.2 (sent_again (length t.sections) (length t.batches) met.item met.right (few_replicas t limits)
     (few_batches t limits))

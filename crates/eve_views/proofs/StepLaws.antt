@@ -14,7 +14,7 @@ use Rattle.eve_grammar.specs.Frames.{step_frames}
 use Rattle.eve_grammar.specs.Spelling.{frame_text, frames_text, located, accesses_at, step_text}
 use Rattle.eve_grammar.specs.Limits.{is_step, is_access, is_attempt}
 use Rattle.eve_grammar.specs.declared.limits.TheConstants.{MOST_ROWS}
-use Rattle.eve_frames.specs.Views.{is_attempt_frame, is_commit_frame, is_rollback_frame, attempt_in}
+use Rattle.eve_frames.specs.Views.{has_attempt_body, has_commit_body, has_rollback_body, attempt_in}
 use Rattle.eve_frames.specs.Views.{commit_in, rollback_in, Says}
 use Rattle.eve_frames.proofs.Rereading.{attempt_again, commit_again, rollback_again}
 use Rattle.eve_views.specs.Parts.{byte_of, frames_between, accesses_between, steps_between, AreAccesses, AreSteps}
@@ -172,7 +172,7 @@ none_left fs at to are e = by are.steps refl
 -- an attempt is met: what its frame says, its accesses, and the steps after them
 pub record IsAttemptMet (fs : List Frame) (at to : ℕ) (bytes : List ℕ) : Type 0 where
   pub attempt : Attempt
-  pub says : Says is_attempt_frame attempt_in bytes (without_accesses attempt)
+  pub says : Says has_attempt_body attempt_in bytes (without_accesses attempt)
   pub frame : bytes ≡ frame_text (OfAttempt (without_accesses attempt))
   pub accesses : (to_accesses : ℕ) → to_accesses ≡ at + 1 + length attempt.certificate
       → AreAccesses fs (at + 1) to_accesses
@@ -222,7 +222,7 @@ attempt_met fs at to f bytes met kind text = by met.step met.is met.begins
         let step : at + length (step_frames (Attempts a)) ≡ at + 1 + length a.certificate = omega (arith, wide) in
         record {
           attempt = a;
-          says = says_met is_attempt_frame attempt_in bytes f (OfAttempt (without_accesses a)) (without_accesses a) text
+          says = says_met has_attempt_body attempt_in bytes f (OfAttempt (without_accesses a)) (without_accesses a) text
               begins (attempt_again (without_accesses a) parts.0);
           frame = text ∙ ap frame_text begins;
           accesses = λ n e. subst (λ (n : ℕ). AreAccesses fs (at + 1) n) (sym e) are;
@@ -244,10 +244,10 @@ pub record IsOneMet {A : Type 0} (is_frame : List ℕ → Bool) (read : List ℕ
   pub value : steps_between fs at (to - at) ≡ (byte_of fs at, step said) ∷ steps_between fs (at + 1) (to - (at + 1))
 
 abbrev pub IsCommitMet : List Frame → ℕ → ℕ → List ℕ → Type 0
-IsCommitMet = IsOneMet is_commit_frame commit_in OfCommit Commits
+IsCommitMet = IsOneMet has_commit_body commit_in OfCommit Commits
 
 abbrev pub IsRollbackMet : List Frame → ℕ → ℕ → List ℕ → Type 0
-IsRollbackMet = IsOneMet is_rollback_frame rollback_in OfRollback RollsBack
+IsRollbackMet = IsOneMet has_rollback_body rollback_in OfRollback RollsBack
 
 commit_met : (fs : List Frame) (at to : ℕ) (f : Frame) (bytes : List ℕ) → IsMet fs at to f → kind_of f ≡ 19
     → bytes ≡ frame_text f → IsCommitMet fs at to bytes
@@ -259,7 +259,7 @@ commit_met fs at to f bytes met kind text = by met.step met.is met.begins
     by (Commits c) next begins =
         record {
           said = c;
-          says = says_met is_commit_frame commit_in bytes f (OfCommit c) c text begins (commit_again c next.right);
+          says = says_met has_commit_body commit_in bytes f (OfCommit c) c text begins (commit_again c next.right);
           text = text ∙ ap frame_text begins;
           rest = next.rest;
           value = next.value;
@@ -274,7 +274,7 @@ rollback_met fs at to f bytes met other another text = by met.step met.is met.be
     by (Commits c) next begins = absurd (another (ap kind_of begins))
     by (RollsBack r) next begins = record {
       said = r;
-      says = says_met is_rollback_frame rollback_in bytes f (OfRollback r) r text begins
+      says = says_met has_rollback_body rollback_in bytes f (OfRollback r) r text begins
           (rollback_again met.rows r next.right met.few);
       text = text ∙ ap frame_text begins;
       rest = next.rest;

@@ -28,7 +28,7 @@ use std::alloc::{AllocError, Global};
 use std::thread;
 use std::thread::Threads;
 
-/// How few bytes are worth a thread of their own.
+/// The fewest bytes for each thread.
 const LEAST_BYTES: usize = 1 << 16;
 
 /// How many access frames the body of an attempt says to follow it. The rest of the body isn't judged.
@@ -231,7 +231,7 @@ fn index_by_threads<R: Threads + Sync>(
 ///
 /// For two threads or more the caller walks over the frames without judging the bodies of batches, attempts and access
 /// records, which are most of a trace, and then these are judged side by side. Only where that way finds something
-/// wrong, the walk is gone again from the start, frame by frame, for the first fault.
+/// wrong, the frames are walked again from the start, one by one, for the first fault.
 pub fn index_side_by_side<R: Threads + Sync>(
     rt: &R,
     alloc: Global,

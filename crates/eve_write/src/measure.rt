@@ -9,7 +9,7 @@ pub(crate) trait Measure {
     // How many bytes.
     ghost size: { Self → ℕ };
 
-    // Whether `write` may be called of the value: lengths fit their fields, numbers lie in their ranges, a vote for
+    // Whether `text_len` may be called of the value: lengths fit their fields, numbers lie in their ranges, a vote for
     // a rollback has zeros.
     ghost fits: { Self → Bool };
 
