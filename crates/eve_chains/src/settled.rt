@@ -43,8 +43,8 @@ impl<'a> Model for Settled<'a> {
 impl<'a> Settled<'a> {
     /// What a replica committed, of its history in the trace.
     ///
-    /// It goes once through the committed attempts. It takes eight bytes for each row, four for each access record of
-    /// the section, also those of discarded and open attempts, and eight for each committed batch.
+    /// It takes eight bytes for each row. The records are those that the history keeps, four bytes each, which it owns
+    /// together with it.
     pub fn of(
         alloc: Global,
         history: &History<'a>,

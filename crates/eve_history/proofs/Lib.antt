@@ -20,6 +20,3 @@ pub mod SideBySide
 pub mod Ahead
 pub mod Lent
 pub mod Rights
-mod PartsInOrder
-mod Copied
-mod PartsLent

@@ -284,8 +284,8 @@ marking_more workers count xs i m after x marking at judged = record {
       ∙ ap (λ (b : List Access). wrong_accesses workers count b (drop (i + 1) xs)) (sym (front_more xs i x at));
 }
 
-pub marking_wrong : (workers count : ℕ) (xs : List (ℕ × Access)) (i : ℕ) (m after : AccessMarks) (x : ℕ × Access) (c : Code)
-    → Marking workers count xs i m → slice_get xs i ≡ Some x
+pub marking_wrong : (workers count : ℕ) (xs : List (ℕ × Access)) (i : ℕ) (m after : AccessMarks) (x : ℕ × Access)
+    (c : Code) → Marking workers count xs i m → slice_get xs i ≡ Some x
     → IsMarkedIfRight workers count (take i xs) x (Some c) after
     → AreMarkedIfRight workers count xs (Some (record { code = c; offset = x.0 })) after
 marking_wrong workers count xs i m after x c marking at judged = record {

@@ -8,6 +8,5 @@ pub mod Marking
 pub mod Standing
 pub mod Coming
 pub mod SideBySide
-pub mod Parts
 pub mod Rising
 pub mod Repeats

@@ -24,6 +24,7 @@ use eve_frames::{AccessView, AttemptView, RollbackView};
 use eve_views::{CheckFault, Step, Trace};
 use std::alloc::{AllocError, Global};
 use std::marker::Model;
+use std::sync::Arc;
 use std::thread::Threads;
 
 /// What a replica did, as its section tells it: its attempts, what became of each and in which order each ran, and its
@@ -33,7 +34,8 @@ use std::thread::Threads;
 #[derive(Drop)]
 pub struct History<'a> {
     replica: u8,
-    notes: Notes<'a>,
+    // what is kept of its section, which its committed records own as well
+    notes: Arc<Notes<'a>>,
 }
 
 impl<'a> Model for History<'a> {
@@ -41,11 +43,12 @@ impl<'a> Model for History<'a> {
 
     ghost Value = { SectionHistory };
 
+    ghost use Rattle.std.specs.Arc.{arc_value};
     ghost use Rattle.eve_history.specs.Coming.{kept_section, section_history_of, IsWholeSection};
 
-    ghost view = { λ h. section_history_of h.replica (kept_section h.notes) };
+    ghost view = { λ h. section_history_of h.replica (kept_section (arc_value h.notes)) };
 
-    ghost invariant = { λ h. IsWholeSection h.notes };
+    ghost invariant = { λ h. IsWholeSection (arc_value h.notes) };
 }
 
 /// Says of the histories of all replicas that each step of each section is right. It does nothing else.
@@ -125,6 +128,15 @@ fn take_ahead<'a>(
 }
 
 impl<'a> History<'a> {
+    /// What the notes of a replica's whole section tell.
+    fn of_notes(alloc: Global, replica: u8, notes: Notes<'a>) -> Result<History<'a>, AllocError>
+        requires { IsWholeSection notes }
+        ensures { IfOk result (λ history. history ≡ section_history_of replica (kept_section notes.entry)) }
+    {
+        let notes = Arc::new(alloc, notes)?;
+        Ok(History { replica, notes })
+    }
+
     /// What a replica did, whose attempts' certificates and access records are right, and whose access records these
     /// are; nothing where another step of its section isn't right.
     fn of_ordered(
@@ -151,7 +163,7 @@ impl<'a> History<'a> {
                 None => return Ok(None),
             }
         }
-        Ok(Some(History { replica: e, notes }))
+        Ok(Some(History::of_notes(alloc, e, notes)?))
     }
 
     /// What a replica did, as `of` says it, with up to so many jobs.
@@ -204,7 +216,7 @@ impl<'a> History<'a> {
         while let Some(step) = steps.next() {
             take(&mut notes, trace, e, step)?;
         }
-        Ok(History { replica: e, notes })
+        Ok(History::of_notes(alloc, e, notes)?)
     }
 
     /// Says that each step of the replica's section is right: there is no history of any other. It does nothing else.
@@ -217,8 +229,19 @@ impl<'a> History<'a> {
         let _replica = self.replica;
     }
 
+    /// One more owner of the same notes.
+    pub(crate) fn share(&self) -> Result<History<'a>, AllocError>
+        ensures { IfOk result (λ history. history ≡ self.now) }
+    {
+        let notes = Arc::try_clone(&self.notes)?;
+        Ok(History {
+            replica: self.replica,
+            notes,
+        })
+    }
+
     /// What is kept of the section's steps.
-    pub(crate) fn notes(&self) -> &Notes<'a>
+    fn notes(&self) -> &Notes<'a>
         ensures tells { section_history_of self.now.replica (kept_section result.now) ≡ self.now }
         ensures whole { IsWholeSection result.now }
     {
@@ -237,7 +260,7 @@ impl<'a> History<'a> {
         ensures number { result ≡ self.now.committed }
         ensures count { result ≡ length self.now.commits }
     {
-        self.notes.last
+        self.notes().last
     }
 
     /// The attempt by which the replica committed batch n, of the batches from 1 on: its number among the attempts.
@@ -247,7 +270,7 @@ impl<'a> History<'a> {
         ensures { (r : ExecutedAttempt) × (slice_get self.now.commits (n - 1) ≡ Some r)
             × (slice_get self.now.attempts result ≡ Some r) }
     {
-        self.notes.commits[n as usize - 1]
+        self.notes().commits[n as usize - 1]
     }
 
     /// How many attempts there are.
@@ -255,7 +278,7 @@ impl<'a> History<'a> {
         ensures attempts { result ≡ length self.now.attempts }
         ensures fates { result ≡ length self.now.fates }
     {
-        self.notes.attempts.len()
+        self.notes().attempts.len()
     }
 
     /// An attempt. Its access records have frames of their own.
@@ -267,7 +290,8 @@ impl<'a> History<'a> {
         ensures stands { (t : TraceValue) (e : ℕ) → self.now ≡ section_history t e
             → HasBytesAt t result.offset result.bytes.now }
     {
-        attempt_at(self.notes.bytes, self.notes.attempts[i].at)
+        let notes = self.notes();
+        attempt_at(notes.bytes, notes.attempts[i].at)
     }
 
     /// What became of an attempt.
@@ -275,8 +299,9 @@ impl<'a> History<'a> {
         requires { i < length self.now.fates }
         ensures { slice_get self.now.fates i ≡ Some result }
     {
-        if i < self.notes.fates.len() {
-            self.notes.fates[i]
+        let notes = self.notes();
+        if i < notes.fates.len() {
+            notes.fates[i]
         } else {
             Fate::Open
         }
@@ -289,19 +314,21 @@ impl<'a> History<'a> {
         ensures says { (r : ExecutedAttempt) × (slice_get self.now.attempts i ≡ Some r)
             × (slice_get r.ordered place ≡ Some (result.offset, access_said result)) }
         ensures text { result.bytes.now ≡ frame_text (OfAccess (access_said result)) }
+        ensures not_first { 0 < result.offset }
         ensures stands { (t : TraceValue) (e : ℕ) → self.now ≡ section_history t e
             → HasBytesAt t result.offset result.bytes.now }
     {
-        let from = self.notes.attempts[i].from;
-        let at = self.notes.records[from + place];
-        access_at(self.notes.bytes, at)
+        let notes = self.notes();
+        let from = notes.attempts[i].from;
+        let at = notes.records[from + place];
+        access_at(notes.bytes, at)
     }
 
     /// How many rollbacks there are.
     pub fn rollbacks(&self) -> usize
         ensures { result ≡ length self.now.rollbacks }
     {
-        self.notes.rollbacks.len()
+        self.notes().rollbacks.len()
     }
 
     /// A rollback.
@@ -312,6 +339,7 @@ impl<'a> History<'a> {
         ensures stands { (t : TraceValue) (e : ℕ) → self.now ≡ section_history t e
             → HasBytesAt t result.offset result.bytes.now }
     {
-        rollback_at(self.notes.bytes, self.notes.rollbacks[i])
+        let notes = self.notes();
+        rollback_at(notes.bytes, notes.rollbacks[i])
     }
 }

@@ -1,7 +1,7 @@
 //! What a replica's section tells, step by step.
 
 ghost use Rattle.std.specs.Prelude.{◌≡◌, ◌≤◌, ◌<◌, ◌++◌, ◌∷◌, ◌^◌, [], ℕ, List, IsTrue, IfErr, OnOk, IfNone, IfOk};
-ghost use Rattle.std.specs.Prelude.{◌==◌, ◌&&◌, ◌+◌, false, map, length, take, drop, slice_get, slice_index, Some};
+ghost use Rattle.std.specs.Prelude.{◌==◌, ◌&&◌, ◌+◌, false, map, length, slice_index, Some};
 ghost use Rattle.std.specs.Prelude.{IfSome};
 ghost use Rattle.std.specs.List.{AllByRecursion};
 ghost use Rattle.eve_grammar.specs.Trace.{Trace as TraceValue, Attempt, Step as StepValue, Attempts, Commits};
@@ -14,13 +14,11 @@ ghost use Rattle.eve_views.specs.Form.{IfFound, IsLeast};
 ghost use Rattle.eve_views.specs.declared.fault.CheckFault.TheVariants.{Found};
 ghost use Rattle.eve_history.specs.Section.{SectionState, is_due, is_right_commit, is_right_rollback, same_bytes};
 ghost use Rattle.eve_history.specs.Section.{worker_count};
-ghost use Rattle.eve_history.specs.SectionHistory.{ExecutedAttempt};
 ghost use Rattle.eve_history.specs.Faults.{IsStructureFault};
 ghost use Rattle.eve_history.specs.FirstWrong.{wrong_attempt, wrong_step, fault_of};
 ghost use Rattle.eve_history.specs.Marking.{AreMarked};
 ghost use Rattle.eve_history.specs.Coming.{kept_section, StandsAt, HasCome, ComesNext, AreFramed, AreNotesOf};
-ghost use Rattle.eve_history.specs.Coming.{kept_at_first, seen, executed_attempts, IsWholeSection};
-ghost use Rattle.eve_history.specs.Standing.{IsAccessAt};
+ghost use Rattle.eve_history.specs.Coming.{kept_at_first, seen};
 ghost use Rattle.eve_history.specs.SideBySide.{IsKeptAhead};
 
 use crate::certificate::{read_order, wrong_certificate};
@@ -113,14 +111,6 @@ pub fn workers_of(trace: &Trace<'_>, attempt: &AttemptView<'_>) -> u8
     }
 }
 
-/// So many of the records, from this place on.
-fn part(records: &[u32], from: usize, count: usize) -> &[u32]
-    requires { from + count ≤ length records.now }
-    ensures { result.now ≡ take count (drop from records.now) }
-{
-    &records[from..from + count]
-}
-
 impl<'a> Notes<'a> {
     /// Before the first step.
     pub fn new(alloc: Global, bytes: &'a [u8]) -> Notes<'a>
@@ -152,19 +142,6 @@ impl<'a> Notes<'a> {
             records,
             rollbacks: Vec::new(alloc),
         }
-    }
-
-    /// The bytes at which an attempt's access records begin, in its certificate's order.
-    pub fn records_of(&self, i: usize) -> &[u32]
-        requires whole { IsWholeSection self.now }
-        requires there { i < length (kept_section self.now).attempts }
-        ensures says { (r : ExecutedAttempt) → slice_get (executed_attempts (kept_section self.now)) i ≡ Some r
-            → map (seen self.now.bytes.now) result.now ≡ r.ordered }
-        ensures framed { AllByRecursion (IsAccessAt self.now.bytes.now) result.now }
-    {
-        let attempted = self.attempts[i];
-        let count = attempt_at(self.bytes, attempted.at).len();
-        part(&self.records, attempted.from, count)
     }
 
     /// Whether an attempt's number, view and mode are those that are due.

@@ -12,24 +12,24 @@ use Rattle.eve_history.proofs.history.History.attempt.Goals as goal
 
 pub attempt_at-requires : goal.attempt_at-requires
 attempt_at-requires c =
-    let n = c.self.inside.notes in
+    let n = c.notes-notes.result.now in
     let items = n.attempts.items in
     let x = c.index.result.now in
     let count : length c.args.self.now.attempts ≡ length items =
-    ap (λ (v : SectionHistory). length v.attempts) (sym c.self.view_is)
+    ap (λ (v : SectionHistory). length v.attempts) (sym c.notes-notes.ensures.tells)
     ∙ length-map (map (kept_attempt n.bytes.now) items)
     (kept_executed_attempt (kept_section n).records) ∙ length-map items (kept_attempt n.bytes.now) in
-    rec_at (λ a. IsAttemptAt n.bytes.now a.at) items c.args.i x c.self.invariant.framed.attempts
+    rec_at (λ a. IsAttemptAt n.bytes.now a.at) items c.args.i x c.notes-notes.ensures.whole.framed.attempts
     (get_is items c.args.i x (omega arith) c.index.ensures)
 
 pub returns-clause-says : goal.returns-clause-says
 returns-clause-says c =
-    let n = c.self.inside.notes in
+    let n = c.notes-notes.result.now in
     let items = n.attempts.items in
     let x = c.index.result.now in
     let a = kept_attempt n.bytes.now x in
     let count : length c.args.self.now.attempts ≡ length items =
-    ap (λ (v : SectionHistory). length v.attempts) (sym c.self.view_is)
+    ap (λ (v : SectionHistory). length v.attempts) (sym c.notes-notes.ensures.tells)
     ∙ length-map (map (kept_attempt n.bytes.now) items)
     (kept_executed_attempt (kept_section n).records) ∙ length-map items (kept_attempt n.bytes.now) in
     let at : slice_get items c.args.i ≡ Some x = get_is items c.args.i x (omega arith) c.index.ensures in
@@ -37,11 +37,11 @@ returns-clause-says c =
     get_mapped (kept_attempt n.bytes.now) items c.args.i x at in
     let many : length (kept_executed_attempt (kept_section n).records a).ordered ≡ length a.attempt.certificate =
     part_length (kept_section n).records x.from (length a.attempt.certificate)
-    (rec_at _ (map (kept_attempt n.bytes.now) items) c.args.i a c.self.invariant.kept.within one) in
+    (rec_at _ (map (kept_attempt n.bytes.now) items) c.args.i a c.notes-notes.ensures.whole.kept.within one) in
     subst (λ (v : SectionHistory).
     (r : ExecutedAttempt) × (slice_get v.attempts c.args.i ≡ Some r) × (c.attempt_at.result.offset ≡ r.offset)
     × (attempt_in c.attempt_at.result.bytes.now ≡ r.attempt) × (length r.ordered ≡ length r.attempt.certificate))
-    c.self.view_is (
+    c.notes-notes.ensures.tells (
       kept_executed_attempt (kept_section n).records a,
       get_mapped (kept_executed_attempt (kept_section n).records) (map (kept_attempt n.bytes.now) items) c.args.i
           a one,
@@ -52,15 +52,16 @@ returns-clause-says c =
 
 pub returns-clause-text : goal.returns-clause-text
 returns-clause-text c =
-    let n = c.self.inside.notes in
+    let n = c.notes-notes.result.now in
     let items = n.attempts.items in
     let x = c.index.result.now in
     let count : length c.args.self.now.attempts ≡ length items =
-    ap (λ (v : SectionHistory). length v.attempts) (sym c.self.view_is)
+    ap (λ (v : SectionHistory). length v.attempts) (sym c.notes-notes.ensures.tells)
     ∙ length-map (map (kept_attempt n.bytes.now) items)
     (kept_executed_attempt (kept_section n).records) ∙ length-map items (kept_attempt n.bytes.now) in
     let at : slice_get items c.args.i ≡ Some x = get_is items c.args.i x (omega arith) c.index.ensures in
-    let there = rec_at (λ a. IsAttemptAt n.bytes.now a.at) items c.args.i x c.self.invariant.framed.attempts at in
+    let there = rec_at (λ a. IsAttemptAt n.bytes.now a.at) items c.args.i x
+    c.notes-notes.ensures.whole.framed.attempts at in
     c.attempt_at.ensures.bytes ∙ there.text ∙ ap (λ b. frame_text (OfAttempt (attempt_in b)))
     (sym c.attempt_at.ensures.bytes)
 

@@ -1,5 +1,5 @@
 use Rattle.eve_views.specs.Form.{IsLeast}
-use Rattle.std.proofs.Common.{ℕ, List, ◌∷◌, sym, subst, rules}
+use Rattle.std.proofs.Common.{ℕ, List, ◌∷◌, ◌∙◌, sym, subst, rules}
 use Rattle.std.proofs.lemmas.Result.{err_from_is_err_and}
 use Rattle.std.specs.List.{AllByRecursion}
 use Rattle.eve_grammar.specs.Trace.{Step}
@@ -37,8 +37,8 @@ loop-step-init c =
 pub take-requires-clause-noted : goal.take-requires-clause-noted
 take-requires-clause-noted c = c.loop-step.invariant.1
 
-pub invariant_of-result : goal.invariant_of-result
-invariant_of-result c =
+pub of_notes-requires : goal.of_notes-requires
+of_notes-requires c =
     let come = come_ended c.args.trace.now c.args.e (kept_section c.loop-step.notes) c.loop-step.steps (search rules)
     c.loop-step.invariant.0 in
     record { kept = come.is_kept; framed = c.loop-step.invariant.1.framed }
@@ -63,7 +63,8 @@ pub returns-clause-section_history : goal.returns-clause-section_history
 returns-clause-section_history c =
     let t = c.args.trace.now in
     let k = kept_section c.loop-step.notes in
-    come_told t c.args.e k (come_ended t c.args.e k c.loop-step.steps (search rules) c.loop-step.invariant.0)
+    c.in_ok-of_notes.ensures
+    ∙ come_told t c.args.e k (come_ended t c.args.e k c.loop-step.steps (search rules) c.loop-step.invariant.0)
 
 pub returns-clause-none : goal.returns-clause-none
 returns-clause-none c =

@@ -1,4 +1,4 @@
-use Rattle.std.proofs.Common.{ℕ, List, sym, subst, rules}
+use Rattle.std.proofs.Common.{ℕ, List, ◌∙◌, sym, subst, rules}
 use Rattle.eve_grammar.specs.Trace.{Step}
 use Rattle.eve_history.specs.Coming.{kept_section}
 use Rattle.eve_history.specs.SideBySide.{IsKeptAhead}
@@ -19,7 +19,8 @@ pub returns-clause-section_history : goal.returns-clause-section_history
 returns-clause-section_history c =
     let t = c.args.trace.now in
     let k = kept_section c.loop-step.notes in
-    come_told t c.args.e k (come_ended t c.args.e k c.loop-step.steps (search rules) c.loop-step.invariant.come)
+    c.in_ok-of_notes.ensures
+    ∙ come_told t c.args.e k (come_ended t c.args.e k c.loop-step.steps (search rules) c.loop-step.invariant.come)
 
 pub returns-clause-none : goal.returns-clause-none
 returns-clause-none c =

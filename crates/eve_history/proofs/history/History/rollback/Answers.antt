@@ -22,26 +22,27 @@ found e n v i at is lt read =
 
 pub rollback_at-requires : goal.rollback_at-requires
 rollback_at-requires c =
-    let n = c.self.inside.notes in
-    rec_at (IsRollbackAt n.bytes.now) n.rollbacks.items c.args.i c.index.result.now c.self.invariant.framed.rollbacks
-    (found c.self.inside.replica n c.args.self.now c.args.i c.index.result.now c.self.view_is c.requires
+    let n = c.notes-notes.result.now in
+    rec_at (IsRollbackAt n.bytes.now) n.rollbacks.items c.args.i c.index.result.now
+    c.notes-notes.ensures.whole.framed.rollbacks
+    (found c.args.self.now.replica n c.args.self.now c.args.i c.index.result.now c.notes-notes.ensures.tells c.requires
     c.index.ensures)
 
 pub returns-clause-says : goal.returns-clause-says
 returns-clause-says c =
-    let n = c.self.inside.notes in
+    let n = c.notes-notes.result.now in
     let at = c.index.result.now in
-    ap (λ (v : SectionHistory). slice_get v.rollbacks c.args.i) (sym c.self.view_is)
+    ap (λ (v : SectionHistory). slice_get v.rollbacks c.args.i) (sym c.notes-notes.ensures.tells)
     ∙ get_mapped (rolled n.bytes.now) n.rollbacks.items c.args.i at
-    (found c.self.inside.replica n c.args.self.now c.args.i at c.self.view_is c.requires c.index.ensures)
+    (found c.args.self.now.replica n c.args.self.now c.args.i at c.notes-notes.ensures.tells c.requires c.index.ensures)
     ∙ (λ i. Some (sym c.rollback_at.ensures.offset i, rollback_in (sym c.rollback_at.ensures.bytes i)))
 
 pub returns-clause-text : goal.returns-clause-text
 returns-clause-text c =
-    let n = c.self.inside.notes in
+    let n = c.notes-notes.result.now in
     let there = rec_at (IsRollbackAt n.bytes.now) n.rollbacks.items c.args.i c.index.result.now
-    c.self.invariant.framed.rollbacks
-    (found c.self.inside.replica n c.args.self.now c.args.i c.index.result.now c.self.view_is c.requires
+    c.notes-notes.ensures.whole.framed.rollbacks
+    (found c.args.self.now.replica n c.args.self.now c.args.i c.index.result.now c.notes-notes.ensures.tells c.requires
     c.index.ensures) in
     c.rollback_at.ensures.bytes ∙ there.text ∙ ap (λ b. frame_text (OfRollback (rollback_in b)))
     (sym c.rollback_at.ensures.bytes)
