@@ -18,7 +18,8 @@ use Rattle.eve_chains.specs.Visible.{entries_with, executed_at, executed_in, exe
 use Rattle.eve_agree.specs.Tables.{entries_of}
 use Rattle.eve_attempts.specs.declared.front.AttemptFront.{AttemptFront}
 use Rattle.eve_attempts.specs.Ledgers.{Ledger}
-use Rattle.eve_attempts.specs.Closing.{request_with, access_noted, executed, entries_in_order, are_right_records}
+use Rattle.eve_attempts.specs.Closing.{access_noted, executed, entries_in_order, are_right_records}
+use Rattle.eve_grammar.specs.Trace.{request_with}
 use Rattle.eve_attempts.specs.Closing.{worker_limit, opened_as, Closes}
 use Rattle.eve_attempts.proofs.Ordered.{all_moved}
 use Rattle.eve_replica.specs.Sections.{RunPlan, place_due, AttemptsNext}

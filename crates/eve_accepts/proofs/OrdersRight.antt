@@ -13,12 +13,13 @@ use Rattle.std.proofs.lemmas.Map.Made.{AllPairs-from_IsDistinct, IsDistinct-from
 use Rattle.eve_grammar.specs.Trace.{Customer, Asked, Batch, Trace}
 use Rattle.eve_grammar.specs.Spelling.{located, customer_text, batch_text, batches_start, customers_at, batches_at}
 use Rattle.eve_views.specs.declared.fault.Fault.{Fault}
-use Rattle.eve_history.specs.Faults.{name_in, RequestId, request_id, request_ids_at, IsOrderFault}
+use Rattle.eve_history.specs.Faults.{name_in, request_ids_at, IsOrderFault}
+use Rattle.eve_grammar.specs.Trace.{RequestId, request_id}
 use Rattle.eve_history.specs.Notes.{HasDistinctNames, HasDistinctRequests}
 use Rattle.eve_history.proofs.OrderLaws.{none_twice}
 use Rattle.eve_workload.specs.declared.mixer.Mixer.{Mixer}
 use Rattle.eve_workload.specs.Mixing.{cut, batch_with}
-use Rattle.eve_workload.specs.Workload.{Workload, IsWorkload, customer_names, pair_of, requests_of}
+use Rattle.eve_workload.specs.Workload.{Workload, IsWorkload, customer_names, requests_of}
 use Rattle.eve_replica.specs.Run.{batches_cut}
 
 -- no two are the same
@@ -103,16 +104,16 @@ apart_moved xs ys moved apart =
 -- the requests of the workload's batches, as they are cut
 cut_ids : (names : List (List ℕ)) (mixer : Mixer)
     → ((requests : List Asked) → IsPermutation requests (batch_with (cut names mixer requests)).requests)
-    → (batches : List (List Asked)) → IsPermutation (map pair_of (requests_of batches))
+    → (batches : List (List Asked)) → IsPermutation (map request_id (requests_of batches))
     (ids_in (map (λ requests. batch_with (cut names mixer requests)) batches))
 cut_ids names mixer cuts [] = IsPermutation-refl []
 cut_ids names mixer cuts (rs ∷ batches) =
     let made : List Asked = (batch_with (cut names mixer rs)).requests in
     let more : List RequestId = ids_in (map (λ requests. batch_with (cut names mixer requests)) batches) in
-    subst (λ (ids : List RequestId). IsPermutation ids (map pair_of made ++ more))
-    (sym (map-append pair_of rs (requests_of batches)))
-    (IsPermutation-append (map pair_of rs) (map pair_of made) (map pair_of (requests_of batches)) more
-    (IsPermutation-map pair_of rs made (cuts rs)) (cut_ids names mixer cuts batches))
+    subst (λ (ids : List RequestId). IsPermutation ids (map request_id made ++ more))
+    (sym (map-append request_id rs (requests_of batches)))
+    (IsPermutation-append (map request_id rs) (map request_id made) (map request_id (requests_of batches)) more
+    (IsPermutation-map request_id rs made (cuts rs)) (cut_ids names mixer cuts batches))
 
 -- ---- no fault
 
@@ -126,5 +127,5 @@ no_order_fault w mixer t workload customers batches cuts =
     none_twice t
     (no_name_again t (subst (λ (cs : List Customer). AreApart (customer_names cs)) (sym customers) workload.names))
     (no_request_again t (subst (λ (bs : List Batch). AreApart (ids_in bs)) (sym batches)
-    (apart_moved (map pair_of (requests_of w.batches)) (ids_in (batches_cut w mixer))
+    (apart_moved (map request_id (requests_of w.batches)) (ids_in (batches_cut w mixer))
     (cut_ids names mixer (cuts names mixer) w.batches) workload.pairs)))

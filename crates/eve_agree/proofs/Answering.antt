@@ -6,7 +6,7 @@ use Rattle.eve_grammar.specs.Trace.{Attempt, Sent, Trace}
 use Rattle.eve_history.specs.Section.{Placed, batch_at}
 use Rattle.eve_history.specs.SectionHistory.{ExecutedAttempt, SectionHistory, executed_attempt, placed_at}
 use Rattle.eve_history.specs.SectionHistory.{section_history, history, committed_at}
-use Rattle.eve_history.specs.Faults.{RequestId, request_id}
+use Rattle.eve_grammar.specs.Trace.{RequestId, request_id}
 use Rattle.eve_history.proofs.Finding.{get_mapped}
 use Rattle.eve_chains.proofs.Linked.{some_injective, none≢some}
 use Rattle.eve_agree.specs.SentReplies.{IsReplied}

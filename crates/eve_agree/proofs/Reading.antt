@@ -1,7 +1,7 @@
 -- The requests of a batch, read one after another.
 use Rattle.std.proofs.Common.{◌≡◌, ℕ, ◌+◌, ◌≤◌, List, ◌++◌, map, length}
 use Rattle.eve_grammar.specs.Trace.{Asked}
-use Rattle.eve_history.specs.Faults.{request_id}
+use Rattle.eve_grammar.specs.Trace.{request_id}
 use Rattle.eve_agree.specs.declared.request_ids.RequestId.{RequestId as Item}
 use Rattle.eve_agree.specs.Keeping.{first_ids}
 

@@ -4,7 +4,7 @@ use Rattle.eve_smallbank.specs.declared.request.Reply.{Reply}
 use Rattle.eve_grammar.specs.declared.limits.TheConstants.{MOST_REQUESTS}
 use Rattle.eve_grammar.specs.Trace.{Sent, Trace}
 use Rattle.eve_history.specs.Section.{batch_at}
-use Rattle.eve_history.specs.Faults.{RequestId, request_id}
+use Rattle.eve_grammar.specs.Trace.{RequestId, request_id}
 use Rattle.eve_agree.specs.declared.request_ids.RequestId.{RequestId as Item}
 use Rattle.eve_agree.specs.declared.request_ids.RequestIds.{RequestIds}
 

@@ -3,7 +3,7 @@
 ghost use Rattle.std.specs.Prelude.{◌≡◌, ◌≤◌, ◌<◌, ◌↔◌, ℕ, IsTrue, IfSome, IfNone, length, map};
 ghost use Rattle.eve_grammar.specs.Limits.{is_batch};
 ghost use Rattle.eve_frames.specs.Said.{attempt_said, batch_said, sent_said};
-ghost use Rattle.eve_history.specs.Faults.{request_id};
+ghost use Rattle.eve_grammar.specs.Trace.{request_id};
 ghost use Rattle.eve_history.specs.Notes.{requests_said};
 ghost use Rattle.eve_agree.specs.Keeping.{kept_ids, first_ids, AnswersAt, AreOf};
 

@@ -18,7 +18,8 @@ use Rattle.eve_write.specs.declared.batch.BatchData.{BatchData}
 use Rattle.eve_write.specs.declared.request.RequestData.{RequestData}
 use Rattle.eve_write.specs.Data.{batch as plain, asked}
 use Rattle.eve_stamps.specs.Applied.{Applied}
-use Rattle.eve_attempts.specs.Closing.{touched_in_batch, request_with, access_noted, executed}
+use Rattle.eve_attempts.specs.Closing.{touched_in_batch, access_noted, executed}
+use Rattle.eve_grammar.specs.Trace.{request_with}
 use Rattle.eve_attempts.specs.Closing.{are_right_records}
 use Rattle.eve_attempts.specs.Closing.{AreNoted}
 use Rattle.eve_attempts.specs.Ordering.{replies_placed}

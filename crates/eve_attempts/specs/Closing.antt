@@ -1,15 +1,14 @@
 -- What becomes of the records that were taken of a batch. docs/MODEL.md, "Certificate order, keeps the groups".
 use Rattle.std.specs.Prelude.{◌≡◌, ℕ, ℤ, nat_lt, ◌==◌, Bool, true, false, ◌&&◌, ◌||◌, IsTrue, if◌then◌else◌, ⊤, List}
-use Rattle.std.specs.Prelude.{[], ◌∷◌, ◌++◌, map, filter, length, slice_get, slice_index_or, Some}
+use Rattle.std.specs.Prelude.{[], ◌∷◌, ◌++◌, map, filter, length, slice_get, Some}
 use Rattle.std.specs.List.{AllByRecursion, flat_map, list_all}
 use Rattle.std.specs.List.Sorted.{IsPermutation}
 use Rattle.eve_smallbank.specs.declared.entry.Entry.{Entry}
 use Rattle.eve_smallbank.specs.declared.rows.Touched.{Touched}
-use Rattle.eve_smallbank.specs.SmallBank.{Request}
 use Rattle.eve_smallbank.specs.Access.{Executed, Fits, is_write}
 use Rattle.eve_smallbank.specs.Chain.{IsChained, table_after_all}
 use Rattle.eve_smallbank.specs.Touch.{touched_of}
-use Rattle.eve_grammar.specs.Trace.{Batch, Access, Attempt, no_request}
+use Rattle.eve_grammar.specs.Trace.{Batch, request_with, Access, Attempt}
 use Rattle.eve_grammar.specs.Limits.{is_access, is_whole_attempt}
 use Rattle.eve_grammar.specs.Certificate.{is_certificate}
 use Rattle.eve_grammar.specs.Accesses.{is_new_access, is_right_place}
@@ -23,10 +22,6 @@ use Rattle.eve_attempts.specs.Ledgers.{Opened, Ledger, ledger_rows, table_now, r
 -- what its requests touch, where the customers have these names
 abbrev pub touched_in_batch : List (List ℕ) → Batch → List Touched
 touched_in_batch names b = map (λ a. touched_of names a.request) b.requests
-
--- the request with this index
-abbrev pub request_with : Batch → ℕ → Request
-request_with b index = (slice_index_or b.requests index no_request).request
 
 -- ---- the records
 

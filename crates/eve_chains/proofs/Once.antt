@@ -10,7 +10,7 @@ use Rattle.eve_grammar.specs.Trace.{Asked, Batch, Attempt, Trace, no_request}
 use Rattle.eve_grammar.specs.Certificate.{is_permutation, keeps_groups, KeepsGroups}
 use Rattle.eve_history.specs.Section.{Placed, no_batch, batch_at, request_count}
 use Rattle.eve_history.specs.SectionHistory.{history, committed_at, IsRightSection}
-use Rattle.eve_history.specs.Faults.{RequestId, request_id}
+use Rattle.eve_grammar.specs.Trace.{RequestId, request_id}
 use Rattle.eve_smallbank.proofs.Members.{In, here, there}
 use Rattle.eve_chains.specs.Committed.{attempts_of, request_ids_in, committed_request_ids, batch_request_ids}
 use Rattle.eve_chains.specs.Committed.{AreDistinct}

@@ -8,7 +8,7 @@ use Rattle.eve_smallbank.specs.Conflict.{AgreesWithConflicts, IsReordering}
 use Rattle.eve_grammar.specs.Trace.{Attempt, Trace}
 use Rattle.eve_history.specs.Section.{Placed}
 use Rattle.eve_history.specs.SectionHistory.{asked_in, history, names_of}
-use Rattle.eve_history.specs.Faults.{RequestId, request_id}
+use Rattle.eve_grammar.specs.Trace.{RequestId, request_id}
 use Rattle.eve_chains.specs.Visible.{opening_of, rows_after}
 
 -- ---- banks

@@ -69,7 +69,7 @@ impl<'a> Settled<'a> {
     {
         trace.recall_limits();
         let opening = opening_balances(alloc, trace)?;
-        let records = CommittedRecords::of(alloc, history)?;
+        let records = CommittedRecords::of(history)?;
         Ok(Settled {
             opening,
             records,

@@ -1,9 +1,8 @@
 -- A worker as contracts see it, and what one execution makes of it. docs/MODEL.md, "Executions".
-use Rattle.std.specs.Prelude.{◌≡◌, ℕ, ◌⊎◌, IsSome, List, [], ◌∷◌, ◌++◌, length, map, slice_index_or, Option, None, Some}
+use Rattle.std.specs.Prelude.{◌≡◌, ℕ, ◌⊎◌, IsSome, List, [], ◌∷◌, ◌++◌, length, Option, None, Some}
 use Rattle.std.specs.Prelude.{Result, Ok, Err}
-use Rattle.eve_smallbank.specs.SmallBank.{Request, Balance}
+use Rattle.eve_smallbank.specs.SmallBank.{Request}
 use Rattle.eve_smallbank.specs.Access.{Fits}
-use Rattle.eve_grammar.specs.Trace.{Batch}
 use Rattle.eve_stamps.specs.Applied.{Applied, executed_as}
 use Rattle.eve_recorder.specs.Drawing.{Source, Drawer}
 use Rattle.eve_recorder.specs.Seen.{Desk, Noter, WasFull}
@@ -31,10 +30,6 @@ KeepsSeats old new =
     × (new.tickets.tickets ≡ old.tickets.tickets) × (new.tickets.number ≡ old.tickets.number)
 
 -- ---- what an execution does
-
--- the request with this index in a batch (past its end, no matter which)
-abbrev pub request_of_index : Batch → ℕ → Request
-request_of_index b index = slice_index_or (map (λ a. a.request) b.requests) index (Balance [])
 
 -- the record of this request, with this index in its batch, as the worker notes it at that place: it fits
 abbrev pub IsRecordOf : List (List ℕ) → Request → ℕ → ℕ → ℕ → Applied → Type 0

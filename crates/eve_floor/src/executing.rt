@@ -4,7 +4,8 @@ ghost use Rattle.std.specs.Prelude.{◌≡◌, ◌<◌, length};
 ghost use Rattle.eve_smallbank.specs.SmallBank.{plain};
 ghost use Rattle.eve_smallbank.specs.Touch.{touched_of};
 ghost use Rattle.eve_write.specs.Data.{batch as plain_batch};
-ghost use Rattle.eve_floor.specs.Executing.{IsSeatedAt, KeepsSeats, Executes, Flushes, request_of_index};
+ghost use Rattle.eve_floor.specs.Executing.{IsSeatedAt, KeepsSeats, Executes, Flushes};
+ghost use Rattle.eve_grammar.specs.Trace.{request_with};
 
 use crate::applying::{Task, applied};
 use crate::{ExecFault, Floor, Worker};
@@ -40,7 +41,7 @@ pub fn execute<R: Wait, G: Gate>(
     requires seats { IsSeatedAt recorder.now tickets.now worker.old }
     requires index { index < length batch.now.requests.items }
     requires place { length worker.old.seat.noted < MOST_PLACES }
-    ensures executes { let request = request_of_index (plain_batch batch.now) index in
+    ensures executes { let request = request_with (plain_batch batch.now) index in
         Executes recorder.now floor.now request index worker.old worker.new result }
     ensures seats { KeepsSeats worker.old worker.new }
 {
@@ -68,9 +69,9 @@ pub fn execute_touched<R: Wait, G: Gate>(
 ) -> Result<(), ExecFault>
     requires seats { IsSeatedAt recorder.now tickets.now worker.old }
     requires index { index < length batch.now.requests.items }
-    requires touched { reached.now ≡ touched_of floor.now (request_of_index (plain_batch batch.now) index) }
+    requires touched { reached.now ≡ touched_of floor.now (request_with (plain_batch batch.now) index) }
     requires place { length worker.old.seat.noted < MOST_PLACES }
-    ensures executes { let request = request_of_index (plain_batch batch.now) index in
+    ensures executes { let request = request_with (plain_batch batch.now) index in
         Executes recorder.now floor.now request index worker.old worker.new result }
     ensures seats { KeepsSeats worker.old worker.new }
 {
@@ -120,7 +121,7 @@ fn execute_request<R: Wait, G: Gate>(
 // The request with this index in the batch.
 fn request_at(batch: &BatchData, index: u16) -> Request<'_>
     requires { index < length batch.now.requests.items }
-    ensures { plain result ≡ request_of_index (plain_batch batch.now) index }
+    ensures { plain result ≡ request_with (plain_batch batch.now) index }
 {
     batch.requests[index as usize].request()
 }

@@ -13,7 +13,7 @@ use Rattle.eve_grammar.specs.Frames.{batches_of, without_accesses}
 use Rattle.eve_grammar.specs.Spelling.{batch_text, batches_start, batches_at}
 use Rattle.eve_grammar.specs.Limits.{is_batch, HasLimits}
 use Rattle.eve_views.specs.declared.fault.Code.TheVariants as code
-use Rattle.eve_history.specs.declared.marks.AccessMarks.{AccessMarks}
+use Rattle.eve_history.specs.declared.access_marks.AccessMarks.{AccessMarks}
 use Rattle.eve_grammar.specs.Certificate.{is_certificate}
 use Rattle.eve_history.specs.Section.{Placed, SectionState, no_batch, batch_at, is_due, same_bytes, commits_first}
 use Rattle.eve_history.specs.Section.{request_count, is_right_certificate, is_right_commit}

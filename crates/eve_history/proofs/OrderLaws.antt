@@ -18,7 +18,8 @@ use Rattle.eve_views.specs.declared.fault.Fault.{Fault}
 use Rattle.eve_views.specs.Code.{code_number}
 use Rattle.eve_views.specs.Form.{IsUpTo, SomePlace, IsLeast}
 use Rattle.eve_history.specs.SectionHistory.{names_of}
-use Rattle.eve_history.specs.Faults.{name_in, RequestId, request_ids_at, IsNamedAgain, IsAskedAgain, StandsInOrders}
+use Rattle.eve_history.specs.Faults.{name_in, request_ids_at, IsNamedAgain, IsAskedAgain, StandsInOrders}
+use Rattle.eve_grammar.specs.Trace.{RequestId}
 use Rattle.eve_history.specs.Faults.{IsOrderFault}
 use Rattle.eve_history.specs.Notes.{IsRepeated, HasDistinctNames, HasDistinctRequests}
 use Rattle.eve_grammar.proofs.Grouping.{all_at}

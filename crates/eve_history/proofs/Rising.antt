@@ -3,7 +3,8 @@ use Rattle.std.proofs.Common.{◌≡◌, ℕ, ◌+◌, ◌≤◌, List, [], ◌�
 use Rattle.std.proofs.Common.{slice_get, Contains, Option, Some, refl, subst, rules}
 use Rattle.eve_grammar.specs.Trace.{Trace, Batch}
 use Rattle.eve_grammar.specs.Spelling.{batches_at}
-use Rattle.eve_history.specs.Faults.{RequestId, request_ids_at, IsAskedAgain}
+use Rattle.eve_history.specs.Faults.{request_ids_at, IsAskedAgain}
+use Rattle.eve_grammar.specs.Trace.{RequestId}
 use Rattle.eve_history.specs.Notes.{HasDistinctRequests}
 use Rattle.eve_history.specs.Rising.{AreReached, HaveRisen}
 use Rattle.eve_history.proofs.Places.{no_place}

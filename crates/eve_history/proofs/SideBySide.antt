@@ -20,7 +20,7 @@ use Rattle.eve_frames.specs.declared.attempt.AttemptView.{AttemptView}
 use Rattle.eve_views.specs.StepKinds.{IsStep}
 use Rattle.eve_views.specs.declared.steps.Step as met
 use Rattle.eve_views.specs.declared.steps.Step.TheVariants as of
-use Rattle.eve_history.specs.declared.marks.AccessMarks.{AccessMarks}
+use Rattle.eve_history.specs.declared.access_marks.AccessMarks.{AccessMarks}
 use Rattle.eve_history.specs.declared.side_by_side.MetAttempt.{MetAttempt}
 use Rattle.eve_history.specs.declared.side_by_side.Ahead.{Ahead}
 use Rattle.eve_history.specs.Section.{request_count, worker_count, is_right_certificate}

@@ -7,7 +7,7 @@ use Rattle.std.specs.Ordering.{ordering_then}
 use Rattle.std.proofs.lemmas.Bool.{ltb-false, leb-true, le-leb, eqb-true, eqb-false, eq-eqb, and_parts}
 use Rattle.std.proofs.lemmas.Bool.{and_from, cases_lt, false≢true}
 use Rattle.std.proofs.lemmas.Option.{slice_get-get_or, slice_get_within}
-use Rattle.eve_history.specs.Faults.{RequestId}
+use Rattle.eve_grammar.specs.Trace.{RequestId}
 use Rattle.eve_views.specs.Least.{lower, IsBelow}
 use Rattle.eve_views.specs.Order.{AreInOrder}
 use Rattle.eve_history.specs.Repeats.{is_same, IsNoLaterArrival, is_by, OccursTwice}

@@ -1,8 +1,8 @@
 -- The faults of orders and of structure, and where they stand. docs/MODEL.md, "Faults".
 use Rattle.std.specs.Prelude.{◌≡◌, ℕ, IsTrue, IsFalse, List, [], ◌++◌, map, Contains, Some, None}
 use Rattle.std.specs.List.{flat_map}
-use Rattle.eve_grammar.specs.Trace.{Customer, Asked, Batch, Access, Attempt, Commit, Rollback, Step, Attempts, Commits}
-use Rattle.eve_grammar.specs.Trace.{RollsBack, Trace}
+use Rattle.eve_grammar.specs.Trace.{Customer, RequestId, request_id, Batch, Access, Attempt, Commit, Rollback, Step}
+use Rattle.eve_grammar.specs.Trace.{Attempts, Commits, RollsBack, Trace}
 use Rattle.eve_grammar.specs.Spelling.{customers_at, batches_at, steps_at, accesses_at}
 use Rattle.eve_views.specs.declared.fault.Code.{Code}
 use Rattle.eve_views.specs.declared.fault.Code.TheVariants as code
@@ -18,14 +18,7 @@ use Rattle.eve_history.specs.Section.{are_right}
 abbrev pub name_in : ℕ × Customer → List ℕ
 name_in c = c.1.name
 
--- a request's client, and the client's number for it
-abbrev pub RequestId : Type 0
-RequestId = ℕ × ℕ
-
-abbrev pub request_id : Asked → RequestId
-request_id a = (a.client, a.number)
-
--- those of a batch's requests
+-- the ids of a batch's requests
 abbrev pub request_ids_at : ℕ × (ℕ × Batch) → List RequestId
 request_ids_at b = map request_id b.1.1.requests
 

@@ -6,7 +6,7 @@ use Rattle.eve_grammar.specs.declared.limits.TheConstants.{MOST_REQUESTS, MOST_W
 use Rattle.eve_grammar.specs.Trace.{Access}
 use Rattle.eve_views.specs.declared.fault.Code.{Code}
 use Rattle.eve_history.specs.declared.wrong.Wrong.{Wrong}
-use Rattle.eve_history.specs.declared.marks.AccessMarks.{AccessMarks}
+use Rattle.eve_history.specs.declared.access_marks.AccessMarks.{AccessMarks}
 use Rattle.eve_history.specs.Faults.{accesses_of}
 use Rattle.eve_history.specs.FirstWrong.{wrong_access, wrong_accesses}
 

@@ -4,7 +4,8 @@ use Rattle.eve_grammar.specs.Trace.{Asked, Trace}
 use Rattle.eve_frames.specs.Views.{batch_in}
 use Rattle.eve_views.specs.declared.fault.Code.TheVariants as code
 use Rattle.eve_views.specs.Form.{SomePlace}
-use Rattle.eve_history.specs.Faults.{RequestId, StandsInOrders}
+use Rattle.eve_history.specs.Faults.{StandsInOrders}
+use Rattle.eve_grammar.specs.Trace.{RequestId}
 
 -- the requests that a batch's frame says
 abbrev pub requests_said : List ℕ → List Asked

@@ -1,7 +1,7 @@
 -- The greatest number of each client so far.
 use Rattle.std.specs.Prelude.{ℕ, ◌≤◌, List, ◌++◌, All, Option, Some, None, nat_eq, slice_index_or}
 use Rattle.indexmap.specs.IndexMap.{get}
-use Rattle.eve_history.specs.Faults.{RequestId}
+use Rattle.eve_grammar.specs.Trace.{RequestId}
 use Rattle.eve_history.specs.Notes.{IsRepeated}
 use Rattle.eve_history.specs.declared.greatest.Greatest.{Greatest}
 

@@ -5,7 +5,8 @@ ghost use Rattle.eve_views.specs.Form.{IfFound, IsLeast, HasNone};
 ghost use Rattle.eve_views.specs.declared.fault.Fault.{Fault};
 ghost use Rattle.eve_views.specs.declared.fault.CheckFault.TheVariants.{Found, Memory};
 ghost use Rattle.eve_history.specs.SectionHistory.{names_of};
-ghost use Rattle.eve_history.specs.Faults.{IsOrderFault, RequestId, request_id};
+ghost use Rattle.eve_history.specs.Faults.{IsOrderFault};
+ghost use Rattle.eve_grammar.specs.Trace.{RequestId, request_id};
 ghost use Rattle.eve_history.specs.Rising.{greatest_of, AreReached, HaveRisen};
 ghost use Rattle.eve_history.specs.Notes.{requests_said, HasDistinctNames, HasDistinctRequests};
 

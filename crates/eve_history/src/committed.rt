@@ -10,7 +10,7 @@ ghost use Rattle.eve_history.specs.SectionHistory.{section_history};
 
 use crate::history::History;
 use eve_frames::AccessView;
-use std::alloc::{AllocError, Global};
+use std::alloc::AllocError;
 use std::marker::Model;
 
 /// The access records of the batches that a replica committed, each batch's in its certificate's order, with the bytes
@@ -38,7 +38,7 @@ impl<'a> CommittedRecords<'a> {
     /// The records of the attempts that a history tells to be committed, in the order of their numbers.
     ///
     /// It takes no memory, and is refused only where one more owner can't be counted.
-    pub fn of(_alloc: Global, history: &History<'a>) -> Result<CommittedRecords<'a>, AllocError>
+    pub fn of(history: &History<'a>) -> Result<CommittedRecords<'a>, AllocError>
         ensures { IfOk result (λ committed. committed ≡ map (λ r. r.ordered) history.now.commits) }
     {
         let history = history.share()?;

@@ -2,6 +2,7 @@
 //! discarded or left open, and in which order each ran.
 #![tactic(auto)]
 
+mod access_marks;
 mod arrivals;
 mod certificate;
 mod committed;
@@ -10,7 +11,6 @@ mod frame;
 mod greatest;
 mod history;
 pub mod laws;
-mod marks;
 mod notes;
 mod repeats;
 mod side_by_side;

@@ -21,10 +21,10 @@ ghost use Rattle.eve_history.specs.Coming.{kept_section, StandsAt, HasCome, Come
 ghost use Rattle.eve_history.specs.Coming.{kept_at_first, seen};
 ghost use Rattle.eve_history.specs.SideBySide.{IsKeptAhead};
 
+use crate::access_marks::AccessMarks;
 use crate::certificate::{read_order, wrong_certificate};
 use crate::fate::Fate;
 use crate::frame::attempt_at;
-use crate::marks::AccessMarks;
 use crate::wrong::Wrong;
 use eve_frames::{AttemptView, CommitView, RollbackView};
 use eve_grammar::{Head, MOST_REQUESTS, MOST_WORKERS};

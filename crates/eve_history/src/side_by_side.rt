@@ -1,6 +1,6 @@
 //! The attempts of a section, with their certificates and access records judged side by side.
 
-ghost use Rattle.std.specs.Prelude.{◌≡◌, ◌<◌, ◌∷◌, ◌++◌, [], ℕ, List, IsTrue, IfOk, OnOk, IfSome, Some, length, map};
+ghost use Rattle.std.specs.Prelude.{◌≡◌, ◌<◌, ◌∷◌, ◌++◌, [], ℕ, List, IsTrue, IfOk, IfSome, Some, length, map};
 ghost use Rattle.std.specs.Prelude.{◌*◌, ◌-◌, ◌+◌, ◌≤◌, Ok, take, drop, slice_index_or};
 ghost use Rattle.std.specs.List.{AllByRecursion};
 ghost use Rattle.eve_grammar.specs.Trace.{Attempt, Step as StepValue, Trace as TraceValue};
@@ -13,8 +13,8 @@ ghost use Rattle.eve_history.specs.Marking.{AreMarked};
 ghost use Rattle.eve_history.specs.SideBySide.{placed_met, AreCounted, IsMet, HaveBeenMet, IsRightAlone, AreOrdered};
 ghost use Rattle.eve_history.specs.SideBySide.{IsPart};
 
+use crate::access_marks::AccessMarks;
 use crate::certificate::{read_order, wrong_certificate};
-use crate::marks::AccessMarks;
 use crate::notes::{keep_records, workers_of};
 use eve_frames::AttemptView;
 use eve_grammar::MOST_REQUESTS;
@@ -293,7 +293,7 @@ fn joined(alloc: Global, trace: &Trace<'_>, e: u8, size: usize, parts: &[Ordered
     Ok(Some(records))
 }
 
-/// How few attempts are worth a thread of their own: one has up to 256 access records.
+/// The fewest attempts for each thread: one has up to 256 access records.
 const LEAST_ATTEMPTS: usize = 32;
 
 /// Of how many attempts each of so many parts is, so that all are in one.

@@ -3,7 +3,8 @@
 ghost use Rattle.std.specs.Prelude.{◌≡◌, ◌+◌, ◌<◌, IfSome, OnOk, length};
 ghost use Rattle.eve_smallbank.specs.Touch.{touched_of};
 ghost use Rattle.eve_write.specs.Data.{batch as plain_batch};
-ghost use Rattle.eve_floor.specs.Executing.{IsSeatedAt, request_of_index};
+ghost use Rattle.eve_floor.specs.Executing.{IsSeatedAt};
+ghost use Rattle.eve_grammar.specs.Trace.{request_with};
 ghost use Rattle.eve_replica_crew.specs.Stages.{IsSet};
 ghost use Rattle.eve_replica_crew.specs.Crews.{IsSeated};
 
@@ -163,7 +164,7 @@ fn run_one<R: Wait, G: Gate>(
 fn touched_at(shared: &Shared<'_>, index: u16) -> Touched
     requires set { IsSet shared.now }
     requires there { index < length shared.now.batch.now.requests.items }
-    ensures { result ≡ touched_of shared.now.floor.now (request_of_index (plain_batch shared.now.batch.now) index) }
+    ensures { result ≡ touched_of shared.now.floor.now (request_with (plain_batch shared.now.batch.now) index) }
 {
     shared.touched[index as usize]
 }

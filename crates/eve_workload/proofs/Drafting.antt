@@ -20,7 +20,8 @@ use Rattle.eve_workload.specs.declared.deployment.Deployment.{Deployment}
 use Rattle.eve_workload.specs.declared.draft.Last.TheVariants as last
 use Rattle.eve_workload.specs.declared.pairs.Pairs.{Pairs}
 use Rattle.eve_workload.specs.declared.draft.Draft.{Draft}
-use Rattle.eve_workload.specs.Workload.{customer_names, pair_of}
+use Rattle.eve_workload.specs.Workload.{customer_names}
+use Rattle.eve_grammar.specs.Trace.{request_id}
 use Rattle.eve_workload.specs.Lines.{Line, HeadLine, CustomerLine, BatchLine, RequestLine}
 use Rattle.eve_workload.specs.Steps.{customers_in, requests_in, batches_in, last_requests, may_follow, is_deployment}
 use Rattle.eve_workload.specs.Steps.{IsRightBehind, AreRightLines}
@@ -45,7 +46,7 @@ name_known (first ∷ names) name any =
       | inr later ↦ let (k, there, is) = name_known names name later in (suc k, omega arith, is)
     ]
 
-known_pair : (requests : List Asked) (a : Asked) → Contains (map pair_of requests) (pair_of a)
+known_pair : (requests : List Asked) (a : Asked) → Contains (map request_id requests) (request_id a)
     → list_any (same_pair (key_of a)) (map key_of requests) ≡ true
 known_pair [] a (k, there, is) = absurd (omega arith)
 known_pair (b ∷ requests) a (zero, there, is) =
@@ -57,7 +58,7 @@ known_pair (b ∷ requests) a (suc k, there, is) =
     (known_pair requests a (k, omega arith, is))
 
 pair_known : (requests : List Asked) (a : Asked) → list_any (same_pair (key_of a)) (map key_of requests) ≡ true
-    → Contains (map pair_of requests) (pair_of a)
+    → Contains (map request_id requests) (request_id a)
 pair_known [] a any = cc
 pair_known (b ∷ requests) a any =
     elim (or_cases (same_pair (key_of a) (key_of b)) (list_any (same_pair (key_of a)) (map key_of requests)) any) [

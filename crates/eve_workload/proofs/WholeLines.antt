@@ -6,7 +6,8 @@ use Rattle.std.proofs.lemmas.Bool.{and_parts, leb-true, lt-ltb, false≢true, ca
 use Rattle.std.proofs.lemmas.List.{append-nil, map-append, get_or_append_left, get_or_at}
 use Rattle.eve_grammar.specs.Trace.{Customer, Asked}
 use Rattle.eve_grammar.specs.Limits.{is_between, is_customer, is_asked}
-use Rattle.eve_workload.specs.Workload.{Workload, IsWorkload, is_listed, customer_names, pair_of, requests_of}
+use Rattle.eve_workload.specs.Workload.{Workload, IsWorkload, is_listed, customer_names, requests_of}
+use Rattle.eve_grammar.specs.Trace.{request_id}
 use Rattle.eve_workload.specs.Lines.{Line, HeadLine, CustomerLine, BatchLine, RequestLine, line_words, line_text}
 use Rattle.eve_workload.specs.Lines.{batch_lines, lines_of, workload_text}
 use Rattle.eve_workload.specs.Steps.{customers_in, requests_in, batches_in, last_requests, may_follow, may_end}
@@ -105,27 +106,27 @@ requests_listed before (r ∷ rs) = requests_listed (RequestLine r ∷ before) r
 requests_right : (before : List Line) (rs more : List Asked) → AreRightLines before
     → ((a : Asked) → may_follow before (RequestLine a) ≡ true) → list_all is_asked rs ≡ true
     → last_requests before + length rs ≤ 256
-    → AllPairs (λ p q. p ≢ q) (map pair_of (requests_in before ++ (rs ++ more)))
+    → AllPairs (λ p q. p ≢ q) (map request_id (requests_in before ++ (rs ++ more)))
     → AreRightLines (onto before (map RequestLine rs))
 requests_right before [] more right follows all few apart = right
 requests_right before (r ∷ rs) more right follows all few apart =
     let parts = and_parts (is_asked r) (list_all is_asked rs) all in
-    let pairs = subst (AllPairs (λ p q. p ≢ q)) (map-append pair_of (requests_in before) (r ∷ (rs ++ more))) apart in
+    let pairs = subst (AllPairs (λ p q. p ≢ q)) (map-append request_id (requests_in before) (r ∷ (rs ++ more))) apart in
     let here : IsRightBehind before (RequestLine r) = record {
       follows = follows r;
       ranges = parts.0;
       room = lt-ltb (last_requests before) 256 (omega arith);
-      new = fresh (map pair_of (requests_in before)) (map pair_of (rs ++ more)) (pair_of r) pairs;
+      new = fresh (map request_id (requests_in before)) (map request_id (rs ++ more)) (request_id r) pairs;
     } in
     requests_right (RequestLine r ∷ before) rs more (here, right) (λ a. refl) parts.1 (omega arith)
-    (subst (λ xs. AllPairs (λ p q. p ≢ q) (map pair_of xs))
+    (subst (λ xs. AllPairs (λ p q. p ≢ q) (map request_id xs))
     (sym (append_assoc (requests_in before) (r ∷ []) (rs ++ more))) apart)
 
 -- ---- batches
 
 batches_right : (before : List Line) (parts : List (List Asked)) → AreRightLines before → IsClosed before
     → list_all is_listed parts ≡ true → batches_in before + length parts ≤ 65535
-    → AllPairs (λ p q. p ≢ q) (map pair_of (requests_in before ++ requests_of parts))
+    → AllPairs (λ p q. p ≢ q) (map request_id (requests_in before ++ requests_of parts))
     → AreRightLines (onto before (flat_map batch_lines parts)) × IsClosed (onto before (flat_map batch_lines parts))
 batches_right before [] right closed all few apart = (right, closed)
 batches_right before (part ∷ parts) right closed all few apart =
@@ -144,7 +145,7 @@ batches_right before (part ∷ parts) right closed all few apart =
     let inside_closed = some_closed (BatchLine ∷ before) part (leb-true 1 (length part) count.0) in
     let rest = batches_right inside parts inside_right inside_closed both.1
     (omega (arith, requests_no_batches (BatchLine ∷ before) part))
-    (subst (λ xs. AllPairs (λ p q. p ≢ q) (map pair_of xs))
+    (subst (λ xs. AllPairs (λ p q. p ≢ q) (map request_id xs))
     (sym (ap (λ xs. xs ++ requests_of parts) (requests_listed (BatchLine ∷ before) part)
     ∙ append_assoc (requests_in before) part (requests_of parts))) apart) in
     subst (λ lines. AreRightLines lines × IsClosed lines)
@@ -183,7 +184,7 @@ module _ (w : Workload) (is : IsWorkload w) where
       let few = few_batches w.deployment (length w.customers) (length w.batches) is.head in
       let all = batches_right inside w.batches right closed is.batches
       (omega (arith, customers_no_batches head w.customers))
-      (subst (λ xs. AllPairs (λ p q. p ≢ q) (map pair_of (xs ++ requests_of w.batches)))
+      (subst (λ xs. AllPairs (λ p q. p ≢ q) (map request_id (xs ++ requests_of w.batches)))
       (sym (customers_no_requests head w.customers)) is.pairs) in
       subst (λ lines. AreRightLines lines × IsClosed lines)
       (sym (onto-append head (map CustomerLine w.customers) (flat_map batch_lines w.batches))) all

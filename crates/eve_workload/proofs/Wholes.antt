@@ -13,7 +13,8 @@ use Rattle.std.proofs.lemmas.List.Concat.{flat_map-append}
 use Rattle.eve_grammar.specs.Trace.{Customer, Asked}
 use Rattle.eve_grammar.specs.Limits.{is_between, is_customer, is_asked, is_head}
 use Rattle.eve_workload.specs.declared.deployment.Deployment.{Deployment}
-use Rattle.eve_workload.specs.Workload.{Workload, IsWorkload, head_asked, is_listed, customer_names, pair_of}
+use Rattle.eve_workload.specs.Workload.{Workload, IsWorkload, head_asked, is_listed, customer_names}
+use Rattle.eve_grammar.specs.Trace.{request_id}
 use Rattle.eve_workload.specs.Workload.{requests_of}
 use Rattle.eve_workload.specs.Lines.{Line, HeadLine, CustomerLine, BatchLine, RequestLine, line_text, batch_lines}
 use Rattle.eve_workload.specs.Lines.{workload_text}
@@ -308,14 +309,14 @@ names_apart (BatchLine ∷ before) right = names_apart before right.1
 names_apart (RequestLine a ∷ before) right = names_apart before right.1
 
 pub pairs_apart : (before : List Line) → AreRightLines before
-    → AllPairs (λ a b. a ≢ b) (map pair_of (requests_in before))
+    → AllPairs (λ a b. a ≢ b) (map request_id (requests_in before))
 pairs_apart [] right = λ i j d below there. absurd (omega arith)
 pairs_apart (HeadLine d ∷ before) right = pairs_apart before right.1
 pairs_apart (CustomerLine c ∷ before) right = pairs_apart before right.1
 pairs_apart (BatchLine ∷ before) right = pairs_apart before right.1
 pairs_apart (RequestLine a ∷ before) right =
-    subst (AllPairs (λ p q. p ≢ q)) (sym (map_push pair_of (requests_in before) a))
-    (apart_push (map pair_of (requests_in before)) (pair_of a) (pairs_apart before right.1) right.0.new)
+    subst (AllPairs (λ p q. p ≢ q)) (sym (map_push request_id (requests_in before) a))
+    (apart_push (map request_id (requests_in before)) (request_id a) (pairs_apart before right.1) right.0.new)
 
 -- ---- each batch
 
@@ -476,7 +477,8 @@ workload_right d before right ends ranges = record {
   customers = customers_right before right;
   batches = batches_listed before right ends;
   names = names_apart before right;
-  pairs = subst (λ rs. AllPairs (λ p q. p ≢ q) (map pair_of rs)) (sym (batches_flat before)) (pairs_apart before right);
+  pairs =
+      subst (λ rs. AllPairs (λ p q. p ≢ q) (map request_id rs)) (sym (batches_flat before)) (pairs_apart before right);
 }
 
 some_lines : (before : List Line) → may_end before ≡ true → 1 ≤ length before

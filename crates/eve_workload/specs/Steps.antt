@@ -5,7 +5,8 @@ use Rattle.eve_grammar.specs.declared.limits.TheConstants.{MOST_CUSTOMERS, MOST_
 use Rattle.eve_grammar.specs.Trace.{Customer, Asked}
 use Rattle.eve_grammar.specs.Limits.{is_customer, is_asked, is_head}
 use Rattle.eve_workload.specs.declared.deployment.Deployment.{Deployment}
-use Rattle.eve_workload.specs.Workload.{head_with, customer_names, pair_of}
+use Rattle.eve_workload.specs.Workload.{head_with, customer_names}
+use Rattle.eve_grammar.specs.Trace.{request_id}
 use Rattle.eve_workload.specs.Lines.{Line, HeadLine, CustomerLine, BatchLine, RequestLine, line_text}
 
 -- the customers of lines, as they are listed
@@ -94,7 +95,7 @@ abbrev pub IsNew : List Line → Line → Type 0
 IsNew before (HeadLine d) = ⊤
 IsNew before (CustomerLine c) = ¬ Contains (customer_names (customers_in before)) c.name
 IsNew before BatchLine = ⊤
-IsNew before (RequestLine a) = ¬ Contains (map pair_of (requests_in before)) (pair_of a)
+IsNew before (RequestLine a) = ¬ Contains (map request_id (requests_in before)) (request_id a)
 
 -- the line may stand after these
 pub record IsRightBehind (before : List Line) (line : Line) : Type 0 where

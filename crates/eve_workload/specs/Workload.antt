@@ -2,7 +2,7 @@
 use Rattle.std.specs.Prelude.{◌≢◌, ℕ, Bool, ◌&&◌, IsTrue, List, map, length, AllPairs}
 use Rattle.std.specs.List.{list_all, flat_map}
 use Rattle.eve_grammar.specs.declared.limits.TheConstants.{MOST_REQUESTS}
-use Rattle.eve_grammar.specs.Trace.{Customer, Asked, Head}
+use Rattle.eve_grammar.specs.Trace.{Customer, Asked, request_id, Head}
 use Rattle.eve_grammar.specs.Limits.{is_between, is_customer, is_asked, is_head}
 use Rattle.eve_workload.specs.declared.deployment.Deployment.{Deployment}
 
@@ -32,10 +32,6 @@ head_asked w = head_with w.deployment (length w.customers) (length w.batches)
 abbrev pub customer_names : List Customer → List (List ℕ)
 customer_names customers = map (λ c. c.name) customers
 
--- what tells one request from another: the client and the client's number
-abbrev pub pair_of : Asked → ℕ × ℕ
-pair_of a = (a.client, a.number)
-
 -- all requests, batch by batch
 abbrev pub requests_of : List (List Asked) → List Asked
 requests_of batches = flat_map (λ requests. requests) batches
@@ -50,4 +46,4 @@ pub record IsWorkload (w : Workload) : Type 0 where
   pub customers : IsTrue (list_all is_customer w.customers)
   pub batches : IsTrue (list_all is_listed w.batches)
   pub names : AllPairs (λ a b. a ≢ b) (customer_names w.customers)
-  pub pairs : AllPairs (λ a b. a ≢ b) (map pair_of (requests_of w.batches))
+  pub pairs : AllPairs (λ a b. a ≢ b) (map request_id (requests_of w.batches))

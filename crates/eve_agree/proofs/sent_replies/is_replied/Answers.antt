@@ -3,7 +3,7 @@ use Rattle.std.proofs.lemmas.Bool.{false≢true}
 use Rattle.eve_grammar.specs.Trace.{Sent}
 use Rattle.eve_frames.specs.Views.{attempt_in, sent_in}
 use Rattle.eve_history.specs.Section.{batch_at}
-use Rattle.eve_history.specs.Faults.{request_id}
+use Rattle.eve_grammar.specs.Trace.{request_id}
 use Rattle.eve_agree.specs.Keeping.{kept_ids}
 use Rattle.eve_agree.proofs.Answering.{not_committed, is_committed, replied_from, answer_from}
 use Rattle.eve_agree.proofs.sent_replies.is_replied.Goals as goal

@@ -1,7 +1,7 @@
 use Rattle.std.proofs.Common.{◌≡◌, List, [], ◌∷◌, map, sym, subst, rules}
 use Rattle.eve_grammar.specs.Trace.{Asked}
 use Rattle.eve_grammar.specs.Bodies.{borrowed_asked}
-use Rattle.eve_history.specs.Faults.{request_id}
+use Rattle.eve_grammar.specs.Trace.{request_id}
 use Rattle.eve_history.specs.Notes.{requests_said}
 use Rattle.eve_history.specs.Rising.{greatest_of}
 use Rattle.eve_history.proofs.Rising.{Rising, rising_start, rising_more, rising_end}

@@ -1,5 +1,5 @@
 use Rattle.std.proofs.Common.{List, map}
-use Rattle.eve_history.specs.Faults.{RequestId, request_id}
+use Rattle.eve_grammar.specs.Trace.{RequestId, request_id}
 use Rattle.eve_history.specs.Notes.{requests_said}
 use Rattle.eve_history.specs.Rising.{greatest_of, AreReached}
 use Rattle.eve_history.proofs.Rising.{Rising}

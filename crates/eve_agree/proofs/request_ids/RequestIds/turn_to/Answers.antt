@@ -1,7 +1,7 @@
 use Rattle.std.proofs.Common.{ℕ, map, sym, ap, ◌∙◌}
 use Rattle.eve_grammar.specs.Trace.{Batch}
 use Rattle.eve_frames.specs.Views.{batch_in}
-use Rattle.eve_history.specs.Faults.{request_id}
+use Rattle.eve_grammar.specs.Trace.{request_id}
 use Rattle.eve_history.proofs.Finding.{batch_is, batch_fits}
 use Rattle.eve_agree.proofs.request_ids.RequestIds.turn_to.Goals as goal
 

@@ -3,7 +3,7 @@ use Rattle.std.proofs.lemmas.List.{length-map}
 use Rattle.std.proofs.lemmas.List.Sums.{count_by-le-length}
 use Rattle.eve_grammar.specs.Trace.{Access}
 use Rattle.eve_frames.specs.Views.{access_in}
-use Rattle.eve_history.specs.declared.marks.AccessMarks.{AccessMarks}
+use Rattle.eve_history.specs.declared.access_marks.AccessMarks.{AccessMarks}
 use Rattle.eve_history.specs.Faults.{accesses_of}
 use Rattle.eve_history.specs.Marking.{AreMarked}
 use Rattle.eve_history.proofs.Marking.{refused_worker, refused_index, refused_again, refused_place, taken_right}
