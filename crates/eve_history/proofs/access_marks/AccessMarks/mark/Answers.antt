@@ -7,7 +7,7 @@ use Rattle.eve_history.specs.declared.access_marks.AccessMarks.{AccessMarks}
 use Rattle.eve_history.specs.Faults.{accesses_of}
 use Rattle.eve_history.specs.Marking.{AreMarked}
 use Rattle.eve_history.proofs.Marking.{refused_worker, refused_index, refused_again, refused_place, taken_right}
-use Rattle.eve_history.proofs.marks.AccessMarks.mark.Goals as goal
+use Rattle.eve_history.proofs.access_marks.AccessMarks.mark.Goals as goal
 
 pub returns-then-worker-workers : goal.returns-then-worker-workers
 returns-then-worker-workers c = λ before marked.

@@ -5,7 +5,7 @@ use Rattle.eve_frames.specs.Views.{access_in}
 use Rattle.eve_history.specs.Marking.{AreMarkedIfRight}
 use Rattle.eve_history.proofs.Finding.{rec_at}
 use Rattle.eve_history.proofs.Marking.{marking_start, marking_more, marking_wrong, marking_end}
-use Rattle.eve_history.proofs.marks.AccessMarks.mark_all.Goals as goal
+use Rattle.eve_history.proofs.access_marks.AccessMarks.mark_all.Goals as goal
 
 pub loop-i-init : goal.loop-i-init
 loop-i-init c = marking_start c.args.workers c.args.count c.args.accesses.now c.args.self.now c.requires.none

@@ -1,5 +1,5 @@
 use Rattle.eve_history.proofs.Marking.{marked_none}
-use Rattle.eve_history.proofs.marks.AccessMarks.new.Goals as goal
+use Rattle.eve_history.proofs.access_marks.AccessMarks.new.Goals as goal
 
 pub returns : goal.returns
 returns c = marked_none
