@@ -1,5 +1,5 @@
 -- Where replicas differ in what a batch came to, though their tokens are due and decided, the trace shows a collision.
-use Rattle.std.proofs.Common.{◌≡◌, ℕ, zero, suc, ◌+◌, ◌<◌, ◌≤◌, nat_le, Bool, true, false, List, [], ◌∷◌, map, length}
+use Rattle.std.proofs.Common.{◌≡◌, ℕ, zero, suc, ◌+◌, ◌≤◌, nat_le, Bool, true, false, List, [], ◌∷◌, map, length}
 use Rattle.std.proofs.Common.{slice_get, Option, Some, IfSome, refl, sym, ap, subst, ◌∙◌, add-one, arith}
 use Rattle.std.specs.List.{enumerate_from, find}
 use Rattle.std.proofs.lemmas.Bool.{leb-true, cond-true, cond-false}
@@ -11,7 +11,7 @@ use Rattle.eve_views.specs.declared.fault.Code.TheVariants as code
 use Rattle.eve_views.specs.declared.fault.Fault.{Fault}
 use Rattle.eve_history.specs.Section.{Placed}
 use Rattle.eve_history.specs.SectionHistory.{history, committed_at, IsRightSection}
-use Rattle.eve_chains.proofs.Linked.{last_committed, committed_number, in_at, none≢some, some_injective}
+use Rattle.eve_chains.proofs.Linked.{last_committed, committed_number, item_at, in_at, none≢some, some_injective}
 use Rattle.eve_votes.specs.Faults.{AreVotesSound}
 use Rattle.eve_votes.proofs.Places.{get_between}
 use Rattle.eve_agree.specs.Agreement.{first_to_commit, HaveSameOutcome, StandsInAgreement, IsOutcomeFault}
@@ -37,11 +37,6 @@ found_passes {A} test k f (x ∷ xs) is = by (test k) refl (λ rest. found_passe
         subst (λ (m : ℕ). test m ≡ true) (some_injective k f (sym (cond-true (test k) (Some k) others here) ∙ is)) here
     by false here further = further (sym (cond-false (test k) (Some k) others here) ∙ is)
 
-pub got_within : {A : Type 0} (xs : List A) (i : ℕ) → i < length xs → (x : A) × (slice_get xs i ≡ Some x)
-got_within [] i lt = absurd (omega arith)
-got_within (x ∷ xs) zero lt = (x, refl)
-got_within (x ∷ xs) (suc i) lt = got_within xs i (omega arith)
-
 -- the first to commit a batch committed it
 pub first_committed : (t : Trace) (f n : ℕ) → IsRightSection t f → first_to_commit t (suc n) ≡ Some f → (q : Placed)
     × (committed_at t f (suc n) ≡ Some q)
@@ -49,7 +44,7 @@ first_committed t f n right is =
     let reached : suc n ≤ (history t f).last =
     leb-true (suc n) (history t f).last (found_passes (λ e. nat_le (suc n) (history t e).last) 0 f t.sections is) in
     let last = last_committed t f right in
-    got_within (history t f).committed n (omega arith)
+    item_at (history t f).committed n (omega arith)
 
 -- a committed attempt has the token that is due
 due_at : (t : Trace) (e n : ℕ) (q : Placed) → TokensAreDue t e → committed_at t e n ≡ Some q

@@ -1,6 +1,6 @@
 -- The balances and the replies of a replica lie within the range of money.
-use Rattle.std.proofs.Common.{◌≡◌, ℕ, ℤ, pos, zero, suc, ◌+◌, ◌*◌, ◌==◌, nat_le, nat_lt, Bool, true, false, cond, ◌&&◌}
-use Rattle.std.proofs.Common.{List, [], ◌∷◌, take, length, length-append, Some, refl, subst, ◌∙◌, arith, IsTrue}
+use Rattle.std.proofs.Common.{◌≡◌, ℕ, ℤ, pos, zero, suc, ◌*◌, ◌==◌, nat_le, nat_lt, Bool, true, false, cond, ◌&&◌}
+use Rattle.std.proofs.Common.{List, [], ◌∷◌, take, length, Some, refl, subst, ◌∙◌, IsTrue}
 use Rattle.std.specs.Prelude.{slice_index_or}
 use Rattle.std.specs.Int.RustNames.{int_le}
 use Rattle.std.specs.List.{AllByRecursion, list_all}
@@ -12,13 +12,12 @@ use Rattle.eve_smallbank.specs.declared.entry.Entry.{Entry}
 use Rattle.eve_smallbank.specs.Access.{Executed, writes_row}
 use Rattle.eve_smallbank.specs.Chain.{Table, left_by, table_after, table_after_all}
 use Rattle.eve_smallbank.proofs.Members.{In, here, there, all_in}
-use Rattle.eve_grammar.specs.Trace.{Customer, Access, Attempt, Step, Attempts, Commits, RollsBack, Trace, head_of}
+use Rattle.eve_grammar.specs.Trace.{Customer, Access, Attempt, Trace, head_of}
 use Rattle.eve_grammar.specs.Trace.{opening_rows}
-use Rattle.eve_grammar.specs.Frames.{OfReplica}
-use Rattle.eve_grammar.specs.Spelling.{frame_text, located, step_text, section_start, steps_of, steps_at}
+use Rattle.eve_grammar.specs.Spelling.{steps_at}
 use Rattle.eve_grammar.specs.declared.limits.TheConstants.{MOST_REQUESTS, MOST_VERSIONS}
 use Rattle.eve_grammar.specs.Limits.{is_between, is_number, is_token, is_reply, is_customer, is_entry}
-use Rattle.eve_grammar.specs.Limits.{is_access, is_attempt, is_whole_attempt, is_step, row_count, HasLimits}
+use Rattle.eve_grammar.specs.Limits.{is_access, is_attempt, is_whole_attempt, row_count, HasLimits}
 use Rattle.eve_history.specs.Section.{Placed}
 use Rattle.eve_history.specs.Fates.{fates_from}
 use Rattle.eve_history.specs.SectionHistory.{attempts_among, history, committed_at, is_committed, placed_at}
@@ -28,29 +27,11 @@ use Rattle.eve_chains.specs.Committed.{attempts_of, first_rows, values_to, balan
 use Rattle.eve_chains.proofs.Attempts.{in_picked}
 use Rattle.eve_chains.proofs.Distinct.{in_map}
 use Rattle.eve_chains.proofs.Linked.{none≢some, in_at}
-use Rattle.eve_chains.proofs.Loading.{each_section}
+use Rattle.eve_chains.proofs.AttemptRecords.{its_entries, whole_section}
 use Rattle.eve_chains.proofs.SettledAttempts.{all-append}
-use Rattle.eve_agree.proofs.RestoresInOrder.{entries_within as access_entries}
+use Rattle.eve_audit.proofs.SameBanks.{rows_length}
 
 -- ---- what is committed lies within the limits of the format
-
-whole_steps : (rows at : ℕ) (steps : List Step) → IsTrue (list_all (is_step rows) steps)
-    → AllByRecursion (λ x. IsTrue (is_whole_attempt rows x.1)) (attempts_among (located step_text at steps))
-whole_steps rows at [] h = tt
-whole_steps rows at (Attempts a ∷ steps) h =
-    let parts = and_parts (is_step rows (Attempts a)) (list_all (is_step rows) steps) h in
-    (parts.0, whole_steps rows (at + length (step_text (Attempts a))) steps parts.1)
-whole_steps rows at (Commits c ∷ steps) h = whole_steps rows (at + length (step_text (Commits c))) steps
-    (and_parts (is_step rows (Commits c)) (list_all (is_step rows) steps) h).1
-whole_steps rows at (RollsBack r ∷ steps) h = whole_steps rows (at + length (step_text (RollsBack r))) steps
-    (and_parts (is_step rows (RollsBack r)) (list_all (is_step rows) steps) h).1
-
-whole_section : (t : Trace) (e : ℕ) → HasLimits t
-    → AllByRecursion (λ x. IsTrue (is_whole_attempt (row_count (head_of t)) x.1)) (attempts_among (steps_at t e))
-unfolding steps_at
-whole_section t e limits =
-    whole_steps (row_count (head_of t)) (section_start t e + length (frame_text (OfReplica e))) (steps_of t e)
-    (each_section (row_count (head_of t)) t.sections e limits.sections)
 
 committed_whole : (t : Trace) (e : ℕ) → HasLimits t → (q : Placed) → In q (history t e).committed
     → IsTrue (is_whole_attempt (row_count (head_of t)) q.attempt)
@@ -141,7 +122,7 @@ entries_within : (rows : ℕ) (xs : List Access) (index : ℕ) → IsTrue (list_
 entries_within rows [] index h = refl
 entries_within rows (x ∷ xs) index h =
     let parts = and_parts (is_access rows x) (list_all (is_access rows) xs) h in
-    by (x.index == index) (access_entries rows x parts.0) (entries_within rows xs index parts.1)
+    by (x.index == index) (its_entries rows x parts.0) (entries_within rows xs index parts.1)
   where
     by : (b : Bool) → IsTrue (list_all (is_entry rows) x.entries)
         → IsTrue (list_all (is_entry rows) (entries_with xs index))
@@ -186,9 +167,5 @@ first_within values all (suc n) =
 pub balances_within : (t : Trace) (e n : ℕ) → HasLimits t → IsTrue (list_all is_balance (balances_to t e n))
 balances_within t e n limits = first_within (values_to t e n) (values_within t e n limits) (2 * length t.customers)
 
-first_count : (n : ℕ) (values : ℕ → ℤ) → length (first_rows n values) ≡ n
-first_count zero values = refl
-first_count (suc n) values = let known = first_count n values in simp length-append (omega arith)
-
 pub balances_count : (t : Trace) (e n : ℕ) → length (balances_to t e n) ≡ 2 * length t.customers
-balances_count t e n = first_count (2 * length t.customers) (values_to t e n)
+balances_count t e n = rows_length (2 * length t.customers) (values_to t e n)

@@ -19,7 +19,7 @@ use Rattle.eve_history.specs.Section.{Placed}
 use Rattle.eve_history.specs.SectionHistory.{SectionHistory, section_history, section_histories, history, committed_at}
 use Rattle.eve_history.specs.SectionHistory.{IsRightSection}
 use Rattle.eve_history.proofs.Rights.{as_many_told, section_history_at}
-use Rattle.eve_chains.proofs.Linked.{last_committed, some_injective, none≢some, take_length}
+use Rattle.eve_chains.proofs.Linked.{last_committed, item_at, some_injective, none≢some, take_length}
 use Rattle.eve_agree.specs.Agreement.{first_to_commit, HaveSameOutcome, ReplicasAgree, StandsInAgreement}
 use Rattle.eve_agree.specs.Agreement.{IsOutcomeFault}
 use Rattle.eve_agree.specs.Judging.{NoneBefore, Stand, IsUpToAt, KeepsFound, AgreesOrIsFound}
@@ -194,17 +194,12 @@ module _ (t : Trace) where
       ∙ section_history_at t e there) in
       known.judged e (suc m) (omega arith) (omega arith) p at
 
-  got_within : {A : Type 0} (xs : List A) (i : ℕ) → i < length xs → (x : A) × (slice_get xs i ≡ Some x)
-  got_within [] i lt = absurd (omega arith)
-  got_within (x ∷ xs) zero lt = (x, refl)
-  got_within (x ∷ xs) (suc i) lt = got_within xs i (omega arith)
-
   pub they_agree : ((e : ℕ) → IsRightSection t e) → ((e m : ℕ) → AgreesOrIsFound t None e m) → ReplicasAgree t
   they_agree right judged e zero has = absurd (let one = has.0 in omega arith)
   they_agree right judged e (suc m) has =
       let le = has.1 in
       let count = last_committed t e (right e) in
-      let got = got_within (history t e).committed m (omega arith) in
+      let got = item_at (history t e).committed m (omega arith) in
       elim (judged e (suc m) got.0 got.1) [ inl same ↦ same | inr up ↦ absurd up ]
 
   -- a fault stands where the outcome differs

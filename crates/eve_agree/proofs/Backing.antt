@@ -1,14 +1,15 @@
 -- Public: other crates cite these lemmas. Which commits and rollbacks no majority voted for, and which is the first.
-use Rattle.std.proofs.Common.{◌≡◌, ℕ, suc, ◌+◌, ◌-◌, ◌*◌, ◌^◌, ◌<◌, ◌≤◌, ◌==◌, nat_lt, nat_le, List, [], ◌∷◌, ◌++◌}
+use Rattle.std.proofs.Common.{◌≡◌, ℕ, suc, ◌+◌, ◌-◌, ◌^◌, ◌<◌, ◌≤◌, ◌==◌, nat_lt, List, [], ◌∷◌, ◌++◌}
 use Rattle.std.proofs.Common.{length, Option, Some, None, refl, sym, subst, ap, ◌∙◌, ◌⊎◌, inl, inr, IsTrue, arith}
 use Rattle.std.specs.Prelude.{Bool, true, false, ◌↔◌, IfNone, IfSome}
 use Rattle.std.specs.Cmp.Lexicographic.{pointwise, same_text, other_text}
 use Rattle.std.specs.List.{AllByRecursion}
-use Rattle.std.proofs.lemmas.Bool.{and_parts, eqb-true, ltb-true, leb-true, cases_lt, false≢true}
+use Rattle.std.proofs.lemmas.Bool.{and_parts, eqb-true, ltb-true, cases_lt, false≢true}
 use Rattle.eve_grammar.specs.Trace.{Commit, Rollback, Step, Attempts, Commits, RollsBack, Trace, head_of}
 use Rattle.eve_grammar.specs.Frames.{OfReplica}
 use Rattle.eve_grammar.specs.Spelling.{frame_text, located, section_start, step_text, steps_of, steps_at}
-use Rattle.eve_grammar.specs.Limits.{HasLimits, is_between}
+use Rattle.eve_grammar.specs.Limits.{HasLimits}
+use Rattle.eve_grammar.proofs.FrameLaws.{small_head}
 use Rattle.eve_frames.specs.Views.{commit_in, rollback_in}
 use Rattle.eve_frames.specs.declared.commit.CommitView.{CommitView}
 use Rattle.eve_frames.specs.declared.rollback.RollbackView.{RollbackView}
@@ -140,16 +141,7 @@ room_along t s ((at, RollsBack r) ∷ steps) few right =
     room to last view before n e lt few f = (omega arith, omega arith)
 
 few_batches : (t : Trace) → HasLimits t → length t.batches ≤ 65535
-few_batches t limits =
-    let h = head_of t in
-    let a = and_parts (is_between 1 8 h.replicas) _ limits.head in
-    let b = and_parts (is_between 1 16 h.verifiers) _ a.1 in
-    let c = and_parts (nat_le h.quorum h.verifiers) _ b.1 in
-    let d = and_parts (nat_lt h.verifiers (2 * h.quorum)) _ c.1 in
-    let i = and_parts (is_between 1 8 h.window) _ d.1 in
-    let j = and_parts (is_between 1 8 h.workers) _ i.1 in
-    let k = and_parts (is_between 1 4096 h.customers) _ j.1 in
-    leb-true h.batches 65535 k.1
+few_batches t limits = (small_head (head_of t) limits.head).batches
 
 -- The steps of replica e that are still to come; those before them are backed.
 pub record AreLeft (t : Trace) (e : ℕ) (left : List (ℕ × Step)) : Type 0 where
@@ -257,7 +249,7 @@ left_fault t e step left f are wrong = record {
 
 -- ---- section after section
 
-below_more : (k e : ℕ) → k < e + 1 → (k < e) ⊎ (k ≡ e)
+pub below_more : (k e : ℕ) → k < e + 1 → (k < e) ⊎ (k ≡ e)
 below_more k e lt = elim (cases_lt k e) [ inl less ↦ inl less | inr le ↦ inr (omega (arith, lt, le)) ]
 
 pub none_found : (t : Trace) → IsFirstUnbackedBelow t 0 None

@@ -8,12 +8,13 @@ use Rattle.std.proofs.lemmas.List.Sums.{sum_by-cons}
 use Rattle.std.specs.List.{AllByRecursion, list_any, list_all}
 use Rattle.std.specs.Ordering.{int_eq}
 use Rattle.std.proofs.lemmas.Bool.{cases_Bool, and_parts, and_from, and_left, and_right, or_parts, or_cases, or_right}
-use Rattle.std.proofs.lemmas.Bool.{eqb-true, eq-eqb, ne_eqb, ltb-true, false≢true}
+use Rattle.std.proofs.lemmas.Bool.{eqb-true, ne_eqb, ltb-true, false≢true}
 use Rattle.std.proofs.lemmas.List.Folds.{list_any-append}
 use Rattle.eve_smallbank.specs.declared.entry.Entry.{Entry}
 use Rattle.eve_smallbank.specs.Access.{Executed, is_write, writes_row}
 use Rattle.eve_smallbank.specs.Chain.{Versioned, Table, Sees, table_after}
 use Rattle.eve_smallbank.proofs.Chains.{Follows}
+use Rattle.eve_smallbank.proofs.Orders.{writes_own}
 use Rattle.eve_grammar.specs.Trace.{Restore}
 use Rattle.eve_grammar.specs.Limits.{is_rising}
 use Rattle.eve_chains.proofs.AlongLaws.{unwritten}
@@ -189,16 +190,13 @@ taking_next old now then all r rest taking is e =
 abbrev pub is_covered : List Restore → Entry → Bool
 is_covered rs e = not (is_write e.kind) || restores_row e.row rs
 
-written_by : (e : Entry) → is_write e.kind ≡ true → writes_row e.row e ≡ true
-written_by e writes = and_from (is_write e.kind) (e.row == e.row) writes (eq-eqb e.row e.row refl)
-
 covered : (rs : List Restore) (es : List Entry)
     → ((row : ℕ) → list_any (writes_row row) es ≡ true → restores_row row rs ≡ true) → list_all (is_covered rs) es
     ≡ true
 covered rs [] h = refl
 covered rs (e ∷ es) h = and_from (is_covered rs e) (list_all (is_covered rs) es)
     (elim (cases_Bool (is_write e.kind)) [
-      | inl writes ↦ rw writes (h e.row (ap (λ (b : Bool). b || list_any (writes_row e.row) es) (written_by e writes)))
+      | inl writes ↦ rw writes (h e.row (ap (λ (b : Bool). b || list_any (writes_row e.row) es) (writes_own e writes)))
       | inr reads ↦ rw reads refl
     ])
     (covered rs es (λ row some. h row (or_right (writes_row row e) (list_any (writes_row row) es) some)))

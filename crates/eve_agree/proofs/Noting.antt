@@ -1,10 +1,9 @@
 -- What attempts noted, one after another.
-use Rattle.std.proofs.Common.{◌≡◌, ℕ, zero, suc, ◌+◌, ◌-◌, ◌<◌, ◌≤◌, List, [], ◌∷◌, ◌++◌, take, drop, length, slice_get}
+use Rattle.std.proofs.Common.{◌≡◌, ℕ, zero, suc, ◌+◌, ◌-◌, ◌≤◌, List, [], ◌∷◌, ◌++◌, take, drop, slice_get}
 use Rattle.std.proofs.Common.{Some, refl, sym, ap, ◌∙◌, append-nil, arith}
 use Rattle.std.specs.List.{AllByRecursion, flat_map}
 use Rattle.std.proofs.lemmas.Grind.{flat_map-append}
 use Rattle.eve_smallbank.specs.declared.entry.Entry.{Entry}
-use Rattle.eve_grammar.specs.Trace.{Access}
 use Rattle.eve_views.proofs.Lists.{take_one_more}
 use Rattle.eve_history.specs.SectionHistory.{ExecutedAttempt}
 use Rattle.eve_history.proofs.Finding.{rec_at}
@@ -12,21 +11,6 @@ use Rattle.eve_chains.specs.Along.{entries_along, AreWithin}
 use Rattle.eve_chains.proofs.Linked.{some_injective}
 use Rattle.eve_agree.specs.Marking.{Marking, marked, noted_between}
 use Rattle.eve_agree.proofs.Marking.{marked-append}
-
--- ---- the records of an attempt
-
--- one record more
-pub records_more : (base old new : Marking) (xs : List (ℕ × Access)) (k : ℕ) (x : ℕ × Access) → slice_get xs k ≡ Some x
-    → old ≡ marked base (entries_along (take k xs)) → new ≡ marked old x.1.entries
-    → new ≡ marked base (entries_along (take (k + 1) xs))
-records_more base old new xs k x at so step =
-    step ∙ ap (λ (marks : Marking). marked marks x.1.entries) so
-    ∙ sym (marked-append base (entries_along (take k xs)) x.1.entries)
-    ∙ ap (marked base) (sym (ap entries_along (take_one_more xs k x at)
-    ∙ flat_map-append (λ (y : ℕ × Access). y.1.entries) (take k xs) (x ∷ [])
-    ∙ ap (λ (es : List Entry). entries_along (take k xs) ++ es) (append-nil x.1.entries)))
-
--- ---- one attempt after another
 
 pub same_found : (rs : List ExecutedAttempt) (i : ℕ) (r q : ExecutedAttempt) → slice_get rs i ≡ Some r → slice_get rs i
     ≡ Some q → r ≡ q
@@ -62,9 +46,3 @@ noted_more base old new rs first i r le at so step =
     ∙ ap (flat_map along) (take_one_more (drop first rs) (i - first) r there)
     ∙ flat_map-append along (take (i - first) (drop first rs)) (r ∷ [])
     ∙ ap (λ (es : List Entry). noted_between rs first i ++ es) (append-nil (along r))))
-
--- an attempt of the number
-pub found_at : (rs : List ExecutedAttempt) (i : ℕ) → i < length rs → (r : ExecutedAttempt) × (slice_get rs i ≡ Some r)
-found_at [] i lt = absurd (omega arith)
-found_at (r ∷ rs) zero lt = (r, refl)
-found_at (r ∷ rs) (suc i) lt = found_at rs i (omega arith)

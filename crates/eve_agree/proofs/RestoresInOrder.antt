@@ -13,7 +13,7 @@ use Rattle.eve_grammar.specs.Trace.{Access, Attempt, Commit, Rollback, Step, Att
 use Rattle.eve_grammar.specs.Trace.{head_of}
 use Rattle.eve_grammar.specs.Frames.{OfReplica}
 use Rattle.eve_grammar.specs.Spelling.{frame_text, step_text, section_start, steps_of, steps_at}
-use Rattle.eve_grammar.specs.Limits.{HasLimits, is_number, is_attempt, is_entry, is_access, is_step, is_rising}
+use Rattle.eve_grammar.specs.Limits.{HasLimits, is_number, is_step, is_rising}
 use Rattle.eve_grammar.specs.Limits.{is_restore, is_rollback, row_count}
 use Rattle.eve_frames.specs.Views.{rollback_in}
 use Rattle.eve_frames.specs.declared.attempt.AttemptView.{AttemptView}
@@ -38,7 +38,7 @@ use Rattle.eve_history.proofs.Structure.{state_after-append}
 use Rattle.eve_history.proofs.Rights.{none_at}
 use Rattle.eve_history.proofs.Places.{place_cases, no_place, weaker_place, Rising, located_rising, At, first_place}
 use Rattle.eve_chains.specs.Along.{entries_along, AreWithin}
-use Rattle.eve_chains.proofs.Loading.{its_entries, within_ordered}
+use Rattle.eve_chains.proofs.AttemptRecords.{IsWithin, within_section}
 use Rattle.eve_chains.specs.Sound.{SettledAreSound}
 use Rattle.eve_chains.specs.Visible.{executions}
 use Rattle.eve_chains.specs.Committed.{attempts_of}
@@ -424,26 +424,16 @@ told_attempts t e = refl
 
 -- ---- within the limits
 
-pub entries_within : (rows : ℕ) (x : Access) → IsTrue (is_access rows x) → IsTrue (list_all (is_entry rows) x.entries)
-entries_within = its_entries
-
-executed_attempts_within : (rows : ℕ) (steps : List (ℕ × Step)) → IsTrue (list_all (λ x. is_step rows x.1) steps)
-    → AllByRecursion (λ r. AreWithin rows r.ordered) (map executed_attempt (attempts_among steps))
-executed_attempts_within rows [] fits = tt
-executed_attempts_within rows ((at, Attempts a) ∷ steps) fits =
-    let parts = and_parts (is_step rows (Attempts a)) (list_all (λ x. is_step rows x.1) steps) fits in
-    let whole = and_parts (is_attempt a) _ parts.0 in
-    let own = and_parts (length a.accesses == length a.certificate) (list_all (is_access rows) a.accesses) whole.1 in
-    (within_ordered rows at a own.1, executed_attempts_within rows steps parts.1)
-executed_attempts_within rows ((at, Commits c) ∷ steps) fits = executed_attempts_within rows steps
-    (and_parts (is_step rows (Commits c)) (list_all (λ x. is_step rows x.1) steps) fits).1
-executed_attempts_within rows ((at, RollsBack r) ∷ steps) fits = executed_attempts_within rows steps
-    (and_parts (is_step rows (RollsBack r)) (list_all (λ x. is_step rows x.1) steps) fits).1
+executed_within : (rows : ℕ) (xs : List (ℕ × Attempt)) → AllByRecursion (IsWithin rows) xs
+    → AllByRecursion (λ r. AreWithin rows r.ordered) (map executed_attempt xs)
+executed_within rows [] all = tt
+executed_within rows (x ∷ xs) all = (all.0.within, executed_within rows xs all.1)
 
 pub attempts_within : (t : Trace) (e : ℕ) → HasLimits t
     → AllByRecursion (λ r. AreWithin (2 * length t.customers) r.ordered)
     (map executed_attempt (attempts_among (steps_at t e)))
-attempts_within t e limits = executed_attempts_within (row_count (head_of t)) (steps_at t e) (come_start t e limits).fit
+attempts_within t e limits =
+    executed_within (row_count (head_of t)) (attempts_among (steps_at t e)) (within_section t e limits)
 
 -- ---- what is told
 

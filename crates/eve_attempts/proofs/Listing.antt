@@ -1,5 +1,5 @@
 -- Lists, place by place.
-use Rattle.std.proofs.Common.{◌≡◌, ℕ, zero, suc, ◌+◌, ◌-◌, ◌<◌, ◌≤◌, Bool, true, false, List, [], ◌∷◌, ◌++◌, Some}
+use Rattle.std.proofs.Common.{◌≡◌, ℕ, zero, suc, ◌+◌, ◌-◌, ◌<◌, ◌≤◌, Bool, true, false, List, [], ◌∷◌, Some}
 use Rattle.std.proofs.Common.{map, length, set, replicate, get_or, drop, slice_get, refl, sym, subst}
 use Rattle.std.proofs.Common.{ap, ◌∙◌, add-one, arith}
 use Rattle.std.specs.List.{AllByRecursion, list_all}
@@ -103,8 +103,3 @@ list_all-set p (y ∷ xs) (suc i) x all is =
 pub list_all-replicate : {A : Type 0} (p : A → Bool) (n : ℕ) (x : A) → p x ≡ true → list_all p (replicate n x) ≡ true
 list_all-replicate p zero x is = refl
 list_all-replicate p (suc n) x is = and_from (p x) (list_all p (replicate n x)) is (list_all-replicate p n x is)
-
-pub all_push : {A : Type 0} (P : A → Type 0) (xs : List A) (x : A) → AllByRecursion P xs → P x
-    → AllByRecursion P (xs ++ x ∷ [])
-all_push P [] x all holds = (holds, tt)
-all_push P (y ∷ xs) x all holds = (all.0, all_push P xs x all.1 holds)

@@ -3,6 +3,7 @@ use Rattle.std.proofs.Common.{◌≡◌, ℕ, zero, suc, ◌+◌, ◌<◌, ◌�
 use Rattle.std.proofs.Common.{subst, ◌∙◌, arith, take_all}
 use Rattle.std.specs.List.{flat_map}
 use Rattle.std.proofs.lemmas.Bool.{cases_lt}
+use Rattle.std.proofs.lemmas.List.FromFn.{length-enumerate_from}
 use Rattle.eve_smallbank.specs.Access.{Executed, Fits}
 use Rattle.eve_grammar.specs.Trace.{Trace}
 use Rattle.eve_grammar.specs.Frames.{sections_of}
@@ -30,7 +31,6 @@ use Rattle.eve_audit.proofs.Unique.{code_with, with_its_number}
 use Rattle.eve_audit.proofs.Placed.{majority_lies, outcome_lies}
 use Rattle.eve_audit.proofs.Within.{fewer, trace_fault_within}
 use Rattle.eve_audit.proofs.Deciding.{Decided, decided_as, decided_both, numbers, below_or_none}
-use Rattle.eve_audit.proofs.UnfaultedTogether.{length-enumerated}
 use Rattle.eve_audit.proofs.StandingDecided.{orders_decided, votes_decided, replies_decided, structure_decided}
 use Rattle.eve_audit.proofs.StandingDecided.{records_decided, chains_decided, restores_decided, tokens_decided}
 use Rattle.eve_audit.proofs.StandingDecided.{majorities_decided, agreement_decided}
@@ -270,7 +270,7 @@ there : (t : Trace) (e at : ℕ) → LiesIn t e at → e < length t.sections
 there t e at lies = elim (cases_lt e (length t.sections)) [
   | inl lt ↦ lt
   | inr le ↦
-      let count : length (sections_of t) ≡ length t.sections = length-enumerated 0 t.sections in
+      let count : length (sections_of t) ≡ length t.sections = length-enumerate_from 0 t.sections in
       let behind : section_start t e ≡ verifiers_start t =
       ap (λ xs. sections_start t + length (flat_map section_text xs))
       (take_all e (sections_of t) (omega (arith, count, le))) in

@@ -1,10 +1,10 @@
 -- What was found of replicas stays true as it is kept and taken.
 use Rattle.std.proofs.Common.{◌≡◌, Option, Some, None, List, [], ◌∷◌, ◌++◌, All, IfSome, IsNone, refl, sym, ap, subst}
-use Rattle.std.proofs.Common.{◌∙◌, ℕ, suc, ◌+◌, arith, length, length-append, inl, inr}
+use Rattle.std.proofs.Common.{◌∙◌, ℕ, ◌+◌, arith, length, length-append, inl, inr}
 use Rattle.std.specs.Prelude.{Result}
 use Rattle.std.proofs.lemmas.Bool.{cases_lt}
 use Rattle.std.proofs.lemmas.List.{get_or_append_left, get_or_push}
-use Rattle.std.proofs.lemmas.List.Elements.{All-append, All-cons, All-nil}
+use Rattle.std.proofs.lemmas.List.Elements.{All-append, All-cons, All-head, All-nil, All-tail}
 use Rattle.eve_grammar.specs.Trace.{Trace}
 use Rattle.eve_views.specs.declared.fault.Fault.{Fault}
 use Rattle.eve_audit.specs.declared.replica.Piece.{Piece}
@@ -39,12 +39,6 @@ module _ {A : Type 0} (P : A → Type 0) where
   all_push xs room more x all is same added = subst (All P) (sym (added ∙ ap (λ (ys : List A). ys ++ x ∷ []) same))
       (All-append P xs (x ∷ []) all (All-cons P x [] is (All-nil P)))
 
-  all_head : (x : A) (xs : List A) → All P (x ∷ xs) → P x
-  all_head x xs all = all 0 x (omega arith)
-
-  all_tail : (x : A) (xs : List A) → All P (x ∷ xs) → All P xs
-  all_tail x xs all = λ k d lt. all (suc k) d (omega (arith, lt))
-
 -- what was taken first is true, and so is what is left
 pub taken_is_true : (t : Trace) (e : ℕ) (old new : Slot) (r : Option (Result Piece Fault))
     → IfSome r (λ answer. old.findings.items ≡ finding e answer ∷ new.findings.items) → (IsNone r → new ≡ old)
@@ -52,5 +46,5 @@ pub taken_is_true : (t : Trace) (e : ℕ) (old new : Slot) (r : Option (Result P
 taken_is_true t e old new (Some answer) next none all =
     let P : Finding → Type 0 = λ f. IsAnswerOf t f.replica f.answer in
     let before = subst (All P) next all in
-    (all_head P (finding e answer) new.findings.items before, all_tail P (finding e answer) new.findings.items before)
+    (All-head P (finding e answer) new.findings.items before, All-tail P (finding e answer) new.findings.items before)
 taken_is_true t e old new None next none all = (tt, subst (AreTrue t) (sym (none refl)) all)

@@ -2,6 +2,7 @@
 use Rattle.std.proofs.Common.{◌≡◌, ℕ, ◌+◌, nat_le, nat_lt, List, Option, Some, None, sym, ap, subst, ◌∙◌}
 use Rattle.std.specs.Prelude.{◌↔◌, IsTrue}
 use Rattle.std.proofs.lemmas.Bool.{and_parts, and_from, le-leb, lt-ltb, leb-true, ltb-true}
+use Rattle.eve_accounts.proofs.NameLemmas.{no_number}
 use Rattle.eve_grammar.specs.Trace.{Trace}
 use Rattle.eve_grammar.specs.Limits.{Spells}
 use Rattle.eve_grammar.specs.Spelling.{section_start}
@@ -38,9 +39,6 @@ Names t f = (e : ℕ) → (f.replica ≡ Some e) ↔ IsTrue (is_in_section t e f
 inner : (d e : ℕ) → ◌≡◌ {A = Option ℕ} (Some d) (Some e) → d ≡ e
 inner d e same = cc
 
-not_named : (e : ℕ) → ◌≡◌ {A = Option ℕ} None (Some e) → ⊥
-not_named e same = cc
-
 inside : (t : Trace) (d : ℕ) (f : Fault) → f.replica ≡ Some d → LiesIn t d f.offset → Names t f
 inside t d f is lies e = (
   λ named. held_from t e f.offset (subst (λ (k : ℕ). LiesIn t k f.offset) (inner d e (sym is ∙ named)) lies),
@@ -49,7 +47,7 @@ inside t d f is lies e = (
 
 outside : (t : Trace) (f : Fault) → f.replica ≡ None → IsOutside t f.offset → Names t f
 outside t f is out e = (
-  λ named. absurd (not_named e (sym is ∙ named)),
+  λ named. absurd (no_number e (sym is ∙ named)),
   λ held. absurd (in_none t e f.offset out (lies_from t e f.offset held)),
 )
 

@@ -1,4 +1,4 @@
--- The balances of all customers, row by row, make up the bank.
+-- Public: other crates cite these lemmas. The balances of all customers, row by row, make up the bank.
 use Rattle.std.proofs.Common.{◌≡◌, ℕ, ℤ, zero, suc, pos, ◌+◌, ◌*◌, ◌≤◌, ◌<◌, List, [], ◌∷◌, ◌++◌, length, length-append}
 use Rattle.std.proofs.Common.{get_or, refl, sym, subst, ap, ◌∙◌, inl, inr, arith}
 use Rattle.std.proofs.lemmas.Bool.{cases_eq}
@@ -12,13 +12,9 @@ use Rattle.eve_grammar.specs.Trace.{Customer, Trace}
 use Rattle.eve_history.specs.SectionHistory.{names_of}
 use Rattle.eve_chains.specs.Committed.{first_rows, values_to, bank_after, balances_to}
 
-rows_length : (n : ℕ) (values : ℕ → ℤ) → length (first_rows n values) ≡ n
+pub rows_length : (n : ℕ) (values : ℕ → ℤ) → length (first_rows n values) ≡ n
 rows_length zero values = refl
-rows_length (suc n) values = length-append (first_rows n values) (values n ∷ [])
-    ∙ one_more (length (first_rows n values)) (rows_length n values)
-  where
-    one_more : (m : ℕ) → m ≡ n → m + 1 ≡ suc n
-    one_more m e = omega arith
+rows_length (suc n) values = let known = rows_length n values in simp length-append (omega arith)
 
 row_of : (n : ℕ) (values : ℕ → ℤ) (row : ℕ) → row < n → get_or (first_rows n values) row (pos 0) ≡ values row
 row_of zero values row below = absurd (omega arith)

@@ -1,7 +1,7 @@
 -- Where no phase finds a fault, all is as it must be, of all replicas together.
-use Rattle.std.proofs.Common.{◌≡◌, ℕ, suc, ◌+◌, ◌-◌, ◌<◌, ◌≤◌, inl, inr, List, [], ◌∷◌, length, Option, Some, None}
+use Rattle.std.proofs.Common.{◌≡◌, ℕ, ◌+◌, ◌-◌, ◌<◌, ◌≤◌, inl, inr, List, [], ◌∷◌, length, Option, Some, None}
 use Rattle.std.proofs.Common.{IfSome, slice_get, get_or, refl, sym, ap, subst, ◌∙◌, arith}
-use Rattle.std.specs.List.{AllByRecursion, All, list_all, enumerate_from}
+use Rattle.std.specs.List.{AllByRecursion, All, list_all}
 use Rattle.std.specs.Prelude.{IsTrue}
 use Rattle.std.proofs.lemmas.Bool.{cases_lt, cases_eq}
 use Rattle.std.proofs.lemmas.Option.{slice_get-get_or, slice_get_within}
@@ -51,10 +51,6 @@ votes_right t limits v early k d lt =
     right_vote (length t.batches) (get_or (votes_of t v) k d)
     (all_at (is_vote (length t.batches)) (votes_of t v) k (get_or (votes_of t v) k d) own
     (slice_get-get_or (votes_of t v) k d lt))
-
-pub length-enumerated : {A : Type 0} (n : ℕ) (xs : List A) → length (enumerate_from n xs) ≡ length xs
-length-enumerated n [] = refl
-length-enumerated n (x ∷ xs) = ap suc (length-enumerated (n + 1) xs)
 
 module _ (t : Trace) (limits : HasLimits t) where
   module _ (none : HasNone (IsVoteFault t)) where

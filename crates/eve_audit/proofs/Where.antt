@@ -1,7 +1,7 @@
 -- In which section the frames of a replica stand.
 use Rattle.std.proofs.Common.{◌≡◌, ℕ, zero, suc, ◌+◌, ◌-◌, ◌<◌, ◌≤◌, inl, inr, List, [], ◌∷◌, ◌++◌, map, length, take}
 use Rattle.std.proofs.Common.{refl, sym, ap, subst, ◌∙◌, arith}
-use Rattle.std.specs.Prelude.{slice_index_or, if◌then◌else◌, Bool, true, false}
+use Rattle.std.specs.Prelude.{slice_index_or}
 use Rattle.std.specs.List.{flat_map, enumerate_from, AllByRecursion}
 use Rattle.std.proofs.lemmas.Bool.{cases_lt}
 use Rattle.std.proofs.lemmas.List.{length-append}
@@ -12,12 +12,13 @@ use Rattle.eve_grammar.specs.Frames.{Frame, OfReplica, OfAttempt as AttemptFrame
 use Rattle.eve_grammar.specs.Frames.{kind_of, without_accesses, step_frames}
 use Rattle.eve_grammar.specs.Spelling.{body_text, frame_text, frames_text, located, step_text, section_text}
 use Rattle.eve_grammar.specs.Spelling.{section_start, steps_of, steps_at, accesses_at}
-use Rattle.eve_history.specs.declared.fate.Fate.{Fate}
 use Rattle.eve_history.specs.Section.{settled}
-use Rattle.eve_history.specs.SectionHistory.{attempts_among, picked, placed_at, is_committed, is_discarded, history}
+use Rattle.eve_history.specs.SectionHistory.{attempts_among, placed_at, is_committed, is_discarded, history}
 use Rattle.eve_history.specs.Fates.{fates_from}
 use Rattle.eve_audit.proofs.Sections.{LiesIn, FatesAreAsItEnds}
 use Rattle.eve_history.proofs.Rights.{none_at}
+use Rattle.eve_chains.proofs.Attempts.{all_picked}
+use Rattle.eve_chains.proofs.SettledAttempts.{all-append}
 
 -- ---- what holds of all holds at some place
 
@@ -29,10 +30,6 @@ module _ {A : Type 0} (P : A → Type 0) where
       by : (before : List A) → AllByRecursion P (before ++ item ∷ rest) → P item
       by [] all = all.0
       by (x ∷ before) all = by before all.1
-
-  all_append : (xs ys : List A) → AllByRecursion P xs → AllByRecursion P ys → AllByRecursion P (xs ++ ys)
-  all_append [] ys one other = other
-  all_append (x ∷ xs) ys one other = (one.0, all_append xs ys one.1 other)
 
 module _ {A : Type 0} (P Q : A → Type 0) (weaker : (x : A) → P x → Q x) where
   all_weaker : (xs : List A) → AllByRecursion P xs → AllByRecursion Q xs
@@ -189,17 +186,6 @@ attempts_in P ((at, Attempts a) ∷ steps) all = (all.0, attempts_in P steps all
 attempts_in P ((at, Commits c) ∷ steps) all = attempts_in P steps all.1
 attempts_in P ((at, RollsBack r) ∷ steps) all = attempts_in P steps all.1
 
-picked_in : (P : ℕ × Attempt → Type 0) (test : Fate → Bool) (xs : List (ℕ × Attempt)) (fates : List Fate)
-    → AllByRecursion P xs → AllByRecursion P (picked test xs fates)
-picked_in P test [] fates all = tt
-picked_in P test (x ∷ xs) [] all = tt
-picked_in P test (x ∷ xs) (fate ∷ fates) all = by (test fate) (picked_in P test xs fates all.1)
-  where
-    by : (b : Bool) → AllByRecursion P (picked test xs fates)
-        → AllByRecursion P (if b then x ∷ picked test xs fates else picked test xs fates)
-    by true later = (all.0, later)
-    by false later = later
-
 module _ (t : Trace) (e : ℕ) where
   pub steps_in : AllByRecursion (StepIn t e) (steps_at t e)
   unfolding steps_at
@@ -246,15 +232,15 @@ module _ (t : Trace) (e : ℕ) where
     pub committed_in : AllByRecursion (λ p. StepIn t e (p.offset, Attempts p.attempt)) (history t e).committed
     committed_in = all_unmapped placed_at (λ x. StepIn t e (x.0, Attempts x.1)) (history t e).committed
         (subst (AllByRecursion (λ x. StepIn t e (x.0, Attempts x.1))) (sym law.0)
-        (picked_in (λ x. StepIn t e (x.0, Attempts x.1)) is_committed (attempts_among (steps_at t e))
+        (all_picked (λ x. StepIn t e (x.0, Attempts x.1)) is_committed (attempts_among (steps_at t e))
         (fates_from 0 (steps_at t e)) (attempts_in (StepIn t e) (steps_at t e) steps_in)))
 
     discarded_in : AllByRecursion (λ p. StepIn t e (p.offset, Attempts p.attempt)) (history t e).discarded
     discarded_in = all_unmapped placed_at (λ x. StepIn t e (x.0, Attempts x.1)) (history t e).discarded
         (subst (AllByRecursion (λ x. StepIn t e (x.0, Attempts x.1))) (sym law.1)
-        (picked_in (λ x. StepIn t e (x.0, Attempts x.1)) is_discarded (attempts_among (steps_at t e))
+        (all_picked (λ x. StepIn t e (x.0, Attempts x.1)) is_discarded (attempts_among (steps_at t e))
         (fates_from 0 (steps_at t e)) (attempts_in (StepIn t e) (steps_at t e) steps_in)))
 
     pub settled_in : AllByRecursion (λ p. StepIn t e (p.offset, Attempts p.attempt)) (settled (history t e))
-    settled_in = all_append (λ p. StepIn t e (p.offset, Attempts p.attempt)) (history t e).committed
+    settled_in = all-append (λ p. StepIn t e (p.offset, Attempts p.attempt)) (history t e).committed
         (history t e).discarded committed_in discarded_in

@@ -4,7 +4,7 @@ use Rattle.eve_smallbank.specs.declared.entry.Entry.{Entry}
 use Rattle.eve_smallbank.specs.Access.{Executed, values_after}
 use Rattle.eve_smallbank.specs.Chain.{Table, table_after, table_after_all, values_of}
 use Rattle.eve_smallbank.proofs.Chains.{values_of-table_after}
-use Rattle.eve_smallbank.proofs.Members.{In, here, there}
+use Rattle.eve_smallbank.proofs.Members.{In, here, there, in_front}
 use Rattle.eve_grammar.specs.Trace.{Access, Trace}
 use Rattle.eve_grammar.specs.Limits.{HasLimits}
 use Rattle.eve_grammar.specs.Spelling.{accesses_at}
@@ -13,7 +13,6 @@ use Rattle.eve_history.specs.SectionHistory.{access_with, ordered, history, comm
 use Rattle.eve_chains.specs.Visible.{opening_table, executed_at, execution, executions, rows_after}
 use Rattle.eve_chains.specs.Committed.{committed_to, values_to}
 use Rattle.eve_chains.specs.Along.{entries_along}
-use Rattle.eve_chains.proofs.Distinct.{in_left}
 use Rattle.eve_chains.proofs.Linked.{in_at}
 use Rattle.eve_chains.proofs.SerialSections.{one_more}
 use Rattle.eve_chains.proofs.AlongLaws.{values_after-append, table_after_all-append}
@@ -47,7 +46,7 @@ pub advance_along : (t : Trace) (e n : ℕ) (p : Placed) → HasLimits t → IsR
     → values_to t e (suc n) ≡ values_after (values_to t e n) (entries_along (ordered p.offset p.attempt))
 unfolding record_at
 advance_along t e n p limits right at =
-    let i : In p (settled (history t e)) = in_left (history t e).committed (history t e).discarded
+    let i : In p (settled (history t e)) = in_front (history t e).discarded
     (in_at (history t e).committed n p at) in
     ap (λ (xs : List Executed). values_of (table_after_all (opening_table t) xs))
     (one_more t (history t e).committed n p at)

@@ -21,7 +21,7 @@ use Rattle.eve_views.specs.declared.fault.Code.TheVariants as code
 use Rattle.eve_views.specs.declared.fault.Fault.{Fault}
 use Rattle.eve_views.proofs.Lists.{take_one_more}
 use Rattle.eve_chains.specs.Tables.{undone, IsFirstMismatch}
-use Rattle.eve_chains.specs.Along.{entries_along, AreWithin, SeesOther, IsWrongAlong, AllSee}
+use Rattle.eve_chains.specs.Along.{entries_along, AreWithin, SomeSeesAnother, IsWrongAlong, AllSee}
 use Rattle.eve_chains.specs.Along.{IsFirstAlong, fault_if}
 use Rattle.eve_chains.proofs.Linked.{some_injective, none≢some}
 use Rattle.eve_chains.proofs.Faultless.{in_place}
@@ -77,18 +77,18 @@ undone_is_before table es =
 
 -- ---- one record more
 
-pub entries_along-push : (xs : List (ℕ × Access)) (x : ℕ × Access) → entries_along (xs ++ x ∷ [])
+entries_along-push : (xs : List (ℕ × Access)) (x : ℕ × Access) → entries_along (xs ++ x ∷ [])
     ≡ entries_along xs ++ x.1.entries
 entries_along-push xs x =
     flat_map-append (λ (y : ℕ × Access). y.1.entries) xs (x ∷ []) ∙ ap (λ (es : List Entry). entries_along xs ++ es)
     (append-nil x.1.entries)
 
-pub entries_more : (xs : List (ℕ × Access)) (k : ℕ) (x : ℕ × Access) → slice_get xs k ≡ Some x
+entries_more : (xs : List (ℕ × Access)) (k : ℕ) (x : ℕ × Access) → slice_get xs k ≡ Some x
     → entries_along (take (k + 1) xs) ≡ entries_along (take k xs) ++ x.1.entries
 entries_more xs k x at = ap entries_along (take_one_more xs k x at) ∙ entries_along-push (take k xs) x
 
 -- the entries of one of the records lie within
-pub record_within : (rows : ℕ) (xs : List (ℕ × Access)) (k : ℕ) (x : ℕ × Access) → AreWithin rows xs
+record_within : (rows : ℕ) (xs : List (ℕ × Access)) (k : ℕ) (x : ℕ × Access) → AreWithin rows xs
     → slice_get xs k ≡ Some x → IsTrue (list_all (is_entry rows) x.1.entries)
 record_within rows [] k x within at = none≢some x at
 record_within rows (y ∷ xs) zero x within at =
@@ -100,30 +100,28 @@ record_within rows (y ∷ xs) (suc k) x within at =
     (and_parts (list_all (is_entry rows) y.1.entries) (list_all (λ z. list_all (is_entry rows) z.1.entries) xs)
     within).1 at
 
--- the entries of a record that stands there, where the table has that many rows
-pub item_within : (rows n : ℕ) (xs : List (ℕ × Access)) (k : ℕ) (x : ℕ × Access) (es : List Entry)
-    → AreWithin rows xs → n ≡ rows → slice_get xs k ≡ Some x → es ≡ x.1.entries → IsTrue (list_all (is_entry n) es)
-item_within rows n xs k x es within many at e =
-    subst (λ (ys : List Entry). IsTrue (list_all (is_entry n) ys)) (sym e)
-    (subst (λ m. IsTrue (list_all (is_entry m) x.1.entries)) (sym many) (record_within rows xs k x within at))
+-- the record at this place is met, with its entries
+pub record IsMet (xs : List (ℕ × Access)) (k : ℕ) (x : ℕ × Access) (es : List Entry) : Type 0 where
+  pub there : slice_get xs k ≡ Some x
+  pub entries : es ≡ x.1.entries
 
-pub table_more : (base : Table) (xs : List (ℕ × Access)) (k : ℕ) (x : ℕ × Access) (old new : Table) (es : List Entry)
-    → slice_get xs k ≡ Some x → old ≡ table_after base (entries_along (take k xs)) → es ≡ x.1.entries
-    → new ≡ table_after old es → new ≡ table_after base (entries_along (take (k + 1) xs))
-table_more base xs k x old new es at so e step =
-    step ∙ ap (λ (t : Table). table_after t es) so
-    ∙ ap (table_after (table_after base (entries_along (take k xs)))) e
-    ∙ sym (table_after-append base (entries_along (take k xs)) x.1.entries)
-    ∙ ap (table_after base) (sym (entries_more xs k x at))
+-- they lie within, where the table has that many rows
+pub met_within : {xs : List (ℕ × Access)} {k : ℕ} {x : ℕ × Access} {es : List Entry} (rows n : ℕ) → IsMet xs k x es
+    → AreWithin rows xs → n ≡ rows → IsTrue (list_all (is_entry n) es)
+met_within {xs} {k} {x} rows n met within many =
+    subst (λ (es : List Entry). IsTrue (list_all (is_entry n) es)) (sym met.entries)
+    (subst (λ m. IsTrue (list_all (is_entry m) x.1.entries)) (sym many) (record_within rows xs k x within met.there))
 
-pub taken_more : (from base : Table) (xs : List (ℕ × Access)) (k : ℕ) (x : ℕ × Access) (old new : Table)
-    (es : List Entry) → slice_get xs k ≡ Some x → old ≡ undone from base (entries_along (take k xs))
-    → es ≡ x.1.entries → new ≡ undone from old es → new ≡ undone from base (entries_along (take (k + 1) xs))
-taken_more from base xs k x old new es at so e step =
-    step ∙ ap (λ (t : Table). undone from t es) so
-    ∙ ap (undone from (undone from base (entries_along (take k xs)))) e
-    ∙ sym (undone-append from base (entries_along (take k xs)) x.1.entries)
-    ∙ ap (undone from base) (sym (entries_more xs k x at))
+-- What takes one list of entries after another takes those of the records up to a place, and then of one record more.
+module _ {T : Type 0} (after : T → List Entry → T)
+    (joined : (base : T) (es fs : List Entry) → after base (es ++ fs) ≡ after (after base es) fs) where
+  pub after_more : {xs : List (ℕ × Access)} {k : ℕ} {x : ℕ × Access} {es : List Entry} (base old new : T)
+      → IsMet xs k x es → old ≡ after base (entries_along (take k xs)) → new ≡ after old es
+      → new ≡ after base (entries_along (take (k + 1) xs))
+  after_more {xs} {k} {x} {es} base old new met so step =
+      step ∙ ap (λ (t : T). after t es) so ∙ ap (after (after base (entries_along (take k xs)))) met.entries
+      ∙ sym (joined base (entries_along (take k xs)) x.1.entries)
+      ∙ ap (after base) (sym (entries_more xs k x met.there))
 
 -- ---- what is seen along the records
 
@@ -146,7 +144,8 @@ sees_at table (x ∷ before) y rest all =
     (sees_at (table_after table x.1.entries) before y rest all.1)
 
 -- entries that see what they must see nothing else
-no_other : (c : Code) (table : Table) (es : List Entry) → AllByRecursion (Sees table) es → SeesOther c table es → ⊥
+no_other : (c : Code) (table : Table) (es : List Entry) → AllByRecursion (Sees table) es → SomeSeesAnother c table es
+    → ⊥
 no_other code.Version table es all place = place.holds (all_in (Sees table) all (in_place es place)).version
 no_other code.Value table es all place = place.holds (all_in (Sees table) all (in_place es place)).value
 no_other _ table es all place = absurd place.holds
@@ -196,7 +195,7 @@ last_fault : ℕ → ℕ × Access → Code → Fault
 last_fault e x c = record { code = c; offset = x.0; replica = Some e }
 
 wrong_last : (e : ℕ) (table : Table) (xs : List (ℕ × Access)) (x : ℕ × Access) (c : Code)
-    → SeesOther c (table_after table (entries_along xs)) x.1.entries
+    → SomeSeesAnother c (table_after table (entries_along xs)) x.1.entries
     → IsWrongAlong e table (xs ++ x ∷ []) (last_fault e x c)
 unfolding last_fault
 wrong_last e table xs x c other =
@@ -206,14 +205,15 @@ wrong_last e table xs x c other =
 wrong_split : (e : ℕ) (table : Table) (xs : List (ℕ × Access)) (x : ℕ × Access) (g : Fault)
     → IsWrongAlong e table (xs ++ x ∷ []) g
     → IsWrongAlong e table xs g
-    ⊎ ((x.0 ≡ g.offset) × SeesOther g.code (table_after table (entries_along xs)) x.1.entries)
+    ⊎ ((x.0 ≡ g.offset) × SomeSeesAnother g.code (table_after table (entries_along xs)) x.1.entries)
 wrong_split e table xs x g wrong =
     let place = wrong.stands in
     elim (split_last xs x place.before place.item place.rest place.is) [
       | inl last ↦ inr (
         ap (λ (y : ℕ × Access). y.0) (sym last.1) ∙ place.holds.0,
-        subst (λ (ys : List (ℕ × Access)). SeesOther g.code (table_after table (entries_along ys)) x.1.entries) last.0
-            (subst (λ (y : ℕ × Access). SeesOther g.code (table_after table (entries_along place.before)) y.1.entries)
+        subst (λ (ys : List (ℕ × Access)). SomeSeesAnother g.code (table_after table (entries_along ys)) x.1.entries)
+            last.0 (subst (λ (y : ℕ × Access).
+            SomeSeesAnother g.code (table_after table (entries_along place.before)) y.1.entries)
             last.1 place.holds.1),
       )
       | inr front ↦ inl (record {
@@ -225,7 +225,7 @@ wrong_split e table xs x g wrong =
 -- ---- the order of faults
 
 -- what is wrong along records is a matter of chains
-other_phase : (c : Code) (table : Table) (es : List Entry) → SeesOther c table es → phase_of c ≡ 5
+other_phase : (c : Code) (table : Table) (es : List Entry) → SomeSeesAnother c table es → phase_of c ≡ 5
 other_phase code.Version table es other = refl
 other_phase code.Value table es other = refl
 other_phase _ table es other = absurd other.holds
@@ -242,14 +242,15 @@ not_before_up f g one other behind = up_to_from g f (other ∙ sym one) (behind_
 
 -- ---- what was found of one record
 
-found_other : (c : Code) (table : Table) (es : List Entry) → IsFirstMismatch table es (Some c) → SeesOther c table es
+found_other : (c : Code) (table : Table) (es : List Entry) → IsFirstMismatch table es (Some c)
+    → SomeSeesAnother c table es
 found_other code.Version table es wrong = wrong
 found_other code.Value table es wrong = wrong.1
 found_other _ table es wrong = absurd wrong
 
 -- and nothing with a lesser number
-found_least : (c d : Code) (table : Table) (es : List Entry) → IsFirstMismatch table es (Some c) → SeesOther d table es
-    → code_number c ≤ code_number d
+found_least : (c d : Code) (table : Table) (es : List Entry) → IsFirstMismatch table es (Some c)
+    → SomeSeesAnother d table es → code_number c ≤ code_number d
 found_least code.Version code.Version table es wrong other = omega arith
 found_least code.Version code.Value table es wrong other = omega arith
 found_least code.Value code.Version table es wrong other =
@@ -260,7 +261,7 @@ found_least code.Value _ table es wrong other = absurd other.holds
 found_least _ d table es wrong other = absurd wrong
 
 last_up : (e : ℕ) (table : Table) (x : ℕ × Access) (c : Code) (g : Fault) → IsFirstMismatch table x.1.entries (Some c)
-    → (x.0 ≡ g.offset) × SeesOther g.code table x.1.entries → IsUpTo (last_fault e x c) g
+    → (x.0 ≡ g.offset) × SomeSeesAnother g.code table x.1.entries → IsUpTo (last_fault e x c) g
 unfolding last_fault
 last_up e table x c g wrong other = inr (other.0, found_least c g.code table x.1.entries wrong other.1)
 
@@ -318,16 +319,14 @@ module _ (e : ℕ) (table : Table) (xs : List (ℕ × Access)) (x : ℕ × Acces
   first_more (Some f) (Some c) first wrong = choose f c first wrong (is_before (last_fault e x c) f) refl
 
 -- and over the first of the records
-pub first_next : (e : ℕ) (base : Table) (xs : List (ℕ × Access)) (k : ℕ) (x : ℕ × Access) (now : Table)
-    (es : List Entry) (o : Option Fault) (found : Option Code) (offset : ℕ) (fault result : Option Fault)
-    → slice_get xs k ≡ Some x → now ≡ table_after base (entries_along (take k xs)) → es ≡ x.1.entries
-    → IsFirstAlong e base (take k xs) o → IsFirstMismatch now es found → offset ≡ x.0
-    → fault ≡ fault_if e offset found → result ≡ first_of o fault
+pub first_next : {xs : List (ℕ × Access)} {k : ℕ} {x : ℕ × Access} {es : List Entry} (e : ℕ) (base now : Table)
+    (o result : Option Fault) (found : Option Code) → IsMet xs k x es
+    → now ≡ table_after base (entries_along (take k xs)) → IsFirstAlong e base (take k xs) o
+    → IsFirstMismatch now es found → result ≡ first_of o (fault_if e x.0 found)
     → IsFirstAlong e base (take (k + 1) xs) result
-first_next e base xs k x now es o found offset fault result at so same first wrong where_it_is fault_is result_is =
-    subst (λ (ys : List (ℕ × Access)). IsFirstAlong e base ys result) (sym (take_one_more xs k x at))
-    (subst (IsFirstAlong e base (take k xs ++ x ∷ []))
-    (sym (result_is ∙ ap (first_of o) (fault_is ∙ ap (λ (n : ℕ). fault_if e n found) where_it_is)))
+first_next {xs} {k} {x} e base now o result found met so first wrong is =
+    subst (λ (ys : List (ℕ × Access)). IsFirstAlong e base ys result) (sym (take_one_more xs k x met.there))
+    (subst (IsFirstAlong e base (take k xs ++ x ∷ [])) (sym is)
     (first_more e base (take k xs) x o found first
     (subst (λ (t : Table). IsFirstMismatch t x.1.entries found) so
-    (subst (λ (ys : List Entry). IsFirstMismatch now ys found) same wrong))))
+    (subst (λ (ys : List Entry). IsFirstMismatch now ys found) met.entries wrong))))

@@ -11,9 +11,9 @@ use Rattle.eve_views.specs.declared.fault.Code.TheVariants as code
 use Rattle.eve_views.specs.Form.{SomePlace}
 use Rattle.eve_history.specs.Faults.{request_ids_at, StandsInOrders}
 use Rattle.eve_grammar.specs.Trace.{RequestId, request_id}
-use Rattle.eve_smallbank.proofs.Members.{In, here}
+use Rattle.eve_smallbank.proofs.Members.{In, here, in_front}
 use Rattle.eve_chains.specs.Committed.{batch_request_ids, AreDistinct}
-use Rattle.eve_chains.proofs.Distinct.{Distinct, in_cons, in_left, in_right}
+use Rattle.eve_chains.proofs.Distinct.{Distinct, in_cons, in_right}
 use Rattle.eve_chains.proofs.Once.{place_in, distinct_pairs}
 
 -- ---- each is new after those before
@@ -40,7 +40,7 @@ fresh_distinct before (x ∷ xs) f =
     apart : (z : RequestId) → In z before → ((y : RequestId) → In y (before ++ x ∷ []) → In y xs → ⊥) → (z ≡ x)
         ⊎ In z xs → ⊥
     apart z i rest (inl e) = f.0 (subst (λ (y : RequestId). In y before) e i)
-    apart z i rest (inr j) = rest z (in_left before (x ∷ []) i) j
+    apart z i rest (inr j) = rest z (in_front (x ∷ []) i) j
 
 -- ---- one batch after another
 

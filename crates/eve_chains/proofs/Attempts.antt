@@ -4,7 +4,7 @@ use Rattle.std.proofs.Common.{◌≡◌, ℕ, ◌+◌, ◌<◌, ◌≤◌, ◌==
 use Rattle.std.proofs.Common.{refl, sym, subst, ap, ◌∙◌, inl, inr, ◌⊎◌, arith, IsTrue}
 use Rattle.std.proofs.lemmas.Bool.{and_parts, eqb-true, leb-true, eq-eqb, ne_eqb, cond-true, cond-false}
 use Rattle.std.specs.List.{AllByRecursion}
-use Rattle.eve_smallbank.proofs.Members.{In, here, there, all_in, all_from_in}
+use Rattle.eve_smallbank.proofs.Members.{In, here, there, all_in, all_from_in, in_front}
 use Rattle.eve_grammar.specs.Trace.{Access, Attempt, Step, Attempts, Commits, RollsBack, Trace}
 use Rattle.eve_grammar.specs.Frames.{OfAccess, OfAttempt}
 use Rattle.eve_grammar.specs.Spelling.{frame_text, located, steps_at, accesses_at}
@@ -16,7 +16,7 @@ use Rattle.eve_history.specs.SectionHistory.{access_with, ordered, attempts_amon
 use Rattle.eve_history.specs.SectionHistory.{picked}
 use Rattle.eve_history.specs.SectionHistory.{is_committed, is_discarded}
 use Rattle.eve_history.proofs.FateLaws.{committed_are_picked, discarded_are_picked}
-use Rattle.eve_chains.proofs.Distinct.{Distinct, in_map, in_source, in_cons, in_left, in_right, in_split}
+use Rattle.eve_chains.proofs.Distinct.{Distinct, in_map, in_source, in_cons, in_right, in_split}
 use Rattle.eve_chains.proofs.Distinct.{below_permutation}
 use Rattle.eve_chains.proofs.SettledAttempts.{IsRightAlone, IsComplete}
 use Rattle.eve_chains.proofs.Soundness.{indexes_of, permutes, distinct_indexes, its_place, its_record}
@@ -140,7 +140,7 @@ pub as_settled : (t : Trace) (e : ℕ) (x : ℕ × Attempt)
 as_settled t e x (inl i) =
     let s = in_source placed_at (history t e).committed
     (subst (λ (xs : List (ℕ × Attempt)). In x xs) (sym (committed_are_picked t e)) i) in
-    record { placed = s.item; there_is = in_left (history t e).committed (history t e).discarded s.there_is; is = s.is }
+    record { placed = s.item; there_is = in_front (history t e).discarded s.there_is; is = s.is }
 as_settled t e x (inr i) =
     let s = in_source placed_at (history t e).discarded
     (subst (λ (xs : List (ℕ × Attempt)). In x xs) (sym (discarded_are_picked t e)) i) in
@@ -175,3 +175,9 @@ in_picked {y} test (x ∷ xs) (fate ∷ fates) i = by (test fate) (λ j. in_pick
       | inr k ↦ there (rest k)
     ]
     by false rest j = there (rest j)
+
+-- what holds of all holds of those
+pub all_picked : (P : ℕ × Attempt → Type 0) (test : Fate → Bool) (xs : List (ℕ × Attempt)) (fates : List Fate)
+    → AllByRecursion P xs → AllByRecursion P (picked test xs fates)
+all_picked P test xs fates all =
+    all_from_in P (picked test xs fates) (λ y i. all_in P all (in_picked test xs fates i))

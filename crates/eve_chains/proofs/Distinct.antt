@@ -5,7 +5,7 @@ use Rattle.std.specs.Prelude.{⊤}
 use Rattle.std.proofs.lemmas.Bool.{cases_lt, and_parts, eqb-true, eq-eqb, ltb-true, cond-true}
 use Rattle.std.specs.List.{list_all}
 use Rattle.eve_grammar.specs.Certificate.{occurrences, all_below, is_permutation}
-use Rattle.eve_smallbank.proofs.Members.{In, here, there, in_middle, in_around}
+use Rattle.eve_smallbank.proofs.Members.{In, here, there, in_front, in_middle, in_around}
 use Rattle.eve_chains.proofs.Permutations.{found, none_above}
 use Rattle.eve_grammar.proofs.Counting.{all_below_at}
 
@@ -23,11 +23,6 @@ in_split (x ∷ xs) ys (there i) = elim (in_split xs ys i) [ inl j ↦ inl (ther
 pub in_cons : {A : Type 0} {z y : A} (xs : List A) → In z (y ∷ xs) → (z ≡ y) ⊎ In z xs
 in_cons xs here = inl refl
 in_cons xs (there i) = inr i
-
-pub in_left : {A : Type 0} {z : A} (xs ys : List A) → In z xs → In z (xs ++ ys)
-in_left [] ys i = elim i [ ]
-in_left (x ∷ xs) ys here = here
-in_left (x ∷ xs) ys (there i) = there (in_left xs ys i)
 
 pub in_right : {A : Type 0} {z : A} (xs ys : List A) → In z ys → In z (xs ++ ys)
 in_right [] ys i = i
@@ -54,7 +49,7 @@ in_source f (x ∷ xs) (there i) = let s = in_source f xs i in
 
 pub distinct_left : {A : Type 0} (xs ys : List A) → Distinct (xs ++ ys) → Distinct xs
 distinct_left [] ys d = tt
-distinct_left (x ∷ xs) ys d = (λ i. d.0 (in_left xs ys i), distinct_left xs ys d.1)
+distinct_left (x ∷ xs) ys d = (λ i. d.0 (in_front ys i), distinct_left xs ys d.1)
 
 pub distinct_right : {A : Type 0} (xs ys : List A) → Distinct (xs ++ ys) → Distinct ys
 distinct_right [] ys d = d

@@ -5,7 +5,7 @@ use Rattle.std.proofs.lemmas.Bool.{and_parts, ltb-true}
 use Rattle.std.specs.List.{list_all}
 use Rattle.eve_smallbank.specs.declared.entry.Entry.{Entry}
 use Rattle.eve_grammar.specs.Limits.{is_entry}
-use Rattle.eve_chains.proofs.Linked.{some_injective, none≢some}
+use Rattle.eve_chains.proofs.Linked.{some_injective, none≢some, from_place}
 
 both : (rows : ℕ) (es : List Entry) (e : Entry) (rest : List Entry) → es ≡ e ∷ rest
     → IsTrue (list_all (is_entry rows) es) → IsTrue (is_entry rows e) × IsTrue (list_all (is_entry rows) rest)
@@ -27,11 +27,6 @@ pub row_there : (rows : ℕ) (e : Entry) → IsTrue (is_entry rows e) → e.row 
 row_there rows e right = ltb-true e.row rows (and_parts (nat_lt e.row rows) _ right).0
 
 -- ---- by their places
-
-from_place : (es : List Entry) (k : ℕ) (e : Entry) → slice_get es k ≡ Some e → drop k es ≡ e ∷ drop (suc k) es
-from_place [] k e at = none≢some e at
-from_place (x ∷ es) zero e at = ap (λ (y : Entry). y ∷ es) (some_injective x e at)
-from_place (x ∷ es) (suc k) e at = from_place es k e at
 
 -- the entries from a place on are the one that stands there and those after it
 pub from_entry : (es : List Entry) (k : ℕ) (e : Entry) → slice_get es k ≡ Some e → drop k es ≡ e ∷ drop (k + 1) es

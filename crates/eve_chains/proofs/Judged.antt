@@ -11,7 +11,7 @@ use Rattle.eve_smallbank.specs.declared.request.Request as shown
 use Rattle.eve_smallbank.specs.declared.request.Reply.TheVariants.{Done}
 use Rattle.eve_smallbank.specs.SmallBank.{Request, plain}
 use Rattle.eve_smallbank.specs.Access.{Executed, Fits}
-use Rattle.eve_smallbank.proofs.Members.{In, here, there, all_in, all_from_in}
+use Rattle.eve_smallbank.proofs.Members.{In, here, there, all_in, all_from_in, in_front}
 use Rattle.eve_grammar.specs.Trace.{Access, Asked, Attempt, Batch, Trace, no_request}
 use Rattle.eve_grammar.specs.Frames.{OfAttempt, without_accesses}
 use Rattle.eve_grammar.specs.Limits.{HasLimits}
@@ -33,7 +33,7 @@ use Rattle.eve_chains.specs.Records.{recorded}
 use Rattle.eve_chains.specs.Visible.{executed_by}
 use Rattle.eve_chains.specs.Sound.{RecordsFit}
 use Rattle.eve_chains.specs.Faults.{StandsInRecords, IsRecordFault}
-use Rattle.eve_chains.proofs.Distinct.{in_map, in_source, in_cons, in_left, in_right, in_split}
+use Rattle.eve_chains.proofs.Distinct.{in_map, in_source, in_cons, in_right, in_split}
 use Rattle.eve_chains.proofs.Walks.{right_one, complete_one}
 use Rattle.eve_chains.proofs.Faultless.{in_place, place_of}
 use Rattle.eve_chains.proofs.Linked.{some_injective, none≢some}
@@ -70,7 +70,7 @@ records_there t test only (x ∷ xs) (f ∷ fates) {y} {z} i j =
     own : test f ≡ true → y ≡ x
         → In z (records_if_settled t (executed_attempt x) f ++ settled_records t (map executed_attempt xs) fates)
     own passes e =
-        in_left (records_if_settled t (executed_attempt x) f) (settled_records t (map executed_attempt xs) fates)
+        in_front (settled_records t (map executed_attempt xs) fates)
         (subst (λ (zs : List (ℕ × Executed)). In z zs)
         (sym (cond-true (is_settled f) (records_along t (executed_attempt x)) [] (only f passes)))
         (subst (λ (w : ℕ × Attempt). In z (records_along t (executed_attempt w))) e j))

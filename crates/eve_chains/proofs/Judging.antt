@@ -14,7 +14,7 @@ use Rattle.eve_chains.specs.Along.{entries_along, IsFirstAlong}
 use Rattle.eve_chains.proofs.AlongLaws.{nothing_wrong, table_after-append, wrong_phase, before_up, not_before_up}
 use Rattle.eve_chains.proofs.Faultless.{in_place, place_of}
 use Rattle.eve_chains.specs.Walking.{entries_along_all, AreJudgedAlong, SeesItsPath, IsWrongIn, IsFirstIn, ArePlaced}
-use Rattle.eve_chains.proofs.Loading.{own}
+use Rattle.eve_chains.proofs.AttemptRecords.{own}
 use Rattle.eve_views.specs.First.{is_before, first_of}
 use Rattle.eve_views.proofs.Firsts.{up_to-trans}
 

@@ -11,10 +11,10 @@ use Rattle.eve_smallbank.specs.declared.request.Reply.{Reply}
 use Rattle.eve_smallbank.specs.declared.request.Reply.TheVariants.{Done}
 use Rattle.eve_smallbank.specs.SmallBank.{Balance, plain}
 use Rattle.eve_smallbank.specs.Access.{Executed, Fits}
-use Rattle.eve_smallbank.proofs.Members.{all_in, all_from_in}
+use Rattle.eve_smallbank.proofs.Members.{all_in, all_from_in, in_front}
 use Rattle.eve_grammar.specs.Trace.{Access}
 use Rattle.eve_views.specs.Form.{SomePlace}
-use Rattle.eve_chains.proofs.Distinct.{in_left, in_right}
+use Rattle.eve_chains.proofs.Distinct.{in_right}
 use Rattle.eve_chains.proofs.SettledAttempts.{all-append}
 use Rattle.eve_chains.proofs.Faultless.{in_place, place_of}
 use Rattle.eve_chains.specs.Records.{recorded}
@@ -31,7 +31,7 @@ module _ (names : List (List ℕ)) where
 
   unfit_left : (at : ℕ) (xs ys : List (ℕ × Executed)) → SomePlace xs (λ _ x. Unfit at x)
       → SomePlace (xs ++ ys) (λ _ x. Unfit at x)
-  unfit_left at xs ys place = place_of (Unfit at) (xs ++ ys) (in_left xs ys (in_place xs place)) place.holds
+  unfit_left at xs ys place = place_of (Unfit at) (xs ++ ys) (in_front ys (in_place xs place)) place.holds
 
   unfit_right : (at : ℕ) (xs ys : List (ℕ × Executed)) → SomePlace ys (λ _ x. Unfit at x)
       → SomePlace (xs ++ ys) (λ _ x. Unfit at x)

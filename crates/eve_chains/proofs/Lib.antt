@@ -1,4 +1,4 @@
-pub mod Loading
+pub mod AttemptRecords
 pub mod Judging
 pub mod Rolling
 pub mod Steps
@@ -24,7 +24,7 @@ pub mod Advancing
 mod WorkedCases
 pub mod Nearest
 pub mod Least
-pub mod Marked
+pub mod Noting
 pub mod Attempts
 pub mod Judged
 pub mod Stretches

@@ -18,11 +18,11 @@ use Rattle.eve_history.specs.SectionHistory.{history, IsRightSection, is_committ
 use Rattle.eve_chains.specs.Visible.{opening_table, table_along}
 use Rattle.eve_chains.specs.Along.{entries_along}
 use Rattle.eve_chains.proofs.AlongLaws.{table_after-append}
-use Rattle.eve_chains.proofs.Distinct.{in_map, in_cons, in_left, in_right}
+use Rattle.eve_chains.proofs.Distinct.{in_map, in_cons, in_right}
 use Rattle.eve_chains.proofs.SettledAttempts.{all-append}
 use Rattle.eve_chains.specs.Rows.{Fated, told_of, settles, Noted, noted_by, noted_in, all_noted}
 use Rattle.eve_chains.specs.Rows.{of_row, met_by, pair_after}
-use Rattle.eve_chains.proofs.Loading.{own}
+use Rattle.eve_chains.proofs.AttemptRecords.{own}
 use Rattle.eve_chains.proofs.Judging.{Advances}
 use Rattle.eve_chains.proofs.Steps.{lead_all}
 use Rattle.eve_chains.proofs.Paths.{all_placed, counts_in, counting, will_commit, will_fall, view_of, AreCounting}
@@ -297,7 +297,7 @@ module _ (t : Trace) (e : ℕ) (limits : HasLimits t) (right : IsRightSection t 
     where
       by : (f : Fate) → y.fate ≡ f → In y.placed (settled (history t e))
       by Committed is =
-          in_left (history t e).committed (history t e).discarded
+          in_front (history t e).discarded
           (subst (In y.placed) (committed_told t e right)
           (in_map (λ (z : Fated). z.placed) (filter will_commit (told_of t e))
           (in_filter will_commit (told_of t e) i (ap is_committed is))))
@@ -336,7 +336,7 @@ module _ (t : Trace) (e : ℕ) (limits : HasLimits t) (right : IsRightSection t 
         there_all : (p : Placed) → In p (all_placed (counting (view_of x) before)) → In p (settled (history t e))
         there_all p i =
             there_of (counting (view_of x) before) (λ y j. settled_there y
-            (subst (In y) (sym is) (in_left before (x ∷ after) (from_filter (counts_in (view_of x)) before j)))
+            (subst (In y) (sym is) (in_front (x ∷ after) (from_filter (counts_in (view_of x)) before j)))
             (all_in (λ z. settles z ≡ true) settle j)) i
 
     -- what the row's walk meets after the attempts before it and some of its own records

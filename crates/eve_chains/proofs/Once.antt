@@ -11,10 +11,10 @@ use Rattle.eve_grammar.specs.Certificate.{is_permutation, keeps_groups, KeepsGro
 use Rattle.eve_history.specs.Section.{Placed, no_batch, batch_at, request_count}
 use Rattle.eve_history.specs.SectionHistory.{history, committed_at, IsRightSection}
 use Rattle.eve_grammar.specs.Trace.{RequestId, request_id}
-use Rattle.eve_smallbank.proofs.Members.{In, here, there}
+use Rattle.eve_smallbank.proofs.Members.{In, here, there, in_front}
 use Rattle.eve_chains.specs.Committed.{attempts_of, request_ids_in, committed_request_ids, batch_request_ids}
 use Rattle.eve_chains.specs.Committed.{AreDistinct}
-use Rattle.eve_chains.proofs.Distinct.{Distinct, in_split, in_left, in_right, in_map, in_source, distinct_left}
+use Rattle.eve_chains.proofs.Distinct.{Distinct, in_split, in_right, in_map, in_source, distinct_left}
 use Rattle.eve_chains.proofs.Distinct.{distinct_right, distinct_apart, distinct_append, distinct_map}
 use Rattle.eve_chains.proofs.Distinct.{distinct_permutation, below_permutation}
 use Rattle.eve_chains.proofs.Linked.{IsLinked, AreLinked, linked_history, linked_at, none≢some, committed_number}
@@ -145,7 +145,7 @@ committed_members t before [] linked z i = elim i [ ]
 committed_members t before (p ∷ ps) linked z i =
     subst (In z) (sym (from_here t before p linked.0))
     (elim (in_split (request_ids_in t p.attempt) (flat_map (request_ids_in t) (attempts_of ps)) i) [
-      | inl j ↦ in_left (map request_id (its_requests t before p linked.0)) (request_ids_from t (suc (length before)))
+      | inl j ↦ in_front (request_ids_from t (suc (length before)))
           (own_member t before p linked.0 z j)
       | inr j ↦ in_right (map request_id (its_requests t before p linked.0)) (request_ids_from t (suc (length before)))
           (subst (λ n. In z (request_ids_from t n)) (one_longer before p.attempt)

@@ -14,7 +14,7 @@ use Rattle.eve_chains.specs.Along.{entries_along, AreWithin, IsFirstAlong}
 use Rattle.eve_chains.proofs.AlongLaws.{table_after-append, undone-append}
 use Rattle.eve_chains.specs.declared.walk.Walk.{Walk}
 use Rattle.eve_chains.specs.Walking.{records_of, records_from, entries_along_all, AreJudgedAlong, AreTried, AreUndone}
-use Rattle.eve_chains.proofs.Loading.{from_more}
+use Rattle.eve_chains.proofs.AttemptRecords.{from_more}
 use Rattle.eve_chains.proofs.Judging.{judged_more}
 use Rattle.eve_views.specs.First.{first_of}
 

@@ -23,7 +23,7 @@ use Rattle.eve_grammar.specs.Frames.{OfAccess, OfAttempt}
 use Rattle.eve_grammar.specs.Spelling.{frame_text}
 use Rattle.eve_chains.specs.Visible.{opening_table, table_along, executed_by}
 use Rattle.eve_chains.specs.Sound.{RecordsFit}
-use Rattle.eve_chains.specs.Along.{entries_along, SeesAnother, SeesOther, IsWrongAlong, IsWrongSomewhere, AllSee}
+use Rattle.eve_chains.specs.Along.{entries_along, SeesAnother, SomeSeesAnother, IsWrongAlong, IsWrongSomewhere, AllSee}
 use Rattle.eve_chains.specs.Along.{AllSettledSee}
 use Rattle.eve_chains.proofs.AlongLaws.{table_after-append}
 use Rattle.eve_chains.proofs.Distinct.{in_map, in_source, in_split}
@@ -32,7 +32,7 @@ use Rattle.eve_chains.proofs.Walks.{right_one, complete_one}
 use Rattle.eve_chains.proofs.Attempts.{from_ordered}
 use Rattle.eve_chains.specs.Rows.{Fated, told_of, settles, Noted, noted_by, noted_in, all_noted, of_row, met_by}
 use Rattle.eve_chains.specs.Rows.{pair_after, IsWrongOnRow, EachSees}
-use Rattle.eve_chains.proofs.Loading.{own}
+use Rattle.eve_chains.proofs.AttemptRecords.{own}
 use Rattle.eve_chains.proofs.Paths.{all_placed, view_of, committed_told, discarded_told}
 use Rattle.eve_chains.proofs.Meeting.{filter_kept, filter_dropped, settled_there, meets_visible}
 use Rattle.eve_chains.proofs.Cuts.{filter_cut, flat_cut, map_cut}
@@ -60,7 +60,7 @@ none_before at view commits row (d ∷ before) e rest apart its =
 
 -- the fault at an entry is one at its record
 at_record : (c : Code) (table : Table) (es : List Entry) (e : Entry) → In e es → SeesAnother c (table e.row) e
-    → SeesOther c table es
+    → SomeSeesAnother c table es
 at_record c table es e i other = place_of (λ d. SeesAnother c (table d.row) d) es i other
 
 -- where an attempt stands among those told

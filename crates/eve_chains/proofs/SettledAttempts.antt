@@ -6,14 +6,13 @@ use Rattle.std.specs.Prelude.{⊤}
 use Rattle.std.proofs.lemmas.Bool.{and_parts, eqb-true}
 use Rattle.std.specs.List.{AllByRecursion, list_all}
 use Rattle.eve_grammar.specs.Trace.{Attempt, Step, Attempts, Commits, RollsBack, Trace, head_of}
-use Rattle.eve_grammar.specs.Frames.{OfReplica}
-use Rattle.eve_grammar.specs.Spelling.{frame_text, located, step_text, section_start, steps_of, steps_at}
+use Rattle.eve_grammar.specs.Spelling.{steps_at}
 use Rattle.eve_grammar.specs.Limits.{is_attempt, is_access, is_step, row_count, HasLimits}
 use Rattle.eve_history.specs.Section.{Placed, SectionState, start, path_of, committing, next, state_after, settled}
 use Rattle.eve_history.specs.Section.{request_count, is_due, is_right_attempt, is_right_certificate, are_right_accesses}
 use Rattle.eve_history.specs.Section.{is_right, are_right}
 use Rattle.eve_history.specs.SectionHistory.{history, IsRightSection}
-use Rattle.eve_chains.proofs.Loading.{each_section}
+use Rattle.eve_history.proofs.Coming.{steps_fit}
 
 -- ---- of any fact on attempts
 
@@ -118,19 +117,16 @@ complete_step rows (Attempts a) h =
 complete_step rows (Commits c) h = tt
 complete_step rows (RollsBack r) h = tt
 
-complete_steps : (rows at : ℕ) (steps : List Step) → IsTrue (list_all (is_step rows) steps)
-    → AllByRecursion (λ step. IfAttempt step.1 IsComplete) (located step_text at steps)
-complete_steps rows at [] h = tt
-complete_steps rows at (step ∷ steps) h =
-    let parts = and_parts (is_step rows step) (list_all (is_step rows) steps) h in
-    (complete_step rows step parts.0, complete_steps rows (at + length (step_text step)) steps parts.1)
+complete_steps : (rows : ℕ) (steps : List (ℕ × Step)) → IsTrue (list_all (λ x. is_step rows x.1) steps)
+    → AllByRecursion (λ step. IfAttempt step.1 IsComplete) steps
+complete_steps rows [] h = tt
+complete_steps rows (step ∷ steps) h =
+    let parts = and_parts (is_step rows step.1) (list_all (λ x. is_step rows x.1) steps) h in
+    (complete_step rows step.1 parts.0, complete_steps rows steps parts.1)
 
 complete_section : (t : Trace) (e : ℕ) → HasLimits t → AllByRecursion (λ step. IfAttempt step.1 IsComplete)
     (steps_at t e)
-unfolding steps_at
-complete_section t e limits =
-    complete_steps (row_count (head_of t)) (section_start t e + length (frame_text (OfReplica e))) (steps_of t e)
-    (each_section (row_count (head_of t)) t.sections e limits.sections)
+complete_section t e limits = complete_steps (row_count (head_of t)) (steps_at t e) (steps_fit t e limits)
 
 pub settled_complete : (t : Trace) (e : ℕ) → HasLimits t
     → AllByRecursion (λ p. IsComplete p.attempt) (settled (history t e))

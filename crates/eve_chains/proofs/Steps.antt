@@ -12,7 +12,7 @@ use Rattle.std.proofs.lemmas.Grind.{flat_map-append}
 use Rattle.eve_smallbank.specs.declared.entry.Entry.{Entry}
 use Rattle.eve_smallbank.specs.Access.{Executed}
 use Rattle.eve_smallbank.specs.Chain.{Table, visible_at, before_rest, table_after}
-use Rattle.eve_smallbank.proofs.Members.{In, here, there}
+use Rattle.eve_smallbank.proofs.Members.{In, here, there, in_front}
 use Rattle.eve_grammar.specs.Trace.{Access, Attempt, Commit, Rollback, Step, Attempts, Commits, RollsBack, Trace}
 use Rattle.eve_grammar.specs.Trace.{head_of}
 use Rattle.eve_grammar.specs.Frames.{OfReplica}
@@ -35,7 +35,7 @@ use Rattle.eve_chains.specs.Committed.{attempts_of}
 use Rattle.eve_chains.specs.Tables.{table_of, undone}
 use Rattle.eve_chains.specs.Along.{entries_along, AreWithin, IsFirstAlong, AllSettledSee}
 use Rattle.eve_chains.specs.Faults.{IsChainFault}
-use Rattle.eve_chains.proofs.Distinct.{in_split, in_left, in_right}
+use Rattle.eve_chains.proofs.Distinct.{in_split, in_right}
 use Rattle.eve_chains.proofs.AlongLaws.{undone_is_before}
 use Rattle.eve_chains.proofs.Walks.{table_between, record_at, same_entries, right_one, complete_one, chain_fault_along}
 use Rattle.eve_chains.proofs.Walks.{table_between, chain_fault_somewhere}
@@ -44,8 +44,8 @@ use Rattle.eve_chains.specs.Walking.{records_of, records_from, entries_along_all
 use Rattle.eve_chains.specs.Walking.{IsFirstIn, IsCommitted}
 use Rattle.eve_chains.specs.Walking.{AreTried, AreUndone, ArePlaced, HasWalked}
 use Rattle.eve_chains.specs.Walking.{parted}
-use Rattle.eve_chains.proofs.Loading.{own, IsWithin, records_first, records_behind, within_section, within_behind}
-use Rattle.eve_chains.proofs.Loading.{within_own}
+use Rattle.eve_chains.proofs.AttemptRecords.{own, IsWithin, records_first, records_behind, within_section}
+use Rattle.eve_chains.proofs.AttemptRecords.{within_behind, within_own}
 use Rattle.eve_chains.proofs.Judging.{first_with, Advances, first_with_all}
 use Rattle.eve_chains.proofs.Nearest.{before_rest-append}
 
@@ -59,13 +59,13 @@ stays_next {p} s (at, Commits c) i = committed s.pending
     committed [] = i
     committed (q ∷ qs) =
         elim (in_split s.committed s.discarded i) [
-          | inl j ↦ in_left (s.committed ++ q ∷ []) s.discarded (in_left s.committed (q ∷ []) j)
+          | inl j ↦ in_front s.discarded (in_front (q ∷ []) j)
           | inr j ↦ in_right (s.committed ++ q ∷ []) s.discarded j
         ]
 stays_next s (at, RollsBack r) i =
     elim (in_split s.committed s.discarded i) [
-      | inl j ↦ in_left s.committed (s.discarded ++ s.pending) j
-      | inr j ↦ in_right s.committed (s.discarded ++ s.pending) (in_left s.discarded s.pending j)
+      | inl j ↦ in_front (s.discarded ++ s.pending) j
+      | inr j ↦ in_right s.committed (s.discarded ++ s.pending) (in_front s.pending j)
     ]
 
 stays : {p : Placed} (s : SectionState) (steps : List (ℕ × Step)) → In p (settled s)
@@ -352,7 +352,7 @@ module _ (t : Trace) (h : SectionHistory) (limits : HasLimits t) (tells : h ≡ 
 
       is_settled : In p (settled (history t e))
       is_settled = subst (λ (x : SectionState). In p (settled x)) leads_to
-          (stays after rest (in_left (s.committed ++ p ∷ []) s.discarded (in_right s.committed (p ∷ []) here)))
+          (stays after rest (in_front s.discarded (in_right s.committed (p ∷ []) here)))
 
       placed : ArePlaced (attempts_of s.committed) (p ∷ ps)
       placed = subst (ArePlaced (attempts_of s.committed)) first.is known.placed

@@ -15,6 +15,7 @@ use Rattle.eve_chains.specs.Unfit.{lesser_found}
 use Rattle.eve_chains.specs.Stretches.{IsWithin, IsFoundIn, Reaches, AreStretches, least_found}
 use Rattle.eve_chains.specs.declared.stretch.Stretch.{Stretch}
 use Rattle.eve_chains.proofs.Least.{least_append}
+use Rattle.eve_chains.proofs.Linked.{item_at, from_place}
 
 -- ---- one after another
 
@@ -63,16 +64,6 @@ front_and_back t (suc m) n (r ∷ rs) (fate ∷ fates) =
     ∙ sym (append_assoc (records_if_settled t r fate) (settled_records t (take m rs) (take m fates))
     (settled_records t (take n (drop m rs)) (take n (drop m fates))))
 
-from_on : {A : Type 0} (xs : List A) (i : ℕ) (x : A) → slice_get xs i ≡ Some x → drop i xs ≡ x ∷ drop (suc i) xs
-from_on [] i x at = absurd cc
-from_on (y ∷ xs) zero x at = (let same : y ≡ x = cc in ap (λ (z : _). z ∷ xs) same)
-from_on (y ∷ xs) (suc i) x at = from_on xs i x at
-
-item_at : {A : Type 0} (xs : List A) (i : ℕ) → i < length xs → (x : A) × (slice_get xs i ≡ Some x)
-item_at [] i less = absurd (omega arith)
-item_at (x ∷ xs) zero less = (x, refl)
-item_at (x ∷ xs) (suc i) less = item_at xs i (omega arith)
-
 abbrev Found : Type 0
 Found = Result (Option ℕ) AllocError
 
@@ -101,8 +92,8 @@ module _ (t : Trace) (h : SectionHistory) where
       → slice_get h.fates i ≡ Some fate → records_if_settled t r fate ≡ records_between t h i (i + 1)
   one_between i r fate at its =
       let one : 1 ≡ i + 1 - i = omega arith in
-      let rs : r ∷ drop (suc i) h.attempts ≡ drop i h.attempts = sym (from_on h.attempts i r at) in
-      let fates : fate ∷ drop (suc i) h.fates ≡ drop i h.fates = sym (from_on h.fates i fate its) in
+      let rs : r ∷ drop (suc i) h.attempts ≡ drop i h.attempts = sym (from_place h.attempts i r at) in
+      let fates : fate ∷ drop (suc i) h.fates ≡ drop i h.fates = sym (from_place h.fates i fate its) in
       sym (append-nil (records_if_settled t r fate))
       ∙ (λ k. settled_records t (take 1 (rs k)) (take 1 (fates k)))
       ∙ ap (λ (k : ℕ). settled_records t (take k (drop i h.attempts)) (take k (drop i h.fates))) one

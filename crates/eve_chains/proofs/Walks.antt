@@ -7,7 +7,7 @@ use Rattle.std.proofs.lemmas.Bool.{eq-eqb, ne_eqb, cond-true, cond-false}
 use Rattle.eve_smallbank.specs.declared.entry.Entry.{Entry}
 use Rattle.eve_smallbank.specs.Access.{Executed, Fits}
 use Rattle.eve_smallbank.specs.Chain.{Table, Sees, visible_at, before_next, before_rest, IsChained, table_after}
-use Rattle.eve_smallbank.proofs.Members.{In, here, there, all_in, all_from_in, in_middle}
+use Rattle.eve_smallbank.proofs.Members.{In, here, there, all_in, all_from_in, in_front, in_middle}
 use Rattle.eve_smallbank.proofs.Chains.{visible_at-before_next}
 use Rattle.eve_grammar.specs.Trace.{Access, Trace}
 use Rattle.eve_grammar.specs.Limits.{HasLimits}
@@ -23,8 +23,9 @@ use Rattle.eve_chains.specs.Visible.{opening_table, entries_with, executed_at, e
 use Rattle.eve_chains.specs.Visible.{before_index, table_along, visible_to}
 use Rattle.eve_chains.specs.Sound.{RecordsFit, IsSoundAlong, SettledAreSound}
 use Rattle.eve_chains.specs.Faults.{AtSettledAccess, StandsInChains, IsChainFault}
-use Rattle.eve_chains.specs.Along.{entries_along, SeesOther, IsWrongAlong, AllSee, IsWrongSomewhere, AllSettledSee}
-use Rattle.eve_chains.proofs.Distinct.{Distinct, in_left, distinct_permutation}
+use Rattle.eve_chains.specs.Along.{entries_along, SomeSeesAnother, IsWrongAlong, AllSee, IsWrongSomewhere}
+use Rattle.eve_chains.specs.Along.{AllSettledSee}
+use Rattle.eve_chains.proofs.Distinct.{Distinct, distinct_permutation}
 use Rattle.eve_chains.proofs.AlongLaws.{table_after-append}
 use Rattle.eve_chains.proofs.SettledAttempts.{IsRightAlone, IsComplete, settled_right, settled_complete}
 use Rattle.eve_chains.proofs.Soundness.{permutes, distinct_indexes, its_place, its_record, as_executed}
@@ -159,7 +160,7 @@ module _ (t : Trace) (p : Placed) (right : IsRightAlone t p.attempt) where
   left_before complete front i back is =
       table_between (opening_table t) (executed_at t p.attempt) (access_with (accesses_at p.offset p.attempt))
       (entries_before t p.path) front
-      (λ j k. same_entries complete j (subst (In j) (sym is) (in_left front (i ∷ back) k)))
+      (λ j k. same_entries complete j (subst (In j) (sym is) (in_front (i ∷ back) k)))
       ∙ ap (λ (ks : List ℕ). visible_at (opening_table t)
       (before_rest (entries_before t p.path) (map (executed_at t p.attempt) ks)))
       (sym (ap (before_index i) is ∙ before_itself front i back
@@ -169,7 +170,7 @@ module _ (t : Trace) (p : Placed) (right : IsRightAlone t p.attempt) where
 
   chain_stands : (e at : ℕ) (c : Code) (x : ℕ × Access) → In p (settled (history t e))
       → In x (accesses_at p.offset p.attempt) → x.0 ≡ at
-      → SeesOther c (visible_to t p x.1.index) x.1.entries → StandsInChains c t e at
+      → SomeSeesAnother c (visible_to t p x.1.index) x.1.entries → StandsInChains c t e at
   chain_stands e at code.Version x i j same other =
       place_of (λ q. SomePlace (accesses_at q.offset q.attempt)
       (λ _ y. (y.0 ≡ at) × SomePlace y.1.entries (λ _ z. z.version ≢ (visible_to t q y.1.index z.row).version)))
@@ -201,14 +202,14 @@ module _ (t : Trace) (p : Placed) (right : IsRightAlone t p.attempt) where
       record {
         stands = chain_stands e f.offset f.code place.item i
             (subst (λ (x : ℕ × Access). In x (accesses_at p.offset p.attempt)) m.item_is own.0) place.holds.0
-            (subst (λ (n : ℕ). SeesOther f.code (visible_to t p n) place.item.1.entries) index_is
-            (subst (λ (table : Table). SeesOther f.code table place.item.1.entries) table_is place.holds.1));
+            (subst (λ (n : ℕ). SomeSeesAnother f.code (visible_to t p n) place.item.1.entries) index_is
+            (subst (λ (table : Table). SomeSeesAnother f.code table place.item.1.entries) table_is place.holds.1));
         inside = wrong.inside;
       }
 
   -- and the other way
   pub stands_along : (e : ℕ) (f : Fault) (x : ℕ × Access) → IsComplete p.attempt → In x (accesses_at p.offset p.attempt)
-      → x.0 ≡ f.offset → SeesOther f.code (visible_to t p x.1.index) x.1.entries → f.replica ≡ Some e
+      → x.0 ≡ f.offset → SomeSeesAnother f.code (visible_to t p x.1.index) x.1.entries → f.replica ≡ Some e
       → IsWrongAlong e (table_along t p.path) (ordered p.offset p.attempt) f
   stands_along e f x complete j same other inside =
       let start : ℕ = p.offset + length (frame_text (OfAttempt p.attempt)) in
@@ -227,7 +228,7 @@ module _ (t : Trace) (p : Placed) (right : IsRightAlone t p.attempt) where
               (access_with (accesses_at p.offset p.attempt)) at.rest) found;
           holds = (
             same,
-            subst (λ (table : Table). SeesOther f.code table x.1.entries)
+            subst (λ (table : Table). SomeSeesAnother f.code table x.1.entries)
                 (sym (left_before complete at.before x.1.index at.rest at.is)) other,
           );
         };
@@ -251,7 +252,7 @@ chain_fault_along t e f limits right place =
     place.holds
 
 other_seen : (t : Trace) (e : ℕ) (c : Code) (at : ℕ) → StandsInChains c t e at
-    → AtSettledAccess t e at (λ p x. SeesOther c (visible_to t p x.index) x.entries)
+    → AtSettledAccess t e at (λ p x. SomeSeesAnother c (visible_to t p x.index) x.entries)
 other_seen t e code.Version at stands = stands
 other_seen t e code.Value at stands = stands
 other_seen t e _ at stands = absurd stands

@@ -34,13 +34,13 @@ SeesAnother code.Value v e = e.seen ≢ v.value
 SeesAnother _ v e = ⊥
 
 -- some entry does, where the rows have what the table has
-abbrev pub SeesOther : Code → Table → List Entry → Type 0
-SeesOther c table es = SomePlace es (λ _ e. SeesAnother c (table e.row) e)
+abbrev pub SomeSeesAnother : Code → Table → List Entry → Type 0
+SomeSeesAnother c table es = SomePlace es (λ _ e. SeesAnother c (table e.row) e)
 
 -- A fault of replica e at one of these records: it sees something else than the records before it leave in the table.
 pub record IsWrongAlong (e : ℕ) (table : Table) (xs : List (ℕ × Access)) (f : Fault) : Type 0 where
   pub stands : SomePlace xs
-      (λ before x. (x.0 ≡ f.offset) × SeesOther f.code (table_after table (entries_along before)) x.1.entries)
+      (λ before x. (x.0 ≡ f.offset) × SomeSeesAnother f.code (table_after table (entries_along before)) x.1.entries)
   pub inside : f.replica ≡ Some e
 
 -- each record sees what those before it leave in the table

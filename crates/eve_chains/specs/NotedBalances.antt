@@ -7,30 +7,31 @@ use Rattle.eve_grammar.specs.Trace.{Step, Attempts, Commits, RollsBack}
 use Rattle.eve_chains.specs.Along.{AreWithin}
 use Rattle.eve_chains.specs.Tables.{table_of}
 use Rattle.eve_chains.specs.Settling.{Settling, values_in}
-use Rattle.eve_chains.specs.declared.noted_balances.Mark.{Mark}
+use Rattle.eve_chains.specs.declared.noted_balances.BalancesAfter.{BalancesAfter}
 use Rattle.eve_chains.specs.declared.noted_balances.NotedBalances.{NotedBalances}
 
--- the mark has the balances after the first of the batches, so many
-pub record IsMark (s : Settling) (m : Mark) : Type 0 where
-  pub there : m.after ≤ length s.batches
-  pub rows : length m.balances ≡ length s.opening
-  pub values : balance_of_row m.balances ≡ values_in s m.after
+-- the balances are those after the first of the batches, so many
+pub record AreBalancesAfter (s : Settling) (b : BalancesAfter) : Type 0 where
+  pub there : b.after ≤ length s.batches
+  pub rows : length b.balances ≡ length s.opening
+  pub values : balance_of_row b.balances ≡ values_in s b.after
 
--- the records lie within the rows that there are, and each mark has the balances after a front of the batches
-pub record IsWellMarked (s : Settling) (ms : List Mark) : Type 0 where
+-- the records lie within the rows that there are, and what is noted are the balances after fronts of the batches
+pub record IsWellNoted (s : Settling) (list : List BalancesAfter) : Type 0 where
   pub within : AllByRecursion (AreWithin (length s.opening)) s.batches
-  pub marks : All (IsMark s) ms
+  pub noted : All (AreBalancesAfter s) list
 
--- the mark has the values of the table
-abbrev pub HasValuesOf : List Versioned → Mark → Type 0
-HasValuesOf table m = (length m.balances ≡ length table) × (balance_of_row m.balances ≡ values_of (table_of table))
+-- the balances are the values of the table
+abbrev pub HasValuesOf : List Versioned → BalancesAfter → Type 0
+HasValuesOf table b = (length b.balances ≡ length table) × (balance_of_row b.balances ≡ values_of (table_of table))
 
--- One more batch is committed, of which the table has what it left; it may be marked.
+-- One more batch is committed, of which the table has what it left; the balances may be noted.
 pub record HasNoted (table : List Versioned) (old new : NotedBalances) : Type 0 where
   pub all : new.all ≡ old.all
   pub after : new.after ≡ old.after + 1
   pub list : (new.list.items ≡ old.list.items)
-      ⊎ ((m : Mark) × (new.list.items ≡ old.list.items ++ m ∷ []) × (m.after ≡ new.after) × HasValuesOf table m)
+      ⊎ ((b : BalancesAfter) × (new.list.items ≡ old.list.items ++ b ∷ []) × (b.after ≡ new.after)
+      × HasValuesOf table b)
 
 -- ---- how many batches are committed
 

@@ -43,8 +43,8 @@ fn settle<'a>(
     requires stretches { 1 ≤ stretches }
     ensures { AreChainsSettled section.now.trace.now section.now.history.now.replica result }
 {
-    let marks = chains(alloc, section.history, section.trace, stretches)?;
-    let settled = Settled::marked(alloc, section.history, section.trace, marks)?;
+    let noted = chains(alloc, section.history, section.trace, stretches)?;
+    let settled = Settled::with_noted(alloc, section.history, section.trace, noted)?;
     Ok(settled)
 }
 

@@ -1,6 +1,6 @@
 //! Balances that are noted along a walk.
 
-ghost use Rattle.std.specs.Prelude.{◌≡◌, ◌*◌, ◌<◌, ◌≤◌, [], IfOk, OnOk, IsTrue, length, map};
+ghost use Rattle.std.specs.Prelude.{◌≡◌, ◌*◌, ◌<◌, ◌≤◌, [], IfOk, OnOk, length, map};
 ghost use Rattle.eve_chains.specs.NotedBalances.{HasNoted};
 
 use crate::table::Table;
@@ -8,12 +8,12 @@ use eve_accounts::{Balances, Row};
 use eve_views::Trace;
 use std::alloc::{AllocError, Global};
 
-/// How few batches are worth a mark.
+/// The fewest batches between two balances that are noted.
 const LEAST_BATCHES: u32 = 16;
 
 /// The balances after the first of a replica's batches, so many.
 #[derive(Drop)]
-pub struct Mark {
+pub struct BalancesAfter {
     pub after: u32,
     pub balances: Balances,
 }
@@ -25,11 +25,11 @@ pub struct NotedBalances {
     pub all: u32,
     /// How many are committed so far.
     pub after: u32,
-    /// After how many of them the next mark is due.
+    /// After how many of them balances are noted next.
     pub next: u32,
-    /// How many batches lie between a mark and the next.
+    /// How many batches lie between two that are noted.
     pub every: u32,
-    pub list: Vec<Mark>,
+    pub list: Vec<BalancesAfter>,
 }
 
 /// The values of all rows, two for each customer.
@@ -81,7 +81,7 @@ impl NotedBalances {
         self.after += 1;
         if self.after == self.next && self.after < self.all {
             let balances = values_of(alloc, trace, table)?;
-            self.list.push(Mark {
+            self.list.push(BalancesAfter {
                 after: self.after,
                 balances,
             })?;

@@ -7,9 +7,9 @@ ghost use Rattle.eve_grammar.specs.Trace.{Access};
 ghost use Rattle.eve_history.specs.SectionHistory.{section_history};
 ghost use Rattle.eve_chains.specs.Along.{entries_along, AreWithin};
 ghost use Rattle.eve_chains.specs.Settling.{settling, values_in, AreBankAfter};
-ghost use Rattle.eve_chains.specs.NotedBalances.{IsMark};
+ghost use Rattle.eve_chains.specs.NotedBalances.{AreBalancesAfter};
 
-use crate::noted_balances::Mark;
+use crate::noted_balances::BalancesAfter;
 use crate::opening::opening_balances;
 use crate::written::write_values;
 use eve_accounts::Balances;
@@ -26,18 +26,18 @@ pub struct Settled<'a> {
     opening: Balances,
     records: CommittedRecords<'a>,
     // balances that were noted on the way, so that nobody has to go over all batches before a stretch
-    marks: Vec<Mark>,
+    noted: Vec<BalancesAfter>,
 }
 
 impl<'a> Model for Settled<'a> {
     ghost use Rattle.eve_chains.specs.Settling.{Settling};
-    ghost use Rattle.eve_chains.specs.NotedBalances.{IsWellMarked};
+    ghost use Rattle.eve_chains.specs.NotedBalances.{IsWellNoted};
 
     ghost Value = { Settling };
 
     ghost view = { λ s. record { opening = s.opening; batches = s.records } };
 
-    ghost invariant = { λ s. IsWellMarked (record { opening = s.opening; batches = s.records }) s.marks.items };
+    ghost invariant = { λ s. IsWellNoted (record { opening = s.opening; batches = s.records }) s.noted.items };
 }
 
 impl<'a> Settled<'a> {
@@ -53,18 +53,18 @@ impl<'a> Settled<'a> {
         requires history { history.now ≡ section_history trace.now history.now.replica }
         ensures { IfOk result (λ settled. settled ≡ settling trace.now history.now.replica) }
     {
-        Settled::marked(alloc, history, trace, Vec::new(alloc))
+        Settled::with_noted(alloc, history, trace, Vec::new(alloc))
     }
 
     /// The same, with balances that were noted on the way.
-    pub(crate) fn marked(
+    pub(crate) fn with_noted(
         alloc: Global,
         history: &History<'a>,
         trace: &Trace<'a>,
-        marks: Vec<Mark>,
+        noted: Vec<BalancesAfter>,
     ) -> Result<Settled<'a>, AllocError>
         requires history { history.now ≡ section_history trace.now history.now.replica }
-        requires marks { All (IsMark (settling trace.now history.now.replica)) marks.items }
+        requires noted { All (AreBalancesAfter (settling trace.now history.now.replica)) noted.items }
         ensures { IfOk result (λ settled. settled ≡ settling trace.now history.now.replica) }
     {
         trace.recall_limits();
@@ -73,7 +73,7 @@ impl<'a> Settled<'a> {
         Ok(Settled {
             opening,
             records,
-            marks,
+            noted,
         })
     }
 
@@ -109,12 +109,12 @@ impl<'a> Settled<'a> {
         ensures rows { IfOk result (λ mark. IfSome mark (λ m. length m.1 ≡ length self.now.opening)) }
         ensures values { IfOk result (λ mark. IfSome mark (λ m. balance_of_row m.1 ≡ values_in self.now m.0)) }
     {
-        if place >= self.marks.len() {
+        if place >= self.noted.len() {
             return Ok(None);
         }
-        let mark = &self.marks[place];
-        let balances = mark.balances.copy(alloc)?;
-        Ok(Some((mark.after, balances)))
+        let noted = &self.noted[place];
+        let balances = noted.balances.copy(alloc)?;
+        Ok(Some((noted.after, balances)))
     }
 
     /// Goes from the balances after the batch before to those after batch n, of the batches from 1 on, which are the

@@ -5,7 +5,7 @@ ghost use Rattle.eve_chains.specs.Stretches.{AreStretches};
 
 use std::alloc::{AllocError, Global};
 
-/// How few attempts are worth a thread of their own: one has up to 256 records.
+/// The fewest attempts of a stretch but the last: an attempt has up to 256 records.
 const LEAST_ATTEMPTS: usize = 16;
 
 /// Attempts of a replica that stand after one another.

@@ -12,10 +12,10 @@ ghost use Rattle.eve_chains.specs.Along.{AreWithin, AllSettledSee};
 ghost use Rattle.eve_chains.specs.Walking.{records_of, records_from, IsCommitted, AreTried, AreUndone, HasWalked};
 ghost use Rattle.eve_chains.specs.Walking.{parted};
 ghost use Rattle.eve_chains.specs.Settling.{settling};
-ghost use Rattle.eve_chains.specs.NotedBalances.{IsMark, commits_among};
+ghost use Rattle.eve_chains.specs.NotedBalances.{AreBalancesAfter, commits_among};
 
 use crate::along::{judge_along, undo_along, write_along};
-use crate::noted_balances::{Mark, NotedBalances};
+use crate::noted_balances::{BalancesAfter, NotedBalances};
 use crate::table::Table;
 use eve_history::History;
 use eve_history::laws::committed_attempts_are_the_sections;
@@ -153,12 +153,12 @@ pub fn chains(
     history: &History<'_>,
     trace: &Trace<'_>,
     stretches: u8,
-) -> Result<Vec<Mark>, CheckFault>
+) -> Result<Vec<BalancesAfter>, CheckFault>
     requires history { history.now ≡ section_history trace.now history.now.replica }
     requires right { IsRightSection trace.now history.now.replica }
     requires stretches { 1 ≤ stretches }
     ensures see { IfOk result (λ _. AllSettledSee trace.now history.now.replica) }
-    ensures marks { IfOk result (λ marks. All (IsMark (settling trace.now history.now.replica)) marks.items) }
+    ensures noted { IfOk result (λ noted. All (AreBalancesAfter (settling trace.now history.now.replica)) noted.items) }
     ensures least { IfErr result (λ why. IfFound why (IsLeast (IsChainFault trace.now history.now.replica))) }
 {
     trace.recall_limits();
@@ -174,19 +174,19 @@ pub fn chains(
         first: None,
     };
     committed_attempts_are_the_sections();
-    let mut marks = NotedBalances::new(alloc, history.committed(), stretches);
+    let mut noted = NotedBalances::new(alloc, history.committed(), stretches);
     let mut steps = trace.section(history.replica());
     while let Some(step) = steps.next() {
         let commits = is_commit(&step);
         walk.take(alloc, history, trace, step)?;
         if commits {
-            marks.note(alloc, trace, &walk.committed)?;
+            noted.note(alloc, trace, &walk.committed)?;
         }
     }
     match walk.first {
         Some(fault) => Err(CheckFault::Found(fault)),
         None => {
-            let NotedBalances { list, .. } = marks;
+            let NotedBalances { list, .. } = noted;
             Ok(list)
         }
     }

@@ -1,15 +1,14 @@
 -- Each event keeps what holds of the history.
-use Rattle.std.proofs.Common.{◌≡◌, ℕ, ◌+◌, ◌<◌, ◌≤◌, true, not, ◌&&◌, ◌==◌, nat_lt, List, [], ◌∷◌, ◌++◌, map, length}
+use Rattle.std.proofs.Common.{◌≡◌, ℕ, ◌+◌, ◌<◌, ◌≤◌, true, not, ◌&&◌, ◌==◌, nat_lt, List, [], ◌∷◌, ◌++◌, length}
 use Rattle.std.proofs.Common.{Option, Some, None, is_none, inl, inr, refl, sym, subst, ap, ◌∙◌, arith}
 use Rattle.std.specs.List.{AllByRecursion}
 use Rattle.std.proofs.lemmas.Bool.{and_parts, and_cases, eqb-true, false≢true, true≢false, not-false}
 use Rattle.std.proofs.lemmas.List.{map-append}
 use Rattle.eve_smallbank.specs.SmallBank.{does}
-use Rattle.eve_smallbank.specs.Access.{RowKinds, rows_of, noted_rows, bank_of}
+use Rattle.eve_smallbank.specs.Access.{rows_of, noted_rows, bank_of}
 use Rattle.eve_smallbank.specs.Chain.{Table, Sees, table_after, table_after_all, values_of, visible_at}
-use Rattle.eve_smallbank.specs.Execution.{entry_on}
-use Rattle.eve_smallbank.specs.SmallBank.{Bank}
 use Rattle.eve_smallbank.proofs.Chains.{Follows, follows-push, table_after_all-push}
+use Rattle.eve_smallbank.proofs.Records.{noted_sees}
 use Rattle.eve_grammar.specs.Certificate.{group_of}
 use Rattle.eve_stamps.specs.Applied.{Applied}
 use Rattle.eve_stamps_schedule.specs.declared.event.Event.TheVariants.{Claim, Tick}
@@ -180,11 +179,6 @@ holds_tick p w v i history h stage none holds =
     (λ _. ready_later p w.counter (w.counter + 1) (current_group p w) w.owners history u (w.stages u) (omega arith)
     (holds.ready u l))) holds
 
-pub sees_on : (names : List (List ℕ)) (table : Table) (bank : Bank) (rows : RowKinds)
-    → AllByRecursion (Sees table) (map (entry_on names table bank) rows)
-sees_on names table bank [] = tt
-sees_on names table bank (r ∷ rows) = (record { version = refl; value = refl }, sees_on names table bank rows)
-
 -- no other worker that has its tick is bound by what this one applies
 apart : (p : Plan) (w : World) (v i : ℕ) (history : List Applied) → group_of p.sizes i ≡ current_group p w
     → ((s : ℕ) → s < STRIPES → needs_at p i s ≡ true → is_owner v (w.owners s) ≡ true)
@@ -202,7 +196,7 @@ holds_apply p w v i n history h stage holds =
     let x : Applied = record_made p w v i n in
     let mine : IsReady p w.counter (current_group p w) w.owners history v (at.Ticked i n) =
     subst (IsReady p w.counter (current_group p w) w.owners history v) stage (holds.ready v h) in
-    let sees = sees_on p.names w.table (does (bank_of p.names (values_of w.table)) (planned_request p i)).0
+    let sees = noted_sees p.names w.table (does (bank_of p.names (values_of w.table)) (planned_request p i)).0
     (noted_rows (does (bank_of p.names (values_of w.table)) (planned_request p i)).1
     (rows_of p.names (planned_request p i))) in
     let pushed : executed p (history ++ x ∷ []) ≡ executed p history ++ executed_record p x ∷ [] =

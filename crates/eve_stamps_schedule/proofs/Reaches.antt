@@ -16,11 +16,10 @@ use Rattle.eve_smallbank.specs.Touch.{knows_names, touched_of, rows_in}
 use Rattle.eve_smallbank.specs.Execution.{executed_on}
 use Rattle.eve_smallbank.proofs.Members.{all_in, all_from_in}
 use Rattle.eve_smallbank.proofs.Fitting.{always_fits}
-use Rattle.eve_smallbank.proofs.Records.{accepted, touches_rows}
+use Rattle.eve_smallbank.proofs.Records.{accepted, noted_sees, touches_rows}
 use Rattle.eve_smallbank.proofs.Unique.{numbers, entries_are_rows, made_of_table}
 use Rattle.eve_stamps.specs.Opening.{stripe_of}
 use Rattle.eve_stamps_schedule.specs.Stripes.{needs}
-use Rattle.eve_stamps_schedule.proofs.Histories.{sees_on}
 use Rattle.eve_stamps_schedule.proofs.Sharing.{in_map, in_stripe, needed}
 
 -- a row of a customer, in a stripe that the request needs
@@ -51,7 +50,7 @@ rows_placed names request =
 sees_own : (names : List (List ℕ)) (table : Table) (request : Request)
     → AllByRecursion (Sees table) (executed_on names table request).entries
 sees_own names table request =
-    sees_on names table (does (bank_of names (values_of table)) request).0
+    noted_sees names table (does (bank_of names (values_of table)) request).0
     (noted_rows (does (bank_of names (values_of table)) request).1 (rows_of names request))
 
 pub entries_placed : (names : List (List ℕ)) (table : Table) (request : Request)

@@ -2,9 +2,10 @@ use Rattle.std.proofs.Common.{ℕ, subst, sym, ◌∙◌, ap}
 use Rattle.eve_views.specs.Form.{IfFound, HasNone}
 use Rattle.eve_history.specs.Faults.{IsStructureFault}
 use Rattle.eve_chains.specs.Settling.{settling}
+use Rattle.eve_agree.proofs.Outcomes.{replica_told}
 use Rattle.eve_audit.specs.Verdict.{IsOwnFault}
 use Rattle.eve_audit.specs.Pieces.{IsFirstOf, IsSoundReplica}
-use Rattle.eve_audit.proofs.Told.{told_of, section_history_by_its_own}
+use Rattle.eve_audit.proofs.Told.{section_history_by_its_own}
 use Rattle.eve_audit.proofs.replica.judge_replica.Goals as goal
 
 pub settle-requires-clause-history : goal.settle-requires-clause-history
@@ -14,13 +15,13 @@ settle-requires-clause-history g c κs within = section_history_by_its_own c.arg
 pub settle-requires-clause-none : goal.settle-requires-clause-none
 settle-requires-clause-none g c κs within =
     subst (λ (k : ℕ). HasNone (IsStructureFault c.args.trace.now k))
-    (sym (told_of c.args.trace.now c.args.e c.in-Ok.history c.in-Ok.ensures.section_history))
+    (sym (replica_told c.args.trace.now c.args.e c.in-Ok.history c.in-Ok.ensures.section_history))
     c.in-Ok.ensures.none
 
 pub returns-in-Ok-settle-clause-piece : goal.returns-in-Ok-settle-clause-piece
 returns-in-Ok-settle-clause-piece g c =
     let t = c.args.trace.now in
-    let is = told_of t c.args.e c.in-Ok.history c.in-Ok.ensures.section_history in
+    let is = replica_told t c.args.e c.in-Ok.history c.in-Ok.ensures.section_history in
     record {
       history = c.in-Ok.ensures.section_history;
       settled = c.in-Ok-settle.ensures.settled ∙ ap (settling t) is;
@@ -31,5 +32,5 @@ returns-in-Ok-settle-clause-piece g c =
 pub returns-clause-first : goal.returns-clause-first
 returns-clause-first g c =
     subst (λ (k : ℕ). IfFound c.in-Err-settle.why (IsFirstOf (IsOwnFault c.args.trace.now k)))
-    (told_of c.args.trace.now c.args.e c.in-Ok.history c.in-Ok.ensures.section_history)
+    (replica_told c.args.trace.now c.args.e c.in-Ok.history c.in-Ok.ensures.section_history)
     c.in-Err-settle.ensures.first

@@ -1,12 +1,11 @@
-use Rattle.std.proofs.Common.{◌≡◌, ℕ, ◌-◌, ◌≤◌, List, Some, slice_get, length, refl, subst, sym, ap, ◌∙◌, arith}
+use Rattle.std.proofs.Common.{◌≡◌, ℕ, ◌-◌, ◌≤◌, List, slice_get, length, refl, sym, ap, ◌∙◌, arith}
 use Rattle.std.proofs.lemmas.List.{take_all}
 use Rattle.eve_smallbank.specs.Access.{balance_of_row, values_after}
 use Rattle.eve_grammar.specs.Trace.{Access}
 use Rattle.eve_history.proofs.Finding.{rec_at}
 use Rattle.eve_chains.specs.Along.{said_at, entries_along, AreWithin}
 use Rattle.eve_chains.proofs.Linked.{some_injective}
-use Rattle.eve_chains.proofs.AlongLaws.{item_within}
-use Rattle.eve_chains.proofs.CommittedBatches.{values_more}
+use Rattle.eve_chains.proofs.AlongLaws.{values_after-append, IsMet, met_within, after_more}
 use Rattle.eve_chains.proofs.settled.write_batch.Goals as goal
 
 pub loop-place-init : goal.loop-place-init
@@ -20,24 +19,26 @@ record-requires-clause-place c = λ xs at.
 
 pub write_values-requires : goal.write_values-requires
 write_values-requires c =
-    let xs = c.record.ensures.says.0 in
-    let at = c.record.ensures.says.1 in
-    item_within (length c.args.balances.now) (length c.loop-place.balances) xs c.loop-place.place
-    (said_at c.record.result) c.entries.result
-    (rec_at (AreWithin (length c.args.balances.now)) c.args.records.now (c.args.n - 1) xs c.requires.within at)
-    c.loop-place.invariant.as_many c.record.ensures.says.2 c.entries.ensures
+    let says = c.record.ensures.says in
+    let met : IsMet says.0 c.loop-place.place (said_at c.record.result) c.entries.result =
+    record { there = says.2; entries = c.entries.ensures } in
+    met_within (length c.args.balances.now) (length c.loop-place.balances) met
+    (rec_at (AreWithin (length c.args.balances.now)) c.args.records.now (c.args.n - 1) says.0 c.requires.within says.1)
+    c.loop-place.invariant.as_many
 
 pub loop-place-preserved : goal.loop-place-preserved
 loop-place-preserved c = record {
   as_many = c.write_values.ensures.as_many ∙ c.loop-place.invariant.as_many;
   values = λ xs at.
       let own = c.record.ensures.says in
-      let x = said_at c.record.result in
       let same : own.0 ≡ xs = some_injective own.0 xs (sym own.1 ∙ at) in
-      values_more (balance_of_row c.args.balances.now) xs c.loop-place.place x (balance_of_row c.loop-place.balances)
-      (balance_of_row c.write_values.new.balances) c.entries.result
-      (subst (λ (ys : List (ℕ × Access)). slice_get ys c.loop-place.place ≡ Some x) same own.2)
-      (c.loop-place.invariant.values xs at) c.entries.ensures c.write_values.ensures.values;
+      let met : IsMet xs c.loop-place.place (said_at c.record.result) c.entries.result = record {
+        there = ap (λ (ys : List (ℕ × Access)). slice_get ys c.loop-place.place) (sym same) ∙ own.2;
+        entries = c.entries.ensures;
+      } in
+      after_more values_after values_after-append (balance_of_row c.args.balances.now)
+      (balance_of_row c.loop-place.balances) (balance_of_row c.write_values.new.balances) met
+      (c.loop-place.invariant.values xs at) c.write_values.ensures.values;
 }
 
 pub returns-clause-values : goal.returns-clause-values

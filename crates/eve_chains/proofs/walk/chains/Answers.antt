@@ -7,7 +7,7 @@ use Rattle.eve_chains.specs.declared.walk.Walk.{Walk}
 use Rattle.eve_chains.specs.declared.noted_balances.NotedBalances.{NotedBalances}
 use Rattle.eve_chains.specs.Walking.{HasWalked}
 use Rattle.eve_chains.proofs.Steps.{none_outside, walked_start, walked_wrong}
-use Rattle.eve_chains.proofs.Marked.{AreMarkedSoFar, marked_start, marked_other, marked_commit}
+use Rattle.eve_chains.proofs.Noting.{AreNotedSoFar, noted_start, noted_other, noted_commit}
 use Rattle.eve_chains.proofs.walk.chains.Goals as goal
 
 pub returns-then-replica-section_count-clause-see : goal.returns-then-replica-section_count-clause-see
@@ -38,9 +38,9 @@ loop-step-init c =
       walked = subst (λ (xs : List (ℕ × Step)). HasWalked t e xs w) (sym steps)
           (walked_start t e w c.requires.right refl refl refl refl c.in_ok-opening.ensures.rows
           c.in_ok-opening.ensures.table);
-      marked = subst (λ (xs : List (ℕ × Step)). AreMarkedSoFar t e xs c.new-marks.result) (sym steps)
-          (marked_start t e c.recall_limits.ensures c.requires.right c.new-marks.result c.committed.result
-          c.new-marks.ensures.all c.new-marks.ensures.after c.new-marks.ensures.none count);
+      noted = subst (λ (xs : List (ℕ × Step)). AreNotedSoFar t e xs c.new-noted.result) (sym steps)
+          (noted_start t e c.recall_limits.ensures c.requires.right c.new-noted.result c.committed.result
+          c.new-noted.ensures.all c.new-noted.ensures.after c.new-noted.ensures.none count);
     }
 
 -- the walk goes on by a step that is at hand
@@ -48,9 +48,9 @@ on : (t : Trace) (e : ℕ) (steps rest : List (ℕ × Step)) (x : ℕ × Step) (
     → steps ≡ x ∷ rest → HasWalked t e (x ∷ rest) w
 on t e steps rest x w known is = subst (λ (xs : List (ℕ × Step)). HasWalked t e xs w) is known
 
-marked_on : (t : Trace) (e : ℕ) (steps rest : List (ℕ × Step)) (x : ℕ × Step) (m : NotedBalances)
-    → AreMarkedSoFar t e steps m → steps ≡ x ∷ rest → AreMarkedSoFar t e (x ∷ rest) m
-marked_on t e steps rest x m known is = subst (λ (xs : List (ℕ × Step)). AreMarkedSoFar t e xs m) is known
+noted_on : (t : Trace) (e : ℕ) (steps rest : List (ℕ × Step)) (x : ℕ × Step) (noted : NotedBalances)
+    → AreNotedSoFar t e steps noted → steps ≡ x ∷ rest → AreNotedSoFar t e (x ∷ rest) noted
+noted_on t e steps rest x noted known is = subst (λ (xs : List (ℕ × Step)). AreNotedSoFar t e xs noted) is known
 
 pub note-requires-clause-rows : goal.note-requires-clause-rows
 note-requires-clause-rows c =
@@ -71,9 +71,9 @@ loop-step-preserved-in_ok-note c =
     (on t e c.loop-step.steps rest found.0 c.loop-step.walk c.loop-step.invariant.walked found.1) found.2 in
     record {
       walked = walked;
-      marked = marked_commit t e c.recall_limits.ensures c.requires.right found.0 rest c.take.new.self
-          c.loop-step.marks c.note.new.self
-          (marked_on t e c.loop-step.steps rest found.0 c.loop-step.marks c.loop-step.invariant.marked found.1)
+      noted = noted_commit t e c.recall_limits.ensures c.requires.right found.0 rest c.take.new.self
+          c.loop-step.noted c.note.new.self
+          (noted_on t e c.loop-step.steps rest found.0 c.loop-step.noted c.loop-step.invariant.noted found.1)
           (c.if-commits.ensures found.0 rest found.2) walked c.in_ok-note.ensures;
     }
 
@@ -86,8 +86,8 @@ loop-step-preserved c =
     record {
       walked = c.in_ok-take.ensures rest found.0
           (on t e c.loop-step.steps rest found.0 c.loop-step.walk c.loop-step.invariant.walked found.1) found.2;
-      marked = marked_other t e c.recall_limits.ensures c.requires.right found.0 rest c.loop-step.marks
-          (marked_on t e c.loop-step.steps rest found.0 c.loop-step.marks c.loop-step.invariant.marked found.1)
+      noted = noted_other t e c.recall_limits.ensures c.requires.right found.0 rest c.loop-step.noted
+          (noted_on t e c.loop-step.steps rest found.0 c.loop-step.noted c.loop-step.invariant.noted found.1)
           (c.if-commits.ensures found.0 rest found.2);
     }
 

@@ -6,9 +6,9 @@ use Rattle.eve_grammar.specs.Limits.{row_count}
 use Rattle.eve_grammar.proofs.OpeningRows.{length-opening_rows}
 use Rattle.eve_chains.specs.Along.{AreWithin}
 use Rattle.eve_chains.specs.Settling.{Settling, settling}
-use Rattle.eve_chains.specs.NotedBalances.{IsMark}
+use Rattle.eve_chains.specs.NotedBalances.{AreBalancesAfter}
 use Rattle.eve_chains.proofs.CommittedBatches.{batches_of_section, batches_within}
-use Rattle.eve_chains.proofs.settled.Settled.marked.Goals as goal
+use Rattle.eve_chains.proofs.settled.Settled.with_noted.Goals as goal
 
 pub returns : goal.returns
 unfolding settling
@@ -29,5 +29,5 @@ invariant_of-result c =
       within = subst (λ (n : ℕ). AllByRecursion (AreWithin n) c.in_ok-records.records) rows
           (subst (AllByRecursion (AreWithin (row_count (head_of t)))) (sym batches)
           (batches_within t v.replica c.recall_limits.ensures));
-      marks = subst (λ (s : Settling). All (IsMark s) c.args.marks.items) (sym (returns c)) c.requires.marks;
+      noted = subst (λ (s : Settling). All (AreBalancesAfter s) c.args.noted.items) (sym (returns c)) c.requires.noted;
     }

@@ -1,18 +1,24 @@
--- Public: other crates cite these lemmas. The access records of attempts, as they are loaded.
+-- Public: other crates cite these lemmas. The access records of attempts, by attempt and place, and that they lie
+-- within the limits.
 use Rattle.std.proofs.Common.{◌≡◌, ℕ, zero, suc, ◌+◌, ◌==◌, Bool, true, false, cond, List, [], ◌∷◌, ◌++◌, map}
 use Rattle.std.proofs.Common.{length, length-append, slice_get, Some, refl, sym, ap, ◌∙◌, append_assoc, arith}
 use Rattle.std.proofs.Common.{IsTrue}
 use Rattle.std.specs.Prelude.{slice_index_or, nat_le}
 use Rattle.std.specs.List.{AllByRecursion, list_all}
 use Rattle.std.proofs.lemmas.Bool.{and_parts, and_from, eqb-true}
+use Rattle.eve_smallbank.specs.declared.entry.Entry.{Entry}
+use Rattle.eve_smallbank.proofs.Members.{all_in, all_from_in}
 use Rattle.eve_grammar.specs.Trace.{Access, Attempt, Step, Attempts, Commits, RollsBack, Trace, head_of}
-use Rattle.eve_grammar.specs.Frames.{OfReplica, OfAccess}
-use Rattle.eve_grammar.specs.Spelling.{frame_text, located, step_text, section_start, steps_of, steps_at, accesses_at}
-use Rattle.eve_grammar.specs.Limits.{is_number, is_entry, is_access, is_attempt, is_step, row_count, HasLimits}
+use Rattle.eve_grammar.specs.Frames.{OfAccess}
+use Rattle.eve_grammar.specs.Spelling.{frame_text, located, steps_at, accesses_at}
+use Rattle.eve_grammar.specs.Limits.{is_number, is_entry, is_access, is_attempt, is_whole_attempt, is_step, row_count}
+use Rattle.eve_grammar.specs.Limits.{HasLimits}
 use Rattle.eve_history.specs.Section.{Placed}
 use Rattle.eve_history.specs.SectionHistory.{ExecutedAttempt, executed_attempt, SectionHistory, access_with, ordered}
 use Rattle.eve_history.specs.SectionHistory.{attempts_among, placed_at}
+use Rattle.eve_history.proofs.Coming.{steps_fit}
 use Rattle.eve_chains.specs.Along.{AreWithin}
+use Rattle.eve_chains.proofs.AlongLaws.{IsMet}
 use Rattle.eve_chains.proofs.Linked.{some_injective, none≢some}
 use Rattle.eve_chains.specs.Walking.{records_of, records_from}
 
@@ -28,10 +34,14 @@ records_is : (h : SectionHistory) (i : ℕ) (r : ExecutedAttempt) → slice_get 
     ≡ r.ordered
 records_is h i r e = at_mapped h.attempts i r e
 
-pub record_there : (h : SectionHistory) (i place : ℕ) (r : ExecutedAttempt) (x : ℕ × Access)
-    → slice_get h.attempts i ≡ Some r → slice_get r.ordered place ≡ Some x
-    → slice_get (records_of h i) place ≡ Some x
-record_there h i place r x there at = ap (λ (xs : List (ℕ × Access)). slice_get xs place) (records_is h i r there) ∙ at
+-- what is met of one of them
+pub record_met : (h : SectionHistory) (i place : ℕ) (x : ℕ × Access) (es : List Entry)
+    → (r : ExecutedAttempt) × (slice_get h.attempts i ≡ Some r) × (slice_get r.ordered place ≡ Some x)
+    → es ≡ x.1.entries → IsMet (records_of h i) place x es
+record_met h i place x es says is = record {
+  there = ap (λ (xs : List (ℕ × Access)). slice_get xs place) (records_is h i says.0 says.1) ∙ says.2;
+  entries = is;
+}
 
 -- ---- several attempts' records
 
@@ -123,43 +133,38 @@ within_ordered rows at a h = along a.certificate
         (map (access_with (accesses_at at a)) order))
         (within_found rows _ a.accesses i h) (along order)
 
-within_steps : (rows at : ℕ) (steps : List Step) → IsTrue (list_all (is_step rows) steps)
-    → AllByRecursion (IsWithin rows) (attempts_among (located step_text at steps))
-within_steps rows at [] h = tt
-within_steps rows at (Attempts a ∷ steps) h =
-    let parts = and_parts (is_step rows (Attempts a)) (list_all (is_step rows) steps) h in
-    let whole = and_parts (is_attempt a) _ parts.0 in
-    let accesses = and_parts (length a.accesses == length a.certificate) (list_all (is_access rows) a.accesses) whole.1
-    in (
-      record {
-        within = within_ordered rows at a accesses.1;
-        complete = eqb-true (length a.accesses)
-            (length a.certificate) accesses.0;
-      },
-      within_steps rows (at + length (step_text (Attempts a))) steps parts.1,
-    )
-within_steps rows at (Commits c ∷ steps) h = within_steps rows (at + length (step_text (Commits c))) steps
-    (and_parts (is_step rows (Commits c)) (list_all (is_step rows) steps) h).1
-within_steps rows at (RollsBack r ∷ steps) h = within_steps rows (at + length (step_text (RollsBack r))) steps
-    (and_parts (is_step rows (RollsBack r)) (list_all (is_step rows) steps) h).1
+-- an attempt that fits as a whole
+within_whole : (rows : ℕ) (x : ℕ × Attempt) → IsTrue (is_whole_attempt rows x.1) → IsWithin rows x
+within_whole rows x h =
+    let own = and_parts (length x.1.accesses == length x.1.certificate) (list_all (is_access rows) x.1.accesses)
+    (and_parts (is_attempt x.1) _ h).1 in
+    record {
+      within = within_ordered rows x.0 x.1 own.1;
+      complete = eqb-true (length x.1.accesses) (length x.1.certificate) own.0;
+    }
 
-pub each_section : (rows : ℕ) (sections : List (List Step)) (e : ℕ)
-    → IsTrue (list_all (list_all (is_step rows)) sections)
-    → IsTrue (list_all (is_step rows) (slice_index_or sections e []))
-each_section rows [] e h = refl
-each_section rows (s ∷ sections) zero h =
-    (and_parts (list_all (is_step rows) s) (list_all (list_all (is_step rows)) sections) h).0
-each_section rows (s ∷ sections) (suc e) h =
-    each_section rows sections e
-    (and_parts (list_all (is_step rows) s) (list_all (list_all (is_step rows)) sections) h).1
+whole_among : (rows : ℕ) (steps : List (ℕ × Step)) → IsTrue (list_all (λ x. is_step rows x.1) steps)
+    → AllByRecursion (λ x. IsTrue (is_whole_attempt rows x.1)) (attempts_among steps)
+whole_among rows [] h = tt
+whole_among rows ((at, Attempts a) ∷ steps) h =
+    let parts = and_parts (is_step rows (Attempts a)) (list_all (λ x. is_step rows x.1) steps) h in
+    (parts.0, whole_among rows steps parts.1)
+whole_among rows ((at, Commits c) ∷ steps) h = whole_among rows steps
+    (and_parts (is_step rows (Commits c)) (list_all (λ x. is_step rows x.1) steps) h).1
+whole_among rows ((at, RollsBack r) ∷ steps) h = whole_among rows steps
+    (and_parts (is_step rows (RollsBack r)) (list_all (λ x. is_step rows x.1) steps) h).1
 
 -- all attempts of a section
+pub whole_section : (t : Trace) (e : ℕ) → HasLimits t
+    → AllByRecursion (λ x. IsTrue (is_whole_attempt (row_count (head_of t)) x.1)) (attempts_among (steps_at t e))
+whole_section t e limits = whole_among (row_count (head_of t)) (steps_at t e) (steps_fit t e limits)
+
 pub within_section : (t : Trace) (e : ℕ) → HasLimits t → AllByRecursion (IsWithin (row_count (head_of t)))
     (attempts_among (steps_at t e))
-unfolding steps_at
 within_section t e limits =
-    within_steps (row_count (head_of t)) (section_start t e + length (frame_text (OfReplica e))) (steps_of t e)
-    (each_section (row_count (head_of t)) t.sections e limits.sections)
+    let rows = row_count (head_of t) in
+    all_from_in (IsWithin rows) (attempts_among (steps_at t e)) (λ x i. within_whole rows x
+    (all_in (λ y. IsTrue (is_whole_attempt rows y.1)) (whole_section t e limits) i))
 
 -- those that stand after the earlier ones
 pub within_behind : (rows : ℕ) (earlier : List (ℕ × Attempt)) (ps : List Placed) (more : List (ℕ × Attempt))

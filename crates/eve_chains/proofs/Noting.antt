@@ -19,20 +19,20 @@ use Rattle.eve_chains.specs.Committed.{attempts_of}
 use Rattle.eve_chains.specs.Tables.{table_of}
 use Rattle.eve_chains.specs.Settling.{settling, values_in}
 use Rattle.eve_chains.specs.Walking.{HasWalked}
-use Rattle.eve_chains.specs.NotedBalances.{IsMark, HasValuesOf, HasNoted, commits_among}
+use Rattle.eve_chains.specs.NotedBalances.{AreBalancesAfter, HasValuesOf, HasNoted, commits_among}
 use Rattle.eve_chains.specs.declared.walk.Walk.{Walk}
-use Rattle.eve_chains.specs.declared.noted_balances.Mark.{Mark}
+use Rattle.eve_chains.specs.declared.noted_balances.BalancesAfter.{BalancesAfter}
 use Rattle.eve_chains.specs.declared.noted_balances.NotedBalances.{NotedBalances}
 use Rattle.eve_chains.proofs.AdvancingBanks.{settled_values}
 use Rattle.eve_chains.proofs.Linked.{batches_counted}
 use Rattle.eve_chains.proofs.Steps.{first_open}
 
--- These steps of replica e's section are still to come: of all its batches so many are committed, and each mark has the
--- balances after a front of them.
-pub record AreMarkedSoFar (t : Trace) (e : ℕ) (rest : List (ℕ × Step)) (m : NotedBalances) : Type 0 where
-  pub count : m.after + commits_among rest ≡ m.all
-  pub all : m.all ≡ length (settling t e).batches
-  pub marks : All (IsMark (settling t e)) m.list.items
+-- These steps of replica e's section are still to come: of all its batches so many are committed, and what is noted are
+-- the balances after fronts of them.
+pub record AreNotedSoFar (t : Trace) (e : ℕ) (rest : List (ℕ × Step)) (noted : NotedBalances) : Type 0 where
+  pub count : noted.after + commits_among rest ≡ noted.all
+  pub all : noted.all ≡ length (settling t e).batches
+  pub list : All (AreBalancesAfter (settling t e)) noted.list.items
 
 -- ---- how many batches are committed
 
@@ -111,28 +111,29 @@ module _ (t : Trace) (e : ℕ) (limits : HasLimits t) (right : IsRightSection t 
       ∙ sym (batches_counted t e)
 
   -- nothing is committed yet
-  pub marked_start : (m : NotedBalances) (all : ℕ) → m.all ≡ all → m.after ≡ 0 → m.list.items ≡ []
-      → all ≡ length (history t e).committed → AreMarkedSoFar t e (steps_at t e) m
-  marked_start m all is none empty count = record {
+  pub noted_start : (noted : NotedBalances) (all : ℕ) → noted.all ≡ all → noted.after ≡ 0 → noted.list.items ≡ []
+      → all ≡ length (history t e).committed → AreNotedSoFar t e (steps_at t e) noted
+  noted_start noted all is none empty count = record {
     count = omega (arith, none, all_commits t e right, count, is);
     all = is ∙ count ∙ sym (batches_counted t e);
-    marks = subst (All (IsMark (settling t e))) (sym empty) (λ k d lt. absurd (omega (arith, lt)));
+    list = subst (All (AreBalancesAfter (settling t e))) (sym empty) (λ k d lt. absurd (omega (arith, lt)));
   }
 
   -- a step that is no commit
-  pub marked_other : (x : ℕ × Step) (rest : List (ℕ × Step)) (m : NotedBalances) → AreMarkedSoFar t e (x ∷ rest) m
-      → commits_among (x ∷ rest) ≡ 0 + commits_among rest → AreMarkedSoFar t e rest m
-  marked_other x rest m marked same = record {
-    count = omega (arith, same, marked.count);
-    all = marked.all;
-    marks = marked.marks;
+  pub noted_other : (x : ℕ × Step) (rest : List (ℕ × Step)) (noted : NotedBalances)
+      → AreNotedSoFar t e (x ∷ rest) noted
+      → commits_among (x ∷ rest) ≡ 0 + commits_among rest → AreNotedSoFar t e rest noted
+  noted_other x rest noted so_far same = record {
+    count = omega (arith, same, so_far.count);
+    all = so_far.all;
+    list = so_far.list;
   }
 
   -- what is noted where the walk has come to
-  marked_here : (rest : List (ℕ × Step)) (w : Walk) (n : ℕ) (m : Mark) → HasWalked t e rest w
-      → n + commits_among rest ≡ length (settling t e).batches → m.after ≡ n → HasValuesOf w.committed m
-      → IsMark (settling t e) m
-  marked_here rest w n m known count is values =
+  noted_here : (rest : List (ℕ × Step)) (w : Walk) (n : ℕ) (b : BalancesAfter) → HasWalked t e rest w
+      → n + commits_among rest ≡ length (settling t e).batches → b.after ≡ n → HasValuesOf w.committed b
+      → AreBalancesAfter (settling t e) b
+  noted_here rest w n b known count is values =
       let same : length known.state.committed ≡ n = omega (arith, walked_count rest w known, count) in
       record {
         there = omega (arith, count, is);
@@ -141,25 +142,25 @@ module _ (t : Trace) (e : ℕ) (limits : HasLimits t) (right : IsRightSection t 
       }
 
   -- a commit
-  pub marked_commit : (x : ℕ × Step) (rest : List (ℕ × Step)) (w : Walk) (old new : NotedBalances)
-      → AreMarkedSoFar t e (x ∷ rest) old → commits_among (x ∷ rest) ≡ 1 + commits_among rest → HasWalked t e rest w
-      → HasNoted w.committed old new → AreMarkedSoFar t e rest new
-  marked_commit x rest w old new marked one known noted =
+  pub noted_commit : (x : ℕ × Step) (rest : List (ℕ × Step)) (w : Walk) (old new : NotedBalances)
+      → AreNotedSoFar t e (x ∷ rest) old → commits_among (x ∷ rest) ≡ 1 + commits_among rest → HasWalked t e rest w
+      → HasNoted w.committed old new → AreNotedSoFar t e rest new
+  noted_commit x rest w old new so_far one known noted =
       let count : new.after + commits_among rest ≡ new.all = omega (
         arith,
-        marked.count,
+        so_far.count,
         one,
         noted.after,
         noted.all,
       ) in
-      let all : new.all ≡ length (settling t e).batches = noted.all ∙ marked.all in
+      let all : new.all ≡ length (settling t e).batches = noted.all ∙ so_far.all in
       record {
         count = count;
         all = all;
-        marks = elim noted.list [
-          | inl same ↦ subst (All (IsMark (settling t e))) (sym same) marked.marks
-          | inr more ↦ subst (All (IsMark (settling t e))) (sym more.1)
-              (All-push (IsMark (settling t e)) old.list.items more.0 marked.marks
-              (marked_here rest w new.after more.0 known (count ∙ all) more.2 more.3))
+        list = elim noted.list [
+          | inl same ↦ subst (All (AreBalancesAfter (settling t e))) (sym same) so_far.list
+          | inr more ↦ subst (All (AreBalancesAfter (settling t e))) (sym more.1)
+              (All-push (AreBalancesAfter (settling t e)) old.list.items more.0 so_far.list
+              (noted_here rest w new.after more.0 known (count ∙ all) more.2 more.3))
         ];
       }
