@@ -149,11 +149,11 @@ impl Ledger {
 
     /// Makes an attempt of the records that were taken of a batch, in the order in which they were taken, and opens it.
     ///
-    /// There is room (`has_room`), the number is the next (`next_number`) and at most 65,535, the view and the mode are
-    /// the ones that are due, and the batch lies within the limits. `touched` is what each of the batch's requests
-    /// touches: the answers of `eve_smallbank::touched`, so that names are looked up once for all replicas. The
-    /// certificate is the indexes by rising tick, equal ticks by index. Refused with `Mismatch` are records that are no
-    /// attempt on these rows (`AreRight`). All memory is asked for before a row changes, and a refusal changes nothing.
+    /// `has_room`, `next_number`, `view` and `is_next_serial` say what the conditions ask; the number is at most
+    /// `MOST_BATCHES`. `touched` is what each of the batch's requests touches: the answers of `eve_smallbank::touched`,
+    /// so that names are looked up once for all replicas. The certificate is the indexes by rising tick, equal ticks by
+    /// index. Refused with `Mismatch` are records that are no attempt on these rows (`AreRight`). All memory is asked
+    /// for before a row changes, and a refusal changes nothing.
     ///
     /// docs/MODEL.md, "Section state, fate", "A record fits its request" and "Visible version, chained".
     pub fn close(

@@ -13,7 +13,7 @@ ghost use Rattle.eve_replica.specs.Replicas.{Attempts, AttemptsDue, FailsAttempt
 ghost use Rattle.eve_replica.specs.Replicas.{IsFirstOpen, CommitsFirst};
 ghost use Rattle.eve_replica.specs.Serving.{IsRightMixed};
 ghost use Rattle.eve_replica_crew.specs.Crews.{AreTickets};
-ghost use Rattle.eve_replica_crew.specs.Stages.{IsRightLeg};
+ghost use Rattle.eve_replica_crew.specs.Sharing.{IsRightLeg};
 
 use crate::fault::{AttemptFault, CloseFault, CommitFault, fault_of};
 use eve_accounts::{Balances, Names};
@@ -158,12 +158,11 @@ impl<'n> Replica<'n> {
 impl<'n> Replica<'n> {
     /// Runs the batch by the replica's workers in threads, and makes an attempt of what they noted, which is open then.
     ///
-    /// docs/TRACE.md, "The deployment's procedure". There is room (`has_room`), the number is at most 65,535
-    /// (`next_number`), `view` and `serial` are the ones that are due, and the batch lies within the limits. The gate
-    /// is entered before each execution, with the request's index. Nothing that the threads did is believed: the
-    /// attempt is what the replica's own account says of the records (`Closes`). Of the faults of workers one is told;
-    /// each fault but `Broken` leaves the account as it was, and breaks the replica until `rollback` succeeds. May wait
-    /// for other threads.
+    /// docs/TRACE.md, "The deployment's procedure". `has_room`, `next_number`, `view` and `is_next_serial` say what the
+    /// conditions ask; the next number is at most `MOST_BATCHES`. The gate is entered before each execution, with the
+    /// request's index. Nothing that the threads did is believed: the attempt is what the replica's own account says of
+    /// the records (`Closes`). Of the faults of workers one is told; each fault but `Broken` leaves the account as it
+    /// was, and breaks the replica until `rollback` succeeds. May wait for other threads.
     pub fn run_attempt<R: Threads + Wait + Sync, G: Gate>(
         &mut self,
         rt: &R,
@@ -189,13 +188,11 @@ impl<'n> Replica<'n> {
         };
         let touched = touched.as_slice();
         let leg = leg_of(&self.floor, self.seats.len() as u8, batch, touched, serial);
-        match self.note_legs(rt, alloc, &[leg], gate) {
-            Ok(mut lists) => match lists.pop() {
-                Some(records) => self.close_noted(alloc, batch, touched, records.as_slice()),
-                None => unreachable!(),
-            },
-            Err(why) => Err(why),
-        }
+        let mut lists = self.note_legs(rt, alloc, &[leg], gate)?;
+        let Some(records) = lists.pop() else {
+            unreachable!()
+        };
+        self.close_noted(alloc, batch, touched, records.as_slice())
     }
 
     /// Runs the batches of a window by the replica's workers, of a replica that isn't broken, and answers what they
@@ -292,11 +289,10 @@ impl<'n> Replica<'n> {
 
     /// Makes an attempt of records that a caller took, which is open then.
     ///
-    /// There is room (`has_room`), the number is the next (`next_number`) and at most 65,535, the view and the mode are
-    /// the ones that are due, and the batch lies within the limits. The stripes stay as they were: a later
-    /// `run_attempt` over the rows that it wrote can be `Mismatch` until a rollback discards it, and for good once it
-    /// is committed. `Broken` is tested first, and comes exactly where the replica is broken. After a refusal nothing
-    /// has changed.
+    /// `has_room`, `next_number`, `view` and `is_next_serial` say what the conditions ask; the number is at most
+    /// `MOST_BATCHES`. The stripes stay as they were: a later `run_attempt` over the rows that it wrote can be
+    /// `Mismatch` until a rollback discards it, and for good once it is committed. `Broken` is tested first, and comes
+    /// exactly where the replica is broken. After a refusal nothing has changed.
     pub fn close_attempt(
         &mut self,
         alloc: Global,

@@ -4,7 +4,7 @@ use Rattle.eve_recorder.specs.Drawing.{Source}
 use Rattle.eve_recorder.specs.Seen.{Desk}
 use Rattle.eve_replica_crew.specs.declared.room.Room.{Room}
 use Rattle.eve_replica_crew.specs.declared.room.Seating.{Seating}
-use Rattle.eve_replica_crew.specs.Stages.{AreSeatingsOf, AreSeatsAt, IsSeatingOf}
+use Rattle.eve_replica_crew.specs.Sharing.{AreSeatingsOf, AreSeatsAt, IsSeatingOf}
 
 -- one more room with its seats
 pub seatings_push : (rooms : List Room) (seatings : List Seating) (r : Room) (s : Seating)

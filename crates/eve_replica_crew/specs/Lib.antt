@@ -1,2 +1,2 @@
 pub mod Crews
-pub mod Stages
+pub mod Sharing

@@ -4,8 +4,8 @@ ghost use Rattle.std.specs.Prelude.{◌≡◌, ◌≤◌, ℕ, All, IfOk, IsTrue
 ghost use Rattle.eve_grammar.specs.Limits.{is_batch};
 ghost use Rattle.eve_write.specs.Data.{batch as plain};
 ghost use Rattle.eve_replica_crew.specs.Crews.{AreTickets};
-ghost use Rattle.eve_replica_crew.specs.Stages.{AreSeatingsOf, IsRightLeg, IsRightRoom, IsSeatingOf};
-ghost use Rattle.eve_replica_crew.specs.Stages.{IsSet};
+ghost use Rattle.eve_replica_crew.specs.Sharing.{AreSeatingsOf, IsRightLeg, IsRightRoom, IsSeatingOf};
+ghost use Rattle.eve_replica_crew.specs.Sharing.{IsSet};
 
 use crate::crew::{deal, run_shares};
 use crate::leg::Leg;
@@ -74,8 +74,8 @@ fn furnish_all<'b>(
     let mut seatings = Vec::with_capacity(alloc, legs.len())?;
     for leg in legs {
         let (room, seating) = furnish(alloc, leg)?;
-        rooms.push(room)?;
-        seatings.push(seating)?;
+        rooms.push_reserved(room);
+        seatings.push_reserved(seating);
     }
     Ok((rooms, seatings))
 }

@@ -2,7 +2,7 @@
 
 ghost use Rattle.std.specs.Prelude.{◌≡◌, ◌+◌, ◌≤◌, All, vec_len, vec_capacity};
 ghost use Rattle.std.specs.Thread.{IsSync};
-ghost use Rattle.eve_replica_crew.specs.Stages.{AreSeatsAt, IsSet};
+ghost use Rattle.eve_replica_crew.specs.Sharing.{AreSeatsAt, IsSet};
 ghost use Rattle.eve_replica_crew.specs.Crews.{AreTickets, IsSeated, crew_of};
 ghost use Rattle.eve_replica_crew.specs.Crews.{lowest_fault};
 
@@ -65,10 +65,27 @@ pub(crate) fn deal<'s>(
     requires seats { AreSeatsAt shared.now.recorder.now.recorder shared.now.claims.now crew seating }
     ensures { vec_len hands.new ≡ vec_len hands.old }
 {
+    let dealt = deal_parts(shared, crew, &mut seating, hands);
+    drop(seating);
+    dealt
+}
+
+// The parts of the workers below this number, where the seats up to it are there.
+fn deal_parts<'s>(
+    shared: &Shared<'s>,
+    crew: u8,
+    seating: &mut Seating,
+    hands: &mut Vec<Vec<Share<'s>>>,
+) -> Result<(), AllocError>
+    requires set { IsSet shared.now }
+    requires crew { (crew ≤ MOST_WORKERS) × (crew ≤ vec_len hands.old) }
+    requires seats { AreSeatsAt shared.now.recorder.now.recorder shared.now.claims.now crew seating.old }
+    ensures { vec_len hands.new ≡ vec_len hands.old }
+{
     let mut left = crew;
     while left > 0 {
         left -= 1;
-        let share = part_of(shared, left, &mut seating);
+        let share = part_of(shared, left, seating);
         hands[left as usize].push(share)?;
     }
     Ok(())

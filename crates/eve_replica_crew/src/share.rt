@@ -1,6 +1,6 @@
 //! A worker's part in a batch.
 
-ghost use Rattle.eve_replica_crew.specs.Stages.{IsReady};
+ghost use Rattle.eve_replica_crew.specs.Sharing.{IsReady};
 
 use crate::shared::Shared;
 use eve_recorder::{TicketSeat, WorkerSeat};

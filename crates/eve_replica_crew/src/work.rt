@@ -5,7 +5,7 @@ ghost use Rattle.eve_smallbank.specs.Touch.{touched_of};
 ghost use Rattle.eve_write.specs.Data.{batch as plain_batch};
 ghost use Rattle.eve_floor.specs.Executing.{IsSeatedAt};
 ghost use Rattle.eve_grammar.specs.Trace.{request_with};
-ghost use Rattle.eve_replica_crew.specs.Stages.{IsSet};
+ghost use Rattle.eve_replica_crew.specs.Sharing.{IsSet};
 ghost use Rattle.eve_replica_crew.specs.Crews.{IsSeated};
 
 use crate::crew::Member;

@@ -1,15 +1,17 @@
 -- Numbers and their one spelling.
 use Rattle.std.proofs.Common.{Option, Some, None, IfNone, int_lt, IsTrue, ℤ, pos, negsuc, leb-true, ◌≡◌, ◌≢◌, ℕ, zero}
-use Rattle.std.proofs.Common.{suc, ◌+◌, ◌-◌, ◌*◌, ◌^◌, ◌<◌, ◌≤◌, List, ◌∷◌, length, take, drop, get_or, sym, ap, subst}
-use Rattle.std.proofs.Common.{◌∙◌, arith}
+use Rattle.std.proofs.Common.{suc, ◌+◌, ◌-◌, ◌*◌, ◌^◌, ◌<◌, ◌<ℤ◌, ◌≤◌, List, ◌∷◌, length, take, drop, get_or, sym, ap}
+use Rattle.std.proofs.Common.{subst, ◌∙◌, arith}
 use Rattle.std.specs.Fmt.{decimal, signed_decimal}
 use Rattle.std.specs.Int.RustNames.{int_le}
+use Rattle.eve_accounts.specs.declared.limits.TheConstants.{MOST_BALANCE}
 use Rattle.eve_accounts.specs.Money.{is_balance, is_saving, is_amount, amount_of}
 use Rattle.std.specs.Char.{digit_value}
 use Rattle.std.specs.Str.Parse.{digits_value, AllDigits}
 use Rattle.std.proofs.lemmas.Fmt.{decimal_is_IsNumeral, decimal-digits_value, first_decimal, decimal_digit}
 use Rattle.std.proofs.lemmas.Fmt.{decimal_injective, signed_decimal_injective}
 use Rattle.std.proofs.lemmas.Bool.{and_parts, cond-true, ltb-true}
+use Rattle.std.proofs.lemmas.Int.{ints}
 use Rattle.std.proofs.lemmas.Int.Digits.{digits_value_more, digits_more}
 use Rattle.std.proofs.lemmas.Str.Parse.{IsNumeralModel, numerals_by_value, tells_digits, digit_at, digits_value-take-le}
 use Rattle.std.proofs.lemmas.Bool.Decides.{nat_tests}
@@ -96,20 +98,20 @@ negative_unread digits unread (negsuc n) right spelled =
     unread (suc n) (omega (arith, balance_negsuc n right)) (ap (drop 1) spelled)
 
 pub negative_outside : (digits : List ℕ) (value : ℕ) → digits ≡ decimal value → value < 2 ^ 64
-    → (1 ≤ value → 1000000000000000 < value) → (z : ℤ) → IsTrue (is_balance z) → 45 ∷ digits ≢ signed_decimal z
+    → (1 ≤ value → MOST_BALANCE <ℤ pos value) → (z : ℤ) → IsTrue (is_balance z) → 45 ∷ digits ≢ signed_decimal z
 negative_outside digits value is small outside (pos n) right spelled =
     not_minus n digits (omega (arith, balance_pos n right)) spelled
 negative_outside digits value is small outside (negsuc n) right spelled =
     let low = balance_negsuc n right in
     let same : value ≡ suc n = decimal_injective value (suc n) small (omega arith) (sym is ∙ ap (drop 1) spelled) in
     let high = outside (omega arith) in
-    omega arith
+    omega (arith, ints)
 
-pub positive_outside : (word : List ℕ) (value : ℕ) → word ≡ decimal value → value < 2 ^ 64 → 1000000000000000 < value
-    → get_or word 0 0 ≢ 45 → (z : ℤ) → IsTrue (is_balance z) → word ≢ signed_decimal z
+pub positive_outside : (word : List ℕ) (value : ℕ) → word ≡ decimal value → value < 2 ^ 64
+    → MOST_BALANCE <ℤ pos value → get_or word 0 0 ≢ 45 → (z : ℤ) → IsTrue (is_balance z) → word ≢ signed_decimal z
 positive_outside word value is small high plain (pos n) right spelled =
     let low = balance_pos n right in
-    omega (arith, decimal_injective value n small (omega arith) (sym is ∙ spelled))
+    omega (arith, ints, decimal_injective value n small (omega arith) (sym is ∙ spelled))
 positive_outside word value is small high plain (negsuc n) right spelled = plain (ap (λ w. get_or w 0 0) spelled)
 
 balance_mag : (z : ℤ) → IsTrue (is_balance z) → mag z < 2 ^ 63

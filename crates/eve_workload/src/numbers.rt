@@ -1,12 +1,12 @@
 //! Numbers as a workload spells them: decimal, without leading zeros.
 
-ghost use Rattle.std.specs.Prelude.{◌≡◌, ◌≢◌, ◌↔◌, ℕ, ℤ, pos, negsuc, ◌+◌, ◌-◌, ◌*◌, ◌^◌, ◌<◌, ◌≤◌, [], ◌∷◌};
+ghost use Rattle.std.specs.Prelude.{◌≡◌, ◌≢◌, ◌↔◌, ℕ, ℤ, pos, negsuc, ◌+◌, ◌-◌, ◌*◌, ◌^◌, ◌<◌, ◌<ℤ◌, ◌≤◌, [], ◌∷◌};
 ghost use Rattle.std.specs.Prelude.{slice_index, IfSome, IfNone, IsTrue};
 ghost use Rattle.std.specs.Fmt.{decimal, signed_decimal};
 ghost use Rattle.eve_workload.specs.Words.{BeginsAsNumber};
 ghost use Rattle.eve_accounts.specs.Money.{is_balance, is_saving, is_amount};
 
-use eve_accounts::{Amount, Cents};
+use eve_accounts::{Amount, Cents, MOST_BALANCE};
 
 const MINUS: u8 = b'-';
 
@@ -122,7 +122,7 @@ fn positive(word: &[u8]) -> Option<Cents>
 
 fn below_zero(value: u64) -> Option<Cents>
     ensures some { IfSome result (λ z. (1 ≤ value) × (z ≡ negsuc (value - 1))) }
-    ensures none { IfNone result (1 ≤ value → 1000000000000000 < value) }
+    ensures none { IfNone result (1 ≤ value → MOST_BALANCE <ℤ pos value) }
 {
     if value == 0 || value > i64::MAX as u64 {
         return None;
@@ -132,7 +132,7 @@ fn below_zero(value: u64) -> Option<Cents>
 
 fn not_below_zero(value: u64) -> Option<Cents>
     ensures some { IfSome result (λ z. z ≡ pos value) }
-    ensures none { IfNone result (1000000000000000 < value) }
+    ensures none { IfNone result (MOST_BALANCE <ℤ pos value) }
 {
     if value > i64::MAX as u64 {
         return None;

@@ -1,5 +1,5 @@
 use Rattle.std.proofs.Common.{◌≡◌, All, vec_len}
-use Rattle.eve_replica_crew.specs.Stages.{IsRightLeg}
+use Rattle.eve_replica_crew.specs.Sharing.{IsRightLeg}
 use Rattle.eve_replica.proofs.replica.legs_of.Given as goal
 
 abbrev pub invariant-loop-mixed : goal.invariant-loop-mixed

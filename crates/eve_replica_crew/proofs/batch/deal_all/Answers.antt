@@ -1,6 +1,6 @@
 use Rattle.std.proofs.Common.{subst, arith}
 use Rattle.std.proofs.lemmas.Grind.{common_steps}
-use Rattle.eve_replica_crew.specs.Stages.{AreSeatingsOf}
+use Rattle.eve_replica_crew.specs.Sharing.{AreSeatingsOf}
 use Rattle.eve_replica_crew.proofs.Seatings.{seats_seen, seatings_pop}
 use Rattle.eve_replica_crew.proofs.batch.deal_all.Goals as goal
 

@@ -1,5 +1,5 @@
 use Rattle.std.proofs.Common.{◌≡◌, ◌≤◌, length, vec_len}
-use Rattle.eve_replica_crew.specs.Stages.{AreSeatingsOf}
+use Rattle.eve_replica_crew.specs.Sharing.{AreSeatingsOf}
 use Rattle.eve_replica_crew.proofs.batch.deal_all.Given as goal
 
 abbrev pub invariant-loop-seating : goal.invariant-loop-seating

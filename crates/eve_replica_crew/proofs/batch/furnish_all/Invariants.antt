@@ -1,5 +1,5 @@
-use Rattle.std.proofs.Common.{◌≡◌, ℕ, List, All, vec_len}
-use Rattle.eve_replica_crew.specs.Stages.{AreSeatingsOf, IsRightLeg, IsRightRoom}
+use Rattle.std.proofs.Common.{◌≡◌, ◌≤◌, ℕ, List, All, length, vec_len, vec_capacity}
+use Rattle.eve_replica_crew.specs.Sharing.{AreSeatingsOf, IsRightLeg, IsRightRoom}
 use Rattle.eve_replica_crew.proofs.batch.furnish_all.Given as goal
 
 abbrev pub invariant-loop-leg : goal.invariant-loop-leg
@@ -8,3 +8,4 @@ invariant-loop-leg l =
     → All (IsRightRoom names workers) l.rooms.items)
     × (vec_len l.rooms ≡ l.leg-index) × AreSeatingsOf l.rooms.items l.seatings.items
     × (vec_len l.seatings ≡ l.leg-index)
+    × (length l.legs ≤ vec_capacity l.rooms) × (length l.legs ≤ vec_capacity l.seatings)

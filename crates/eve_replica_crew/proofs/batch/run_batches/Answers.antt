@@ -1,5 +1,5 @@
 use Rattle.std.proofs.Common.{ℕ, All, subst, sym}
-use Rattle.eve_replica_crew.specs.Stages.{IsRightLeg, IsRightRoom}
+use Rattle.eve_replica_crew.specs.Sharing.{IsRightLeg, IsRightRoom}
 use Rattle.eve_replica_crew.proofs.batch.run_batches.Goals as goal
 
 pub deal_all-requires-clause-rooms : goal.deal_all-requires-clause-rooms

@@ -1,6 +1,6 @@
 use Rattle.std.proofs.Common.{◌≡◌, ◌≤◌, vec_len}
-use Rattle.eve_replica_crew.specs.Stages.{AreSeatsAt}
-use Rattle.eve_replica_crew.proofs.crew.deal.Given as goal
+use Rattle.eve_replica_crew.specs.Sharing.{AreSeatsAt}
+use Rattle.eve_replica_crew.proofs.crew.deal_parts.Given as goal
 
 abbrev pub invariant-loop-left : goal.invariant-loop-left
 invariant-loop-left l =
