@@ -9,7 +9,7 @@ ghost use Rattle.eve_attempts.specs.Ledgers.{opening};
 ghost use Rattle.eve_attempts.specs.Closing.{touched_in_batch, AreMismatched};
 ghost use Rattle.eve_attempts.specs.Discarding.{RollsBack};
 ghost use Rattle.eve_recorder.specs.Drawing.{fresh_seats};
-ghost use Rattle.eve_replica.specs.Replicas.{Attempts, AttemptsDue, FailsAttempt, ClosesThese, ClosesSome, ClosesOwn};
+ghost use Rattle.eve_replica.specs.Replicas.{Attempts, AttemptsDue, FailsAttempt, ClosesThese, ClosesOwn};
 ghost use Rattle.eve_replica.specs.Replicas.{IsFirstOpen, CommitsFirst};
 ghost use Rattle.eve_replica.specs.Serving.{IsRightMixed};
 ghost use Rattle.eve_replica_crew.specs.Crews.{AreTickets};
