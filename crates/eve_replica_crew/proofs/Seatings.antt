@@ -1,10 +1,11 @@
 -- The seats of rooms, pushed and popped.
 use Rattle.std.proofs.Common.{◌≡◌, ℕ, ◌<◌, List, [], ◌∷◌, ◌++◌, length, slice_index_or, subst, sym, ap, ◌∙◌, arith}
-use Rattle.eve_recorder.specs.Drawing.{Source}
-use Rattle.eve_recorder.specs.Seen.{Desk}
+use Rattle.std.proofs.Common.{◌≤◌, rules}
+use Rattle.eve_recorder.specs.Drawing.{Source, fresh_seats}
+use Rattle.eve_recorder.specs.Seen.{Desk, RecorderId, fresh_places}
 use Rattle.eve_replica_crew.specs.declared.room.Room.{Room}
 use Rattle.eve_replica_crew.specs.declared.room.Seating.{Seating}
-use Rattle.eve_replica_crew.specs.Sharing.{AreSeatingsOf, AreSeatsAt, IsSeatingOf}
+use Rattle.eve_replica_crew.specs.Sharing.{AreNoters, AreSeatingsOf, AreSeatsAt, AreThere, IsSeatingOf}
 
 -- one more room with its seats
 pub seatings_push : (rooms : List Room) (seatings : List Seating) (r : Room) (s : Seating)
@@ -43,3 +44,12 @@ seats_seen rooms seatings s r k d t all at is desk claims =
     (seatings_last rooms seatings s r all).1 in
     subst (λ (e : Desk). AreSeatsAt e.recorder t r.leg.crew s) (sym desk)
     (subst (λ (u : Source). AreSeatsAt r.recorder.recorder u r.leg.crew s) (sym claims) own)
+
+-- at first all seats of a recorder's workers are there, and nothing is noted on them
+pub fresh_noters : (recorder : RecorderId) (n : ℕ) → recorder.workers ≡ n → n ≤ 8
+    → AreNoters recorder n (fresh_places recorder).seats
+fresh_noters recorder n same few = search rules
+
+-- and all seats at tickets
+pub fresh_there : (t : Source) (n : ℕ) → t.seats ≡ n → n ≤ 8 → AreThere n (fresh_seats t).places
+fresh_there t n same few = search rules

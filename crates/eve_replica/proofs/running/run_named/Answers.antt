@@ -101,3 +101,13 @@ run_windows-requires-clause-rows g c κs within =
     let opened : c.in_ok-balances.balances ≡ opening_rows w.customers = search rules in
     ap length opened ∙ length-opening_rows w.customers
     ∙ ap (λ (n : ℕ). 2 * n) (sym (ap length c.requires ∙ length-map w.customers (λ x. x.name)))
+
+pub run_windows-requires-clause-customers : goal.run_windows-requires-clause-customers
+run_windows-requires-clause-customers g c κs within =
+    let w = c.args.workload.now in
+    ap length c.requires ∙ length-map w.customers (λ x. x.name)
+    ∙ sym (ap (λ (h : Head). h.customers) c.head-head.ensures.head)
+
+pub run_windows-requires-clause-mixed : goal.run_windows-requires-clause-mixed
+run_windows-requires-clause-mixed g c κs within =
+    subst (All (IsRightMixed c.args.names.now.items)) (sym c.as_slice.ensures.value) c.in_ok-batches.ensures.mixed

@@ -1,14 +1,20 @@
-use Rattle.std.proofs.Common.{arith, ap, ◌∙◌, rules}
-use Rattle.std.proofs.lemmas.Grind.{common_steps}
+use Rattle.std.proofs.Common.{ap, subst, sym, ◌∙◌, arith}
+use Rattle.eve_recorder.specs.Drawing.{Drawers}
 use Rattle.eve_recorder.specs.Seen.{Places}
+use Rattle.eve_replica_crew.specs.Sharing.{AreNoters, AreThere}
+use Rattle.eve_replica_crew.proofs.Seatings.{fresh_noters, fresh_there}
 use Rattle.eve_replica_crew.proofs.batch.furnish.Goals as goal
 
-pub returns-clause-room : goal.returns-clause-room
-returns-clause-room c = λ names workers right. record {
-  leg = right;
-  crew = c.in_ok-recorder.ensures.workers;
-  taker = c.in-Some.ensures.own ∙ ap (λ (p : Places). p.recorder) c.in_ok-recorder.ensures.seats;
-  starts = grind (arith, common_steps);
-  empty = grind (arith, common_steps);
-  enough = grind (arith, common_steps);
-}
+pub returns-clause-seating : goal.returns-clause-seating
+returns-clause-seating c =
+    let few = c.requires.2.within in
+    let seats = ap (λ (p : Places). p.seats) c.taker.ensures.rest
+    ∙ ap (λ (p : Places). p.seats) c.in_ok-recorder.ensures.seats in
+    record {
+      noters = subst (AreNoters c.in_ok-recorder.recorder.recorder c.args.leg.now.crew) (sym seats)
+          (fresh_noters c.in_ok-recorder.recorder.recorder c.args.leg.now.crew c.in_ok-recorder.ensures.workers
+          (omega arith));
+      claims = ap (λ (d : Drawers). d.tickets) c.in_ok-claims.ensures.fresh;
+      there = subst (AreThere c.args.leg.now.crew) (sym (ap (λ (d : Drawers). d.places) c.in_ok-claims.ensures.fresh))
+          (fresh_there c.in_ok-claims.claims c.args.leg.now.crew c.in_ok-claims.ensures.seats (omega arith));
+    }

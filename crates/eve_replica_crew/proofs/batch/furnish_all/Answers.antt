@@ -15,8 +15,10 @@ loop-leg-preserved c = (
       (subst (IsRightLeg names workers) (sym c.leg-item.is)
       (right c.loop-leg.leg-index c.leg-item.result (omega arith))))),
   grind (arith, common_steps),
-  subst (λ (rooms : List Room). AreSeatingsOf rooms c.push_reserved-in-loop-leg.new.self.items) (sym c.push_reserved.ensures.items)
-      (subst (AreSeatingsOf (c.loop-leg.rooms.items ++ c.in_ok-room.room ∷ [])) (sym c.push_reserved-in-loop-leg.ensures.items)
+  subst (λ (rooms : List Room). AreSeatingsOf rooms c.push_reserved-in-loop-leg.new.self.items)
+      (sym c.push_reserved.ensures.items)
+      (subst (AreSeatingsOf (c.loop-leg.rooms.items ++ c.in_ok-room.room ∷ []))
+      (sym c.push_reserved-in-loop-leg.ensures.items)
       (seatings_push c.loop-leg.rooms.items c.loop-leg.seatings.items c.in_ok-room.room c.in_ok-room.seating
       (grind (arith, common_steps)) c.loop-leg.invariant.2 c.in_ok-room.ensures.seating)),
   grind (arith, common_steps),

@@ -1,4 +1,4 @@
-use Rattle.std.proofs.Common.{rules, ◌≡◌, true, sym, ◌∙◌, map, length, option_map, refl, ap, subst, arith}
+use Rattle.std.proofs.Common.{rules, ◌≡◌, ℕ, true, sym, ◌∙◌, map, length, option_map, refl, ap, subst, arith}
 use Rattle.std.proofs.lemmas.Option.{slice_get-map, slice_get_read}
 use Rattle.eve_write.specs.Data.{batch}
 use Rattle.eve_workload.specs.declared.mixer.MixedBatch.{MixedBatch}
@@ -33,3 +33,9 @@ loop-place-preserved g c = (
       c.loop-place.invariant.0 c.in_ok-attempt.ensures.on,
   c.in_ok-attempt.ensures.live,
 )
+
+pub returns-clause-on : goal.returns-clause-on
+returns-clause-on g c =
+    let window = map (λ (m : MixedBatch). batch m.batch) c.args.window.now in
+    let all : c.loop-place.place ≡ length c.args.window.now = omega arith in
+    subst (λ (n : ℕ). GoesOn (attempt_move n window) c.args.self.now c.loop-place.self) all c.loop-place.invariant.0
