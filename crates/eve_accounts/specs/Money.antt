@@ -1,4 +1,4 @@
--- Ranges of money, in cents.
+-- Ranges of money, in cents. docs/MODEL.md, "Money".
 use Rattle.std.specs.Prelude.{ℤ, pos, neg_ℤ, Bool, ◌&&◌, Option, Some, None, if◌then◌else◌}
 use Rattle.std.specs.Int.RustNames.{int_le}
 use Rattle.eve_accounts.specs.declared.limits.TheConstants.{MOST_BALANCE, MOST_AMOUNT}

@@ -1,4 +1,4 @@
--- Customers by name, in the order in which they came.
+-- Customers by name, in the order in which they came. docs/MODEL.md, "Names".
 use Rattle.std.specs.Prelude.{ℕ, ◌+◌, ◌-◌, ◌<◌, ◌≤◌, ◌≢◌, Bool, ◌&&◌, IsTrue, nat_le, if◌then◌else◌, List, [], ◌∷◌}
 use Rattle.std.specs.Prelude.{◌++◌, length, replicate, All, AllPairs, Contains, Option, Some, None}
 use Rattle.std.specs.List.{list_all}

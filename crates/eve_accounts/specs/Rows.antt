@@ -1,4 +1,4 @@
--- Two rows for each customer.
+-- Two rows for each customer. docs/MODEL.md, "Rows".
 use Rattle.std.specs.Prelude.{ℕ, ◌+◌, ◌*◌}
 
 -- where the customer's saving balance stands

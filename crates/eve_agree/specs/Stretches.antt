@@ -1,4 +1,4 @@
--- Stretches of a replica's committed batches, each judged by itself.
+-- Stretches of a replica's committed batches, each judged by itself. docs/ARCHITECTURE.md, "Threads of an audit".
 use Rattle.std.specs.Prelude.{◌≡◌, ℕ, ◌≤◌, List, [], ◌∷◌, length, Option, Some, None, All}
 use Rattle.eve_grammar.specs.Trace.{Trace}
 use Rattle.eve_history.specs.SectionHistory.{SectionHistory, section_history}

@@ -1,4 +1,4 @@
--- What is found replica by replica, and of all replicas together.
+-- What is found replica by replica, and of all replicas together. docs/MODEL.md, "Verdict".
 use Rattle.std.specs.Prelude.{◌≡◌, ℕ, ◌<◌, ◌≤◌, ◌-◌, ◌^◌, ◌⊎◌, List, map, take, Option, Some, None}
 use Rattle.eve_grammar.specs.Trace.{Trace}
 use Rattle.eve_grammar.specs.Frames.{sections_of}

@@ -1,4 +1,5 @@
 -- Stretches of a replica's attempts, whose records are judged by themselves.
+-- docs/ARCHITECTURE.md, "Threads of an audit".
 use Rattle.std.specs.Prelude.{◌≡◌, ℕ, ◌≤◌, List, [], ◌∷◌, Option, Result, IfOk, All}
 use Rattle.std.specs.declared.alloc.AllocError.{AllocError}
 use Rattle.eve_grammar.specs.Trace.{Trace}

@@ -1,4 +1,4 @@
--- What is applied under the locks of a floor's stripes, and what is drawn for it.
+-- What is applied under the locks of a floor's stripes, and what is drawn for it. docs/MODEL.md, "Executions".
 use Rattle.std.specs.Prelude.{◌≡◌, ℕ, List, Result, Ok, Err}
 use Rattle.eve_smallbank.specs.SmallBank.{plain}
 use Rattle.eve_smallbank.specs.Touch.{touched_of}

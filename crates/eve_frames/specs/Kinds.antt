@@ -1,4 +1,4 @@
--- The names of the kinds of frames.
+-- The names of the kinds of frames. docs/TRACE.md, "Frames".
 use Rattle.std.specs.Prelude.{ℕ, ◌==◌, if◌then◌else◌, List, codes}
 
 -- the name of the kind that a frame begins with: End also of a byte that no kind has, with which no frame of a trace

@@ -1,4 +1,5 @@
 -- What frames say, by their bytes: by the body after the first five, which are the kind and the length.
+-- docs/TRACE.md, "Frames".
 use Rattle.std.specs.Prelude.{ℕ, pos, Bool, false, IsTrue, ◌≡◌, List, [], drop, is_some, unwrap_or}
 use Rattle.eve_smallbank.specs.declared.request.Reply.TheVariants.{Done}
 use Rattle.eve_grammar.specs.Trace.{Customer, Batch, Attempt, Access, Commit, Rollback, ForRollback, Vote, Sent}

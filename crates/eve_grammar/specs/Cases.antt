@@ -1,4 +1,4 @@
--- Two small traces and their bytes.
+-- Two small traces and their bytes. docs/TRACE.md, "Two small traces".
 use Rattle.std.specs.Prelude.{ℕ, pos, false, List, [], ◌∷◌, codes}
 use Rattle.eve_smallbank.specs.SmallBank.{DepositChecking}
 use Rattle.eve_smallbank.specs.declared.request.Reply.TheVariants.{Done}

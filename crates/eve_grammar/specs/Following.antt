@@ -1,4 +1,4 @@
--- Frames that follow one another as the grammar says, and the trace that they make up.
+-- Frames that follow one another as the grammar says, and the trace that they make up. docs/MODEL.md, "Trace".
 use Rattle.std.specs.Prelude.{IsTrue, List, [], ◌∷◌}
 use Rattle.eve_grammar.specs.Trace.{Head}
 use Rattle.eve_grammar.specs.Frames.{Frame, Place, start_place, next_place}

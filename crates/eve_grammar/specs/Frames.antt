@@ -1,4 +1,4 @@
--- The frames of a trace, in their order.
+-- The frames of a trace, in their order. docs/MODEL.md, "Trace"; docs/TRACE.md, "Order of frames" and "Frames".
 use Rattle.std.specs.Prelude.{ℕ, ◌+◌, ◌-◌, nat_lt, ◌==◌, Bool, true, false, not, ◌&&◌, ◌||◌, if◌then◌else◌, List, []}
 use Rattle.std.specs.Prelude.{◌∷◌, ◌++◌, map, length}
 use Rattle.std.specs.List.{flat_map, enumerate_from}

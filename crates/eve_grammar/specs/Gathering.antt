@@ -1,4 +1,4 @@
--- The trace that frames make up.
+-- The trace that frames make up. docs/MODEL.md, "Trace".
 use Rattle.std.specs.Prelude.{◌≡◌, List, [], ◌∷◌}
 use Rattle.eve_grammar.specs.Trace.{Customer, Batch, Access, Step, Attempts, Commits, RollsBack, Vote, Sent, Trace}
 use Rattle.eve_grammar.specs.Trace.{Head, head_of}

@@ -1,4 +1,5 @@
 -- Which traces there are: the limits of the format and the conditions of its fields.
+-- docs/MODEL.md, "Trace" and "Limits"; docs/TRACE.md, "Header", "Frames", "Parts".
 use Rattle.std.specs.Prelude.{◌≡◌, ℕ, pos, negsuc, ◌+◌, ◌-◌, ◌*◌, ◌^◌, ◌≤◌, ◌<◌, nat_le, nat_lt, ◌==◌, Bool, true, ◌&&◌}
 use Rattle.std.specs.Prelude.{◌||◌, IsTrue, List, [], ◌∷◌, length, sum}
 use Rattle.std.specs.List.{list_all}

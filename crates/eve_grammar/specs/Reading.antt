@@ -1,4 +1,4 @@
--- Reading from left to right. A field is a value and the bytes after it.
+-- Reading from left to right. A field is a value and the bytes after it. docs/TRACE.md, "Header", "Frames", "Parts".
 use Rattle.std.specs.Prelude.{◌≡◌, ℕ, ℤ, pos, zero, suc, ◌+◌, Bool, true, false, ◌&&◌, nat_le, nat_lt, ◌==◌}
 use Rattle.std.specs.Prelude.{if◌then◌else◌, List, [], ◌∷◌, length, take, drop, sum, Option, Some, None}
 use Rattle.std.specs.Int.{w64, cast_signed}

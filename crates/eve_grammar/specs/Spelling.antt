@@ -1,4 +1,5 @@
 -- The bytes of a trace. All numbers are big-endian.
+-- docs/MODEL.md, "Trace"; docs/TRACE.md, "Header", "Order of frames", "Frames", "Parts".
 use Rattle.std.specs.Prelude.{ℕ, ◌+◌, if◌then◌else◌, List, [], ◌∷◌, ◌++◌, length, take, replicate, codes}
 use Rattle.std.specs.Prelude.{slice_index_or}
 use Rattle.std.specs.List.{flat_map}

@@ -1,5 +1,6 @@
 -- A trace, as its parts in the grammar's order. What the grammar counts is the length of a list here,
 -- and what it numbers is the place in a list.
+-- docs/MODEL.md, "Trace".
 use Rattle.std.specs.Prelude.{ℕ, ℤ, Bool, List, [], ◌∷◌, length, slice_index_or}
 use Rattle.std.specs.List.{flat_map}
 use Rattle.eve_smallbank.specs.SmallBank.{Request, Balance}

@@ -1,4 +1,4 @@
--- What is noted of requests and names, one after another.
+-- What is noted of requests and names, one after another. docs/MODEL.md, "Faults".
 use Rattle.std.specs.Prelude.{ℕ, List, ◌++◌, Contains}
 use Rattle.eve_grammar.specs.Trace.{Asked, Trace}
 use Rattle.eve_frames.specs.Views.{batch_in}

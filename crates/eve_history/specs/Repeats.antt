@@ -1,4 +1,4 @@
--- The requests of all batches, and the first batch with one that occurs earlier.
+-- The requests of all batches, and the first batch with one that occurs earlier. docs/MODEL.md, "Faults".
 use Rattle.std.specs.Prelude.{◌≡◌, ℕ, ◌≤◌, ◌-◌, ◌==◌, nat_le, Bool, ◌&&◌, List, map, take, length}
 use Rattle.std.specs.Prelude.{slice_get, Some}
 use Rattle.std.specs.List.{flat_map, count_by}

@@ -1,4 +1,4 @@
--- The attempts of a section, each judged whatever came before it.
+-- The attempts of a section, each judged whatever came before it. docs/ARCHITECTURE.md, "Threads of an audit".
 use Rattle.std.specs.Prelude.{◌≡◌, ℕ, ◌+◌, ◌-◌, IsTrue, ◌*◌, List, [], ◌∷◌, ◌++◌, length, map, take, drop}
 use Rattle.std.specs.Prelude.{Option, Result, Vec, IfOk, IfSome}
 use Rattle.std.specs.List.{AllByRecursion, flat_map}

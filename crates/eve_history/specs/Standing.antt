@@ -1,4 +1,4 @@
--- Frames by the bytes at which they begin.
+-- Frames by the bytes at which they begin. docs/TRACE.md, "Order of frames".
 use Rattle.std.specs.Prelude.{◌≡◌, ℕ, ◌+◌, ◌^◌, ◌<◌, ◌≤◌, IsTrue, List, length, take, drop}
 use Rattle.byteorder.specs.Endian.{big_number}
 use Rattle.eve_grammar.specs.Frames.{OfAttempt, OfAccess, OfRollback}

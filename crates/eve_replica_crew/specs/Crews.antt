@@ -1,4 +1,4 @@
--- The workers that take part in batches.
+-- The workers that take part in batches. docs/MODEL.md, "Executions".
 use Rattle.std.specs.Prelude.{◌≡◌, ℕ, max, min, Bool, if◌then◌else◌, All, List, [], ◌∷◌, Option, Some, None}
 use Rattle.std.specs.Option.{option_or}
 use Rattle.eve_recorder.specs.Drawing.{Source, Drawer}

@@ -1,4 +1,4 @@
--- What the workers share while a batch is run, and the seats of their parts in it.
+-- What the workers share while a batch is run, and the seats of their parts in it. docs/MODEL.md, "Executions".
 use Rattle.std.specs.Prelude.{◌≡◌, ℕ, IsTrue, ◌<◌, ◌≤◌, List, [], ◌∷◌, length, map, Option, Some, None, IsSome, ⊤}
 use Rattle.std.specs.Prelude.{slice_index_or, vec_len, vec_capacity}
 use Rattle.eve_recorder.specs.Drawing.{Drawer, Source}

@@ -1,4 +1,5 @@
 -- What a request reads and writes, row by row, and what fits it.
+-- docs/MODEL.md, "Bank", "Entries", "A record fits its request".
 use Rattle.std.specs.Prelude.{◌≡◌, ℕ, ℤ, pos, ◌+◌, ◌==◌, Bool, true, false, ◌&&◌, if◌then◌else◌, List, [], ◌∷◌, map}
 use Rattle.std.specs.Prelude.{filter, slice_index_or, Option, Some, None}
 use Rattle.std.specs.List.{AllByRecursion}

@@ -1,4 +1,4 @@
--- What an entry must see: the chain of writes of its row.
+-- What an entry must see: the chain of writes of its row. docs/MODEL.md, "Visible version, chained".
 use Rattle.std.specs.Prelude.{◌≡◌, ℕ, ℤ, ◌+◌, if◌then◌else◌, List, [], ◌∷◌, ⊤, ◌≤◌, ◌==◌, filter, length}
 use Rattle.std.specs.List.{AllByRecursion, flat_map}
 use Rattle.eve_smallbank.specs.declared.entry.Entry.{Entry}

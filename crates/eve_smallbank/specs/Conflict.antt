@@ -1,4 +1,5 @@
 -- In which order requests of one attempt that touch the same row took effect.
+-- docs/MODEL.md, "Conflict order, serial order".
 use Rattle.std.specs.Prelude.{◌≡◌, nat_lt, ◌==◌, Bool, not, ◌&&◌, ◌||◌, IsFalse, List, [], ◌∷◌, ◌++◌, ⊤}
 use Rattle.std.specs.List.{AllByRecursion, list_any}
 use Rattle.eve_smallbank.specs.declared.entry.Entry.{Entry}

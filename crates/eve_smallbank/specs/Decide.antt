@@ -1,4 +1,5 @@
 -- What is decided of a request from the values seen in the rows that it touches.
+-- docs/MODEL.md, "Entries" and "A record fits its request".
 use Rattle.std.specs.Prelude.{◌≡◌, ℕ, ℤ, List, [], ◌∷◌, map}
 use Rattle.eve_smallbank.specs.declared.entry.Entry.{Entry}
 use Rattle.eve_smallbank.specs.declared.decision.Effect.{Effect}

@@ -1,4 +1,4 @@
--- What a request does where it meets a table.
+-- What a request does where it meets a table. docs/MODEL.md, "Entries".
 use Rattle.std.specs.Prelude.{ℕ, ℤ, pos, ◌/◌, ◌%◌, ◌==◌, Bool, if◌then◌else◌, List, [], map, Option, Some, None}
 use Rattle.std.specs.Prelude.{slice_index_or}
 use Rattle.std.specs.FinMap.{get}

@@ -1,4 +1,5 @@
 -- What comes of a request that isn't refused, worked out from the values in its rows alone, with no bank.
+-- docs/MODEL.md, "Transactions" and "Entries".
 use Rattle.std.specs.Prelude.{ℤ, ◌+ℤ◌, ◌-ℤ◌, pos, int_lt, if◌then◌else◌, List, [], ◌∷◌, map, slice_set, Option, Some}
 use Rattle.std.specs.Prelude.{None}
 use Rattle.eve_accounts.specs.Money.{is_balance}

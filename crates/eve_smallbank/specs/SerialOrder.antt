@@ -1,4 +1,5 @@
 -- What a chain of executed requests says: SmallBank on one thread gives the same bank and replies.
+-- docs/MODEL.md, "Conflict order, serial order".
 use Rattle.std.specs.Prelude.{◌≡◌, ℕ, List, map}
 use Rattle.std.specs.List.{AllByRecursion}
 use Rattle.eve_smallbank.specs.SmallBank.{Bank, run}

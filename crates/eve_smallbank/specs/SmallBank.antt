@@ -1,4 +1,5 @@
 -- SmallBank on one thread: a bank, its five transactions, and a run of them. No rows, no versions.
+-- docs/MODEL.md, "Bank", "Transactions", "One-thread run".
 use Rattle.std.specs.Prelude.{ℕ, ℤ, pos, ◌+ℤ◌, ◌-ℤ◌, int_lt, if◌then◌else◌, List, [], ◌∷◌, Option, Some, None}
 use Rattle.std.specs.FinMap.{FinMap, get, insert}
 use Rattle.eve_accounts.specs.Money.{is_balance}

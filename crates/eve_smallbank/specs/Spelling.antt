@@ -1,4 +1,4 @@
--- How money and replies are spelled in bytes. All numbers are big-endian.
+-- How money and replies are spelled in bytes. All numbers are big-endian. docs/TRACE.md, "Parts".
 use Rattle.std.specs.Prelude.{ℕ, ℤ, pos, List, ◌∷◌}
 use Rattle.std.specs.Int.{w64, cast_unsigned}
 use Rattle.byteorder.specs.Endian.{big_bytes}

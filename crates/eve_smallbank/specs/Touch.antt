@@ -1,4 +1,4 @@
--- Which rows a request touches, or why it is refused before it reads any.
+-- Which rows a request touches, or why it is refused before it reads any. docs/MODEL.md, "Transactions" and "Entries".
 use Rattle.std.specs.Prelude.{ℕ, pos, int_lt, Bool, false, is_some, if◌then◌else◌, List, [], ◌∷◌}
 use Rattle.std.specs.List.{list_all}
 use Rattle.eve_accounts.specs.Names.{customer_named}

@@ -1,4 +1,5 @@
 -- The token of an attempt, by the version of the trace. All numbers in it are big-endian.
+-- docs/MODEL.md, "Token"; docs/TRACE.md, "Token" and "Merkle token".
 use Rattle.std.specs.Prelude.{ℕ, ℤ, List, ◌++◌, ◌==◌, if◌then◌else◌, codes}
 use Rattle.std.specs.List.{flat_map}
 use Rattle.byteorder.specs.Endian.{big_bytes}

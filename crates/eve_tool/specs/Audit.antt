@@ -1,4 +1,4 @@
--- What `audit` says of bytes.
+-- What `audit` says of bytes. docs/ARCHITECTURE.md, "The program"; docs/MODEL.md, "Verdict".
 use Rattle.std.specs.Prelude.{◌≡◌, ℕ, List}
 use Rattle.eve_audit.specs.Verdict.{IsVerdict, IsYesOfAudited}
 use Rattle.eve_audit.specs.declared.verdict.Verdict.{Verdict}

@@ -1,4 +1,5 @@
 -- What each call says of bytes, and what it leaves where it ends without an answer.
+-- docs/ARCHITECTURE.md, "The program".
 use Rattle.std.specs.Prelude.{◌≡◌, ◌≢◌, ℕ, ◌+◌, ◌≤◌, ◌⊎◌, List, length, drop, Option, Some, IfSome, ⊤}
 use Rattle.eve_streams.specs.Failures.{after_failure}
 use Rattle.eve_streams.specs.Front.{AppendsFront}

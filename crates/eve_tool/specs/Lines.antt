@@ -1,4 +1,4 @@
--- The lines that the program prints.
+-- The lines that the program prints. docs/ARCHITECTURE.md, "The program".
 use Rattle.std.specs.Prelude.{ℕ, List, [], ◌∷◌, ◌++◌, Option, Some, None, codes, decimal}
 use Rattle.eve_audit.specs.declared.verdict.Summary.{Summary}
 use Rattle.eve_audit.specs.declared.verdict.Verdict.{Verdict}

@@ -1,4 +1,4 @@
--- What `run` says of bytes.
+-- What `run` says of bytes. docs/ARCHITECTURE.md, "The program"; docs/MODEL.md, "A run".
 use Rattle.std.specs.Prelude.{◌≡◌, ℕ, ◌<◌, ◌≤◌, List, length, ◌⊎◌, ⊤}
 use Rattle.eve_grammar.specs.Trace.{Trace}
 use Rattle.eve_grammar.specs.Spelling.{length_of}

@@ -1,4 +1,4 @@
--- What `show` says of bytes.
+-- What `show` says of bytes. docs/ARCHITECTURE.md, "The program".
 use Rattle.std.specs.Prelude.{◌≡◌, ℕ, List, ◌++◌, length, codes, ◌⊎◌}
 use Rattle.std.specs.List.{flat_map}
 use Rattle.eve_frames.specs.Kinds.{kind_name}

@@ -1,4 +1,4 @@
--- What the arguments of a command line ask for.
+-- What the arguments of a command line ask for. docs/ARCHITECTURE.md, "The program".
 use Rattle.std.specs.Prelude.{◌≡◌, ◌≢◌, ◌⊎◌, ⊤, ℕ, pos, max, min, true, if◌then◌else◌, List, [], ◌∷◌, Option, Some}
 use Rattle.std.specs.Prelude.{None, codes, find, slice_get, option_and_then, option_map}
 use Rattle.std.specs.Str.{bytes_eq}

@@ -1,4 +1,4 @@
--- What is printed for the codes of faults, and the phases in which they are judged.
+-- What is printed for the codes of faults, and the phases in which they are judged. docs/MODEL.md, "Faults".
 use Rattle.std.specs.Prelude.{ℕ, ◌+◌, ◌/◌, nat_lt, if◌then◌else◌, List, codes}
 use Rattle.eve_views.specs.declared.fault.Code.{Code}
 use Rattle.eve_views.specs.declared.fault.Code.TheVariants as code

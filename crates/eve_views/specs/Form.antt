@@ -1,4 +1,5 @@
 -- The faults of form: what is wrong with bytes that are no trace, and where it stands.
+-- docs/MODEL.md, "Faults"; docs/TRACE.md, "Faults of form".
 use Rattle.std.specs.Prelude.{◌≡◌, ◌≢◌, ℕ, ◌+◌, ◌≤◌, ◌<◌, nat_le, Bool, ◌&&◌, IsTrue, IsFalse, ◌==◌, nat_eq, List}
 use Rattle.std.specs.Prelude.{[], ◌∷◌, ◌++◌, length, take, drop, slice_index, None, codes, ◌⊎◌}
 use Rattle.std.specs.List.{starts_with}

@@ -1,4 +1,4 @@
--- Which frames stand before the parts of a trace.
+-- Which frames stand before the parts of a trace. docs/TRACE.md, "Order of frames".
 use Rattle.std.specs.Prelude.{ℕ, List, ◌++◌, map, take}
 use Rattle.std.specs.List.{flat_map}
 use Rattle.eve_grammar.specs.Trace.{Trace}

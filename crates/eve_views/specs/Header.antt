@@ -1,4 +1,4 @@
--- What is found in a header.
+-- What is found in a header. docs/TRACE.md, "Header" and "Faults of form".
 use Rattle.std.specs.Prelude.{◌≡◌, IsTrue, IsFalse, ℕ, List, Some, None}
 use Rattle.eve_grammar.specs.Trace.{Head}
 use Rattle.eve_grammar.specs.Reading.{header_of}

@@ -1,4 +1,5 @@
 -- The parts of a trace that was read, as the frames between two places.
+-- In which section a byte lies: docs/MODEL.md, "Faults".
 use Rattle.std.specs.Prelude.{◌≡◌, ℕ, nat_le, nat_lt, Bool, ◌&&◌, ◌+◌, ◌-◌, ◌≤◌, IsTrue, List, map, length, take, drop}
 use Rattle.std.specs.List.{flat_map, list_all}
 use Rattle.eve_grammar.specs.Trace.{Trace, Access, Step, Vote}

@@ -1,4 +1,5 @@
 -- The bodies of batches, attempts and access records, judged apart from the frames among which they stand.
+-- docs/ARCHITECTURE.md, "Threads of an audit".
 use Rattle.std.specs.Prelude.{◌≡◌, ℕ, ◌≤◌, ◌<◌, Bool, true, ◌==◌, if◌then◌else◌, List, length, take, drop, slice_index}
 use Rattle.std.specs.Prelude.{Ok, is_some, All, IsTrue}
 use Rattle.byteorder.specs.Endian.{big_number}

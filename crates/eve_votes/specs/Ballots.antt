@@ -1,4 +1,4 @@
--- The votes of a trace, by batch, view and verifier.
+-- The votes of a trace, by batch, view and verifier. docs/MODEL.md, "Decided, rolled back".
 use Rattle.std.specs.Prelude.{◌≡◌, ◌≢◌, ℕ, ◌<◌, ◌≤◌, ◌-◌, ◌+◌, ◌==◌, nat_lt, Bool, false, ◌&&◌, ◌||◌, List, [], ◌∷◌}
 use Rattle.std.specs.Prelude.{◌++◌, filter, Option, Some, None, slice_get, slice_index_or, length, IsTrue}
 use Rattle.eve_grammar.specs.Trace.{Choice, Vote, Trace}

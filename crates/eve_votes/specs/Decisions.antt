@@ -1,4 +1,4 @@
--- What was found to be decided as commit.
+-- What was found to be decided as commit. docs/MODEL.md, "Decided, rolled back".
 use Rattle.std.specs.Prelude.{◌≡◌, ◌≢◌, ℕ, ◌+◌, List, length, Option, Some, None, IfSome, slice_index_or, ◌⊎◌}
 use Rattle.std.specs.Option.{option_map}
 use Rattle.eve_grammar.specs.Trace.{Trace}

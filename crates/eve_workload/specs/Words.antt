@@ -1,4 +1,4 @@
--- Words in the bytes of a text.
+-- Words in the bytes of a text. docs/TRACE.md, "Workload".
 use Rattle.std.specs.Prelude.{◌≡◌, ℕ, ◌<◌, ◌≤◌, ◌==◌, Bool, not, ◌&&◌, IsTrue, List, map, length, take, slice_index}
 use Rattle.std.specs.List.{list_all}
 use Rattle.std.specs.Borrow.{Bor}

@@ -1,4 +1,4 @@
--- Which parts have a spelling.
+-- Which parts have a spelling. docs/MODEL.md, "Limits".
 use Rattle.std.specs.Prelude.{Bool, IsTrue}
 use Rattle.std.specs.List.{list_all}
 use Rattle.eve_grammar.specs.Limits.{HasLimits}
