@@ -1,4 +1,4 @@
--- Where replicas differ in what a batch came to. docs/MODEL.md, "Faults".
+-- Where replicas differ in what a batch came to. docs/MODEL.md, "Agreement".
 use Rattle.std.specs.Prelude.{◌≡◌, ℕ, ◌+◌, ◌≤◌, nat_le, map, length, Option, Some, IfSome, find}
 use Rattle.std.specs.Option.{option_map}
 use Rattle.eve_grammar.specs.Trace.{Trace}

@@ -1,4 +1,4 @@
--- The token that a committed attempt must have, and the faults of tokens. docs/MODEL.md, "Faults".
+-- The token that a committed attempt must have, and the faults of tokens. docs/MODEL.md, "Due tokens".
 use Rattle.std.specs.Prelude.{◌≡◌, ◌≢◌, ◌<◌, ◌≤◌, ℕ, List, Option, Some, None}
 use Rattle.std.specs.List.{AllByRecursion}
 use Rattle.eve_grammar.specs.Trace.{Trace}

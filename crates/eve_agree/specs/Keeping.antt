@@ -1,4 +1,4 @@
--- The requests of one batch, as they are kept, and what a reply is to one of them.
+-- The requests of one batch, as they are kept, and what a reply is to one of them. docs/MODEL.md, "Sent replies".
 use Rattle.std.specs.Prelude.{◌≡◌, ℕ, ◌≤◌, List, map, take, Some, slice_get}
 use Rattle.eve_smallbank.specs.declared.request.Reply.{Reply}
 use Rattle.eve_grammar.specs.declared.limits.TheConstants.{MOST_REQUESTS}

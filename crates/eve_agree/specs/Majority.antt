@@ -1,4 +1,4 @@
--- Commits and rollbacks without a majority. docs/MODEL.md, "Faults".
+-- Commits and rollbacks without a majority. docs/MODEL.md, "Majority".
 use Rattle.std.specs.Prelude.{◌≡◌, ℕ, ◌+◌, ◌-◌, Some, ⊤}
 use Rattle.std.specs.List.{AllByRecursion}
 use Rattle.eve_grammar.specs.Trace.{Step, Attempts, Commits, RollsBack, Trace}

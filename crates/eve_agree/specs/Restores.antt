@@ -1,4 +1,4 @@
--- The faults of restores, and where they stand. docs/MODEL.md, "Faults".
+-- The faults of restores, and where they stand. docs/MODEL.md, "Working table, committed table" and "Faults".
 use Rattle.std.specs.Prelude.{◌≡◌, ℕ, IsFalse, Some}
 use Rattle.eve_grammar.specs.Trace.{Trace}
 use Rattle.eve_grammar.specs.Spelling.{steps_at}

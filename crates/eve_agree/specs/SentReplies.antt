@@ -1,4 +1,4 @@
--- Replies sent that no committed attempt gave. docs/MODEL.md, "Faults".
+-- Replies sent that no committed attempt gave. docs/MODEL.md, "Sent replies".
 use Rattle.std.specs.Prelude.{◌≡◌, ℕ, None, Some, slice_get}
 use Rattle.std.specs.List.{AllByRecursion}
 use Rattle.eve_grammar.specs.Trace.{Asked, Sent, Trace}

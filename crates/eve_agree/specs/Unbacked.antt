@@ -1,4 +1,4 @@
--- The commits and rollbacks that no majority voted for, section by section.
+-- The commits and rollbacks that no majority voted for, section by section. docs/MODEL.md, "Majority".
 use Rattle.std.specs.Prelude.{◌≡◌, ℕ, ◌+◌, ◌^◌, ◌<◌, ◌≤◌, ⊤, Some}
 use Rattle.eve_grammar.specs.Trace.{Step, Attempts, Commits, RollsBack, Trace}
 use Rattle.eve_grammar.specs.Spelling.{steps_at}
