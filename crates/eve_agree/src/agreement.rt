@@ -24,8 +24,8 @@ use std::alloc::{AllocError, Global};
 /// Judges the outcomes of all committed batches: each replica has the balances after a batch, and the replies to it, of
 /// the lowest-numbered replica that committed it; else the first attempt where it differs.
 ///
-/// docs/MODEL.md, "Faults". Balances and replies are compared themselves. It keeps the balances of each replica once,
-/// and goes with all of them from batch to batch; of one replica alone nothing is asked. Refused memory decides
+/// docs/MODEL.md, "Agreement". Balances and replies are compared themselves. It keeps the balances of each replica
+/// once, and goes with all of them from batch to batch; of one replica alone nothing is asked. Refused memory decides
 /// nothing.
 pub fn equal_balances(
     alloc: Global,

@@ -225,10 +225,10 @@ fn first_in<R: Threads + Sync>(
 /// Judges the tokens of a replica's committed attempts: each is that of the balances after its batch and of its
 /// replies; else the first that is not.
 ///
-/// docs/MODEL.md, "Faults"; docs/TRACE.md, "Token". It hashes each batch's balances once. The batches are cut into up
-/// to so many stretches as there are jobs, from 1 on, and judged in as many threads; of one job none is started. Each
-/// thread has balances of its own, which were noted where its stretch begins while the chains were judged (`check`,
-/// with as many jobs). What is found doesn't rest on which ends first. Refused memory decides nothing.
+/// docs/MODEL.md, "Due tokens"; docs/TRACE.md, "Token". It hashes each batch's balances once. The batches are cut into
+/// up to so many stretches as there are jobs, from 1 on, and judged in as many threads; of one job none is started.
+/// Each thread has balances of its own, which were noted where its stretch begins while the chains were judged
+/// (`check`, with as many jobs). What is found doesn't rest on which ends first. Refused memory decides nothing.
 pub fn tokens<R: Threads + Sync>(
     rt: &R,
     alloc: Global,

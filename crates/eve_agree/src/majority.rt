@@ -89,7 +89,7 @@ fn first_in(trace: &Trace<'_>, tally: &Tally<'_, '_>, e: u8) -> Option<Fault>
 /// Judges the commits and rollbacks of all replicas: a majority of the verifiers voted for each; else the first
 /// without.
 ///
-/// docs/MODEL.md, "Decided, rolled back" and "Faults". The votes are those of the trace. It takes no memory, and never
+/// docs/MODEL.md, "Majority". The votes are those of the trace. It takes no memory, and never
 /// answers Memory. For a commit it looks up the decision that is kept of its number; for a rollback it counts votes.
 pub fn majorities(
     trace: &Trace<'_>,

@@ -119,9 +119,9 @@ pub(crate) fn judge(
 /// Judges a replica's rollbacks: each restores exactly the rows that the attempts which it discards wrote, with version
 /// and value as they are committed; else the first that does not.
 ///
-/// docs/MODEL.md, "Faults". The replica's attempts were judged before: `sound` is what `check` ensures, under the same
-/// name, where it gives `settled`. The time is linear in what discarded attempts wrote; the memory is a mark for each
-/// row, and none where there is no rollback. Refused memory decides nothing.
+/// docs/MODEL.md, "Working table, committed table". The replica's attempts were judged before: `sound` is what `check`
+/// ensures, under the same name, where it gives `settled`. The time is linear in what discarded attempts wrote; the
+/// memory is a mark for each row, and none where there is no rollback. Refused memory decides nothing.
 pub fn rollbacks(
     alloc: Global,
     trace: &Trace<'_>,

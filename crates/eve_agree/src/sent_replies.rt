@@ -19,7 +19,7 @@ use eve_views::{CheckFault, Code, Fault, Trace};
 /// Judges the replies that were sent: the replica committed the batch, which has a request of that client under that
 /// number, and its reply is the one that was sent; else the first that is not so.
 ///
-/// docs/MODEL.md, "Faults". It takes no memory, and never answers Memory. Where replies are sent batch by batch,
+/// docs/MODEL.md, "Sent replies". It takes no memory, and never answers Memory. Where replies are sent batch by batch,
 /// each batch is read once.
 pub fn replies(trace: &Trace<'_>, histories: &[History<'_>]) -> Result<(), CheckFault>
     requires histories { histories.now ≡ section_histories trace.now }
