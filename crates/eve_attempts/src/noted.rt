@@ -23,7 +23,7 @@ fn is_access(taken: &AccessRecord, rows: usize) -> bool
     let _index = taken.index();
     let entries = taken.entries();
     let _count = entries.len();
-    are_entries(&entries, rows)
+    are_entries(entries, rows)
 }
 
 fn are_accesses(records: &[AccessRecord], rows: usize) -> bool
@@ -50,7 +50,7 @@ fn is_fitting(batch: &BatchData, touched: &[Touched], taken: &AccessRecord) -> b
         &asked.request(),
         &touched[index],
         taken.reply(),
-        &taken.entries(),
+        taken.entries(),
     )
 }
 

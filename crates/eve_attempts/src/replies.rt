@@ -40,7 +40,7 @@ pub fn accesses_of(alloc: Global, records: &[AccessRecord]) -> Result<Vec<Access
             worker: record.worker(),
             place: record.place(),
             index: record.index(),
-            entries: record.entries(),
+            entries: *record.entries(),
         });
     }
     Ok(accesses)

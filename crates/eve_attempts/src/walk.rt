@@ -77,11 +77,11 @@ pub fn write_along(
 {
     for key in order {
         let entries = records[key.2 as usize].entries();
-        if !rows.are_seen(&entries) {
+        if !rows.are_seen(entries) {
             rows.undo(written.as_slice());
             return false;
         }
-        write_all(rows, &entries, written);
+        write_all(rows, entries, written);
     }
     true
 }

@@ -94,10 +94,10 @@ impl AccessRecord {
     }
 
     /// The entries, three at most.
-    pub fn entries(&self) -> UpToThree<Entry>
-        ensures { result ≡ self.now.entries }
+    pub fn entries(&self) -> &UpToThree<Entry>
+        ensures { result.now ≡ self.now.entries }
     {
-        self.entries
+        &self.entries
     }
 }
 

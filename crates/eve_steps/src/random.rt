@@ -62,7 +62,7 @@ fn shown(record: &AccessRecord) -> Made {
         index: record.index(),
         tick: record.tick(),
         reply: record.reply(),
-        entries: record.entries(),
+        entries: *record.entries(),
     }
 }
 

@@ -102,7 +102,7 @@ fn is_made(made: Result<AccessRecord, StampFault>, tick: u64, entries: UpToThree
         return false;
     };
     let is_its = made.worker() == 1 && made.place() == 2 && made.index() == 3;
-    is_its && made.tick() == tick && made.reply() == Reply::Done && made.entries() == entries
+    is_its && made.tick() == tick && made.reply() == Reply::Done && *made.entries() == entries
 }
 
 /// Whether the row has that version and so many cents.

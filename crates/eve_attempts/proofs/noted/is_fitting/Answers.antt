@@ -38,15 +38,15 @@ returns c = λ names is.
     let x : Executed = record {
       request = plain_request c.request.result;
       reply = c.reply.result;
-      entries = c.entries.result;
+      entries = c.entries.result.now;
     } in
     let same : x ≡ executed b c.args.taken.now =
-    ap (λ (q : Request). record { request = q; reply = c.reply.result; entries = c.entries.result })
+    ap (λ (q : Request). record { request = q; reply = c.reply.result; entries = c.entries.result.now })
     (found ∙ ap (request_with b) c.index-index.ensures)
     ∙ ap (λ (p : Reply). record {
       request = request_with b c.args.taken.now.index;
       reply = p;
-      entries = c.entries.result;
+      entries = c.entries.result.now;
     }) c.reply.ensures
     ∙ ap (λ (es : List Entry). record {
       request = request_with b c.args.taken.now.index;

@@ -18,14 +18,14 @@ loop-record-preserved c =
       worker = c.worker.result;
       place = c.place.result;
       index = c.index.result;
-      entries = c.entries.result;
+      entries = c.entries.result.now;
     } in
     let is : access x ≡ access_noted r =
-    ap (λ (n : ℕ). record { worker = n; place = c.place.result; index = c.index.result; entries = c.entries.result })
+    ap (λ (n : ℕ). record { worker = n; place = c.place.result; index = c.index.result; entries = c.entries.result.now })
     c.worker.ensures
-    ∙ ap (λ (n : ℕ). record { worker = r.worker; place = n; index = c.index.result; entries = c.entries.result })
+    ∙ ap (λ (n : ℕ). record { worker = r.worker; place = n; index = c.index.result; entries = c.entries.result.now })
     c.place.ensures
-    ∙ ap (λ (n : ℕ). record { worker = r.worker; place = r.place; index = n; entries = c.entries.result })
+    ∙ ap (λ (n : ℕ). record { worker = r.worker; place = r.place; index = n; entries = c.entries.result.now })
     c.index.ensures
     ∙ ap (λ (es : List Entry). record { worker = r.worker; place = r.place; index = r.index; entries = es })
     c.entries.ensures in

@@ -18,8 +18,8 @@ pub are_seen-requires : goal.are_seen-requires
 are_seen-requires c =
     let limits = limits_in c.args.records.now c.args.order.now c.loop-key.key-index c.index-records-key.result
     c.requires.there c.loop-key-test.true c.index-records-key.is (length c.args.rows.now.balances)
-    c.entries-entries.result c.requires.limits c.entries-entries.ensures in
-    subst (λ n. IsTrue (list_all (is_entry n) c.entries-entries.result)) (sym c.loop-key.invariant.as_many) limits.1
+    c.entries-entries.result.now c.requires.limits c.entries-entries.ensures in
+    subst (λ n. IsTrue (list_all (is_entry n) c.entries-entries.result.now)) (sym c.loop-key.invariant.as_many) limits.1
 
 pub undo-requires : goal.undo-requires
 undo-requires c =
@@ -31,15 +31,15 @@ pub write_all-requires-clause-entries : goal.write_all-requires-clause-entries
 write_all-requires-clause-entries c =
     let limits = limits_in c.args.records.now c.args.order.now c.loop-key.key-index c.index-records-key.result
     c.requires.there c.loop-key-test.true c.index-records-key.is (length c.args.rows.now.balances)
-    c.entries-entries.result c.requires.limits c.entries-entries.ensures in
-    subst (λ n. IsTrue (list_all (is_entry n) c.entries-entries.result)) (sym c.loop-key.invariant.as_many) limits.1
+    c.entries-entries.result.now c.requires.limits c.entries-entries.ensures in
+    subst (λ n. IsTrue (list_all (is_entry n) c.entries-entries.result.now)) (sym c.loop-key.invariant.as_many) limits.1
 
 pub write_all-requires-clause-room : goal.write_all-requires-clause-room
 write_all-requires-clause-room c =
     let limits = limits_in c.args.records.now c.args.order.now c.loop-key.key-index c.index-records-key.result
     c.requires.there c.loop-key-test.true c.index-records-key.is (length c.args.rows.now.balances)
-    c.entries-entries.result c.requires.limits c.entries-entries.ensures in
-    let few : length c.entries-entries.result ≤ 3 = limits.0 in
+    c.entries-entries.result.now c.requires.limits c.entries-entries.ensures in
+    let few : length c.entries-entries.result.now ≤ 3 = limits.0 in
     omega (arith, c.loop-key.invariant.len, c.loop-key.invariant.room, c.requires.room, c.loop-key-test.true)
 
 pub loop-key-init : goal.loop-key-init
@@ -76,8 +76,8 @@ loop-key-preserved c =
     let all = records_in c.args.records.now c.args.order.now in
     let limits = limits_in c.args.records.now c.args.order.now c.loop-key.key-index c.index-records-key.result
     c.requires.there c.loop-key-test.true c.index-records-key.is (length c.args.rows.now.balances)
-    c.entries-entries.result c.requires.limits c.entries-entries.ensures in
-    let few : length c.entries-entries.result ≤ 3 = limits.0 in
+    c.entries-entries.result.now c.requires.limits c.entries-entries.ensures in
+    let few : length c.entries-entries.result.now ≤ 3 = limits.0 in
     let seen : AllByRecursion (Sees (table_of_rows c.loop-key.rows)) c.index-records-key.result.entries =
     subst (AllByRecursion (Sees (table_of_rows c.loop-key.rows))) c.entries-entries.ensures
     (c.are_seen.ensures.0 c.if-not-are_seen.false) in
@@ -96,7 +96,7 @@ loop-key-preserved c =
       as_many = c.write_all.ensures.as_many ∙ c.loop-key.invariant.as_many;
       versions = c.write_all.ensures.versions ∙ c.loop-key.invariant.versions;
       right = written_more (length c.args.rows.now.balances) c.loop-key.written.items c.write_all.new.written.items
-          c.entries-entries.result c.loop-key.invariant.right limits.1 c.write_all.ensures.written;
+          c.entries-entries.result.now c.loop-key.invariant.right limits.1 c.write_all.ensures.written;
       len = omega (arith, c.write_all.ensures.len, c.loop-key.invariant.len);
       room = c.write_all.ensures.capacity ∙ c.loop-key.invariant.room;
     }
