@@ -7,7 +7,7 @@ use Rattle.eve_history.specs.Faults.{StandsInOrders, IsOrderFault}
 use Rattle.eve_chains.specs.Committed.{batch_request_ids, AreDistinct}
 use Rattle.eve_audit.specs.Accepted.{IsAccepted}
 use Rattle.eve_views.specs.Form.{HasNone}
-use Rattle.eve_audit.specs.Pieces.{IsSoundReplica, IsSoundTogether}
+use Rattle.eve_audit.specs.Reports.{IsSoundReplica, IsSoundTogether}
 
 pub no_request_again : (t : Trace) → HasNone (IsOrderFault t) → (at : ℕ) → ¬ StandsInOrders code.SameRequest t at
 no_request_again t none at stands = none (record { code = code.SameRequest; offset = at; replica = None })

@@ -12,7 +12,7 @@ use Rattle.eve_audit.specs.Audited.{IsAudited}
 use Rattle.eve_audit.specs.declared.verdict.Summary.{Summary}
 use Rattle.eve_audit.specs.declared.verdict.Verdict.TheVariants.{Yes, No}
 use Rattle.eve_audit.specs.Verdict.{IsSummary, IsTraceFault}
-use Rattle.eve_audit.specs.Pieces.{IsFirstOf}
+use Rattle.eve_audit.specs.Reports.{IsFirstOf}
 use Rattle.eve_audit.specs.Answer.{IsAnswer, IsRead}
 use Rattle.eve_audit.proofs.Sections.{FatesAreAsItEnds}
 use Rattle.eve_audit.proofs.Verdicts.{faultless, found_in_form, trace_first}

@@ -13,7 +13,7 @@ use Rattle.eve_audit.specs.declared.verdict.Summary.{Summary}
 use Rattle.eve_audit.specs.declared.verdict.Verdict.{Verdict}
 use Rattle.eve_audit.specs.declared.verdict.Verdict.TheVariants.{Yes, No}
 use Rattle.eve_audit.specs.Verdict.{IsSummary, IsVerdict}
-use Rattle.eve_audit.specs.Pieces.{last_of}
+use Rattle.eve_audit.specs.Reports.{last_of}
 use Rattle.eve_audit.specs.Answer.{IsRead}
 use Rattle.eve_audit.proofs.Sections.{FatesAreAsItEnds}
 use Rattle.eve_audit.proofs.Deciding.{Decided}

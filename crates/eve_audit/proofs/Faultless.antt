@@ -23,7 +23,7 @@ use Rattle.eve_audit.specs.Verdict.{Stands, IsVerdict, SpellsAudited, IsOwnFault
 use Rattle.eve_audit.specs.Verdict.{of_restores, of_tokens, IsTraceFault, of_votes, of_majorities, of_agreement}
 use Rattle.eve_audit.specs.Verdict.{of_replies, in_orders, in_section, in_common}
 use Rattle.eve_views.specs.Form.{HasNone}
-use Rattle.eve_audit.specs.Pieces.{IsSoundReplica, IsSoundTogether}
+use Rattle.eve_audit.specs.Reports.{IsSoundReplica, IsSoundTogether}
 use Rattle.eve_audit.proofs.Accepted.{no_request_again, accepted_of}
 use Rattle.eve_audit.proofs.Kept.{sound_beyond}
 use Rattle.eve_audit.proofs.Verdicts.{stands_in_bytes}

@@ -25,7 +25,7 @@ use Rattle.eve_audit.specs.Verdict.{IsOwnFault, of_structure, of_records, of_cha
 use Rattle.eve_audit.specs.Verdict.{IsTraceFault, of_votes, of_majorities, of_agreement, of_replies, in_orders}
 use Rattle.eve_audit.specs.Verdict.{in_section, in_common}
 use Rattle.eve_views.specs.Form.{HasNone, Precedes}
-use Rattle.eve_audit.specs.Pieces.{IsFirstOf}
+use Rattle.eve_audit.specs.Reports.{IsFirstOf}
 use Rattle.eve_audit.proofs.Sections.{LiesIn, FatesAreAsItEnds}
 use Rattle.eve_audit.proofs.Unique.{code_with, with_its_number}
 use Rattle.eve_audit.proofs.Placed.{majority_lies, outcome_lies}

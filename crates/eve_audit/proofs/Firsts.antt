@@ -14,7 +14,7 @@ use Rattle.eve_agree.specs.SentReplies.{IsReplyFault}
 use Rattle.eve_audit.specs.Verdict.{IsOwnFault, of_structure, of_records, of_chains, of_restores, of_tokens}
 use Rattle.eve_audit.specs.Verdict.{IsFaultBelow, IsCommonFault, IsTraceFault, of_votes, of_majorities, of_agreement}
 use Rattle.eve_audit.specs.Verdict.{of_replies, in_orders, in_section, in_common}
-use Rattle.eve_audit.specs.Pieces.{IsFirstOf}
+use Rattle.eve_audit.specs.Reports.{IsFirstOf}
 use Rattle.eve_audit.proofs.Phases.{order_phase, structure_phase, record_phase, chain_phase, restore_phase, token_phase}
 use Rattle.eve_audit.proofs.Phases.{vote_phase, majority_phase, outcome_phase, reply_phase}
 

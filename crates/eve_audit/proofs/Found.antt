@@ -7,9 +7,9 @@ use Rattle.std.proofs.lemmas.List.{get_or_append_left, get_or_push}
 use Rattle.std.proofs.lemmas.List.Elements.{All-append, All-cons, All-head, All-nil, All-tail}
 use Rattle.eve_grammar.specs.Trace.{Trace}
 use Rattle.eve_views.specs.declared.fault.Fault.{Fault}
-use Rattle.eve_audit.specs.declared.replica.Piece.{Piece}
-use Rattle.eve_audit.specs.declared.slots.Finding.{Finding}
-use Rattle.eve_audit.specs.declared.slots.Slot.{Slot}
+use Rattle.eve_audit.specs.declared.replicas.Report.{Report}
+use Rattle.eve_audit.specs.declared.workers.Finding.{Finding}
+use Rattle.eve_audit.specs.declared.workers.Slot.{Slot}
 use Rattle.eve_audit.specs.Findings.{AreDealt, AreTrue, IsAnswerOf, finding}
 
 pub one_longer : {A : Type 0} (xs more : List A) (x : A) → more ≡ xs ++ x ∷ [] → length more ≡ length xs + 1
@@ -40,7 +40,7 @@ module _ {A : Type 0} (P : A → Type 0) where
       (All-append P xs (x ∷ []) all (All-cons P x [] is (All-nil P)))
 
 -- what was taken first is true, and so is what is left
-pub taken_is_true : (t : Trace) (e : ℕ) (old new : Slot) (r : Option (Result Piece Fault))
+pub taken_is_true : (t : Trace) (e : ℕ) (old new : Slot) (r : Option (Result Report Fault))
     → IfSome r (λ answer. old.findings.items ≡ finding e answer ∷ new.findings.items) → (IsNone r → new ≡ old)
     → AreTrue t old → IfSome r (IsAnswerOf t e) × AreTrue t new
 taken_is_true t e old new (Some answer) next none all =

@@ -15,9 +15,9 @@ use Rattle.eve_agree.specs.DueTokens.{due_token}
 use Rattle.eve_views.specs.declared.fault.Fault.{Fault}
 use Rattle.eve_audit.specs.Verdict.{IsOwnFault, IsFaultBelow}
 use Rattle.eve_views.specs.Form.{HasNone}
-use Rattle.eve_audit.specs.Pieces.{IsFirstOf, IsSoundReplica, AreKept, IsJudgedBelow, IsFoundBelow}
+use Rattle.eve_audit.specs.Reports.{IsFirstOf, IsSoundReplica, AreKept, IsJudgedBelow, IsFoundBelow}
 use Rattle.eve_agree.proofs.Backing.{below_more}
-use Rattle.eve_audit.proofs.Piecewise.{none_more, least_more, first_more, both_more}
+use Rattle.eve_audit.proofs.FirstOwnFaults.{none_more, least_more, first_more, both_more}
 use Rattle.eve_views.specs.First.{first_of}
 use Rattle.eve_views.proofs.Firsts.{first_of_two}
 use Rattle.eve_history.proofs.Rights.{none_at}

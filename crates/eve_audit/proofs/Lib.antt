@@ -2,7 +2,7 @@ pub mod Sections
 pub mod Phases
 pub mod Firsts
 pub mod Verdicts
-pub mod Piecewise
+pub mod FirstOwnFaults
 pub mod Kept
 pub mod Told
 pub mod Found

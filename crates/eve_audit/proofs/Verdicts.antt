@@ -11,7 +11,7 @@ use Rattle.eve_views.specs.declared.fault.CheckFault.TheVariants.{Found, Memory}
 use Rattle.eve_views.specs.declared.fault.Fault.{Fault}
 use Rattle.eve_audit.specs.declared.verdict.Summary.{Summary}
 use Rattle.eve_audit.specs.Verdict.{Stands, in_form, in_trace, IsTraceFault, IsFirst, IsSummary}
-use Rattle.eve_audit.specs.Pieces.{IsFirstOf, IsLeastBelow}
+use Rattle.eve_audit.specs.Reports.{IsFirstOf, IsLeastBelow}
 use Rattle.eve_audit.proofs.Phases.{form_phase}
 
 -- what precedes all that stands is judged, and the first

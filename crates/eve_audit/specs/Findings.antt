@@ -2,27 +2,17 @@
 use Rattle.std.specs.Prelude.{◌≡◌, ◌<◌, ℕ, List, length, slice_index_or, Result, MatchResult, All}
 use Rattle.eve_grammar.specs.Trace.{Trace}
 use Rattle.eve_views.specs.declared.fault.Fault.{Fault}
-use Rattle.eve_history.specs.SectionHistory.{section_history}
-use Rattle.eve_chains.specs.Settling.{settling}
-use Rattle.eve_audit.specs.declared.replica.Piece.{Piece}
-use Rattle.eve_audit.specs.declared.slots.Finding.{Finding}
-use Rattle.eve_audit.specs.declared.slots.Slot.{Slot}
+use Rattle.eve_audit.specs.declared.replicas.Report.{Report}
+use Rattle.eve_audit.specs.declared.workers.Finding.{Finding}
+use Rattle.eve_audit.specs.declared.workers.Slot.{Slot}
 use Rattle.eve_audit.specs.Verdict.{IsOwnFault}
-use Rattle.eve_views.specs.Form.{HasNone}
-use Rattle.eve_audit.specs.Pieces.{IsFirstOf, IsSoundReplica}
+use Rattle.eve_audit.specs.Reports.{IsFirstOf, IsReportOf}
 
--- a replica without a fault of its own, what it tells and what it committed
-pub record IsPieceOf (t : Trace) (e : ℕ) (piece : Piece) : Type 0 where
-  pub history : piece.history ≡ section_history t e
-  pub settled : piece.settled ≡ settling t e
-  pub sound : IsSoundReplica t e
-  pub none : HasNone (IsOwnFault t e)
+-- what judging a replica by itself comes to: its report, or the first of its own faults
+abbrev pub IsAnswerOf : Trace → ℕ → Result Report Fault → Type 0
+IsAnswerOf t e answer = MatchResult answer (IsReportOf t e) (IsFirstOf (IsOwnFault t e))
 
--- what judging a replica by itself comes to: its piece, or the first of its own faults
-abbrev pub IsAnswerOf : Trace → ℕ → Result Piece Fault → Type 0
-IsAnswerOf t e answer = MatchResult answer (IsPieceOf t e) (IsFirstOf (IsOwnFault t e))
-
-abbrev pub finding : ℕ → Result Piece Fault → Finding
+abbrev pub finding : ℕ → Result Report Fault → Finding
 finding e answer = record { replica = e; answer = answer }
 
 -- each finding is of the replica that it names

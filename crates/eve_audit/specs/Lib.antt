@@ -1,5 +1,5 @@
 pub mod Verdict
-pub mod Pieces
+pub mod Reports
 pub mod Findings
 pub mod Answer
 pub mod Where

@@ -3,29 +3,31 @@
 ghost use Rattle.std.specs.Prelude.{◌≡◌, ◌≤◌, ℕ, List, IfOk, IfErr, All, length};
 ghost use Rattle.eve_views.specs.Form.{IfFound, HasNone};
 ghost use Rattle.eve_history.specs.Faults.{IsOrderFault};
-ghost use Rattle.eve_history.specs.SectionHistory.{names_of};
+ghost use Rattle.eve_history.specs.SectionHistory.{names_of, section_histories};
+ghost use Rattle.eve_chains.specs.Settling.{settlings};
 ghost use Rattle.eve_audit.specs.Accepted.{IsAccepted};
 ghost use Rattle.eve_audit.specs.Answer.{IsAnswer, IsRead};
 ghost use Rattle.eve_audit.specs.Findings.{AreTrue};
-ghost use Rattle.eve_audit.specs.Verdict.{IsSummary, IsVerdict, IsYesOfAudited, IfNo, IsTraceFault};
+ghost use Rattle.eve_audit.specs.Verdict.{IsSummary, IsVerdict, IsYesOfAudited, IfNo, IsTraceFault, IsCommonFault};
 ghost use Rattle.eve_audit.specs.Where.{NamesItsSection};
-ghost use Rattle.eve_audit.specs.Pieces.{IsFirstOf};
+ghost use Rattle.eve_audit.specs.Reports.{IsFirstOf, IsSoundTogether};
 ghost use Rattle.eve_audit.specs.declared.verdict.Verdict.TheVariants.{No};
 
 use crate::laws::accepted_traces_are_audited;
 use crate::replicas::judge_replicas;
-use crate::slots::Slot;
-use crate::together::judge_together;
 use crate::verdict::{AuditFault, Summary, Verdict};
-use crate::workers::judge_side_by_side;
+use crate::workers::Slot;
 use eve_accounts::Names;
+use eve_agree::{equal_balances, majorities, replies};
+use eve_chains::Settled;
 use eve_chains::laws::requests_take_effect_once;
 use eve_grammar::MOST_AUDIT_WORKERS;
 use eve_grammar::laws::bytes_spell_one_trace;
 use eve_history::laws::{fates_are_as_the_section_ends, faults_lie_within};
-use eve_history::orders;
+use eve_history::{History, orders};
 use eve_recorder::Gate;
 use eve_views::{CheckFault, Trace};
+use eve_votes::Tally;
 use std::alloc::{AllocError, Global};
 use std::hash::RandomState;
 use std::sync::Wait;
@@ -62,6 +64,35 @@ fn open<'a, R: Threads + Sync>(
         Ok(names) => Ok(Opened { trace, names }),
         Err(why) => Err(why),
     }
+}
+
+// Judges the votes, what was committed and rolled back by them, whether the replicas agree, and the replies that were
+// sent; or the first fault of these.
+fn judge_together(
+    alloc: Global,
+    trace: &Trace<'_>,
+    histories: &[History<'_>],
+    settled: &[Settled<'_>],
+) -> Result<(), CheckFault>
+    requires histories { histories.now ≡ section_histories trace.now }
+    requires settled { settled.now ≡ settlings trace.now }
+    ensures sound { IfOk result (λ _. IsSoundTogether trace.now) }
+    ensures none { IfOk result (λ _. HasNone (IsCommonFault trace.now)) }
+    ensures first { IfErr result (λ why. IfFound why (IsFirstOf (IsCommonFault trace.now))) }
+{
+    let tally = match Tally::of(alloc, trace) {
+        Ok(tally) => tally,
+        Err(why) => return Err(why),
+    };
+    match majorities(trace, histories, &tally) {
+        Ok(()) => {}
+        Err(why) => return Err(why),
+    }
+    match equal_balances(alloc, trace, histories, settled) {
+        Ok(()) => {}
+        Err(why) => return Err(why),
+    }
+    replies(trace, histories)
 }
 
 /// The summary of a trace without a fault, or its first fault, where its orders have none. What workers have found of
@@ -177,7 +208,7 @@ pub fn audit<R: Threads + Wait + Sync, G: Gate>(
         Err(CheckFault::Memory) => return Err(AuditFault::Memory),
     };
     let (trace, names) = (&opened.trace, &opened.names);
-    match judge_side_by_side(rt, alloc, trace, names, workers, gate) {
+    match Slot::judge_side_by_side(rt, alloc, trace, names, workers, gate) {
         Ok(mut slots) => verdict_on(rt, alloc, trace, names, slots.as_mut_slice()),
         Err(AllocError) => Err(AuditFault::Memory),
     }

@@ -3,11 +3,7 @@
 
 mod auditing;
 pub mod laws;
-mod replica;
 mod replicas;
-mod share;
-mod slots;
-mod together;
 mod verdict;
 mod workers;
 

@@ -1,25 +1,35 @@
 //! The audit of each replica by itself.
 
-ghost use Rattle.std.specs.Prelude.{◌≡◌, ◌++◌, ◌∷◌, [], ℕ, IfOk, IfErr, IfSome, OnOk, ◌<◌, ◌^◌, length, min, All};
+ghost use Rattle.std.specs.Prelude.{◌≡◌, ◌++◌, ◌∷◌, [], ℕ, IfOk, IfErr, IfSome, OnOk, ◌<◌, ◌≤◌, ◌^◌, length, min, All};
 ghost use Rattle.eve_views.specs.Form.{IfFound, HasNone};
-ghost use Rattle.eve_history.specs.SectionHistory.{names_of, section_histories};
-ghost use Rattle.eve_chains.specs.Settling.{settlings};
-ghost use Rattle.eve_audit.specs.Findings.{AreTrue, IsAnswerOf, IsPieceOf};
+ghost use Rattle.eve_history.specs.Faults.{IsStructureFault};
+ghost use Rattle.eve_history.specs.SectionHistory.{names_of, section_history, section_histories};
+ghost use Rattle.eve_chains.specs.Settling.{settling, settlings};
+ghost use Rattle.eve_audit.specs.Findings.{AreTrue, IsAnswerOf};
 ghost use Rattle.eve_audit.specs.Verdict.{IsOwnFault, IsFaultBelow};
-ghost use Rattle.eve_audit.specs.Pieces.{IsFirstOf, IsSoundReplica, IsLeastBelow};
+ghost use Rattle.eve_audit.specs.Reports.{IsFirstOf, IsReportOf, IsSoundReplica, IsLeastBelow};
 
-use crate::replica::{Piece, judge_replica};
-use crate::slots::Slot;
+use crate::workers::Slot;
 use eve_accounts::Names;
-use eve_chains::Settled;
+use eve_agree::{rollbacks, tokens};
+use eve_chains::{Settled, check};
 use eve_history::History;
 use eve_views::{CheckFault, Fault, Trace, first_of};
 use std::alloc::{AllocError, Global};
 use std::thread::Threads;
 
-/// What the replicas did and committed, in their order.
+/// A replica's report: what it did, and what it committed.
 #[derive(Drop)]
-pub struct Pieces<'a> {
+pub struct Report<'a> {
+    /// What its section tells.
+    pub history: History<'a>,
+    /// What its committed batches wrote.
+    pub settled: Settled<'a>,
+}
+
+/// The replicas' reports, in their order.
+#[derive(Drop)]
+pub struct Reports<'a> {
     /// What each section tells.
     pub histories: Vec<History<'a>>,
     /// What the committed batches of each wrote.
@@ -28,19 +38,127 @@ pub struct Pieces<'a> {
     pub committed: u32,
 }
 
-/// Keeps the next replica's piece.
-fn keep<'a>(pieces: &mut Pieces<'a>, piece: Piece<'a>) -> Result<(), AllocError>
-    ensures histories { OnOk result
-        (pieces.new.histories.items ≡ pieces.old.histories.items ++ piece.entry.history ∷ []) }
-    ensures settled { OnOk result (pieces.new.settled.items ≡ pieces.old.settled.items ++ piece.entry.settled ∷ []) }
-    ensures committed { OnOk result (pieces.new.committed ≡ min pieces.old.committed piece.entry.history.committed) }
-    ensures small { OnOk result (piece.entry.history.committed < 2 ^ 32) }
+/// The replicas' reports, each replica judged by itself, by its worker or here; or the first of the faults that they
+/// have of their own.
+pub fn judge_replicas<'a, R: Threads + Sync>(
+    rt: &R,
+    alloc: Global,
+    trace: &Trace<'a>,
+    names: &Names<'_>,
+    slots: &mut [Slot<'a>],
+) -> Result<Reports<'a>, CheckFault>
+    requires names { names.now.items ≡ names_of trace.now }
+    requires slots { All (AreTrue trace.now) slots.old }
+    ensures histories { IfOk result (λ reports. reports.histories.items ≡ section_histories trace.now) }
+    ensures settled { IfOk result (λ reports. reports.settled.items ≡ settlings trace.now) }
+    ensures committed { IfOk result (λ reports. IsLeastBelow trace.now (length trace.now.sections) reports.committed) }
+    ensures sound { IfOk result (λ _. (e : ℕ) → IsSoundReplica trace.now e) }
+    ensures none { IfOk result (λ _. HasNone (IsFaultBelow trace.now (length trace.now.sections))) }
+    ensures first { IfErr result (λ why. IfFound why (IsFirstOf (IsFaultBelow trace.now (length trace.now.sections)))) }
 {
-    let Piece { history, settled } = piece;
-    pieces.committed = pieces.committed.min(history.committed());
-    pieces.histories.push(history)?;
-    pieces.settled.push(settled)?;
-    Ok(())
+    let mut first: Option<Fault> = None;
+    let mut kept = Reports {
+        histories: Vec::new(alloc),
+        settled: Vec::new(alloc),
+        committed: u32::MAX,
+    };
+    'replicas: for e in 0..trace.section_count() {
+        match judge_missing(rt, alloc, trace, names, slots, e) {
+            Ok(report) => keep(&mut kept, report)?,
+            Err(CheckFault::Found(fault)) => {
+                first = first_of(first, Some(fault));
+            }
+            Err(CheckFault::Memory) => return Err(CheckFault::Memory),
+        }
+    }
+    match first {
+        Some(fault) => Err(CheckFault::Found(fault)),
+        None => Ok(kept),
+    }
+}
+
+/// A replica's report, or the first of its own faults, by the replica's number from 0. Its structure, its records, its
+/// chains and its tokens are judged in up to so many threads as there are jobs, from 1 on; of one job none is started.
+pub fn judge_replica<'a, R: Threads + Sync>(
+    rt: &R,
+    alloc: Global,
+    trace: &Trace<'a>,
+    names: &Names<'_>,
+    e: u8,
+    jobs: u8,
+) -> Result<Report<'a>, CheckFault>
+    requires there { e < length trace.now.sections }
+    requires names { names.now.items ≡ names_of trace.now }
+    requires jobs { 1 ≤ jobs }
+    ensures report { IfOk result (IsReportOf trace.now e) }
+    ensures first { IfErr result (λ why. IfFound why (IsFirstOf (IsOwnFault trace.now e))) }
+{
+    let history = match History::of_side_by_side(rt, alloc, trace, e, jobs) {
+        Ok(history) => history,
+        Err(why) => return Err(why),
+    };
+    match settle(rt, alloc, trace, names, &history, jobs) {
+        Ok(settled) => Ok(Report { history, settled }),
+        Err(why) => Err(why),
+    }
+}
+
+// What a replica with a right section committed, or the first of its own faults.
+fn settle<'a, R: Threads + Sync>(
+    rt: &R,
+    alloc: Global,
+    trace: &Trace<'a>,
+    names: &Names<'_>,
+    history: &History<'a>,
+    jobs: u8,
+) -> Result<Settled<'a>, CheckFault>
+    requires history { history.now ≡ section_history trace.now history.now.replica }
+    requires none { HasNone (IsStructureFault trace.now history.now.replica) }
+    requires names { names.now.items ≡ names_of trace.now }
+    requires jobs { 1 ≤ jobs }
+    ensures settled { IfOk result (λ settled. settled ≡ settling trace.now history.now.replica) }
+    ensures sound { IfOk result (λ _. IsSoundReplica trace.now history.now.replica) }
+    ensures none { IfOk result (λ _. HasNone (IsOwnFault trace.now history.now.replica)) }
+    ensures first { IfErr result (λ why. IfFound why (IsFirstOf (IsOwnFault trace.now history.now.replica))) }
+{
+    history.recall_right();
+    let settled = match check(rt, alloc, history, trace, names, jobs) {
+        Ok(settled) => settled,
+        Err(why) => return Err(why),
+    };
+    match rollbacks(alloc, trace, history, &settled) {
+        Ok(()) => {}
+        Err(why) => return Err(why),
+    }
+    match tokens(rt, alloc, trace, history, &settled, jobs) {
+        Ok(()) => {}
+        Err(why) => return Err(why),
+    }
+    Ok(settled)
+}
+
+// A replica's report, or the first of its own faults: as was found before, or else as it is judged here, which starts no
+// thread and takes no memory for one.
+fn judge_missing<'a, R: Threads + Sync>(
+    rt: &R,
+    alloc: Global,
+    trace: &Trace<'a>,
+    names: &Names<'_>,
+    slots: &mut [Slot<'a>],
+    e: u8,
+) -> Result<Report<'a>, CheckFault>
+    requires there { e < length trace.now.sections }
+    requires names { names.now.items ≡ names_of trace.now }
+    requires slots { All (AreTrue trace.now) slots.old }
+    ensures report { IfOk result (IsReportOf trace.now e) }
+    ensures first { IfErr result (λ why. IfFound why (IsFirstOf (IsOwnFault trace.now e))) }
+    ensures left { All (AreTrue trace.now) slots.new }
+{
+    match take_found(trace, slots, e) {
+        Some(Ok(report)) => Ok(report),
+        Some(Err(fault)) => Err(CheckFault::Found(fault)),
+        None => judge_replica(rt, alloc, trace, names, e, 1),
+    }
 }
 
 // Takes what was found of a replica, if that comes next in its worker's slot.
@@ -48,7 +166,7 @@ fn take_found<'a>(
     trace: &Trace<'a>,
     slots: &mut [Slot<'a>],
     e: u8,
-) -> Option<Result<Piece<'a>, Fault>>
+) -> Option<Result<Report<'a>, Fault>>
     requires { All (AreTrue trace.now) slots.old }
     ensures answer { IfSome result (IsAnswerOf trace.now e) }
     ensures left { All (AreTrue trace.now) slots.new }
@@ -60,65 +178,17 @@ fn take_found<'a>(
     slots[worker].take(e)
 }
 
-// What a replica did and committed, or the first of its own faults: as was found before, or else as it is judged here,
-// which starts no thread and takes no memory for one.
-fn judge_missing<'a, R: Threads + Sync>(
-    rt: &R,
-    alloc: Global,
-    trace: &Trace<'a>,
-    names: &Names<'_>,
-    slots: &mut [Slot<'a>],
-    e: u8,
-) -> Result<Piece<'a>, CheckFault>
-    requires there { e < length trace.now.sections }
-    requires names { names.now.items ≡ names_of trace.now }
-    requires slots { All (AreTrue trace.now) slots.old }
-    ensures piece { IfOk result (IsPieceOf trace.now e) }
-    ensures first { IfErr result (λ why. IfFound why (IsFirstOf (IsOwnFault trace.now e))) }
-    ensures left { All (AreTrue trace.now) slots.new }
+// Keeps the next replica's report.
+fn keep<'a>(reports: &mut Reports<'a>, report: Report<'a>) -> Result<(), AllocError>
+    ensures histories { OnOk result
+        (reports.new.histories.items ≡ reports.old.histories.items ++ report.entry.history ∷ []) }
+    ensures settled { OnOk result (reports.new.settled.items ≡ reports.old.settled.items ++ report.entry.settled ∷ []) }
+    ensures committed { OnOk result (reports.new.committed ≡ min reports.old.committed report.entry.history.committed) }
+    ensures small { OnOk result (report.entry.history.committed < 2 ^ 32) }
 {
-    match take_found(trace, slots, e) {
-        Some(Ok(piece)) => Ok(piece),
-        Some(Err(fault)) => Err(CheckFault::Found(fault)),
-        None => judge_replica(rt, alloc, trace, names, e, 1),
-    }
-}
-
-/// What the replicas did and committed, each judged by itself, by its worker or here; or the first of the faults that
-/// they have of their own.
-pub fn judge_replicas<'a, R: Threads + Sync>(
-    rt: &R,
-    alloc: Global,
-    trace: &Trace<'a>,
-    names: &Names<'_>,
-    slots: &mut [Slot<'a>],
-) -> Result<Pieces<'a>, CheckFault>
-    requires names { names.now.items ≡ names_of trace.now }
-    requires slots { All (AreTrue trace.now) slots.old }
-    ensures histories { IfOk result (λ pieces. pieces.histories.items ≡ section_histories trace.now) }
-    ensures settled { IfOk result (λ pieces. pieces.settled.items ≡ settlings trace.now) }
-    ensures committed { IfOk result (λ pieces. IsLeastBelow trace.now (length trace.now.sections) pieces.committed) }
-    ensures sound { IfOk result (λ _. (e : ℕ) → IsSoundReplica trace.now e) }
-    ensures none { IfOk result (λ _. HasNone (IsFaultBelow trace.now (length trace.now.sections))) }
-    ensures first { IfErr result (λ why. IfFound why (IsFirstOf (IsFaultBelow trace.now (length trace.now.sections)))) }
-{
-    let mut first: Option<Fault> = None;
-    let mut kept = Pieces {
-        histories: Vec::new(alloc),
-        settled: Vec::new(alloc),
-        committed: u32::MAX,
-    };
-    'replicas: for e in 0..trace.section_count() {
-        match judge_missing(rt, alloc, trace, names, slots, e) {
-            Ok(piece) => keep(&mut kept, piece)?,
-            Err(CheckFault::Found(fault)) => {
-                first = first_of(first, Some(fault));
-            }
-            Err(CheckFault::Memory) => return Err(CheckFault::Memory),
-        }
-    }
-    match first {
-        Some(fault) => Err(CheckFault::Found(fault)),
-        None => Ok(kept),
-    }
+    let Report { history, settled } = report;
+    reports.committed = reports.committed.min(history.committed());
+    reports.histories.push(history)?;
+    reports.settled.push(settled)?;
+    Ok(())
 }

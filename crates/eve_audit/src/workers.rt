@@ -1,45 +1,222 @@
 //! Workers, which judge replicas side by side.
 
-ghost use Rattle.std.specs.Prelude.{◌≡◌, ◌<◌, ◌≤◌, ◌*◌, min, [], IfOk, All, length};
+ghost use Rattle.std.specs.Prelude.{◌≡◌, ◌≢◌, ◌<◌, ◌≤◌, ◌*◌, ◌%◌, ◌↔◌, ◌∷◌, [], min, List, IsTrue, IfOk, IfSome, IsNone};
+ghost use Rattle.std.specs.Prelude.{All, length};
 ghost use Rattle.std.specs.Thread.{IsSync};
 ghost use Rattle.eve_history.specs.SectionHistory.{names_of};
-ghost use Rattle.eve_audit.specs.Findings.{AreDealt, AreTrue};
 
-use crate::share::Share;
-use crate::slots::Slot;
+use crate::replicas::{Report, judge_replica};
 use eve_accounts::Names;
 use eve_recorder::Gate;
-use eve_views::Trace;
+use eve_views::{CheckFault, Fault, Trace};
 use std::alloc::{AllocError, Global};
+use std::collections::VecDeque;
 use std::sync::Wait;
 use std::thread;
 use std::thread::Threads;
 
-/// What workers find of the replicas, side by side, each replica judged by itself. Worker e mod `workers` judges
-/// replica e, and enters the gate with e first. Where there are more workers than replicas, each replica is judged in
-/// up to as many threads as its part of them: no more threads than workers work at once, and with one worker none is
-/// started. A worker that can't be started is run by the caller; where a worker has no memory for a replica, nothing is
-/// found of it.
-pub fn judge_side_by_side<'a, R: Threads + Wait + Sync, G: Gate>(
-    rt: &R,
-    alloc: Global,
-    trace: &Trace<'a>,
-    names: &Names<'_>,
+/// Which replicas are one worker's to judge: of as many as there are workers, every one whose number leaves its own.
+#[derive(Clone, Copy, Debug)]
+pub struct Share {
+    worker: u8,
     workers: u8,
-    gate: &G,
-) -> Result<Vec<Slot<'a>>, AllocError>
-    requires some { 1 ≤ workers }
-    requires names { names.now.items ≡ names_of trace.now }
-    ensures found { IfOk result (λ slots. All (AreTrue trace.now) slots.items) }
-    ensures shares { IfOk result (λ slots. AreDealt (length slots.items) slots.items) }
-    ensures workers { IfOk result (λ slots. length slots.items ≡ min workers (length trace.now.sections)) }
-{
-    trace.recall_limits();
-    let replicas = trace.section_count();
-    let mut slots = empty_slots(alloc, workers.min(replicas))?;
-    let jobs = jobs_of_each(workers, replicas);
-    judge_shares(rt, alloc, trace, names, gate, slots.as_mut_slice(), jobs);
-    Ok(slots)
+    ghost among: { worker < workers },
+}
+
+impl Share {
+    /// The share of a worker, by its number from 0, among so many.
+    pub fn new(worker: u8, workers: u8) -> Self
+        requires { worker < workers }
+        ensures worker { result.worker ≡ worker }
+        ensures workers { result.workers ≡ workers }
+    {
+        Share { worker, workers }
+    }
+
+    /// Whether a replica is in it: its number leaves the worker's when it is divided by the number of workers.
+    pub fn has(self, e: u8) -> bool
+        ensures { IsTrue result ↔ (e % self.workers ≡ self.worker) }
+    {
+        e % self.workers == self.worker
+    }
+}
+
+/// What judging a replica by itself came to.
+#[derive(Drop)]
+pub struct Finding<'a> {
+    /// The replica's number, from 0.
+    pub replica: u8,
+    /// Its report, or the first of its own faults.
+    pub answer: Result<Report<'a>, Fault>,
+}
+
+/// What one worker has found, in the order in which it judged.
+#[derive(Drop)]
+pub struct Slot<'a> {
+    /// Which replicas are the worker's.
+    pub share: Share,
+    /// A finding for each replica that it judged.
+    pub findings: VecDeque<Finding<'a>>,
+}
+
+impl<'a> Slot<'a> {
+    ghost use Rattle.eve_audit.specs.declared.workers.Finding.{Finding as FindingValue};
+    ghost use Rattle.eve_audit.specs.Findings.{AreDealt, AreTrue, finding};
+
+    /// What workers find of the replicas, side by side, each replica judged by itself. Worker e mod `workers` judges
+    /// replica e, and enters the gate with e first. Where there are more workers than replicas, each replica is judged
+    /// in up to as many threads as its part of them: no more threads than workers work at once, and with one worker
+    /// none is started. A worker that can't be started is run by the caller; where a worker has no memory for a
+    /// replica, nothing is found of it.
+    pub fn judge_side_by_side<R: Threads + Wait + Sync, G: Gate>(
+        rt: &R,
+        alloc: Global,
+        trace: &Trace<'a>,
+        names: &Names<'_>,
+        workers: u8,
+        gate: &G,
+    ) -> Result<Vec<Slot<'a>>, AllocError>
+        requires some { 1 ≤ workers }
+        requires names { names.now.items ≡ names_of trace.now }
+        ensures found { IfOk result (λ slots. All (AreTrue trace.now) slots.items) }
+        ensures shares { IfOk result (λ slots. AreDealt (length slots.items) slots.items) }
+        ensures workers { IfOk result (λ slots. length slots.items ≡ min workers (length trace.now.sections)) }
+    {
+        trace.recall_limits();
+        let replicas = trace.section_count();
+        let mut slots = Slot::empty_slots(alloc, workers.min(replicas))?;
+        let jobs = jobs_of_each(workers, replicas);
+        Slot::judge_shares(rt, alloc, trace, names, gate, slots.as_mut_slice(), jobs);
+        Ok(slots)
+    }
+
+    /// Takes what was found of a replica, if that comes next.
+    pub fn take(&mut self, e: u8) -> Option<Result<Report<'a>, Fault>>
+        ensures next { IfSome result (λ answer. self.old.findings.items ≡ finding e answer ∷ self.new.findings.items) }
+        ensures none { IsNone result → self.new ≡ self.old }
+        ensures other { IsNone result → (first : FindingValue) (rest : List FindingValue)
+            → self.old.findings.items ≡ first ∷ rest → first.replica ≢ e }
+    {
+        match self.findings.front() {
+            Some(next) if next.replica == e => {}
+            _ => return None,
+        }
+        match self.findings.pop_front() {
+            Some(next) => Some(next.answer),
+            None => None,
+        }
+    }
+
+    // A worker's slot, before it has judged a replica.
+    fn new(alloc: Global, share: Share) -> Self
+        ensures share { result.share ≡ share }
+        ensures none { result.findings.items ≡ [] }
+    {
+        Slot {
+            share,
+            findings: VecDeque::new(alloc),
+        }
+    }
+
+    // A slot for each worker that has a replica to judge.
+    fn empty_slots(alloc: Global, workers: u8) -> Result<Vec<Slot<'a>>, AllocError>
+        ensures len { IfOk result (λ slots. length slots.items ≡ workers) }
+        ensures shares { IfOk result (λ slots. AreDealt workers slots.items) }
+        ensures empty { IfOk result (λ slots. All (λ slot. slot.findings.items ≡ []) slots.items) }
+    {
+        let mut slots = Vec::with_capacity(alloc, workers as usize)?;
+        for worker in 0..workers {
+            slots.push(Slot::new(alloc, Share::new(worker, workers)))?;
+        }
+        Ok(slots)
+    }
+
+    // Judges the workers' replicas, each worker's in a thread of its own where one can be started.
+    fn judge_shares<R: Threads + Wait + Sync, G: Gate>(
+        rt: &R,
+        alloc: Global,
+        trace: &Trace<'a>,
+        names: &Names<'_>,
+        gate: &G,
+        slots: &mut [Slot<'a>],
+        jobs: u8,
+    )
+        requires names { names.now.items ≡ names_of trace.now }
+        requires jobs { 1 ≤ jobs }
+        requires some { 0 < length slots.old }
+        requires so_far { All (AreTrue trace.now) slots.old }
+        requires shares { AreDealt (length slots.old) slots.old }
+        ensures found { All (AreTrue trace.now) slots.new }
+        ensures len { length slots.new ≡ length slots.old }
+        ensures shares { AreDealt (length slots.new) slots.new }
+    {
+        let workers = slots.len();
+        thread::for_each_mut(
+            rt,
+            slots,
+            workers,
+            &|_: usize, slot: &mut Slot|
+                requires { IsSync R.row × IsSync G.row × (names.now.items ≡ names_of trace.now) × (1 ≤ jobs)
+                    × AreTrue trace.now slot.old }
+                ensures { AreTrue trace.entry.now slot.new × (slot.new.share ≡ slot.old.share) }
+            { slot.judge_share(rt, alloc, trace, names, gate, jobs) },
+        );
+    }
+
+    // Judges the worker's replicas.
+    fn judge_share<R: Threads + Wait + Sync, G: Gate>(
+        &mut self,
+        rt: &R,
+        alloc: Global,
+        trace: &Trace<'a>,
+        names: &Names<'_>,
+        gate: &G,
+        jobs: u8,
+    )
+        requires names { names.now.items ≡ names_of trace.now }
+        requires jobs { 1 ≤ jobs }
+        requires so_far { AreTrue trace.now self.old }
+        ensures found { AreTrue trace.now self.new }
+        ensures share { self.new.share ≡ self.old.share }
+    {
+        let share = self.share;
+        for e in 0..trace.section_count() {
+            if share.has(e) {
+                gate.enter(rt, u32::from(e));
+                self.judge(rt, alloc, trace, names, e, jobs);
+            }
+        }
+    }
+
+    // Judges a replica by itself, in up to so many threads as there are jobs, from 1 on, and keeps what that comes to.
+    // Where memory runs out nothing is kept.
+    fn judge<R: Threads + Sync>(
+        &mut self,
+        rt: &R,
+        alloc: Global,
+        trace: &Trace<'a>,
+        names: &Names<'_>,
+        e: u8,
+        jobs: u8,
+    )
+        requires there { e < length trace.now.sections }
+        requires names { names.now.items ≡ names_of trace.now }
+        requires so_far { AreTrue trace.now self.old }
+        requires jobs { 1 ≤ jobs }
+        ensures found { AreTrue trace.now self.new }
+        ensures share { self.new.share ≡ self.old.share }
+    {
+        if self.findings.reserve(1).is_err() {
+            return;
+        }
+        let answer = match judge_replica(rt, alloc, trace, names, e, jobs) {
+            Ok(report) => Ok(report),
+            Err(CheckFault::Found(fault)) => Err(fault),
+            Err(CheckFault::Memory) => return,
+        };
+        self.findings
+            .push_back_reserved(Finding { replica: e, answer });
+    }
 }
 
 // In how many threads a replica is judged, so that there are no more than workers.
@@ -52,74 +229,4 @@ fn jobs_of_each(workers: u8, replicas: u8) -> u8
         return 1;
     }
     (workers / replicas).max(1)
-}
-
-// Judges a worker's replicas.
-fn judge_share<'a, R: Threads + Wait + Sync, G: Gate>(
-    rt: &R,
-    alloc: Global,
-    trace: &Trace<'a>,
-    names: &Names<'_>,
-    gate: &G,
-    slot: &mut Slot<'a>,
-    jobs: u8,
-)
-    requires names { names.now.items ≡ names_of trace.now }
-    requires jobs { 1 ≤ jobs }
-    requires so_far { AreTrue trace.now slot.old }
-    ensures found { AreTrue trace.now slot.new }
-    ensures share { slot.new.share ≡ slot.old.share }
-{
-    let share = slot.share;
-    for e in 0..trace.section_count() {
-        if share.has(e) {
-            gate.enter(rt, u32::from(e));
-            slot.judge(rt, alloc, trace, names, e, jobs);
-        }
-    }
-}
-
-// A slot for each worker that has a replica to judge.
-fn empty_slots<'a>(alloc: Global, workers: u8) -> Result<Vec<Slot<'a>>, AllocError>
-    ensures len { IfOk result (λ slots. length slots.items ≡ workers) }
-    ensures shares { IfOk result (λ slots. AreDealt workers slots.items) }
-    ensures empty { IfOk result (λ slots. All (λ slot. slot.findings.items ≡ []) slots.items) }
-{
-    let mut slots = Vec::with_capacity(alloc, workers as usize)?;
-    for worker in 0..workers {
-        slots.push(Slot::new(alloc, Share::new(worker, workers)))?;
-    }
-    Ok(slots)
-}
-
-// Judges the workers' replicas, each worker's in a thread of its own where one can be started.
-fn judge_shares<'a, R: Threads + Wait + Sync, G: Gate>(
-    rt: &R,
-    alloc: Global,
-    trace: &Trace<'a>,
-    names: &Names<'_>,
-    gate: &G,
-    slots: &mut [Slot<'a>],
-    jobs: u8,
-)
-    requires names { names.now.items ≡ names_of trace.now }
-    requires jobs { 1 ≤ jobs }
-    requires some { 0 < length slots.old }
-    requires so_far { All (AreTrue trace.now) slots.old }
-    requires shares { AreDealt (length slots.old) slots.old }
-    ensures found { All (AreTrue trace.now) slots.new }
-    ensures len { length slots.new ≡ length slots.old }
-    ensures shares { AreDealt (length slots.new) slots.new }
-{
-    let workers = slots.len();
-    thread::for_each_mut(
-        rt,
-        slots,
-        workers,
-        &|_: usize, slot: &mut Slot|
-            requires { IsSync R.row × IsSync G.row × (names.now.items ≡ names_of trace.now) × (1 ≤ jobs)
-                × AreTrue trace.now slot.old }
-            ensures { AreTrue trace.entry.now slot.new × (slot.new.share ≡ slot.old.share) }
-        { judge_share(rt, alloc, trace, names, gate, slot, jobs) },
-    );
 }

@@ -2,7 +2,7 @@ use Rattle.std.proofs.Common.{◌≡◌, ℕ, ◌+◌, ◌<◌, length, ap, Opti
 use Rattle.eve_views.specs.declared.fault.Fault.{Fault}
 use Rattle.eve_views.specs.Form.{HasNone}
 use Rattle.eve_audit.specs.Verdict.{IsFaultBelow}
-use Rattle.eve_audit.specs.Pieces.{IsFirstOf, IsFoundBelow, AreKept, IsJudgedBelow}
+use Rattle.eve_audit.specs.Reports.{IsFirstOf, IsFoundBelow, AreKept, IsJudgedBelow}
 use Rattle.eve_audit.proofs.Kept.{sound_more, judged_more, all_told, all_settled, all_sound}
 use Rattle.eve_audit.proofs.replicas.judge_replicas.Goals.{in-Ok+in_ok-keep-in-Ok, in-Err-Found}
 use Rattle.eve_audit.proofs.replicas.judge_replicas.Goals as goal
@@ -19,9 +19,9 @@ replicas-preserved g c =
             sound_more t e c.match-judge_missing.first c.replicas.kept.histories.items
             c.match-judge_missing.kept.histories.items c.replicas.kept.settled.items
             c.match-judge_missing.kept.settled.items
-            c.replicas.kept.committed c.match-judge_missing.kept.committed w.in-Ok.piece.history w.in-Ok.piece.settled
-            judged lt w.in-Ok.ensures.piece.history w.in-Ok.ensures.piece.settled w.in-Ok.ensures.piece.sound
-            w.in-Ok.ensures.piece.none
+            c.replicas.kept.committed c.match-judge_missing.kept.committed w.in-Ok.report.history w.in-Ok.report.settled
+            judged lt w.in-Ok.ensures.report.history w.in-Ok.ensures.report.settled w.in-Ok.ensures.report.sound
+            w.in-Ok.ensures.report.none
             (ap (λ p. p.histories.items) w.kept-is ∙ w.in_ok-keep-in-Ok.ensures.histories)
             (ap (λ p. p.settled.items) w.kept-is ∙ w.in_ok-keep-in-Ok.ensures.settled)
             (ap (λ p. p.committed) w.kept-is ∙ w.in_ok-keep-in-Ok.ensures.committed) w.in_ok-keep-in-Ok.ensures.small

@@ -1,7 +1,7 @@
 -- What was found in the replicas so far, and what was kept of them; and what their workers found is true.
 use Rattle.std.proofs.Common.{All}
 use Rattle.eve_audit.specs.Findings.{AreTrue}
-use Rattle.eve_audit.specs.Pieces.{IsJudgedBelow}
+use Rattle.eve_audit.specs.Reports.{IsJudgedBelow}
 use Rattle.eve_audit.proofs.replicas.judge_replicas.Given as goal
 
 abbrev pub invariant-replicas : goal.invariant-replicas

@@ -6,7 +6,7 @@ use Rattle.eve_grammar.specs.Trace.{Trace}
 use Rattle.eve_views.specs.Form.{HasNone, Precedes}
 use Rattle.eve_views.specs.declared.fault.Fault.{Fault}
 use Rattle.eve_audit.specs.Verdict.{IsOwnFault, IsFaultBelow}
-use Rattle.eve_audit.specs.Pieces.{IsFirstOf, IsFoundBelow, IsLeastBelow, last_of}
+use Rattle.eve_audit.specs.Reports.{IsFirstOf, IsFoundBelow, IsLeastBelow, last_of}
 use Rattle.eve_views.proofs.Firsts.{up_to-trans}
 use Rattle.eve_agree.proofs.Backing.{below_more}
 

@@ -2,10 +2,10 @@ use Rattle.eve_views.specs.Form.{IfFound, IsLeast, HasNone}
 use Rattle.eve_agree.specs.Agreement.{IsOutcomeFault}
 use Rattle.eve_agree.specs.SentReplies.{IsReplyFault}
 use Rattle.eve_audit.specs.Verdict.{IsCommonFault}
-use Rattle.eve_audit.specs.Pieces.{IsFirstOf}
+use Rattle.eve_audit.specs.Reports.{IsFirstOf}
 use Rattle.std.proofs.lemmas.Result.{IfOk-weaker, IfErr-weaker}
 use Rattle.eve_audit.proofs.Firsts.{found_weaker, outcome_first, reply_first, none_common}
-use Rattle.eve_audit.proofs.together.judge_together.Goals as goal
+use Rattle.eve_audit.proofs.auditing.judge_together.Goals as goal
 
 pub returns-in-Err-equal_balances-clause-first : goal.returns-in-Err-equal_balances-clause-first
 returns-in-Err-equal_balances-clause-first c =

@@ -4,9 +4,9 @@ use Rattle.eve_history.specs.Faults.{IsStructureFault}
 use Rattle.eve_chains.specs.Settling.{settling}
 use Rattle.eve_agree.proofs.Outcomes.{replica_told}
 use Rattle.eve_audit.specs.Verdict.{IsOwnFault}
-use Rattle.eve_audit.specs.Pieces.{IsFirstOf, IsSoundReplica}
+use Rattle.eve_audit.specs.Reports.{IsFirstOf, IsSoundReplica}
 use Rattle.eve_audit.proofs.Told.{section_history_by_its_own}
-use Rattle.eve_audit.proofs.replica.judge_replica.Goals as goal
+use Rattle.eve_audit.proofs.replicas.judge_replica.Goals as goal
 
 pub settle-requires-clause-history : goal.settle-requires-clause-history
 settle-requires-clause-history g c κs within = section_history_by_its_own c.args.trace.now c.args.e
@@ -18,8 +18,8 @@ settle-requires-clause-none g c κs within =
     (sym (replica_told c.args.trace.now c.args.e c.in-Ok.history c.in-Ok.ensures.section_history))
     c.in-Ok.ensures.none
 
-pub returns-in-Ok-settle-clause-piece : goal.returns-in-Ok-settle-clause-piece
-returns-in-Ok-settle-clause-piece g c =
+pub returns-in-Ok-settle-clause-report : goal.returns-in-Ok-settle-clause-report
+returns-in-Ok-settle-clause-report g c =
     let t = c.args.trace.now in
     let is = replica_told t c.args.e c.in-Ok.history c.in-Ok.ensures.section_history in
     record {

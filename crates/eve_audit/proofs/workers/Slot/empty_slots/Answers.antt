@@ -1,8 +1,8 @@
 use Rattle.std.proofs.Common.{◌≡◌, ◌+◌, ℕ, [], refl, sym, ap, ◌∙◌}
-use Rattle.eve_audit.specs.declared.slots.Slot.{Slot}
-use Rattle.eve_audit.specs.declared.share.Share.{Share}
+use Rattle.eve_audit.specs.declared.workers.Slot.{Slot}
+use Rattle.eve_audit.specs.declared.workers.Share.{Share}
 use Rattle.eve_audit.proofs.Found.{all_push, dealt_push, one_longer}
-use Rattle.eve_audit.proofs.workers.empty_slots.Goals as goal
+use Rattle.eve_audit.proofs.workers.Slot.empty_slots.Goals as goal
 
 pub loop-worker-preserved : goal.loop-worker-preserved
 loop-worker-preserved c =

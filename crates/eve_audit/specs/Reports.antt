@@ -13,7 +13,8 @@ use Rattle.eve_votes.specs.Faults.{AreVotesSound}
 use Rattle.eve_agree.specs.Majority.{AllAreBacked}
 use Rattle.eve_agree.specs.Agreement.{ReplicasAgree}
 use Rattle.eve_agree.specs.SentReplies.{AllReplied}
-use Rattle.eve_audit.specs.Verdict.{IsFaultBelow}
+use Rattle.eve_audit.specs.declared.replicas.Report.{Report}
+use Rattle.eve_audit.specs.Verdict.{IsOwnFault, IsFaultBelow}
 
 -- of some faults the one that precedes every other
 pub record IsFirstOf (S : Fault → Type 0) (f : Fault) : Type 0 where
@@ -28,6 +29,13 @@ pub record IsSoundReplica (t : Trace) (e : ℕ) : Type 0 where
   pub sound : SettledAreSound t e
   pub restores : RestoresAreRight t e
   pub tokens : TokensAreDue t e
+
+-- the report of a replica that has no fault of its own: what its section tells, and what it committed
+pub record IsReportOf (t : Trace) (e : ℕ) (report : Report) : Type 0 where
+  pub history : report.history ≡ section_history t e
+  pub settled : report.settled ≡ settling t e
+  pub sound : IsSoundReplica t e
+  pub none : HasNone (IsOwnFault t e)
 
 -- the first of the faults that the replicas below n have of their own, if there is one
 abbrev pub IsFoundBelow : Trace → ℕ → Option Fault → Type 0

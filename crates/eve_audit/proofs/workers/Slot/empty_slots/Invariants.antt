@@ -1,6 +1,6 @@
 use Rattle.std.proofs.Common.{◌≡◌, [], All, length}
 use Rattle.eve_audit.specs.Findings.{AreDealt}
-use Rattle.eve_audit.proofs.workers.empty_slots.Given as goal
+use Rattle.eve_audit.proofs.workers.Slot.empty_slots.Given as goal
 
 abbrev pub invariant-loop-worker : goal.invariant-loop-worker
 invariant-loop-worker l =
