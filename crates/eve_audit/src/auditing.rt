@@ -80,18 +80,9 @@ fn judge_together(
     ensures none { IfOk result (λ _. HasNone (IsCommonFault trace.now)) }
     ensures first { IfErr result (λ why. IfFound why (IsFirstOf (IsCommonFault trace.now))) }
 {
-    let tally = match Tally::of(alloc, trace) {
-        Ok(tally) => tally,
-        Err(why) => return Err(why),
-    };
-    match majorities(trace, histories, &tally) {
-        Ok(()) => {}
-        Err(why) => return Err(why),
-    }
-    match equal_balances(alloc, trace, histories, settled) {
-        Ok(()) => {}
-        Err(why) => return Err(why),
-    }
+    let tally = Tally::of(alloc, trace)?;
+    majorities(trace, histories, &tally)?;
+    equal_balances(alloc, trace, histories, settled)?;
     replies(trace, histories)
 }
 

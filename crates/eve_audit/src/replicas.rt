@@ -122,23 +122,14 @@ fn settle<'a, R: Threads + Sync>(
     ensures first { IfErr result (λ why. IfFound why (IsFirstOf (IsOwnFault trace.now history.now.replica))) }
 {
     history.recall_right();
-    let settled = match check(rt, alloc, history, trace, names, jobs) {
-        Ok(settled) => settled,
-        Err(why) => return Err(why),
-    };
-    match rollbacks(alloc, trace, history, &settled) {
-        Ok(()) => {}
-        Err(why) => return Err(why),
-    }
-    match tokens(rt, alloc, trace, history, &settled, jobs) {
-        Ok(()) => {}
-        Err(why) => return Err(why),
-    }
+    let settled = check(rt, alloc, history, trace, names, jobs)?;
+    rollbacks(alloc, trace, history, &settled)?;
+    tokens(rt, alloc, trace, history, &settled, jobs)?;
     Ok(settled)
 }
 
-// A replica's report, or the first of its own faults: as was found before, or else as it is judged here, which starts no
-// thread and takes no memory for one.
+// A replica's report, or the first of its own faults: as was found before, or else as it is judged here, which starts
+// no thread and takes no memory for one.
 fn judge_missing<'a, R: Threads + Sync>(
     rt: &R,
     alloc: Global,

@@ -1,7 +1,7 @@
 //! Workers, which judge replicas side by side.
 
-ghost use Rattle.std.specs.Prelude.{◌≡◌, ◌≢◌, ◌<◌, ◌≤◌, ◌*◌, ◌%◌, ◌↔◌, ◌∷◌, [], min, List, IsTrue, IfOk, IfSome, IsNone};
-ghost use Rattle.std.specs.Prelude.{All, length};
+ghost use Rattle.std.specs.Prelude.{◌≡◌, ◌≢◌, ◌<◌, ◌≤◌, ◌*◌, ◌%◌, ◌↔◌, min, [], ◌∷◌, List, length, All};
+ghost use Rattle.std.specs.Prelude.{IsTrue, IsNone, IfOk, IfSome};
 ghost use Rattle.std.specs.Thread.{IsSync};
 ghost use Rattle.eve_history.specs.SectionHistory.{names_of};
 

@@ -1,25 +1,28 @@
+use Rattle.std.proofs.Common.{rules}
+use Rattle.std.proofs.lemmas.Result.{IfOk-weaker, IfErr-weaker}
 use Rattle.eve_views.specs.Form.{IfFound, IsLeast, HasNone}
 use Rattle.eve_agree.specs.Agreement.{IsOutcomeFault}
 use Rattle.eve_agree.specs.SentReplies.{IsReplyFault}
 use Rattle.eve_audit.specs.Verdict.{IsCommonFault}
 use Rattle.eve_audit.specs.Reports.{IsFirstOf}
-use Rattle.std.proofs.lemmas.Result.{IfOk-weaker, IfErr-weaker}
 use Rattle.eve_audit.proofs.Firsts.{found_weaker, outcome_first, reply_first, none_common}
 use Rattle.eve_audit.proofs.auditing.judge_together.Goals as goal
 
-pub returns-in-Err-equal_balances-clause-first : goal.returns-in-Err-equal_balances-clause-first
-returns-in-Err-equal_balances-clause-first c =
+pub returns-in_err-equal_balances-clause-first : goal.returns-in_err-equal_balances-clause-first
+returns-in_err-equal_balances-clause-first c =
     let t = c.args.trace.now in
-    found_weaker (IsLeast (IsOutcomeFault t)) (IsFirstOf (IsCommonFault t)) c.in-Err-equal_balances.why
-    (λ f least. outcome_first t f c.in-Ok.ensures.none c.in-Ok-majorities.ensures.none least)
-    c.in-Err-equal_balances.ensures.least
+    let found = c.in_err-equal_balances in
+    let first = found_weaker (IsLeast (IsOutcomeFault t)) (IsFirstOf (IsCommonFault t)) found.field-0.0
+    (λ f least. outcome_first t f c.in_ok-tally.ensures.none c.in_ok-majorities.ensures.none least)
+    found.ensures.least in
+    search rules
 
 pub returns-clause-none : goal.returns-clause-none
 returns-clause-none c =
     let t = c.args.trace.now in
     IfOk-weaker c.replies.result (λ _. HasNone (IsReplyFault t)) (λ _. HasNone (IsCommonFault t))
-    (λ _ none. none_common t c.in-Ok.ensures.none c.in-Ok-majorities.ensures.none c.in-Ok-equal_balances.ensures.none
-    none) c.replies.ensures.none
+    (λ _ none. none_common t c.in_ok-tally.ensures.none c.in_ok-majorities.ensures.none
+    c.in_ok-equal_balances.ensures.none none) c.replies.ensures.none
 
 pub returns-clause-first : goal.returns-clause-first
 returns-clause-first c =
@@ -27,5 +30,5 @@ returns-clause-first c =
     IfErr-weaker c.replies.result (λ why. IfFound why (IsLeast (IsReplyFault t)))
     (λ why. IfFound why (IsFirstOf (IsCommonFault t)))
     (λ why found. found_weaker (IsLeast (IsReplyFault t)) (IsFirstOf (IsCommonFault t)) why
-    (λ f least. reply_first t f c.in-Ok.ensures.none c.in-Ok-majorities.ensures.none
-    c.in-Ok-equal_balances.ensures.none least) found) c.replies.ensures.least
+    (λ f least. reply_first t f c.in_ok-tally.ensures.none c.in_ok-majorities.ensures.none
+    c.in_ok-equal_balances.ensures.none least) found) c.replies.ensures.least
