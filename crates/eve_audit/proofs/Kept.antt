@@ -1,7 +1,7 @@
 -- What is kept of the replicas, one after another, and of all of them.
 use Rattle.std.proofs.Common.{◌≡◌, ℕ, zero, suc, ◌+◌, ◌^◌, ◌<◌, ◌≤◌, min, Option, Some, None, inl, inr, List, [], ◌∷◌}
 use Rattle.std.proofs.Common.{◌++◌, map, length, take, refl, sym, ap, subst, ◌∙◌, arith}
-use Rattle.std.specs.Prelude.{slice_index_or, IsTrue}
+use Rattle.std.specs.Prelude.{IsTrue}
 use Rattle.std.specs.List.{enumerate_from, AllByRecursion}
 use Rattle.std.proofs.lemmas.Bool.{cases_lt}
 use Rattle.eve_grammar.specs.Trace.{Step, Trace}
@@ -46,12 +46,7 @@ module _ {A B : Type 0} (h : ℕ → B) where
 
 -- ---- beyond the last replica there are no steps, and what there is none of is sound
 
-pub none_beyond : {A : Type 0} (place : ℕ) (xs : List (List A)) → length xs ≤ place → slice_index_or xs place [] ≡ []
-none_beyond place [] le = refl
-none_beyond zero (x ∷ xs) le = absurd (omega (arith, le))
-none_beyond (suc place) (x ∷ xs) le = none_beyond place xs (omega (arith, le))
-
-state_of_none : (t : Trace) (e : ℕ) → length t.sections ≤ e → history t e ≡ start
+pub state_of_none : (t : Trace) (e : ℕ) → length t.sections ≤ e → history t e ≡ start
 unfolding history
 state_of_none t e le = ap (state_after start) (none_at t e le)
 

@@ -2,18 +2,16 @@
 use Rattle.std.proofs.Common.{◌≡◌, ℕ, zero, suc, ◌+◌, ◌≤◌, ◌<◌, nat_le, Bool, true, List, [], ◌∷◌, map, length, Option}
 use Rattle.std.proofs.Common.{Some, IfSome, find, sym, subst, ap, ◌∙◌, inl, inr, arith}
 use Rattle.std.specs.Option.{option_map}
-use Rattle.std.proofs.lemmas.List.{get_or_past}
 use Rattle.std.proofs.lemmas.Option.{slice_get_within}
 use Rattle.std.proofs.lemmas.Bool.{cases_Bool, cases_lt, cases_eq, le-leb, false≢true, cond-true, cond-false}
 use Rattle.std.specs.List.{enumerate_from}
 use Rattle.eve_smallbank.specs.declared.request.Reply.{Reply}
-use Rattle.eve_grammar.specs.Trace.{Step, Trace}
-use Rattle.eve_grammar.specs.Frames.{OfReplica}
-use Rattle.eve_grammar.specs.Spelling.{frame_text, located, section_start, step_text, steps_at}
-use Rattle.eve_history.specs.Section.{Placed, start, state_after}
+use Rattle.eve_grammar.specs.Trace.{Trace}
+use Rattle.eve_history.specs.Section.{Placed, SectionState}
 use Rattle.eve_history.specs.SectionHistory.{history, committed_at, IsRightSection}
 use Rattle.eve_chains.proofs.Linked.{last_committed, some_injective, none≢some}
 use Rattle.eve_agree.specs.Agreement.{first_to_commit, HaveSameOutcome, HasCommitted, ReplicasAgree}
+use Rattle.eve_audit.proofs.Kept.{state_of_none}
 use Rattle.eve_audit.proofs.SameBanks.{banks_agree}
 use Rattle.eve_chains.specs.Committed.{bank_after}
 
@@ -34,19 +32,15 @@ find_first {A} test e n (x ∷ xs) short low passes =
           (rest.0, cond-false (test n) (Some n) others f ∙ rest.1)
     ]
 
-no_steps : (t : Trace) (e : ℕ) → length t.sections ≤ e → (history t e).last ≡ 0
-unfolding history steps_at
-no_steps t e past =
-    ap (λ (steps : List Step).
-    (state_after start (located step_text (section_start t e + length (frame_text (OfReplica e))) steps)).last)
-    (get_or_past t.sections e [] past)
+none_committed : (t : Trace) (e : ℕ) → length t.sections ≤ e → (history t e).last ≡ 0
+none_committed t e past = ap (λ (s : SectionState). s.last) (state_of_none t e past)
 
 first_exists : (t : Trace) (e n : ℕ) → HasCommitted t e n → (f : ℕ) × (first_to_commit t n ≡ Some f)
 first_exists t e n committed =
     elim (cases_lt e (length t.sections)) [
       | inl there ↦ find_first (λ f. nat_le n (history t f).last) e 0 t.sections (omega arith) (omega arith)
           (le-leb n (history t e).last committed.1)
-      | inr past ↦ absurd (none_there n (history t e).last (no_steps t e past) committed.0 committed.1)
+      | inr past ↦ absurd (none_there n (history t e).last (none_committed t e past) committed.0 committed.1)
     ]
   where
     none_there : (n m : ℕ) → m ≡ 0 → 1 ≤ n → n ≤ m → ⊥

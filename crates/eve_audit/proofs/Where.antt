@@ -1,11 +1,10 @@
 -- In which section the frames of a replica stand.
 use Rattle.std.proofs.Common.{◌≡◌, ℕ, zero, suc, ◌+◌, ◌-◌, ◌<◌, ◌≤◌, inl, inr, List, [], ◌∷◌, ◌++◌, map, length, take}
-use Rattle.std.proofs.Common.{refl, sym, ap, subst, ◌∙◌, arith}
+use Rattle.std.proofs.Common.{sym, ap, subst, ◌∙◌, arith}
 use Rattle.std.specs.Prelude.{slice_index_or}
 use Rattle.std.specs.List.{flat_map, enumerate_from, AllByRecursion}
 use Rattle.std.proofs.lemmas.Bool.{cases_lt}
 use Rattle.std.proofs.lemmas.List.{length-append}
-use Rattle.std.proofs.lemmas.List.Concat.{flat_map-append}
 use Rattle.std.specs.Int.{bytes_high_first}
 use Rattle.eve_grammar.specs.Trace.{Access, Attempt, Step, Attempts, Commits, RollsBack, Trace}
 use Rattle.eve_grammar.specs.Frames.{Frame, OfReplica, OfAttempt as AttemptFrame, OfAccess, OfCommit, OfRollback}
@@ -16,6 +15,7 @@ use Rattle.eve_history.specs.Section.{settled}
 use Rattle.eve_history.specs.SectionHistory.{attempts_among, placed_at, is_committed, is_discarded, history}
 use Rattle.eve_history.specs.Fates.{fates_from}
 use Rattle.eve_audit.proofs.Sections.{LiesIn, FatesAreAsItEnds}
+use Rattle.eve_history.proofs.FrameTexts.{mapped, nested}
 use Rattle.eve_history.proofs.Rights.{none_at}
 use Rattle.eve_chains.proofs.Attempts.{all_picked}
 use Rattle.eve_chains.proofs.SettledAttempts.{all-append}
@@ -70,11 +70,6 @@ located_within text from xs before x rest is =
     before x rest is (all_located text from xs)
 
 -- ---- sections
-
-nested : (steps : List Step) → flat_map frame_text (flat_map step_frames steps) ≡ flat_map step_text steps
-nested [] = refl
-nested (s ∷ steps) = flat_map-append frame_text (step_frames s) (flat_map step_frames steps)
-    ∙ ap (λ (b : List ℕ). step_text s ++ b) (nested steps)
 
 section_is : (e : ℕ) (steps : List Step) → length (section_text (e, steps)) ≡ length (frame_text (OfReplica e)) + length
     (flat_map step_text steps)
@@ -173,11 +168,6 @@ step_has_text (RollsBack r) = first_has_text (OfRollback r) []
 -- a step lies in the section, as a whole
 abbrev pub StepIn : Trace → ℕ → ℕ × Step → Type 0
 StepIn t e x = Between (section_start t e) (section_start t (e + 1)) x.0 (length (step_text x.1))
-
-pub mapped : {A : Type 0} (f : A → Frame) (xs : List A) → flat_map frame_text (map f xs)
-    ≡ flat_map (λ x. frame_text (f x)) xs
-mapped f [] = refl
-mapped f (x ∷ xs) = ap (λ (b : List ℕ). frame_text (f x) ++ b) (mapped f xs)
 
 attempts_in : (P : ℕ × Step → Type 0) (steps : List (ℕ × Step)) → AllByRecursion P steps
     → AllByRecursion (λ x. P (x.0, Attempts x.1)) (attempts_among steps)

@@ -3,7 +3,7 @@ use Rattle.std.proofs.Common.{◌≡◌, ℕ, zero, suc, ◌+◌, ◌≤◌, inl
 use Rattle.std.proofs.Common.{ap, subst, ◌∙◌, arith}
 use Rattle.std.specs.List.{flat_map}
 use Rattle.std.proofs.lemmas.Bool.{cases_lt}
-use Rattle.std.proofs.lemmas.List.{length-append}
+use Rattle.std.proofs.lemmas.List.{get_or_past, length-append}
 use Rattle.std.proofs.lemmas.List.Concat.{flat_map-append}
 use Rattle.eve_grammar.specs.Trace.{Batch, Vote, Sent, Trace, head_of}
 use Rattle.eve_grammar.specs.Frames.{Frame, OfCustomer, OfBatch, OfVerifier, OfVote, OfSent, End, section_frames}
@@ -24,9 +24,9 @@ use Rattle.eve_views.specs.Form.{StandsInForm}
 use Rattle.eve_audit.specs.Verdict.{Stands, in_form, in_trace, IsOwnFault, of_structure, of_records, of_chains}
 use Rattle.eve_audit.specs.Verdict.{of_restores, of_tokens, IsTraceFault, of_votes, of_majorities, of_agreement}
 use Rattle.eve_audit.specs.Verdict.{of_replies, in_orders, in_section, in_common}
+use Rattle.eve_history.proofs.FrameTexts.{mapped}
 use Rattle.eve_audit.proofs.Sections.{LiesIn, FatesAreAsItEnds}
-use Rattle.eve_audit.proofs.Where.{located_within, mapped, front_more}
-use Rattle.eve_audit.proofs.Kept.{none_beyond}
+use Rattle.eve_audit.proofs.Where.{located_within, front_more}
 use Rattle.eve_audit.proofs.Placed.{structure_lies, record_lies, chain_lies, restore_lies, token_lies, majority_lies}
 use Rattle.eve_audit.proofs.Placed.{outcome_lies}
 
@@ -110,7 +110,7 @@ module _ (t : Trace) where
         omega (arith, within.1, more, own, parts, all, end)
     | inr le ↦ absurd (none before
         (ap (located (λ x. frame_text (OfVote x)) (verifier_start t v + length (frame_text (OfVerifier v))))
-        (sym (none_beyond v t.verifiers le)) ∙ is))
+        (sym (get_or_past t.verifiers v [] le)) ∙ is))
   ]
     where
       none : (b : List (ℕ × Vote)) → ◌≡◌ {A = List (ℕ × Vote)} [] (b ++ w ∷ rest) → ⊥
