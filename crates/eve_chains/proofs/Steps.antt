@@ -1,6 +1,6 @@
 -- The walk, step by step.
 use Rattle.eve_views.specs.Form.{IsLeast}
-use Rattle.std.proofs.Common.{◌≡◌, ℕ, suc, ◌+◌, ◌-◌, ◌*◌, ◌<◌, ◌≤◌, ◌==◌, List, [], ◌∷◌, ◌++◌, map, length}
+use Rattle.std.proofs.Common.{◌≡◌, ℕ, suc, ◌+◌, ◌-◌, ◌<◌, ◌≤◌, ◌==◌, List, [], ◌∷◌, ◌++◌, map, length}
 use Rattle.std.proofs.Common.{length-append, Some, None, refl, sym, subst, ap, ◌∙◌, inl, inr, append_assoc, append-nil}
 use Rattle.std.proofs.Common.{arith, IsTrue}
 use Rattle.std.proofs.Common.{Bool, true, false, cond}
@@ -14,10 +14,11 @@ use Rattle.eve_smallbank.specs.Access.{Executed}
 use Rattle.eve_smallbank.specs.Chain.{Table, visible_at, before_rest, table_after}
 use Rattle.eve_smallbank.proofs.Members.{In, here, there, in_front}
 use Rattle.eve_grammar.specs.Trace.{Access, Attempt, Commit, Rollback, Step, Attempts, Commits, RollsBack, Trace}
-use Rattle.eve_grammar.specs.Trace.{head_of}
+use Rattle.eve_grammar.specs.Trace.{head_of, opening_rows}
 use Rattle.eve_grammar.specs.Frames.{OfReplica}
 use Rattle.eve_grammar.specs.Spelling.{frame_text, located, step_text, section_start, steps_at, accesses_at}
 use Rattle.eve_grammar.specs.Limits.{row_count, HasLimits}
+use Rattle.eve_grammar.proofs.OpeningRows.{length-opening_rows}
 use Rattle.eve_frames.specs.declared.attempt.AttemptView.{AttemptView}
 use Rattle.eve_frames.specs.declared.commit.CommitView.{CommitView}
 use Rattle.eve_frames.specs.declared.rollback.RollbackView.{RollbackView}
@@ -35,6 +36,7 @@ use Rattle.eve_chains.specs.Committed.{attempts_of}
 use Rattle.eve_chains.specs.Tables.{table_of, undone}
 use Rattle.eve_chains.specs.Along.{entries_along, AreWithin, IsFirstAlong, AllSettledSee}
 use Rattle.eve_chains.specs.Faults.{IsChainFault}
+use Rattle.eve_chains.proofs.TableLaws.{at_opening, table_at_opening}
 use Rattle.eve_chains.proofs.Distinct.{in_split, in_right}
 use Rattle.eve_chains.proofs.AlongLaws.{undone_is_before}
 use Rattle.eve_chains.proofs.Walks.{table_between, record_at, same_entries, right_one, complete_one, chain_fault_along}
@@ -118,11 +120,10 @@ none_outside t e past =
 -- ---- the walk
 
 pub walked_start : (t : Trace) (e : ℕ) (w : Walk) → IsRightSection t e → w.settled ≡ 0 → w.come ≡ 0 → w.first ≡ None
-    → w.apart ≡ false
-    → length w.committed ≡ 2 * length t.customers → table_of w.committed ≡ opening_table t
+    → w.apart ≡ false → w.committed ≡ map at_opening (opening_rows t.customers)
     → HasWalked t e (steps_at t e) w
 unfolding history
-walked_start t e w right none_settled none_come none_found together rows committed = record {
+walked_start t e w right none_settled none_come none_found together opened = record {
   state = start;
   leads = refl;
   right = right;
@@ -131,9 +132,9 @@ walked_start t e w right none_settled none_come none_found together rows committ
   attempts = refl;
   settled_count = none_settled;
   come = none_come;
-  rows = rows;
+  rows = ap length opened ∙ length-map (opening_rows t.customers) at_opening ∙ length-opening_rows t.customers;
   working_rows = λ apart. absurd (false≢true (sym together ∙ apart));
-  committed = committed ∙ fun_ext (λ row. refl);
+  committed = ap table_of opened ∙ table_at_opening t ∙ fun_ext (λ row. refl);
   working = λ apart. absurd (false≢true (sym together ∙ apart));
   first = subst (IsFirstIn t e []) (sym none_found) tt;
 }

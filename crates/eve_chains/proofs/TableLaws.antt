@@ -1,17 +1,14 @@
 -- Tables as lists by row: what a write leaves, and what entries that see other things come to.
-use Rattle.std.proofs.Common.{◌≡◌, ◌≢◌, ℕ, ℤ, pos, zero, suc, ◌+◌, ◌*◌, ◌==◌, Bool, true, false, cond, ◌||◌, List}
-use Rattle.std.proofs.Common.{[], ◌∷◌, ◌++◌, map, take, length, Option, Some, None, refl, sym, subst, ap}
-use Rattle.std.proofs.Common.{◌∙◌, inl, inr, ◌⊎◌, arith}
+use Rattle.std.proofs.Common.{◌≡◌, ◌≢◌, ℕ, ℤ, pos, zero, suc, ◌+◌, ◌==◌, Bool, true, false, cond, ◌||◌, List}
+use Rattle.std.proofs.Common.{[], ◌∷◌, map, length, Option, Some, None, refl, sym, subst, ap}
+use Rattle.std.proofs.Common.{◌∙◌, inl, inr, ◌⊎◌}
 use mathlib.Core.Path.{fun_ext}
 use Rattle.std.specs.Prelude.{slice_get, if◌then◌else◌}
 use Rattle.std.specs.Ordering.{int_eq}
 use Rattle.std.specs.List.{AllByRecursion, list_any}
 use Rattle.std.proofs.lemmas.Bool.{cases_Bool, eqb-true, ne_eqb, eq-eqb, false≢true}
 use Rattle.std.proofs.lemmas.Bool.Decides.{Decides-int_eq}
-use Rattle.std.proofs.lemmas.List.{map-append, take_more}
-use Rattle.std.proofs.lemmas.Grind.{flat_map-append}
 use Rattle.std.proofs.Math.ListN.{get_or-map}
-use Rattle.std.proofs.lemmas.Option.{get_or_from_slice_get, slice_get_within}
 use Rattle.eve_smallbank.specs.declared.entry.Entry.{Entry}
 use Rattle.eve_smallbank.specs.Access.{writes_row}
 use Rattle.eve_smallbank.specs.Chain.{Versioned, Table, Sees}
@@ -29,34 +26,8 @@ use Rattle.eve_chains.proofs.Linked.{some_injective, none≢some}
 abbrev pub at_opening : ℤ → Versioned
 at_opening value = record { version = 0; value = value }
 
--- the rows of these customers
-abbrev pub opened : List Customer → List Versioned
-opened customers = map at_opening (opening_rows customers)
-
-pub opened-append : (xs ys : List Customer) → opened (xs ++ ys) ≡ opened xs ++ opened ys
-opened-append xs ys =
-    ap (map at_opening) (flat_map-append (λ (c : Customer). c.saving ∷ c.checking ∷ []) xs ys)
-    ∙ map-append at_opening (opening_rows xs) (opening_rows ys)
-
-pub length-opened : (xs : List Customer) → length (opened xs) ≡ 2 * length xs
-length-opened [] = refl
-length-opened (x ∷ xs) = twice (length (opened xs)) (length xs) (length-opened xs)
-  where
-    twice : (m n : ℕ) → m ≡ 2 * n → suc (suc m) ≡ 2 * suc n
-    twice m n e = omega arith
-
-pub table_of-opened : (t : Trace) → table_of (opened t.customers) ≡ opening_table t
-table_of-opened t = fun_ext (λ row. get_or-map at_opening (opening_rows t.customers) row (pos 0))
-
--- one customer more
-pub opened_more : (customers : List Customer) (i : ℕ) (c : Customer) (rows new : List Versioned)
-    → slice_get customers i ≡ Some c → rows ≡ opened (take i customers)
-    → new ≡ rows ++ at_opening c.saving ∷ at_opening c.checking ∷ [] → new ≡ opened (take (i + 1) customers)
-opened_more customers i c rows new at so is =
-    is ∙ ap (λ (xs : List Versioned). xs ++ at_opening c.saving ∷ at_opening c.checking ∷ []) so
-    ∙ sym (opened-append (take i customers) (c ∷ []))
-    ∙ ap (λ (d : Customer). opened (take i customers ++ d ∷ [])) (sym (get_or_from_slice_get customers i c c at))
-    ∙ ap opened (sym (take_more customers i c (slice_get_within customers i c at)))
+pub table_at_opening : (t : Trace) → table_of (map at_opening (opening_rows t.customers)) ≡ opening_table t
+table_at_opening t = fun_ext (λ row. get_or-map at_opening (opening_rows t.customers) row (pos 0))
 
 pub located_get : {A : Type 0} (text : A → List ℕ) (at : ℕ) (xs : List A) (i o : ℕ) (x : A)
     → slice_get (located text at xs) i ≡ Some (o, x) → slice_get xs i ≡ Some x

@@ -10,6 +10,7 @@ ghost use Rattle.eve_chains.specs.Checking.{AreRecordsJudged, AreChainsSettled};
 ghost use Rattle.eve_chains.specs.Settling.{settling};
 
 use crate::laws::{chains_are_judged_along_the_records, sound_sections_have_no_fault};
+use crate::opening::opening_balances;
 use crate::settled::Settled;
 use crate::unfit::records;
 use crate::walk::chains;
@@ -43,8 +44,9 @@ fn settle<'a>(
     requires stretches { 1 ≤ stretches }
     ensures { AreChainsSettled section.now.trace.now section.now.history.now.replica result }
 {
-    let noted = chains(alloc, section.history, section.trace, stretches)?;
-    let settled = Settled::with_noted(alloc, section.history, section.trace, noted)?;
+    let opening = opening_balances(alloc, section.trace)?;
+    let noted = chains(alloc, section.history, section.trace, &opening, stretches)?;
+    let settled = Settled::with_noted(section.history, section.trace, opening, noted)?;
     Ok(settled)
 }
 

@@ -3,7 +3,7 @@
 ghost use Rattle.std.specs.Prelude.{◌≡◌, ◌≤◌, ◌-◌, ℕ, List, Some, All, IfOk, IfSome, length, slice_get};
 ghost use Rattle.std.specs.List.{AllByRecursion};
 ghost use Rattle.eve_smallbank.specs.Access.{balance_of_row, values_after};
-ghost use Rattle.eve_grammar.specs.Trace.{Access};
+ghost use Rattle.eve_grammar.specs.Trace.{Access, opening_rows};
 ghost use Rattle.eve_history.specs.SectionHistory.{section_history};
 ghost use Rattle.eve_chains.specs.Along.{entries_along, AreWithin};
 ghost use Rattle.eve_chains.specs.Settling.{settling, values_in, AreBankAfter};
@@ -53,22 +53,23 @@ impl<'a> Settled<'a> {
         requires history { history.now ≡ section_history trace.now history.now.replica }
         ensures { IfOk result (λ settled. settled ≡ settling trace.now history.now.replica) }
     {
-        Settled::with_noted(alloc, history, trace, Vec::new(alloc))
+        let opening = opening_balances(alloc, trace)?;
+        Settled::with_noted(history, trace, opening, Vec::new(alloc))
     }
 
-    /// The same, with balances that were noted on the way.
+    /// The same, of its opening balances, with those that were noted on the way.
     pub(crate) fn with_noted(
-        alloc: Global,
         history: &History<'a>,
         trace: &Trace<'a>,
+        opening: Balances,
         noted: Vec<BalancesAfter>,
     ) -> Result<Settled<'a>, AllocError>
         requires history { history.now ≡ section_history trace.now history.now.replica }
+        requires opening { opening ≡ opening_rows trace.now.customers }
         requires noted { All (AreBalancesAfter (settling trace.now history.now.replica)) noted.items }
         ensures { IfOk result (λ settled. settled ≡ settling trace.now history.now.replica) }
     {
         trace.recall_limits();
-        let opening = opening_balances(alloc, trace)?;
         let records = CommittedRecords::of(history)?;
         Ok(Settled {
             opening,

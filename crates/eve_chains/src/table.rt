@@ -1,17 +1,16 @@
 //! Version and value of all rows.
 
-ghost use Rattle.std.specs.Prelude.{◌≡◌, ◌<◌, ◌*◌, ◌↔◌, ◌++◌, IsTrue, OnOk, IfOk, length, [], ◌∷◌};
+ghost use Rattle.std.specs.Prelude.{◌≡◌, ◌<◌, ◌↔◌, IsTrue, IfOk, length, map, [], ◌∷◌};
 ghost use Rattle.std.specs.List.{list_all};
 ghost use Rattle.eve_smallbank.specs.Chain.{Sees, table_after};
 ghost use Rattle.eve_grammar.specs.Limits.{is_entry};
-ghost use Rattle.eve_chains.specs.Visible.{opening_table};
 ghost use Rattle.eve_chains.specs.Tables.{table_of, undone, IsFirstMismatch};
 
 use crate::versioned::Versioned;
-use eve_accounts::{Cents, Row};
+use eve_accounts::{Balances, Row};
 use eve_frames::Entries;
 use eve_smallbank::{Entry, Kind, UpToThree};
-use eve_views::{Code, Trace};
+use eve_views::Code;
 use std::alloc::{AllocError, Global};
 use std::marker::Model;
 
@@ -34,15 +33,13 @@ impl Model for Table {
 }
 
 impl Table {
-    /// Each customer's rows at version 0, with the opening balances.
-    pub fn opening(alloc: Global, trace: &Trace<'_>) -> Result<Table, AllocError>
-        ensures rows { IfOk result (λ table. length table ≡ 2 * length trace.now.customers) }
-        ensures table { IfOk result (λ table. table_of table ≡ opening_table trace.now) }
+    /// Each row at version 0, with its opening balance.
+    pub fn opening(alloc: Global, balances: &Balances) -> Result<Table, AllocError>
+        ensures { IfOk result (λ table. table ≡ map (λ z. record { version = 0; value = z }) balances.now) }
     {
-        let mut rows = Vec::new(alloc);
-        for i in 0..trace.head().customers {
-            let customer = trace.customer(i);
-            push_both(&mut rows, customer.saving(), customer.checking())?;
+        let mut rows = Vec::with_capacity(alloc, balances.len())?;
+        for balance in balances.as_slice() {
+            rows.push_reserved(Versioned::new(0, *balance));
         }
         Ok(Table { rows })
     }
@@ -229,14 +226,4 @@ impl Table {
             Kind::Write => self.rows[entry.row.number() as usize] = from.see(entry.row),
         }
     }
-}
-
-/// Appends both rows of a customer, at version 0.
-fn push_both(rows: &mut Vec<Versioned>, saving: Cents, checking: Cents) -> Result<(), AllocError>
-    ensures { OnOk result (rows.new.items ≡ rows.old.items
-        ++ record { version = 0; value = saving } ∷ record { version = 0; value = checking } ∷ []) }
-{
-    rows.push(Versioned::new(0, saving))?;
-    rows.push(Versioned::new(0, checking))?;
-    Ok(())
 }

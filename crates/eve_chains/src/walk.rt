@@ -3,7 +3,7 @@
 ghost use Rattle.std.specs.Prelude.{◌≡◌, ℕ, List, ◌≤◌, ◌<◌, ◌+◌, ◌-◌, ◌∷◌, All, IfOk, IfErr, OnOk, IsTrue, length};
 ghost use Rattle.std.specs.Prelude.{if◌then◌else◌};
 ghost use Rattle.std.specs.List.{AllByRecursion};
-ghost use Rattle.eve_grammar.specs.Trace.{Step as StepValue};
+ghost use Rattle.eve_grammar.specs.Trace.{Step as StepValue, opening_rows};
 ghost use Rattle.eve_views.specs.Form.{IfFound, IsLeast};
 ghost use Rattle.eve_views.specs.StepKinds.{IsStep};
 ghost use Rattle.eve_history.specs.SectionHistory.{section_history, IsRightSection};
@@ -17,6 +17,7 @@ ghost use Rattle.eve_chains.specs.NotedBalances.{AreBalancesAfter, commits_among
 use crate::along::{judge_along, undo_along, write_along};
 use crate::noted_balances::{BalancesAfter, NotedBalances};
 use crate::table::Table;
+use eve_accounts::Balances;
 use eve_history::History;
 use eve_history::laws::committed_attempts_are_the_sections;
 use eve_views::{CheckFault, Fault, Step, Trace, first_of};
@@ -152,10 +153,12 @@ pub fn chains(
     alloc: Global,
     history: &History<'_>,
     trace: &Trace<'_>,
+    opening: &Balances,
     stretches: u8,
 ) -> Result<Vec<BalancesAfter>, CheckFault>
     requires history { history.now ≡ section_history trace.now history.now.replica }
     requires right { IsRightSection trace.now history.now.replica }
+    requires opening { opening.now ≡ opening_rows trace.now.customers }
     requires stretches { 1 ≤ stretches }
     ensures see { IfOk result (λ _. AllSettledSee trace.now history.now.replica) }
     ensures noted { IfOk result (λ noted. All (AreBalancesAfter (settling trace.now history.now.replica)) noted.items) }
@@ -166,7 +169,7 @@ pub fn chains(
         return Ok(Vec::new(alloc));
     }
     let mut walk = Walk {
-        committed: Table::opening(alloc, trace)?,
+        committed: Table::opening(alloc, opening)?,
         working: Table::none(alloc),
         apart: false,
         settled: 0,

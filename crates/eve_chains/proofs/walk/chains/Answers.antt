@@ -1,4 +1,4 @@
-use Rattle.std.proofs.Common.{◌≡◌, ℕ, List, [], ◌∷◌, None, length, false, refl, sym, subst, ap, ◌∙◌, arith, rules}
+use Rattle.std.proofs.Common.{◌≡◌, ℕ, List, [], ◌∷◌, None, map, length, false, refl, sym, subst, ap, ◌∙◌, arith, rules}
 use Rattle.std.proofs.lemmas.List.{length-map}
 use Rattle.eve_grammar.specs.Trace.{Step, Trace}
 use Rattle.eve_grammar.specs.Spelling.{steps_at}
@@ -6,6 +6,7 @@ use Rattle.eve_history.specs.SectionHistory.{ExecutedAttempt, SectionHistory, hi
 use Rattle.eve_chains.specs.declared.walk.Walk.{Walk}
 use Rattle.eve_chains.specs.declared.noted_balances.NotedBalances.{NotedBalances}
 use Rattle.eve_chains.specs.Walking.{HasWalked}
+use Rattle.eve_chains.proofs.TableLaws.{at_opening}
 use Rattle.eve_chains.proofs.Steps.{none_outside, walked_start, walked_wrong}
 use Rattle.eve_chains.proofs.Noting.{AreNotedSoFar, noted_start, noted_other, noted_commit}
 use Rattle.eve_chains.proofs.walk.chains.Goals as goal
@@ -36,8 +37,8 @@ loop-step-init c =
     ∙ length-map (history t e).committed _ in
     record {
       walked = subst (λ (xs : List (ℕ × Step)). HasWalked t e xs w) (sym steps)
-          (walked_start t e w c.requires.right refl refl refl refl c.in_ok-opening.ensures.rows
-          c.in_ok-opening.ensures.table);
+          (walked_start t e w c.requires.right refl refl refl refl
+          (c.in_ok-opening.ensures ∙ ap (map at_opening) c.requires.opening));
       noted = subst (λ (xs : List (ℕ × Step)). AreNotedSoFar t e xs c.new-noted.result) (sym steps)
           (noted_start t e c.recall_limits.ensures c.requires.right c.new-noted.result c.committed.result
           c.new-noted.ensures.all c.new-noted.ensures.after c.new-noted.ensures.none count);

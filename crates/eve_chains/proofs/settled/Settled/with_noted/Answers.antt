@@ -16,15 +16,15 @@ returns c =
     let t = c.args.trace.now in
     let v = c.args.history.now in
     let batches = c.in_ok-records.ensures ∙ batches_of_section t v.replica v c.requires.history in
-    λ i. record { opening = c.in_ok-opening.ensures i; batches = batches i }
+    λ i. record { opening = c.requires.opening i; batches = batches i }
 
 pub invariant_of-result : goal.invariant_of-result
 invariant_of-result c =
     let t = c.args.trace.now in
     let v = c.args.history.now in
     let batches = c.in_ok-records.ensures ∙ batches_of_section t v.replica v c.requires.history in
-    let rows : row_count (head_of t) ≡ length c.in_ok-opening.opening =
-    sym (ap (λ (xs : List ℤ). length xs) c.in_ok-opening.ensures ∙ length-opening_rows t.customers) in
+    let rows : row_count (head_of t) ≡ length c.args.opening =
+    sym (ap (λ (xs : List ℤ). length xs) c.requires.opening ∙ length-opening_rows t.customers) in
     record {
       within = subst (λ (n : ℕ). AllByRecursion (AreWithin n) c.in_ok-records.records) rows
           (subst (AllByRecursion (AreWithin (row_count (head_of t)))) (sym batches)
