@@ -9,6 +9,7 @@ use Rattle.eve_grammar.specs.Trace.{Commit, Rollback, Step, Attempts, Commits, R
 use Rattle.eve_grammar.specs.Frames.{OfReplica}
 use Rattle.eve_grammar.specs.Spelling.{frame_text, located, section_start, step_text, steps_of, steps_at}
 use Rattle.eve_grammar.specs.Limits.{HasLimits}
+use Rattle.eve_grammar.specs.declared.limits.TheConstants.{MOST_BATCHES}
 use Rattle.eve_grammar.proofs.FrameLaws.{small_head}
 use Rattle.eve_frames.specs.Views.{commit_in, rollback_in}
 use Rattle.eve_frames.specs.declared.commit.CommitView.{CommitView}
@@ -120,7 +121,7 @@ none_unbacked t e f (s ∷ steps) backed place = elim (place_cases (λ _ x. IsUn
 -- ---- along a section
 
 -- a right rollback has room
-room_along : (t : Trace) (s : SectionState) (steps : List (ℕ × Step)) → length t.batches ≤ 65535
+room_along : (t : Trace) (s : SectionState) (steps : List (ℕ × Step)) → length t.batches ≤ MOST_BATCHES
     → IsTrue (are_right t s steps) → AllByRecursion (λ x. HasRoom x.1) steps
 room_along t s [] few right = tt
 room_along t s ((at, Attempts a) ∷ steps) few right =
@@ -136,11 +137,11 @@ room_along t s ((at, RollsBack r) ∷ steps) few right =
       room_along t (next s (at, RollsBack r)) steps few parts.1,
     )
   where
-    room : (to last view before n : ℕ) → to ≡ last → last < n → n ≤ 65535 → view ≡ before + 1 → (to + 1 < 2 ^ 32)
+    room : (to last view before n : ℕ) → to ≡ last → last < n → n ≤ MOST_BATCHES → view ≡ before + 1 → (to + 1 < 2 ^ 32)
         × (1 ≤ view)
     room to last view before n e lt few f = (omega arith, omega arith)
 
-few_batches : (t : Trace) → HasLimits t → length t.batches ≤ 65535
+few_batches : (t : Trace) → HasLimits t → length t.batches ≤ MOST_BATCHES
 few_batches t limits = (small_head (head_of t) limits.head).batches
 
 -- The steps of replica e that are still to come; those before them are backed.
