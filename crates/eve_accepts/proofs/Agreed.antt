@@ -3,6 +3,7 @@ use Rattle.std.proofs.Common.{◌≡◌, ℕ, zero, suc, ◌+◌, ◌≤◌, nat
 use Rattle.std.proofs.Common.{slice_get, Option, Some, IfSome, refl, sym, ap, subst, ◌∙◌, add-one, arith}
 use Rattle.std.specs.List.{enumerate_from, find}
 use Rattle.std.proofs.lemmas.Bool.{leb-true, cond-true, cond-false}
+use Rattle.std.proofs.lemmas.Option.{same_Some}
 use Rattle.eve_smallbank.proofs.Members.{all_in}
 use Rattle.eve_grammar.specs.Trace.{Trace}
 use Rattle.eve_grammar.specs.Limits.{HasLimits}
@@ -11,7 +12,7 @@ use Rattle.eve_views.specs.declared.fault.Code.TheVariants as code
 use Rattle.eve_views.specs.declared.fault.Fault.{Fault}
 use Rattle.eve_history.specs.Section.{Placed}
 use Rattle.eve_history.specs.SectionHistory.{history, committed_at, IsRightSection}
-use Rattle.eve_chains.proofs.Linked.{last_committed, committed_number, item_at, in_at, none≢some, some_injective}
+use Rattle.eve_chains.proofs.Linked.{last_committed, committed_number, item_at, in_at, none≢some}
 use Rattle.eve_votes.specs.Faults.{AreVotesSound}
 use Rattle.eve_votes.proofs.Places.{get_between}
 use Rattle.eve_agree.specs.Agreement.{first_to_commit, HaveSameOutcome, StandsInAgreement, IsOutcomeFault}
@@ -34,7 +35,7 @@ found_passes {A} test k f (x ∷ xs) is = by (test k) refl (λ rest. found_passe
 
     by : (b : Bool) → test k ≡ b → (others ≡ Some f → test f ≡ true) → test f ≡ true
     by true here further =
-        subst (λ (m : ℕ). test m ≡ true) (some_injective k f (sym (cond-true (test k) (Some k) others here) ∙ is)) here
+        subst (λ (m : ℕ). test m ≡ true) (same_Some k f (sym (cond-true (test k) (Some k) others here) ∙ is)) here
     by false here further = further (sym (cond-false (test k) (Some k) others here) ∙ is)
 
 -- the first to commit a batch committed it

@@ -6,7 +6,7 @@ use Rattle.std.specs.List.{AllByRecursion}
 use Rattle.std.proofs.lemmas.Bool.{and_parts, eqb-true}
 use Rattle.std.proofs.lemmas.List.{length-map}
 use Rattle.std.proofs.lemmas.List.Sorted.{IsPermutation-map, length_permutation}
-use Rattle.std.proofs.lemmas.Option.{get_or_from_slice_get}
+use Rattle.std.proofs.lemmas.Option.{get_or_from_slice_get, same_Some}
 use Rattle.eve_smallbank.specs.declared.entry.Kind.{Kind}
 use Rattle.eve_smallbank.specs.declared.entry.Kind.TheVariants.{Read, Write}
 use Rattle.eve_smallbank.specs.declared.request.Reply.{Reply}
@@ -24,7 +24,6 @@ use Rattle.eve_token.specs.Token.{token_of}
 use Rattle.eve_votes.proofs.Places.{get_between}
 use Rattle.eve_history.specs.Section.{no_batch}
 use Rattle.eve_chains.specs.Committed.{first_rows}
-use Rattle.eve_chains.proofs.Linked.{some_injective}
 use Rattle.eve_agree.proofs.TokensInOrder.{rows_are}
 use Rattle.eve_attempts.specs.Ledgers.{Ledger, Opened, table_now}
 use Rattle.eve_attempts.specs.Closing.{executed, indexes_of}
@@ -137,7 +136,7 @@ replies_listed b n before [] (r ∷ rs) at many counts replies = absurd (omega a
 replies_listed b n before (x ∷ rest) [] at many counts replies = absurd (omega arith)
 replies_listed b n before (x ∷ rest) (r ∷ rs) at many counts replies =
     let parts = and_parts (r.index == n) (counts_from (suc n) (indexes_of rs)) counts in
-    let here : x ≡ r.reply = some_injective x r.reply
+    let here : x ≡ r.reply = same_Some x r.reply
     (sym (get_between before x rest)
     ∙ ap (slice_get (before ++ x ∷ rest)) (at ∙ sym (eqb-true r.index n parts.0)) ∙ replies.0) in
     ap₂ (λ (y : Reply) (ys : List Reply). y ∷ ys) here

@@ -4,6 +4,7 @@ use Rattle.std.proofs.Common.{length, take, drop, slice_get, Option, Some, None,
 use Rattle.std.proofs.Common.{inr, ◌⊎◌, if◌then◌else◌, arith, add-one}
 use Rattle.std.specs.List.{enumerate_from, find}
 use Rattle.std.proofs.lemmas.Bool.{cases_lt}
+use Rattle.std.proofs.lemmas.Option.{same_Some}
 use Rattle.eve_smallbank.specs.declared.request.Reply.{Reply}
 use Rattle.eve_grammar.specs.Trace.{Trace}
 use Rattle.eve_views.specs.declared.fault.Code.{Code}
@@ -19,7 +20,7 @@ use Rattle.eve_history.specs.Section.{Placed}
 use Rattle.eve_history.specs.SectionHistory.{SectionHistory, section_history, section_histories, history, committed_at}
 use Rattle.eve_history.specs.SectionHistory.{IsRightSection}
 use Rattle.eve_history.proofs.Rights.{as_many_told, section_history_at}
-use Rattle.eve_chains.proofs.Linked.{last_committed, item_at, some_injective, none≢some, take_length}
+use Rattle.eve_chains.proofs.Linked.{last_committed, item_at, none≢some, take_length}
 use Rattle.eve_agree.specs.Agreement.{first_to_commit, HaveSameOutcome, ReplicasAgree, StandsInAgreement}
 use Rattle.eve_agree.specs.Agreement.{IsOutcomeFault}
 use Rattle.eve_agree.specs.Judging.{NoneBefore, Stand, IsUpToAt, KeepsFound, AgreesOrIsFound}
@@ -115,7 +116,7 @@ judged_same t least e f n first same p at =
 pub judged_apart : (t : Trace) (least : Option Fault) (e n at : ℕ) (rs : List Reply) → Stand t least → IsOf t e n at rs
     → AgreesOrIsFound t (with_outcome least at e) e n
 judged_apart t least e n at rs stand own p here =
-    let same : p ≡ own.item = some_injective p own.item (sym here ∙ own.at) in
+    let same : p ≡ own.item = same_Some p own.item (sym here ∙ own.at) in
     inr (subst (IsUpToAt (with_outcome least at e)) (own.offset_is ∙ sym (ap (λ (q : Placed). q.offset) same))
     (lower_here t least at e stand))
 
@@ -255,7 +256,7 @@ only_first test [] f few is = none≢some f is
 only_first test (x ∷ []) f few is = by (test 0) is
   where
     by : (b : Bool) → cond b (Some 0) None ≡ Some f → f ≡ 0
-    by true e = sym (some_injective 0 f e)
+    by true e = sym (same_Some 0 f e)
     by false e = none≢some f e
 only_first test (x ∷ y ∷ ys) f few is = absurd (omega arith)
 

@@ -1,6 +1,7 @@
 -- What is answered, and by which reply.
 use Rattle.std.proofs.Common.{◌≡◌, ℕ, zero, suc, ◌-◌, ◌≤◌, List, map, slice_get, Some, None}
 use Rattle.std.proofs.Common.{sym, ap, ◌∙◌, arith}
+use Rattle.std.proofs.lemmas.Option.{same_Some}
 use Rattle.eve_smallbank.specs.declared.request.Reply.{Reply}
 use Rattle.eve_grammar.specs.Trace.{Attempt, Sent, Trace}
 use Rattle.eve_history.specs.Section.{Placed, batch_at}
@@ -8,7 +9,7 @@ use Rattle.eve_history.specs.SectionHistory.{ExecutedAttempt, SectionHistory, ex
 use Rattle.eve_history.specs.SectionHistory.{section_history, history, committed_at}
 use Rattle.eve_grammar.specs.Trace.{RequestId, request_id}
 use Rattle.eve_history.proofs.Finding.{get_mapped}
-use Rattle.eve_chains.proofs.Linked.{some_injective, none≢some}
+use Rattle.eve_chains.proofs.Linked.{none≢some}
 use Rattle.eve_agree.specs.SentReplies.{IsReplied}
 use Rattle.eve_agree.specs.Keeping.{AnswersAt}
 use Rattle.eve_agree.proofs.Outcomes.{mapped_at}
@@ -72,7 +73,7 @@ pub answer_from : (t : Trace) (s : Sent) (replies : List Reply) (request_ids : L
     → IsCommitted t s.replica s.seq replies → request_ids ≡ map request_id (batch_at t s.seq).requests
     → IsReplied t s → (i : ℕ) × AnswersAt request_ids replies s i
 answer_from t s replies request_ids committed is replied =
-    let same : replied.placed ≡ committed.placed = some_injective replied.placed committed.placed
+    let same : replied.placed ≡ committed.placed = same_Some replied.placed committed.placed
     (sym replied.committed ∙ committed.at) in (
       replied.index,
       record {

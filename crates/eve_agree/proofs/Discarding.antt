@@ -19,6 +19,8 @@ use Rattle.eve_chains.specs.Visible.{opening_table, execution, executions, execu
 use Rattle.eve_chains.specs.Committed.{attempts_of}
 use Rattle.eve_chains.specs.Sound.{IsSoundAlong, SettledAreSound}
 use Rattle.eve_chains.specs.Along.{entries_along}
+use Rattle.eve_chains.specs.Walking.{ArePlaced}
+use Rattle.eve_chains.proofs.Linked.{placed_push}
 use Rattle.eve_chains.proofs.AlongLaws.{table_after_all-append}
 use Rattle.eve_chains.proofs.Distinct.{in_right}
 use Rattle.eve_chains.proofs.Walks.{record_at, same_entries, right_one, complete_one}
@@ -26,51 +28,37 @@ use Rattle.eve_agree.specs.Tables.{committed_rows, entries_of, open_entries}
 
 -- ---- paths
 
--- each stands on the path of those before it
-abbrev ArePathed : List Attempt → List Placed → Type 0
-ArePathed before [] = Unit {0}
-ArePathed before (p ∷ ps) = (p.path ≡ before) × ArePathed (before ++ p.attempt ∷ []) ps
+placed-front : (before : List Attempt) (ps qs : List Placed) → ArePlaced before (ps ++ qs) → ArePlaced before ps
+placed-front before [] qs placed = tt
+placed-front before (p ∷ ps) qs placed = (placed.0, placed-front (before ++ p.attempt ∷ []) ps qs placed.1)
 
-pathed-push : (before : List Attempt) (ps : List Placed) (q : Placed) → ArePathed before ps
-    → q.path ≡ before ++ attempts_of ps → ArePathed before (ps ++ q ∷ [])
-pathed-push before [] q pathed last = (last ∙ append-nil before, tt)
-pathed-push before (p ∷ ps) q pathed last = (
-  pathed.0,
-  pathed-push (before ++ p.attempt ∷ []) ps q pathed.1
-      (last ∙ sym (append_assoc before (p.attempt ∷ []) (attempts_of ps))),
-)
+placed-behind : (before : List Attempt) (ps qs : List Placed) → ArePlaced before (ps ++ qs)
+    → ArePlaced (before ++ attempts_of ps) qs
+placed-behind before [] qs placed = subst (λ (path : List Attempt). ArePlaced path qs) (sym (append-nil before)) placed
+placed-behind before (p ∷ ps) qs placed =
+    subst (λ (path : List Attempt). ArePlaced path qs) (append_assoc before (p.attempt ∷ []) (attempts_of ps))
+    (placed-behind (before ++ p.attempt ∷ []) ps qs placed.1)
 
-pathed-front : (before : List Attempt) (ps qs : List Placed) → ArePathed before (ps ++ qs) → ArePathed before ps
-pathed-front before [] qs pathed = tt
-pathed-front before (p ∷ ps) qs pathed = (pathed.0, pathed-front (before ++ p.attempt ∷ []) ps qs pathed.1)
+abbrev IsPlaced : SectionState → Type 0
+IsPlaced s = ArePlaced [] (s.committed ++ s.pending)
 
-pathed-behind : (before : List Attempt) (ps qs : List Placed) → ArePathed before (ps ++ qs)
-    → ArePathed (before ++ attempts_of ps) qs
-pathed-behind before [] qs pathed = subst (λ (path : List Attempt). ArePathed path qs) (sym (append-nil before)) pathed
-pathed-behind before (p ∷ ps) qs pathed =
-    subst (λ (path : List Attempt). ArePathed path qs) (append_assoc before (p.attempt ∷ []) (attempts_of ps))
-    (pathed-behind (before ++ p.attempt ∷ []) ps qs pathed.1)
-
-abbrev IsPathed : SectionState → Type 0
-IsPathed s = ArePathed [] (s.committed ++ s.pending)
-
-pathed_next : (s : SectionState) (step : ℕ × Step) → IsPathed s → IsPathed (next s step)
-pathed_next s (at, Attempts a) pathed =
-    subst (ArePathed []) (append_assoc s.committed s.pending
+placed_next : (s : SectionState) (step : ℕ × Step) → IsPlaced s → IsPlaced (next s step)
+placed_next s (at, Attempts a) placed =
+    subst (ArePlaced []) (append_assoc s.committed s.pending
     (record { offset = at; attempt = a; path = path_of s } ∷ []))
-    (pathed-push [] (s.committed ++ s.pending) (record { offset = at; attempt = a; path = path_of s }) pathed refl)
-pathed_next s (at, Commits c) pathed = by s.pending refl
+    (placed_push [] (s.committed ++ s.pending) (record { offset = at; attempt = a; path = path_of s }) placed refl)
+placed_next s (at, Commits c) placed = by s.pending refl
   where
-    by : (pending : List Placed) → s.pending ≡ pending → IsPathed (committing s pending)
-    by [] e = pathed
-    by (p ∷ ps) e = subst (ArePathed []) (ap (λ (qs : List Placed). s.committed ++ qs) e
-        ∙ sym (append_assoc s.committed (p ∷ []) ps)) pathed
-pathed_next s (at, RollsBack r) pathed = subst (ArePathed []) (sym (append-nil s.committed))
-    (pathed-front [] s.committed s.pending pathed)
+    by : (pending : List Placed) → s.pending ≡ pending → IsPlaced (committing s pending)
+    by [] e = placed
+    by (p ∷ ps) e = subst (ArePlaced []) (ap (λ (qs : List Placed). s.committed ++ qs) e
+        ∙ sym (append_assoc s.committed (p ∷ []) ps)) placed
+placed_next s (at, RollsBack r) placed = subst (ArePlaced []) (sym (append-nil s.committed))
+    (placed-front [] s.committed s.pending placed)
 
-pathed_after : (s : SectionState) (steps : List (ℕ × Step)) → IsPathed s → IsPathed (state_after s steps)
-pathed_after s [] pathed = pathed
-pathed_after s (step ∷ steps) pathed = pathed_after (next s step) steps (pathed_next s step pathed)
+placed_after : (s : SectionState) (steps : List (ℕ × Step)) → IsPlaced s → IsPlaced (state_after s steps)
+placed_after s [] placed = placed
+placed_after s (step ∷ steps) placed = placed_after (next s step) steps (placed_next s step placed)
 
 -- ---- chained from what is committed
 
@@ -86,19 +74,19 @@ left_more t path a =
     ∙ ap (λ (xs : List Executed). executions t path ++ xs) (append-nil (execution t a)))
     ∙ table_after_all-append (opening_table t) (executions t path) (execution t a)
 
-follows_path : (t : Trace) (before : List Attempt) (ps : List Placed) → ArePathed before ps
+follows_path : (t : Trace) (before : List Attempt) (ps : List Placed) → ArePlaced before ps
     → ((p : Placed) → In p ps → IsSoundAlong t p) → Follows (rows_after t before) (executions t (attempts_of ps))
-follows_path t before [] pathed sound = tt
-follows_path t before (p ∷ ps) pathed sound =
+follows_path t before [] placed sound = tt
+follows_path t before (p ∷ ps) placed sound =
     follows-append (rows_after t before) (execution t p.attempt) (executions t (attempts_of ps))
     (subst (λ (table : Table). Follows table (execution t p.attempt))
     (visible_at-before_rest (opening_table t) [] (executions t before))
     (follows_chain (opening_table t) (entries_before t before) (execution t p.attempt)
     (chained_by_rows (opening_table t) (entries_before t before) (execution t p.attempt)
     (subst (λ (path : List Attempt). IsSound (names_of t) (opening_table t) (entries_before t path)
-    (execution t p.attempt)) pathed.0 (sound p here)).chained)))
+    (execution t p.attempt)) placed.0 (sound p here)).chained)))
     (subst (λ (table : Table). Follows table (executions t (attempts_of ps))) (left_more t before p.attempt)
-    (follows_path t (before ++ p.attempt ∷ []) ps pathed.1 (λ q i. sound q (there i))))
+    (follows_path t (before ++ p.attempt ∷ []) ps placed.1 (λ q i. sound q (there i))))
 
 -- ---- what is discarded
 
@@ -132,7 +120,7 @@ module _ (t : Trace) (e : ℕ) (front : List (ℕ × Step)) (at : ℕ) (r : Roll
   follows_committed sound =
       let s = state_after start front in
       follows_path t (attempts_of s.committed) s.pending
-      (pathed-behind [] s.committed s.pending (pathed_after start front tt))
+      (placed-behind [] s.committed s.pending (placed_after start front tt))
       (λ p i. all_in (IsSoundAlong t) sound (gets_settled p i))
 
   -- ---- what is read of them

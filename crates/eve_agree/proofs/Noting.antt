@@ -8,13 +8,8 @@ use Rattle.eve_views.proofs.Lists.{take_one_more}
 use Rattle.eve_history.specs.SectionHistory.{ExecutedAttempt}
 use Rattle.eve_history.proofs.Finding.{rec_at}
 use Rattle.eve_chains.specs.Along.{entries_along, AreWithin}
-use Rattle.eve_chains.proofs.Linked.{some_injective}
 use Rattle.eve_agree.specs.Marking.{Marking, marked, noted_between}
 use Rattle.eve_agree.proofs.Marking.{marked-append}
-
-pub same_found : (rs : List ExecutedAttempt) (i : ℕ) (r q : ExecutedAttempt) → slice_get rs i ≡ Some r → slice_get rs i
-    ≡ Some q → r ≡ q
-same_found rs i r q one other = some_injective r q (sym one ∙ other)
 
 pub executed_attempt_within : (rows : ℕ) (rs : List ExecutedAttempt) (i : ℕ) (r : ExecutedAttempt)
     → AllByRecursion (λ q. AreWithin rows q.ordered) rs → slice_get rs i ≡ Some r → AreWithin rows r.ordered

@@ -8,7 +8,7 @@ use Rattle.std.specs.Option.{option_map}
 use Rattle.std.proofs.lemmas.Bool.{cases_lt, leb-false, le-leb, lt-leb}
 use Rattle.std.proofs.lemmas.List.{length-map}
 use Rattle.std.proofs.lemmas.List.FromFn.{length-enumerate_from}
-use Rattle.std.proofs.lemmas.Option.{slice_get_within}
+use Rattle.std.proofs.lemmas.Option.{slice_get_within, same_Some}
 use Rattle.eve_smallbank.specs.declared.request.Reply.{Reply}
 use Rattle.eve_grammar.specs.Trace.{Attempt, Step, Trace}
 use Rattle.eve_views.proofs.Lists.{take_one_more}
@@ -16,7 +16,7 @@ use Rattle.eve_history.specs.Section.{Placed, start, state_after}
 use Rattle.eve_history.specs.SectionHistory.{ExecutedAttempt, executed_attempt, SectionHistory, section_history}
 use Rattle.eve_history.specs.SectionHistory.{section_histories, placed_at, history, committed_at, IsRightSection}
 use Rattle.eve_chains.specs.Committed.{first_rows, values_to, balances_to}
-use Rattle.eve_chains.proofs.Linked.{last_committed, some_injective, none≢some}
+use Rattle.eve_chains.proofs.Linked.{last_committed, none≢some}
 use Rattle.eve_chains.specs.Settling.{Settling, settling, settlings, values_in}
 use Rattle.eve_history.proofs.Rights.{as_many_told, none_at, section_history_at}
 use Rattle.eve_agree.proofs.TokensInOrder.{rows_are, rows_told}
@@ -40,7 +40,7 @@ module _ (t : Trace) where
       ∙ got in
       let lt = slice_get_within (section_histories t) e h here in
       let count = as_many_told t in
-      some_injective h (section_history t e) (sym here ∙ section_history_at t e (omega arith))
+      same_Some h (section_history t e) (sym here ∙ section_history_at t e (omega arith))
 
   pub settlings_count : length (settlings t) ≡ length t.sections
   unfolding settlings
@@ -90,7 +90,7 @@ module _ (t : Trace) (e : ℕ) where
 pub mapped_at : {A B : Type 0} (f : A → B) (xs : List A) (i : ℕ) (y : B) → slice_get (map f xs) i ≡ Some y → (x : A)
     × (slice_get xs i ≡ Some x) × (f x ≡ y)
 mapped_at f [] i y e = absurd cc
-mapped_at f (x ∷ xs) zero y e = (x, refl, some_injective (f x) y e)
+mapped_at f (x ∷ xs) zero y e = (x, refl, same_Some (f x) y e)
 mapped_at f (x ∷ xs) (suc i) y e = mapped_at f xs i y e
 
 -- this offset and these replies are those of the attempt by which replica e committed batch n
@@ -149,7 +149,7 @@ pub outcome_same : (t : Trace) (e f n o q : ℕ) (rs ss : List Reply) (b c : Lis
 outcome_same t e f n o q rs ss b c own other is it same = (
   is ∙ same.balances ∙ sym it,
   own.replies_are
-      ∙ some_injective own.item.attempt.replies other.item.attempt.replies
+      ∙ same_Some own.item.attempt.replies other.item.attempt.replies
       (sym (ap (option_map (λ p. p.attempt.replies)) own.at) ∙ same.replies
       ∙ ap (option_map (λ p. p.attempt.replies)) other.at)
       ∙ sym other.replies_are,
@@ -185,7 +185,7 @@ none_more hs n e h none got less i g lt here = elim (cases_lt i e) [
   | inl before ↦ none i g before here
   | inr last ↦
       let same : i ≡ e = omega arith in
-      let is : g ≡ h = some_injective g h (sym here ∙ ap (slice_get hs) same ∙ got) in
+      let is : g ≡ h = same_Some g h (sym here ∙ ap (slice_get hs) same ∙ got) in
       subst (λ (x : SectionHistory). x.committed < n) (sym is) less
 ]
 

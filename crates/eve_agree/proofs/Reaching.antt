@@ -3,9 +3,8 @@ use Rattle.std.proofs.Common.{◌≡◌, ℕ, zero, suc, ◌+◌, ◌-◌, ◌<�
 use Rattle.std.proofs.Common.{set, Some, refl, sym, ap, subst, ◌∙◌, inl, inr, arith, get_or-set_same, get_or-set_other}
 use Rattle.std.proofs.lemmas.Bool.{cases_lt, cases_eq}
 use Rattle.std.proofs.lemmas.List.{length-set, length-append}
-use Rattle.std.proofs.lemmas.Option.{slice_get_within}
+use Rattle.std.proofs.lemmas.Option.{slice_get_within, same_Some}
 use Rattle.eve_smallbank.specs.Access.{balance_of_row}
-use Rattle.eve_chains.proofs.Linked.{some_injective}
 use Rattle.eve_chains.specs.Settling.{Settling, values_in}
 use Rattle.eve_agree.specs.Judging.{IsAfter, AreAfter}
 
@@ -37,7 +36,7 @@ opened_more settled i all after s b opened got rows values is = record {
     | inr late ↦
         let same : e ≡ length all = (let count = opened.as_many in omega arith) in
         let at : e ≡ i = omega arith in
-        let its : s ≡ r = some_injective s r (sym got ∙ ap (slice_get settled) (sym at) ∙ here) in
+        let its : s ≡ r = same_Some s r (sym got ∙ ap (slice_get settled) (sym at) ∙ here) in
         let last : get_or (all ++ b ∷ []) e [] ≡ b = ap (λ (k : ℕ). get_or (all ++ b ∷ []) k []) same
         ∙ push_here all b [] in
         subst (IsAfter r 0) (sym last)
@@ -91,7 +90,7 @@ reached_more settled n i all after s b reached lt got here is =
       done = λ e r less its. subst (λ (xs : List (List ℤ)). IsAfter r n (get_or xs e [])) (sym is)
           (elim (cases_eq e i) [
             | inl at ↦
-                let same : s ≡ r = some_injective s r (sym got ∙ ap (slice_get settled) (sym at) ∙ its) in
+                let same : s ≡ r = same_Some s r (sym got ∙ ap (slice_get settled) (sym at) ∙ its) in
                 let it : get_or (set all i b) e [] ≡ b = ap (λ (k : ℕ). get_or (set all i b) k []) at
                 ∙ get_or-set_same all i b [] (omega arith) in
                 subst (IsAfter r n) (sym it) (subst (λ (x : Settling). IsAfter x n b) same here)

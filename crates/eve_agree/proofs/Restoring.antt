@@ -1,13 +1,13 @@
 -- After a rollback that restores what it must a replica works on what is committed.
 use Rattle.std.proofs.Common.{◌≡◌, ℕ, zero, suc, Bool, true, false, cond, ◌==◌, List, [], ◌∷◌, ◌++◌, take, slice_get}
-use Rattle.std.proofs.Common.{Option, Some, None, refl, sym, ap, ◌∙◌, inl, inr, append_assoc, append-nil}
+use Rattle.std.proofs.Common.{Some, refl, sym, ap, ◌∙◌, inl, inr, append_assoc, append-nil}
 use mathlib.Core.Path.{fun_ext}
 use Rattle.std.specs.List.{list_all, list_any}
 use Rattle.std.specs.Ordering.{int_eq}
 use Rattle.std.proofs.lemmas.Bool.{cases_Bool, and_parts, or_cases, or_parts, eqb-true, false≢true}
 use Rattle.std.proofs.lemmas.Bool.Decides.{Decides-int_eq}
 use Rattle.std.proofs.lemmas.List.{map-append}
-use Rattle.std.proofs.lemmas.Option.{same_Some}
+use Rattle.std.proofs.lemmas.Option.{same_Some, none-some}
 use Rattle.std.proofs.lemmas.List.Folds.{list_any-append}
 use Rattle.std.proofs.lemmas.Grind.{flat_map-append}
 use Rattle.eve_smallbank.specs.Access.{Executed, writes_row}
@@ -159,15 +159,12 @@ no_rollback a r e = cc
 no_rollback_commit : (c : Commit) (r : Rollback) → Commits c ≡ RollsBack r → ⊥
 no_rollback_commit c r e = cc
 
-none_found : (x : ℕ × Step) → ◌≡◌ {A = Option (ℕ × Step)} None (Some x) → ⊥
-none_found x e = cc
-
 -- what the replica works on is what its attempts leave that are not discarded
 works_along : (t : Trace) (s : SectionState) (table : Table) (steps : List (ℕ × Step)) (k at : ℕ) (r : Rollback)
     → all_restore_rightly t s steps ≡ true → table ≡ along t s
     → slice_get steps k ≡ Some (at, RollsBack r) → worked t table (take (suc k) steps)
     ≡ committed_rows t (state_after s (take (suc k) steps))
-works_along t s table [] k at r right e found = absurd (none_found (at, RollsBack r) found)
+works_along t s table [] k at r right e found = absurd (none-some (at, RollsBack r) found)
 works_along t s table ((o, Attempts a) ∷ steps) zero at r right e found =
     absurd (no_rollback a r (found_step (o, Attempts a) (at, RollsBack r) found))
 works_along t s table ((o, Commits c) ∷ steps) zero at r right e found =

@@ -3,7 +3,7 @@ use Rattle.std.proofs.Common.{◌≡◌, ℕ, zero, suc, ◌+◌, ◌<◌, ◌�
 use Rattle.std.proofs.Common.{slice_index_or, Some, None, refl, sym, subst, ap, ◌∙◌, inl, inr, ◌⊎◌, arith, IsTrue}
 use Rattle.std.specs.List.{AllByRecursion, list_all}
 use Rattle.std.proofs.lemmas.Bool.{and_parts, cases_lt, ltb-true, leb-true}
-use Rattle.std.proofs.lemmas.Option.{get_or_from_slice_get}
+use Rattle.std.proofs.lemmas.Option.{get_or_from_slice_get, same_Some}
 use Rattle.eve_grammar.specs.Trace.{Sent, Trace}
 use Rattle.eve_grammar.specs.Frames.{OfSent}
 use Rattle.eve_grammar.specs.Spelling.{frame_text, located, sent_start, sent_at}
@@ -19,7 +19,7 @@ use Rattle.eve_history.specs.SectionHistory.{SectionHistory, section_history, se
 use Rattle.eve_history.proofs.Places.{no_place, place_cases, Rising, located_rising, At, first_place}
 use Rattle.eve_history.proofs.Places.{weaker_place}
 use Rattle.eve_history.proofs.Rights.{section_history_at}
-use Rattle.eve_chains.proofs.Linked.{some_injective, none≢some}
+use Rattle.eve_chains.proofs.Linked.{none≢some}
 use Rattle.eve_agree.specs.SentReplies.{IsReplied, AllReplied, StandsInReplies, IsReplyFault}
 
 -- a reply that no committed attempt gave
@@ -56,7 +56,7 @@ replied_more t i s all at one = let next : suc i ≡ i + 1 = omega arith in
     more : (xs : List Sent) (k : ℕ) → AllByRecursion (IsReplied t) (take k xs) → slice_get xs k ≡ Some s
         → AllByRecursion (IsReplied t) (take (suc k) xs)
     more [] k before there = none≢some s there
-    more (x ∷ xs) zero before there = (subst (IsReplied t) (sym (some_injective x s there)) one, tt)
+    more (x ∷ xs) zero before there = (subst (IsReplied t) (sym (same_Some x s there)) one, tt)
     more (x ∷ xs) (suc k) before there = (before.0, more xs k before.1 there)
 
 pub no_fault : (t : Trace) → AllReplied t → (f : Fault) → ¬ IsReplyFault t f
@@ -133,7 +133,7 @@ is_possible t i s limits at =
         → slice_get xs k ≡ Some s → IsTrue (is_sent (length t.sections) (length t.batches) s)
     each [] k all there = none≢some s there
     each (x ∷ xs) zero all there = subst (λ (y : Sent). IsTrue (is_sent (length t.sections) (length t.batches) y))
-        (some_injective x s there) (and_parts _ _ all).0
+        (same_Some x s there) (and_parts _ _ all).0
     each (x ∷ xs) (suc k) all there = each xs k (and_parts (is_sent (length t.sections) (length t.batches) x) _ all).1
         there
 

@@ -5,13 +5,14 @@ use Rattle.std.proofs.Common.{slice_get, Some, refl, sym, subst, ◌∙◌, zero
 use Rattle.std.specs.List.{AllByRecursion}
 use Rattle.std.specs.Cmp.Lexicographic.{same_text}
 use Rattle.std.proofs.lemmas.Bool.{and_parts, eqb-true}
+use Rattle.std.proofs.lemmas.Option.{same_Some}
 use Rattle.eve_grammar.specs.Trace.{Commit, Rollback, Step, Attempts, Commits, RollsBack, Trace}
 use Rattle.eve_grammar.specs.Spelling.{steps_at}
 use Rattle.eve_history.specs.Section.{Placed, SectionState, start, committing, next, state_after, same_bytes}
 use Rattle.eve_history.specs.Section.{commits_first, is_right, are_right}
 use Rattle.eve_history.specs.SectionHistory.{history, committed_at, IsRightSection}
 use Rattle.eve_votes.specs.Votes.{IsDecided, IsRolledBack}
-use Rattle.eve_chains.proofs.Linked.{some_injective, none≢some}
+use Rattle.eve_chains.proofs.Linked.{none≢some}
 use Rattle.eve_agree.specs.Majority.{IsBacked}
 
 -- ---- along a section
@@ -84,7 +85,7 @@ decided_at : (t : Trace) (n : ℕ) (ps : List Placed) (k : ℕ) (p : Placed) →
 decided_at t n [] k p decided e = none≢some p e
 decided_at t n (q ∷ ps) zero p decided e =
     subst (λ m. IsDecided t m p.attempt.view p.attempt.token) (none_more n)
-    (subst (λ (x : Placed). IsDecided t (suc n) x.attempt.view x.attempt.token) (some_injective q p e) decided.0)
+    (subst (λ (x : Placed). IsDecided t (suc n) x.attempt.view x.attempt.token) (same_Some q p e) decided.0)
   where
     none_more : (n : ℕ) → suc n ≡ suc (n + 0)
     none_more n = omega arith
@@ -109,7 +110,7 @@ committed_decided t e right backed (suc k) p at =
 backed_at : (t : Trace) (steps : List (ℕ × Step)) (k : ℕ) (step : ℕ × Step) → AllByRecursion (λ x. IsBacked t x.1) steps
     → slice_get steps k ≡ Some step → IsBacked t step.1
 backed_at t [] k step backed e = none≢some step e
-backed_at t (x ∷ steps) zero step backed e = subst (λ y. IsBacked t y.1) (some_injective x step e) backed.0
+backed_at t (x ∷ steps) zero step backed e = subst (λ y. IsBacked t y.1) (same_Some x step e) backed.0
 backed_at t (x ∷ steps) (suc k) step backed e = backed_at t steps k step backed.1 e
 
 pub commit_backed : (t : Trace) (steps : List (ℕ × Step)) (k at : ℕ) (c : Commit)

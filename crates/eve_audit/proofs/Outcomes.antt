@@ -2,14 +2,14 @@
 use Rattle.std.proofs.Common.{◌≡◌, ℕ, zero, suc, ◌+◌, ◌≤◌, ◌<◌, nat_le, Bool, true, List, [], ◌∷◌, map, length, Option}
 use Rattle.std.proofs.Common.{Some, IfSome, find, sym, subst, ap, ◌∙◌, inl, inr, arith}
 use Rattle.std.specs.Option.{option_map}
-use Rattle.std.proofs.lemmas.Option.{slice_get_within}
+use Rattle.std.proofs.lemmas.Option.{slice_get_within, same_Some}
 use Rattle.std.proofs.lemmas.Bool.{cases_Bool, cases_lt, cases_eq, le-leb, false≢true, cond-true, cond-false}
 use Rattle.std.specs.List.{enumerate_from}
 use Rattle.eve_smallbank.specs.declared.request.Reply.{Reply}
 use Rattle.eve_grammar.specs.Trace.{Trace}
 use Rattle.eve_history.specs.Section.{Placed, SectionState}
 use Rattle.eve_history.specs.SectionHistory.{history, committed_at, IsRightSection}
-use Rattle.eve_chains.proofs.Linked.{last_committed, some_injective, none≢some}
+use Rattle.eve_chains.proofs.Linked.{last_committed, none≢some}
 use Rattle.eve_agree.specs.Agreement.{first_to_commit, HaveSameOutcome, HasCommitted, ReplicasAgree}
 use Rattle.eve_audit.proofs.Kept.{state_of_none}
 use Rattle.eve_audit.proofs.SameBanks.{banks_agree}
@@ -63,7 +63,7 @@ same_replies : (o u : Option Placed) (p q : Placed) → o ≡ Some p → u ≡ S
     → p.attempt.replies ≡ q.attempt.replies
 same_replies o u p q e f same =
     let replies : Option Placed → Option (List Reply) = option_map (λ r. r.attempt.replies) in
-    some_injective p.attempt.replies q.attempt.replies (sym (ap replies e) ∙ same ∙ ap replies f)
+    same_Some p.attempt.replies q.attempt.replies (sym (ap replies e) ∙ same ∙ ap replies f)
 
 -- what was committed is within the committed numbers
 has_committed : (t : Trace) (e n : ℕ) (p : Placed) → IsRightSection t e → committed_at t e n ≡ Some p

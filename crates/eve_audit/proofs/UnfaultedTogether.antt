@@ -4,7 +4,7 @@ use Rattle.std.proofs.Common.{IfSome, slice_get, get_or, refl, sym, ap, subst, �
 use Rattle.std.specs.List.{AllByRecursion, All, list_all}
 use Rattle.std.specs.Prelude.{IsTrue}
 use Rattle.std.proofs.lemmas.Bool.{cases_lt, cases_eq}
-use Rattle.std.proofs.lemmas.Option.{slice_get-get_or, slice_get_within}
+use Rattle.std.proofs.lemmas.Option.{slice_get-get_or, slice_get_within, same_Some}
 use Rattle.eve_grammar.specs.Trace.{ForRollback, ForCommit, Asked, Sent, Batch, Step, Attempts, Commits, RollsBack}
 use Rattle.eve_grammar.specs.Trace.{Trace}
 use Rattle.eve_grammar.specs.Frames.{OfSent}
@@ -15,7 +15,7 @@ use Rattle.eve_views.specs.declared.fault.Fault.{Fault}
 use Rattle.eve_history.specs.Section.{Placed, no_batch, batch_at}
 use Rattle.eve_history.specs.SectionHistory.{committed_at, IsRightSection}
 use Rattle.eve_chains.specs.Committed.{balances_to}
-use Rattle.eve_chains.proofs.Linked.{some_injective, none≢some}
+use Rattle.eve_chains.proofs.Linked.{none≢some}
 use Rattle.eve_votes.specs.Votes.{IsDecided, backers}
 use Rattle.eve_votes.specs.Faults.{HasTwoDecisions, IsVoteFault, AreVotesSound}
 use Rattle.eve_grammar.proofs.Grouping.{all_at}
@@ -170,7 +170,7 @@ module _ (t : Trace) (s : Sent) where
       by None is = inr (λ a. none≢some a.asked (sym is ∙ a.request))
       by (Some x) is =
           decided_as (λ h. record { asked = x; request = is; client = h.0.0; number = h.0.1; reply = h.1 })
-          (λ a. let same : a.asked ≡ x = some_injective a.asked x (sym a.request ∙ is) in (
+          (λ a. let same : a.asked ≡ x = same_Some a.asked x (sym a.request ∙ is) in (
             (ap (λ (y : Asked). y.client) (sym same) ∙ a.client, ap (λ (y : Asked). y.number) (sym same) ∙ a.number),
             a.reply,
           ))
@@ -196,7 +196,7 @@ module _ (t : Trace) (s : Sent) where
           (λ r. (
             r.index,
             slice_get_within (batch_at t s.seq).requests r.index r.asked r.request,
-            subst (λ (q : Placed). IsAnswered t s q r.index) (some_injective r.placed p (sym r.committed ∙ is))
+            subst (λ (q : Placed). IsAnswered t s q r.index) (same_Some r.placed p (sym r.committed ∙ is))
                 (record {
                   asked = r.asked;
                   request = r.request;

@@ -3,6 +3,8 @@ use Rattle.std.proofs.Common.{◌≡◌, ℕ, ℤ, zero, suc, ◌-◌, ◌≤◌
 use Rattle.std.proofs.Common.{Some, None, refl, sym, ap, ◌∙◌, append-nil, arith}
 use Rattle.std.specs.List.{flat_map}
 use Rattle.std.proofs.lemmas.Grind.{flat_map-append}
+use Rattle.std.specs.Prelude.{option_map}
+use Rattle.std.proofs.lemmas.Option.{slice_get-map}
 use Rattle.eve_smallbank.specs.declared.entry.Entry.{Entry}
 use Rattle.eve_smallbank.specs.Access.{balance_of_row, bank_of, values_after}
 use Rattle.eve_grammar.specs.Trace.{Access, Trace, opening_rows}
@@ -13,9 +15,8 @@ use Rattle.eve_history.proofs.Finding.{get_mapped}
 use Rattle.eve_chains.specs.Visible.{rows_after}
 use Rattle.eve_chains.specs.Committed.{attempts_of, values_to, bank_after}
 use Rattle.eve_chains.specs.Along.{entries_along}
-use Rattle.eve_chains.proofs.Linked.{none≢some}
 use Rattle.eve_chains.proofs.AlongLaws.{values_after-append}
-use Rattle.eve_chains.proofs.SerialSections.{take_one_more}
+use Rattle.eve_chains.proofs.SerialSections.{take_one_more, take_no_more}
 use Rattle.eve_chains.proofs.Advancing.{advance_along}
 use Rattle.eve_chains.specs.Settling.{Settling, settling, values_in, AreBankAfter}
 
@@ -52,18 +53,9 @@ values_opening s = refl
 
 -- ---- the law
 
-take_no_more : {A : Type 0} (xs : List A) (n : ℕ) → slice_get xs n ≡ None → take (suc n) xs ≡ take n xs
-take_no_more [] zero none = refl
-take_no_more [] (suc n) none = refl
-take_no_more (x ∷ xs) zero none = none≢some x (sym none)
-take_no_more (x ∷ xs) (suc n) none = ap (λ ys. x ∷ ys) (take_no_more xs n none)
-
 map_no_more : {A B : Type 0} (f : A → B) (xs : List A) (n : ℕ) → slice_get xs n ≡ None → take (suc n) (map f xs)
     ≡ take n (map f xs)
-map_no_more f [] zero none = refl
-map_no_more f [] (suc n) none = refl
-map_no_more f (x ∷ xs) zero none = none≢some x (sym none)
-map_no_more f (x ∷ xs) (suc n) none = ap (λ ys. f x ∷ ys) (map_no_more f xs n none)
+map_no_more f xs n none = take_no_more (map f xs) n (slice_get-map f xs n ∙ ap (option_map f) none)
 
 abbrev values_settled : Trace → ℕ → ℕ → ℕ → ℤ
 values_settled t e n = values_after (balance_of_row (opening_rows t.customers))

@@ -8,6 +8,7 @@ use Rattle.std.specs.List.{AllByRecursion, list_any, list_all}
 use Rattle.std.proofs.lemmas.Bool.{cases_Bool, and_parts, or_parts}
 use Rattle.std.proofs.lemmas.Grind.{flat_map-append}
 use Rattle.std.proofs.lemmas.List.Folds.{list_any-append}
+use Rattle.std.proofs.lemmas.Option.{same_Some}
 use Rattle.eve_smallbank.specs.declared.entry.Entry.{Entry}
 use Rattle.eve_smallbank.specs.Access.{Executed, writes_row, values_after}
 use Rattle.eve_smallbank.specs.Chain.{Versioned, Table, left_by, Sees, table_after, table_after_all}
@@ -23,7 +24,7 @@ use Rattle.eve_views.proofs.Lists.{take_one_more}
 use Rattle.eve_chains.specs.Tables.{undone, IsFirstMismatch}
 use Rattle.eve_chains.specs.Along.{entries_along, AreWithin, SomeSeesAnother, IsWrongAlong, AllSee}
 use Rattle.eve_chains.specs.Along.{IsFirstAlong, fault_if}
-use Rattle.eve_chains.proofs.Linked.{some_injective, none≢some}
+use Rattle.eve_chains.proofs.Linked.{none≢some}
 use Rattle.eve_chains.proofs.Faultless.{in_place}
 use Rattle.eve_views.specs.First.{is_before, first_of}
 use Rattle.eve_views.proofs.Firsts.{before_precedes, behind_precedes, up_to_from, up_to-trans}
@@ -92,7 +93,7 @@ record_within : (rows : ℕ) (xs : List (ℕ × Access)) (k : ℕ) (x : ℕ × A
     → slice_get xs k ≡ Some x → IsTrue (list_all (is_entry rows) x.1.entries)
 record_within rows [] k x within at = none≢some x at
 record_within rows (y ∷ xs) zero x within at =
-    subst (λ (z : ℕ × Access). IsTrue (list_all (is_entry rows) z.1.entries)) (some_injective y x at)
+    subst (λ (z : ℕ × Access). IsTrue (list_all (is_entry rows) z.1.entries)) (same_Some y x at)
     (and_parts (list_all (is_entry rows) y.1.entries) (list_all (λ z. list_all (is_entry rows) z.1.entries) xs)
     within).0
 record_within rows (y ∷ xs) (suc k) x within at =

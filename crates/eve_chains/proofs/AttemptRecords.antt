@@ -2,10 +2,11 @@
 -- within the limits.
 use Rattle.std.proofs.Common.{◌≡◌, ℕ, zero, suc, ◌+◌, ◌==◌, Bool, true, false, cond, List, [], ◌∷◌, ◌++◌, map}
 use Rattle.std.proofs.Common.{length, length-append, slice_get, Some, refl, sym, ap, ◌∙◌, append_assoc, arith}
-use Rattle.std.proofs.Common.{IsTrue}
+use Rattle.std.proofs.Common.{IsTrue, add-zero, suc-add, add-suc}
 use Rattle.std.specs.Prelude.{slice_index_or, nat_le}
 use Rattle.std.specs.List.{AllByRecursion, list_all}
 use Rattle.std.proofs.lemmas.Bool.{and_parts, and_from, eqb-true}
+use Rattle.std.proofs.lemmas.Option.{same_Some}
 use Rattle.eve_smallbank.specs.declared.entry.Entry.{Entry}
 use Rattle.eve_smallbank.proofs.Members.{all_in, all_from_in}
 use Rattle.eve_grammar.specs.Trace.{Access, Attempt, Step, Attempts, Commits, RollsBack, Trace, head_of}
@@ -19,7 +20,7 @@ use Rattle.eve_history.specs.SectionHistory.{attempts_among, placed_at}
 use Rattle.eve_history.proofs.Coming.{steps_fit}
 use Rattle.eve_chains.specs.Along.{AreWithin}
 use Rattle.eve_chains.proofs.AlongLaws.{IsMet}
-use Rattle.eve_chains.proofs.Linked.{some_injective, none≢some}
+use Rattle.eve_chains.proofs.Linked.{none≢some}
 use Rattle.eve_chains.specs.Walking.{records_of, records_from}
 
 -- ---- one attempt's records
@@ -27,7 +28,7 @@ use Rattle.eve_chains.specs.Walking.{records_of, records_from}
 at_mapped : (rs : List ExecutedAttempt) (i : ℕ) (r : ExecutedAttempt) → slice_get rs i ≡ Some r
     → slice_index_or (map (λ (q : ExecutedAttempt). q.ordered) rs) i [] ≡ r.ordered
 at_mapped [] i r e = none≢some r e
-at_mapped (q ∷ rs) zero r e = ap (λ (x : ExecutedAttempt). x.ordered) (some_injective q r e)
+at_mapped (q ∷ rs) zero r e = ap (λ (x : ExecutedAttempt). x.ordered) (same_Some q r e)
 at_mapped (q ∷ rs) (suc i) r e = at_mapped rs i r e
 
 records_is : (h : SectionHistory) (i : ℕ) (r : ExecutedAttempt) → slice_get h.attempts i ≡ Some r → records_of h i
@@ -47,16 +48,11 @@ record_met h i place x es says is = record {
 
 pub from_more : (h : SectionHistory) (from n : ℕ) → records_from h from (suc n) ≡ records_from h from n ++ records_of h
     (from + n) ∷ []
-from_more h from zero = ap (λ (i : ℕ). records_of h i ∷ []) (none from)
-  where
-    none : (i : ℕ) → i ≡ i + 0
-    none i = omega arith
+from_more h from zero = ap (λ (i : ℕ). records_of h i ∷ []) (sym (add-zero from))
 from_more h from (suc n) =
     ap (λ (xss : List (List (ℕ × Access))). records_of h from ∷ xss)
-    (from_more h (suc from) n ∙ ap (λ (i : ℕ). records_from h (suc from) n ++ records_of h i ∷ []) (next from))
-  where
-    next : (i : ℕ) → suc i + n ≡ i + suc n
-    next i = omega arith
+    (from_more h (suc from) n ∙ ap (λ (i : ℕ). records_from h (suc from) n ++ records_of h i ∷ [])
+    (suc-add from n ∙ sym (add-suc from n)))
 
 -- an attempt's access records, in its certificate's order
 abbrev pub own : Placed → List (ℕ × Access)

@@ -3,9 +3,10 @@ use Rattle.std.proofs.Common.{◌≡◌, ℕ, zero, suc, ◌+◌, ◌<◌, nat_l
 use Rattle.std.proofs.Common.{refl, ◌∙◌, IsTrue, arith}
 use Rattle.std.proofs.lemmas.Bool.{and_parts, ltb-true}
 use Rattle.std.specs.List.{list_all}
+use Rattle.std.proofs.lemmas.Option.{same_Some}
 use Rattle.eve_smallbank.specs.declared.entry.Entry.{Entry}
 use Rattle.eve_grammar.specs.Limits.{is_entry}
-use Rattle.eve_chains.proofs.Linked.{some_injective, none≢some, from_place}
+use Rattle.eve_chains.proofs.Linked.{none≢some, from_place}
 
 both : (rows : ℕ) (es : List Entry) (e : Entry) (rest : List Entry) → es ≡ e ∷ rest
     → IsTrue (list_all (is_entry rows) es) → IsTrue (is_entry rows e) × IsTrue (list_all (is_entry rows) rest)
@@ -38,6 +39,6 @@ from_entry es k e at =
 pub right_there : (rows : ℕ) (es : List Entry) (k : ℕ) (e : Entry) → slice_get es k ≡ Some e
     → IsTrue (list_all (is_entry rows) es) → IsTrue (is_entry rows e)
 right_there rows [] k e at right = none≢some e at
-right_there rows (x ∷ es) zero e at right = subst (λ (y : Entry). IsTrue (is_entry rows y)) (some_injective x e at)
+right_there rows (x ∷ es) zero e at right = subst (λ (y : Entry). IsTrue (is_entry rows y)) (same_Some x e at)
     (both rows (x ∷ es) x es refl right).0
 right_there rows (x ∷ es) (suc k) e at right = right_there rows es k e at (both rows (x ∷ es) x es refl right).1

@@ -7,6 +7,7 @@ use Rattle.std.proofs.lemmas.List.{length-map}
 use Rattle.std.proofs.Math.ListN.{get_or-map}
 use mathlib.Core.Path.{fun_ext}
 use Rattle.std.specs.List.{AllByRecursion}
+use Rattle.std.proofs.lemmas.Option.{same_Some}
 use Rattle.eve_smallbank.specs.declared.request.Request as shown
 use Rattle.eve_smallbank.specs.declared.request.Reply.TheVariants.{Done}
 use Rattle.eve_smallbank.specs.SmallBank.{Request, plain}
@@ -36,7 +37,7 @@ use Rattle.eve_chains.specs.Faults.{StandsInRecords, IsRecordFault}
 use Rattle.eve_chains.proofs.Distinct.{in_map, in_source, in_cons, in_right, in_split}
 use Rattle.eve_chains.proofs.Walks.{right_one, complete_one}
 use Rattle.eve_chains.proofs.Faultless.{in_place, place_of}
-use Rattle.eve_chains.proofs.Linked.{some_injective, none≢some}
+use Rattle.eve_chains.proofs.Linked.{none≢some}
 use Rattle.eve_chains.specs.Unfit.{is_settled, recorded_of, records_along, records_if_settled, HasRequests}
 use Rattle.eve_chains.specs.Unfit.{settled_records}
 use Rattle.eve_chains.specs.Unfit.{IsLeastUnfit}
@@ -141,11 +142,11 @@ picked_at : (xs : List (ℕ × Attempt)) (fates : List Fate) (i : ℕ) (r : Exec
 picked_at [] fates i r fate at its settled = none≢some r at
 picked_at (x ∷ xs) [] i r fate at its settled = none≢some fate its
 picked_at (x ∷ xs) (Committed ∷ fates) zero r fate at its settled =
-    record { item = x; is = sym (some_injective (executed_attempt x) r at); picks = inl here }
+    record { item = x; is = sym (same_Some (executed_attempt x) r at); picks = inl here }
 picked_at (x ∷ xs) (Discarded ∷ fates) zero r fate at its settled =
-    record { item = x; is = sym (some_injective (executed_attempt x) r at); picks = inr here }
+    record { item = x; is = sym (same_Some (executed_attempt x) r at); picks = inr here }
 picked_at (x ∷ xs) (Open ∷ fates) zero r fate at its settled =
-    absurd (false≢true (ap is_settled (some_injective Open fate its) ∙ settled))
+    absurd (false≢true (ap is_settled (same_Some Open fate its) ∙ settled))
 picked_at (x ∷ xs) (f ∷ fates) (suc i) r fate at its settled =
     let p = picked_at xs fates i r fate at its settled in
     record { item = p.item; is = p.is; picks = later_picked x p.item xs f fates p.picks }

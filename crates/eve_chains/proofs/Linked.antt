@@ -5,6 +5,7 @@ use Rattle.std.proofs.Common.{[], ◌∷◌, ◌++◌, take, drop, slice_get, Op
 use Rattle.std.proofs.Common.{append_assoc, append-nil, IsTrue}
 use Rattle.std.proofs.lemmas.Bool.{and_parts, eqb-true, leb-true}
 use Rattle.std.proofs.lemmas.List.{length-map}
+use Rattle.std.proofs.lemmas.Option.{same_Some}
 use Rattle.eve_grammar.specs.Trace.{Attempt, Step, Attempts, Commits, RollsBack, Trace}
 use Rattle.eve_grammar.specs.Spelling.{steps_at}
 use Rattle.eve_history.specs.Section.{Placed, SectionState, start, path_of, committing, next, state_after, is_due}
@@ -13,6 +14,7 @@ use Rattle.eve_history.specs.SectionHistory.{history, committed_at, IsRightSecti
 use Rattle.eve_smallbank.proofs.Members.{In, here, there}
 use Rattle.eve_chains.specs.Committed.{attempts_of}
 use Rattle.eve_chains.specs.Settling.{settling}
+use Rattle.eve_chains.specs.Walking.{ArePlaced}
 
 -- The attempt's path is what stands before it, its number is the next, and its certificate is right.
 pub record IsLinked (t : Trace) (before : List Attempt) (p : Placed) : Type 0 where
@@ -39,6 +41,16 @@ linked-front : (t : Trace) (before : List Attempt) (ps qs : List Placed) → Are
     → AreLinked t before ps
 linked-front t before [] qs linked = tt
 linked-front t before (p ∷ ps) qs linked = (linked.0, linked-front t (before ++ p.attempt ∷ []) ps qs linked.1)
+
+-- of paths alone: an attempt more, which stands on the path of those before it
+pub placed_push : (before : List Attempt) (ps : List Placed) (q : Placed) → ArePlaced before ps
+    → q.path ≡ before ++ attempts_of ps → ArePlaced before (ps ++ q ∷ [])
+placed_push before [] q placed is = (is ∙ append-nil before, tt)
+placed_push before (p ∷ ps) q placed is = (
+  placed.0,
+  placed_push (before ++ p.attempt ∷ []) ps q placed.1
+      (is ∙ sym (append_assoc before (p.attempt ∷ []) (attempts_of ps))),
+)
 
 -- what holds of a section's state while all steps are right
 record IsOrdered (t : Trace) (s : SectionState) : Type 0 where
@@ -118,9 +130,6 @@ last_committed t e right = (ordered_history t e right).last
 
 -- ---- one committed attempt
 
-pub some_injective : {A : Type 0} (x y : A) → Some x ≡ Some y → x ≡ y
-some_injective x y e = cc
-
 pub none≢some : {A B : Type 0} (x : A) → ◌≡◌ {A = Option A} None (Some x) → B
 none≢some x e = absurd (cc)
 
@@ -131,7 +140,7 @@ pub linked_at : (t : Trace) (before : List Attempt) (ps : List Placed) (n : ℕ)
 linked_at t before [] n p linked e = none≢some p e
 linked_at t before (q ∷ ps) zero p linked e =
     subst (λ path. IsLinked t path p) (sym (append-nil before))
-    (subst (IsLinked t before) (some_injective q p e) linked.0)
+    (subst (IsLinked t before) (same_Some q p e) linked.0)
 linked_at t before (q ∷ ps) (suc n) p linked e =
     subst (λ path. IsLinked t path p) (append_assoc before (q.attempt ∷ []) (attempts_of (take n ps)))
     (linked_at t (before ++ q.attempt ∷ []) ps n p linked.1 e)
@@ -145,12 +154,12 @@ item_at (x ∷ xs) (suc n) less = item_at xs n (omega arith)
 -- and those from there on
 pub from_place : {A : Type 0} (xs : List A) (n : ℕ) (x : A) → slice_get xs n ≡ Some x → drop n xs ≡ x ∷ drop (suc n) xs
 from_place [] n x at = none≢some x at
-from_place (y ∷ xs) zero x at = ap (λ (z : _). z ∷ xs) (some_injective y x at)
+from_place (y ∷ xs) zero x at = ap (λ (z : _). z ∷ xs) (same_Some y x at)
 from_place (y ∷ xs) (suc n) x at = from_place xs n x at
 
 pub in_at : {A : Type 0} (xs : List A) (n : ℕ) (x : A) → slice_get xs n ≡ Some x → In x xs
 in_at [] n x e = none≢some x e
-in_at (y ∷ xs) zero x e = subst (λ z. In z (y ∷ xs)) (some_injective y x e) here
+in_at (y ∷ xs) zero x e = subst (λ z. In z (y ∷ xs)) (same_Some y x e) here
 in_at (y ∷ xs) (suc n) x e = there (in_at xs n x e)
 
 pub take_length : {A : Type 0} (xs : List A) (n : ℕ) (x : A) → slice_get xs n ≡ Some x → length (take n xs) ≡ n

@@ -2,19 +2,17 @@
 use Rattle.std.proofs.Common.{◌≡◌, ℕ, suc, ◌+◌, List, [], ◌∷◌, ◌++◌, take, length}
 use Rattle.std.proofs.Common.{length-append, append_assoc, append-nil, refl, sym, subst, ap, ◌∙◌, inl, inr, arith}
 use Rattle.std.proofs.Common.{IsTrue}
-use mathlib.Core.Path.{fun_ext}
 use Rattle.std.specs.Prelude.{All}
 use Rattle.std.proofs.lemmas.Bool.{and_parts}
 use Rattle.std.proofs.lemmas.List.Elements.{All-push}
-use Rattle.eve_smallbank.specs.Chain.{Table, table_after_all, values_of}
-use Rattle.eve_smallbank.proofs.Chains.{visible_at-before_rest}
-use Rattle.eve_grammar.specs.Trace.{Attempt, Step, Attempts, Commits, RollsBack, Trace, head_of}
+use Rattle.eve_smallbank.specs.Chain.{values_of}
+use Rattle.eve_grammar.specs.Trace.{Step, Attempts, Commits, RollsBack, Trace, head_of}
 use Rattle.eve_grammar.specs.Limits.{HasLimits, row_count}
 use Rattle.eve_grammar.specs.Spelling.{steps_at}
 use Rattle.eve_grammar.proofs.OpeningRows.{length-opening_rows}
 use Rattle.eve_history.specs.Section.{Placed, SectionState, start, committing, next, state_after, is_right, are_right}
 use Rattle.eve_history.specs.SectionHistory.{history, IsRightSection}
-use Rattle.eve_chains.specs.Visible.{opening_table, executions, rows_after, table_along}
+use Rattle.eve_chains.specs.Visible.{rows_after}
 use Rattle.eve_chains.specs.Committed.{attempts_of}
 use Rattle.eve_chains.specs.Tables.{table_of}
 use Rattle.eve_chains.specs.Settling.{settling, values_in}
@@ -25,6 +23,7 @@ use Rattle.eve_chains.specs.declared.noted_balances.BalancesAfter.{BalancesAfter
 use Rattle.eve_chains.specs.declared.noted_balances.NotedBalances.{NotedBalances}
 use Rattle.eve_chains.proofs.AdvancingBanks.{settled_values}
 use Rattle.eve_chains.proofs.Linked.{batches_counted}
+use Rattle.eve_chains.proofs.Nearest.{rows_visible}
 use Rattle.eve_chains.proofs.Steps.{first_open}
 
 -- These steps of replica e's section are still to come: of all its batches so many are committed, and what is noted are
@@ -78,11 +77,6 @@ take_front : {A : Type 0} (xs ys : List A) → take (length xs) (xs ++ ys) ≡ x
 take_front [] ys = refl
 take_front (x ∷ xs) ys = ap (λ zs. x ∷ zs) (take_front xs ys)
 
-along_is_after : (t : Trace) (path : List Attempt) → table_along t path ≡ rows_after t path
-along_is_after t path =
-    visible_at-before_rest (opening_table t) [] (executions t path)
-    ∙ ap (λ (table : Table). table_after_all table (executions t path)) (fun_ext (λ row. refl))
-
 opening_counted : (t : Trace) (e : ℕ) → length (settling t e).opening ≡ row_count (head_of t)
 unfolding settling
 opening_counted t e = length-opening_rows t.customers
@@ -97,7 +91,7 @@ module _ (t : Trace) (e : ℕ) (limits : HasLimits t) (right : IsRightSection t 
       let front : take (length s.committed) (history t e).committed ≡ s.committed =
       ap (λ (h : SectionState). take (length s.committed) h.committed) (sym known.leads)
       ∙ ap (take (length s.committed)) on.committed ∙ take_front s.committed on.more in
-      ap values_of (known.committed ∙ along_is_after t (attempts_of s.committed)
+      ap values_of (known.committed ∙ sym (rows_visible t (attempts_of s.committed))
       ∙ ap (λ (ps : List Placed). rows_after t (attempts_of ps)) (sym front))
       ∙ sym (settled_values t e (length s.committed) limits right)
 

@@ -40,14 +40,14 @@ pub record Place {A : Type 0} (xs : List A) (x : A) : Type 0 where
   pub within : place < length xs
   pub is : get_or xs place x ≡ x
 
+more : (m n : ℕ) → m < n → suc m < suc n
+more m n h = omega arith
+
 pub place_in : {A : Type 0} {x : A} (xs : List A) → In x xs → Place xs x
 place_in [] i = elim i [ ]
 place_in (x ∷ xs) here = record { place = 0; within = omega arith; is = refl }
 place_in (y ∷ xs) (there i) = let p = place_in xs i in
     record { place = suc p.place; within = more p.place (length xs) p.within; is = p.is }
-  where
-    more : (m n : ℕ) → m < n → suc m < suc n
-    more m n h = omega arith
 
 pairs_distinct : {A : Type 0} (xs : List A) → AllPairs (λ a b. a ≢ b) xs → Distinct xs
 pairs_distinct [] pairs = tt
@@ -55,9 +55,6 @@ pairs_distinct (x ∷ xs) pairs = (
   λ i. let p = place_in xs i in pairs zero (suc p.place) x (omega arith) (more p.place (length xs) p.within) (sym p.is),
   pairs_distinct xs (λ i j d l m. pairs (suc i) (suc j) d (more i j l) (more j (length xs) m)),
 )
-  where
-    more : (m n : ℕ) → m < n → suc m < suc n
-    more m n h = omega arith
 
 -- ---- a batch in another order
 

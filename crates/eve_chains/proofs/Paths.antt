@@ -1,7 +1,7 @@
 -- The path of an attempt is what counts of the attempts before it.
 use Rattle.std.proofs.Common.{◌≡◌, ℕ, zero, suc, ◌+◌, ◌≤◌, ◌<◌, ◌==◌, Bool, true, false, cond, ◌||◌, List, [], ◌∷◌}
 use Rattle.std.proofs.Common.{◌++◌, map, length, filter, refl, sym, subst, ap, ◌∙◌, append_assoc, append-nil, arith}
-use Rattle.std.proofs.Common.{IsTrue}
+use Rattle.std.proofs.Common.{IsTrue, add-zero, suc-add, add-suc}
 use Rattle.std.specs.List.{AllByRecursion}
 use Rattle.std.specs.Prelude.{nat_le, nat_lt, ◌&&◌}
 use Rattle.std.specs.Bool.{beq}
@@ -67,17 +67,12 @@ opened_commit n at c rest (p ∷ ps) = ap (λ xs. record { placed = p; fate = fa
 
 opened_push : (n : ℕ) (rest : List (ℕ × Step)) (ps : List Placed) (q : Placed) → opened n rest (ps ++ q ∷ [])
     ≡ opened n rest ps ++ record { placed = q; fate = fate_in rest (n + length ps) } ∷ []
-opened_push n rest [] q = ap (λ (m : ℕ). record { placed = q; fate = fate_in rest m } ∷ []) (none n)
-  where
-    none : (m : ℕ) → m ≡ m + 0
-    none m = omega arith
+opened_push n rest [] q = ap (λ (m : ℕ). record { placed = q; fate = fate_in rest m } ∷ []) (sym (add-zero n))
 opened_push n rest (p ∷ ps) q =
     ap (λ xs. record { placed = p; fate = fate_in rest n } ∷ xs)
     (opened_push (suc n) rest ps q
-    ∙ ap (λ (m : ℕ). opened (suc n) rest ps ++ record { placed = q; fate = fate_in rest m } ∷ []) (more n))
-  where
-    more : (m : ℕ) → suc m + length ps ≡ m + suc (length ps)
-    more m = omega arith
+    ∙ ap (λ (m : ℕ). opened (suc n) rest ps ++ record { placed = q; fate = fate_in rest m } ∷ [])
+    (suc-add n (length ps) ∙ sym (add-suc n (length ps))))
 
 none_commits : (n at : ℕ) (r : Rollback) (rest : List (ℕ × Step)) (ps : List Placed)
     → filter will_commit (opened n ((at, RollsBack r) ∷ rest) ps) ≡ []

@@ -1,6 +1,6 @@
 -- The open attempts, one after another: judged, and undone.
 use Rattle.std.proofs.Common.{◌≡◌, ℕ, zero, suc, ◌+◌, ◌-◌, ◌<◌, ◌≤◌, List, [], ◌∷◌, ◌++◌, length, Option, refl, sym}
-use Rattle.std.proofs.Common.{subst, ap, ◌∙◌, append-nil, arith}
+use Rattle.std.proofs.Common.{subst, ap, ◌∙◌, append-nil, arith, add-zero, suc-add, add-suc}
 use mathlib.Core.Path.{fun_ext}
 use Rattle.std.specs.List.{AllByRecursion}
 use Rattle.std.proofs.lemmas.Grind.{flat_map-append}
@@ -27,15 +27,10 @@ within_at rows h from zero k all less = absurd (impossible less)
   where
     impossible : k < 0 → ⊥
     impossible h = omega arith
-within_at rows h from (suc n) zero all less = subst (λ (i : ℕ). AreWithin rows (records_of h i)) (none from) all.0
-  where
-    none : (i : ℕ) → i ≡ i + 0
-    none i = omega arith
-within_at rows h from (suc n) (suc k) all less = subst (λ (i : ℕ). AreWithin rows (records_of h i)) (next from)
-    (within_at rows h (suc from) n k all.1 (omega arith))
-  where
-    next : (i : ℕ) → suc i + k ≡ i + suc k
-    next i = omega arith
+within_at rows h from (suc n) zero all less =
+    subst (λ (i : ℕ). AreWithin rows (records_of h i)) (sym (add-zero from)) all.0
+within_at rows h from (suc n) (suc k) all less = subst (λ (i : ℕ). AreWithin rows (records_of h i))
+    (suc-add from k ∙ sym (add-suc from k)) (within_at rows h (suc from) n k all.1 (omega arith))
 
 -- the records of an open attempt
 pub open_within : (h : SectionHistory) (rows n i : ℕ) (w : Walk) (xs : List (ℕ × Access))
@@ -151,8 +146,6 @@ taken_more h i w v new xs up taken is settled come committed apart first rows wo
           ∙ sym (undone-append (table_of w.committed) (table_of w.working)
           (entries_along_all (records_from h w.settled (i - w.settled))) (entries_along xs))
           ∙ ap (undone (table_of w.committed) (table_of w.working))
-          (sym (ap entries_along_all all ∙ entries_push (records_from h w.settled (i - w.settled)) xs));
+          (sym (ap entries_along_all (more_records h w.settled i xs up is)
+          ∙ entries_push (records_from h w.settled (i - w.settled)) xs));
     })
-  where
-    all : records_from h w.settled (suc (i - w.settled)) ≡ records_from h w.settled (i - w.settled) ++ xs ∷ []
-    all = more_records h w.settled i xs up is

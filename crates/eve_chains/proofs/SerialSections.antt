@@ -6,6 +6,7 @@ use Rattle.eve_smallbank.specs.Conflict.{IsReordering}
 use Rattle.std.proofs.lemmas.List.{map-append}
 use Rattle.std.proofs.lemmas.Grind.{flat_map-append}
 use Rattle.std.specs.List.{AllByRecursion}
+use Rattle.std.proofs.lemmas.Option.{same_Some}
 use Rattle.eve_smallbank.specs.declared.request.Reply.{Reply}
 use Rattle.eve_smallbank.specs.SmallBank.{Bank, Request, run, does}
 use Rattle.eve_smallbank.specs.Access.{Executed, bank_of}
@@ -13,7 +14,7 @@ use Rattle.eve_smallbank.specs.Chain.{Table, before_rest, values_of}
 use Rattle.eve_smallbank.specs.SerialOrder.{bank_at, IsSound, IsSerial}
 use Rattle.eve_smallbank.proofs.Members.{all_in}
 use Rattle.eve_smallbank.proofs.SerialOrders.{serial}
-use Rattle.eve_grammar.specs.Trace.{Attempt, Trace}
+use Rattle.eve_grammar.specs.Trace.{Trace}
 use Rattle.eve_grammar.specs.Certificate.{is_permutation, keeps_groups}
 use Rattle.eve_history.specs.Section.{Placed, batch_at, request_count}
 use Rattle.eve_history.specs.SectionHistory.{history, committed_at, IsRightSection, names_of}
@@ -23,17 +24,17 @@ use Rattle.eve_chains.specs.Committed.{attempts_of, committed_to, bank_after, op
 use Rattle.eve_chains.specs.Sound.{IsSoundAlong, SettledAreSound}
 use Rattle.eve_chains.proofs.Nearest.{rows_visible, before_rest-append}
 use Rattle.eve_chains.proofs.Permutations.{reordering_of_permutations}
-use Rattle.eve_chains.proofs.Linked.{linked_history, some_injective, none≢some, linked_at, in_at}
+use Rattle.eve_chains.proofs.Linked.{linked_history, none≢some, linked_at, in_at}
 
 -- ---- lists
 
 pub take_one_more : {A : Type 0} (xs : List A) (n : ℕ) (x : A) → slice_get xs n ≡ Some x → take (suc n) xs
     ≡ take n xs ++ x ∷ []
 take_one_more [] n x e = none≢some x e
-take_one_more (y ∷ xs) zero x e = ap (λ z. z ∷ []) (some_injective y x e)
+take_one_more (y ∷ xs) zero x e = ap (λ z. z ∷ []) (same_Some y x e)
 take_one_more (y ∷ xs) (suc n) x e = ap (λ zs. y ∷ zs) (take_one_more xs n x e)
 
-take_no_more : {A : Type 0} (xs : List A) (n : ℕ) → slice_get xs n ≡ None → take n xs ≡ take (suc n) xs
+pub take_no_more : {A : Type 0} (xs : List A) (n : ℕ) → slice_get xs n ≡ None → take (suc n) xs ≡ take n xs
 take_no_more [] zero e = refl
 take_no_more [] (suc n) e = refl
 take_no_more (y ∷ xs) zero e = none≢some y (sym e)
@@ -51,15 +52,21 @@ bank_along : (t : Trace) (e n : ℕ) → bank_after t e n ≡ bank_at (names_of 
 unfolding bank_after
 bank_along t e n = ap (λ (table : Table). bank_of (names_of t) (values_of table)) (rows_visible t (committed_to t e n))
 
+-- the requests of one more committed attempt
+pub one_more : (t : Trace) (ps : List Placed) (n : ℕ) (p : Placed) → slice_get ps n ≡ Some p
+    → executions t (attempts_of (take (suc n) ps)) ≡ executions t (attempts_of (take n ps)) ++ execution t p.attempt
+one_more t ps n p e =
+    ap (executions t) (ap attempts_of (take_one_more ps n p e) ∙ map-append (λ (q : Placed). q.attempt) (take n ps)
+    (p ∷ []))
+    ∙ flat_map-append (execution t) (attempts_of (take n ps)) (p.attempt ∷ [])
+    ∙ ap (λ (xs : List Executed). executions t (attempts_of (take n ps)) ++ xs) (append-nil (execution t p.attempt))
+
 next_entries : (t : Trace) (ps : List Placed) (n : ℕ) (p : Placed) → slice_get ps n ≡ Some p
     → entries_before t (attempts_of (take (suc n) ps)) ≡ before_rest (entries_before t (attempts_of (take n ps)))
     (execution t p.attempt)
 next_entries t ps n p e =
-    ap (λ (path : List Attempt). before_rest [] (executions t path)) (ap attempts_of (take_one_more ps n p e)
-    ∙ map-append (λ (q : Placed). q.attempt) (take n ps) (p ∷ []))
-    ∙ ap (before_rest []) (flat_map-append (execution t) (attempts_of (take n ps)) (p.attempt ∷ []))
-    ∙ before_rest-append [] (executions t (attempts_of (take n ps))) (execution t p.attempt ++ [])
-    ∙ ap (before_rest (entries_before t (attempts_of (take n ps)))) (append-nil (execution t p.attempt))
+    ap (before_rest []) (one_more t ps n p e)
+    ∙ before_rest-append [] (executions t (attempts_of (take n ps))) (execution t p.attempt)
 
 -- ---- the law
 
@@ -110,7 +117,7 @@ module _ (t : Trace) (e : ℕ) (right : IsRightSection t e) (sound : SettledAreS
   bank_stays : slice_get (history t e).committed n ≡ None → bank_after t e n ≡ bank_after t e (suc n)
   unfolding bank_after
   bank_stays none = ap (λ (ps : List Placed). bank_of (names_of t) (values_of (rows_after t (attempts_of ps))))
-      (take_no_more (history t e).committed n none)
+      (sym (take_no_more (history t e).committed n none))
 
 pub serial_between : (t : Trace) (e : ℕ) → IsRightSection t e → SettledAreSound t e → (n : ℕ) (p : Placed)
     → committed_at t e n ≡ Some p
@@ -145,15 +152,6 @@ leads-append bank next last xs ys one other =
     (map (λ x. x.reply) ys) one other
     ∙ ap (λ (rs : List Reply). (last, rs)) (sym (map-append (λ (x : Executed). x.reply) xs ys))
 
--- the requests of one more committed attempt
-pub one_more : (t : Trace) (ps : List Placed) (n : ℕ) (p : Placed) → slice_get ps n ≡ Some p
-    → executions t (attempts_of (take (suc n) ps)) ≡ executions t (attempts_of (take n ps)) ++ execution t p.attempt
-one_more t ps n p e =
-    ap (executions t) (ap attempts_of (take_one_more ps n p e) ∙ map-append (λ (q : Placed). q.attempt) (take n ps)
-    (p ∷ []))
-    ∙ flat_map-append (execution t) (attempts_of (take n ps)) (p.attempt ∷ [])
-    ∙ ap (λ (xs : List Executed). executions t (attempts_of (take n ps)) ++ xs) (append-nil (execution t p.attempt))
-
 opening_is_first : (t : Trace) (e : ℕ) → opening_bank t ≡ bank_after t e 0
 unfolding bank_after opening_bank
 opening_is_first t e = refl
@@ -164,7 +162,7 @@ module _ (t : Trace) (e : ℕ) (right : IsRightSection t e) (sound : SettledAreS
       → Leads (opening_bank t) (executions t (committed_to t e (suc n))) (bank_after t e (suc n))
   leads_next n before None none =
       subst (λ (ps : List Placed). Leads (opening_bank t) (executions t (attempts_of ps)) (bank_after t e (suc n)))
-      (take_no_more (history t e).committed n none)
+      (sym (take_no_more (history t e).committed n none))
       (subst (λ (bank : Bank). Leads (opening_bank t) (executions t (committed_to t e n)) bank)
       (bank_stays t e right sound n none) before)
   leads_next n before (Some p) at =

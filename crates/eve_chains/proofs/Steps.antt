@@ -2,7 +2,7 @@
 use Rattle.eve_views.specs.Form.{IsLeast}
 use Rattle.std.proofs.Common.{◌≡◌, ℕ, suc, ◌+◌, ◌-◌, ◌<◌, ◌≤◌, ◌==◌, List, [], ◌∷◌, ◌++◌, map, length}
 use Rattle.std.proofs.Common.{length-append, Some, None, refl, sym, subst, ap, ◌∙◌, inl, inr, append_assoc, append-nil}
-use Rattle.std.proofs.Common.{arith, IsTrue}
+use Rattle.std.proofs.Common.{arith, IsTrue, add-zero}
 use Rattle.std.proofs.Common.{Bool, true, false, cond}
 use mathlib.Core.Path.{fun_ext}
 use Rattle.std.specs.List.{AllByRecursion}
@@ -50,6 +50,7 @@ use Rattle.eve_chains.proofs.AttemptRecords.{own, IsWithin, records_first, recor
 use Rattle.eve_chains.proofs.AttemptRecords.{within_behind, within_own}
 use Rattle.eve_chains.proofs.Judging.{first_with, Advances, first_with_all}
 use Rattle.eve_chains.proofs.Nearest.{before_rest-append}
+use Rattle.eve_chains.proofs.Linked.{placed_push}
 
 -- ---- settled attempts stay so
 
@@ -138,15 +139,6 @@ walked_start t e w right none_settled none_come none_found together opened = rec
   working = λ apart. absurd (false≢true (sym together ∙ apart));
   first = subst (IsFirstIn t e []) (sym none_found) tt;
 }
-
-placed_push : (before : List Attempt) (ps : List Placed) (q : Placed) → ArePlaced before ps
-    → q.path ≡ before ++ attempts_of ps → ArePlaced before (ps ++ q ∷ [])
-placed_push before [] q placed is = (is ∙ append-nil before, tt)
-placed_push before (p ∷ ps) q placed is = (
-  placed.0,
-  placed_push (before ++ p.attempt ∷ []) ps q placed.1
-      (is ∙ sym (append_assoc before (p.attempt ∷ []) (attempts_of ps))),
-)
 
 -- an attempt comes
 pub walked_attempt : (t : Trace) (e at : ℕ) (a : Attempt) (rest : List (ℕ × Step)) (w v : Walk)
@@ -454,7 +446,7 @@ module _ (t : Trace) (h : SectionHistory) (limits : HasLimits t) (tells : h ≡ 
     earlier = known.earlier ++ map placed_at s.pending;
     attempts = known.attempts ∙ sym (append_assoc known.earlier (map placed_at s.pending) (attempts_among rest));
     settled_count = all_come;
-    come = all_come ∙ nothing (length (known.earlier ++ map placed_at s.pending));
+    come = all_come ∙ sym (add-zero (length (known.earlier ++ map placed_at s.pending)));
     rows = ap length committed ∙ known.rows;
     working_rows = λ _. back.rows ∙ tried.rows ∙ known.working_rows apart;
     committed = ap table_of committed ∙ known.committed;
@@ -484,9 +476,6 @@ module _ (t : Trace) (h : SectionHistory) (limits : HasLimits t) (tells : h ≡ 
       all_come = back.come ∙ tried.come ∙ known.come
           ∙ ap (λ (n : ℕ). length known.earlier + n) (sym (length-map s.pending placed_at))
           ∙ sym (length-append known.earlier (map placed_at s.pending))
-
-      nothing : (n : ℕ) → n ≡ n + 0
-      nothing n = omega arith
 
       entries : List Entry
       entries = entries_along_all (records_from h w.settled (w.come - w.settled))

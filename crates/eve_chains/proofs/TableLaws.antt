@@ -1,6 +1,6 @@
 -- Tables as lists by row: what a write leaves, and what entries that see other things come to.
-use Rattle.std.proofs.Common.{◌≡◌, ◌≢◌, ℕ, ℤ, pos, zero, suc, ◌+◌, ◌==◌, Bool, true, false, cond, ◌||◌, List}
-use Rattle.std.proofs.Common.{[], ◌∷◌, map, length, Option, Some, None, refl, sym, subst, ap}
+use Rattle.std.proofs.Common.{◌≡◌, ◌≢◌, ℕ, ℤ, pos, ◌==◌, Bool, true, false, cond, ◌||◌, List}
+use Rattle.std.proofs.Common.{[], ◌∷◌, map, Option, Some, None, refl, sym, subst, ap}
 use Rattle.std.proofs.Common.{◌∙◌, inl, inr, ◌⊎◌}
 use mathlib.Core.Path.{fun_ext}
 use Rattle.std.specs.Prelude.{slice_get, if◌then◌else◌}
@@ -15,11 +15,11 @@ use Rattle.eve_smallbank.specs.Chain.{Versioned, Table, Sees}
 use Rattle.eve_views.specs.declared.fault.Code.{Code}
 use Rattle.eve_views.specs.declared.fault.Code.TheVariants as code
 use Rattle.eve_grammar.specs.Trace.{Customer, Trace, opening_rows}
-use Rattle.eve_grammar.specs.Spelling.{located, customer_text, customers_at}
+use Rattle.eve_grammar.specs.Spelling.{customer_text, customers_at}
 use Rattle.eve_views.specs.Form.{SomePlace}
+use Rattle.eve_history.proofs.OrderLaws.{of_located}
 use Rattle.eve_chains.specs.Visible.{opening_table}
 use Rattle.eve_chains.specs.Tables.{table_of, undone, IsFirstMismatch}
-use Rattle.eve_chains.proofs.Linked.{some_injective, none≢some}
 
 -- ---- the opening
 
@@ -29,16 +29,10 @@ at_opening value = record { version = 0; value = value }
 pub table_at_opening : (t : Trace) → table_of (map at_opening (opening_rows t.customers)) ≡ opening_table t
 table_at_opening t = fun_ext (λ row. get_or-map at_opening (opening_rows t.customers) row (pos 0))
 
-pub located_get : {A : Type 0} (text : A → List ℕ) (at : ℕ) (xs : List A) (i o : ℕ) (x : A)
-    → slice_get (located text at xs) i ≡ Some (o, x) → slice_get xs i ≡ Some x
-located_get text at [] i o x e = none≢some (o, x) e
-located_get {A} text at (y ∷ xs) zero o x e = ap (λ (p : ℕ × A). Some p.1) (some_injective (at, y) (o, x) e)
-located_get text at (y ∷ xs) (suc i) o x e = located_get text (at + length (text y)) xs i o x e
-
 pub customer_there : (t : Trace) (i o : ℕ) (c : Customer) → slice_get (customers_at t) i ≡ Some (o, c)
     → slice_get t.customers i ≡ Some c
 unfolding customers_at
-customer_there t i o c e = located_get customer_text 32 t.customers i o c e
+customer_there t i o c e = of_located customer_text 32 t.customers i (o, c) e
 
 -- ---- a row that gets another version and value
 

@@ -1,12 +1,13 @@
 use Rattle.std.proofs.Common.{◌≡◌, ℕ, List, length, slice_get, ap, sym, ◌∙◌, arith}
 use Rattle.std.proofs.lemmas.List.{take_all}
+use Rattle.std.proofs.lemmas.Option.{same_Some}
 use Rattle.eve_grammar.specs.Trace.{Access, Attempt}
 use Rattle.eve_history.specs.SectionHistory.{ExecutedAttempt}
 use Rattle.eve_chains.specs.Along.{said_at, entries_along}
 use Rattle.eve_agree.specs.Marking.{marking_of, marked}
 use Rattle.eve_chains.proofs.AlongLaws.{IsMet, met_within, after_more}
 use Rattle.eve_agree.proofs.Marking.{marked-append}
-use Rattle.eve_agree.proofs.Noting.{same_found, executed_attempt_within}
+use Rattle.eve_agree.proofs.Noting.{executed_attempt_within}
 use Rattle.eve_agree.proofs.restores.note_attempt.Goals as goal
 
 pub note-requires : goal.note-requires
@@ -24,7 +25,7 @@ loop-place-preserved c = record {
   as_many = c.note.ensures.as_many ∙ c.loop-place.invariant.as_many;
   marks = λ r at.
       let says = c.ordered.ensures.says in
-      let same = same_found c.args.history.now.attempts c.args.i says.0 r says.1 at in
+      let same = same_Some says.0 r (sym says.1 ∙ at) in
       let met : IsMet r.ordered c.loop-place.place (said_at c.ordered.result) c.entries.result = record {
         there = ap (λ (q : ExecutedAttempt). slice_get q.ordered c.loop-place.place) (sym same) ∙ says.2;
         entries = c.entries.ensures;
@@ -35,7 +36,7 @@ loop-place-preserved c = record {
 
 pub returns-clause-marks : goal.returns-clause-marks
 returns-clause-marks c = λ r at.
-    let same = same_found c.args.history.now.attempts c.args.i c.attempt.ensures.says.0 r c.attempt.ensures.says.1 at in
+    let same = same_Some c.attempt.ensures.says.0 r (sym c.attempt.ensures.says.1 ∙ at) in
     let long : length r.ordered ≡ c.len-place-end.result =
     ap (λ (q : ExecutedAttempt). length q.ordered) (sym same) ∙ c.attempt.ensures.says.4
     ∙ ap (λ (a : Attempt). length a.certificate) (sym c.attempt.ensures.says.3)

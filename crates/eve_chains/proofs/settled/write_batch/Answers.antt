@@ -1,10 +1,10 @@
 use Rattle.std.proofs.Common.{◌≡◌, ℕ, ◌-◌, ◌≤◌, List, slice_get, length, refl, sym, ap, ◌∙◌, arith}
 use Rattle.std.proofs.lemmas.List.{take_all}
+use Rattle.std.proofs.lemmas.Option.{same_Some}
 use Rattle.eve_smallbank.specs.Access.{balance_of_row, values_after}
 use Rattle.eve_grammar.specs.Trace.{Access}
 use Rattle.eve_history.proofs.Finding.{rec_at}
 use Rattle.eve_chains.specs.Along.{said_at, entries_along, AreWithin}
-use Rattle.eve_chains.proofs.Linked.{some_injective}
 use Rattle.eve_chains.proofs.AlongLaws.{values_after-append, IsMet, met_within, after_more}
 use Rattle.eve_chains.proofs.settled.write_batch.Goals as goal
 
@@ -14,7 +14,7 @@ loop-place-init c = record { as_many = refl; values = λ xs at. refl }
 pub record-requires-clause-place : goal.record-requires-clause-place
 record-requires-clause-place c = λ xs at.
     let own = c.len_of-place-end.ensures in
-    let same : own.0 ≡ xs = some_injective own.0 xs (sym own.1 ∙ at) in
+    let same : own.0 ≡ xs = same_Some own.0 xs (sym own.1 ∙ at) in
     omega (arith, c.loop-place-test.true, own.2, ap (λ (ys : List (ℕ × Access)). length ys) same)
 
 pub write_values-requires : goal.write_values-requires
@@ -31,7 +31,7 @@ loop-place-preserved c = record {
   as_many = c.write_values.ensures.as_many ∙ c.loop-place.invariant.as_many;
   values = λ xs at.
       let own = c.record.ensures.says in
-      let same : own.0 ≡ xs = some_injective own.0 xs (sym own.1 ∙ at) in
+      let same : own.0 ≡ xs = same_Some own.0 xs (sym own.1 ∙ at) in
       let met : IsMet xs c.loop-place.place (said_at c.record.result) c.entries.result = record {
         there = ap (λ (ys : List (ℕ × Access)). slice_get ys c.loop-place.place) (sym same) ∙ own.2;
         entries = c.entries.ensures;
@@ -44,7 +44,7 @@ loop-place-preserved c = record {
 pub returns-clause-values : goal.returns-clause-values
 returns-clause-values c = λ xs at.
     let own = c.len_of-place-end.ensures in
-    let same : own.0 ≡ xs = some_injective own.0 xs (sym own.1 ∙ at) in
+    let same : own.0 ≡ xs = same_Some own.0 xs (sym own.1 ∙ at) in
     let over : length xs ≤ c.loop-place.place = omega (
       arith,
       c.loop-place-test.false,

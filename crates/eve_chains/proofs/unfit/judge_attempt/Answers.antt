@@ -1,11 +1,11 @@
 use Rattle.std.proofs.Common.{◌≡◌, ℕ, ◌≤◌, List, [], length, map, sym, subst, ap, ◌∙◌, arith, rules}
 use Rattle.std.proofs.lemmas.Bool.{cond-true}
+use Rattle.std.proofs.lemmas.Option.{same_Some}
 use Rattle.eve_smallbank.specs.Access.{Executed}
 use Rattle.eve_smallbank.specs.SmallBank.{plain}
 use Rattle.eve_grammar.specs.Trace.{Attempt, Batch}
 use Rattle.eve_frames.specs.Views.{batch_in}
 use Rattle.eve_history.specs.SectionHistory.{ExecutedAttempt}
-use Rattle.eve_chains.proofs.Linked.{some_injective}
 use Rattle.eve_chains.specs.Unfit.{is_settled, records_along, HasRequests, IsLeastUnfit}
 use Rattle.eve_chains.proofs.Judged.{ready_told, as_many, as_recorded}
 use Rattle.eve_chains.proofs.unfit.judge_attempt.Goals as goal
@@ -33,7 +33,7 @@ batch-batch-requires-clause-there c =
 pub judge_records-requires-clause-requests : goal.judge_records-requires-clause-requests
 judge_records-requires-clause-requests c r at =
     let t = c.args.trace.now in
-    let own : c.attempt.ensures.says.0 ≡ r = some_injective c.attempt.ensures.says.0 r
+    let own : c.attempt.ensures.says.0 ≡ r = same_Some c.attempt.ensures.says.0 r
     (sym c.attempt.ensures.says.1 ∙ at) in
     let ready = ready_told t c.args.history.now.replica c.recall_limits.ensures c.requires.right c.args.history.now
     c.args.i r c.fate.result c.requires.told
@@ -49,14 +49,14 @@ judge_records-requires-clause-requests c r at =
 pub returns : goal.returns
 returns c r fate at its =
     let t = c.args.trace.now in
-    let own : c.attempt.ensures.says.0 ≡ r = some_injective c.attempt.ensures.says.0 r
+    let own : c.attempt.ensures.says.0 ≡ r = same_Some c.attempt.ensures.says.0 r
     (sym c.attempt.ensures.says.1 ∙ at) in
     let seq : c.seq.result ≡ r.attempt.seq = c.seq.ensures ∙ ap (λ (a : Attempt). a.seq) c.attempt.ensures.says.3
     ∙ ap (λ (q : ExecutedAttempt). q.attempt.seq) own in
     let said : ℕ × (ℕ × Batch) = (c.batch-batch.result.offset, batch_in c.batch-batch.result.bytes.now) in
     let lent : c.deref.result.now ≡ c.in_ok-requests.requests.items = search rules in
     let read = ap (map plain) lent ∙ c.in_ok-requests.ensures in
-    let passes = ap is_settled (some_injective fate c.fate.result (sym its ∙ c.fate.ensures)) ∙ sym c.is_settled.ensures
+    let passes = ap is_settled (same_Some fate c.fate.result (sym its ∙ c.fate.ensures)) ∙ sym c.is_settled.ensures
     ∙ c.if-not-is_settled.false in
     subst (λ (xs : List (ℕ × Executed)). IsLeastUnfit c.args.names.now.items xs c.judge_records.result)
     (as_recorded t r c.seq.result said c.deref.result.now c.batch-batch.ensures.says seq read

@@ -1,4 +1,5 @@
 use Rattle.std.proofs.Common.{◌≡◌, ℕ, ◌<◌, ◌+◌, Some, length, map, take, slice_get, sym, subst, ap, ◌∙◌, arith}
+use Rattle.std.proofs.lemmas.Option.{same_Some}
 use Rattle.eve_smallbank.specs.SmallBank.{plain}
 use Rattle.eve_smallbank.specs.Access.{Executed}
 use Rattle.eve_grammar.specs.Trace.{Access, Attempt}
@@ -6,7 +7,6 @@ use Rattle.eve_frames.specs.Views.{access_in, attempt_in}
 use Rattle.eve_history.specs.SectionHistory.{ExecutedAttempt}
 use Rattle.eve_history.proofs.Finding.{rec_at}
 use Rattle.eve_chains.specs.Records.{recorded}
-use Rattle.eve_chains.proofs.Linked.{some_injective}
 use Rattle.eve_chains.specs.Unfit.{recorded_of, IsLeastUnfit}
 use Rattle.eve_chains.proofs.Least.{least_next, recorded_at}
 use Rattle.eve_chains.proofs.unfit.judge_records.Goals as goal
@@ -20,9 +20,9 @@ loop-place-preserved c r at =
       recorded (plain c.index-requests-index.result) c.reply.result
           (access_in c.ordered-access.result.bytes.now).entries,
     ) in
-    let own : c.ordered-access.ensures.says.0 ≡ r = some_injective c.ordered-access.ensures.says.0 r
+    let own : c.ordered-access.ensures.says.0 ≡ r = same_Some c.ordered-access.ensures.says.0 r
     (sym c.ordered-access.ensures.says.1 ∙ at) in
-    let its : c.attempt-attempt.ensures.says.0 ≡ r = some_injective c.attempt-attempt.ensures.says.0 r
+    let its : c.attempt-attempt.ensures.says.0 ≡ r = same_Some c.attempt-attempt.ensures.says.0 r
     (sym c.attempt-attempt.ensures.says.1 ∙ at) in
     let said : attempt_in c.attempt-attempt.result.bytes.now ≡ r.attempt = c.attempt-attempt.ensures.says.3
     ∙ ap (λ (q : ExecutedAttempt). q.attempt) its in

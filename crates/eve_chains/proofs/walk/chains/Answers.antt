@@ -1,10 +1,9 @@
-use Rattle.std.proofs.Common.{◌≡◌, ℕ, List, [], ◌∷◌, None, map, length, false, refl, sym, subst, ap, ◌∙◌, arith, rules}
+use Rattle.std.proofs.Common.{◌≡◌, ℕ, List, [], None, map, length, false, refl, sym, subst, ap, ◌∙◌, arith, rules}
 use Rattle.std.proofs.lemmas.List.{length-map}
-use Rattle.eve_grammar.specs.Trace.{Step, Trace}
+use Rattle.eve_grammar.specs.Trace.{Step}
 use Rattle.eve_grammar.specs.Spelling.{steps_at}
 use Rattle.eve_history.specs.SectionHistory.{ExecutedAttempt, SectionHistory, history}
 use Rattle.eve_chains.specs.declared.walk.Walk.{Walk}
-use Rattle.eve_chains.specs.declared.noted_balances.NotedBalances.{NotedBalances}
 use Rattle.eve_chains.specs.Walking.{HasWalked}
 use Rattle.eve_chains.proofs.TableLaws.{at_opening}
 use Rattle.eve_chains.proofs.Steps.{none_outside, walked_start, walked_wrong}
@@ -44,22 +43,13 @@ loop-step-init c =
           c.new-noted.ensures.all c.new-noted.ensures.after c.new-noted.ensures.none count);
     }
 
--- the walk goes on by a step that is at hand
-on : (t : Trace) (e : ℕ) (steps rest : List (ℕ × Step)) (x : ℕ × Step) (w : Walk) → HasWalked t e steps w
-    → steps ≡ x ∷ rest → HasWalked t e (x ∷ rest) w
-on t e steps rest x w known is = subst (λ (xs : List (ℕ × Step)). HasWalked t e xs w) is known
-
-noted_on : (t : Trace) (e : ℕ) (steps rest : List (ℕ × Step)) (x : ℕ × Step) (noted : NotedBalances)
-    → AreNotedSoFar t e steps noted → steps ≡ x ∷ rest → AreNotedSoFar t e (x ∷ rest) noted
-noted_on t e steps rest x noted known is = subst (λ (xs : List (ℕ × Step)). AreNotedSoFar t e xs noted) is known
-
 pub note-requires-clause-rows : goal.note-requires-clause-rows
 note-requires-clause-rows c =
     let t = c.args.trace.now in
     let e = c.args.history.now.replica in
     let found = c.in-Some.ensures.some in
     (c.in_ok-take.ensures c.next.new.self found.0
-    (on t e c.loop-step.steps c.next.new.self found.0 c.loop-step.walk c.loop-step.invariant.walked found.1)
+    (subst (λ (xs : List (ℕ × Step)). HasWalked t e xs c.loop-step.walk) found.1 c.loop-step.invariant.walked)
     found.2).rows
 
 pub loop-step-preserved-in_ok-note : goal.loop-step-preserved-in_ok-note
@@ -69,12 +59,14 @@ loop-step-preserved-in_ok-note c =
     let rest = c.next.new.self in
     let found = c.in-Some.ensures.some in
     let walked = c.in_ok-take.ensures rest found.0
-    (on t e c.loop-step.steps rest found.0 c.loop-step.walk c.loop-step.invariant.walked found.1) found.2 in
+    (subst (λ (xs : List (ℕ × Step)). HasWalked t e xs c.loop-step.walk) found.1 c.loop-step.invariant.walked)
+    found.2 in
     record {
       walked = walked;
       noted = noted_commit t e c.recall_limits.ensures c.requires.right found.0 rest c.take.new.self
           c.loop-step.noted c.note.new.self
-          (noted_on t e c.loop-step.steps rest found.0 c.loop-step.noted c.loop-step.invariant.noted found.1)
+          (subst (λ (xs : List (ℕ × Step)). AreNotedSoFar t e xs c.loop-step.noted) found.1
+          c.loop-step.invariant.noted)
           (c.if-commits.ensures found.0 rest found.2) walked c.in_ok-note.ensures;
     }
 
@@ -86,9 +78,11 @@ loop-step-preserved c =
     let found = c.in-Some.ensures.some in
     record {
       walked = c.in_ok-take.ensures rest found.0
-          (on t e c.loop-step.steps rest found.0 c.loop-step.walk c.loop-step.invariant.walked found.1) found.2;
+          (subst (λ (xs : List (ℕ × Step)). HasWalked t e xs c.loop-step.walk) found.1 c.loop-step.invariant.walked)
+          found.2;
       noted = noted_other t e c.recall_limits.ensures c.requires.right found.0 rest c.loop-step.noted
-          (noted_on t e c.loop-step.steps rest found.0 c.loop-step.noted c.loop-step.invariant.noted found.1)
+          (subst (λ (xs : List (ℕ × Step)). AreNotedSoFar t e xs c.loop-step.noted) found.1
+          c.loop-step.invariant.noted)
           (c.if-commits.ensures found.0 rest found.2);
     }
 
