@@ -128,4 +128,4 @@ no_order_fault w mixer t workload customers batches cuts =
     (no_name_again t (subst (λ (cs : List Customer). AreApart (customer_names cs)) (sym customers) workload.names))
     (no_request_again t (subst (λ (bs : List Batch). AreApart (ids_in bs)) (sym batches)
     (apart_moved (map request_id (requests_of w.batches)) (ids_in (batches_cut w mixer))
-    (cut_ids names mixer (cuts names mixer) w.batches) workload.pairs)))
+    (cut_ids names mixer (cuts names mixer) w.batches) workload.request_ids)))

@@ -1,14 +1,14 @@
 -- What a draft keeps, line by line.
-use Rattle.std.proofs.Common.{◌≡◌, ℕ, zero, suc, ◌+◌, ◌<◌, ◌≤◌, Bool, true, false, not, IsTrue, List, [], ◌∷◌, ◌++◌}
-use Rattle.std.proofs.Common.{map, length, Contains, Vec, inl, inr, refl, sym, subst, ap, ◌∙◌, arith, length-append}
+use Rattle.std.proofs.Common.{◌≡◌, ℕ, ◌+◌, ◌<◌, ◌≤◌, Bool, true, false, not, IsTrue, List, [], ◌∷◌, ◌++◌}
+use Rattle.std.proofs.Common.{map, length, Vec, refl, sym, subst, ap, ◌∙◌, arith, length-append}
 use Rattle.std.specs.Prelude.{if◌then◌else◌}
 use Rattle.std.specs.List.{list_any}
 use Rattle.std.specs.Borrow.{Bor}
 use Rattle.std.specs.declared.alloc.Global.{Global}
-use Rattle.std.proofs.lemmas.Bool.{lt-ltb, ltb-true, or_cases, or_left, or_right, cases_Bool, false≢true}
+use Rattle.std.proofs.lemmas.Bool.{lt-ltb, ltb-true, false≢true}
 use Rattle.std.specs.BTreeSet.{BTreeSet}
 use Rattle.std.proofs.lemmas.List.{length-map, map_push}
-use Rattle.std.proofs.lemmas.List.Folds.{list_any-append}
+use Rattle.std.proofs.lemmas.Map.Views.{Contains-from_any}
 use Rattle.eve_accounts.specs.Names.{same_name}
 use Rattle.eve_grammar.specs.Trace.{Customer, Asked}
 use Rattle.eve_grammar.specs.Limits.{is_customer, is_asked}
@@ -18,55 +18,17 @@ use Rattle.eve_write.specs.declared.request.RequestData.{RequestData}
 use Rattle.eve_accounts.proofs.NameLemmas.{same_name-true, same_name-itself}
 use Rattle.eve_workload.specs.declared.deployment.Deployment.{Deployment}
 use Rattle.eve_workload.specs.declared.draft.Last.TheVariants as last
-use Rattle.eve_workload.specs.declared.pairs.Pairs.{Pairs}
+use Rattle.eve_workload.specs.declared.request_ids.RequestIds.{RequestIds}
 use Rattle.eve_workload.specs.declared.draft.Draft.{Draft}
 use Rattle.eve_workload.specs.Workload.{customer_names}
 use Rattle.eve_grammar.specs.Trace.{request_id}
 use Rattle.eve_workload.specs.Lines.{Line, HeadLine, CustomerLine, BatchLine, RequestLine}
 use Rattle.eve_workload.specs.Steps.{customers_in, requests_in, batches_in, last_requests, may_follow, is_deployment}
 use Rattle.eve_workload.specs.Steps.{IsRightBehind, AreRightLines}
-use Rattle.eve_workload.specs.Pairs.{same_pair, key_of, AreMet}
+use Rattle.eve_workload.specs.RequestIds.{same_id, AreMet}
 use Rattle.eve_workload.specs.Drafts.{starts_in, next_of, has_name, Keeps}
-use Rattle.eve_workload.proofs.Pairing.{same_pair-true, same_pair-itself, last_or}
-
--- ---- names and pairs that are known
-
-known_name : (names : List (List ℕ)) (name : List ℕ) → Contains names name → list_any (same_name name) names ≡ true
-known_name [] name (k, there, is) = absurd (omega arith)
-known_name (first ∷ names) name (zero, there, is) = or_left (same_name name first) (list_any (same_name name) names)
-    (same_name-itself name first (sym is))
-known_name (first ∷ names) name (suc k, there, is) =
-    or_right (same_name name first) (list_any (same_name name) names) (known_name names name (k, omega arith, is))
-
-name_known : (names : List (List ℕ)) (name : List ℕ) → list_any (same_name name) names ≡ true → Contains names name
-name_known [] name any = cc
-name_known (first ∷ names) name any =
-    elim (or_cases (same_name name first) (list_any (same_name name) names) any) [
-      | inl same ↦ (0, omega arith, sym (same_name-true name first same))
-      | inr later ↦ let (k, there, is) = name_known names name later in (suc k, omega arith, is)
-    ]
-
-known_pair : (requests : List Asked) (a : Asked) → Contains (map request_id requests) (request_id a)
-    → list_any (same_pair (key_of a)) (map key_of requests) ≡ true
-known_pair [] a (k, there, is) = absurd (omega arith)
-known_pair (b ∷ requests) a (zero, there, is) =
-    let same = same_pair-itself (key_of a) (key_of b) (sym (ap (λ (p : ℕ × ℕ). p.0) is))
-    (sym (ap (λ (p : ℕ × ℕ). p.1) is)) in
-    or_left (same_pair (key_of a) (key_of b)) (list_any (same_pair (key_of a)) (map key_of requests)) same
-known_pair (b ∷ requests) a (suc k, there, is) =
-    or_right (same_pair (key_of a) (key_of b)) (list_any (same_pair (key_of a)) (map key_of requests))
-    (known_pair requests a (k, omega arith, is))
-
-pair_known : (requests : List Asked) (a : Asked) → list_any (same_pair (key_of a)) (map key_of requests) ≡ true
-    → Contains (map request_id requests) (request_id a)
-pair_known [] a any = cc
-pair_known (b ∷ requests) a any =
-    elim (or_cases (same_pair (key_of a) (key_of b)) (list_any (same_pair (key_of a)) (map key_of requests)) any) [
-      | inl same ↦
-          let parts = same_pair-true (key_of a) (key_of b) same in
-          (0, omega arith, (λ k. (sym parts.0 k, sym parts.1 k)))
-      | inr later ↦ let (k, there, is) = pair_known requests a later in (suc k, omega arith, is)
-    ]
+use Rattle.eve_workload.proofs.KnownIds.{same_id-true, same_id-itself}
+use Rattle.eve_workload.proofs.SameKeys.{found, found_more}
 
 -- ---- counts
 
@@ -92,7 +54,7 @@ head_taken d deployment [] ranges follows keeps = record {
   starts = keeps.starts;
   count = keeps.count;
   names = keeps.names;
-  pairs = keeps.pairs;
+  request_ids = keeps.request_ids;
 }
 head_taken d deployment (HeadLine e ∷ before) ranges follows keeps = cc
 head_taken d deployment (CustomerLine c ∷ before) ranges follows keeps = cc
@@ -119,33 +81,13 @@ batch_taken d starts before pushed room follows keeps =
       starts = pushed ∙ (λ k. keeps.starts k ++ count k ∷ []);
       count = refl;
       names = keeps.names;
-      pairs = keeps.pairs;
+      request_ids = keeps.request_ids;
     }
 
 pub batch_refused : (d : Draft) (before : List Line) → 65535 ≤ length d.starts.items → Keeps d before
     → ¬ IsRightBehind before BatchLine
 batch_refused d before full keeps right =
     omega (arith, ltb-true (batches_in before) 65535 right.room, batches_are before, ap length keeps.starts)
-
--- one more name or pair is known
-same_name_back : (a b : List ℕ) → same_name a b ≡ same_name b a
-same_name_back a b =
-    elim (cases_Bool (same_name a b)) [
-      | inl same ↦ same ∙ sym (same_name-itself b a (sym (same_name-true a b same)))
-      | inr other ↦
-          elim (cases_Bool (same_name b a)) [
-            | inl back ↦ absurd (false≢true (sym other ∙ same_name-itself a b (sym (same_name-true b a back))))
-            | inr also ↦ other ∙ sym also
-          ]
-    ]
-
-more_names : (known : List (List ℕ)) (name other : List ℕ) (new old : Bool)
-    → new ≡ (if same_name name other then true else old) → old ≡ list_any (same_name other) known
-    → new ≡ list_any (same_name other) (known ++ name ∷ [])
-more_names known name other new old is was =
-    is ∙ (λ k. if same_name_back name other k then true else was k)
-    ∙ last_or (same_name other name) (list_any (same_name other) known)
-    ∙ sym (list_any-append (same_name other) known (name ∷ []))
 
 no_requests : (before : List Line) (c : Customer) → IsTrue (may_follow before (CustomerLine c)) → last_requests before
     ≡ 0
@@ -172,7 +114,8 @@ customer_taken d customers names added c before pushed same room ranges follows 
           ranges = ranges;
           room = lt-ltb (length (customers_in before)) 4096 (omega arith);
           new = λ known. false≢true
-              (sym fresh ∙ keeps.names c.name ∙ known_name (customer_names (customers_in before)) c.name known);
+              (sym fresh ∙ keeps.names c.name
+              ∙ found same_name same_name-true same_name-itself (customer_names (customers_in before)) c.name known);
         },
         keeps.right,
       );
@@ -183,32 +126,33 @@ customer_taken d customers names added c before pushed same room ranges follows 
       requests = keeps.requests;
       starts = keeps.starts;
       count = keeps.count ∙ no_requests before c follows;
-      names = λ other. more_names (customer_names (customers_in before)) c.name other (has_name names.keys other)
+      names = λ other. found_more same_name same_name-true same_name-itself (customer_names (customers_in before)) c.name other (has_name names.keys other)
           (has_name d.names.keys other) (kept other) (keeps.names other)
           ∙ ap (list_any (same_name other)) (sym (map_push (λ (e : Customer). e.name) (customers_in before) c));
-      pairs = keeps.pairs;
+      request_ids = keeps.request_ids;
     }
 
 pub name_refused : (d : Draft) (c : Customer) (before : List Line) → has_name d.names.keys c.name ≡ true
     → Keeps d before → ¬ IsRightBehind before (CustomerLine c)
 name_refused d c before known keeps right =
-    right.new (name_known (customer_names (customers_in before)) c.name (sym (keeps.names c.name) ∙ known))
+    right.new (Contains-from_any same_name-true c.name (customer_names (customers_in before)) (sym (keeps.names c.name) ∙ known))
 
-pub request_taken : (d : Draft) (requests : Vec RequestData Global) (pairs : Pairs) (count : ℕ) (a : Asked)
+pub request_taken : (d : Draft) (requests : Vec RequestData Global) (ids : RequestIds) (count : ℕ) (a : Asked)
     (before : List Line) → map asked requests.items ≡ map asked d.requests.items ++ a ∷ [] → count ≡ d.count + 1
     → d.count < 256 → IsTrue (is_asked a) → IsTrue (may_follow before (RequestLine a))
-    → list_any (same_pair (key_of a)) (map key_of (requests_in before)) ≡ false
-    → AreMet pairs (map key_of (requests_in before) ++ key_of a ∷ []) → Keeps d before
-    → Keeps (record d { last = last.Request; requests = requests; pairs = pairs; count = count })
+    → list_any (same_id (request_id a)) (map request_id (requests_in before)) ≡ false
+    → AreMet ids (map request_id (requests_in before) ++ request_id a ∷ []) → Keeps d before
+    → Keeps (record d { last = last.Request; requests = requests; request_ids = ids; count = count })
     (RequestLine a ∷ before)
-request_taken d requests pairs count a before added counted room ranges follows fresh met keeps =
+request_taken d requests ids count a before added counted room ranges follows fresh met keeps =
     record {
       right = (
         record {
           follows = follows;
           ranges = ranges;
           room = lt-ltb (last_requests before) 256 (omega (arith, keeps.count));
-          new = λ known. false≢true (sym fresh ∙ known_pair (requests_in before) a known);
+          new = λ known. false≢true (sym fresh
+              ∙ found same_id same_id-true same_id-itself (map request_id (requests_in before)) (request_id a) known);
         },
         keeps.right,
       );
@@ -219,12 +163,12 @@ request_taken d requests pairs count a before added counted room ranges follows 
       starts = keeps.starts;
       count = counted ∙ ap (λ n. n + 1) keeps.count;
       names = keeps.names;
-      pairs = subst (AreMet pairs) (sym (map_push key_of (requests_in before) a)) met;
+      request_ids = subst (AreMet ids) (sym (map_push request_id (requests_in before) a)) met;
     }
 
-pub pair_refused : (a : Asked) (before : List Line)
-    → list_any (same_pair (key_of a)) (map key_of (requests_in before)) ≡ true → ¬ IsRightBehind before (RequestLine a)
-pair_refused a before known right = right.new (pair_known (requests_in before) a known)
+pub id_refused : (a : Asked) (before : List Line)
+    → list_any (same_id (request_id a)) (map request_id (requests_in before)) ≡ true → ¬ IsRightBehind before (RequestLine a)
+id_refused a before known right = right.new (Contains-from_any same_id-true (request_id a) (map request_id (requests_in before)) known)
 
 -- how many lines there are
 pub line_count : (before : List Line) → AreRightLines before → length before + 1

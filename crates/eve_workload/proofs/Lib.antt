@@ -5,6 +5,7 @@ mod Deployments
 mod Drafting
 mod Gets
 mod Holding
+mod KnownIds
 mod LineKinds
 mod LineLaws
 mod Listing
@@ -13,11 +14,11 @@ mod Mixed
 mod OneAnswer
 mod OneWorkload
 mod Options
-mod Pairing
 mod Parts
 mod Placing
 mod Ranges
 mod Reading
+mod SameKeys
 mod Seating
 mod Splitting
 mod WholeLines

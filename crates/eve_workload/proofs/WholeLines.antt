@@ -111,12 +111,12 @@ requests_right : (before : List Line) (rs more : List Asked) → AreRightLines b
 requests_right before [] more right follows all few apart = right
 requests_right before (r ∷ rs) more right follows all few apart =
     let parts = and_parts (is_asked r) (list_all is_asked rs) all in
-    let pairs = subst (AllPairs (λ p q. p ≢ q)) (map-append request_id (requests_in before) (r ∷ (rs ++ more))) apart in
+    let ids = subst (AllPairs (λ p q. p ≢ q)) (map-append request_id (requests_in before) (r ∷ (rs ++ more))) apart in
     let here : IsRightBehind before (RequestLine r) = record {
       follows = follows r;
       ranges = parts.0;
       room = lt-ltb (last_requests before) 256 (omega arith);
-      new = fresh (map request_id (requests_in before)) (map request_id (rs ++ more)) (request_id r) pairs;
+      new = fresh (map request_id (requests_in before)) (map request_id (rs ++ more)) (request_id r) ids;
     } in
     requests_right (RequestLine r ∷ before) rs more (here, right) (λ a. refl) parts.1 (omega arith)
     (subst (λ xs. AllPairs (λ p q. p ≢ q) (map request_id xs))
@@ -185,7 +185,7 @@ module _ (w : Workload) (is : IsWorkload w) where
       let all = batches_right inside w.batches right closed is.batches
       (omega (arith, customers_no_batches head w.customers))
       (subst (λ xs. AllPairs (λ p q. p ≢ q) (map request_id (xs ++ requests_of w.batches)))
-      (sym (customers_no_requests head w.customers)) is.pairs) in
+      (sym (customers_no_requests head w.customers)) is.request_ids) in
       subst (λ lines. AreRightLines lines × IsClosed lines)
       (sym (onto-append head (map CustomerLine w.customers) (flat_map batch_lines w.batches))) all
 

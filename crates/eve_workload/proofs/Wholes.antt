@@ -308,15 +308,15 @@ names_apart (CustomerLine c ∷ before) right =
 names_apart (BatchLine ∷ before) right = names_apart before right.1
 names_apart (RequestLine a ∷ before) right = names_apart before right.1
 
-pub pairs_apart : (before : List Line) → AreRightLines before
+pub ids_apart : (before : List Line) → AreRightLines before
     → AllPairs (λ a b. a ≢ b) (map request_id (requests_in before))
-pairs_apart [] right = λ i j d below there. absurd (omega arith)
-pairs_apart (HeadLine d ∷ before) right = pairs_apart before right.1
-pairs_apart (CustomerLine c ∷ before) right = pairs_apart before right.1
-pairs_apart (BatchLine ∷ before) right = pairs_apart before right.1
-pairs_apart (RequestLine a ∷ before) right =
+ids_apart [] right = λ i j d below there. absurd (omega arith)
+ids_apart (HeadLine d ∷ before) right = ids_apart before right.1
+ids_apart (CustomerLine c ∷ before) right = ids_apart before right.1
+ids_apart (BatchLine ∷ before) right = ids_apart before right.1
+ids_apart (RequestLine a ∷ before) right =
     subst (AllPairs (λ p q. p ≢ q)) (sym (map_push request_id (requests_in before) a))
-    (apart_push (map request_id (requests_in before)) (request_id a) (pairs_apart before right.1) right.0.new)
+    (apart_push (map request_id (requests_in before)) (request_id a) (ids_apart before right.1) right.0.new)
 
 -- ---- each batch
 
@@ -477,8 +477,8 @@ workload_right d before right ends ranges = record {
   customers = customers_right before right;
   batches = batches_listed before right ends;
   names = names_apart before right;
-  pairs =
-      subst (λ rs. AllPairs (λ p q. p ≢ q) (map request_id rs)) (sym (batches_flat before)) (pairs_apart before right);
+  request_ids =
+      subst (λ rs. AllPairs (λ p q. p ≢ q) (map request_id rs)) (sym (batches_flat before)) (ids_apart before right);
 }
 
 some_lines : (before : List Line) → may_end before ≡ true → 1 ≤ length before

@@ -5,6 +5,7 @@ use Rattle.std.specs.List.{list_any}
 use Rattle.std.specs.Borrow.{Bor}
 use Rattle.eve_accounts.specs.Names.{same_name}
 use Rattle.eve_grammar.specs.declared.limits.TheConstants.{MOST_CUSTOMERS, MOST_BATCHES, MOST_REQUESTS}
+use Rattle.eve_grammar.specs.Trace.{request_id}
 use Rattle.eve_write.specs.Data.{customer, asked}
 use Rattle.eve_workload.specs.declared.deployment.Deployment.{Deployment}
 use Rattle.eve_workload.specs.declared.draft.Last.{Last}
@@ -14,7 +15,7 @@ use Rattle.eve_workload.specs.Workload.{customer_names}
 use Rattle.eve_workload.specs.Lines.{Line, HeadLine, CustomerLine, BatchLine, RequestLine, line_text}
 use Rattle.eve_workload.specs.Steps.{customers_in, requests_in, last_requests, IsRightBehind, AreRightLines}
 use Rattle.eve_workload.specs.Steps.{text_before, may_end}
-use Rattle.eve_workload.specs.Pairs.{key_of, AreMet}
+use Rattle.eve_workload.specs.RequestIds.{AreMet}
 
 -- what the last line is
 abbrev pub last_in : List Line → Last
@@ -66,7 +67,7 @@ pub record Keeps (d : Draft) (before : List Line) : Type 0 where
   pub count : d.count ≡ last_requests before
   pub names : (name : List ℕ) → has_name d.names.keys name ≡ list_any (same_name name)
       (customer_names (customers_in before))
-  pub pairs : AreMet d.pairs (map key_of (requests_in before))
+  pub request_ids : AreMet d.request_ids (map request_id (requests_in before))
 
 -- the line was taken, or it may not stand after these
 abbrev pub Takes : Draft → List Line → Line → Bool → Type 0

@@ -10,6 +10,6 @@ pub mod Steps
 pub mod Held
 pub mod Words
 pub mod Said
-pub mod Pairs
+pub mod RequestIds
 pub mod Drafts
 pub mod Mixed

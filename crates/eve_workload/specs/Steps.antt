@@ -91,7 +91,7 @@ has_room before (CustomerLine c) = nat_lt (length (customers_in before)) MOST_CU
 has_room before BatchLine = nat_lt (batches_in before) MOST_BATCHES
 has_room before (RequestLine a) = nat_lt (last_requests before) MOST_REQUESTS
 
--- no customer has the name yet, no request the client and the number
+-- no customer has the name yet, no request the id
 abbrev pub IsNew : List Line → Line → Type 0
 IsNew before (HeadLine d) = ⊤
 IsNew before (CustomerLine c) = ¬ Contains (customer_names (customers_in before)) c.name

@@ -40,10 +40,10 @@ requests_of batches = flat_map (λ requests. requests) batches
 abbrev pub is_listed : List Asked → Bool
 is_listed requests = is_between 1 MOST_REQUESTS (length requests) && list_all is_asked requests
 
--- the limits, names that differ, and pairs that differ over all batches
+-- the limits, names that differ, and request ids that differ over all batches
 pub record IsWorkload (w : Workload) : Type 0 where
   pub head : IsTrue (is_head (head_asked w))
   pub customers : IsTrue (list_all is_customer w.customers)
   pub batches : IsTrue (list_all is_listed w.batches)
   pub names : AllPairs (λ a b. a ≢ b) (customer_names w.customers)
-  pub pairs : AllPairs (λ a b. a ≢ b) (map request_id (requests_of w.batches))
+  pub request_ids : AllPairs (λ a b. a ≢ b) (map request_id (requests_of w.batches))

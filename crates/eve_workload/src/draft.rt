@@ -14,7 +14,7 @@ ghost use Rattle.eve_workload.specs.Drafts.{TakesLine};
 
 use crate::deployment::Deployment;
 use crate::line::{CustomerFields, Line, line_of};
-use crate::pairs::{Pair, Pairs};
+use crate::request_ids::RequestIds;
 use crate::requests::add_owned;
 use crate::words::split_line;
 use eve_accounts::Name;
@@ -41,7 +41,7 @@ pub(crate) struct Draft<'a> {
     pub customers: Vec<CustomerData>,
     pub names: BTreeSet<&'a [u8]>,
     pub requests: Vec<RequestData>,
-    pub pairs: Pairs,
+    pub request_ids: RequestIds,
     // Where each batch starts among the requests.
     pub starts: Vec<u32>,
     // How many requests the last batch has.
@@ -65,7 +65,7 @@ impl<'a> Draft<'a> {
             customers: Vec::new(alloc),
             names: BTreeSet::new(alloc),
             requests: Vec::new(alloc),
-            pairs: Pairs::new(alloc),
+            request_ids: RequestIds::new(alloc),
             starts: Vec::new(alloc),
             count: 0,
         }
@@ -171,11 +171,8 @@ impl<'a> Draft<'a> {
         if self.count as usize >= MOST_REQUESTS {
             return Ok(false);
         }
-        let pair = Pair {
-            client: asked.client,
-            number: asked.number,
-        };
-        if !self.pairs.add(pair, self.requests.as_slice())? {
+        let id = (asked.client, asked.number);
+        if !self.request_ids.add(id, self.requests.as_slice())? {
             return Ok(false);
         }
         add_owned(&mut self.requests, asked)?;

@@ -13,7 +13,7 @@ mod lookups;
 mod marks;
 mod mixer;
 mod numbers;
-mod pairs;
+mod request_ids;
 mod requests;
 mod seats;
 mod words;

@@ -22,7 +22,7 @@ use std::marker::Model;
 /// What a deployment is asked to do: its numbers, the customers, and batches of requests as they are listed.
 ///
 /// docs/TRACE.md, "Workload". Every workload lies within the limits, its customers' names differ, and so do its
-/// requests' pairs of client and number. All requests stand in one list. Contracts see it as its deployment, its
+/// requests' ids. All requests stand in one list. Contracts see it as its deployment, its
 /// customers, and for each batch the list of its requests.
 #[derive(Drop)]
 pub struct Workload {

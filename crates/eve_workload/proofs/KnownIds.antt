@@ -1,0 +1,90 @@
+-- Request ids that were met, and numbers that rise.
+use Rattle.std.proofs.Common.{◌≡◌, ℕ, ◌+◌, ◌%◌, ◌<◌, true, false, List, [], ◌∷◌, ◌++◌, All, Option, Some, None}
+use Rattle.std.proofs.Common.{map, take, length, inl, inr, sym, subst, ap, ◌∙◌, arith}
+use Rattle.std.specs.Prelude.{slice_set, slice_index_or}
+use Rattle.std.specs.List.{list_any}
+use Rattle.std.proofs.lemmas.Bool.{cases_Bool, cases_eq}
+use Rattle.std.proofs.lemmas.Bool.Decides.{nat_tests}
+use Rattle.std.proofs.lemmas.List.{get_or-set_same, get_or-set_other, map_push, map_more}
+use Rattle.std.proofs.lemmas.List.Folds.{list_any_none}
+use Rattle.std.proofs.lemmas.List.Elements.{All-push}
+use Rattle.eve_write.specs.Data.{asked}
+use Rattle.eve_write.specs.declared.request.RequestData.{RequestData}
+use Rattle.eve_grammar.specs.Trace.{RequestId, request_id}
+use Rattle.eve_workload.specs.RequestIds.{same_id, ids_of, at_place, Follows, ReachesNumber, IsUpToLast}
+
+-- ---- ids that are the same
+
+pub same_id-true : (p q : RequestId) → same_id p q ≡ true → p ≡ q
+same_id-true p q h =
+    let client : p.0 ≡ q.0 = grind (arith, nat_tests) in
+    let number : p.1 ≡ q.1 = grind (arith, nat_tests) in
+    (λ k. (client k, number k))
+
+pub same_id-itself : (p q : RequestId) → p ≡ q → same_id p q ≡ true
+same_id-itself p q e =
+    let client : p.0 ≡ q.0 = (λ k. (e k).0) in
+    let number : p.1 ≡ q.1 = (λ k. (e k).1) in
+    grind (arith, nat_tests)
+
+-- ---- numbers that rise
+
+below : (last : Option ℕ) (number other : ℕ) → Follows last number → ReachesNumber last other → other < number
+below None number other follows reached = absurd reached
+below (Some last) number other follows reached = omega (arith, follows, reached)
+
+module _ (last : List (Option ℕ)) (id : RequestId) (there : id.0 % 256 < length last)
+    (follows : Follows (at_place last id.0) id.1) where
+  -- of the ids that were met, those of its place are below it
+  met_below : (other : RequestId) → IsUpToLast last other → other.0 % 256 ≡ id.0 % 256
+      → other.1 < id.1
+  met_below other reached same =
+      below (at_place last id.0) id.1 other.1 follows
+      (subst (λ (place : ℕ). ReachesNumber (slice_index_or last place None) other.1) same reached)
+
+  is_other : (other : RequestId) → IsUpToLast last other → same_id id other ≡ false
+  is_other other reached =
+      elim (cases_Bool (same_id id other)) [
+        | inl same ↦
+            let is : id ≡ other = same_id-true id other same in
+            let under = met_below other reached (ap (λ (r : RequestId). r.0 % 256) (sym is)) in
+            absurd (omega (arith, under, ap (λ (r : RequestId). r.1) is))
+        | inr other ↦ other
+      ]
+
+  pub is_new : (met : List RequestId) → All (IsUpToLast last) met → list_any (same_id id) met ≡ false
+  is_new met all = list_any_none (same_id id) met (λ k d within. is_other _ (all k d within))
+
+  abbrev pub risen : List (Option ℕ)
+  risen = slice_set last (id.0 % 256) (Some id.1)
+
+  itself : at_place risen id.0 ≡ Some id.1
+  itself = get_or-set_same last (id.0 % 256) (Some id.1) None there
+
+  stays : (other : RequestId) → IsUpToLast last other → IsUpToLast risen other
+  stays other reached =
+      elim (cases_eq (other.0 % 256) (id.0 % 256)) [
+        | inl same ↦
+            let under = met_below other reached same in
+            let here : at_place risen other.0 ≡ Some id.1 =
+            ap (λ (place : ℕ). slice_index_or risen place None) same ∙ itself in
+            subst (λ (o : Option ℕ). ReachesNumber o other.1) (sym here) (omega (arith, under))
+        | inr apart ↦
+            subst (λ (o : Option ℕ). ReachesNumber o other.1)
+            (sym (get_or-set_other last (id.0 % 256) (other.0 % 256) (Some id.1) None apart)) reached
+      ]
+
+  pub still_reached : (met : List RequestId) → All (IsUpToLast last) met → All (IsUpToLast risen) (met ++ id ∷ [])
+  still_reached met all =
+      All-push (IsUpToLast risen) met id (λ k d within. stays _ (all k d within))
+      (subst (λ (o : Option ℕ). ReachesNumber o id.1) (sym itself) (omega arith))
+
+-- ---- the ids of requests
+
+-- those of one request more
+pub ids_more : (requests : List RequestData) (i : ℕ) (d r : RequestData) → r ≡ slice_index_or requests i d
+    → i < length requests → ids_of (take (i + 1) requests) ≡ ids_of (take i requests) ++ request_id (asked r) ∷ []
+ids_more requests i d r is there =
+    ap (map request_id) (map_more asked requests i d there)
+    ∙ map_push request_id (map asked (take i requests)) (asked (slice_index_or requests i d))
+    ∙ (λ k. ids_of (take i requests) ++ request_id (asked (sym is k)) ∷ [])
