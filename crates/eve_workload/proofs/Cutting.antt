@@ -1,5 +1,5 @@
 -- One more request is put into a group.
-use Rattle.std.proofs.Common.{◌≡◌, ℕ, ◌<◌, ◌≤◌, true, false, List, [], ◌∷◌, ◌++◌, Vec, Global, length, sym, ap, subst}
+use Rattle.std.proofs.Common.{◌≡◌, ℕ, ◌+◌, ◌<◌, ◌≤◌, true, false, List, [], ◌∷◌, ◌++◌, Vec, Global, length, sym, ap, subst}
 use Rattle.std.proofs.Common.{◌∙◌, arith}
 use Rattle.std.specs.Prelude.{◌==◌, ◌&&◌, ◌||◌, slice_index_or}
 use Rattle.std.specs.List.{list_any}
@@ -12,7 +12,7 @@ use Rattle.eve_workload.specs.declared.seats.Seat.{Seat}
 use Rattle.eve_workload.specs.declared.cut.Cut.{Cut}
 use Rattle.eve_workload.specs.Mixing.{collide, share, placed}
 use Rattle.eve_workload.specs.GroupSets.{has}
-use Rattle.eve_workload.specs.Marks.{is_barred, IsEven}
+use Rattle.eve_workload.specs.Marks.{is_barred}
 use Rattle.eve_workload.specs.Seats.{group_at, IsSeating}
 use Rattle.eve_workload.specs.Groups.{share_at}
 use Rattle.eve_workload.specs.Cut.{one_more, IsCut}
@@ -54,18 +54,18 @@ module _ (cut : Cut) (touched : RowKinds) (rows : ℕ → RowKinds) (groups : Li
       is_first = placed_first (share_at rows) groups item g (λ k below. in_conflict k ∙ before k below)
           (in_conflict g ∙ absent)
 
-      pub cut_more : (marks : RowMarks) (sizes : Vec ℕ Global) (seats : Vec Seat Global) → IsEven marks
+      pub cut_more : (marks : RowMarks) (sizes : Vec ℕ Global) (seats : Vec Seat Global)
+          → length marks.marks.items ≤ length cut.marks.marks.items + 3
           → ((row : ℕ × Kind) (other : ℕ) → is_barred marks row other
           ≡ (is_barred cut.marks row other || (list_any (collide row) touched && (other == g)))) → sizes.items
           ≡ one_more cut.sizes.items g → seats.items
           ≡ cut.seats.items ++ record { group = g; place = slice_index_or cut.sizes.items g 0 } ∷ []
           → IsCut record { marks = marks; sizes = sizes; seats = seats } rows (placed (share_at rows) groups item)
-      cut_more marks sizes seats even marked sizes_are seats_are =
+      cut_more marks sizes seats three marked sizes_are seats_are =
           let seat : Seat = record { group = g; place = slice_index_or cut.sizes.items g 0 } in
           let seated : IsSeating (one_more cut.sizes.items g) (cut.seats.items ++ seat ∷ []) (put groups g item) =
           seated_more cut.sizes.items cut.seats.items groups is.seating (share_at rows) g within is_first in
           subst (λ gs. IsCut record { marks = marks; sizes = sizes; seats = seats } rows gs) (sym is_first) record {
-            even = even;
             bars = λ row k. marked row k ∙ (λ i. is.bars row k i || (list_any (collide row) (sym next i) && (k == g)))
                 ∙ bars_more rows groups g item within row k;
             seating =
@@ -75,4 +75,7 @@ module _ (cut : Cut) (touched : RowKinds) (rows : ℕ → RowKinds) (groups : Li
                 (let most = put_count groups g item in
                 let long = ap length seats_are ∙ length_push cut.seats.items seat in
                 omega (arith, most, long, is.few));
+            few_marks =
+                (let long = ap length seats_are ∙ length_push cut.seats.items seat in
+                omega (arith, three, long, is.few_marks));
           }

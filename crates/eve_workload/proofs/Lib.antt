@@ -9,7 +9,6 @@ mod KnownIds
 mod LineKinds
 mod LineLaws
 mod Listing
-mod Meeting
 mod Mixed
 mod OneAnswer
 mod OneWorkload
@@ -18,6 +17,7 @@ mod Parts
 mod Placing
 mod Ranges
 mod Reading
+mod RowsMarked
 mod SameKeys
 mod Seating
 mod Splitting

@@ -1,11 +1,11 @@
 -- What is known while requests are put into groups.
-use Rattle.std.specs.Prelude.{◌≡◌, ℕ, ◌+◌, ◌≤◌, List, [], ◌∷◌, length, zero, suc}
+use Rattle.std.specs.Prelude.{◌≡◌, ℕ, ◌+◌, ◌*◌, ◌≤◌, List, [], ◌∷◌, length, zero, suc}
 use Rattle.std.specs.List.{list_any, flat_map}
 use Rattle.eve_smallbank.specs.declared.entry.Kind.{Kind}
 use Rattle.eve_smallbank.specs.Access.{RowKinds}
 use Rattle.eve_workload.specs.declared.cut.Cut.{Cut}
 use Rattle.eve_workload.specs.Mixing.{collide}
-use Rattle.eve_workload.specs.Marks.{is_barred, IsEven}
+use Rattle.eve_workload.specs.Marks.{is_barred}
 use Rattle.eve_workload.specs.Seats.{group_at, IsSeating}
 
 -- sizes with one more item in a group, or in a new one at the end
@@ -15,10 +15,10 @@ one_more (size ∷ sizes) zero = (size + 1) ∷ sizes
 one_more (size ∷ sizes) (suc group) = size ∷ one_more sizes group
 
 -- The requests stand in these groups, and the marks say of each row in which of them it is in conflict. There are no
--- more groups than requests.
+-- more groups than requests, and no more marks than three rows of each.
 pub record IsCut (cut : Cut) (rows : ℕ → RowKinds) (groups : List (List ℕ)) : Type 0 where
-  pub even : IsEven cut.marks
   pub bars : (row : ℕ × Kind) (group : ℕ)
       → is_barred cut.marks row group ≡ list_any (collide row) (flat_map rows (group_at groups group))
   pub seating : IsSeating cut.sizes.items cut.seats.items groups
   pub few : length groups ≤ length cut.seats.items
+  pub few_marks : length cut.marks.marks.items ≤ 3 * length cut.seats.items

@@ -46,10 +46,9 @@ impl Cut {
             rows (length self.old.seats.items) ≡ touched.now → IsCut self.old rows groups →
             IsCut self.new rows (placed (share_at rows) groups (length self.old.seats.items))) }
     {
-        let spots = self.marks.meet(touched)?;
-        let group = self.marks.barred(&spots).first_absent();
+        let group = self.marks.barred(touched).first_absent();
         let place = add_to(&mut self.sizes, group)?;
-        self.marks.mark(&spots, group);
+        self.marks.mark(touched, group)?;
         self.seats.push(Seat { group, place })?;
         Ok(())
     }
