@@ -61,7 +61,8 @@ pub fn mix(
 /// The batch that `mix` makes of these requests, with what each of them touches, so that it needn't be looked up again.
 ///
 /// Names are looked up once a request. The time of a request is that of its rows, whatever the number of
-/// parallelBatches; a batch also fills a table of two bytes a row. 1 to 256 requests. It is refused only where memory runs out.
+/// parallelBatches; a batch also fills a table of two bytes a row. 1 to 256 requests. It is refused only where memory
+/// runs out.
 pub fn mix_touched(
     alloc: Global,
     requests: &[RequestData],

@@ -21,11 +21,11 @@ loop-record-preserved c =
       entries = c.entries.result.now;
     } in
     let is : access x ≡ access_noted r =
-    ap (λ (n : ℕ). record { worker = n; place = c.place.result; index = c.index.result; entries = c.entries.result.now })
+    ap (λ (n : ℕ). record { worker = n; place = c.place.result; index = c.index.result; entries = x.entries })
     c.worker.ensures
-    ∙ ap (λ (n : ℕ). record { worker = r.worker; place = n; index = c.index.result; entries = c.entries.result.now })
+    ∙ ap (λ (n : ℕ). record { worker = r.worker; place = n; index = c.index.result; entries = x.entries })
     c.place.ensures
-    ∙ ap (λ (n : ℕ). record { worker = r.worker; place = r.place; index = n; entries = c.entries.result.now })
+    ∙ ap (λ (n : ℕ). record { worker = r.worker; place = r.place; index = n; entries = x.entries })
     c.index.ensures
     ∙ ap (λ (es : List Entry). record { worker = r.worker; place = r.place; index = r.index; entries = es })
     c.entries.ensures in
