@@ -66,8 +66,8 @@ fn open<'a, R: Threads + Sync>(
     }
 }
 
-// Judges the votes, what was committed and rolled back by them, whether the replicas agree, and the replies that were
-// sent; or the first fault of these.
+/// Judges the votes, what was committed and rolled back by them, whether the replicas agree, and the replies that were
+/// sent; or the first fault of these.
 fn judge_together(
     alloc: Global,
     trace: &Trace<'_>,
