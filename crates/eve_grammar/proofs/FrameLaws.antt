@@ -7,10 +7,10 @@ use Rattle.std.proofs.lemmas.Bool.{ltb-true, lt-ltb, leb-true, eqb-true, and_par
 use Rattle.std.proofs.lemmas.List.{nil_from_length}
 use Rattle.std.proofs.lemmas.Option.{same_Some}
 use Rattle.byteorder.specs.Endian.{big_bytes}
-use Rattle.eve_grammar.specs.Trace.{Head}
+use Rattle.eve_grammar.specs.Trace.{Head, Trace, head_of}
 use Rattle.eve_grammar.specs.Frames.{Frame, OfCustomer, OfBatch, OfReplica, OfAttempt, OfAccess, OfCommit, OfRollback}
 use Rattle.eve_grammar.specs.Frames.{OfVerifier, OfVote, OfSent, End, kind_of, Place, is_allowed}
-use Rattle.eve_grammar.specs.Limits.{is_number, is_batch, is_head, row_count, is_body, FitsAt}
+use Rattle.eve_grammar.specs.Limits.{is_number, is_batch, is_head, row_count, is_body, FitsAt, HasLimits}
 use Rattle.eve_grammar.specs.Spelling.{body_text, head_text}
 use Rattle.eve_grammar.specs.Reading.{number_at, both, made, only, behind, customer_of, batch_of, number_of, attempt_of}
 use Rattle.eve_grammar.specs.Reading.{access_of, commit_of, rollback_of, vote_of, sent_of, body_of, head_from}
@@ -53,6 +53,9 @@ small_head h fits =
       customers = leb-true h.customers 4096 (and_parts (leb 1 h.customers) (leb h.customers 4096) g.0).1;
       batches = leb-true h.batches 65535 g.1;
     }
+
+pub few_batches : (t : Trace) → HasLimits t → length t.batches ≤ 65535
+few_batches t limits = (small_head (head_of t) limits.head).batches
 
 -- the 18 bytes of the header between the first six and the length
 abbrev pub limits_text : Head → List ℕ

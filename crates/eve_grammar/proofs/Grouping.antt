@@ -232,6 +232,18 @@ few_requests b right =
     let four = and_parts (length b.requests == sum b.sizes) _ three.1 in
     (eqb-true (length b.requests) (sum b.sizes) four.0, leb-true (sum b.sizes) 256 three.0)
 
+pub some_requests : (b : Batch) → IsTrue (is_batch b) → 1 ≤ length b.requests
+some_requests b right =
+    let parts = and_parts (nat_le 1 (length b.sizes)) _ right in
+    let each = and_parts (list_all (nat_le 1) b.sizes) _ parts.1 in
+    omega (arith, (few_requests b right).0, some b.sizes parts.0 each.0)
+  where
+    some : (sizes : List ℕ) → nat_le 1 (length sizes) ≡ true → list_all (nat_le 1) sizes ≡ true → 1 ≤ sum sizes
+    some [] one each = absurd (let none = leb-true 1 0 one in omega (arith, none))
+    some (n ∷ sizes) one each =
+        let parts = and_parts (nat_le 1 n) (list_all (nat_le 1) sizes) each in
+        omega (arith, leb-true 1 n parts.0, sum-cons n sizes)
+
 -- ---- an order that permutes
 
 pub small_all : (r : ℕ) (order : List ℕ) → is_permutation r order ≡ true → r ≤ 256 → AllByRecursion (λ i. i < 256) order

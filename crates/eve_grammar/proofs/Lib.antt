@@ -21,3 +21,4 @@ pub mod Grouping
 pub mod KindBytes
 pub mod OpeningRows
 pub mod NumbersBelow
+pub mod Lists

@@ -52,6 +52,11 @@ pub follows-push : (table : Table) (xs : List Executed) (x : Executed) → Follo
 follows-push table [] x follows sees = (sees, tt)
 follows-push table (y ∷ xs) x follows sees = (follows.0, follows-push (table_after table y.entries) xs x follows.1 sees)
 
+pub table_after-append : (table : Table) (es fs : List Entry) → table_after table (es ++ fs)
+    ≡ table_after (table_after table es) fs
+table_after-append table [] fs = refl
+table_after-append table (e ∷ es) fs = table_after-append (λ row. cond (writes_row row e) (left_by e) (table row)) es fs
+
 pub table_after_all-push : (table : Table) (xs : List Executed) (x : Executed) → table_after_all table (xs ++ x ∷ [])
     ≡ table_after (table_after_all table xs) x.entries
 table_after_all-push table [] x = refl

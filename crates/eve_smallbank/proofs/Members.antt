@@ -1,7 +1,9 @@
 -- Public: other crates cite these lemmas. Members of a list, and lists in another order.
-use Rattle.std.proofs.Common.{◌≡◌, Bool, false, List, [], ◌∷◌, ◌++◌, refl, sym, subst, ◌⊎◌, inl, inr}
-use Rattle.std.specs.List.{AllByRecursion, list_any}
-use Rattle.std.proofs.lemmas.Bool.{or_from, or_parts}
+use Rattle.std.proofs.Common.{◌≡◌, Bool, true, false, List, [], ◌∷◌, ◌++◌, map, refl, sym, subst, ap, ◌∙◌, ◌⊎◌, inl}
+use Rattle.std.proofs.Common.{inr}
+use Rattle.std.specs.List.{AllByRecursion, list_all, list_any}
+use Rattle.std.proofs.lemmas.Bool.{and_parts, or_from, or_parts}
+use Rattle.std.proofs.lemmas.List.{map-append}
 use Rattle.eve_smallbank.specs.Conflict.{IsReordering}
 
 pub data In {A : Type 0} : A → List A → Type 0 where
@@ -26,6 +28,17 @@ pub none_of_list_any : {A : Type 0} {x : A} (p : A → Bool) (xs : List A) → l
 none_of_list_any p [] h i = elim i [ ]
 none_of_list_any p (x ∷ xs) h here = (or_parts (p x) (list_any p xs) h).0
 none_of_list_any p (y ∷ xs) h (there i) = none_of_list_any p xs (or_parts (p y) (list_any p xs) h).1 i
+
+-- what all pass, each member does
+pub all_of_list_all : {A : Type 0} {x : A} (p : A → Bool) (xs : List A) → list_all p xs ≡ true → In x xs → p x ≡ true
+all_of_list_all p [] h i = elim i [ ]
+all_of_list_all p (x ∷ xs) h here = (and_parts (p x) (list_all p xs) h).0
+all_of_list_all p (y ∷ xs) h (there i) = all_of_list_all p xs (and_parts (p y) (list_all p xs) h).1 i
+
+-- the first, or one after it
+pub in_cons : {A : Type 0} {z y : A} (xs : List A) → In z (y ∷ xs) → (z ≡ y) ⊎ In z xs
+in_cons xs here = inl refl
+in_cons xs (there i) = inr i
 
 pub in_front : {A : Type 0} {x : A} {xs : List A} (ys : List A) → In x xs → In x (xs ++ ys)
 in_front ys here = here
@@ -60,3 +73,13 @@ in_before {A} {z} (x ∷ xs) ys r i =
       | inl e ↦ subst (λ y. In y (x ∷ xs)) (sym e) here
       | inr j ↦ there (in_before xs (r.0 ++ r.1) r.3 j)
     ]
+
+pub reordering_map : {A B : Type 0} (f : A → B) (xs ys : List A) → IsReordering xs ys
+    → IsReordering (map f xs) (map f ys)
+reordering_map f [] ys r = ap (map f) r
+reordering_map f (x ∷ xs) ys r = (
+  map f r.0,
+  map f r.1,
+  ap (map f) r.2 ∙ map-append f r.0 (x ∷ r.1),
+  subst (IsReordering (map f xs)) (map-append f r.0 r.1) (reordering_map f xs (r.0 ++ r.1) r.3),
+)

@@ -187,6 +187,10 @@ untouched table row (e ∷ es) h =
     untouched (λ r. cond (writes_row r e) (left_by e) (table r)) row es (λ d i. h d (there i))
     ∙ ap (λ b. cond b (left_by e) (table row)) (h e here)
 
+pub unwritten : (table : Table) (es : List Entry) (row : ℕ) → list_any (writes_row row) es ≡ false
+    → table_after table es row ≡ table row
+unwritten table es row none = untouched table row es (λ e i. none_of_list_any (writes_row row) es none i)
+
 -- what a row has afterwards depends on that row alone
 pub same_row : (table other : Table) (row : ℕ) (es : List Entry) → table row ≡ other row → table_after table es row
     ≡ table_after other es row

@@ -4,6 +4,7 @@ use Rattle.std.proofs.Common.{map, length, Option, Some, None, is_some, refl, sy
 use Rattle.std.specs.List.{AllByRecursion}
 use Rattle.std.proofs.lemmas.List.{length-map}
 use Rattle.std.proofs.lemmas.Bool.{eq-eqb, ne_eqb, cond-true, cond-false, false≢true}
+use Rattle.std.proofs.lemmas.Option.{same_Some as the_same}
 use Rattle.eve_accounts.specs.Money.{is_balance}
 use Rattle.eve_accounts.specs.Names.{customer_named}
 use Rattle.eve_accounts.specs.Rows.{saving_row, checking_row}
@@ -292,9 +293,6 @@ notes_saved : (b : Bool) (d : Decision) (seen : List ℤ) → NotesAll d.reply
     → NotesAll (cond b (abort_after Insufficient seen) d).reply
 notes_saved true d seen all = numbers-as_reads
 notes_saved false d seen all = all
-
-the_same : (c d : Decision) → Some c ≡ Some d → c ≡ d
-the_same c d h = cc
 
 nothing : (d : Decision) → ◌≡◌ {A = Option Decision} None (Some d) → ⊥
 nothing d h = cc

@@ -1,0 +1,111 @@
+-- Public: other crates cite these lemmas. Lists at one of their places, and what holds of each of their items.
+use Rattle.std.proofs.Common.{◌≡◌, ℕ, zero, suc, ◌+◌, ◌<◌, Bool, true, false, cond, List, [], ◌∷◌, ◌++◌, map, filter}
+use Rattle.std.proofs.Common.{length, get_or, take, drop, slice_get, Some, refl, sym, subst, ap, ◌∙◌, append-nil, arith}
+use Rattle.std.specs.List.{AllByRecursion}
+use Rattle.std.proofs.lemmas.List.{take_all, take_more, drop_all, drop_more}
+use Rattle.std.proofs.lemmas.Option.{same_Some, none-some, slice_get_within, get_or_from_slice_get}
+
+-- ---- one of the places
+
+pub item_within : {A : Type 0} (xs : List A) (i : ℕ) → i < length xs → (x : A) × (slice_get xs i ≡ Some x)
+item_within [] i lt = absurd (omega arith)
+item_within (x ∷ xs) zero lt = (x, refl)
+item_within (x ∷ xs) (suc i) lt = item_within xs i (omega arith)
+
+-- the front, one longer
+pub take_one_more : {A : Type 0} (xs : List A) (i : ℕ) (x : A) → slice_get xs i ≡ Some x → take (i + 1) xs
+    ≡ take i xs ++ x ∷ []
+take_one_more {A} xs i x at =
+    take_more xs i x (slice_get_within xs i x at)
+    ∙ ap (λ (y : A). take i xs ++ y ∷ []) (get_or_from_slice_get xs i x x at)
+
+-- the item at a place and those after it
+pub drop_here : {A : Type 0} (xs : List A) (i : ℕ) (x : A) → slice_get xs i ≡ Some x → drop i xs ≡ x ∷ drop (i + 1) xs
+drop_here xs i x at = drop_more xs i x (slice_get_within xs i x at)
+    ∙ ap (λ (y : _). y ∷ drop (i + 1) xs) (get_or_from_slice_get xs i x x at)
+
+-- of two lists, one after the other
+pub slice_get-front : {A : Type 0} (xs ys : List A) (i : ℕ) → i < length xs → slice_get (xs ++ ys) i ≡ slice_get xs i
+slice_get-front [] ys i lt = absurd (omega arith)
+slice_get-front (x ∷ xs) ys zero lt = refl
+slice_get-front (x ∷ xs) ys (suc i) lt = slice_get-front xs ys i (omega arith)
+
+pub slice_get-behind : {A : Type 0} (xs ys : List A) (i : ℕ) → slice_get (xs ++ ys) (length xs + i) ≡ slice_get ys i
+slice_get-behind [] ys i = (let none : 0 + i ≡ i = omega arith in ap (slice_get ys) none)
+slice_get-behind (x ∷ xs) ys i =
+    let more : suc (length xs) + i ≡ suc (length xs + i) = omega arith in
+    ap (slice_get (x ∷ (xs ++ ys))) more ∙ slice_get-behind xs ys i
+
+-- what a mapped list has there comes of an item
+pub unmapped : {A B : Type 0} (f : A → B) (xs : List A) (i : ℕ) (y : B) → slice_get (map f xs) i ≡ Some y → (x : A)
+    × (slice_get xs i ≡ Some x) × (f x ≡ y)
+unmapped f [] i y at = absurd (none-some y at)
+unmapped f (x ∷ xs) zero y at = (x, refl, same_Some (f x) y at)
+unmapped f (x ∷ xs) (suc i) y at = unmapped f xs i y at
+
+-- a vector that was sorted as a slice
+pub whole_slice : {A : Type 0} (xs ys : List A) (n : ℕ) → length ys ≡ length xs → n ≡ length xs
+    → take n (ys ++ drop (length ys) xs) ≡ ys
+whole_slice xs ys n same many =
+    ap (λ (zs : List _). take n (ys ++ zs)) (drop_all (length ys) xs (omega arith)) ∙ ap (take n) (append-nil ys)
+    ∙ take_all n ys (omega arith)
+
+-- ---- one, two or three items
+
+pub one_listed : {A : Type 0} (xs : List A) (a : A) → length xs ≡ 1 → slice_get xs 0 ≡ Some a → a ∷ [] ≡ xs
+one_listed [] a one first = absurd (omega arith)
+one_listed (x ∷ []) a one first = ap (λ y. y ∷ []) (sym (get_or_from_slice_get (x ∷ []) 0 a a first))
+one_listed (x ∷ y ∷ xs) a one first = absurd (omega arith)
+
+pub two_listed : {A : Type 0} (xs : List A) (a b : A) → length xs ≡ 2 → slice_get xs 0 ≡ Some a
+    → slice_get xs 1 ≡ Some b → a ∷ b ∷ [] ≡ xs
+two_listed [] a b two first second = absurd (omega arith)
+two_listed (x ∷ xs) a b two first second =
+    ap (λ y. y ∷ b ∷ []) (sym (get_or_from_slice_get (x ∷ xs) 0 a a first))
+    ∙ ap (λ ys. x ∷ ys) (one_listed xs b (omega arith) second)
+
+pub three_listed : {A : Type 0} (xs : List A) (a b c : A) → length xs ≡ 3 → slice_get xs 0 ≡ Some a
+    → slice_get xs 1 ≡ Some b → slice_get xs 2 ≡ Some c → a ∷ b ∷ c ∷ [] ≡ xs
+three_listed [] a b c three first second third = absurd (omega arith)
+three_listed (x ∷ xs) a b c three first second third =
+    ap (λ y. y ∷ b ∷ c ∷ []) (sym (get_or_from_slice_get (x ∷ xs) 0 a a first))
+    ∙ ap (λ ys. x ∷ ys) (two_listed xs b c (omega arith) second third)
+
+-- ---- what holds of each item
+
+pub all-slice_get : {A : Type 0} (P : A → Type 0) (xs : List A) (i : ℕ) (x : A) → AllByRecursion P xs
+    → slice_get xs i ≡ Some x → P x
+all-slice_get P [] i x all at = absurd (none-some x at)
+all-slice_get P (y ∷ xs) zero x all at = subst P (same_Some y x at) all.0
+all-slice_get P (y ∷ xs) (suc i) x all at = all-slice_get P xs i x all.1 at
+
+pub all-get_or : {A : Type 0} (P : A → Type 0) (xs : List A) (i : ℕ) (d : A) → AllByRecursion P xs → i < length xs
+    → P (get_or xs i d)
+all-get_or P [] i d all lt = absurd (omega arith)
+all-get_or P (x ∷ xs) zero d all lt = all.0
+all-get_or P (x ∷ xs) (suc i) d all lt = all-get_or P xs i d all.1 (omega arith)
+
+pub all-push : {A : Type 0} (P : A → Type 0) (xs : List A) (x : A) → AllByRecursion P xs → P x
+    → AllByRecursion P (xs ++ x ∷ [])
+all-push P [] x all last = (last, tt)
+all-push P (y ∷ xs) x all last = (all.0, all-push P xs x all.1 last)
+
+pub all-append : {A : Type 0} (P : A → Type 0) (xs ys : List A) → AllByRecursion P xs → AllByRecursion P ys
+    → AllByRecursion P (xs ++ ys)
+all-append P [] ys all more = more
+all-append P (x ∷ xs) ys all more = (all.0, all-append P xs ys all.1 more)
+
+pub all-filter : {A : Type 0} (P : A → Type 0) (test : A → Bool) (xs : List A) → AllByRecursion P xs
+    → AllByRecursion P (filter test xs)
+all-filter P test [] all = tt
+all-filter P test (x ∷ xs) all = by (test x) (all-filter P test xs all.1)
+  where
+    by : (b : Bool) → AllByRecursion P (filter test xs)
+        → AllByRecursion P (cond b (x ∷ filter test xs) (filter test xs))
+    by true rest = (all.0, rest)
+    by false rest = rest
+
+pub all-weaker : {A : Type 0} (P Q : A → Type 0) (xs : List A) → ((x : A) → P x → Q x) → AllByRecursion P xs
+    → AllByRecursion Q xs
+all-weaker P Q [] weaker all = tt
+all-weaker P Q (x ∷ xs) weaker all = (weaker x all.0, all-weaker P Q xs weaker all.1)
