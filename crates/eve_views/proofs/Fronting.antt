@@ -1,5 +1,5 @@
 -- Where numbered frames stand among the frames of a trace.
-use Rattle.std.proofs.Common.{◌≡◌, ℕ, zero, suc, ◌+◌, ◌-◌, ◌<◌, ◌≤◌, List, [], ◌∷◌, ◌++◌, map, length, take, Option}
+use Rattle.std.proofs.Common.{◌≡◌, ℕ, zero, suc, ◌+◌, ◌-◌, ◌≤◌, List, [], ◌∷◌, ◌++◌, map, length, take, Option}
 use Rattle.std.proofs.Common.{Some, None, refl, sym, ap, ◌∙◌, append_assoc, arith}
 use Rattle.std.specs.Prelude.{slice_get}
 use Rattle.std.specs.List.{AllByRecursion, flat_map, enumerate_from}
@@ -11,19 +11,6 @@ use Rattle.eve_grammar.specs.Frames.{OfVerifier, OfVote, OfSent, End, step_frame
 use Rattle.eve_grammar.specs.Frames.{batches_of, sections_of, verifiers_of, frames_of}
 use Rattle.eve_views.specs.Indexing.{frames_before_sent}
 use Rattle.eve_views.specs.Fronts.{before_sections, before_section, before_verifiers, before_verifier, before_sent}
-
--- ---- items of two lists, one after the other
-
-pub slice_get-behind : {X : Type 0} (xs ys : List X) (i : ℕ) → slice_get (xs ++ ys) (length xs + i) ≡ slice_get ys i
-slice_get-behind [] ys i = (let none : 0 + i ≡ i = omega arith in ap (slice_get ys) none)
-slice_get-behind (x ∷ xs) ys i =
-    let more : suc (length xs) + i ≡ suc (length xs + i) = omega arith in
-    ap (slice_get (x ∷ (xs ++ ys))) more ∙ slice_get-behind xs ys i
-
-pub slice_get-front : {X : Type 0} (xs ys : List X) (i : ℕ) → i < length xs → slice_get (xs ++ ys) i ≡ slice_get xs i
-slice_get-front [] ys i lt = absurd (omega arith)
-slice_get-front (x ∷ xs) ys zero lt = refl
-slice_get-front (x ∷ xs) ys (suc i) lt = slice_get-front xs ys i (omega arith)
 
 -- ---- frames without a number of their own
 

@@ -1,6 +1,6 @@
 -- Public: other crates cite these lemmas. Where the frames of one kind stand, by byte.
 use Rattle.std.proofs.Common.{◌≡◌, ℕ, zero, suc, ◌+◌, ◌<◌, ◌≤◌, List, [], ◌∷◌, ◌++◌, map, length, get_or, take, drop}
-use Rattle.std.proofs.Common.{Some, refl, sym, ap, ◌∙◌, append_assoc, arith}
+use Rattle.std.proofs.Common.{Option, Some, refl, sym, ap, ◌∙◌, append_assoc, arith}
 use Rattle.std.specs.Prelude.{slice_get, option_map}
 use Rattle.std.specs.List.{flat_map}
 use Rattle.std.proofs.lemmas.List.{length-append, length-map, take-map, take_at, take-append-drop, drop_all}
@@ -10,16 +10,17 @@ use Rattle.std.proofs.Math.Seq.{take-append-add, take-suc, drop-cons}
 use Rattle.std.proofs.lemmas.List.{take-append-le}
 use Rattle.std.proofs.lemmas.Option.{slice_get-map, slice_get_within, get_or_from_slice_get}
 use Rattle.std.proofs.lemmas.Option.{same_Some}
-use Rattle.eve_grammar.specs.Trace.{Trace}
-use Rattle.eve_grammar.specs.Frames.{Frame, OfCustomer, OfBatch, section_frames, verifier_frames, batches_of}
-use Rattle.eve_grammar.specs.Frames.{sections_of, verifiers_of, frames_of}
-use Rattle.eve_grammar.specs.Spelling.{frame_text, frames_text, located, frames_at, batch_text, section_text}
-use Rattle.eve_grammar.specs.Spelling.{votes_text, batches_start, sections_start, section_start, verifiers_start}
-use Rattle.eve_grammar.specs.Spelling.{verifier_start, sent_start}
+use Rattle.eve_grammar.specs.Trace.{Step, Trace}
+use Rattle.eve_grammar.specs.Frames.{Frame, OfCustomer, OfBatch, OfReplica, step_frames, section_frames}
+use Rattle.eve_grammar.specs.Frames.{verifier_frames, batches_of, sections_of, verifiers_of, frames_of}
+use Rattle.eve_grammar.specs.Spelling.{frame_text, frames_text, located, frames_at, batch_text, step_text}
+use Rattle.eve_grammar.specs.Spelling.{section_text, votes_text, batches_start, sections_start, section_start}
+use Rattle.eve_grammar.specs.Spelling.{verifiers_start, verifier_start, sent_start}
+use Rattle.eve_grammar.proofs.Lists.{item_within, slice_get-behind, slice_get-front}
 use Rattle.eve_views.specs.Fronts.{before_batches, before_sections, before_section, before_verifiers, before_verifier}
 use Rattle.eve_views.specs.Fronts.{before_sent}
 use Rattle.eve_views.specs.Parts.{byte_of, frames_from}
-use Rattle.eve_views.proofs.Fronting.{slice_get-behind, slice_get-front, sent_frames, frames_from_sections}
+use Rattle.eve_views.proofs.Fronting.{sent_frames, frames_from_sections}
 
 -- ---- located lists
 
@@ -41,10 +42,12 @@ pub length-located : {A : Type 0} (text : A → List ℕ) (at : ℕ) (xs : List 
 length-located text at [] = refl
 length-located text at (x ∷ xs) = ap suc (length-located text (at + length (text x)) xs)
 
-item_within : {A : Type 0} (xs : List A) (i : ℕ) → i < length xs → (x : A) × (slice_get xs i ≡ Some x)
-item_within [] i lt = absurd (omega arith)
-item_within (x ∷ xs) zero lt = (x, refl)
-item_within (x ∷ xs) (suc i) lt = item_within xs i (omega arith)
+-- what is located at a place stands there in the list
+pub located_get : {A : Type 0} (text : A → List ℕ) (at : ℕ) (xs : List A) (i offset : ℕ) (x : A)
+    → slice_get (located text at xs) i ≡ Some (offset, x) → slice_get xs i ≡ Some x
+located_get text at [] i offset x e = absurd cc
+located_get {A} text at (y ∷ ys) zero offset x e = ap (λ (o : Option (ℕ × A)). option_map (λ (p : ℕ × A). p.1) o) e
+located_get text at (y ∷ ys) (suc i) offset x e = located_get text (at + length (text y)) ys i offset x e
 
 -- Of the frames of one kind, after others, the i-th: what it says, and where it stands.
 pub record IsPlaced {A : Type 0} (frame : A → Frame) (xs : List A) (i at offset : ℕ) (f : Frame) : Type 0 where
@@ -91,6 +94,12 @@ pub frames_text-flat_map : {A : Type 0} (frames : A → List Frame) (xs : List A
 frames_text-flat_map frames [] = refl
 frames_text-flat_map frames (x ∷ xs) = flat_map-append frame_text (frames x) (flat_map frames xs)
     ∙ ap (λ (bs : List ℕ). frames_text (frames x) ++ bs) (frames_text-flat_map frames xs)
+
+-- how long a section is
+pub section_is : (e : ℕ) (steps : List Step) → length (section_text (e, steps)) ≡ length (frame_text (OfReplica e))
+    + length (flat_map step_text steps)
+section_is e steps = length-append (frame_text (OfReplica e)) (frames_text (flat_map step_frames steps))
+    ∙ ap (λ (bs : List ℕ). length (frame_text (OfReplica e)) + length bs) (frames_text-flat_map step_frames steps)
 
 pub length-frames_text : (xs ys : List Frame) → length (frames_text (xs ++ ys))
     ≡ length (frames_text xs) + length (frames_text ys)

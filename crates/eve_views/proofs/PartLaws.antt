@@ -18,7 +18,7 @@ use Rattle.eve_frames.specs.Views.{has_batch_body, has_sent_body, has_vote_body,
 use Rattle.eve_grammar.specs.declared.limits.TheConstants.{MOST_ROWS, MOST_BATCHES}
 use Rattle.eve_frames.specs.Views.{has_customer_body, customer_in, vote_in, access_in, Says}
 use Rattle.eve_frames.proofs.Rereading.{customer_again, batch_again, sent_again, vote_again, access_again}
-use Rattle.eve_grammar.proofs.FrameLaws.{small_head}
+use Rattle.eve_grammar.proofs.FrameLaws.{small_head, few_batches}
 use Rattle.eve_views.specs.declared.walk.Index.{Index}
 use Rattle.eve_views.specs.Held.{IsHeldTrace}
 use Rattle.eve_views.specs.Lent.{HasBytesAt}
@@ -289,9 +289,6 @@ batches_within t n k lt number =
           (flat_map section_frames (sections_of t) ++
           (flat_map verifier_frames (verifiers_of t) ++ (map OfSent t.sent ++ End ∷ []))),
     )
-
-few_batches : (t : Trace) → HasLimits t → length t.batches ≤ 65535
-few_batches t limits = (small_head (head_of t) limits.head).batches
 
 few_replicas : (t : Trace) → HasLimits t → length t.sections ≤ 8
 few_replicas t limits = (small_head (head_of t) limits.head).replicas

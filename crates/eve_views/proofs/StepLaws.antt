@@ -14,12 +14,12 @@ use Rattle.eve_grammar.specs.Frames.{step_frames}
 use Rattle.eve_grammar.specs.Spelling.{frame_text, frames_text, located, accesses_at, step_text}
 use Rattle.eve_grammar.specs.Limits.{is_step, is_access, is_attempt}
 use Rattle.eve_grammar.specs.declared.limits.TheConstants.{MOST_ROWS}
+use Rattle.eve_grammar.proofs.Lists.{slice_get-behind}
 use Rattle.eve_frames.specs.Views.{has_attempt_body, has_commit_body, has_rollback_body, attempt_in}
 use Rattle.eve_frames.specs.Views.{commit_in, rollback_in, Says}
 use Rattle.eve_frames.proofs.Rereading.{attempt_again, commit_again, rollback_again}
 use Rattle.eve_views.specs.Parts.{byte_of, frames_between, accesses_between, steps_between, AreAccesses, AreSteps}
 use Rattle.eve_views.proofs.Locating.{length-frames_text}
-use Rattle.eve_views.proofs.Fronting.{slice_get-behind}
 use Rattle.eve_views.proofs.PartLaws.{accesses_are, says_met, IsFrameAt}
 use Rattle.eve_views.proofs.CutLaws.{steps_are}
 
