@@ -25,19 +25,11 @@ use Rattle.eve_history.specs.Coming.{AreNotesOf}
 use Rattle.eve_history.specs.SideBySide.{IsRightAlone, AreOrdered, IsKeptAhead}
 use Rattle.eve_history.proofs.Structure.{nothing_wrong}
 use Rattle.eve_history.proofs.Coming.{come_start_with, attempt_at, with_attempt_at, come_attempt_at}
-use Rattle.eve_history.proofs.Coming.{still_within}
+use Rattle.eve_history.proofs.Coming.{still_within, attempts_among-append}
 use Rattle.eve_history.proofs.SideBySide.{all_behind}
 
 abbrev pub tell : ℕ × Attempt → List (ℕ × Access)
 tell x = ordered x.0 x.1
-
-attempts_among-append : (xs ys : List (ℕ × Step)) → attempts_among (xs ++ ys)
-    ≡ attempts_among xs ++ attempts_among ys
-attempts_among-append [] ys = refl
-attempts_among-append ((at, Attempts a) ∷ xs) ys = ap (λ (zs : List (ℕ × Attempt)). (at, a) ∷ zs)
-    (attempts_among-append xs ys)
-attempts_among-append ((at, Commits c) ∷ xs) ys = attempts_among-append xs ys
-attempts_among-append ((at, RollsBack r) ∷ xs) ys = attempts_among-append xs ys
 
 -- ---- before the first step
 

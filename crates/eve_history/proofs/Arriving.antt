@@ -20,11 +20,12 @@ use Rattle.eve_grammar.proofs.Grouping.{all_at}
 use Rattle.eve_views.specs.Form.{SomePlace}
 use Rattle.eve_history.specs.Faults.{request_ids_at, IsAskedAgain}
 use Rattle.eve_grammar.specs.Trace.{RequestId, request_id}
+use Rattle.eve_grammar.proofs.Lists.{take_one_more}
 use Rattle.eve_history.specs.Notes.{IsRepeated, HasDistinctRequests}
 use Rattle.eve_history.specs.Repeats.{arrival, arrivals_at, arrivals_of, is_by, OccursTwice, NoneOccursTwice}
 use Rattle.eve_history.specs.Repeats.{IsFirstTwice, IsFirstRepeat}
 use Rattle.eve_history.specs.declared.repeats.Arrival.{Arrival}
-use Rattle.eve_views.proofs.Lists.{count-cons, cut_at, take_one_more}
+use Rattle.eve_views.proofs.Lists.{count-cons, cut_at}
 use Rattle.eve_history.proofs.Counted.{one_there, two_found}
 use Rattle.eve_history.proofs.OrderLaws.{of_located, batch_count}
 use Rattle.eve_history.proofs.Places.{no_place, place_split, weaker_place}

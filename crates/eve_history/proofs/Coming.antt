@@ -73,13 +73,13 @@ come_start t e limits = come_start_with t e [] limits
 
 -- ---- one step more
 
-pub attempts_among-push : (xs : List (ℕ × Step)) (x : ℕ × Step) → attempts_among (xs ++ x ∷ [])
-    ≡ attempts_among xs ++ attempts_among (x ∷ [])
-attempts_among-push [] x = refl
-attempts_among-push ((at, Attempts a) ∷ xs) x = ap (λ (ys : List (ℕ × Attempt)). (at, a) ∷ ys)
-    (attempts_among-push xs x)
-attempts_among-push ((at, Commits c) ∷ xs) x = attempts_among-push xs x
-attempts_among-push ((at, RollsBack r) ∷ xs) x = attempts_among-push xs x
+pub attempts_among-append : (xs ys : List (ℕ × Step)) → attempts_among (xs ++ ys)
+    ≡ attempts_among xs ++ attempts_among ys
+attempts_among-append [] ys = refl
+attempts_among-append ((at, Attempts a) ∷ xs) ys = ap (λ (zs : List (ℕ × Attempt)). (at, a) ∷ zs)
+    (attempts_among-append xs ys)
+attempts_among-append ((at, Commits c) ∷ xs) ys = attempts_among-append xs ys
+attempts_among-append ((at, RollsBack r) ∷ xs) ys = attempts_among-append xs ys
 
 rollbacks_among-push : (xs : List (ℕ × Step)) (x : ℕ × Step) → rollbacks_among (xs ++ x ∷ [])
     ≡ rollbacks_among xs ++ rollbacks_among (x ∷ [])
@@ -320,7 +320,7 @@ module _ (t : Trace) (e at : ℕ) (b : Attempt) (rest : List (ℕ × Step)) (k :
       one_executed_attempt_more
       ∙ ap (λ (rs : List ExecutedAttempt). rs ++ executed_attempt (at, b) ∷ []) come.attempts
       ∙ sym (map-append executed_attempt (attempts_among come.front) ((at, b) ∷ []))
-      ∙ ap (map executed_attempt) (sym (attempts_among-push come.front (at, Attempts b)))
+      ∙ ap (map executed_attempt) (sym (attempts_among-append come.front ((at, Attempts b) ∷ [])))
 
   attempt_fates : fates_from 0 (steps_at t e)
       ≡ k.fates ++ (open_fates rest 0 (open_count after) ++ fates_from (open_count after) rest)
@@ -469,7 +469,7 @@ module _ (t : Trace) (e at : ℕ) (c : Commit) (rest : List (ℕ × Step)) (k : 
     stands = stands_next t e (at, Commits c) rest k come right _ commit_parts.0;
     attempts = come.attempts
         ∙ ap (map executed_attempt)
-        (sym (attempts_among-push come.front (at, Commits c) ∙ append-nil (attempts_among come.front)));
+        (sym (attempts_among-append come.front ((at, Commits c) ∷ []) ∙ append-nil (attempts_among come.front)));
     settled = settled_next t e (at, Commits c) rest k come right _ _ _
         (settled_commit (state_after start come.front) (state_after start come.front).pending c (executed_attempts k)
         (length k.fates) (length (k.fates ++ Committed ∷ [])) k.commits refl commit_first
@@ -538,7 +538,7 @@ module _ (t : Trace) (e at : ℕ) (r : Rollback) (rest : List (ℕ × Step)) (k 
     right = still_right t e (at, RollsBack r) rest k come right;
     stands = stands_next t e (at, RollsBack r) rest k come right _ rollback_stands;
     attempts = come.attempts
-        ∙ ap (map executed_attempt) (sym (attempts_among-push come.front (at, RollsBack r)
+        ∙ ap (map executed_attempt) (sym (attempts_among-append come.front ((at, RollsBack r) ∷ [])
         ∙ append-nil (attempts_among come.front)));
     settled = settled_next t e (at, RollsBack r) rest k come right _ _ _
         (settled_rollback (state_after start come.front) at r (executed_attempts k) (length k.fates)

@@ -23,8 +23,9 @@ use Rattle.eve_history.specs.FirstWrong.{wrong_certificate, wrong_attempt}
 use Rattle.eve_history.specs.Marking.{AreMarked}
 use Rattle.eve_history.specs.Coming.{KeptAttempt, KeptSection, StandsAt}
 use Rattle.eve_grammar.proofs.Grouping.{all_at}
+use Rattle.eve_grammar.proofs.Lists.{drop_here}
+pub use Rattle.eve_grammar.proofs.Lists.{all-slice_get as rec_at}
 use Rattle.eve_history.proofs.OrderLaws.{of_located}
-use Rattle.eve_history.proofs.Marking.{drop_here}
 
 -- ---- batches
 
@@ -168,23 +169,11 @@ pub listed_small : (xs : List (ℕ × Access)) (order : List ℕ)
 listed_small xs [] there = tt
 listed_small xs (i ∷ order) there = (there.0.0, listed_small xs order there.1)
 
-pub each_at : {A : Type 0} (P : A → Type 0) (xs : List A) (i : ℕ) (d : A) → AllByRecursion P xs → i < length xs
-    → P (get_or xs i d)
-each_at P [] i d all lt = absurd (omega arith)
-each_at P (x ∷ xs) zero d all lt = all.0
-each_at P (x ∷ xs) (suc i) d all lt = each_at P xs i d all.1 (omega arith)
-
 -- what was read at a place
 pub get_is : {A : Type 0} (xs : List A) (i : ℕ) (x : A) → i < length xs → x ≡ get_or xs i x → slice_get xs i ≡ Some x
 get_is [] i x lt e = absurd (omega arith)
 get_is (y ∷ xs) zero x lt e = ap Some (sym e)
 get_is (y ∷ xs) (suc i) x lt e = get_is xs i x (omega arith) e
-
-pub rec_at : {A : Type 0} (P : A → Type 0) (xs : List A) (i : ℕ) (x : A) → AllByRecursion P xs → slice_get xs i ≡ Some x
-    → P x
-rec_at P [] i x all e = absurd (cc)
-rec_at P (y ∷ xs) zero x all e = subst P (same_Some y x e) all.0
-rec_at P (y ∷ xs) (suc i) x all e = rec_at P xs i x all.1 e
 
 -- a place in a part of a list
 pub get_in_part : {A : Type 0} (xs : List A) (from count place : ℕ) (x : A) → place < count

@@ -1,12 +1,12 @@
 -- Where frames, steps, access frames and votes stand in the trace's bytes.
-use Rattle.std.proofs.Common.{◌≡◌, ℕ, zero, suc, ◌+◌, ◌<◌, ◌≤◌, ◌==◌, Bool, true, false, cond, List, [], ◌∷◌, ◌++◌}
+use Rattle.std.proofs.Common.{◌≡◌, ℕ, zero, suc, ◌+◌, ◌<◌, ◌==◌, Bool, true, false, cond, List, [], ◌∷◌, ◌++◌}
 use Rattle.std.proofs.Common.{map, length, take, drop, slice_get, Option, Some, None, inl, inr, refl, sym, ap, subst}
 use Rattle.std.proofs.Common.{◌∙◌, arith}
-use Rattle.std.specs.Prelude.{slice_index_or}
 use Rattle.std.specs.List.{flat_map}
 use Rattle.std.proofs.lemmas.Bool.{cases_lt}
-use Rattle.std.proofs.lemmas.List.{append-nil, drop_at}
+use Rattle.std.proofs.lemmas.List.{append-nil, drop_at, get_or_past}
 use Rattle.std.proofs.lemmas.Option.{same_Some}
+use Rattle.std.proofs.lemmas.List.Folds.{flat_map-map}
 use Rattle.eve_grammar.specs.Trace.{Access, Attempt, Rollback, Step, Attempts, Commits, RollsBack, Vote, Trace}
 use Rattle.eve_grammar.specs.Trace.{head_of}
 use Rattle.eve_grammar.specs.Frames.{Frame, OfAttempt, OfAccess, OfRollback, OfVerifier, OfVote, without_accesses}
@@ -17,10 +17,10 @@ use Rattle.eve_frames.specs.Views.{attempt_in, access_in, rollback_in}
 use Rattle.eve_views.specs.Fronts.{before_verifier}
 use Rattle.eve_views.specs.Lent.{HasBytesAt}
 use Rattle.eve_grammar.proofs.HeaderParts.{length-head_text}
+use Rattle.eve_grammar.proofs.Lists.{unmapped}
 use Rattle.eve_views.proofs.CutLaws.{verifier_cut}
 use Rattle.eve_views.proofs.Lists.{cut_at}
 use Rattle.eve_views.proofs.Locating.{verifier_begins}
-use Rattle.eve_history.proofs.FrameTexts.{mapped}
 use Rattle.eve_history.specs.SectionHistory.{ExecutedAttempt, SectionHistory, executed_attempt, section_history}
 use Rattle.eve_history.specs.SectionHistory.{attempts_among, rollbacks_among, access_with, ordered, placed_at, history}
 use Rattle.eve_history.specs.SectionHistory.{picked, is_committed}
@@ -87,13 +87,7 @@ votes_text_stands : (t : Trace) (v : ℕ) → v < length t.verifiers
     (flat_map (λ w. frame_text (OfVote w)) (votes_of t v))
 votes_text_stands t v lt = part_stands t (before_verifier t v) (map OfVote (votes_of t v)) _ (OfVerifier v)
     (verifier_start t v) (flat_map (λ w. frame_text (OfVote w)) (votes_of t v)) (verifier_cut t v lt)
-    (verifier_begins t v) (mapped OfVote (votes_of t v))
-
--- after the last verifier there are none
-no_votes : (place : ℕ) (xs : List (List Vote)) → length xs ≤ place → slice_index_or xs place [] ≡ []
-no_votes place [] le = refl
-no_votes zero (x ∷ xs) le = absurd (omega (arith, le))
-no_votes (suc place) (x ∷ xs) le = no_votes place xs (omega (arith, le))
+    (verifier_begins t v) (flat_map-map frame_text OfVote (votes_of t v))
 
 pub votes_stand : (t : Trace) (v k : ℕ) (w : ℕ × Vote) → slice_get (votes_at t v) k ≡ Some w
     → HasBytesAt t w.0 (frame_text (OfVote w.1))
@@ -110,19 +104,13 @@ votes_stand t v k w got = elim (cases_lt v (length t.verifiers)) [
   | inr le ↦ absurd (none (ap
       (λ (ws : List Vote). slice_get
       (located (λ x. frame_text (OfVote x)) (verifier_start t v + length (frame_text (OfVerifier v))) ws) k)
-      (sym (no_votes v t.verifiers le)) ∙ got))
+      (sym (get_or_past t.verifiers v [] le)) ∙ got))
 ]
   where
     none : ◌≡◌ {A = Option (ℕ × Vote)} None (Some w) → ⊥
     none e = cc
 
 -- ---- attempts and rollbacks, as they are told
-
-unmapped : {A B : Type 0} (f : A → B) (xs : List A) (i : ℕ) (y : B) → slice_get (map f xs) i ≡ Some y → (x : A)
-    × (slice_get xs i ≡ Some x) × (f x ≡ y)
-unmapped f [] i y e = absurd (cc)
-unmapped f (x ∷ xs) zero y e = (x, refl, same_Some (f x) y e)
-unmapped f (x ∷ xs) (suc i) y e = unmapped f xs i y e
 
 -- the step stands among these
 abbrev IsAmong : List (ℕ × Step) → ℕ × Step → Type 0

@@ -14,7 +14,6 @@ pub mod Rising
 pub mod Counted
 pub mod Sorting
 pub mod Arriving
-pub mod FrameTexts
 pub mod Standing
 pub mod SideBySide
 pub mod Ahead

@@ -1,7 +1,7 @@
 -- Access records of an attempt, marked one after another.
 use Rattle.std.proofs.Common.{◌≡◌, ◌≢◌, ℕ, zero, suc, ◌+◌, ◌<◌, ◌≤◌, ◌==◌, Bool, true, false, ◌||◌, cond, eqb, ltb}
 use Rattle.std.proofs.Common.{List, [], ◌∷◌, ◌++◌, length, get_or, set, replicate, take, drop, slice_get, count_by}
-use Rattle.std.proofs.Common.{Option, Some, None, refl, sym, ap, subst, ◌∙◌, inl, inr, ◌⊎◌, add-one, add-zero, arith}
+use Rattle.std.proofs.Common.{Option, Some, None, refl, sym, ap, subst, ◌∙◌, inl, inr, ◌⊎◌, add-zero, arith}
 use Rattle.std.specs.List.{list_any}
 use Rattle.std.proofs.lemmas.Bool.{cases_eq, and_from, and_left, and_right, or_parts, or_right, not_from_true}
 use Rattle.std.proofs.lemmas.Bool.{not_from_false, eq-eqb, ne_eqb, eqb-false, lt-ltb, le-ltb, cond-true, cond-false}
@@ -9,18 +9,17 @@ use Rattle.std.proofs.lemmas.List.{length-set, length-replicate, get_or-replicat
 use Rattle.std.proofs.lemmas.List.{take_all, drop_all}
 use Rattle.std.proofs.lemmas.List.Recursion.{or_push}
 use Rattle.std.proofs.lemmas.List.Sums.{sum_by_push}
-use Rattle.std.proofs.lemmas.Option.{same_Some, slice_get_within, get_or_from_slice_get}
-use Rattle.std.proofs.Math.Seq.{drop-cons}
+use Rattle.std.proofs.lemmas.Option.{same_Some}
 use Rattle.eve_grammar.specs.Trace.{Access}
 use Rattle.eve_views.specs.declared.fault.Code.{Code}
 use Rattle.eve_views.specs.declared.fault.Code.TheVariants as code
 use Rattle.eve_history.specs.declared.access_marks.AccessMarks.{AccessMarks}
 use Rattle.eve_grammar.specs.Accesses.{is_new_access, is_right_place}
+use Rattle.eve_grammar.proofs.Lists.{drop_here, take_one_more}
 use Rattle.eve_history.specs.Faults.{accesses_of}
 use Rattle.eve_history.specs.FirstWrong.{found_or, wrong_accesses}
 use Rattle.eve_history.specs.Marking.{AreMarked, IsMarkedIfRight, AreMarkedIfRight}
 use Rattle.eve_history.proofs.Structure.{accesses_of-append}
-use Rattle.eve_views.proofs.Lists.{take_one_more}
 
 -- ---- lists
 
@@ -39,10 +38,6 @@ none_at : {A : Type 0} (p : A → Bool) (xs : List A) (k : ℕ) (y : A) → list
 none_at p [] k y none e = absurd (cc)
 none_at p (x ∷ xs) zero y none e = ap p (sym (same_Some x y e)) ∙ (or_parts (p x) (list_any p xs) none).0
 none_at p (x ∷ xs) (suc k) y none e = none_at p xs k y (or_parts (p x) (list_any p xs) none).1 e
-
-pub drop_here : {A : Type 0} (xs : List A) (i : ℕ) (x : A) → slice_get xs i ≡ Some x → drop i xs ≡ x ∷ drop (i + 1) xs
-drop_here {A = A} xs i x e = drop-cons xs i x (slice_get_within xs i x e)
-    ∙ (λ k. get_or_from_slice_get xs i x x e k ∷ drop (sym (add-one i) k) xs)
 
 taken_at : (xs : List (ℕ × Access)) (k : ℕ) (y : ℕ × Access) → slice_get xs k ≡ Some y
     → slice_get (accesses_of xs) k ≡ Some y.1

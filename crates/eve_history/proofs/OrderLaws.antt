@@ -23,7 +23,8 @@ use Rattle.eve_grammar.specs.Trace.{RequestId}
 use Rattle.eve_history.specs.Faults.{IsOrderFault}
 use Rattle.eve_history.specs.Notes.{IsRepeated, HasDistinctNames, HasDistinctRequests}
 use Rattle.eve_grammar.proofs.Grouping.{all_at}
-use Rattle.eve_views.proofs.Lists.{cut_at, take_one_more}
+use Rattle.eve_grammar.proofs.Lists.{take_one_more}
+use Rattle.eve_views.proofs.Lists.{cut_at}
 use Rattle.eve_views.proofs.Locating.{length-located}
 use Rattle.eve_history.proofs.RequestIds.{AreNewAndNoted}
 use Rattle.eve_history.proofs.Places.{no_place, place_push, Rising, located_rising, first_place, from_low}

@@ -90,7 +90,7 @@ abbrev pub Rising : {A : Type 0} → ℕ → List (ℕ × A) → Type 0
 Rising low [] = Unit {0}
 Rising low (x ∷ xs) = (low ≤ x.0) × Rising x.0 xs
 
-rising_from : {A : Type 0} (low high : ℕ) (xs : List (ℕ × A)) → low ≤ high → Rising high xs → Rising low xs
+pub rising_from : {A : Type 0} (low high : ℕ) (xs : List (ℕ × A)) → low ≤ high → Rising high xs → Rising low xs
 rising_from low high [] le rises = tt
 rising_from low high (x ∷ xs) le rises = (omega (arith, rises.0), rises.1)
 

@@ -4,11 +4,12 @@ use Rattle.std.proofs.Common.{subst, ◌∙◌, inl, inr, arith}
 use Rattle.std.specs.Prelude.{IsTrue, IsFalse, slice_index_or}
 use Rattle.std.specs.List.{flat_map, enumerate_from}
 use Rattle.std.proofs.lemmas.Bool.{cases_lt}
-use Rattle.std.proofs.lemmas.List.{length-append}
+use Rattle.std.proofs.lemmas.List.{length-append, get_or_past}
 use Rattle.std.proofs.lemmas.List.Concat.{flat_map-append}
+use Rattle.std.proofs.lemmas.List.Folds.{flat_map-map}
 use Rattle.eve_grammar.specs.Trace.{Batch, Access, Attempt, Step, Attempts, Commits, RollsBack, Trace}
 use Rattle.eve_grammar.specs.Frames.{Frame, OfCustomer, OfBatch, OfReplica, OfAttempt as AttemptFrame, OfAccess}
-use Rattle.eve_grammar.specs.Frames.{batches_of, sections_of, verifiers_of, section_frames, step_frames}
+use Rattle.eve_grammar.specs.Frames.{batches_of, sections_of, verifiers_of, section_frames}
 use Rattle.eve_grammar.specs.Frames.{verifier_frames, OfSent, End, frames_of}
 use Rattle.eve_grammar.specs.Spelling.{frame_text, located, customer_text, batch_text, step_text, section_text}
 use Rattle.eve_grammar.specs.Spelling.{batches_start, sections_start, section_start, length_of}
@@ -20,9 +21,9 @@ use Rattle.eve_grammar.specs.Accesses.{is_right_place}
 use Rattle.eve_history.specs.Section.{SectionState, start, state_after, is_right_attempt, is_right_certificate}
 use Rattle.eve_history.specs.Section.{is_right_access, is_right_commit, is_right_rollback, are_right_accesses}
 use Rattle.eve_views.specs.Form.{SomePlace}
+use Rattle.eve_views.proofs.Locating.{section_is}
 use Rattle.eve_history.specs.Faults.{accesses_of, OfAttempt, OfCommit, OfRollback, AtStep, AtAccess, StandsInStructure}
 use Rattle.eve_history.specs.Faults.{IsStructureFault, IsAskedAgain, StandsInOrders, IsOrderFault}
-use Rattle.eve_history.proofs.FrameTexts.{mapped, nested, no_steps}
 use Rattle.eve_history.proofs.Places.{located_within, weaker_place}
 use Rattle.eve_history.proofs.OrderLaws.{customers_within}
 
@@ -38,11 +39,11 @@ sections_within t =
     (ap length (flat_map-append frame_text customers (batches ++ more))
     ∙ length-append (flat_map frame_text customers) (flat_map frame_text (batches ++ more))
     ∙ ap (λ (n : ℕ). n + length (flat_map frame_text (batches ++ more)))
-    (ap length (mapped OfCustomer t.customers)))
+    (ap length (flat_map-map frame_text OfCustomer t.customers)))
     (ap length (flat_map-append frame_text batches more)
     ∙ length-append (flat_map frame_text batches) (flat_map frame_text more)
     ∙ ap (λ (n : ℕ). n + length (flat_map frame_text more))
-    (ap length (mapped (λ (b : ℕ × Batch). OfBatch b.0 b.1) (batches_of t))))
+    (ap length (flat_map-map frame_text (λ (b : ℕ × Batch). OfBatch b.0 b.1) (batches_of t))))
   where
     longer : (a b whole behind last : ℕ) → whole ≡ a + behind → behind ≡ b + last → 32 + a + b ≤ 32 + whole
     longer a b whole behind last e f = omega arith
@@ -84,11 +85,6 @@ ends_within {A = A} text at (x ∷ xs) (z ∷ before) item rest e =
   where
     others : (y z : ℕ × A) (ys zs : List (ℕ × A)) → ◌≡◌ {A = List (ℕ × A)} (y ∷ ys) (z ∷ zs) → ys ≡ zs
     others y z ys zs e = cc
-
-section_is : (e : ℕ) (steps : List Step) → length (section_text (e, steps)) ≡ length (frame_text (OfReplica e)) + length
-    (flat_map step_text steps)
-section_is e steps = length-append (frame_text (OfReplica e)) (flat_map frame_text (flat_map step_frames steps))
-    ∙ ap (λ (b : List ℕ). length (frame_text (OfReplica e)) + length b) (nested steps)
 
 -- a section that is there ends within all of them
 section_within : (n e : ℕ) (secs : List (List Step)) → e < length secs
@@ -136,11 +132,11 @@ module _ (t : Trace) (e : ℕ) where
       (ap length (flat_map-append frame_text customers (batches ++ (sections ++ last)))
       ∙ length-append (flat_map frame_text customers) (flat_map frame_text (batches ++ (sections ++ last)))
       ∙ ap (λ (n : ℕ). n + length (flat_map frame_text (batches ++ (sections ++ last))))
-      (ap length (mapped OfCustomer t.customers)))
+      (ap length (flat_map-map frame_text OfCustomer t.customers)))
       (ap length (flat_map-append frame_text batches (sections ++ last))
       ∙ length-append (flat_map frame_text batches) (flat_map frame_text (sections ++ last))
       ∙ ap (λ (n : ℕ). n + length (flat_map frame_text (sections ++ last)))
-      (ap length (mapped (λ (b : ℕ × Batch). OfBatch b.0 b.1) (batches_of t))))
+      (ap length (flat_map-map frame_text (λ (b : ℕ × Batch). OfBatch b.0 b.1) (batches_of t))))
       (ap length (flat_map-append frame_text sections last)
       ∙ length-append (flat_map frame_text sections) (flat_map frame_text last)
       ∙ ap (λ (n : ℕ). n + length (flat_map frame_text last)) (ap length (sections_are (sections_of t))))
@@ -166,7 +162,8 @@ module _ (t : Trace) (e : ℕ) where
         let two = section_ends lt in
         omega arith
     | inr ge ↦ absurd (none place.before
-        (ap (located step_text (section_start t e + length (frame_text (OfReplica e)))) (sym (no_steps e t.sections ge))
+        (ap (located step_text (section_start t e + length (frame_text (OfReplica e))))
+        (sym (get_or_past t.sections e [] ge))
         ∙ place.is))
   ]
     where
@@ -190,7 +187,8 @@ module _ (t : Trace) (e : ℕ) where
       let two : length (step_text (Attempts a)) ≡ length (frame_text (AttemptFrame a)) + length
       (flat_map (λ x. frame_text (OfAccess x)) a.accesses) =
       length-append (frame_text (AttemptFrame a)) (flat_map frame_text (map OfAccess a.accesses))
-      ∙ ap (λ (b : List ℕ). length (frame_text (AttemptFrame a)) + length b) (mapped OfAccess a.accesses) in
+      ∙ ap (λ (b : List ℕ). length (frame_text (AttemptFrame a)) + length b)
+      (flat_map-map frame_text OfAccess a.accesses) in
       omega arith
 
   at_access_within : (at : ℕ) (P : Attempt → List Access → Access → Type 0)

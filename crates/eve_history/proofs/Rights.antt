@@ -1,9 +1,10 @@
 -- Public: other crates cite these lemmas. What is told of a right section.
-use Rattle.std.proofs.Common.{◌≡◌, ℕ, zero, suc, ◌+◌, ◌<◌, ◌≤◌, IsTrue, List, [], ◌∷◌, map, length, Option, Some}
+use Rattle.std.proofs.Common.{◌≡◌, ℕ, zero, suc, ◌+◌, ◌<◌, ◌≤◌, IsTrue, List, [], ◌∷◌, map, length, Some}
 use Rattle.std.proofs.Common.{slice_get, refl, sym, ap, subst, ◌∙◌, inl, inr, arith}
-use Rattle.std.specs.Prelude.{slice_index_or}
 use Rattle.std.specs.List.{enumerate_from}
 use Rattle.std.proofs.lemmas.Bool.{cases_lt}
+use Rattle.std.proofs.lemmas.List.{get_or_past}
+use Rattle.std.proofs.lemmas.Option.{same_Some}
 use Rattle.eve_grammar.specs.Trace.{Step, Trace}
 use Rattle.eve_grammar.specs.Frames.{OfReplica}
 use Rattle.eve_grammar.specs.Spelling.{frame_text, step_text, located, section_start, steps_at}
@@ -20,17 +21,11 @@ right_section t e h is right = right_told t e (subst (λ (v : SectionHistory). I
 
 -- ---- of all replicas
 
-module _ {A : Type 0} where
-  none_beyond : (place : ℕ) (xs : List (List A)) → length xs ≤ place → slice_index_or xs place [] ≡ []
-  none_beyond place [] le = refl
-  none_beyond zero (x ∷ xs) le = absurd (omega (arith, le))
-  none_beyond (suc place) (x ∷ xs) le = none_beyond place xs (omega (arith, le))
-
 -- after the last replica there are no steps
 pub none_at : (t : Trace) (e : ℕ) → length t.sections ≤ e → steps_at t e ≡ []
 unfolding steps_at
 none_at t e le = ap (located step_text (section_start t e + length (frame_text (OfReplica e))))
-    (none_beyond e t.sections le)
+    (get_or_past t.sections e [] le)
 
 right_beyond : (t : Trace) (e : ℕ) → length t.sections ≤ e → IsRightSection t e
 right_beyond t e le = subst (λ (xs : List (ℕ × Step)). IsTrue (are_right t start xs)) (sym (none_at t e le)) refl
@@ -80,13 +75,6 @@ all_right t hs n many right is e = elim (cases_lt e (length t.sections)) [
   | inr le ↦ right_beyond t e le
 ]
 
-same_get : (hs : List SectionHistory) (e : ℕ) (g h : SectionHistory) → slice_get hs e ≡ Some g → slice_get hs e ≡ Some h
-    → g ≡ h
-same_get hs e g h one other = inner (sym one ∙ other)
-  where
-    inner : ◌≡◌ {A = Option SectionHistory} (Some g) (Some h) → g ≡ h
-    inner e = cc
-
 -- one more
 pub right_more : (hs : List SectionHistory) (n : ℕ) (g : SectionHistory) → AreRight hs n → slice_get hs n ≡ Some g
     → IsTrue g.right
@@ -95,5 +83,5 @@ right_more hs n g right at own = λ e h lt got. elim (cases_lt e n) [
   | inl less ↦ right e h less got
   | inr more ↦
       let same : e ≡ n = omega arith in
-      subst (λ (v : SectionHistory). IsTrue v.right) (same_get hs n g h at (ap (slice_get hs) (sym same) ∙ got)) own
+      subst (λ (v : SectionHistory). IsTrue v.right) (same_Some g h (sym at ∙ ap (slice_get hs) (sym same) ∙ got)) own
 ]

@@ -15,6 +15,7 @@ use Rattle.eve_grammar.specs.Trace.{Access, Attempt, Step, Attempts, Commits, Ro
 use Rattle.eve_grammar.specs.Frames.{without_accesses}
 use Rattle.eve_grammar.specs.Spelling.{accesses_at, spelling, steps_at}
 use Rattle.eve_grammar.specs.Limits.{is_step, row_count}
+use Rattle.eve_grammar.proofs.Lists.{all-push, all-append}
 use Rattle.eve_frames.specs.Views.{attempt_in}
 use Rattle.eve_frames.specs.declared.attempt.AttemptView.{AttemptView}
 use Rattle.eve_views.specs.StepKinds.{IsStep}
@@ -34,18 +35,12 @@ use Rattle.eve_history.specs.SideBySide.{attempt_met, placed_met, AreCounted, Is
 use Rattle.eve_history.specs.SideBySide.{IsRightAlone, AreOrdered}
 use Rattle.eve_history.specs.SideBySide.{IsPart}
 use Rattle.eve_history.proofs.Structure.{accesses_of-at, right_records}
-use Rattle.eve_history.proofs.Coming.{steps_fit, attempts_among-push}
+use Rattle.eve_history.proofs.Coming.{steps_fit, attempts_among-append}
 use Rattle.eve_history.proofs.Records.{attempt_fits, each_there}
 use Rattle.eve_history.proofs.Finding.{found_offsets}
 use Rattle.eve_history.proofs.Standing.{IsSeen, step_stands, each_seen, all_small, seen_in_order, access_frames}
-use Rattle.eve_history.proofs.Standing.{one_more_framed}
 
 -- ---- lists
-
-pub all_both : {A : Type 0} (P : A → Type 0) (xs ys : List A) → AllByRecursion P xs → AllByRecursion P ys
-    → AllByRecursion P (xs ++ ys)
-all_both P [] ys all more = more
-all_both P (x ∷ xs) ys all more = (all.0, all_both P xs ys all.1 more)
 
 pub all_behind : {A : Type 0} (P : A → Type 0) (xs ys : List A) → AllByRecursion P (xs ++ ys) → AllByRecursion P ys
 all_behind P [] ys all = all
@@ -109,7 +104,7 @@ module _ (t : Trace) (m : MetAttempt) (met : IsMet t m) where
       (λ i. map (access_with (met.accesses i)) (same i)) in
       let tell : ℕ × Attempt → List (ℕ × Access) = λ x. ordered x.0 x.1 in
       record {
-        right = one_more_framed (IsRightAlone t) xs (placed_met m) right kept.right;
+        right = all-push (IsRightAlone t) xs (placed_met m) kept.right right;
         kept = ap (map (seen bytes)) whole
             ∙ map-append (seen bytes) records (map (λ i. (access_with m.accesses i).0) order)
             ∙ (λ i. kept.kept i ++ (seen_in_order bytes m.accesses order its_seen there ∙ listed) i)
@@ -138,11 +133,11 @@ right_alone t m workers count few many certificate is nothing = record {
 pub both_ordered : (t : Trace) (xs ys : List (ℕ × Attempt)) (front back : List ℕ) → AreOrdered t xs front
     → AreOrdered t ys back → AreOrdered t (xs ++ ys) (front ++ back)
 both_ordered t xs ys front back first second = record {
-  right = all_both (IsRightAlone t) xs ys first.right second.right;
+  right = all-append (IsRightAlone t) xs ys first.right second.right;
   kept = map-append (seen (spelling t)) front back
       ∙ (λ i. first.kept i ++ second.kept i)
       ∙ sym (flat_map-append (λ x. ordered x.0 x.1) xs ys);
-  framed = all_both (IsAccessAt (spelling t)) front back first.framed second.framed;
+  framed = all-append (IsAccessAt (spelling t)) front back first.framed second.framed;
 }
 
 -- ---- parts
@@ -226,7 +221,7 @@ pub meeting_other : (t : Trace) (e from most : ℕ) (next : ℕ × Step) (rest :
 meeting_other t e from most next rest ahead ms s none is come =
     let other : attempts_among (next ∷ []) ≡ [] = nil_from_length _ (attempts_next s next is ∙ none) in
     let same : attempts_among come.front ≡ attempts_among (come.front ++ next ∷ []) =
-    sym (attempts_among-push come.front next
+    sym (attempts_among-append come.front (next ∷ [])
     ∙ ap (λ (xs : List (ℕ × Attempt)). attempts_among come.front ++ xs) other
     ∙ append-nil (attempts_among come.front)) in
     record {
@@ -262,7 +257,7 @@ module _ (t : Trace) (e from most at : ℕ) (b : Attempt) (rest : List (ℕ × S
   after_split = come.split ∙ sym (append_assoc come.front (next ∷ []) rest)
 
   one_more : attempts_among (come.front ++ next ∷ []) ≡ before ++ (at, b) ∷ []
-  one_more = attempts_among-push come.front next
+  one_more = attempts_among-append come.front (next ∷ [])
 
   longer : length (attempts_among (come.front ++ next ∷ [])) ≡ length before + 1
   longer = ap length one_more ∙ length-append before ((at, b) ∷ [])
@@ -311,7 +306,7 @@ module _ (t : Trace) (e from most at : ℕ) (b : Attempt) (rest : List (ℕ × S
     front = come.front ++ next ∷ [];
     split = after_split;
     met = subst (AllByRecursion (IsMet t)) (sym more)
-        (one_more_framed (IsMet t) ms m
+        (all-push (IsMet t) ms m come.met
         (record {
           spelled = come.spelled;
           replica = e;
@@ -320,7 +315,7 @@ module _ (t : Trace) (e from most at : ℕ) (b : Attempt) (rest : List (ℕ × S
           split = its_split;
           said = said ∙ ap without_accesses (sym its_attempt);
           accesses = accesses ∙ (λ i. accesses_at (sym place i) (sym its_attempt i));
-        }) come.met);
+        }));
     all = ap (map placed_met) more
         ∙ map-append placed_met ms (m ∷ [])
         ∙ (λ i. come.all i ++ (place i, its_attempt i) ∷ [])
@@ -377,6 +372,6 @@ counting_on t e next rest count after s on is come = record {
   split = come.split ∙ sym (append_assoc come.front (next ∷ []) rest);
   many = on ∙ ap (λ (n : ℕ). count + n) (sym (attempts_next s next is))
       ∙ ap (λ (n : ℕ). n + length (attempts_among (next ∷ []))) come.many
-      ∙ sym (ap length (attempts_among-push come.front next)
+      ∙ sym (ap length (attempts_among-append come.front (next ∷ []))
       ∙ length-append (attempts_among come.front) (attempts_among (next ∷ [])));
 }

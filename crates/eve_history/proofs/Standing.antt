@@ -4,8 +4,9 @@ use Rattle.std.proofs.Common.{◌++◌, map, length, take, drop, slice_get, slic
 use Rattle.std.proofs.Common.{append_assoc, IsTrue, inl, inr, arith}
 use Rattle.std.specs.List.{AllByRecursion, flat_map, list_all, list_any}
 use Rattle.std.proofs.lemmas.Bool.{and_parts, cases_lt, false≢true}
-use Rattle.std.proofs.lemmas.List.{append-nil, length-append, take_at, drop_at}
+use Rattle.std.proofs.lemmas.List.{append-nil, length-append, take_at, drop_at, get_or_past}
 use Rattle.std.proofs.lemmas.List.Concat.{flat_map-append}
+use Rattle.std.proofs.lemmas.List.Folds.{flat_map-map}
 use Rattle.byteorder.specs.Endian.{big_bytes, big_number}
 use Rattle.eve_grammar.specs.Trace.{Access, Attempt, Rollback, Step, Attempts, RollsBack, Trace, head_of}
 use Rattle.eve_grammar.specs.Frames.{Frame, OfReplica, OfAttempt, OfAccess, OfRollback, kind_of, step_frames, frames_of}
@@ -19,7 +20,7 @@ use Rattle.eve_views.proofs.Bytes.{number_again}
 use Rattle.eve_views.proofs.FrameLaws.{length-frame_text}
 use Rattle.eve_views.proofs.CutLaws.{IsPart, section_cut}
 use Rattle.eve_views.proofs.Lists.{cut_at}
-use Rattle.eve_views.proofs.Locating.{section_begins}
+use Rattle.eve_views.proofs.Locating.{section_begins, frames_text-flat_map}
 use Rattle.eve_grammar.proofs.FrameLaws.{small_head}
 use Rattle.eve_grammar.specs.declared.limits.TheConstants.{MOST_ROWS}
 use Rattle.eve_frames.specs.Views.{has_attempt_body, attempt_in, has_access_body, access_in}
@@ -29,7 +30,6 @@ use Rattle.eve_history.specs.Standing.{frame_in, IsFramed, IsAttemptAt, IsAccess
 use Rattle.eve_history.specs.SectionHistory.{access_with}
 use Rattle.eve_history.specs.Faults.{accesses_of}
 use Rattle.eve_history.specs.Coming.{KeptSection, HasCome, ComesNext, seen}
-use Rattle.eve_history.proofs.FrameTexts.{mapped, nested, no_steps}
 use Rattle.eve_grammar.proofs.Grouping.{all_at}
 use Rattle.eve_history.proofs.OrderLaws.{of_located}
 
@@ -186,7 +186,7 @@ section_stands : (t : Trace) (e : ℕ) → e < length t.sections
     → StandsIn (spelling t) (section_start t e + length (frame_text (OfReplica e))) (flat_map step_text (steps_of t e))
 section_stands t e lt = part_stands t (before_section t e) (flat_map step_frames (steps_of t e)) _ (OfReplica e)
     (section_start t e) (flat_map step_text (steps_of t e)) (section_cut t e lt) (section_begins t e)
-    (nested (steps_of t e))
+    (frames_text-flat_map step_frames (steps_of t e))
 
 pub step_stands : (t : Trace) (e : ℕ) (before : List (ℕ × Step)) (step : ℕ × Step) (rest : List (ℕ × Step))
     → steps_at t e ≡ before ++ step ∷ rest → StandsIn (spelling t) step.0 (step_text step.1)
@@ -198,7 +198,8 @@ step_stands t e before step rest split = elim (cases_lt e (length t.sections)) [
       subst (λ (at : ℕ). StandsIn (spelling t) at (step_text step.1)) (sym found.offset)
       (stands_inside (section_stands t e lt) found.stands)
   | inr ge ↦ no_item before step rest
-      (ap (located step_text (section_start t e + length (frame_text (OfReplica e)))) (sym (no_steps e t.sections ge))
+      (ap (located step_text (section_start t e + length (frame_text (OfReplica e))))
+      (sym (get_or_past t.sections e [] ge))
       ∙ split)
 ]
 
@@ -227,7 +228,7 @@ access_stands {bytes = bytes} at b i x stands got =
       front = own;
       behind = [];
       is = ap (λ (c : List ℕ). own ++ c)
-          (mapped OfAccess b.accesses ∙ sym (append-nil all));
+          (flat_map-map frame_text OfAccess b.accesses ∙ sym (append-nil all));
       offset = refl;
     } in
     let sum : at + length own + found.place ≡ x.0 = sym found.offset in
@@ -330,12 +331,6 @@ all_seen bytes t e rest b k at said xs spelled comes =
     let fits = (and_parts (is_step (row_count (head_of t)) (Attempts b)) _ come.fit).0 in
     subst (AllByRecursion (IsSeen bytes)) (sym comes.accesses)
     (each_seen bytes t b at spelled fits (next_stands bytes t e rest k at (Attempts b) spelled come))
-
--- one more of them
-pub one_more_framed : {A : Type 0} (P : A → Type 0) (xs : List A) (x : A) → P x → AllByRecursion P xs
-    → AllByRecursion P (xs ++ x ∷ [])
-one_more_framed P [] x p all = (p, tt)
-one_more_framed P (y ∷ xs) x p all = (all.0, one_more_framed P xs x p all.1)
 
 pub all_small : (bytes : List ℕ) (xs : List (ℕ × Access)) → AllByRecursion (IsSeen bytes) xs
     → AllByRecursion (λ x. x.0 < 2 ^ 32) xs

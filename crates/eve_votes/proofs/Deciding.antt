@@ -25,12 +25,12 @@ use Rattle.eve_votes.specs.Decisions.{decision_said, decision_on, IsKnown, Judgi
 use Rattle.eve_votes.specs.Decisions.{IsClash}
 use Rattle.eve_votes.specs.Decisions.{IsFound, Agrees, AreDecisions}
 use Rattle.eve_votes.specs.declared.decisions.Decision.{Decision}
-use Rattle.eve_votes.proofs.Places.{place_at, get_place, located_get, numbered}
+use Rattle.eve_votes.proofs.Places.{place_at, get_place, numbered}
 use Rattle.eve_votes.proofs.InOrder.{fellow_is}
 use Rattle.eve_views.proofs.Lowering.{lower_at, lower_stands}
 use Rattle.eve_votes.proofs.Counting.{counted, decided_backs, one_token}
 use Rattle.eve_grammar.proofs.Grouping.{all_at}
-use Rattle.eve_views.proofs.Locating.{length-located}
+use Rattle.eve_views.proofs.Locating.{length-located, located_get}
 
 -- ---- the votes of a trace
 

@@ -12,6 +12,7 @@ use Rattle.std.proofs.lemmas.List.Sorted.{All-permutation, Contains-permutation,
 use Rattle.std.proofs.lemmas.Option.{slice_get-get_or, slice_get_within, get_or_from_slice_get}
 use Rattle.eve_grammar.specs.Trace.{Vote, Trace}
 use Rattle.eve_grammar.specs.Spelling.{votes_of}
+use Rattle.eve_grammar.proofs.Lists.{slice_get-behind}
 use Rattle.eve_votes.specs.Ballots.{ballot, ballots_from, ballots_among, ballots_of, IsVoteOf}
 use Rattle.eve_votes.specs.declared.ballots.Ballot.{Ballot}
 use Rattle.eve_votes.proofs.Places.{get_in_front}
@@ -43,11 +44,6 @@ at_seam : {A : Type 0} (xs ys : List A) (i : ℕ) (x : A) → slice_get (xs ++ y
 at_seam [] ys i x e = inr (i, e)
 at_seam (y ∷ xs) ys zero x e = inl e
 at_seam (y ∷ xs) ys (suc i) x e = at_seam xs ys i x e
-
-behind : {A : Type 0} (xs ys : List A) (i : ℕ) → slice_get (xs ++ ys) (length xs + i) ≡ slice_get ys i
-behind [] ys i = let same : 0 + i ≡ i = omega arith in ap (slice_get ys) same
-behind (y ∷ xs) ys i = let same : suc (length xs) + i ≡ suc (length xs + i) = omega arith in
-    ap (slice_get (y ∷ (xs ++ ys))) same ∙ behind xs ys i
 
 -- what stands at a place of one verifier's
 pub record IsPlaced (v k : ℕ) (ws : List Vote) (b : Ballot) : Type 0 where
@@ -127,7 +123,7 @@ among_all v (ws ∷ wss) (suc u) i w e = (
     let rest = among_all (v + 1) wss u i w e in
     let same : v + 1 + u ≡ v + suc u = omega arith in (
       length (ballots_from v 0 ws) + rest.0,
-      behind (ballots_from v 0 ws) (ballots_among (v + 1) wss) rest.0 ∙ rest.1 ∙
+      slice_get-behind (ballots_from v 0 ws) (ballots_among (v + 1) wss) rest.0 ∙ rest.1 ∙
           ap (λ (x : ℕ). Some (ballot x i w)) same,
     ))
 

@@ -1,14 +1,14 @@
 -- Public: other crates cite these lemmas. Places of a list, and what stands there.
 use Rattle.std.proofs.Common.{◌≡◌, ℕ, zero, suc, ◌+◌, List, [], ◌∷◌, ◌++◌, map, length, take, drop}
-use Rattle.std.proofs.Common.{Option, Some, refl, ap, ◌∙◌, append-nil, arith}
+use Rattle.std.proofs.Common.{Some, refl, ap, ◌∙◌, arith}
 use Rattle.std.specs.Prelude.{slice_get}
 use Rattle.std.specs.List.{enumerate_from}
-use Rattle.std.specs.Option.{option_map}
-use Rattle.std.proofs.lemmas.List.{take_all, drop_all}
 use Rattle.eve_grammar.specs.Trace.{Batch}
 use Rattle.eve_grammar.specs.Spelling.{located}
 use Rattle.eve_views.specs.Form.{SomePlace}
 use Rattle.eve_views.proofs.Lists.{cut_at}
+pub use Rattle.eve_grammar.proofs.Lists.{whole_slice}
+pub use Rattle.eve_views.proofs.Locating.{located_get}
 
 pub place_at : {A : Type 0} (P : List A → A → Type 0) (xs : List A) (i : ℕ) (x : A) → slice_get xs i ≡ Some x
     → P (take i xs) x → SomePlace xs P
@@ -30,24 +30,11 @@ get_in_front [] ys i x e = absurd cc
 get_in_front (y ∷ xs) ys zero x e = e
 get_in_front (y ∷ xs) ys (suc i) x e = get_in_front xs ys i x e
 
--- a vector that was sorted as a slice
-pub whole_slice : {A : Type 0} (xs ys : List A) (n : ℕ) → length ys ≡ length xs → n ≡ length xs
-    → take n (ys ++ drop (length ys) xs) ≡ ys
-whole_slice xs ys n same many =
-    ap (λ (zs : List _). take n (ys ++ zs)) (drop_all (length ys) xs (omega arith)) ∙ ap (take n) (append-nil ys)
-    ∙ take_all n ys (omega arith)
-
 -- ---- lists with byte offsets
 
 pub located_values : {A : Type 0} (text : A → List ℕ) (at : ℕ) (xs : List A) → map (λ w. w.1) (located text at xs) ≡ xs
 located_values text at [] = refl
 located_values text at (x ∷ xs) = ap (λ (zs : List _). x ∷ zs) (located_values text (at + length (text x)) xs)
-
-pub located_get : {A : Type 0} (text : A → List ℕ) (at : ℕ) (xs : List A) (i offset : ℕ) (x : A)
-    → slice_get (located text at xs) i ≡ Some (offset, x) → slice_get xs i ≡ Some x
-located_get text at [] i offset x e = absurd cc
-located_get {A} text at (y ∷ ys) zero offset x e = ap (λ (o : Option (ℕ × A)). option_map (λ (p : ℕ × A). p.1) o) e
-located_get text at (y ∷ ys) (suc i) offset x e = located_get text (at + length (text y)) ys i offset x e
 
 -- numbered batches
 pub numbered : (text : ℕ × Batch → List ℕ) (at first : ℕ) (bs : List Batch) (i : ℕ) (b : ℕ × (ℕ × Batch))

@@ -1,14 +1,14 @@
 use Rattle.std.proofs.Common.{ℕ, ◌<◌, List, [], ◌∷◌, ◌++◌, map, length, get_or, take, ap, sym, ◌∙◌, append_assoc}
 use Rattle.std.proofs.Common.{arith}
 use Rattle.std.proofs.lemmas.List.{map-append, take_more, append-nil}
-use Rattle.eve_history.proofs.Finding.{each_at}
+use Rattle.eve_grammar.proofs.Lists.{all-get_or}
 use Rattle.eve_history.proofs.notes.keep_records.Goals as goal
 
 pub loop-index-init : goal.loop-index-init
 loop-index-init c = sym (append-nil c.args.records.now.items)
 
 pub offset-requires : goal.offset-requires
-offset-requires c = each_at _ c.args.order.now c.loop-index.index-index 0 c.requires (omega arith)
+offset-requires c = all-get_or _ c.args.order.now c.loop-index.index-index 0 c.requires (omega arith)
 
 pub loop-index-preserved : goal.loop-index-preserved
 loop-index-preserved c =

@@ -5,11 +5,11 @@ use Rattle.std.proofs.lemmas.List.{take_all, length-take-le}
 use Rattle.std.proofs.lemmas.Option.{slice_get_within}
 use Rattle.eve_grammar.specs.Trace.{Vote}
 use Rattle.eve_grammar.specs.Spelling.{votes_of}
+use Rattle.eve_grammar.proofs.Lists.{take_one_more}
 use Rattle.eve_frames.specs.Views.{vote_in}
 use Rattle.eve_votes.specs.Ballots.{ballot, ballots_from}
 use Rattle.eve_votes.specs.declared.ballots.Ballot.{Ballot}
 use Rattle.eve_views.proofs.CutLaws.{few_votes}
-use Rattle.eve_views.proofs.Lists.{take_one_more}
 use Rattle.eve_votes.proofs.Deciding.{vote_got, vote_count}
 use Rattle.eve_votes.proofs.Gathered.{from_more}
 use Rattle.eve_votes.proofs.voting.append.Goals as goal

@@ -1,8 +1,8 @@
 use Rattle.std.proofs.Common.{◌≡◌, List, length, sym, subst, ap, ◌∙◌, arith}
 use Rattle.std.specs.List.Sorted.{IsPermutation}
+use Rattle.eve_grammar.proofs.Lists.{whole_slice}
 use Rattle.eve_votes.specs.Ballots.{ballots_of, HasVotes}
 use Rattle.eve_votes.specs.declared.ballots.Ballot.{Ballot}
-use Rattle.eve_votes.proofs.Places.{whole_slice}
 use Rattle.eve_votes.proofs.InOrder.{in_order}
 use Rattle.eve_votes.proofs.Gathered.{moved_each, moved_all, moved_once}
 use Rattle.eve_votes.proofs.voting.cast.Goals as goal

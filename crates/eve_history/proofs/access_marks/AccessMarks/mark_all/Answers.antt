@@ -1,9 +1,9 @@
 use Rattle.std.proofs.Common.{ℕ, ◌<◌, ◌≤◌, Some, length, take, sym, subst, arith}
 use Rattle.std.proofs.lemmas.List.{length-take-le}
 use Rattle.eve_grammar.specs.Trace.{Access}
+use Rattle.eve_grammar.proofs.Lists.{all-slice_get}
 use Rattle.eve_frames.specs.Views.{access_in}
 use Rattle.eve_history.specs.Marking.{AreMarkedIfRight}
-use Rattle.eve_history.proofs.Finding.{rec_at}
 use Rattle.eve_history.proofs.Marking.{marking_start, marking_more, marking_wrong, marking_end}
 use Rattle.eve_history.proofs.access_marks.AccessMarks.mark_all.Goals as goal
 
@@ -21,7 +21,7 @@ mark-requires-clause-marked c = (
 
 pub mark-requires-clause-small : goal.mark-requires-clause-small
 mark-requires-clause-small c =
-    rec_at _ c.args.accesses.now c.loop-i.i
+    all-slice_get _ c.args.accesses.now c.loop-i.i
     (c.get-access.result.offset, access_in c.get-access.result.bytes.now) c.requires.small c.get-access.ensures.says
 
 pub returns-in-Some : goal.returns-in-Some

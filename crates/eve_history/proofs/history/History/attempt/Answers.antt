@@ -2,12 +2,13 @@ use Rattle.std.proofs.Common.{◌≡◌, map, length, slice_get, Some, ap, sym, 
 use Rattle.std.proofs.lemmas.List.{length-map}
 use Rattle.eve_grammar.specs.Frames.{OfAttempt}
 use Rattle.eve_grammar.specs.Spelling.{frame_text}
+use Rattle.eve_grammar.proofs.Lists.{all-slice_get}
 use Rattle.eve_frames.specs.Views.{attempt_in}
 use Rattle.eve_history.specs.Standing.{IsAttemptAt}
 use Rattle.eve_history.specs.SectionHistory.{ExecutedAttempt, SectionHistory}
 use Rattle.eve_history.specs.Coming.{kept_section, kept_attempt, kept_executed_attempt}
 use Rattle.eve_history.proofs.Lent.{lent_attempt}
-use Rattle.eve_history.proofs.Finding.{get_mapped, get_is, rec_at, part_length}
+use Rattle.eve_history.proofs.Finding.{get_mapped, get_is, part_length}
 use Rattle.eve_history.proofs.history.History.attempt.Goals as goal
 
 pub attempt_at-requires : goal.attempt_at-requires
@@ -19,7 +20,7 @@ attempt_at-requires c =
     ap (λ (v : SectionHistory). length v.attempts) (sym c.notes-notes.ensures.tells)
     ∙ length-map (map (kept_attempt n.bytes.now) items)
     (kept_executed_attempt (kept_section n).records) ∙ length-map items (kept_attempt n.bytes.now) in
-    rec_at (λ a. IsAttemptAt n.bytes.now a.at) items c.args.i x c.notes-notes.ensures.whole.framed.attempts
+    all-slice_get (λ a. IsAttemptAt n.bytes.now a.at) items c.args.i x c.notes-notes.ensures.whole.framed.attempts
     (get_is items c.args.i x (omega arith) c.index.ensures)
 
 pub returns-clause-says : goal.returns-clause-says
@@ -37,7 +38,7 @@ returns-clause-says c =
     get_mapped (kept_attempt n.bytes.now) items c.args.i x at in
     let many : length (kept_executed_attempt (kept_section n).records a).ordered ≡ length a.attempt.certificate =
     part_length (kept_section n).records x.from (length a.attempt.certificate)
-    (rec_at _ (map (kept_attempt n.bytes.now) items) c.args.i a c.notes-notes.ensures.whole.kept.within one) in
+    (all-slice_get _ (map (kept_attempt n.bytes.now) items) c.args.i a c.notes-notes.ensures.whole.kept.within one) in
     subst (λ (v : SectionHistory).
     (r : ExecutedAttempt) × (slice_get v.attempts c.args.i ≡ Some r) × (c.attempt_at.result.offset ≡ r.offset)
     × (attempt_in c.attempt_at.result.bytes.now ≡ r.attempt) × (length r.ordered ≡ length r.attempt.certificate))
@@ -60,7 +61,7 @@ returns-clause-text c =
     ∙ length-map (map (kept_attempt n.bytes.now) items)
     (kept_executed_attempt (kept_section n).records) ∙ length-map items (kept_attempt n.bytes.now) in
     let at : slice_get items c.args.i ≡ Some x = get_is items c.args.i x (omega arith) c.index.ensures in
-    let there = rec_at (λ a. IsAttemptAt n.bytes.now a.at) items c.args.i x
+    let there = all-slice_get (λ a. IsAttemptAt n.bytes.now a.at) items c.args.i x
     c.notes-notes.ensures.whole.framed.attempts at in
     c.attempt_at.ensures.bytes ∙ there.text ∙ ap (λ b. frame_text (OfAttempt (attempt_in b)))
     (sym c.attempt_at.ensures.bytes)

@@ -1,9 +1,10 @@
 use Rattle.std.proofs.Common.{◌≡◌, ◌-◌, ◌<◌, ◌≤◌, length, slice_get, Some, ap, sym, subst, ◌∙◌, arith}
 use Rattle.std.proofs.lemmas.List.{length-map}
+use Rattle.eve_grammar.proofs.Lists.{all-slice_get}
 use Rattle.eve_history.specs.SectionHistory.{ExecutedAttempt, SectionHistory}
 use Rattle.eve_history.specs.Coming.{kept_section, kept_executed_attempt, executed_attempts, no_executed_attempt}
 use Rattle.eve_history.specs.Coming.{executed_attempt_at}
-use Rattle.eve_history.proofs.Finding.{get_mapped, get_is, get_there, rec_at}
+use Rattle.eve_history.proofs.Finding.{get_mapped, get_is, get_there}
 use Rattle.eve_history.proofs.history.History.committed_attempt.Goals as goal
 
 pub returns : goal.returns
@@ -16,7 +17,8 @@ returns c =
     (sym c.notes.ensures.tells) ∙ length-map k.commits (executed_attempt_at (executed_attempts k)) in
     let there : n ≤ length c.args.self.now.commits = c.requires.there in
     let at : slice_get k.commits (n - 1) ≡ Some place = get_is k.commits (n - 1) place (omega arith) c.index.ensures in
-    let within : place < length k.attempts = rec_at _ k.commits (n - 1) place c.notes.ensures.whole.kept.there at in
+    let within : place < length k.attempts =
+    all-slice_get _ k.commits (n - 1) place c.notes.ensures.whole.kept.there at in
     subst (λ (v : SectionHistory). (r : ExecutedAttempt) × (slice_get v.commits (n - 1) ≡ Some r)
     × (slice_get v.attempts place ≡ Some r))
     c.notes.ensures.tells (

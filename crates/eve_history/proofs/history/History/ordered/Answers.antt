@@ -5,12 +5,13 @@ use Rattle.eve_history.specs.declared.notes.Notes.{Notes}
 use Rattle.eve_history.specs.declared.notes.Attempted.{Attempted}
 use Rattle.eve_grammar.specs.Frames.{OfAccess}
 use Rattle.eve_grammar.specs.Spelling.{frame_text}
+use Rattle.eve_grammar.proofs.Lists.{all-slice_get}
 use Rattle.eve_frames.specs.Views.{access_in}
 use Rattle.eve_history.specs.SectionHistory.{ExecutedAttempt, SectionHistory}
 use Rattle.eve_history.specs.Standing.{IsAccessAt}
 use Rattle.eve_history.specs.Coming.{kept_section, kept_attempt, kept_executed_attempt, section_history_of}
 use Rattle.eve_history.specs.Coming.{seen, IsWholeSection}
-use Rattle.eve_history.proofs.Finding.{get_mapped, get_is, rec_at, get_in_part}
+use Rattle.eve_history.proofs.Finding.{get_mapped, get_is, get_in_part}
 use Rattle.eve_history.proofs.Lent.{lent_ordered}
 use Rattle.eve_history.proofs.history.History.ordered.Goals as goal
 
@@ -38,7 +39,8 @@ here n v i place x is whole lt short read =
     ∙ get_mapped (kept_executed_attempt (kept_section n).records) (map (kept_attempt n.bytes.now) items) i
     (kept_attempt n.bytes.now x)
     one in
-    let within = rec_at _ (map (kept_attempt n.bytes.now) items) i (kept_attempt n.bytes.now x) whole.kept.within one in
+    let within = all-slice_get _ (map (kept_attempt n.bytes.now) items) i (kept_attempt n.bytes.now x) whole.kept.within
+    one in
     let few = short (kept_executed_attempt (kept_section n).records (kept_attempt n.bytes.now x)) told in
     record {
       told = told;
@@ -61,7 +63,7 @@ there n v i place at x h whole read =
     let got = get_is n.records.items (x.from + place) at (omega (arith, h.short, h.within)) read in
     record {
       found = got;
-      begins = rec_at (IsAccessAt n.bytes.now) n.records.items (x.from + place) at whole.framed.records got;
+      begins = all-slice_get (IsAccessAt n.bytes.now) n.records.items (x.from + place) at whole.framed.records got;
     }
 
 pub overflow_add-from : goal.overflow_add-from

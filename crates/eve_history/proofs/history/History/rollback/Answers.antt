@@ -2,13 +2,14 @@ use Rattle.std.proofs.Common.{◌≡◌, ℕ, ◌<◌, length, get_or, slice_get
 use Rattle.std.proofs.lemmas.List.{length-map}
 use Rattle.eve_grammar.specs.Frames.{OfRollback}
 use Rattle.eve_grammar.specs.Spelling.{frame_text}
+use Rattle.eve_grammar.proofs.Lists.{all-slice_get}
 use Rattle.eve_frames.specs.Views.{rollback_in}
 use Rattle.eve_history.specs.declared.notes.Notes.{Notes}
 use Rattle.eve_history.specs.Standing.{IsRollbackAt}
 use Rattle.eve_history.specs.SectionHistory.{SectionHistory}
 use Rattle.eve_history.specs.Coming.{kept_section, rolled, section_history_of}
 use Rattle.eve_history.proofs.Lent.{lent_rollback}
-use Rattle.eve_history.proofs.Finding.{get_mapped, get_is, rec_at}
+use Rattle.eve_history.proofs.Finding.{get_mapped, get_is}
 use Rattle.eve_history.proofs.history.History.rollback.Goals as goal
 
 -- where the rollback was found
@@ -23,7 +24,7 @@ found e n v i at is lt read =
 pub rollback_at-requires : goal.rollback_at-requires
 rollback_at-requires c =
     let n = c.notes-notes.result.now in
-    rec_at (IsRollbackAt n.bytes.now) n.rollbacks.items c.args.i c.index.result.now
+    all-slice_get (IsRollbackAt n.bytes.now) n.rollbacks.items c.args.i c.index.result.now
     c.notes-notes.ensures.whole.framed.rollbacks
     (found c.args.self.now.replica n c.args.self.now c.args.i c.index.result.now c.notes-notes.ensures.tells c.requires
     c.index.ensures)
@@ -40,7 +41,7 @@ returns-clause-says c =
 pub returns-clause-text : goal.returns-clause-text
 returns-clause-text c =
     let n = c.notes-notes.result.now in
-    let there = rec_at (IsRollbackAt n.bytes.now) n.rollbacks.items c.args.i c.index.result.now
+    let there = all-slice_get (IsRollbackAt n.bytes.now) n.rollbacks.items c.args.i c.index.result.now
     c.notes-notes.ensures.whole.framed.rollbacks
     (found c.args.self.now.replica n c.args.self.now c.args.i c.index.result.now c.notes-notes.ensures.tells c.requires
     c.index.ensures) in

@@ -2,12 +2,13 @@ use Rattle.std.proofs.Common.{◌≡◌, ℕ, ◌+◌, ◌<◌, ◌==◌, Bool, 
 use Rattle.std.proofs.Common.{refl, rules}
 use Rattle.std.proofs.lemmas.Bool.{eq-eqb}
 use Rattle.eve_grammar.specs.Trace.{Attempt}
+use Rattle.eve_grammar.proofs.Lists.{all-slice_get}
 use Rattle.eve_frames.specs.Views.{attempt_in, commit_in}
 use Rattle.eve_history.specs.declared.notes.Attempted.{Attempted}
 use Rattle.eve_history.specs.Standing.{IsAttemptAt}
 use Rattle.eve_history.specs.Section.{same_bytes}
 use Rattle.eve_history.specs.Coming.{kept_section, kept_attempt}
-use Rattle.eve_history.proofs.Finding.{commit_is, get_mapped, get_is, rec_at}
+use Rattle.eve_history.proofs.Finding.{commit_is, get_mapped, get_is}
 use Rattle.eve_history.proofs.notes.Notes.is_right_commit.Goals as goal
 
 number_is : (seq last : ℕ) (b : Bool) → seq ≡ last + 1 → ((seq == last + 1) && b) ≡ b
@@ -24,7 +25,7 @@ attempt_at-requires c =
     let x = c.index.result.now in
     let settled : c.len-settled.result ≡ length n.fates.items = search rules in
     let more : length n.fates.items < length n.attempts.items = search rules in
-    rec_at (λ a. IsAttemptAt n.bytes.now a.at) n.attempts.items (length n.fates.items) x c.requires.attempts
+    all-slice_get (λ a. IsAttemptAt n.bytes.now a.at) n.attempts.items (length n.fates.items) x c.requires.attempts
     (first_at n.attempts.items c.len-settled.result (length n.fates.items) x settled more c.index.ensures)
 
 pub returns : goal.returns

@@ -4,6 +4,7 @@ use Rattle.std.specs.List.{AllByRecursion, list_any}
 use Rattle.std.proofs.lemmas.List.{map-append, length-map}
 use Rattle.eve_grammar.specs.Trace.{Access, Attempt, Step, Attempts}
 use Rattle.eve_grammar.specs.Frames.{without_accesses}
+use Rattle.eve_grammar.proofs.Lists.{all-push}
 use Rattle.eve_frames.specs.Views.{attempt_in}
 use Rattle.eve_views.specs.declared.fault.Fault.{Fault}
 use Rattle.eve_views.specs.declared.fault.CheckFault.{CheckFault}
@@ -17,7 +18,6 @@ use Rattle.eve_history.proofs.Coming.{come_wrong, come_attempt, with_attempt}
 use Rattle.eve_history.proofs.Finding.{found_offsets, listed_small}
 use Rattle.eve_history.specs.Standing.{frame_in, IsAttemptAt, IsAccessAt}
 use Rattle.eve_history.proofs.Standing.{attempt_there, all_seen, all_small, seen_in_order, access_frames}
-use Rattle.eve_history.proofs.Standing.{one_more_framed}
 use Rattle.eve_history.proofs.Taking.{its_records_count, its_indexes, its_order}
 use Rattle.eve_history.proofs.notes.Notes.take_attempt.Goals as goal
 
@@ -159,8 +159,8 @@ returns-clause-noted c =
       spelled = c.requires.noted.spelled;
       framed = record {
         attempts = subst (AllByRecursion is_there) (sym c.in_ok-push.ensures.items)
-            (one_more_framed is_there n.attempts.items (record { at = c.offset.result; from = c.len-from.result })
-            (subst (IsAttemptAt n.bytes.now) (sym c.offset.ensures) there.1) c.requires.noted.framed.attempts);
+            (all-push is_there n.attempts.items (record { at = c.offset.result; from = c.len-from.result })
+            c.requires.noted.framed.attempts (subst (IsAttemptAt n.bytes.now) (sym c.offset.ensures) there.1));
         records = subst (AllByRecursion (IsAccessAt n.bytes.now)) (sym kept)
             (access_frames n.bytes.now xs n.records.items own
             (all_seen n.bytes.now t c.args.e c.requires.comes.0 b (kept_section n) at said xs c.requires.noted.spelled

@@ -3,6 +3,7 @@ use Rattle.std.specs.List.{AllByRecursion}
 use Rattle.std.proofs.lemmas.List.{map-append}
 use Rattle.eve_grammar.specs.Trace.{Attempt}
 use Rattle.eve_grammar.specs.Frames.{without_accesses}
+use Rattle.eve_grammar.proofs.Lists.{all-push}
 use Rattle.eve_frames.specs.Views.{attempt_in}
 use Rattle.eve_history.specs.declared.notes.Attempted.{Attempted}
 use Rattle.eve_history.specs.declared.notes.Notes.{Notes}
@@ -11,7 +12,7 @@ use Rattle.eve_history.specs.Standing.{frame_in, IsAttemptAt}
 use Rattle.eve_history.specs.Coming.{KeptAttempt, kept_section, kept_attempt, AreNotesOf}
 use Rattle.eve_history.specs.SideBySide.{IsKeptAhead}
 use Rattle.eve_history.proofs.Coming.{attempt_at, with_attempt_at}
-use Rattle.eve_history.proofs.Standing.{attempt_there, one_more_framed}
+use Rattle.eve_history.proofs.Standing.{attempt_there}
 use Rattle.eve_history.proofs.Ahead.{ahead_attempt}
 use Rattle.eve_history.proofs.notes.Notes.take_ordered.Goals as goal
 
@@ -55,8 +56,8 @@ returns c = λ e rest b ahead said.
       spelled = ahead.notes.spelled;
       framed = record {
         attempts = subst (AllByRecursion is_there) (sym c.in_ok-push.ensures.items)
-            (one_more_framed is_there n.attempts.items one
-            (subst (IsAttemptAt n.bytes.now) (sym c.offset.ensures) there.1) ahead.notes.framed.attempts);
+            (all-push is_there n.attempts.items one ahead.notes.framed.attempts
+            (subst (IsAttemptAt n.bytes.now) (sym c.offset.ensures) there.1));
         records = ahead.notes.framed.records;
         rollbacks = ahead.notes.framed.rollbacks;
       };

@@ -3,6 +3,7 @@ use Rattle.std.proofs.Common.{arith, rules}
 use Rattle.std.specs.List.{AllByRecursion}
 use Rattle.std.proofs.lemmas.List.{map-append, length-map}
 use Rattle.eve_grammar.specs.Trace.{Rollback, Step, RollsBack}
+use Rattle.eve_grammar.proofs.Lists.{all-push}
 use Rattle.eve_frames.specs.Views.{rollback_in}
 use Rattle.eve_views.specs.declared.fault.Code.TheVariants as code
 use Rattle.eve_views.specs.declared.fault.Fault.{Fault}
@@ -16,7 +17,7 @@ use Rattle.eve_history.specs.Faults.{IsStructureFault}
 use Rattle.eve_history.specs.FirstWrong.{fault_of}
 use Rattle.eve_history.specs.Coming.{kept_section, kept_attempt, rolled, open_count, HasCome}
 use Rattle.eve_history.proofs.Coming.{come_wrong, come_rollback, with_rollback}
-use Rattle.eve_history.proofs.Standing.{rollback_there, one_more_framed}
+use Rattle.eve_history.proofs.Standing.{rollback_there}
 use Rattle.eve_history.proofs.Taking.{rollback_wrong, rollback_right, discarded_all}
 use Rattle.eve_history.proofs.notes.Notes.take_rollback.Goals as goal
 
@@ -95,7 +96,7 @@ returns-clause-noted c =
         attempts = c.requires.noted.framed.attempts;
         records = c.requires.noted.framed.records;
         rollbacks = subst (AllByRecursion (IsRollbackAt n.bytes.now)) (sym c.in_ok-push.ensures.items)
-            (one_more_framed (IsRollbackAt n.bytes.now) n.rollbacks.items c.offset-2.result
-            (subst (IsRollbackAt n.bytes.now) (sym c.offset-2.ensures) there.1) c.requires.noted.framed.rollbacks);
+            (all-push (IsRollbackAt n.bytes.now) n.rollbacks.items c.offset-2.result c.requires.noted.framed.rollbacks
+            (subst (IsRollbackAt n.bytes.now) (sym c.offset-2.ensures) there.1));
       };
     }
