@@ -4,16 +4,15 @@ use Rattle.std.proofs.Common.{Some, refl, sym, ap, ◌∙◌, append-nil, arith}
 use Rattle.std.specs.List.{AllByRecursion, flat_map}
 use Rattle.std.proofs.lemmas.Grind.{flat_map-append}
 use Rattle.eve_smallbank.specs.declared.entry.Entry.{Entry}
-use Rattle.eve_views.proofs.Lists.{take_one_more}
+use Rattle.eve_grammar.proofs.Lists.{all-slice_get, take_one_more}
 use Rattle.eve_history.specs.SectionHistory.{ExecutedAttempt}
-use Rattle.eve_history.proofs.Finding.{rec_at}
 use Rattle.eve_chains.specs.Along.{entries_along, AreWithin}
 use Rattle.eve_agree.specs.Marking.{Marking, marked, noted_between}
 use Rattle.eve_agree.proofs.Marking.{marked-append}
 
 pub executed_attempt_within : (rows : ℕ) (rs : List ExecutedAttempt) (i : ℕ) (r : ExecutedAttempt)
     → AllByRecursion (λ q. AreWithin rows q.ordered) rs → slice_get rs i ≡ Some r → AreWithin rows r.ordered
-executed_attempt_within rows rs i r within at = rec_at (λ (q : ExecutedAttempt). AreWithin rows q.ordered) rs i r within
+executed_attempt_within rows rs i r within at = all-slice_get (λ (q : ExecutedAttempt). AreWithin rows q.ordered) rs i r within
     at
 
 get-drop : {A : Type 0} (xs : List A) (first k : ℕ) → slice_get (drop first xs) k ≡ slice_get xs (first + k)

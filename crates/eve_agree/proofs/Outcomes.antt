@@ -11,7 +11,7 @@ use Rattle.std.proofs.lemmas.List.FromFn.{length-enumerate_from}
 use Rattle.std.proofs.lemmas.Option.{slice_get_within, same_Some}
 use Rattle.eve_smallbank.specs.declared.request.Reply.{Reply}
 use Rattle.eve_grammar.specs.Trace.{Attempt, Step, Trace}
-use Rattle.eve_views.proofs.Lists.{take_one_more}
+use Rattle.eve_grammar.proofs.Lists.{take_one_more}
 use Rattle.eve_history.specs.Section.{Placed, start, state_after}
 use Rattle.eve_history.specs.SectionHistory.{ExecutedAttempt, executed_attempt, SectionHistory, section_history}
 use Rattle.eve_history.specs.SectionHistory.{section_histories, placed_at, history, committed_at, IsRightSection}

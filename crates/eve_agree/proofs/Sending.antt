@@ -14,7 +14,7 @@ use Rattle.eve_views.specs.declared.fault.Code.TheVariants as code
 use Rattle.eve_views.specs.declared.fault.Fault.{Fault}
 use Rattle.eve_views.specs.Form.{SomePlace, IsLeast}
 use Rattle.eve_views.proofs.Lists.{cut_at}
-use Rattle.eve_votes.proofs.Places.{located_get}
+use Rattle.eve_views.proofs.Locating.{located_get}
 use Rattle.eve_history.specs.SectionHistory.{SectionHistory, section_history, section_histories}
 use Rattle.eve_history.proofs.Places.{no_place, place_cases, Rising, located_rising, At, first_place}
 use Rattle.eve_history.proofs.Places.{weaker_place}

@@ -5,17 +5,18 @@ use Rattle.std.specs.Prelude.{slice_index_or}
 use Rattle.std.specs.List.{flat_map, enumerate_from, AllByRecursion}
 use Rattle.std.proofs.lemmas.Bool.{cases_lt}
 use Rattle.std.proofs.lemmas.List.{length-append}
+use Rattle.std.proofs.lemmas.List.Folds.{flat_map-map}
 use Rattle.std.specs.Int.{bytes_high_first}
 use Rattle.eve_grammar.specs.Trace.{Access, Attempt, Step, Attempts, Commits, RollsBack, Trace}
 use Rattle.eve_grammar.specs.Frames.{Frame, OfReplica, OfAttempt as AttemptFrame, OfAccess, OfCommit, OfRollback}
-use Rattle.eve_grammar.specs.Frames.{kind_of, without_accesses, step_frames}
+use Rattle.eve_grammar.specs.Frames.{kind_of, without_accesses}
 use Rattle.eve_grammar.specs.Spelling.{body_text, frame_text, frames_text, located, step_text, section_text}
 use Rattle.eve_grammar.specs.Spelling.{section_start, steps_of, steps_at, accesses_at}
+use Rattle.eve_views.proofs.Locating.{section_is}
 use Rattle.eve_history.specs.Section.{settled}
 use Rattle.eve_history.specs.SectionHistory.{attempts_among, placed_at, is_committed, is_discarded, history}
 use Rattle.eve_history.specs.Fates.{fates_from}
 use Rattle.eve_audit.proofs.Sections.{LiesIn, FatesAreAsItEnds}
-use Rattle.eve_history.proofs.FrameTexts.{mapped, nested}
 use Rattle.eve_history.proofs.Rights.{none_at}
 use Rattle.eve_chains.proofs.Attempts.{all_picked}
 use Rattle.eve_chains.proofs.SettledAttempts.{all-append}
@@ -70,11 +71,6 @@ located_within text from xs before x rest is =
     before x rest is (all_located text from xs)
 
 -- ---- sections
-
-section_is : (e : ℕ) (steps : List Step) → length (section_text (e, steps)) ≡ length (frame_text (OfReplica e)) + length
-    (flat_map step_text steps)
-section_is e steps = length-append (frame_text (OfReplica e)) (flat_map frame_text (flat_map step_frames steps))
-    ∙ ap (λ (b : List ℕ). length (frame_text (OfReplica e)) + length b) (nested steps)
 
 -- the bytes of the first of some numbered parts
 abbrev front : {B : Type 0} → (ℕ × List B → List ℕ) → ℕ → ℕ → List (List B) → ℕ
@@ -213,7 +209,8 @@ module _ (t : Trace) (e : ℕ) where
       let long : length (step_text (Attempts a)) ≡ length (frame_text (AttemptFrame a)) + length
       (flat_map text a.accesses) =
       length-append (frame_text (AttemptFrame a)) (flat_map frame_text (map OfAccess a.accesses))
-      ∙ ap (λ (b : List ℕ). length (frame_text (AttemptFrame a)) + length b) (mapped OfAccess a.accesses) in
+      ∙ ap (λ (b : List ℕ). length (frame_text (AttemptFrame a)) + length b) 
+      (flat_map-map frame_text OfAccess a.accesses) in
       let some = frame_has_text (OfAccess item.1) in
       (omega (arith, step.0, within.0), omega (arith, step.1, within.1, long, some))
 

@@ -1,10 +1,10 @@
 -- Faults stand within the trace.
-use Rattle.std.proofs.Common.{◌≡◌, ℕ, zero, suc, ◌+◌, ◌≤◌, inl, inr, List, [], ◌∷◌, ◌++◌, map, length, take, refl, sym}
+use Rattle.std.proofs.Common.{◌≡◌, ℕ, zero, suc, ◌+◌, ◌≤◌, inl, inr, List, [], ◌∷◌, ◌++◌, map, length, take, sym}
 use Rattle.std.proofs.Common.{ap, subst, ◌∙◌, arith}
 use Rattle.std.specs.List.{flat_map}
 use Rattle.std.proofs.lemmas.Bool.{cases_lt}
 use Rattle.std.proofs.lemmas.List.{get_or_past, length-append}
-use Rattle.std.proofs.lemmas.List.Concat.{flat_map-append}
+use Rattle.std.proofs.lemmas.List.Folds.{flat_map-map}
 use Rattle.eve_grammar.specs.Trace.{Batch, Vote, Sent, Trace, head_of}
 use Rattle.eve_grammar.specs.Frames.{Frame, OfCustomer, OfBatch, OfVerifier, OfVote, OfSent, End, section_frames}
 use Rattle.eve_grammar.specs.Frames.{verifier_frames, batches_of, sections_of, verifiers_of, frames_of}
@@ -13,7 +13,7 @@ use Rattle.eve_grammar.specs.Spelling.{batches_start, verifier_start, sent_start
 use Rattle.eve_grammar.specs.Spelling.{votes_of, votes_at, sent_at, length_of}
 use Rattle.eve_grammar.specs.Limits.{Spells}
 use Rattle.eve_grammar.proofs.HeaderParts.{length-head_text}
-use Rattle.eve_views.proofs.Locating.{length-frames_text}
+use Rattle.eve_views.proofs.Locating.{frames_text-flat_map, length-frames_text}
 use Rattle.eve_views.specs.declared.fault.Code.{Code}
 use Rattle.eve_views.specs.declared.fault.Code.TheVariants as code
 use Rattle.eve_views.specs.declared.fault.Fault.{Fault}
@@ -24,17 +24,10 @@ use Rattle.eve_views.specs.Form.{StandsInForm}
 use Rattle.eve_audit.specs.Verdict.{Stands, in_form, in_trace, IsOwnFault, of_structure, of_records, of_chains}
 use Rattle.eve_audit.specs.Verdict.{of_restores, of_tokens, IsTraceFault, of_votes, of_majorities, of_agreement}
 use Rattle.eve_audit.specs.Verdict.{of_replies, in_orders, in_section, in_common}
-use Rattle.eve_history.proofs.FrameTexts.{mapped}
 use Rattle.eve_audit.proofs.Sections.{LiesIn, FatesAreAsItEnds}
 use Rattle.eve_audit.proofs.Where.{located_within, front_more}
 use Rattle.eve_audit.proofs.Placed.{structure_lies, record_lies, chain_lies, restore_lies, token_lies, majority_lies}
 use Rattle.eve_audit.proofs.Placed.{outcome_lies}
-
-texts : {A : Type 0} (frames : A → List Frame) (xs : List A) → flat_map frame_text (flat_map frames xs)
-    ≡ flat_map (λ x. frames_text (frames x)) xs
-texts frames [] = refl
-texts frames (x ∷ xs) = flat_map-append frame_text (frames x) (flat_map frames xs)
-    ∙ ap (λ (b : List ℕ). frames_text (frames x) ++ b) (texts frames xs)
 
 -- the last reply sent ends within the trace
 sent_ends : (t : Trace) → sent_start t + length (flat_map (λ s. frame_text (OfSent s)) t.sent) ≤ length_of t
@@ -51,9 +44,11 @@ sent_ends t =
     (length-frames_text batches (sections ++ (verifiers ++ (sent ++ end))))
     (length-frames_text sections (verifiers ++ (sent ++ end))) (length-frames_text verifiers (sent ++ end))
     (length-frames_text sent end)
-    (ap length (mapped OfCustomer t.customers)) (ap length (mapped (λ (b : ℕ × Batch). OfBatch b.0 b.1) (batches_of t)))
-    (ap length (texts section_frames (sections_of t))) (ap length (texts verifier_frames (verifiers_of t)))
-    (ap length (mapped OfSent t.sent))
+    (ap length (flat_map-map frame_text OfCustomer t.customers))
+    (ap length (flat_map-map frame_text (λ (b : ℕ × Batch). OfBatch b.0 b.1) (batches_of t)))
+    (ap length (frames_text-flat_map section_frames (sections_of t)))
+    (ap length (frames_text-flat_map verifier_frames (verifiers_of t)))
+    (ap length (flat_map-map frame_text OfSent t.sent))
   where
     summed : (c b s v m c' b' s' v' m' end whole behind_c behind_b behind_s behind_v : ℕ) → whole ≡ c + behind_c
         → behind_c ≡ b + behind_b → behind_b ≡ s + behind_s → behind_s ≡ v + behind_v → behind_v ≡ m + end
@@ -91,7 +86,7 @@ module _ (t : Trace) where
   votes_are : (v : ℕ) (ws : List Vote) → length (votes_text (v, ws)) ≡ length (frame_text (OfVerifier v)) + length
       (flat_map (λ w. frame_text (OfVote w)) ws)
   votes_are v ws = length-append (frame_text (OfVerifier v)) (flat_map frame_text (map OfVote ws))
-      ∙ ap (λ (b : List ℕ). length (frame_text (OfVerifier v)) + length b) (mapped OfVote ws)
+      ∙ ap (λ (b : List ℕ). length (frame_text (OfVerifier v)) + length b) (flat_map-map frame_text OfVote ws)
 
   vote_within : (v : ℕ) (before : List (ℕ × Vote)) (w : ℕ × Vote) (rest : List (ℕ × Vote)) → votes_at t v
       ≡ before ++ w ∷ rest → w.0 ≤ length_of t

@@ -20,7 +20,7 @@ use Rattle.eve_views.specs.Form.{IsUpTo}
 use Rattle.eve_views.specs.declared.fault.Code.{Code}
 use Rattle.eve_views.specs.declared.fault.Code.TheVariants as code
 use Rattle.eve_views.specs.declared.fault.Fault.{Fault}
-use Rattle.eve_views.proofs.Lists.{take_one_more}
+use Rattle.eve_grammar.proofs.Lists.{take_one_more}
 use Rattle.eve_chains.specs.Tables.{undone, IsFirstMismatch}
 use Rattle.eve_chains.specs.Along.{entries_along, AreWithin, SomeSeesAnother, IsWrongAlong, AllSee}
 use Rattle.eve_chains.specs.Along.{IsFirstAlong, fault_if}

@@ -24,7 +24,6 @@ use Rattle.eve_history.specs.Marking.{AreMarked}
 use Rattle.eve_history.specs.Coming.{KeptAttempt, KeptSection, StandsAt}
 use Rattle.eve_grammar.proofs.Grouping.{all_at}
 use Rattle.eve_grammar.proofs.Lists.{drop_here}
-pub use Rattle.eve_grammar.proofs.Lists.{all-slice_get as rec_at}
 use Rattle.eve_history.proofs.OrderLaws.{of_located}
 
 -- ---- batches

@@ -7,8 +7,6 @@ use Rattle.eve_grammar.specs.Trace.{Batch}
 use Rattle.eve_grammar.specs.Spelling.{located}
 use Rattle.eve_views.specs.Form.{SomePlace}
 use Rattle.eve_views.proofs.Lists.{cut_at}
-pub use Rattle.eve_grammar.proofs.Lists.{whole_slice}
-pub use Rattle.eve_views.proofs.Locating.{located_get}
 
 pub place_at : {A : Type 0} (P : List A → A → Type 0) (xs : List A) (i : ℕ) (x : A) → slice_get xs i ≡ Some x
     → P (take i xs) x → SomePlace xs P

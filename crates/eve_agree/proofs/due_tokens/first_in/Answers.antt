@@ -1,7 +1,7 @@
 use Rattle.std.proofs.Common.{◌≡◌, ◌<◌, ℕ, List, length, get_or, Option, sym, subst, ap, ◌∙◌}
 use Rattle.std.proofs.Common.{arith}
 use Rattle.eve_grammar.specs.Trace.{Trace}
-use Rattle.eve_votes.proofs.Places.{whole_slice}
+use Rattle.eve_grammar.proofs.Lists.{whole_slice}
 use Rattle.eve_chains.specs.Settling.{Settling}
 use Rattle.eve_agree.specs.DueTokens.{IsFirstWrong}
 use Rattle.eve_agree.specs.Stretches.{IsJudgedStretch, AreReadyStretches, first_found}

@@ -3,7 +3,7 @@ use Rattle.std.proofs.lemmas.List.{take_all}
 use Rattle.std.proofs.lemmas.Option.{same_Some}
 use Rattle.eve_smallbank.specs.Access.{balance_of_row, values_after}
 use Rattle.eve_grammar.specs.Trace.{Access}
-use Rattle.eve_history.proofs.Finding.{rec_at}
+use Rattle.eve_grammar.proofs.Lists.{all-slice_get}
 use Rattle.eve_chains.specs.Along.{said_at, entries_along, AreWithin}
 use Rattle.eve_chains.proofs.AlongLaws.{values_after-append, IsMet, met_within, after_more}
 use Rattle.eve_chains.proofs.settled.write_batch.Goals as goal
@@ -23,7 +23,7 @@ write_values-requires c =
     let met : IsMet says.0 c.loop-place.place (said_at c.record.result) c.entries.result =
     record { there = says.2; entries = c.entries.ensures } in
     met_within (length c.args.balances.now) (length c.loop-place.balances) met
-    (rec_at (AreWithin (length c.args.balances.now)) c.args.records.now (c.args.n - 1) says.0 c.requires.within says.1)
+    (all-slice_get (AreWithin (length c.args.balances.now)) c.args.records.now (c.args.n - 1) says.0 c.requires.within says.1)
     c.loop-place.invariant.as_many
 
 pub loop-place-preserved : goal.loop-place-preserved

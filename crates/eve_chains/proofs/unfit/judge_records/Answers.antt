@@ -5,7 +5,7 @@ use Rattle.eve_smallbank.specs.Access.{Executed}
 use Rattle.eve_grammar.specs.Trace.{Access, Attempt}
 use Rattle.eve_frames.specs.Views.{access_in, attempt_in}
 use Rattle.eve_history.specs.SectionHistory.{ExecutedAttempt}
-use Rattle.eve_history.proofs.Finding.{rec_at}
+use Rattle.eve_grammar.proofs.Lists.{all-slice_get}
 use Rattle.eve_chains.specs.Records.{recorded}
 use Rattle.eve_chains.specs.Unfit.{recorded_of, IsLeastUnfit}
 use Rattle.eve_chains.proofs.Least.{least_next, recorded_at}
@@ -28,7 +28,7 @@ loop-place-preserved c r at =
     ∙ ap (λ (q : ExecutedAttempt). q.attempt) its in
     let listed : slice_get r.ordered c.loop-place.place ≡ Some x =
     ap (λ (q : ExecutedAttempt). slice_get q.ordered c.loop-place.place) (sym own) ∙ c.ordered-access.ensures.says.2 in
-    let below : x.1.index < length requests = rec_at (λ z. z.1.index < length requests) r.ordered c.loop-place.place x
+    let below : x.1.index < length requests = all-slice_get (λ z. z.1.index < length requests) r.ordered c.loop-place.place x
     (c.requires.requests r at).there listed in
     let number : c.index-index.result ≡ x.1.index = c.index-index.ensures in
     let within : c.index-index.result < length requests = omega arith in
