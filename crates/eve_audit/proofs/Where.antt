@@ -209,7 +209,7 @@ module _ (t : Trace) (e : ℕ) where
       let long : length (step_text (Attempts a)) ≡ length (frame_text (AttemptFrame a)) + length
       (flat_map text a.accesses) =
       length-append (frame_text (AttemptFrame a)) (flat_map frame_text (map OfAccess a.accesses))
-      ∙ ap (λ (b : List ℕ). length (frame_text (AttemptFrame a)) + length b) 
+      ∙ ap (λ (b : List ℕ). length (frame_text (AttemptFrame a)) + length b)
       (flat_map-map frame_text OfAccess a.accesses) in
       let some = frame_has_text (OfAccess item.1) in
       (omega (arith, step.0, within.0), omega (arith, step.1, within.1, long, some))

@@ -126,7 +126,8 @@ customer_taken d customers names added c before pushed same room ranges follows 
       requests = keeps.requests;
       starts = keeps.starts;
       count = keeps.count ∙ no_requests before c follows;
-      names = λ other. found_more same_name same_name-true same_name-itself (customer_names (customers_in before)) c.name other (has_name names.keys other)
+      names = λ other. found_more same_name same_name-true same_name-itself (customer_names (customers_in before)) c.name
+          other (has_name names.keys other)
           (has_name d.names.keys other) (kept other) (keeps.names other)
           ∙ ap (list_any (same_name other)) (sym (map_push (λ (e : Customer). e.name) (customers_in before) c));
       request_ids = keeps.request_ids;
@@ -135,7 +136,8 @@ customer_taken d customers names added c before pushed same room ranges follows 
 pub name_refused : (d : Draft) (c : Customer) (before : List Line) → has_name d.names.keys c.name ≡ true
     → Keeps d before → ¬ IsRightBehind before (CustomerLine c)
 name_refused d c before known keeps right =
-    right.new (Contains-from_any same_name-true c.name (customer_names (customers_in before)) (sym (keeps.names c.name) ∙ known))
+    right.new (Contains-from_any same_name-true c.name (customer_names (customers_in before))
+    (sym (keeps.names c.name) ∙ known))
 
 pub request_taken : (d : Draft) (requests : Vec RequestData Global) (ids : RequestIds) (count : ℕ) (a : Asked)
     (before : List Line) → map asked requests.items ≡ map asked d.requests.items ++ a ∷ [] → count ≡ d.count + 1
@@ -167,8 +169,10 @@ request_taken d requests ids count a before added counted room ranges follows fr
     }
 
 pub id_refused : (a : Asked) (before : List Line)
-    → list_any (same_id (request_id a)) (map request_id (requests_in before)) ≡ true → ¬ IsRightBehind before (RequestLine a)
-id_refused a before known right = right.new (Contains-from_any same_id-true (request_id a) (map request_id (requests_in before)) known)
+    → list_any (same_id (request_id a)) (map request_id (requests_in before)) ≡ true
+    → ¬ IsRightBehind before (RequestLine a)
+id_refused a before known right =
+    right.new (Contains-from_any same_id-true (request_id a) (map request_id (requests_in before)) known)
 
 -- how many lines there are
 pub line_count : (before : List Line) → AreRightLines before → length before + 1
