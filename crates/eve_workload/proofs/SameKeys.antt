@@ -1,7 +1,6 @@
 -- What a test finds in a list that tells whether two keys are the same.
 use Rattle.std.proofs.Common.{◌≡◌, zero, suc, Bool, true, false, List, [], ◌∷◌, ◌++◌, Contains, inl, inr, refl, sym}
-use Rattle.std.proofs.Common.{◌∙◌}
-use Rattle.std.proofs.Common.{arith}
+use Rattle.std.proofs.Common.{◌∙◌, arith}
 use Rattle.std.specs.Prelude.{◌||◌, if◌then◌else◌}
 use Rattle.std.specs.List.{list_any}
 use Rattle.std.proofs.lemmas.Bool.{or_left, or_right, cases_Bool, false≢true}
