@@ -1,11 +1,10 @@
 -- The records of a batch become an attempt.
-use Rattle.std.proofs.Common.{◌≡◌, ℕ, ℤ, ◌+◌, ◌<◌, ◌≤◌, ◌==◌, nat_le, true, false, ltb, leb, IsTrue, List, [], ◌∷◌}
-use Rattle.std.proofs.Common.{◌++◌, map, length, replicate, sum, slice_get, Some, refl, sym, subst, ap, ◌∙◌, append-nil}
+use Rattle.std.proofs.Common.{◌≡◌, ℕ, ℤ, ◌+◌, ◌<◌, ◌≤◌, ◌==◌, true, false, ltb, leb, IsTrue, List, [], ◌∷◌}
+use Rattle.std.proofs.Common.{◌++◌, map, length, replicate, slice_get, Some, refl, sym, subst, ap, ◌∙◌, append-nil}
 use Rattle.std.proofs.Common.{arith}
 use Rattle.std.specs.List.{AllByRecursion, list_all}
-use Rattle.std.proofs.lemmas.Bool.{and_parts, and_from, eq-eqb, lt-ltb, ltb-true, le-leb, leb-true}
+use Rattle.std.proofs.lemmas.Bool.{and_parts, and_from, eq-eqb, lt-ltb, ltb-true, le-leb}
 use Rattle.std.proofs.lemmas.List.{length-map, length-replicate}
-use Rattle.std.proofs.lemmas.List.Sums.{sum_by-cons}
 use Rattle.std.proofs.lemmas.List.Folds.{list_all-append}
 use Rattle.eve_smallbank.specs.declared.entry.Entry.{Entry}
 use Rattle.eve_smallbank.specs.declared.request.Reply.{Reply}
@@ -16,7 +15,7 @@ use Rattle.eve_grammar.specs.Trace.{Access, Batch, Attempt}
 use Rattle.eve_grammar.specs.Limits.{is_number, is_between, is_token, is_reply, is_batch, is_access, is_attempt}
 use Rattle.eve_grammar.specs.Limits.{is_whole_attempt}
 use Rattle.eve_grammar.specs.Certificate.{is_permutation, is_certificate, keeps_groups}
-use Rattle.eve_grammar.proofs.Grouping.{few_requests}
+use Rattle.eve_grammar.proofs.Grouping.{some_requests}
 use Rattle.eve_stamps.specs.Applied.{Applied}
 use Rattle.eve_write.specs.Data.{access}
 use Rattle.eve_token.specs.Token.{token_of}
@@ -33,19 +32,6 @@ use Rattle.eve_attempts.proofs.TableLaws.{values_before-append, writes_in-append
 use Rattle.eve_attempts.proofs.Takings.{length_certificate, few_records}
 
 -- ---- the limits
-
-some_requests : (sizes : List ℕ) → nat_le 1 (length sizes) ≡ true → list_all (nat_le 1) sizes ≡ true → 1 ≤ sum sizes
-some_requests [] some each = absurd (let h = leb-true 1 0 some in omega arith)
-some_requests (n ∷ sizes) some each = let one = leb-true 1 n (and_parts (nat_le 1 n) (list_all (nat_le 1) sizes) each).0
-    in omega (arith, sum_by-cons (λ (m : ℕ). m) n sizes)
-
-batch_some : (b : Batch) → IsTrue (is_batch b) → 1 ≤ length b.requests
-batch_some b right =
-    let parts = and_parts (nat_le 1 (length b.sizes)) _ right in
-    let each = and_parts (list_all (nat_le 1) b.sizes) _ parts.1 in
-    let few = few_requests b right in
-    let one = few.0 in
-    omega (arith, some_requests b.sizes parts.0 each.0)
 
 small_numbers : (r : ℕ) (xs : List ℕ) → r ≤ 65536 → list_all (λ i. ltb i r) xs ≡ true → list_all (is_number 2) xs ≡ true
 small_numbers r [] le all = refl
@@ -83,7 +69,7 @@ module _ (front : AttemptFront) (b : Batch) (touched : List Touched) (records : 
       → IsTrue (is_whole_attempt rows (attempt_of front t token))
   whole_attempt token seq view is =
       let few : length records ≤ 256 = few_records workers rows b touched records noted right in
-      let some : 1 ≤ length b.requests = batch_some b right in
+      let some : 1 ≤ length b.requests = some_requests b right in
       let long : length t.certificate.items ≡ length records = length_certificate records t taken in
       let many : length records ≡ length b.requests = noted.many in
       let small : list_all (λ i. ltb i (length b.requests)) t.certificate.items ≡ true =

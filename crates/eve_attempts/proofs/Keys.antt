@@ -1,6 +1,6 @@
 -- Keys of records, and keys that are sorted.
 use Rattle.std.proofs.Common.{◌≡◌, ℕ, suc, ◌+◌, ◌<◌, ◌≤◌, ◌==◌, Bool, true, false, cond, ltb, List, [], ◌∷◌, ◌++◌}
-use Rattle.std.proofs.Common.{length, get_or, take, drop, refl, sym, subst, ap, ap₂, ◌∙◌, append_assoc, append-nil}
+use Rattle.std.proofs.Common.{length, get_or, refl, sym, subst, ap, ap₂, ◌∙◌, append_assoc}
 use Rattle.std.proofs.Common.{add-one, is_lt, nat_cmp, arith}
 use Rattle.std.proofs.Math.Seq.{get_or-append_seam}
 use Rattle.std.specs.declared.cmp.Ordering.{Ordering}
@@ -8,7 +8,7 @@ use Rattle.std.specs.declared.cmp.Ordering.TheVariants.{Less, Equal, Greater}
 use Rattle.std.specs.Ordering.{ordering_then}
 use Rattle.std.proofs.lemmas.Bool.{ltb-false, eqb-false, false≢true}
 use Rattle.std.specs.List.{AllByRecursion}
-use Rattle.std.proofs.lemmas.List.{drop_all, take_all, length_push}
+use Rattle.std.proofs.lemmas.List.{length_push}
 use Rattle.eve_stamps.specs.Applied.{Applied}
 use Rattle.eve_attempts.specs.Ordering.{Key, keys_from, no_record, record_of, records_in, IsKeyOf, IsNoLaterRecord}
 use Rattle.eve_attempts.specs.Ordering.{TicksDontFall}
@@ -38,13 +38,6 @@ are_keys front (r ∷ rs) = (
       (subst (λ (n : ℕ). AllByRecursion (IsKeyOf ((front ++ r ∷ []) ++ rs)) (keys_from n rs)) (length_push front r)
       (are_keys (front ++ r ∷ []) rs)),
 )
-
--- a vector that was sorted as a slice
-pub whole_slice : {A : Type 0} (xs ys : List A) (n : ℕ) → length ys ≡ length xs → n ≡ length xs
-    → take n (ys ++ drop (length ys) xs) ≡ ys
-whole_slice xs ys n same many =
-    ap (λ (zs : List _). take n (ys ++ zs)) (drop_all (length ys) xs (omega arith)) ∙ ap (take n) (append-nil ys)
-    ∙ take_all n ys (omega arith)
 
 -- ---- sorted keys
 

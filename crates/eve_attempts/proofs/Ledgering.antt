@@ -13,7 +13,7 @@ use Rattle.eve_accounts.specs.Money.{is_balance}
 use Rattle.eve_smallbank.specs.declared.entry.Entry.{Entry}
 use Rattle.eve_smallbank.specs.Access.{is_write, writes_row}
 use Rattle.eve_smallbank.specs.Chain.{Table, table_after}
-use Rattle.eve_smallbank.proofs.Members.{In, here, there, all_in, all_from_in}
+use Rattle.eve_smallbank.proofs.Members.{In, here, there, all_in, all_from_in, all_of_list_all, in_cons}
 use Rattle.eve_grammar.specs.Trace.{Restore, Rollback}
 use Rattle.eve_grammar.specs.declared.limits.TheConstants.{MOST_VERSIONS}
 use Rattle.eve_grammar.specs.Limits.{is_entry, is_restore, is_rising, is_rollback, is_number}
@@ -22,7 +22,7 @@ use Rattle.eve_attempts.specs.Ledgers.{writes_in}
 use Rattle.eve_attempts.specs.Ledgers.{open_writes, rows_committed, is_write_in, AreLaid, IsLedger}
 use Rattle.eve_attempts.specs.Discarding.{restore_in, AreRestores, RollsBack}
 use Rattle.eve_attempts.specs.Restoring.{entry_rows, rising_from}
-use Rattle.eve_attempts.proofs.Ordered.{in_split, all_moved}
+use Rattle.eve_attempts.proofs.Ordered.{all_moved}
 use Rattle.eve_attempts.proofs.TableLaws.{laid_undone}
 
 -- ---- commits
@@ -109,7 +109,7 @@ DontFall (n ∷ ns) = AllByRecursion (λ m. n ≤ m) ns × DontFall ns
 -- each of the numbers rises, or stands below the least
 kept : (least : ℕ) (ns : List ℕ) → DontFall ns → (m : ℕ) → In m ns → least ≤ m → In m (rising_from least ns)
 kept least [] up m i le = elim i [ ]
-kept least (n ∷ ns) up m i le = by (nat_le least n) refl (in_split m n ns i)
+kept least (n ∷ ns) up m i le = by (nat_le least n) refl (in_cons ns i)
     (λ j lt. kept (n + 1) ns up.1 m j (omega arith)) (λ j le. kept least ns up.1 m j le)
   where
     by : (b : Bool) → nat_le least n ≡ b → (m ≡ n) ⊎ In m ns → (In m ns → n < m → In m (rising_from (n + 1) ns))
@@ -141,7 +141,7 @@ dont_fall (n ∷ ns) up = (
 some_write : (rows row : ℕ) (es : List Entry) → list_all (is_write_in rows) es ≡ true → In row (entry_rows es)
     → list_any (writes_row row) es ≡ true
 some_write rows row [] all i = elim i [ ]
-some_write rows row (e ∷ es) all i = by (in_split row e.row (entry_rows es) i)
+some_write rows row (e ∷ es) all i = by (in_cons (entry_rows es) i)
     (some_write rows row es (and_parts (is_write_in rows e) (list_all (is_write_in rows) es) all).1)
   where
     by : (row ≡ e.row) ⊎ In row (entry_rows es) → (In row (entry_rows es) → list_any (writes_row row) es ≡ true)
@@ -185,25 +185,17 @@ rows_in P (e ∷ es) each = (each e here, rows_in P es (λ d i. each d (there i)
 
 row_in_rows : (e : Entry) (es : List Entry) → In e es → In e.row (entry_rows es)
 row_in_rows e [] i = elim i [ ]
-row_in_rows e (d ∷ es) i = by (in_split e d es i) (row_in_rows e es)
+row_in_rows e (d ∷ es) i = by (in_cons es i) (row_in_rows e es)
   where
     by : (e ≡ d) ⊎ In e es → (In e es → In e.row (entry_rows es)) → In e.row (d.row ∷ entry_rows es)
     by (inl same) rest = subst (λ (x : Entry). In e.row (x.row ∷ entry_rows es)) same here
     by (inr j) rest = there (rest j)
 
-all_test_in : (p : Entry → Bool) (es : List Entry) (e : Entry) → list_all p es ≡ true → In e es → p e ≡ true
-all_test_in p [] e all i = elim i [ ]
-all_test_in p (d ∷ es) e all i = by (in_split e d es i) (all_test_in p es e (and_parts (p d) (list_all p es) all).1)
-  where
-    by : (e ≡ d) ⊎ In e es → (In e es → p e ≡ true) → p e ≡ true
-    by (inl same) rest = ap p same ∙ (and_parts (p d) (list_all p es) all).0
-    by (inr j) rest = rest j
-
 -- some restore is of the row
 some_restore : (table : Table) (row : ℕ) (ns : List ℕ) → In row ns → list_any (λ r. r.row == row) (restores_of table ns)
     ≡ true
 some_restore table row [] i = elim i [ ]
-some_restore table row (n ∷ ns) i = by (in_split row n ns i) (some_restore table row ns)
+some_restore table row (n ∷ ns) i = by (in_cons ns i) (some_restore table row ns)
   where
     by : (row ≡ n) ⊎ In row ns → (In row ns → list_any (λ r. r.row == row) (restores_of table ns) ≡ true)
         → ((n == row) || list_any (λ r. r.row == row) (restores_of table ns)) ≡ true
@@ -236,7 +228,7 @@ module _ (s : Ledger) (l : IsLedger s) (numbers : List ℕ) (moved : IsPermutati
       (λ e i. ltb-true e.row (ledger_rows s)
       (and_parts (ltb e.row (ledger_rows s)) _
       (and_parts (is_write e.kind) (is_entry (ledger_rows s) e)
-      (all_test_in (is_write_in (ledger_rows s)) (open_writes s) e l.written i)).1).0))
+      (all_of_list_all (is_write_in (ledger_rows s)) (open_writes s) l.written i)).1).0))
 
   pub are_restores : AreRestores s (restores_of (rows_committed s) (rising_from 0 numbers))
   are_restores = record {

@@ -9,18 +9,12 @@ use Rattle.std.proofs.lemmas.Bool.{cond-true, cond-false, false≢true}
 use Rattle.std.proofs.lemmas.List.Sums.{sum_by-cons}
 use Rattle.std.proofs.lemmas.List.Elements.{All-nil, All-cons, recursion_from_All}
 use Rattle.std.proofs.lemmas.List.Sorted.{All-permutation, IsPermutation-sym, IsPermutation-trans, sum_by-IsPermutation}
-use Rattle.eve_smallbank.proofs.Members.{In, here, there, all_in, all_from_in}
+use Rattle.eve_smallbank.proofs.Members.{In, here, there, all_in, all_from_in, in_cons}
 use Rattle.eve_grammar.specs.Certificate.{occurrences, all_below, is_permutation}
 use Rattle.eve_grammar.proofs.Counting.{all_below_at}
 use Rattle.eve_stamps.specs.Applied.{Applied}
 use Rattle.eve_attempts.specs.Closing.{is_earlier_record, TicksRise, indexes_of}
 use Rattle.eve_attempts.specs.Ordering.{IsNoLaterRecord, TicksDontFall}
-
--- ---- members
-
-pub in_split : {A : Type 0} (z x : A) (xs : List A) → In z (x ∷ xs) → (z ≡ x) ⊎ In z xs
-in_split z x xs here = inl refl
-in_split z x xs (there i) = inr i
 
 -- ---- before and not after
 
@@ -151,7 +145,7 @@ AreAmong xs ys = (z : Applied) → In z xs → In z ys
 
 same_first : (x y : Applied) (xs ys : List Applied) → TicksRise (x ∷ xs) → TicksRise (y ∷ ys)
     → AreAmong (x ∷ xs) (y ∷ ys) → AreAmong (y ∷ ys) (x ∷ xs) → x ≡ y
-same_first x y xs ys up uq one two = by (in_split x y ys (one x here)) (in_split y x xs (two y here))
+same_first x y xs ys up uq one two = by (in_cons ys (one x here)) (in_cons xs (two y here))
   where
     by : (x ≡ y) ⊎ In x ys → (y ≡ x) ⊎ In y xs → x ≡ y
     by (inl e) j = e
@@ -161,7 +155,7 @@ same_first x y xs ys up uq one two = by (in_split x y ys (one x here)) (in_split
         (before_not_after y x (all_in (λ q. IsTrue (is_earlier_record y q)) uq.0 i)))
 
 among_rest : (x : Applied) (xs ys : List Applied) → TicksRise (x ∷ xs) → AreAmong (x ∷ xs) (x ∷ ys) → AreAmong xs ys
-among_rest x xs ys up one z i = by (in_split z x ys (one z (there i)))
+among_rest x xs ys up one z i = by (in_cons ys (one z (there i)))
   where
     by : (z ≡ x) ⊎ In z ys → In z ys
     by (inl e) = absurd (before_clash x z (all_in (λ q. IsTrue (is_earlier_record x q)) up.0 i)

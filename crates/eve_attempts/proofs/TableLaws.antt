@@ -6,18 +6,18 @@ use Rattle.std.proofs.Common.{◌∙◌, inl, inr, append_assoc, arith}
 use mathlib.Core.Path.{fun_ext}
 use Rattle.std.specs.List.{AllByRecursion, flat_map, list_any, list_all}
 use Rattle.std.proofs.lemmas.List.Folds.{list_all-append}
-use Rattle.std.proofs.lemmas.Bool.{cases_Bool, cases_eq, and_parts, or_parts, ltb-true, eq-eqb, ne_eqb, eqb-true}
+use Rattle.std.proofs.lemmas.Bool.{cases_Bool, cases_eq, and_parts, ltb-true, eq-eqb, ne_eqb, eqb-true}
 use Rattle.std.proofs.lemmas.Bool.{cond-true, cond-false}
 use Rattle.std.proofs.lemmas.List.{get_or-set_other}
 use Rattle.std.proofs.lemmas.Grind.{get_or-set_at}
 use Rattle.eve_smallbank.specs.declared.entry.Entry.{Entry}
 use Rattle.eve_smallbank.specs.Access.{Executed, is_write, writes_row}
 use Rattle.eve_smallbank.specs.Chain.{Versioned, Table, left_by, Sees, IsChained, table_after, table_after_all}
-use Rattle.eve_smallbank.proofs.Chains.{Follows, chain_follows, follows_chain}
+use Rattle.eve_smallbank.proofs.Chains.{Follows, chain_follows, follows_chain, table_after-append}
+use Rattle.eve_smallbank.proofs.Orders.{unwritten}
 use Rattle.eve_grammar.specs.Trace.{Batch}
 use Rattle.eve_grammar.specs.Limits.{is_entry}
 use Rattle.eve_stamps.specs.Applied.{Applied}
-use Rattle.eve_stamps.proofs.JournalLaws.{table_after-append}
 use Rattle.eve_attempts.specs.Ledgers.{Rows, Opened, table_of_rows, values_before, writes_in, is_write_in, AreLaid}
 use Rattle.eve_attempts.specs.Closing.{executed, entries_in_order, writes_along}
 use Rattle.eve_attempts.specs.Ordering.{AreSeenAlong, table_after_records}
@@ -146,14 +146,6 @@ undone_at table v row (e ∷ es) all = by (writes_row row e) all.0 (undone_at ta
     by true is rest = is refl
     by false is rest = rest
 
-pub kept_at : (table : Table) (row : ℕ) (es : List Entry) → list_any (writes_row row) es ≡ false
-    → table_after table es row ≡ table row
-kept_at table row [] none = refl
-kept_at table row (e ∷ es) none =
-    let parts = or_parts (writes_row row e) (list_any (writes_row row) es) none in
-    kept_at (λ r. cond (writes_row r e) (left_by e) (table r)) row es parts.1
-    ∙ ap (λ b. cond b (left_by e) (table row)) parts.0
-
 saw_base : (base : Table) (row : ℕ) (es : List Entry) → AllByRecursion (Sees base) es
     → AllByRecursion (λ e. writes_row row e ≡ true → saw e ≡ base row) es
 saw_base base row [] all = tt
@@ -175,7 +167,7 @@ undone_seen base es all = fun_ext (λ row. undone_at (table_after base es) (base
     by row = elim (cases_Bool (list_any (writes_row row) es)) [
       | inl some ↦ cond-true (list_any (writes_row row) es) (base row) (table_after base es row) some
       | inr none ↦ cond-false (list_any (writes_row row) es) (base row) (table_after base es row) none
-          ∙ kept_at base row es none
+          ∙ unwritten base es row none
     ]
 
 -- reads leave nothing, and are not undone

@@ -10,13 +10,14 @@ use Rattle.eve_smallbank.specs.declared.entry.Entry.{Entry}
 use Rattle.eve_smallbank.specs.Access.{is_write}
 use Rattle.eve_smallbank.specs.Chain.{Table, Sees, table_after}
 use Rattle.eve_grammar.specs.Limits.{is_number, is_entry, is_access}
+use Rattle.eve_grammar.proofs.Lists.{all-get_or}
 use Rattle.eve_stamps.specs.Applied.{Applied}
 use Rattle.eve_attempts.specs.Ledgers.{values_before, is_write_in}
 use Rattle.eve_attempts.specs.Closing.{access_noted, entries_in_order, writes_along}
 use Rattle.eve_attempts.specs.Ordering.{Key, record_of, records_in, no_record, IsKeyOf, AreSeenAlong}
 use Rattle.eve_attempts.specs.Ordering.{table_after_records}
 use Rattle.std.proofs.lemmas.List.Elements.{filter-append}
-use Rattle.eve_attempts.proofs.Listing.{mapped_at, all_read, all_fact}
+use Rattle.eve_attempts.proofs.Listing.{mapped_at, all_read}
 use Rattle.eve_attempts.proofs.TableLaws.{writes_among, undone_further}
 
 -- so far each entry saw what it must, and these records are left; `written` goes back to where it began
@@ -112,7 +113,7 @@ module _ (records : List Applied) (order : List Key) (i : ℕ) (r : Applied)
     (all : AllByRecursion (IsKeyOf records) order) (within : i < length order)
     (is : r ≡ get_or records (get_or order i (0, 0, 0)).2 r) where
   key_at : IsKeyOf records (get_or order i (0, 0, 0))
-  key_at = all_fact (IsKeyOf records) order i (0, 0, 0) all within
+  key_at = all-get_or (IsKeyOf records) order i (0, 0, 0) all within
 
   pub rest_at : records_in records (drop i order) ≡ r ∷ records_in records (drop (i + 1) order)
   rest_at =

@@ -6,22 +6,12 @@ use Rattle.std.proofs.lemmas.Bool.{cases_lt, eqb-true, lt-leb, le-leb, lt-ltb, l
 use Rattle.eve_smallbank.specs.declared.entry.Entry.{Entry}
 use Rattle.eve_smallbank.specs.Access.{is_write, writes_row}
 use Rattle.eve_smallbank.specs.Chain.{Table, left_by, table_after}
+use Rattle.eve_grammar.proofs.Lists.{all-filter}
 use Rattle.eve_stamps.specs.declared.journal.Journaled.{Journaled}
 use Rattle.eve_stamps.specs.Stripes.{HeldRow, Stripe, IsStripe, lies_in, table_in, rows_in_table, committed, rows_now}
 use Rattle.eve_stamps.specs.Stripes.{table_after_journal, IsEntryIn, JournalLiesIn, JournalRises, stripe_with}
 use Rattle.eve_stamps.specs.Stripes.{settled_to}
 use Rattle.eve_stamps.proofs.RowLaws.{table_in-outside, table_in-whole}
-
--- what holds of each item holds of each where one that has it is added
-pub all_append : {A : Type 0} (P : A → Type 0) (xs : List A) (x : A) → AllByRecursion P xs → P x
-    → AllByRecursion P (xs ++ x ∷ [])
-all_append P [] x all here = (here, tt)
-all_append P (y ∷ xs) x all here = (all.0, all_append P xs x all.1 here)
-
-pub table_after-append : (table : Table) (es fs : List Entry) → table_after table (es ++ fs)
-    ≡ table_after (table_after table es) fs
-table_after-append table [] fs = refl
-table_after-append table (e ∷ es) fs = table_after-append (λ row. cond (writes_row row e) (left_by e) (table row)) es fs
 
 pub table_after_journal-append : (table : Table) (xs ys : List Journaled) → table_after_journal table (xs ++ ys)
     ≡ table_after_journal (table_after_journal table xs) ys
@@ -73,15 +63,6 @@ up_to tick j = nat_le j.tick tick
 abbrev pub behind : ℕ → Journaled → Bool
 behind tick j = nat_lt tick j.tick
 
-pub all_kept : {A : Type 0} (P : A → Type 0) (p : A → Bool) (xs : List A) → AllByRecursion P xs
-    → AllByRecursion P (filter p xs)
-all_kept P p [] all = tt
-all_kept P p (x ∷ xs) all = step (p x) (all_kept P p xs all.1)
-  where
-    step : (b : Bool) → AllByRecursion P (filter p xs) → AllByRecursion P (cond b (x ∷ filter p xs) (filter p xs))
-    step true rest = (all.0, rest)
-    step false rest = rest
-
 -- after a tick that is after, all are
 none_up_to : (tick above : ℕ) (js : List Journaled) → tick < above → AllByRecursion (λ k. above < k.tick) js
     → filter (up_to tick) js ≡ []
@@ -124,6 +105,6 @@ rows_now-settled s tick stands =
     let rest : List Journaled = filter (behind tick) s.journal in
     ap (λ (table : Table). table_after_journal table rest)
     (table_in-journal s.base settled
-    (all_kept (λ (j : Journaled). AllByRecursion (IsEntryIn s.base) j.entries) (up_to tick) s.journal stands.own))
+    (all-filter (λ (j : Journaled). AllByRecursion (IsEntryIn s.base) j.entries) (up_to tick) s.journal stands.own))
     ∙ sym (table_after_journal-append (committed s) settled rest)
     ∙ ap (table_after_journal (committed s)) (split_at_tick tick s.journal stands.rising)

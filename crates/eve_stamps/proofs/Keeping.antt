@@ -8,6 +8,7 @@ use Rattle.std.proofs.lemmas.Option.{get_or_from_slice_get}
 use Rattle.eve_smallbank.specs.declared.entry.Entry.{Entry}
 use Rattle.eve_smallbank.specs.Chain.{Table, Sees, table_after}
 use Rattle.eve_grammar.specs.declared.limits.TheConstants.{MOST_VERSIONS}
+use Rattle.eve_grammar.proofs.Lists.{all-push, all-filter}
 use Rattle.eve_stamps.specs.declared.journal.Journaled.{Journaled}
 use Rattle.eve_stamps.specs.Stripes.{HeldRow, Stripe, IsStripe, lies_in, has_row, table_in, row_in, rows_in_table}
 use Rattle.eve_stamps.specs.Stripes.{RowsRise, AreWithinLimit, committed, rows_now, table_after_journal, AreJournaled}
@@ -16,8 +17,8 @@ use Rattle.eve_stamps.specs.Stripes.{settled_to}
 use Rattle.eve_stamps.specs.Stamping.{has_row_in_two, rows_in_two, entries_within, entries_outside}
 use Rattle.eve_stamps.specs.Holding.{stripe_held, IsHeldStripe, IsPlaceOf, CanBeNoted}
 use Rattle.eve_stamps.proofs.RowLaws.{rows_in_table-self, rows_in_table-twice, RowsRise-rows, row_at, lies_at}
-use Rattle.eve_stamps.proofs.JournalLaws.{rows_now-noted, rows_now-settled, table_in-journal, up_to, behind, all_kept}
-use Rattle.eve_stamps.proofs.JournalLaws.{split_at_tick, all_append}
+use Rattle.eve_stamps.proofs.JournalLaws.{rows_now-noted, rows_now-settled, table_in-journal, up_to, behind}
+use Rattle.eve_stamps.proofs.JournalLaws.{split_at_tick}
 use Rattle.eve_stamps.proofs.Settling.{all_still_in}
 use Rattle.eve_stamps.proofs.Versions.{limit_at, limit_after, limit_before, all_sees}
 
@@ -80,7 +81,7 @@ rises_on : (js : List Journaled) (k : Journaled) → JournalRises js → AllByRe
     → JournalRises (js ++ k ∷ [])
 rises_on [] k rise below = (tt, tt)
 rises_on (j ∷ js) k rise below =
-    (all_append (λ (i : Journaled). j.tick < i.tick) js k rise.0 below.0, rises_on js k rise.1 below.1)
+    (all-push (λ (i : Journaled). j.tick < i.tick) js k rise.0 below.0, rises_on js k rise.1 below.1)
 
 within_tick : (js : List Journaled) (tick : ℕ) → AllByRecursion (λ j. j.tick < tick) js
     → AllByRecursion (λ j. IsTrue (is_within (Some tick) j.tick)) js
@@ -127,10 +128,10 @@ noted_stands s tick es stands above noted =
     let k : Journaled = record { tick = tick; entries = es } in
     let below = below_all s.greatest tick s.journal above stands.within in record {
       rows = stands.rows;
-      own = all_append (λ (j : Journaled). AllByRecursion (IsEntryIn s.base) j.entries) s.journal k stands.own
+      own = all-push (λ (j : Journaled). AllByRecursion (IsEntryIn s.base) j.entries) s.journal k stands.own
           (entries_in s.base (rows_now s) es stands.limit noted);
       rising = rises_on s.journal k stands.rising below;
-      within = all_append (λ (j : Journaled). IsTrue (is_within (Some tick) j.tick)) s.journal k
+      within = all-push (λ (j : Journaled). IsTrue (is_within (Some tick) j.tick)) s.journal k
           (within_tick s.journal tick below) (le-leb tick tick (omega arith));
       seen = journaled_on (committed s) s.journal k stands.seen (all_sees (has_row s) (rows_now s) es noted);
       limit = subst (λ (t : Table). AreWithinLimit (rows_in_table t s.base)) (sym (rows_now-noted s tick es))
@@ -212,7 +213,7 @@ behind_rises tick (j ∷ js) rise = step (nat_lt tick j.tick) (behind_rises tick
   where
     step : (b : Bool) → JournalRises (filter (behind tick) js)
         → JournalRises (cond b (j ∷ filter (behind tick) js) (filter (behind tick) js))
-    step true rest = (all_kept (λ (k : Journaled). j.tick < k.tick) (behind tick) js rise.0, rest)
+    step true rest = (all-filter (λ (k : Journaled). j.tick < k.tick) (behind tick) js rise.0, rest)
     step false rest = rest
 
 journaled_behind : (t : Table) (xs ys : List Journaled) → AreJournaled t (xs ++ ys)
@@ -230,14 +231,15 @@ settled_stands s tick stands =
     let settled : List Journaled = filter (up_to tick) s.journal in
     let rest : List Journaled = filter (behind tick) s.journal in
     let table : Table = table_after_journal (committed s) settled in
-    let own_settled = all_kept (λ (j : Journaled). AllByRecursion (IsEntryIn s.base) j.entries)
+    let own_settled = all-filter (λ (j : Journaled). AllByRecursion (IsEntryIn s.base) j.entries)
     (up_to tick) s.journal stands.own in
-    let own_rest = all_kept (λ (j : Journaled). AllByRecursion (IsEntryIn s.base) j.entries) (behind tick) s.journal
+    let own_rest = all-filter (λ (j : Journaled). AllByRecursion (IsEntryIn s.base) j.entries) (behind tick) s.journal
     stands.own in record {
       rows = RowsRise-rows table s.base stands.rows;
       own = all_own_still s.base table rest own_rest;
       rising = behind_rises tick s.journal stands.rising;
-      within = all_kept (λ (j : Journaled). IsTrue (is_within s.greatest j.tick)) (behind tick) s.journal stands.within;
+      within = all-filter (λ (j : Journaled). IsTrue (is_within s.greatest j.tick)) (behind tick) s.journal
+          stands.within;
       seen = subst (λ (t : Table). AreJournaled t rest) (sym (table_in-journal s.base settled own_settled))
           (journaled_behind (committed s) settled rest
           (subst (AreJournaled (committed s)) (sym (split_at_tick tick s.journal stands.rising)) stands.seen));

@@ -7,6 +7,5 @@ pub mod Keeping
 pub mod Refusing
 pub mod Outcomes
 pub mod OpeningLaws
-mod Listed
 mod Entries
 mod Seeing

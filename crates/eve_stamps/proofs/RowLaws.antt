@@ -1,6 +1,6 @@
 -- Rows as a list and as a table.
 use Rattle.std.proofs.Common.{◌≡◌, ℕ, pos, zero, suc, ◌+◌, ◌<◌, ◌==◌, Bool, true, false, cond, ◌||◌, ◌&&◌, List, []}
-use Rattle.std.proofs.Common.{◌∷◌, set, slice_get, Some, refl, sym, subst, ap, ap₂, ◌∙◌, inl, inr, arith}
+use Rattle.std.proofs.Common.{◌∷◌, set, slice_get, Some, refl, sym, ap, ap₂, ◌∙◌, inl, inr, arith}
 use mathlib.Core.Path.{fun_ext}
 use Rattle.std.specs.List.{AllByRecursion}
 use Rattle.std.proofs.lemmas.Bool.{cases_Bool, eqb-true, eq-eqb, ne_eqb, or_parts, or_right}
@@ -10,6 +10,7 @@ use Rattle.eve_smallbank.specs.declared.entry.Entry.{Entry}
 use Rattle.eve_smallbank.specs.Access.{is_write}
 use Rattle.eve_smallbank.specs.Chain.{Versioned, Table, left_by, table_after}
 use Rattle.eve_grammar.proofs.Codec.{some_is}
+use Rattle.eve_grammar.proofs.Lists.{all-slice_get}
 use Rattle.eve_stamps.specs.Stripes.{HeldRow, lies_in, table_in, row_in, rows_in_table, RowsRise}
 
 -- what a row has that isn't there
@@ -100,12 +101,6 @@ rows_in_table-self (r ∷ rows) rise =
 
 -- ---- one row of them
 
-pub all_at : {A : Type 0} (P : A → Type 0) (xs : List A) (i : ℕ) (x : A) → AllByRecursion P xs → slice_get xs i ≡ Some x
-    → P x
-all_at P [] i x all at = absurd (none-some x at)
-all_at P (y ∷ xs) zero x all at = subst P (some_is y x at) all.0
-all_at P (y ∷ xs) (suc i) x all at = all_at P xs i x all.1 at
-
 pub row_at : (table : Table) (rows : List HeldRow) (place : ℕ) (r : HeldRow) → slice_get rows place ≡ Some r
     → slice_get (rows_in_table table rows) place ≡ Some (row_in table r.row)
 row_at table [] place r at = absurd (none-some r at)
@@ -162,7 +157,7 @@ written_at table (q ∷ rows) zero r e rise at same written =
     (sym (write_there table e q.row written (sym here))))
     (rows_in_table-same table (with_entry table e) rows (kept_above table e q.row rows written here rise.0))
 written_at table (q ∷ rows) (suc place) r e rise at same written =
-    let below : q.row < r.row = all_at (λ x. q.row < x.row) rows place r rise.0 at in
+    let below : q.row < r.row = all-slice_get (λ x. q.row < x.row) rows place r rise.0 at in
     ap₂ (λ (x : HeldRow) (rest : List HeldRow). x ∷ rest)
     (ap (λ (v : Versioned). record { row = q.row; version = v.version; value = v.value })
     (write_elsewhere table e q.row written (ne_eqb e.row q.row (λ equal. omega arith))))

@@ -4,9 +4,9 @@ use Rattle.std.proofs.Common.{refl, sym, ap, ap₂, ◌∙◌}
 use Rattle.eve_smallbank.specs.declared.entry.Kind.{Kind}
 use Rattle.eve_smallbank.specs.Access.{RowKinds}
 use Rattle.eve_smallbank.specs.Chain.{Table}
+use Rattle.eve_grammar.proofs.Lists.{one_listed, two_listed, three_listed}
 use Rattle.eve_stamps.specs.Stripes.{HeldRow, row_in}
 use Rattle.eve_stamps.specs.Stamping.{seen_of}
-use Rattle.eve_stamps.proofs.Listed.{one_listed, two_listed, three_listed}
 use Rattle.eve_stamps.proofs.Refusing.{IsSeen, told_some}
 
 -- the row was found, as it is now

@@ -2,22 +2,17 @@
 use Rattle.std.proofs.Common.{◌≡◌, ℕ, zero, suc, ◌+◌, ◌++◌, nat_le, Bool, true, false, cond, IsTrue, List, [], ◌∷◌}
 use Rattle.std.proofs.Common.{take, filter, length, slice_get, Some, sym, subst, ap, ◌∙◌, ◌≤◌, arith}
 use Rattle.std.specs.List.{AllByRecursion}
-use Rattle.std.proofs.lemmas.List.{take_more, length-append}
+use Rattle.std.proofs.lemmas.List.{length-append}
 use Rattle.std.proofs.lemmas.List.Elements.{filter-append}
-use Rattle.std.proofs.lemmas.Option.{get_or_from_slice_get, slice_get_within}
 use Rattle.eve_smallbank.specs.declared.entry.Entry.{Entry}
 use Rattle.eve_smallbank.specs.Chain.{Table, table_after}
+use Rattle.eve_smallbank.proofs.Chains.{table_after-append}
+use Rattle.eve_grammar.proofs.Lists.{take_one_more, all-filter}
 use Rattle.eve_stamps.specs.declared.journal.Journaled.{Journaled}
 use Rattle.eve_stamps.specs.Stripes.{HeldRow, table_in, rows_in_table, IsEntryIn, JournalLiesIn, table_after_journal}
 use Rattle.eve_stamps.proofs.RowLaws.{table_in-whole, table_in-outside, rows_in_table-twice, lies_in-rows}
-use Rattle.eve_stamps.proofs.JournalLaws.{table_after-append, table_after_journal-append, table_after-outside}
-use Rattle.eve_stamps.proofs.JournalLaws.{journal_outside, up_to, all_kept}
-
-pub taken_more : {A : Type 0} (xs : List A) (i : ℕ) (x : A) → slice_get xs i ≡ Some x → take (i + 1) xs
-    ≡ take i xs ++ x ∷ []
-taken_more {A} xs i x at =
-    take_more xs i x (slice_get_within xs i x at)
-    ∙ ap (λ (y : A). take i xs ++ y ∷ []) (get_or_from_slice_get xs i x x at)
+use Rattle.eve_stamps.proofs.JournalLaws.{table_after_journal-append, table_after-outside}
+use Rattle.eve_stamps.proofs.JournalLaws.{journal_outside, up_to}
 
 pub all_taken : {A : Type 0} (P : A → Type 0) (n : ℕ) (xs : List A) → AllByRecursion P xs → AllByRecursion P (take n xs)
 all_taken P zero xs all = tt
@@ -52,7 +47,7 @@ write_more first now next es place e own at so step =
     ∙ ap (rows_in_table (table_after table (e ∷ []))) so
     ∙ rows_in_table-twice (table_after table (e ∷ [])) table first
     ∙ ap (λ (t : Table). rows_in_table t first) (sym (table_after-append (table_in first) (take place es) (e ∷ []))
-    ∙ ap (table_after (table_in first)) (sym (taken_more es place e at)))
+    ∙ ap (table_after (table_in first)) (sym (take_one_more es place e at)))
 
 -- ---- tick by tick
 
@@ -71,7 +66,7 @@ settle_more first now next js tick i j own at so step =
     let table : Table = table_after_journal (table_in first) front in
     let whole : table_in now ≡ table = ap table_in so ∙ table_in-whole table first
     (λ row out. journal_outside first (table_in first) front row
-    (all_kept (λ (k : Journaled). AllByRecursion (IsEntryIn first) k.entries) (up_to tick) (take i js)
+    (all-filter (λ (k : Journaled). AllByRecursion (IsEntryIn first) k.entries) (up_to tick) (take i js)
     (all_taken (λ (k : Journaled). AllByRecursion (IsEntryIn first) k.entries) i js own)) out
     ∙ table_in-outside first row out) in
     step
@@ -81,7 +76,7 @@ settle_more first now next js tick i j own at so step =
     ∙ ap (λ (t : Table). rows_in_table t first)
     (sym (table_after_journal-append (table_in first) front one)
     ∙ ap (table_after_journal (table_in first)) (sym (filter-append (up_to tick) (take i js) (j ∷ []))
-    ∙ ap (filter (up_to tick)) (sym (taken_more js i j at))))
+    ∙ ap (filter (up_to tick)) (sym (take_one_more js i j at))))
 
 -- one item more of those that pass
 pub filter_more : {A : Type 0} (p : A → Bool) (xs : List A) (i : ℕ) (x : A) (kept next : List A) → slice_get xs i
@@ -89,7 +84,7 @@ pub filter_more : {A : Type 0} (p : A → Bool) (xs : List A) (i : ℕ) (x : A) 
     → next ≡ filter p (take (i + 1) xs)
 filter_more {A} p xs i x kept next at so more =
     more ∙ ap (λ (ys : List A). ys ++ cond (p x) (x ∷ []) []) so
-    ∙ sym (ap (filter p) (taken_more xs i x at) ∙ filter-append p (take i xs) (x ∷ []))
+    ∙ sym (ap (filter p) (take_one_more xs i x at) ∙ filter-append p (take i xs) (x ∷ []))
 
 pub one_longer : {A : Type 0} (b : Bool) (x : A) (kept next : List A) (i : ℕ) → length kept ≤ i
     → next ≡ kept ++ cond b (x ∷ []) [] → length next ≤ i + 1

@@ -17,7 +17,9 @@ use Rattle.eve_smallbank.specs.Touch.{touched_of, rows_in}
 use Rattle.eve_smallbank.specs.Execution.{executed_on}
 use Rattle.eve_smallbank.proofs.Members.{all_in, all_from_in}
 use Rattle.eve_smallbank.proofs.Unique.{numbers}
+use Rattle.eve_smallbank.proofs.Orders.{same_row}
 use Rattle.eve_grammar.specs.declared.limits.TheConstants.{MOST_VERSIONS}
+use Rattle.eve_grammar.proofs.Lists.{all-weaker}
 use Rattle.eve_stamps.specs.declared.fault.StampFault.{StampFault}
 use Rattle.eve_stamps.specs.declared.fault.StampFault.TheVariants as fault
 use Rattle.eve_stamps.specs.Stripes.{Stripe, has_row, rows_now, is_above, stripe_with}
@@ -29,9 +31,9 @@ use Rattle.eve_stamps.proofs.JournalLaws.{rows_now-noted}
 use Rattle.eve_stamps_schedule.specs.Stripes.{needs}
 use Rattle.eve_stamps_schedule.specs.Schedule.{stripe_at, table_of_stripes}
 use Rattle.eve_stamps_schedule.specs.Applying.{HaveTheirRows, AreFresh, IsKeptAt}
-use Rattle.eve_stamps_schedule.proofs.Changes.{below_itself, all_weaker}
+use Rattle.eve_stamps_schedule.proofs.Changes.{below_itself}
 use Rattle.eve_stamps_schedule.proofs.Spans.{AreEnds}
-use Rattle.eve_stamps_schedule.proofs.Tables.{table_after-at, table_after-none, table_after-some}
+use Rattle.eve_stamps_schedule.proofs.Tables.{table_after-none, table_after-some}
 use Rattle.eve_stamps_schedule.proofs.Reaches.{IsPlaced, rows_placed, entries_placed, executed_alike}
 
 -- ---- stripes by number
@@ -60,7 +62,7 @@ one_table ss a tick es within own =
       | inl same ↦
           ap (λ (s : Stripe). rows_now s row) (at_set ss a new (stripe_of row) within same)
           ∙ ap (λ (t : Table). t row) (rows_now-noted (stripe_at ss a) tick es)
-          ∙ table_after-at (rows_now (stripe_at ss a)) (table_of_stripes ss) es row
+          ∙ same_row (rows_now (stripe_at ss a)) (table_of_stripes ss) row es
           (ap (λ i. rows_now (stripe_at ss i) row) (sym same))
       | inr other ↦
           ap (λ (s : Stripe). rows_now s row) (off_set ss a new (stripe_of row) other)
@@ -157,7 +159,7 @@ two_table ss a b tick es less within parted =
           ∙ ap (λ (t : Table). t row) (rows_now-noted (stripe_at ss b) tick (entries_outside first es))
           ∙ table_after-some (rows_now (stripe_at ss b)) (λ e. not (has_row first e.row)) es row
           (within_last first a b row es less same parted)
-          ∙ table_after-at (rows_now (stripe_at ss b)) (table_of_stripes ss) es row
+          ∙ same_row (rows_now (stripe_at ss b)) (table_of_stripes ss) row es
           (ap (λ i. rows_now (stripe_at ss i) row) (sym same))
       | inr other ↦
           ap (λ (s : Stripe). rows_now s row) (off_set (set ss a one) b two (stripe_of row) other)
@@ -167,7 +169,7 @@ two_table ss a b tick es less within parted =
                 ∙ ap (λ (t : Table). t row) (rows_now-noted first tick (entries_within first es))
                 ∙ table_after-some (rows_now first) (λ e. has_row first e.row) es row
                 (within_first first a b row es less same parted)
-                ∙ table_after-at (rows_now first) (table_of_stripes ss) es row
+                ∙ same_row (rows_now first) (table_of_stripes ss) row es
                 (ap (λ i. rows_now (stripe_at ss i) row) (sym same))
             | inr else ↦
                 ap (λ (s : Stripe). rows_now s row) (off_set ss a one (stripe_of row) else)
@@ -377,11 +379,11 @@ one_memory names ss request a tick result have small ends above fresh refused =
     memory_alone (refusal (stripe_at ss a) tick rows) result
     (none_refused (has_row (stripe_at ss a)) (is_above tick (stripe_at ss a).greatest) (rows_now (stripe_at ss a)) rows
     (all_numbers (has_row (stripe_at ss a)) rows
-    (all_weaker (IsPlaced names request) (λ row. has_row (stripe_at ss a) row ≡ true) (numbers rows)
+    (all-weaker (IsPlaced names request) (λ row. has_row (stripe_at ss a) row ≡ true) (numbers rows)
     (λ row placed. has_own names ss request a row have small placed (at row placed)) (rows_placed names request)))
     (above a (ends a ∙ ap₂ (λ b c. b || c) (eq-eqb a a refl) (eq-eqb a a refl)))
     (none_worn (rows_now (stripe_at ss a)) rows
-    (all_weaker (IsPlaced names request) (λ row. (rows_now (stripe_at ss a) row).version < MOST_VERSIONS) (numbers rows)
+    (all-weaker (IsPlaced names request) (λ row. (rows_now (stripe_at ss a) row).version < MOST_VERSIONS) (numbers rows)
     (λ row placed. subst (λ i. (rows_now (stripe_at ss i) row).version < MOST_VERSIONS) (at row placed) (fresh row))
     (rows_placed names request))))
     refused
@@ -401,7 +403,7 @@ two_memory names ss request a b tick result have less small ends above fresh ref
     (none_refused (has_row_in_two first last) (is_above tick first.greatest && is_above tick last.greatest)
     (rows_in_two first last) rows
     (all_numbers (has_row_in_two first last) rows
-    (all_weaker (IsPlaced names request) (λ row. has_row_in_two first last row ≡ true) (numbers rows) (λ row placed.
+    (all-weaker (IsPlaced names request) (λ row. has_row_in_two first last row ≡ true) (numbers rows) (λ row placed.
     elim (in_ends (needs names request) a b (stripe_of row) ends placed.needed) [
       | inl one ↦ ap (λ c. c || has_row last row) (has_own names ss request a row have (omega arith) placed one)
       | inr two ↦ ap₂ (λ c d. c || d) (has_no_other names ss a row have (omega arith) (λ one. not_same one two less))
@@ -411,7 +413,7 @@ two_memory names ss request a b tick result have less small ends above fresh ref
     (above a (ends a ∙ ap (λ c. c || (b == a)) (eq-eqb a a refl)))
     (above b (ends b ∙ ap₂ (λ c d. c || d) (ne_eqb a b (λ e. omega arith)) (eq-eqb b b refl))))
     (none_worn (rows_in_two first last) rows
-    (all_weaker (IsPlaced names request) (λ row. (rows_in_two first last row).version < MOST_VERSIONS) (numbers rows)
+    (all-weaker (IsPlaced names request) (λ row. (rows_in_two first last row).version < MOST_VERSIONS) (numbers rows)
     (λ row placed. subst (λ v. v.version < MOST_VERSIONS)
     (sym (two_rows names ss request a b row have less small placed
     (in_ends (needs names request) a b (stripe_of row) ends placed.needed))) (fresh row))

@@ -1,23 +1,16 @@
--- A function that has another value at one number, and the least and the greatest that passes; what holds of numbers
--- and lists.
+-- A function that has another value at one number, and the least and the greatest that passes.
 use Rattle.std.proofs.Common.{◌≡◌, ℕ, zero, suc, ◌+◌, ◌-◌, ◌<◌, ◌≤◌, Bool, true, false, cond, ◌==◌, Option, Some, None}
-use Rattle.std.proofs.Common.{is_none, List, [], ◌∷◌, refl, sym, subst, ap, ◌∙◌, inl, inr, arith}
-use Rattle.std.specs.List.{AllByRecursion}
+use Rattle.std.proofs.Common.{is_none, refl, sym, subst, ap, ◌∙◌, inl, inr, arith}
 use Rattle.std.proofs.lemmas.Bool.{cases_Bool, cases_eq, eqb-true, eqb-false, eq-eqb, ne_eqb, cond-true, cond-false}
 use Rattle.std.proofs.lemmas.Bool.{false≢true}
 use Rattle.std.proofs.lemmas.Option.{same_Some}
 use Rattle.eve_stamps_schedule.specs.Stripes.{least_from, greatest_below}
 use Rattle.eve_stamps_schedule.specs.Events.{changed}
 
--- ---- numbers and lists
+-- ---- numbers
 
 pub below_itself : {m n : ℕ} → m ≡ n → m < n → ⊥
 below_itself e h = omega arith
-
-pub all_weaker : {A : Type 0} (P Q : A → Type 0) (xs : List A) → ((x : A) → P x → Q x) → AllByRecursion P xs
-    → AllByRecursion Q xs
-all_weaker P Q [] h all = tt
-all_weaker P Q (x ∷ xs) h all = (h x all.0, all_weaker P Q xs h all.1)
 
 -- ---- changed functions
 

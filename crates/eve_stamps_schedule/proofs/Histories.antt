@@ -10,18 +10,18 @@ use Rattle.eve_smallbank.specs.Chain.{Table, Sees, table_after, table_after_all,
 use Rattle.eve_smallbank.proofs.Chains.{Follows, follows-push, table_after_all-push}
 use Rattle.eve_smallbank.proofs.Records.{noted_sees}
 use Rattle.eve_grammar.specs.Certificate.{group_of}
+use Rattle.eve_grammar.proofs.Lists.{all-weaker, all-push}
 use Rattle.eve_stamps.specs.Applied.{Applied}
 use Rattle.eve_stamps_schedule.specs.declared.event.Event.TheVariants.{Claim, Tick}
 use Rattle.eve_stamps_schedule.specs.declared.stage.Stage.{Stage}
 use Rattle.eve_stamps_schedule.specs.declared.stage.Stage.TheVariants as at
 use Rattle.eve_stamps.specs.declared.limits.TheConstants.{STRIPES}
-use Rattle.eve_stamps.proofs.JournalLaws.{all_append}
 use Rattle.eve_stamps_schedule.specs.Before.{EachBefore}
 use Rattle.eve_stamps_schedule.specs.World.{Plan, World, planned_request, executed_record, noted_count}
 use Rattle.eve_stamps_schedule.specs.Events.{changed, current_group, may_claim, is_owner, needs_at, next_stripe}
 use Rattle.eve_stamps_schedule.specs.Events.{last_stripe, is_free, with_owner, record_made, with_applied, with_noted}
 use Rattle.eve_stamps_schedule.specs.Events.{then_happens}
-use Rattle.eve_stamps_schedule.proofs.Changes.{below_itself, all_weaker, at_change, changed-other, counted-at_least}
+use Rattle.eve_stamps_schedule.proofs.Changes.{below_itself, at_change, changed-other, counted-at_least}
 use Rattle.eve_stamps_schedule.proofs.Changes.{greatest_passes, none_passes}
 use Rattle.eve_stamps_schedule.proofs.Holding.{flag, held, is_busy, Counts, Bound, IsMade, IsReady, executed, Holds}
 use Rattle.eve_stamps_schedule.proofs.Counting.{counts_note, current_later}
@@ -31,7 +31,7 @@ use Rattle.eve_stamps_schedule.proofs.Counting.{counts_note, current_later}
 each_before-push : {A : Type 0} (R : A → A → Type 0) (xs : List A) (x : A) → EachBefore R xs
     → AllByRecursion (λ y. R y x) xs → EachBefore R (xs ++ x ∷ [])
 each_before-push R [] x each all = (tt, tt)
-each_before-push R (y ∷ xs) x each all = (all_append (R y) xs x each.0 all.0, each_before-push R xs x each.1 all.1)
+each_before-push R (y ∷ xs) x each all = (all-push (R y) xs x each.0 all.0, each_before-push R xs x each.1 all.1)
 
 -- ---- workers that wait
 
@@ -77,7 +77,7 @@ ready_applied p n current owners history x v (at.Ticked i k) h ready = (
   ready.0,
   ready.1,
   ready.2,
-  all_append (λ y. Bound p y.index i → y.tick < k) history x ready.3
+  all-push (λ y. Bound p y.index i → y.tick < k) history x ready.3
       (λ bound. absurd (h i k refl ready bound)),
 )
 ready_applied p n current owners history x v (at.Applied y) h ready = tt
@@ -114,11 +114,11 @@ holds_later p w later history table counter group ready holds = record {
   made = holds.made;
   follows = holds.follows;
   table = table ∙ holds.table;
-  below = all_weaker (λ x. x.tick < w.counter) (λ x. x.tick < later.counter) history
+  below = all-weaker (λ x. x.tick < w.counter) (λ x. x.tick < later.counter) history
       (λ x l. omega (arith, l, counter)) holds.below;
   ordered = holds.ordered;
   grouped = holds.grouped;
-  passed = all_weaker (λ x. group_of p.sizes x.index ≤ current_group p w)
+  passed = all-weaker (λ x. group_of p.sizes x.index ≤ current_group p w)
       (λ x. group_of p.sizes x.index ≤ current_group p later) history (λ x l. omega (arith, l, group)) holds.passed;
   ready = ready;
 }
@@ -173,7 +173,7 @@ holds_tick p w v i history h stage none holds =
       omega arith,
       mine,
       (λ s low need. owned p w v i s none low need),
-      all_weaker (λ x. x.tick < w.counter) (λ x. Bound p x.index i → x.tick < w.counter) history (λ x b _. b)
+      all-weaker (λ x. x.tick < w.counter) (λ x. Bound p x.index i → x.tick < w.counter) history (λ x b _. b)
           holds.below,
     )
     (λ _. ready_later p w.counter (w.counter + 1) (current_group p w) w.owners history u (w.stages u) (omega arith)
@@ -203,20 +203,20 @@ holds_apply p w v i n history h stage holds =
     map-append (executed_record p) history (x ∷ []) in
     let first : group_of p.sizes i ≡ current_group p w = mine.1 in
     record {
-      made = all_append (IsMade p) history x holds.made (w.table, refl);
+      made = all-push (IsMade p) history x holds.made (w.table, refl);
       follows = subst (Follows (visible_at p.base [])) (sym pushed)
           (follows-push (visible_at p.base []) (executed p history) (executed_record p x) holds.follows
           (subst (λ t. AllByRecursion (Sees t) x.entries) holds.table sees));
       table = ap (λ (t : Table). table_after t x.entries) holds.table
           ∙ sym (ap (table_after_all (visible_at p.base [])) pushed
           ∙ table_after_all-push (visible_at p.base []) (executed p history) (executed_record p x));
-      below = all_append (λ y. y.tick < w.counter) history x holds.below mine.0;
+      below = all-push (λ y. y.tick < w.counter) history x holds.below mine.0;
       ordered = each_before-push (λ y z. Bound p y.index z.index → y.tick < z.tick) history x holds.ordered mine.3;
       grouped = each_before-push (λ y z. group_of p.sizes y.index ≤ group_of p.sizes z.index) history x holds.grouped
-          (all_weaker (λ y. group_of p.sizes y.index ≤ current_group p w)
+          (all-weaker (λ y. group_of p.sizes y.index ≤ current_group p w)
           (λ y. group_of p.sizes y.index ≤ group_of p.sizes i) history (λ y l. omega (arith, first, l))
           holds.passed);
-      passed = all_append (λ y. group_of p.sizes y.index ≤ current_group p w) history x holds.passed
+      passed = all-push (λ y. group_of p.sizes y.index ≤ current_group p w) history x holds.passed
           (omega (arith, first));
       ready = λ u l. at_change (λ k s. IsReady p w.counter (current_group p w) w.owners (history ++ x ∷ []) k s)
           w.stages v (at.Applied x) u tt

@@ -4,11 +4,11 @@ use Rattle.std.proofs.Common.{count_by, refl, sym, subst, ap, ◌∙◌, ◌⊎�
 use Rattle.std.specs.Prelude.{IsPermutation}
 use Rattle.std.specs.List.{AllByRecursion, list_any}
 use Rattle.std.proofs.lemmas.Bool.{cases_Bool, cases_lt, and_left, eqb-true}
-use Rattle.std.proofs.lemmas.List.{append-nil, map-append}
+use Rattle.std.proofs.lemmas.List.{append-nil}
 use Rattle.eve_smallbank.specs.Access.{Executed, bank_of, Fits}
 use Rattle.eve_smallbank.specs.Chain.{Table, table_after, values_of, visible_at}
-use Rattle.eve_smallbank.specs.Conflict.{entry_precedes, precedes, AgreesWithConflicts, IsReordering}
-use Rattle.eve_smallbank.proofs.Members.{In, here, there, all_in, list_any-none, in_after}
+use Rattle.eve_smallbank.specs.Conflict.{entry_precedes, precedes, AgreesWithConflicts}
+use Rattle.eve_smallbank.proofs.Members.{In, here, there, all_in, list_any-none, in_after, reordering_map}
 use Rattle.eve_smallbank.proofs.Chains.{Follows, chain_follows, run_along}
 use Rattle.eve_smallbank.proofs.Fitting.{always_fits}
 use Rattle.eve_smallbank.proofs.Orders.{StandsAbove, stands_above_head, later_precedes_not, reordered}
@@ -136,15 +136,6 @@ fitting p [] made = tt
 fitting p (x ∷ xs) made = (
   subst (Fits p.names) (sym (made x here).1) (always_fits p.names (made x here).0 (planned_request p x.index)),
   fitting p xs (λ y i. made y (there i)),
-)
-
-reordering_map : {A B : Type 0} (f : A → B) (xs ys : List A) → IsReordering xs ys → IsReordering (map f xs) (map f ys)
-reordering_map f [] ys r = ap (map f) r
-reordering_map f (x ∷ xs) ys r = (
-  map f r.0,
-  map f r.1,
-  ap (map f) r.2 ∙ map-append f r.0 (x ∷ r.1),
-  subst (IsReordering (map f xs)) (map-append f r.0 r.1) (reordering_map f xs (r.0 ++ r.1) r.3),
 )
 
 serial_kept : (p : Plan) (w : World) → IsKept p w → IsSerialWorld p w

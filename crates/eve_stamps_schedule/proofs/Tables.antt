@@ -8,6 +8,7 @@ use Rattle.eve_smallbank.specs.declared.entry.Entry.{Entry}
 use Rattle.eve_smallbank.specs.Access.{Executed, is_write, writes_row}
 use Rattle.eve_smallbank.specs.Chain.{Table, Sees, left_by, table_after, table_after_all}
 use Rattle.eve_smallbank.proofs.Chains.{Follows}
+use Rattle.eve_smallbank.proofs.Orders.{same_row}
 
 -- a table with the entry's write
 abbrev with_write : Table → Entry → Table
@@ -15,13 +16,6 @@ with_write table e row = cond (writes_row row e) (left_by e) (table row)
 
 not_written : (row : ℕ) (e : Entry) → ¬ (e.row ≡ row) → writes_row row e ≡ false
 not_written row e other = and_right (is_write e.kind) (e.row == row) (ne_eqb e.row row other)
-
--- tables that have the same in a row
-pub table_after-at : (t u : Table) (es : List Entry) (row : ℕ) → t row ≡ u row → table_after t es row
-    ≡ table_after u es row
-table_after-at t u [] row same = same
-table_after-at t u (e ∷ es) row same =
-    table_after-at (with_write t e) (with_write u e) es row (ap (λ v. cond (writes_row row e) (left_by e) v) same)
 
 -- entries of other rows
 pub table_after-none : (t : Table) (es : List Entry) (row : ℕ) → AllByRecursion (λ e. ¬ (e.row ≡ row)) es
@@ -45,7 +39,7 @@ table_after-some t p (e ∷ es) row count =
           let other : ¬ (e.row ≡ row) = λ same. true≢false (sym (count.0 same) ∙ fails) in
           ap (λ fs. table_after t fs row) (cond-false (p e) (e ∷ filter p es) (filter p es) fails)
           ∙ table_after-some t p es row count.1
-          ∙ table_after-at t (with_write t e) es row
+          ∙ same_row t (with_write t e) row es
           (sym (ap (λ b. cond b (left_by e) (t row)) (not_written row e other)))
     ]
 

@@ -1,16 +1,17 @@
 use Rattle.std.proofs.Common.{◌<◌, length, sym, subst, true, false}
 use Rattle.eve_smallbank.specs.Access.{Fits}
+use Rattle.eve_grammar.proofs.Lists.{all-get_or}
 use Rattle.eve_write.specs.Data.{batch as plain}
 use Rattle.eve_stamps.specs.Applied.{Applied}
 use Rattle.eve_attempts.specs.Closing.{executed}
-use Rattle.eve_attempts.proofs.Listing.{all_fact, drop_read, goes_start, goes_more, goes_stop, goes_end, fails_by}
+use Rattle.eve_attempts.proofs.Listing.{drop_read, goes_start, goes_more, goes_stop, goes_end, fails_by}
 use Rattle.eve_attempts.proofs.Listing.{decides_mapped}
 use Rattle.eve_attempts.proofs.noted.are_fitting.Goals as goal
 
 pub is_fitting-requires-clause-index : goal.is_fitting-requires-clause-index
 is_fitting-requires-clause-index c =
     subst (λ (r : Applied). r.index < length (plain c.args.batch.now).requests) (sym c.record-item.is)
-    (all_fact (λ r. r.index < length (plain c.args.batch.now).requests) c.args.records.now c.loop-record.record-index
+    (all-get_or (λ r. r.index < length (plain c.args.batch.now).requests) c.args.records.now c.loop-record.record-index
     c.record-item.result c.requires.indexes c.loop-record-test.true)
 
 pub loop-record-init : goal.loop-record-init

@@ -1,7 +1,7 @@
 use Rattle.std.proofs.Common.{ℕ, ◌+◌, ◌<◌, List, [], ◌∷◌, ◌++◌, drop, sym, subst, ap, ◌∙◌, append_assoc, arith}
 use Rattle.std.specs.List.{AllByRecursion}
 use Rattle.eve_smallbank.specs.declared.entry.Entry.{Entry}
-use Rattle.eve_stamps.proofs.JournalLaws.{all_append}
+use Rattle.eve_grammar.proofs.Lists.{all-push}
 use Rattle.eve_attempts.specs.Restoring.{entry_rows}
 use Rattle.eve_attempts.proofs.Listing.{drop_read}
 use Rattle.eve_attempts.proofs.restores.append_rows.Goals as goal
@@ -18,7 +18,7 @@ loop-entry-preserved c =
           (sym (drop_read es k c.entry-item.result c.loop-entry-test.true c.entry-item.is))
           ∙ c.loop-entry.invariant.rows;
       small = subst (AllByRecursion (λ row. row < 131072)) (sym c.push_reserved.ensures.items)
-          (all_append (λ (row : ℕ). row < 131072) c.loop-entry.rows.items c.number.result c.loop-entry.invariant.small
+          (all-push (λ (row : ℕ). row < 131072) c.loop-entry.rows.items c.number.result c.loop-entry.invariant.small
           c.number.ensures.range);
       len = omega (arith, c.push_reserved.ensures.len, c.loop-entry.invariant.len);
       room = c.push_reserved.ensures.capacity ∙ c.loop-entry.invariant.room;

@@ -6,9 +6,9 @@ use Rattle.eve_smallbank.specs.Access.{is_write}
 use Rattle.eve_smallbank.specs.Chain.{Table, table_after}
 use Rattle.eve_grammar.specs.Limits.{is_entry}
 use Rattle.eve_grammar.proofs.Grouping.{all_at}
+use Rattle.eve_grammar.proofs.Lists.{drop_here}
 use Rattle.eve_attempts.specs.Ledgers.{table_of_rows}
 use Rattle.std.proofs.lemmas.List.Elements.{filter-append}
-use Rattle.eve_attempts.proofs.Listing.{drop_at}
 use Rattle.eve_attempts.proofs.TableLaws.{writes_among}
 use Rattle.eve_attempts.proofs.walk.write_all.Goals as goal
 
@@ -42,7 +42,7 @@ loop-place-init c = record {
 pub loop-place-preserved : goal.loop-place-preserved
 loop-place-preserved c =
     let es = c.args.entries.now in
-    let is = drop_at es c.loop-place.place c.at.result c.at.ensures in
+    let is = drop_here es c.loop-place.place c.at.result c.at.ensures in
     record {
       as_many = c.write_one.ensures.as_many ∙ c.loop-place.invariant.as_many;
       versions = c.write_one.ensures.versions ∙ c.loop-place.invariant.versions;

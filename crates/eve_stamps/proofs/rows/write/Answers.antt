@@ -1,7 +1,8 @@
 use Rattle.std.proofs.Common.{sym, subst, take}
 use Rattle.eve_smallbank.specs.Chain.{table_after}
+use Rattle.eve_grammar.proofs.Lists.{all-slice_get}
 use Rattle.eve_stamps.specs.Stripes.{table_in, RowsRise, IsEntryIn}
-use Rattle.eve_stamps.proofs.RowLaws.{rows_in_table-self, RowsRise-rows, all_at}
+use Rattle.eve_stamps.proofs.RowLaws.{rows_in_table-self, RowsRise-rows}
 use Rattle.eve_stamps.proofs.Settling.{still_in, write_more}
 use Rattle.eve_stamps.proofs.rows.write.Goals as goal
 
@@ -19,7 +20,7 @@ write_one-requires-clause-entry c =
     subst (λ rows. IsEntryIn rows c.at.result) (sym c.loop-place.invariant)
     (still_in c.args.rows.now (table_after (table_in c.args.rows.now) (take c.loop-place.place c.args.entries.now))
     c.at.result
-    (all_at (IsEntryIn c.args.rows.now) c.args.entries.now c.loop-place.place c.at.result c.requires.entries
+    (all-slice_get (IsEntryIn c.args.rows.now) c.args.entries.now c.loop-place.place c.at.result c.requires.entries
     c.at.ensures))
 
 pub loop-place-preserved : goal.loop-place-preserved

@@ -1,9 +1,10 @@
 use Rattle.std.proofs.Common.{◌<◌, length, sym, subst, take, filter, refl, arith}
 use Rattle.std.proofs.lemmas.Option.{slice_get_read}
 use Rattle.std.specs.List.{AllByRecursion}
+use Rattle.eve_grammar.proofs.Lists.{all-slice_get}
 use Rattle.eve_stamps.specs.declared.journal.Journaled.{Journaled}
 use Rattle.eve_stamps.specs.Stripes.{table_in, RowsRise, IsEntryIn, table_after_journal}
-use Rattle.eve_stamps.proofs.RowLaws.{rows_in_table-self, RowsRise-rows, all_at}
+use Rattle.eve_stamps.proofs.RowLaws.{rows_in_table-self, RowsRise-rows}
 use Rattle.eve_stamps.proofs.JournalLaws.{up_to}
 use Rattle.eve_stamps.proofs.Settling.{all_still_in, settle_more}
 use Rattle.eve_stamps.proofs.rows.write_up_to.Goals as goal
@@ -26,7 +27,7 @@ write_if_up_to-requires-clause-entries c =
     (table_after_journal (table_in c.args.rows.now)
     (filter (up_to c.args.tick) (take c.loop-journaled.journaled-index c.args.journal.now)))
     c.journaled-item.result.entries
-    (all_at (λ (j : Journaled). AllByRecursion (IsEntryIn c.args.rows.now) j.entries) c.args.journal.now
+    (all-slice_get (λ (j : Journaled). AllByRecursion (IsEntryIn c.args.rows.now) j.entries) c.args.journal.now
     c.loop-journaled.journaled-index c.journaled-item.result c.requires.journal
     (slice_get_read c.args.journal.now (length c.args.journal.now) c.loop-journaled.journaled-index
     c.journaled-item.result refl within c.journaled-item.is)))

@@ -2,8 +2,9 @@ use Rattle.std.proofs.Common.{length, arith}
 use Rattle.eve_smallbank.specs.Chain.{Sees}
 use Rattle.eve_grammar.specs.Limits.{is_entry}
 use Rattle.eve_grammar.proofs.Grouping.{all_at}
+use Rattle.eve_grammar.proofs.Lists.{drop_here}
 use Rattle.eve_attempts.specs.Ledgers.{table_of_rows}
-use Rattle.eve_attempts.proofs.Listing.{drop_at, goes_start, goes_more, goes_stop, goes_end, fails_by}
+use Rattle.eve_attempts.proofs.Listing.{goes_start, goes_more, goes_stop, goes_end, fails_by}
 use Rattle.eve_attempts.proofs.rows.Rows.are_seen.Goals as goal
 
 pub is_seen-requires : goal.is_seen-requires
@@ -17,14 +18,14 @@ pub returns-then-not-is_seen : goal.returns-then-not-is_seen
 returns-then-not-is_seen c =
     goes_stop (Sees (table_of_rows c.args.self.now)) c.args.entries.now c.loop-place.place c.at.result
     c.loop-place.invariant
-    (drop_at c.args.entries.now c.loop-place.place c.at.result c.at.ensures)
+    (drop_here c.args.entries.now c.loop-place.place c.at.result c.at.ensures)
     (fails_by c.is_seen.result c.is_seen.ensures c.if-not-is_seen.true)
 
 pub loop-place-preserved : goal.loop-place-preserved
 loop-place-preserved c =
     goes_more (Sees (table_of_rows c.args.self.now)) c.args.entries.now c.loop-place.place c.at.result
     c.loop-place.invariant
-    (drop_at c.args.entries.now c.loop-place.place c.at.result c.at.ensures)
+    (drop_here c.args.entries.now c.loop-place.place c.at.result c.at.ensures)
     (c.is_seen.ensures.0 c.if-not-is_seen.false)
 
 pub returns : goal.returns
