@@ -12,8 +12,8 @@ use Rattle.eve_agree.proofs.Marking.{marked-append}
 
 pub executed_attempt_within : (rows : ℕ) (rs : List ExecutedAttempt) (i : ℕ) (r : ExecutedAttempt)
     → AllByRecursion (λ q. AreWithin rows q.ordered) rs → slice_get rs i ≡ Some r → AreWithin rows r.ordered
-executed_attempt_within rows rs i r within at = all-slice_get (λ (q : ExecutedAttempt). AreWithin rows q.ordered) rs i r within
-    at
+executed_attempt_within rows rs i r within at =
+    all-slice_get (λ (q : ExecutedAttempt). AreWithin rows q.ordered) rs i r within at
 
 get-drop : {A : Type 0} (xs : List A) (first k : ℕ) → slice_get (drop first xs) k ≡ slice_get xs (first + k)
 get-drop xs zero k = let same : 0 + k ≡ k = omega arith in ap (slice_get xs) (sym same)

@@ -126,9 +126,9 @@ customer_taken d customers names added c before pushed same room ranges follows 
       requests = keeps.requests;
       starts = keeps.starts;
       count = keeps.count ∙ no_requests before c follows;
-      names = λ other. found_more same_name same_name-true same_name-itself (customer_names (customers_in before)) c.name
-          other (has_name names.keys other)
-          (has_name d.names.keys other) (kept other) (keeps.names other)
+      names = λ other.
+          found_more same_name same_name-true same_name-itself (customer_names (customers_in before)) c.name other
+          (has_name names.keys other) (has_name d.names.keys other) (kept other) (keeps.names other)
           ∙ ap (list_any (same_name other)) (sym (map_push (λ (e : Customer). e.name) (customers_in before) c));
       request_ids = keeps.request_ids;
     }

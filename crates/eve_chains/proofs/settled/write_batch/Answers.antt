@@ -23,7 +23,8 @@ write_values-requires c =
     let met : IsMet says.0 c.loop-place.place (said_at c.record.result) c.entries.result =
     record { there = says.2; entries = c.entries.ensures } in
     met_within (length c.args.balances.now) (length c.loop-place.balances) met
-    (all-slice_get (AreWithin (length c.args.balances.now)) c.args.records.now (c.args.n - 1) says.0 c.requires.within says.1)
+    (all-slice_get (AreWithin (length c.args.balances.now)) c.args.records.now (c.args.n - 1) says.0 c.requires.within
+    says.1)
     c.loop-place.invariant.as_many
 
 pub loop-place-preserved : goal.loop-place-preserved

@@ -28,8 +28,9 @@ loop-place-preserved c r at =
     ∙ ap (λ (q : ExecutedAttempt). q.attempt) its in
     let listed : slice_get r.ordered c.loop-place.place ≡ Some x =
     ap (λ (q : ExecutedAttempt). slice_get q.ordered c.loop-place.place) (sym own) ∙ c.ordered-access.ensures.says.2 in
-    let below : x.1.index < length requests = all-slice_get (λ z. z.1.index < length requests) r.ordered c.loop-place.place x
-    (c.requires.requests r at).there listed in
+    let below : x.1.index < length requests =
+    all-slice_get (λ z. z.1.index < length requests) r.ordered c.loop-place.place x (c.requires.requests r at).there
+    listed in
     let number : c.index-index.result ≡ x.1.index = c.index-index.ensures in
     let within : c.index-index.result < length requests = omega arith in
     let is : recorded_of (map plain requests) r.attempt.replies x ≡ y =
