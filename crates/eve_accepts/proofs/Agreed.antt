@@ -7,12 +7,13 @@ use Rattle.std.proofs.lemmas.Option.{same_Some}
 use Rattle.eve_smallbank.proofs.Members.{all_in}
 use Rattle.eve_grammar.specs.Trace.{Trace}
 use Rattle.eve_grammar.specs.Limits.{HasLimits}
+use Rattle.eve_grammar.proofs.Lists.{item_within}
 use Rattle.eve_views.specs.declared.fault.Code.{Code}
 use Rattle.eve_views.specs.declared.fault.Code.TheVariants as code
 use Rattle.eve_views.specs.declared.fault.Fault.{Fault}
 use Rattle.eve_history.specs.Section.{Placed}
 use Rattle.eve_history.specs.SectionHistory.{history, committed_at, IsRightSection}
-use Rattle.eve_chains.proofs.Linked.{last_committed, committed_number, item_at, in_at, none≢some}
+use Rattle.eve_chains.proofs.Linked.{last_committed, committed_number, in_at, none≢some}
 use Rattle.eve_votes.specs.Faults.{AreVotesSound}
 use Rattle.eve_votes.proofs.Places.{get_between}
 use Rattle.eve_agree.specs.Agreement.{first_to_commit, HaveSameOutcome, StandsInAgreement, IsOutcomeFault}
@@ -45,7 +46,7 @@ first_committed t f n right is =
     let reached : suc n ≤ (history t f).last =
     leb-true (suc n) (history t f).last (found_passes (λ e. nat_le (suc n) (history t e).last) 0 f t.sections is) in
     let last = last_committed t f right in
-    item_at (history t f).committed n (omega arith)
+    item_within (history t f).committed n (omega arith)
 
 -- a committed attempt has the token that is due
 due_at : (t : Trace) (e n : ℕ) (q : Placed) → TokensAreDue t e → committed_at t e n ≡ Some q

@@ -6,6 +6,7 @@ use Rattle.std.proofs.lemmas.List.{length-map, map-append, take_at}
 use Rattle.eve_smallbank.specs.Access.{balance_of_row}
 use Rattle.eve_smallbank.specs.Chain.{Table, values_of}
 use Rattle.eve_grammar.specs.Trace.{Attempt, Step, Attempts, Commits, RollsBack, Trace}
+use Rattle.eve_grammar.proofs.Lists.{all-append}
 use Rattle.eve_token.specs.Token.{flat_token}
 use Rattle.eve_attempts.specs.Ledgers.{Ledger, ledger_rows, table_now}
 use Rattle.eve_replica.specs.Sections.{RunPlan, MakesOf}
@@ -14,7 +15,6 @@ use Rattle.eve_history.specs.SectionHistory.{history, IsRightSection}
 use Rattle.eve_chains.specs.Visible.{rows_after}
 use Rattle.eve_chains.specs.Committed.{attempts_of, committed_to, first_rows}
 use Rattle.eve_chains.proofs.Linked.{IsLinked, AreLinked, linked_history}
-use Rattle.eve_chains.proofs.SettledAttempts.{all-append}
 use Rattle.eve_agree.specs.DueTokens.{due_token, TokensAreDue}
 use Rattle.eve_agree.proofs.TokensInOrder.{rows_are, first_version}
 use Rattle.eve_accepts.proofs.Alike.{AreAlike}

@@ -13,6 +13,7 @@ use Rattle.std.proofs.lemmas.List.Sorted.{length_permutation}
 use Rattle.std.proofs.lemmas.Option.{slice_get_within}
 use Rattle.eve_smallbank.specs.Access.{Executed}
 use Rattle.eve_smallbank.specs.Chain.{Table, table_after, table_after_all}
+use Rattle.eve_smallbank.proofs.Chains.{table_after-append}
 use Rattle.eve_grammar.specs.Trace.{Access, Attempt, Batch, Commit, Rollback, Step, Attempts, Commits, RollsBack, Trace}
 use Rattle.eve_grammar.specs.Trace.{opening_rows}
 use Rattle.eve_grammar.specs.Accesses.{is_new_access, is_right_place}
@@ -28,7 +29,6 @@ use Rattle.eve_history.specs.SectionHistory.{history, IsRightSection}
 use Rattle.eve_history.proofs.Rights.{none_at}
 use Rattle.eve_chains.specs.Visible.{opening_of, opening_table, execution, rows_after}
 use Rattle.eve_chains.specs.Committed.{attempts_of}
-use Rattle.eve_chains.proofs.AlongLaws.{table_after-append}
 use Rattle.eve_agree.specs.Tables.{entries_of}
 use Rattle.eve_agree.proofs.Discarding.{left_more}
 use Rattle.eve_votes.proofs.Places.{located_values}

@@ -18,6 +18,7 @@ use Rattle.eve_grammar.specs.Spelling.{steps_at}
 use Rattle.eve_grammar.specs.declared.limits.TheConstants.{MOST_REQUESTS, MOST_VERSIONS}
 use Rattle.eve_grammar.specs.Limits.{is_between, is_number, is_token, is_reply, is_customer, is_entry}
 use Rattle.eve_grammar.specs.Limits.{is_access, is_attempt, is_whole_attempt, row_count, HasLimits}
+use Rattle.eve_grammar.proofs.Lists.{all-append}
 use Rattle.eve_history.specs.Section.{Placed}
 use Rattle.eve_history.specs.Fates.{fates_from}
 use Rattle.eve_history.specs.SectionHistory.{attempts_among, history, committed_at, is_committed, placed_at}
@@ -28,7 +29,6 @@ use Rattle.eve_chains.proofs.Attempts.{in_picked}
 use Rattle.eve_chains.proofs.Distinct.{in_map}
 use Rattle.eve_chains.proofs.Linked.{none≢some, in_at}
 use Rattle.eve_chains.proofs.AttemptRecords.{its_entries, whole_section}
-use Rattle.eve_chains.proofs.SettledAttempts.{all-append}
 use Rattle.eve_audit.proofs.SameBanks.{rows_length}
 
 -- ---- what is committed lies within the limits of the format

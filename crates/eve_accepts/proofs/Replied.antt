@@ -8,6 +8,7 @@ use Rattle.eve_smallbank.proofs.Members.{all_in, all_from_in}
 use Rattle.eve_grammar.specs.Trace.{Asked, Batch, Attempt, Commit, Step, Attempts, Commits, RollsBack, Sent, Trace}
 use Rattle.eve_grammar.specs.Frames.{OfReplica}
 use Rattle.eve_grammar.specs.Spelling.{frame_text, step_text, section_start, steps_of, steps_at}
+use Rattle.eve_grammar.proofs.Lists.{all-append}
 use Rattle.eve_workload.specs.declared.mixer.Mixer.{Mixer}
 use Rattle.eve_workload.specs.Workload.{Workload}
 use Rattle.eve_replica.specs.Sending.{answered, requests_there, requests_numbered, answers_of, sent_along, sent_from_on}
@@ -18,7 +19,6 @@ use Rattle.eve_history.specs.Section.{batch_at}
 use Rattle.eve_history.specs.SectionHistory.{history, committed_at, IsRightSection}
 use Rattle.eve_chains.specs.Committed.{attempts_of}
 use Rattle.eve_chains.proofs.Linked.{committed_number}
-use Rattle.eve_chains.proofs.SettledAttempts.{all-append}
 use Rattle.eve_agree.specs.SentReplies.{IsReplied, AllReplied}
 
 -- ---- the replies of one attempt

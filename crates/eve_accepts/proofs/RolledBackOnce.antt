@@ -10,11 +10,11 @@ use Rattle.std.proofs.lemmas.List.Sums.{sum_by-cons}
 use Rattle.eve_grammar.specs.Trace.{Step, Vote, Trace}
 use Rattle.eve_grammar.specs.Limits.{HasLimits}
 use Rattle.eve_grammar.specs.Spelling.{steps_of}
+use Rattle.eve_grammar.proofs.Lists.{item_within}
 use Rattle.eve_votes.proofs.Counting.{Counted, counted}
 use Rattle.eve_votes.proofs.Deciding.{quorum_limits}
 use Rattle.eve_history.specs.SectionHistory.{history}
 use Rattle.eve_chains.specs.Committed.{balances_to}
-use Rattle.eve_chains.proofs.Linked.{item_at}
 use Rattle.eve_workload.specs.declared.mixer.Mixer.{Mixer}
 use Rattle.eve_workload.specs.Workload.{Workload}
 use Rattle.eve_replica.specs.Deciding.{is_some_of, token_given_up}
@@ -165,8 +165,8 @@ module _ (w : Workload) (mixer : Mixer) (t : Trace) (run : IsTraceOf w mixer t) 
         → ¬ (balances_to t e n ≡ balances_to t f n) → Collides t
     apart_collide f zero one other apart = absurd (apart refl)
     apart_collide f (suc n) one other apart =
-        let q = item_at (history t e).committed n (omega (arith, one)) in
-        let r = item_at (history t f).committed n (omega (arith, other)) in
+        let q = item_within (history t e).committed n (omega (arith, one)) in
+        let r = item_within (history t f).committed n (omega (arith, other)) in
         outcomes_collide t limits (sections_right w mixer t run) (sections_due w mixer t run)
         (votes_sound w mixer t run limits) (all_backed w mixer t run limits) e f (suc n) q.0 r.0 q.1 r.1
         (λ same. apart same.balances)

@@ -8,12 +8,12 @@ use Rattle.eve_smallbank.specs.Chain.{Table, visible_at, IsChained}
 use Rattle.eve_smallbank.specs.SerialOrder.{IsSound}
 use Rattle.eve_smallbank.proofs.Chains.{Follows, follows_chain, chain_follows, rows_by_chain, visible_at-before_rest}
 use Rattle.eve_grammar.specs.Trace.{Attempt, Step, Attempts, Commits, RollsBack, Trace}
+use Rattle.eve_grammar.proofs.Lists.{all-append}
 use Rattle.eve_stamps.specs.Applied.{Applied}
 use Rattle.eve_history.specs.Section.{Placed, SectionState, start, path_of, committing, next}
 use Rattle.eve_history.specs.SectionHistory.{history, names_of}
 use Rattle.eve_chains.specs.Visible.{opening_table, execution, executions, entries_before}
 use Rattle.eve_chains.specs.Sound.{IsSoundAlong, SettledAreSound}
-use Rattle.eve_chains.proofs.SettledAttempts.{all-append}
 use Rattle.eve_attempts.specs.Ledgers.{Ledger, table_now}
 use Rattle.eve_attempts.specs.Closing.{touched_in_batch, executed}
 use Rattle.eve_attempts.proofs.Ordered.{all_moved}
