@@ -7,6 +7,7 @@ use Rattle.std.proofs.lemmas.Bool.{cases_lt}
 use Rattle.std.proofs.lemmas.Option.{same_Some}
 use Rattle.eve_smallbank.specs.declared.request.Reply.{Reply}
 use Rattle.eve_grammar.specs.Trace.{Trace}
+use Rattle.eve_grammar.proofs.Lists.{item_within}
 use Rattle.eve_views.specs.declared.fault.Code.{Code}
 use Rattle.eve_views.specs.declared.fault.Code.TheVariants as code
 use Rattle.eve_views.specs.declared.fault.Fault.{Fault}
@@ -20,7 +21,7 @@ use Rattle.eve_history.specs.Section.{Placed}
 use Rattle.eve_history.specs.SectionHistory.{SectionHistory, section_history, section_histories, history, committed_at}
 use Rattle.eve_history.specs.SectionHistory.{IsRightSection}
 use Rattle.eve_history.proofs.Rights.{as_many_told, section_history_at}
-use Rattle.eve_chains.proofs.Linked.{last_committed, item_at, none≢some, take_length}
+use Rattle.eve_chains.proofs.Linked.{last_committed, none≢some, take_length}
 use Rattle.eve_agree.specs.Agreement.{first_to_commit, HaveSameOutcome, ReplicasAgree, StandsInAgreement}
 use Rattle.eve_agree.specs.Agreement.{IsOutcomeFault}
 use Rattle.eve_agree.specs.Judging.{NoneBefore, Stand, IsUpToAt, KeepsFound, AgreesOrIsFound}
@@ -200,7 +201,7 @@ module _ (t : Trace) where
   they_agree right judged e (suc m) has =
       let le = has.1 in
       let count = last_committed t e (right e) in
-      let got = item_at (history t e).committed m (omega arith) in
+      let got = item_within (history t e).committed m (omega arith) in
       elim (judged e (suc m) got.0 got.1) [ inl same ↦ same | inr up ↦ absurd up ]
 
   -- a fault stands where the outcome differs

@@ -5,12 +5,12 @@ use Rattle.std.specs.Prelude.{Bool, true, false, ◌↔◌, IfNone, IfSome}
 use Rattle.std.specs.Cmp.Lexicographic.{pointwise, same_text, other_text}
 use Rattle.std.specs.List.{AllByRecursion}
 use Rattle.std.proofs.lemmas.Bool.{and_parts, eqb-true, ltb-true, cases_lt, false≢true}
-use Rattle.eve_grammar.specs.Trace.{Commit, Rollback, Step, Attempts, Commits, RollsBack, Trace, head_of}
+use Rattle.eve_grammar.specs.Trace.{Commit, Rollback, Step, Attempts, Commits, RollsBack, Trace}
 use Rattle.eve_grammar.specs.Frames.{OfReplica}
 use Rattle.eve_grammar.specs.Spelling.{frame_text, located, section_start, step_text, steps_of, steps_at}
 use Rattle.eve_grammar.specs.Limits.{HasLimits}
 use Rattle.eve_grammar.specs.declared.limits.TheConstants.{MOST_BATCHES}
-use Rattle.eve_grammar.proofs.FrameLaws.{small_head}
+use Rattle.eve_grammar.proofs.FrameLaws.{few_batches}
 use Rattle.eve_frames.specs.Views.{commit_in, rollback_in}
 use Rattle.eve_frames.specs.declared.commit.CommitView.{CommitView}
 use Rattle.eve_frames.specs.declared.rollback.RollbackView.{RollbackView}
@@ -140,9 +140,6 @@ room_along t s ((at, RollsBack r) ∷ steps) few right =
     room : (to last view before n : ℕ) → to ≡ last → last < n → n ≤ MOST_BATCHES → view ≡ before + 1 → (to + 1 < 2 ^ 32)
         × (1 ≤ view)
     room to last view before n e lt few f = (omega arith, omega arith)
-
-few_batches : (t : Trace) → HasLimits t → length t.batches ≤ MOST_BATCHES
-few_batches t limits = (small_head (head_of t) limits.head).batches
 
 -- The steps of replica e that are still to come; those before them are backed.
 pub record AreLeft (t : Trace) (e : ℕ) (left : List (ℕ × Step)) : Type 0 where

@@ -33,7 +33,7 @@ use Rattle.eve_history.specs.SectionHistory.{ExecutedAttempt, SectionHistory, ex
 use Rattle.eve_history.specs.SectionHistory.{attempts_among, rollbacks_among, section_history, placed_at}
 use Rattle.eve_history.specs.SectionHistory.{IsRightSection}
 use Rattle.eve_history.specs.Faults.{OfRollback}
-use Rattle.eve_history.proofs.Coming.{come_start}
+use Rattle.eve_history.proofs.Coming.{come_start, attempts_among-append}
 use Rattle.eve_history.proofs.Structure.{state_after-append}
 use Rattle.eve_history.proofs.Rights.{none_at}
 use Rattle.eve_history.proofs.Places.{place_cases, no_place, weaker_place, Rising, located_rising, At, first_place}
@@ -58,13 +58,6 @@ pub record HasJudged (t : Trace) (e : ℕ) (rest : List (ℕ × Step)) (first en
   pub fewer : first ≤ end
   pub pending : map placed_at (state_after start front).pending ≡ drop first (attempts_among front)
   pub rightly : SettledAreSound t e → all_restore_rightly t start front ≡ true
-
-attempts_among-append : (xs ys : List (ℕ × Step)) → attempts_among (xs ++ ys) ≡ attempts_among xs ++ attempts_among ys
-attempts_among-append [] ys = refl
-attempts_among-append ((at, Attempts a) ∷ xs) ys = ap (λ (zs : List (ℕ × Attempt)). (at, a) ∷ zs)
-    (attempts_among-append xs ys)
-attempts_among-append ((at, Commits c) ∷ xs) ys = attempts_among-append xs ys
-attempts_among-append ((at, RollsBack r) ∷ xs) ys = attempts_among-append xs ys
 
 rightly-push : (t : Trace) (s : SectionState) (xs : List (ℕ × Step)) (x : ℕ × Step) → all_restore_rightly t s xs ≡ true
     → restores_rightly t (state_after s xs) x.1 ≡ true

@@ -1,5 +1,5 @@
 -- After a rollback that restores what it must a replica works on what is committed.
-use Rattle.std.proofs.Common.{◌≡◌, ℕ, zero, suc, Bool, true, false, cond, ◌==◌, List, [], ◌∷◌, ◌++◌, take, slice_get}
+use Rattle.std.proofs.Common.{◌≡◌, ℕ, zero, suc, true, false, cond, ◌==◌, List, [], ◌∷◌, ◌++◌, take, slice_get}
 use Rattle.std.proofs.Common.{Some, refl, sym, ap, ◌∙◌, inl, inr, append_assoc, append-nil}
 use mathlib.Core.Path.{fun_ext}
 use Rattle.std.specs.List.{list_all, list_any}
@@ -12,7 +12,8 @@ use Rattle.std.proofs.lemmas.List.Folds.{list_any-append}
 use Rattle.std.proofs.lemmas.Grind.{flat_map-append}
 use Rattle.eve_smallbank.specs.Access.{Executed, writes_row}
 use Rattle.eve_smallbank.specs.Chain.{Versioned, Table, table_after, table_after_all}
-use Rattle.eve_smallbank.proofs.Members.{In, here, there}
+use Rattle.eve_smallbank.proofs.Members.{In, here, there, all_of_list_all}
+use Rattle.eve_smallbank.proofs.Orders.{unwritten}
 use Rattle.eve_grammar.specs.Trace.{Attempt, Commit, Restore, Rollback, Step, Attempts, Commits, RollsBack, Trace}
 use Rattle.eve_grammar.specs.Spelling.{steps_at}
 use Rattle.eve_history.specs.Section.{Placed, SectionState, start, path_of, committing, next, state_after}
@@ -22,15 +23,10 @@ use Rattle.eve_agree.specs.Marking.{restores_row}
 use Rattle.eve_agree.specs.Tables.{restored, worked, committed_rows, working_table, committed_table, IsRestored}
 use Rattle.eve_agree.specs.Tables.{entries_of, open_entries, is_written_in, are_right_restores, all_restore_rightly}
 use Rattle.eve_agree.specs.Tables.{RestoresAreRight}
-use Rattle.eve_chains.proofs.AlongLaws.{table_after_all-append, unwritten}
+use Rattle.eve_chains.proofs.AlongLaws.{table_after_all-append}
 use Rattle.eve_agree.proofs.Marking.{is_covered, not_covered}
 
 -- ---- one rollback
-
-list_all_at : {A : Type 0} {x : A} (p : A → Bool) (xs : List A) → list_all p xs ≡ true → In x xs → p x ≡ true
-list_all_at p [] h i = elim i [ ]
-list_all_at p (x ∷ xs) h here = (and_parts (p x) (list_all p xs) h).0
-list_all_at p (y ∷ xs) h (there i) = list_all_at p xs (and_parts (p y) (list_all p xs) h).1 i
 
 -- a row that is not restored
 restored_not : (table : Table) (row : ℕ) (rs : List Restore) → restores_row row rs ≡ false → restored table rs row
@@ -104,7 +100,7 @@ module _ (t : Trace) (s : SectionState) (rs : List Restore) (right : are_right_r
             let own = and_parts (found.0.version == (committed_rows t s found.0.row).version)
             (int_eq found.0.value (committed_rows t s found.0.row).value)
             (and_parts (list_any (writes_row found.0.row) (open_entries t s)) _
-            (list_all_at (is_written_in (committed_rows t s) (open_entries t s)) rs exact found.1)).1 in
+            (all_of_list_all (is_written_in (committed_rows t s) (open_entries t s)) rs exact found.1)).1 in
             found.3
             ∙ same_versioned found.0 (committed_rows t s found.0.row)
             (eqb-true found.0.version (committed_rows t s found.0.row).version own.0)

@@ -19,7 +19,7 @@ use Rattle.eve_history.specs.Section.{Placed}
 use Rattle.eve_history.specs.Fates.{fates_from}
 use Rattle.eve_history.specs.SectionHistory.{attempts_among, history, is_committed, picked, placed_at}
 use Rattle.eve_history.proofs.FateLaws.{committed_are_picked}
-use Rattle.eve_history.proofs.Places.{Rising, At, located_rising, first_place, no_place, place_cases}
+use Rattle.eve_history.proofs.Places.{Rising, At, located_rising, first_place, no_place, place_cases, rising_from}
 use Rattle.eve_grammar.proofs.OpeningRows.{length-opening_rows}
 use Rattle.eve_chains.specs.Committed.{first_rows, balances_to}
 use Rattle.eve_chains.specs.Settling.{settling}
@@ -75,10 +75,6 @@ unfolding token_of
 first_version seq balances replies = refl
 
 -- ---- offsets
-
-rising_from : {A : Type 0} (low high : ℕ) (xs : List (ℕ × A)) → low ≤ high → Rising high xs → Rising low xs
-rising_from low high [] le rises = tt
-rising_from low high (x ∷ xs) le rises = (omega (arith, rises.0), rises.1)
 
 attempts_rising : (low : ℕ) (steps : List (ℕ × Step)) → Rising low steps → Rising low (attempts_among steps)
 attempts_rising low [] rises = tt

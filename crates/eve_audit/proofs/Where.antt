@@ -12,6 +12,7 @@ use Rattle.eve_grammar.specs.Frames.{Frame, OfReplica, OfAttempt as AttemptFrame
 use Rattle.eve_grammar.specs.Frames.{kind_of, without_accesses}
 use Rattle.eve_grammar.specs.Spelling.{body_text, frame_text, frames_text, located, step_text, section_text}
 use Rattle.eve_grammar.specs.Spelling.{section_start, steps_of, steps_at, accesses_at}
+use Rattle.eve_grammar.proofs.Lists.{all-append, all-weaker}
 use Rattle.eve_views.proofs.Locating.{section_is}
 use Rattle.eve_history.specs.Section.{settled}
 use Rattle.eve_history.specs.SectionHistory.{attempts_among, placed_at, is_committed, is_discarded, history}
@@ -19,7 +20,6 @@ use Rattle.eve_history.specs.Fates.{fates_from}
 use Rattle.eve_audit.proofs.Sections.{LiesIn, FatesAreAsItEnds}
 use Rattle.eve_history.proofs.Rights.{none_at}
 use Rattle.eve_chains.proofs.Attempts.{all_picked}
-use Rattle.eve_chains.proofs.SettledAttempts.{all-append}
 
 -- ---- what holds of all holds at some place
 
@@ -31,11 +31,6 @@ module _ {A : Type 0} (P : A → Type 0) where
       by : (before : List A) → AllByRecursion P (before ++ item ∷ rest) → P item
       by [] all = all.0
       by (x ∷ before) all = by before all.1
-
-module _ {A : Type 0} (P Q : A → Type 0) (weaker : (x : A) → P x → Q x) where
-  all_weaker : (xs : List A) → AllByRecursion P xs → AllByRecursion Q xs
-  all_weaker [] all = tt
-  all_weaker (x ∷ xs) all = (weaker x all.0, all_weaker xs all.1)
 
 module _ {A B : Type 0} (f : A → B) (P : B → Type 0) where
   all_unmapped : (xs : List A) → AllByRecursion P (map f xs) → AllByRecursion (λ x. P (f x)) xs
@@ -56,10 +51,10 @@ module _ {A : Type 0} (text : A → List ℕ) where
       let more = length-append (text x) (flat_map text xs) in
       let later = all_located (at + length (text x)) xs in (
         (omega arith, omega (arith, more)),
-        all_weaker (λ y. Between (at + length (text x)) (at + length (text x) + length (flat_map text xs)) y.0
+        all-weaker (λ y. Between (at + length (text x)) (at + length (text x) + length (flat_map text xs)) y.0
             (length (text y.1)))
             (λ y. Between at (at + length (text x ++ flat_map text xs)) y.0 (length (text y.1)))
-            (λ y b. (omega (arith, b.0), omega (arith, b.1, more))) (located text (at + length (text x)) xs) later,
+            (located text (at + length (text x)) xs) (λ y b. (omega (arith, b.0), omega (arith, b.1, more))) later,
       )
 
 -- each of them stands where they all do
@@ -183,10 +178,10 @@ module _ (t : Trace) (e : ℕ) where
         ap (λ (m : ℕ). length (section_text (m, steps_of t e))) here in
         let is = section_is e (steps_of t e) in
         let from : ℕ = section_start t e + length (frame_text (OfReplica e)) in
-        all_weaker (λ x. Between from (from + length (flat_map step_text (steps_of t e))) x.0 (length (step_text x.1)))
-        (StepIn t e)
+        all-weaker (λ x. Between from (from + length (flat_map step_text (steps_of t e))) x.0 (length (step_text x.1)))
+        (StepIn t e) (steps_at t e)
         (λ x b. (omega (arith, b.0), omega (arith, b.1, more, own, is, ap (section_start t) (plus_one e))))
-        (steps_at t e) (all_located step_text from (steps_of t e))
+        (all_located step_text from (steps_of t e))
     | inr le ↦ subst (AllByRecursion (StepIn t e)) (sym (none_at t e le)) tt
   ]
 

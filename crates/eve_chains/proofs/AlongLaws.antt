@@ -5,14 +5,16 @@ use Rattle.std.proofs.Common.{drop, length, get_or, slice_get, Option, Some, Non
 use Rattle.std.proofs.Common.{◌⊎◌, append_assoc, append-nil, arith, IsTrue}
 use mathlib.Core.Path.{fun_ext}
 use Rattle.std.specs.List.{AllByRecursion, list_any, list_all}
-use Rattle.std.proofs.lemmas.Bool.{cases_Bool, and_parts, or_parts}
+use Rattle.std.proofs.lemmas.Bool.{cases_Bool, and_parts}
 use Rattle.std.proofs.lemmas.Grind.{flat_map-append}
 use Rattle.std.proofs.lemmas.List.Folds.{list_any-append}
 use Rattle.std.proofs.lemmas.Option.{same_Some}
 use Rattle.eve_smallbank.specs.declared.entry.Entry.{Entry}
 use Rattle.eve_smallbank.specs.Access.{Executed, writes_row, values_after}
-use Rattle.eve_smallbank.specs.Chain.{Versioned, Table, left_by, Sees, table_after, table_after_all}
+use Rattle.eve_smallbank.specs.Chain.{Versioned, Table, Sees, table_after, table_after_all}
 use Rattle.eve_smallbank.proofs.Members.{all_in}
+use Rattle.eve_smallbank.proofs.Chains.{table_after-append}
+use Rattle.eve_smallbank.proofs.Orders.{unwritten}
 use Rattle.eve_grammar.specs.Trace.{Access}
 use Rattle.eve_grammar.specs.Limits.{is_entry}
 use Rattle.eve_views.specs.Code.{code_number, phase_of}
@@ -30,11 +32,6 @@ use Rattle.eve_views.specs.First.{is_before, first_of}
 use Rattle.eve_views.proofs.Firsts.{before_precedes, behind_precedes, up_to_from, up_to-trans}
 
 -- ---- one list of entries after another
-
-pub table_after-append : (table : Table) (es fs : List Entry) → table_after table (es ++ fs)
-    ≡ table_after (table_after table es) fs
-table_after-append table [] fs = refl
-table_after-append table (e ∷ es) fs = table_after-append (λ row. cond (writes_row row e) (left_by e) (table row)) es fs
 
 pub table_after_all-append : (table : Table) (xs ys : List Executed) → table_after_all table (xs ++ ys)
     ≡ table_after_all (table_after_all table xs) ys
@@ -59,14 +56,6 @@ undone-append from table es fs =
     exchange false false v w = refl
 
 -- ---- writes undone
-
-pub unwritten : (table : Table) (es : List Entry) (row : ℕ) → list_any (writes_row row) es ≡ false
-    → table_after table es row ≡ table row
-unwritten table [] row h = refl
-unwritten table (e ∷ es) row h =
-    let parts = or_parts (writes_row row e) (list_any (writes_row row) es) h in
-    unwritten (λ r. cond (writes_row r e) (left_by e) (table r)) es row parts.1
-    ∙ ap (λ b. cond b (left_by e) (table row)) parts.0
 
 -- rows undone from the table before the writes
 pub undone_is_before : (table : Table) (es : List Entry) → undone table (table_after table es) es ≡ table

@@ -11,9 +11,9 @@ use Rattle.eve_views.specs.declared.fault.Code.TheVariants as code
 use Rattle.eve_views.specs.Form.{SomePlace}
 use Rattle.eve_history.specs.Faults.{request_ids_at, StandsInOrders}
 use Rattle.eve_grammar.specs.Trace.{RequestId, request_id}
-use Rattle.eve_smallbank.proofs.Members.{In, here, in_front}
+use Rattle.eve_smallbank.proofs.Members.{In, here, in_front, in_cons}
 use Rattle.eve_chains.specs.Committed.{batch_request_ids, AreDistinct}
-use Rattle.eve_chains.proofs.Distinct.{Distinct, in_cons, in_right}
+use Rattle.eve_chains.proofs.Distinct.{Distinct, in_right}
 use Rattle.eve_chains.proofs.Once.{place_in, distinct_pairs}
 
 -- ---- each is new after those before

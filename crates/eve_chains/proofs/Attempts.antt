@@ -4,7 +4,7 @@ use Rattle.std.proofs.Common.{◌≡◌, ℕ, ◌+◌, ◌<◌, ◌≤◌, ◌==
 use Rattle.std.proofs.Common.{refl, sym, subst, ap, ◌∙◌, inl, inr, ◌⊎◌, arith, IsTrue}
 use Rattle.std.proofs.lemmas.Bool.{and_parts, eqb-true, leb-true, eq-eqb, ne_eqb, cond-true, cond-false}
 use Rattle.std.specs.List.{AllByRecursion}
-use Rattle.eve_smallbank.proofs.Members.{In, here, there, all_in, all_from_in, in_front}
+use Rattle.eve_smallbank.proofs.Members.{In, here, there, all_in, all_from_in, in_front, in_cons}
 use Rattle.eve_grammar.specs.Trace.{Access, Attempt, Step, Attempts, Commits, RollsBack, Trace}
 use Rattle.eve_grammar.specs.Frames.{OfAccess, OfAttempt}
 use Rattle.eve_grammar.specs.Spelling.{frame_text, located, steps_at, accesses_at}
@@ -16,7 +16,7 @@ use Rattle.eve_history.specs.SectionHistory.{access_with, ordered, attempts_amon
 use Rattle.eve_history.specs.SectionHistory.{picked}
 use Rattle.eve_history.specs.SectionHistory.{is_committed, is_discarded}
 use Rattle.eve_history.proofs.FateLaws.{committed_are_picked, discarded_are_picked}
-use Rattle.eve_chains.proofs.Distinct.{Distinct, in_map, in_source, in_cons, in_right, in_split}
+use Rattle.eve_chains.proofs.Distinct.{Distinct, in_map, in_source, in_right, in_split}
 use Rattle.eve_chains.proofs.Distinct.{below_permutation}
 use Rattle.eve_chains.proofs.SettledAttempts.{IsRightAlone, IsComplete}
 use Rattle.eve_chains.proofs.Soundness.{indexes_of, permutes, distinct_indexes, its_place, its_record}

@@ -5,7 +5,7 @@ use Rattle.std.specs.Prelude.{⊤}
 use Rattle.std.proofs.lemmas.Bool.{cases_lt, and_parts, eqb-true, eq-eqb, ltb-true, cond-true}
 use Rattle.std.specs.List.{list_all}
 use Rattle.eve_grammar.specs.Certificate.{occurrences, all_below, is_permutation}
-use Rattle.eve_smallbank.proofs.Members.{In, here, there, in_front, in_middle, in_around}
+use Rattle.eve_smallbank.proofs.Members.{In, here, there, in_front, in_middle, in_around, in_cons}
 use Rattle.eve_chains.proofs.Permutations.{found, none_above}
 use Rattle.eve_grammar.proofs.Counting.{all_below_at}
 
@@ -19,10 +19,6 @@ pub in_split : {A : Type 0} {z : A} (xs ys : List A) → In z (xs ++ ys) → In 
 in_split [] ys i = inr i
 in_split (x ∷ xs) ys here = inl here
 in_split (x ∷ xs) ys (there i) = elim (in_split xs ys i) [ inl j ↦ inl (there j) | inr j ↦ inr j ]
-
-pub in_cons : {A : Type 0} {z y : A} (xs : List A) → In z (y ∷ xs) → (z ≡ y) ⊎ In z xs
-in_cons xs here = inl refl
-in_cons xs (there i) = inr i
 
 pub in_right : {A : Type 0} {z : A} (xs ys : List A) → In z ys → In z (xs ++ ys)
 in_right [] ys i = i

@@ -1,12 +1,12 @@
 -- Public: other crates cite these lemmas. Entries one after another.
-use Rattle.std.proofs.Common.{◌≡◌, ℕ, zero, suc, ◌+◌, ◌<◌, nat_lt, List, [], ◌∷◌, Some, slice_get, drop, ap, subst}
-use Rattle.std.proofs.Common.{refl, ◌∙◌, IsTrue, arith}
+use Rattle.std.proofs.Common.{◌≡◌, ℕ, zero, suc, ◌<◌, nat_lt, List, [], ◌∷◌, Some, slice_get, subst}
+use Rattle.std.proofs.Common.{refl, IsTrue}
 use Rattle.std.proofs.lemmas.Bool.{and_parts, ltb-true}
 use Rattle.std.specs.List.{list_all}
 use Rattle.std.proofs.lemmas.Option.{same_Some}
 use Rattle.eve_smallbank.specs.declared.entry.Entry.{Entry}
 use Rattle.eve_grammar.specs.Limits.{is_entry}
-use Rattle.eve_chains.proofs.Linked.{none≢some, from_place}
+use Rattle.eve_chains.proofs.Linked.{none≢some}
 
 both : (rows : ℕ) (es : List Entry) (e : Entry) (rest : List Entry) → es ≡ e ∷ rest
     → IsTrue (list_all (is_entry rows) es) → IsTrue (is_entry rows e) × IsTrue (list_all (is_entry rows) rest)
@@ -28,12 +28,6 @@ pub row_there : (rows : ℕ) (e : Entry) → IsTrue (is_entry rows e) → e.row 
 row_there rows e right = ltb-true e.row rows (and_parts (nat_lt e.row rows) _ right).0
 
 -- ---- by their places
-
--- the entries from a place on are the one that stands there and those after it
-pub from_entry : (es : List Entry) (k : ℕ) (e : Entry) → slice_get es k ≡ Some e → drop k es ≡ e ∷ drop (k + 1) es
-from_entry es k e at =
-    let next : suc k ≡ k + 1 = omega arith in
-    from_place es k e at ∙ ap (λ (n : ℕ). e ∷ drop n es) next
 
 -- the one that stands there is within the limits
 pub right_there : (rows : ℕ) (es : List Entry) (k : ℕ) (e : Entry) → slice_get es k ≡ Some e

@@ -12,7 +12,7 @@ use Rattle.eve_smallbank.specs.declared.request.Request as shown
 use Rattle.eve_smallbank.specs.declared.request.Reply.TheVariants.{Done}
 use Rattle.eve_smallbank.specs.SmallBank.{Request, plain}
 use Rattle.eve_smallbank.specs.Access.{Executed, Fits}
-use Rattle.eve_smallbank.proofs.Members.{In, here, there, all_in, all_from_in, in_front}
+use Rattle.eve_smallbank.proofs.Members.{In, here, there, all_in, all_from_in, in_front, in_cons}
 use Rattle.eve_grammar.specs.Trace.{Access, Asked, Attempt, Batch, Trace, no_request}
 use Rattle.eve_grammar.specs.Frames.{OfAttempt, without_accesses}
 use Rattle.eve_grammar.specs.Limits.{HasLimits}
@@ -34,7 +34,7 @@ use Rattle.eve_chains.specs.Records.{recorded}
 use Rattle.eve_chains.specs.Visible.{executed_by}
 use Rattle.eve_chains.specs.Sound.{RecordsFit}
 use Rattle.eve_chains.specs.Faults.{StandsInRecords, IsRecordFault}
-use Rattle.eve_chains.proofs.Distinct.{in_map, in_source, in_cons, in_right, in_split}
+use Rattle.eve_chains.proofs.Distinct.{in_map, in_source, in_right, in_split}
 use Rattle.eve_chains.proofs.Walks.{right_one, complete_one}
 use Rattle.eve_chains.proofs.Faultless.{in_place, place_of}
 use Rattle.eve_chains.proofs.Linked.{none≢some}

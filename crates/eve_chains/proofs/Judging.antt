@@ -4,6 +4,7 @@ use Rattle.std.proofs.Common.{sym, subst, ap, ◌∙◌, inl, inr, ◌⊎◌, ap
 use Rattle.std.specs.List.{AllByRecursion}
 use Rattle.eve_smallbank.specs.Chain.{Table, table_after}
 use Rattle.eve_smallbank.proofs.Members.{all_in, in_middle, in_around, in_cases}
+use Rattle.eve_smallbank.proofs.Chains.{table_after-append}
 use Rattle.eve_grammar.specs.Trace.{Access, Attempt, Trace}
 use Rattle.eve_views.specs.Code.{phase_of}
 use Rattle.eve_views.specs.Form.{SomePlace}
@@ -11,7 +12,7 @@ use Rattle.eve_views.specs.declared.fault.Fault.{Fault}
 use Rattle.eve_history.specs.Section.{Placed}
 use Rattle.eve_chains.specs.Visible.{table_along}
 use Rattle.eve_chains.specs.Along.{entries_along, IsFirstAlong}
-use Rattle.eve_chains.proofs.AlongLaws.{nothing_wrong, table_after-append, wrong_phase, before_up, not_before_up}
+use Rattle.eve_chains.proofs.AlongLaws.{nothing_wrong, wrong_phase, before_up, not_before_up}
 use Rattle.eve_chains.proofs.Faultless.{in_place, place_of}
 use Rattle.eve_chains.specs.Walking.{entries_along_all, AreJudgedAlong, SeesItsPath, IsWrongIn, IsFirstIn, ArePlaced}
 use Rattle.eve_chains.proofs.AttemptRecords.{own}

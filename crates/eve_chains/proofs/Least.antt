@@ -13,9 +13,9 @@ use Rattle.eve_smallbank.specs.SmallBank.{Balance, plain}
 use Rattle.eve_smallbank.specs.Access.{Executed, Fits}
 use Rattle.eve_smallbank.proofs.Members.{all_in, all_from_in, in_front}
 use Rattle.eve_grammar.specs.Trace.{Access}
+use Rattle.eve_grammar.proofs.Lists.{all-append}
 use Rattle.eve_views.specs.Form.{SomePlace}
 use Rattle.eve_chains.proofs.Distinct.{in_right}
-use Rattle.eve_chains.proofs.SettledAttempts.{all-append}
 use Rattle.eve_chains.proofs.Faultless.{in_place, place_of}
 use Rattle.eve_chains.specs.Records.{recorded}
 use Rattle.eve_chains.specs.Unfit.{recorded_of, IsLeastUnfit, lesser}

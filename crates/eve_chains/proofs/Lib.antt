@@ -30,4 +30,3 @@ pub mod Judged
 pub mod Stretches
 mod CommittedBatches
 mod AdvancingBanks
-pub mod ShortLists

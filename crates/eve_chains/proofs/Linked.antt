@@ -1,6 +1,6 @@
 -- Public: other crates cite these lemmas. What a section committed is linked by its paths: each committed attempt
 -- stands on the path of those before it.
-use Rattle.std.proofs.Common.{◌≡◌, ℕ, zero, suc, ◌+◌, ◌<◌, ◌≤◌, ◌==◌, nat_le, length, length-append, arith, ◌&&◌, List}
+use Rattle.std.proofs.Common.{◌≡◌, ℕ, zero, suc, ◌+◌, ◌≤◌, ◌==◌, nat_le, length, length-append, arith, ◌&&◌, List}
 use Rattle.std.proofs.Common.{[], ◌∷◌, ◌++◌, take, drop, slice_get, Option, Some, None, refl, sym, subst, ap, ◌∙◌}
 use Rattle.std.proofs.Common.{append_assoc, append-nil, IsTrue}
 use Rattle.std.proofs.lemmas.Bool.{and_parts, eqb-true, leb-true}
@@ -145,13 +145,7 @@ linked_at t before (q ∷ ps) (suc n) p linked e =
     subst (λ path. IsLinked t path p) (append_assoc before (q.attempt ∷ []) (attempts_of (take n ps)))
     (linked_at t (before ++ q.attempt ∷ []) ps n p linked.1 e)
 
--- what stands at a place that is there
-pub item_at : {A : Type 0} (xs : List A) (n : ℕ) → n < length xs → (x : A) × (slice_get xs n ≡ Some x)
-item_at [] n less = absurd (omega arith)
-item_at (x ∷ xs) zero less = (x, refl)
-item_at (x ∷ xs) (suc n) less = item_at xs n (omega arith)
-
--- and those from there on
+-- what stands from a place on
 pub from_place : {A : Type 0} (xs : List A) (n : ℕ) (x : A) → slice_get xs n ≡ Some x → drop n xs ≡ x ∷ drop (suc n) xs
 from_place [] n x at = none≢some x at
 from_place (y ∷ xs) zero x at = ap (λ (z : _). z ∷ xs) (same_Some y x at)

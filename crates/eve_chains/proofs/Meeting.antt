@@ -8,18 +8,18 @@ use Rattle.std.proofs.lemmas.List.{map-append}
 use Rattle.std.proofs.lemmas.List.Elements.{filter-append}
 use Rattle.eve_smallbank.specs.declared.entry.Entry.{Entry}
 use Rattle.eve_smallbank.specs.Chain.{Table, table_after}
-use Rattle.eve_smallbank.proofs.Members.{In, here, there, all_in, in_front}
+use Rattle.eve_smallbank.proofs.Members.{In, here, there, all_in, in_front, in_cons}
+use Rattle.eve_smallbank.proofs.Chains.{table_after-append}
 use Rattle.eve_grammar.specs.Limits.{HasLimits}
 use Rattle.eve_grammar.specs.Trace.{Access, Attempt, Trace}
+use Rattle.eve_grammar.proofs.Lists.{all-append, all-filter}
 use Rattle.eve_history.specs.declared.fate.Fate.{Fate}
 use Rattle.eve_history.specs.declared.fate.Fate.TheVariants.{Committed, Discarded, Open}
 use Rattle.eve_history.specs.Section.{Placed, settled}
 use Rattle.eve_history.specs.SectionHistory.{history, IsRightSection, is_committed, is_discarded}
 use Rattle.eve_chains.specs.Visible.{opening_table, table_along}
 use Rattle.eve_chains.specs.Along.{entries_along}
-use Rattle.eve_chains.proofs.AlongLaws.{table_after-append}
-use Rattle.eve_chains.proofs.Distinct.{in_map, in_cons, in_right}
-use Rattle.eve_chains.proofs.SettledAttempts.{all-append}
+use Rattle.eve_chains.proofs.Distinct.{in_map, in_right}
 use Rattle.eve_chains.specs.Rows.{Fated, told_of, settles, Noted, noted_by, noted_in, all_noted}
 use Rattle.eve_chains.specs.Rows.{of_row, met_by, pair_after}
 use Rattle.eve_chains.proofs.AttemptRecords.{own}
@@ -47,16 +47,6 @@ filter_none : {A : Type 0} (test : A → Bool) (xs : List A) → AllByRecursion 
     ≡ []
 filter_none test [] all = refl
 filter_none test (x ∷ xs) all = filter_dropped test x xs all.0 ∙ filter_none test xs all.1
-
-all_filter : {A : Type 0} (P : A → Type 0) (test : A → Bool) (xs : List A) → AllByRecursion P xs
-    → AllByRecursion P (filter test xs)
-all_filter P test [] all = tt
-all_filter {A} P test (x ∷ xs) all = by (test x) (all_filter P test xs all.1)
-  where
-    by : (b : Bool) → AllByRecursion P (filter test xs)
-        → AllByRecursion P (cond b (x ∷ filter test xs) (filter test xs))
-    by true rest = (all.0, rest)
-    by false rest = rest
 
 pub in_filter : {A : Type 0} {y : A} (test : A → Bool) (xs : List A) → In y xs → test y ≡ true → In y (filter test xs)
 in_filter test [] i e = elim i [ ]
@@ -207,7 +197,7 @@ rising_filter test [] rising = tt
 rising_filter test (n ∷ ns) rising = by (test n) (rising_filter test ns rising.1)
   where
     by : (b : Bool) → AreRising (filter test ns) → AreRising (cond b (n ∷ filter test ns) (filter test ns))
-    by true rest = (all_filter (λ m. n.view ≤ m.view) test ns rising.0, rest)
+    by true rest = (all-filter (λ m. n.view ≤ m.view) test ns rising.0, rest)
     by false rest = rest
 
 -- bounds of what attempts note
@@ -259,7 +249,7 @@ order_filter test [] order = tt
 order_filter test (y ∷ ys) order = by (test y) (order_filter test ys order.1)
   where
     by : (b : Bool) → AreInOrder (filter test ys) → AreInOrder (cond b (y ∷ filter test ys) (filter test ys))
-    by true rest = (all_filter (λ z. view_of y ≤ view_of z) test ys order.0, rest)
+    by true rest = (all-filter (λ z. view_of y ≤ view_of z) test ys order.0, rest)
     by false rest = rest
 
 order_front : (xs ys : List Fated) → AreInOrder (xs ++ ys) → AreInOrder xs
@@ -346,7 +336,7 @@ module _ (t : Trace) (e : ℕ) (limits : HasLimits t) (right : IsRightSection t 
         ≡ table_after (table_along t x.placed.path) (entries_along xs) row
     meets_visible xs row n same =
         meets_what_counts (opening_table t row) (of_row row ns) n (rising_filter (λ m. m.entry.row == row) ns rising)
-        (all_filter (λ m. m.view ≤ n.view) (λ m. m.entry.row == row) ns up)
+        (all-filter (λ m. m.view ≤ n.view) (λ m. m.entry.row == row) ns up)
         ∙ ap (after_all (opening_table t row)) (entries_filter (counts n.view) row ns)
         ∙ sym (table_row (opening_table t) row (entries (filter (counts n.view) ns)))
         ∙ ap (λ (es : List Entry). table_after (opening_table t) es row) split
@@ -381,7 +371,7 @@ module _ (t : Trace) (e : ℕ) (limits : HasLimits t) (right : IsRightSection t 
             ∙ entries_are v c xs)
 
         before_up : AllByRecursion (λ m. m.view ≤ v) (all_noted before)
-        before_up = noted_up v (filter settles before) (all_filter (λ y. view_of y ≤ v) settles before known.1)
+        before_up = noted_up v (filter settles before) (all-filter (λ y. view_of y ≤ v) settles before known.1)
 
         mine_same : (ms : List Noted) → AllByRecursion (IsAlike v c) ms → AllByRecursion (λ m. m.view ≤ v) ms
         mine_same [] h = tt

@@ -10,13 +10,13 @@ use Rattle.std.proofs.lemmas.List.{map-append}
 use Rattle.std.proofs.lemmas.List.Elements.{filter-append}
 use Rattle.eve_grammar.specs.Trace.{Attempt, Commit, Rollback, Step, Attempts, Commits, RollsBack, Trace}
 use Rattle.eve_grammar.specs.Spelling.{steps_at}
+use Rattle.eve_grammar.proofs.Lists.{all-weaker, all-append}
 use Rattle.eve_history.specs.declared.fate.Fate.TheVariants.{Committed}
 use Rattle.eve_history.specs.Section.{Placed, SectionState, start, path_of, committing, next, state_after, is_right}
 use Rattle.eve_history.specs.Section.{are_right, is_due, is_right_attempt, is_right_certificate, are_right_accesses}
 use Rattle.eve_history.specs.Section.{request_count, commits_first, is_right_rollback}
 use Rattle.eve_history.specs.Fates.{fate_in}
 use Rattle.eve_history.specs.SectionHistory.{is_committed, is_discarded, history, IsRightSection}
-use Rattle.eve_chains.proofs.SettledAttempts.{all-append}
 use Rattle.eve_chains.specs.Rows.{Fated, to_come, settles, told_of}
 
 abbrev pub all_placed : List Fated → List Placed
@@ -138,11 +138,6 @@ counting_later view (x ∷ xs) all = by (is_committed x.fate) refl (counting_lat
     by false e rest = ap (λ (c : Bool). cond c (x ∷ counting view xs) (counting view xs))
         (ne_eqb (view_of x) view other) ∙ rest
 
-all_weaken : {A : Type 0} (P Q : A → Type 0) → ((x : A) → P x → Q x) → (xs : List A) → AllByRecursion P xs
-    → AllByRecursion Q xs
-all_weaken P Q f [] all = tt
-all_weaken P Q f (x ∷ xs) all = (f x all.0, all_weaken P Q f xs all.1)
-
 module _ (t : Trace) where
   -- ---- an attempt comes
 
@@ -235,12 +230,12 @@ module _ (t : Trace) where
       → HasCome s ((at, RollsBack r) ∷ rest) xs → HasCome (next s (at, RollsBack r)) rest xs
   come_rollback s at r rest right xs known = record {
     counts = counting_later r.view xs
-        (all_weaken (λ x. view_of x ≤ s.view) (λ x. view_of x < r.view) (λ x. below (view_of x)) xs known.views)
+        (all-weaker (λ x. view_of x ≤ s.view) (λ x. view_of x < r.view) xs (λ x. below (view_of x)) known.views)
         ∙ committed;
     commit = committed;
     fall = known.fall ∙ ap (λ (qs : List Placed). s.discarded ++ qs) (all_fall 0 at r rest s.pending)
         ∙ sym (append-nil (s.discarded ++ s.pending));
-    views = all_weaken (λ x. view_of x ≤ s.view) (λ x. view_of x ≤ r.view) (λ x h. up (view_of x) h) xs known.views;
+    views = all-weaker (λ x. view_of x ≤ s.view) (λ x. view_of x ≤ r.view) xs (λ x h. up (view_of x) h) known.views;
   }
     where
       later : r.view ≡ s.view + 1
@@ -303,7 +298,7 @@ module _ (t : Trace) where
       (opened 0 ((at, Attempts a) ∷ rest) s.pending)
       ∙ (λ i. placed_sure s.committed i ++ placed_opened 0 ((at, Attempts a) ∷ rest) s.pending i) in (
         ap (map (λ p. p.attempt)) (sym placed),
-        all_weaken (λ x. view_of x ≤ s.view) (λ x. view_of x ≤ a.view) (λ x h. up (view_of x) view h) xs known.views,
+        all-weaker (λ x. view_of x ≤ s.view) (λ x. view_of x ≤ a.view) xs (λ x h. up (view_of x) view h) known.views,
         λ done. subst (AllByRecursion (λ y. settles y ≡ true)) (sym count)
             (all-append (λ y. settles y ≡ true) (map sure s.committed) (opened 0 ((at, Attempts a) ∷ rest) s.pending)
             (sure_settle s.committed)

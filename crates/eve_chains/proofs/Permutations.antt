@@ -3,10 +3,10 @@ use Rattle.std.proofs.Common.{◌≡◌, ℕ, suc, ◌≤◌, ◌<◌, Bool, tru
 use Rattle.std.proofs.Common.{map, refl, sym, subst, ap, ◌∙◌, inl, inr, arith}
 use Rattle.std.proofs.lemmas.Bool.{cases_Bool, cases_lt, and_parts, eqb-true, eq-eqb, ne_eqb, ltb-true}
 use Rattle.std.proofs.lemmas.Bool.{cond-true, cond-false}
-use Rattle.std.proofs.lemmas.List.{map-append}
 use Rattle.std.specs.List.{list_all}
 use Rattle.eve_grammar.specs.Certificate.{occurrences, all_below, is_permutation}
 use Rattle.eve_smallbank.specs.Conflict.{IsReordering}
+use Rattle.eve_smallbank.proofs.Members.{reordering_map}
 use Rattle.eve_grammar.proofs.Counting.{all_below_at}
 
 -- ---- from counts
@@ -84,16 +84,6 @@ same_counts r xs ys h k i =
     ]
 
 -- ---- of what the indexes stand for
-
-pub reordering_map : {A B : Type 0} (f : A → B) (xs ys : List A) → IsReordering xs ys
-    → IsReordering (map f xs) (map f ys)
-reordering_map f [] ys r = ap (map f) r
-reordering_map f (x ∷ xs) ys r = (
-  map f r.0,
-  map f r.1,
-  ap (map f) r.2 ∙ map-append f r.0 (x ∷ r.1),
-  subst (IsReordering (map f xs)) (map-append f r.0 r.1) (reordering_map f xs (r.0 ++ r.1) r.3),
-)
 
 pub reordering_of_permutations : {A : Type 0} (f : ℕ → A) (r : ℕ) (xs ys : List ℕ) → is_permutation r xs ≡ true
     → is_permutation r ys ≡ true → IsReordering (map f xs) (map f ys)

@@ -6,12 +6,13 @@ use Rattle.std.specs.List.{AllByRecursion}
 use Rattle.std.proofs.lemmas.Grind.{flat_map-append}
 use Rattle.eve_smallbank.specs.declared.entry.Entry.{Entry}
 use Rattle.eve_smallbank.specs.Chain.{Table, table_after}
+use Rattle.eve_smallbank.proofs.Chains.{table_after-append}
 use Rattle.eve_grammar.specs.Trace.{Access}
 use Rattle.eve_views.specs.declared.fault.Fault.{Fault}
 use Rattle.eve_history.specs.SectionHistory.{SectionHistory}
 use Rattle.eve_chains.specs.Tables.{table_of, undone}
 use Rattle.eve_chains.specs.Along.{entries_along, AreWithin, IsFirstAlong}
-use Rattle.eve_chains.proofs.AlongLaws.{table_after-append, undone-append}
+use Rattle.eve_chains.proofs.AlongLaws.{undone-append}
 use Rattle.eve_chains.specs.declared.walk.Walk.{Walk}
 use Rattle.eve_chains.specs.Walking.{records_of, records_from, entries_along_all, AreJudgedAlong, AreTried, AreUndone}
 use Rattle.eve_chains.proofs.AttemptRecords.{from_more}

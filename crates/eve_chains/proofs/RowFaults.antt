@@ -11,6 +11,7 @@ use Rattle.eve_smallbank.specs.Chain.{Versioned, Table, Sees, table_after}
 use Rattle.eve_smallbank.proofs.Members.{In, all_in, all_from_in, in_middle}
 use Rattle.eve_smallbank.proofs.Unique.{AreDistinct, entries_are_rows}
 use Rattle.eve_smallbank.specs.Access.{Fits}
+use Rattle.eve_smallbank.proofs.Chains.{table_after-append}
 use Rattle.eve_grammar.specs.Limits.{HasLimits}
 use Rattle.eve_grammar.specs.Trace.{Access, Trace}
 use Rattle.eve_views.specs.declared.fault.Code.{Code}
@@ -25,7 +26,6 @@ use Rattle.eve_chains.specs.Visible.{opening_table, table_along, executed_by}
 use Rattle.eve_chains.specs.Sound.{RecordsFit}
 use Rattle.eve_chains.specs.Along.{entries_along, SeesAnother, SomeSeesAnother, IsWrongAlong, IsWrongSomewhere, AllSee}
 use Rattle.eve_chains.specs.Along.{AllSettledSee}
-use Rattle.eve_chains.proofs.AlongLaws.{table_after-append}
 use Rattle.eve_chains.proofs.Distinct.{in_map, in_source, in_split}
 use Rattle.eve_chains.proofs.Faultless.{place_of, in_place, standing, in_located}
 use Rattle.eve_chains.proofs.Walks.{right_one, complete_one}

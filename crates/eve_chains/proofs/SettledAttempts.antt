@@ -1,6 +1,5 @@
--- Public: other crates cite these lemmas. What holds of each attempt among a section's steps holds of each that is
--- settled.
-use Rattle.std.proofs.Common.{◌≡◌, ℕ, ◌&&◌, ◌==◌, List, [], ◌∷◌, ◌++◌, length}
+-- What holds of each attempt among a section's steps holds of each that is settled.
+use Rattle.std.proofs.Common.{◌≡◌, ℕ, ◌&&◌, ◌==◌, List, [], ◌∷◌, length}
 use Rattle.std.proofs.Common.{IsTrue}
 use Rattle.std.specs.Prelude.{⊤}
 use Rattle.std.proofs.lemmas.Bool.{and_parts, eqb-true}
@@ -8,6 +7,7 @@ use Rattle.std.specs.List.{AllByRecursion, list_all}
 use Rattle.eve_grammar.specs.Trace.{Attempt, Step, Attempts, Commits, RollsBack, Trace, head_of}
 use Rattle.eve_grammar.specs.Spelling.{steps_at}
 use Rattle.eve_grammar.specs.Limits.{is_attempt, is_access, is_step, row_count, HasLimits}
+use Rattle.eve_grammar.proofs.Lists.{all-append}
 use Rattle.eve_history.specs.Section.{Placed, SectionState, start, path_of, committing, next, state_after, settled}
 use Rattle.eve_history.specs.Section.{request_count, is_due, is_right_attempt, is_right_certificate, are_right_accesses}
 use Rattle.eve_history.specs.Section.{is_right, are_right}
@@ -25,11 +25,6 @@ record AreAll (P : Attempt → Type 0) (s : SectionState) : Type 0 where
   committed : AllByRecursion (λ p. P p.attempt) s.committed
   pending : AllByRecursion (λ p. P p.attempt) s.pending
   discarded : AllByRecursion (λ p. P p.attempt) s.discarded
-
-pub all-append : {A : Type 0} (P : A → Type 0) (xs ys : List A) → AllByRecursion P xs → AllByRecursion P ys
-    → AllByRecursion P (xs ++ ys)
-all-append P [] ys all more = more
-all-append P (x ∷ xs) ys all more = (all.0, all-append P xs ys all.1 more)
 
 all_committing : (P : Attempt → Type 0) (s : SectionState) (pending : List Placed)
     → AllByRecursion (λ p. P p.attempt) pending → AreAll P s → AreAll P (committing s pending)

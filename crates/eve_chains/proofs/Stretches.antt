@@ -7,6 +7,7 @@ use Rattle.std.specs.Prelude.{All}
 use Rattle.std.specs.declared.alloc.AllocError.{AllocError}
 use Rattle.std.proofs.lemmas.List.{take_all}
 use Rattle.eve_grammar.specs.Trace.{Trace}
+use Rattle.eve_grammar.proofs.Lists.{item_within}
 use Rattle.eve_history.specs.declared.fate.Fate.{Fate}
 use Rattle.eve_history.specs.SectionHistory.{ExecutedAttempt, SectionHistory}
 use Rattle.eve_chains.specs.Unfit.{records_if_settled, settled_records, records_between, IsLeastUnfit, IsLeastOfAttempt}
@@ -15,7 +16,7 @@ use Rattle.eve_chains.specs.Unfit.{lesser_found}
 use Rattle.eve_chains.specs.Stretches.{IsWithin, IsFoundIn, Reaches, AreStretches, least_found}
 use Rattle.eve_chains.specs.declared.stretch.Stretch.{Stretch}
 use Rattle.eve_chains.proofs.Least.{least_append}
-use Rattle.eve_chains.proofs.Linked.{item_at, from_place}
+use Rattle.eve_chains.proofs.Linked.{from_place}
 
 -- ---- one after another
 
@@ -125,8 +126,8 @@ module _ (t : Trace) (h : SectionHistory) where
         → IsLeastUnfit names (records_between t h from i) least → IsLeastOfAttempt names t h i found
         → IsLeastUnfit names (records_between t h from (i + 1)) (lesser least found)
     one_judged from i least found low there fate is its =
-        let a = item_at h.attempts i there in
-        let f = item_at h.fates i fate in
+        let a = item_within h.attempts i there in
+        let f = item_within h.fates i fate in
         joined from i (i + 1) least found low (omega arith) is
         (subst (λ (xs : List _). IsLeastUnfit names xs found) (one_between i a.0 f.0 a.1 f.1) (its a.0 f.0 a.1 f.1))
 

@@ -8,7 +8,7 @@ use Rattle.eve_smallbank.specs.declared.entry.Entry.{Entry}
 use Rattle.eve_smallbank.specs.Access.{Executed, Fits}
 use Rattle.eve_smallbank.specs.Chain.{Table, Sees, visible_at, before_next, before_rest, IsChained, table_after}
 use Rattle.eve_smallbank.proofs.Members.{In, here, there, all_in, all_from_in, in_front, in_middle}
-use Rattle.eve_smallbank.proofs.Chains.{visible_at-before_next}
+use Rattle.eve_smallbank.proofs.Chains.{visible_at-before_next, table_after-append}
 use Rattle.eve_grammar.specs.Trace.{Access, Trace}
 use Rattle.eve_grammar.specs.Limits.{HasLimits}
 use Rattle.eve_grammar.specs.Frames.{OfAccess, OfAttempt}
@@ -26,7 +26,6 @@ use Rattle.eve_chains.specs.Faults.{AtSettledAccess, StandsInChains, IsChainFaul
 use Rattle.eve_chains.specs.Along.{entries_along, SomeSeesAnother, IsWrongAlong, AllSee, IsWrongSomewhere}
 use Rattle.eve_chains.specs.Along.{AllSettledSee}
 use Rattle.eve_chains.proofs.Distinct.{Distinct, distinct_permutation}
-use Rattle.eve_chains.proofs.AlongLaws.{table_after-append}
 use Rattle.eve_chains.proofs.SettledAttempts.{IsRightAlone, IsComplete, settled_right, settled_complete}
 use Rattle.eve_chains.proofs.Soundness.{permutes, distinct_indexes, its_place, its_record, as_executed}
 use Rattle.eve_chains.proofs.Soundness.{sound_chain}

@@ -1,9 +1,10 @@
 use Rattle.std.proofs.Common.{ℕ, length, ap, ◌∙◌}
 use Rattle.eve_smallbank.specs.Chain.{table_after}
+use Rattle.eve_smallbank.proofs.Chains.{table_after-append}
 use Rattle.eve_views.specs.First.{first_of}
 use Rattle.eve_chains.specs.Tables.{table_of}
 use Rattle.eve_chains.specs.Along.{said_at, fault_if}
-use Rattle.eve_chains.proofs.AlongLaws.{table_after-append, met_within, after_more, first_next}
+use Rattle.eve_chains.proofs.AlongLaws.{met_within, after_more, first_next}
 use Rattle.eve_chains.proofs.AttemptRecords.{record_met}
 use Rattle.eve_chains.proofs.along.judge_along.Goals as goal
 

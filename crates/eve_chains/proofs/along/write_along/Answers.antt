@@ -1,8 +1,9 @@
 use Rattle.std.proofs.Common.{length, ◌∙◌}
 use Rattle.eve_smallbank.specs.Chain.{table_after}
+use Rattle.eve_smallbank.proofs.Chains.{table_after-append}
 use Rattle.eve_chains.specs.Tables.{table_of}
 use Rattle.eve_chains.specs.Along.{said_at}
-use Rattle.eve_chains.proofs.AlongLaws.{table_after-append, met_within, after_more}
+use Rattle.eve_chains.proofs.AlongLaws.{met_within, after_more}
 use Rattle.eve_chains.proofs.AttemptRecords.{record_met}
 use Rattle.eve_chains.proofs.along.write_along.Goals as goal
 

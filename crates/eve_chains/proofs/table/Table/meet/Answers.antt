@@ -3,24 +3,24 @@ use Rattle.eve_smallbank.specs.declared.entry.Entry.{Entry}
 use Rattle.eve_smallbank.specs.Chain.{table_after}
 use Rattle.eve_chains.specs.Tables.{table_of, IsFirstMismatch}
 use Rattle.eve_chains.proofs.Entries.{right_there}
-use Rattle.eve_chains.proofs.ShortLists.{one_item, two_items, three_items}
+use Rattle.eve_grammar.proofs.Lists.{one_listed, two_listed, three_listed}
 use Rattle.eve_chains.proofs.table.Table.meet.Goals as goal
 use Rattle.eve_chains.proofs.table.Table.meet.Goals.{After-meet_one, After-meet_two, After-meet_three}
 
 -- ---- so many entries
 
 is_one : (c : After-meet_one) → c.at.result ∷ [] ≡ c.args.entries.now
-is_one c = one_item c.args.entries.now c.at.result (sym c.len.ensures.len ∙ c.in-1.is) c.at.ensures
+is_one c = one_listed c.args.entries.now c.at.result (sym c.len.ensures.len ∙ c.in-1.is) c.at.ensures
 
 are_two : (c : After-meet_two) → c.at-in-2.result ∷ c.at-in-2-2.result ∷ [] ≡ c.args.entries.now
 are_two c =
-    two_items c.args.entries.now c.at-in-2.result c.at-in-2-2.result (sym c.len.ensures.len ∙ c.in-2.is)
+    two_listed c.args.entries.now c.at-in-2.result c.at-in-2-2.result (sym c.len.ensures.len ∙ c.in-2.is)
     c.at-in-2.ensures c.at-in-2-2.ensures
 
 are_three : (c : After-meet_three) → c.at-in-3.result ∷ c.at-in-3-2.result ∷ c.at-in-3-3.result ∷ []
     ≡ c.args.entries.now
 are_three c =
-    three_items c.args.entries.now c.at-in-3.result c.at-in-3-2.result c.at-in-3-3.result
+    three_listed c.args.entries.now c.at-in-3.result c.at-in-3-2.result c.at-in-3-3.result
     (sym c.len.ensures.len ∙ c.in-3.is) c.at-in-3.ensures c.at-in-3-2.ensures c.at-in-3-3.ensures
 
 -- ---- the goals

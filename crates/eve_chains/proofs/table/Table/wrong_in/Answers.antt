@@ -6,10 +6,11 @@ use Rattle.std.proofs.lemmas.List.{drop_all}
 use Rattle.eve_smallbank.specs.Chain.{Versioned}
 use Rattle.eve_views.specs.declared.fault.Code.{Code}
 use Rattle.eve_chains.specs.Tables.{table_of, IsFirstMismatch}
-use Rattle.eve_chains.proofs.Entries.{from_entry, right_there, row_there}
+use Rattle.eve_chains.proofs.Entries.{right_there, row_there}
 use Rattle.eve_chains.proofs.TableLaws.{wrong_behind, version_found, value_found, nothing_found, found_is_wrong}
 use Rattle.eve_chains.proofs.table.Table.wrong_in.Goals as goal
 use Rattle.eve_chains.proofs.table.Table.wrong_in.Goals.{then-ne, else-ne}
+use Rattle.eve_grammar.proofs.Lists.{drop_here}
 
 pub see-row-requires : goal.see-row-requires
 see-row-requires c = record {
@@ -25,7 +26,7 @@ returns-then-entry-version c =
     subst (IsFirstMismatch table c.args.entries.now)
     (sym c.loop-place.invariant
     ∙ ap (wrong_behind c.loop-place.wrong table)
-    (from_entry c.args.entries.now place c.at-entry.result c.at-entry.ensures)
+    (drop_here c.args.entries.now place c.at-entry.result c.at-entry.ensures)
     ∙ version_found c.loop-place.wrong table c.at-entry.result (drop (place + 1) c.args.entries.now)
     (λ e. c.if-entry-version.true (e ∙ sym (c.version.ensures ∙ ap (λ (v : Versioned). v.version) c.see-row.ensures))))
     (found_is_wrong table c.args.entries.now)
@@ -45,7 +46,7 @@ loop-place-preserved c =
     let value : c.value.result ≡ (table entry.row).value =
     c.value.ensures ∙ ap (λ (v : Versioned). v.value) c.see-row.ensures in
     let before = sym (ap (wrong_behind c.loop-place.wrong table)
-    (from_entry c.args.entries.now place entry c.at-entry.ensures)) ∙ c.loop-place.invariant in
+    (drop_here c.args.entries.now place entry c.at-entry.ensures)) ∙ c.loop-place.invariant in
     elim c.if-ne.branch [
       | then-ne w ↦ ap (λ (o : Option Code). wrong_behind o table rest) w.wrong-is
           ∙ sym (value_found c.loop-place.wrong table entry rest version (λ e. absurd (false≢true (sym (c.ne.ensures
