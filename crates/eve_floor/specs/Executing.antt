@@ -4,7 +4,7 @@ use Rattle.std.specs.Prelude.{Result, Ok, Err}
 use Rattle.eve_smallbank.specs.SmallBank.{Request}
 use Rattle.eve_smallbank.specs.Access.{Fits}
 use Rattle.eve_stamps.specs.Applied.{Applied, executed_as}
-use Rattle.eve_recorder.specs.Drawing.{Source, Drawer}
+use Rattle.eve_recorder.specs.Drawing.{TicketSource, Drawer}
 use Rattle.eve_recorder.specs.Seen.{Desk, Noter, WasFull}
 use Rattle.eve_floor.specs.declared.fault.ExecFault.{ExecFault}
 use Rattle.eve_floor.specs.declared.fault.ExecFault.TheVariants as fault
@@ -20,7 +20,7 @@ abbrev pub IsNext : Noter → Applied → Type 0
 IsNext seat r = (r.worker ≡ seat.worker) × (r.place ≡ length seat.noted)
 
 -- its seats are of this recorder and of these tickets
-abbrev pub IsSeatedAt : Desk → Source → Executor → Type 0
+abbrev pub IsSeatedAt : Desk → TicketSource → Executor → Type 0
 IsSeatedAt recorder tickets w = (w.seat.recorder ≡ recorder.recorder) × (w.tickets.tickets ≡ tickets)
 
 -- its seats are those that they were: each of the same object, with the same number

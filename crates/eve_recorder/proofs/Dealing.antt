@@ -14,7 +14,7 @@ use Rattle.eve_recorder.specs.declared.drawn.Drawn.{Drawn}
 use Rattle.eve_recorder.specs.declared.limits.TheConstants.{MOST_DRAWN}
 use Rattle.eve_recorder.specs.Dealt.{drawn, all_parts, times, once_below, IsFair, AreBelow, IsDealt, Draws, fewer}
 use Rattle.eve_recorder.specs.Dealt.{one_part, drawn_by_both, spent}
-use Rattle.eve_recorder.specs.Drawing.{Drawer, source}
+use Rattle.eve_recorder.specs.Drawing.{Drawer, ticket_source}
 use Rattle.atomic_table.specs.Seated.{TableId}
 
 sum_set : (f : Drawn → ℕ) (views : List Drawn) (p : ℕ) (v w : Drawn) → get_elem? views p ≡ some v
@@ -183,7 +183,7 @@ closes s seat n v h at all word x =
 
 abbrev pub drawer_of : TableId → ℕ → ℕ → ℕ → List ℕ → Drawer
 drawer_of table number seats limit numbers =
-    record { tickets = source table seats limit; number = number; drawn = numbers }
+    record { tickets = ticket_source table seats limit; number = number; drawn = numbers }
 
 abbrev pub drawn_more : Drawer → ℕ → Drawer
 drawn_more seat n = record { tickets = seat.tickets; number = seat.number; drawn = seat.drawn ++ n ∷ [] }

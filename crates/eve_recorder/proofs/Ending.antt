@@ -6,11 +6,11 @@ use Rattle.std.specs.Prelude.{slice_get}
 use Rattle.std.proofs.lemmas.Bool.{ltb-true}
 use Rattle.atomic_table.specs.Seated.{TableId}
 use Rattle.crossbeam_queue.specs.Fifo.{Merges}
-use Rattle.eve_recorder.specs.declared.ledger.Ledger.{Ledger}
+use Rattle.eve_recorder.specs.declared.passes.Knowledge.{Knowledge}
 use Rattle.eve_stamps.specs.Applied.{Applied}
 use Rattle.eve_recorder.specs.Noted.{of_worker, AllOf}
-use Rattle.eve_recorder.specs.Kept.{FitsPasses, ledger, with_last, nobody, IsWorkers}
-use Rattle.eve_recorder.specs.Rows.{AreSeated}
+use Rattle.eve_recorder.specs.Kept.{FitsPasses, knowledge, with_last, nobody, IsWorkers}
+use Rattle.eve_recorder.specs.SeatTables.{AreSeated}
 use Rattle.eve_recorder.specs.Seen.{RecorderId, recorder_id, Desk, Noter, Places, IsNoterOf, AreNotersSeated}
 use Rattle.eve_recorder.specs.Seen.{noted_on_all}
 use Rattle.eve_recorder.specs.Seen.{noted_on, fresh_noter, fresh_places}
@@ -75,14 +75,14 @@ pub noted_past : (recorder : RecorderId) (seats : List (Option Noter)) (k : ℕ)
 noted_past recorder seats k h le = noted_none 0 k k seats (omega arith) (from_seated recorder seats h)
     (λ x e. let f = (h k x e).2 in omega arith)
 
-pub put_step : (port other n k count : ℕ) (v u : Ledger) → v ≡ ledger false [] n 0 k v.noted → IsWorkers k count u
+pub put_step : (port other n k count : ℕ) (v u : Knowledge) → v ≡ knowledge false [] n 0 k v.noted → IsWorkers k count u
     → u.workers ≡ n
     → Merges FitsPasses port v other u (with_last v u) nobody
 put_step port other n k count v u is seat many =
-    let a : v.from ≡ 0 = ap (λ (h : Ledger). h.from) is in let b : v.below ≡ k = ap (λ (h : Ledger). h.below) is in
-    let c : u.from ≡ k = ap (λ (h : Ledger). h.from) seat.0 in let d : u.below ≡ suc k =
-    ap (λ (h : Ledger). h.below) seat.0 in
-    let e : v.workers ≡ n = ap (λ (h : Ledger). h.workers) is in
+    let a : v.from ≡ 0 = ap (λ (h : Knowledge). h.from) is in let b : v.below ≡ k = ap (λ (h : Knowledge). h.below) is in
+    let c : u.from ≡ k = ap (λ (h : Knowledge). h.from) seat.0 in let d : u.below ≡ suc k =
+    ap (λ (h : Knowledge). h.below) seat.0 in
+    let e : v.workers ≡ n = ap (λ (h : Knowledge). h.workers) is in
     merges port v other u (omega arith) (omega arith) (omega arith) (many ∙ sym e)
 
 -- what `cut` gives fits its place

@@ -8,7 +8,7 @@ use native.Mathlib.Decide.{dec_le, ℕ_discrete}
 use lib.ListN.{get_elem?}
 use Rattle.crossbeam_queue.specs.Fifo.{Pushes, Pops, Forks, Merges, Learns}
 use Rattle.crossbeam_queue.proofs.Lists.{at_set}
-use Rattle.eve_recorder.specs.declared.ledger.Ledger.{Ledger}
+use Rattle.eve_recorder.specs.declared.passes.Knowledge.{Knowledge}
 use Rattle.eve_stamps.specs.Applied.{Applied}
 use Rattle.eve_recorder.specs.Noted.{of_worker, IsPlaced, IsOrderly, ComeFrom}
 use Rattle.eve_recorder.specs.declared.limits.TheConstants.{MOST_SEATS}
@@ -60,20 +60,20 @@ pub orderly_front : (xs ys : List Applied) → IsOrderly (xs ++ ys) → IsOrderl
 orderly_front xs ys h w = placed_front 0 (of_worker w xs) (of_worker w ys)
     (subst (λ l. IsPlaced 0 l) (of_worker-append w xs ys) (h w))
 
-at_end : (l : List Ledger) (a b : Ledger) (j : ℕ) → get_elem? l j ≢ some b → get_elem? (l ++ a ∷ []) j ≡ some b
+at_end : (l : List Knowledge) (a b : Knowledge) (j : ℕ) → get_elem? l j ≢ some b → get_elem? (l ++ a ∷ []) j ≡ some b
     → j ≡ length l
 at_end [] a b zero n e = refl
 at_end [] a b (suc j) n e = absurd (some-ne-none b (sym e))
 at_end (x ∷ xs) a b zero n e = absurd (n e)
 at_end (x ∷ xs) a b (suc j) n e = ap suc (at_end xs a b j n e)
 
-abbrev All : (ℕ → Ledger → Type 0) → List Ledger → Type 0
-All F views = (port : ℕ) (v : Ledger) → get_elem? views port ≡ some v → F port v
+abbrev All : (ℕ → Knowledge → Type 0) → List Knowledge → Type 0
+All F views = (port : ℕ) (v : Knowledge) → get_elem? views port ≡ some v → F port v
 
-all_set : (F : ℕ → Ledger → Type 0) (views : List Ledger) (port : ℕ) (w : Ledger) → F port w
-    → ((j : ℕ) (u : Ledger) → j ≢ port → get_elem? views j ≡ some u → F j u) → All F (set views port w)
+all_set : (F : ℕ → Knowledge → Type 0) (views : List Knowledge) (port : ℕ) (w : Knowledge) → F port w
+    → ((j : ℕ) (u : Knowledge) → j ≢ port → get_elem? views j ≡ some u → F j u) → All F (set views port w)
 all_set F views port w mine others j u e =
-    ⊎_elim (λ (x : (j ≡ port) × (w ≡ u)). subst (λ (y : ℕ × Ledger). F y.0 y.1) (λ i. (sym x.0 i, x.1 i)) mine)
+    ⊎_elim (λ (x : (j ≡ port) × (w ≡ u)). subst (λ (y : ℕ × Knowledge). F y.0 y.1) (λ i. (sym x.0 i, x.1 i)) mine)
     (λ (x : (j ≢ port) × (get_elem? views j ≡ some u)). others j u x.0 x.1) (at_set views port j w u e)
 
 -- where two lists together are empty, the first is
@@ -118,20 +118,20 @@ begins = record {
       (λ j u other e. absurd (other (at_end [] newcomer u j (λ x. some-ne-none u (sym x)) e)));
 }
 
-pub notes : (n port : ℕ) (v : Ledger) (x : Applied) → StandsFor v x.worker
+pub notes : (n port : ℕ) (v : Knowledge) (x : Applied) → StandsFor v x.worker
     → x.place ≡ length (of_worker x.worker v.noted)
     → Pushes FitsPasses n port v x (λ w. w ≡ noting v x)
 notes n port v x stands place items views _ h at =
-    let w : Ledger = noting v x in let mine = h.fits port v at in let taken = h.taken in let all = taken ++ items in
+    let w : Knowledge = noting v x in let mine = h.fits port v at in let taken = h.taken in let all = taken ++ items in
     let me = mine.1 x.worker stands in
     let same : all ++ x ∷ [] ≡ taken ++ (items ++ x ∷ []) = append_assoc taken items (x ∷ []) in
-    let F : ℕ → Ledger → Type 0 = FitsPass h.workers h.taker h.seat taken (all ++ x ∷ []) in
+    let F : ℕ → Knowledge → Type 0 = FitsPass h.workers h.taker h.seat taken (all ++ x ∷ []) in
     let here : F port w = (
       mine.0,
       (λ k s. let f = mine.1 k s in (f.0, of_end k v.noted all x f.1, f.2, f.3)),
       (λ k s. of_more k v.noted x (λ is. s (subst (λ i. StandsFor v i) is stands)) ∙ mine.2 k s),
     ) in
-    let there : (j : ℕ) (u : Ledger) → j ≢ port → get_elem? views j ≡ some u → F j u = λ j u other e. let f =
+    let there : (j : ℕ) (u : Knowledge) → j ≢ port → get_elem? views j ≡ some u → F j u = λ j u other e. let f =
     h.fits j u e in (
       f.0,
       (λ k s. let g = f.1 k s in (
@@ -159,10 +159,10 @@ notes n port v x stands place items views _ h at =
       refl,
     )
 
-pub takes : (port : ℕ) (v : Ledger) → v.takes ≡ true
+pub takes : (port : ℕ) (v : Knowledge) → v.takes ≡ true
     → Pops FitsPasses port v (λ x w. (w ≡ taking v x) × IsOrderly w.taken × TakesFront w × (x.worker < v.workers))
 takes port v may x items views h at =
-    let w : Ledger = taking v x in let mine = h.fits port v at in let taken = h.taken in let now = taken ++ x ∷ [] in
+    let w : Knowledge = taking v x in let mine = h.fits port v at in let taken = h.taken in let now = taken ++ x ∷ [] in
     let me = mine.0 may in
     let same : taken ++ (x ∷ items) ≡ now ++ items = sym (append_assoc taken (x ∷ []) items) in
     let orderly : IsOrderly (now ++ items) = subst IsOrderly same h.orderly in
@@ -170,13 +170,13 @@ takes port v may x items views h at =
     let carry : (k : ℕ) → of_worker k (taken ++ (x ∷ items)) ≡ of_worker k (now ++ items) =
     λ k. ap (of_worker k) same in
     let is : v.taken ++ x ∷ [] ≡ now = ap (λ l. l ++ x ∷ []) me.1 in
-    let F : ℕ → Ledger → Type 0 = FitsPass h.workers h.taker h.seat now (now ++ items) in
+    let F : ℕ → Knowledge → Type 0 = FitsPass h.workers h.taker h.seat now (now ++ items) in
     let here : F port w = (
       (λ _. (me.0, is, me.2)),
       (λ k s. let f = mine.1 k s in (f.0, f.1 ∙ carry k, f.2, f.3)),
       mine.2,
     ) in
-    let there : (j : ℕ) (u : Ledger) → j ≢ port → get_elem? views j ≡ some u → F j u = λ j u other e. let f =
+    let there : (j : ℕ) (u : Knowledge) → j ≢ port → get_elem? views j ≡ some u → F j u = λ j u other e. let f =
     h.fits j u e in
     ((λ t. absurd (other ((f.0 t).0 ∙ sym me.0))), (λ k s. let g = f.1 k s in (g.0, g.1 ∙ carry k, g.2, g.3)), f.2) in
     let past : (k : ℕ) → v.workers ≤ k → of_worker k w.taken ≡ [] = λ k le. ap (of_worker k) is
@@ -205,16 +205,16 @@ takes port v may x items views h at =
       ),
     )
 
-snoc_end : (l : List Ledger) (a b : Ledger) (j : ℕ) → get_elem? (l ++ a ∷ []) j ≡ some b → (get_elem? l j ≡ some b)
+snoc_end : (l : List Knowledge) (a b : Knowledge) (j : ℕ) → get_elem? (l ++ a ∷ []) j ≡ some b → (get_elem? l j ≡ some b)
     ⊎ ((j ≡ length l) × (a ≡ b))
 snoc_end [] a b zero e = inr (refl, some-injective a b e)
 snoc_end [] a b (suc j) e = absurd (some-ne-none b (sym e))
 snoc_end (x ∷ xs) a b zero e = inl e
 snoc_end (x ∷ xs) a b (suc j) e = ⊎_elim (λ t. inl t) (λ t. inr (ap suc t.0, t.1)) (snoc_end xs a b j e)
 
-all_snoc : (F : ℕ → Ledger → Type 0) (l : List Ledger) (r : Ledger) → All F l → F (length l) r → All F (l ++ r ∷ [])
+all_snoc : (F : ℕ → Knowledge → Type 0) (l : List Knowledge) (r : Knowledge) → All F l → F (length l) r → All F (l ++ r ∷ [])
 all_snoc F l r old new j u e =
-    ⊎_elim (λ x. old j u x) (λ (x : (j ≡ length l) × (r ≡ u)). subst (λ (y : ℕ × Ledger). F y.0 y.1)
+    ⊎_elim (λ x. old j u x) (λ (x : (j ≡ length l) × (r ≡ u)). subst (λ (y : ℕ × Knowledge). F y.0 y.1)
     (λ i. (sym x.0 i, x.1 i)) new) (snoc_end l r u j e)
 
 -- the seat of k moves to n
@@ -233,19 +233,19 @@ nobody_fits workers taker seat taken all port =
     ((λ t. absurd (true≢false (sym t))), (λ k s. absurd (omega arith)), λ k _. refl)
 
 -- a pass that takes and stands for all workers, of whom none has noted anything, may say that there is one less
-pub forks_absent : (port : ℕ) (v : Ledger) → v.takes ≡ true → v.from ≡ 0 → v.below ≡ v.workers → 0 < v.below
+pub forks_absent : (port : ℕ) (v : Knowledge) → v.takes ≡ true → v.from ≡ 0 → v.below ≡ v.workers → 0 < v.below
     → v.noted ≡ [] → Forks FitsPasses port v (one_less v) nobody
 forks_absent port v may all_from all_below left_over none items views h at =
-    let l : Ledger = one_less v in let mine = h.fits port v at in let me = mine.0 may in let vs : List Ledger =
+    let l : Knowledge = one_less v in let mine = h.fits port v at in let me = mine.0 may in let vs : List Knowledge =
     set views port l in
     let n = h.workers - 1 in let many : v.workers ≡ h.workers = me.2 in
-    let F : ℕ → Ledger → Type 0 = FitsPass n h.taker h.seat h.taken (h.taken ++ items) in
+    let F : ℕ → Knowledge → Type 0 = FitsPass n h.taker h.seat h.taken (h.taken ++ items) in
     let left : F port l = (
       (λ _. (me.0, me.1, ap (λ k. k - 1) many)),
       (λ k s. let f = mine.1 k (s.0, omega arith) in (f.0, f.1, ap (λ k. k - 1) many, omega arith)),
       (λ k _. ap (of_worker k) none),
     ) in
-    let others : (j : ℕ) (u : Ledger) → j ≢ port → get_elem? views j ≡ some u → F j u = λ j u other e. let f =
+    let others : (j : ℕ) (u : Knowledge) → j ≢ port → get_elem? views j ≡ some u → F j u = λ j u other e. let f =
     h.fits j u e in (
       (λ t. absurd (other ((f.0 t).0 ∙ sym me.0))),
       (λ k s. let g = f.1 k s in let lt = g.3 in absurd (other (g.0 ∙ sym (mine.1 k (omega arith, omega arith)).0))),
@@ -265,21 +265,21 @@ forks_absent port v may all_from all_below left_over none items views h at =
           (nobody_fits n h.taker h.seat h.taken (h.taken ++ items) (length vs));
     }
 
-pub forks : (port : ℕ) (v : Ledger) → v.from < v.below → v.noted ≡ [] → Forks FitsPasses port v (rest_of v)
+pub forks : (port : ℕ) (v : Knowledge) → v.from < v.below → v.noted ≡ [] → Forks FitsPasses port v (rest_of v)
     (last_pass v)
 forks port v some_left none items views h at =
-    let l : Ledger = rest_of v in let r : Ledger = last_pass v in let mine = h.fits port v at in let vs : List Ledger =
+    let l : Knowledge = rest_of v in let r : Knowledge = last_pass v in let mine = h.fits port v at in let vs : List Knowledge =
     set views port l in
     let last = v.below - 1 in let me = mine.1 last (omega arith, omega arith) in
     let seat : ℕ → ℕ = moved h.seat last (length vs) in
-    let F : ℕ → Ledger → Type 0 = FitsPass h.workers h.taker seat h.taken (h.taken ++ items) in
+    let F : ℕ → Knowledge → Type 0 = FitsPass h.workers h.taker seat h.taken (h.taken ++ items) in
     let left : F port l = (
       mine.0,
       (λ k s. let f = mine.1 k (s.0, omega arith) in let away : k ≢ last = omega arith in
           (f.0 ∙ sym (moved_else h.seat last (length vs) k away), f.1, f.2, f.3)),
       (λ k _. ap (of_worker k) none),
     ) in
-    let others : (j : ℕ) (u : Ledger) → j ≢ port → get_elem? views j ≡ some u → F j u = λ j u other e. let f =
+    let others : (j : ℕ) (u : Knowledge) → j ≢ port → get_elem? views j ≡ some u → F j u = λ j u other e. let f =
     h.fits j u e in (
       f.0,
       (λ k s. let g = f.1 k s in let away : k ≢ last = λ is. other (g.0 ∙ ap h.seat is ∙ sym me.0) in
@@ -302,13 +302,13 @@ forks port v some_left none items views h at =
       fits = all_snoc F vs r (all_set F views port l left others) right;
     }
 
-pub forks_taker : (port : ℕ) (v : Ledger) → v.takes ≡ true → Forks FitsPasses port v (no_taker v) (taker_of v)
+pub forks_taker : (port : ℕ) (v : Knowledge) → v.takes ≡ true → Forks FitsPasses port v (no_taker v) (taker_of v)
 forks_taker port v may items views h at =
-    let l : Ledger = no_taker v in let r : Ledger = taker_of v in let mine = h.fits port v at in let me = mine.0 may in
-    let vs : List Ledger = set views port l in
-    let F : ℕ → Ledger → Type 0 = FitsPass h.workers (length vs) h.seat h.taken (h.taken ++ items) in
+    let l : Knowledge = no_taker v in let r : Knowledge = taker_of v in let mine = h.fits port v at in let me = mine.0 may in
+    let vs : List Knowledge = set views port l in
+    let F : ℕ → Knowledge → Type 0 = FitsPass h.workers (length vs) h.seat h.taken (h.taken ++ items) in
     let left : F port l = ((λ t. absurd (true≢false (sym t))), mine.1, mine.2) in
-    let others : (j : ℕ) (u : Ledger) → j ≢ port → get_elem? views j ≡ some u → F j u = λ j u other e. let f =
+    let others : (j : ℕ) (u : Knowledge) → j ≢ port → get_elem? views j ≡ some u → F j u = λ j u other e. let f =
     h.fits j u e in
     ((λ t. absurd (other ((f.0 t).0 ∙ sym me.0))), f.1, f.2) in
     let right : F (length vs) r = ((λ _. (refl, me.1, me.2)), (λ k s. absurd (omega arith)), λ k _. refl) in
@@ -322,7 +322,7 @@ forks_taker port v may items views h at =
       fits = all_snoc F vs r (all_set F views port l left others) right;
     }
 
-was_there : (views : List Ledger) (port other : ℕ) (both u : Ledger) → ¬ (other ≡ port)
+was_there : (views : List Knowledge) (port other : ℕ) (both u : Knowledge) → ¬ (other ≡ port)
     → get_elem? (set views port both) other ≡ some u → get_elem? views other ≡ some u
 was_there views port other both u two e = ⊎_elim (λ x. absurd (two x.0)) (λ x. x.1) (at_set views port other both u e)
 
@@ -336,19 +336,19 @@ joined_there seat from to k e = sym (ap (λ b. cond b to (seat k)) (eq-eqb (seat
 joined_else : (seat : ℕ → ℕ) (from to k j : ℕ) → j ≡ seat k → j ≢ from → j ≡ joined seat from to k
 joined_else seat from to k j e n = e ∙ sym (ap (λ b. cond b to (seat k)) (ne_eqb (seat k) from (λ h. n (e ∙ h))))
 
-pub merges : (port : ℕ) (v : Ledger) (other : ℕ) (u : Ledger) → v.from ≤ v.below → u.from ≡ v.below → u.from ≤ u.below
+pub merges : (port : ℕ) (v : Knowledge) (other : ℕ) (u : Knowledge) → v.from ≤ v.below → u.from ≡ v.below → u.from ≤ u.below
     → u.workers ≡ v.workers
     → Merges FitsPasses port v other u (with_last v u) nobody
 merges port v other u fine meet ok many items views h at two at' =
-    let both : Ledger = with_last v u in let mine = h.fits port v at in let theirs =
+    let both : Knowledge = with_last v u in let mine = h.fits port v at in let theirs =
     h.fits other u (was_there views port other both u two at') in
     let all = h.taken ++ items in
     let seat : ℕ → ℕ = joined h.seat other port in
     let port_apart : port ≢ other = λ e. two (sym e) in
     let cut : (k : ℕ) → of_worker k both.noted ≡ of_worker k v.noted ++ of_worker k u.noted =
     λ k. of_worker-append k v.noted u.noted in
-    let F : ℕ → Ledger → Type 0 = FitsPass h.workers h.taker seat h.taken all in
-    let Now : ℕ → Ledger → Type 0 = λ j y. j ≢ other → F j y in
+    let F : ℕ → Knowledge → Type 0 = FitsPass h.workers h.taker seat h.taken all in
+    let Now : ℕ → Knowledge → Type 0 = λ j y. j ≢ other → F j y in
     let here : F port both = (
       mine.0,
       (λ k s. dite (dec_le v.below k)
@@ -384,14 +384,14 @@ merges port v other u fine meet ok many items views h at two at' =
           (λ j y apart e. now j y e apart);
     }
 
-pub merges_taker : (port : ℕ) (v : Ledger) (other : ℕ) (u : Ledger) → u.takes ≡ true → u.workers ≡ v.workers
+pub merges_taker : (port : ℕ) (v : Knowledge) (other : ℕ) (u : Knowledge) → u.takes ≡ true → u.workers ≡ v.workers
     → Merges FitsPasses port v other u (with_taker v u) nobody
 merges_taker port v other u may many items views h at two at' =
-    let both : Ledger = with_taker v u in let mine = h.fits port v at in let theirs =
+    let both : Knowledge = with_taker v u in let mine = h.fits port v at in let theirs =
     h.fits other u (was_there views port other both u two at') in
     let them = theirs.0 may in let all = h.taken ++ items in
-    let F : ℕ → Ledger → Type 0 = FitsPass h.workers port h.seat h.taken all in
-    let Now : ℕ → Ledger → Type 0 = λ j y. j ≢ other → F j y in
+    let F : ℕ → Knowledge → Type 0 = FitsPass h.workers port h.seat h.taken all in
+    let Now : ℕ → Knowledge → Type 0 = λ j y. j ≢ other → F j y in
     let now : All Now (set views port both) =
     all_set Now views port both (λ _. ((λ _. (refl, them.1, sym many ∙ them.2)), mine.1, mine.2))
     (λ j y _ e apart. let f = h.fits j y e in ((λ t. absurd (apart ((f.0 t).0 ∙ sym them.0))), f.1, f.2)) in
@@ -407,7 +407,7 @@ merges_taker port v other u may many items views h at two at' =
     }
 
 -- who takes sees what the queue holds of each worker that it stands for or that isn't there
-pub learns_all : (port : ℕ) (v : Ledger) → v.takes ≡ true → Learns FitsPasses port v (SeesAll v)
+pub learns_all : (port : ℕ) (v : Knowledge) → v.takes ≡ true → Learns FitsPasses port v (SeesAll v)
 learns_all port v may items views h at =
     let mine = h.fits port v at in let me = mine.0 may in let is : h.taken ++ items ≡ v.taken ++ items =
     ap (λ l. l ++ items) (sym me.1) in (
@@ -419,7 +419,7 @@ learns_all port v may items views h at =
     )
 
 -- what a worker knows of a full queue
-pub learns_some : (port : ℕ) (v : Ledger) → Learns FitsPasses port v (SeesSome v)
+pub learns_some : (port : ℕ) (v : Knowledge) → Learns FitsPasses port v (SeesSome v)
 learns_some port v items views h at = let mine = h.fits port v at in (
   h.taken,
   h.orderly,

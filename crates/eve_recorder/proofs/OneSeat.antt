@@ -6,10 +6,10 @@ use Rattle.std.specs.Option.{MatchOption}
 use Rattle.std.proofs.lemmas.Bool.{cases_lt}
 use Rattle.atomic_table.specs.Seated.{TableId}
 use Rattle.crossbeam_queue.specs.Fifo.{Pushes, Pops, Learns, Held}
-use Rattle.eve_recorder.specs.declared.ledger.Ledger.{Ledger}
+use Rattle.eve_recorder.specs.declared.passes.Knowledge.{Knowledge}
 use Rattle.eve_stamps.specs.Applied.{Applied}
 use Rattle.eve_recorder.specs.Noted.{of_worker, AllOf, IsOrderly, ComeFrom}
-use Rattle.eve_recorder.specs.Kept.{ledger, FitsPasses, IsWorkers, noting, taking, TakesFront, SeesSome}
+use Rattle.eve_recorder.specs.Kept.{knowledge, FitsPasses, IsWorkers, noting, taking, TakesFront, SeesSome}
 use Rattle.eve_recorder.specs.Kept.{SeesAll, KnowsOf}
 use Rattle.eve_recorder.specs.Seen.{RecorderId, recorder_id, Desk, Noter, Taker, NotedAndTaken, WasFull}
 use Rattle.eve_recorder.proofs.Keeps.{whose_is, come_rest, notes, takes, learns_all, learns_some}
@@ -23,23 +23,23 @@ pub all_of_snoc : (w : ℕ) (xs : List Applied) (x : Applied) → AllOf w xs →
 all_of_snoc w [] x h e = (e, tt)
 all_of_snoc w (y ∷ xs) x h e = (h.0, all_of_snoc w xs x h.1 e)
 
-pub note_step : (n port w count : ℕ) (v : Ledger) (x : Applied) → IsWorkers w count v → x.worker ≡ w
+pub note_step : (n port w count : ℕ) (v : Knowledge) (x : Applied) → IsWorkers w count v → x.worker ≡ w
     → x.place ≡ length v.noted
     → Pushes FitsPasses n port v x (λ u. u ≡ noting v x) × Learns FitsPasses port v (SeesSome v)
 note_step n port w count v x is e place =
-    let from : v.from ≡ w = ap (λ (h : Ledger). h.from) is.0 in
-    let below : v.below ≡ suc w = ap (λ (h : Ledger). h.below) is.0 in
+    let from : v.from ≡ w = ap (λ (h : Knowledge). h.from) is.0 in
+    let below : v.below ≡ suc w = ap (λ (h : Knowledge). h.below) is.0 in
     let due : x.place ≡ length (of_worker x.worker v.noted) = place
     ∙ ap length (sym (ap (λ k. of_worker k v.noted) e ∙ all_of-of_worker w v.noted is.4)) in
     (notes n port v x (omega arith) due, learns_some port v)
 
-pub seat_after : (w count : ℕ) (v u : Ledger) (x : Applied) → IsWorkers w count v → x.worker ≡ w → u ≡ noting v x
+pub seat_after : (w count : ℕ) (v u : Knowledge) (x : Applied) → IsWorkers w count v → x.worker ≡ w → u ≡ noting v x
     → IsWorkers w (count + 1) u
 seat_after w count v u x is e after =
-    let noted : u.noted ≡ v.noted ++ x ∷ [] = ap (λ (h : Ledger). h.noted) after in
-    let workers : u.workers ≡ v.workers = ap (λ (h : Ledger). h.workers) after in (
-      after ∙ ap (λ (h : Ledger). ledger h.takes h.taken h.workers h.from h.below (v.noted ++ x ∷ [])) is.0
-          ∙ (λ i. ledger false [] (sym workers i) w (suc w) (sym noted i)),
+    let noted : u.noted ≡ v.noted ++ x ∷ [] = ap (λ (h : Knowledge). h.noted) after in
+    let workers : u.workers ≡ v.workers = ap (λ (h : Knowledge). h.workers) after in (
+      after ∙ ap (λ (h : Knowledge). knowledge h.takes h.taken h.workers h.from h.below (v.noted ++ x ∷ [])) is.0
+          ∙ (λ i. knowledge false [] (sym workers i) w (suc w) (sym noted i)),
       omega (arith, is.1),
       omega (arith, is.2),
       ap (λ k. k + 1) is.3 ∙ sym (length-append v.noted (x ∷ [])) ∙ ap length (sym noted),
@@ -53,16 +53,16 @@ of_one (x ∷ xs) h = let lt = whose_is 1 [] xs x h in let is : x.worker ≡ 0 =
     ap (λ b. length (cond b (x ∷ of_worker 0 xs) (of_worker 0 xs))) (eq-eqb x.worker 0 is)
     ∙ ap suc (of_one xs (come_rest 1 x xs h))
 
-abbrev pub noter_of : TableId → ℕ → Ledger → Noter
+abbrev pub noter_of : TableId → ℕ → Knowledge → Noter
 noter_of table w v = record { recorder = recorder_id table v.workers; worker = w; noted = v.noted }
 
 -- what is learned where the queue is full
-pub full_by : (desk : Desk) (table : TableId) (w count : ℕ) (v : Ledger) → IsWorkers w count v
+pub full_by : (desk : Desk) (table : TableId) (w count : ℕ) (v : Knowledge) → IsWorkers w count v
     → recorder_id table v.workers ≡ desk.recorder
     → Held desk.room (SeesSome v) → WasFull desk (noter_of table w v)
 full_by desk table w count v is own held =
-    let from : v.from ≡ w = ap (λ (h : Ledger). h.from) is.0 in
-    let below : v.below ≡ suc w = ap (λ (h : Ledger). h.below) is.0 in
+    let from : v.from ≡ w = ap (λ (h : Knowledge). h.from) is.0 in
+    let below : v.below ≡ suc w = ap (λ (h : Knowledge). h.below) is.0 in
     let sees = held.2 in let mine = sees.2 w (omega arith, omega arith) in (
       sees.0,
       held.0,
@@ -83,7 +83,7 @@ full_alone desk seat full lt one =
     ∙ ap length full.5 in
     omega (arith, mine, whole, full.2, length-append full.0 full.1)
 
-pub take_step : (port : ℕ) (v : Ledger) → v.takes ≡ true
+pub take_step : (port : ℕ) (v : Knowledge) → v.takes ≡ true
     → Pops FitsPasses port v (λ x u. (u ≡ taking v x) × IsOrderly u.taken × TakesFront u × (x.worker < v.workers))
     × Learns FitsPasses port v (SeesAll v)
 take_step port v may = (takes port v may, learns_all port v may)
@@ -98,10 +98,10 @@ pub where_none : {A : Type 0} {N M : Type 0} (P : A → Type 0) (r : Option A) �
 where_none P None f m = f m
 where_none P (Some x) f m = tt
 
-abbrev pub taker_of_pass : TableId → Ledger → Taker
+abbrev pub taker_of_pass : TableId → Knowledge → Taker
 taker_of_pass table v = record { recorder = recorder_id table v.workers; taken = v.taken }
 
-abbrev pub left_of_pass : Ledger → NotedAndTaken
+abbrev pub left_of_pass : Knowledge → NotedAndTaken
 left_of_pass v = record { noted = v.noted; taken = v.taken }
 
 abbrev pub taken_on : Taker → Applied → Taker
@@ -111,7 +111,7 @@ abbrev pub taken_of : NotedAndTaken → Applied → NotedAndTaken
 taken_of left x = record { noted = left.noted; taken = left.taken ++ x ∷ [] }
 
 -- a seat on which one more was taken
-pub taker_after : (table then : TableId) (v u : Ledger) (x : Applied) (seat : Taker) → then ≡ table → u ≡ taking v x
+pub taker_after : (table then : TableId) (v u : Knowledge) (x : Applied) (seat : Taker) → then ≡ table → u ≡ taking v x
     → taker_of_pass table v ≡ seat
     → taker_of_pass then u ≡ taken_on seat x
 taker_after table then v u x seat same after is =
@@ -119,12 +119,12 @@ taker_after table then v u x seat same after is =
     ∙ ap (λ s. taken_on s x) is
 
 -- a seat on which nothing more was taken
-pub taker_same : (table then : TableId) (v u : Ledger) (seat : Taker) → then ≡ table → u ≡ v
+pub taker_same : (table then : TableId) (v u : Knowledge) (seat : Taker) → then ≡ table → u ≡ v
     → taker_of_pass table v ≡ seat → taker_of_pass then u ≡ seat
 taker_same table then v u seat same after is = ap (λ t. taker_of_pass t u) same ∙ ap (taker_of_pass table) after ∙ is
 
 -- what is left where one more was taken
-pub left_after : (v u : Ledger) (x : Applied) (left : NotedAndTaken) → u ≡ taking v x → left_of_pass v ≡ left
+pub left_after : (v u : Knowledge) (x : Applied) (left : NotedAndTaken) → u ≡ taking v x → left_of_pass v ≡ left
     → left_of_pass u ≡ taken_of left x
 left_after v u x left after is = ap left_of_pass after ∙ ap (λ l. taken_of l x) is
 
@@ -133,7 +133,7 @@ no_length [] e = refl
 no_length (x ∷ xs) e = absurd (omega (arith, e))
 
 -- what is left where nothing is queued: all that was noted is taken
-pub all_taken : (v : Ledger) (left : NotedAndTaken) → v ≡ ledger true v.taken v.workers 0 v.workers v.noted
+pub all_taken : (v : Knowledge) (left : NotedAndTaken) → v ≡ knowledge true v.taken v.workers 0 v.workers v.noted
     → Held 0 (SeesAll v) → left_of_pass v ≡ left → (w : ℕ) → of_worker w left.noted ≡ of_worker w left.taken
 all_taken v left whole held is w =
     let none : v.taken ++ held.0 ≡ v.taken = ap (λ l. v.taken ++ l) (no_length held.0 held.1) ∙ append-nil v.taken in
@@ -142,10 +142,10 @@ all_taken v left whole held is w =
     ∙ ap (λ (l : NotedAndTaken). of_worker w l.taken) is
   where
     from : v.from ≡ 0
-    from = ap (λ (h : Ledger). h.from) whole
+    from = ap (λ (h : Knowledge). h.from) whole
 
     below : v.below ≡ v.workers
-    below = ap (λ (h : Ledger). h.below) whole
+    below = ap (λ (h : Knowledge). h.below) whole
 
     knows : (w < v.workers) ⊎ (v.workers ≤ w) → KnowsOf v w
     knows (inl there) = inl (omega (arith, from), omega (arith, below))

@@ -1,8 +1,8 @@
--- A row of seats, each at its place, of which one is taken out or put back.
+-- A table of seats, each at its place, of which one is taken out or put back.
 use Rattle.std.proofs.Common.{◌≡◌, ℕ, zero, suc, List, [], ◌∷◌, ◌++◌, append_assoc, append-nil, flat_map, get_or, set}
 use Rattle.std.proofs.Common.{sym, refl, ap, ◌∙◌, subst, Option, Some, None, IfSome, ◌⊎◌, inl, inr, ⊎_elim}
 use Rattle.std.specs.Prelude.{slice_get}
-use Rattle.eve_recorder.specs.Rows.{row_by, AreSeated}
+use Rattle.eve_recorder.specs.SeatTables.{table_by, AreSeated}
 
 get_or-slice_get : {A : Type 0} (l : List (Option A)) (k : ℕ) (x : A) → get_or l k None ≡ Some x → slice_get l k
     ≡ Some (Some x)
@@ -46,7 +46,7 @@ seated_with {A} P places w y h own k x e = ⊎_elim
 
 -- eight places, each with what it asks for
 pub seated_by : {A : Type 0} (P : ℕ → A → Type 0) (f : ℕ → Option A) → ((k : ℕ) (x : A) → f k ≡ Some x → P k x)
-    → AreSeated P (row_by f)
+    → AreSeated P (table_by f)
 seated_by P f own zero x e = own 0 x (let h : Some (f 0) ≡ Some (Some x) = e in cc)
 seated_by P f own (suc zero) x e = own 1 x (let h : Some (f 1) ≡ Some (Some x) = e in cc)
 seated_by P f own (suc (suc zero)) x e = own 2 x (let h : Some (f 2) ≡ Some (Some x) = e in cc)

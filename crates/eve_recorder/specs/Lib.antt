@@ -3,4 +3,4 @@ pub mod Kept
 pub mod Seen
 pub mod Dealt
 pub mod Drawing
-pub mod Rows
+pub mod SeatTables

@@ -4,7 +4,7 @@ use Rattle.std.specs.Prelude.{flat_map}
 use Rattle.atomic_table.specs.Seated.{TableId}
 use Rattle.eve_stamps.specs.Applied.{Applied}
 use Rattle.eve_recorder.specs.Noted.{of_worker, AllOf, IsOrderly, ComeFrom}
-use Rattle.eve_recorder.specs.Rows.{row_by, HasBelow, AreSeated}
+use Rattle.eve_recorder.specs.SeatTables.{table_by, HasBelow, AreSeated}
 
 -- which recorder it is, by a table that no others share, and how many workers it has
 pub record RecorderId : Type 0 where
@@ -76,7 +76,7 @@ fresh_noter recorder w =
 abbrev pub fresh_places : RecorderId → Places
 fresh_places recorder = record {
   recorder = recorder;
-  seats = row_by (fresh_noter recorder);
+  seats = table_by (fresh_noter recorder);
   taker = Some record { recorder = recorder; taken = [] };
 }
 

@@ -55,4 +55,4 @@ impl Join<Drawn> for OnePart {
 pub type Counter = Table<u8, Drawn, (), EachNumberOnce, Global>;
 
 /// A seat at the counter.
-pub type Place = Seat<u8, Drawn>;
+pub type CounterSeat = Seat<u8, Drawn>;

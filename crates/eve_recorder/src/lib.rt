@@ -4,10 +4,10 @@
 
 mod drawn;
 mod gate;
-mod ledger;
 mod limits;
+mod passes;
 mod recorder;
-mod row;
+mod seat_table;
 mod seats;
 mod taken;
 mod taker_seat;

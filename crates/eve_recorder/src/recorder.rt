@@ -4,14 +4,14 @@ ghost use Rattle.std.specs.Prelude.{◌≡◌, ◌<◌, ◌≤◌, ◌+◌, true
 ghost use Rattle.std.specs.Prelude.{IfErr, IfSome, IsSome, IfNone, Some, slice_get};
 ghost use Rattle.crossbeam_queue.specs.Passes.{view, IsPassOf, IsSamePass};
 ghost use Rattle.eve_recorder.specs.Noted.{of_worker, IsOrderly};
-ghost use Rattle.eve_recorder.specs.Kept.{ledger};
+ghost use Rattle.eve_recorder.specs.Kept.{knowledge};
 ghost use Rattle.eve_recorder.specs.Seen.{Desk, Noter, recorder_id, fresh_noter};
 ghost use Rattle.eve_recorder.specs.Seen.{fresh_places};
 ghost use Rattle.eve_recorder.specs.Seen.{noted_on, IsNoterOf, HasAllSeats, WasFull, WasEmpty};
 
-use crate::ledger::{AbsentCut, Notes, Queue, QueuePass, TakerCut, Takes, WorkerCut};
 use crate::limits::{MOST_QUEUED, MOST_SEATS};
-use crate::row::Row;
+use crate::passes::{AbsentCut, Notes, Queue, QueuePass, TakerCut, Takes, WorkerCut};
+use crate::seat_table::SeatTable;
 use crate::seats::Seats;
 use crate::taken::Taken;
 use crate::taker_seat::TakerSeat;
@@ -72,7 +72,7 @@ impl Recorder {
         let seats = Seats {
             main,
             workers,
-            row: Row {
+            table: SeatTable {
                 s0,
                 s1,
                 s2,
@@ -141,10 +141,10 @@ impl Recorder {
         let Seats {
             mut main,
             workers,
-            row,
+            table,
             taker,
         } = seats;
-        let Row {
+        let SeatTable {
             s0,
             s1,
             s2,
@@ -153,7 +153,7 @@ impl Recorder {
             s5,
             s6,
             s7,
-        } = row;
+        } = table;
         put_back(&queue, &mut main, s0, 0, workers);
         put_back(&queue, &mut main, s1, 1, workers);
         put_back(&queue, &mut main, s2, 2, workers);
@@ -172,10 +172,10 @@ impl Recorder {
 // Cuts the last of the workers 0 to w off: its seat, if it is to be there, and else it is no worker.
 fn cut(queue: &Queue, main: &mut QueuePass, w: u8, workers: u8) -> Option<WorkerSeat>
     requires queue { IsPassOf queue.now main.old }
-    requires main { view main.old ≡ ledger true [] (max workers (w + 1)) 0 (w + 1) [] }
+    requires main { view main.old ≡ knowledge true [] (max workers (w + 1)) 0 (w + 1) [] }
     requires few { (workers ≤ MOST_SEATS) × (w < MOST_SEATS) }
     ensures queue { IsSamePass main.old main.new }
-    ensures main { view main.new ≡ ledger true [] (max workers w) 0 w [] }
+    ensures main { view main.new ≡ knowledge true [] (max workers w) 0 w [] }
     ensures seat { result ≡ fresh_noter (recorder_id queue.now.table.shared.table_id workers) w }
 {
     if w >= workers {
@@ -193,12 +193,12 @@ fn cut(queue: &Queue, main: &mut QueuePass, w: u8, workers: u8) -> Option<Worker
 // Joins the seat of worker `w`, if there is one, after those of the workers before it.
 fn put_back(queue: &Queue, main: &mut QueuePass, seat: Option<WorkerSeat>, w: u8, workers: u8)
     requires queue { IsPassOf queue.now main.old }
-    requires main { view main.old ≡ ledger false [] workers 0 (min workers w) (view main.old).noted }
+    requires main { view main.old ≡ knowledge false [] workers 0 (min workers w) (view main.old).noted }
     requires there { w < workers → IsSome seat }
     requires own { IfSome seat (IsNoterOf (recorder_id queue.now.table.shared.table_id workers) w) }
     ensures queue { IsSamePass main.old main.new }
     ensures main { view main.new
-        ≡ ledger false [] workers 0 (min workers (w + 1)) ((view main.old).noted ++ noted_on seat) }
+        ≡ knowledge false [] workers 0 (min workers (w + 1)) ((view main.old).noted ++ noted_on seat) }
 {
     if let Some(seat) = seat {
         let WorkerSeat { pass, .. } = seat;

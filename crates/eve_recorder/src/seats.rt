@@ -3,8 +3,8 @@
 ghost use Rattle.std.specs.Prelude.{◌≡◌, ◌<◌, IfSome, IsTrue, ◌↔◌, None, Some, slice_set, slice_index_or};
 ghost use Rattle.eve_recorder.specs.Seen.{Places, HasAllSeats};
 
-use crate::ledger::QueuePass;
-use crate::row::Row;
+use crate::passes::QueuePass;
+use crate::seat_table::SeatTable;
 use crate::taker_seat::TakerSeat;
 use crate::worker_seat::WorkerSeat;
 use std::marker::Model;
@@ -16,7 +16,7 @@ use std::marker::Model;
 pub struct Seats {
     pub(crate) main: QueuePass,
     pub(crate) workers: u8,
-    pub(crate) row: Row<WorkerSeat>,
+    pub(crate) table: SeatTable<WorkerSeat>,
     pub(crate) taker: Option<TakerSeat>,
 }
 
@@ -24,21 +24,21 @@ impl Model for Seats {
     ghost use Rattle.std.specs.Prelude.{◌≡◌, ◌≤◌, false, []};
     ghost use Rattle.crossbeam_queue.specs.Passes.{view as view_of};
     ghost use Rattle.eve_recorder.specs.Seen.{Places, recorder_id, AreNotersSeated, IsTakerAt};
-    ghost use Rattle.eve_recorder.specs.Rows.{row_of};
-    ghost use Rattle.eve_recorder.specs.Kept.{ledger};
+    ghost use Rattle.eve_recorder.specs.SeatTables.{seats_in_table};
+    ghost use Rattle.eve_recorder.specs.Kept.{knowledge};
     ghost use Rattle.eve_recorder.specs.declared.limits.TheConstants.{MOST_SEATS};
 
     ghost Value = { Places };
 
     ghost view = { λ s. record {
       recorder = recorder_id s.main.table_id s.workers;
-      seats = row_of s.row;
+      seats = seats_in_table s.table;
       taker = s.taker;
     } };
 
     ghost invariant = { λ s. let recorder = recorder_id s.main.table_id s.workers in
-        (s.main.me.1 ≡ []) × (view_of s.main ≡ ledger false [] s.workers 0 0 []) × (s.workers ≤ MOST_SEATS)
-        × AreNotersSeated recorder (row_of s.row) × IsTakerAt recorder s.taker };
+        (s.main.me.1 ≡ []) × (view_of s.main ≡ knowledge false [] s.workers 0 0 []) × (s.workers ≤ MOST_SEATS)
+        × AreNotersSeated recorder (seats_in_table s.table) × IsTakerAt recorder s.taker };
 }
 
 impl Seats {
@@ -49,7 +49,7 @@ impl Seats {
         ensures own { IfSome result (λ s.
             (s.recorder ≡ self.old.recorder) × (s.worker ≡ w) × (w < self.old.recorder.workers)) }
     {
-        self.row.take(w)
+        self.table.take(w)
     }
 
     /// The taker's seat, None where it isn't there.
@@ -67,7 +67,7 @@ impl Seats {
         ensures { self.new ≡ record self.old { seats = slice_set self.old.seats seat.worker (Some seat) } }
     {
         let w = seat.worker;
-        self.row.put(w, seat);
+        self.table.put(w, seat);
     }
 
     /// Puts the taker's seat of this recorder back.
@@ -82,6 +82,6 @@ impl Seats {
     pub fn whole(&self) -> bool
         ensures { IsTrue result ↔ HasAllSeats self.now }
     {
-        self.taker.is_some() && self.row.has_below(self.workers)
+        self.taker.is_some() && self.table.has_below(self.workers)
     }
 }

@@ -5,7 +5,7 @@ ghost use mathlib.Core.List.{IsPrefix};
 ghost use Rattle.eve_recorder.specs.Seen.{NotedAndTaken};
 ghost use Rattle.eve_recorder.specs.Noted.{of_worker, IsOrderly};
 
-use crate::ledger::{Queue, QueuePass, Takes};
+use crate::passes::{Queue, QueuePass, Takes};
 use eve_stamps::AccessRecord;
 use std::marker::Model;
 use std::sync::Wait;
@@ -24,14 +24,14 @@ impl Model for Taken {
     ghost use Rattle.crossbeam_queue.specs.Passes.{view as view_of, IsPassOf};
     ghost use Rattle.eve_recorder.specs.Seen.{NotedAndTaken};
     ghost use Rattle.eve_recorder.specs.Noted.{IsOrderly};
-    ghost use Rattle.eve_recorder.specs.Kept.{ledger};
+    ghost use Rattle.eve_recorder.specs.Kept.{knowledge};
 
     ghost Value = { NotedAndTaken };
 
     ghost view = { λ s. record { noted = (view_of s.pass).noted; taken = (view_of s.pass).taken } };
 
     ghost invariant = { λ s. let v = view_of s.pass in
-        IsPassOf s.queue s.pass × (v ≡ ledger true v.taken v.workers 0 v.workers v.noted) × IsOrderly v.taken };
+        IsPassOf s.queue s.pass × (v ≡ knowledge true v.taken v.workers 0 v.workers v.noted) × IsOrderly v.taken };
 }
 
 impl Taken {

@@ -1,6 +1,6 @@
 //! The seat of the taker.
 
-use crate::ledger::QueuePass;
+use crate::passes::QueuePass;
 use std::marker::Model;
 
 /// The right to take. Contracts see of which recorder it is, and what was taken on it (`Taker`).
@@ -16,7 +16,7 @@ impl Model for TakerSeat {
     ghost use Rattle.crossbeam_queue.specs.Passes.{view as view_of};
     ghost use Rattle.eve_recorder.specs.Seen.{Taker, recorder_id};
     ghost use Rattle.eve_recorder.specs.Noted.{IsOrderly};
-    ghost use Rattle.eve_recorder.specs.Kept.{ledger};
+    ghost use Rattle.eve_recorder.specs.Kept.{knowledge};
 
     ghost Value = { Taker };
 
@@ -26,5 +26,5 @@ impl Model for TakerSeat {
     } };
 
     ghost invariant = { λ s. let v = view_of s.pass in
-        (s.pass.me.1 ≡ []) × (v ≡ ledger true v.taken v.workers 0 0 []) × IsOrderly v.taken };
+        (s.pass.me.1 ≡ []) × (v ≡ knowledge true v.taken v.workers 0 0 []) × IsOrderly v.taken };
 }

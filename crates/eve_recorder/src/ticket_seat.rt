@@ -1,6 +1,6 @@
 //! The right to draw.
 
-use crate::drawn::Place;
+use crate::drawn::CounterSeat;
 use std::marker::Model;
 
 /// The right of one thread to draw from the tickets that it came from. Contracts see these tickets, the
@@ -10,7 +10,7 @@ use std::marker::Model;
 /// docs/MODEL.md, "Recorder lists, drawn numbers".
 #[derive(Drop)]
 pub struct TicketSeat {
-    pub(crate) place: Place,
+    pub(crate) place: CounterSeat,
     pub(crate) number: u8,
     pub(crate) left: u64,
     pub(crate) seats: u8,
@@ -19,13 +19,13 @@ pub struct TicketSeat {
 
 impl Model for TicketSeat {
     ghost use Rattle.std.specs.Prelude.{◌≡◌, ◌+◌, ◌<◌, ◌≤◌, [], length};
-    ghost use Rattle.eve_recorder.specs.Drawing.{Drawer, source};
+    ghost use Rattle.eve_recorder.specs.Drawing.{Drawer, ticket_source};
     ghost use Rattle.eve_recorder.specs.declared.limits.TheConstants.{MOST_DRAWN, MOST_SEATS};
 
     ghost Value = { Drawer };
 
     ghost view = { λ s. record {
-      tickets = source s.place.table_id s.seats s.limit;
+      tickets = ticket_source s.place.table_id s.seats s.limit;
       number = s.number;
       drawn = s.place.me.0.numbers;
     } };

@@ -3,8 +3,8 @@
 ghost use Rattle.std.specs.Prelude.{◌≡◌, ◌↔◌, IfSome, IsTrue, None, Some, slice_set, slice_index_or};
 ghost use Rattle.eve_recorder.specs.Drawing.{Drawers, HasAllDrawers};
 
-use crate::drawn::Place;
-use crate::row::Row;
+use crate::drawn::CounterSeat;
+use crate::seat_table::SeatTable;
 use crate::ticket_seat::TicketSeat;
 use std::marker::Model;
 
@@ -15,8 +15,8 @@ use std::marker::Model;
 /// docs/MODEL.md, "Recorder lists, drawn numbers".
 #[derive(Drop)]
 pub struct TicketSeats {
-    pub(crate) rest: Place,
-    pub(crate) row: Row<TicketSeat>,
+    pub(crate) rest: CounterSeat,
+    pub(crate) table: SeatTable<TicketSeat>,
     pub(crate) seats: u8,
     pub(crate) limit: u64,
 }
@@ -24,20 +24,20 @@ pub struct TicketSeats {
 impl Model for TicketSeats {
     ghost use Rattle.std.specs.Prelude.{◌≡◌, ◌-◌, ◌≤◌, []};
     ghost use Rattle.eve_recorder.specs.Dealt.{drawn, all_parts};
-    ghost use Rattle.eve_recorder.specs.Rows.{row_of};
-    ghost use Rattle.eve_recorder.specs.Drawing.{Drawers, AreDrawersSeated, source};
+    ghost use Rattle.eve_recorder.specs.SeatTables.{seats_in_table};
+    ghost use Rattle.eve_recorder.specs.Drawing.{Drawers, AreDrawersSeated, ticket_source};
     ghost use Rattle.eve_recorder.specs.declared.limits.TheConstants.{MOST_DRAWN, MOST_SEATS};
 
     ghost Value = { Drawers };
 
     ghost view = { λ s. record {
-      tickets = source s.rest.table_id s.seats s.limit;
-      places = row_of s.row;
+      tickets = ticket_source s.rest.table_id s.seats s.limit;
+      places = seats_in_table s.table;
     } };
 
     ghost invariant = { λ s. (s.rest.me.1 ≡ []) × (s.rest.me.0 ≡ drawn (all_parts - s.seats) [])
         × (s.seats ≤ MOST_SEATS) × (s.limit ≤ MOST_DRAWN)
-        × AreDrawersSeated (source s.rest.table_id s.seats s.limit) (row_of s.row) };
+        × AreDrawersSeated (ticket_source s.rest.table_id s.seats s.limit) (seats_in_table s.table) };
 }
 
 impl TicketSeats {
@@ -48,7 +48,7 @@ impl TicketSeats {
         ensures tickets { IfSome result (λ s. s.tickets ≡ self.old.tickets) }
         ensures number { IfSome result (λ s. s.number ≡ number) }
     {
-        self.row.take(number)
+        self.table.take(number)
     }
 
     /// Takes a seat of these tickets back, to its place.
@@ -57,13 +57,13 @@ impl TicketSeats {
         ensures { self.new ≡ record self.old { places = slice_set self.old.places seat.number (Some seat) } }
     {
         let number = seat.number;
-        self.row.put(number, seat);
+        self.table.put(number, seat);
     }
 
     /// Whether every seat is back.
     pub fn whole(&self) -> bool
         ensures { IsTrue result ↔ HasAllDrawers self.now }
     {
-        self.row.has_below(self.seats)
+        self.table.has_below(self.seats)
     }
 }

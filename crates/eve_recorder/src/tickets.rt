@@ -4,19 +4,19 @@ ghost use Rattle.std.specs.Prelude.{◌≡◌, ◌+◌, ◌-◌, ◌<◌, ◌≤
 ghost use Rattle.std.specs.Prelude.{IfSome, IsNone, IsPermutation, IsSome};
 ghost use Rattle.std.specs.List.{range_with_len};
 ghost use Rattle.eve_recorder.specs.Dealt.{drawn, all_parts};
-ghost use Rattle.eve_recorder.specs.Drawing.{Source, all_drawn, drawn_on, fresh_seat, fresh_seats};
+ghost use Rattle.eve_recorder.specs.Drawing.{TicketSource, all_drawn, drawn_on, fresh_seat, fresh_seats};
 ghost use Rattle.eve_recorder.specs.Drawing.{HasAllDrawers};
 
-use crate::drawn::{Counter, Draw, OnePart, Place};
+use crate::drawn::{Counter, CounterSeat, Draw, OnePart};
 use crate::limits::{MOST_DRAWN, MOST_SEATS};
-use crate::row::Row;
+use crate::seat_table::SeatTable;
 use crate::ticket_seat::TicketSeat;
 use crate::ticket_seats::TicketSeats;
 use std::alloc::{AllocError, Global};
 use std::marker::Model;
 
 /// A counter from which threads draw numbers: 0, 1, 2 and so on, each once. Contracts see which tickets
-/// they are, how many seats they have, and how many numbers each seat may draw (`Source`).
+/// they are, how many seats they have, and how many numbers each seat may draw (`TicketSource`).
 ///
 /// docs/MODEL.md, "Recorder lists, drawn numbers".
 #[derive(Drop)]
@@ -28,12 +28,12 @@ pub struct Tickets {
 
 impl Model for Tickets {
     ghost use Rattle.std.specs.Prelude.{◌≡◌, ◌≤◌};
-    ghost use Rattle.eve_recorder.specs.Drawing.{Source, source};
+    ghost use Rattle.eve_recorder.specs.Drawing.{TicketSource, ticket_source};
     ghost use Rattle.eve_recorder.specs.declared.limits.TheConstants.{MOST_DRAWN, MOST_SEATS};
 
-    ghost Value = { Source };
+    ghost Value = { TicketSource };
 
-    ghost view = { λ t. source t.counter.shared.table_id t.seats t.limit };
+    ghost view = { λ t. ticket_source t.counter.shared.table_id t.seats t.limit };
 
     ghost invariant = { λ t. (t.counter.shared.table_id.words ≡ 1)
         × (t.counter.shared.table_id.slots ≡ 0) × (t.seats ≤ MOST_SEATS) × (t.limit ≤ MOST_DRAWN) };
@@ -55,7 +55,7 @@ impl Tickets {
             seats,
             limit,
         };
-        let row = Row {
+        let table = SeatTable {
             s0: tickets.split_off(&mut rest, 0),
             s1: tickets.split_off(&mut rest, 1),
             s2: tickets.split_off(&mut rest, 2),
@@ -67,7 +67,7 @@ impl Tickets {
         };
         let all = TicketSeats {
             rest,
-            row,
+            table,
             seats,
             limit,
         };
@@ -100,8 +100,12 @@ impl Tickets {
         requires whole { HasAllDrawers seats }
         ensures { IsPermutation (all_drawn seats) (range_with_len 0 result) }
     {
-        let TicketSeats { mut rest, row, .. } = seats;
-        let Row {
+        let TicketSeats {
+            mut rest,
+            table,
+            ..
+        } = seats;
+        let SeatTable {
             s0,
             s1,
             s2,
@@ -110,7 +114,7 @@ impl Tickets {
             s5,
             s6,
             s7,
-        } = row;
+        } = table;
         self.join_back(&mut rest, s0, 0);
         self.join_back(&mut rest, s1, 1);
         self.join_back(&mut rest, s2, 2);
@@ -127,7 +131,7 @@ impl Tickets {
     }
 
     // Splits the seat with this number off, if there is to be one. What stays has a part less for each.
-    fn split_off(&self, rest: &mut Place, number: u8) -> Option<TicketSeat>
+    fn split_off(&self, rest: &mut CounterSeat, number: u8) -> Option<TicketSeat>
         requires table { rest.old.table_id ≡ self.now.table }
         requires rest { rest.old.me ≡ (drawn (all_parts - min self.now.seats number) [], []) }
         requires number { number < MOST_SEATS }
@@ -149,7 +153,7 @@ impl Tickets {
     }
 
     // Joins the seat with this number, if there is to be one, to the part that stayed.
-    fn join_back(&self, rest: &mut Place, seat: Option<TicketSeat>, number: u8)
+    fn join_back(&self, rest: &mut CounterSeat, seat: Option<TicketSeat>, number: u8)
         requires table { rest.old.table_id ≡ self.now.table }
         requires there { number < self.now.seats → IsSome seat }
         requires own { IfSome seat (λ s. (s.tickets ≡ self.now) × (number < self.now.seats)) }

@@ -2,7 +2,7 @@
 
 ghost use Rattle.std.specs.Prelude.{◌≡◌, length};
 
-use crate::ledger::QueuePass;
+use crate::passes::QueuePass;
 use std::marker::Model;
 
 /// The right of one worker to note. Contracts see of which recorder and worker it is, and what was noted on it

@@ -1,7 +1,7 @@
 -- The seats of rooms, pushed and popped.
 use Rattle.std.proofs.Common.{◌≡◌, ℕ, ◌<◌, List, [], ◌∷◌, ◌++◌, length, slice_index_or, subst, sym, ap, ◌∙◌, arith}
 use Rattle.std.proofs.Common.{◌≤◌, rules}
-use Rattle.eve_recorder.specs.Drawing.{Source, fresh_seats}
+use Rattle.eve_recorder.specs.Drawing.{TicketSource, fresh_seats}
 use Rattle.eve_recorder.specs.Seen.{Desk, RecorderId, fresh_places}
 use Rattle.eve_replica_crew.specs.declared.room.Room.{Room}
 use Rattle.eve_replica_crew.specs.declared.room.Seating.{Seating}
@@ -36,14 +36,14 @@ seatings_pop [] (p ∷ seatings) s all = absurd all
 seatings_pop (r ∷ rooms) (p ∷ seatings) s all = (all.0, seatings_pop rooms seatings s all.1)
 
 -- as they are seen where what is shared has the room's recorder and its tickets of claims
-pub seats_seen : (rooms : List Room) (seatings : List Seating) (s : Seating) (r : Room) (k : ℕ) (d : Desk) (t : Source)
+pub seats_seen : (rooms : List Room) (seatings : List Seating) (s : Seating) (r : Room) (k : ℕ) (d : Desk) (t : TicketSource)
     → AreSeatingsOf rooms (seatings ++ s ∷ []) → k ≡ length seatings → r ≡ slice_index_or rooms k r → d ≡ r.recorder
     → t ≡ r.claims → AreSeatsAt d.recorder t r.leg.crew s
 seats_seen rooms seatings s r k d t all at is desk claims =
     let own = subst (λ (q : Room). IsSeatingOf q s) (sym (is ∙ ap (λ (j : ℕ). slice_index_or rooms j r) at))
     (seatings_last rooms seatings s r all).1 in
     subst (λ (e : Desk). AreSeatsAt e.recorder t r.leg.crew s) (sym desk)
-    (subst (λ (u : Source). AreSeatsAt r.recorder.recorder u r.leg.crew s) (sym claims) own)
+    (subst (λ (u : TicketSource). AreSeatsAt r.recorder.recorder u r.leg.crew s) (sym claims) own)
 
 -- at first all seats of a recorder's workers are there, and nothing is noted on them
 pub fresh_noters : (recorder : RecorderId) (n : ℕ) → recorder.workers ≡ n → n ≤ 8
@@ -51,5 +51,5 @@ pub fresh_noters : (recorder : RecorderId) (n : ℕ) → recorder.workers ≡ n 
 fresh_noters recorder n same few = search rules
 
 -- and all seats at tickets
-pub fresh_there : (t : Source) (n : ℕ) → t.seats ≡ n → n ≤ 8 → AreThere n (fresh_seats t).places
+pub fresh_there : (t : TicketSource) (n : ℕ) → t.seats ≡ n → n ≤ 8 → AreThere n (fresh_seats t).places
 fresh_there t n same few = search rules

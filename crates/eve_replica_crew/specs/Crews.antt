@@ -1,12 +1,12 @@
 -- The workers that take part in batches. docs/MODEL.md, "Executions".
 use Rattle.std.specs.Prelude.{◌≡◌, ℕ, max, min, Bool, if◌then◌else◌, All, List, [], ◌∷◌, Option, Some, None}
 use Rattle.std.specs.Option.{option_or}
-use Rattle.eve_recorder.specs.Drawing.{Source, Drawer}
+use Rattle.eve_recorder.specs.Drawing.{TicketSource, Drawer}
 use Rattle.eve_floor.specs.declared.fault.ExecFault.{ExecFault}
 use Rattle.eve_replica_crew.specs.declared.crew.Member.{Member}
 
 -- a worker has its seat at these tickets of ticks
-pub record IsSeated (tickets : Source) (m : Member) : Type 0 where
+pub record IsSeated (tickets : TicketSource) (m : Member) : Type 0 where
   pub seat : Drawer
   pub there : m.tick ≡ Some seat
   pub own : seat.tickets ≡ tickets
@@ -28,5 +28,5 @@ abbrev pub crew_of : List ℕ → ℕ → Bool → ℕ
 crew_of sizes workers serial = if serial then 1 else min workers (max 1 (largest sizes))
 
 -- seats at these tickets
-abbrev pub AreTickets : Source → List Drawer → Type 0
+abbrev pub AreTickets : TicketSource → List Drawer → Type 0
 AreTickets tickets seats = All (λ d. d.tickets ≡ tickets) seats

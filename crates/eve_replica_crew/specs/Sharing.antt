@@ -1,7 +1,7 @@
 -- What the workers share while a batch is run, and the seats of their parts in it. docs/MODEL.md, "Executions".
 use Rattle.std.specs.Prelude.{◌≡◌, ℕ, IsTrue, ◌<◌, ◌≤◌, List, [], ◌∷◌, length, map, Option, Some, None, IsSome, ⊤}
 use Rattle.std.specs.Prelude.{slice_index_or, vec_len, vec_capacity}
-use Rattle.eve_recorder.specs.Drawing.{Drawer, Source}
+use Rattle.eve_recorder.specs.Drawing.{Drawer, TicketSource}
 use Rattle.eve_recorder.specs.Seen.{Noter, RecorderId}
 use Rattle.eve_write.specs.Data.{batch as plain}
 use Rattle.eve_smallbank.specs.declared.rows.Touched.{Touched}
@@ -54,7 +54,7 @@ abbrev pub AreThere : ℕ → List (Option Drawer) → Type 0
 AreThere n seats = (k : ℕ) → k < n → IsSome (slice_index_or seats k None)
 
 -- seats of this recorder and of these tickets, for the workers below this number
-pub record AreSeatsAt (recorder : RecorderId) (tickets : Source) (n : ℕ) (s : Seating) : Type 0 where
+pub record AreSeatsAt (recorder : RecorderId) (tickets : TicketSource) (n : ℕ) (s : Seating) : Type 0 where
   pub noters : AreNoters recorder n s.places.seats
   pub claims : s.claims.tickets ≡ tickets
   pub there : AreThere n s.claims.places

@@ -1,6 +1,6 @@
 use Rattle.std.proofs.Common.{◌≡◌, false, [], min, ap, ◌∙◌, subst, arith, Option, IfSome}
 use Rattle.crossbeam_queue.specs.Passes.{view}
-use Rattle.eve_recorder.specs.Kept.{ledger, IsWorkers}
+use Rattle.eve_recorder.specs.Kept.{knowledge, IsWorkers}
 use Rattle.eve_recorder.specs.Seen.{RecorderId, recorder_id, Noter, IsNoterOf}
 use Rattle.eve_recorder.proofs.Ending.{put_step}
 use Rattle.eve_recorder.proofs.recorder.put_back.Goals as goal
@@ -14,5 +14,5 @@ absorb-requires-clause-rule c =
     ap (λ (s : Noter). s.recorder.workers) c.seat.view_is ∙ ap (λ (r : RecorderId). r.workers) own.0 in
     let at : min c.args.workers c.args.w ≡ c.args.w = let lt = own.2 in omega arith in
     put_step _ _ c.args.workers c.args.w c.seat.inside.place _ _
-    (c.requires.main ∙ ap (λ n. ledger false [] c.args.workers 0 n (view c.args.main.now).noted) at)
+    (c.requires.main ∙ ap (λ n. knowledge false [] c.args.workers 0 n (view c.args.main.now).noted) at)
     (subst (λ w. IsWorkers w c.seat.inside.place (view c.seat.inside.pass)) is c.seat.invariant.1) many

@@ -3,13 +3,13 @@ use Rattle.std.proofs.lemmas.Grind.{common_steps}
 use Rattle.std.proofs.lemmas.List.{get_or-set_other}
 use Rattle.std.proofs.lemmas.List.Elements.{All-push}
 use Rattle.std.specs.Prelude.{slice_index_or}
-use Rattle.eve_recorder.specs.Drawing.{Drawer, Drawers, Source}
+use Rattle.eve_recorder.specs.Drawing.{Drawer, Drawers, TicketSource}
 use Rattle.eve_replica_crew.specs.Crews.{AreTickets}
 use Rattle.eve_replica.proofs.replica.seats_of.Goals as goal
 
 pub loop-number-preserved : goal.loop-number-preserved
 loop-number-preserved c =
-    let tickets : Source = c.args.tickets.now in (
+    let tickets : TicketSource = c.args.tickets.now in (
       subst (AreTickets tickets) (sym c.push_reserved.ensures.items)
           (All-push (λ (d : Drawer). d.tickets ≡ tickets) c.loop-number.seats.items c.in-Some.seat
           c.loop-number.invariant.0 (c.in-Some.ensures.tickets ∙ c.loop-number.invariant.3)),

@@ -2,7 +2,7 @@ use Rattle.std.proofs.Common.{◌≡◌, Option, Some, sym, subst, ap, ◌∙◌
 use Rattle.std.proofs.lemmas.Grind.{common_steps}
 use Rattle.std.proofs.lemmas.List.Elements.{All-pop, All-push}
 use Rattle.std.specs.Option.{option_or}
-use Rattle.eve_recorder.specs.Drawing.{Source, Drawer}
+use Rattle.eve_recorder.specs.Drawing.{TicketSource, Drawer}
 use Rattle.eve_floor.specs.declared.fault.ExecFault.{ExecFault}
 use Rattle.eve_replica_crew.specs.Crews.{AreTickets, IsSeated, lowest_fault}
 use Rattle.eve_replica_crew.proofs.Faults.{asked_last}
@@ -10,7 +10,7 @@ use Rattle.eve_replica_crew.proofs.crew.dismiss.Goals as goal
 
 pub loop-member-preserved : goal.loop-member-preserved
 loop-member-preserved c =
-    let tickets : Source = c.args.tickets.now in
+    let tickets : TicketSource = c.args.tickets.now in
     let popped = All-pop (IsSeated tickets) c.loop-member.members.items c.pop.new.self.items
     (Some c.in-Some.member) c.in-Some.ensures.items c.loop-member.invariant.0 in (
       popped.0,

@@ -1,14 +1,14 @@
 use Rattle.std.proofs.Common.{◌≡◌, All, Some, None, refl, sym, subst, arith}
 use Rattle.std.proofs.lemmas.Grind.{common_steps}
 use Rattle.std.proofs.lemmas.List.Elements.{All-pop, All-push}
-use Rattle.eve_recorder.specs.Drawing.{Source, Drawer}
+use Rattle.eve_recorder.specs.Drawing.{TicketSource, Drawer}
 use Rattle.eve_replica_crew.specs.Crews.{IsSeated}
 use Rattle.eve_replica_crew.specs.declared.crew.Member.{Member}
 use Rattle.eve_replica_crew.proofs.crew.muster.Goals as goal
 
 pub loop-shares-preserved-then-not-is_empty : goal.loop-shares-preserved-then-not-is_empty
 loop-shares-preserved-then-not-is_empty c =
-    let tickets : Source = c.args.tickets.now in
+    let tickets : TicketSource = c.args.tickets.now in
     let popped = All-pop (λ (d : Drawer). d.tickets ≡ tickets) c.loop-shares.ticks.items
     c.pop-then-not-is_empty.new.self.items (Some c.in-Some-pop.tick) c.in-Some-pop.ensures.items
     c.loop-shares.invariant.1 in

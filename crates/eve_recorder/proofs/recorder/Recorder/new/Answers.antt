@@ -1,10 +1,10 @@
 use Rattle.std.proofs.Common.{◌≡◌, ap, sym, ◌∙◌, subst, max, List, [], ◌∷◌, false, Option, arith}
 use Rattle.atomic_table.specs.Seated.{TableId}
-use Rattle.eve_recorder.specs.Kept.{ledger, no_taker}
-use Rattle.eve_recorder.specs.Rows.{row_by}
+use Rattle.eve_recorder.specs.Kept.{knowledge, no_taker}
+use Rattle.eve_recorder.specs.SeatTables.{table_by}
 use Rattle.eve_recorder.specs.Seen.{recorder_id, Noter, AreNotersSeated, fresh_noter}
 use Rattle.eve_recorder.proofs.Ending.{fresh_seated}
-use Rattle.eve_recorder.specs.declared.ledger.Ledger.{Ledger}
+use Rattle.eve_recorder.specs.declared.passes.Knowledge.{Knowledge}
 use Rattle.eve_recorder.proofs.Keeps.{begins, forks_taker}
 use Rattle.eve_recorder.proofs.recorder.Recorder.new.Goals as goal
 
@@ -12,7 +12,7 @@ pub ruled-requires-clause-rule : goal.ruled-requires-clause-rule
 ruled-requires-clause-rule c = begins
 
 pub another-taker-requires-clause-rule : goal.another-taker-requires-clause-rule
-another-taker-requires-clause-rule c = forks_taker _ _ (ap (λ (h : Ledger). h.takes) c.cut-s0.ensures.main)
+another-taker-requires-clause-rule c = forks_taker _ _ (ap (λ (h : Knowledge). h.takes) c.cut-s0.ensures.main)
 
 pub invariant_of-seats-2 : goal.invariant_of-seats-2
 invariant_of-seats-2 c =
@@ -26,16 +26,16 @@ invariant_of-seats-2 c =
     ∙ q.0 in
     let none : c.another-taker.new.pass.me.1 ≡ [] = t.2 ∙ e0.2 ∙ e1.2 ∙ e2.2 ∙ e3.2 ∙ e4.2 ∙ e5.2 ∙ e6.2 ∙ e7.2 ∙ q.1 in
     let all : max n 0 ≡ n = omega arith in
-    let workers = λ (h : Ledger). h.workers in
+    let workers = λ (h : Knowledge). h.workers in
     let many = ap workers c.another-taker.ensures.rule.1 ∙ ap workers c.cut-s0.ensures.main ∙ all in
-    let row : List (Option Noter) = c.cut-s0.result ∷ c.cut-s1.result ∷ c.cut-s2.result ∷ c.cut-s3.result
+    let table : List (Option Noter) = c.cut-s0.result ∷ c.cut-s1.result ∷ c.cut-s2.result ∷ c.cut-s3.result
     ∷ c.cut-s4.result ∷ c.cut-s5.result ∷ c.cut-s6.result ∷ c.cut-s7.result ∷ [] in
-    let is : row_by (fresh_noter (recorder_id T n)) ≡ row = λ i. sym c.cut-s0.ensures.seat i ∷ sym c.cut-s1.ensures.seat
+    let is : table_by (fresh_noter (recorder_id T n)) ≡ table = λ i. sym c.cut-s0.ensures.seat i ∷ sym c.cut-s1.ensures.seat
     i ∷ sym c.cut-s2.ensures.seat i ∷ sym c.cut-s3.ensures.seat i
     ∷ sym c.cut-s4.ensures.seat i ∷ sym c.cut-s5.ensures.seat i ∷ sym c.cut-s6.ensures.seat i ∷ sym
     c.cut-s7.ensures.seat i ∷ [] in (
       none,
-      c.another-taker.ensures.rule.0 ∙ ap no_taker c.cut-s0.ensures.main ∙ ap (λ k. ledger false [] k 0 0 []) all,
+      c.another-taker.ensures.rule.0 ∙ ap no_taker c.cut-s0.ensures.main ∙ ap (λ k. knowledge false [] k 0 0 []) all,
       c.requires.workers.1,
       subst (λ (y : TableId × List (Option Noter)). AreNotersSeated (recorder_id y.0 n) y.1) (λ i. (sym here i, is i))
           (fresh_seated (recorder_id T n)),

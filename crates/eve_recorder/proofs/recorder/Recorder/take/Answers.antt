@@ -1,10 +1,10 @@
 use Rattle.std.proofs.Common.{ap}
-use Rattle.eve_recorder.specs.declared.ledger.Ledger.{Ledger}
+use Rattle.eve_recorder.specs.declared.passes.Knowledge.{Knowledge}
 use Rattle.eve_recorder.proofs.OneSeat.{take_step, taker_after, taker_same, where_taken, where_none}
 use Rattle.eve_recorder.proofs.recorder.Recorder.take.Goals as goal
 
 pub pop_as-requires-clause-rule : goal.pop_as-requires-clause-rule
-pop_as-requires-clause-rule g c = take_step _ _ (ap (λ (h : Ledger). h.takes) c.seat.invariant.1)
+pop_as-requires-clause-rule g c = take_step _ _ (ap (λ (h : Knowledge). h.takes) c.seat.invariant.1)
 
 pub returns-clause-some : goal.returns-clause-some
 returns-clause-some g c = where_taken _ c.pop_as.result

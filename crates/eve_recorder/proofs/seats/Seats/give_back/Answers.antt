@@ -1,7 +1,7 @@
 use Rattle.std.proofs.Common.{◌≡◌, refl, ap, sym, ◌∙◌, subst, List, Option, Some, set, arith}
 use Rattle.eve_recorder.specs.Noted.{AllOf}
 use Rattle.eve_recorder.specs.Seen.{RecorderId, recorder_id, Noter, Places, IsNoterOf, AreNotersSeated}
-use Rattle.eve_recorder.specs.Rows.{row_of}
+use Rattle.eve_recorder.specs.SeatTables.{seats_in_table}
 use Rattle.eve_recorder.proofs.SeatTable.{seated_with}
 use Rattle.eve_recorder.proofs.seats.Seats.give_back.Goals as goal
 
@@ -13,7 +13,7 @@ invariant_of-self c = let i = c.self.invariant in let s = c.self.inside in let s
     let all = subst (λ (x : Noter). AllOf x.worker x.noted) c.seat.view_is c.seat.invariant.1.4 in
     let many = ap (λ (x : Noter). x.recorder.workers) c.seat.view_is ∙ ap (λ (r : RecorderId). r.workers) own in
     let lt = c.seat.invariant.1.1 in
-    let row : set (row_of s.row) seat.worker (Some seat) ≡ row_of c.put.new.self =
-    sym (c.put.ensures ∙ ap (λ k. set (row_of s.row) k (Some seat)) is) in
-    let seated = seated_with (IsNoterOf here) (row_of s.row) seat.worker seat i.3 (own, refl, omega arith, all) in
-    (i.0, i.1, i.2, subst (λ (l : List (Option Noter)). AreNotersSeated here l) row seated, i.4)
+    let table : set (seats_in_table s.table) seat.worker (Some seat) ≡ seats_in_table c.put.new.self =
+    sym (c.put.ensures ∙ ap (λ k. set (seats_in_table s.table) k (Some seat)) is) in
+    let seated = seated_with (IsNoterOf here) (seats_in_table s.table) seat.worker seat i.3 (own, refl, omega arith, all) in
+    (i.0, i.1, i.2, subst (λ (l : List (Option Noter)). AreNotersSeated here l) table seated, i.4)

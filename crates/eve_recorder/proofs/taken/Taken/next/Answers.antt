@@ -1,11 +1,11 @@
 use Rattle.std.proofs.Common.{ap, ◌∙◌}
 use Rattle.crossbeam_queue.specs.Passes.{view}
-use Rattle.eve_recorder.specs.declared.ledger.Ledger.{Ledger}
+use Rattle.eve_recorder.specs.declared.passes.Knowledge.{Knowledge}
 use Rattle.eve_recorder.proofs.OneSeat.{take_step, left_of_pass, left_after, all_taken, where_taken, where_none}
 use Rattle.eve_recorder.proofs.taken.Taken.next.Goals as goal
 
 pub pop_as-requires-clause-rule : goal.pop_as-requires-clause-rule
-pop_as-requires-clause-rule g c = take_step _ _ (ap (λ (h : Ledger). h.takes) c.self.invariant.1)
+pop_as-requires-clause-rule g c = take_step _ _ (ap (λ (h : Knowledge). h.takes) c.self.invariant.1)
 
 pub returns-clause-some : goal.returns-clause-some
 returns-clause-some g c = where_taken _ c.pop_as.result

@@ -2,8 +2,8 @@ use Rattle.std.proofs.Common.{◌≡◌, ◌+◌, ◌-◌, ℕ, refl, ap, sym, �
 use lib.ListN.{get_elem?}
 use Rattle.eve_recorder.specs.declared.drawn.Drawn.{Drawn}
 use Rattle.eve_recorder.specs.Dealt.{all_parts, times}
-use Rattle.eve_recorder.specs.Drawing.{Source, Drawers, all_drawn, drawn_on}
-use Rattle.eve_recorder.specs.Rows.{row_of}
+use Rattle.eve_recorder.specs.Drawing.{TicketSource, Drawers, all_drawn, drawn_on}
+use Rattle.eve_recorder.specs.SeatTables.{seats_in_table}
 use Rattle.eve_recorder.proofs.Counting.{permutation_of}
 use Rattle.eve_recorder.proofs.Dealing.{closes}
 use Rattle.eve_recorder.proofs.SeatTable.{all_gathered}
@@ -11,35 +11,35 @@ use Rattle.eve_recorder.proofs.Seating.{own_at}
 use Rattle.eve_recorder.proofs.tickets.Tickets.close.Goals as goal
 
 pub join_back-requires-clause-own : goal.join_back-requires-clause-own
-join_back-requires-clause-own c = own_at _ _ (row_of c.seats.inside.row) 0 c.seats.inside.row.s0
+join_back-requires-clause-own c = own_at _ _ (seats_in_table c.seats.inside.table) 0 c.seats.inside.table.s0
     (ap (λ (p : Drawers). p.tickets) c.seats.view_is ∙ c.requires.tickets) c.seats.invariant.4 refl
 
 pub join_back-requires-2-clause-own : goal.join_back-requires-2-clause-own
-join_back-requires-2-clause-own c = own_at _ _ (row_of c.seats.inside.row) 1 c.seats.inside.row.s1
+join_back-requires-2-clause-own c = own_at _ _ (seats_in_table c.seats.inside.table) 1 c.seats.inside.table.s1
     (ap (λ (p : Drawers). p.tickets) c.seats.view_is ∙ c.requires.tickets) c.seats.invariant.4 refl
 
 pub join_back-requires-3-clause-own : goal.join_back-requires-3-clause-own
-join_back-requires-3-clause-own c = own_at _ _ (row_of c.seats.inside.row) 2 c.seats.inside.row.s2
+join_back-requires-3-clause-own c = own_at _ _ (seats_in_table c.seats.inside.table) 2 c.seats.inside.table.s2
     (ap (λ (p : Drawers). p.tickets) c.seats.view_is ∙ c.requires.tickets) c.seats.invariant.4 refl
 
 pub join_back-requires-4-clause-own : goal.join_back-requires-4-clause-own
-join_back-requires-4-clause-own c = own_at _ _ (row_of c.seats.inside.row) 3 c.seats.inside.row.s3
+join_back-requires-4-clause-own c = own_at _ _ (seats_in_table c.seats.inside.table) 3 c.seats.inside.table.s3
     (ap (λ (p : Drawers). p.tickets) c.seats.view_is ∙ c.requires.tickets) c.seats.invariant.4 refl
 
 pub join_back-requires-5-clause-own : goal.join_back-requires-5-clause-own
-join_back-requires-5-clause-own c = own_at _ _ (row_of c.seats.inside.row) 4 c.seats.inside.row.s4
+join_back-requires-5-clause-own c = own_at _ _ (seats_in_table c.seats.inside.table) 4 c.seats.inside.table.s4
     (ap (λ (p : Drawers). p.tickets) c.seats.view_is ∙ c.requires.tickets) c.seats.invariant.4 refl
 
 pub join_back-requires-6-clause-own : goal.join_back-requires-6-clause-own
-join_back-requires-6-clause-own c = own_at _ _ (row_of c.seats.inside.row) 5 c.seats.inside.row.s5
+join_back-requires-6-clause-own c = own_at _ _ (seats_in_table c.seats.inside.table) 5 c.seats.inside.table.s5
     (ap (λ (p : Drawers). p.tickets) c.seats.view_is ∙ c.requires.tickets) c.seats.invariant.4 refl
 
 pub join_back-requires-7-clause-own : goal.join_back-requires-7-clause-own
-join_back-requires-7-clause-own c = own_at _ _ (row_of c.seats.inside.row) 6 c.seats.inside.row.s6
+join_back-requires-7-clause-own c = own_at _ _ (seats_in_table c.seats.inside.table) 6 c.seats.inside.table.s6
     (ap (λ (p : Drawers). p.tickets) c.seats.view_is ∙ c.requires.tickets) c.seats.invariant.4 refl
 
 pub join_back-requires-8-clause-own : goal.join_back-requires-8-clause-own
-join_back-requires-8-clause-own c = own_at _ _ (row_of c.seats.inside.row) 7 c.seats.inside.row.s7
+join_back-requires-8-clause-own c = own_at _ _ (seats_in_table c.seats.inside.table) 7 c.seats.inside.table.s7
     (ap (λ (p : Drawers). p.tickets) c.seats.view_is ∙ c.requires.tickets) c.seats.invariant.4 refl
 
 -- the part that stayed has a part more for each seat
@@ -50,7 +50,7 @@ all-joined p0 p1 p2 p3 p4 p5 p6 p7 p8 a0 a1 a2 a3 a4 a5 a6 a7 a8 e0 e1 e2 e3 e4 
 
 pub returns : goal.returns
 returns c =
-    let r = c.seats.inside.row in let n = c.args.self.seats in let m = min n in
+    let r = c.seats.inside.table in let n = c.args.self.seats in let m = min n in
     let numbers : all_drawn c.args.seats ≡ c.join_back-8.new.rest.me.0.numbers =
     ap (λ (p : Drawers). all_drawn p) (sym c.seats.view_is)
     ∙ all_gathered drawn_on _ _ _ _ _ _ _ _ _ r.s0 r.s1 r.s2 r.s3 r.s4 r.s5 r.s6 r.s7
@@ -59,7 +59,7 @@ returns c =
     c.join_back-4.ensures.numbers c.join_back-5.ensures.numbers c.join_back-6.ensures.numbers
     c.join_back-7.ensures.numbers c.join_back-8.ensures.numbers in
     let same : c.seats.inside.seats ≡ n = ap (λ (p : Drawers). p.tickets.seats) c.seats.view_is
-    ∙ ap (λ (t : Source). t.seats) c.requires.tickets in
+    ∙ ap (λ (t : TicketSource). t.seats) c.requires.tickets in
     let first : c.seats.inside.rest.me.0.parts ≡ all_parts - c.seats.inside.seats =
     ap (λ (v : Drawn). v.parts) c.seats.invariant.1 in
     let all = all-joined _ _ _ _ _ _ _ _ _ (m 0) (m 1) (m 2) (m 3) (m 4) (m 5) (m 6) (m 7) (m 8)

@@ -3,13 +3,13 @@ use Rattle.atomic_table.specs.Seated.{TableId}
 use Rattle.atomic_table.specs.Table.{Me}
 use Rattle.eve_recorder.specs.declared.drawn.Drawn.{Drawn}
 use Rattle.eve_recorder.specs.Dealt.{drawn, all_parts}
-use Rattle.eve_recorder.specs.Drawing.{Source, Drawer, AreDrawersSeated, fresh_seats, source}
+use Rattle.eve_recorder.specs.Drawing.{TicketSource, Drawer, AreDrawersSeated, fresh_seats, ticket_source}
 use Rattle.eve_recorder.proofs.Seating.{fresh_seated}
 use Rattle.eve_recorder.proofs.tickets.Tickets.new.Goals as goal
 
 pub invariant_of-all : goal.invariant_of-all
 invariant_of-all c =
-    let t : Source = source c.in_ok-counter.counter.shared.table_id c.args.seats c.args.limit in
+    let t : TicketSource = ticket_source c.in_ok-counter.counter.shared.table_id c.args.seats c.args.limit in
     let here : c.split_off-8.new.rest.table_id ≡ t.table = c.split_off-8.ensures.table ∙ c.split_off-7.ensures.table
     ∙ c.split_off-6.ensures.table ∙ c.split_off-5.ensures.table ∙ c.split_off-4.ensures.table
     ∙ c.split_off-3.ensures.table ∙ c.split_off-2.ensures.table ∙ c.split_off.ensures.table
@@ -24,6 +24,6 @@ invariant_of-all c =
       ap (λ (m : Me ℕ Drawn). m.0) c.split_off-8.ensures.rest ∙ ap (λ k. drawn (all_parts - k) []) all,
       c.requires.seats,
       c.requires.limit,
-      subst (λ (y : TableId × List (Option Drawer)). AreDrawersSeated (source y.0 c.args.seats c.args.limit) y.1)
+      subst (λ (y : TableId × List (Option Drawer)). AreDrawersSeated (ticket_source y.0 c.args.seats c.args.limit) y.1)
           (λ i. (sym here i, is i)) (fresh_seated t),
     )

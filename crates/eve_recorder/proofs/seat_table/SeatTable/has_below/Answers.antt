@@ -1,5 +1,5 @@
 use Rattle.std.proofs.Common.{subst, sym, true≢false, IsTrue}
-use Rattle.eve_recorder.proofs.row.Row.has_below.Goals as goal
+use Rattle.eve_recorder.proofs.seat_table.SeatTable.has_below.Goals as goal
 
 pub returns-then-not-has : goal.returns-then-not-has
 returns-then-not-has g c = (

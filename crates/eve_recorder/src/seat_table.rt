@@ -1,13 +1,13 @@
 //! Eight places for seats, each with a name.
 
 ghost use Rattle.std.specs.Prelude.{◌≡◌, ◌<◌, ◌↔◌, IsTrue, IsSome, None, Some, slice_set, slice_index_or};
-ghost use Rattle.eve_recorder.specs.Rows.{row_of, HasBelow};
+ghost use Rattle.eve_recorder.specs.SeatTables.{seats_in_table, HasBelow};
 
 use crate::limits::MOST_SEATS;
 
 /// What lies at each place, from 0.
 #[derive(Drop)]
-pub struct Row<T> {
+pub struct SeatTable<T> {
     pub s0: Option<T>,
     pub s1: Option<T>,
     pub s2: Option<T>,
@@ -18,11 +18,11 @@ pub struct Row<T> {
     pub s7: Option<T>,
 }
 
-impl<T: Drop> Row<T> {
+impl<T: Drop> SeatTable<T> {
     /// Takes out what lies at the place.
     pub fn take(&mut self, place: u8) -> Option<T>
-        ensures out { result ≡ slice_index_or (row_of self.old) place None }
-        ensures rest { row_of self.new ≡ slice_set (row_of self.old) place None }
+        ensures out { result ≡ slice_index_or (seats_in_table self.old) place None }
+        ensures rest { seats_in_table self.new ≡ slice_set (seats_in_table self.old) place None }
     {
         match place {
             0 => self.s0.take(),
@@ -40,7 +40,7 @@ impl<T: Drop> Row<T> {
     /// Puts a seat at the place.
     pub fn put(&mut self, place: u8, seat: T)
         requires { place < MOST_SEATS }
-        ensures { row_of self.new ≡ slice_set (row_of self.old) place (Some seat) }
+        ensures { seats_in_table self.new ≡ slice_set (seats_in_table self.old) place (Some seat) }
     {
         match place {
             0 => self.s0 = Some(seat),
@@ -57,7 +57,7 @@ impl<T: Drop> Row<T> {
 
     /// Whether a seat lies at each of the first so many places.
     pub fn has_below(&self, count: u8) -> bool
-        ensures { IsTrue result ↔ HasBelow count (row_of self.now) }
+        ensures { IsTrue result ↔ HasBelow count (seats_in_table self.now) }
     {
         for place in 0..count {
             if !self.has(place) {
@@ -68,7 +68,7 @@ impl<T: Drop> Row<T> {
     }
 
     fn has(&self, place: u8) -> bool
-        ensures { IsTrue result ↔ IsSome (slice_index_or (row_of self.now) place None) }
+        ensures { IsTrue result ↔ IsSome (slice_index_or (seats_in_table self.now) place None) }
     {
         match place {
             0 => self.s0.is_some(),

@@ -7,7 +7,7 @@ use std::collections::LinkedList;
 
 /// Whether a pass takes, what it took, how many workers there are, for which of them it stands, and what these noted.
 /// It is spoken of in proofs alone: no value of it is made.
-pub struct Ledger {
+pub struct Knowledge {
     pub takes: bool,
     pub taken: LinkedList<AccessRecord>,
     pub workers: u8,
@@ -19,7 +19,7 @@ pub struct Ledger {
 /// The rule: what a worker noted is what was taken of it, then what the queue holds of it.
 pub struct EachOnce;
 
-impl Protocol<AccessRecord, Ledger> for EachOnce {
+impl Protocol<AccessRecord, Knowledge> for EachOnce {
     ghost use Rattle.eve_recorder.specs.Kept.{FitsPasses, newcomer};
 
     ghost holds = { FitsPasses };
@@ -28,15 +28,15 @@ impl Protocol<AccessRecord, Ledger> for EachOnce {
 }
 
 /// The queue of a recorder.
-pub type Queue = RuledArrayQueue<AccessRecord, Ledger, EachOnce>;
+pub type Queue = RuledArrayQueue<AccessRecord, Knowledge, EachOnce>;
 
 /// A pass of it.
-pub type QueuePass = Pass<AccessRecord, Ledger>;
+pub type QueuePass = Pass<AccessRecord, Knowledge>;
 
 /// The last worker that a pass stands for is none: what is cut off stands for nobody.
 pub struct AbsentCut;
 
-impl Split<Ledger> for AbsentCut {
+impl Split<Knowledge> for AbsentCut {
     ghost use Rattle.eve_recorder.specs.Kept.{one_less, nobody};
 
     ghost left = { one_less };
@@ -47,7 +47,7 @@ impl Split<Ledger> for AbsentCut {
 /// The last worker's part is cut off a pass, and joined to it.
 pub struct WorkerCut;
 
-impl Split<Ledger> for WorkerCut {
+impl Split<Knowledge> for WorkerCut {
     ghost use Rattle.eve_recorder.specs.Kept.{rest_of, last_pass};
 
     ghost left = { rest_of };
@@ -55,7 +55,7 @@ impl Split<Ledger> for WorkerCut {
     ghost right = { last_pass };
 }
 
-impl Join<Ledger> for WorkerCut {
+impl Join<Knowledge> for WorkerCut {
     ghost use Rattle.eve_recorder.specs.Kept.{with_last, nobody};
 
     ghost both = { with_last };
@@ -66,7 +66,7 @@ impl Join<Ledger> for WorkerCut {
 /// The taker's part is cut off a pass, and joined to it.
 pub struct TakerCut;
 
-impl Split<Ledger> for TakerCut {
+impl Split<Knowledge> for TakerCut {
     ghost use Rattle.eve_recorder.specs.Kept.{no_taker, taker_of};
 
     ghost left = { no_taker };
@@ -74,7 +74,7 @@ impl Split<Ledger> for TakerCut {
     ghost right = { taker_of };
 }
 
-impl Join<Ledger> for TakerCut {
+impl Join<Knowledge> for TakerCut {
     ghost use Rattle.eve_recorder.specs.Kept.{with_taker, nobody};
 
     ghost both = { with_taker };
@@ -85,14 +85,14 @@ impl Join<Ledger> for TakerCut {
 /// A record is noted, or the queue is found full.
 pub struct Notes;
 
-impl Outcome<AccessRecord, Ledger> for Notes {
+impl Outcome<AccessRecord, Knowledge> for Notes {
     ghost use Rattle.std.specs.Prelude.{◌≡◌};
     ghost use Rattle.eve_recorder.specs.Kept.{noting};
 
     ghost then = { λ v x w. w ≡ noting v x };
 }
 
-impl Lesson<AccessRecord, Ledger> for Notes {
+impl Lesson<AccessRecord, Knowledge> for Notes {
     ghost use Rattle.eve_recorder.specs.Kept.{SeesSome};
 
     ghost fact = { SeesSome };
@@ -101,7 +101,7 @@ impl Lesson<AccessRecord, Ledger> for Notes {
 /// A record is taken, or the queue is found empty.
 pub struct Takes;
 
-impl Outcome<AccessRecord, Ledger> for Takes {
+impl Outcome<AccessRecord, Knowledge> for Takes {
     ghost use Rattle.std.specs.Prelude.{◌≡◌, ◌<◌};
     ghost use Rattle.eve_recorder.specs.Kept.{taking, TakesFront};
     ghost use Rattle.eve_recorder.specs.Noted.{IsOrderly};
@@ -109,7 +109,7 @@ impl Outcome<AccessRecord, Ledger> for Takes {
     ghost then = { λ v x w. (w ≡ taking v x) × IsOrderly w.taken × TakesFront w × (x.worker < v.workers) };
 }
 
-impl Lesson<AccessRecord, Ledger> for Takes {
+impl Lesson<AccessRecord, Knowledge> for Takes {
     ghost use Rattle.eve_recorder.specs.Kept.{SeesAll};
 
     ghost fact = { SeesAll };
