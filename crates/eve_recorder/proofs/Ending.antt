@@ -79,7 +79,8 @@ pub put_step : (port other n k count : ℕ) (v u : Knowledge) → v ≡ knowledg
     → u.workers ≡ n
     → Merges FitsPasses port v other u (with_last v u) nobody
 put_step port other n k count v u is seat many =
-    let a : v.from ≡ 0 = ap (λ (h : Knowledge). h.from) is in let b : v.below ≡ k = ap (λ (h : Knowledge). h.below) is in
+    let a : v.from ≡ 0 = ap (λ (h : Knowledge). h.from) is in
+    let b : v.below ≡ k = ap (λ (h : Knowledge). h.below) is in
     let c : u.from ≡ k = ap (λ (h : Knowledge). h.from) seat.0 in let d : u.below ≡ suc k =
     ap (λ (h : Knowledge). h.below) seat.0 in
     let e : v.workers ≡ n = ap (λ (h : Knowledge). h.workers) is in

@@ -205,14 +205,16 @@ takes port v may x items views h at =
       ),
     )
 
-snoc_end : (l : List Knowledge) (a b : Knowledge) (j : ℕ) → get_elem? (l ++ a ∷ []) j ≡ some b → (get_elem? l j ≡ some b)
+snoc_end : (l : List Knowledge) (a b : Knowledge) (j : ℕ) → get_elem? (l ++ a ∷ []) j ≡ some b
+    → (get_elem? l j ≡ some b)
     ⊎ ((j ≡ length l) × (a ≡ b))
 snoc_end [] a b zero e = inr (refl, some-injective a b e)
 snoc_end [] a b (suc j) e = absurd (some-ne-none b (sym e))
 snoc_end (x ∷ xs) a b zero e = inl e
 snoc_end (x ∷ xs) a b (suc j) e = ⊎_elim (λ t. inl t) (λ t. inr (ap suc t.0, t.1)) (snoc_end xs a b j e)
 
-all_snoc : (F : ℕ → Knowledge → Type 0) (l : List Knowledge) (r : Knowledge) → All F l → F (length l) r → All F (l ++ r ∷ [])
+all_snoc : (F : ℕ → Knowledge → Type 0) (l : List Knowledge) (r : Knowledge) → All F l → F (length l) r
+    → All F (l ++ r ∷ [])
 all_snoc F l r old new j u e =
     ⊎_elim (λ x. old j u x) (λ (x : (j ≡ length l) × (r ≡ u)). subst (λ (y : ℕ × Knowledge). F y.0 y.1)
     (λ i. (sym x.0 i, x.1 i)) new) (snoc_end l r u j e)
@@ -268,7 +270,8 @@ forks_absent port v may all_from all_below left_over none items views h at =
 pub forks : (port : ℕ) (v : Knowledge) → v.from < v.below → v.noted ≡ [] → Forks FitsPasses port v (rest_of v)
     (last_pass v)
 forks port v some_left none items views h at =
-    let l : Knowledge = rest_of v in let r : Knowledge = last_pass v in let mine = h.fits port v at in let vs : List Knowledge =
+    let l : Knowledge = rest_of v in let r : Knowledge = last_pass v in let mine = h.fits port v at in
+    let vs : List Knowledge =
     set views port l in
     let last = v.below - 1 in let me = mine.1 last (omega arith, omega arith) in
     let seat : ℕ → ℕ = moved h.seat last (length vs) in
@@ -304,7 +307,8 @@ forks port v some_left none items views h at =
 
 pub forks_taker : (port : ℕ) (v : Knowledge) → v.takes ≡ true → Forks FitsPasses port v (no_taker v) (taker_of v)
 forks_taker port v may items views h at =
-    let l : Knowledge = no_taker v in let r : Knowledge = taker_of v in let mine = h.fits port v at in let me = mine.0 may in
+    let l : Knowledge = no_taker v in let r : Knowledge = taker_of v in let mine = h.fits port v at in
+    let me = mine.0 may in
     let vs : List Knowledge = set views port l in
     let F : ℕ → Knowledge → Type 0 = FitsPass h.workers (length vs) h.seat h.taken (h.taken ++ items) in
     let left : F port l = ((λ t. absurd (true≢false (sym t))), mine.1, mine.2) in
@@ -336,7 +340,8 @@ joined_there seat from to k e = sym (ap (λ b. cond b to (seat k)) (eq-eqb (seat
 joined_else : (seat : ℕ → ℕ) (from to k j : ℕ) → j ≡ seat k → j ≢ from → j ≡ joined seat from to k
 joined_else seat from to k j e n = e ∙ sym (ap (λ b. cond b to (seat k)) (ne_eqb (seat k) from (λ h. n (e ∙ h))))
 
-pub merges : (port : ℕ) (v : Knowledge) (other : ℕ) (u : Knowledge) → v.from ≤ v.below → u.from ≡ v.below → u.from ≤ u.below
+pub merges : (port : ℕ) (v : Knowledge) (other : ℕ) (u : Knowledge) → v.from ≤ v.below → u.from ≡ v.below
+    → u.from ≤ u.below
     → u.workers ≡ v.workers
     → Merges FitsPasses port v other u (with_last v u) nobody
 merges port v other u fine meet ok many items views h at two at' =

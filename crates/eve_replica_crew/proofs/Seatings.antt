@@ -36,7 +36,8 @@ seatings_pop [] (p ∷ seatings) s all = absurd all
 seatings_pop (r ∷ rooms) (p ∷ seatings) s all = (all.0, seatings_pop rooms seatings s all.1)
 
 -- as they are seen where what is shared has the room's recorder and its tickets of claims
-pub seats_seen : (rooms : List Room) (seatings : List Seating) (s : Seating) (r : Room) (k : ℕ) (d : Desk) (t : TicketSource)
+pub seats_seen : (rooms : List Room) (seatings : List Seating) (s : Seating) (r : Room) (k : ℕ) (d : Desk)
+    (t : TicketSource)
     → AreSeatingsOf rooms (seatings ++ s ∷ []) → k ≡ length seatings → r ≡ slice_index_or rooms k r → d ≡ r.recorder
     → t ≡ r.claims → AreSeatsAt d.recorder t r.leg.crew s
 seats_seen rooms seatings s r k d t all at is desk claims =

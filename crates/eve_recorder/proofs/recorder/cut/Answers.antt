@@ -8,7 +8,8 @@ another-requires-clause-rule c =
     let m = c.requires.main in
     let from = ap (λ (h : Knowledge). h.from) m in let below = ap (λ (h : Knowledge). h.below) m in let many =
     ap (λ (h : Knowledge). h.workers) m in
-    forks_absent _ _ (ap (λ (h : Knowledge). h.takes) m) from (omega arith) (omega arith) (ap (λ (h : Knowledge). h.noted) m)
+    forks_absent _ _ (ap (λ (h : Knowledge). h.takes) m) from (omega arith) (omega arith)
+    (ap (λ (h : Knowledge). h.noted) m)
 
 pub another-pass-requires-clause-rule : goal.another-pass-requires-clause-rule
 another-pass-requires-clause-rule c =

@@ -30,7 +30,8 @@ invariant_of-seats-2 c =
     let many = ap workers c.another-taker.ensures.rule.1 ∙ ap workers c.cut-s0.ensures.main ∙ all in
     let table : List (Option Noter) = c.cut-s0.result ∷ c.cut-s1.result ∷ c.cut-s2.result ∷ c.cut-s3.result
     ∷ c.cut-s4.result ∷ c.cut-s5.result ∷ c.cut-s6.result ∷ c.cut-s7.result ∷ [] in
-    let is : table_by (fresh_noter (recorder_id T n)) ≡ table = λ i. sym c.cut-s0.ensures.seat i ∷ sym c.cut-s1.ensures.seat
+    let is : table_by (fresh_noter (recorder_id T n)) ≡ table =
+    λ i. sym c.cut-s0.ensures.seat i ∷ sym c.cut-s1.ensures.seat
     i ∷ sym c.cut-s2.ensures.seat i ∷ sym c.cut-s3.ensures.seat i
     ∷ sym c.cut-s4.ensures.seat i ∷ sym c.cut-s5.ensures.seat i ∷ sym c.cut-s6.ensures.seat i ∷ sym
     c.cut-s7.ensures.seat i ∷ [] in (

@@ -15,5 +15,6 @@ invariant_of-self c = let i = c.self.invariant in let s = c.self.inside in let s
     let lt = c.seat.invariant.1.1 in
     let table : set (seats_in_table s.table) seat.worker (Some seat) ≡ seats_in_table c.put.new.self =
     sym (c.put.ensures ∙ ap (λ k. set (seats_in_table s.table) k (Some seat)) is) in
-    let seated = seated_with (IsNoterOf here) (seats_in_table s.table) seat.worker seat i.3 (own, refl, omega arith, all) in
+    let seated =
+    seated_with (IsNoterOf here) (seats_in_table s.table) seat.worker seat i.3 (own, refl, omega arith, all) in
     (i.0, i.1, i.2, subst (λ (l : List (Option Noter)). AreNotersSeated here l) table seated, i.4)
