@@ -1,8 +1,9 @@
 //! Laws about the definitions. A body calls the laws that its own stands on: the contract is the law.
 
-ghost use Rattle.std.specs.Prelude.{◌≡◌, ◌<◌, ◌^◌, ◌⊎◌, ℕ, List, slice_index_or};
+ghost use Rattle.std.specs.Prelude.{◌≡◌, ◌⊎◌, ℕ, List};
 ghost use Rattle.eve_grammar.specs.Trace.{Trace};
 ghost use Rattle.eve_grammar.specs.Limits.{Spells, HasLimits};
+ghost use Rattle.eve_grammar.specs.Places.{IsBytes};
 ghost use Rattle.eve_views.specs.declared.fault.Fault.{Fault};
 ghost use Rattle.eve_agree.specs.Agreement.{IsOutcomeFault};
 ghost use Rattle.eve_workload.specs.declared.mixer.Mixer.{Mixer};
@@ -30,13 +31,12 @@ pub fn faults_of_runs_are_collisions()
 }
 
 /// The verdict on bytes that spell the trace of a run is yes, or the trace shows two messages that differ and have one
-/// SHA-256. What is below 2^8 is a byte.
+/// SHA-256.
 ///
 /// docs/MODEL.md, "A run is accepted".
 pub fn runs_are_accepted()
-    ensures { (w : Workload) (mixer : Mixer) (t : Trace) (bytes : List ℕ)
-        → ((i : ℕ) → slice_index_or bytes i 0 < 2 ^ 8) → IsWorkload w → IsTraceOf w mixer t → Spells bytes t
-        → ((s : Summary) × IsVerdict bytes (Yes s)) ⊎ Collides t }
+    ensures { (w : Workload) (mixer : Mixer) (t : Trace) (bytes : List ℕ) → IsBytes bytes → IsWorkload w
+        → IsTraceOf w mixer t → Spells bytes t → ((s : Summary) × IsVerdict bytes (Yes s)) ⊎ Collides t }
 {
     faults_of_runs_are_collisions();
     eve_grammar::laws::bytes_spell_one_trace();
@@ -45,26 +45,25 @@ pub fn runs_are_accepted()
 }
 
 /// A run is SmallBank on one thread, batch by batch in each replica, and all else that a yes says, whether it is
-/// audited or not; or its trace shows two messages that differ and have one SHA-256. What is below 2^8 is a byte.
+/// audited or not; or its trace shows two messages that differ and have one SHA-256.
 ///
 /// docs/MODEL.md, "A run is accepted".
 pub fn runs_are_audited()
-    ensures { (w : Workload) (mixer : Mixer) (t : Trace) (bytes : List ℕ)
-        → ((i : ℕ) → slice_index_or bytes i 0 < 2 ^ 8) → IsWorkload w → IsTraceOf w mixer t → Spells bytes t
-        → IsAudited t ⊎ Collides t }
+    ensures { (w : Workload) (mixer : Mixer) (t : Trace) (bytes : List ℕ) → IsBytes bytes → IsWorkload w
+        → IsTraceOf w mixer t → Spells bytes t → IsAudited t ⊎ Collides t }
 {
     runs_are_accepted();
     eve_audit::laws::a_yes_is_audited();
 }
 
 /// Of what the program wrote for `run` with status 0: where it says the verdict on that for `audit`, it is yes and the
-/// status is 0, or the trace shows two messages that differ and have one SHA-256. What is below 2^8 is a byte.
+/// status is 0, or the trace shows two messages that differ and have one SHA-256.
 ///
 /// docs/MODEL.md, "A run is accepted".
 pub fn audits_of_runs_end_well()
     ensures { (limit : ℕ) (mixer : Mixer) (input written line : List ℕ) (status ended : ℕ)
-        → ((i : ℕ) → slice_index_or written i 0 < 2 ^ 8) → (run : Runs limit mixer input written status)
-        → Audits written line ended → (ended ≡ 0) ⊎ Collides run.trace }
+        → IsBytes written → (run : Runs limit mixer input written status) → Audits written line ended
+        → (ended ≡ 0) ⊎ Collides run.trace }
 {
     runs_are_accepted();
     eve_audit::laws::verdicts_are_unique();

@@ -1,8 +1,9 @@
 //! Laws about the definitions. A body calls the laws that its own stands on: the contract is the law.
 
-ghost use Rattle.std.specs.Prelude.{◌≡◌, ◌≤◌, ◌<◌, ◌^◌, ℕ, List, length, slice_index_or};
+ghost use Rattle.std.specs.Prelude.{◌≡◌, ◌≤◌, ℕ, List, length};
 ghost use Rattle.eve_grammar.specs.Trace.{Trace};
 ghost use Rattle.eve_grammar.specs.Limits.{Spells};
+ghost use Rattle.eve_grammar.specs.Places.{IsBytes};
 ghost use Rattle.eve_views.specs.declared.fault.Fault.{Fault};
 ghost use Rattle.eve_audit.specs.Audited.{IsAudited};
 ghost use Rattle.eve_audit.specs.declared.verdict.Summary.{Summary};
@@ -28,11 +29,11 @@ pub fn verdicts_are_unique()
     eve_history::laws::fates_are_as_the_section_ends();
 }
 
-/// Every list of bytes has a verdict: so the verdict on bytes is one, and always there. What is below 2^8 is a byte.
+/// Every list of bytes has a verdict: so the verdict on bytes is one, and always there.
 ///
 /// docs/MODEL.md, "Verdict".
 pub fn bytes_have_a_verdict()
-    ensures { (bytes : List ℕ) → ((i : ℕ) → slice_index_or bytes i 0 < 2 ^ 8) → (v : Verdict) × IsVerdict bytes v }
+    ensures { (bytes : List ℕ) → IsBytes bytes → (v : Verdict) × IsVerdict bytes v }
 {
     eve_grammar::laws::bytes_spell_one_trace();
     eve_views::laws::form_is_decided();
@@ -53,12 +54,11 @@ pub fn standing_faults_lie_within()
 }
 
 /// Each fault that stands names the replica in whose section it lies, and none where it lies in none: so does each
-/// fault that a phase names. What is below 2^8 is a byte.
+/// fault that a phase names.
 ///
 /// docs/MODEL.md, "Faults".
 pub fn standing_faults_name_their_section()
-    ensures { (bytes : List ℕ) (f : Fault) → ((i : ℕ) → slice_index_or bytes i 0 < 2 ^ 8) → Stands bytes f
-        → NamesItsSection bytes f }
+    ensures { (bytes : List ℕ) (f : Fault) → IsBytes bytes → Stands bytes f → NamesItsSection bytes f }
 {
     eve_grammar::laws::bytes_spell_one_trace();
     eve_views::laws::form_is_decided();

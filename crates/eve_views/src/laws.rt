@@ -1,17 +1,18 @@
 //! Laws about the definitions. Each body is empty: the contract is the law.
 
-ghost use Rattle.std.specs.Prelude.{◌<◌, ◌^◌, ◌⊎◌, ℕ, List, slice_index_or};
+ghost use Rattle.std.specs.Prelude.{◌⊎◌, ℕ, List};
 ghost use Rattle.eve_grammar.specs.Trace.{Trace};
 ghost use Rattle.eve_grammar.specs.Limits.{Spells};
+ghost use Rattle.eve_grammar.specs.Places.{IsBytes};
 ghost use Rattle.eve_views.specs.Form.{IsFormFault, IsLeast};
 ghost use Rattle.eve_views.specs.declared.fault.Fault.{Fault};
 
-/// Bytes have a first fault of form, or they spell a trace, and never both. What is below 2^8 is a byte.
+/// Bytes have a first fault of form, or they spell a trace, and never both.
 ///
 /// docs/MODEL.md, "Faults".
 pub fn form_is_decided()
-    ensures decided { (bytes : List ℕ) → ((i : ℕ) → slice_index_or bytes i 0 < 2 ^ 8)
+    ensures decided { (bytes : List ℕ) → IsBytes bytes
         → ((f : Fault) × IsLeast (IsFormFault bytes) f) ⊎ ((t : Trace) × Spells bytes t) }
-    ensures apart { (bytes : List ℕ) (f : Fault) (t : Trace) → ((i : ℕ) → slice_index_or bytes i 0 < 2 ^ 8)
-        → IsFormFault bytes f → ¬ Spells bytes t }
+    ensures apart { (bytes : List ℕ) (f : Fault) (t : Trace) → IsBytes bytes → IsFormFault bytes f
+        → ¬ Spells bytes t }
 {}
