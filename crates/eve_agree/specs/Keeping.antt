@@ -5,18 +5,11 @@ use Rattle.eve_grammar.specs.declared.limits.TheConstants.{MOST_REQUESTS}
 use Rattle.eve_grammar.specs.Trace.{Sent, Trace}
 use Rattle.eve_history.specs.Section.{batch_at}
 use Rattle.eve_grammar.specs.Trace.{RequestId, request_id}
-use Rattle.eve_agree.specs.declared.request_ids.RequestId.{RequestId as Item}
-use Rattle.eve_agree.specs.declared.request_ids.RequestIds.{RequestIds}
+use Rattle.eve_agree.specs.declared.batch_request_ids.BatchRequestIds.{BatchRequestIds}
 
-abbrev pub request_id_of : Item → RequestId
-request_id_of x = (x.client, x.number)
-
--- the clients and numbers of the first so many
-abbrev pub first_ids : List Item → ℕ → List RequestId
-first_ids items count = map request_id_of (take count items)
-
-abbrev pub kept_ids : RequestIds → List RequestId
-kept_ids k = first_ids k.items k.count
+-- the ids that are kept, by the index of their request
+abbrev pub kept_ids : BatchRequestIds → List RequestId
+kept_ids k = take k.count k.items
 
 -- at this index stands the request that is answered, and the reply that was sent
 pub record AnswersAt (request_ids : List RequestId) (replies : List Reply) (s : Sent) (index : ℕ) : Type 0 where
@@ -24,6 +17,6 @@ pub record AnswersAt (request_ids : List RequestId) (replies : List Reply) (s : 
   pub reply : slice_get replies index ≡ Some s.reply
 
 -- what is kept is what the requests of the batch at hand say, if there is one
-pub record AreOf (t : Trace) (k : RequestIds) : Type 0 where
+pub record AreOf (t : Trace) (k : BatchRequestIds) : Type 0 where
   pub few : k.count ≤ MOST_REQUESTS
   pub request_ids : 1 ≤ k.batch → kept_ids k ≡ map request_id (batch_at t k.batch).requests

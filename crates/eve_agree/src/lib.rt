@@ -2,11 +2,11 @@
 #![tactic(auto)]
 
 mod agreement;
+mod batch_request_ids;
 mod due_tokens;
 mod first_seen;
 pub mod laws;
 mod majority;
-mod request_ids;
 mod restores;
 mod sent_replies;
 

@@ -11,7 +11,7 @@ ghost use Rattle.eve_agree.specs.SentReplies.{IsReplied, AllReplied, IsReplyFaul
 ghost use Rattle.eve_agree.specs.Keeping.{AreOf};
 
 use crate::agreement::committed_attempt;
-use crate::request_ids::RequestIds;
+use crate::batch_request_ids::BatchRequestIds;
 use eve_frames::{AttemptView, SentView};
 use eve_history::History;
 use eve_views::{CheckFault, Code, Fault, Trace};
@@ -29,7 +29,7 @@ pub fn replies(trace: &Trace<'_>, histories: &[History<'_>]) -> Result<(), Check
     ensures found { IfErr result (λ why. why ≢ Memory) }
 {
     trace.recall_limits();
-    let mut request_ids = RequestIds::new();
+    let mut request_ids = BatchRequestIds::new();
     for i in 0..trace.sent_count() {
         let sent = trace.sent(i);
         let history = &histories[sent.replica() as usize];
@@ -55,7 +55,7 @@ fn fault_at(offset: u64) -> Fault
 fn is_replied(
     trace: &Trace<'_>,
     history: &History<'_>,
-    request_ids: &mut RequestIds,
+    request_ids: &mut BatchRequestIds,
     sent: &SentView<'_>,
 ) -> bool
     requires history { history.now ≡ section_history trace.now (sent_said sent.now).replica }

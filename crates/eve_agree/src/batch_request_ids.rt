@@ -1,27 +1,23 @@
 //! The requests of the batch whose replies are judged.
 
-ghost use Rattle.std.specs.Prelude.{◌≡◌, ◌≤◌, ◌<◌, ◌↔◌, ℕ, IsTrue, IfSome, IfNone, length, map};
+ghost use Rattle.std.specs.Prelude.{◌≡◌, ◌≤◌, ◌<◌, ◌↔◌, ℕ, IsTrue, IfSome, IfNone, length, map, take};
 ghost use Rattle.eve_grammar.specs.Limits.{is_batch};
 ghost use Rattle.eve_frames.specs.Said.{attempt_said, batch_said, sent_said};
 ghost use Rattle.eve_grammar.specs.Trace.{request_id};
 ghost use Rattle.eve_history.specs.Notes.{requests_said};
-ghost use Rattle.eve_agree.specs.Keeping.{kept_ids, first_ids, AnswersAt, AreOf};
+ghost use Rattle.eve_agree.specs.Keeping.{kept_ids, AnswersAt, AreOf};
 
 use eve_frames::{AttemptView, BatchView, SentView};
 use eve_grammar::MOST_REQUESTS;
 use eve_views::Trace;
 
 /// A request's client, and the client's number for it.
-#[derive(Clone, Copy)]
-pub struct RequestId {
-    client: u32,
-    number: u64,
-}
+type RequestId = (u32, u64);
 
 /// The clients and numbers of one batch's requests by their indexes, so that the batch is read once for all its
 /// replies.
 #[derive(Drop)]
-pub struct RequestIds {
+pub struct BatchRequestIds {
     /// The batch, from 1; 0 before the first.
     batch: u32,
     /// How many requests it has.
@@ -32,20 +28,17 @@ pub struct RequestIds {
     items: [RequestId; MOST_REQUESTS],
 }
 
-impl RequestIds {
+impl BatchRequestIds {
     /// Of no batch.
-    pub fn new() -> RequestIds
+    pub fn new() -> BatchRequestIds
         ensures few { result.count ≤ MOST_REQUESTS }
         ensures none { result.batch ≡ 0 }
     {
-        RequestIds {
+        BatchRequestIds {
             batch: 0,
             count: 0,
             next: 0,
-            items: [RequestId {
-                client: 0,
-                number: 0,
-            }; MOST_REQUESTS],
+            items: [(0, 0); MOST_REQUESTS],
         }
     }
 
@@ -116,10 +109,8 @@ impl RequestIds {
         if i >= self.count || i >= attempt.len() {
             return false;
         }
-        let request_id = self.items[i];
-        request_id.client == sent.client()
-            && request_id.number == sent.number()
-            && attempt.reply(i) == sent.reply()
+        let (client, number) = self.items[i];
+        client == sent.client() && number == sent.number() && attempt.reply(i) == sent.reply()
     }
 }
 
@@ -127,14 +118,11 @@ impl RequestIds {
 fn read(batch: &BatchView<'_>, items: &mut [RequestId; MOST_REQUESTS]) -> usize
     requires { IsTrue (is_batch (batch_said batch.now).1) }
     ensures few { result ≤ MOST_REQUESTS }
-    ensures kept { first_ids items.new result ≡ map request_id (requests_said batch.now.bytes.now) }
+    ensures kept { take result items.new ≡ map request_id (requests_said batch.now.bytes.now) }
 {
     let mut count = 0;
     for asked in batch.requests() {
-        items[count] = RequestId {
-            client: asked.client,
-            number: asked.number,
-        };
+        items[count] = (asked.client, asked.number);
         count += 1;
     }
     count
