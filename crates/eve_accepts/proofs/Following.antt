@@ -21,6 +21,7 @@ use Rattle.eve_grammar.specs.Certificate.{is_certificate}
 use Rattle.eve_grammar.specs.Frames.{OfReplica}
 use Rattle.eve_grammar.specs.Spelling.{frame_text, step_text, section_start, steps_of, steps_at}
 use Rattle.eve_grammar.proofs.OpeningRows.{length-opening_rows}
+use Rattle.eve_grammar.proofs.Lists.{same_first, same_others, no_item}
 use Rattle.eve_history.specs.Section.{Placed, SectionState, start, path_of, committing, next, state_after}
 use Rattle.eve_history.specs.Section.{batch_at, request_count, worker_count, is_due, is_right_attempt}
 use Rattle.eve_history.specs.Section.{is_right_certificate, are_right_accesses, same_bytes, commits_first}
@@ -109,19 +110,10 @@ same_tests t a before (x ∷ xs) =
     ap (λ (b : Bool). is_new_access (worker_count t a) (request_count t a) before x && (is_right_place before x && b))
     (same_tests t a (before ++ x ∷ []) xs)
 
-pub same_first : {A : Type 0} (x y : A) (xs ys : List A) → x ∷ xs ≡ y ∷ ys → x ≡ y
-same_first x y xs ys same = cc
-
-pub same_others : {A : Type 0} (x y : A) (xs ys : List A) → x ∷ xs ≡ y ∷ ys → xs ≡ ys
-same_others x y xs ys same = cc
-
-pub none_first : {A : Type 0} (x : A) (xs : List A) → ◌≡◌ {A = List A} [] (x ∷ xs) → ⊥
-none_first x xs same = cc
-
 first_committed : (t : Trace) (pending : List Placed) (first : Opened) (others : List Opened) (c : Commit)
     → map (opened_of t) (attempts_of pending) ≡ first ∷ others → first.view ≡ c.view → first.token ≡ c.token
     → commits_first pending c ≡ true
-first_committed t [] first others c opened view token = absurd (none_first first others opened)
+first_committed t [] first others c opened view token = absurd (no_item [] first others opened)
 first_committed t (q ∷ ps) first others c opened view token =
     let own = same_first (opened_of t q.attempt) first (map (opened_of t) (attempts_of ps)) others opened in
     and_from (q.attempt.view == c.view) (same_bytes q.attempt.token c.token)
@@ -174,7 +166,7 @@ module _ (t : Trace) (s : SectionState) (old : Ledger) (alike : AreAlike t s old
   alike_committed : (new : Ledger) (c : Commit) (pending : List Placed) → s.pending ≡ pending
       → account.Commits old new c → AreAlike t (committing s pending) new
   alike_committed new c [] open_is made =
-      absurd (none_first made.first made.others
+      absurd (no_item [] made.first made.others
       (ap (λ (ps : List Placed). map (opened_of t) (attempts_of ps)) (sym open_is) ∙ sym alike.opened ∙ made.opened))
   alike_committed new c (q ∷ ps) open_is made =
       let opened : map (opened_of t) (attempts_of (q ∷ ps)) ≡ made.first ∷ made.others =

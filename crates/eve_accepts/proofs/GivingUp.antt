@@ -7,6 +7,7 @@ use Rattle.std.proofs.lemmas.Bool.{eq-eqb, ne_eqb}
 use Rattle.std.proofs.lemmas.List.{take_at}
 use Rattle.eve_grammar.specs.Trace.{Rollback, Step, Attempts, Commits, RollsBack, Trace}
 use Rattle.eve_grammar.specs.Spelling.{steps_of, steps_at}
+use Rattle.eve_grammar.proofs.Lists.{same_first, same_others, no_item}
 use Rattle.eve_history.specs.Section.{Placed, SectionState, start, committing, next, state_after}
 use Rattle.eve_history.specs.SectionHistory.{history}
 use Rattle.eve_chains.specs.Committed.{attempts_of, balances_to}
@@ -16,8 +17,7 @@ use Rattle.eve_replica.specs.Sections.{RunPlan, GoesThrough}
 use Rattle.eve_replica.specs.Run.{IsSectionOf}
 use Rattle.eve_accepts.specs.RolledBack.{rolled_back_to}
 use Rattle.eve_accepts.proofs.Alike.{IsPlanOf, AreAlike}
-use Rattle.eve_accepts.proofs.Following.{alike_first, step_alike, goes, plain_steps, same_first, same_others}
-use Rattle.eve_accepts.proofs.Following.{none_first}
+use Rattle.eve_accepts.proofs.Following.{alike_first, step_alike, goes, plain_steps}
 use Rattle.eve_accepts.proofs.Due.{balances_along, balances_now}
 use Rattle.eve_accepts.proofs.GoingBack.{DontFall, dont_fall}
 use Rattle.eve_accepts.proofs.SerialTokens.{serial_token, token_serial}
@@ -29,7 +29,7 @@ module _ (p : RunPlan) (number : ℕ) (rest : List ℕ) where
   first_stays : (view : ℕ) (token : List ℕ) (others : List (List ℕ)) (steps : List Step) (old last : Ledger)
       → GoesThrough p steps old last → view ≡ old.view + 1 → number ≡ old.committed
       → rolled_back_to steps ≡ number ∷ rest → token_given_up view (token ∷ others) steps ≡ Some token
-  first_stays view token others [] old last way at here back = absurd (none_first number rest back)
+  first_stays view token others [] old last way at here back = absurd (no_item [] number rest back)
   first_stays view token others (Attempts a ∷ steps) old last way at here back =
       let changed = way.1.closed.opens.changed in
       first_stays view token (others ++ a.token ∷ []) steps way.0 last way.2
@@ -49,7 +49,7 @@ module _ (p : RunPlan) (number : ℕ) (rest : List ℕ) where
       → view ≡ old.view + 1 → number ≡ old.committed → rolled_back_to steps ≡ number ∷ rest
       → old.is_next_serial ≡ true → ◌≡◌ {A = List Opened} old.opened []
       → token_given_up view [] steps ≡ Some (serial_token p number old.rows.balances)
-  serial_given_up view [] old last way at here back serial none = absurd (none_first number rest back)
+  serial_given_up view [] old last way at here back serial none = absurd (no_item [] number rest back)
   serial_given_up view (Attempts a ∷ steps) old last way at here back serial none =
       let changed = way.1.closed.opens.changed in
       first_stays view a.token [] steps way.0 last way.2
@@ -59,7 +59,7 @@ module _ (p : RunPlan) (number : ℕ) (rest : List ℕ) where
       (token_serial p old way.0 a way.1 serial none
       ∙ ap (λ (n : ℕ). serial_token p n old.rows.balances) (sym here))
   serial_given_up view (Commits c ∷ steps) old last way at here back serial none =
-      absurd (none_first way.1.first way.1.others (sym none ∙ way.1.opened))
+      absurd (no_item [] way.1.first way.1.others (sym none ∙ way.1.opened))
   serial_given_up view (RollsBack r ∷ steps) old last way at here back serial none =
       let many : length old.opened ≡ 0 = ap length none in
       absurd (omega (arith, many, way.1.0))
@@ -143,8 +143,8 @@ module _ (p : RunPlan) (t : Trace) (plan : IsPlanOf p t) (number : ℕ) (rest : 
       → IsCounted s → view ≡ old.view + length before + 2
       → rolled_back_to (map (λ x. x.1) steps) ≡ before ++ number ∷ number ∷ rest
       → GivesUpSerial view opened (map (λ x. x.1) steps) (state_after s steps)
-  gives_up_along view opened [] [] s old last way alike counted at back = absurd (none_first _ _ back)
-  gives_up_along view opened (n ∷ before) [] s old last way alike counted at back = absurd (none_first _ _ back)
+  gives_up_along view opened before [] s old last way alike counted at back =
+      absurd (no_item before number (number ∷ rest) back)
   gives_up_along view opened before ((o, Attempts a) ∷ steps) s old last way alike counted at back =
       let same = ap (λ (l : Ledger). l.view) way.1.closed.opens.changed in
       let later = gives_up_along view (opened ++ a.token ∷ []) before steps (next s (o, Attempts a)) way.0 last way.2

@@ -8,12 +8,12 @@ use Rattle.eve_smallbank.proofs.Members.{all_in, all_from_in}
 use Rattle.eve_grammar.specs.Trace.{Asked, Batch, Attempt, Commit, Step, Attempts, Commits, RollsBack, Sent, Trace}
 use Rattle.eve_grammar.specs.Frames.{OfReplica}
 use Rattle.eve_grammar.specs.Spelling.{frame_text, step_text, section_start, steps_of, steps_at}
-use Rattle.eve_grammar.proofs.Lists.{all-append}
+use Rattle.eve_grammar.proofs.Lists.{all-append, get_in_front}
 use Rattle.eve_workload.specs.declared.mixer.Mixer.{Mixer}
 use Rattle.eve_workload.specs.Workload.{Workload}
 use Rattle.eve_replica.specs.Sending.{answered, requests_there, requests_numbered, answers_of, sent_along, sent_from_on}
 use Rattle.eve_replica.specs.Run.{IsTraceOf}
-use Rattle.eve_votes.proofs.Places.{get_between, get_in_front, located_values}
+use Rattle.eve_votes.proofs.Places.{get_between, located_values}
 use Rattle.eve_history.specs.Section.{Placed, SectionState, start, path_of, committing, next, state_after, no_batch}
 use Rattle.eve_history.specs.Section.{batch_at}
 use Rattle.eve_history.specs.SectionHistory.{history, committed_at, IsRightSection}

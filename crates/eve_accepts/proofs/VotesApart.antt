@@ -1,11 +1,12 @@
 -- Along a section the votes rise: no two of them are on one batch in one view, and no two commits are of one batch.
-use Rattle.std.proofs.Common.{◌≡◌, ℕ, ◌+◌, ◌-◌, ◌<◌, ◌≤◌, ◌==◌, Bool, true, false, cond, List, [], ◌∷◌, length, filter}
+use Rattle.std.proofs.Common.{◌≡◌, ℕ, ◌+◌, ◌-◌, ◌<◌, ◌≤◌, ◌==◌, Bool, true, false, List, [], ◌∷◌, length, filter}
 use Rattle.std.proofs.Common.{All, get_or, refl, sym, ap, ◌∙◌, subst, arith}
 use Rattle.std.specs.Bool.{⊤}
 use Rattle.std.proofs.lemmas.Bool.{and_from, eq-eqb}
 use Rattle.std.proofs.lemmas.List.Elements.{All-nil, All-cons, All-head, All-weaker, All-append}
 use Rattle.eve_grammar.specs.Trace.{Step, Attempts, Commits, RollsBack, Attempt, Commit, Choice, ForRollback, ForCommit}
 use Rattle.eve_grammar.specs.Trace.{Vote}
+use Rattle.eve_grammar.proofs.Lists.{filter_kept, filter_dropped}
 use Rattle.eve_votes.specs.Votes.{is_vote_on}
 use Rattle.eve_votes.proofs.Sifting.{voted}
 use Rattle.eve_attempts.specs.Ledgers.{Opened, Ledger}
@@ -59,13 +60,6 @@ all_from n view (w ∷ ws) rise =
 
 -- ---- no two are on one batch in one view
 
-module _ {A : Type 0} (p : A → Bool) (x : A) (xs : List A) where
-  kept : p x ≡ true → filter p (x ∷ xs) ≡ x ∷ filter p xs
-  kept passes = ap (λ (b : Bool). cond b (x ∷ filter p xs) (filter p xs)) passes
-
-  left_out : p x ≡ false → filter p (x ∷ xs) ≡ filter p xs
-  left_out fails = ap (λ (b : Bool). cond b (x ∷ filter p xs) (filter p xs)) fails
-
 on_its_own : (w : Vote) → is_vote_on w.seq w.view w ≡ true
 on_its_own w =
     and_from (w.seq == w.seq) (w.view == w.view) (eq-eqb w.seq w.seq refl) (eq-eqb w.view w.view refl)
@@ -82,7 +76,7 @@ none_before : (m u n view : ℕ) (ws : List Vote) → m + u < n + view → Rise 
 none_before m u n view [] before rise = refl
 none_before m u n view (w ∷ ws) before rise =
     let up = goes_up w.seq w.view w.choice in
-    left_out (is_vote_on m u) w ws (not_on m u w (λ same. omega (arith, rise.0.0, rise.0.1, before, same)))
+    filter_dropped (is_vote_on m u) w ws (not_on m u w (λ same. omega (arith, rise.0.0, rise.0.1, before, same)))
     ∙ none_before m u (batch_after w.seq w.choice) (view_after w.view w.choice) ws
     (omega (arith, rise.0.0, rise.0.1, up.2, before)) rise.1
 
@@ -104,11 +98,12 @@ all_alone n view (w ∷ ws) rise =
     let from = all_from batch next ws rise.1 in
     let up = goes_up w.seq w.view w.choice in
     All-cons (IsAlone (w ∷ ws)) w ws
-    (kept (is_vote_on w.seq w.view) w ws (on_its_own w) ∙ ap (λ (vs : List Vote). w ∷ vs) (none_further w ws rise.1))
+    (filter_kept (is_vote_on w.seq w.view) w ws (on_its_own w)
+    ∙ ap (λ (vs : List Vote). w ∷ vs) (none_further w ws rise.1))
     (λ k d below.
     let x = get_or ws k d in
     let later = from k d below in
-    left_out (is_vote_on x.seq x.view) w ws
+    filter_dropped (is_vote_on x.seq x.view) w ws
     (not_on x.seq x.view w (λ same. omega (arith, later.0, later.1, up.2, same)))
     ∙ all_alone batch next ws rise.1 k d below)
 
@@ -125,9 +120,10 @@ one_at_most m u n view (w ∷ ws) rise =
         let up = goes_up w.seq w.view w.choice in
         let none = none_before m u (batch_after w.seq w.choice) (view_after w.view w.choice) ws
         (omega (arith, both.0, both.1, up.2)) rise.1 in
-        let count = ap length (kept (is_vote_on m u) w ws on ∙ ap (λ (vs : List Vote). w ∷ vs) none) in
+        let count = ap length (filter_kept (is_vote_on m u) w ws on ∙ ap (λ (vs : List Vote). w ∷ vs) none) in
         omega (arith, count)
-    by false off later = let count = ap length (left_out (is_vote_on m u) w ws off) in omega (arith, count, later)
+    by false off later = let count = ap length (filter_dropped (is_vote_on m u) w ws off) in
+        omega (arith, count, later)
 
 -- ---- no two commits are of one batch
 

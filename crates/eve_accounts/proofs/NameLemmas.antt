@@ -10,7 +10,7 @@ use Rattle.std.proofs.lemmas.List.{get_or_default, length-map, map-append}
 use Rattle.std.proofs.lemmas.List.Elements.{All-push, Contains-append_right}
 use Rattle.std.proofs.lemmas.List.Quantifiers.{all_pairs_push}
 use Rattle.std.proofs.lemmas.Map.Text.{is_eq-slice_cmp}
-use Rattle.std.proofs.lemmas.Option.{same_Some, slice_get_within, get_or_from_slice_get}
+use Rattle.std.proofs.lemmas.Option.{none-some, same_Some, slice_get_within, get_or_from_slice_get}
 use Rattle.std.specs.Cmp.Lexicographic.{pointwise, same_text, other_text}
 use Rattle.std.specs.List.{list_any, position_or_len}
 use Rattle.std.specs.Prelude.{Result, Ok, Err}
@@ -36,13 +36,10 @@ same_name-other a b apart = false_from_ne_true (same_name a b) (λ h. apart (sam
 
 -- ---- a customer's number
 
-pub no_number : (n : ℕ) → ◌≡◌ {A = Option ℕ} None (Some n) → ⊥
-no_number n e = cc
-
 -- the number of a name is its place
 place_from : (c n : ℕ) (names : List (List ℕ)) (name : List ℕ) → customer_named_from c names name ≡ Some n → (i : ℕ)
     × (n ≡ c + i) × (slice_get names i ≡ Some name)
-place_from c n [] name e = absurd (no_number n e)
+place_from c n [] name e = absurd (none-some n e)
 place_from c n (first ∷ names) name e = by (same_name name first) refl (place_from (c + 1) n names name)
   where
     by : (b : Bool) → same_name name first ≡ b

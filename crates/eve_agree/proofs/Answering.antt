@@ -8,11 +8,11 @@ use Rattle.eve_history.specs.Section.{Placed, batch_at}
 use Rattle.eve_history.specs.SectionHistory.{ExecutedAttempt, SectionHistory, executed_attempt, placed_at}
 use Rattle.eve_history.specs.SectionHistory.{section_history, history, committed_at}
 use Rattle.eve_grammar.specs.Trace.{RequestId, request_id}
+use Rattle.eve_grammar.proofs.Lists.{unmapped}
 use Rattle.eve_history.proofs.Finding.{get_mapped}
 use Rattle.eve_chains.proofs.Linked.{none≢some}
 use Rattle.eve_agree.specs.SentReplies.{IsReplied}
 use Rattle.eve_agree.specs.Keeping.{AnswersAt}
-use Rattle.eve_agree.proofs.Outcomes.{mapped_at}
 
 -- ---- one reply sent
 
@@ -43,7 +43,7 @@ unfolding section_history history
 is_committed t e zero v r a one is at same = absurd (omega arith)
 is_committed t e (suc n) v r a one is at same =
     let less : suc n - 1 ≡ n = omega arith in
-    let s = mapped_at (λ p. executed_attempt (placed_at p)) (history t e).committed n r
+    let s = unmapped (λ p. executed_attempt (placed_at p)) (history t e).committed n r
     (ap (λ m. slice_get (section_history t e).commits m) (sym less)
     ∙ ap (λ (w : SectionHistory). slice_get w.commits (suc n - 1)) (sym is) ∙ at) in
     record {
@@ -56,7 +56,7 @@ pub replied_from : (t : Trace) (s : Sent) (replies : List Reply) (request_ids : 
     → IsCommitted t s.replica s.seq replies → request_ids ≡ map request_id (batch_at t s.seq).requests
     → AnswersAt request_ids replies s i → IsReplied t s
 replied_from t s replies request_ids i committed is answer =
-    let a = mapped_at request_id (batch_at t s.seq).requests i (s.client, s.number)
+    let a = unmapped request_id (batch_at t s.seq).requests i (s.client, s.number)
     (ap (λ (xs : List RequestId). slice_get xs i) (sym is) ∙ answer.request_id) in
     record {
       placed = committed.placed;

@@ -11,26 +11,20 @@ use Rattle.std.proofs.lemmas.List.FromFn.{length-enumerate_from}
 use Rattle.std.proofs.lemmas.Option.{slice_get_within, same_Some}
 use Rattle.eve_smallbank.specs.declared.request.Reply.{Reply}
 use Rattle.eve_grammar.specs.Trace.{Attempt, Step, Trace}
-use Rattle.eve_grammar.proofs.Lists.{take_one_more}
+use Rattle.eve_grammar.proofs.Lists.{take_one_more, unmapped}
+use Rattle.eve_grammar.proofs.Numbered.{numbered_at}
 use Rattle.eve_history.specs.Section.{Placed, start, state_after}
 use Rattle.eve_history.specs.SectionHistory.{ExecutedAttempt, executed_attempt, SectionHistory, section_history}
 use Rattle.eve_history.specs.SectionHistory.{section_histories, placed_at, history, committed_at, IsRightSection}
 use Rattle.eve_chains.specs.Committed.{first_rows, values_to, balances_to}
 use Rattle.eve_chains.proofs.Linked.{last_committed, none≢some}
 use Rattle.eve_chains.specs.Settling.{Settling, settling, settlings, values_in}
-use Rattle.eve_history.proofs.Rights.{as_many_told, none_at, section_history_at}
+use Rattle.eve_history.proofs.Rights.{as_many_told, commits_told, none_at, section_history_at}
 use Rattle.eve_agree.proofs.TokensInOrder.{rows_are, rows_told}
 use Rattle.eve_agree.specs.Agreement.{first_to_commit, HaveSameOutcome}
 use Rattle.eve_agree.specs.Judging.{NoneBefore, IsAfter, AreAfter}
 
 -- ---- of each replica
-
-each_at : {A B : Type 0} (f : ℕ → B) (k : ℕ) (xs : List A) (i : ℕ) → i < length xs
-    → slice_get (map (λ s. f s.0) (enumerate_from k xs)) i ≡ Some (f (k + i))
-each_at f k [] i lt = absurd (omega arith)
-each_at f k (x ∷ xs) zero lt = let same : k ≡ k + 0 = omega arith in ap (λ (j : ℕ). Some (f j)) same
-each_at f k (x ∷ xs) (suc i) lt = let same : k + 1 + i ≡ k + suc i = omega arith in each_at f (k + 1) xs i (omega arith)
-    ∙ ap (λ (j : ℕ). Some (f j)) same
 
 module _ (t : Trace) where
   pub section_history_is : (hs : List SectionHistory) (e : ℕ) (h : SectionHistory) → hs ≡ section_histories t
@@ -49,8 +43,7 @@ module _ (t : Trace) where
 
   pub settling_at : (e : ℕ) → e < length t.sections → slice_get (settlings t) e ≡ Some (settling t e)
   unfolding settlings
-  settling_at e lt = let same : 0 + e ≡ e = omega arith in each_at (settling t) 0 t.sections e lt
-      ∙ ap (λ (j : ℕ). Some (settling t j)) same
+  settling_at e lt = numbered_at (settling t) t.sections e lt
 
 -- ---- how many batches
 
@@ -62,10 +55,6 @@ module _ (t : Trace) (e : ℕ) where
   pub replica_told : (h : SectionHistory) → h ≡ section_history t e → h.replica ≡ e
   unfolding section_history
   replica_told h is = ap (λ (x : SectionHistory). x.replica) is
-
-  pub commits_told : (section_history t e).commits ≡ map (λ p. executed_attempt (placed_at p)) (history t e).committed
-  unfolding section_history history
-  commits_told = refl
 
   -- a replica that is not there committed nothing
   none_there : length t.sections ≤ e → (history t e).committed ≡ []
@@ -87,12 +76,6 @@ module _ (t : Trace) (e : ℕ) where
 
 -- ---- the attempt
 
-pub mapped_at : {A B : Type 0} (f : A → B) (xs : List A) (i : ℕ) (y : B) → slice_get (map f xs) i ≡ Some y → (x : A)
-    × (slice_get xs i ≡ Some x) × (f x ≡ y)
-mapped_at f [] i y e = absurd cc
-mapped_at f (x ∷ xs) zero y e = (x, refl, same_Some (f x) y e)
-mapped_at f (x ∷ xs) (suc i) y e = mapped_at f xs i y e
-
 -- this offset and these replies are those of the attempt by which replica e committed batch n
 pub record IsOf (t : Trace) (e n offset : ℕ) (replies : List Reply) : Type 0 where
   pub item : Placed
@@ -110,7 +93,7 @@ outcome_of t e (suc n) offset said h is one got =
     let here : slice_get (map (λ p. executed_attempt (placed_at p)) (history t e).committed) n ≡ Some r =
     ap (λ (rs : List ExecutedAttempt). slice_get rs n) (sym (commits_told t e))
     ∙ ap (λ (x : SectionHistory). slice_get x.commits n) (sym is) ∙ ap (slice_get h.commits) (sym less) ∙ got.1 in
-    let found = mapped_at (λ p. executed_attempt (placed_at p)) (history t e).committed n r here in
+    let found = unmapped (λ p. executed_attempt (placed_at p)) (history t e).committed n r here in
     record {
       item = found.0;
       at = found.1;

@@ -44,7 +44,7 @@ take_located {A = A} text at (suc i) (x ∷ xs) = ap (λ (ys : List (ℕ × A)).
 
 pub sent_there : (t : Trace) (i o : ℕ) (s : Sent) → slice_get (sent_at t) i ≡ Some (o, s) → slice_get t.sent i ≡ Some s
 unfolding sent_at
-sent_there t i o s e = located_get (λ s. frame_text (OfSent s)) (sent_start t) t.sent i o s e
+sent_there t i o s e = located_get (λ s. frame_text (OfSent s)) (sent_start t) t.sent i (o, s) e
 
 -- ---- all of them
 

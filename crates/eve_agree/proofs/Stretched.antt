@@ -7,6 +7,7 @@ use Rattle.std.proofs.lemmas.Bool.{cases_lt}
 use Rattle.std.proofs.lemmas.List.{length-map}
 use Rattle.std.proofs.lemmas.Option.{slice_get_within}
 use Rattle.eve_grammar.specs.Trace.{Attempt, Trace}
+use Rattle.eve_grammar.proofs.Lists.{unmapped}
 use Rattle.eve_views.specs.declared.fault.Code.{Code}
 use Rattle.eve_views.specs.declared.fault.Code.TheVariants as code
 use Rattle.eve_views.specs.Form.{IsUpTo, IsLeast}
@@ -15,6 +16,7 @@ use Rattle.eve_token.specs.Token.{token_of, flat_token}
 use Rattle.eve_history.specs.Section.{Placed}
 use Rattle.eve_history.specs.SectionHistory.{ExecutedAttempt, executed_attempt, SectionHistory, section_history}
 use Rattle.eve_history.specs.SectionHistory.{history, committed_at, placed_at, IsRightSection}
+use Rattle.eve_history.proofs.Rights.{commits_told}
 use Rattle.eve_chains.specs.Committed.{balances_to, values_to}
 use Rattle.eve_chains.specs.Settling.{Settling, settling, values_in}
 use Rattle.eve_chains.proofs.Linked.{committed_number, batches_counted}
@@ -22,7 +24,7 @@ use Rattle.eve_agree.specs.Judging.{IsAfter}
 use Rattle.eve_agree.specs.DueTokens.{due_token, TokensAreDue, StandsInTokens, IsTokenFault, IsDueIn, IsFirstWrong}
 use Rattle.eve_agree.specs.Stretches.{IsReadyStretch, IsJudgedStretch, ReachesBatch, or_else, first_found}
 use Rattle.eve_agree.specs.declared.due_tokens.Stretch.{Stretch}
-use Rattle.eve_agree.proofs.Outcomes.{balances_are, commits_told, mapped_at}
+use Rattle.eve_agree.proofs.Outcomes.{balances_are}
 use Rattle.eve_agree.proofs.TokensInOrder.{first_version, IsWrong, first_committed}
 
 -- ---- one after another
@@ -170,7 +172,7 @@ module _ (t : Trace) (e : ℕ) where
       let here : slice_get (map (λ p. executed_attempt (placed_at p)) (history t e).committed) n ≡ Some r =
       ap (λ (rs : List ExecutedAttempt). slice_get rs n) (sym (commits_told t e)) ∙
       ap (λ (x : SectionHistory). slice_get x.commits n) (sym is) ∙ got.1 in
-      let found = mapped_at (λ p. executed_attempt (placed_at p)) (history t e).committed n r here in
+      let found = unmapped (λ p. executed_attempt (placed_at p)) (history t e).committed n r here in
       let own : said ≡ (executed_attempt (placed_at found.0)).attempt = got.3
       ∙ sym (ap (λ (x : ExecutedAttempt). x.attempt) found.2) in
       record {

@@ -5,7 +5,7 @@ use Rattle.std.proofs.Common.{arith}
 use Rattle.std.specs.Prelude.{remove}
 use Rattle.std.specs.List.{AllByRecursion, list_all, list_any}
 use Rattle.std.specs.List.Sorted.{IsPermutation, IsNonDecreasing}
-use Rattle.std.proofs.lemmas.Bool.{cases_lt, and_parts, and_from, or_left, or_right, eq-eqb, eqb-true, lt-ltb, ltb-true}
+use Rattle.std.proofs.lemmas.Bool.{cases_lt, and_parts, and_from, or_left, or_right, eq-eqb, eqb-true, lt-ltb}
 use Rattle.std.proofs.lemmas.Bool.{leb-true, leb-false, false≢true}
 use Rattle.std.proofs.lemmas.List.Sorted.{IsPermutation-sym}
 use Rattle.std.proofs.lemmas.List.Folds.{list_all-append}
@@ -23,7 +23,7 @@ use Rattle.eve_attempts.specs.Ledgers.{open_writes, rows_committed, is_write_in,
 use Rattle.eve_attempts.specs.Discarding.{restore_in, AreRestores, RollsBack}
 use Rattle.eve_attempts.specs.Restoring.{entry_rows, rising_from}
 use Rattle.eve_attempts.proofs.Ordered.{all_moved}
-use Rattle.eve_attempts.proofs.TableLaws.{laid_undone}
+use Rattle.eve_attempts.proofs.TableLaws.{laid_undone, write_there}
 
 -- ---- commits
 
@@ -225,10 +225,8 @@ module _ (s : Ledger) (l : IsLedger s) (numbers : List ℕ) (moved : IsPermutati
   pub are_there : AllByRecursion (λ n. n < ledger_rows s) numbers
   are_there = all_moved (λ (n : ℕ). n < ledger_rows s) (entry_rows (open_writes s)) numbers moved
       (rows_in (λ n. n < ledger_rows s) (open_writes s)
-      (λ e i. ltb-true e.row (ledger_rows s)
-      (and_parts (ltb e.row (ledger_rows s)) _
-      (and_parts (is_write e.kind) (is_entry (ledger_rows s) e)
-      (all_of_list_all (is_write_in (ledger_rows s)) (open_writes s) l.written i)).1).0))
+      (λ e i. (write_there (ledger_rows s) e
+      (all_of_list_all (is_write_in (ledger_rows s)) (open_writes s) l.written i)).1))
 
   pub are_restores : AreRestores s (restores_of (rows_committed s) (rising_from 0 numbers))
   are_restores = record {

@@ -6,6 +6,7 @@ use Rattle.std.specs.List.{AllByRecursion, list_all}
 use Rattle.std.proofs.lemmas.Bool.{and_parts, and_from, false≢true}
 use Rattle.std.specs.Bool.{Decides}
 use Rattle.std.proofs.lemmas.List.{drop_more, drop_all}
+use Rattle.eve_grammar.proofs.Lists.{all_unmapped}
 
 -- the item at a place, told by the list, and those after it
 pub drop_read : {A : Type 0} (xs : List A) (i : ℕ) (x : A) → i < length xs → x ≡ get_or xs i x
@@ -63,11 +64,6 @@ pub all_mapped : {A B : Type 0} (P : B → Type 0) (f : A → B) (xs : List A) �
     → AllByRecursion P (map f xs)
 all_mapped P f [] all = tt
 all_mapped P f (x ∷ xs) all = (all.0, all_mapped P f xs all.1)
-
-pub all_unmapped : {A B : Type 0} (P : B → Type 0) (f : A → B) (xs : List A) → AllByRecursion P (map f xs)
-    → AllByRecursion (λ x. P (f x)) xs
-all_unmapped P f [] all = tt
-all_unmapped P f (x ∷ xs) all = (all.0, all_unmapped P f xs all.1)
 
 pub decides_mapped : {A B : Type 0} (P : B → Type 0) (f : A → B) (xs : List A) (r : Bool)
     → Decides r (AllByRecursion (λ x. P (f x)) xs) → Decides r (AllByRecursion P (map f xs))

@@ -14,6 +14,7 @@ use Rattle.eve_smallbank.specs.Touch.{touched_of}
 use Rattle.eve_grammar.specs.Trace.{Access, Asked, Batch, no_request}
 use Rattle.eve_grammar.specs.Limits.{is_access}
 use Rattle.eve_grammar.specs.Accesses.{is_new_access, is_right_place}
+use Rattle.eve_grammar.proofs.Lists.{get_set_same}
 use Rattle.eve_write.specs.declared.batch.BatchData.{BatchData}
 use Rattle.eve_write.specs.declared.request.RequestData.{RequestData}
 use Rattle.eve_write.specs.Data.{batch as plain, asked}
@@ -70,11 +71,6 @@ kept_reply replies i (r ∷ rs) apart = kept_reply (set replies r.index r.reply)
     other_set (y ∷ xs) (suc j) zero x other = refl
     other_set (y ∷ xs) (suc j) (suc i) x other = other_set xs j i x (λ e. other (ap suc e))
 
-set_there : (xs : List Reply) (i : ℕ) (x : Reply) → i < length xs → slice_get (set xs i x) i ≡ Some x
-set_there [] i x within = absurd (omega arith)
-set_there (y ∷ xs) zero x within = refl
-set_there (y ∷ xs) (suc i) x within = set_there xs i x (omega arith)
-
 pub length-placed : (replies : List Reply) (rs : List Applied) → length (replies_placed replies rs) ≡ length replies
 length-placed replies [] = refl
 length-placed replies (r ∷ rs) = length-placed (set replies r.index r.reply) rs ∙ length-set replies r.index r.reply
@@ -89,7 +85,7 @@ all_placed workers count before replies (r ∷ rs) right many =
     let two = and_parts (is_right_place before (access_noted r)) _ one.1 in
     let small = (accesses_below workers count before (r ∷ rs) right).0 in (
       kept_reply (set replies r.index r.reply) r.index rs (apart workers count (access_noted r) before [] rs two.1)
-          ∙ set_there replies r.index r.reply (omega arith),
+          ∙ get_set_same replies r.index r.reply (omega arith),
       all_placed workers count (before ++ access_noted r ∷ []) (set replies r.index r.reply) rs two.1
           (many ∙ sym (length-set replies r.index r.reply)),
     )

@@ -4,14 +4,14 @@ use Rattle.std.proofs.Common.{List, [], ◌∷◌, refl, sym, subst, ap, ap₂, 
 use Rattle.std.specs.Prelude.{All, sum_by}
 use Rattle.std.specs.List.{AllByRecursion, list_all}
 use Rattle.std.specs.List.Sorted.{IsPermutation}
-use Rattle.std.proofs.lemmas.Bool.{cases_lt, and_parts, and_from, or_right, eqb-true, eq-eqb, ne_eqb, ltb-true, lt-ltb}
-use Rattle.std.proofs.lemmas.Bool.{cond-true, cond-false, false≢true}
+use Rattle.std.proofs.lemmas.Bool.{cases_lt, and_parts, and_from, or_right, eqb-true, eq-eqb, ltb-true, lt-ltb}
+use Rattle.std.proofs.lemmas.Bool.{cond-true, false≢true}
 use Rattle.std.proofs.lemmas.List.Sums.{sum_by-cons}
 use Rattle.std.proofs.lemmas.List.Elements.{All-nil, All-cons, recursion_from_All}
 use Rattle.std.proofs.lemmas.List.Sorted.{All-permutation, IsPermutation-sym, IsPermutation-trans, sum_by-IsPermutation}
 use Rattle.eve_smallbank.proofs.Members.{In, here, there, all_in, all_from_in, in_cons}
 use Rattle.eve_grammar.specs.Certificate.{occurrences, all_below, is_permutation}
-use Rattle.eve_grammar.proofs.Counting.{all_below_at}
+use Rattle.eve_grammar.proofs.Counting.{all_below_at, none_above}
 use Rattle.eve_stamps.specs.Applied.{Applied}
 use Rattle.eve_attempts.specs.Closing.{is_earlier_record, TicksRise, indexes_of}
 use Rattle.eve_attempts.specs.Ordering.{IsNoLaterRecord, TicksDontFall}
@@ -75,14 +75,6 @@ occurrences-sum i (r ∷ rs) = by (r.index == i) (occurrences-sum i rs) ∙ sym 
 abbrev pub AreDistinct : List Applied → Type 0
 AreDistinct rs = (i : ℕ) → occurrences i (indexes_of rs) ≤ 1
 
-all_small : (r : ℕ) (xs : List ℕ) (i : ℕ) → list_all (λ j. ltb j r) xs ≡ true → r ≤ i → occurrences i xs ≡ 0
-all_small r [] i all le = refl
-all_small r (x ∷ xs) i all le =
-    let parts = and_parts (ltb x r) (list_all (λ j. ltb j r) xs) all in
-    let below = ltb-true x r parts.0 in
-    cond-false (x == i) (suc (occurrences i xs)) (occurrences i xs) (ne_eqb x i (λ e. omega arith))
-    ∙ all_small r xs i parts.1 le
-
 pub distinct_permutation : (r : ℕ) (rs : List Applied) → is_permutation r (indexes_of rs) ≡ true → AreDistinct rs
 distinct_permutation r rs h i =
     let parts = and_parts (list_all (λ j. ltb j r) (indexes_of rs))
@@ -90,7 +82,7 @@ distinct_permutation r rs h i =
     elim (cases_lt i r) [
       | inl lt ↦ let once = eqb-true (occurrences i (indexes_of rs)) 1
           (all_below_at r (λ j. occurrences j (indexes_of rs) == 1) i parts.1 lt) in omega arith
-      | inr ge ↦ let none = all_small r (indexes_of rs) i parts.0 ge in omega arith
+      | inr ge ↦ let none = none_above r i (indexes_of rs) parts.0 ge in omega arith
     ]
 
 pub distinct_moved : (rs qs : List Applied) → IsPermutation rs qs → AreDistinct rs → AreDistinct qs

@@ -1,12 +1,12 @@
 -- Public: other crates cite these lemmas. What a write leaves in the rows, what going back over writes gives, and what
 -- each entry along an attempt sees.
-use Rattle.std.proofs.Common.{◌≡◌, ℕ, ℤ, pos, zero, suc, ◌+◌, ◌<◌, ◌==◌, Bool, true, false, cond, ltb, ◌||◌, ◌&&◌}
+use Rattle.std.proofs.Common.{◌≡◌, ℕ, ℤ, pos, zero, suc, ◌+◌, ◌<◌, ◌==◌, Bool, true, false, cond, ◌||◌, ◌&&◌}
 use Rattle.std.proofs.Common.{IsTrue, List, [], ◌∷◌, ◌++◌, map, filter, length, get_or, set, refl, sym, subst, ap, ap₂}
 use Rattle.std.proofs.Common.{◌∙◌, inl, inr, append_assoc, arith}
 use mathlib.Core.Path.{fun_ext}
 use Rattle.std.specs.List.{AllByRecursion, flat_map, list_any, list_all}
 use Rattle.std.proofs.lemmas.List.Folds.{list_all-append}
-use Rattle.std.proofs.lemmas.Bool.{cases_Bool, cases_eq, and_parts, ltb-true, eq-eqb, ne_eqb, eqb-true}
+use Rattle.std.proofs.lemmas.Bool.{cases_Bool, cases_eq, and_parts, eq-eqb, ne_eqb, eqb-true}
 use Rattle.std.proofs.lemmas.Bool.{cond-true, cond-false}
 use Rattle.std.proofs.lemmas.List.{get_or-set_other}
 use Rattle.std.proofs.lemmas.Grind.{get_or-set_at}
@@ -17,6 +17,7 @@ use Rattle.eve_smallbank.proofs.Chains.{Follows, chain_follows, follows_chain, t
 use Rattle.eve_smallbank.proofs.Orders.{unwritten}
 use Rattle.eve_grammar.specs.Trace.{Batch}
 use Rattle.eve_grammar.specs.Limits.{is_entry}
+use Rattle.eve_grammar.proofs.EntryLimits.{row_there}
 use Rattle.eve_stamps.specs.Applied.{Applied}
 use Rattle.eve_attempts.specs.Ledgers.{Rows, Opened, table_of_rows, values_before, writes_in, is_write_in, AreLaid}
 use Rattle.eve_attempts.specs.Closing.{executed, entries_in_order, writes_along}
@@ -85,14 +86,10 @@ seen_left rows e one two written =
     ∙ ap (λ b. cond (b && (e.row == row)) (record { version = e.version; value = e.seen }) (table_of_rows rows row))
     (sym written))
 
--- the row of an entry is there
-pub entry_there : (rows : ℕ) (e : Entry) → IsTrue (is_entry rows e) → e.row < rows
-entry_there rows e right = ltb-true e.row rows (and_parts (ltb e.row rows) _ right).0
-
 pub write_there : (rows : ℕ) (e : Entry) → IsTrue (is_write_in rows e) → (is_write e.kind ≡ true) × (e.row < rows)
 write_there rows e right =
     let parts = and_parts (is_write e.kind) (is_entry rows e) right in
-    (parts.0, entry_there rows e parts.1)
+    (parts.0, row_there rows e parts.1)
 
 -- the rows as they are held
 abbrev pub held : List ℕ → List ℤ → Rows

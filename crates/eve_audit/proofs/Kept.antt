@@ -1,12 +1,12 @@
 -- What is kept of the replicas, one after another, and of all of them.
-use Rattle.std.proofs.Common.{◌≡◌, ℕ, zero, suc, ◌+◌, ◌^◌, ◌<◌, ◌≤◌, min, Option, Some, None, inl, inr, List, [], ◌∷◌}
-use Rattle.std.proofs.Common.{◌++◌, map, length, take, refl, sym, ap, subst, ◌∙◌, arith}
+use Rattle.std.proofs.Common.{◌≡◌, ℕ, ◌+◌, ◌^◌, ◌<◌, ◌≤◌, min, Option, Some, None, inl, inr, List, [], ◌∷◌}
+use Rattle.std.proofs.Common.{◌++◌, length, refl, sym, ap, subst, ◌∙◌}
 use Rattle.std.specs.Prelude.{IsTrue}
-use Rattle.std.specs.List.{enumerate_from, AllByRecursion}
+use Rattle.std.specs.List.{AllByRecursion}
 use Rattle.std.proofs.lemmas.Bool.{cases_lt}
 use Rattle.eve_grammar.specs.Trace.{Step, Trace}
-use Rattle.eve_grammar.specs.Frames.{sections_of}
-use Rattle.eve_history.specs.Section.{SectionState, start, state_after, settled, are_right}
+use Rattle.eve_grammar.proofs.Numbered.{numbered_more, numbered_all}
+use Rattle.eve_history.specs.Section.{SectionState, start, state_after, settled}
 use Rattle.eve_history.specs.SectionHistory.{SectionHistory, section_history, section_histories, history}
 use Rattle.eve_chains.specs.Settling.{Settling, settling, settlings}
 use Rattle.eve_chains.specs.Sound.{IsSoundAlong}
@@ -20,29 +20,7 @@ use Rattle.eve_agree.proofs.Backing.{below_more}
 use Rattle.eve_audit.proofs.FirstOwnFaults.{none_more, least_more, first_more, both_more}
 use Rattle.eve_views.specs.First.{first_of}
 use Rattle.eve_views.proofs.Firsts.{first_of_two}
-use Rattle.eve_history.proofs.Rights.{none_at}
-
--- ---- lists over the numbered sections
-
-module _ {A B : Type 0} (h : ℕ → B) where
-  one_more : (k n : ℕ) (xs : List A) → n < length xs
-      → map (λ s. h s.0) (take (suc n) (enumerate_from k xs)) ≡ map (λ s. h s.0) (take n (enumerate_from k xs)) ++ h
-      (k + n) ∷ []
-  one_more k n [] lt = absurd (omega (arith, lt))
-  one_more k zero (x ∷ xs) lt = ap (λ (m : ℕ). h m ∷ []) (k_is k)
-    where
-      k_is : (k : ℕ) → k ≡ k + 0
-      k_is k = omega arith
-  one_more k (suc n) (x ∷ xs) lt = ap (λ (ys : List B). h k ∷ ys) (one_more (k + 1) n xs (omega (arith, lt))
-      ∙ ap (λ (m : ℕ). map (λ s. h s.0) (take n (enumerate_from (k + 1) xs)) ++ h m ∷ []) (next k n))
-    where
-      next : (k n : ℕ) → k + 1 + n ≡ k + suc n
-      next k n = omega arith
-
-  all_of_them : (k : ℕ) (xs : List A) → map (λ s. h s.0) (take (length xs) (enumerate_from k xs))
-      ≡ map (λ s. h s.0) (enumerate_from k xs)
-  all_of_them k [] = refl
-  all_of_them k (x ∷ xs) = ap (λ (ys : List B). h k ∷ ys) (all_of_them (k + 1) xs)
+use Rattle.eve_history.proofs.Rights.{none_at, right_beyond}
 
 -- ---- beyond the last replica there are no steps, and what there is none of is sound
 
@@ -55,7 +33,7 @@ sound_beyond t e le =
     let none = sym (none_at t e le) in
     let state = sym (state_of_none t e le) in
     record {
-      right = subst (λ (xs : List (ℕ × Step)). IsTrue (are_right t start xs)) none refl;
+      right = right_beyond t e le;
       sound = subst (λ (s : SectionState). AllByRecursion (IsSoundAlong t) (settled s)) state tt;
       restores = subst (λ (xs : List (ℕ × Step)). IsTrue (all_restore_rightly t start xs)) none refl;
       tokens = subst (λ (s : SectionState). AllByRecursion (λ p. p.attempt.token ≡ due_token t e p) s.committed) state
@@ -73,36 +51,26 @@ kept_more t e tells more_tells settles more_settles told wrote lt kept tells_is 
     record {
       histories = tells_is ∙ ap (λ (x : SectionHistory). tells ++ x ∷ []) told_is
           ∙ ap (λ (xs : List SectionHistory). xs ++ section_history t e ∷ []) kept.histories
-          ∙ sym (later (section_history t));
+          ∙ sym (numbered_more (section_history t) t.sections e lt);
       settled = settles_is ∙ ap (λ (x : Settling). settles ++ x ∷ []) wrote_is
-          ∙ ap (λ (xs : List Settling). xs ++ settling t e ∷ []) kept.settled ∙ sym (later (settling t));
+          ∙ ap (λ (xs : List Settling). xs ++ settling t e ∷ []) kept.settled
+          ∙ sym (numbered_more (settling t) t.sections e lt);
       sound = λ k less. elim (below_more k e less) [
         | inl lower ↦ kept.sound k lower
         | inr same
             ↦ subst (IsSoundReplica t) (sym same) sound
       ];
     }
-  where
-    later : {B : Type 0} (h : ℕ → B) → map (λ s. h s.0) (take (e + 1) (sections_of t))
-        ≡ map (λ s. h s.0) (take e (sections_of t)) ++ h e ∷ []
-    later {B = B} h = ap (λ (m : ℕ). map (λ s. h s.0) (take m (sections_of t))) (plus_one e)
-        ∙ one_more h 0 e t.sections lt ∙ ap (λ (m : ℕ). map (λ s. h s.0) (take e (sections_of t)) ++ h m ∷ []) (same e)
-      where
-        plus_one : (e : ℕ) → e + 1 ≡ suc e
-        plus_one e = omega arith
-
-        same : (e : ℕ) → 0 + e ≡ e
-        same e = omega arith
 
 module _ (t : Trace) (tells : List SectionHistory) (settles : List Settling)
     (kept : AreKept t (length t.sections) tells settles) where
   pub all_told : tells ≡ section_histories t
   unfolding section_histories
-  all_told = kept.histories ∙ all_of_them (section_history t) 0 t.sections
+  all_told = kept.histories ∙ numbered_all (section_history t) t.sections
 
   pub all_settled : settles ≡ settlings t
   unfolding settlings
-  all_settled = kept.settled ∙ all_of_them (settling t) 0 t.sections
+  all_settled = kept.settled ∙ numbered_all (settling t) t.sections
 
   pub all_sound : (e : ℕ) → IsSoundReplica t e
   all_sound e = elim (cases_lt e (length t.sections)) [ inl lt ↦ kept.sound e lt | inr le ↦ sound_beyond t e le ]

@@ -2,7 +2,7 @@
 use Rattle.std.proofs.Common.{◌≡◌, ℕ, ◌+◌, nat_le, nat_lt, List, Option, Some, None, sym, ap, subst, ◌∙◌}
 use Rattle.std.specs.Prelude.{◌↔◌, IsTrue}
 use Rattle.std.proofs.lemmas.Bool.{and_parts, and_from, le-leb, lt-ltb, leb-true, ltb-true}
-use Rattle.eve_accounts.proofs.NameLemmas.{no_number}
+use Rattle.std.proofs.lemmas.Option.{none-some}
 use Rattle.eve_grammar.specs.Trace.{Trace}
 use Rattle.eve_grammar.specs.Limits.{Spells}
 use Rattle.eve_grammar.specs.Spelling.{section_start}
@@ -47,7 +47,7 @@ inside t d f is lies e = (
 
 outside : (t : Trace) (f : Fault) → f.replica ≡ None → IsOutside t f.offset → Names t f
 outside t f is out e = (
-  λ named. absurd (no_number e (sym is ∙ named)),
+  λ named. absurd (none-some e (sym is ∙ named)),
   λ held. absurd (in_none t e f.offset out (lies_from t e f.offset held)),
 )
 

@@ -1,9 +1,10 @@
 -- Whether a fault stands at an offset under a code can be decided.
-use Rattle.std.proofs.Common.{◌≡◌, ◌≢◌, ℕ, zero, suc, ◌+◌, ◌-◌, ◌<◌, ◌≤◌, ◌⊎◌, inl, inr, List, [], ◌∷◌, length, get_or}
+use Rattle.std.proofs.Common.{◌≡◌, ◌≢◌, ℕ, ◌+◌, ◌-◌, ◌<◌, ◌≤◌, ◌⊎◌, inl, inr, List, [], ◌∷◌, length, get_or}
 use Rattle.std.proofs.Common.{refl, sym, subst, ◌∙◌, arith}
 use Rattle.std.specs.Prelude.{IsTrue, IsFalse, Contains, slice_index_or, Bool}
 use Rattle.std.specs.List.{All, list_any}
 use Rattle.std.proofs.lemmas.Bool.{cases_Bool, cases_lt, false≢true}
+use Rattle.std.proofs.lemmas.List.{get_or_default}
 use Rattle.eve_smallbank.specs.Access.{Executed, Fits}
 use Rattle.eve_grammar.specs.Trace.{Choice, ForRollback, ForCommit, Vote, Access, Attempt, Commit, Rollback, Step}
 use Rattle.eve_grammar.specs.Trace.{Attempts, Commits, RollsBack, Trace}
@@ -84,11 +85,6 @@ of_rollback (RollsBack r) P decided = decided r
 
 -- ---- two decisions
 
-same_default : {A : Type 0} (xs : List A) (k : ℕ) (d e : A) → k < length xs → get_or xs k d ≡ get_or xs k e
-same_default [] k d e lt = absurd (omega (arith, lt))
-same_default (x ∷ xs) zero d e lt = refl
-same_default (x ∷ xs) (suc k) d e lt = same_default xs k d e (omega (arith, lt))
-
 no_vote : Vote
 no_vote = record { seq = 0; view = 0; choice = ForRollback }
 
@@ -165,7 +161,7 @@ module _ (t : Trace) where
     unfolding IsOne AtVote vote
     all_ones v early k d lt =
         let some = some_quorum t limits in
-        (v, omega (arith, some, early), (k, lt, same_default (votes_of t v) k no_vote d lt))
+        (v, omega (arith, some, early), (k, lt, get_or_default (votes_of t v) k no_vote d lt))
 
     voted : (P : Vote → Type 0) (n view : ℕ) (token : List ℕ) → IsDecided t n view token
         → ((w : Vote) → w.view ≡ view → w.choice ≡ ForCommit token → P w) → AtVote P

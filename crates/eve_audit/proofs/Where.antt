@@ -12,7 +12,7 @@ use Rattle.eve_grammar.specs.Frames.{Frame, OfReplica, OfAttempt as AttemptFrame
 use Rattle.eve_grammar.specs.Frames.{kind_of, without_accesses}
 use Rattle.eve_grammar.specs.Spelling.{body_text, frame_text, frames_text, located, step_text, section_text}
 use Rattle.eve_grammar.specs.Spelling.{section_start, steps_of, steps_at, accesses_at}
-use Rattle.eve_grammar.proofs.Lists.{all-append, all-weaker}
+use Rattle.eve_grammar.proofs.Lists.{all-append, all-weaker, all_unmapped}
 use Rattle.eve_views.proofs.Locating.{section_is}
 use Rattle.eve_history.specs.Section.{settled}
 use Rattle.eve_history.specs.SectionHistory.{attempts_among, placed_at, is_committed, is_discarded, history}
@@ -31,11 +31,6 @@ module _ {A : Type 0} (P : A → Type 0) where
       by : (before : List A) → AllByRecursion P (before ++ item ∷ rest) → P item
       by [] all = all.0
       by (x ∷ before) all = by before all.1
-
-module _ {A B : Type 0} (f : A → B) (P : B → Type 0) where
-  all_unmapped : (xs : List A) → AllByRecursion P (map f xs) → AllByRecursion (λ x. P (f x)) xs
-  all_unmapped [] all = tt
-  all_unmapped (x ∷ xs) all = (all.0, all_unmapped xs all.1)
 
 -- ---- what is located lies between the ends
 
@@ -212,13 +207,13 @@ module _ (t : Trace) (e : ℕ) where
   module _ (law : FatesAreAsItEnds t e) where
     -- an attempt that was committed or discarded is one of the steps
     pub committed_in : AllByRecursion (λ p. StepIn t e (p.offset, Attempts p.attempt)) (history t e).committed
-    committed_in = all_unmapped placed_at (λ x. StepIn t e (x.0, Attempts x.1)) (history t e).committed
+    committed_in = all_unmapped (λ x. StepIn t e (x.0, Attempts x.1)) placed_at (history t e).committed
         (subst (AllByRecursion (λ x. StepIn t e (x.0, Attempts x.1))) (sym law.0)
         (all_picked (λ x. StepIn t e (x.0, Attempts x.1)) is_committed (attempts_among (steps_at t e))
         (fates_from 0 (steps_at t e)) (attempts_in (StepIn t e) (steps_at t e) steps_in)))
 
     discarded_in : AllByRecursion (λ p. StepIn t e (p.offset, Attempts p.attempt)) (history t e).discarded
-    discarded_in = all_unmapped placed_at (λ x. StepIn t e (x.0, Attempts x.1)) (history t e).discarded
+    discarded_in = all_unmapped (λ x. StepIn t e (x.0, Attempts x.1)) placed_at (history t e).discarded
         (subst (AllByRecursion (λ x. StepIn t e (x.0, Attempts x.1))) (sym law.1)
         (all_picked (λ x. StepIn t e (x.0, Attempts x.1)) is_discarded (attempts_among (steps_at t e))
         (fates_from 0 (steps_at t e)) (attempts_in (StepIn t e) (steps_at t e) steps_in)))

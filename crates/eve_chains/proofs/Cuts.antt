@@ -1,20 +1,7 @@
 -- Where an item of a filtered, mapped or joined list comes from.
 use Rattle.std.proofs.Common.{◌≡◌, inl, inr, ◌⊎◌, Bool, true, false, cond, List, [], ◌∷◌, ◌++◌, map, filter, flat_map}
-use Rattle.std.proofs.Common.{get_or, length, length-append, refl, sym, ap, ◌∙◌, append_assoc, arith}
-use Rattle.eve_chains.proofs.Meeting.{filter_kept, filter_dropped}
-
-head : {A : Type 0} (x y : A) (xs ys : List A) → x ∷ xs ≡ y ∷ ys → x ≡ y
-head x y xs ys e = ap (λ l. get_or l 0 x) e
-
-abbrev behind : {A : Type 0} → List A → List A
-behind [] = []
-behind (x ∷ xs) = xs
-
-tail : {A : Type 0} (x y : A) (xs ys : List A) → x ∷ xs ≡ y ∷ ys → xs ≡ ys
-tail x y xs ys e = ap behind e
-
-no_item : {A : Type 0} (before : List A) (x : A) (rest : List A) → [] ≡ before ++ x ∷ rest → ⊥
-no_item before x rest e = omega (arith, ap length e, length-append before (x ∷ rest))
+use Rattle.std.proofs.Common.{refl, sym, ap, ◌∙◌, append_assoc}
+use Rattle.eve_grammar.proofs.Lists.{same_first, same_others, no_item, filter_kept, filter_dropped}
 
 -- ---- filtered
 
@@ -34,15 +21,15 @@ filter_cut {A} test (y ∷ xs) before x rest e = by (test y) refl before e (λ b
         → ((own : List A) → filter test xs ≡ own ++ x ∷ rest → FilterCut test xs own x)
         → FilterCut test (y ∷ xs) before x
     by true k [] e more =
-        let first = head y x (filter test xs) rest e in
+        let first = same_first y x (filter test xs) rest e in
         record { front = []; back = xs; is = ap (λ z. z ∷ xs) first; same = refl; passes = ap test (sym first) ∙ k }
     by true k (z ∷ own) e more =
-        let c = more own (tail y z (filter test xs) (own ++ x ∷ rest) e) in
+        let c = more own (same_others y z (filter test xs) (own ++ x ∷ rest) e) in
         record {
           front = y ∷ c.front;
           back = c.back;
           is = ap (λ l. y ∷ l) c.is;
-          same = filter_kept test y c.front k ∙ (λ i. head y z (filter test xs) (own ++ x ∷ rest) e i ∷ c.same i);
+          same = filter_kept test y c.front k ∙ (λ i. same_first y z (filter test xs) (own ++ x ∷ rest) e i ∷ c.same i);
           passes = c.passes;
         }
     by false k own e more =
@@ -61,10 +48,10 @@ filter_cut {A} test (y ∷ xs) before x rest e = by (test y) refl before e (λ b
 append_cut : {A : Type 0} (xs ys before : List A) (x : A) (rest : List A) → xs ++ ys ≡ before ++ x ∷ rest
     → ((c : List A) × (xs ≡ before ++ x ∷ c)) ⊎ ((b : List A) × (ys ≡ b ++ x ∷ rest) × (before ≡ xs ++ b))
 append_cut [] ys before x rest e = inr (before, e, refl)
-append_cut (y ∷ xs) ys [] x rest e = inl (xs, ap (λ z. z ∷ xs) (head y x (xs ++ ys) rest e))
+append_cut (y ∷ xs) ys [] x rest e = inl (xs, ap (λ z. z ∷ xs) (same_first y x (xs ++ ys) rest e))
 append_cut (y ∷ xs) ys (z ∷ before) x rest e =
-    let same = head y z (xs ++ ys) (before ++ x ∷ rest) e in
-    elim (append_cut xs ys before x rest (tail y z (xs ++ ys) (before ++ x ∷ rest) e)) [
+    let same = same_first y z (xs ++ ys) (before ++ x ∷ rest) e in
+    elim (append_cut xs ys before x rest (same_others y z (xs ++ ys) (before ++ x ∷ rest) e)) [
       | inl c ↦ inl (c.0, λ i. same i ∷ c.1 i)
       | inr d ↦ inr (d.0, d.1, λ i. sym same i ∷ d.2 i)
     ]
@@ -122,14 +109,21 @@ pub map_cut : {A B : Type 0} (f : B → A) (ys : List B) (before : List A) (x : 
     → map f ys ≡ before ++ x ∷ rest → MapCut f ys before x
 map_cut f [] before x rest e = absurd (no_item before x rest e)
 map_cut f (y ∷ ys) [] x rest e =
-    record { earlier = []; item = y; later = ys; is = refl; it = sym (head (f y) x (map f ys) rest e); same = refl }
+    record {
+      earlier = [];
+      item = y;
+      later = ys;
+      is = refl;
+      it = sym (same_first (f y) x (map f ys) rest e);
+      same = refl;
+    }
 map_cut f (y ∷ ys) (z ∷ before) x rest e =
-    let r = map_cut f ys before x rest (tail (f y) z (map f ys) (before ++ x ∷ rest) e) in
+    let r = map_cut f ys before x rest (same_others (f y) z (map f ys) (before ++ x ∷ rest) e) in
     record {
       earlier = y ∷ r.earlier;
       item = r.item;
       later = r.later;
       is = ap (λ l. y ∷ l) r.is;
       it = r.it;
-      same = λ i. sym (head (f y) z (map f ys) (before ++ x ∷ rest) e) i ∷ r.same i;
+      same = λ i. sym (same_first (f y) z (map f ys) (before ++ x ∷ rest) e) i ∷ r.same i;
     }

@@ -6,8 +6,8 @@ use Rattle.std.proofs.lemmas.Bool.{cases_lt, and_parts, eqb-true, eq-eqb, ltb-tr
 use Rattle.std.specs.List.{list_all}
 use Rattle.eve_grammar.specs.Certificate.{occurrences, all_below, is_permutation}
 use Rattle.eve_smallbank.proofs.Members.{In, here, there, in_front, in_middle, in_around, in_cons}
-use Rattle.eve_chains.proofs.Permutations.{found, none_above}
-use Rattle.eve_grammar.proofs.Counting.{all_below_at}
+use Rattle.eve_chains.proofs.Permutations.{found}
+use Rattle.eve_grammar.proofs.Counting.{all_below_at, none_above}
 
 abbrev pub Distinct : {A : Type 0} → List A → Type 0
 Distinct [] = ⊤

@@ -16,7 +16,6 @@ pub mod Soundness
 pub mod Faultless
 pub mod Once
 pub mod Arrivals
-pub mod Entries
 pub mod TableLaws
 pub mod AlongLaws
 pub mod Walks

@@ -12,7 +12,7 @@ use Rattle.eve_smallbank.proofs.Members.{In, here, there, all_in, in_front, in_c
 use Rattle.eve_smallbank.proofs.Chains.{table_after-append}
 use Rattle.eve_grammar.specs.Limits.{HasLimits}
 use Rattle.eve_grammar.specs.Trace.{Access, Attempt, Trace}
-use Rattle.eve_grammar.proofs.Lists.{all-append, all-filter}
+use Rattle.eve_grammar.proofs.Lists.{all-append, all-filter, filter_kept, filter_dropped}
 use Rattle.eve_history.specs.declared.fate.Fate.{Fate}
 use Rattle.eve_history.specs.declared.fate.Fate.TheVariants.{Committed, Discarded, Open}
 use Rattle.eve_history.specs.Section.{Placed, settled}
@@ -30,14 +30,6 @@ use Rattle.eve_chains.proofs.Paths.{counting_told, committed_told, discarded_tol
 use Rattle.eve_chains.proofs.RowWalks.{counts, entries, after_all, AreRising, own_of, table_row, meets_what_counts}
 
 -- ---- lists
-
-pub filter_kept : {A : Type 0} (test : A → Bool) (x : A) (xs : List A) → test x ≡ true → filter test (x ∷ xs)
-    ≡ x ∷ filter test xs
-filter_kept test x xs e = ap (λ (b : Bool). cond b (x ∷ filter test xs) (filter test xs)) e
-
-pub filter_dropped : {A : Type 0} (test : A → Bool) (x : A) (xs : List A) → test x ≡ false → filter test (x ∷ xs)
-    ≡ filter test xs
-filter_dropped test x xs e = ap (λ (b : Bool). cond b (x ∷ filter test xs) (filter test xs)) e
 
 filter_all : {A : Type 0} (test : A → Bool) (xs : List A) → AllByRecursion (λ x. test x ≡ true) xs → filter test xs ≡ xs
 filter_all test [] all = refl

@@ -1,13 +1,13 @@
 -- Two permutations of the same indexes list the same things in another order.
-use Rattle.std.proofs.Common.{◌≡◌, ℕ, suc, ◌≤◌, ◌<◌, Bool, true, false, cond, ◌==◌, nat_lt, List, [], ◌∷◌, ◌++◌}
+use Rattle.std.proofs.Common.{◌≡◌, ℕ, suc, ◌<◌, Bool, true, false, cond, ◌==◌, nat_lt, List, [], ◌∷◌, ◌++◌}
 use Rattle.std.proofs.Common.{map, refl, sym, subst, ap, ◌∙◌, inl, inr, arith}
-use Rattle.std.proofs.lemmas.Bool.{cases_Bool, cases_lt, and_parts, eqb-true, eq-eqb, ne_eqb, ltb-true}
+use Rattle.std.proofs.lemmas.Bool.{cases_Bool, cases_lt, and_parts, eqb-true, eq-eqb}
 use Rattle.std.proofs.lemmas.Bool.{cond-true, cond-false}
 use Rattle.std.specs.List.{list_all}
 use Rattle.eve_grammar.specs.Certificate.{occurrences, all_below, is_permutation}
 use Rattle.eve_smallbank.specs.Conflict.{IsReordering}
 use Rattle.eve_smallbank.proofs.Members.{reordering_map}
-use Rattle.eve_grammar.proofs.Counting.{all_below_at}
+use Rattle.eve_grammar.proofs.Counting.{all_below_at, none_above}
 
 -- ---- from counts
 
@@ -63,14 +63,6 @@ reordering_from_counts (x ∷ xs) ys h =
     )
 
 -- ---- the counts of a permutation
-
-pub none_above : (r i : ℕ) (xs : List ℕ) → list_all (λ j. nat_lt j r) xs ≡ true → r ≤ i → occurrences i xs ≡ 0
-none_above r i [] h k = refl
-none_above r i (x ∷ xs) h k =
-    let parts = and_parts (nat_lt x r) (list_all (λ j. nat_lt j r) xs) h in
-    let below : x < r = ltb-true x r parts.0 in
-    cond-false (x == i) (suc (occurrences i xs)) (occurrences i xs) (ne_eqb x i (λ e. omega arith))
-    ∙ none_above r i xs parts.1 k
 
 same_counts : (r : ℕ) (xs ys : List ℕ) → is_permutation r xs ≡ true → is_permutation r ys ≡ true → (i : ℕ)
     → occurrences i xs ≡ occurrences i ys

@@ -22,6 +22,7 @@ use Rattle.eve_history.specs.declared.fate.Fate.{Fate}
 use Rattle.eve_history.specs.declared.fate.Fate.TheVariants.{Committed, Discarded, Open}
 use Rattle.eve_grammar.specs.Frames.{OfAccess, OfAttempt}
 use Rattle.eve_grammar.specs.Spelling.{frame_text}
+use Rattle.eve_grammar.proofs.Lists.{filter_kept, filter_dropped}
 use Rattle.eve_chains.specs.Visible.{opening_table, table_along, executed_by}
 use Rattle.eve_chains.specs.Sound.{RecordsFit}
 use Rattle.eve_chains.specs.Along.{entries_along, SeesAnother, SomeSeesAnother, IsWrongAlong, IsWrongSomewhere, AllSee}
@@ -34,7 +35,7 @@ use Rattle.eve_chains.specs.Rows.{Fated, told_of, settles, Noted, noted_by, note
 use Rattle.eve_chains.specs.Rows.{pair_after, IsWrongOnRow, EachSees}
 use Rattle.eve_chains.proofs.AttemptRecords.{own}
 use Rattle.eve_chains.proofs.Paths.{all_placed, view_of, committed_told, discarded_told}
-use Rattle.eve_chains.proofs.Meeting.{filter_kept, filter_dropped, settled_there, meets_visible}
+use Rattle.eve_chains.proofs.Meeting.{settled_there, meets_visible}
 use Rattle.eve_chains.proofs.Cuts.{filter_cut, flat_cut, map_cut}
 
 abbrev noted_entry : ℕ → ℕ → Bool → Entry → Noted

@@ -17,7 +17,7 @@ use Rattle.eve_views.specs.declared.fault.Code.TheVariants as code
 use Rattle.eve_grammar.specs.Trace.{Customer, Trace, opening_rows}
 use Rattle.eve_grammar.specs.Spelling.{customer_text, customers_at}
 use Rattle.eve_views.specs.Form.{SomePlace}
-use Rattle.eve_history.proofs.OrderLaws.{of_located}
+use Rattle.eve_views.proofs.Locating.{located_get}
 use Rattle.eve_chains.specs.Visible.{opening_table}
 use Rattle.eve_chains.specs.Tables.{table_of, undone, IsFirstMismatch}
 
@@ -32,7 +32,7 @@ table_at_opening t = fun_ext (λ row. get_or-map at_opening (opening_rows t.cust
 pub customer_there : (t : Trace) (i o : ℕ) (c : Customer) → slice_get (customers_at t) i ≡ Some (o, c)
     → slice_get t.customers i ≡ Some c
 unfolding customers_at
-customer_there t i o c e = of_located customer_text 32 t.customers i (o, c) e
+customer_there t i o c e = located_get customer_text 32 t.customers i (o, c) e
 
 -- ---- a row that gets another version and value
 

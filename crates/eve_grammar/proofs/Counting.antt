@@ -4,7 +4,7 @@ use Rattle.std.proofs.Common.{◌≡◌, ℕ, zero, suc, ◌+◌, ◌<◌, ◌�
 use Rattle.std.proofs.Common.{◌++◌, length, get_or, set, replicate, take, drop, refl, sym, ap, subst, ◌∙◌, inl, inr}
 use Rattle.std.proofs.Common.{zero-add, add-one, add-zero, arith}
 use Rattle.std.proofs.lemmas.Bool.{cases_eq, cases_order, and_parts, and_from, and_left, and_right, eqb-true, eq-eqb}
-use Rattle.std.proofs.lemmas.Bool.{ne_eqb, lt-ltb, le-ltb, cond-true, cond-false, false_from_ne_true}
+use Rattle.std.proofs.lemmas.Bool.{ne_eqb, lt-ltb, ltb-true, le-ltb, cond-true, cond-false, false_from_ne_true}
 use Rattle.std.proofs.lemmas.List.{take_more, take_all, drop_more, take-append-drop, length-set, length-replicate}
 use Rattle.std.proofs.lemmas.List.{get_or-replicate, get_or-set_same, get_or-set_other}
 use Rattle.std.proofs.lemmas.List.Recursion.{and_push, and_fails_at}
@@ -22,6 +22,15 @@ occurrences-append i (x ∷ xs) ys = by (x == i) (occurrences-append i xs ys)
         ≡ cond b (suc (occurrences i xs)) (occurrences i xs) + occurrences i ys
     by true e = omega arith
     by false e = e
+
+-- where all are below r, no other number stands among them
+pub none_above : (r i : ℕ) (xs : List ℕ) → list_all (λ j. ltb j r) xs ≡ true → r ≤ i → occurrences i xs ≡ 0
+none_above r i [] all le = refl
+none_above r i (x ∷ xs) all le =
+    let parts = and_parts (ltb x r) (list_all (λ j. ltb j r) xs) all in
+    let below : x < r = ltb-true x r parts.0 in
+    cond-false (x == i) (suc (occurrences i xs)) (occurrences i xs) (ne_eqb x i (λ e. omega arith))
+    ∙ none_above r i xs parts.1 le
 
 -- a number that stands after one that is the same
 pub twice : (i : ℕ) (xs : List ℕ) (k : ℕ) → k < length xs → get_or xs k 0 ≡ i → 0 < occurrences i (take k xs)

@@ -20,5 +20,7 @@ pub mod Counting
 pub mod Grouping
 pub mod KindBytes
 pub mod OpeningRows
+pub mod EntryLimits
 pub mod NumbersBelow
 pub mod Lists
+pub mod Numbered

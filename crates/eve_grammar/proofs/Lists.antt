@@ -1,6 +1,7 @@
 -- Public: other crates cite these lemmas. Lists at one of their places, and what holds of each of their items.
 use Rattle.std.proofs.Common.{◌≡◌, ℕ, zero, suc, ◌+◌, ◌<◌, Bool, true, false, cond, List, [], ◌∷◌, ◌++◌, map, filter}
-use Rattle.std.proofs.Common.{length, get_or, take, drop, slice_get, Some, refl, sym, subst, ap, ◌∙◌, append-nil, arith}
+use Rattle.std.proofs.Common.{length, get_or, set, take, drop, slice_get, Some, refl, sym, subst, ap, ◌∙◌}
+use Rattle.std.proofs.Common.{append-nil, length-append, arith}
 use Rattle.std.specs.List.{AllByRecursion}
 use Rattle.std.proofs.lemmas.List.{take_all, take_more, drop_all, drop_more}
 use Rattle.std.proofs.lemmas.Option.{same_Some, none-some, slice_get_within, get_or_from_slice_get}
@@ -30,6 +31,10 @@ slice_get-front [] ys i lt = absurd (omega arith)
 slice_get-front (x ∷ xs) ys zero lt = refl
 slice_get-front (x ∷ xs) ys (suc i) lt = slice_get-front xs ys i (omega arith)
 
+pub get_in_front : {A : Type 0} (xs ys : List A) (i : ℕ) (x : A) → slice_get xs i ≡ Some x
+    → slice_get (xs ++ ys) i ≡ Some x
+get_in_front xs ys i x at = slice_get-front xs ys i (slice_get_within xs i x at) ∙ at
+
 pub slice_get-behind : {A : Type 0} (xs ys : List A) (i : ℕ) → slice_get (xs ++ ys) (length xs + i) ≡ slice_get ys i
 slice_get-behind [] ys i = (let none : 0 + i ≡ i = omega arith in ap (slice_get ys) none)
 slice_get-behind (x ∷ xs) ys i =
@@ -43,12 +48,39 @@ unmapped f [] i y at = absurd (none-some y at)
 unmapped f (x ∷ xs) zero y at = (x, refl, same_Some (f x) y at)
 unmapped f (x ∷ xs) (suc i) y at = unmapped f xs i y at
 
+-- what was written there
+pub get_set_same : {A : Type 0} (xs : List A) (i : ℕ) (x : A) → i < length xs → slice_get (set xs i x) i ≡ Some x
+get_set_same [] i x lt = absurd (omega arith)
+get_set_same (y ∷ xs) zero x lt = refl
+get_set_same (y ∷ xs) (suc i) x lt = get_set_same xs i x (omega arith)
+
 -- a vector that was sorted as a slice
 pub whole_slice : {A : Type 0} (xs ys : List A) (n : ℕ) → length ys ≡ length xs → n ≡ length xs
     → take n (ys ++ drop (length ys) xs) ≡ ys
 whole_slice xs ys n same many =
     ap (λ (zs : List _). take n (ys ++ zs)) (drop_all (length ys) xs (omega arith)) ∙ ap (take n) (append-nil ys)
     ∙ take_all n ys (omega arith)
+
+-- ---- the first item and the others
+
+pub same_first : {A : Type 0} (x y : A) (xs ys : List A) → x ∷ xs ≡ y ∷ ys → x ≡ y
+same_first x y xs ys same = cc
+
+pub same_others : {A : Type 0} (x y : A) (xs ys : List A) → x ∷ xs ≡ y ∷ ys → xs ≡ ys
+same_others x y xs ys same = cc
+
+-- a list with an item isn't empty
+pub no_item : {A : Type 0} (before : List A) (x : A) (rest : List A) → [] ≡ before ++ x ∷ rest → ⊥
+no_item before x rest same = omega (arith, ap length same, length-append before (x ∷ rest))
+
+-- an item that a filter keeps or leaves out
+pub filter_kept : {A : Type 0} (test : A → Bool) (x : A) (xs : List A) → test x ≡ true → filter test (x ∷ xs)
+    ≡ x ∷ filter test xs
+filter_kept test x xs passes = ap (λ (b : Bool). cond b (x ∷ filter test xs) (filter test xs)) passes
+
+pub filter_dropped : {A : Type 0} (test : A → Bool) (x : A) (xs : List A) → test x ≡ false → filter test (x ∷ xs)
+    ≡ filter test xs
+filter_dropped test x xs fails = ap (λ (b : Bool). cond b (x ∷ filter test xs) (filter test xs)) fails
 
 -- ---- one, two or three items
 
@@ -109,3 +141,9 @@ pub all-weaker : {A : Type 0} (P Q : A → Type 0) (xs : List A) → ((x : A) �
     → AllByRecursion Q xs
 all-weaker P Q [] weaker all = tt
 all-weaker P Q (x ∷ xs) weaker all = (weaker x all.0, all-weaker P Q xs weaker all.1)
+
+-- what holds of each item that is made holds of what each is made of
+pub all_unmapped : {A B : Type 0} (P : B → Type 0) (f : A → B) (xs : List A) → AllByRecursion P (map f xs)
+    → AllByRecursion (λ x. P (f x)) xs
+all_unmapped P f [] all = tt
+all_unmapped P f (x ∷ xs) all = (all.0, all_unmapped P f xs all.1)

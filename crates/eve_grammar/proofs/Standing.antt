@@ -1,4 +1,4 @@
--- What it says of a place that a frame of some kind may stand there.
+-- Public: other crates cite these lemmas. What it says of a place that a frame of some kind may stand there.
 use Rattle.std.proofs.Common.{◌≡◌, ℕ, ◌<◌, ◌≤◌, Bool, true, false, not, ◌&&◌, ◌||◌, if◌then◌else◌, refl, arith}
 use Rattle.std.proofs.Common.{ltb-true, ltb-false, eqb-true}
 use Rattle.std.specs.Prelude.{IsTrue, nat_lt, ◌==◌}

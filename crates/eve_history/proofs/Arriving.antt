@@ -21,13 +21,15 @@ use Rattle.eve_views.specs.Form.{SomePlace}
 use Rattle.eve_history.specs.Faults.{request_ids_at, IsAskedAgain}
 use Rattle.eve_grammar.specs.Trace.{RequestId, request_id}
 use Rattle.eve_grammar.proofs.Lists.{take_one_more}
+use Rattle.eve_grammar.proofs.Numbered.{numbered_get}
 use Rattle.eve_history.specs.Notes.{IsRepeated, HasDistinctRequests}
 use Rattle.eve_history.specs.Repeats.{arrival, arrivals_at, arrivals_of, is_by, OccursTwice, NoneOccursTwice}
 use Rattle.eve_history.specs.Repeats.{IsFirstTwice, IsFirstRepeat}
 use Rattle.eve_history.specs.declared.repeats.Arrival.{Arrival}
 use Rattle.eve_views.proofs.Lists.{count-cons, cut_at}
+use Rattle.eve_views.proofs.Locating.{located_get}
 use Rattle.eve_history.proofs.Counted.{one_there, two_found}
-use Rattle.eve_history.proofs.OrderLaws.{of_located, batch_count}
+use Rattle.eve_history.proofs.OrderLaws.{batch_count}
 use Rattle.eve_history.proofs.Places.{no_place, place_split, weaker_place}
 
 -- ---- so many times
@@ -266,9 +268,9 @@ pub few_requests : (t : Trace) (i : ℕ) (b : ℕ × (ℕ × Batch)) → HasLimi
     → length b.1.1.requests ≤ 256
 unfolding batches_at
 few_requests t i b limits at =
-    let inside = of_located batch_text (batches_start t) (batches_of t) i b at in
+    let inside = located_get batch_text (batches_start t) (batches_of t) i b at in
     let right : is_batch b.1.1 ≡ true =
-    all_at is_batch t.batches i b.1.1 limits.batches (of_enumerated 1 t.batches i b.1 inside) in
+    all_at is_batch t.batches i b.1.1 limits.batches (numbered_get 1 t.batches i b.1 inside) in
     request_limit b.1.1 right
   where
     request_limit : (b : Batch) → is_batch b ≡ true → length b.requests ≤ 256
@@ -279,15 +281,6 @@ few_requests t i b limits at =
         let four = and_parts (length b.requests == sum b.sizes) _ three.1 in
         let few : sum b.sizes ≤ 256 = leb-true (sum b.sizes) MOST_REQUESTS three.0 in
         omega (arith, few, eqb-true (length b.requests) (sum b.sizes) four.0)
-
-    of_enumerated : (n : ℕ) (bs : List Batch) (i : ℕ) (b : ℕ × Batch) → slice_get (enumerate_from n bs) i ≡ Some b
-        → slice_get bs i ≡ Some b.1
-    of_enumerated n [] i b e = absurd cc
-    of_enumerated n (c ∷ bs) zero b e = by e
-      where
-        by : Some (n, c) ≡ Some b → Some c ≡ Some b.1
-        by e = (let same : (n, c) ≡ b = cc in ap (λ (x : ℕ × Batch). Some x.1) same)
-    of_enumerated n (c ∷ bs) (suc i) b e = of_enumerated (n + 1) bs i b e
 
 -- one more batch
 pub arrivals_more : (t : Trace) (i : ℕ) (b : ℕ × (ℕ × Batch)) → slice_get (batches_at t) i ≡ Some b

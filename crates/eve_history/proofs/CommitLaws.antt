@@ -1,5 +1,5 @@
 -- Committed attempts are numbered by their batches.
-use Rattle.std.proofs.Common.{◌≡◌, ℕ, zero, suc, ◌+◌, ◌==◌, true, ◌&&◌, List, [], ◌∷◌, ◌++◌, map, length, slice_get}
+use Rattle.std.proofs.Common.{◌≡◌, ℕ, zero, suc, ◌+◌, ◌==◌, true, ◌&&◌, List, [], ◌∷◌, ◌++◌, length, slice_get}
 use Rattle.std.proofs.Common.{Some, refl, sym, subst, ap, ◌∙◌, append_assoc, append-nil, zero-add, arith}
 use Rattle.std.specs.Prelude.{⊤}
 use Rattle.std.proofs.lemmas.Bool.{and_parts, eqb-true}
@@ -79,11 +79,6 @@ counted_after t s (step ∷ steps) right counted =
 counted_history : (t : Trace) (e : ℕ) → IsRightSection t e → IsCounted (history t e)
 unfolding history
 counted_history t e right = counted_after t start (steps_at t e) right (record { numbered = tt; last = refl })
-
-pub commits_told : (t : Trace) (e : ℕ) → (section_history t e).commits ≡ map (λ p. executed_attempt (placed_at p))
-    (history t e).committed
-unfolding section_history history
-commits_told t e = refl
 
 pub commits_counted : (t : Trace) (e : ℕ) → IsRightSection t e → length (section_history t e).commits
     ≡ (section_history t e).committed

@@ -2,12 +2,11 @@
 use Rattle.std.proofs.Common.{◌≡◌, ℕ, zero, suc, ◌+◌, ◌-◌, ◌<◌, ◌≤◌, ◌==◌, Bool, true, false, ◌&&◌, List, [], ◌∷◌, map}
 use Rattle.std.proofs.Common.{length, get_or, take, drop, slice_get, Some, None, refl, sym, ap, subst, ◌∙◌, inl, inr}
 use Rattle.std.proofs.Common.{IsTrue, is_some, cond, arith}
-use Rattle.std.specs.Prelude.{slice_index_or}
-use Rattle.std.specs.List.{AllByRecursion, list_any, enumerate_from}
+use Rattle.std.specs.List.{AllByRecursion, list_any}
 use Rattle.std.proofs.lemmas.Bool.{cases_Bool, or_cases, eqb-true, eq-eqb, ne_eqb, cond-true, cond-false}
 use Rattle.std.proofs.lemmas.Bool.{false≢true}
 use Rattle.std.proofs.lemmas.List.{length-take-le, length-drop}
-use Rattle.std.proofs.lemmas.Option.{same_Some}
+use Rattle.std.proofs.lemmas.Option.{same_Some, get_or_from_slice_get}
 use Rattle.eve_grammar.specs.Trace.{Access, Attempt, Batch, Commit, Trace}
 use Rattle.eve_grammar.specs.Frames.{batches_of, without_accesses}
 use Rattle.eve_grammar.specs.Spelling.{batch_text, batches_start, batches_at}
@@ -24,29 +23,19 @@ use Rattle.eve_history.specs.Marking.{AreMarked}
 use Rattle.eve_history.specs.Coming.{KeptAttempt, KeptSection, StandsAt}
 use Rattle.eve_grammar.proofs.Grouping.{all_at}
 use Rattle.eve_grammar.proofs.Lists.{drop_here}
-use Rattle.eve_history.proofs.OrderLaws.{of_located}
+use Rattle.eve_grammar.proofs.Numbered.{numbered_get}
+use Rattle.eve_views.proofs.Locating.{located_get}
 
 -- ---- batches
-
-of_numbered : {A : Type 0} (n : ℕ) (xs : List A) (i : ℕ) (x : ℕ × A) → slice_get (enumerate_from n xs) i ≡ Some x
-    → slice_get xs i ≡ Some x.1
-of_numbered n [] i x e = absurd (cc)
-of_numbered {A = A} n (y ∷ xs) zero x e = ap Some (ap (λ (u : ℕ × A). u.1) (same_Some (n, y) x e))
-of_numbered n (y ∷ xs) (suc i) x e = of_numbered (n + 1) xs i x e
-
-index_or : {A : Type 0} (xs : List A) (i : ℕ) (x d : A) → slice_get xs i ≡ Some x → slice_index_or xs i d ≡ x
-index_or [] i x d e = absurd (cc)
-index_or (y ∷ xs) zero x d e = same_Some y x e
-index_or (y ∷ xs) (suc i) x d e = index_or xs i x d e
 
 batch_there : (t : Trace) (i : ℕ) (b : ℕ × (ℕ × Batch)) → slice_get (batches_at t) i ≡ Some b → slice_get t.batches i
     ≡ Some b.1.1
 unfolding batches_at
-batch_there t i b e = of_numbered 1 t.batches i b.1 (of_located batch_text (batches_start t) (batches_of t) i b e)
+batch_there t i b e = numbered_get 1 t.batches i b.1 (located_get batch_text (batches_start t) (batches_of t) i b e)
 
 pub batch_is : (t : Trace) (n : ℕ) (b : ℕ × (ℕ × Batch)) → slice_get (batches_at t) (n - 1) ≡ Some b → batch_at t n
     ≡ b.1.1
-batch_is t n b e = index_or t.batches (n - 1) b.1.1 no_batch (batch_there t (n - 1) b e)
+batch_is t n b e = get_or_from_slice_get t.batches (n - 1) b.1.1 no_batch (batch_there t (n - 1) b e)
 
 -- the same of a number that was read
 pub named_batch : (t : Trace) (n read : ℕ) (b : ℕ × (ℕ × Batch)) → read ≡ n
@@ -195,10 +184,3 @@ get_in_part {A = A} xs from count place x lt e = in_front (drop from xs) count p
 pub part_length : {A : Type 0} (xs : List A) (from count : ℕ) → from + count ≤ length xs
     → length (take count (drop from xs)) ≡ count
 part_length xs from count le = length-take-le count (drop from xs) (omega (arith, length-drop from xs))
-
--- the value there doesn't depend on what stands for none
-pub get_there : {A : Type 0} (xs : List A) (i : ℕ) (d : A) → i < length xs → slice_get xs i
-    ≡ Some (slice_index_or xs i d)
-get_there [] i d lt = absurd (omega arith)
-get_there (x ∷ xs) zero d lt = refl
-get_there (x ∷ xs) (suc i) d lt = get_there xs i d (omega arith)

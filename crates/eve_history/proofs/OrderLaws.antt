@@ -1,12 +1,11 @@
 -- Public: other crates cite these lemmas. Customers and batches, one after another: the first that is there again.
-use Rattle.std.proofs.Common.{◌≡◌, ℕ, zero, suc, ◌+◌, ◌-◌, ◌<◌, ◌≤◌, true, List, [], ◌∷◌, ◌++◌, map, length, take, drop}
+use Rattle.std.proofs.Common.{◌≡◌, ℕ, suc, ◌+◌, ◌-◌, ◌<◌, ◌≤◌, true, List, [], ◌∷◌, ◌++◌, map, length, take, drop}
 use Rattle.std.proofs.Common.{slice_get, Contains, Some, None, refl, sym, ap, subst, ◌∙◌, inl, inr, arith}
 use Rattle.std.specs.List.{flat_map}
 use Rattle.std.proofs.lemmas.Bool.{and_parts, cases_lt}
 use Rattle.std.proofs.lemmas.List.{append-nil, map-append, take_all, length-map, length-take-le}
 use Rattle.std.proofs.lemmas.List.Concat.{flat_map-append}
 use Rattle.std.proofs.lemmas.List.FromFn.{length-enumerate_from}
-use Rattle.std.proofs.lemmas.Option.{same_Some}
 use Rattle.eve_accounts.specs.Names.{is_name, NameList}
 use Rattle.eve_grammar.specs.Trace.{Customer, Batch, Trace}
 use Rattle.eve_grammar.specs.Frames.{batches_of}
@@ -25,18 +24,10 @@ use Rattle.eve_history.specs.Notes.{IsRepeated, HasDistinctNames, HasDistinctReq
 use Rattle.eve_grammar.proofs.Grouping.{all_at}
 use Rattle.eve_grammar.proofs.Lists.{take_one_more}
 use Rattle.eve_views.proofs.Lists.{cut_at}
-use Rattle.eve_views.proofs.Locating.{length-located}
+use Rattle.eve_views.proofs.Locating.{length-located, located_get}
 use Rattle.eve_history.proofs.RequestIds.{AreNewAndNoted}
 use Rattle.eve_history.proofs.Places.{no_place, place_push, Rising, located_rising, first_place, from_low}
 use Rattle.eve_history.proofs.Places.{located_within, weaker_place}
-
--- ---- lists
-
-pub of_located : {A : Type 0} (text : A → List ℕ) (at : ℕ) (xs : List A) (i : ℕ) (x : ℕ × A)
-    → slice_get (located text at xs) i ≡ Some x → slice_get xs i ≡ Some x.1
-of_located text at [] i x e = absurd (cc)
-of_located {A = A} text at (y ∷ xs) zero x e = ap Some (ap (λ (u : ℕ × A). u.1) (same_Some (at, y) x e))
-of_located text at (y ∷ xs) (suc i) x e = of_located text (at + length (text y)) xs i x e
 
 up_to : (f g : Fault) → f.offset ≤ g.offset → code_number f.code ≤ code_number g.code → IsUpTo f g
 up_to f g le number = elim (cases_lt f.offset g.offset) [
@@ -89,7 +80,7 @@ pub is_named : (t : Trace) (i : ℕ) (c : ℕ × Customer) → HasLimits t → s
 unfolding customers_at
 is_named t i c limits at =
     (and_parts (is_name c.1.name) _
-    (all_at is_customer t.customers i c.1 limits.customers (of_located customer_text 32 t.customers i c at))).0
+    (all_at is_customer t.customers i c.1 limits.customers (located_get customer_text 32 t.customers i c at))).0
 
 names_are : (t : Trace) → map name_in (customers_at t) ≡ names_of t
 unfolding customers_at

@@ -1,5 +1,5 @@
 -- Public: other crates cite these lemmas. What is told of a right section.
-use Rattle.std.proofs.Common.{◌≡◌, ℕ, zero, suc, ◌+◌, ◌<◌, ◌≤◌, IsTrue, List, [], ◌∷◌, map, length, Some}
+use Rattle.std.proofs.Common.{◌≡◌, ℕ, suc, ◌+◌, ◌<◌, ◌≤◌, IsTrue, List, [], ◌∷◌, map, length, Some}
 use Rattle.std.proofs.Common.{slice_get, refl, sym, ap, subst, ◌∙◌, inl, inr, arith}
 use Rattle.std.specs.List.{enumerate_from}
 use Rattle.std.proofs.lemmas.Bool.{cases_lt}
@@ -8,8 +8,10 @@ use Rattle.std.proofs.lemmas.Option.{same_Some}
 use Rattle.eve_grammar.specs.Trace.{Step, Trace}
 use Rattle.eve_grammar.specs.Frames.{OfReplica}
 use Rattle.eve_grammar.specs.Spelling.{frame_text, step_text, located, section_start, steps_at}
+use Rattle.eve_grammar.proofs.Numbered.{numbered_at}
 use Rattle.eve_history.specs.Section.{start, are_right}
 use Rattle.eve_history.specs.SectionHistory.{SectionHistory, section_history, section_histories, IsRightSection}
+use Rattle.eve_history.specs.SectionHistory.{executed_attempt, placed_at, history}
 
 right_told : (t : Trace) (e : ℕ) → IsTrue (section_history t e).right → IsRightSection t e
 unfolding section_history
@@ -19,6 +21,12 @@ pub right_section : (t : Trace) (e : ℕ) (h : SectionHistory) → h ≡ section
     → IsRightSection t e
 right_section t e h is right = right_told t e (subst (λ (v : SectionHistory). IsTrue v.right) is right)
 
+-- the attempts that it committed
+pub commits_told : (t : Trace) (e : ℕ) → (section_history t e).commits ≡ map (λ p. executed_attempt (placed_at p))
+    (history t e).committed
+unfolding section_history history
+commits_told t e = refl
+
 -- ---- of all replicas
 
 -- after the last replica there are no steps
@@ -27,30 +35,14 @@ unfolding steps_at
 none_at t e le = ap (located step_text (section_start t e + length (frame_text (OfReplica e))))
     (get_or_past t.sections e [] le)
 
-right_beyond : (t : Trace) (e : ℕ) → length t.sections ≤ e → IsRightSection t e
+pub right_beyond : (t : Trace) (e : ℕ) → length t.sections ≤ e → IsRightSection t e
 right_beyond t e le = subst (λ (xs : List (ℕ × Step)). IsTrue (are_right t start xs)) (sym (none_at t e le)) refl
 
 -- what is told of a replica stands at its place
-told_at : {A : Type 0} (f : ℕ → SectionHistory) (n e : ℕ) (xs : List A) → e < length xs
-    → slice_get (map (λ (s : ℕ × A). f s.0) (enumerate_from n xs)) e ≡ Some (f (n + e))
-told_at f n e [] lt = absurd (omega arith)
-told_at f n zero (x ∷ xs) lt = ap (λ (m : ℕ). Some (f m)) (same n)
-  where
-    same : (n : ℕ) → n ≡ n + 0
-    same n = omega arith
-told_at f n (suc e) (x ∷ xs) lt = told_at f (n + 1) e xs (omega arith) ∙ ap (λ (m : ℕ). Some (f m)) (later n e)
-  where
-    later : (n e : ℕ) → n + 1 + e ≡ n + suc e
-    later n e = omega arith
-
 pub section_history_at : (t : Trace) (e : ℕ) → e < length t.sections → slice_get (section_histories t) e
     ≡ Some (section_history t e)
 unfolding section_histories
-section_history_at t e lt = told_at (section_history t) 0 e t.sections lt
-    ∙ ap (λ (m : ℕ). Some (section_history t m)) (first e)
-  where
-    first : (e : ℕ) → 0 + e ≡ e
-    first e = omega arith
+section_history_at t e lt = numbered_at (section_history t) t.sections e lt
 
 count_told : {A B : Type 0} (f : ℕ × A → B) (n : ℕ) (xs : List A) → length (map f (enumerate_from n xs)) ≡ length xs
 count_told f n [] = refl

@@ -6,7 +6,8 @@ use Rattle.std.proofs.Common.{Option, Some, None, IfSome, Result, Ok, Err, IfOk,
 use Rattle.std.proofs.Common.{◌∙◌, append_assoc, arith}
 use Rattle.std.specs.List.{AllByRecursion, flat_map, list_all, list_any}
 use Rattle.std.proofs.lemmas.Bool.{and_parts, cases_lt}
-use Rattle.std.proofs.lemmas.List.{append-nil, map-append, length-map, length-append, length-take, nil_from_length}
+use Rattle.std.proofs.lemmas.List.{append-nil, map-append, length-map, length-append, length_push, length-take}
+use Rattle.std.proofs.lemmas.List.{nil_from_length}
 use Rattle.std.proofs.lemmas.List.{take-append-le, drop-append-le, take_all, drop_all}
 use Rattle.std.proofs.Math.Seq.{take-add}
 use Rattle.std.proofs.lemmas.List.Concat.{flat_map-append}
@@ -143,13 +144,11 @@ both_ordered t xs ys front back first second = record {
 -- ---- parts
 
 module _ {A : Type 0} (xs : List A) (x : A) (from most : ℕ) where
-  one_longer : length (xs ++ x ∷ []) ≡ length xs + 1
-  one_longer = length-append xs (x ∷ [])
-
   -- before the place from which a part begins, one more changes nothing
   part_passes : length xs < from → take most (drop from (xs ++ x ∷ [])) ≡ take most (drop from xs)
   part_passes lt =
-      ap (take most) (drop_all from (xs ++ x ∷ []) (omega (arith, one_longer)) ∙ sym (drop_all from xs (omega arith)))
+      ap (take most) (drop_all from (xs ++ x ∷ []) (omega (arith, length_push xs x))
+      ∙ sym (drop_all from xs (omega arith)))
 
   one_behind : from ≤ length xs → drop from (xs ++ x ∷ []) ≡ drop from xs ++ x ∷ []
   one_behind le = drop-append-le from xs (x ∷ []) le

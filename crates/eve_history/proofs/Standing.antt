@@ -20,7 +20,7 @@ use Rattle.eve_views.proofs.Bytes.{number_again}
 use Rattle.eve_views.proofs.FrameLaws.{length-frame_text}
 use Rattle.eve_views.proofs.CutLaws.{IsPart, section_cut}
 use Rattle.eve_views.proofs.Lists.{cut_at}
-use Rattle.eve_views.proofs.Locating.{section_begins, frames_text-flat_map}
+use Rattle.eve_views.proofs.Locating.{located_get, section_begins, frames_text-flat_map}
 use Rattle.eve_grammar.proofs.FrameLaws.{small_head}
 use Rattle.eve_grammar.specs.declared.limits.TheConstants.{MOST_ROWS}
 use Rattle.eve_frames.specs.Views.{has_attempt_body, attempt_in, has_access_body, access_in}
@@ -31,7 +31,7 @@ use Rattle.eve_history.specs.SectionHistory.{access_with}
 use Rattle.eve_history.specs.Faults.{accesses_of}
 use Rattle.eve_history.specs.Coming.{KeptSection, HasCome, ComesNext, seen}
 use Rattle.eve_grammar.proofs.Grouping.{all_at}
-use Rattle.eve_history.proofs.OrderLaws.{of_located}
+use Rattle.eve_grammar.proofs.Lists.{same_first, same_others, no_item}
 
 -- a text stands at this place of another
 pub record StandsIn (bytes : List ℕ) (at : ℕ) (text : List ℕ) : Type 0 where
@@ -106,17 +106,6 @@ framed_there {bytes = bytes} {at = at} t f spelled kind stands =
 
 -- ---- located texts
 
-first_item : {A : Type 0} (y z : ℕ × A) (ys zs : List (ℕ × A)) → ◌≡◌ {A = List (ℕ × A)} (y ∷ ys) (z ∷ zs) → y ≡ z
-first_item y z ys zs e = cc
-
-other_items : {A : Type 0} (y z : ℕ × A) (ys zs : List (ℕ × A)) → ◌≡◌ {A = List (ℕ × A)} (y ∷ ys) (z ∷ zs) → ys ≡ zs
-other_items y z ys zs e = cc
-
-no_item : {A : Type 0} {B : Type 0} (before : List (ℕ × A)) (item : ℕ × A) (rest : List (ℕ × A))
-    → ◌≡◌ {A = List (ℕ × A)} [] (before ++ item ∷ rest) → B
-no_item [] item rest e = absurd (cc)
-no_item (z ∷ before) item rest e = absurd (cc)
-
 -- one of them stands where it is said to
 pub record IsLocated {A : Type 0} (text : A → List ℕ) (at : ℕ) (xs : List A) (item : ℕ × A) : Type 0 where
   pub place : ℕ
@@ -125,10 +114,10 @@ pub record IsLocated {A : Type 0} (text : A → List ℕ) (at : ℕ) (xs : List 
 
 pub located_stands : {A : Type 0} (text : A → List ℕ) (at : ℕ) (xs : List A) (before : List (ℕ × A)) (item : ℕ × A)
     (rest : List (ℕ × A)) → located text at xs ≡ before ++ item ∷ rest → IsLocated text at xs item
-located_stands text at [] before item rest e = no_item before item rest e
+located_stands text at [] before item rest e = absurd (no_item before item rest e)
 located_stands {A = A} text at (x ∷ xs) [] item rest e =
     subst (λ (y : ℕ × A). IsLocated text at (x ∷ xs) y)
-    (first_item (at, x) item (located text (at + length (text x)) xs) rest e)
+    (same_first (at, x) item (located text (at + length (text x)) xs) rest e)
     (record {
       place = 0;
       stands = record { front = []; behind = flat_map text xs; is = refl; offset = refl };
@@ -136,7 +125,7 @@ located_stands {A = A} text at (x ∷ xs) [] item rest e =
     })
 located_stands text at (x ∷ xs) (z ∷ before) item rest e =
     let later = located_stands text (at + length (text x)) xs before item rest
-    (other_items (at, x) z (located text (at + length (text x)) xs) (before ++ item ∷ rest) e) in
+    (same_others (at, x) z (located text (at + length (text x)) xs) (before ++ item ∷ rest) e) in
     let o = later.offset in
     let p = later.stands.offset in
     record {
@@ -197,10 +186,10 @@ step_stands t e before step rest split = elim (cases_lt e (length t.sections)) [
       (steps_of t e) before step rest split in
       subst (λ (at : ℕ). StandsIn (spelling t) at (step_text step.1)) (sym found.offset)
       (stands_inside (section_stands t e lt) found.stands)
-  | inr ge ↦ no_item before step rest
+  | inr ge ↦ absurd (no_item before step rest
       (ap (located step_text (section_start t e + length (frame_text (OfReplica e))))
       (sym (get_or_past t.sections e [] ge))
-      ∙ split)
+      ∙ split))
 ]
 
 -- its own frame stands first
@@ -320,7 +309,7 @@ each_seen bytes t b at spelled fit step =
     from_each (IsSeen bytes) (accesses_at at b) (λ i x got.
     seen_again bytes t x spelled
     (all_at (is_access (row_count (head_of t))) b.accesses i x.1 records
-    (of_located (λ y. frame_text (OfAccess y)) (at + length (frame_text (OfAttempt b))) b.accesses i x got))
+    (located_get (λ y. frame_text (OfAccess y)) (at + length (frame_text (OfAttempt b))) b.accesses i x got))
     (access_stands at b i x step got))
 
 pub all_seen : (bytes : List ℕ) (t : Trace) (e : ℕ) (rest : List (ℕ × Step)) (b : Attempt) (k : KeptSection) (at : ℕ)

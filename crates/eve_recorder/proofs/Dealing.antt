@@ -9,7 +9,7 @@ use mathlib.Core.Option.{some, some-injective, some-ne-none}
 use lib.ListN.{get_elem?}
 use native.Mathlib.Nat.{mod-eq_of_lt}
 use Rattle.atomic_table.specs.Table.{State, Me, Step, Allows, Splits, Joins, keeps}
-use Rattle.atomic_table.proofs.Lists.{at_set, at_snoc}
+use Rattle.atomic_table.proofs.Lists.{at_set, at_snoc, set_else}
 use Rattle.eve_recorder.specs.declared.drawn.Drawn.{Drawn}
 use Rattle.eve_recorder.specs.declared.limits.TheConstants.{MOST_DRAWN}
 use Rattle.eve_recorder.specs.Dealt.{drawn, all_parts, times, once_below, IsFair, AreBelow, IsDealt, Draws, fewer}
@@ -114,15 +114,11 @@ splits seat v some_part none s h at =
       ),
     )
 
-was_there : (views : List Drawn) (seat other : ℕ) (both u : Drawn) → ¬ (other ≡ seat)
-    → get_elem? (set views seat both) other ≡ some u → get_elem? views other ≡ some u
-was_there views seat other both u two e = ⊎_elim (λ x. absurd (two x.0)) (λ x. x.1) (at_set views seat other both u e)
-
 pub joins : {S : Type 0} (seat : ℕ) (v : Drawn) (other : ℕ) (w : Drawn)
     → Joins {S = S} IsDealt seat v other w (drawn_by_both v w) spent
 joins seat v other w s h at two at' =
     let n = h.0 in let d = h.2 in let b = drawn_by_both v w in let vs = set s.views seat b in
-    let mine = d.3 seat v at in let theirs = d.3 other w (was_there s.views seat other b w two at') in
+    let mine = d.3 seat v at in let theirs = d.3 other w (sym (set_else s.views seat other b two) ∙ at') in
     let fair : IsFair n b = (
       (let e = length-append v.numbers w.numbers in omega arith),
       All-append (λ x. x < n) v.numbers w.numbers mine.1 theirs.1,

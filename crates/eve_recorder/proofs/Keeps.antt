@@ -7,7 +7,7 @@ use mathlib.Core.Logic.{dite}
 use native.Mathlib.Decide.{dec_le, ℕ_discrete}
 use lib.ListN.{get_elem?}
 use Rattle.crossbeam_queue.specs.Fifo.{Pushes, Pops, Forks, Merges, Learns}
-use Rattle.crossbeam_queue.proofs.Lists.{at_set}
+use Rattle.crossbeam_queue.proofs.Lists.{at_set, set_else}
 use Rattle.eve_recorder.specs.declared.passes.Knowledge.{Knowledge}
 use Rattle.eve_stamps.specs.Applied.{Applied}
 use Rattle.eve_recorder.specs.Noted.{of_worker, IsPlaced, IsOrderly, ComeFrom}
@@ -326,10 +326,6 @@ forks_taker port v may items views h at =
       fits = all_snoc F vs r (all_set F views port l left others) right;
     }
 
-was_there : (views : List Knowledge) (port other : ℕ) (both u : Knowledge) → ¬ (other ≡ port)
-    → get_elem? (set views port both) other ≡ some u → get_elem? views other ≡ some u
-was_there views port other both u two e = ⊎_elim (λ x. absurd (two x.0)) (λ x. x.1) (at_set views port other both u e)
-
 -- who sat at one pass sits at another
 abbrev joined : (ℕ → ℕ) → ℕ → ℕ → ℕ → ℕ
 joined seat from to k = cond (eqb (seat k) from) to (seat k)
@@ -346,7 +342,7 @@ pub merges : (port : ℕ) (v : Knowledge) (other : ℕ) (u : Knowledge) → v.fr
     → Merges FitsPasses port v other u (with_last v u) nobody
 merges port v other u fine meet ok many items views h at two at' =
     let both : Knowledge = with_last v u in let mine = h.fits port v at in let theirs =
-    h.fits other u (was_there views port other both u two at') in
+    h.fits other u (sym (set_else views port other both two) ∙ at') in
     let all = h.taken ++ items in
     let seat : ℕ → ℕ = joined h.seat other port in
     let port_apart : port ≢ other = λ e. two (sym e) in
@@ -393,7 +389,7 @@ pub merges_taker : (port : ℕ) (v : Knowledge) (other : ℕ) (u : Knowledge) �
     → Merges FitsPasses port v other u (with_taker v u) nobody
 merges_taker port v other u may many items views h at two at' =
     let both : Knowledge = with_taker v u in let mine = h.fits port v at in let theirs =
-    h.fits other u (was_there views port other both u two at') in
+    h.fits other u (sym (set_else views port other both two) ∙ at') in
     let them = theirs.0 may in let all = h.taken ++ items in
     let F : ℕ → Knowledge → Type 0 = FitsPass h.workers port h.seat h.taken all in
     let Now : ℕ → Knowledge → Type 0 = λ j y. j ≢ other → F j y in

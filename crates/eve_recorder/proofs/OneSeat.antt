@@ -4,6 +4,7 @@ use Rattle.std.proofs.Common.{refl, ap, ◌∙◌, subst, length-append, append-
 use Rattle.std.specs.Prelude.{IfSome, IfNone}
 use Rattle.std.specs.Option.{MatchOption}
 use Rattle.std.proofs.lemmas.Bool.{cases_lt}
+use Rattle.std.proofs.lemmas.List.{nil_from_length}
 use Rattle.atomic_table.specs.Seated.{TableId}
 use Rattle.crossbeam_queue.specs.Fifo.{Pushes, Pops, Learns, Held}
 use Rattle.eve_recorder.specs.declared.passes.Knowledge.{Knowledge}
@@ -128,15 +129,12 @@ pub left_after : (v u : Knowledge) (x : Applied) (left : NotedAndTaken) → u �
     → left_of_pass u ≡ taken_of left x
 left_after v u x left after is = ap left_of_pass after ∙ ap (λ l. taken_of l x) is
 
-no_length : (xs : List Applied) → length xs ≡ 0 → xs ≡ []
-no_length [] e = refl
-no_length (x ∷ xs) e = absurd (omega (arith, e))
-
 -- what is left where nothing is queued: all that was noted is taken
 pub all_taken : (v : Knowledge) (left : NotedAndTaken) → v ≡ knowledge true v.taken v.workers 0 v.workers v.noted
     → Held 0 (SeesAll v) → left_of_pass v ≡ left → (w : ℕ) → of_worker w left.noted ≡ of_worker w left.taken
 all_taken v left whole held is w =
-    let none : v.taken ++ held.0 ≡ v.taken = ap (λ l. v.taken ++ l) (no_length held.0 held.1) ∙ append-nil v.taken in
+    let none : v.taken ++ held.0 ≡ v.taken = ap (λ l. v.taken ++ l) (nil_from_length held.0 held.1)
+    ∙ append-nil v.taken in
     ap (λ (l : NotedAndTaken). of_worker w l.noted) (sym is)
     ∙ held.2.1 w (knows (cases_lt w v.workers)) ∙ ap (of_worker w) none
     ∙ ap (λ (l : NotedAndTaken). of_worker w l.taken) is

@@ -4,7 +4,7 @@ use Rattle.std.proofs.Common.{Some, None, refl, sym, ap, ◌∙◌, append_assoc
 use Rattle.std.specs.Prelude.{slice_get}
 use Rattle.std.specs.List.{AllByRecursion, flat_map, enumerate_from}
 use Rattle.std.proofs.lemmas.List.{length-append}
-use Rattle.std.proofs.lemmas.Option.{same_Some}
+use Rattle.std.proofs.lemmas.Option.{none-some, same_Some}
 use Rattle.eve_grammar.specs.Trace.{Step, Attempts, Commits, RollsBack, Vote, Sent, Trace}
 use Rattle.eve_grammar.specs.Frames.{Frame, OfCustomer, OfBatch, OfReplica, OfAttempt, OfAccess, OfCommit, OfRollback}
 use Rattle.eve_grammar.specs.Frames.{OfVerifier, OfVote, OfSent, End, step_frames, section_frames, verifier_frames}
@@ -33,16 +33,13 @@ plain-flat_map number frames none [] = tt
 plain-flat_map number frames none (x ∷ xs) = plain-append number (frames x) (flat_map frames xs) (none x)
     (plain-flat_map number frames none xs)
 
-no_number : {n : ℕ} → None ≡ Some n → ⊥
-no_number e = cc
-
 -- none of them has one
 plain_at : (number : Frame → Option ℕ) (fs : List Frame) (i n : ℕ) (f : Frame) → Plain number fs → slice_get fs i
     ≡ Some f → number f ≡ Some n → ⊥
 plain_at number [] i n f p e m = cc
 plain_at number (g ∷ fs) zero n f p e m =
     let same : g ≡ f = cc in
-    no_number (sym p.0 ∙ ap number same ∙ m)
+    none-some n (sym p.0 ∙ ap number same ∙ m)
 plain_at number (g ∷ fs) (suc i) n f p e m = plain_at number fs i n f p.1 e m
 
 -- a frame with a number stands after those without

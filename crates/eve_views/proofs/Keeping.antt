@@ -1,9 +1,9 @@
 -- What the walk keeps of a frame.
-use Rattle.std.proofs.Common.{◌≡◌, ℕ, ◌+◌, ◌<◌, ◌≤◌, Bool, true, false, ◌&&◌, cond, leb, ltb, List}
+use Rattle.std.proofs.Common.{◌≡◌, ℕ, ◌+◌, ◌<◌, ◌≤◌, Bool, true, false, cond, leb, ltb, List}
 use Rattle.std.proofs.Common.{[], ◌∷◌, length, take, drop, Option, Some, None, Ok, Err, refl, sym, ap, ◌∙◌, arith}
 use Rattle.std.specs.Prelude.{slice_index}
 use Rattle.std.specs.Option.{option_map}
-use Rattle.std.proofs.lemmas.Bool.{le-leb, ltb-false, and_from}
+use Rattle.std.proofs.lemmas.Bool.{le-leb, ltb-false, and_from, and_left, and_right}
 use Rattle.std.proofs.lemmas.List.{length-drop}
 use Rattle.byteorder.specs.Endian.{big_number}
 use Rattle.eve_grammar.specs.Trace.{Head}
@@ -55,21 +55,13 @@ front_of (b ∷ bytes) kind len rest more one two =
 
 -- ---- bytes with no frame at their front
 
-and_first : (b c : Bool) → b ≡ false → (b && c) ≡ false
-and_first true c e = absurd cc
-and_first false c e = refl
-
-and_second : (b c : Bool) → c ≡ false → (b && c) ≡ false
-and_second true c e = e
-and_second false c e = refl
-
 pub unframed_kind : (h : Head) (p : Place) (bytes : List ℕ) (kind : ℕ) → slice_index bytes 0 ≡ kind
     → is_allowed h p kind ≡ false → is_framed h p bytes ≡ false
-unframed_kind h p bytes kind is banned = and_second _ _ (and_first _ _ (ap (is_allowed h p) is ∙ banned))
+unframed_kind h p bytes kind is banned = and_right _ _ (and_left _ _ (ap (is_allowed h p) is ∙ banned))
 
 pub unframed_past : (h : Head) (p : Place) (bytes : List ℕ) (kind len : ℕ) (rest : List ℕ)
     → FrontOf bytes kind len rest → length rest < len → is_framed h p bytes ≡ false
-unframed_past h p bytes kind len rest front lt = and_second _ _ (and_second _ _ (past front.len_is front.size))
+unframed_past h p bytes kind len rest front lt = and_right _ _ (and_right _ _ (past front.len_is front.size))
   where
     past : big_number 4 (drop 1 bytes) ≡ len → length bytes ≡ 5 + length rest
         → leb (5 + big_number 4 (drop 1 bytes)) (length bytes) ≡ false

@@ -1,6 +1,6 @@
 -- Public: other crates cite these lemmas. Where the frames of one kind stand, by byte.
 use Rattle.std.proofs.Common.{◌≡◌, ℕ, zero, suc, ◌+◌, ◌<◌, ◌≤◌, List, [], ◌∷◌, ◌++◌, map, length, get_or, take, drop}
-use Rattle.std.proofs.Common.{Option, Some, refl, sym, ap, ◌∙◌, append_assoc, arith}
+use Rattle.std.proofs.Common.{Some, refl, sym, ap, ◌∙◌, append_assoc, arith}
 use Rattle.std.specs.Prelude.{slice_get, option_map}
 use Rattle.std.specs.List.{flat_map}
 use Rattle.std.proofs.lemmas.List.{length-append, length-map, take-map, take_at, take-append-drop, drop_all}
@@ -43,11 +43,11 @@ length-located text at [] = refl
 length-located text at (x ∷ xs) = ap suc (length-located text (at + length (text x)) xs)
 
 -- what is located at a place stands there in the list
-pub located_get : {A : Type 0} (text : A → List ℕ) (at : ℕ) (xs : List A) (i offset : ℕ) (x : A)
-    → slice_get (located text at xs) i ≡ Some (offset, x) → slice_get xs i ≡ Some x
-located_get text at [] i offset x e = absurd cc
-located_get {A} text at (y ∷ ys) zero offset x e = ap (λ (o : Option (ℕ × A)). option_map (λ (p : ℕ × A). p.1) o) e
-located_get text at (y ∷ ys) (suc i) offset x e = located_get text (at + length (text y)) ys i offset x e
+pub located_get : {A : Type 0} (text : A → List ℕ) (at : ℕ) (xs : List A) (i : ℕ) (x : ℕ × A)
+    → slice_get (located text at xs) i ≡ Some x → slice_get xs i ≡ Some x.1
+located_get text at [] i x e = absurd cc
+located_get {A} text at (y ∷ xs) zero x e = ap Some (ap (λ (u : ℕ × A). u.1) (same_Some (at, y) x e))
+located_get text at (y ∷ xs) (suc i) x e = located_get text (at + length (text y)) xs i x e
 
 -- Of the frames of one kind, after others, the i-th: what it says, and where it stands.
 pub record IsPlaced {A : Type 0} (frame : A → Frame) (xs : List A) (i at offset : ℕ) (f : Frame) : Type 0 where

@@ -1,5 +1,5 @@
 -- Which frames begin the parts of a trace.
-use Rattle.std.proofs.Common.{◌≡◌, ◌≢◌, ℕ, zero, suc, ◌+◌, ◌<◌, ◌≤◌, Bool, true, false, ◌||◌, cond, not, List, [], ◌∷◌}
+use Rattle.std.proofs.Common.{◌≡◌, ◌≢◌, ℕ, suc, ◌+◌, ◌<◌, ◌≤◌, Bool, true, false, ◌||◌, cond, not, List, [], ◌∷◌}
 use Rattle.std.proofs.Common.{◌++◌, length, get_or, set, Some, refl, sym, ap, subst, ◌∙◌, arith, inl, inr}
 use Rattle.std.proofs.Common.{get_or-set_same, get_or-set_other}
 use Rattle.std.specs.Prelude.{slice_get}
@@ -11,16 +11,14 @@ use Rattle.eve_grammar.specs.Frames.{Frame, OfCustomer, OfBatch, OfReplica, OfAt
 use Rattle.eve_grammar.specs.Frames.{OfVerifier, OfVote, OfSent, End, Place, start_place, next_place, kind_of}
 use Rattle.eve_grammar.specs.Frames.{is_allowed}
 use Rattle.eve_grammar.specs.Limits.{FitsAt}
+use Rattle.eve_grammar.proofs.Lists.{get_in_front}
+use Rattle.eve_grammar.proofs.Standing.{not_ended}
 use Rattle.eve_views.specs.declared.starts.Starts.{Starts}
 use Rattle.eve_views.specs.Starting.{no_starts, noted}
 use Rattle.eve_views.specs.Indexing.{is_last, frames_before_sent, AreStarts}
 use Rattle.eve_views.proofs.FrameLaws.{true_false}
 
 -- ---- what an allowed kind says of the place
-
--- no frame may stand after the end
-pub allowed_open : (h : Head) (p : Place) (kind : ℕ) → is_allowed h p kind ≡ true → p.ended ≡ false
-allowed_open h p kind e = grind arith
 
 pub replica_below : (h : Head) (p : Place) → is_allowed h p 16 ≡ true → (p.verifiers ≡ 0) × (p.replicas < h.replicas)
 replica_below h p e = (grind (arith, nat_tests), grind (arith, nat_tests))
@@ -33,12 +31,6 @@ pub end_full : (h : Head) (p : Place) → is_allowed h p 127 ≡ true → (0 < p
 end_full h p e = (grind (arith, nat_tests), grind (arith, nat_tests))
 
 -- ---- one more frame
-
-pub slice_get_front : (fs : List Frame) (f x : Frame) (i : ℕ) → slice_get fs i ≡ Some x → slice_get (fs ++ f ∷ []) i
-    ≡ Some x
-slice_get_front [] f x i e = absurd cc
-slice_get_front (g ∷ fs) f x zero e = e
-slice_get_front (g ∷ fs) f x (suc i) e = slice_get_front fs f x i e
 
 pub slice_get_last : (fs : List Frame) (f : Frame) → slice_get (fs ++ f ∷ []) (length fs) ≡ Some f
 slice_get_last [] f = refl
@@ -115,8 +107,9 @@ started_same : (h : Head) (fs : List Frame) (p q : Place) (s : Starts) (f : Fram
 started_same h fs p q s f st k plain = record {
   eight = st.eight;
   sixteen = st.sixteen;
-  sections = λ e lt. slice_get_front fs f (OfReplica e) _ (st.sections e (subst (λ (n : ℕ). e < n) k.replicas lt));
-  verifiers = λ v lt. slice_get_front fs f (OfVerifier v) _ (st.verifiers v (subst (λ (n : ℕ). v < n) k.verifiers lt));
+  sections = λ e lt. get_in_front fs (f ∷ []) _ (OfReplica e) (st.sections e (subst (λ (n : ℕ). e < n) k.replicas lt));
+  verifiers = λ v lt. get_in_front fs (f ∷ []) _ (OfVerifier v)
+      (st.verifiers v (subst (λ (n : ℕ). v < n) k.verifiers lt));
   sent = λ e.
       let t = st.sent (sym (kept_last p q k) ∙ e) in
       let stays = sent_stays fs f t.1 in
@@ -135,7 +128,7 @@ table_more fs f xs count of room is before e lt =
     elim (cases_lt e count) [
       | inl below ↦
           let other : e ≢ count = omega arith in
-          rw (get_or-set_other xs count e (length fs) 0 other) (slice_get_front fs f (of e) _ (before e below))
+          rw (get_or-set_other xs count e (length fs) 0 other) (get_in_front fs (f ∷ []) _ (of e) (before e below))
       | inr le ↦
           let same : e ≡ count = omega arith in
           rw (same, get_or-set_same xs count (length fs) 0 room) (slice_get_last fs f ∙ ap Some is)
@@ -167,7 +160,7 @@ started_verifier : (h : Head) (fs : List Frame) (p : Place) (s : Starts) (n : �
 started_verifier h fs p s n st few is all going = record {
   eight = st.eight;
   sixteen = length-set s.verifiers p.verifiers (length fs) ∙ st.sixteen;
-  sections = λ e lt. slice_get_front fs (OfVerifier n) (OfReplica e) _ (st.sections e lt);
+  sections = λ e lt. get_in_front fs (OfVerifier n ∷ []) _ (OfReplica e) (st.sections e lt);
   verifiers = table_more fs (OfVerifier n) s.verifiers p.verifiers OfVerifier (omega (arith, st.sixteen))
       (ap OfVerifier is) st.verifiers;
   sent = λ e.
@@ -187,10 +180,10 @@ started_last : (h : Head) (fs : List Frame) (p q : Place) (s : Starts) (f : Fram
 started_last h fs p q s f st last going replicas verifiers has full = by p.sending refl
   where
     sections : (e : ℕ) → e < q.replicas → slice_get (fs ++ f ∷ []) (get_or s.sections e 0) ≡ Some (OfReplica e)
-    sections e lt = slice_get_front fs f (OfReplica e) _ (st.sections e (subst (λ (n : ℕ). e < n) replicas lt))
+    sections e lt = get_in_front fs (f ∷ []) _ (OfReplica e) (st.sections e (subst (λ (n : ℕ). e < n) replicas lt))
 
     others : (v : ℕ) → v < q.verifiers → slice_get (fs ++ f ∷ []) (get_or s.verifiers v 0) ≡ Some (OfVerifier v)
-    others v lt = slice_get_front fs f (OfVerifier v) _ (st.verifiers v (subst (λ (n : ℕ). v < n) verifiers lt))
+    others v lt = get_in_front fs (f ∷ []) _ (OfVerifier v) (st.verifiers v (subst (λ (n : ℕ). v < n) verifiers lt))
 
     all : 0 < q.verifiers → q.replicas ≡ h.replicas
     all lt = replicas ∙ st.some (subst (λ (n : ℕ). 0 < n) verifiers lt)
@@ -258,7 +251,7 @@ started_more h fs p s (OfBatch n b) room st fits = started_same h fs p (next_pla
 started_more h fs p s (OfReplica n) room st fits =
     let below = replica_below h p fits.allowed in
     started_replica h fs p s n st (omega (arith, below.1, room.replicas)) (eqb-true n p.replicas fits.body) below.0
-    (allowed_open h p 16 fits.allowed)
+    (not_ended h p 16 fits.allowed)
 started_more h fs p s (OfAttempt a) room st fits = started_same h fs p (next_place p (OfAttempt a)) s (OfAttempt a) st
     (record { replicas = refl; verifiers = refl; sending = refl; ended = refl }) refl
 started_more h fs p s (OfAccess x) room st fits = started_same h fs p (next_place p (OfAccess x)) s (OfAccess x) st
@@ -268,10 +261,10 @@ started_more h fs p s (OfRollback r) room st fits = started_same h fs p p s (OfR
 started_more h fs p s (OfVerifier n) room st fits =
     started_verifier h fs p s n st
     (let below = few_verifiers h p fits.allowed room.one in omega (arith, below, room.verifiers))
-    (eqb-true n p.verifiers fits.body) (either_verifier h p st.some fits.allowed) (allowed_open h p 32 fits.allowed)
+    (eqb-true n p.verifiers fits.body) (either_verifier h p st.some fits.allowed) (not_ended h p 32 fits.allowed)
 started_more h fs p s (OfVote v) room st fits = started_same h fs p p s (OfVote v) st (same_place p) refl
 started_more h fs p s (OfSent x) room st fits =
-    let going = allowed_open h p 48 fits.allowed in
+    let going = not_ended h p 48 fits.allowed in
     subst (Started h (fs ++ OfSent x ∷ []) (next_place p (OfSent x)))
     (sym (sent_noted p.sending s (record s { sent = length fs })))
     (started_last h fs p (next_place p (OfSent x)) s (OfSent x) st refl going refl refl refl
@@ -279,7 +272,7 @@ started_more h fs p s (OfSent x) room st fits =
 started_more h fs p s End room st fits =
     let full = end_full h p fits.allowed in
     subst (Started h (fs ++ End ∷ []) (next_place p End)) (sym (sent_noted p.sending s (record s { sent = length fs })))
-    (started_last h fs p (next_place p End) s End st refl (allowed_open h p 127 fits.allowed) refl refl
+    (started_last h fs p (next_place p End) s End st refl (not_ended h p 127 fits.allowed) refl refl
     (or_last p.sending)
     (λ e. (full.1, full.0)))
   where

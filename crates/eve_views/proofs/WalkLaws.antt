@@ -16,7 +16,7 @@ use Rattle.eve_views.specs.Walk.{frame_at, Walked, with_frame, walk_on, walk, fr
 use Rattle.eve_grammar.proofs.Codec.{IsBytes}
 use Rattle.eve_views.proofs.Bytes.{IsBytes-behind}
 use Rattle.eve_views.proofs.FrameLaws.{StandsHere, frame_again, frame_stands, Framed-from, true_false}
-use Rattle.eve_views.proofs.StartLaws.{allowed_open}
+use Rattle.eve_grammar.proofs.Standing.{not_ended}
 
 abbrev pub with_front : List Frame → Walked → Walked
 with_front [] r = r
@@ -35,7 +35,7 @@ walk_front (f ∷ fs) n h p rest right follow =
     let fuel : suc (length fs) + n ≡ suc (length fs + n) = omega arith in
     let regrouped : frames_text (f ∷ fs) ++ rest ≡ frame_text f ++ (frames_text fs ++ rest) =
     append_assoc (frame_text f) (frames_text fs) rest in
-    let is_open = allowed_open h p (kind_of f) follow.0.allowed in
+    let is_open = not_ended h p (kind_of f) follow.0.allowed in
     let one = walk_step (length fs + n) h p (frame_text f ++ (frames_text fs ++ rest)) is_open in
     let read = frame_again h p f (frames_text fs ++ rest) right follow.0 in
     let stepped : walk_on (frame_text f ++ (frames_text fs ++ rest))
@@ -101,7 +101,7 @@ goes_on code.Frame h p rest s = not_over p.ended (eqb (length rest) 0)
     (λ ended nothing. s.more ended (nil_from_length rest (eqb-true _ _ nothing)))
 goes_on code.Body h p rest s =
     let f = Framed-from h p rest s.framed in
-    let is_open = allowed_open h p (slice_index rest 0) f.allowed in
+    let is_open = not_ended h p (slice_index rest 0) f.allowed in
     not_over p.ended (eqb (length rest) 0) (λ ended nothing. true_false p.ended ended is_open)
 goes_on c h p rest s = absurd s
 

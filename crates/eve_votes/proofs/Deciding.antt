@@ -38,7 +38,7 @@ pub vote_got : (t : Trace) (v i o : ℕ) (w : Vote) → slice_get (votes_at t v)
     → slice_get (votes_of t v) i ≡ Some w
 unfolding votes_at
 vote_got t v i o w got = located_get (λ w. frame_text (OfVote w))
-    (verifier_start t v + length (frame_text (OfVerifier v))) (votes_of t v) i o w got
+    (verifier_start t v + length (frame_text (OfVerifier v))) (votes_of t v) i (o, w) got
 
 pub vote_count : (t : Trace) (v : ℕ) → length (votes_at t v) ≡ length (votes_of t v)
 unfolding votes_at

@@ -12,10 +12,9 @@ use Rattle.std.proofs.lemmas.List.Sorted.{All-permutation, Contains-permutation,
 use Rattle.std.proofs.lemmas.Option.{slice_get-get_or, slice_get_within, get_or_from_slice_get}
 use Rattle.eve_grammar.specs.Trace.{Vote, Trace}
 use Rattle.eve_grammar.specs.Spelling.{votes_of}
-use Rattle.eve_grammar.proofs.Lists.{slice_get-behind}
+use Rattle.eve_grammar.proofs.Lists.{get_in_front, slice_get-behind}
 use Rattle.eve_votes.specs.Ballots.{ballot, ballots_from, ballots_among, ballots_of, IsVoteOf}
 use Rattle.eve_votes.specs.declared.ballots.Ballot.{Ballot}
-use Rattle.eve_votes.proofs.Places.{get_in_front}
 
 -- ---- one after another
 

@@ -22,12 +22,6 @@ pub get_place : {A : Type 0} {P : List A → A → Type 0} (xs : List A) (s : So
     → slice_get xs (length s.before) ≡ Some s.item
 get_place xs s = ap (λ (zs : List _). slice_get zs (length s.before)) s.is ∙ get_between s.before s.item s.rest
 
-pub get_in_front : {A : Type 0} (xs ys : List A) (i : ℕ) (x : A) → slice_get xs i ≡ Some x
-    → slice_get (xs ++ ys) i ≡ Some x
-get_in_front [] ys i x e = absurd cc
-get_in_front (y ∷ xs) ys zero x e = e
-get_in_front (y ∷ xs) ys (suc i) x e = get_in_front xs ys i x e
-
 -- ---- lists with byte offsets
 
 pub located_values : {A : Type 0} (text : A → List ℕ) (at : ℕ) (xs : List A) → map (λ w. w.1) (located text at xs) ≡ xs

@@ -11,6 +11,7 @@ use Rattle.std.proofs.lemmas.Bool.{eqb-true, eq-eqb, and_parts, and_from, cases_
 use Rattle.std.proofs.lemmas.Option.{slice_get-get_or, slice_get_within}
 use Rattle.eve_grammar.specs.Trace.{Vote, Trace}
 use Rattle.eve_grammar.specs.Spelling.{votes_of, votes_at}
+use Rattle.eve_grammar.proofs.Lists.{get_in_front}
 use Rattle.eve_views.specs.declared.fault.Code.TheVariants as code
 use Rattle.eve_votes.specs.Votes.{is_vote_on}
 use Rattle.eve_votes.specs.Faults.{IsFurther, IsFurtherAt, StandsInVotes}
@@ -21,7 +22,7 @@ use Rattle.eve_votes.specs.Ballots.{ballot, is_alike, IsBefore, IsNoLaterBallot,
 use Rattle.eve_votes.specs.Ballots.{HasVotes}
 use Rattle.eve_votes.specs.Ballots.{IsOnly, HasCast}
 use Rattle.eve_votes.specs.declared.ballots.Ballot.{Ballot}
-use Rattle.eve_votes.proofs.Places.{place_at, get_place, get_between, get_in_front}
+use Rattle.eve_votes.proofs.Places.{place_at, get_place, get_between}
 use Rattle.eve_views.proofs.Lowering.{lower_lowers, lower_at, lower_stands}
 use Rattle.eve_votes.proofs.Deciding.{vote_got}
 use Rattle.eve_votes.proofs.InOrder.{Alike, alike_is, is_alike_from, adjoin_later, adjoin_next}

@@ -1,14 +1,9 @@
 -- Reads of lists by index.
-use Rattle.std.proofs.Common.{◌≡◌, ◌≢◌, ℕ, zero, suc, ◌+◌, ◌<◌, List, [], ◌∷◌, ◌++◌, length, Some, ◌⊎◌, inl, inr, refl}
+use Rattle.std.proofs.Common.{◌≡◌, ◌≢◌, ℕ, zero, suc, ◌+◌, List, [], ◌∷◌, ◌++◌, length, Some, ◌⊎◌, inl, inr, refl}
 use Rattle.std.proofs.Common.{ap, arith}
 use Rattle.std.specs.Prelude.{slice_get, slice_set}
 
 module _ {A : Type 0} where
-  pub get_front : (xs ys : List A) (k : ℕ) (x : A) → slice_get xs k ≡ Some x → slice_get (xs ++ ys) k ≡ Some x
-  get_front [] ys k x at = cc
-  get_front (y ∷ xs) ys zero x at = at
-  get_front (y ∷ xs) ys (suc k) x at = get_front xs ys k x at
-
   pub get_behind : (xs ys : List A) (n k : ℕ) → n ≡ length xs + k → slice_get (xs ++ ys) n ≡ slice_get ys k
   get_behind [] ys n k is = let e : n ≡ k = omega arith in ap (slice_get ys) e
   get_behind (x ∷ xs) ys zero k is = absurd (omega arith)
@@ -29,11 +24,6 @@ module _ {A : Type 0} where
   pub get_only : (x y : A) (k : ℕ) → slice_get (x ∷ []) k ≡ Some y → (k ≡ 0) × (x ≡ y)
   get_only x y zero at = (refl, cc)
   get_only x y (suc k) at = cc
-
-  pub get_set_same : (xs : List A) (i : ℕ) (y : A) → i < length xs → slice_get (slice_set xs i y) i ≡ Some y
-  get_set_same [] i y there = absurd (omega arith)
-  get_set_same (x ∷ xs) zero y there = refl
-  get_set_same (x ∷ xs) (suc i) y there = get_set_same xs i y (omega arith)
 
   pub get_set_other : (xs : List A) (i j : ℕ) (y : A) → j ≢ i → slice_get (slice_set xs i y) j ≡ slice_get xs j
   get_set_other [] i j y apart = refl

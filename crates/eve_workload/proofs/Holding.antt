@@ -1,5 +1,5 @@
 -- Batches in one list of requests.
-use Rattle.std.proofs.Common.{◌≢◌, AllPairs, Bool, IsTrue, nat_le, map, ◌≡◌, ℕ, zero, suc, ◌+◌, ◌-◌, ◌<◌, ◌≤◌, List, []}
+use Rattle.std.proofs.Common.{◌≢◌, AllPairs, IsTrue, nat_le, map, ◌≡◌, ℕ, zero, suc, ◌+◌, ◌-◌, ◌<◌, ◌≤◌, List, []}
 use Rattle.std.proofs.Common.{◌∷◌, ◌++◌, length, take, drop, get_or, Some, refl, sym, ap, subst, ◌∙◌, arith}
 use Rattle.std.proofs.Common.{length-append, add-one, leb-true}
 use Rattle.std.specs.List.{flat_map, list_all, slice_get}
@@ -8,6 +8,7 @@ use Rattle.std.proofs.lemmas.Bool.{and_parts}
 use Rattle.std.proofs.Math.Seq.{take-append_seam, drop-append_seam}
 use Rattle.eve_grammar.specs.Trace.{Head}
 use Rattle.eve_grammar.specs.Limits.{is_between, is_customer, is_asked, is_head}
+use Rattle.eve_grammar.proofs.Grouping.{all_at}
 use Rattle.eve_write.specs.Data.{customer, asked}
 use Rattle.eve_write.specs.declared.customer.CustomerData.{CustomerData}
 use Rattle.eve_write.specs.declared.request.RequestData.{RequestData}
@@ -63,15 +64,6 @@ part_at {A = A} front (part ∷ parts) behind items (suc i) starts are there =
     let later = part_at (front ++ part) parts (behind + length part) items i (omega (arith, length-append front part))
     (are ∙ sym (append_assoc front part rest)) (omega arith) in
     record { rising = later.rising; within = later.within; found = later.found }
-
--- what holds of each element of a list holds of the one at a place
-all_get : {A : Type 0} (p : A → Bool) (xs : List A) (i : ℕ) (x : A) → IsTrue (list_all p xs) → slice_get xs i ≡ Some x
-    → IsTrue (p x)
-all_get p [] i x all at = cc
-all_get p (y ∷ ys) zero x all at =
-    let same : y ≡ x = cc in
-    subst (λ z. IsTrue (p z)) same (and_parts (p y) (list_all p ys) all).0
-all_get p (y ∷ ys) (suc i) x all at = all_get p ys i x (and_parts (p y) (list_all p ys) all).1 at
 
 -- how many there are, and within which limits
 module _ (w : Inside) (value : Workload) (held : IsHeldWorkload w) (is : workload_of w ≡ value) where
@@ -178,7 +170,7 @@ module _ (w : Inside) (value : Workload) (starts : List ℕ) (requests : List Re
         pub batch_listed : (part : List RequestData)
             → part ≡ take (to - get_or starts i 0) (drop (get_or starts i 0) requests)
             → IsTrue (is_listed (map asked part))
-        batch_listed part are = all_get is_listed value.batches i (map asked part) (rw (← is) held.workload.batches)
+        batch_listed part are = all_at is_listed value.batches i (map asked part) (rw (← is) held.workload.batches)
             (batch_found part are)
 
 module _ (part : List RequestData) (listed : IsTrue (is_listed (map asked part))) where

@@ -11,12 +11,13 @@ use Rattle.std.proofs.lemmas.List.Folds.{list_any-append}
 use Rattle.std.proofs.lemmas.List.Sorted.{length_permutation}
 use Rattle.eve_smallbank.specs.declared.entry.Kind.{Kind}
 use Rattle.eve_smallbank.specs.Access.{RowKinds}
+use Rattle.eve_grammar.proofs.Lists.{get_in_front}
 use Rattle.eve_workload.specs.declared.seats.Seat.{Seat}
 use Rattle.eve_workload.specs.Mixing.{collide, share, placed}
 use Rattle.eve_workload.specs.Seats.{group_at, IsSeating}
 use Rattle.eve_workload.specs.Cut.{one_more}
 use Rattle.eve_workload.proofs.Cuts.{placed_keeps, sum_of_lengths}
-use Rattle.eve_workload.proofs.Gets.{get_front, get_behind, get_either, get_only}
+use Rattle.eve_workload.proofs.Gets.{get_behind, get_either, get_only}
 use Rattle.eve_workload.proofs.Parts.{within_sum}
 
 -- an item at the end of the group with this number, or in a new one at the end
@@ -191,7 +192,7 @@ module _ (sizes : List ℕ) (seats : List Seat) (groups : List (List ℕ)) (seat
                   | inl same ↦
                       ap (λ n. slice_get (group_at (put groups g item) n) s.place) same
                       ∙ ap (λ group. slice_get group s.place) (put_same groups g item within)
-                      ∙ get_front (group_at groups g) (item ∷ []) s.place other
+                      ∙ get_in_front (group_at groups g) (item ∷ []) s.place other
                       (ap (λ n. slice_get (group_at groups n) s.place) (sym same) ∙ seating.sits other s old)
                   | inr apart ↦ ap (λ group. slice_get group s.place) (put_other groups g item s.group within apart)
                       ∙ seating.sits other s old
@@ -215,7 +216,7 @@ module _ (sizes : List ℕ) (seats : List Seat) (groups : List (List ℕ)) (seat
                 ∙ ap (λ n. slice_get (group_at (put groups g item) n) s.place) (sym same) ∙ at in
                 elim (get_either (group_at groups g) (item ∷ []) s.place other here) [
                   | inl old ↦
-                      get_front seats (seat ∷ []) other s
+                      get_in_front seats (seat ∷ []) other s
                       (seating.alone other s (ap (λ n. slice_get (group_at groups n) s.place) same ∙ old))
                   | inr last ↦
                       let only = get_only item other last.0 last.2 in
@@ -225,7 +226,7 @@ module _ (sizes : List ℕ) (seats : List Seat) (groups : List (List ℕ)) (seat
                       get_behind seats (seat ∷ []) other 0 (let e = only.1 in omega arith) ∙ ap (λ t. Some t) seat_same
                 ]
             | inr apart ↦
-                get_front seats (seat ∷ []) other s
+                get_in_front seats (seat ∷ []) other s
                 (seating.alone other s (ap (λ group. slice_get group s.place)
                 (sym (put_other groups g item s.group within apart)) ∙ at))
           ]

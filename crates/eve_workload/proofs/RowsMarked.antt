@@ -8,12 +8,13 @@ use Rattle.std.proofs.lemmas.Option.{same_Some, slice_get_within}
 use Rattle.eve_smallbank.specs.declared.entry.Kind.{Kind}
 use Rattle.eve_smallbank.specs.declared.entry.Kind.TheVariants.{Read, Write}
 use Rattle.eve_smallbank.specs.Access.{is_write}
+use Rattle.eve_grammar.proofs.Lists.{get_set_same}
 use Rattle.eve_workload.specs.declared.marks.Marks.{Marks}
 use Rattle.eve_workload.specs.declared.marks.RowMarks.{RowMarks}
 use Rattle.eve_workload.specs.GroupSets.{has}
 use Rattle.eve_workload.specs.Mixing.{collide}
 use Rattle.eve_workload.specs.Marks.{groups_barred, bars, place_of, is_barred, HasMarksAt}
-use Rattle.eve_workload.proofs.Gets.{get_behind, get_set_same, get_set_other}
+use Rattle.eve_workload.proofs.Gets.{get_behind, get_set_other}
 
 own : (it : Marks) (row : ℕ × Kind) (group : ℕ) → it.row ≡ row.0
     → bars (Some it) row group ≡ has (groups_barred it row.1) group

@@ -3,7 +3,7 @@ use Rattle.std.specs.List.{list_all}
 use Rattle.eve_smallbank.specs.declared.entry.Entry.{Entry}
 use Rattle.eve_smallbank.specs.Access.{balance_of_row, values_after}
 use Rattle.eve_grammar.specs.Limits.{is_entry}
-use Rattle.eve_chains.proofs.Entries.{first_right, rest_right}
+use Rattle.eve_grammar.proofs.EntryLimits.{first_right, rest_right}
 use Rattle.eve_chains.proofs.written.write_values.Goals as goal
 
 pub loop-entry-init : goal.loop-entry-init

@@ -1,4 +1,5 @@
-use Rattle.eve_history.proofs.CommitLaws.{commits_told, commits_counted, commits_numbered}
+use Rattle.eve_history.proofs.Rights.{commits_told}
+use Rattle.eve_history.proofs.CommitLaws.{commits_counted, commits_numbered}
 use Rattle.eve_history.proofs.laws.committed_attempts_are_the_sections.Goals as goal
 
 pub returns : goal.returns

@@ -1,9 +1,9 @@
 use Rattle.std.proofs.Common.{◌≡◌, ℕ, ◌-◌, ◌<◌, List, [], Some, length, slice_get, slice_index_or, sym}
 use Rattle.std.proofs.Common.{subst, ap, ◌∙◌, arith}
 use Rattle.std.specs.List.{AllByRecursion}
+use Rattle.std.proofs.lemmas.Option.{slice_get-get_or}
 use Rattle.eve_smallbank.specs.Access.{balance_of_row}
 use Rattle.eve_grammar.specs.Trace.{Access}
-use Rattle.eve_history.proofs.Finding.{get_there}
 use Rattle.eve_chains.specs.Along.{AreWithin}
 use Rattle.eve_chains.specs.Settling.{Settling}
 use Rattle.eve_chains.proofs.AdvancingBanks.{values_then, banks_are}
@@ -30,7 +30,7 @@ returns-clause-values c =
       ap (λ (s : Settling). length s.batches) c.self.view_is,
     ) in
     let xs = slice_index_or kept i [] in
-    let at : slice_get kept i ≡ Some xs = get_there kept i [] lt in
+    let at : slice_get kept i ≡ Some xs = slice_get-get_or kept i [] lt in
     values_then c.args.self.now c.args.n xs (balance_of_row c.args.balances.now)
     (balance_of_row c.write_batch.new.balances) c.requires.one
     (subst (λ (zss : List (List (ℕ × Access))). slice_get zss i ≡ Some xs) same at)

@@ -1,8 +1,9 @@
 use Rattle.std.proofs.Common.{◌≡◌, [], ◌∷◌, List, length, sym, ap, subst, ◌∙◌}
 use Rattle.eve_smallbank.specs.declared.entry.Entry.{Entry}
 use Rattle.eve_smallbank.specs.Chain.{table_after}
+use Rattle.eve_grammar.specs.Limits.{is_entry}
 use Rattle.eve_chains.specs.Tables.{table_of, IsFirstMismatch}
-use Rattle.eve_chains.proofs.Entries.{right_there}
+use Rattle.eve_grammar.proofs.Grouping.{all_at}
 use Rattle.eve_grammar.proofs.Lists.{one_listed, two_listed, three_listed}
 use Rattle.eve_chains.proofs.table.Table.meet.Goals as goal
 use Rattle.eve_chains.proofs.table.Table.meet.Goals.{After-meet_one, After-meet_two, After-meet_three}
@@ -27,27 +28,27 @@ are_three c =
 
 pub meet_one-requires : goal.meet_one-requires
 meet_one-requires c =
-    right_there (length c.args.self.now) c.args.entries.now 0 c.at.result c.at.ensures c.requires
+    all_at (is_entry (length c.args.self.now)) c.args.entries.now 0 c.at.result c.requires c.at.ensures
 
 pub meet_two-requires-clause-one : goal.meet_two-requires-clause-one
 meet_two-requires-clause-one c =
-    right_there (length c.args.self.now) c.args.entries.now 0 c.at-in-2.result c.at-in-2.ensures c.requires
+    all_at (is_entry (length c.args.self.now)) c.args.entries.now 0 c.at-in-2.result c.requires c.at-in-2.ensures
 
 pub meet_two-requires-clause-other : goal.meet_two-requires-clause-other
 meet_two-requires-clause-other c =
-    right_there (length c.args.self.now) c.args.entries.now 1 c.at-in-2-2.result c.at-in-2-2.ensures c.requires
+    all_at (is_entry (length c.args.self.now)) c.args.entries.now 1 c.at-in-2-2.result c.requires c.at-in-2-2.ensures
 
 pub meet_three-requires-clause-first : goal.meet_three-requires-clause-first
 meet_three-requires-clause-first c =
-    right_there (length c.args.self.now) c.args.entries.now 0 c.at-in-3.result c.at-in-3.ensures c.requires
+    all_at (is_entry (length c.args.self.now)) c.args.entries.now 0 c.at-in-3.result c.requires c.at-in-3.ensures
 
 pub meet_three-requires-clause-second : goal.meet_three-requires-clause-second
 meet_three-requires-clause-second c =
-    right_there (length c.args.self.now) c.args.entries.now 1 c.at-in-3-2.result c.at-in-3-2.ensures c.requires
+    all_at (is_entry (length c.args.self.now)) c.args.entries.now 1 c.at-in-3-2.result c.requires c.at-in-3-2.ensures
 
 pub meet_three-requires-clause-third : goal.meet_three-requires-clause-third
 meet_three-requires-clause-third c =
-    right_there (length c.args.self.now) c.args.entries.now 2 c.at-in-3-3.result c.at-in-3-3.ensures c.requires
+    all_at (is_entry (length c.args.self.now)) c.args.entries.now 2 c.at-in-3-3.result c.requires c.at-in-3-3.ensures
 
 pub returns-in-1-clause-table : goal.returns-in-1-clause-table
 returns-in-1-clause-table c = c.meet_one.ensures.table ∙ ap (table_after (table_of c.args.self.now)) (is_one c)

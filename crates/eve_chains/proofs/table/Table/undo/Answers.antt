@@ -3,8 +3,8 @@ use Rattle.std.specs.List.{list_all}
 use Rattle.eve_smallbank.specs.declared.entry.Entry.{Entry}
 use Rattle.eve_smallbank.specs.Chain.{Table}
 use Rattle.eve_grammar.specs.Limits.{is_entry}
+use Rattle.eve_grammar.proofs.EntryLimits.{first_right, rest_right}
 use Rattle.eve_chains.specs.Tables.{table_of, undone}
-use Rattle.eve_chains.proofs.Entries.{first_right, rest_right}
 use Rattle.eve_chains.proofs.TableLaws.{taken_rest}
 use Rattle.eve_chains.proofs.table.Table.undo.Goals as goal
 

@@ -4,9 +4,11 @@ use Rattle.std.proofs.lemmas.Bool.{false≢true}
 use Rattle.std.proofs.lemmas.Bool.Decides.{Decides-int_eq}
 use Rattle.std.proofs.lemmas.List.{drop_all}
 use Rattle.eve_smallbank.specs.Chain.{Versioned}
+use Rattle.eve_grammar.specs.Limits.{is_entry}
+use Rattle.eve_grammar.proofs.Grouping.{all_at}
+use Rattle.eve_grammar.proofs.EntryLimits.{row_there}
 use Rattle.eve_views.specs.declared.fault.Code.{Code}
 use Rattle.eve_chains.specs.Tables.{table_of, IsFirstMismatch}
-use Rattle.eve_chains.proofs.Entries.{right_there, row_there}
 use Rattle.eve_chains.proofs.TableLaws.{wrong_behind, version_found, value_found, nothing_found, found_is_wrong}
 use Rattle.eve_chains.proofs.table.Table.wrong_in.Goals as goal
 use Rattle.eve_chains.proofs.table.Table.wrong_in.Goals.{then-ne, else-ne}
@@ -15,8 +17,8 @@ use Rattle.eve_grammar.proofs.Lists.{drop_here}
 pub see-row-requires : goal.see-row-requires
 see-row-requires c = record {
   there = row_there (length c.args.self.now) c.at-entry.result
-      (right_there (length c.args.self.now) c.args.entries.now c.loop-place.place c.at-entry.result c.at-entry.ensures
-      c.requires);
+      (all_at (is_entry (length c.args.self.now)) c.args.entries.now c.loop-place.place c.at-entry.result c.requires
+      c.at-entry.ensures);
 }
 
 pub returns-then-entry-version : goal.returns-then-entry-version

@@ -1,10 +1,11 @@
 use Rattle.std.proofs.Common.{◌≡◌, ◌-◌, ◌<◌, ◌≤◌, length, slice_get, Some, ap, sym, subst, ◌∙◌, arith}
 use Rattle.std.proofs.lemmas.List.{length-map}
+use Rattle.std.proofs.lemmas.Option.{slice_get-get_or}
 use Rattle.eve_grammar.proofs.Lists.{all-slice_get}
 use Rattle.eve_history.specs.SectionHistory.{ExecutedAttempt, SectionHistory}
 use Rattle.eve_history.specs.Coming.{kept_section, kept_executed_attempt, executed_attempts, no_executed_attempt}
 use Rattle.eve_history.specs.Coming.{executed_attempt_at}
-use Rattle.eve_history.proofs.Finding.{get_mapped, get_is, get_there}
+use Rattle.eve_history.proofs.Finding.{get_mapped, get_is}
 use Rattle.eve_history.proofs.history.History.committed_attempt.Goals as goal
 
 pub returns : goal.returns
@@ -24,6 +25,6 @@ returns c =
     c.notes.ensures.tells (
       executed_attempt_at (executed_attempts k) place,
       get_mapped (executed_attempt_at (executed_attempts k)) k.commits (n - 1) place at,
-      get_there (executed_attempts k) place no_executed_attempt
+      slice_get-get_or (executed_attempts k) place no_executed_attempt
           (omega (arith, length-map k.attempts (kept_executed_attempt k.records))),
     )
