@@ -20,7 +20,7 @@ pub struct Summary {
 pub enum Verdict {
     /// No fault stands.
     Yes(Summary),
-    /// The first fault, by phase, then offset, then number.
+    /// The first fault, by phase, then offset, then code.
     No(Fault),
 }
 

@@ -99,7 +99,7 @@ impl Gate for LoneGate {
     fn enter<R: Wait>(&self, _rt: &R, _piece: u32) {
         self.inside.fetch_add(1, Ordering::SeqCst);
         self.entered.store(1, Ordering::SeqCst);
-        if rises_above(&self.inside, 1, 5_000) {
+        if rises_above(&self.inside, 1, 50_000) {
             self.met.store(1, Ordering::SeqCst);
         }
         self.inside.fetch_sub(1, Ordering::SeqCst);

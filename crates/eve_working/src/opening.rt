@@ -1,6 +1,6 @@
 //! Customers, their rows, and batches.
 
-use eve_accounts::{Amount, Balances, Name, Names};
+use eve_accounts::{Amount, Balances, Cents, Name, Names, Row};
 use eve_floor::Floor;
 use eve_write::{BatchData, RequestData, TransactionData};
 use std::alloc::{AllocError, Global};
@@ -17,9 +17,12 @@ pub fn customers(alloc: Global, random: RandomState) -> Result<Names<'static>, A
     Ok(names)
 }
 
-/// A floor where each customer has nothing.
+/// A floor where the first customer has saved 3 cents, and nobody has anything else.
 pub fn floor_of<'n>(alloc: Global, names: &'n Names<'n>) -> Result<Floor<'n>, AllocError> {
-    let balances = Balances::new(alloc, 2 * names.len())?;
+    let mut balances = Balances::new(alloc, 2 * names.len())?;
+    if !balances.is_empty() {
+        balances.set(Row::saving(0), Cents::of(3));
+    }
     Floor::new(alloc, names, &balances)
 }
 

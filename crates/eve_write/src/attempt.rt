@@ -14,7 +14,7 @@ ghost use Rattle.eve_write.specs.Data.{attempt as plain};
 ghost use Rattle.eve_write.specs.Writing.{Puts, Writes};
 
 use crate::access::AccessData;
-use crate::fields::{byte, indices_fit, put_indices, put_replies};
+use crate::fields::{byte, indexes_fit, put_indexes, put_replies};
 use crate::measure::len_of_each;
 use crate::pieces::{put, send};
 use crate::right::{Judge, all_right};
@@ -33,7 +33,7 @@ pub struct AttemptData {
     pub view: u32,
     /// Whether one worker ran all requests in order of index.
     pub serial: bool,
-    /// The indices of the requests, in the order that the replica names.
+    /// The indexes of the requests, in the order that the replica names.
     pub certificate: Vec<u16>,
     /// The replies, by index.
     pub replies: Vec<Reply>,
@@ -85,7 +85,7 @@ impl AttemptData {
             (flat_map (big_bytes 2) self.now.certificate.items
             ++ (flat_map reply_text self.now.replies.items ++ self.now.token)) }
     {
-        put_indices(frame, self.certificate.as_slice());
+        put_indexes(frame, self.certificate.as_slice());
         put_replies(frame, self.replies.as_slice());
         put(frame, &self.token);
     }
@@ -134,7 +134,7 @@ impl AttemptData {
         let _seq = self.seq;
         let _view = self.view;
         token_fits(&self.token);
-        indices_fit(self.certificate.as_slice());
+        indexes_fit(self.certificate.as_slice());
         let count = self.certificate.len();
         1 <= count
             && count <= MOST_REQUESTS

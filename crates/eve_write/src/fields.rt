@@ -45,10 +45,10 @@ pub(crate) fn token_len(token: &[u8; 32]) -> u32
 }
 
 /// Indices are numbers of two bytes.
-pub(crate) fn indices_fit(indices: &[u16])
-    ensures { IsTrue (list_all (is_number 2) indices.now) }
+pub(crate) fn indexes_fit(indexes: &[u16])
+    ensures { IsTrue (list_all (is_number 2) indexes.now) }
 {
-    let _indices = indices;
+    let _indexes = indexes;
 }
 
 /// A balance in eight bytes.
@@ -89,13 +89,13 @@ impl Spell for u16 {
     }
 }
 
-/// Appends indices one after the other.
-pub(crate) fn put_indices<const N: usize>(frame: &mut ArrayVec<u8, N>, indices: &[u16])
-    requires { array_vec_len frame.old + 2 * length indices.now ≤ N }
-    ensures puts { Puts frame.old.items frame.new.items (flat_map (big_bytes 2) indices.now) }
-    ensures len { array_vec_len frame.new ≡ array_vec_len frame.old + 2 * length indices.now }
+/// Appends indexes one after the other.
+pub(crate) fn put_indexes<const N: usize>(frame: &mut ArrayVec<u8, N>, indexes: &[u16])
+    requires { array_vec_len frame.old + 2 * length indexes.now ≤ N }
+    ensures puts { Puts frame.old.items frame.new.items (flat_map (big_bytes 2) indexes.now) }
+    ensures len { array_vec_len frame.new ≡ array_vec_len frame.old + 2 * length indexes.now }
 {
-    for index in indices {
+    for index in indexes {
         put(frame, &index.to_be_bytes());
     }
 }

@@ -6,8 +6,8 @@ use Rattle.eve_write.proofs.attempt.AttemptData.put_front.Goals as goal
 
 pub returns-clause-puts : goal.returns-clause-puts
 returns-clause-puts g c =
-    let indices = c.args.self.now.certificate in
-    let counted : c.len.result ≡ length indices.items = omega (arith, c.len.ensures, indices.ok) in
+    let indexes = c.args.self.now.certificate in
+    let counted : c.len.result ≡ length indexes.items = omega (arith, c.len.ensures, indexes.ok) in
     let body_len = c.to_be_bytes.ensures ∙ ap (big_bytes 4) c.body_len.ensures in
     let count = c.to_be_bytes-4.ensures ∙ ap (big_bytes 2) counted in
     let spelled = app c.byte.ensures

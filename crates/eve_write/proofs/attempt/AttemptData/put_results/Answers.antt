@@ -8,7 +8,7 @@ use Rattle.eve_write.proofs.attempt.AttemptData.put_results.Goals as goal
 
 pub returns : goal.returns
 returns g c =
-    let indices = ap (flat_map (big_bytes 2)) c.as_slice.ensures.value in
+    let indexes = ap (flat_map (big_bytes 2)) c.as_slice.ensures.value in
     let replies = ap (flat_map reply_text) c.as_slice-2.ensures.value in
-    subst (Puts c.args.frame.now.items c.put.new.frame.items) (app indices (onto c.args.self.now.token replies))
-    (Puts-then c.put_indices.ensures.puts (Puts-then c.put_replies.ensures.puts c.put.ensures.puts))
+    subst (Puts c.args.frame.now.items c.put.new.frame.items) (app indexes (onto c.args.self.now.token replies))
+    (Puts-then c.put_indexes.ensures.puts (Puts-then c.put_replies.ensures.puts c.put.ensures.puts))
