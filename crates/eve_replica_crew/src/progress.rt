@@ -26,9 +26,9 @@ impl Progress {
         }
     }
 
-    /// One more request is noted. Whether to go on.
-    pub(crate) fn note(&self) -> bool {
-        self.ended.fetch_add(1, Ordering::SeqCst) < GIVEN_UP
+    /// So many more requests are noted. Whether to go on.
+    fn note(&self, count: u64) -> bool {
+        self.ended.fetch_add(count, Ordering::SeqCst) < GIVEN_UP
     }
 
     /// A request is given up, and nobody is to wait for it.
@@ -37,7 +37,7 @@ impl Progress {
     }
 
     /// Waits until so many requests are noted or one is given up. Whether to go on.
-    pub(crate) fn wait_for<R: Wait>(&self, rt: &R, count: u64) -> bool {
+    fn wait_for<R: Wait>(&self, rt: &R, count: u64) -> bool {
         let mut looks = 0u32;
         for _ in rt.forever() {
             let ended = self.ended.load(Ordering::SeqCst);
@@ -52,5 +52,50 @@ impl Progress {
             }
         }
         unreachable!()
+    }
+}
+
+/// What a worker knows of the others, and what it hasn't told them yet: it counts for itself, and looks at the word and
+/// adds to it only where its next request is of a parallelBatch that may not have begun, and at its end. So workers
+/// that are in one parallelBatch don't take the word from each other at each request.
+#[derive(Drop)]
+pub(crate) struct Pace {
+    // how many requests it knows to be noted
+    reached: u64,
+    // how many it noted since it told the others
+    untold: u64,
+}
+
+impl Pace {
+    pub(crate) fn new() -> Pace {
+        Pace {
+            reached: 0,
+            untold: 0,
+        }
+    }
+
+    /// One more request is noted.
+    pub(crate) fn note(&mut self) {
+        self.untold = self.untold.wrapping_add(1);
+    }
+
+    /// Waits until so many requests are noted or one is given up, and tells what it has noted before it does. Whether
+    /// to go on.
+    pub(crate) fn wait_for<R: Wait>(&mut self, rt: &R, progress: &Progress, count: u64) -> bool {
+        if count <= self.reached {
+            return true;
+        }
+        if !self.tell(progress) || !progress.wait_for(rt, count) {
+            return false;
+        }
+        self.reached = count;
+        true
+    }
+
+    /// Tells the others what it has noted. Whether to go on.
+    pub(crate) fn tell(&mut self, progress: &Progress) -> bool {
+        let untold = self.untold;
+        self.untold = 0;
+        progress.note(untold)
     }
 }

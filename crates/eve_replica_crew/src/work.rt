@@ -9,6 +9,7 @@ ghost use Rattle.eve_replica_crew.specs.Sharing.{IsSet};
 ghost use Rattle.eve_replica_crew.specs.Crews.{IsSeated};
 
 use crate::crew::Member;
+use crate::progress::Pace;
 use crate::share::Share;
 use crate::shared::Shared;
 use eve_floor::{ExecFault, Worker, execute_touched};
@@ -91,19 +92,27 @@ fn run_share<R: Wait, G: Gate>(
     requires fresh { length worker.old.seat.noted ≡ 0 }
     ensures own { IsSeatedAt shared.now.recorder.now ticks.now worker.new }
 {
+    let mut pace = Pace::new();
     for turn in 0..shared.batch.requests.len() {
         let Some(index) = claim(shared, claims) else {
-            return Ok(());
+            break;
         };
         let due = shared
             .before
             .saturating_add(u64::from(shared.starts[index as usize]));
-        if !shared.progress.wait_for(rt, due) {
+        if !pace.wait_for(rt, shared.progress, due) {
             return Err(None);
         }
-        run_one(rt, ticks, shared, worker, index, gate)?;
+        if let Err(why) = run_one(rt, ticks, shared, worker, index, gate) {
+            return Err(Some(why));
+        }
+        pace.note();
     }
-    Ok(())
+    if pace.tell(shared.progress) {
+        Ok(())
+    } else {
+        Err(None)
+    }
 }
 
 // The next request that nobody has claimed, by its index.
@@ -121,7 +130,7 @@ fn claim(shared: &Shared<'_>, claims: &mut TicketSeat) -> Option<u16>
     }
 }
 
-// Runs the request with this index. Why it is given up, if it is, and none where another one was.
+// Runs the request with this index. Why it is given up, if it is.
 fn run_one<R: Wait, G: Gate>(
     rt: &R,
     ticks: &Tickets,
@@ -129,7 +138,7 @@ fn run_one<R: Wait, G: Gate>(
     worker: &mut Worker,
     index: u16,
     gate: &G,
-) -> Result<(), Option<ExecFault>>
+) -> Result<(), ExecFault>
     requires set { IsSet shared.now }
     requires there { index < length shared.now.batch.now.requests.items }
     requires place { length worker.old.seat.noted < MOST_PLACES }
@@ -149,14 +158,12 @@ fn run_one<R: Wait, G: Gate>(
         index,
         gate,
     );
-    if let Err(why) = executed {
-        shared.progress.give_up();
-        return Err(Some(why));
-    }
-    if shared.progress.note() {
-        Ok(())
-    } else {
-        Err(None)
+    match executed {
+        Ok(()) => Ok(()),
+        Err(why) => {
+            shared.progress.give_up();
+            Err(why)
+        }
     }
 }
 
