@@ -19,7 +19,8 @@ use Rattle.eve_views.specs.declared.fault.Code.TheVariants as code
 use Rattle.eve_views.specs.declared.fault.Fault.{Fault}
 use Rattle.eve_views.proofs.HeaderLaws.{says_head, header_again_of, Sized-from, header_spelled}
 use Rattle.eve_views.proofs.FormLaws.{refused_at_header, refused_behind}
-use Rattle.eve_views.proofs.Reaching.{Reached, reached_start, step_of, reached_more, split_at, reached_fault}
+use Rattle.eve_views.specs.Walking.{Reached}
+use Rattle.eve_views.proofs.Reaching.{reached_start, step_of, reached_more, split_at, reached_fault}
 use Rattle.eve_views.proofs.WalkLaws.{front_short}
 use Rattle.eve_views.proofs.WholeTraces.{SpellsFrames, spells_trace}
 

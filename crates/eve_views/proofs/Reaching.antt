@@ -9,7 +9,7 @@ use Rattle.eve_grammar.specs.Trace.{Head}
 use Rattle.eve_grammar.specs.Frames.{Frame, Place, start_place, next_place, kind_of, is_allowed}
 use Rattle.eve_grammar.specs.Spelling.{frame_text, frames_text}
 use Rattle.eve_grammar.specs.Limits.{is_head, FitsAt}
-use Rattle.eve_grammar.specs.Following.{Follow, after, AreAllFrames}
+use Rattle.eve_grammar.specs.Following.{after, AreAllFrames}
 use Rattle.eve_views.specs.declared.fault.Code.{Code}
 use Rattle.eve_views.specs.declared.fault.Code.TheVariants as code
 use Rattle.eve_views.specs.Indexing.{KeptFrame, offsets_of}
@@ -24,7 +24,8 @@ use Rattle.eve_views.specs.declared.starts.Starts.{Starts}
 use Rattle.eve_views.specs.Starting.{no_starts, noted}
 use Rattle.std.proofs.lemmas.Bool.Decides.{nat_tests}
 use Rattle.eve_views.proofs.Keeping.{next_moved}
-use Rattle.eve_views.proofs.StartLaws.{Started, HasRoom, started_start, started_more, started_end, replica_below}
+use Rattle.eve_views.specs.Walking.{Reached, Started, Walking}
+use Rattle.eve_views.proofs.StartLaws.{HasRoom, started_start, started_more, started_end, replica_below}
 use Rattle.eve_views.proofs.StartLaws.{few_verifiers}
 
 -- ---- a step
@@ -62,15 +63,6 @@ step_of h p bytes at k right fits le e =
     }
 
 -- ---- the frames so far
-
-pub record Reached (h : Head) (bytes : List ℕ) (at : ℕ) (p : Place) (offsets : List ℕ) : Type 0 where
-  pub front : List Frame
-  pub right : Follow h start_place front
-  pub place_is : after start_place front ≡ p
-  pub at_is : at ≡ 32 + length (frames_text front)
-  pub within : at ≤ length bytes
-  pub before : take at bytes ≡ take 32 bytes ++ frames_text front
-  pub offsets_is : offsets ≡ offsets_of 32 front
 
 pub reached_start : (h : Head) (bytes : List ℕ) → 32 ≤ length bytes → Reached h bytes 32 start_place []
 reached_start h bytes le =
@@ -181,10 +173,6 @@ reached_fault h bytes at p offsets c says r e more =
     stands_in_form c bytes at there (subst (λ (q : Place). StandsHere c h q (drop at bytes)) (sym r.place_is) here)
 
 -- ---- in the loop
-
-pub record Walking (h : Head) (bytes : List ℕ) (at : ℕ) (p : Place) (offsets : List ℕ) (s : Starts) : Type 0 where
-  pub reached : Reached h bytes at p offsets
-  pub started : Started h reached.front p s
 
 pub walking_start : (h : Head) (bytes : List ℕ) → 32 ≤ length bytes → Walking h bytes 32 start_place [] no_starts
 unfolding reached_start

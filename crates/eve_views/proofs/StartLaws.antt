@@ -16,6 +16,7 @@ use Rattle.eve_grammar.proofs.Standing.{not_ended}
 use Rattle.eve_views.specs.declared.starts.Starts.{Starts}
 use Rattle.eve_views.specs.Starting.{no_starts, noted}
 use Rattle.eve_views.specs.Indexing.{is_last, frames_before_sent, AreStarts}
+use Rattle.eve_views.specs.Walking.{has_last, Started}
 use Rattle.eve_views.proofs.FrameLaws.{true_false}
 
 -- ---- what an allowed kind says of the place
@@ -64,21 +65,6 @@ sent_begins (g ∷ fs) f e = by (is_last g) (λ before. sent_begins fs f before)
         ≡ suc (length fs) + cond (is_last f) 0 1
     by true rest e = absurd (omega arith)
     by false rest e = let r = rest (omega arith) in omega arith
-
--- whether a reply sent or the end has come
-abbrev pub has_last : Place → Bool
-has_last p = p.sending || p.ended
-
--- what is noted of the frames so far
-pub record Started (h : Head) (fs : List Frame) (p : Place) (s : Starts) : Type 0 where
-  pub eight : length s.sections ≡ 8
-  pub sixteen : length s.verifiers ≡ 16
-  pub sections : (e : ℕ) → e < p.replicas → slice_get fs (get_or s.sections e 0) ≡ Some (OfReplica e)
-  pub verifiers : (v : ℕ) → v < p.verifiers → slice_get fs (get_or s.verifiers v 0) ≡ Some (OfVerifier v)
-  pub sent : has_last p ≡ true → (s.sent ≡ frames_before_sent fs) × (frames_before_sent fs < length fs)
-  pub unsent : has_last p ≡ false → frames_before_sent fs ≡ length fs
-  pub some : 0 < p.verifiers → p.replicas ≡ h.replicas
-  pub full : p.ended ≡ true → (p.verifiers ≡ h.verifiers) × (0 < p.verifiers)
 
 pub started_start : (h : Head) → Started h [] start_place no_starts
 started_start h = record {

@@ -4,8 +4,8 @@ use Rattle.std.proofs.Common.{Some, None, refl, sym, ap, ap₂, subst, ◌∙◌
 use Rattle.std.specs.Prelude.{IsTrue, All, slice_index}
 use Rattle.std.specs.Option.{option_map}
 use Rattle.std.proofs.lemmas.Bool.{eq-eqb}
-use Rattle.std.proofs.lemmas.List.{take_rest, take-append-drop}
-use Rattle.std.proofs.lemmas.List.Elements.{All-cons, All-head, All-tail}
+use Rattle.std.proofs.lemmas.List.{take_rest, take-append-drop, drop_at}
+use Rattle.std.proofs.lemmas.List.Elements.{All-cons, All-head, All-tail, All-append}
 use Rattle.byteorder.specs.Endian.{big_number}
 use Rattle.eve_grammar.specs.Trace.{Head, Batch, Attempt, Access}
 use Rattle.eve_grammar.specs.Frames.{OfBatch, OfAttempt, OfAccess, Place, is_allowed}
@@ -21,7 +21,8 @@ use Rattle.eve_views.specs.Walk.{IsFrontOf}
 use Rattle.eve_views.specs.Indexing.{KeptFrame}
 use Rattle.eve_views.specs.SideBySide.{is_right_body, IsRightFrame, AreRightFrames, IsFramedUnjudged}
 use Rattle.eve_views.proofs.Keeping.{kept_right}
-use Rattle.eve_views.proofs.Reaching.{Walking, step_here, walking_more, room_of}
+use Rattle.eve_views.specs.Walking.{Walking}
+use Rattle.eve_views.proofs.Reaching.{step_here, walking_more, room_of}
 
 -- ---- what follows a body
 
@@ -93,6 +94,17 @@ framed_unjudged h p bytes kind accesses body front allowed follow = record {
 -- a list cut at a place
 pub in_two : (xs front back : List ℕ) (n : ℕ) → front ≡ take n xs → back ≡ drop n xs → front ++ back ≡ xs
 in_two xs front back n first second = ap₂ ◌++◌ first second ∙ take-append-drop n xs
+
+-- the offsets before, and those that came behind them
+pub right_on : (rows : ℕ) (bytes before first more after behind : List ℕ) (n : ℕ) → first ≡ before → n ≡ length first
+    → after ≡ before ++ more → behind ≡ drop n after → AreRightFrames rows bytes first
+    → AreRightFrames rows bytes behind → AreRightFrames rows bytes after
+right_on rows bytes before first more after behind n same count on cut one two =
+    let wide : length before ≡ n = sym (count ∙ ap length same) in
+    let rest : behind ≡ more = cut ∙ ap (drop n) on ∙ drop_at before more n wide in
+    subst (AreRightFrames rows bytes) (sym on)
+    (All-append (λ (at : ℕ). IsRightFrame rows (drop at bytes)) before more
+    (subst (AreRightFrames rows bytes) same one) (subst (AreRightFrames rows bytes) rest two))
 
 -- ---- one frame more
 

@@ -7,6 +7,7 @@ pub mod Walk
 pub mod Places
 pub mod Starting
 pub mod Indexing
+pub mod Walking
 pub mod SideBySide
 pub mod Held
 pub mod Fronts

@@ -1,15 +1,18 @@
 -- The bodies of batches, attempts and access records, judged apart from the frames among which they stand.
 -- docs/ARCHITECTURE.md, "Threads of an audit".
-use Rattle.std.specs.Prelude.{◌≡◌, ℕ, ◌≤◌, ◌<◌, Bool, true, ◌==◌, if◌then◌else◌, List, length, take, drop, slice_index}
-use Rattle.std.specs.Prelude.{Ok, is_some, All, IsTrue}
+use Rattle.std.specs.Prelude.{◌≡◌, ℕ, ◌+◌, ◌≤◌, ◌<◌, Bool, true, ◌==◌, if◌then◌else◌, List, ◌++◌, length, take, drop}
+use Rattle.std.specs.Prelude.{slice_index, Ok, is_some, All, IsTrue}
 use Rattle.byteorder.specs.Endian.{big_number}
 use Rattle.eve_grammar.specs.Trace.{Head}
 use Rattle.eve_grammar.specs.Frames.{Place, is_allowed}
+use Rattle.eve_grammar.specs.Bodies.{limits}
 use Rattle.eve_grammar.specs.Limits.{row_count}
 use Rattle.eve_grammar.specs.Reading.{batch_of, attempt_of, access_of}
+use Rattle.eve_views.specs.Places.{place}
 use Rattle.eve_views.specs.Walk.{frame_at}
-use Rattle.eve_views.specs.Indexing.{KeptFrame, kept, IsIndex}
-use Rattle.eve_views.specs.declared.walk.Index.{Index}
+use Rattle.eve_views.specs.Indexing.{KeptFrame, kept}
+use Rattle.eve_views.specs.Walking.{Walking}
+use Rattle.eve_views.specs.declared.progress.Progress.{Progress}
 
 -- whether it is a body of this kind, where the kind is one of these three; the access record is of one of so many rows
 abbrev pub is_right_body : ℕ → ℕ → List ℕ → Bool
@@ -36,6 +39,15 @@ pub record IsFramedUnjudged (h : Head) (p : Place) (bytes : List ℕ) (k : KeptF
   pub within : k.len ≤ length bytes
   pub right : IsRightFrame (row_count h) bytes → Ok k ≡ kept bytes (frame_at h p bytes)
 
--- these are the frames after the header, up to the end, if only their bodies are right, where these weren't judged
-abbrev pub IsIndexUnjudged : Head → List ℕ → Index → Type 0
-IsIndexUnjudged h bytes i = AreRightFrames (row_count h) bytes i.offsets.items → IsIndex h bytes i
+-- the walk came so far, if only the bodies are right of the frames that it found, where these weren't judged
+pub record IsWalkedUnjudged (h : Head) (bytes : List ℕ) (w : Progress) : Type 0 where
+  pub head : limits w.reached.head ≡ h
+  pub within : w.at ≤ length bytes
+  pub few : length w.offsets.items + 32 ≤ w.at
+  pub walking : AreRightFrames (row_count h) bytes w.offsets.items
+      → Walking h bytes w.at (place w.reached) w.offsets.items w.starts
+
+-- the one walk goes on with the other: the frames that it had found stand in front
+pub record GoesOn (before after : Progress) : Type 0 where
+  pub more : List ℕ
+  pub offsets : after.offsets.items ≡ before.offsets.items ++ more

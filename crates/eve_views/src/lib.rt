@@ -10,6 +10,7 @@ mod header;
 pub mod laws;
 mod least;
 mod place;
+mod progress;
 mod side_by_side;
 mod starts;
 mod steps;

@@ -1,28 +1,20 @@
 //! The walk over a trace, with the bodies of batches, attempts and access records judged side by side.
 
-ghost use Rattle.std.specs.Prelude.{◌≡◌, ◌≤◌, ◌<◌, length, IsTrue, IfOk, IfErr, IfSome, Some, drop};
-ghost use Rattle.std.specs.Option.{option_map};
-ghost use Rattle.byteorder.specs.Endian.{big_number};
+ghost use Rattle.std.specs.Prelude.{◌≡◌, ◌≤◌, length, IsTrue, IfOk, IfErr, IfSome};
 ghost use denote.Param.Send.{IsSync};
 ghost use Rattle.eve_grammar.specs.Bodies.{limits};
 ghost use Rattle.eve_grammar.specs.Kinds.{kind_byte};
 ghost use Rattle.eve_grammar.specs.Limits.{row_count};
-ghost use Rattle.eve_grammar.specs.Reading.{body_of};
 ghost use Rattle.eve_views.specs.Form.{SaysHead, IsFormFault, IfFound};
-ghost use Rattle.eve_views.specs.Places.{place, accesses_in};
-ghost use Rattle.eve_views.specs.Indexing.{kept_in, IsIndex};
+ghost use Rattle.eve_views.specs.Indexing.{IsIndex};
 ghost use Rattle.eve_views.specs.SideBySide.{is_right_body, IsRightFrame, AreRightFrames};
-ghost use Rattle.eve_views.specs.SideBySide.{IsFramedUnjudged, IsIndexUnjudged};
+ghost use Rattle.eve_views.specs.SideBySide.{IsWalkedUnjudged, GoesOn};
 
-use crate::body::accesses_behind;
 use crate::fault::CheckFault;
-use crate::place::Place;
-use crate::starts::Starts;
-use crate::walk::{Framed, Index, index_of, kind_and_body};
-use byteorder::{BigEndian, ByteOrder};
+use crate::progress::Progress;
+use crate::walk::{Index, index_of, kind_and_body};
 use eve_grammar::{
-    FrameKind, Head, MOST_BYTES, MOST_NAMED_ROWS, MOST_NAMES, batch_number, certificate_len,
-    is_access_body,
+    FrameKind, Head, MOST_BYTES, MOST_NAMED_ROWS, batch_number, certificate_len, is_access_body,
 };
 use std::alloc::{AllocError, Global};
 use std::thread;
@@ -30,86 +22,6 @@ use std::thread::Threads;
 
 /// The fewest bytes for each thread.
 const LEAST_BYTES: usize = 1 << 16;
-
-/// How many access frames the body of an attempt says to follow it. The rest of the body isn't judged.
-fn accesses_said(body: &[u8]) -> Option<usize>
-    ensures { IfSome result (λ n. n ≡ big_number 2 (drop 9 body.now)) }
-{
-    if body.len() < 11 {
-        return None;
-    }
-    Some(usize::from(BigEndian::read_u16(&body[9..])))
-}
-
-/// Whether the body of a batch says this number. The rest of the body isn't judged.
-fn says_number(body: &[u8], number: u32) -> bool
-    ensures { IsTrue result → big_number 4 body.now ≡ number }
-{
-    4 <= body.len() && BigEndian::read_u32(body) == number
-}
-
-/// How many access frames have to follow a frame of this kind that stands here, if its body is right. Of a batch, an
-/// attempt and an access record nothing else of the body is judged; `None` where what is judged is wrong.
-fn accesses_unjudged(at: &Place, kind: FrameKind, body: &[u8]) -> Option<usize>
-    requires { at.now.head.customers ≤ MOST_NAMES }
-    ensures { IfSome result (λ n. IsTrue (is_right_body (row_count (limits at.now.head)) (kind_byte kind) body.now)
-        → Some n ≡ option_map accesses_in (body_of (limits at.now.head) (place at.now) (kind_byte kind) body.now)) }
-{
-    match kind {
-        FrameKind::Access => Some(0),
-        FrameKind::Attempt => accesses_said(body),
-        FrameKind::Batch => {
-            if at.batches < u32::MAX && says_number(body, at.batches + 1) {
-                Some(0)
-            } else {
-                None
-            }
-        }
-        _ => accesses_behind(at, kind, body),
-    }
-}
-
-/// The frame at the front of the bytes, where nothing is wrong with it but for the body of a batch, an attempt or an
-/// access record, which isn't judged.
-fn frame_unjudged(at: &Place, bytes: &[u8]) -> Option<Framed>
-    requires { at.now.head.customers ≤ MOST_NAMES }
-    ensures { IfSome result (λ f. IsFramedUnjudged (limits at.now.head) (place at.now) bytes.now (kept_in f)) }
-{
-    let (kind, body) = kind_and_body(bytes)?;
-    if !at.allows(kind) {
-        return None;
-    }
-    let accesses = accesses_unjudged(at, kind, body)?;
-    Some(Framed {
-        kind,
-        len: 5 + body.len(),
-        accesses,
-    })
-}
-
-/// Finds the frames after a header, but for the bodies of batches, attempts and access records, which aren't judged;
-/// nothing where anything else is wrong.
-fn index_unjudged(alloc: Global, head: Head, bytes: &[u8]) -> Result<Option<Index>, AllocError>
-    requires says { SaysHead bytes.now (limits head) }
-    requires header { 32 ≤ length bytes.now }
-    requires length { length bytes.now ≤ MOST_BYTES }
-    ensures { IfOk result (λ found. IfSome found (IsIndexUnjudged (limits head) bytes.now)) }
-{
-    let mut offsets = Vec::new(alloc);
-    let mut starts = Starts::new();
-    let mut reached = Place::start(head);
-    let mut at: usize = 32;
-    'frames: while !reached.ended || at < bytes.len() {
-        let Some(frame) = frame_unjudged(&reached, &bytes[at..]) else {
-            return Ok(None);
-        };
-        starts.note(&reached, frame.kind, offsets.len() as u32);
-        offsets.push(at as u32)?;
-        reached.pass(frame.kind, frame.accesses);
-        at += frame.len;
-    }
-    Ok(Some(Index { offsets, starts }))
-}
 
 /// Whether it is a body of this kind, where that is a batch, an attempt or an access record. There are this many rows.
 fn is_right_body(rows: u32, kind: FrameKind, body: &[u8]) -> bool
@@ -180,22 +92,72 @@ fn are_right<R: Threads + Sync>(
     first && second
 }
 
-/// The same, first of the frames up to the last batch and then of those behind it, as a batch has many requests: by so
-/// many threads each time.
-fn are_right_in_two<R: Threads + Sync>(
+/// Whether the frames at these first offsets have right bodies, by so many threads; and what the walk finds that goes
+/// on from there to the end, by the caller beside them.
+fn judge_and_go_on<R: Threads + Sync>(
     rt: &R,
     head: Head,
     bytes: &[u8],
-    offsets: &[u32],
-    threads: usize,
-) -> bool
-    requires { head.customers ≤ MOST_NAMES }
-    ensures { IsTrue result → AreRightFrames (row_count (limits head)) bytes.now offsets.now }
+    first: Vec<u32>,
+    walked: Progress,
+    fewer: usize,
+) -> (bool, Result<Option<Progress>, AllocError>)
+    requires says { SaysHead bytes.now (limits head) }
+    requires length { length bytes.now ≤ MOST_BYTES }
+    requires walked { IsWalkedUnjudged (limits head) bytes.now walked }
+    ensures right { IsTrue result.0 → AreRightFrames (row_count (limits head)) bytes.now first.items }
+    ensures walked { IfOk result.1 (λ found. IfSome found (IsWalkedUnjudged (limits head) bytes.now)) }
+    ensures kept { IfOk result.1 (λ found. IfSome found (GoesOn walked)) }
 {
     let rows = 2 * head.customers;
-    let batches_end = head.customers as usize + head.batches as usize;
-    let (front, back) = offsets.split_at(batches_end.min(offsets.len()));
-    are_right(rt, rows, bytes, front, threads) && are_right(rt, rows, bytes, back, threads)
+    let judge = move || -> bool
+        requires { IsSync R.row × (rows ≤ MOST_NAMED_ROWS) }
+        ensures { IsTrue result → AreRightFrames rows bytes.entry.now first.items }
+    { are_right(rt, rows, bytes, first.as_slice(), fewer) };
+    let go_on = move || -> Result<Option<Progress>, AllocError>
+        requires says { SaysHead bytes.now (limits head) }
+        requires length { length bytes.now ≤ MOST_BYTES }
+        requires walked { IsWalkedUnjudged (limits head) bytes.now walked }
+        ensures walked { IfOk result (λ found. IfSome found (IsWalkedUnjudged (limits head) bytes.entry.now)) }
+        ensures kept { IfOk result (λ found. IfSome found (GoesOn walked)) }
+    { walked.go_on(head, bytes, usize::MAX) };
+    thread::join(rt, judge, go_on)
+}
+
+/// Finds the frames after a header, with the bodies of batches, attempts and access records judged by so many threads;
+/// nothing where anything is wrong.
+///
+/// The caller walks over the customers and the batches, which have most bytes in few frames. The other threads judge
+/// their bodies, while the caller walks on to the end; then all of them judge the bodies behind the batches.
+fn index_judged<R: Threads + Sync>(
+    rt: &R,
+    alloc: Global,
+    head: Head,
+    bytes: &[u8],
+    threads: usize,
+) -> Result<Option<Index>, AllocError>
+    requires says { SaysHead bytes.now (limits head) }
+    requires header { 32 ≤ length bytes.now }
+    requires length { length bytes.now ≤ MOST_BYTES }
+    requires threads { 1 ≤ threads }
+    ensures { IfOk result (λ found. IfSome found (IsIndex (limits head) bytes.now)) }
+{
+    let most = head.customers as usize + head.batches as usize;
+    let Some(walked) = Progress::start(alloc, head).go_on(head, bytes, most)? else {
+        return Ok(None);
+    };
+    let first = Vec::from_slice(alloc, walked.offsets.as_slice())?;
+    let count = first.len();
+    let (right, found) = judge_and_go_on(rt, head, bytes, first, walked, threads - 1);
+    let Some(walked) = found? else {
+        return Ok(None);
+    };
+    let (_, behind) = walked.offsets.as_slice().split_at(count);
+    if right && are_right(rt, 2 * head.customers, bytes, behind, threads) {
+        Ok(walked.ended(head, bytes))
+    } else {
+        Ok(None)
+    }
 }
 
 /// Finds the frames after a header, with the bodies of batches, attempts and access records judged in as many threads
@@ -217,21 +179,15 @@ fn index_by_threads<R: Threads + Sync>(
     if threads < 2 {
         return Ok(None);
     }
-    let Some(index) = index_unjudged(alloc, head, bytes)? else {
-        return Ok(None);
-    };
-    if are_right_in_two(rt, head, bytes, index.offsets.as_slice(), threads) {
-        Ok(Some(index))
-    } else {
-        Ok(None)
-    }
+    index_judged(rt, alloc, head, bytes, threads)
 }
 
 /// Finds the frames after a header, or the first fault among them, as `index_of` does, with up to so many jobs.
 ///
 /// For two threads or more the caller walks over the frames without judging the bodies of batches, attempts and access
-/// records, which are most of a trace, and then these are judged side by side. Only where that way finds something
-/// wrong, the frames are walked again from the start, one by one, for the first fault.
+/// records, which are most of a trace; those of batches are judged beside the rest of the walk, the others after it.
+/// Only where that way finds something wrong, the frames are walked again from the start, one by one, for the first
+/// fault.
 pub fn index_side_by_side<R: Threads + Sync>(
     rt: &R,
     alloc: Global,

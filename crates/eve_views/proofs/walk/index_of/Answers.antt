@@ -10,7 +10,8 @@ use Rattle.eve_views.specs.Places.{place}
 use Rattle.eve_views.specs.Starting.{no_starts, noted}
 use Rattle.eve_views.specs.Indexing.{kept_in}
 use Rattle.eve_views.specs.declared.starts.Starts.{Starts}
-use Rattle.eve_views.proofs.Reaching.{Walking, step_here, fault_here, step_allowed, reached_fault, few_offsets}
+use Rattle.eve_views.specs.Walking.{Walking}
+use Rattle.eve_views.proofs.Reaching.{step_here, fault_here, step_allowed, reached_fault, few_offsets}
 use Rattle.eve_views.proofs.Reaching.{walking_start, walking_more, walking_end, room_of, replica_room, verifier_room}
 use Rattle.eve_views.proofs.walk.index_of.Goals as goal
 use Rattle.eve_views.proofs.walk.index_of.Goals.{then-not-reached, else-not-reached+then-at-bytes}

@@ -1,7 +1,7 @@
 use Rattle.std.proofs.Common.{◌≡◌, ◌-◌, length}
 use Rattle.eve_grammar.specs.Bodies.{limits}
 use Rattle.eve_views.specs.Places.{place}
-use Rattle.eve_views.proofs.Reaching.{Walking}
+use Rattle.eve_views.specs.Walking.{Walking}
 use Rattle.eve_views.proofs.walk.index_of.Given as goal
 
 abbrev pub invariant-frames : goal.invariant-frames

@@ -3,7 +3,7 @@ use Rattle.eve_grammar.specs.Kinds.{kind_byte}
 use Rattle.eve_grammar.specs.Bodies.{limits}
 use Rattle.eve_views.specs.Places.{place}
 use Rattle.eve_views.proofs.Unjudged.{framed_unjudged}
-use Rattle.eve_views.proofs.side_by_side.frame_unjudged.Goals as goal
+use Rattle.eve_views.proofs.progress.frame_unjudged.Goals as goal
 
 pub returns : goal.returns
 returns c =

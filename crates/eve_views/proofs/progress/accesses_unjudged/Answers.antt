@@ -5,7 +5,7 @@ use Rattle.eve_grammar.specs.Limits.{row_count}
 use Rattle.eve_views.specs.Places.{place}
 use Rattle.eve_views.specs.SideBySide.{is_right_body}
 use Rattle.eve_views.proofs.Unjudged.{access_followed, attempt_followed, batch_followed, Follow}
-use Rattle.eve_views.proofs.side_by_side.accesses_unjudged.Goals as goal
+use Rattle.eve_views.proofs.progress.accesses_unjudged.Goals as goal
 
 pub returns-in-Access : goal.returns-in-Access
 returns-in-Access c =

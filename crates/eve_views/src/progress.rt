@@ -1,0 +1,158 @@
+//! The walk over a trace without judging the bodies of batches, attempts and access records, which are most of it.
+
+ghost use Rattle.std.specs.Prelude.{◌≡◌, ℕ, ◌≤◌, length, List, IsTrue, IfOk, IfSome, Some, drop};
+ghost use Rattle.std.specs.Option.{option_map};
+ghost use Rattle.byteorder.specs.Endian.{big_number};
+ghost use Rattle.eve_grammar.specs.Bodies.{limits};
+ghost use Rattle.eve_grammar.specs.Kinds.{kind_byte};
+ghost use Rattle.eve_grammar.specs.Limits.{row_count};
+ghost use Rattle.eve_grammar.specs.Reading.{body_of};
+ghost use Rattle.eve_views.specs.Form.{SaysHead};
+ghost use Rattle.eve_views.specs.Places.{place, accesses_in};
+ghost use Rattle.eve_views.specs.Indexing.{kept_in, IsIndex};
+ghost use Rattle.eve_views.specs.SideBySide.{is_right_body, AreRightFrames, IsFramedUnjudged};
+ghost use Rattle.eve_views.specs.SideBySide.{IsWalkedUnjudged, GoesOn};
+
+use crate::body::accesses_behind;
+use crate::place::Place;
+use crate::starts::Starts;
+use crate::walk::{Framed, Index, kind_and_body};
+use byteorder::{BigEndian, ByteOrder};
+use eve_grammar::{FrameKind, Head, MOST_BYTES, MOST_NAMES};
+use std::alloc::{AllocError, Global};
+
+/// How far a walk over the frames of a trace has come.
+#[derive(Drop)]
+pub struct Progress {
+    /// The byte offset of each frame so far.
+    pub offsets: Vec<u32>,
+    /// Those of them that begin parts.
+    pub starts: Starts,
+    /// The place behind them.
+    pub reached: Place,
+    /// The byte behind them.
+    pub at: usize,
+}
+
+/// How many access frames the body of an attempt says to follow it. The rest of the body isn't judged.
+fn accesses_said(body: &[u8]) -> Option<usize>
+    ensures { IfSome result (λ n. n ≡ big_number 2 (drop 9 body.now)) }
+{
+    if body.len() < 11 {
+        return None;
+    }
+    Some(usize::from(BigEndian::read_u16(&body[9..])))
+}
+
+/// Whether the body of a batch says this number. The rest of the body isn't judged.
+fn says_number(body: &[u8], number: u32) -> bool
+    ensures { IsTrue result → big_number 4 body.now ≡ number }
+{
+    4 <= body.len() && BigEndian::read_u32(body) == number
+}
+
+/// How many access frames have to follow a frame of this kind that stands here, if its body is right. Of a batch, an
+/// attempt and an access record nothing else of the body is judged; `None` where what is judged is wrong.
+fn accesses_unjudged(at: &Place, kind: FrameKind, body: &[u8]) -> Option<usize>
+    requires { at.now.head.customers ≤ MOST_NAMES }
+    ensures { IfSome result (λ n. IsTrue (is_right_body (row_count (limits at.now.head)) (kind_byte kind) body.now)
+        → Some n ≡ option_map accesses_in (body_of (limits at.now.head) (place at.now) (kind_byte kind) body.now)) }
+{
+    match kind {
+        FrameKind::Access => Some(0),
+        FrameKind::Attempt => accesses_said(body),
+        FrameKind::Batch => {
+            if at.batches < u32::MAX && says_number(body, at.batches + 1) {
+                Some(0)
+            } else {
+                None
+            }
+        }
+        _ => accesses_behind(at, kind, body),
+    }
+}
+
+/// The frame at the front of the bytes, where nothing is wrong with it but for the body of a batch, an attempt or an
+/// access record, which isn't judged.
+fn frame_unjudged(at: &Place, bytes: &[u8]) -> Option<Framed>
+    requires { at.now.head.customers ≤ MOST_NAMES }
+    ensures { IfSome result (λ f. IsFramedUnjudged (limits at.now.head) (place at.now) bytes.now (kept_in f)) }
+{
+    let (kind, body) = kind_and_body(bytes)?;
+    if !at.allows(kind) {
+        return None;
+    }
+    let accesses = accesses_unjudged(at, kind, body)?;
+    Some(Framed {
+        kind,
+        len: 5 + body.len(),
+        accesses,
+    })
+}
+
+impl Progress {
+    /// Before the first frame.
+    pub fn start(alloc: Global, head: Head) -> Progress
+        ensures { (bytes : List ℕ) → 32 ≤ length bytes → IsWalkedUnjudged (limits head) bytes result }
+    {
+        Progress {
+            offsets: Vec::new(alloc),
+            starts: Starts::new(),
+            reached: Place::start(head),
+            at: 32,
+        }
+    }
+
+    /// Goes on up to the frame of this number, or up to the end, where there are fewer; nothing where anything is wrong
+    /// on the way, but for the bodies that aren't judged.
+    pub fn go_on(
+        self,
+        head: Head,
+        bytes: &[u8],
+        most: usize,
+    ) -> Result<Option<Progress>, AllocError>
+        requires says { SaysHead bytes.now (limits head) }
+        requires length { length bytes.now ≤ MOST_BYTES }
+        requires walked { IsWalkedUnjudged (limits head) bytes.now self }
+        ensures walked { IfOk result (λ found. IfSome found (IsWalkedUnjudged (limits head) bytes.now)) }
+        ensures kept { IfOk result (λ found. IfSome found (GoesOn self)) }
+    {
+        let Progress {
+            mut offsets,
+            mut starts,
+            mut reached,
+            mut at,
+        } = self;
+        'frames: while offsets.len() < most && (!reached.ended || at < bytes.len()) {
+            let Some(frame) = frame_unjudged(&reached, &bytes[at..]) else {
+                return Ok(None);
+            };
+            starts.note(&reached, frame.kind, offsets.len() as u32);
+            offsets.push(at as u32)?;
+            reached.pass(frame.kind, frame.accesses);
+            at += frame.len;
+        }
+        Ok(Some(Progress {
+            offsets,
+            starts,
+            reached,
+            at,
+        }))
+    }
+
+    /// The frames up to the end, where it came as the last; nothing where it didn't come or bytes follow it.
+    pub fn ended(self, head: Head, bytes: &[u8]) -> Option<Index>
+        requires walked { IsWalkedUnjudged (limits head) bytes.now self }
+        requires right { AreRightFrames (row_count (limits head)) bytes.now self.offsets.items }
+        ensures { IfSome result (IsIndex (limits head) bytes.now) }
+    {
+        if self.reached.ended && bytes.len() <= self.at {
+            Some(Index {
+                offsets: self.offsets,
+                starts: self.starts,
+            })
+        } else {
+            None
+        }
+    }
+}
