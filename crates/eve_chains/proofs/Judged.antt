@@ -39,8 +39,9 @@ use Rattle.eve_chains.proofs.Walks.{right_one, complete_one}
 use Rattle.eve_chains.proofs.Faultless.{in_place, place_of}
 use Rattle.eve_chains.proofs.Linked.{none≢some}
 use Rattle.eve_chains.specs.Unfit.{is_settled, recorded_of, records_along, records_if_settled, HasRequests}
-use Rattle.eve_chains.specs.Unfit.{settled_records}
+use Rattle.eve_chains.specs.Unfit.{settled_records, records_between}
 use Rattle.eve_chains.specs.Unfit.{IsLeastUnfit}
+use Rattle.eve_chains.proofs.Stretches.{all_between}
 use Rattle.eve_chains.proofs.Attempts.{located_in, in_ordered, from_ordered, ordered_below, batch_there, as_settled}
 use Rattle.eve_chains.proofs.Attempts.{from_settled, in_picked}
 
@@ -355,10 +356,10 @@ module _ (t : Trace) (e : ℕ) (limits : HasLimits t) (right : IsRightSection t 
 -- ---- a history to its end
 
 -- as a history tells it
-pub as_told : (t : Trace) (names : List (List ℕ)) (h : SectionHistory) (o : Option ℕ) → names ≡ names_of t
-    → h ≡ section_history t h.replica
-    → IsLeastUnfit names (settled_records t h.attempts h.fates) o → IsLeastUnfit (names_of t) (judged_of t h.replica) o
-as_told t names h o named is found =
+pub as_told : (t : Trace) (h : SectionHistory) (o : Option ℕ) → h ≡ section_history t h.replica
+    → IsLeastUnfit (names_of t) (records_between t h 0 (length h.attempts)) o
+    → IsLeastUnfit (names_of t) (judged_of t h.replica) o
+as_told t h o is found =
     subst (λ (xs : List (ℕ × Executed)). IsLeastUnfit (names_of t) xs o)
-    (ap (λ (k : SectionHistory). settled_records t k.attempts k.fates) is ∙ judged_all t h.replica)
-    (subst (λ (ns : List (List ℕ)). IsLeastUnfit ns (settled_records t h.attempts h.fates) o) named found)
+    (all_between t h ∙ ap (λ (k : SectionHistory). settled_records t k.attempts k.fates) is
+    ∙ judged_all t h.replica) found

@@ -1,6 +1,6 @@
 -- What is found in stretches of attempts, put together, is what is found in all of them.
 use Rattle.std.proofs.Common.{◌≡◌, ℕ, zero, suc, ◌+◌, ◌-◌, ◌<◌, ◌≤◌, List, [], ◌∷◌, ◌++◌, length, take, drop, get_or}
-use Rattle.std.proofs.Common.{slice_get, Option, None, Some, Result, Ok, Err, IfOk, refl, sym, subst, ap, ◌∙◌, arith}
+use Rattle.std.proofs.Common.{slice_get, Option, None, Some, Result, Ok, Err, refl, sym, subst, ap, ◌∙◌, arith}
 use Rattle.std.proofs.Common.{append-nil, append_assoc, drop-drop}
 use Rattle.std.proofs.lemmas.List.Elements.{All-push, All-weaker}
 use Rattle.std.specs.Prelude.{All}
@@ -13,7 +13,7 @@ use Rattle.eve_history.specs.SectionHistory.{ExecutedAttempt, SectionHistory}
 use Rattle.eve_chains.specs.Unfit.{records_if_settled, settled_records, records_between, IsLeastUnfit, IsLeastOfAttempt}
 use Rattle.eve_chains.specs.Unfit.{lesser}
 use Rattle.eve_chains.specs.Unfit.{lesser_found}
-use Rattle.eve_chains.specs.Stretches.{IsWithin, IsFoundIn, Reaches, AreStretches, least_found}
+use Rattle.eve_chains.specs.Stretches.{IsWithin, IsFoundBetween, IsFoundIn, Reaches, AreStretches, least_found}
 use Rattle.eve_chains.specs.declared.stretch.Stretch.{Stretch}
 use Rattle.eve_chains.proofs.Least.{least_append}
 use Rattle.eve_chains.proofs.Linked.{from_place}
@@ -37,6 +37,13 @@ stretch_more from to xs up known = record {
       (record { rising = up; there = omega arith });
 }
 
+-- those of some attempts are of more
+pub within_more : (to attempts : ℕ) (xs : List Stretch) → to ≤ attempts → AreStretches to xs
+    → All (IsWithin attempts) xs
+within_more to attempts xs below cut =
+    All-weaker (IsWithin to) (IsWithin attempts)
+    (λ x is. record { rising = is.rising; there = omega (arith, is.there, below) }) xs cut.within
+
 -- ---- the records of attempts
 
 none_here : (t : Trace) (n : ℕ) (fates : List Fate) → settled_records t (take n []) fates ≡ []
@@ -47,6 +54,14 @@ no_fates : (t : Trace) (n : ℕ) (rs : List ExecutedAttempt) → settled_records
 no_fates t n [] = refl
 no_fates t zero (r ∷ rs) = refl
 no_fates t (suc n) (r ∷ rs) = refl
+
+-- of attempts with no more fates than there are of them
+own_fates : (t : Trace) (rs : List ExecutedAttempt) (fates : List Fate)
+    → settled_records t rs (take (length rs) fates) ≡ settled_records t rs fates
+own_fates t [] fates = refl
+own_fates t (r ∷ rs) [] = no_fates t (length (r ∷ rs)) (r ∷ rs)
+own_fates t (r ∷ rs) (fate ∷ fates) =
+    ap (λ (l : List _). records_if_settled t r fate ++ l) (own_fates t rs fates)
 
 -- of so many attempts, and of so many after them
 front_and_back : (t : Trace) (m n : ℕ) (rs : List ExecutedAttempt) (fates : List Fate)
@@ -99,13 +114,13 @@ module _ (t : Trace) (h : SectionHistory) where
       ∙ (λ k. settled_records t (take 1 (rs k)) (take 1 (fates k)))
       ∙ ap (λ (k : ℕ). settled_records t (take k (drop i h.attempts)) (take k (drop i h.fates))) one
 
-  pub all_between : length h.fates ≡ length h.attempts
-      → records_between t h 0 (length h.attempts) ≡ settled_records t h.attempts h.fates
-  all_between long =
+  pub all_between : records_between t h 0 (length h.attempts) ≡ settled_records t h.attempts h.fates
+  all_between =
       let n = length h.attempts in
       let all : n - 0 ≡ n = omega arith in
       ap (λ (k : ℕ). settled_records t (take k h.attempts) (take k h.fates)) all
-      ∙ (λ k. settled_records t (take_all n h.attempts (omega arith) k) (take_all n h.fates (omega arith) k))
+      ∙ ap (λ (rs : List ExecutedAttempt). settled_records t rs (take n h.fates)) (take_all n h.attempts (omega arith))
+      ∙ own_fates t h.attempts h.fates
 
   -- ---- what is found among them
 
@@ -131,37 +146,32 @@ module _ (t : Trace) (h : SectionHistory) where
         joined from i (i + 1) least found low (omega arith) is
         (subst (λ (xs : List _). IsLeastUnfit names xs found) (one_between i a.0 f.0 a.1 f.1) (its a.0 f.0 a.1 f.1))
 
-    abbrev IsFoundTo : ℕ → Result (Option ℕ) AllocError → Type 0
-    IsFoundTo to found = IfOk found (IsLeastUnfit names (records_between t h 0 to))
-
-    -- one more stretch
-    found_more : (from to : ℕ) (first other : Result (Option ℕ) AllocError) → from ≤ to → IsFoundTo from first
-        → IfOk other (IsLeastUnfit names (records_between t h from to)) → IsFoundTo to (lesser_found first other)
-    found_more from to (Ok first) (Ok other) rising is rest =
-        joined 0 from to first other (omega arith) rising is rest
-    found_more from to (Ok first) (Err why) rising is rest = tt
-    found_more from to (Err why) other rising is rest = tt
+    -- attempts that follow one another
+    pub found_more : (from mid to : ℕ) (first other : Found) → from ≤ mid → mid ≤ to
+        → IsFoundBetween names t h from mid first → IsFoundBetween names t h mid to other
+        → IsFoundBetween names t h from to (lesser_found first other)
+    found_more from mid to (Ok first) (Ok other) low high is rest = joined from mid to first other low high is rest
+    found_more from mid to (Ok first) (Err why) low high is rest = tt
+    found_more from mid to (Err why) other low high is rest = tt
 
     -- of stretches that follow one another, each judged
     found_all : (from last : ℕ) (xs : List Stretch) (ys : List Found) (first : Found) → length ys ≡ length xs
         → Reaches from last xs → All (IsWithin last) xs
         → ((i : ℕ) (x : Stretch) (y : Found) → i < length xs → IsFoundIn names t h (get_or xs i x) (get_or ys i y))
-        → IsFoundTo from first → IsFoundTo last (least_found first ys)
+        → IsFoundBetween names t h 0 from first → IsFoundBetween names t h 0 last (least_found first ys)
     found_all from last [] [] first same reaches within judged is =
-        subst (λ (n : ℕ). IsFoundTo n first) reaches is
+        subst (λ (n : ℕ). IsFoundBetween names t h 0 n first) reaches is
     found_all from last [] (y ∷ ys) first same reaches within judged is = absurd (omega (arith, same))
     found_all from last (x ∷ xs) [] first same reaches within judged is = absurd (omega (arith, same))
     found_all from last (x ∷ xs) (y ∷ ys) first same reaches within judged is =
         found_all x.to last xs ys (lesser_found first y) (omega (arith, same)) reaches.1
         (λ i d less. within (suc i) d (omega arith)) (λ i d e less. judged (suc i) d e (omega arith))
-        (found_more x.from x.to first y (within 0 x (omega arith)).rising
-        (subst (λ (n : ℕ). IsFoundTo n first) (sym reaches.0) is) (judged 0 x y (omega arith)))
+        (found_more 0 x.from x.to first y (omega arith) (within 0 x (omega arith)).rising
+        (subst (λ (n : ℕ). IsFoundBetween names t h 0 n first) (sym reaches.0) is) (judged 0 x y (omega arith)))
 
     -- the least of what is found in each is that of all
-    pub found_in_all : (xs : List Stretch) (ys : List Found) → length ys ≡ length xs
-        → length h.fates ≡ length h.attempts → AreStretches (length h.attempts) xs
+    pub found_in_all : (to : ℕ) (xs : List Stretch) (ys : List Found) → length ys ≡ length xs → AreStretches to xs
         → ((i : ℕ) (x : Stretch) (y : Found) → i < length xs → IsFoundIn names t h (get_or xs i x) (get_or ys i y))
-        → IfOk (least_found (Ok None) ys) (IsLeastUnfit names (settled_records t h.attempts h.fates))
-    found_in_all xs ys same long cut judged =
-        subst (λ (rs : List _). IfOk (least_found (Ok None) ys) (IsLeastUnfit names rs)) (all_between long)
-        (found_all 0 (length h.attempts) xs ys (Ok None) same cut.reaches cut.within judged (none_judged 0))
+        → IsFoundBetween names t h 0 to (least_found (Ok None) ys)
+    found_in_all to xs ys same cut judged =
+        found_all 0 to xs ys (Ok None) same cut.reaches cut.within judged (none_judged 0)

@@ -12,9 +12,15 @@ pub record IsWithin (attempts : ℕ) (x : Stretch) : Type 0 where
   pub rising : x.from ≤ x.to
   pub there : x.to ≤ attempts
 
--- what was found in it: the least offset of its records that don't fit, where the memory was there
+-- what was found among the attempts from one place up to another: the least offset of their records that don't fit,
+-- where the memory was there
+abbrev pub IsFoundBetween
+    : List (List ℕ) → Trace → SectionHistory → ℕ → ℕ → Result (Option ℕ) AllocError → Type 0
+IsFoundBetween names t h from to found = IfOk found (IsLeastUnfit names (records_between t h from to))
+
+-- what was found in it
 abbrev pub IsFoundIn : List (List ℕ) → Trace → SectionHistory → Stretch → Result (Option ℕ) AllocError → Type 0
-IsFoundIn names t h x found = IfOk found (IsLeastUnfit names (records_between t h x.from x.to))
+IsFoundIn names t h x found = IsFoundBetween names t h x.from x.to found
 
 -- the stretches follow one another, from one place up to another
 abbrev pub Reaches : ℕ → ℕ → List Stretch → Type 0

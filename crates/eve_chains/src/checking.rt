@@ -1,18 +1,20 @@
 //! The judgement of a replica's settled attempts.
 
-ghost use Rattle.std.specs.Prelude.{◌≡◌, ◌≤◌, IfOk, IfErr};
+ghost use Rattle.std.specs.Prelude.{◌≡◌, ◌≤◌, IfOk, IfErr, length};
 ghost use Rattle.std.specs.Thread.{IsSync};
 ghost use Rattle.eve_views.specs.Form.{IfFound};
 ghost use Rattle.eve_history.specs.SectionHistory.{section_history, names_of, IsRightSection};
 ghost use Rattle.eve_chains.specs.Sound.{SettledAreSound};
 ghost use Rattle.eve_chains.specs.Faults.{HasNoFault, IsLeastFault};
 ghost use Rattle.eve_chains.specs.Checking.{AreRecordsJudged, AreChainsSettled};
+ghost use Rattle.eve_chains.specs.Stretches.{IsFoundBetween};
 ghost use Rattle.eve_chains.specs.Settling.{settling};
 
 use crate::laws::{chains_are_judged_along_the_records, sound_sections_have_no_fault};
 use crate::opening::opening_balances;
 use crate::settled::Settled;
-use crate::unfit::records;
+use crate::stretch::share;
+use crate::unfit::{Found, lesser_found, records, unfit_before, unfit_from};
 use crate::walk::chains;
 use eve_accounts::Names;
 use eve_history::History;
@@ -50,9 +52,79 @@ fn settle<'a>(
     Ok(settled)
 }
 
+/// What is found among the records of the attempts from this place on, and what judging the chains gives. The chains
+/// come first; the records are judged also where these had a fault or no memory.
+fn settle_and_judge<'a>(
+    alloc: Global,
+    section: &Section<'_, 'a>,
+    names: &Names<'_>,
+    from: usize,
+    stretches: u8,
+) -> (Found, Result<Settled<'a>, CheckFault>)
+    requires history { section.now.history.now
+        ≡ section_history section.now.trace.now section.now.history.now.replica }
+    requires right { IsRightSection section.now.trace.now section.now.history.now.replica }
+    requires names { names.now.items ≡ names_of section.now.trace.now }
+    requires within { from ≤ length section.now.history.now.attempts }
+    requires stretches { 1 ≤ stretches }
+    ensures found { IsFoundBetween (names_of section.now.trace.now) section.now.trace.now section.now.history.now from
+        (length section.now.history.now.attempts) result.0 }
+    ensures chains { AreChainsSettled section.now.trace.now section.now.history.now.replica result.1 }
+{
+    let settled = settle(alloc, section, stretches);
+    let found = unfit_from(alloc, section.history, section.trace, names, from);
+    (found, settled)
+}
+
+/// What is found among the records of all attempts, and what judging the chains gives, side by side: the chains in one
+/// thread, which gathers there what was committed and then judges the records of a share of the last attempts; the
+/// records of those before these in as many threads as are left. None waits for another, and all end at about the same
+/// time.
+fn judge_side_by_side<'a, R: Threads + Sync>(
+    rt: &R,
+    alloc: Global,
+    section: Section<'_, 'a>,
+    names: &Names<'_>,
+    jobs: u8,
+) -> (Found, Result<Settled<'a>, CheckFault>)
+    requires history { section.history.now ≡ section_history section.trace.now section.history.now.replica }
+    requires right { IsRightSection section.trace.now section.history.now.replica }
+    requires names { names.now.items ≡ names_of section.trace.now }
+    requires jobs { 2 ≤ jobs }
+    ensures found { IsFoundBetween (names_of section.entry.trace.now) section.entry.trace.now
+        section.entry.history.now 0 (length section.entry.history.now.attempts) result.0 }
+    ensures chains { AreChainsSettled section.entry.trace.now section.entry.history.now.replica result.1 }
+{
+    let history = section.history;
+    let trace = section.trace;
+    let attempts = history.attempts();
+    let from = attempts - share(attempts, jobs);
+    let others = jobs - 1;
+    let judge = move ||
+        requires sync { IsSync R.row }
+        requires history { history.now ≡ section_history trace.now history.now.replica }
+        requires right { IsRightSection trace.now history.now.replica }
+        requires names { names.now.items ≡ names_of trace.now }
+        requires within { from ≤ length history.now.attempts }
+        requires jobs { 1 ≤ others }
+        ensures { IsFoundBetween (names_of trace.entry.now) trace.entry.now history.entry.now 0 from result }
+    { unfit_before(rt, alloc, history, trace, names, from, others) };
+    let see = move ||
+        requires history { section.history.now ≡ section_history section.trace.now section.history.now.replica }
+        requires right { IsRightSection section.trace.now section.history.now.replica }
+        requires names { names.now.items ≡ names_of section.trace.now }
+        requires within { from ≤ length section.history.now.attempts }
+        requires jobs { 1 ≤ jobs }
+        ensures found { IsFoundBetween (names_of section.entry.trace.now) section.entry.trace.now
+            section.entry.history.now from (length section.entry.history.now.attempts) result.0 }
+        ensures chains { AreChainsSettled section.entry.trace.now section.entry.history.now.replica result.1 }
+    { settle_and_judge(alloc, &section, names, from, jobs) };
+    let (before, (last, settled)) = join(rt, judge, see);
+    (lesser_found(before, last), settled)
+}
+
 /// What judging the records gives, and what judging the chains gives: one after the other on this thread, where there
-/// is one job or there are few attempts; else the chains in one thread, and the records in as many as are left. Neither
-/// waits for the other. What was committed is gathered where the chains were judged, which end first.
+/// is one job or there are few attempts, else side by side.
 fn judge_both<'a, R: Threads + Sync>(
     rt: &R,
     alloc: Global,
@@ -70,25 +142,11 @@ fn judge_both<'a, R: Threads + Sync>(
 {
     let section = Section { history, trace };
     if jobs == 1 || history.attempts() < LEAST_SIDE_BY_SIDE {
-        let fit = records(rt, alloc, history, trace, names, 1);
-        (fit, settle(alloc, &section, 1))
+        let found = unfit_from(alloc, history, trace, names, 0);
+        (records(history, trace, found), settle(alloc, &section, 1))
     } else {
-        let others = jobs - 1;
-        let fit = move ||
-            requires sync { IsSync R.row }
-            requires history { history.now ≡ section_history trace.now history.now.replica }
-            requires names { names.now.items ≡ names_of trace.now }
-            requires jobs { 1 ≤ others }
-            ensures { AreRecordsJudged trace.entry.now history.entry.now.replica result }
-        { records(rt, alloc, history, trace, names, others) };
-        let see = move ||
-            requires history { section.history.now
-                ≡ section_history section.trace.now section.history.now.replica }
-            requires right { IsRightSection section.trace.now section.history.now.replica }
-            requires jobs { 1 ≤ jobs }
-            ensures { AreChainsSettled section.entry.trace.now section.entry.history.now.replica result }
-        { settle(alloc, &section, jobs) };
-        join(rt, fit, see)
+        let (found, settled) = judge_side_by_side(rt, alloc, section, names, jobs);
+        (records(history, trace, found), settled)
     }
 }
 
@@ -96,7 +154,8 @@ fn judge_both<'a, R: Threads + Sync>(
 /// left; else the first fault, those of records before those of chains, then by offset, then by number.
 ///
 /// docs/MODEL.md, "A record fits its request", "What an entry must see" and "Faults". It works in up to so many threads
-/// as there are jobs, from 1 on; of one job none is started. What is found doesn't rest on which ends first. Refused
+/// as there are jobs, from 1 on; of one job none is started. Of two to five, the thread that judges the chains judges
+/// the records of a share of the last attempts after them. What is found doesn't rest on which ends first. Refused
 /// memory decides nothing. The time is linear in the entries.
 pub fn check<'a, R: Threads + Sync>(
     rt: &R,

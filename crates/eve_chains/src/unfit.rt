@@ -9,10 +9,10 @@ ghost use Rattle.eve_history.specs.SectionHistory.{ExecutedAttempt, section_hist
 ghost use Rattle.eve_chains.specs.Records.{recorded};
 ghost use Rattle.eve_chains.specs.Sound.{RecordsFit};
 ghost use Rattle.eve_chains.specs.Faults.{IsRecordFault};
-ghost use Rattle.eve_chains.specs.Unfit.{is_settled, recorded_of, settled_records, HasRequests, IsLeastUnfit};
+ghost use Rattle.eve_chains.specs.Unfit.{is_settled, recorded_of, HasRequests, IsLeastUnfit};
 ghost use Rattle.eve_chains.specs.Unfit.{CanBeJudged};
 ghost use Rattle.eve_chains.specs.Unfit.{IsLeastOfAttempt, lesser, lesser_found};
-ghost use Rattle.eve_chains.specs.Stretches.{IsWithin, IsFoundIn, least_found};
+ghost use Rattle.eve_chains.specs.Stretches.{IsWithin, IsFoundIn, IsFoundBetween, least_found};
 ghost use Rattle.eve_chains.specs.declared.stretch.Stretch.{Stretch as StretchValue};
 
 use crate::fitting::fits;
@@ -26,33 +26,27 @@ use std::alloc::{AllocError, Global};
 use std::thread;
 use std::thread::Threads;
 
-/// What is found in a stretch: the least offset of its records that don't fit, where the memory was there.
-type Found = Result<Option<u64>, AllocError>;
+/// What is found among attempts: the least offset of their records that don't fit, where the memory was there.
+pub(crate) type Found = Result<Option<u64>, AllocError>;
 
-/// Judges the records of a replica's settled attempts one by one: each fits its request, or the first that does not is
-/// named.
+/// Judges the records of a replica's settled attempts, by what is found among all attempts: each fits its request, or
+/// the first that does not is named.
 ///
-/// docs/MODEL.md, "A record fits its request" and "Faults". The attempts are cut into up to so many stretches as there
-/// are jobs, from 1 on, and judged in as many threads; of one job none is started. What is kept of an attempt is the
-/// requests of its batch. What is found doesn't rest on which ends first. Refused memory decides nothing.
-pub(crate) fn records<R: Threads + Sync>(
-    rt: &R,
-    alloc: Global,
+/// docs/MODEL.md, "A record fits its request" and "Faults". Refused memory decides nothing.
+pub(crate) fn records(
     history: &History<'_>,
     trace: &Trace<'_>,
-    names: &Names<'_>,
-    jobs: u8,
+    found: Found,
 ) -> Result<(), CheckFault>
     requires history { history.now ≡ section_history trace.now history.now.replica }
-    requires names { names.now.items ≡ names_of trace.now }
-    requires jobs { 1 ≤ jobs }
+    requires found { IsFoundBetween (names_of trace.now) trace.now history.now 0 (length history.now.attempts) found }
     ensures fit { IfOk result (λ _. RecordsFit trace.now history.now.replica) }
     ensures none { IfOk result (λ _. HasNone (IsRecordFault trace.now history.now.replica)) }
     ensures least { IfErr result (λ why. IfFound why (IsLeast (IsRecordFault trace.now history.now.replica))) }
 {
     trace.recall_limits();
     history.recall_right();
-    match first_unfit(rt, alloc, history, trace, names, jobs)? {
+    match found? {
         None => Ok(()),
         Some(offset) => Err(CheckFault::Found(Fault {
             code: Code::Record,
@@ -62,24 +56,48 @@ pub(crate) fn records<R: Threads + Sync>(
     }
 }
 
-/// The least offset of the settled attempts' records that don't fit, by up to so many jobs.
-fn first_unfit<R: Threads + Sync>(
+/// What is found among the attempts before this place.
+///
+/// They are cut into up to so many stretches as there are jobs, from 1 on, and judged in as many threads; of one job
+/// none is started. What is kept of an attempt is the requests of its batch. What is found doesn't rest on which ends
+/// first.
+pub(crate) fn unfit_before<R: Threads + Sync>(
     rt: &R,
     alloc: Global,
     history: &History<'_>,
     trace: &Trace<'_>,
     names: &Names<'_>,
+    to: usize,
     jobs: u8,
-) -> Result<Option<u64>, AllocError>
+) -> Found
     requires history { history.now ≡ section_history trace.now history.now.replica }
     requires right { IsRightSection trace.now history.now.replica }
+    requires names { names.now.items ≡ names_of trace.now }
+    requires within { to ≤ length history.now.attempts }
     requires jobs { 1 ≤ jobs }
-    ensures { IfOk result (IsLeastUnfit names.now.items
-        (settled_records trace.now history.now.attempts history.now.fates)) }
+    ensures { IsFoundBetween (names_of trace.now) trace.now history.now 0 to result }
 {
-    let stretches = Stretch::cut(alloc, history.attempts(), jobs)?;
+    let stretches = Stretch::cut(alloc, to, jobs)?;
     let found = judge_all(rt, alloc, history, trace, names, stretches)?;
     least_of_all(&found)
+}
+
+/// What is found among the attempts from this place on, judged by the caller.
+pub(crate) fn unfit_from(
+    alloc: Global,
+    history: &History<'_>,
+    trace: &Trace<'_>,
+    names: &Names<'_>,
+    from: usize,
+) -> Found
+    requires history { history.now ≡ section_history trace.now history.now.replica }
+    requires right { IsRightSection trace.now history.now.replica }
+    requires names { names.now.items ≡ names_of trace.now }
+    requires within { from ≤ length history.now.attempts }
+    ensures { IsFoundBetween (names_of trace.now) trace.now history.now from (length history.now.attempts) result }
+{
+    let to = history.attempts();
+    judge_stretch(alloc, history, trace, names, Stretch { from, to })
 }
 
 /// What is found in each of the stretches: judged side by side in as many threads as there are, and a single one by the
@@ -230,7 +248,7 @@ fn judge_record(
 }
 
 /// The lesser of two offsets that were found, where the memory was there.
-fn lesser_found(first: Found, other: Found) -> Found
+pub(crate) fn lesser_found(first: Found, other: Found) -> Found
     ensures { result ≡ lesser_found first other }
 {
     Ok(lesser(first?, other?))
