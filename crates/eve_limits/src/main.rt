@@ -32,6 +32,7 @@ const GREATEST: Size = Size {
     customers: 4096,
     batches: 2,
     requests: 256,
+    first: None,
 };
 
 /// More than a thousand batches, each decided by all verifiers.
@@ -44,6 +45,20 @@ const LONGEST: Size = Size {
     customers: 2,
     batches: 1030,
     requests: 1,
+    first: None,
+};
+
+/// A hundred batches, in the last third of which the numbers of the one client begin at 0.
+const FALLING: Size = Size {
+    replicas: 2,
+    verifiers: 1,
+    quorum: 1,
+    window: 8,
+    workers: 1,
+    customers: 2,
+    batches: 100,
+    requests: 1,
+    first: Some(32),
 };
 
 /// More than four megabytes, and more than fifty thousand replies sent.
@@ -56,6 +71,7 @@ const WIDEST: Size = Size {
     customers: 256,
     batches: 28,
     requests: 256,
+    first: None,
 };
 
 /// One window of 256 requests a batch, over as many rows as there may be.
@@ -68,6 +84,7 @@ const WINDOW: Size = Size {
     customers: 4096,
     batches: 8,
     requests: 256,
+    first: None,
 };
 
 /// How many bytes an Access frame has in front of the last byte of its first entry, which is the last of the value
@@ -80,6 +97,10 @@ const ENTRY_COUNT: usize = 5 + 5;
 /// How many bytes a Batch frame has in front of the last byte of the count of its parallelBatches: the frame's head,
 /// the number, and the count's first byte.
 const GROUP_COUNT: usize = 5 + 4 + 1;
+
+/// How many bytes a Batch frame of one parallelBatch has in front of the third byte of the first client: the frame's
+/// head, the number, the count and the size of the parallelBatches, and two bytes of the client.
+const THIRD_OF_CLIENT: usize = 5 + 4 + 2 + 2 + 2;
 
 /// How many bytes a Sent frame has in front of its last byte, the last of its reply.
 const LAST_OF_SENT: usize = 5 + 25;
@@ -96,10 +117,10 @@ fn record_of<R: AllocGlobal>(rt: &R, trace: &[u8], replica: u8, index: u16) -> i
     }
 }
 
-/// Where the last batch stands.
-fn last_batch_of<R: AllocGlobal>(rt: &R, trace: &[u8]) -> io::Result<u64> {
+/// Where a batch stands, by its number.
+fn batch_of<R: AllocGlobal>(rt: &R, trace: &[u8], n: u32) -> io::Result<u64> {
     match Trace::read(rt.alloc(), trace) {
-        Ok(trace) if trace.batch_count() > 0 => Ok(trace.batch(trace.batch_count()).offset()),
+        Ok(trace) if 1 <= n && n <= trace.batch_count() => Ok(trace.batch(n).offset()),
         _ => Err(io::Error::from(ErrorKind::NotFound)),
     }
 }
@@ -196,16 +217,38 @@ fn run_of<R: AllocGlobal + RandomSource + Threads + Wait + Sync>(
     ran(rt, text.as_slice())
 }
 
-/// Runs at the greatest sizes.
+/// Runs at the greatest sizes, and one in which a client's numbers fall.
 fn tell_runs<R: AllocGlobal + RandomSource + Threads + Wait + Sync>(
     rt: &R,
     out: &mut Vec<u8>,
 ) -> io::Result<()> {
-    for (name, size) in [("greatest", GREATEST), ("longest", LONGEST)] {
+    for (name, size) in [
+        ("greatest", GREATEST),
+        ("longest", LONGEST),
+        ("falling", FALLING),
+    ] {
         let trace = run_of(rt, &size)?;
         tell(rt, out, name, trace.as_slice(), NOWHERE)?;
     }
     Ok(())
+}
+
+/// The request of batch 774, of client 773, gets the client of batch 518: both have the number 0, and lie in the parts
+/// of two of the threads that judge the orders.
+fn tell_asked_again<R: AllocGlobal + RandomSource + Threads + Wait + Sync>(
+    rt: &R,
+    out: &mut Vec<u8>,
+) -> io::Result<()> {
+    let trace = run_of(rt, &LONGEST)?;
+    let batch = batch_of(rt, trace.as_slice(), 774)?;
+    tell_changed(
+        rt,
+        out,
+        "a request asked again",
+        trace.as_slice(),
+        batch,
+        THIRD_OF_CLIENT,
+    )
 }
 
 /// All batches rolled back and executed again, on all replicas; and a restore left out on the last.
@@ -280,8 +323,8 @@ fn tell_other_balance<R: AllocGlobal + RandomSource + Threads + Wait + Sync>(
     tell_call(out, "another balance, by itself", &found, attempt)
 }
 
-/// A byte of a body is changed, at so many bytes behind the frame's first one: the body is wrong.
-fn tell_wrong_body<R: AllocGlobal + RandomSource + Threads + Wait + Sync>(
+/// A byte of a body is changed, at so many bytes behind the frame's first one: a fault stands at the frame.
+fn tell_changed<R: AllocGlobal + RandomSource + Threads + Wait + Sync>(
     rt: &R,
     out: &mut Vec<u8>,
     name: &str,
@@ -305,8 +348,8 @@ fn tell_wrong_bodies<R: AllocGlobal + RandomSource + Threads + Wait + Sync>(
     out: &mut Vec<u8>,
     trace: &[u8],
 ) -> io::Result<()> {
-    let batch = last_batch_of(rt, trace)?;
-    tell_wrong_body(
+    let batch = batch_of(rt, trace, WIDEST.batches)?;
+    tell_changed(
         rt,
         out,
         "another count of groups",
@@ -315,7 +358,7 @@ fn tell_wrong_bodies<R: AllocGlobal + RandomSource + Threads + Wait + Sync>(
         GROUP_COUNT,
     )?;
     let access = record_of(rt, trace, 7, 252)?.access;
-    tell_wrong_body(
+    tell_changed(
         rt,
         out,
         "another count of entries",
@@ -388,6 +431,7 @@ fn tell_widest<R: AllocGlobal + RandomSource + Threads + Wait + Sync>(
 fn main(rt: HostRuntime) -> io::Result<()> {
     let mut out = Vec::new(rt.alloc());
     tell_runs(&rt, &mut out)?;
+    tell_asked_again(&rt, &mut out)?;
     tell_reruns(&rt, &mut out)?;
     let trace = run_of(&rt, &WIDEST)?;
     tell_widest(&rt, &mut out, trace.as_slice())?;

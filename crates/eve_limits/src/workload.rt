@@ -24,6 +24,22 @@ pub struct Size {
     pub batches: u32,
     /// The requests of each batch.
     pub requests: u32,
+    /// Where all requests are of one client, the number of the first of them: the next one's is one more, and after the
+    /// greatest comes 0. Else each batch has a client of its own.
+    pub first: Option<u32>,
+}
+
+impl Size {
+    // The client of a request, and the client's number for it.
+    fn id_of(&self, batch: u32, request: u32) -> (u32, u32) {
+        let Some(first) = self.first else {
+            return (batch, request);
+        };
+        let count = self.batches.wrapping_mul(self.requests);
+        let place = batch.wrapping_mul(self.requests).wrapping_add(request);
+        let number = first.wrapping_add(place).checked_rem(count);
+        (0, number.unwrap_or(0))
+    }
 }
 
 /// The text of a workload: each request is of the customer after the one before, and the kinds take turns.
@@ -64,7 +80,8 @@ fn write_batches(text: &mut Vec<u8>, size: &Size) -> io::Result<()> {
     for batch in 0..size.batches {
         text.write_all(b"batch\n")?;
         for request in 0..size.requests {
-            write_request(text, batch, request, customer)?;
+            let (client, number) = size.id_of(batch, request);
+            write_request(text, client, number, customer)?;
             customer = customer.saturating_add(1);
             if customer >= size.customers {
                 customer = 0;
