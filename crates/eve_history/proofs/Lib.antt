@@ -19,3 +19,4 @@ pub mod SideBySide
 pub mod Ahead
 pub mod Lent
 pub mod Rights
+pub mod Spans

@@ -13,21 +13,21 @@ use Rattle.eve_history.proofs.OrderLaws.{Asking, asking_more, asking_apart}
 
 -- ---- the requests of a batch, one after another
 
--- some were noted, all new, and these are the greatest numbers
-pub record Rising (before own rest : List RequestId) (greatest : ℕ → Option ℕ) : Type 0 where
+-- some were noted, all new, and this is kept of them
+pub record Rising (before own rest : List RequestId) (Kept : List RequestId → Type 0) : Type 0 where
   pub now : List RequestId
   pub noting : Noting before own rest now
-  pub kept : AreReached greatest now
+  pub kept : Kept now
 
-pub rising_start : (before own : List RequestId) (greatest : ℕ → Option ℕ) → AreReached greatest before
-    → Rising before own own greatest
-rising_start before own greatest up = record { now = before; noting = noting_start before own; kept = up }
+pub rising_start : (before own : List RequestId) (Kept : List RequestId → Type 0) → Kept before
+    → Rising before own own Kept
+rising_start before own Kept kept = record { now = before; noting = noting_start before own; kept = kept }
 
-pub rising_more : (before own rest : List RequestId) (t : RequestId) (greatest after : ℕ → Option ℕ)
-    → Rising before own (t ∷ rest) greatest
-    → ((noted : List RequestId) → AreReached greatest noted → (¬ Contains noted t) × AreReached after (noted ++ t ∷ []))
-    → Rising before own rest after
-rising_more before own rest t greatest after rising step =
+pub rising_more : (before own rest : List RequestId) (t : RequestId) (Kept After : List RequestId → Type 0)
+    → Rising before own (t ∷ rest) Kept
+    → ((noted : List RequestId) → Kept noted → (¬ Contains noted t) × After (noted ++ t ∷ []))
+    → Rising before own rest After
+rising_more before own rest t Kept After rising step =
     let one = step rising.now rising.kept in
     record {
       now = rising.now ++ t ∷ [];
@@ -36,11 +36,11 @@ rising_more before own rest t greatest after rising step =
       kept = one.1;
     }
 
-pub rising_end : (before own : List RequestId) (greatest : ℕ → Option ℕ) → Rising before own [] greatest
-    → HaveRisen before own greatest
-rising_end before own greatest rising =
+pub rising_end : (before own : List RequestId) (Kept : List RequestId → Type 0) → Rising before own [] Kept
+    → HaveRisen before own Kept
+rising_end before own Kept rising =
     let all = noting_end before own rising.now rising.noting in
-    record { new = all.new; kept = subst (λ (ts : List RequestId). AreReached greatest ts) all.noted rising.kept }
+    record { new = all.new; kept = subst Kept all.noted rising.kept }
 
 -- ---- batch after batch
 
@@ -60,7 +60,8 @@ risen_start t greatest = record {
 
 pub risen_more : (t : Trace) (i : ℕ) (greatest after : ℕ → Option ℕ) (b : ℕ × (ℕ × Batch)) → RisenTo t i greatest
     → slice_get (batches_at t) i ≡ Some b
-    → ((noted : List RequestId) → AreReached greatest noted → HaveRisen noted (request_ids_at b) after)
+    → ((noted : List RequestId) → AreReached greatest noted
+    → HaveRisen noted (request_ids_at b) (AreReached after))
     → RisenTo t (i + 1) after
 risen_more t i greatest after b risen at step =
     let more = step risen.noted risen.kept in

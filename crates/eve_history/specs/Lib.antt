@@ -10,3 +10,4 @@ pub mod Coming
 pub mod SideBySide
 pub mod Rising
 pub mod Repeats
+pub mod Spans

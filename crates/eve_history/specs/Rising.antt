@@ -18,7 +18,7 @@ HasReached (Some greatest) number = number ≤ greatest
 abbrev pub AreReached : (ℕ → Option ℕ) → List RequestId → Type 0
 AreReached greatest noted = All (λ t. HasReached (greatest t.0) t.1) noted
 
--- none of a batch's own was noted before, and these are then greatest numbers of all
-pub record HaveRisen (noted own : List RequestId) (greatest : ℕ → Option ℕ) : Type 0 where
+-- none of a batch's own was noted before, and this is then kept of all
+pub record HaveRisen (noted own : List RequestId) (Kept : List RequestId → Type 0) : Type 0 where
   pub new : ¬ IsRepeated noted own
-  pub kept : AreReached greatest (noted ++ own)
+  pub kept : Kept (noted ++ own)

@@ -14,9 +14,11 @@ pub mod laws;
 mod notes;
 mod repeats;
 mod side_by_side;
+mod span;
+mod stretches;
 mod wrong;
 
-pub use arrivals::orders;
+pub use arrivals::{orders, orders_side_by_side};
 pub use committed::CommittedRecords;
 pub use fate::Fate;
 pub use history::{History, recall_all_right};

@@ -296,8 +296,8 @@ fn joined(alloc: Global, trace: &Trace<'_>, e: u8, size: usize, parts: &[Ordered
 /// The fewest attempts for each thread: one has up to 256 access records.
 const LEAST_ATTEMPTS: usize = 32;
 
-/// Of how many attempts each of so many parts is, so that all are in one.
-fn part_size(count: usize, parts: usize) -> Option<usize>
+/// Of how many each of so many parts is, so that all are in one.
+pub fn part_size(count: usize, parts: usize) -> Option<usize>
     requires { 1 ≤ parts }
     ensures { IfSome result (λ size. count ≤ parts * size) }
 {

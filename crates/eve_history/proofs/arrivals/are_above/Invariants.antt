@@ -9,4 +9,4 @@ abbrev pub invariant-loop-asked : goal.invariant-loop-asked
 invariant-loop-asked l =
     (noted : List RequestId) → AreReached (greatest_of l.fn.greatest) noted
     → Rising noted (map request_id (requests_said l.batch.bytes.now)) (map request_id l.asked-iterator)
-    (greatest_of l.greatest)
+    (AreReached (greatest_of l.greatest))
