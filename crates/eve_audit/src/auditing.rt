@@ -24,7 +24,7 @@ use eve_chains::laws::requests_take_effect_once;
 use eve_grammar::MOST_AUDIT_WORKERS;
 use eve_grammar::laws::bytes_spell_one_trace;
 use eve_history::laws::{fates_are_as_the_section_ends, faults_lie_within};
-use eve_history::{History, orders};
+use eve_history::{History, orders_side_by_side};
 use eve_recorder::Gate;
 use eve_views::{CheckFault, Trace};
 use eve_votes::Tally;
@@ -40,7 +40,7 @@ struct Opened<'a> {
     names: Names<'a>,
 }
 
-/// Reads a trace and judges its orders. It is read with up to so many jobs.
+/// Reads a trace and judges its orders, both with up to so many jobs.
 fn open<'a, R: Threads + Sync>(
     rt: &R,
     alloc: Global,
@@ -60,7 +60,7 @@ fn open<'a, R: Threads + Sync>(
         Ok(trace) => trace,
         Err(why) => return Err(why),
     };
-    match orders(alloc, &trace, random) {
+    match orders_side_by_side(rt, alloc, &trace, random, jobs) {
         Ok(names) => Ok(Opened { trace, names }),
         Err(why) => Err(why),
     }
@@ -173,8 +173,8 @@ pub fn audit_one<R: Threads + Sync>(
 /// the same verdict, for every number of workers and every order in which they end.
 ///
 /// docs/MODEL.md, "Verdict" and "The audit theorem". The caller reads the trace and judges its orders first: the bodies
-/// of batches, attempts and access records in up to as many threads as there are workers, which have ended before a
-/// worker begins. Then worker e mod `workers` judges replica e by itself, and enters the gate with e first. No more
+/// of batches, attempts and access records, and then the requests' numbers, in up to as many threads as there are
+/// workers, which have ended before a worker begins. Then worker e mod `workers` judges replica e by itself, and enters the gate with e first. No more
 /// threads than workers work at once: with one worker no thread is started, and a replica has more than one where there
 /// are two workers or more to each. A worker that can't be started is run by the caller, and a replica for which a
 /// worker had no memory is judged again by the caller. What the replicas come to together is judged once all workers
