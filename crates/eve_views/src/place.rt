@@ -74,6 +74,7 @@ impl Place {
     /// Whether a frame of the kind may stand here.
     ///
     /// docs/TRACE.md, "Order of frames".
+    #[inline(always)]
     pub fn allows(&self, kind: FrameKind) -> bool
         ensures { result ≡ is_allowed (limits self.now.head) (place self.now) (kind_byte kind) }
     {
@@ -93,6 +94,7 @@ impl Place {
     }
 
     /// Goes on after a frame of a kind that may stand here; an attempt has to have that many access frames.
+    #[inline(always)]
     pub fn pass(&mut self, kind: FrameKind, accesses: usize)
         requires { IsTrue (is_allowed (limits self.old.head) (place self.old) (kind_byte kind)) }
         ensures head { self.new.head ≡ self.old.head }

@@ -35,6 +35,7 @@ pub struct Progress {
 }
 
 /// How many access frames the body of an attempt says to follow it. The rest of the body isn't judged.
+#[inline(always)]
 fn accesses_said(body: &[u8]) -> Option<usize>
     ensures { IfSome result (λ n. n ≡ big_number 2 (drop 9 body.now)) }
 {
@@ -45,6 +46,7 @@ fn accesses_said(body: &[u8]) -> Option<usize>
 }
 
 /// Whether the body of a batch says this number. The rest of the body isn't judged.
+#[inline(always)]
 fn says_number(body: &[u8], number: u32) -> bool
     ensures { IsTrue result → big_number 4 body.now ≡ number }
 {
@@ -53,6 +55,7 @@ fn says_number(body: &[u8], number: u32) -> bool
 
 /// How many access frames have to follow a frame of this kind that stands here, if its body is right. Of a batch, an
 /// attempt and an access record nothing else of the body is judged; `None` where what is judged is wrong.
+#[inline(always)]
 fn accesses_unjudged(at: &Place, kind: FrameKind, body: &[u8]) -> Option<usize>
     requires { at.now.head.customers ≤ MOST_NAMES }
     ensures { IfSome result (λ n. IsTrue (is_right_body (row_count (limits at.now.head)) (kind_byte kind) body.now)
@@ -74,6 +77,7 @@ fn accesses_unjudged(at: &Place, kind: FrameKind, body: &[u8]) -> Option<usize>
 
 /// The frame at the front of the bytes, where nothing is wrong with it but for the body of a batch, an attempt or an
 /// access record, which isn't judged.
+#[inline(always)]
 fn frame_unjudged(at: &Place, bytes: &[u8]) -> Option<Framed>
     requires { at.now.head.customers ≤ MOST_NAMES }
     ensures { IfSome result (λ f. IsFramedUnjudged (limits at.now.head) (place at.now) bytes.now (kept_in f)) }

@@ -37,6 +37,7 @@ impl Starts {
     }
 
     /// Notes a frame of the kind at the place, which is the frame of that number.
+    #[inline(always)]
     pub fn note(&mut self, at: &Place, kind: FrameKind, frame: u32)
         requires replica { kind ≡ Replica → at.now.replicas < MOST_REPLICAS }
         requires verifier { kind ≡ Verifier → at.now.verifiers < MOST_VERIFIERS }
