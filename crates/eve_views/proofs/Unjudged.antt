@@ -19,7 +19,7 @@ use Rattle.eve_views.specs.Starting.{noted}
 use Rattle.eve_views.specs.Places.{accesses_in, place_after}
 use Rattle.eve_views.specs.Walk.{IsFrontOf}
 use Rattle.eve_views.specs.Indexing.{KeptFrame}
-use Rattle.eve_views.specs.SideBySide.{is_right_body, IsRightFrame, AreRightFrames, IsFramedUnjudged}
+use Rattle.eve_views.specs.SideBySide.{is_right_body, IsRightFrame, AreRightFrames, IsFramedUnjudged, access_kept}
 use Rattle.eve_views.proofs.Keeping.{kept_right}
 use Rattle.eve_views.specs.Walking.{Walking}
 use Rattle.eve_views.proofs.Reaching.{step_here, walking_more, room_of}
@@ -88,6 +88,13 @@ framed_unjudged h p bytes kind accesses body front allowed follow = record {
   right = λ right. sym (kept_right h p bytes kind accesses body front allowed
       (follow (subst (λ (t : Bool). t ≡ true) (right_body (row_count h) bytes kind body front) right)));
 }
+
+pub access_framed : (h : Head) (p : Place) (bytes : List ℕ) (kind : ℕ) (body : List ℕ) → kind ≡ 18
+    → IsFrontOf bytes kind body → is_allowed h p kind ≡ true
+    → IsFramedUnjudged h p bytes (access_kept (5 + length body))
+access_framed h p bytes kind body is front allowed =
+    framed_unjudged h p bytes 18 0 body (subst (λ (k : ℕ). IsFrontOf bytes k body) is front)
+    (ap (is_allowed h p) (sym is) ∙ allowed) (access_followed h p body)
 
 -- ---- stretches
 

@@ -39,6 +39,10 @@ pub record IsFramedUnjudged (h : Head) (p : Place) (bytes : List ℕ) (k : KeptF
   pub within : k.len ≤ length bytes
   pub right : IsRightFrame (row_count h) bytes → Ok k ≡ kept bytes (frame_at h p bytes)
 
+-- what is kept of an access frame of this length
+abbrev pub access_kept : ℕ → KeptFrame
+access_kept len = record { kind = 18; len = len; accesses = 0 }
+
 -- the walk came so far, if only the bodies are right of the frames that it found, where these weren't judged
 pub record IsWalkedUnjudged (h : Head) (bytes : List ℕ) (w : Progress) : Type 0 where
   pub head : limits w.reached.head ≡ h

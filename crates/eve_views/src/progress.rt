@@ -1,6 +1,6 @@
 //! The walk over a trace without judging the bodies of batches, attempts and access records, which are most of it.
 
-ghost use Rattle.std.specs.Prelude.{◌≡◌, ℕ, ◌≤◌, length, List, IsTrue, IfOk, IfSome, Some, drop};
+ghost use Rattle.std.specs.Prelude.{◌≡◌, ℕ, ◌≤◌, ◌<◌, length, List, IsTrue, IfOk, IfSome, Some, drop};
 ghost use Rattle.std.specs.Option.{option_map};
 ghost use Rattle.byteorder.specs.Endian.{big_number};
 ghost use Rattle.eve_grammar.specs.Bodies.{limits};
@@ -11,7 +11,7 @@ ghost use Rattle.eve_views.specs.Form.{SaysHead};
 ghost use Rattle.eve_views.specs.Places.{place, accesses_in};
 ghost use Rattle.eve_views.specs.Indexing.{kept_in, IsIndex};
 ghost use Rattle.eve_views.specs.SideBySide.{is_right_body, AreRightFrames, IsFramedUnjudged};
-ghost use Rattle.eve_views.specs.SideBySide.{IsWalkedUnjudged, GoesOn};
+ghost use Rattle.eve_views.specs.SideBySide.{access_kept, IsWalkedUnjudged, GoesOn};
 
 use crate::body::accesses_behind;
 use crate::place::Place;
@@ -94,6 +94,19 @@ fn frame_unjudged(at: &Place, bytes: &[u8]) -> Option<Framed>
     })
 }
 
+/// The length of the access frame at the front of the bytes, where one may stand there and lies there as a whole. Its
+/// body isn't judged.
+#[inline(always)]
+fn access_unjudged(at: &Place, bytes: &[u8]) -> Option<usize>
+    ensures { IfSome result (λ len. IsFramedUnjudged (limits at.now.head) (place at.now) bytes.now (access_kept len)) }
+{
+    let (kind, body) = kind_and_body(bytes)?;
+    match kind {
+        FrameKind::Access if at.allows(kind) => Some(5 + body.len()),
+        _ => None,
+    }
+}
+
 impl Progress {
     /// Before the first frame.
     pub fn start(alloc: Global, head: Head) -> Progress
@@ -107,8 +120,50 @@ impl Progress {
         }
     }
 
-    /// Goes on up to the frame of this number, or up to the end, where there are fewer; nothing where anything is wrong
-    /// on the way, but for the bodies that aren't judged.
+    /// Goes on over one frame; no, where anything is wrong with it, but for a body that isn't judged.
+    #[inline(always)]
+    fn pass_frame(&mut self, head: Head, bytes: &[u8]) -> Result<bool, AllocError>
+        requires says { SaysHead bytes.now (limits head) }
+        requires length { length bytes.now ≤ MOST_BYTES }
+        requires walked { IsWalkedUnjudged (limits head) bytes.now self.old }
+        ensures walked { IfOk result (λ right. IsTrue right → IsWalkedUnjudged (limits head) bytes.now self.new) }
+        ensures kept { IfOk result (λ right. IsTrue right → GoesOn self.old self.new) }
+        ensures on { IfOk result (λ right. IsTrue right → self.old.at < self.new.at) }
+    {
+        let Some(frame) = frame_unjudged(&self.reached, &bytes[self.at..]) else {
+            return Ok(false);
+        };
+        let number = self.offsets.len() as u32;
+        self.starts.note(&self.reached, frame.kind, number);
+        self.offsets.push(self.at as u32)?;
+        self.reached.pass(frame.kind, frame.accesses);
+        self.at += frame.len;
+        Ok(true)
+    }
+
+    /// Goes on over the access frames that have to follow the last attempt; no, where they don't.
+    #[inline(always)]
+    fn pass_accesses(&mut self, head: Head, bytes: &[u8]) -> Result<bool, AllocError>
+        requires says { SaysHead bytes.now (limits head) }
+        requires length { length bytes.now ≤ MOST_BYTES }
+        requires walked { IsWalkedUnjudged (limits head) bytes.now self.old }
+        ensures walked { IfOk result (λ right. IsTrue right → IsWalkedUnjudged (limits head) bytes.now self.new) }
+        ensures kept { IfOk result (λ right. IsTrue right → GoesOn self.old self.new) }
+        ensures on { IfOk result (λ right. IsTrue right → self.old.at ≤ self.new.at) }
+    {
+        'frames: while 0 < self.reached.accesses {
+            let Some(len) = access_unjudged(&self.reached, &bytes[self.at..]) else {
+                return Ok(false);
+            };
+            self.offsets.push(self.at as u32)?;
+            self.reached.pass(FrameKind::Access, 0);
+            self.at += len;
+        }
+        Ok(true)
+    }
+
+    /// Goes on until there are so many frames, or up to the end, where there are fewer; nothing where anything is wrong
+    /// on the way, but for the bodies that aren't judged. Access frames aren't parted from their attempt.
     pub fn go_on(
         self,
         head: Head,
@@ -121,27 +176,15 @@ impl Progress {
         ensures walked { IfOk result (λ found. IfSome found (IsWalkedUnjudged (limits head) bytes.now)) }
         ensures kept { IfOk result (λ found. IfSome found (GoesOn self)) }
     {
-        let Progress {
-            mut offsets,
-            mut starts,
-            mut reached,
-            mut at,
-        } = self;
-        'frames: while offsets.len() < most && (!reached.ended || at < bytes.len()) {
-            let Some(frame) = frame_unjudged(&reached, &bytes[at..]) else {
+        let mut walked = self;
+        'frames: while walked.offsets.len() < most
+            && (!walked.reached.ended || walked.at < bytes.len())
+        {
+            if !walked.pass_frame(head, bytes)? || !walked.pass_accesses(head, bytes)? {
                 return Ok(None);
-            };
-            starts.note(&reached, frame.kind, offsets.len() as u32);
-            offsets.push(at as u32)?;
-            reached.pass(frame.kind, frame.accesses);
-            at += frame.len;
+            }
         }
-        Ok(Some(Progress {
-            offsets,
-            starts,
-            reached,
-            at,
-        }))
+        Ok(Some(walked))
     }
 
     /// The frames up to the end, where it came as the last; nothing where it didn't come or bytes follow it.

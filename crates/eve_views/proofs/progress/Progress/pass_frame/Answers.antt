@@ -1,5 +1,4 @@
 use Rattle.std.proofs.Common.{◌≡◌, ◌+◌, ◌-◌, ◌∙◌, drop, ℕ, List, [], ◌∷◌, ◌++◌, length, sym, ap, subst, rules, arith}
-use Rattle.std.proofs.Common.{append_assoc}
 use Rattle.std.proofs.lemmas.List.{length-append, length-drop, length-take}
 use Rattle.eve_grammar.specs.Frames.{Place}
 use Rattle.eve_grammar.specs.Kinds.{kind_byte}
@@ -12,49 +11,44 @@ use Rattle.eve_views.specs.SideBySide.{AreRightFrames}
 use Rattle.eve_views.specs.Walking.{Walking}
 use Rattle.eve_views.specs.declared.starts.Starts.{Starts}
 use Rattle.eve_views.proofs.Unjudged.{walking_unjudged}
-use Rattle.eve_views.proofs.progress.Progress.go_on.Goals as goal
+use Rattle.eve_views.proofs.progress.Progress.pass_frame.Goals as goal
 
-pub frames-preserved : goal.frames-preserved
-frames-preserved c =
+pub returns-clause-walked : goal.returns-clause-walked
+returns-clause-walked c = λ _.
     let h = limits c.args.head in
-    let p = place c.frames.reached in
+    let self = c.args.self.now in
+    let p = place self.reached in
     let bytes = c.args.bytes.now in
-    let at = c.frames.at in
-    let xs = c.frames.offsets.items in
+    let at = self.at in
+    let xs = self.offsets.items in
     let k = kept_in c.in-Some.frame in
     let framed = c.in-Some.ensures in
+    let before = c.requires.walked in
     let more = at + c.in-Some.frame.len in
-    let count : c.len-in-frames.result ≡ length xs = search rules in
+    let count : c.len-number.result ≡ length xs = search rules in
     let items : c.push.new.self.items ≡ xs ++ at ∷ [] = c.in_ok-push.ensures.items in
-    let noted_is : noted c.frames.starts p (kind_byte c.in-Some.frame.kind) (length xs) ≡ c.note.new.self =
-    ap (noted c.frames.starts p (kind_byte c.in-Some.frame.kind)) (sym count) ∙ sym c.note.ensures in
+    let noted_is : noted self.starts p (kind_byte c.in-Some.frame.kind) (length xs) ≡ c.note.new.self =
+    ap (noted self.starts p (kind_byte c.in-Some.frame.kind)) (sym count) ∙ sym c.note.ensures in
     let walked : AreRightFrames (row_count h) bytes c.push.new.self.items
     → Walking h bytes more (place c.pass.new.self) c.push.new.self.items c.note.new.self = λ right.
-    let w = walking_unjudged h (limits c.frames.reached.head) p bytes at xs c.frames.starts k
-    c.requires.says.limits (λ i. omega (arith, c.type_inv.bytes i)) c.frames.invariant.within
-    c.frames.invariant.head framed c.frames.invariant.walking
+    let w = walking_unjudged h (limits self.reached.head) p bytes at xs self.starts k
+    c.requires.says.limits (λ i. omega (arith, c.type_inv.bytes i)) before.within before.head framed before.walking
     (subst (AreRightFrames (row_count h) bytes) items right) in
     let one = subst (λ (q : Place). Walking h bytes more q (xs ++ at ∷ [])
-    (noted c.frames.starts p (kind_byte c.in-Some.frame.kind) (length xs))) (sym c.pass.ensures.place) w in
+    (noted self.starts p (kind_byte c.in-Some.frame.kind) (length xs))) (sym c.pass.ensures.place) w in
     let two = subst (λ (ys : List ℕ). Walking h bytes more (place c.pass.new.self) ys
-    (noted c.frames.starts p (kind_byte c.in-Some.frame.kind) (length xs))) (sym items) one in
+    (noted self.starts p (kind_byte c.in-Some.frame.kind) (length xs))) (sym items) one in
     subst (λ (s : Starts). Walking h bytes more (place c.pass.new.self) c.push.new.self.items s) noted_is two
     in
-    let kept = c.frames.invariant.kept in
     record {
-      head = ap limits c.pass.ensures.head ∙ c.frames.invariant.head;
+      head = ap limits c.pass.ensures.head ∙ before.head;
       within = omega (
         arith,
         framed.within,
         length-drop at bytes,
         length-take (length bytes - at) (drop at bytes),
-        c.frames.invariant.within,
+        before.within,
       );
-      few = omega (arith, ap length items, length-append xs (at ∷ []), framed.some, c.frames.invariant.few);
+      few = omega (arith, ap length items, length-append xs (at ∷ []), framed.some, before.few);
       walking = walked;
-      kept = (
-        kept.0 ++ at ∷ [],
-        items ∙ ap (λ (ys : List ℕ). ys ++ at ∷ []) kept.1
-            ∙ append_assoc c.args.self.offsets.items kept.0 (at ∷ []),
-      );
     }
