@@ -18,7 +18,7 @@ use Rattle.eve_history.specs.declared.span.Span.{Span}
 use Rattle.eve_history.specs.Faults.{request_ids_at, IsAskedAgain}
 use Rattle.eve_history.specs.Notes.{HasDistinctRequests}
 use Rattle.eve_history.specs.Rising.{HaveRisen}
-use Rattle.eve_history.specs.Spans.{span_of, IsWithin, AreWithin, IsBehind, HaveSpans}
+use Rattle.eve_history.specs.Spans.{span_of, IsInSpan, AreInSpans, IsBehind, HaveSpans}
 use Rattle.eve_grammar.proofs.Lists.{take_one_more}
 use Rattle.eve_history.proofs.Places.{no_place, place_split, place_push}
 use Rattle.eve_history.proofs.OrderLaws.{asking_apart}
@@ -42,19 +42,19 @@ span_other spans client other span apart = get_or-set_other spans client other s
 pub within_more : (spans : List (Option Span)) (client number : ℕ) (had : Option Span) (own span : Span)
     → IsBehind had (Some own) (Some span) → had ≡ get_or spans client had → client < length spans
     → own.first ≡ number → own.last ≡ number
-    → (noted : List RequestId) → AreWithin (span_of spans) noted
+    → (noted : List RequestId) → AreInSpans (span_of spans) noted
     → (¬ Contains noted (client, number))
-    × AreWithin (span_of (set spans client (Some span))) (noted ++ (client, number) ∷ [])
+    × AreInSpans (span_of (set spans client (Some span))) (noted ++ (client, number) ∷ [])
 within_more spans client number had own span step is lt first last noted within = (
   λ there.
-      let old : IsWithin (span_of spans client) number =
-      All-contains (λ t. IsWithin (span_of spans t.0) t.1) noted (client, number) within there in
+      let old : IsInSpan (span_of spans client) number =
+      All-contains (λ t. IsInSpan (span_of spans t.0) t.1) noted (client, number) within there in
       let less : number < number = behind.above number number old here in
       absurd (omega arith),
-  All-push (λ t. IsWithin (after t.0) t.1) noted (client, number)
-      (All-weaker (λ t. IsWithin (span_of spans t.0) t.1) (λ t. IsWithin (after t.0) t.1) (λ t. stays t.0 t.1)
+  All-push (λ t. IsInSpan (after t.0) t.1) noted (client, number)
+      (All-weaker (λ t. IsInSpan (span_of spans t.0) t.1) (λ t. IsInSpan (after t.0) t.1) (λ t. stays t.0 t.1)
       noted within)
-      (subst (λ (s : Option Span). IsWithin s number) (sym (span_set spans client (Some span) lt))
+      (subst (λ (s : Option Span). IsInSpan s number) (sym (span_set spans client (Some span) lt))
       (behind.back number here)),
 )
   where
@@ -65,15 +65,15 @@ within_more spans client number had own span step is lt first last noted within 
     behind = subst (λ (s : Option Span). IsBehind s (Some own) (Some span))
         (get_or_read spans client had lt is None) step
 
-    here : IsWithin (Some own) number
+    here : IsInSpan (Some own) number
     here = (omega (arith, first), omega (arith, last))
 
-    stays : (c n : ℕ) → IsWithin (span_of spans c) n → IsWithin (after c) n
+    stays : (c n : ℕ) → IsInSpan (span_of spans c) n → IsInSpan (after c) n
     stays c n old = elim (cases_eq c client) [
-      | inl same ↦ subst (λ (k : ℕ). IsWithin (after k) n) (sym same)
-          (subst (λ (s : Option Span). IsWithin s n) (sym (span_set spans client (Some span) lt))
-          (behind.front n (subst (λ (k : ℕ). IsWithin (span_of spans k) n) same old)))
-      | inr other ↦ subst (λ (s : Option Span). IsWithin s n) (sym (span_other spans client c (Some span) other)) old
+      | inl same ↦ subst (λ (k : ℕ). IsInSpan (after k) n) (sym same)
+          (subst (λ (s : Option Span). IsInSpan s n) (sym (span_set spans client (Some span) lt))
+          (behind.front n (subst (λ (k : ℕ). IsInSpan (span_of spans k) n) same old)))
+      | inr other ↦ subst (λ (s : Option Span). IsInSpan s n) (sym (span_other spans client c (Some span) other)) old
     ]
 
 -- ---- client after client
@@ -142,10 +142,10 @@ module _ (had next now : List (Option Span)) (n : ℕ) (so_far : FollowTo had ne
 -- ---- batch after batch
 
 pub spans_none : (span : ℕ → Option Span) → HaveSpans [] span
-spans_none span = record { apart = no_place IsAskedAgain; within = All-nil (λ t. IsWithin (span t.0) t.1) }
+spans_none span = record { apart = no_place IsAskedAgain; within = All-nil (λ t. IsInSpan (span t.0) t.1) }
 
 pub spans_more : (bs : List (ℕ × (ℕ × Batch))) (b : ℕ × (ℕ × Batch)) (had after : ℕ → Option Span) → HaveSpans bs had
-    → ((noted : List RequestId) → AreWithin had noted → HaveRisen noted (request_ids_at b) (AreWithin after))
+    → ((noted : List RequestId) → AreInSpans had noted → HaveRisen noted (request_ids_at b) (AreInSpans after))
     → HaveSpans (bs ++ b ∷ []) after
 spans_more bs b had after so_far step =
     let risen = step (flat_map request_ids_at bs) so_far.within in
@@ -154,7 +154,7 @@ spans_more bs b had after so_far step =
         | inl front ↦ so_far.apart front
         | inr here ↦ risen.new here
       ];
-      within = subst (AreWithin after) (flat_map_more request_ids_at [] bs b) risen.kept;
+      within = subst (AreInSpans after) (flat_map_more request_ids_at [] bs b) risen.kept;
     }
 
 -- one more of the batches after others
@@ -180,8 +180,8 @@ module _ (xs ys : List (ℕ × (ℕ × Batch))) (had next after : ℕ → Option
   none_in_both : (t : RequestId) → Contains (flat_map request_ids_at xs) t → ¬ Contains (flat_map request_ids_at ys) t
   none_in_both t front back =
       let less : t.1 < t.1 = (behind t.0).above t.1 t.1
-      (All-contains (λ t. IsWithin (had t.0) t.1) (flat_map request_ids_at xs) t first.within front)
-      (All-contains (λ t. IsWithin (next t.0) t.1) (flat_map request_ids_at ys) t second.within back) in
+      (All-contains (λ t. IsInSpan (had t.0) t.1) (flat_map request_ids_at xs) t first.within front)
+      (All-contains (λ t. IsInSpan (next t.0) t.1) (flat_map request_ids_at ys) t second.within back) in
       omega arith
 
   -- a request of a batch of the stretch is one of the stretch
@@ -224,11 +224,11 @@ module _ (xs ys : List (ℕ × (ℕ × Batch))) (had next after : ℕ → Option
       | inl front ↦ first.apart front
       | inr back ↦ second.apart (again_in_stretch back)
     ];
-    within = subst (AreWithin after) (sym (flat_map-append request_ids_at xs ys))
-        (All-append (λ t. IsWithin (after t.0) t.1) (flat_map request_ids_at xs) (flat_map request_ids_at ys)
-        (All-weaker (λ t. IsWithin (had t.0) t.1) (λ t. IsWithin (after t.0) t.1)
+    within = subst (AreInSpans after) (sym (flat_map-append request_ids_at xs ys))
+        (All-append (λ t. IsInSpan (after t.0) t.1) (flat_map request_ids_at xs) (flat_map request_ids_at ys)
+        (All-weaker (λ t. IsInSpan (had t.0) t.1) (λ t. IsInSpan (after t.0) t.1)
         (λ t. (behind t.0).front t.1) (flat_map request_ids_at xs) first.within)
-        (All-weaker (λ t. IsWithin (next t.0) t.1) (λ t. IsWithin (after t.0) t.1)
+        (All-weaker (λ t. IsInSpan (next t.0) t.1) (λ t. IsInSpan (after t.0) t.1)
         (λ t. (behind t.0).back t.1) (flat_map request_ids_at ys) second.within));
   }
 

@@ -13,24 +13,24 @@ abbrev pub span_of : List (Option Span) → ℕ → Option Span
 span_of spans client = slice_index_or spans client None
 
 -- the client came, with no number before its first and none after its last: this is between them
-abbrev pub IsWithin : Option Span → ℕ → Type 0
-IsWithin None number = ⊥
-IsWithin (Some span) number = (span.first ≤ number) × (number ≤ span.last)
+abbrev pub IsInSpan : Option Span → ℕ → Type 0
+IsInSpan None number = ⊥
+IsInSpan (Some span) number = (span.first ≤ number) × (number ≤ span.last)
 
 -- the number of each of these requests is within its client's span
-abbrev pub AreWithin : (ℕ → Option Span) → List RequestId → Type 0
-AreWithin span ids = All (λ t. IsWithin (span t.0) t.1) ids
+abbrev pub AreInSpans : (ℕ → Option Span) → List RequestId → Type 0
+AreInSpans span ids = All (λ t. IsInSpan (span t.0) t.1) ids
 
 -- a client's next numbers are above those that it had, and all of them are within the span after
 pub record IsBehind (had next after : Option Span) : Type 0 where
-  pub above : (a b : ℕ) → IsWithin had a → IsWithin next b → a < b
-  pub front : (a : ℕ) → IsWithin had a → IsWithin after a
-  pub back : (b : ℕ) → IsWithin next b → IsWithin after b
+  pub above : (a b : ℕ) → IsInSpan had a → IsInSpan next b → a < b
+  pub front : (a : ℕ) → IsInSpan had a → IsInSpan after a
+  pub back : (b : ℕ) → IsInSpan next b → IsInSpan after b
 
 -- none of these batches has a request that occurs earlier among them, and all numbers are within these spans
 pub record HaveSpans (bs : List (ℕ × (ℕ × Batch))) (span : ℕ → Option Span) : Type 0 where
   pub apart : ¬ SomePlace bs IsAskedAgain
-  pub within : AreWithin span (flat_map request_ids_at bs)
+  pub within : AreInSpans span (flat_map request_ids_at bs)
 
 -- these are the spans of the i-th stretch of so many batches, where the memory was there and all numbers rise
 abbrev pub IsStretch : {A E : Type 0} → Trace → ℕ → ℕ → Result (Option (Vec (Option Span) A)) E → Type 0

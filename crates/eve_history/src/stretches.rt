@@ -9,7 +9,7 @@ ghost use Rattle.eve_views.specs.Form.{SomePlace};
 ghost use Rattle.eve_history.specs.Faults.{IsAskedAgain};
 ghost use Rattle.eve_history.specs.Notes.{requests_said, HasDistinctRequests};
 ghost use Rattle.eve_history.specs.Rising.{HaveRisen};
-ghost use Rattle.eve_history.specs.Spans.{span_of, AreWithin, IsBehind, HaveSpans, IsStretch};
+ghost use Rattle.eve_history.specs.Spans.{span_of, AreInSpans, IsBehind, HaveSpans, IsStretch};
 
 use crate::greatest::MOST_CLIENTS;
 use crate::side_by_side::part_size;
@@ -42,8 +42,8 @@ fn put_behind(had: Option<Span>, next: Span) -> Option<Span>
 
 /// Notes a request's number in its client's span: whether it is above all numbers that the client had.
 fn is_next(spans: &mut [Option<Span>], client: u32, number: u64) -> bool
-    ensures { IsTrue result → (noted : List RequestId) → AreWithin (span_of spans.old) noted
-        → (¬ Contains noted (client, number)) × AreWithin (span_of spans.new) (noted ++ (client, number) ∷ []) }
+    ensures { IsTrue result → (noted : List RequestId) → AreInSpans (span_of spans.old) noted
+        → (¬ Contains noted (client, number)) × AreInSpans (span_of spans.new) (noted ++ (client, number) ∷ []) }
 {
     let place = client as usize;
     if place >= spans.len() {
@@ -62,8 +62,8 @@ fn is_next(spans: &mut [Option<Span>], client: u32, number: u64) -> bool
 
 /// Notes the numbers of a batch's requests: whether each is above all that its client had.
 fn are_next(spans: &mut [Option<Span>], batch: &BatchView<'_>) -> bool
-    ensures { IsTrue result → (noted : List RequestId) → AreWithin (span_of spans.old) noted
-        → HaveRisen noted (map request_id (requests_said batch.now.bytes.now)) (AreWithin (span_of spans.new)) }
+    ensures { IsTrue result → (noted : List RequestId) → AreInSpans (span_of spans.old) noted
+        → HaveRisen noted (map request_id (requests_said batch.now.bytes.now)) (AreInSpans (span_of spans.new)) }
 {
     for asked in batch.requests() {
         if !is_next(spans, asked.client, asked.number) {

@@ -52,6 +52,6 @@ pub record IsWalkedUnjudged (h : Head) (bytes : List ℕ) (w : Progress) : Type 
       → Walking h bytes w.at (place w.reached) w.offsets.items w.starts
 
 -- the one walk goes on with the other: the frames that it had found stand in front
-pub record GoesOn (before after : Progress) : Type 0 where
+pub record WalksOn (before after : Progress) : Type 0 where
   pub more : List ℕ
   pub offsets : after.offsets.items ≡ before.offsets.items ++ more

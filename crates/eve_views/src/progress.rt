@@ -11,7 +11,7 @@ ghost use Rattle.eve_views.specs.Form.{SaysHead};
 ghost use Rattle.eve_views.specs.Places.{place, accesses_in};
 ghost use Rattle.eve_views.specs.Indexing.{kept_in, IsIndex};
 ghost use Rattle.eve_views.specs.SideBySide.{is_right_body, AreRightFrames, IsFramedUnjudged};
-ghost use Rattle.eve_views.specs.SideBySide.{access_kept, IsWalkedUnjudged, GoesOn};
+ghost use Rattle.eve_views.specs.SideBySide.{access_kept, IsWalkedUnjudged, WalksOn};
 
 use crate::body::accesses_behind;
 use crate::place::Place;
@@ -127,7 +127,7 @@ impl Progress {
         requires length { length bytes.now ≤ MOST_BYTES }
         requires walked { IsWalkedUnjudged (limits head) bytes.now self.old }
         ensures walked { IfOk result (λ right. IsTrue right → IsWalkedUnjudged (limits head) bytes.now self.new) }
-        ensures kept { IfOk result (λ right. IsTrue right → GoesOn self.old self.new) }
+        ensures kept { IfOk result (λ right. IsTrue right → WalksOn self.old self.new) }
         ensures on { IfOk result (λ right. IsTrue right → self.old.at < self.new.at) }
     {
         let Some(frame) = frame_unjudged(&self.reached, &bytes[self.at..]) else {
@@ -148,7 +148,7 @@ impl Progress {
         requires length { length bytes.now ≤ MOST_BYTES }
         requires walked { IsWalkedUnjudged (limits head) bytes.now self.old }
         ensures walked { IfOk result (λ right. IsTrue right → IsWalkedUnjudged (limits head) bytes.now self.new) }
-        ensures kept { IfOk result (λ right. IsTrue right → GoesOn self.old self.new) }
+        ensures kept { IfOk result (λ right. IsTrue right → WalksOn self.old self.new) }
         ensures on { IfOk result (λ right. IsTrue right → self.old.at ≤ self.new.at) }
     {
         'frames: while 0 < self.reached.accesses {
@@ -174,7 +174,7 @@ impl Progress {
         requires length { length bytes.now ≤ MOST_BYTES }
         requires walked { IsWalkedUnjudged (limits head) bytes.now self }
         ensures walked { IfOk result (λ found. IfSome found (IsWalkedUnjudged (limits head) bytes.now)) }
-        ensures kept { IfOk result (λ found. IfSome found (GoesOn self)) }
+        ensures kept { IfOk result (λ found. IfSome found (WalksOn self)) }
     {
         let mut walked = self;
         'frames: while walked.offsets.len() < most

@@ -8,7 +8,7 @@ ghost use Rattle.eve_grammar.specs.Limits.{row_count};
 ghost use Rattle.eve_views.specs.Form.{SaysHead, IsFormFault, IfFound};
 ghost use Rattle.eve_views.specs.Indexing.{IsIndex};
 ghost use Rattle.eve_views.specs.SideBySide.{is_right_body, IsRightFrame, AreRightFrames};
-ghost use Rattle.eve_views.specs.SideBySide.{IsWalkedUnjudged, GoesOn};
+ghost use Rattle.eve_views.specs.SideBySide.{IsWalkedUnjudged, WalksOn};
 
 use crate::fault::CheckFault;
 use crate::progress::Progress;
@@ -107,7 +107,7 @@ fn judge_and_go_on<R: Threads + Sync>(
     requires walked { IsWalkedUnjudged (limits head) bytes.now walked }
     ensures right { IsTrue result.0 → AreRightFrames (row_count (limits head)) bytes.now first.items }
     ensures walked { IfOk result.1 (λ found. IfSome found (IsWalkedUnjudged (limits head) bytes.now)) }
-    ensures kept { IfOk result.1 (λ found. IfSome found (GoesOn walked)) }
+    ensures kept { IfOk result.1 (λ found. IfSome found (WalksOn walked)) }
 {
     let rows = 2 * head.customers;
     let judge = move || -> bool
@@ -119,7 +119,7 @@ fn judge_and_go_on<R: Threads + Sync>(
         requires length { length bytes.now ≤ MOST_BYTES }
         requires walked { IsWalkedUnjudged (limits head) bytes.now walked }
         ensures walked { IfOk result (λ found. IfSome found (IsWalkedUnjudged (limits head) bytes.entry.now)) }
-        ensures kept { IfOk result (λ found. IfSome found (GoesOn walked)) }
+        ensures kept { IfOk result (λ found. IfSome found (WalksOn walked)) }
     { walked.go_on(head, bytes, usize::MAX) };
     thread::join(rt, judge, go_on)
 }

@@ -3,14 +3,14 @@ use Rattle.eve_grammar.specs.Trace.{Asked}
 use Rattle.eve_grammar.specs.Bodies.{borrowed_asked}
 use Rattle.eve_grammar.specs.Trace.{request_id}
 use Rattle.eve_history.specs.Notes.{requests_said}
-use Rattle.eve_history.specs.Spans.{span_of, AreWithin}
+use Rattle.eve_history.specs.Spans.{span_of, AreInSpans}
 use Rattle.eve_history.proofs.Rising.{Rising, rising_start, rising_more, rising_end}
 use Rattle.eve_history.proofs.stretches.are_next.Goals as goal
 
 pub loop-asked-init : goal.loop-asked-init
 loop-asked-init c = λ noted within.
     let own = requests_said c.args.batch.now.bytes.now in
-    let kept = AreWithin (span_of c.args.spans.now) in
+    let kept = AreInSpans (span_of c.args.spans.now) in
     let items : c.into_iter-asked-iterator.result ≡ own = search rules in
     subst (λ (xs : List Asked). Rising noted (map request_id own) (map request_id xs) kept) (sym items)
     (rising_start noted (map request_id own) kept within)
@@ -18,10 +18,10 @@ loop-asked-init c = λ noted within.
 pub loop-asked-preserved : goal.loop-asked-preserved
 loop-asked-preserved c = λ noted within.
     let own = map request_id (requests_said c.args.batch.now.bytes.now) in
-    let kept = AreWithin (span_of c.loop-asked.spans) in
+    let kept = AreInSpans (span_of c.loop-asked.spans) in
     let first : c.loop-asked.asked-iterator ≡ borrowed_asked c.in-Some.asked ∷ c.next.new.self = search rules in
     rising_more noted own (map request_id c.next.new.self) (request_id (borrowed_asked c.in-Some.asked)) kept
-    (AreWithin (span_of c.is_next.new.spans))
+    (AreInSpans (span_of c.is_next.new.spans))
     (subst (λ (xs : List Asked). Rising noted own (map request_id xs) kept) first
     (c.loop-asked.invariant noted within))
     (c.is_next.ensures c.if-not-is_next.false)
@@ -29,7 +29,7 @@ loop-asked-preserved c = λ noted within.
 pub returns : goal.returns
 returns c = λ _ noted within.
     let own = map request_id (requests_said c.args.batch.now.bytes.now) in
-    let kept = AreWithin (span_of c.loop-asked.spans) in
+    let kept = AreInSpans (span_of c.loop-asked.spans) in
     let none : c.loop-asked.asked-iterator ≡ [] = search rules in
     rising_end noted own kept
     (subst (λ (xs : List Asked). Rising noted own (map request_id xs) kept) none

@@ -1,12 +1,12 @@
 use Rattle.std.proofs.Common.{◌-◌, ◌≤◌, length}
 use Rattle.eve_grammar.specs.Bodies.{limits}
-use Rattle.eve_views.specs.SideBySide.{IsWalkedUnjudged, GoesOn}
+use Rattle.eve_views.specs.SideBySide.{IsWalkedUnjudged, WalksOn}
 use Rattle.eve_views.proofs.progress.Progress.pass_accesses.Given as goal
 
 abbrev pub invariant-frames : goal.invariant-frames
 invariant-frames l = record {
   walked : IsWalkedUnjudged (limits l.fn.head) l.bytes l.self;
-  kept : GoesOn l.initial.self l.self;
+  kept : WalksOn l.initial.self l.self;
   on : l.initial.self.at ≤ l.self.at;
 }
 
