@@ -152,12 +152,13 @@ impl Progress {
         ensures on { IfOk result (λ right. IsTrue right → self.old.at ≤ self.new.at) }
     {
         'frames: while 0 < self.reached.accesses {
-            let Some(len) = access_unjudged(&self.reached, &bytes[self.at..]) else {
+            let at = self.at;
+            let Some(len) = access_unjudged(&self.reached, &bytes[at..]) else {
                 return Ok(false);
             };
-            self.offsets.push(self.at as u32)?;
+            self.offsets.push(at as u32)?;
             self.reached.pass(FrameKind::Access, 0);
-            self.at += len;
+            self.at = at + len;
         }
         Ok(true)
     }
