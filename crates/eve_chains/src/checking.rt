@@ -154,7 +154,7 @@ fn judge_both<'a, R: Threads + Sync>(
 /// left; else the first fault, those of records before those of chains, then by offset, then by number.
 ///
 /// docs/MODEL.md, "A record fits its request", "What an entry must see" and "Faults". It works in up to so many threads
-/// as there are jobs, from 1 on; of one job none is started. Of two to five, the thread that judges the chains judges
+/// as there are jobs, from 1 on; of one job none is started. Of two or three, the thread that judges the chains judges
 /// the records of a share of the last attempts after them. What is found doesn't rest on which ends first. Refused
 /// memory decides nothing. The time is linear in the entries.
 pub fn check<'a, R: Threads + Sync>(

@@ -43,18 +43,16 @@ impl Stretch {
 
 /// How many of so many attempts, the last of them, are left to the thread of the chains where there are so many jobs.
 ///
-/// What judging an attempt's chains takes was measured as 23 hundredths of what judging its records takes. So all
-/// threads end at about the same time where this one judges the records of 1.23 / jobs - 0.23 of the attempts, here in
-/// thousandths; from 6 jobs on its chains are a thread's part by themselves. Nothing but the time rests on these
+/// What judging an attempt's chains takes was measured as two fifths of what judging its records takes. So all threads
+/// end at about the same time where this one judges the records of 1.4 / jobs - 0.4 of the attempts, here in
+/// thousandths; from 4 jobs on its chains are a thread's part by themselves. Nothing but the time rests on these
 /// numbers.
 pub(crate) fn share(attempts: usize, jobs: u8) -> usize
     ensures { result ≤ attempts }
 {
     match jobs {
-        2 => attempts.saturating_mul(385) / 1000,
-        3 => attempts.saturating_mul(180) / 1000,
-        4 => attempts.saturating_mul(77) / 1000,
-        5 => attempts.saturating_mul(16) / 1000,
+        2 => attempts.saturating_mul(300) / 1000,
+        3 => attempts.saturating_mul(67) / 1000,
         _ => 0,
     }
 }
