@@ -10,7 +10,7 @@ pub returns-clause-fault : goal.returns-clause-fault
 returns-clause-fault g c =
     let bytes = c.args.bytes.now in
     let t = c.in-Ok.trace in
-    found_weaker (IsLeast (IsOrderFault t)) (λ f. IsAnswer bytes (No f)) c.in-Err-orders.why
+    found_weaker (IsLeast (IsOrderFault t)) (λ f. IsAnswer bytes (No f)) c.in-Err-orders_side_by_side.why
     (λ f least. no_for bytes t (record { spells = c.in-Ok.ensures.trace; none = c.in-Ok.ensures.faultless })
     (λ u other. c.bytes_spell_one_trace.ensures bytes u t other c.in-Ok.ensures.trace)
     (c.faults_lie_within.ensures.orders t)
@@ -19,7 +19,7 @@ returns-clause-fault g c =
       c.fates_are_as_the_section_ends.ensures.discarded
           t e,
     )) f (order_first t f least))
-    c.in-Err-orders.ensures.least
+    c.in-Err-orders_side_by_side.ensures.least
 
 pub returns-in-Err-clause-fault : goal.returns-in-Err-clause-fault
 returns-in-Err-clause-fault g c =
