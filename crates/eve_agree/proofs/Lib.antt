@@ -13,3 +13,4 @@ mod Answering
 mod Reading
 pub mod Sending
 pub mod Stretched
+pub mod Shown

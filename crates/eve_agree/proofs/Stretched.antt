@@ -155,7 +155,7 @@ module _ (t : Trace) (e : ℕ) where
   -- ---- one batch
 
   -- this offset, number, replies and token are those of replica e's attempt of batch n
-  record IsOfBatch (n offset : ℕ) (said : Attempt) : Type 0 where
+  pub record IsOfBatch (n offset : ℕ) (said : Attempt) : Type 0 where
     pub item : Placed
     pub at : committed_at t e n ≡ Some item
     pub offset_is : offset ≡ item.offset
@@ -164,7 +164,7 @@ module _ (t : Trace) (e : ℕ) where
     pub token : said.token ≡ item.attempt.token
     pub number : item.attempt.seq ≡ n
 
-  of_batch : (n offset : ℕ) (said : Attempt) (h : SectionHistory) → h ≡ section_history t e → IsRightSection t e
+  pub of_batch : (n offset : ℕ) (said : Attempt) (h : SectionHistory) → h ≡ section_history t e → IsRightSection t e
       → (r : ExecutedAttempt) × (slice_get h.commits n ≡ Some r) × (offset ≡ r.offset) × (said ≡ r.attempt) →
       IsOfBatch (suc n) offset said
   of_batch n offset said h is right got =
@@ -186,7 +186,7 @@ module _ (t : Trace) (e : ℕ) where
       }
 
   -- the token that is due, of what was read
-  batch_due : (n offset : ℕ) (said : Attempt) (b : List ℤ) (of : IsOfBatch (suc n) offset said) →
+  pub batch_due : (n offset : ℕ) (said : Attempt) (b : List ℤ) (of : IsOfBatch (suc n) offset said) →
       IsAfter (settling t e) (n + 1) b → ((m : ℕ) → values_in (settling t e) m ≡ values_to t e m)
       → token_of 1 said.seq b said.replies ≡ due_token t e of.item
   batch_due n offset said b of after law =

@@ -4,6 +4,7 @@ pub mod Tables
 pub mod Restores
 pub mod Marking
 pub mod DueTokens
+pub mod ShownTokens
 pub mod Majority
 pub mod Unbacked
 pub mod SentReplies

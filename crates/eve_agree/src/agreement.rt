@@ -92,7 +92,7 @@ fn advance_all(settled: &[Settled<'_>], n: u32, all: &mut Vec<Balances>)
 }
 
 /// Goes from a replica's balances after the batch before to those after batch n, the same where it didn't commit it.
-fn advance(settled: &Settled<'_>, n: u32, balances: &mut Balances)
+pub(crate) fn advance(settled: &Settled<'_>, n: u32, balances: &mut Balances)
     requires one { 1 ≤ n }
     requires before { IsAfter settled.now (n - 1) balances.old }
     ensures { IsAfter settled.now n balances.new }
@@ -192,7 +192,7 @@ fn is_same(
 }
 
 /// Whether all balances are the same.
-fn are_same(balances: &Balances, others: &Balances) -> bool
+pub(crate) fn are_same(balances: &Balances, others: &Balances) -> bool
     ensures { IsTrue result ↔ (balances.now ≡ others.now) }
 {
     balances.as_slice() == others.as_slice()

@@ -47,7 +47,7 @@ struct Stretch {
 }
 
 /// The offset of the attempt of batch n, from 1, if its token is not the one that is due of the balances after it.
-fn wrong_at(
+pub(crate) fn wrong_at(
     trace: &Trace<'_>,
     history: &History<'_>,
     settled: &Settled<'_>,
@@ -222,13 +222,37 @@ fn first_in<R: Threads + Sync>(
     Ok(first_of_all(&stretches))
 }
 
+/// What is answered of a replica's tokens, of the offset of the first of its attempts with a token that is not due.
+pub(crate) fn answer(
+    trace: &Trace<'_>,
+    history: &History<'_>,
+    settled: &Settled<'_>,
+    wrong: Option<u64>,
+) -> Result<(), CheckFault>
+    requires section { AreOfSection trace.now history.now settled.now }
+    requires wrong { IsFirstWrong trace.now history.now.replica 0 (length settled.now.batches) wrong }
+    ensures due { IfOk result (λ _. TokensAreDue trace.now history.now.replica) }
+    ensures none { IfOk result (λ _. HasNone (IsTokenFault trace.now history.now.replica)) }
+    ensures least { IfErr result (λ why. IfFound why (IsLeast (IsTokenFault trace.now history.now.replica))) }
+{
+    match wrong {
+        Some(offset) => Err(CheckFault::Found(Fault {
+            code: Code::Token,
+            offset,
+            replica: Some(history.replica()),
+        })),
+        None => Ok(()),
+    }
+}
+
 /// Judges the tokens of a replica's committed attempts: each is that of the balances after its batch and of its
 /// replies; else the first that is not.
 ///
 /// docs/MODEL.md, "Due tokens"; docs/TRACE.md, "Token". It hashes each batch's balances once. The batches are cut into
 /// up to so many stretches as there are jobs, from 1 on, and judged in as many threads; of one job none is started.
 /// Each thread has balances of its own, which were noted where its stretch begins while the chains were judged
-/// (`check`, with as many jobs). What is found doesn't rest on which ends first. Refused memory decides nothing.
+/// (`check`, with as many jobs). What is found doesn't rest on which ends first. `tokens_beside`, which is lent another
+/// replica whose tokens are due, hashes less. Refused memory decides nothing.
 pub fn tokens<R: Threads + Sync>(
     rt: &R,
     alloc: Global,
@@ -244,12 +268,6 @@ pub fn tokens<R: Threads + Sync>(
     ensures none { IfOk result (λ _. HasNone (IsTokenFault trace.now history.now.replica)) }
     ensures least { IfErr result (λ why. IfFound why (IsLeast (IsTokenFault trace.now history.now.replica))) }
 {
-    match first_in(rt, alloc, trace, history, settled, jobs)? {
-        Some(offset) => Err(CheckFault::Found(Fault {
-            code: Code::Token,
-            offset,
-            replica: Some(history.replica()),
-        })),
-        None => Ok(()),
-    }
+    let wrong = first_in(rt, alloc, trace, history, settled, jobs)?;
+    answer(trace, history, settled, wrong)
 }

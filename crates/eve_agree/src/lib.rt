@@ -9,9 +9,11 @@ pub mod laws;
 mod majority;
 mod restores;
 mod sent_replies;
+mod shown_tokens;
 
 pub use agreement::equal_balances;
 pub use due_tokens::tokens;
 pub use majority::majorities;
 pub use restores::rollbacks;
 pub use sent_replies::replies;
+pub use shown_tokens::{Peer, tokens_beside};

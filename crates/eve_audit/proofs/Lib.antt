@@ -6,6 +6,7 @@ pub mod FirstOwnFaults
 pub mod Kept
 pub mod Told
 pub mod Found
+pub mod Beside
 pub mod Accepted
 pub mod Where
 pub mod Placed

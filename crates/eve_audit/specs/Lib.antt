@@ -1,6 +1,7 @@
 pub mod Verdict
 pub mod Reports
 pub mod Findings
+pub mod Peers
 pub mod Answer
 pub mod Where
 pub mod Alone

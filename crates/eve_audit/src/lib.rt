@@ -3,6 +3,7 @@
 
 mod auditing;
 pub mod laws;
+mod peers;
 mod replicas;
 mod verdict;
 mod workers;

@@ -6,12 +6,14 @@ ghost use Rattle.eve_history.specs.Faults.{IsStructureFault};
 ghost use Rattle.eve_history.specs.SectionHistory.{names_of, section_history, section_histories};
 ghost use Rattle.eve_chains.specs.Settling.{settling, settlings};
 ghost use Rattle.eve_audit.specs.Findings.{AreTrue, IsAnswerOf};
+ghost use Rattle.eve_audit.specs.Peers.{IsSoundPeer};
 ghost use Rattle.eve_audit.specs.Verdict.{IsOwnFault, IsFaultBelow};
 ghost use Rattle.eve_audit.specs.Reports.{IsFirstOf, IsReportOf, IsSoundReplica, IsLeastBelow};
 
+use crate::peers::most_committed;
 use crate::workers::Slot;
 use eve_accounts::Names;
-use eve_agree::{rollbacks, tokens};
+use eve_agree::{Peer, rollbacks, tokens, tokens_beside};
 use eve_chains::{Settled, check};
 use eve_history::History;
 use eve_views::{CheckFault, Fault, Trace, first_of};
@@ -25,6 +27,19 @@ pub struct Report<'a> {
     pub history: History<'a>,
     /// What its committed batches wrote.
     pub settled: Settled<'a>,
+}
+
+impl<'a> Report<'a> {
+    /// The replica as one beside which others are judged.
+    pub fn peer(&self) -> Peer<'_, 'a>
+        ensures history { result.history.now ≡ self.now.history }
+        ensures settled { result.settled.now ≡ self.now.settled }
+    {
+        Peer {
+            history: &self.history,
+            settled: &self.settled,
+        }
+    }
 }
 
 /// The replicas' reports, in their order.
@@ -63,7 +78,8 @@ pub fn judge_replicas<'a, R: Threads + Sync>(
         committed: u32::MAX,
     };
     'replicas: for e in 0..trace.section_count() {
-        match judge_missing(rt, alloc, trace, names, slots, e) {
+        let peer = most_committed(trace, &kept.histories, &kept.settled);
+        match judge_missing(rt, alloc, trace, names, slots, e, peer) {
             Ok(report) => keep(&mut kept, report)?,
             Err(CheckFault::Found(fault)) => {
                 first = first_of(first, Some(fault));
@@ -79,6 +95,7 @@ pub fn judge_replicas<'a, R: Threads + Sync>(
 
 /// A replica's report, or the first of its own faults, by the replica's number from 0. Its structure, its records, its
 /// chains and its tokens are judged in up to so many threads as there are jobs, from 1 on; of one job none is started.
+/// Where there is another replica whose tokens are due, its tokens are judged beside that one's, in one thread.
 pub fn judge_replica<'a, R: Threads + Sync>(
     rt: &R,
     alloc: Global,
@@ -86,10 +103,12 @@ pub fn judge_replica<'a, R: Threads + Sync>(
     names: &Names<'_>,
     e: u8,
     jobs: u8,
+    peer: Option<Peer<'_, 'a>>,
 ) -> Result<Report<'a>, CheckFault>
     requires there { e < length trace.now.sections }
     requires names { names.now.items ≡ names_of trace.now }
     requires jobs { 1 ≤ jobs }
+    requires peer { IsSoundPeer trace.now peer }
     ensures report { IfOk result (IsReportOf trace.now e) }
     ensures first { IfErr result (λ why. IfFound why (IsFirstOf (IsOwnFault trace.now e))) }
 {
@@ -97,7 +116,7 @@ pub fn judge_replica<'a, R: Threads + Sync>(
         Ok(history) => history,
         Err(why) => return Err(why),
     };
-    match settle(rt, alloc, trace, names, &history, jobs) {
+    match settle(rt, alloc, trace, names, &history, jobs, peer) {
         Ok(settled) => Ok(Report { history, settled }),
         Err(why) => Err(why),
     }
@@ -111,11 +130,13 @@ fn settle<'a, R: Threads + Sync>(
     names: &Names<'_>,
     history: &History<'a>,
     jobs: u8,
+    peer: Option<Peer<'_, 'a>>,
 ) -> Result<Settled<'a>, CheckFault>
     requires history { history.now ≡ section_history trace.now history.now.replica }
     requires none { HasNone (IsStructureFault trace.now history.now.replica) }
     requires names { names.now.items ≡ names_of trace.now }
     requires jobs { 1 ≤ jobs }
+    requires peer { IsSoundPeer trace.now peer }
     ensures settled { IfOk result (λ settled. settled ≡ settling trace.now history.now.replica) }
     ensures sound { IfOk result (λ _. IsSoundReplica trace.now history.now.replica) }
     ensures none { IfOk result (λ _. HasNone (IsOwnFault trace.now history.now.replica)) }
@@ -124,12 +145,15 @@ fn settle<'a, R: Threads + Sync>(
     history.recall_right();
     let settled = check(rt, alloc, history, trace, names, jobs)?;
     rollbacks(alloc, trace, history, &settled)?;
-    tokens(rt, alloc, trace, history, &settled, jobs)?;
+    match peer {
+        Some(peer) => tokens_beside(alloc, trace, history, &settled, peer)?,
+        None => tokens(rt, alloc, trace, history, &settled, jobs)?,
+    }
     Ok(settled)
 }
 
-// A replica's report, or the first of its own faults: as was found before, or else as it is judged here, which starts
-// no thread and takes no memory for one.
+// A replica's report, or the first of its own faults: as was found before, or else as it is judged here, beside a peer
+// if there is one, which starts no thread and takes no memory for one.
 fn judge_missing<'a, R: Threads + Sync>(
     rt: &R,
     alloc: Global,
@@ -137,10 +161,12 @@ fn judge_missing<'a, R: Threads + Sync>(
     names: &Names<'_>,
     slots: &mut [Slot<'a>],
     e: u8,
+    peer: Option<Peer<'_, 'a>>,
 ) -> Result<Report<'a>, CheckFault>
     requires there { e < length trace.now.sections }
     requires names { names.now.items ≡ names_of trace.now }
     requires slots { All (AreTrue trace.now) slots.old }
+    requires peer { IsSoundPeer trace.now peer }
     ensures report { IfOk result (IsReportOf trace.now e) }
     ensures first { IfErr result (λ why. IfFound why (IsFirstOf (IsOwnFault trace.now e))) }
     ensures left { All (AreTrue trace.now) slots.new }
@@ -148,7 +174,7 @@ fn judge_missing<'a, R: Threads + Sync>(
     match take_found(trace, slots, e) {
         Some(Ok(report)) => Ok(report),
         Some(Err(fault)) => Err(CheckFault::Found(fault)),
-        None => judge_replica(rt, alloc, trace, names, e, 1),
+        None => judge_replica(rt, alloc, trace, names, e, 1, peer),
     }
 }
 

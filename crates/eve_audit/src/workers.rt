@@ -5,8 +5,10 @@ ghost use Rattle.std.specs.Prelude.{IsTrue, IsNone, IfOk, IfSome};
 ghost use Rattle.std.specs.Thread.{IsSync};
 ghost use Rattle.eve_history.specs.SectionHistory.{names_of};
 
+use crate::peers::that_committed_more;
 use crate::replicas::{Report, judge_replica};
 use eve_accounts::Names;
+use eve_agree::Peer;
 use eve_recorder::Gate;
 use eve_views::{CheckFault, Fault, Trace};
 use std::alloc::{AllocError, Global};
@@ -62,6 +64,7 @@ pub struct Slot<'a> {
 impl<'a> Slot<'a> {
     ghost use Rattle.eve_audit.specs.declared.workers.Finding.{Finding as FindingValue};
     ghost use Rattle.eve_audit.specs.Findings.{AreDealt, AreTrue, finding};
+    ghost use Rattle.eve_audit.specs.Peers.{IsSoundPeer};
 
     /// What workers find of the replicas, side by side, each replica judged by itself. Worker e mod `workers` judges
     /// replica e, and enters the gate with e first. Where there are more workers than replicas, each replica is judged
@@ -188,8 +191,8 @@ impl<'a> Slot<'a> {
         }
     }
 
-    // Judges a replica by itself, in up to so many threads as there are jobs, from 1 on, and keeps what that comes to.
-    // Where memory runs out nothing is kept.
+    // Judges a replica by itself, in up to so many threads as there are jobs, from 1 on, and keeps what that comes to;
+    // beside a replica that it found sound before, if there is one. Where memory runs out nothing is kept.
     fn judge<R: Threads + Sync>(
         &mut self,
         rt: &R,
@@ -209,13 +212,28 @@ impl<'a> Slot<'a> {
         if self.findings.reserve(1).is_err() {
             return;
         }
-        let answer = match judge_replica(rt, alloc, trace, names, e, jobs) {
+        let peer = self.most_committed(trace);
+        let answer = match judge_replica(rt, alloc, trace, names, e, jobs, peer) {
             Ok(report) => Ok(report),
             Err(CheckFault::Found(fault)) => Err(fault),
             Err(CheckFault::Memory) => return,
         };
         self.findings
             .push_back_reserved(Finding { replica: e, answer });
+    }
+
+    // Of the replicas that it found sound, the one that committed most.
+    fn most_committed(&self, trace: &Trace<'a>) -> Option<Peer<'_, 'a>>
+        requires { AreTrue trace.now self.now }
+        ensures { IsSoundPeer trace.now result }
+    {
+        let mut most = None;
+        for i in 0..self.findings.len() {
+            if let Ok(report) = &self.findings[i].answer {
+                most = Some(that_committed_more(most, report.peer()));
+            }
+        }
+        most
     }
 }
 

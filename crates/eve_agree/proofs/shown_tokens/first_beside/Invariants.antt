@@ -1,0 +1,11 @@
+use Rattle.std.proofs.Common.{None}
+use Rattle.eve_agree.specs.Judging.{IsAfter}
+use Rattle.eve_agree.specs.DueTokens.{IsFirstWrong}
+use Rattle.eve_agree.proofs.shown_tokens.first_beside.Given as goal
+
+abbrev pub invariant-loop-n : goal.invariant-loop-n
+invariant-loop-n l = record {
+  balances : IsAfter l.settled l.n l.balances;
+  others : IsAfter l.peer.settled.now l.n l.others;
+  due : IsFirstWrong l.trace l.history.replica 0 l.n None;
+}

@@ -1,0 +1,156 @@
+//! The faults of tokens, judged beside a replica whose tokens are due.
+
+ghost use Rattle.std.specs.Prelude.{◌≡◌, ◌≤◌, ◌-◌, ◌↔◌, IsTrue, IfOk, IfErr, length};
+ghost use Rattle.std.specs.List.{flat_map};
+ghost use Rattle.eve_smallbank.specs.Spelling.{reply_text};
+ghost use Rattle.eve_frames.specs.Said.{attempt_said};
+ghost use Rattle.eve_views.specs.Form.{IfFound, IsLeast, HasNone};
+ghost use Rattle.eve_history.specs.SectionHistory.{section_history};
+ghost use Rattle.eve_chains.specs.Settling.{settling};
+ghost use Rattle.eve_agree.specs.DueTokens.{TokensAreDue, IsTokenFault, IsDueIn, IsFirstWrong};
+ghost use Rattle.eve_agree.specs.Judging.{IsAfter};
+ghost use Rattle.eve_agree.specs.ShownTokens.{IsDueReplica};
+ghost use Rattle.eve_agree.specs.Stretches.{AreOfSection};
+
+use crate::agreement::{advance, are_same, committed_attempt};
+use crate::due_tokens::{answer, wrong_at};
+use eve_accounts::Balances;
+use eve_chains::Settled;
+use eve_chains::laws::settled_values_are_the_banks;
+use eve_frames::AttemptView;
+use eve_history::History;
+use eve_views::{CheckFault, Trace};
+use std::alloc::{AllocError, Global};
+
+/// Another replica of the same trace, beside which a replica's tokens are judged.
+#[derive(Clone, Copy)]
+pub struct Peer<'b, 'a> {
+    /// What its section tells.
+    pub history: &'b History<'a>,
+    /// What its committed batches wrote.
+    pub settled: &'b Settled<'a>,
+}
+
+/// Whether two attempts have the same token and the same replies, and the balances after them are the same.
+fn is_alike(
+    attempt: &AttemptView<'_>,
+    balances: &Balances,
+    other: &AttemptView<'_>,
+    others: &Balances,
+) -> bool
+    ensures { IsTrue result ↔ (((attempt_said attempt.now).token ≡ (attempt_said other.now).token)
+        × (flat_map reply_text (attempt_said attempt.now).replies
+        ≡ flat_map reply_text (attempt_said other.now).replies)
+        × (balances.now ≡ others.now)) }
+{
+    let token = attempt.token() == other.token();
+    let replies = attempt.reply_bytes() == other.reply_bytes();
+    token && replies && are_same(balances, others)
+}
+
+/// Whether the peer shows the token of batch n, from 1, to be due: it committed the batch too, with that token and those
+/// replies, and the balances after it are the same.
+fn is_shown(
+    trace: &Trace<'_>,
+    history: &History<'_>,
+    settled: &Settled<'_>,
+    n: u32,
+    balances: &Balances,
+    peer: Peer<'_, '_>,
+    others: &Balances,
+) -> bool
+    requires section { AreOfSection trace.now history.now settled.now }
+    requires peer { IsDueReplica trace.now peer.history.now peer.settled.now }
+    requires one { 1 ≤ n }
+    requires there { n ≤ length settled.now.batches }
+    requires after { IsAfter settled.now n balances.now }
+    requires others { IsAfter peer.settled.now n others.now }
+    ensures { IsTrue result → IsDueIn trace.now history.now.replica n }
+{
+    trace.recall_limits();
+    history.recall_right();
+    peer.history.recall_right();
+    settled_values_are_the_banks();
+    if peer.settled.committed() < n {
+        return false;
+    }
+    let attempt = committed_attempt(history, n);
+    let other = committed_attempt(peer.history, n);
+    is_alike(&attempt, balances, &other, others)
+}
+
+/// The offset of the attempt of batch n, from 1, if its token is not the one that is due. Where the peer shows it to be
+/// due nothing is hashed.
+fn wrong_beside(
+    trace: &Trace<'_>,
+    history: &History<'_>,
+    settled: &Settled<'_>,
+    n: u32,
+    balances: &Balances,
+    peer: Peer<'_, '_>,
+    others: &Balances,
+) -> Option<u64>
+    requires section { AreOfSection trace.now history.now settled.now }
+    requires peer { IsDueReplica trace.now peer.history.now peer.settled.now }
+    requires one { 1 ≤ n }
+    requires there { n ≤ length settled.now.batches }
+    requires after { IsAfter settled.now n balances.now }
+    requires others { IsAfter peer.settled.now n others.now }
+    ensures { IsFirstWrong trace.now history.now.replica (n - 1) n result }
+{
+    if is_shown(trace, history, settled, n, balances, peer, others) {
+        return None;
+    }
+    wrong_at(trace, history, settled, n, balances)
+}
+
+/// The offset of the first of a replica's attempts with a token that is not due, of all its committed batches.
+#[tactic(auto, using(crate::proofs::Stretched::one_more, crate::proofs::Stretched::wrong_first))]
+fn first_beside(
+    alloc: Global,
+    trace: &Trace<'_>,
+    history: &History<'_>,
+    settled: &Settled<'_>,
+    peer: Peer<'_, '_>,
+) -> Result<Option<u64>, AllocError>
+    requires section { AreOfSection trace.now history.now settled.now }
+    requires peer { IsDueReplica trace.now peer.history.now peer.settled.now }
+    ensures { IfOk result (IsFirstWrong trace.now history.now.replica 0 (length settled.now.batches)) }
+{
+    let mut balances = settled.balances_after(alloc, 0)?;
+    let mut others = peer.settled.balances_after(alloc, 0)?;
+    for n in 0..settled.committed() {
+        settled.advance(n + 1, &mut balances);
+        advance(peer.settled, n + 1, &mut others);
+        let wrong = wrong_beside(trace, history, settled, n + 1, &balances, peer, &others);
+        if wrong.is_some() {
+            return Ok(wrong);
+        }
+    }
+    Ok(None)
+}
+
+/// Judges the tokens of a replica's committed attempts, as `tokens` does, beside another replica whose tokens are due:
+/// each is that of the balances after its batch and of its replies; else the first that is not.
+///
+/// docs/MODEL.md, "Due tokens"; docs/TRACE.md, "Token". A batch that both committed with one token, the same replies and
+/// the same balances after it has its due token here as it has there, and nothing of it is hashed; every other batch's
+/// balances are hashed once, as `tokens` hashes them. It keeps the balances of both replicas and goes with them from
+/// batch to batch, in one thread. Refused memory decides nothing.
+pub fn tokens_beside(
+    alloc: Global,
+    trace: &Trace<'_>,
+    history: &History<'_>,
+    settled: &Settled<'_>,
+    peer: Peer<'_, '_>,
+) -> Result<(), CheckFault>
+    requires history { history.now ≡ section_history trace.now history.now.replica }
+    requires settled { settled.now ≡ settling trace.now history.now.replica }
+    requires peer { IsDueReplica trace.now peer.history.now peer.settled.now }
+    ensures due { IfOk result (λ _. TokensAreDue trace.now history.now.replica) }
+    ensures none { IfOk result (λ _. HasNone (IsTokenFault trace.now history.now.replica)) }
+    ensures least { IfErr result (λ why. IfFound why (IsLeast (IsTokenFault trace.now history.now.replica))) }
+{
+    let wrong = first_beside(alloc, trace, history, settled, peer)?;
+    answer(trace, history, settled, wrong)
+}
