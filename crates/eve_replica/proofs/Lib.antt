@@ -1,4 +1,3 @@
-pub mod Cuts
 pub mod Counting
 mod Each
 mod GivenUp

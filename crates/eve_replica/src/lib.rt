@@ -16,4 +16,4 @@ pub use eve_floor;
 pub use eve_workload;
 pub use fault::{AttemptFault, CloseFault, CommitFault, RunFault};
 pub use replica::Replica;
-pub use running::run;
+pub use running::{run, run_consuming};

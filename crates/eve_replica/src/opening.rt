@@ -1,20 +1,20 @@
 //! What a run begins with.
 
-ghost use Rattle.std.specs.Prelude.{◌≡◌, ◌≢◌, ◌*◌, ◌<◌, ◌≤◌, [], slice_index_or, length, map};
+ghost use Rattle.std.specs.Prelude.{◌≡◌, ◌≢◌, ◌*◌, ◌≤◌, length, map};
 ghost use Rattle.std.specs.Prelude.{All, AllPairs, IsTrue, IfOk};
 ghost use Rattle.std.specs.List.{list_all};
 ghost use Rattle.eve_grammar.specs.Trace.{opening_rows};
 ghost use Rattle.eve_grammar.specs.Limits.{is_customer};
-ghost use Rattle.eve_write.specs.Data.{batch as plain, customer};
+ghost use Rattle.eve_write.specs.Data.{asked, batch as plain, customer};
 ghost use Rattle.eve_workload.specs.Mixing.{cut, batch_with};
-ghost use Rattle.eve_workload.specs.Workload.{customer_names};
-ghost use Rattle.eve_replica.specs.Run.{batches_cut};
+ghost use Rattle.eve_workload.specs.Batches.{asked_lists};
+ghost use Rattle.eve_workload.specs.Workload.{customer_names, is_listed};
 ghost use Rattle.eve_replica.specs.Serving.{IsRightMixed};
 
 use eve_accounts::{Balances, Names, Row};
-use eve_grammar::{MOST_BATCHES, MOST_CUSTOMERS};
-use eve_workload::{MixedBatch, Mixer, Workload, mix_touched};
-use eve_write::CustomerData;
+use eve_grammar::MOST_CUSTOMERS;
+use eve_workload::{MixedBatch, Mixer, mix_touched};
+use eve_write::{CustomerData, RequestData};
 use std::alloc::{AllocError, Global};
 use std::hash::RandomState;
 
@@ -51,39 +51,37 @@ pub(crate) fn balances_of(alloc: Global, customers: &[CustomerData]) -> Result<B
     Ok(balances)
 }
 
-/// Each batch of the workload, cut into parallelBatches. Here alone the names of its requests are looked up.
+/// Each batch, cut into parallelBatches; what was listed of it goes once it is cut. Here alone the names of the requests
+/// are looked up.
 pub(crate) fn batches_of(
     alloc: Global,
-    workload: &Workload,
+    listed: Vec<Vec<RequestData>>,
     names: &Names,
     mixer: Mixer,
 ) -> Result<Vec<MixedBatch>, AllocError>
-    requires { names.now.items ≡ customer_names workload.now.customers }
-    ensures cut { IfOk result (λ batches. map (λ m. plain m.batch) batches.items ≡ batches_cut workload.now mixer) }
+    requires { IsTrue (list_all is_listed (asked_lists listed.items)) }
+    ensures cut { IfOk result (λ batches. map (λ m. plain m.batch) batches.items
+        ≡ map (λ requests. batch_with (cut names.now.items mixer requests)) (asked_lists listed.items)) }
     ensures mixed { IfOk result (λ batches. All (IsRightMixed names.now.items) batches.items) }
 {
-    let mut batches = Vec::with_capacity(alloc, workload.batches() as usize)?;
-    for number in 0..workload.batches() {
-        batches.push(cut_batch(alloc, workload, number, names, mixer)?)?;
+    let mut batches = Vec::with_capacity(alloc, listed.len())?;
+    for requests in listed {
+        batches.push(cut_batch(alloc, requests, names, mixer)?)?;
     }
     Ok(batches)
 }
 
-// The batch at this place, counted from 0, cut into parallelBatches.
-#[tactic(auto, using(crate::proofs::Cuts::listed_at))]
+// The batch of these requests, cut into parallelBatches.
 fn cut_batch(
     alloc: Global,
-    workload: &Workload,
-    place: u32,
+    requests: Vec<RequestData>,
     names: &Names,
     mixer: Mixer,
 ) -> Result<MixedBatch, AllocError>
-    requires names { names.now.items ≡ customer_names workload.now.customers }
-    requires there { place < length workload.now.batches }
-    requires few { place < MOST_BATCHES }
-    ensures cut { let requests = slice_index_or workload.now.batches place [] in
-        IfOk result (λ m. plain m.batch ≡ batch_with (cut (customer_names workload.now.customers) mixer requests)) }
+    requires { IsTrue (is_listed (map asked requests.items)) }
+    ensures cut { IfOk result (λ m.
+        plain m.batch ≡ batch_with (cut names.now.items mixer (map asked requests.items))) }
     ensures mixed { IfOk result (IsRightMixed names.now.items) }
 {
-    mix_touched(alloc, workload.batch(place + 1), names, mixer)
+    mix_touched(alloc, requests.as_slice(), names, mixer)
 }

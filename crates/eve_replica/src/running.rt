@@ -41,7 +41,25 @@ pub fn run<R: Threads + Wait + Sync, G: Gate>(
 ) -> Result<Parts, RunFault>
     ensures { IfOk result (IsRunOf workload.now mixer) }
 {
-    let names = names_of(alloc, workload.customers(), random)?;
+    run_consuming(rt, alloc, workload.copy(alloc)?, mixer, random, gate)
+}
+
+/// Runs the workload, as `run` does, and uses it up: what is listed of a batch goes once the batch is cut into
+/// parallelBatches, so no batch but that stands in memory twice.
+///
+/// docs/TRACE.md, "The deployment's procedure". It refuses where `run` does.
+pub fn run_consuming<R: Threads + Wait + Sync, G: Gate>(
+    rt: &R,
+    alloc: Global,
+    workload: Workload,
+    mixer: Mixer,
+    random: RandomState,
+    gate: &G,
+) -> Result<Parts, RunFault>
+    ensures { IfOk result (IsRunOf workload mixer) }
+{
+    let customers = copy_customers(alloc, workload.customers())?;
+    let names = names_of(alloc, customers.as_slice(), random)?;
     run_named(rt, alloc, workload, mixer, &names, gate)
 }
 
@@ -49,17 +67,18 @@ pub fn run<R: Threads + Wait + Sync, G: Gate>(
 fn run_named<R: Threads + Wait + Sync, G: Gate>(
     rt: &R,
     alloc: Global,
-    workload: &Workload,
+    workload: Workload,
     mixer: Mixer,
     names: &Names,
     gate: &G,
 ) -> Result<Parts, RunFault>
-    requires { names.now.items ≡ customer_names workload.now.customers }
-    ensures { IfOk result (IsRunOf workload.now mixer) }
+    requires { names.now.items ≡ customer_names workload.customers }
+    ensures { IfOk result (IsRunOf workload mixer) }
 {
     let head = workload.head();
     let balances = balances_of(alloc, workload.customers())?;
-    let batches = batches_of(alloc, workload, names, mixer)?;
+    let (customers, listed) = workload.into_lists();
+    let batches = batches_of(alloc, listed, names, mixer)?;
     let RunState { servers, votes, .. } = run_windows(
         rt,
         alloc,
@@ -74,7 +93,7 @@ fn run_named<R: Threads + Wait + Sync, G: Gate>(
         quorum: head.quorum,
         window: head.window,
         workers: head.workers,
-        customers: copy_customers(alloc, workload.customers())?,
+        customers,
         batches: plain_batches(alloc, batches)?,
         sections: sections_of(alloc, servers)?,
         verifiers: copies_of(alloc, votes.as_slice(), head.verifiers)?,

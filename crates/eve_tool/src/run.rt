@@ -17,8 +17,9 @@ use crate::random::random_words;
 use eve_grammar::MOST_BYTES;
 use eve_recorder::OpenGate;
 use eve_replica::eve_workload::{Mixer, Workload};
+use eve_replica::run_consuming;
 use eve_streams::{Sink, Source, read_all};
-use eve_write::{GatherFault, Parts, gather};
+use eve_write::{GatherFault, Parts, gather_spelled};
 use std::alloc::Global;
 use std::random::RandomSource;
 use std::sync::Wait;
@@ -36,7 +37,7 @@ fn send_trace<O: Sink>(parts: &Parts, limit: u32, out: &mut O) -> Result<(), Too
         × Stopped O.written O.failures out.old out.new (spelling (trace parts.now)) }
     ensures why { IfErr result (λ e. (e ≡ ToolFault.TooLong) ⊎ (e ≡ ToolFault.Write)) }
 {
-    match gather(parts, limit as u64, out) {
+    match gather_spelled(parts, limit as u64, out) {
         Ok(_) => Ok(()),
         Err(GatherFault::Write) => Err(ToolFault::Write),
         Err(GatherFault::TooLong) => Err(ToolFault::TooLong),
@@ -44,37 +45,38 @@ fn send_trace<O: Sink>(parts: &Parts, limit: u32, out: &mut O) -> Result<(), Too
     }
 }
 
-// Runs the workload of these bytes, and answers the parts of its trace.
+// Runs the workload of these bytes, which go once it is read, and answers the parts of its trace.
 fn parts_of<R: RandomSource + Threads + Wait + Sync>(
     rt: &R,
     alloc: Global,
-    bytes: &[u8],
+    bytes: Vec<u8>,
     mixer: Mixer,
 ) -> Result<Parts, ToolFault>
-    ensures run { IfOk result (IsRunOfText mixer bytes.now) }
-    ensures stopped { IfErr result (StopsRun bytes.now) }
+    ensures run { IfOk result (IsRunOfText mixer bytes.items) }
+    ensures stopped { IfErr result (StopsRun bytes.items) }
 {
-    let workload = Workload::read(alloc, bytes)?;
+    let workload = Workload::read(alloc, bytes.as_slice())?;
+    drop(bytes);
     let random = random_words(rt)?;
-    Ok(eve_replica::run(rt, alloc, &workload, mixer, random, &OpenGate)?)
+    Ok(run_consuming(rt, alloc, workload, mixer, random, &OpenGate)?)
 }
 
 // Runs the workload of these bytes and sends the trace, of at most so many bytes, and answers the exit status.
 fn run_bytes<R: RandomSource + Threads + Wait + Sync, O: Sink>(
     rt: &R,
     alloc: Global,
-    bytes: &[u8],
+    bytes: Vec<u8>,
     mixer: Mixer,
     limit: u32,
     out: &mut O,
 ) -> Result<u8, ToolFault>
-    requires short { length bytes.now ≤ limit }
+    requires short { length bytes.items ≤ limit }
     requires limit { limit ≤ MOST_BYTES }
-    ensures all { IfOk result (WritesAll (Runs limit mixer) bytes.now (O.written out.old)
+    ensures all { IfOk result (WritesAll (Runs limit mixer) bytes.items (O.written out.old)
         (O.written out.new)) }
     ensures status { IfOk result (λ status. status ≡ 0) }
     ensures fine { OnOk result (O.failures out.new ≡ O.failures out.old) }
-    ensures left { IfErr result (Leaves limit O.written O.failures (Run mixer) (Some bytes.now) ⊥ out.old out.new) }
+    ensures left { IfErr result (Leaves limit O.written O.failures (Run mixer) (Some bytes.items) ⊥ out.old out.new) }
     ensures wrote { IfErr result (λ why. why ≢ ToolFault.Write → O.failures out.new ≡ O.failures out.old) }
 {
     let parts = parts_of(rt, alloc, bytes, mixer)?;
@@ -114,5 +116,5 @@ pub fn run_within<R: AllocGlobal + RandomSource + Threads + Wait + Sync, I: Sour
     if bytes.len() > limit as usize {
         return Err(ToolFault::TooLong);
     }
-    run_bytes(rt, alloc, bytes.as_slice(), mixer, limit, out)
+    run_bytes(rt, alloc, bytes, mixer, limit, out)
 }

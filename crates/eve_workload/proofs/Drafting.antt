@@ -26,19 +26,17 @@ use Rattle.eve_workload.specs.Lines.{Line, HeadLine, CustomerLine, BatchLine, Re
 use Rattle.eve_workload.specs.Steps.{customers_in, requests_in, batches_in, last_requests, may_follow, is_deployment}
 use Rattle.eve_workload.specs.Steps.{IsRightBehind, AreRightLines}
 use Rattle.eve_workload.specs.RequestIds.{same_id, AreMet}
-use Rattle.eve_workload.specs.Drafts.{starts_in, next_of, has_name, Keeps}
+use Rattle.eve_workload.specs.Batches.{asked_lists, push_last}
+use Rattle.eve_workload.specs.Drafts.{next_of, has_name, Keeps}
+use Rattle.eve_workload.proofs.BatchLists.{batches_counted}
 use Rattle.eve_workload.proofs.KnownIds.{same_id-true, same_id-itself}
 use Rattle.eve_workload.proofs.SameKeys.{found, found_more}
 
--- ---- counts
-
-pub batches_are : (before : List Line) → batches_in before ≡ length (starts_in before)
-batches_are [] = refl
-batches_are (HeadLine d ∷ before) = batches_are before
-batches_are (CustomerLine c ∷ before) = batches_are before
-batches_are (BatchLine ∷ before) =
-    omega (arith, batches_are before, length-append (starts_in before) (length (requests_in before) ∷ []))
-batches_are (RequestLine a ∷ before) = batches_are before
+-- how many batches a draft has
+pub batches_kept : (d : Draft) (before : List Line) → Keeps d before → length d.batches.items ≡ batches_in before
+batches_kept d before keeps =
+    sym (length-map d.batches.items (λ (b : Vec RequestData Global). map asked b.items)) ∙ ap length keeps.batches
+    ∙ batches_counted before keeps.right
 
 -- ---- lines taken
 
@@ -50,8 +48,8 @@ head_taken d deployment [] ranges follows keeps = record {
   last = refl;
   deployment = refl;
   customers = keeps.customers;
+  batches = keeps.batches;
   requests = keeps.requests;
-  starts = keeps.starts;
   count = keeps.count;
   names = keeps.names;
   request_ids = keeps.request_ids;
@@ -61,14 +59,12 @@ head_taken d deployment (CustomerLine c ∷ before) ranges follows keeps = cc
 head_taken d deployment (BatchLine ∷ before) ranges follows keeps = cc
 head_taken d deployment (RequestLine a ∷ before) ranges follows keeps = cc
 
-pub batch_taken : (d : Draft) (starts : Vec ℕ Global) (before : List Line) → starts.items
-    ≡ d.starts.items ++ length d.requests.items ∷ [] → length d.starts.items < 65535
-    → IsTrue (may_follow before BatchLine) → Keeps d before
-    → Keeps (record d { last = last.Batch; starts = starts; count = 0 }) (BatchLine ∷ before)
-batch_taken d starts before pushed room follows keeps =
-    let count : length d.requests.items ≡ length (requests_in before) = sym (length-map d.requests.items asked)
-    ∙ ap length keeps.requests in
-    let few : batches_in before < 65535 = omega (arith, batches_are before, ap length keeps.starts) in
+pub batch_taken : (d : Draft) (batches : Vec (Vec RequestData Global) Global) (opened : Vec RequestData Global)
+    (before : List Line) → batches.items ≡ d.batches.items ++ opened ∷ [] → opened.items ≡ []
+    → length d.batches.items < 65535 → IsTrue (may_follow before BatchLine) → Keeps d before
+    → Keeps (record d { last = last.Batch; batches = batches; count = 0 }) (BatchLine ∷ before)
+batch_taken d batches opened before pushed empty room follows keeps =
+    let few : batches_in before < 65535 = omega (arith, batches_kept d before keeps) in
     record {
       right = (
         record { follows = follows; ranges = refl; room = lt-ltb (batches_in before) 65535 few; new = tt },
@@ -77,17 +73,18 @@ batch_taken d starts before pushed room follows keeps =
       last = refl;
       deployment = keeps.deployment;
       customers = keeps.customers;
+      batches = ap asked_lists pushed ∙ map_push (λ (b : Vec RequestData Global). map asked b.items) d.batches.items opened
+          ∙ (λ k. keeps.batches k ++ map asked (empty k) ∷ []);
       requests = keeps.requests;
-      starts = pushed ∙ (λ k. keeps.starts k ++ count k ∷ []);
       count = refl;
       names = keeps.names;
       request_ids = keeps.request_ids;
     }
 
-pub batch_refused : (d : Draft) (before : List Line) → 65535 ≤ length d.starts.items → Keeps d before
+pub batch_refused : (d : Draft) (before : List Line) → 65535 ≤ length d.batches.items → Keeps d before
     → ¬ IsRightBehind before BatchLine
 batch_refused d before full keeps right =
-    omega (arith, ltb-true (batches_in before) 65535 right.room, batches_are before, ap length keeps.starts)
+    omega (arith, ltb-true (batches_in before) 65535 right.room, batches_kept d before keeps)
 
 no_requests : (before : List Line) (c : Customer) → IsTrue (may_follow before (CustomerLine c)) → last_requests before
     ≡ 0
@@ -123,8 +120,8 @@ customer_taken d customers names added c before pushed same room ranges follows 
       deployment = keeps.deployment;
       customers = ap (map customer) pushed ∙ map_push customer d.customers.items added
           ∙ (λ k. keeps.customers k ++ same k ∷ []);
+      batches = keeps.batches;
       requests = keeps.requests;
-      starts = keeps.starts;
       count = keeps.count ∙ no_requests before c follows;
       names = λ other.
           found_more same_name same_name-true same_name-itself (customer_names (customers_in before)) c.name other
@@ -139,14 +136,15 @@ name_refused d c before known keeps right =
     right.new (Contains-from_any same_name-true c.name (customer_names (customers_in before))
     (sym (keeps.names c.name) ∙ known))
 
-pub request_taken : (d : Draft) (requests : Vec RequestData Global) (ids : RequestIds) (count : ℕ) (a : Asked)
-    (before : List Line) → map asked requests.items ≡ map asked d.requests.items ++ a ∷ [] → count ≡ d.count + 1
+pub request_taken : (d : Draft) (batches : Vec (Vec RequestData Global) Global) (ids : RequestIds) (requests count : ℕ)
+    (a : Asked) (before : List Line) → asked_lists batches.items ≡ push_last (asked_lists d.batches.items) a
+    → requests ≡ d.requests + 1 → count ≡ d.count + 1
     → d.count < 256 → IsTrue (is_asked a) → IsTrue (may_follow before (RequestLine a))
     → list_any (same_id (request_id a)) (map request_id (requests_in before)) ≡ false
     → AreMet ids (map request_id (requests_in before) ++ request_id a ∷ []) → Keeps d before
-    → Keeps (record d { last = last.Request; requests = requests; request_ids = ids; count = count })
+    → Keeps (record d { last = last.Request; batches = batches; request_ids = ids; requests = requests; count = count })
     (RequestLine a ∷ before)
-request_taken d requests ids count a before added counted room ranges follows fresh met keeps =
+request_taken d batches ids requests count a before added more counted room ranges follows fresh met keeps =
     record {
       right = (
         record {
@@ -161,8 +159,8 @@ request_taken d requests ids count a before added counted room ranges follows fr
       last = refl;
       deployment = keeps.deployment;
       customers = keeps.customers;
-      requests = added ∙ ap (λ rs. rs ++ a ∷ []) keeps.requests;
-      starts = keeps.starts;
+      batches = added ∙ ap (λ lists. push_last lists a) keeps.batches;
+      requests = omega (arith, more, keeps.requests, length-append (requests_in before) (a ∷ []));
       count = counted ∙ ap (λ n. n + 1) keeps.count;
       names = keeps.names;
       request_ids = subst (AreMet ids) (sym (map_push request_id (requests_in before) a)) met;
@@ -176,7 +174,7 @@ id_refused a before known right =
 
 -- how many lines there are
 pub line_count : (before : List Line) → AreRightLines before → length before + 1
-    ≡ next_of before + (length (customers_in before) + length (starts_in before) + length (requests_in before))
+    ≡ next_of before + (length (customers_in before) + batches_in before + length (requests_in before))
 line_count [] right = refl
 line_count (HeadLine d ∷ []) right = refl
 line_count (HeadLine d ∷ (HeadLine e ∷ before)) right = let wrong = right.0.follows in cc
@@ -187,13 +185,7 @@ line_count (CustomerLine c ∷ []) right = let wrong = right.0.follows in cc
 line_count (CustomerLine c ∷ (line ∷ before)) right =
     omega (arith, line_count (line ∷ before) right.1, length-append (customers_in (line ∷ before)) (c ∷ []))
 line_count (BatchLine ∷ []) right = let wrong = right.0.follows in cc
-line_count (BatchLine ∷ (line ∷ before)) right =
-    omega (
-      arith,
-      line_count (line ∷ before) right.1,
-      length-append (starts_in (line ∷ before))
-          (length (requests_in (line ∷ before)) ∷ []),
-    )
+line_count (BatchLine ∷ (line ∷ before)) right = omega (arith, line_count (line ∷ before) right.1)
 line_count (RequestLine a ∷ []) right = let wrong = right.0.follows in cc
 line_count (RequestLine a ∷ (line ∷ before)) right =
     omega (arith, line_count (line ∷ before) right.1, length-append (requests_in (line ∷ before)) (a ∷ []))

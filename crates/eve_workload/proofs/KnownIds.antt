@@ -1,17 +1,21 @@
 -- Request ids that were met, and numbers that rise.
-use Rattle.std.proofs.Common.{◌≡◌, ℕ, ◌+◌, ◌%◌, ◌<◌, true, false, List, [], ◌∷◌, ◌++◌, All, Option, Some, None}
+use Rattle.std.proofs.Common.{◌≡◌, ℕ, ◌+◌, ◌%◌, ◌<◌, true, false, List, [], ◌∷◌, ◌++◌, All, Option, Some, None, Vec}
 use Rattle.std.proofs.Common.{map, take, length, inl, inr, sym, subst, ap, ◌∙◌, arith}
 use Rattle.std.specs.Prelude.{slice_set, slice_index_or}
 use Rattle.std.specs.List.{list_any}
 use Rattle.std.proofs.lemmas.Bool.{cases_Bool, cases_eq}
 use Rattle.std.proofs.lemmas.Bool.Decides.{nat_tests}
-use Rattle.std.proofs.lemmas.List.{get_or-set_same, get_or-set_other, map_push, map_more}
+use Rattle.std.specs.declared.alloc.Global.{Global}
+use Rattle.std.proofs.lemmas.List.{get_or-set_same, get_or-set_other, map_push, map_more, append-nil, map-append}
+use Rattle.std.proofs.lemmas.List.Concat.{flat_map-append}
 use Rattle.std.proofs.lemmas.List.Folds.{list_any_none}
 use Rattle.std.proofs.lemmas.List.Elements.{All-push}
 use Rattle.eve_write.specs.Data.{asked}
 use Rattle.eve_write.specs.declared.request.RequestData.{RequestData}
-use Rattle.eve_grammar.specs.Trace.{RequestId, request_id}
-use Rattle.eve_workload.specs.RequestIds.{same_id, ids_of, at_place, Follows, ReachesNumber, IsUpToLast}
+use Rattle.eve_grammar.specs.Trace.{Asked, RequestId, request_id}
+use Rattle.eve_workload.specs.Batches.{asked_lists}
+use Rattle.eve_workload.specs.Workload.{requests_of}
+use Rattle.eve_workload.specs.RequestIds.{same_id, ids_of, ids_in, at_place, Follows, ReachesNumber, IsUpToLast}
 
 -- ---- ids that are the same
 
@@ -88,3 +92,16 @@ ids_more requests i d r is there =
     ap (map request_id) (map_more asked requests i d there)
     ∙ map_push request_id (map asked (take i requests)) (asked (slice_index_or requests i d))
     ∙ (λ k. ids_of (take i requests) ++ request_id (asked (sym is k)) ∷ [])
+
+-- those of one batch more
+pub ids_in_more : (batches : List (Vec RequestData Global)) (i : ℕ) (d b : Vec RequestData Global)
+    → b ≡ slice_index_or batches i d → i < length batches
+    → ids_in (take (i + 1) batches) ≡ ids_in (take i batches) ++ ids_of b.items
+ids_in_more batches i d b is there =
+    let list : Vec RequestData Global → List Asked = λ one. map asked one.items in
+    ap (λ lists. map request_id (requests_of lists)) (map_more list batches i d there)
+    ∙ ap (map request_id) (flat_map-append (λ (one : List Asked). one) (asked_lists (take i batches))
+    (list (slice_index_or batches i d) ∷ []) ∙ ap (λ rs. requests_of (asked_lists (take i batches)) ++ rs)
+    (append-nil (list (slice_index_or batches i d))))
+    ∙ map-append request_id (requests_of (asked_lists (take i batches))) (list (slice_index_or batches i d))
+    ∙ (λ k. ids_in (take i batches) ++ ids_of (sym is k).items)

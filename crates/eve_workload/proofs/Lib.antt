@@ -1,3 +1,4 @@
+mod BatchLists
 mod Cuts
 mod Cutting
 mod Decimals

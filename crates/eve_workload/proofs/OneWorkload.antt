@@ -9,8 +9,8 @@ use Rattle.eve_workload.specs.Workload.{Workload, IsWorkload}
 use Rattle.eve_workload.specs.Lines.{Line, HeadLine, CustomerLine, BatchLine, RequestLine, line_text, batch_lines}
 use Rattle.eve_workload.specs.Lines.{lines_of, workload_text}
 use Rattle.eve_workload.specs.Steps.{customers_in}
-use Rattle.eve_workload.specs.Drafts.{deployment_in}
-use Rattle.eve_workload.proofs.Wholes.{push_last, batches_of}
+use Rattle.eve_workload.specs.Batches.{push_last}
+use Rattle.eve_workload.specs.Drafts.{listed_in, deployment_in}
 use Rattle.eve_workload.proofs.OneAnswer.{same_lines, follows_fewer}
 use Rattle.eve_workload.proofs.WholeLines.{onto, onto-append, line_long, lines_back, back_right, back_text}
 
@@ -50,8 +50,8 @@ push_behind [] part a = refl
 push_behind (first ∷ []) part a = refl
 push_behind (first ∷ next ∷ parts) part a = ap (λ rest. first ∷ rest) (push_behind (next ∷ parts) part a)
 
-requests_joined : (before : List Line) (rs part : List Asked) (parts : List (List Asked)) → batches_of before
-    ≡ parts ++ part ∷ [] → batches_of (onto before (map RequestLine rs)) ≡ parts ++ (part ++ rs) ∷ []
+requests_joined : (before : List Line) (rs part : List Asked) (parts : List (List Asked)) → listed_in before
+    ≡ parts ++ part ∷ [] → listed_in (onto before (map RequestLine rs)) ≡ parts ++ (part ++ rs) ∷ []
 requests_joined before [] part parts are = are ∙ ap (λ p. parts ++ p ∷ []) (sym (append-nil part))
 requests_joined before (r ∷ rs) part parts are =
     requests_joined (RequestLine r ∷ before) rs (part ++ r ∷ []) parts
@@ -59,13 +59,13 @@ requests_joined before (r ∷ rs) part parts are =
     ∙ ap (λ p. parts ++ p ∷ []) (append_assoc part (r ∷ []) rs)
 
 batches_listed : (before : List Line) (parts : List (List Asked))
-    → batches_of (onto before (flat_map batch_lines parts)) ≡ batches_of before ++ parts
-batches_listed before [] = sym (append-nil (batches_of before))
+    → listed_in (onto before (flat_map batch_lines parts)) ≡ listed_in before ++ parts
+batches_listed before [] = sym (append-nil (listed_in before))
 batches_listed before (part ∷ parts) =
-    ap batches_of (onto-append (BatchLine ∷ before) (map RequestLine part) (flat_map batch_lines parts))
+    ap listed_in (onto-append (BatchLine ∷ before) (map RequestLine part) (flat_map batch_lines parts))
     ∙ batches_listed (onto (BatchLine ∷ before) (map RequestLine part)) parts
-    ∙ ap (λ ps. ps ++ parts) (requests_joined (BatchLine ∷ before) part [] (batches_of before) refl)
-    ∙ append_assoc (batches_of before) (part ∷ []) parts
+    ∙ ap (λ ps. ps ++ parts) (requests_joined (BatchLine ∷ before) part [] (listed_in before) refl)
+    ∙ append_assoc (listed_in before) (part ∷ []) parts
 
 -- ---- a workload from its lines
 
@@ -87,11 +87,11 @@ module _ (w : Workload) where
       ap customers_in all_lines ∙ past_batches customers_in (λ before. refl) (λ a before. refl) front w.batches
       ∙ customers_listed (HeadLine w.deployment ∷ []) w.customers
 
-  batches_are : batches_of (onto [] (lines_of w)) ≡ w.batches
+  batches_are : listed_in (onto [] (lines_of w)) ≡ w.batches
   batches_are =
-      ap batches_of all_lines ∙ batches_listed front w.batches
+      ap listed_in all_lines ∙ batches_listed front w.batches
       ∙ ap (λ ps. ps ++ w.batches)
-      (past_customers batches_of (λ c before. refl) (HeadLine w.deployment ∷ []) w.customers)
+      (past_customers listed_in (λ c before. refl) (HeadLine w.deployment ∷ []) w.customers)
 
 -- of two workloads with one text neither has fewer lines
 not_fewer : (w v : Workload) (is : IsWorkload w) (is' : IsWorkload v) → workload_text w ≡ workload_text v
@@ -119,5 +119,5 @@ one_workload w v is is' same =
     let deployment : w.deployment ≡ v.deployment =
     (let e = sym (deployment_is w) ∙ ap deployment_in lines ∙ deployment_is v in cc) in
     let customers : w.customers ≡ v.customers = sym (customers_are w) ∙ ap customers_in lines ∙ customers_are v in
-    let batches : w.batches ≡ v.batches = sym (batches_are w) ∙ ap batches_of lines ∙ batches_are v in
+    let batches : w.batches ≡ v.batches = sym (batches_are w) ∙ ap listed_in lines ∙ batches_are v in
     (λ i. record { deployment = deployment i; customers = customers i; batches = batches i })

@@ -4,13 +4,13 @@ use Rattle.std.proofs.Common.{take, drop, Some, None, refl, sym, ap, ◌∙◌, 
 use Rattle.std.proofs.lemmas.Bool.{ltb-true, false≢true}
 use Rattle.std.proofs.lemmas.List.{length-map, take-append-drop, length-drop, take_all, append-nil}
 use Rattle.eve_grammar.specs.Trace.{Asked}
-use Rattle.eve_write.specs.Data.{customer, asked}
+use Rattle.eve_write.specs.Data.{customer}
 use Rattle.eve_workload.specs.declared.draft.Draft.{Draft}
 use Rattle.eve_workload.specs.Lines.{Line, HeadLine, CustomerLine, BatchLine, RequestLine, line_text}
 use Rattle.eve_workload.specs.Steps.{customers_in, requests_in, batches_in, last_requests, may_follow, may_end}
 use Rattle.eve_workload.specs.Steps.{AreRightLines, text_before, IsBadLine}
 use Rattle.eve_workload.specs.Drafts.{IsSmall, Keeps, KeepsAll, TakesLine}
-use Rattle.eve_workload.proofs.Drafting.{batches_are}
+use Rattle.eve_workload.proofs.Drafting.{batches_kept}
 use Rattle.eve_workload.proofs.WholeLines.{line_long}
 
 -- ---- counts that fit
@@ -82,8 +82,8 @@ keeps_small d before keeps =
         length-map d.customers.items customer,
         ap length keeps.customers,
       );
-      starts = omega (arith, batches, batches_are before, ap length keeps.starts);
-      requests = omega (arith, batches, room, length-map d.requests.items asked, ap length keeps.requests);
+      batches = omega (arith, batches, batches_kept d before keeps);
+      requests = omega (arith, batches, room, keeps.requests);
     }
 
 -- ---- the text up to here

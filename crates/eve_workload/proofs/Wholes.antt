@@ -1,10 +1,9 @@
 -- The lines of a text that may end make up a workload.
-use Rattle.std.proofs.Common.{◌≡◌, ◌≢◌, ℕ, suc, ◌+◌, ◌<◌, ◌≤◌, Bool, true, false, ◌&&◌, IsTrue, nat_le, List, [], ◌∷◌}
-use Rattle.std.proofs.Common.{◌++◌, map, length, drop, Some, IfSome, AllPairs, Contains, refl, sym, ap}
+use Rattle.std.proofs.Common.{◌≡◌, ◌≢◌, ℕ, ◌+◌, ◌<◌, ◌≤◌, Bool, true, false, ◌&&◌, IsTrue, nat_le, List, [], ◌∷◌}
+use Rattle.std.proofs.Common.{◌++◌, map, length, Some, IfSome, AllPairs, Contains, refl, sym, ap}
 use Rattle.std.proofs.Common.{subst, ◌∙◌, arith, length-append, append_assoc}
 use Rattle.std.specs.List.{list_all, flat_map}
 use Rattle.std.proofs.lemmas.Bool.{false≢true, and_parts, and_from, le-leb, ltb-true}
-use Rattle.std.proofs.Math.Seq.{drop-append_seam}
 use Rattle.std.proofs.lemmas.Option.{IfSome_then}
 use Rattle.std.proofs.lemmas.List.{append-nil, map_push, get_or_default}
 use Rattle.std.proofs.lemmas.List.Quantifiers.{all_pairs_push}
@@ -18,42 +17,16 @@ use Rattle.eve_grammar.specs.Trace.{request_id}
 use Rattle.eve_workload.specs.Workload.{requests_of}
 use Rattle.eve_workload.specs.Lines.{Line, HeadLine, CustomerLine, BatchLine, RequestLine, line_text, batch_lines}
 use Rattle.eve_workload.specs.Lines.{workload_text}
-use Rattle.eve_workload.specs.Steps.{customers_in, requests_in, batches_in, last_requests, may_follow, may_end}
+use Rattle.eve_workload.specs.Steps.{customers_in, requests_in, last_requests, may_follow, may_end}
 use Rattle.eve_workload.specs.Steps.{is_deployment, AreRightLines, text_before}
-use Rattle.eve_workload.specs.Held.{cut_at, starts_from, workload_of, IsHeldWorkload}
+use Rattle.eve_workload.specs.Held.{workload_of, IsHeldWorkload}
 use Rattle.eve_workload.specs.declared.workload.Workload.TheInside.{Inside}
 use Rattle.eve_workload.specs.declared.draft.Draft.{Draft}
-use Rattle.eve_workload.specs.Drafts.{starts_in, deployment_in, Keeps}
+use Rattle.eve_workload.specs.Batches.{push_last}
+use Rattle.eve_workload.specs.Drafts.{listed_in, deployment_in, Keeps}
 use Rattle.eve_workload.proofs.Reading.{in_batch, request_in_batch, customers_few, batches_few}
 use Rattle.eve_workload.proofs.Deployments.{other_counts}
-use Rattle.eve_workload.proofs.Holding.{taken}
-
--- a request at the end of the last batch
-abbrev pub push_last : {A : Type 0} → List (List A) → A → List (List A)
-push_last [] x = (x ∷ []) ∷ []
-push_last (part ∷ []) x = (part ++ x ∷ []) ∷ []
-push_last (part ∷ next ∷ parts) x = part ∷ push_last (next ∷ parts) x
-
--- the batches of lines
-abbrev pub batches_of : List Line → List (List Asked)
-batches_of [] = []
-batches_of (HeadLine d ∷ before) = batches_of before
-batches_of (CustomerLine c ∷ before) = batches_of before
-batches_of (BatchLine ∷ before) = batches_of before ++ [] ∷ []
-batches_of (RequestLine a ∷ before) = push_last (batches_of before) a
-
-flat-push_last : (parts : List (List Asked)) (a : Asked) → requests_of (push_last parts a) ≡ requests_of parts ++ a ∷ []
-flat-push_last [] a = refl
-flat-push_last (part ∷ []) a = append-nil (part ++ a ∷ []) ∙ ap (λ p. p ++ a ∷ []) (sym (append-nil part))
-flat-push_last (part ∷ next ∷ parts) a =
-    ap (λ rest. part ++ rest) (flat-push_last (next ∷ parts) a)
-    ∙ sym (append_assoc part (requests_of (next ∷ parts)) (a ∷ []))
-
-starts-push_last : (behind : ℕ) (part : List Asked) (parts : List (List Asked)) (a : Asked)
-    → starts_from behind (push_last (part ∷ parts) a) ≡ starts_from behind (part ∷ parts)
-starts-push_last behind part [] a = refl
-starts-push_last behind part (next ∷ parts) a =
-    ap (λ rest. behind ∷ rest) (starts-push_last (behind + length part) next parts a)
+use Rattle.eve_workload.proofs.BatchLists.{batches_flat, push_last_some, batch_there, batches_counted}
 
 lines-push_last : (part : List Asked) (parts : List (List Asked)) (a : Asked)
     → flat_map batch_lines (push_last (part ∷ parts) a) ≡ flat_map batch_lines (part ∷ parts) ++ RequestLine a ∷ []
@@ -64,90 +37,8 @@ lines-push_last part (next ∷ parts) a =
     ap (λ rest. batch_lines part ++ rest) (lines-push_last next parts a)
     ∙ sym (append_assoc (batch_lines part) (flat_map batch_lines (next ∷ parts)) (RequestLine a ∷ []))
 
-starts-snoc : (behind : ℕ) (parts : List (List Asked)) (part : List Asked) → starts_from behind (parts ++ part ∷ [])
-    ≡ starts_from behind parts ++ (behind + length (requests_of parts)) ∷ []
-starts-snoc behind [] part = ap (λ n. n ∷ []) (omega arith)
-starts-snoc behind (first ∷ parts) part =
-    let sum : (behind + length first) + length (requests_of parts) ≡ behind + length (first ++ requests_of parts) =
-    omega (arith, length-append first (requests_of parts)) in
-    ap (λ rest. behind ∷ rest) (starts-snoc (behind + length first) parts part
-    ∙ ap (λ n. starts_from (behind + length first) parts ++ n ∷ []) sum)
-
-pub batches_flat : (before : List Line) → requests_of (batches_of before) ≡ requests_in before
-batches_flat [] = refl
-batches_flat (HeadLine d ∷ before) = batches_flat before
-batches_flat (CustomerLine c ∷ before) = batches_flat before
-batches_flat (BatchLine ∷ before) =
-    flat_map-append (λ (b : List Asked). b) (batches_of before) ([] ∷ []) ∙ append-nil (requests_of (batches_of before))
-    ∙ batches_flat before
-batches_flat (RequestLine a ∷ before) = flat-push_last (batches_of before) a
-    ∙ ap (λ rs. rs ++ a ∷ []) (batches_flat before)
-
-push_last_some : (parts : List (List Asked)) (a : Asked) → 1 ≤ length (push_last parts a)
-push_last_some [] a = omega arith
-push_last_some (part ∷ []) a = omega arith
-push_last_some (part ∷ next ∷ parts) a = omega arith
-
-push_last_count : (parts : List (List Asked)) (a : Asked) → 1 ≤ length parts → length (push_last parts a) ≡ length parts
-push_last_count [] a some = absurd (omega arith)
-push_last_count (part ∷ []) a some = refl
-push_last_count (part ∷ next ∷ parts) a some = ap suc (push_last_count (next ∷ parts) a (omega arith))
-
-batch_there : (before : List Line) (a : Asked) → IsTrue (may_follow before (RequestLine a))
-    → 1 ≤ length (batches_of before)
-batch_there [] a follows = cc
-batch_there (HeadLine d ∷ before) a follows = cc
-batch_there (CustomerLine c ∷ before) a follows = cc
-batch_there (BatchLine ∷ before) a follows = omega (arith, length-append (batches_of before) ([] ∷ []))
-batch_there (RequestLine b ∷ before) a follows = push_last_some (batches_of before) b
-
-starts_push : (parts : List (List Asked)) (a : Asked) → 1 ≤ length parts → starts_from 0 (push_last parts a)
-    ≡ starts_from 0 parts
-starts_push [] a some = absurd (omega arith)
-starts_push (part ∷ parts) a some = starts-push_last 0 part parts a
-
-pub starts_are : (before : List Line) → AreRightLines before → starts_from 0 (batches_of before) ≡ starts_in before
-starts_are [] right = refl
-starts_are (HeadLine d ∷ before) right = starts_are before right.1
-starts_are (CustomerLine c ∷ before) right = starts_are before right.1
-starts_are (BatchLine ∷ before) right =
-    let count : 0 + length (requests_of (batches_of before)) ≡ length (requests_in before) =
-    omega (arith, ap length (batches_flat before)) in
-    starts-snoc 0 (batches_of before) [] ∙ (λ k. starts_are before right.1 k ++ count k ∷ [])
-starts_are (RequestLine a ∷ before) right = starts_push (batches_of before) a (batch_there before a right.0.follows)
-    ∙ starts_are before right.1
-
-pub batches_counted : (before : List Line) → AreRightLines before → length (batches_of before) ≡ batches_in before
-batches_counted [] right = refl
-batches_counted (HeadLine d ∷ before) right = batches_counted before right.1
-batches_counted (CustomerLine c ∷ before) right = batches_counted before right.1
-batches_counted (BatchLine ∷ before) right =
-    omega (arith, length-append (batches_of before) ([] ∷ []), batches_counted before right.1)
-batches_counted (RequestLine a ∷ before) right = push_last_count (batches_of before) a
-    (batch_there before a right.0.follows) ∙ batches_counted before right.1
-
--- the parts of a list are those that it was cut into
-cut_all : (front : List Asked) (parts : List (List Asked)) (behind : ℕ) (items : List Asked) → behind ≡ length front
-    → items ≡ front ++ requests_of parts → cut_at items (starts_from behind parts) ≡ parts
-cut_all front [] behind items starts are = refl
-cut_all front (part ∷ []) behind items starts are =
-    ap (λ x. x ∷ []) (ap (drop behind) are ∙ ap (λ n. drop n (front ++ (part ++ []))) starts
-    ∙ drop-append_seam front (part ++ []) ∙ append-nil part)
-cut_all front (part ∷ next ∷ parts) behind items starts are =
-    let rest = requests_of (next ∷ parts) in
-    let first = taken front part rest items behind (behind + length part) are starts refl in
-    let later = cut_all (front ++ part) (next ∷ parts) (behind + length part) items
-    (omega (arith, length-append front part)) (are ∙ sym (append_assoc front part rest)) in
-    (λ k. first k ∷ later k)
-
-pub cut_batches : (before : List Line) → AreRightLines before → cut_at (requests_in before) (starts_in before)
-    ≡ batches_of before
-cut_batches before right =
-    (λ k. cut_at (sym (batches_flat before) k) (sym (starts_are before right) k))
-    ∙ cut_all [] (batches_of before) 0 (requests_of (batches_of before)) refl refl
-
 no_batches : (before : List Line) (c : Customer) → AreRightLines before → IsTrue (may_follow before (CustomerLine c))
-    → batches_of before ≡ []
+    → listed_in before ≡ []
 no_batches [] c right follows = cc
 no_batches (HeadLine d ∷ []) c right follows = refl
 no_batches (HeadLine d ∷ (HeadLine e ∷ before)) c right follows = let wrong = right.0.follows in cc
@@ -160,17 +51,17 @@ no_batches (RequestLine a ∷ before) c right follows = cc
 
 -- the lines so far, the head first
 abbrev lines_so : Deployment → List Line → List Line
-lines_so d before = HeadLine d ∷ (map CustomerLine (customers_in before) ++ flat_map batch_lines (batches_of before))
+lines_so d before = HeadLine d ∷ (map CustomerLine (customers_in before) ++ flat_map batch_lines (listed_in before))
 
 lines_push : (parts : List (List Asked)) (a : Asked) → 1 ≤ length parts → flat_map batch_lines (push_last parts a)
     ≡ flat_map batch_lines parts ++ RequestLine a ∷ []
 lines_push [] a some = absurd (omega arith)
 lines_push (part ∷ parts) a some = lines-push_last part parts a
 
-customer_lines : (d : Deployment) (before : List Line) (c : Customer) → batches_of before ≡ []
+customer_lines : (d : Deployment) (before : List Line) (c : Customer) → listed_in before ≡ []
     → lines_so d (CustomerLine c ∷ before) ≡ lines_so d before ++ CustomerLine c ∷ []
 customer_lines d before c none =
-    let behind : flat_map batch_lines (batches_of before) ≡ [] = ap (flat_map batch_lines) none in
+    let behind : flat_map batch_lines (listed_in before) ≡ [] = ap (flat_map batch_lines) none in
     ap (λ lines. HeadLine d ∷ lines)
     ((λ k. map CustomerLine (customers_in before ++ c ∷ []) ++ behind k)
     ∙ append-nil (map CustomerLine (customers_in before ++ c ∷ []))
@@ -182,17 +73,17 @@ batch_line_so : (d : Deployment) (before : List Line) → lines_so d (BatchLine 
     ≡ lines_so d before ++ BatchLine ∷ []
 batch_line_so d before =
     let front = map CustomerLine (customers_in before) in
-    ap (λ lines. HeadLine d ∷ (front ++ lines)) (flat_map-append batch_lines (batches_of before) ([] ∷ []))
+    ap (λ lines. HeadLine d ∷ (front ++ lines)) (flat_map-append batch_lines (listed_in before) ([] ∷ []))
     ∙ ap (λ lines. HeadLine d ∷ lines)
-    (sym (append_assoc front (flat_map batch_lines (batches_of before)) (BatchLine ∷ [])))
+    (sym (append_assoc front (flat_map batch_lines (listed_in before)) (BatchLine ∷ [])))
 
-request_line_so : (d : Deployment) (before : List Line) (a : Asked) → 1 ≤ length (batches_of before)
+request_line_so : (d : Deployment) (before : List Line) (a : Asked) → 1 ≤ length (listed_in before)
     → lines_so d (RequestLine a ∷ before) ≡ lines_so d before ++ RequestLine a ∷ []
 request_line_so d before a some =
     let front = map CustomerLine (customers_in before) in
-    ap (λ lines. HeadLine d ∷ (front ++ lines)) (lines_push (batches_of before) a some)
+    ap (λ lines. HeadLine d ∷ (front ++ lines)) (lines_push (listed_in before) a some)
     ∙ ap (λ lines. HeadLine d ∷ lines)
-    (sym (append_assoc front (flat_map batch_lines (batches_of before)) (RequestLine a ∷ [])))
+    (sym (append_assoc front (flat_map batch_lines (listed_in before)) (RequestLine a ∷ [])))
 
 text_more : (text : List ℕ) (lines more : List Line) (line : Line) → text ≡ flat_map line_text lines
     → more ≡ lines ++ line ∷ [] → text ++ line_text line ≡ flat_map line_text more
@@ -343,8 +234,8 @@ push_behind_empty (part ∷ next ∷ parts) a = ap (λ rest. part ∷ rest) (pus
 
 -- all but an open last batch have a request
 record AreSome (before : List Line) : Type 0 where
-  pushed : (a : Asked) → IsTrue (list_all has_some (push_last (batches_of before) a))
-  closed : IsTrue (may_follow before BatchLine) → IsTrue (list_all has_some (batches_of before))
+  pushed : (a : Asked) → IsTrue (list_all has_some (push_last (listed_in before) a))
+  closed : IsTrue (may_follow before BatchLine) → IsTrue (list_all has_some (listed_in before))
 
 are_some : (before : List Line) → AreRightLines before → AreSome before
 are_some [] right = record { pushed = λ a. refl; closed = λ _. refl }
@@ -356,13 +247,13 @@ are_some (CustomerLine c ∷ before) right =
 are_some (BatchLine ∷ before) right =
     let closed = (are_some before right.1).closed right.0.follows in
     record {
-      pushed = λ a. ap (list_all has_some) (push_behind_empty (batches_of before) a)
-          ∙ all_push has_some (batches_of before) (a ∷ []) closed refl;
+      pushed = λ a. ap (list_all has_some) (push_behind_empty (listed_in before) a)
+          ∙ all_push has_some (listed_in before) (a ∷ []) closed refl;
       closed = λ no. absurd (false≢true no);
     }
 are_some (RequestLine b ∷ before) right =
     let pushed = (are_some before right.1).pushed b in
-    record { pushed = λ a. push_has_some (push_last (batches_of before) b) a pushed; closed = λ _. pushed }
+    record { pushed = λ a. push_has_some (push_last (listed_in before) b) a pushed; closed = λ _. pushed }
 
 last_len : List (List Asked) → ℕ
 last_len [] = 0
@@ -388,14 +279,14 @@ last_len_snoc [] = refl
 last_len_snoc (part ∷ []) = refl
 last_len_snoc (part ∷ next ∷ parts) = last_len_snoc (next ∷ parts)
 
-last_counts : (before : List Line) → AreRightLines before → in_batch before ≡ true → last_len (batches_of before)
+last_counts : (before : List Line) → AreRightLines before → in_batch before ≡ true → last_len (listed_in before)
     ≡ last_requests before
 last_counts [] right inside = absurd (false≢true inside)
 last_counts (HeadLine d ∷ before) right inside = absurd (false≢true inside)
 last_counts (CustomerLine c ∷ before) right inside = absurd (false≢true inside)
-last_counts (BatchLine ∷ before) right inside = last_len_snoc (batches_of before)
+last_counts (BatchLine ∷ before) right inside = last_len_snoc (listed_in before)
 last_counts (RequestLine a ∷ before) right inside =
-    last_len_push (batches_of before) a
+    last_len_push (listed_in before) a
     ∙ ap (λ n. n + 1) (last_counts before right.1 (request_in_batch before a right.0.follows))
 
 push_has_few : (parts : List (List Asked)) (a : Asked) → IsTrue (list_all has_few parts) → last_len parts < 256
@@ -409,15 +300,15 @@ push_has_few (part ∷ next ∷ parts) a all low =
     and_from (has_few part) (list_all has_few (push_last (next ∷ parts) a)) both.0
     (push_has_few (next ∷ parts) a both.1 low)
 
-are_few : (before : List Line) → AreRightLines before → IsTrue (list_all has_few (batches_of before))
+are_few : (before : List Line) → AreRightLines before → IsTrue (list_all has_few (listed_in before))
 are_few [] right = refl
 are_few (HeadLine d ∷ before) right = are_few before right.1
 are_few (CustomerLine c ∷ before) right = are_few before right.1
-are_few (BatchLine ∷ before) right = all_push has_few (batches_of before) [] (are_few before right.1) refl
+are_few (BatchLine ∷ before) right = all_push has_few (listed_in before) [] (are_few before right.1) refl
 are_few (RequestLine a ∷ before) right =
     let count = last_counts before right.1 (request_in_batch before a right.0.follows) in
     let low = ltb-true (last_requests before) 256 right.0.room in
-    push_has_few (batches_of before) a (are_few before right.1) (omega arith)
+    push_has_few (listed_in before) a (are_few before right.1) (omega arith)
 
 asked_parts : (parts : List (List Asked)) → IsTrue (list_all is_asked (requests_of parts))
     → IsTrue (list_all (list_all is_asked) parts)
@@ -447,22 +338,22 @@ ends_closed (BatchLine ∷ before) ends = absurd (false≢true ends)
 ends_closed (RequestLine a ∷ before) ends = refl
 
 batches_listed : (before : List Line) → AreRightLines before → may_end before ≡ true
-    → IsTrue (list_all is_listed (batches_of before))
+    → IsTrue (list_all is_listed (listed_in before))
 batches_listed before right ends =
-    all_listed (batches_of before) ((are_some before right).closed (ends_closed before ends)) (are_few before right)
-    (asked_parts (batches_of before) (ap (list_all is_asked) (batches_flat before) ∙ requests_right before right))
+    all_listed (listed_in before) ((are_some before right).closed (ends_closed before ends)) (are_few before right)
+    (asked_parts (listed_in before) (ap (list_all is_asked) (batches_flat before) ∙ requests_right before right))
 
 -- ---- the workload of lines
 
 abbrev pub workload_in : Deployment → List Line → Workload
-workload_in d before = record { deployment = d; customers = customers_in before; batches = batches_of before }
+workload_in d before = record { deployment = d; customers = customers_in before; batches = listed_in before }
 
 head_right : (d : Deployment) (before : List Line) → AreRightLines before → may_end before ≡ true
     → IsTrue (is_deployment d)
     → IsTrue (is_head (head_asked (workload_in d before)))
 head_right d before right ends ranges =
     let customers = length (customers_in before) in
-    let batches = length (batches_of before) in
+    let batches = length (listed_in before) in
     let some = le-leb 1 customers (customers_some before right ends) in
     let few = le-leb customers 4096 (customers_few before right) in
     let batch_few = le-leb batches 65535 (omega (arith, batches_counted before right, batches_few before right)) in
@@ -488,13 +379,10 @@ some_lines (line ∷ before) ends = omega arith
 -- the fields of a draft whose text may end
 module _ (d : Draft) (before : List Line) (keeps : Keeps d before) (ends : may_end before ≡ true) where
   abbrev pub inside_of : Inside
-  inside_of = record { deployment = d.deployment; customers = d.customers; requests = d.requests; starts = d.starts }
-
-  batches_are_so : (workload_of inside_of).batches ≡ batches_of before
-  batches_are_so = (λ k. cut_at (keeps.requests k) (keeps.starts k)) ∙ cut_batches before keeps.right
+  inside_of = record { deployment = d.deployment; customers = d.customers; batches = d.batches }
 
   workload_is : workload_of inside_of ≡ workload_in d.deployment before
-  workload_is = (λ k. record { deployment = d.deployment; customers = keeps.customers k; batches = batches_are_so k })
+  workload_is = (λ k. record { deployment = d.deployment; customers = keeps.customers k; batches = keeps.batches k })
 
   the_head : (e : Deployment) × (deployment_in before ≡ Some e) × IsTrue (is_deployment e)
   the_head = deployment_there before keeps.right (some_lines before ends)
@@ -509,11 +397,7 @@ module _ (d : Draft) (before : List Line) (keeps : Keeps d before) (ends : may_e
       (subst (λ e. IsTrue (is_deployment e)) (sym same_head) the_head.2))
 
   pub whole_held : IsHeldWorkload inside_of
-  whole_held = record {
-    workload = whole_right;
-    requests = keeps.requests ∙ sym (batches_flat before) ∙ ap requests_of (sym batches_are_so);
-    starts = keeps.starts ∙ sym (starts_are before keeps.right) ∙ ap (starts_from 0) (sym batches_are_so);
-  }
+  whole_held = record { workload = whole_right }
 
   pub whole_text : text_before before ≡ workload_text (workload_of inside_of)
   whole_text =

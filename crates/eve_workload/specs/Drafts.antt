@@ -5,13 +5,14 @@ use Rattle.std.specs.List.{list_any}
 use Rattle.std.specs.Borrow.{Bor}
 use Rattle.eve_accounts.specs.Names.{same_name}
 use Rattle.eve_grammar.specs.declared.limits.TheConstants.{MOST_CUSTOMERS, MOST_BATCHES, MOST_REQUESTS}
-use Rattle.eve_grammar.specs.Trace.{request_id}
-use Rattle.eve_write.specs.Data.{customer, asked}
+use Rattle.eve_grammar.specs.Trace.{Asked, request_id}
+use Rattle.eve_write.specs.Data.{customer}
 use Rattle.eve_workload.specs.declared.deployment.Deployment.{Deployment}
 use Rattle.eve_workload.specs.declared.draft.Last.{Last}
 use Rattle.eve_workload.specs.declared.draft.Last.TheVariants as last
 use Rattle.eve_workload.specs.declared.draft.Draft.{Draft}
 use Rattle.eve_workload.specs.Workload.{customer_names}
+use Rattle.eve_workload.specs.Batches.{asked_lists, push_last}
 use Rattle.eve_workload.specs.Lines.{Line, HeadLine, CustomerLine, BatchLine, RequestLine, line_text}
 use Rattle.eve_workload.specs.Steps.{customers_in, requests_in, last_requests, IsRightBehind, AreRightLines}
 use Rattle.eve_workload.specs.Steps.{text_before, may_end}
@@ -33,13 +34,13 @@ deployment_in (CustomerLine c ∷ before) = deployment_in before
 deployment_in (BatchLine ∷ before) = deployment_in before
 deployment_in (RequestLine a ∷ before) = deployment_in before
 
--- where batches start among the requests
-abbrev pub starts_in : List Line → List ℕ
-starts_in [] = []
-starts_in (HeadLine d ∷ before) = starts_in before
-starts_in (CustomerLine c ∷ before) = starts_in before
-starts_in (BatchLine ∷ before) = starts_in before ++ length (requests_in before) ∷ []
-starts_in (RequestLine a ∷ before) = starts_in before
+-- the requests of each batch that lines open
+abbrev pub listed_in : List Line → List (List Asked)
+listed_in [] = []
+listed_in (HeadLine d ∷ before) = listed_in before
+listed_in (CustomerLine c ∷ before) = listed_in before
+listed_in (BatchLine ∷ before) = listed_in before ++ [] ∷ []
+listed_in (RequestLine a ∷ before) = push_last (listed_in before) a
 
 -- the number of the line after the head, or of the head
 abbrev pub next_of : List Line → ℕ
@@ -53,8 +54,8 @@ has_name keys name = list_any (λ key. same_name name key.now) keys
 -- few enough that their counts fit
 pub record IsSmall (d : Draft) : Type 0 where
   pub customers : length d.customers.items ≤ MOST_CUSTOMERS
-  pub starts : length d.starts.items ≤ MOST_BATCHES
-  pub requests : length d.requests.items ≤ MOST_BATCHES * MOST_REQUESTS
+  pub batches : length d.batches.items ≤ MOST_BATCHES
+  pub requests : d.requests ≤ MOST_BATCHES * MOST_REQUESTS
 
 -- the draft keeps these lines, which are right
 pub record Keeps (d : Draft) (before : List Line) : Type 0 where
@@ -62,8 +63,8 @@ pub record Keeps (d : Draft) (before : List Line) : Type 0 where
   pub last : d.last ≡ last_in before
   pub deployment : IfSome (deployment_in before) (λ e. d.deployment ≡ e)
   pub customers : map customer d.customers.items ≡ customers_in before
-  pub requests : map asked d.requests.items ≡ requests_in before
-  pub starts : d.starts.items ≡ starts_in before
+  pub batches : asked_lists d.batches.items ≡ listed_in before
+  pub requests : d.requests ≡ length (requests_in before)
   pub count : d.count ≡ last_requests before
   pub names : (name : List ℕ) → has_name d.names.keys name ≡ list_any (same_name name)
       (customer_names (customers_in before))

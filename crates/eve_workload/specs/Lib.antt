@@ -5,6 +5,7 @@ pub mod Seats
 pub mod Cut
 pub mod Groups
 pub mod Workload
+pub mod Batches
 pub mod Lines
 pub mod Steps
 pub mod Held

@@ -1,12 +1,15 @@
 -- The ids of requests: what tells them apart.
-use Rattle.std.specs.Prelude.{◌≡◌, ℕ, ◌%◌, ◌<◌, ◌≤◌, Bool, IsTrue, IsFalse, List, [], All, Option, Some, None, ⊤}
+use Rattle.std.specs.Prelude.{◌≡◌, ℕ, ◌%◌, ◌<◌, ◌≤◌, Bool, IsTrue, IsFalse, List, [], All, Option, Some, None, ⊤, Vec}
 use Rattle.std.specs.Prelude.{map, slice_index_or}
 use Rattle.std.specs.List.{list_any}
+use Rattle.std.specs.declared.alloc.Global.{Global}
 use Rattle.std.specs.Ordering.{nat_cmp, is_eq, ordering_then}
 use Rattle.std.specs.BTreeSet.{BTreeSet}
 use Rattle.eve_grammar.specs.Trace.{RequestId, request_id}
 use Rattle.eve_write.specs.Data.{asked}
 use Rattle.eve_write.specs.declared.request.RequestData.{RequestData}
+use Rattle.eve_workload.specs.Batches.{asked_lists}
+use Rattle.eve_workload.specs.Workload.{requests_of}
 use Rattle.eve_workload.specs.declared.request_ids.RequestIds.{RequestIds}
 use Rattle.eve_workload.specs.declared.request_ids.TheConstants.{PLACES}
 
@@ -21,6 +24,10 @@ has_id keys id = list_any (same_id id) keys
 -- the ids of requests
 abbrev pub ids_of : List RequestData → List RequestId
 ids_of requests = map request_id (map asked requests)
+
+-- those of batches
+abbrev pub ids_in : List (Vec RequestData Global) → List RequestId
+ids_in batches = map request_id (requests_of (asked_lists batches))
 
 -- the table has these ids, and no other
 abbrev pub Lists : BTreeSet RequestId → List RequestId → Type 0

@@ -15,7 +15,7 @@ ghost use Rattle.eve_workload.specs.Drafts.{TakesLine};
 use crate::deployment::Deployment;
 use crate::line::{CustomerFields, Line, line_of};
 use crate::request_ids::RequestIds;
-use crate::requests::add_owned;
+use crate::requests::add_to_last;
 use crate::words::split_line;
 use eve_accounts::Name;
 use eve_grammar::{Asked, MOST_BATCHES, MOST_CUSTOMERS, MOST_REQUESTS};
@@ -40,11 +40,12 @@ pub(crate) struct Draft<'a> {
     pub deployment: Deployment,
     pub customers: Vec<CustomerData>,
     pub names: BTreeSet<&'a [u8]>,
-    pub requests: Vec<RequestData>,
+    // The requests of each batch.
+    pub batches: Vec<Vec<RequestData>>,
     pub request_ids: RequestIds,
-    // Where each batch starts among the requests.
-    pub starts: Vec<u32>,
-    // How many requests the last batch has.
+    // How many requests there are.
+    pub requests: u32,
+    // How many of them the last batch has.
     pub count: u32,
 }
 
@@ -64,9 +65,9 @@ impl<'a> Draft<'a> {
             },
             customers: Vec::new(alloc),
             names: BTreeSet::new(alloc),
-            requests: Vec::new(alloc),
+            batches: Vec::new(alloc),
             request_ids: RequestIds::new(alloc),
-            starts: Vec::new(alloc),
+            requests: 0,
             count: 0,
         }
     }
@@ -74,10 +75,11 @@ impl<'a> Draft<'a> {
     /// Takes the first line of a text, and says how long it is; `None` where it is no line that may stand here.
     pub(crate) fn take_line(
         &mut self,
+        alloc: Global,
         text: &'a [u8],
         words: &mut Vec<&'a [u8]>,
     ) -> Result<Option<usize>, AllocError>
-        requires { IsSmall self.old }
+        requires { (before : List LineValue) × Keeps self.old before }
         ensures { IfOk result (λ taken. (before : List LineValue) → Keeps self.old before
             → TakesLine self.new before text.entry.now taken) }
     {
@@ -87,13 +89,13 @@ impl<'a> Draft<'a> {
         let Some(line) = line_of(words.as_slice()) else {
             return Ok(None);
         };
-        let taken = self.take(&line)?;
+        let taken = self.take(alloc, &line)?;
         Ok(if taken { Some(len) } else { None })
     }
 
     // Takes a line, or says that it may not stand here.
-    fn take(&mut self, line: &Line<'a>) -> Result<bool, AllocError>
-        requires small { IsSmall self.old }
+    fn take(&mut self, alloc: Global, line: &Line<'a>) -> Result<bool, AllocError>
+        requires keeps { (before : List LineValue) × Keeps self.old before }
         requires right { IsTrue (is_line (line_said line.now)) }
         ensures { IfOk result (λ taken. (before : List LineValue) → Keeps self.old before
             → Takes self.new before (line_said line.now) taken) }
@@ -101,7 +103,7 @@ impl<'a> Draft<'a> {
         match line {
             Line::Head(deployment) => Ok(self.take_head(*deployment)),
             Line::Customer(customer) => self.take_customer(customer),
-            Line::Batch => self.take_batch(),
+            Line::Batch => self.take_batch(alloc),
             Line::Request(asked) => self.take_request(asked),
         }
     }
@@ -143,25 +145,25 @@ impl<'a> Draft<'a> {
         Ok(true)
     }
 
-    fn take_batch(&mut self) -> Result<bool, AllocError>
-        requires { IsSmall self.old }
+    fn take_batch(&mut self, alloc: Global) -> Result<bool, AllocError>
         ensures { IfOk result (λ taken. (before : List LineValue) → Keeps self.old before
             → Takes self.new before BatchLine taken) }
     {
         if !self.last.takes_batch() {
             return Ok(false);
         }
-        if self.starts.len() >= MOST_BATCHES as usize {
+        if self.batches.len() >= MOST_BATCHES as usize {
             return Ok(false);
         }
-        self.starts.push(self.requests.len() as u32)?;
+        self.batches.push(Vec::new(alloc))?;
         self.count = 0;
         self.last = Last::Batch;
         Ok(true)
     }
 
     fn take_request(&mut self, asked: &Asked<'a>) -> Result<bool, AllocError>
-        requires { IsTrue (is_asked (borrowed_asked asked.now)) }
+        requires keeps { (before : List LineValue) × Keeps self.old before }
+        requires right { IsTrue (is_asked (borrowed_asked asked.now)) }
         ensures { IfOk result (λ taken. (before : List LineValue) → Keeps self.old before
             → Takes self.new before (RequestLine (borrowed_asked asked.now)) taken) }
     {
@@ -172,10 +174,11 @@ impl<'a> Draft<'a> {
             return Ok(false);
         }
         let id = (asked.client, asked.number);
-        if !self.request_ids.add(id, self.requests.as_slice())? {
+        if !self.request_ids.add(id, self.batches.as_slice())? {
             return Ok(false);
         }
-        add_owned(&mut self.requests, asked)?;
+        add_to_last(&mut self.batches, asked)?;
+        self.requests += 1;
         self.count += 1;
         self.last = Last::Request;
         Ok(true)
@@ -187,7 +190,7 @@ impl<'a> Draft<'a> {
         ensures { (before : List LineValue) → Keeps self.now before → result ≡ length before + 1 }
     {
         let first = self.last.next_line();
-        first + (self.customers.len() + self.starts.len() + self.requests.len()) as u32
+        first + (self.customers.len() + self.batches.len()) as u32 + self.requests
     }
 }
 

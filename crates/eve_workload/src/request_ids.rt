@@ -4,7 +4,7 @@ ghost use Rattle.std.specs.Prelude.{◌≡◌, List, [], ◌∷◌, ◌++◌, no
 ghost use Rattle.std.specs.Prelude.{OnOk, IsTrue, IsFalse};
 ghost use Rattle.std.specs.List.{list_any};
 ghost use Rattle.eve_grammar.specs.Trace.{RequestId};
-ghost use Rattle.eve_workload.specs.RequestIds.{has_id, same_id, ids_of, Follows, IsUpToLast, Lists, AreMet};
+ghost use Rattle.eve_workload.specs.RequestIds.{has_id, same_id, ids_of, ids_in, Follows, IsUpToLast, Lists, AreMet};
 
 use eve_write::RequestData;
 use std::alloc::{AllocError, Global};
@@ -42,21 +42,21 @@ impl RequestIds {
         }
     }
 
-    /// Adds an id to those of these requests; whether it is new.
+    /// Adds an id to those of the requests of these batches; whether it is new.
     pub(crate) fn add(
         &mut self,
         id: RequestId,
-        requests: &[RequestData],
+        batches: &[Vec<RequestData>],
     ) -> Result<bool, AllocError>
-        ensures new { IfOk result (λ new. AreMet self.old (ids_of requests.now)
-            → new ≡ not (list_any (same_id id) (ids_of requests.now))) }
-        ensures met { IfOk result (λ new. AreMet self.old (ids_of requests.now) → IsTrue new
-            → AreMet self.new (ids_of requests.now ++ id ∷ [])) }
+        ensures new { IfOk result (λ new. AreMet self.old (ids_in batches.now)
+            → new ≡ not (list_any (same_id id) (ids_in batches.now))) }
+        ensures met { IfOk result (λ new. AreMet self.old (ids_in batches.now) → IsTrue new
+            → AreMet self.new (ids_in batches.now ++ id ∷ [])) }
     {
         if self.rises && self.rise(id) {
             return Ok(true);
         }
-        self.list(requests)?;
+        self.list(batches)?;
         self.add_listed(id)
     }
 
@@ -79,14 +79,14 @@ impl RequestIds {
         true
     }
 
-    // Puts the ids of these requests into the table, if they aren't there yet.
-    fn list(&mut self, requests: &[RequestData]) -> Result<(), AllocError>
+    // Puts the ids of these batches' requests into the table, if they aren't there yet.
+    fn list(&mut self, batches: &[Vec<RequestData>]) -> Result<(), AllocError>
         ensures rises { OnOk result (IsFalse self.new.rises) }
-        ensures listed { OnOk result (AreMet self.old (ids_of requests.now)
-            → Lists self.new.table (ids_of requests.now)) }
+        ensures listed { OnOk result (AreMet self.old (ids_in batches.now)
+            → Lists self.new.table (ids_in batches.now)) }
     {
         if self.rises {
-            add_all(&mut self.table, requests)?;
+            add_batches(&mut self.table, batches)?;
             self.rises = false;
         }
         Ok(())
@@ -111,6 +111,20 @@ fn follows(last: Option<u64>, number: u64) -> bool
         Some(last) => last < number,
         None => true,
     }
+}
+
+// Adds the ids of these batches' requests.
+fn add_batches(
+    table: &mut BTreeSet<RequestId>,
+    batches: &[Vec<RequestData>],
+) -> Result<(), AllocError>
+    ensures { OnOk result ((met : List RequestId) → Lists table.old met
+        → Lists table.new (met ++ ids_in batches.now)) }
+{
+    for batch in batches {
+        add_all(table, batch.as_slice())?;
+    }
+    Ok(())
 }
 
 // Adds the ids of these requests.

@@ -1,9 +1,10 @@
 //! Requests in memory of their own.
 
-ghost use Rattle.std.specs.Prelude.{◌≡◌, ◌<◌, [], ◌∷◌, ◌++◌, All, IfOk, OnOk, IsTrue, length, map};
+ghost use Rattle.std.specs.Prelude.{◌≡◌, ◌<◌, ◌≤◌, [], ◌∷◌, ◌++◌, All, IfOk, OnOk, IsTrue, length, map};
 ghost use Rattle.eve_smallbank.specs.SmallBank.{plain};
 ghost use Rattle.eve_grammar.specs.Bodies.{borrowed_asked as said};
 ghost use Rattle.eve_grammar.specs.Limits.{is_asked, is_request};
+ghost use Rattle.eve_workload.specs.Batches.{asked_lists, push_last};
 ghost use Rattle.eve_workload.specs.Groups.{listed};
 ghost use Rattle.eve_write.specs.Data.{asked, transaction};
 
@@ -29,11 +30,8 @@ pub(crate) fn listed(
     Ok(copies)
 }
 
-/// Adds the request with names of its own.
-pub(crate) fn add_owned(
-    requests: &mut Vec<RequestData>,
-    listed: &Asked<'_>,
-) -> Result<(), AllocError>
+// Adds the request with names of its own.
+fn add_owned(requests: &mut Vec<RequestData>, listed: &Asked<'_>) -> Result<(), AllocError>
     requires { IsTrue (is_asked (said listed.now)) }
     ensures { OnOk result (map asked requests.new.items ≡ map asked requests.old.items ++ said listed.now ∷ []) }
 {
@@ -42,6 +40,21 @@ pub(crate) fn add_owned(
         number: listed.number,
         transaction: owned(&listed.request),
     })?;
+    Ok(())
+}
+
+/// Adds the request, with names of its own, to the last batch.
+pub(crate) fn add_to_last(
+    batches: &mut Vec<Vec<RequestData>>,
+    listed: &Asked<'_>,
+) -> Result<(), AllocError>
+    requires some { 1 ≤ length batches.old.items }
+    requires right { IsTrue (is_asked (said listed.now)) }
+    ensures { OnOk result (asked_lists batches.new.items
+        ≡ push_last (asked_lists batches.old.items) (said listed.now)) }
+{
+    let place = batches.len() - 1;
+    add_owned(&mut batches[place], listed)?;
     Ok(())
 }
 

@@ -1,12 +1,13 @@
 //! A workload that was read.
 
-ghost use Rattle.std.specs.Prelude.{◌≡◌, ◌≢◌, ℕ, List, ◌+◌, ◌-◌, ◌<◌, ◌≤◌, [], ◌∷◌, ◌++◌, take, drop, slice_index};
+ghost use Rattle.std.specs.Prelude.{◌≡◌, ◌≢◌, ℕ, List, ◌-◌, ◌≤◌};
 ghost use Rattle.std.specs.Prelude.{IsTrue, IfOk, Err, AllPairs, length, map, slice_get, Some};
 ghost use Rattle.std.specs.List.{list_all};
 ghost use Rattle.eve_grammar.specs.Bodies.{limits};
 ghost use Rattle.eve_grammar.specs.Limits.{is_customer, is_asked, is_head};
 ghost use Rattle.eve_write.specs.Data.{customer, asked};
 ghost use Rattle.eve_workload.specs.Workload.{IsWorkload, head_asked, customer_names};
+ghost use Rattle.eve_workload.specs.Batches.{asked_lists};
 ghost use Rattle.eve_workload.specs.Lines.{Line, workload_text};
 ghost use Rattle.eve_workload.specs.Steps.{text_before, may_end, IsBadLine};
 ghost use Rattle.eve_workload.specs.Drafts.{Keeps, KeepsAll};
@@ -16,20 +17,19 @@ use crate::draft::Draft;
 use crate::fault::WorkloadFault;
 use eve_grammar::{Head, MOST_BATCHES, MOST_CUSTOMERS, MOST_REQUESTS};
 use eve_write::{CustomerData, RequestData};
-use std::alloc::Global;
+use std::alloc::{AllocError, Global};
 use std::marker::Model;
 
 /// What a deployment is asked to do: its numbers, the customers, and batches of requests as they are listed.
 ///
 /// docs/TRACE.md, "Workload". Every workload lies within the limits, its customers' names differ, and so do its
-/// requests' ids. All requests stand in one list. Contracts see it as its deployment, its
-/// customers, and for each batch the list of its requests.
+/// requests' ids. Each batch has a list of its own, so that it can be let go alone. Contracts see it as its deployment,
+/// its customers, and for each batch the list of its requests.
 #[derive(Drop)]
 pub struct Workload {
     deployment: Deployment,
     customers: Vec<CustomerData>,
-    requests: Vec<RequestData>,
-    starts: Vec<u32>,
+    batches: Vec<Vec<RequestData>>,
 }
 
 impl Model for Workload {
@@ -66,7 +66,7 @@ impl Workload {
         ensures workload { IsWorkload self.now }
     {
         let customers = self.customers.len() as u32;
-        let batches = self.starts.len() as u32;
+        let batches = self.batches.len() as u32;
         self.deployment.head(customers, batches)
     }
 
@@ -86,7 +86,7 @@ impl Workload {
         ensures batches { result ≡ length self.now.batches }
         ensures few { result ≤ MOST_BATCHES }
     {
-        self.starts.len() as u32
+        self.batches.len() as u32
     }
 
     /// The requests of a batch, 1 to 256, as they are listed. Batches are numbered from 1.
@@ -98,12 +98,32 @@ impl Workload {
         ensures few { length result.now ≤ MOST_REQUESTS }
         ensures right { IsTrue (list_all is_asked (map asked result.now)) }
     {
-        let starts = self.starts.as_slice();
-        let requests = self.requests.as_slice();
-        let place = n as usize - 1;
-        let from = starts[place] as usize;
-        let to = end_of(starts, place, requests.len());
-        part(requests, from, to)
+        let batches = self.batches.as_slice();
+        batches[n as usize - 1].as_slice()
+    }
+
+    /// A copy in memory of its own. It is refused only where memory runs out.
+    pub fn copy(&self, alloc: Global) -> Result<Workload, AllocError>
+        ensures { IfOk result (λ w. w ≡ self.now) }
+    {
+        let customers = self.customers.to_vec(alloc)?;
+        let batches = copies_of(alloc, self.batches.as_slice())?;
+        Ok(Workload {
+            deployment: self.deployment,
+            customers,
+            batches,
+        })
+    }
+
+    /// Its customers, and the requests of each batch, in the lists that hold them: who has done with a batch can let it
+    /// go. What is said of `customers` and of `batch` is true of them.
+    pub fn into_lists(self) -> (Vec<CustomerData>, Vec<Vec<RequestData>>)
+        ensures customers { map customer result.0.items ≡ self.customers }
+        ensures batches { asked_lists result.1.items ≡ self.batches }
+        ensures few { length result.0.items ≤ MOST_CUSTOMERS }
+        ensures workload { IsWorkload self }
+    {
+        (self.customers, self.batches)
     }
 }
 
@@ -117,7 +137,7 @@ fn lines_of<'a>(alloc: Global, text: &'a [u8]) -> Result<Draft<'a>, WorkloadFaul
     let mut at = 0;
     while at < text.len() {
         let number = draft.next_line();
-        match draft.take_line(&text[at..], &mut words)? {
+        match draft.take_line(alloc, &text[at..], &mut words)? {
             Some(len) => at += len,
             None => return Err(WorkloadFault::Line(number)),
         }
@@ -138,27 +158,20 @@ fn whole(draft: Draft<'_>) -> Workload
     Workload {
         deployment: draft.deployment,
         customers: draft.customers,
-        requests: draft.requests,
-        starts: draft.starts,
+        batches: draft.batches,
     }
 }
 
-// Where the part at a place ends in a list of so many items.
-fn end_of(starts: &[u32], place: usize, len: usize) -> usize
-    requires { place < length starts.now }
-    ensures { result ≡ slice_index (starts.now ++ len ∷ []) (place + 1) }
+// Copies of the batches' lists.
+fn copies_of(
+    alloc: Global,
+    batches: &[Vec<RequestData>],
+) -> Result<Vec<Vec<RequestData>>, AllocError>
+    ensures { IfOk result (λ copies. asked_lists copies.items ≡ asked_lists batches.now) }
 {
-    if place + 1 < starts.len() {
-        starts[place + 1] as usize
-    } else {
-        len
+    let mut copies = Vec::with_capacity(alloc, batches.len())?;
+    for batch in batches {
+        copies.push(batch.to_vec(alloc)?)?;
     }
-}
-
-fn part(requests: &[RequestData], from: usize, to: usize) -> &[RequestData]
-    requires rising { from ≤ to }
-    requires within { to ≤ length requests.now }
-    ensures { result.now ≡ take (to - from) (drop from requests.now) }
-{
-    &requests[from..to]
+    Ok(copies)
 }

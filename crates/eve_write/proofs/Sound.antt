@@ -1,9 +1,9 @@
 -- What it tells of parts that they have a spelling.
-use Rattle.std.proofs.Common.{◌≡◌, ℕ, ◌*◌, ◌≤◌, Bool, true, false, ◌&&◌, leb, ltb, eqb, IsTrue, List, [], ◌∷◌, length}
+use Rattle.std.proofs.Common.{◌≡◌, ℕ, ◌*◌, ◌≤◌, Bool, true, ◌&&◌, leb, ltb, eqb, IsTrue, List, [], ◌∷◌, length}
 use Rattle.std.proofs.Common.{map, Vec, refl, sym, ◌∙◌, ap, arith}
 use Rattle.std.specs.declared.alloc.Global.{Global}
 use Rattle.std.specs.List.{list_all}
-use Rattle.std.proofs.lemmas.Bool.{and_parts, and_from, leb-true, le-leb, false≢true}
+use Rattle.std.proofs.lemmas.Bool.{and_parts, and_from, leb-true, le-leb}
 use Rattle.std.proofs.lemmas.List.{length-map}
 use Rattle.std.proofs.lemmas.List.Folds.{list_all-map}
 use Rattle.eve_grammar.specs.Trace.{Head, head_of}
@@ -216,9 +216,6 @@ pub tested : (p : Parts) (h : Head) (r : Bool) → h ≡ head_of (trace p) → I
 tested p h r same right is holds =
     HasSpelling-from_tests p (ap is_head (sym same) ∙ right) (ap (λ k. are_right_parts k p) (sym same) ∙ sym is ∙ holds)
 
-pub refused : (p : Parts) (h : Head) (r : Bool) → h ≡ head_of (trace p) → r ≡ are_right_parts h p → r ≡ false
-    → HasSpelling p
-    → ⊥
-refused p h r same is fails spelled =
-    let e : false ≡ true = sym fails ∙ is ∙ ap (λ k. are_right_parts k p) same ∙ tests_from-HasSpelling p spelled in
-    false≢true e
+pub passed : (p : Parts) (h : Head) (r : Bool) → h ≡ head_of (trace p) → r ≡ are_right_parts h p → HasSpelling p
+    → r ≡ true
+passed p h r same is spelled = is ∙ ap (λ k. are_right_parts k p) same ∙ tests_from-HasSpelling p spelled

@@ -1,6 +1,6 @@
 //! Whole traces.
 
-ghost use Rattle.std.specs.Prelude.{◌≡◌, ◌≤◌, ◌<◌, IfOk};
+ghost use Rattle.std.specs.Prelude.{◌≡◌, ◌≢◌, ◌≤◌, ◌<◌, IfOk, Err};
 ghost use Rattle.eve_grammar.specs.Trace.{head_of};
 ghost use Rattle.eve_grammar.specs.Spelling.{length_of, spelling};
 ghost use Rattle.eve_grammar.specs.Bodies.{limits};
@@ -86,12 +86,32 @@ pub fn gather<W: Sink>(parts: &Parts, limit: u64, out: &mut W) -> Result<u64, Ga
         × (length_of (trace parts.now) ≤ limit)
         × Stopped W.written W.failures out.old out.new (spelling (trace parts.now)) }
 {
-    let Some(head) = parts.head() else {
-        return Err(GatherFault::Shape);
-    };
-    if !parts.are_right(&head) {
+    if !parts.has_spelling() {
         return Err(GatherFault::Shape);
     }
+    gather_spelled(parts, limit, out)
+}
+
+/// Writes the trace of parts that have a spelling, and answers how many bytes it has, at most `limit`.
+///
+/// docs/TRACE.md. As `gather`, but that the parts aren't tested: who knows of them saves a pass over them, and never
+/// gets `Shape`. `TooLong` comes before the first byte is written. After `Write` a front of the trace has been taken,
+/// and not all of it.
+pub fn gather_spelled<W: Sink>(parts: &Parts, limit: u64, out: &mut W) -> Result<u64, GatherFault>
+    requires limit { limit ≤ MOST_BYTES }
+    requires spelled { HasSpelling parts.now }
+    ensures length { IfOk result (λ n. (n ≡ length_of (trace parts.now)) × (n ≤ limit)) }
+    ensures written { IfOk result
+        (λ _. Wrote W.written W.failures out.old out.new (spelling (trace parts.now))) }
+    ensures shape { result ≢ Err GatherFault.Shape }
+    ensures too_long { result ≡ Err GatherFault.TooLong
+        → (limit < length_of (trace parts.now)) × (out.new ≡ out.old) }
+    ensures stopped { result ≡ Err GatherFault.Write → (length_of (trace parts.now) ≤ limit)
+        × Stopped W.written W.failures out.old out.new (spelling (trace parts.now)) }
+{
+    let Some(head) = parts.head() else {
+        unreachable!()
+    };
     let total = parts.text_len();
     if total > limit {
         return Err(GatherFault::TooLong);

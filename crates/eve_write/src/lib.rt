@@ -30,7 +30,7 @@ pub use batch::{BatchData, write_batch};
 pub use commit::{CommitData, commit_fits, write_commit};
 pub use customer::{CustomerData, write_customer};
 pub use entries::are_entries;
-pub use gathering::{GatherFault, gather};
+pub use gathering::{GatherFault, gather, gather_spelled};
 pub use head::write_header;
 pub use marks::{write_end, write_replica, write_verifier};
 pub use parts::Parts;

@@ -1,6 +1,6 @@
 //! All parts of a trace.
 
-ghost use Rattle.std.specs.Prelude.{◌≡◌, ◌-◌, ◌^◌, ◌&&◌, false, IsTrue, IfSome, IfNone, min};
+ghost use Rattle.std.specs.Prelude.{◌≡◌, ◌↔◌, ◌-◌, ◌^◌, ◌&&◌, false, IsTrue, IfSome, IfNone, min};
 ghost use Rattle.eve_grammar.specs.Trace.{head_of};
 ghost use Rattle.eve_grammar.specs.Spelling.{length_of};
 ghost use Rattle.eve_grammar.specs.Limits.{is_head};
@@ -41,6 +41,19 @@ pub struct Parts {
 }
 
 impl Parts {
+    /// Whether the parts have a spelling: all lie within the limits of a trace, but that it may be too long, and each
+    /// vote for a rollback has zeros for its token.
+    ///
+    /// docs/MODEL.md, "Limits". A pass over all parts.
+    pub fn has_spelling(&self) -> bool
+        ensures { IsTrue result ↔ HasSpelling self.now }
+    {
+        match self.head() {
+            Some(head) => self.are_right(&head),
+            None => false,
+        }
+    }
+
     // The numbers of the header, where they lie in their ranges.
     pub(crate) fn head(&self) -> Option<Head>
         ensures head { IfSome result (λ h. limits h ≡ head_of (trace self.now)) }

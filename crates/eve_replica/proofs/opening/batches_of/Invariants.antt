@@ -1,13 +1,16 @@
-use Rattle.std.proofs.Common.{◌≡◌, All, map, take}
+use Rattle.std.proofs.Common.{◌≡◌, All, IsTrue, map}
+use Rattle.std.specs.List.{list_all}
 use Rattle.eve_write.specs.Data.{batch}
+use Rattle.eve_workload.specs.Batches.{asked_lists}
 use Rattle.eve_workload.specs.Mixing.{cut, batch_with}
-use Rattle.eve_workload.specs.Workload.{customer_names}
+use Rattle.eve_workload.specs.Workload.{is_listed}
 use Rattle.eve_replica.specs.Serving.{IsRightMixed}
 use Rattle.eve_replica.proofs.opening.batches_of.Given as goal
 
-abbrev pub invariant-loop-number : goal.invariant-loop-number
-invariant-loop-number l =
-    (map (λ m. batch m.batch) l.batches.items
-    ≡ map (λ requests. batch_with (cut (customer_names l.workload.customers) l.mixer requests))
-    (take l.number l.workload.batches))
-    × All (IsRightMixed l.names.items) l.batches.items
+abbrev pub invariant-loop-requests : goal.invariant-loop-requests
+invariant-loop-requests l = record {
+  cut : map (λ m. batch m.batch) l.batches.items
+      ≡ map (λ requests. batch_with (cut l.names.items l.mixer requests)) (asked_lists l.yielded);
+  mixed : All (IsRightMixed l.names.items) l.batches.items;
+  left : IsTrue (list_all is_listed (asked_lists l.requests-iterator.rest.items));
+}

@@ -19,8 +19,8 @@ pub returns-clause-all : goal.returns-clause-all
 returns-clause-all g c =
     let known = g.I.Source.remaining c.args.input.now in
     let short : length c.in_ok-bytes.bytes.items ≤ c.args.limit = omega arith in
-    let all : IsAll known c.as_slice.result.now = short_is_all c.args.limit known c.in_ok-bytes.bytes.items _
-    c.as_slice.ensures.value c.in_ok-bytes.ensures.bytes short in
+    let all : IsAll known c.in_ok-bytes.bytes.items = short_is_all c.args.limit known c.in_ok-bytes.bytes.items _
+    refl c.in_ok-bytes.ensures.bytes short in
     IfOk-weaker c.run_bytes.result _ _
     (λ status. of_all all (λ b. WritesAll (Runs c.args.limit c.args.mixer) b (g.O.Sink.written c.args.out.now)
     (g.O.Sink.written c.run_bytes.new.out) status))
@@ -30,9 +30,9 @@ pub returns-clause-left : goal.returns-clause-left
 returns-clause-left g c =
     let known = g.I.Source.remaining c.args.input.now in
     let short : length c.in_ok-bytes.bytes.items ≤ c.args.limit = omega arith in
-    let all : IsAll known c.as_slice.result.now = short_is_all c.args.limit known c.in_ok-bytes.bytes.items _
-    c.as_slice.ensures.value c.in_ok-bytes.ensures.bytes short in
+    let all : IsAll known c.in_ok-bytes.bytes.items = short_is_all c.args.limit known c.in_ok-bytes.bytes.items _
+    refl c.in_ok-bytes.ensures.bytes short in
     IfErr-weaker c.run_bytes.result _ _
-    (λ why. left_of_all c.args.limit g.O.Sink.written g.O.Sink.failures c.args.mixer known _ c.as_slice.result.now
+    (λ why. left_of_all c.args.limit g.O.Sink.written g.O.Sink.failures c.args.mixer known _ c.in_ok-bytes.bytes.items
     c.args.out.now c.run_bytes.new.out why all)
     c.run_bytes.ensures.left

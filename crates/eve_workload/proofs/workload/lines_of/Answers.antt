@@ -8,7 +8,7 @@ pub next_line-number-requires : goal.next_line-number-requires
 next_line-number-requires c = keeps_small c.loop-at.draft c.loop-at.invariant.before c.loop-at.invariant.keeps
 
 pub take_line-requires : goal.take_line-requires
-take_line-requires c = keeps_small c.loop-at.draft c.loop-at.invariant.before c.loop-at.invariant.keeps
+take_line-requires c = (c.loop-at.invariant.before, c.loop-at.invariant.keeps)
 
 pub next_line-requires : goal.next_line-requires
 next_line-requires c = keeps_small c.loop-at.draft c.loop-at.invariant.before c.loop-at.invariant.keeps

@@ -1,16 +1,15 @@
-use Rattle.std.proofs.Common.{◌≡◌, [], ◌∷◌, ◌++◌, length, ap, ◌∙◌, arith, rules}
+use Rattle.std.proofs.Common.{◌≡◌, length, arith, rules}
 use Rattle.eve_workload.proofs.Drafting.{batch_taken, batch_refused}
 use Rattle.eve_workload.proofs.draft.Draft.take_batch.Goals as goal
 
 pub returns-then-len : goal.returns-then-len
 returns-then-len c = λ before keeps.
-    let count : c.len.result ≡ length c.args.self.now.starts.items = search rules in
+    let count : c.len.result ≡ length c.args.self.now.batches.items = search rules in
     batch_refused c.args.self.now before (omega arith) keeps
 
 pub returns : goal.returns
 returns c = λ before keeps.
-    let count : c.len.result ≡ length c.args.self.now.starts.items = search rules in
-    let start : c.len-2.result ≡ length c.args.self.now.requests.items = search rules in
+    let count : c.len.result ≡ length c.args.self.now.batches.items = search rules in
     let follows = c.takes_batch.ensures before keeps.last in
-    batch_taken c.args.self.now c.push.new.self before
-    (c.in_ok-push.ensures.items ∙ ap (λ n. c.args.self.now.starts.items ++ n ∷ []) start) (omega arith) (cc) keeps
+    batch_taken c.args.self.now c.push.new.self c.new.result before c.in_ok-push.ensures.items c.new.ensures.items
+    (omega arith) (cc) keeps

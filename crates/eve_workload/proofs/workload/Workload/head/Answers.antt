@@ -1,6 +1,6 @@
 use Rattle.std.proofs.Common.{◌≡◌, length, IsTrue, arith, rules, refl, sym, subst, ◌∙◌}
 use Rattle.eve_grammar.specs.Limits.{is_head}
-use Rattle.eve_workload.proofs.Holding.{starts_count, batches_few, customer_count, customers_few, head_is, head_right}
+use Rattle.eve_workload.proofs.Holding.{batch_count, batches_few, customer_count, customers_few, head_is, head_right}
 use Rattle.eve_workload.proofs.Holding.{is_workload}
 use Rattle.eve_workload.proofs.workload.Workload.head.Goals as goal
 
@@ -14,8 +14,8 @@ overflow_cast-customers c =
 
 pub overflow_cast-batches : goal.overflow_cast-batches
 overflow_cast-batches c =
-    let held : c.len-batches.result ≡ length c.self.inside.starts.items = search rules in
-    let count = starts_count c.self.inside c.args.self.now c.self.invariant c.self.view_is c.self.inside.starts.items
+    let held : c.len-batches.result ≡ length c.self.inside.batches.items = search rules in
+    let count = batch_count c.self.inside c.args.self.now c.self.invariant c.self.view_is c.self.inside.batches.items
     refl in
     let few = batches_few c.self.inside c.args.self.now c.self.invariant c.self.view_is in
     omega arith
@@ -23,13 +23,13 @@ overflow_cast-batches c =
 pub returns-clause-head : goal.returns-clause-head
 returns-clause-head c =
     let customers : c.len-customers.result ≡ length c.self.inside.customers.items = search rules in
-    let batches : c.len-batches.result ≡ length c.self.inside.starts.items = search rules in
+    let batches : c.len-batches.result ≡ length c.self.inside.batches.items = search rules in
     c.head.ensures ∙ head_is c.self.inside c.args.self.now c.self.invariant c.self.view_is _ _ customers batches
 
 pub returns-clause-right : goal.returns-clause-right
 returns-clause-right c =
     let customers : c.len-customers.result ≡ length c.self.inside.customers.items = search rules in
-    let batches : c.len-batches.result ≡ length c.self.inside.starts.items = search rules in
+    let batches : c.len-batches.result ≡ length c.self.inside.batches.items = search rules in
     subst (λ h. IsTrue (is_head h)) (sym c.head.ensures)
     (head_right c.self.inside c.args.self.now c.self.invariant c.self.view_is _ _ customers batches)
 
