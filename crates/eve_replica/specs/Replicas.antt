@@ -1,5 +1,8 @@
 -- A replica as contracts see it, and what its calls make of it. docs/MODEL.md, "Section state, fate".
-use Rattle.std.specs.Prelude.{◌≡◌, ℕ, ◌+◌, ◌<◌, Bool, true, false, ⊤, List, length}
+use Rattle.std.specs.Prelude.{◌≡◌, ℕ, ◌+◌, ◌<◌, ◌≤◌, Bool, true, false, ⊤, IsTrue, List, length, Option, Some, None}
+use Rattle.eve_smallbank.specs.declared.rows.Touched.{Touched}
+use Rattle.eve_grammar.specs.declared.limits.TheConstants.{MOST_BATCHES}
+use Rattle.eve_grammar.specs.Limits.{is_batch}
 use Rattle.eve_stamps.specs.Applied.{Applied}
 use Rattle.eve_grammar.specs.Trace.{Batch, Attempt, Commit}
 use Rattle.eve_attempts.specs.declared.front.AttemptFront.{AttemptFront}
@@ -52,6 +55,24 @@ FailsAttempt attempt_fault.Worn old new = Breaks old new
 FailsAttempt attempt_fault.Spent old new = Breaks old new
 FailsAttempt attempt_fault.NoRow old new = Breaks old new
 FailsAttempt attempt_fault.Mismatch old new = Breaks old new
+
+-- As much where a fault is given; none is where a worker gave a request up, which leaves the account as it was.
+abbrev pub GivesUp : Option AttemptFault → Replica → Replica → Type 0
+GivesUp (Some why) old new = FailsAttempt why old new
+GivesUp None old new = new ≡ old
+
+-- The batch may be attempted, whose requests touch this: the replica isn't broken, one more attempt may be open, and
+-- its number is within the limits.
+pub record MayAttempt (r : Replica) (b : Batch) (touched : List Touched) : Type 0 where
+  pub whole : r.is_broken ≡ false
+  pub last : r.ledger.committed + 1 + length r.ledger.opened ≤ MOST_BATCHES
+  pub room : length r.ledger.opened < r.ledger.window
+  pub batch : IsTrue (is_batch b)
+  pub reached : touched ≡ touched_in_batch r.names b
+
+-- its names stay, and for how many workers it is
+abbrev pub KeepsCrew : Replica → Replica → Type 0
+KeepsCrew old new = (new.names ≡ old.names) × (new.ledger.workers ≡ old.ledger.workers)
 
 -- it isn't that the replica was broken before
 abbrev pub IsFresh : AttemptFault → Type 0

@@ -2,6 +2,8 @@
 use Rattle.std.specs.Prelude.{◌≡◌, ◌≢◌, ℕ, ℤ, ◌+◌, ◌-◌, ◌*◌, ◌<◌, ◌≤◌, true, false, if◌then◌else◌}
 use Rattle.std.specs.Prelude.{All, IsTrue, List, [], ◌∷◌, ◌++◌, length, map, slice_get, vec_len, Option, Some, None}
 use Rattle.std.specs.Prelude.{option_map, min}
+use Rattle.std.specs.Prelude.{Vec}
+use Rattle.std.specs.declared.alloc.Global.{Global}
 use Rattle.std.specs.List.{count_by, list_all}
 use Rattle.eve_grammar.specs.Trace.{Batch, Step, Vote, ForCommit, ForRollback}
 use Rattle.eve_grammar.specs.declared.limits.TheConstants.{MOST_BATCHES}
@@ -11,9 +13,11 @@ use Rattle.eve_attempts.specs.Closing.{touched_in_batch}
 use Rattle.eve_attempts.specs.Ledgers.{Ledger, Opened, ledger_rows, opening}
 use Rattle.eve_write.specs.Data.{batch as plain, section, vote, sent}
 use Rattle.eve_write.specs.Writable.{fits_vote}
+use Rattle.eve_write.specs.declared.step.Step as code
 use Rattle.eve_write.specs.declared.vote.VoteData.{VoteData}
 use Rattle.eve_write.specs.declared.sent.SentData.{SentData}
 use Rattle.eve_workload.specs.declared.mixer.MixedBatch.{MixedBatch}
+use Rattle.eve_replica.specs.Replicas.{Replica}
 use Rattle.eve_replica.specs.Deciding.{is_some_of, token_given_up, AreUndecided}
 use Rattle.eve_replica.specs.Sections.{RunPlan, GoesThrough, place_due, votes_along}
 use Rattle.eve_replica.specs.Windows.{WindowState, GoByWindows, window_with}
@@ -85,6 +89,10 @@ pub record AreWholeWindow (p : RunPlan) (at : Standing) (many : ℕ) : Type 0 wh
   pub whole : many ≡ min p.first.window (length p.batches - at.committed)
 
 -- ---- replicas of a run
+
+-- a live replica, which did these steps
+abbrev pub server_with : Replica → Vec code.Step Global → Server
+server_with r steps = record { replica = r; is_live = true; steps = steps }
 
 -- all that a replica did lies within the limits
 abbrev pub AreRightSteps : Server → Type 0
@@ -275,3 +283,17 @@ pub record IsUnderWay (p : RunPlan) (d : RunState) : Type 0 where
 -- the numbers and the batches stay
 abbrev pub IsSameRun : RunState → RunState → Type 0
 IsSameRun old new = (new.head ≡ old.head) × (new.batches ≡ old.batches)
+
+-- ---- a window of attempts
+
+-- The batches may be attempted, one after another: the replica isn't broken, there is room for as many attempts and for
+-- their numbers, and what their requests touch was looked up among its names.
+pub record MayAttemptAll (r : Replica) (window : List MixedBatch) : Type 0 where
+  pub whole : r.is_broken ≡ false
+  pub due : AreDue (length window) r.ledger
+  pub mixed : All (IsRightMixed r.names) window
+
+-- a live replica went on by attempts of all of them
+abbrev pub AttemptsAll : List MixedBatch → Replica → Vec code.Step Global → Replica → Vec code.Step Global → Type 0
+AttemptsAll window old before new after =
+    GoesOn (attempt_move (length window) (map (λ m. plain m.batch) window)) (server_with old before) (server_with new after)

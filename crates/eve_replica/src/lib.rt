@@ -1,6 +1,8 @@
 //! Attempts by running threads, and the run of a whole deployment.
 #![tactic(auto)]
 
+mod account;
+mod attempting;
 mod fault;
 mod opening;
 mod replica;

@@ -11,21 +11,23 @@ ghost use Rattle.eve_attempts.specs.Discarding.{RollsBack};
 ghost use Rattle.eve_recorder.specs.Drawing.{fresh_seats};
 ghost use Rattle.eve_replica.specs.Replicas.{Attempts, AttemptsDue, FailsAttempt, ClosesThese, ClosesOwn};
 ghost use Rattle.eve_replica.specs.Replicas.{IsFirstOpen, CommitsFirst};
-ghost use Rattle.eve_replica.specs.Serving.{IsRightMixed};
+ghost use Rattle.eve_replica.specs.Serving.{IsRightMixed, MayAttemptAll, AttemptsAll};
 ghost use Rattle.eve_replica_crew.specs.Crews.{AreTickets};
 ghost use Rattle.eve_replica_crew.specs.Sharing.{IsRightLeg};
 
-use crate::fault::{AttemptFault, CloseFault, CommitFault, fault_of};
+use crate::account::Account;
+use crate::attempting::{attempt_legs, attempt_one};
+use crate::fault::{AttemptFault, CloseFault, CommitFault, RunFault};
 use eve_accounts::{Balances, Names};
-use eve_attempts::{AttemptFront, CloseFault as Unclosed, Ledger};
+use eve_attempts::{AttemptFront, CloseFault as Unclosed};
 use eve_floor::Floor;
 use eve_grammar::{MOST_BATCHES, MOST_WINDOW, MOST_WORKERS};
 use eve_recorder::{Gate, MOST_DRAWN, TicketSeat, TicketSeats, Tickets};
-use eve_replica_crew::{Leg, crew_size, run_batches};
+use eve_replica_crew::{Leg, crew_size};
 use eve_smallbank::Touched;
 use eve_stamps::AccessRecord;
 use eve_workload::{MixedBatch, look_up};
-use eve_write::{AttemptData, BatchData, CommitData, RollbackData};
+use eve_write::{AttemptData, BatchData, CommitData, RollbackData, Step};
 use std::alloc::{AllocError, Global};
 use std::marker::Model;
 use std::sync::Wait;
@@ -38,32 +40,26 @@ use std::thread::Threads;
 /// names, its account and whether it is broken (`Replica` of the specs).
 #[derive(Drop)]
 pub struct Replica<'n> {
-    names: &'n Names<'n>,
     floor: Floor<'n>,
-    ledger: Ledger,
     ticks: Tickets,
     // one for each worker
     seats: Vec<TicketSeat>,
-    // for each open attempt the greatest tick of its records, where this replica's workers ran it
-    settles: Vec<Option<u64>>,
-    is_broken: bool,
+    account: Account<'n>,
 }
 
 impl<'n> Model for Replica<'n> {
-    ghost use Rattle.std.specs.Prelude.{◌≡◌, ◌*◌, ◌≤◌, length, vec_len};
-    ghost use Rattle.eve_attempts.specs.Ledgers.{ledger_rows};
+    ghost use Rattle.std.specs.Prelude.{◌≡◌, ◌≤◌, vec_len};
     ghost use Rattle.eve_replica_crew.specs.Crews.{AreTickets};
     ghost use Rattle.eve_replica.specs.Replicas as model;
     ghost use Rattle.eve_grammar.specs.declared.limits.TheConstants.{MOST_WORKERS};
 
     ghost Value = { model.Replica };
 
-    ghost view = { λ r. record { names = r.names.now.items; ledger = r.ledger; is_broken = r.is_broken } };
+    ghost view = { λ r. r.account };
 
     ghost invariant = { λ r. AreTickets r.ticks r.seats.items
         × (1 ≤ vec_len r.seats) × (vec_len r.seats ≤ MOST_WORKERS)
-        × (r.floor ≡ r.names.now.items) × (vec_len r.settles ≡ length r.ledger.opened)
-        × (vec_len r.seats ≡ r.ledger.workers) × (ledger_rows r.ledger ≡ 2 * length r.names.now.items) };
+        × (r.floor ≡ r.account.names) × (vec_len r.seats ≡ r.account.ledger.workers) };
 }
 
 impl<'n> Replica<'n> {
@@ -82,18 +78,14 @@ impl<'n> Replica<'n> {
         ensures { let ledger = opening balances.now workers window in
             IfOk result (λ r. r ≡ record { names = names.now.items; ledger = ledger; is_broken = false }) }
     {
-        let settles = Vec::with_capacity(alloc, window as usize)?;
         let (ticks, seats) = seated(alloc, workers)?;
         let floor = Floor::new(alloc, names, balances)?;
-        let ledger = Ledger::new(alloc, balances, workers, window)?;
+        let account = Account::new(alloc, names, balances, workers, window)?;
         Ok(Replica {
-            names,
             floor,
-            ledger,
             ticks,
             seats,
-            settles,
-            is_broken: false,
+            account,
         })
     }
 
@@ -101,42 +93,42 @@ impl<'n> Replica<'n> {
     pub fn view(&self) -> u32
         ensures { result ≡ self.now.ledger.view }
     {
-        self.ledger.view()
+        self.account.ledger.view()
     }
 
     /// The number of the last batch that was committed, 0 where none was.
     pub fn committed(&self) -> u32
         ensures { result ≡ self.now.ledger.committed }
     {
-        self.ledger.committed()
+        self.account.ledger.committed()
     }
 
     /// How many attempts are open.
     pub fn opened(&self) -> usize
         ensures { result ≡ length self.now.ledger.opened }
     {
-        self.ledger.opened()
+        self.account.ledger.opened()
     }
 
     /// Whether one more attempt may be open.
     pub fn has_room(&self) -> bool
         ensures { IsTrue result ↔ (length self.now.ledger.opened < self.now.ledger.window) }
     {
-        self.ledger.has_room()
+        self.account.ledger.has_room()
     }
 
     /// The number of the batch that is attempted next.
     pub fn next_number(&self) -> u32
         ensures { result ≡ self.now.ledger.committed + 1 + length self.now.ledger.opened }
     {
-        self.ledger.next_number()
+        self.account.ledger.next_number()
     }
 
     /// Whether no attempt came since a rollback, so that the next is serial.
     pub fn is_next_serial(&self) -> bool
         ensures { result ≡ self.now.ledger.is_next_serial }
     {
-        self.ledger.is_next_serial()
+        self.account.ledger.is_next_serial()
     }
 
     /// The token of the open attempt at that place, counted from 0.
@@ -144,14 +136,14 @@ impl<'n> Replica<'n> {
         requires { place < length self.now.ledger.opened }
         ensures { option_map (λ o. o.token) (slice_get self.now.ledger.opened place) ≡ Some result }
     {
-        self.ledger.token(place)
+        self.account.ledger.token(place)
     }
 
     /// Whether an attempt failed, and no rollback has succeeded since.
     pub fn is_broken(&self) -> bool
         ensures { result ≡ self.now.is_broken }
     {
-        self.is_broken
+        self.account.is_broken
     }
 }
 
@@ -180,111 +172,57 @@ impl<'n> Replica<'n> {
         ensures attempted { IfOk result (λ a. Attempts view serial self.old self.new (plain batch.now) (attempt a)) }
         ensures refused { IfErr result (λ why. FailsAttempt why self.old self.new) }
     {
-        if self.is_broken {
+        if self.account.is_broken {
             return Err(AttemptFault::Broken);
         }
-        let Ok(touched) = look_up(alloc, batch.requests.as_slice(), self.names) else {
-            return Err(self.broken_by(AttemptFault::Memory));
+        let Ok(touched) = look_up(alloc, batch.requests.as_slice(), self.account.names) else {
+            return Err(self.account.broken_by(AttemptFault::Memory));
         };
         let touched = touched.as_slice();
         let leg = leg_of(&self.floor, self.seats.len() as u8, batch, touched, serial);
-        let mut lists = self.note_legs(rt, alloc, &[leg], gate)?;
-        let Some(records) = lists.pop() else {
-            unreachable!()
-        };
-        self.close_noted(alloc, batch, touched, records.as_slice())
-    }
-
-    /// Runs the batches of a window by the replica's workers, of a replica that isn't broken, and answers what they
-    /// noted of each: each worker has one thread for all of them. The first is run in the mode that is due, the others
-    /// are never serial. Nothing is attempted by it: `close_noted` makes attempts of the lists, one after another.
-    pub(crate) fn note_window<R: Threads + Wait + Sync, G: Gate>(
-        &mut self,
-        rt: &R,
-        alloc: Global,
-        window: &[MixedBatch],
-        gate: &G,
-    ) -> Result<Vec<Vec<AccessRecord>>, AttemptFault>
-        requires mixed { All (IsRightMixed self.old.names) window.now }
-        requires whole { self.old.is_broken ≡ false }
-        ensures lists { IfOk result (λ lists. vec_len lists ≡ length window.now) }
-        ensures same { OnOk result (self.new ≡ self.old) }
-        ensures refused { IfErr result (λ why. FailsAttempt why self.old self.new) }
-    {
-        let workers = self.seats.len() as u8;
-        let Ok(legs) = legs_of(alloc, &self.floor, workers, window, self.is_next_serial()) else {
-            return Err(self.broken_by(AttemptFault::Memory));
-        };
-        self.note_legs(rt, alloc, legs.as_slice(), gate)
-    }
-
-    // Runs these batches by the replica's workers, of a replica that isn't broken, and answers what they noted of each.
-    // A fault breaks the replica.
-    fn note_legs<R: Threads + Wait + Sync, G: Gate>(
-        &mut self,
-        rt: &R,
-        alloc: Global,
-        legs: &[Leg],
-        gate: &G,
-    ) -> Result<Vec<Vec<AccessRecord>>, AttemptFault>
-        requires legs { All (IsRightLeg self.old.names self.old.ledger.workers) legs.now }
-        requires whole { self.old.is_broken ≡ false }
-        ensures lists { IfOk result (λ lists. vec_len lists ≡ length legs.now) }
-        ensures same { OnOk result (self.new ≡ self.old) }
-        ensures refused { IfErr result (λ why. FailsAttempt why self.old self.new) }
-    {
-        let noted = run_batches(
+        attempt_one(
             rt,
             alloc,
             &self.floor,
             &self.ticks,
             &mut self.seats,
-            legs,
+            &mut self.account,
+            leg,
             gate,
-        );
-        match noted {
-            Ok(lists) => Ok(lists),
-            Err(why) => Err(self.broken_by(fault_of(why))),
-        }
+        )
     }
 
-    /// Makes an attempt of what the replica's workers noted of the batch, which is open then, in the view and in the
-    /// mode that are due. A refusal breaks the replica.
-    pub(crate) fn close_noted(
+    /// Runs the batches of a window, which are the next, by the replica's workers, of a replica that isn't broken, and
+    /// makes an attempt of what they noted of each. A fault breaks the replica; what was attempted before it is open.
+    pub(crate) fn attempt_window<R: Threads + Wait + Sync, G: Gate>(
         &mut self,
+        rt: &R,
         alloc: Global,
-        batch: &BatchData,
-        touched: &[Touched],
-        records: &[AccessRecord],
-    ) -> Result<AttemptData, AttemptFault>
-        requires last { self.old.ledger.committed + 1 + length self.old.ledger.opened ≤ MOST_BATCHES }
-        requires room { length self.old.ledger.opened < self.old.ledger.window }
-        requires batch { IsTrue (is_batch (plain batch.now)) }
-        requires touched { touched.now ≡ touched_in_batch self.old.names (plain batch.now) }
-        requires whole { self.old.is_broken ≡ false }
-        ensures attempted { IfOk result (λ a. AttemptsDue self.old self.new (plain batch.now) (attempt a)) }
-        ensures refused { IfErr result (λ why. FailsAttempt why self.old self.new) }
+        steps: &mut Vec<Step>,
+        window: &[MixedBatch],
+        gate: &G,
+    ) -> Result<(), RunFault>
+        requires due { MayAttemptAll self.old window.now }
+        ensures on { OnOk result (AttemptsAll window.now self.old steps.old self.new steps.new) }
+        ensures broken { OnErr result (self.new.is_broken ≡ true) }
     {
-        let front = AttemptFront {
-            seq: self.next_number(),
-            view: self.view(),
-            serial: self.is_next_serial(),
+        let workers = self.seats.len() as u8;
+        let serial = self.is_next_serial();
+        let Ok(legs) = legs_of(alloc, &self.floor, workers, window, serial) else {
+            return Err(self.account.broken_by(AttemptFault::Memory).into());
         };
-        let tick = greatest_tick(records);
-        match self.close(alloc, front, batch, touched, records, tick) {
-            Ok(attempt) => Ok(attempt),
-            Err(Unclosed::Memory) => Err(self.broken_by(AttemptFault::Memory)),
-            Err(Unclosed::Mismatch) => Err(self.broken_by(AttemptFault::Mismatch)),
-        }
-    }
-
-    // The replica is broken from now on, by this fault.
-    fn broken_by(&mut self, why: AttemptFault) -> AttemptFault
-        ensures broken { self.new ≡ record self.old { is_broken = true } }
-        ensures why { result ≡ why }
-    {
-        self.is_broken = true;
-        why
+        attempt_legs(
+            rt,
+            alloc,
+            &self.floor,
+            &self.ticks,
+            &mut self.seats,
+            &mut self.account,
+            steps,
+            window,
+            legs.as_slice(),
+            gate,
+        )
     }
 
     /// Makes an attempt of records that a caller took, which is open then.
@@ -316,14 +254,18 @@ impl<'n> Replica<'n> {
         ensures broken { (result ≡ Err CloseFault.Broken) ↔ (self.old.is_broken ≡ true) }
         ensures refused { OnErr result (self.new ≡ self.old) }
     {
-        if self.is_broken {
+        if self.account.is_broken {
             return Err(CloseFault::Broken);
         }
-        let Ok(touched) = look_up(alloc, batch.requests.as_slice(), self.names) else {
+        let Ok(touched) = look_up(alloc, batch.requests.as_slice(), self.account.names) else {
             return Err(CloseFault::Memory);
         };
         let front = AttemptFront { seq, view, serial };
-        match self.close(alloc, front, batch, touched.as_slice(), records, None) {
+        let touched = touched.as_slice();
+        let closed = self
+            .account
+            .close(alloc, front, batch, touched, records, None);
+        match closed {
             Ok(attempt) => Ok(attempt),
             Err(Unclosed::Memory) => Err(CloseFault::Memory),
             Err(Unclosed::Mismatch) => Err(CloseFault::Mismatch),
@@ -342,18 +284,11 @@ impl<'n> Replica<'n> {
         ensures broken { (result ≡ Err CommitFault.Broken) ↔ (self.old.is_broken ≡ true) }
         ensures refused { OnErr result (self.new ≡ self.old) }
     {
-        if self.is_broken {
-            return Err(CommitFault::Broken);
+        let (commit, tick) = self.account.commit(seq)?;
+        if let Some(tick) = tick {
+            self.floor.settle(tick);
         }
-        match self.ledger.commit(seq) {
-            Ok(commit) => {
-                if let Some(tick) = self.settles.remove(0) {
-                    self.floor.settle(tick);
-                }
-                Ok(commit)
-            }
-            Err(_) => Err(CommitFault::NotOpen),
-        }
+        Ok(commit)
     }
 
     /// Discards all open attempts, puts the rows back to what is committed, also those that only an attempt that failed
@@ -367,47 +302,9 @@ impl<'n> Replica<'n> {
         ensures whole { OnOk result (self.new ≡ record self.old { ledger = self.new.ledger; is_broken = false }) }
         ensures refused { OnErr result (self.new ≡ self.old) }
     {
-        let rollback = self.ledger.rollback(alloc)?;
+        let rollback = self.account.rollback(alloc)?;
         self.floor.go_back();
-        self.settles.clear();
-        self.is_broken = false;
         Ok(rollback)
-    }
-
-    // Closes the records, and keeps up to which tick the stripes are settled when the attempt is committed.
-    fn close(
-        &mut self,
-        alloc: Global,
-        front: AttemptFront,
-        batch: &BatchData,
-        touched: &[Touched],
-        records: &[AccessRecord],
-        tick: Option<u64>,
-    ) -> Result<AttemptData, Unclosed>
-        requires seq { front.seq ≡ self.old.ledger.committed + 1 + length self.old.ledger.opened }
-        requires last { front.seq ≤ MOST_BATCHES }
-        requires room { length self.old.ledger.opened < self.old.ledger.window }
-        requires view { front.view ≡ self.old.ledger.view }
-        requires serial { front.serial ≡ self.old.ledger.is_next_serial }
-        requires batch { IsTrue (is_batch (plain batch.now)) }
-        requires touched { touched.now ≡ touched_in_batch self.old.names (plain batch.now) }
-        ensures closed { IfOk result
-            (λ a. ClosesThese front self.old self.new (plain batch.now) records.now (attempt a)) }
-        ensures mismatch { let reached = touched_in_batch self.old.names (plain batch.now) in
-            result ≡ Err Unclosed.Mismatch
-            → AreMismatched front self.old.ledger (plain batch.now) reached records.now }
-        ensures refused { OnErr result (self.new ≡ self.old) }
-    {
-        if self.settles.reserve(1).is_err() {
-            return Err(Unclosed::Memory);
-        }
-        match self.ledger.close(alloc, front, batch, touched, records) {
-            Ok(attempt) => {
-                self.settles.push_reserved(tick);
-                Ok(attempt)
-            }
-            Err(why) => Err(why),
-        }
     }
 }
 
@@ -486,7 +383,8 @@ fn leg_of<'b>(
     requires workers { (1 ≤ workers) × (workers ≤ MOST_WORKERS) }
     requires batch { IsTrue (is_batch (plain batch.now)) }
     requires touched { touched.now ≡ touched_in_batch floor.now (plain batch.now) }
-    ensures { IsRightLeg floor.now workers result }
+    ensures right { IsRightLeg floor.now workers result }
+    ensures batch { result.batch.now ≡ batch.now }
 {
     let crew = crew_size(batch.sizes.as_slice(), workers, serial);
     Leg {
@@ -494,13 +392,4 @@ fn leg_of<'b>(
         touched,
         crew,
     }
-}
-
-// The greatest tick of the records.
-fn greatest_tick(records: &[AccessRecord]) -> Option<u64>
-    ensures none { IfNone result (records.now ≡ []) }
-    ensures greatest { IfSome result (λ t. All (λ r. r.tick ≤ t) records.now) }
-    ensures one { IfSome result (Contains (map (λ r. r.tick) records.now)) }
-{
-    records.iter().map(|record| record.tick()).max()
 }

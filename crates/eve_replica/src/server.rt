@@ -1,6 +1,6 @@
 //! A replica of a run, with what it did.
 
-ghost use Rattle.std.specs.Prelude.{◌≡◌, true, false, ◌+◌, ◌-◌, ◌<◌, ◌^◌, [], ◌∷◌, ◌++◌, All, IsTrue, IsSome, OnOk};
+ghost use Rattle.std.specs.Prelude.{◌≡◌, true, false, ◌+◌, ◌-◌, ◌<◌, ◌^◌, [], ◌∷◌, ◌++◌, All, IsTrue, IsSome, OnErr, OnOk};
 ghost use Rattle.std.specs.Prelude.{length, map};
 ghost use Rattle.eve_grammar.specs.Limits.{is_step};
 ghost use Rattle.eve_attempts.specs.Ledgers.{ledger_rows};
@@ -11,10 +11,10 @@ ghost use Rattle.eve_replica.specs.Serving.{IsRightMixed, AreDue, AreRightSteps,
 ghost use Rattle.eve_replica.specs.Serving.{attempt_move, commit_move, rollback_move};
 ghost use Rattle.eve_replica.specs.Serving.{next_token};
 
+use crate::attempting::add_step;
 use crate::fault::RunFault;
 use crate::replica::Replica;
 use eve_recorder::Gate;
-use eve_stamps::AccessRecord;
 use eve_workload::MixedBatch;
 use eve_write::{Step, commit_fits};
 use std::alloc::{AllocError, Global};
@@ -66,37 +66,14 @@ impl<'n> Server<'n> {
         requires due { self.old.is_live ≡ true → AreDue (length window.now) self.old.replica.ledger }
         ensures on { OnOk result (GoesOn (attempt_move (length window.now) (map (λ m. batch m.batch) window.now))
             self.old self.new) }
+        ensures broken { OnErr result (self.new.replica.is_broken ≡ true) }
         ensures live { self.new.is_live ≡ self.old.is_live }
     {
         if !self.is_live {
             return Ok(());
         }
-        let noted = self.replica.note_window(rt, alloc, window, gate)?;
-        for place in 0..window.len() {
-            self.attempt(alloc, &window[place], noted[place].as_slice())?;
-        }
-        Ok(())
-    }
-
-    // Attempts the next batch, of which this was noted.
-    fn attempt(
-        &mut self,
-        alloc: Global,
-        mixed: &MixedBatch,
-        records: &[AccessRecord],
-    ) -> Result<(), RunFault>
-        requires due { AreDue 1 self.old.replica.ledger }
-        requires mixed { IsRightMixed self.old.replica.names mixed.now }
-        requires whole { self.old.replica.is_broken ≡ false }
-        requires live { self.old.is_live ≡ true }
-        ensures on { OnOk result (GoesOn (attempt_move 1 (batch mixed.now.batch ∷ [])) self.old self.new) }
-        ensures live { self.new.is_live ≡ true }
-    {
-        let batch = &mixed.batch;
-        let touched = mixed.touched.as_slice();
-        let attempt = self.replica.close_noted(alloc, batch, touched, records)?;
-        self.did(Step::Attempt(attempt))?;
-        Ok(())
+        self.replica
+            .attempt_window(rt, alloc, &mut self.steps, window, gate)
     }
 
     /// Commits the batch, which is the next, where the replica is live and its first open attempt has this token. Else
@@ -142,7 +119,6 @@ impl<'n> Server<'n> {
         ensures steps { OnOk result (AreRightSteps self.old → AreRightSteps self.new) }
         ensures added { OnOk result (section self.new.steps ≡ section self.old.steps ++ plain step ∷ []) }
     {
-        self.steps.push(step)?;
-        Ok(())
+        add_step(&mut self.steps, step)
     }
 }

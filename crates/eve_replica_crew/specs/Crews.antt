@@ -1,15 +1,14 @@
 -- The workers that take part in batches. docs/MODEL.md, "Executions".
-use Rattle.std.specs.Prelude.{◌≡◌, ℕ, max, min, Bool, if◌then◌else◌, All, List, [], ◌∷◌, Option, Some, None}
+use Rattle.std.specs.Prelude.{◌≡◌, ℕ, max, min, Bool, if◌then◌else◌, All, List, [], ◌∷◌, Option, None}
 use Rattle.std.specs.Option.{option_or}
 use Rattle.eve_recorder.specs.Drawing.{TicketSource, Drawer}
 use Rattle.eve_floor.specs.declared.fault.ExecFault.{ExecFault}
+use Rattle.eve_replica_crew.specs.Seated.{HasSeat}
 use Rattle.eve_replica_crew.specs.declared.crew.Member.{Member}
 
 -- a worker has its seat at these tickets of ticks
-pub record IsSeated (tickets : TicketSource) (m : Member) : Type 0 where
-  pub seat : Drawer
-  pub there : m.tick ≡ Some seat
-  pub own : seat.tickets ≡ tickets
+abbrev pub IsSeated : TicketSource → Member → Type 0
+IsSeated tickets m = HasSeat tickets m.tick
 
 -- The fault of the lowest worker that has one. The last worker stands first: where none below a worker has one, it is
 -- the worker's own.

@@ -1,2 +1,4 @@
 pub mod Crews
+pub mod Leading
+pub mod Seated
 pub mod Sharing

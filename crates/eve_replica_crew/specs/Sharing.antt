@@ -1,6 +1,6 @@
 -- What the workers share while a batch is run, and the seats of their parts in it. docs/MODEL.md, "Executions".
 use Rattle.std.specs.Prelude.{◌≡◌, ℕ, IsTrue, ◌<◌, ◌≤◌, List, [], ◌∷◌, length, map, Option, Some, None, IsSome, ⊤}
-use Rattle.std.specs.Prelude.{slice_index_or, vec_len, vec_capacity}
+use Rattle.std.specs.Prelude.{slice_index_or}
 use Rattle.eve_recorder.specs.Drawing.{Drawer, TicketSource}
 use Rattle.eve_recorder.specs.Seen.{Noter, RecorderId}
 use Rattle.eve_write.specs.Data.{batch as plain}
@@ -34,15 +34,11 @@ pub record IsRightLeg (names : List (List ℕ)) (workers : ℕ) (l : Leg) : Type
   pub few : l.crew ≤ workers
   pub within : l.crew ≤ MOST_WORKERS
 
--- Such a batch with its room: the taker is of its recorder, each request has a start, and there is a list with room for
--- as many records.
+-- Such a batch with its room: each request has a start.
 pub record IsRightRoom (names : List (List ℕ)) (workers : ℕ) (r : Room) : Type 0 where
   pub leg : IsRightLeg names workers r.leg
   pub crew : r.recorder.recorder.workers ≡ r.leg.crew
-  pub taker : r.taker.recorder ≡ r.recorder.recorder
   pub starts : length r.starts.items ≡ length r.leg.batch.now.requests.items
-  pub empty : vec_len r.records ≡ 0
-  pub enough : length r.leg.batch.now.requests.items ≤ vec_capacity r.records
 
 -- the seats of the workers below this number are there, and nothing is noted on them
 abbrev pub AreNoters : RecorderId → ℕ → List (Option Noter) → Type 0
@@ -53,9 +49,10 @@ AreNoters recorder n seats =
 abbrev pub AreThere : ℕ → List (Option Drawer) → Type 0
 AreThere n seats = (k : ℕ) → k < n → IsSome (slice_index_or seats k None)
 
--- seats of this recorder and of these tickets, for the workers below this number
+-- seats of this recorder and of these tickets, for the workers below this number and the taker
 pub record AreSeatsAt (recorder : RecorderId) (tickets : TicketSource) (n : ℕ) (s : Seating) : Type 0 where
   pub noters : AreNoters recorder n s.places.seats
+  pub taker : s.taker.recorder ≡ recorder
   pub claims : s.claims.tickets ≡ tickets
   pub there : AreThere n s.claims.places
 

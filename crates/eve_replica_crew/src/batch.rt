@@ -1,34 +1,36 @@
 //! Batches that are run by a crew.
 
-ghost use Rattle.std.specs.Prelude.{◌≡◌, ◌≤◌, ℕ, All, IfOk, IsTrue, List, length, vec_len, vec_capacity};
+ghost use Rattle.std.specs.Prelude.{◌≡◌, ◌+◌, ◌≤◌, ℕ, All, IfOk, OnErr, IsTrue, List, length, vec_len};
 ghost use Rattle.eve_grammar.specs.Limits.{is_batch};
 ghost use Rattle.eve_write.specs.Data.{batch as plain};
 ghost use Rattle.eve_replica_crew.specs.Crews.{AreTickets};
 ghost use Rattle.eve_replica_crew.specs.Sharing.{AreSeatingsOf, IsRightLeg, IsRightRoom, IsSeatingOf};
 ghost use Rattle.eve_replica_crew.specs.Sharing.{IsSet};
+ghost use Rattle.eve_replica_crew.specs.Leading.{Leads, Led};
 
-use crate::crew::{deal, run_shares};
+use crate::crew::{deal, run_hands};
+use crate::lead::Lead;
 use crate::leg::Leg;
 use crate::progress::Progress;
 use crate::room::{Room, Seating, requests_before};
-use crate::share::Share;
+use crate::share::{Hands, Share};
 use crate::shared::{Shared, starts_of};
 use eve_floor::{ExecFault, Floor};
 use eve_grammar::MOST_REQUESTS;
 use eve_recorder::{Gate, Recorder, TicketSeat, Tickets};
-use eve_stamps::AccessRecord;
 use eve_write::BatchData;
 use std::alloc::{AllocError, Global};
 use std::sync::Wait;
 use std::thread::Threads;
 
-/// Runs the batches one after another by up to so many workers as there are seats, and answers what they noted of each,
-/// in the order in which it was taken. Each worker has one thread for all the batches, so that no thread is started
-/// anew for each of them.
+/// Runs the batches one after another by up to so many workers as there are seats. Each worker has one thread for all the
+/// batches, so that no thread is started anew for each of them, and the first worker has this one: `own` is called in it
+/// once, with the first worker, and runs its parts by `Lead::next`. What `own` answers, and the fault of the lowest
+/// worker that has one.
 ///
 /// The workers are lent the last of the seats at the tickets of ticks, and give them back whatever comes. The lists of
 /// what they note are asked for before the first request is run.
-pub fn run_batches<R: Threads + Wait + Sync, G: Gate>(
+pub fn run_batches<R: Threads + Wait + Sync, G: Gate, A, F: FnMut(&mut Lead<'_>) -> A>(
     rt: &R,
     alloc: Global,
     floor: &Floor,
@@ -36,12 +38,16 @@ pub fn run_batches<R: Threads + Wait + Sync, G: Gate>(
     seats: &mut Vec<TicketSeat>,
     legs: &[Leg],
     gate: &G,
-) -> Result<Vec<Vec<AccessRecord>>, ExecFault>
+    own: &mut F,
+) -> Result<(A, Option<ExecFault>), AllocError>
     requires legs { All (IsRightLeg floor.now (vec_len seats.old)) legs.now }
     requires seats { AreTickets ticks.now seats.old.items }
-    ensures lists { IfOk result (λ lists. vec_len lists ≡ length legs.now) }
+    requires some { 1 ≤ vec_len seats.old }
+    requires own { Leads F.FnMut ticks.now own.old }
     ensures seats { AreTickets ticks.now seats.new.items }
     ensures many { vec_len seats.new ≡ vec_len seats.old }
+    ensures led { IfOk result (λ r. Led F.FnMut ticks.now own.old r.0 own.new) }
+    ensures refused { OnErr result (own.new ≡ own.old) }
 {
     let progress = Progress::new();
     let (rooms, seatings) = furnish_all(alloc, legs)?;
@@ -53,9 +59,7 @@ pub fn run_batches<R: Threads + Wait + Sync, G: Gate>(
         seatings,
         seats.len(),
     )?;
-    let lists = Vec::with_capacity(alloc, legs.len())?;
-    run_shares(rt, alloc, ticks, seats, hands, gate)?;
-    Ok(take_each(rt, rooms, lists))
+    run_hands(rt, alloc, ticks, &progress, seats, hands, gate, own)
 }
 
 // The rooms of the batches, and the seats of each.
@@ -88,13 +92,17 @@ fn deal_all<'s, 'b>(
     rooms: &'s [Room<'b>],
     mut seatings: Vec<Seating>,
     workers: usize,
-) -> Result<Vec<Vec<Share<'s>>>, AllocError>
+) -> Result<Hands<'s>, AllocError>
     requires rooms { All (IsRightRoom floor.now workers) rooms.now }
     requires seatings { AreSeatingsOf rooms.now seatings.items }
     requires all { vec_len seatings ≡ length rooms.now }
-    ensures { IfOk result (λ hands. vec_len hands ≡ workers) }
+    requires some { 1 ≤ workers }
+    ensures { IfOk result (λ hands. vec_len hands.others + 1 ≡ workers) }
 {
-    let mut hands = empty_hands(alloc, workers, rooms.len())?;
+    let mut hands = Hands {
+        turns: Vec::with_capacity(alloc, rooms.len())?,
+        others: empty_hands(alloc, workers - 1, rooms.len())?,
+    };
     while let Some(seating) = seatings.pop() {
         let place = seatings.len();
         let room = &rooms[place];
@@ -128,7 +136,7 @@ fn shared_of<'s, 'b>(
     }
 }
 
-// For each worker a list of its parts, with room for one in each batch.
+// For each of so many workers a list of its parts, with room for one in each batch.
 fn empty_hands<'s>(
     alloc: Global,
     workers: usize,
@@ -143,22 +151,6 @@ fn empty_hands<'s>(
     Ok(hands)
 }
 
-// What was noted of each batch.
-fn take_each<R: Wait>(
-    rt: &R,
-    rooms: Vec<Room<'_>>,
-    mut lists: Vec<Vec<AccessRecord>>,
-) -> Vec<Vec<AccessRecord>>
-    requires rooms { (names : List (List ℕ)) × (workers : ℕ) × All (IsRightRoom names workers) rooms.items }
-    requires room { (vec_len lists ≡ 0) × (vec_len rooms ≤ vec_capacity lists) }
-    ensures { vec_len result ≡ vec_len rooms.entry }
-{
-    for room in rooms {
-        lists.push_reserved(take_all(rt, room));
-    }
-    lists
-}
-
 // The room of a batch, with its seats.
 fn furnish<'b>(alloc: Global, leg: &Leg<'b>) -> Result<(Room<'b>, Seating), AllocError>
     requires { (names : List (List ℕ)) × (workers : ℕ) × IsRightLeg names workers leg.now }
@@ -168,7 +160,6 @@ fn furnish<'b>(alloc: Global, leg: &Leg<'b>) -> Result<(Room<'b>, Seating), Allo
 {
     let count = count_of(leg.batch);
     let starts = starts_of(alloc, leg.batch.sizes.as_slice(), count as u16)?;
-    let records = Vec::with_capacity(alloc, count)?;
     let (claims, own) = Tickets::new(alloc, leg.crew, count as u64)?;
     let (recorder, mut places) = Recorder::new(alloc, leg.crew, count)?;
     let Some(taker) = places.taker() else {
@@ -177,15 +168,14 @@ fn furnish<'b>(alloc: Global, leg: &Leg<'b>) -> Result<(Room<'b>, Seating), Allo
     let room = Room {
         leg: *leg,
         recorder,
-        taker,
         claims,
         starts,
-        records,
     };
     Ok((
         room,
         Seating {
             places,
+            taker,
             claims: own,
         },
     ))
@@ -198,24 +188,4 @@ fn count_of(batch: &BatchData) -> usize
     ensures range { (1 ≤ result) × (result ≤ MOST_REQUESTS) }
 {
     batch.requests.len()
-}
-
-// Takes what was noted in the room, up to so many records as its batch has requests.
-fn take_all<R: Wait>(rt: &R, room: Room<'_>) -> Vec<AccessRecord>
-    requires { (names : List (List ℕ)) × (workers : ℕ) × IsRightRoom names workers room }
-{
-    let Room {
-        leg,
-        recorder,
-        mut taker,
-        mut records,
-        ..
-    } = room;
-    for taken in 0..leg.batch.requests.len() {
-        let Some(record) = recorder.take(rt, &mut taker) else {
-            break;
-        };
-        records.push_reserved(record);
-    }
-    records
 }

@@ -1,18 +1,23 @@
 //! The workers that take part in batches.
 
-ghost use Rattle.std.specs.Prelude.{◌≡◌, ◌+◌, ◌≤◌, All, vec_len, vec_capacity};
+ghost use Rattle.std.specs.Prelude.{◌≡◌, ◌+◌, ◌<◌, ◌≤◌, All, IfOk, OnOk, OnErr, vec_len, vec_capacity};
+ghost use Rattle.std.specs.Option.{option_or};
 ghost use Rattle.std.specs.Thread.{IsSync};
 ghost use Rattle.eve_replica_crew.specs.Sharing.{AreSeatsAt, IsSet};
 ghost use Rattle.eve_replica_crew.specs.Crews.{AreTickets, IsSeated, crew_of};
 ghost use Rattle.eve_replica_crew.specs.Crews.{lowest_fault};
+ghost use Rattle.eve_replica_crew.specs.Leading.{Leads, Led};
 
+use crate::lead::Lead;
+use crate::progress::Progress;
 use crate::room::Seating;
-use crate::share::Share;
+use crate::share::{Hands, Share, Turn};
 use crate::shared::Shared;
 use crate::work::run_parts;
 use eve_floor::ExecFault;
-use eve_grammar::MOST_WORKERS;
+use eve_grammar::{MOST_REQUESTS, MOST_WORKERS};
 use eve_recorder::{Gate, TicketSeat, Tickets};
+use eve_stamps::AccessRecord;
 use std::alloc::{AllocError, Global};
 use std::sync::Wait;
 use std::thread;
@@ -58,35 +63,38 @@ pub(crate) fn deal<'s>(
     shared: &Shared<'s>,
     crew: u8,
     mut seating: Seating,
-    hands: &mut Vec<Vec<Share<'s>>>,
+    hands: &mut Hands<'s>,
 ) -> Result<(), AllocError>
     requires set { IsSet shared.now }
-    requires crew { (crew ≤ MOST_WORKERS) × (crew ≤ vec_len hands.old) }
+    requires crew { (1 ≤ crew) × (crew ≤ MOST_WORKERS) × (crew ≤ vec_len hands.old.others + 1) }
     requires seats { AreSeatsAt shared.now.recorder.now.recorder shared.now.claims.now crew seating }
-    ensures { vec_len hands.new ≡ vec_len hands.old }
+    ensures { vec_len hands.new.others ≡ vec_len hands.old.others }
 {
-    let dealt = deal_parts(shared, crew, &mut seating, hands);
-    drop(seating);
-    dealt
+    deal_parts(shared, crew, &mut seating, &mut hands.others)?;
+    let share = part_of(shared, 0, &mut seating);
+    let Seating { taker, .. } = seating;
+    hands.turns.push(Turn { share, taker })?;
+    Ok(())
 }
 
-// The parts of the workers below this number, where the seats up to it are there.
+// The parts of the workers below this number but the first, where the seats up to it are there.
 fn deal_parts<'s>(
     shared: &Shared<'s>,
     crew: u8,
     seating: &mut Seating,
-    hands: &mut Vec<Vec<Share<'s>>>,
+    others: &mut Vec<Vec<Share<'s>>>,
 ) -> Result<(), AllocError>
     requires set { IsSet shared.now }
-    requires crew { (crew ≤ MOST_WORKERS) × (crew ≤ vec_len hands.old) }
+    requires crew { (1 ≤ crew) × (crew ≤ MOST_WORKERS) × (crew ≤ vec_len others.old + 1) }
     requires seats { AreSeatsAt shared.now.recorder.now.recorder shared.now.claims.now crew seating.old }
-    ensures { vec_len hands.new ≡ vec_len hands.old }
+    ensures many { vec_len others.new ≡ vec_len others.old }
+    ensures first { OnOk result (AreSeatsAt shared.now.recorder.now.recorder shared.now.claims.now 1 seating.new) }
 {
     let mut left = crew;
-    while left > 0 {
+    while left > 1 {
         left -= 1;
         let share = part_of(shared, left, seating);
-        hands[left as usize].push(share)?;
+        others[left as usize - 1].push(share)?;
     }
     Ok(())
 }
@@ -95,7 +103,8 @@ fn deal_parts<'s>(
 fn part_of<'s>(shared: &Shared<'s>, number: u8, seating: &mut Seating) -> Share<'s>
     requires set { IsSet shared.now }
     requires seats { AreSeatsAt shared.now.recorder.now.recorder shared.now.claims.now (number + 1) seating.old }
-    ensures { AreSeatsAt shared.now.recorder.now.recorder shared.now.claims.now number seating.new }
+    ensures shared { result.shared ≡ shared.now }
+    ensures seats { AreSeatsAt shared.now.recorder.now.recorder shared.now.claims.now number seating.new }
 {
     let Some(seat) = seating.places.worker(number) else {
         unreachable!()
@@ -110,28 +119,110 @@ fn part_of<'s>(shared: &Shared<'s>, number: u8, seating: &mut Seating) -> Share<
     }
 }
 
-/// Each worker runs its parts, in a thread of its own where one can be started, and the first worker in this one. The
-/// seats at the tickets of ticks are lent to them and given back.
-pub(crate) fn run_shares<R: Threads + Wait + Sync, G: Gate>(
+/// Each worker runs its parts, in a thread of its own where one can be started, and the first worker in this one, as its
+/// caller says. The seats at the tickets of ticks are lent to them and given back. What the caller's part answers, and
+/// the fault of the lowest worker that has one.
+pub(crate) fn run_hands<R: Threads + Wait + Sync, G: Gate, A, F: FnMut(&mut Lead<'_>) -> A>(
     rt: &R,
     alloc: Global,
     ticks: &Tickets,
+    progress: &Progress,
     seats: &mut Vec<TicketSeat>,
-    hands: Vec<Vec<Share<'_>>>,
+    hands: Hands<'_>,
     gate: &G,
-) -> Result<(), ExecFault>
+    own: &mut F,
+) -> Result<(A, Option<ExecFault>), AllocError>
     requires seats { AreTickets ticks.now seats.old.items }
-    requires enough { vec_len hands ≤ vec_len seats.old }
+    requires enough { vec_len hands.others < vec_len seats.old }
+    requires own { Leads F.FnMut ticks.now own.old }
     ensures seats { AreTickets ticks.now seats.new.items }
     ensures many { vec_len seats.new ≡ vec_len seats.old }
+    ensures led { IfOk result (λ r. Led F.FnMut ticks.now own.old r.0 own.new) }
+    ensures refused { OnErr result (own.new ≡ own.old) }
 {
-    let members = Vec::with_capacity(alloc, hands.len())?;
-    let members = muster(ticks, hands, members, seats);
-    let members = run_members(rt, ticks, members, gate);
-    match dismiss(ticks, members, seats) {
-        Some(why) => Err(why),
-        None => Ok(()),
+    let Hands { turns, others } = hands;
+    let records = Vec::with_capacity(alloc, MOST_REQUESTS as usize)?;
+    let members = Vec::with_capacity(alloc, others.len())?;
+    let mut members = muster(ticks, others, members, seats);
+    let mut lead = lead_of(ticks, progress, turns, records, seats);
+    let answer = run_beside(rt, ticks, &mut members, gate, &mut lead, own);
+    let (tick, fault) = lead.dismissed();
+    seats.push_reserved(tick);
+    Ok((answer, dismiss(ticks, fault, members, seats)))
+}
+
+// The first worker, with the last of the seats.
+fn lead_of<'s>(
+    ticks: &'s Tickets,
+    progress: &'s Progress,
+    turns: Vec<Turn<'s>>,
+    records: Vec<AccessRecord>,
+    seats: &mut Vec<TicketSeat>,
+) -> Lead<'s>
+    requires room { MOST_REQUESTS ≤ vec_capacity records }
+    requires some { 1 ≤ vec_len seats.old }
+    requires seats { AreTickets ticks.now seats.old.items }
+    ensures lead { result ≡ ticks.now }
+    ensures seats { AreTickets ticks.now seats.new.items }
+    ensures rest { vec_len seats.new + 1 ≡ vec_len seats.old }
+    ensures capacity { vec_capacity seats.new ≡ vec_capacity seats.old }
+{
+    let Some(tick) = seats.pop() else {
+        unreachable!()
+    };
+    Lead {
+        ticks,
+        progress,
+        turns,
+        tick: Some(tick),
+        fault: None,
+        records,
     }
+}
+
+// The caller's part in this thread, beside the other workers, where there are any. It begins before one of them that
+// gets no thread, which then finds no request left: so nobody waits for one that has not begun.
+fn run_beside<'s, R: Threads + Wait + Sync, G: Gate, A, F: FnMut(&mut Lead<'_>) -> A>(
+    rt: &R,
+    ticks: &Tickets,
+    members: &mut Vec<Member<'s>>,
+    gate: &G,
+    lead: &mut Lead<'_>,
+    own: &mut F,
+) -> A
+    requires members { All (IsSeated ticks.now) members.old.items }
+    requires own { Leads F.FnMut lead.old own.old }
+    ensures members { All (IsSeated ticks.now) members.new.items }
+    ensures many { vec_len members.new ≡ vec_len members.old }
+    ensures lead { lead.new ≡ lead.old }
+    ensures led { Led F.FnMut lead.old own.old result own.new }
+{
+    if members.is_empty() {
+        return lead_on(lead, own);
+    }
+    let mut theirs = ||
+        requires { IsSync R.row × IsSync G.row × All (IsSeated ticks.now) members.now.items }
+        ensures seated { All (IsSeated ticks.entry.now) members.exit.now.items }
+        ensures many { vec_len members.exit.now ≡ vec_len members.entry.now }
+    { run_members(rt, ticks, members, gate) };
+    let mut ours = || -> A
+        requires { Leads F.FnMut lead.now own.now }
+        ensures lead { lead.exit.now ≡ lead.entry.now }
+        ensures led { Led F.FnMut lead.entry.now own.entry.now result own.exit.now }
+    { lead_on(lead, own) };
+    let ((), answer) = thread::join_mut(rt, &mut theirs, &mut ours);
+    answer
+}
+
+// The caller's part. Where it didn't run the first worker's parts in all batches, nobody waits for that worker.
+fn lead_on<A, F: FnMut(&mut Lead<'_>) -> A>(lead: &mut Lead<'_>, own: &mut F) -> A
+    requires { Leads F.FnMut lead.old own.old }
+    ensures lead { lead.new ≡ lead.old }
+    ensures led { Led F.FnMut lead.old own.old result own.new }
+{
+    let answer = own(lead);
+    lead.end();
+    answer
 }
 
 // The workers that have a part in some batch, the last one first, each with one of the seats at the tickets of ticks.
@@ -147,6 +238,7 @@ fn muster<'s>(
     ensures members { All (IsSeated tickets.now) result.items }
     ensures ticks { AreTickets tickets.now ticks.new.items }
     ensures rest { vec_len ticks.new + vec_len result ≡ vec_len ticks.old }
+    ensures few { vec_len result ≤ vec_len hands.entry }
     ensures capacity { vec_capacity ticks.new ≡ vec_capacity ticks.old }
 {
     while let Some(shares) = hands.pop() {
@@ -164,17 +256,16 @@ fn muster<'s>(
     members
 }
 
-// Each worker runs its parts. The last in the list runs in this thread. It is the first worker, which has a part in
-// every batch, and those that get no thread run here after it: so nobody waits for one that has not begun.
+// Each of the other workers runs its parts.
 fn run_members<'s, R: Threads + Wait + Sync, G: Gate>(
     rt: &R,
     tickets: &Tickets,
-    mut members: Vec<Member<'s>>,
+    members: &mut Vec<Member<'s>>,
     gate: &G,
-) -> Vec<Member<'s>>
-    requires members { All (IsSeated tickets.now) members.items }
-    ensures members { All (IsSeated tickets.now) result.items }
-    ensures many { vec_len result ≡ vec_len members.entry }
+)
+    requires members { All (IsSeated tickets.now) members.old.items }
+    ensures members { All (IsSeated tickets.now) members.new.items }
+    ensures many { vec_len members.new ≡ vec_len members.old }
 {
     let threads = members.len().max(1);
     thread::for_each_mut(
@@ -186,12 +277,13 @@ fn run_members<'s, R: Threads + Wait + Sync, G: Gate>(
             ensures { IsSeated tickets.entry.now member.new }
         { run_parts(rt, tickets, member, gate) },
     );
-    members
 }
 
-// The workers give the seats at the tickets of ticks back. The fault of the lowest worker that has one.
+// The workers but the first give the seats at the tickets of ticks back. The fault of the lowest worker that has one,
+// where this is the first worker's.
 fn dismiss(
     tickets: &Tickets,
+    first: Option<ExecFault>,
     mut members: Vec<Member<'_>>,
     ticks: &mut Vec<TicketSeat>,
 ) -> Option<ExecFault>
@@ -200,10 +292,10 @@ fn dismiss(
     requires room { vec_len ticks.old + vec_len members ≤ vec_capacity ticks.old }
     ensures ticks { AreTickets tickets.now ticks.new.items }
     ensures all { vec_len ticks.new ≡ vec_len ticks.old + vec_len members.entry }
-    ensures lowest { result ≡ lowest_fault members.entry.items }
+    ensures lowest { result ≡ option_or first (lowest_fault members.entry.items) }
     ensures capacity { vec_capacity ticks.new ≡ vec_capacity ticks.old }
 {
-    let mut told = None;
+    let mut told = first;
     while let Some(member) = members.pop() {
         told = told.or(member.fault);
         ticks.push_reserved(seat_of(tickets, member));

@@ -4,6 +4,7 @@
 
 mod batch;
 mod crew;
+mod lead;
 mod leg;
 mod progress;
 mod room;
@@ -13,4 +14,5 @@ mod work;
 
 pub use batch::run_batches;
 pub use crew::crew_size;
+pub use lead::Lead;
 pub use leg::Leg;

@@ -37,7 +37,7 @@ impl Progress {
     }
 
     /// Waits until so many requests are noted or one is given up. Whether to go on.
-    fn wait_for<R: Wait>(&self, rt: &R, count: u64) -> bool {
+    pub(crate) fn wait_for<R: Wait>(&self, rt: &R, count: u64) -> bool {
         let mut looks = 0u32;
         for _ in rt.forever() {
             let ended = self.ended.load(Ordering::SeqCst);

@@ -2,26 +2,23 @@
 
 use crate::leg::Leg;
 use eve_recorder::{Recorder, Seats, TakerSeat, TicketSeats, Tickets};
-use eve_stamps::AccessRecord;
 
 /// Where the workers of a batch note its records and claim its requests.
 #[derive(Drop)]
 pub(crate) struct Room<'b> {
     pub leg: Leg<'b>,
     pub recorder: Recorder,
-    pub taker: TakerSeat,
     // the tickets by which requests are claimed
     pub claims: Tickets,
     // for each request the index of the first of its parallelBatch
     pub starts: Vec<u16>,
-    // empty, with room for as many records as the batch has requests
-    pub records: Vec<AccessRecord>,
 }
 
-/// The seats of a room: one for each worker that takes part.
+/// The seats of a room: one for each worker that takes part, and the taker's.
 #[derive(Drop)]
 pub(crate) struct Seating {
     pub places: Seats,
+    pub taker: TakerSeat,
     pub claims: TicketSeats,
 }
 

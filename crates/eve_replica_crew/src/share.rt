@@ -1,9 +1,10 @@
 //! A worker's part in a batch.
 
+ghost use Rattle.std.specs.Prelude.{◌≡◌};
 ghost use Rattle.eve_replica_crew.specs.Sharing.{IsReady};
 
 use crate::shared::Shared;
-use eve_recorder::{TicketSeat, WorkerSeat};
+use eve_recorder::{TakerSeat, TicketSeat, WorkerSeat};
 
 /// A worker's part in a batch, with its seats there, on which nothing is noted.
 #[derive(Drop)]
@@ -13,4 +14,21 @@ pub(crate) struct Share<'s> {
     // its seat at the tickets by which requests are claimed
     pub claims: TicketSeat,
     pub ghost ready: { IsReady shared seat claims },
+}
+
+/// The first worker's part in a batch, with the seat at which its records are taken.
+#[derive(Drop)]
+pub(crate) struct Turn<'s> {
+    pub share: Share<'s>,
+    pub taker: TakerSeat,
+    pub ghost own: { taker.recorder ≡ share.shared.recorder.now.recorder },
+}
+
+/// The parts of the workers, of each the first batch last.
+#[derive(Drop)]
+pub(crate) struct Hands<'s> {
+    // of the first worker, which has a part in every batch
+    pub turns: Vec<Turn<'s>>,
+    // of each worker, but none of the first
+    pub others: Vec<Vec<Share<'s>>>,
 }

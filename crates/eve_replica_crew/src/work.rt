@@ -1,6 +1,6 @@
 //! What each worker does in its batches.
 
-ghost use Rattle.std.specs.Prelude.{◌≡◌, ◌+◌, ◌<◌, IfSome, OnOk, length};
+ghost use Rattle.std.specs.Prelude.{◌≡◌, ◌+◌, ◌<◌, ◌≤◌, IfSome, OnOk, length, vec_len, vec_capacity};
 ghost use Rattle.eve_smallbank.specs.Touch.{touched_of};
 ghost use Rattle.eve_write.specs.Data.{batch as plain_batch};
 ghost use Rattle.eve_floor.specs.Executing.{IsSeatedAt};
@@ -10,12 +10,13 @@ ghost use Rattle.eve_replica_crew.specs.Crews.{IsSeated};
 
 use crate::crew::Member;
 use crate::progress::Pace;
-use crate::share::Share;
+use crate::share::{Share, Turn};
 use crate::shared::Shared;
 use eve_floor::{ExecFault, Worker, execute_touched};
-use eve_recorder::{Gate, TicketSeat, Tickets};
+use eve_grammar::MOST_REQUESTS;
+use eve_recorder::{Gate, TakerSeat, TicketSeat, Tickets};
 use eve_smallbank::Touched;
-use eve_stamps::MOST_PLACES;
+use eve_stamps::{AccessRecord, MOST_PLACES};
 use std::sync::Wait;
 
 /// Runs the worker's parts in one batch after another, until one is given up, by it or by another worker.
@@ -38,6 +39,67 @@ pub(crate) fn run_parts<R: Wait, G: Gate>(
             member.fault = why;
             return;
         }
+    }
+}
+
+/// Runs the first worker's part in one batch, and takes what was noted of it, once all of it is. The seat at the tickets
+/// of ticks is given back. Its fault, where it gives a request up, and none where another worker did.
+pub(crate) fn run_turn<R: Wait, G: Gate>(
+    rt: &R,
+    ticks: &Tickets,
+    turn: Turn<'_>,
+    tick: TicketSeat,
+    gate: &G,
+    records: &mut Vec<AccessRecord>,
+) -> (TicketSeat, Result<(), Option<ExecFault>>)
+    requires tick { tick.tickets ≡ ticks.now }
+    requires empty { vec_len records.old ≡ 0 }
+    requires room { MOST_REQUESTS ≤ vec_capacity records.old }
+    ensures tick { result.0.tickets ≡ ticks.now }
+    ensures room { vec_capacity records.new ≡ vec_capacity records.old }
+{
+    let Turn {
+        share,
+        mut taker,
+        ..
+    } = turn;
+    let shared = share.shared;
+    let (tick, end) = run_part(rt, ticks, share, tick, gate);
+    if let Err(why) = end {
+        return (tick, Err(why));
+    }
+    if !shared.progress.wait_for(rt, noted_after(&shared)) {
+        return (tick, Err(None));
+    }
+    take_all(rt, &shared, &mut taker, records);
+    (tick, Ok(()))
+}
+
+// How many requests are noted once the batch is. Nothing rests on it but for how long the first worker waits.
+fn noted_after(shared: &Shared<'_>) -> u64 {
+    shared
+        .before
+        .saturating_add(shared.batch.requests.len() as u64)
+}
+
+// Takes what was noted of the batch, up to so many records as it has requests.
+fn take_all<R: Wait>(
+    rt: &R,
+    shared: &Shared<'_>,
+    taker: &mut TakerSeat,
+    records: &mut Vec<AccessRecord>,
+)
+    requires set { IsSet shared.now }
+    requires taker { taker.old.recorder ≡ shared.now.recorder.now.recorder }
+    requires empty { vec_len records.old ≡ 0 }
+    requires room { MOST_REQUESTS ≤ vec_capacity records.old }
+    ensures { vec_capacity records.new ≡ vec_capacity records.old }
+{
+    for taken in 0..shared.batch.requests.len() {
+        let Some(record) = shared.recorder.take(rt, taker) else {
+            break;
+        };
+        records.push_reserved(record);
     }
 }
 

@@ -8,6 +8,6 @@ pub loop-mixed-preserved : goal.loop-mixed-preserved
 loop-mixed-preserved c = (
   subst (All (IsRightLeg c.args.floor.now c.args.workers)) (sym c.in_ok-push.ensures.items)
       (All-push (IsRightLeg c.args.floor.now c.args.workers) c.loop-mixed.legs.items c.leg_of.result
-      c.loop-mixed.invariant.0 c.leg_of.ensures),
+      c.loop-mixed.invariant.0 c.leg_of.ensures.right),
   grind (arith, common_steps),
 )

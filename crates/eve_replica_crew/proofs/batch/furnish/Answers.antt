@@ -1,4 +1,4 @@
-use Rattle.std.proofs.Common.{ap, subst, sym, ◌∙◌, arith}
+use Rattle.std.proofs.Common.{rules, ap, subst, sym, ◌∙◌, arith}
 use Rattle.eve_recorder.specs.Drawing.{Drawers}
 use Rattle.eve_recorder.specs.Seen.{Places}
 use Rattle.eve_replica_crew.specs.Sharing.{AreNoters, AreThere}
@@ -14,6 +14,7 @@ returns-clause-seating c =
       noters = subst (AreNoters c.in_ok-recorder.recorder.recorder c.args.leg.now.crew) (sym seats)
           (fresh_noters c.in_ok-recorder.recorder.recorder c.args.leg.now.crew c.in_ok-recorder.ensures.workers
           (omega arith));
+      taker = search rules;
       claims = ap (λ (d : Drawers). d.tickets) c.in_ok-claims.ensures.fresh;
       there = subst (AreThere c.args.leg.now.crew) (sym (ap (λ (d : Drawers). d.places) c.in_ok-claims.ensures.fresh))
           (fresh_there c.in_ok-claims.claims c.args.leg.now.crew c.in_ok-claims.ensures.seats (omega arith));

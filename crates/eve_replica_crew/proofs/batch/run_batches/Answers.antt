@@ -7,11 +7,3 @@ deal_all-requires-clause-rooms g c =
     subst (All (IsRightRoom c.args.floor.now c.len.result)) (sym c.as_slice.ensures.value)
     (c.in_ok-rooms.ensures.rooms c.args.floor.now c.len.result
     (subst (λ (w : ℕ). All (IsRightLeg c.args.floor.now w) c.args.legs.now) (sym c.len.ensures) c.requires.legs))
-
-pub take_each-requires-clause-rooms : goal.take_each-requires-clause-rooms
-take_each-requires-clause-rooms g c = (
-  c.args.floor.now,
-  c.len.result,
-  c.in_ok-rooms.ensures.rooms c.args.floor.now c.len.result
-      (subst (λ (w : ℕ). All (IsRightLeg c.args.floor.now w) c.args.legs.now) (sym c.len.ensures) c.requires.legs),
-)

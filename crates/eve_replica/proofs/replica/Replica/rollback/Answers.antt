@@ -7,5 +7,5 @@ use Rattle.eve_replica.proofs.replica.Replica.rollback.Goals as goal
 
 pub returns-clause-rolled_back : goal.returns-clause-rolled_back
 returns-clause-rolled_back c =
-    let P : Ledger → Type 0 = λ s. RollsBack s c.rollback.new.self (rollback c.in_ok-rollback.rollback) in
+    let P : Ledger → Type 0 = λ s. RollsBack s c.rollback.new.self.ledger (rollback c.in_ok-rollback.rollback) in
     subst P (ap (λ (r : Replica). r.ledger) c.self.view_is) c.in_ok-rollback.ensures.rolled_back

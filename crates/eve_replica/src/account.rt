@@ -1,0 +1,216 @@
+//! A replica's own account of its rows.
+
+ghost use Rattle.std.specs.Prelude.{◌≡◌, ◌+◌, ◌-◌, ◌*◌, ◌^◌, ◌<◌, ◌≤◌, ◌↔◌, true, false, Err, All, length};
+ghost use Rattle.std.specs.Prelude.{IsTrue, IfOk, IfErr, IfSome, IfNone, OnOk, OnErr, IsOk, Contains, [], map};
+ghost use Rattle.eve_grammar.specs.Limits.{is_batch};
+ghost use Rattle.eve_write.specs.Data.{batch as plain, attempt, commit, rollback};
+ghost use Rattle.eve_attempts.specs.Ledgers.{opening};
+ghost use Rattle.eve_attempts.specs.Closing.{touched_in_batch, AreMismatched};
+ghost use Rattle.eve_attempts.specs.Discarding.{RollsBack};
+ghost use Rattle.eve_replica.specs.Replicas.{AttemptsDue, FailsAttempt, ClosesThese, IsFirstOpen, CommitsFirst};
+ghost use Rattle.eve_replica.specs.Replicas.{GivesUp, KeepsCrew, MayAttempt};
+
+use crate::fault::{AttemptFault, CommitFault};
+use eve_accounts::{Balances, Names};
+use eve_attempts::{AttemptFront, CloseFault as Unclosed, Ledger};
+use eve_grammar::{MOST_BATCHES, MOST_WINDOW, MOST_WORKERS};
+use eve_recorder::Gate;
+use eve_replica_crew::Lead;
+use eve_smallbank::Touched;
+use eve_stamps::AccessRecord;
+use eve_write::{AttemptData, BatchData, CommitData, RollbackData};
+use std::alloc::{AllocError, Global};
+use std::marker::Model;
+use std::sync::Wait;
+
+/// A replica's own account of its rows: all of it but the stripes and the workers. Contracts see of it what they see of
+/// the replica.
+#[derive(Drop)]
+pub(crate) struct Account<'n> {
+    pub names: &'n Names<'n>,
+    pub ledger: Ledger,
+    // for each open attempt the greatest tick of its records, where this replica's workers ran it
+    pub settles: Vec<Option<u64>>,
+    pub is_broken: bool,
+}
+
+impl<'n> Model for Account<'n> {
+    ghost use Rattle.std.specs.Prelude.{◌≡◌, ◌*◌, length, vec_len};
+    ghost use Rattle.eve_attempts.specs.Ledgers.{ledger_rows};
+    ghost use Rattle.eve_replica.specs.Replicas as model;
+
+    ghost Value = { model.Replica };
+
+    ghost view = { λ r. record { names = r.names.now.items; ledger = r.ledger; is_broken = r.is_broken } };
+
+    ghost invariant = { λ r. (vec_len r.settles ≡ length r.ledger.opened)
+        × (ledger_rows r.ledger ≡ 2 * length r.names.now.items) };
+}
+
+impl<'n> Account<'n> {
+    /// The account of a replica with these opening balances, for so many workers, and with at most `window` attempts
+    /// open at once.
+    pub(crate) fn new(
+        alloc: Global,
+        names: &'n Names<'n>,
+        balances: &Balances,
+        workers: u8,
+        window: u8,
+    ) -> Result<Account<'n>, AllocError>
+        requires rows { length balances.now ≡ 2 * length names.now.items }
+        requires workers { (1 ≤ workers) × (workers ≤ MOST_WORKERS) }
+        requires window { (1 ≤ window) × (window ≤ MOST_WINDOW) }
+        ensures { let ledger = opening balances.now workers window in
+            IfOk result (λ r. r ≡ record { names = names.now.items; ledger = ledger; is_broken = false }) }
+    {
+        let settles = Vec::with_capacity(alloc, window as usize)?;
+        let ledger = Ledger::new(alloc, balances, workers, window)?;
+        Ok(Account {
+            names,
+            ledger,
+            settles,
+            is_broken: false,
+        })
+    }
+
+    /// The first worker runs its part in the next batch, and an attempt is made of what was noted of it, which is open
+    /// then, in the view and in the mode that are due. No fault is given where a worker gave a request up; any other
+    /// breaks the replica.
+    pub(crate) fn attempt_next<R: Wait, G: Gate>(
+        &mut self,
+        rt: &R,
+        alloc: Global,
+        lead: &mut Lead<'_>,
+        batch: &BatchData,
+        touched: &[Touched],
+        gate: &G,
+    ) -> Result<AttemptData, Option<AttemptFault>>
+        requires due { MayAttempt self.old (plain batch.now) touched.now }
+        ensures lead { lead.new ≡ lead.old }
+        ensures attempted { IfOk result (λ a. AttemptsDue self.old self.new (plain batch.now) (attempt a)) }
+        ensures refused { IfErr result (λ given. GivesUp given self.old self.new) }
+        ensures same { KeepsCrew self.old self.new }
+    {
+        if !lead.next(rt, gate) {
+            return Err(None);
+        }
+        match self.close_noted(alloc, batch, touched, lead.records()) {
+            Ok(attempt) => Ok(attempt),
+            Err(why) => Err(Some(why)),
+        }
+    }
+
+    // Makes an attempt of what the replica's workers noted of the batch, which is open then, in the view and in the
+    // mode that are due. A refusal breaks the replica.
+    fn close_noted(
+        &mut self,
+        alloc: Global,
+        batch: &BatchData,
+        touched: &[Touched],
+        records: &[AccessRecord],
+    ) -> Result<AttemptData, AttemptFault>
+        requires due { MayAttempt self.old (plain batch.now) touched.now }
+        ensures attempted { IfOk result (λ a. AttemptsDue self.old self.new (plain batch.now) (attempt a)) }
+        ensures refused { IfErr result (λ why. FailsAttempt why self.old self.new) }
+        ensures same { KeepsCrew self.old self.new }
+    {
+        let front = AttemptFront {
+            seq: self.ledger.next_number(),
+            view: self.ledger.view(),
+            serial: self.ledger.is_next_serial(),
+        };
+        let tick = greatest_tick(records);
+        match self.close(alloc, front, batch, touched, records, tick) {
+            Ok(attempt) => Ok(attempt),
+            Err(Unclosed::Memory) => Err(self.broken_by(AttemptFault::Memory)),
+            Err(Unclosed::Mismatch) => Err(self.broken_by(AttemptFault::Mismatch)),
+        }
+    }
+
+    /// The replica is broken from now on, by this fault.
+    pub(crate) fn broken_by(&mut self, why: AttemptFault) -> AttemptFault
+        ensures broken { self.new ≡ record self.old { is_broken = true } }
+        ensures why { result ≡ why }
+    {
+        self.is_broken = true;
+        why
+    }
+
+    /// Closes the records, and keeps up to which tick the stripes are settled when the attempt is committed.
+    pub(crate) fn close(
+        &mut self,
+        alloc: Global,
+        front: AttemptFront,
+        batch: &BatchData,
+        touched: &[Touched],
+        records: &[AccessRecord],
+        tick: Option<u64>,
+    ) -> Result<AttemptData, Unclosed>
+        requires seq { front.seq ≡ self.old.ledger.committed + 1 + length self.old.ledger.opened }
+        requires last { front.seq ≤ MOST_BATCHES }
+        requires room { length self.old.ledger.opened < self.old.ledger.window }
+        requires view { front.view ≡ self.old.ledger.view }
+        requires serial { front.serial ≡ self.old.ledger.is_next_serial }
+        requires batch { IsTrue (is_batch (plain batch.now)) }
+        requires touched { touched.now ≡ touched_in_batch self.old.names (plain batch.now) }
+        ensures closed { IfOk result
+            (λ a. ClosesThese front self.old self.new (plain batch.now) records.now (attempt a)) }
+        ensures mismatch { let reached = touched_in_batch self.old.names (plain batch.now) in
+            result ≡ Err Unclosed.Mismatch
+            → AreMismatched front self.old.ledger (plain batch.now) reached records.now }
+        ensures refused { OnErr result (self.new ≡ self.old) }
+        ensures same { KeepsCrew self.old self.new }
+    {
+        if self.settles.reserve(1).is_err() {
+            return Err(Unclosed::Memory);
+        }
+        match self.ledger.close(alloc, front, batch, touched, records) {
+            Ok(attempt) => {
+                self.settles.push_reserved(tick);
+                Ok(attempt)
+            }
+            Err(why) => Err(why),
+        }
+    }
+
+    /// Commits the batch with this number, of which the first open attempt must be. With it the tick up to which the
+    /// stripes are settled then, if there is one.
+    pub(crate) fn commit(&mut self, seq: u32) -> Result<(CommitData, Option<u64>), CommitFault>
+        ensures committed { IfOk result (λ c. CommitsFirst self.old self.new (commit c.0)) }
+        ensures there { IsOk result ↔ ((self.old.is_broken ≡ false) × IsFirstOpen self.old.ledger seq) }
+        ensures broken { (result ≡ Err CommitFault.Broken) ↔ (self.old.is_broken ≡ true) }
+        ensures refused { OnErr result (self.new ≡ self.old) }
+        ensures same { KeepsCrew self.old self.new }
+    {
+        if self.is_broken {
+            return Err(CommitFault::Broken);
+        }
+        match self.ledger.commit(seq) {
+            Ok(commit) => Ok((commit, self.settles.remove(0))),
+            Err(_) => Err(CommitFault::NotOpen),
+        }
+    }
+
+    /// Discards all open attempts, and goes on in the next view. The replica isn't broken any more.
+    pub(crate) fn rollback(&mut self, alloc: Global) -> Result<RollbackData, AllocError>
+        requires { self.old.ledger.view < 2 ^ 32 - 1 }
+        ensures rolled_back { IfOk result (λ r. RollsBack self.old.ledger self.new.ledger (rollback r)) }
+        ensures whole { OnOk result (self.new ≡ record self.old { ledger = self.new.ledger; is_broken = false }) }
+        ensures refused { OnErr result (self.new ≡ self.old) }
+        ensures same { KeepsCrew self.old self.new }
+    {
+        let rollback = self.ledger.rollback(alloc)?;
+        self.settles.clear();
+        self.is_broken = false;
+        Ok(rollback)
+    }
+}
+
+// The greatest tick of the records.
+fn greatest_tick(records: &[AccessRecord]) -> Option<u64>
+    ensures none { IfNone result (records.now ≡ []) }
+    ensures greatest { IfSome result (λ t. All (λ r. r.tick ≤ t) records.now) }
+    ensures one { IfSome result (Contains (map (λ r. r.tick) records.now)) }
+{
+    records.iter().map(|record| record.tick()).max()
+}

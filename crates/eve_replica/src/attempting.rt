@@ -1,0 +1,181 @@
+//! Attempts that are made while a replica's workers run.
+
+ghost use Rattle.std.specs.Prelude.{◌≡◌, ◌+◌, ◌≤◌, true, false, ℕ, [], ◌∷◌, ◌++◌, All, length, vec_len, map};
+ghost use Rattle.std.specs.Prelude.{IsTrue, IfOk, IfErr, IfSome, OnOk, OnErr};
+ghost use Rattle.std.specs.List.{list_all};
+ghost use Rattle.eve_grammar.specs.Limits.{is_step};
+ghost use Rattle.eve_write.specs.Data.{attempt, batch as plain_batch, section, step as plain};
+ghost use Rattle.eve_replica_crew.specs.Crews.{AreTickets};
+ghost use Rattle.eve_replica_crew.specs.Sharing.{IsRightLeg};
+ghost use Rattle.eve_replica.specs.Replicas.{AttemptsDue, FailsAttempt, GivesUp, KeepsCrew, MayAttempt};
+ghost use Rattle.eve_replica.specs.Serving.{AreDue, GoesOn, IsRightMixed, MayAttemptAll, AttemptsAll, attempt_move};
+ghost use Rattle.eve_replica.specs.Serving.{server_with};
+ghost use Rattle.eve_replica.specs.Replicas.{IsFresh};
+
+use crate::account::Account;
+use crate::fault::{AttemptFault, RunFault, fault_of};
+use eve_floor::{ExecFault, Floor};
+use eve_recorder::{Gate, TicketSeat, Tickets};
+use eve_replica_crew::{Lead, Leg, run_batches};
+use eve_workload::MixedBatch;
+use eve_write::{AttemptData, Step};
+use std::alloc::{AllocError, Global};
+use std::sync::Wait;
+use std::thread::Threads;
+
+/// Runs one batch by the workers, and makes an attempt of what they noted, which is open then. A fault breaks the
+/// replica.
+pub(crate) fn attempt_one<R: Threads + Wait + Sync, G: Gate>(
+    rt: &R,
+    alloc: Global,
+    floor: &Floor,
+    ticks: &Tickets,
+    seats: &mut Vec<TicketSeat>,
+    account: &mut Account<'_>,
+    leg: Leg<'_>,
+    gate: &G,
+) -> Result<AttemptData, AttemptFault>
+    requires leg { IsRightLeg floor.now (vec_len seats.old) leg }
+    requires seats { AreTickets ticks.now seats.old.items }
+    requires some { 1 ≤ vec_len seats.old }
+    requires due { MayAttempt account.old (plain_batch leg.batch.now) leg.touched.now }
+    ensures seats { AreTickets ticks.now seats.new.items }
+    ensures many { vec_len seats.new ≡ vec_len seats.old }
+    ensures attempted { IfOk result (λ a.
+        AttemptsDue account.old account.new (plain_batch leg.entry.batch.now) (attempt a)) }
+    ensures refused { IfErr result (λ why. FailsAttempt why account.old account.new) }
+    ensures same { KeepsCrew account.old account.new }
+{
+    let batch = leg.batch;
+    let touched = leg.touched;
+    let mut own = |lead: &mut Lead| -> Result<AttemptData, Option<AttemptFault>>
+        requires { MayAttempt account.now (plain_batch batch.now) touched.now }
+        ensures lead { lead.new ≡ lead.old }
+        ensures attempted { IfOk result (λ a.
+            AttemptsDue account.entry.now account.exit.now (plain_batch batch.entry.now) (attempt a)) }
+        ensures refused { IfErr result (λ given. GivesUp given account.entry.now account.exit.now) }
+        ensures same { KeepsCrew account.entry.now account.exit.now }
+    { account.attempt_next(rt, alloc, lead, batch, touched, gate) };
+    let ran = run_batches(rt, alloc, floor, ticks, seats, &[leg], gate, &mut own);
+    match ran {
+        Ok((Ok(attempt), _)) => Ok(attempt),
+        Ok((Err(Some(why)), _)) => Err(why),
+        Ok((Err(None), told)) => Err(account.broken_by(fault_told(told))),
+        Err(_) => Err(account.broken_by(AttemptFault::Memory)),
+    }
+}
+
+/// Runs the batches of a window by the workers, one after another, and makes an attempt of what they noted of each,
+/// while the other workers run the next. A fault breaks the replica; the attempts before it stay open.
+pub(crate) fn attempt_legs<R: Threads + Wait + Sync, G: Gate>(
+    rt: &R,
+    alloc: Global,
+    floor: &Floor,
+    ticks: &Tickets,
+    seats: &mut Vec<TicketSeat>,
+    account: &mut Account<'_>,
+    steps: &mut Vec<Step>,
+    window: &[MixedBatch],
+    legs: &[Leg],
+    gate: &G,
+) -> Result<(), RunFault>
+    requires legs { All (IsRightLeg floor.now (vec_len seats.old)) legs.now }
+    requires seats { AreTickets ticks.now seats.old.items }
+    requires some { 1 ≤ vec_len seats.old }
+    requires due { MayAttemptAll account.old window.now }
+    ensures seats { AreTickets ticks.now seats.new.items }
+    ensures many { vec_len seats.new ≡ vec_len seats.old }
+    ensures on { OnOk result (AttemptsAll window.now account.old steps.old account.new steps.new) }
+    ensures broken { OnErr result (account.new.is_broken ≡ true) }
+    ensures same { KeepsCrew account.old account.new }
+{
+    let mut own = |lead: &mut Lead| -> Result<(), Option<RunFault>>
+        requires { MayAttemptAll account.now window.now }
+        ensures lead { lead.new ≡ lead.old }
+        ensures on { OnOk result
+            (AttemptsAll window.entry.now account.entry.now steps.entry.now account.exit.now steps.exit.now) }
+        ensures broken { IfErr result (λ given. IfSome given (λ _. account.exit.now.is_broken ≡ true)) }
+        ensures same { KeepsCrew account.entry.now account.exit.now }
+    { attempt_each(rt, alloc, lead, account, steps, window, gate) };
+    let ran = run_batches(rt, alloc, floor, ticks, seats, legs, gate, &mut own);
+    match ran {
+        Ok((Ok(()), _)) => Ok(()),
+        Ok((Err(Some(why)), _)) => Err(why),
+        Ok((Err(None), told)) => Err(account.broken_by(fault_told(told)).into()),
+        Err(_) => Err(account.broken_by(AttemptFault::Memory).into()),
+    }
+}
+
+// The first worker runs its part in each batch of the window, and attempts it. A fault that is given has broken the
+// replica; none is given where a worker gave a request up.
+fn attempt_each<R: Wait, G: Gate>(
+    rt: &R,
+    alloc: Global,
+    lead: &mut Lead<'_>,
+    account: &mut Account<'_>,
+    steps: &mut Vec<Step>,
+    window: &[MixedBatch],
+    gate: &G,
+) -> Result<(), Option<RunFault>>
+    requires due { MayAttemptAll account.old window.now }
+    ensures lead { lead.new ≡ lead.old }
+    ensures on { OnOk result (AttemptsAll window.now account.old steps.old account.new steps.new) }
+    ensures broken { IfErr result (λ given. IfSome given (λ _. account.new.is_broken ≡ true)) }
+    ensures same { KeepsCrew account.old account.new }
+{
+    for place in 0..window.len() {
+        attempt_mixed(rt, alloc, lead, account, steps, &window[place], gate)?;
+    }
+    Ok(())
+}
+
+// The first worker runs its part in the next batch, and attempts it.
+fn attempt_mixed<R: Wait, G: Gate>(
+    rt: &R,
+    alloc: Global,
+    lead: &mut Lead<'_>,
+    account: &mut Account<'_>,
+    steps: &mut Vec<Step>,
+    mixed: &MixedBatch,
+    gate: &G,
+) -> Result<(), Option<RunFault>>
+    requires due { AreDue 1 account.old.ledger }
+    requires mixed { IsRightMixed account.old.names mixed.now }
+    requires whole { account.old.is_broken ≡ false }
+    ensures lead { lead.new ≡ lead.old }
+    ensures on { OnOk result (GoesOn (attempt_move 1 (plain_batch mixed.now.batch ∷ []))
+        (server_with account.old steps.old) (server_with account.new steps.new)) }
+    ensures broken { IfErr result (λ given. IfSome given (λ _. account.new.is_broken ≡ true)) }
+    ensures same { KeepsCrew account.old account.new }
+{
+    let touched = mixed.touched.as_slice();
+    match account.attempt_next(rt, alloc, lead, &mixed.batch, touched, gate) {
+        Ok(attempt) => match add_step(steps, Step::Attempt(attempt)) {
+            Ok(()) => Ok(()),
+            Err(_) => Err(Some(account.broken_by(AttemptFault::Memory).into())),
+        },
+        Err(Some(why)) => Err(Some(why.into())),
+        Err(None) => Err(None),
+    }
+}
+
+/// One more thing that a replica did.
+pub(crate) fn add_step(steps: &mut Vec<Step>, step: Step) -> Result<(), AllocError>
+    ensures right { (rows : ℕ) → IsTrue (is_step rows (plain step))
+        → OnOk result (IsTrue (list_all (is_step rows) (section steps.old))
+        → IsTrue (list_all (is_step rows) (section steps.new))) }
+    ensures added { OnOk result (section steps.new ≡ section steps.old ++ plain step ∷ []) }
+{
+    steps.push(step)?;
+    Ok(())
+}
+
+// The fault of an attempt in which this one is told: where no worker tells of one, that what they noted is no attempt.
+fn fault_told(told: Option<ExecFault>) -> AttemptFault
+    ensures { IsFresh result }
+{
+    match told {
+        Some(why) => fault_of(why),
+        None => AttemptFault::Mismatch,
+    }
+}
