@@ -79,6 +79,16 @@ all_behind tick above (j ∷ js) less rise =
     (lt-ltb tick j.tick (omega (arith, rise.0)))
     ∙ ap (λ (ks : List Journaled). j ∷ ks) (all_behind tick above js less rise.1)
 
+-- of a journal that begins after the tick nothing is up to it
+pub all_after : (tick : ℕ) (j : Journaled) (js : List Journaled) → tick < j.tick → JournalRises (j ∷ js)
+    → (filter (up_to tick) (j ∷ js) ≡ []) × (filter (behind tick) (j ∷ js) ≡ j ∷ js)
+all_after tick j js less rise = (
+  ap (λ b. cond b (j ∷ filter (up_to tick) js) (filter (up_to tick) js)) (lt-leb j.tick tick less)
+      ∙ none_up_to tick j.tick js less rise.0,
+  ap (λ b. cond b (j ∷ filter (behind tick) js) (filter (behind tick) js)) (lt-ltb tick j.tick less)
+      ∙ ap (λ (ks : List Journaled). j ∷ ks) (all_behind tick j.tick js less rise.0),
+)
+
 -- a journal that rises is what is up to the tick, and then what is after it
 pub split_at_tick : (tick : ℕ) (js : List Journaled) → JournalRises js
     → filter (up_to tick) js ++ filter (behind tick) js ≡ js
@@ -86,11 +96,8 @@ split_at_tick tick [] rise = refl
 split_at_tick tick (j ∷ js) rise =
     elim (cases_lt tick j.tick) [
       | inl less ↦
-          ap₂ (λ b c. cond b (j ∷ filter (up_to tick) js) (filter (up_to tick) js) ++ cond c
-          (j ∷ filter (behind tick) js) (filter (behind tick) js)) (lt-leb j.tick tick less)
-          (lt-ltb tick j.tick less)
-          ∙ ap (λ (ks : List Journaled). ks ++ j ∷ filter (behind tick) js) (none_up_to tick j.tick js less rise.0)
-          ∙ ap (λ (ks : List Journaled). j ∷ ks) (all_behind tick j.tick js less rise.0)
+          let after = all_after tick j js less rise in
+          ap₂ (λ (ks ls : List Journaled). ks ++ ls) after.0 after.1
       | inr not_less ↦
           ap₂ (λ b c. cond b (j ∷ filter (up_to tick) js) (filter (up_to tick) js) ++ cond c
           (j ∷ filter (behind tick) js) (filter (behind tick) js)) (le-leb j.tick tick not_less)

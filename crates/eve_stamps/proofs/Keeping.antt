@@ -12,14 +12,14 @@ use Rattle.eve_grammar.proofs.Lists.{all-push, all-filter}
 use Rattle.eve_stamps.specs.declared.journal.Journaled.{Journaled}
 use Rattle.eve_stamps.specs.Stripes.{HeldRow, Stripe, IsStripe, lies_in, has_row, table_in, row_in, rows_in_table}
 use Rattle.eve_stamps.specs.Stripes.{RowsRise, AreWithinLimit, committed, rows_now, table_after_journal, AreJournaled}
-use Rattle.eve_stamps.specs.Stripes.{JournalRises, IsEntryIn, JournalLiesIn, is_within, is_above, stripe_with}
+use Rattle.eve_stamps.specs.Stripes.{JournalRises, IsEntryIn, is_within, is_above, stripe_with}
 use Rattle.eve_stamps.specs.Stripes.{settled_to}
 use Rattle.eve_stamps.specs.Stamping.{has_row_in_two, rows_in_two, entries_within, entries_outside}
 use Rattle.eve_stamps.specs.Holding.{stripe_held, IsHeldStripe, IsPlaceOf, CanBeNoted}
 use Rattle.eve_stamps.proofs.RowLaws.{rows_in_table-self, rows_in_table-twice, RowsRise-rows, row_at, lies_at}
 use Rattle.eve_stamps.proofs.JournalLaws.{rows_now-noted, rows_now-settled, table_in-journal, up_to, behind}
 use Rattle.eve_stamps.proofs.JournalLaws.{split_at_tick}
-use Rattle.eve_stamps.proofs.Settling.{all_still_in}
+use Rattle.eve_stamps.proofs.Settling.{all_still_in, all_own_still}
 use Rattle.eve_stamps.proofs.Versions.{limit_at, limit_after, limit_before, all_sees}
 
 -- ---- at first
@@ -220,11 +220,6 @@ journaled_behind : (t : Table) (xs ys : List Journaled) → AreJournaled t (xs +
     → AreJournaled (table_after_journal t xs) ys
 journaled_behind t [] ys seen = seen
 journaled_behind t (x ∷ xs) ys seen = journaled_behind (table_after t x.entries) xs ys seen.1
-
-all_own_still : (base : List HeldRow) (t : Table) (js : List Journaled) → JournalLiesIn base js
-    → JournalLiesIn (rows_in_table t base) js
-all_own_still base t [] own = tt
-all_own_still base t (j ∷ js) own = (all_still_in base t j.entries own.0, all_own_still base t js own.1)
 
 pub settled_stands : (s : Stripe) (tick : ℕ) → IsStripe s → IsStripe (settled_to tick s)
 settled_stands s tick stands =

@@ -1,8 +1,9 @@
 //! A request on the stripes that it is lent.
 
 ghost use Rattle.std.specs.Prelude.{◌≡◌, ◌<◌, ◌≤◌, ◌+◌, ℕ, Bool, List, IsTrue, IfSome, IfOk, OnOk, OnErr, ◌&&◌};
-ghost use Rattle.std.specs.Prelude.{not, map, if◌then◌else◌, [], ◌∷◌, ◌++◌, length, vec_len, vec_capacity};
+ghost use Rattle.std.specs.Prelude.{not, map, if◌then◌else◌, [], ◌∷◌, ◌++◌, length};
 ghost use Rattle.std.specs.List.{AllByRecursion};
+ghost use Rattle.std.specs.VecDeque.{deque_len, deque_capacity};
 ghost use Rattle.eve_smallbank.specs.SmallBank.{plain};
 ghost use Rattle.eve_smallbank.specs.Access.{Fits};
 ghost use Rattle.eve_smallbank.specs.Chain.{Table, Sees};
@@ -22,6 +23,7 @@ use eve_accounts::Row;
 use eve_grammar::MOST_VERSIONS;
 use eve_smallbank::{Entry, Kind, Reply, Request, Touched, UpToThree, laws};
 use std::alloc::AllocError;
+use std::collections::VecDeque;
 
 /// Runs the request on the stripe's rows as they are now, and notes it in the stripe's journal.
 ///
@@ -168,13 +170,13 @@ fn run(
 fn note(
     base: &[HeldRow],
     rows: &mut [HeldRow],
-    journal: &mut Vec<Journaled>,
+    journal: &mut VecDeque<Journaled>,
     greatest: Option<u64>,
     tick: u64,
     entries: UpToThree<Entry>,
 )
     requires held { IsHeldStripe base.now rows.old journal.old.items greatest }
-    requires room { vec_len journal.old + 1 ≤ vec_capacity journal.old }
+    requires room { deque_len journal.old + 1 ≤ deque_capacity journal.old }
     requires above { IsTrue (is_above tick greatest) }
     requires noted { AllByRecursion (CanBeNoted (has_row (stripe_held base.now journal.old.items greatest))
         (rows_now (stripe_held base.now journal.old.items greatest))) entries }
@@ -182,7 +184,7 @@ fn note(
     ensures journal { journal.new.items ≡ journal.old.items ++ record { tick = tick; entries = entries } ∷ [] }
 {
     write(rows, &entries);
-    journal.push_reserved(Journaled { tick, entries });
+    journal.push_back_reserved(Journaled { tick, entries });
 }
 
 /// The rows as they are now, where all lie in the stripe.
@@ -248,13 +250,13 @@ fn are_above(first: &Stripe, second: &Stripe, tick: u64) -> bool
 
 /// Room for one more item in each.
 fn reserve_in_both(
-    first: &mut Vec<Journaled>,
-    second: &mut Vec<Journaled>,
+    first: &mut VecDeque<Journaled>,
+    second: &mut VecDeque<Journaled>,
 ) -> Result<(), AllocError>
     ensures first_items { first.new.items ≡ first.old.items }
     ensures second_items { second.new.items ≡ second.old.items }
-    ensures first_room { OnOk result (vec_len first.new + 1 ≤ vec_capacity first.new) }
-    ensures second_room { OnOk result (vec_len second.new + 1 ≤ vec_capacity second.new) }
+    ensures first_room { OnOk result (deque_len first.new + 1 ≤ deque_capacity first.new) }
+    ensures second_room { OnOk result (deque_len second.new + 1 ≤ deque_capacity second.new) }
 {
     first.reserve(1)?;
     second.reserve(1)

@@ -1,10 +1,11 @@
 //! Rows with their versions and values, in rising order.
 
-ghost use Rattle.std.specs.Prelude.{◌≡◌, ◌≤◌, ◌+◌, ◌++◌, nat_le, [], ◌∷◌, filter, length, vec_len, vec_capacity};
+ghost use Rattle.std.specs.Prelude.{◌≡◌, ◌≤◌, ◌+◌, ◌++◌, nat_le, nat_lt, [], ◌∷◌, filter, length, vec_len};
+ghost use Rattle.std.specs.Prelude.{vec_capacity};
 ghost use Rattle.std.specs.List.{AllByRecursion};
 ghost use Rattle.eve_smallbank.specs.Chain.{table_after};
 ghost use Rattle.eve_stamps.specs.Stripes.{RowsRise, IsEntryIn, JournalLiesIn, table_in, rows_in_table};
-ghost use Rattle.eve_stamps.specs.Stripes.{table_after_journal};
+ghost use Rattle.eve_stamps.specs.Stripes.{JournalRises, table_after_journal};
 ghost use Rattle.eve_stamps.specs.Holding.{IsPlaceOf, rows_changed};
 
 use crate::HeldRow;
@@ -13,6 +14,7 @@ use crate::limits::STRIPES;
 use eve_accounts::Row;
 use eve_grammar::Restore;
 use eve_smallbank::{Entry, Kind, UpToThree};
+use std::collections::VecDeque;
 
 /// Where the row stands, if it does. It is looked for first where it stands in a stripe of an opening, and by halving
 /// where it isn't there.
@@ -64,26 +66,21 @@ fn write_one(rows: &mut [HeldRow], entry: &Entry)
     }
 }
 
-/// Takes the writes of the journal up to the tick.
-pub fn write_up_to(rows: &mut [HeldRow], journal: &[Journaled], tick: u64)
+/// Takes the writes of the journal up to the tick, off the front of the journal.
+pub fn settle_up_to(rows: &mut [HeldRow], journal: &mut VecDeque<Journaled>, tick: u64)
     requires rise { RowsRise rows.old }
-    requires journal { JournalLiesIn rows.old journal.now }
-    ensures { rows.new ≡ rows_in_table
-        (table_after_journal (table_in rows.old) (filter (λ j. nat_le j.tick tick) journal.now)) rows.old }
+    requires ticks { JournalRises journal.old.items }
+    requires own { JournalLiesIn rows.old journal.old.items }
+    ensures rows { rows.new ≡ rows_in_table
+        (table_after_journal (table_in rows.old) (filter (λ j. nat_le j.tick tick) journal.old.items)) rows.old }
+    ensures journal { journal.new.items ≡ filter (λ j. nat_lt tick j.tick) journal.old.items }
 {
-    for journaled in journal {
-        write_if_up_to(rows, journaled, tick);
-    }
-}
-
-fn write_if_up_to(rows: &mut [HeldRow], journaled: &Journaled, tick: u64)
-    requires rise { RowsRise rows.old }
-    requires entries { AllByRecursion (IsEntryIn rows.old) journaled.now.entries }
-    ensures { rows.new ≡ rows_in_table
-        (table_after_journal (table_in rows.old) (filter (λ j. nat_le j.tick tick) (journaled.now ∷ []))) rows.old }
-{
-    if journaled.tick <= tick {
+    while let Some(journaled) = journal.front() {
+        if tick < journaled.tick {
+            return;
+        }
         write(rows, &journaled.entries);
+        let _ = journal.pop_front();
     }
 }
 

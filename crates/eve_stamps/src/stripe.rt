@@ -7,10 +7,11 @@ ghost use Rattle.eve_stamps.specs.Stripes.{settled_to, without_journal, restores
 
 use crate::HeldRow;
 use crate::journal::Journaled;
-use crate::rows::{append_changed, changed_count, place_of, write_up_to};
+use crate::rows::{append_changed, changed_count, place_of, settle_up_to};
 use eve_accounts::Row;
 use eve_grammar::Restore;
 use std::alloc::{AllocError, Global};
+use std::collections::VecDeque;
 use std::marker::Model;
 
 /// Some rows, each with a version and a value in cents: as they are committed, and what requests read and wrote since,
@@ -22,7 +23,7 @@ use std::marker::Model;
 pub struct Stripe {
     pub(crate) base: Vec<HeldRow>,
     pub(crate) rows: Vec<HeldRow>,
-    pub(crate) journal: Vec<Journaled>,
+    pub(crate) journal: VecDeque<Journaled>,
     pub(crate) greatest: Option<u64>,
 }
 
@@ -48,7 +49,7 @@ impl Stripe {
         Ok(Stripe {
             base: Vec::from_slice(alloc, rows)?,
             rows: Vec::from_slice(alloc, rows)?,
-            journal: Vec::new(alloc),
+            journal: VecDeque::new(alloc),
             greatest: None,
         })
     }
@@ -88,8 +89,7 @@ impl Stripe {
             self.journal.clear();
             return;
         }
-        write_up_to(&mut self.base, &self.journal, tick);
-        self.journal.retain(|journaled| tick < journaled.tick);
+        settle_up_to(&mut self.base, &mut self.journal, tick);
     }
 
     /// Returns to the committed base, and appends each row that the journal wrote, as the base has it, by rising row.

@@ -13,5 +13,5 @@ write-requires-clause-entries c =
 pub returns-clause-held : goal.returns-clause-held
 returns-clause-held c =
     held_noted c.args.base.now c.args.rows.now c.write.new.rows c.args.journal.now.items
-    c.push_reserved.new.self.items c.args.greatest c.args.tick c.args.entries c.requires.held c.requires.above
-    c.requires.noted c.write.ensures c.push_reserved.ensures.items
+    c.push_back_reserved.new.self.items c.args.greatest c.args.tick c.args.entries c.requires.held c.requires.above
+    c.requires.noted c.write.ensures c.push_back_reserved.ensures.items
