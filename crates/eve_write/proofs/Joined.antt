@@ -101,7 +101,7 @@ all_fit [] = refl
 all_fit (x ∷ xs) = all_fit xs
 
 -- the items before a place, and the one there
-flat_map-more : {X : Type 0} (f : X → List ℕ) (xs : List X) (i : ℕ) (x : X)
+pub flat_map-more : {X : Type 0} (f : X → List ℕ) (xs : List X) (i : ℕ) (x : X)
     → i < length xs → x ≡ get_or xs i x → flat_map f (take i xs) ++ f x ≡ flat_map f (take (i + 1) xs)
 flat_map-more f xs i x within is =
     let more : take (i + 1) xs ≡ take i xs ++ x ∷ [] = take_more xs i x within

@@ -1,3 +1,4 @@
+pub mod Gathered
 pub mod Joined
 pub mod Lengths
 pub mod Votes

@@ -14,7 +14,7 @@ use crate::fields::{byte, put_entries};
 use crate::measure::Measure;
 use crate::pieces::{put, send};
 use crate::right::{Judge, row_count};
-use crate::spell::Spell;
+use crate::short::{LONGEST_SHORT, MOST_GATHERED, Short};
 use arrayvec::ArrayVec;
 use eve_grammar::Head;
 use eve_smallbank::{Entry, UpToThree};
@@ -32,9 +32,6 @@ pub struct AccessData {
     /// What was read and written, row by row.
     pub entries: UpToThree<Entry>,
 }
-
-// How many bytes an Access frame has at most.
-const LONGEST_ACCESS: usize = 11 + 3 * 29;
 
 impl AccessData {
     // How long the body of its frame is.
@@ -68,20 +65,22 @@ impl AccessData {
 pub fn write_access<W: Sink>(out: &mut W, access: &AccessData) -> Result<(), SendFault>
     ensures { Writes W.written W.failures out.old out.new result (frame_text (OfAccess (plain access.now))) }
 {
-    let mut frame = ArrayVec::<u8, LONGEST_ACCESS>::new();
+    let mut frame = ArrayVec::<u8, LONGEST_SHORT>::new();
     prove!(access.entries.len() <= 3);
     access.put_front(&mut frame);
     put_entries(&mut frame, &access.entries);
     send(out, frame.as_slice())
 }
 
-impl Spell for AccessData {
+impl Short for AccessData {
     ghost text = { λ x. frame_text (OfAccess (plain x)) };
 
     ghost fits = { λ _. true };
 
-    fn write<W: Sink>(&self, out: &mut W) -> Result<(), SendFault> {
-        write_access(out, self)
+    fn put(&self, texts: &mut ArrayVec<u8, MOST_GATHERED>) {
+        prove!(self.entries.len() <= 3);
+        self.put_front(texts);
+        put_entries(texts, &self.entries);
     }
 }
 

@@ -18,7 +18,7 @@ use crate::fields::{byte, indexes_fit, put_indexes, put_replies};
 use crate::measure::len_of_each;
 use crate::pieces::{put, send};
 use crate::right::{Judge, all_right};
-use crate::spell::write_each;
+use crate::short::write_short;
 use arrayvec::ArrayVec;
 use eve_grammar::{Head, MOST_REQUESTS, token_fits};
 use eve_smallbank::Reply;
@@ -124,7 +124,7 @@ impl AttemptData {
             (frames_text (attempt_frames (plain self.now))) }
     {
         write_attempt(out, self)?;
-        write_each(out, self.accesses.as_slice())
+        write_short(out, self.accesses.as_slice())
     }
 
     // Whether its own frame lies within the limits.

@@ -12,6 +12,7 @@ ghost use Rattle.eve_write.specs.Writing.{Writes};
 use crate::measure::Measure;
 use crate::request::{RequestData, len_of_requests};
 use crate::right::{Judge, all_right};
+use crate::short::write_short;
 use crate::spell::{send_texts, write_each};
 use eve_grammar::{Head, MOST_REQUESTS};
 use eve_streams::{SendFault, Sink};
@@ -59,7 +60,7 @@ pub fn write_batch<W: Sink>(out: &mut W, number: u32, batch: &BatchData) -> Resu
 {
     batch.write_front(out, number)?;
     write_each(out, batch.sizes.as_slice())?;
-    write_each(out, batch.requests.as_slice())
+    write_short(out, batch.requests.as_slice())
 }
 
 // The sum of sizes, and 2^32 - 1 for a larger one.

@@ -13,6 +13,7 @@ use crate::head::write_header;
 use crate::marks::write_end;
 use crate::parts::Parts;
 use crate::sections::{write_batches, write_sections, write_verifiers};
+use crate::short::write_short;
 use crate::spell::write_each;
 use eve_grammar::{Head, MOST_BYTES};
 use eve_streams::{SendFault, Sink};
@@ -49,7 +50,7 @@ fn write_rest<W: Sink>(out: &mut W, parts: &Parts) -> Result<(), SendFault>
 {
     write_sections(out, parts.sections.as_slice())?;
     write_verifiers(out, parts.verifiers.as_slice())?;
-    write_each(out, parts.sent.as_slice())?;
+    write_short(out, parts.sent.as_slice())?;
     write_end(out)
 }
 

@@ -20,6 +20,7 @@ mod right;
 mod rollback;
 mod sections;
 mod sent;
+mod short;
 mod spell;
 mod step;
 mod vote;

@@ -1,21 +1,22 @@
 //! Requests with names of their own.
 
-ghost use Rattle.std.specs.Prelude.{◌≡◌, ◌≤◌, IsTrue, length};
+ghost use Rattle.std.specs.Prelude.{◌≡◌, ◌+◌, ◌≤◌, IsTrue, length};
 ghost use Rattle.std.specs.List.{flat_map, list_all};
+ghost use Rattle.arrayvec.specs.ArrayVec.{array_vec_len};
 ghost use Rattle.eve_smallbank.specs.SmallBank.{plain};
 ghost use Rattle.eve_grammar.specs.Spelling.{asked_text};
 ghost use Rattle.eve_grammar.specs.Limits.{is_asked, is_request};
 ghost use Rattle.eve_write.specs.Data.{transaction, asked};
+ghost use Rattle.eve_write.specs.Writing.{Puts};
 
 use crate::fields::put_request;
-use crate::pieces::{put, send};
+use crate::pieces::put;
 use crate::right::Judge;
-use crate::spell::Spell;
+use crate::short::{MOST_GATHERED, Short};
 use arrayvec::ArrayVec;
 use eve_accounts::{Amount, Name};
 use eve_grammar::{Head, MOST_REQUESTS};
 use eve_smallbank::Request;
-use eve_streams::{SendFault, Sink};
 
 /// A transaction of SmallBank (Alomari et al., ICDE 2008) with names of its own.
 ///
@@ -68,20 +69,24 @@ impl RequestData {
     }
 }
 
-// How many bytes a request has at most, its client and number included.
-const LONGEST_REQUEST: usize = 12 + 51;
+// Appends a request after its client and number.
+fn put_asked<const N: usize>(frame: &mut ArrayVec<u8, N>, asks: &RequestData)
+    requires right { IsTrue (is_asked (asked asks.now)) }
+    requires room { array_vec_len frame.old + 63 ≤ N }
+    ensures { Puts frame.old.items frame.new.items (asked_text (asked asks.now)) }
+{
+    put(frame, &asks.client.to_be_bytes());
+    put(frame, &asks.number.to_be_bytes());
+    put_request(frame, asks.request());
+}
 
-impl Spell for RequestData {
+impl Short for RequestData {
     ghost text = { λ r. asked_text (asked r) };
 
     ghost fits = { λ r. is_asked (asked r) };
 
-    fn write<W: Sink>(&self, out: &mut W) -> Result<(), SendFault> {
-        let mut frame = ArrayVec::<u8, LONGEST_REQUEST>::new();
-        put(&mut frame, &self.client.to_be_bytes());
-        put(&mut frame, &self.number.to_be_bytes());
-        put_request(&mut frame, self.request());
-        send(out, frame.as_slice())
+    fn put(&self, texts: &mut ArrayVec<u8, MOST_GATHERED>) {
+        put_asked(texts, self);
     }
 }
 

@@ -1,17 +1,18 @@
 //! Replies sent and their frames.
 
-ghost use Rattle.std.specs.Prelude.{true, length};
+ghost use Rattle.std.specs.Prelude.{◌+◌, ◌≤◌, true, length};
+ghost use Rattle.arrayvec.specs.ArrayVec.{array_vec_len};
 ghost use Rattle.eve_grammar.specs.Frames.{OfSent};
 ghost use Rattle.eve_grammar.specs.Spelling.{frame_text};
 ghost use Rattle.eve_grammar.specs.Limits.{is_sent};
 ghost use Rattle.eve_write.specs.Data.{sent as plain};
-ghost use Rattle.eve_write.specs.Writing.{Writes};
+ghost use Rattle.eve_write.specs.Writing.{Puts, Writes};
 
 use crate::fields::{byte, put_reply};
 use crate::measure::Measure;
 use crate::pieces::{put, send};
 use crate::right::Judge;
-use crate::spell::Spell;
+use crate::short::{MOST_GATHERED, Short};
 use arrayvec::ArrayVec;
 use eve_grammar::Head;
 use eve_smallbank::Reply;
@@ -35,6 +36,19 @@ pub struct SentData {
 // How many bytes a Sent frame has.
 const LEN_OF_SENT: usize = 31;
 
+// Appends a Sent frame.
+fn put_sent<const N: usize>(frame: &mut ArrayVec<u8, N>, sent: &SentData)
+    requires { array_vec_len frame.old + LEN_OF_SENT ≤ N }
+    ensures { Puts frame.old.items frame.new.items (frame_text (OfSent (plain sent.now))) }
+{
+    put(frame, &[48, 0, 0, 0, 26]);
+    put(frame, &sent.client.to_be_bytes());
+    put(frame, &sent.number.to_be_bytes());
+    put(frame, &byte(sent.replica));
+    put(frame, &sent.seq.to_be_bytes());
+    put_reply(frame, sent.reply);
+}
+
 /// Writes a Sent frame.
 ///
 /// docs/TRACE.md, "Frames". After a fault a front of the frame has been taken, and not all of it.
@@ -42,22 +56,17 @@ pub fn write_sent<W: Sink>(out: &mut W, sent: &SentData) -> Result<(), SendFault
     ensures { Writes W.written W.failures out.old out.new result (frame_text (OfSent (plain sent.now))) }
 {
     let mut frame = ArrayVec::<u8, LEN_OF_SENT>::new();
-    put(&mut frame, &[48, 0, 0, 0, 26]);
-    put(&mut frame, &sent.client.to_be_bytes());
-    put(&mut frame, &sent.number.to_be_bytes());
-    put(&mut frame, &byte(sent.replica));
-    put(&mut frame, &sent.seq.to_be_bytes());
-    put_reply(&mut frame, sent.reply);
+    put_sent(&mut frame, sent);
     send(out, frame.as_slice())
 }
 
-impl Spell for SentData {
+impl Short for SentData {
     ghost text = { λ s. frame_text (OfSent (plain s)) };
 
     ghost fits = { λ _. true };
 
-    fn write<W: Sink>(&self, out: &mut W) -> Result<(), SendFault> {
-        write_sent(out, self)
+    fn put(&self, texts: &mut ArrayVec<u8, MOST_GATHERED>) {
+        put_sent(texts, self);
     }
 }
 

@@ -31,8 +31,8 @@ returns-in_err-write_each g c =
     (Stopped-later {S = g.row.W.Denot} c.in_ok-write_front.ensures
     (Stopped-before {S = g.row.W.Denot} (flat_map asked_text (map asked c.args.batch.now.requests.items)) stopped))
 
-pub write_each-requires-2 : goal.write_each-requires-2
-write_each-requires-2 g c =
+pub write_short-requires : goal.write_short-requires
+write_short-requires g c =
     all_as is_asked asked c.as_slice-2.result.now c.args.batch.now.requests.items c.as_slice-2.ensures.value
     (IsGrouped-from_test (batch c.args.batch.now) c.requires).right
 
@@ -43,9 +43,9 @@ returns g c =
     c.write_each.new.out) same c.in_ok-write_each.ensures in
     let asks = each_as asked_text asked c.as_slice-2.result.now c.args.batch.now.requests.items
     c.as_slice-2.ensures.value in
-    let requests = subst (Writes g.W.Sink.written g.W.Sink.failures c.write_each.new.out c.write_each-2.new.out
-    c.write_each-2.result) asks c.write_each-2.ensures in
-    Writes-then {S = g.row.W.Denot} g.W.Sink.written g.W.Sink.failures _ _ _ _ _ c.write_each-2.result
+    let requests = subst (Writes g.W.Sink.written g.W.Sink.failures c.write_each.new.out c.write_short.new.out
+    c.write_short.result) asks c.write_short.ensures in
+    Writes-then {S = g.row.W.Denot} g.W.Sink.written g.W.Sink.failures _ _ _ _ _ c.write_short.result
     c.in_ok-write_front.ensures
-    (Writes-then {S = g.row.W.Denot} g.W.Sink.written g.W.Sink.failures _ _ _ _ _ c.write_each-2.result sizes
+    (Writes-then {S = g.row.W.Denot} g.W.Sink.written g.W.Sink.failures _ _ _ _ _ c.write_short.result sizes
     requests)

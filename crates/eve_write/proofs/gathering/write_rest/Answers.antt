@@ -44,11 +44,11 @@ returns-in_err-write_verifiers g c =
     (Stopped-before {S = g.row.W.Denot}
     (flat_map (λ s. frame_text (OfSent s)) (map sent p.sent.items) ++ frame_text End) verifiers))
 
-pub write_each-requires : goal.write_each-requires
-write_each-requires g c = all_fit c.as_slice-3.result.now
+pub write_short-requires : goal.write_short-requires
+write_short-requires g c = all_fit c.as_slice-3.result.now
 
-pub returns-in_err-write_each : goal.returns-in_err-write_each
-returns-in_err-write_each g c =
+pub returns-in_err-write_short : goal.returns-in_err-write_short
+returns-in_err-write_short g c =
     let p = c.args.parts.now in
     let sections = subst (Wrote {S = g.row.W.Denot} g.W.Sink.written g.W.Sink.failures c.args.out.now
     c.write_sections.new.out)
@@ -59,11 +59,11 @@ returns-in_err-write_each g c =
     (ap (λ xs. flat_map votes_text (enumerate_from 0 (map votes xs))) c.as_slice-2.ensures.value)
     c.in_ok-write_verifiers.ensures in
     let replies = subst (Stopped {S = g.row.W.Denot} g.W.Sink.written g.W.Sink.failures c.write_verifiers.new.out
-    c.write_each.new.out)
+    c.write_short.new.out)
     (each_as (λ s. frame_text (OfSent s)) sent c.as_slice-3.result.now p.sent.items c.as_slice-3.ensures.value)
-    c.in_err-write_each.ensures in
-    Writes-at_err {S = g.row.W.Denot} g.W.Sink.written g.W.Sink.failures _ _ _ c.from_residual-in_err-write_each.result
-    c.from_residual-in_err-write_each.ensures.0
+    c.in_err-write_short.ensures in
+    Writes-at_err {S = g.row.W.Denot} g.W.Sink.written g.W.Sink.failures _ _ _ c.from_residual-in_err-write_short.result
+    c.from_residual-in_err-write_short.ensures.0
     (Stopped-later {S = g.row.W.Denot} sections
     (Stopped-later {S = g.row.W.Denot} verifiers (Stopped-before {S = g.row.W.Denot} (frame_text End) replies)))
 
@@ -79,9 +79,9 @@ returns g c =
     (ap (λ xs. flat_map votes_text (enumerate_from 0 (map votes xs))) c.as_slice-2.ensures.value)
     c.in_ok-write_verifiers.ensures in
     let replies = subst (Wrote {S = g.row.W.Denot} g.W.Sink.written g.W.Sink.failures c.write_verifiers.new.out
-    c.write_each.new.out)
+    c.write_short.new.out)
     (each_as (λ s. frame_text (OfSent s)) sent c.as_slice-3.result.now p.sent.items c.as_slice-3.ensures.value)
-    c.in_ok-write_each.ensures in
+    c.in_ok-write_short.ensures in
     Writes-then {S = g.row.W.Denot} g.W.Sink.written g.W.Sink.failures _ _ _ _ _ c.write_end.result sections
     (Writes-then {S = g.row.W.Denot} g.W.Sink.written g.W.Sink.failures _ _ _ _ _ c.write_end.result verifiers
     (Writes-then {S = g.row.W.Denot} g.W.Sink.written g.W.Sink.failures _ _ _ _ _ c.write_end.result replies

@@ -1,28 +1,9 @@
-use Rattle.std.proofs.Common.{◌≡◌, ℕ, ◌∷◌, ◌++◌, length, subst, ap, ◌∙◌, arith}
-use Rattle.byteorder.specs.Endian.{big_bytes}
-use Rattle.eve_smallbank.specs.Spelling.{reply_text}
-use Rattle.eve_grammar.specs.Frames.{OfSent}
-use Rattle.eve_grammar.specs.Spelling.{body_text}
-use Rattle.eve_grammar.proofs.PartCodecs.{reply_length}
-use Rattle.eve_write.specs.Data.{sent}
+use Rattle.std.proofs.Common.{subst, ◌∙◌}
 use Rattle.eve_write.specs.Writing.{Writes}
-use Rattle.eve_write.proofs.Joined.{Puts-then, Puts-whole, app, led, onto}
+use Rattle.eve_write.proofs.Joined.{Puts-whole}
 use Rattle.eve_write.proofs.sent.write_sent.Goals as goal
 
 pub returns : goal.returns
 returns g c =
-    let s = c.args.sent.now in
-    let long : 26 ≡ length (body_text (OfSent (sent s))) = omega (arith, reply_length s.reply) in
-    let fields = app c.to_be_bytes.ensures
-    (app c.to_be_bytes-2.ensures (app c.byte.ensures (onto (reply_text s.reply) c.to_be_bytes-3.ensures))) in
-    let spelled = led 48 (led 0 (led 0 (led 0 (led 26 fields))))
-    ∙ ap (λ (n : ℕ). 48 ∷ (big_bytes 4 n ++
-    (big_bytes 4 s.client ++
-    (big_bytes 8 s.number ++ (big_bytes 1 s.replica ++ (big_bytes 4 s.seq ++ reply_text s.reply)))))) long in
-    let frame = Puts-whole c.new-frame.ensures
-    (Puts-then c.put.ensures.puts
-    (Puts-then c.put-2.ensures.puts
-    (Puts-then c.put-3.ensures.puts
-    (Puts-then c.put-4.ensures.puts (Puts-then c.put-5.ensures.puts c.put_reply.ensures.puts))))) in
-    subst (Writes g.W.Sink.written g.W.Sink.failures c.args.out.now c.send.new.out c.send.result)
-    (c.as_slice.ensures.value ∙ frame ∙ spelled) c.send.ensures
+    let frame = c.as_slice.ensures.value ∙ Puts-whole c.new-frame.ensures c.put_sent.ensures in
+    subst (Writes g.W.Sink.written g.W.Sink.failures c.args.out.now c.send.new.out c.send.result) frame c.send.ensures

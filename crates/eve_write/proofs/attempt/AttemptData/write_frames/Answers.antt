@@ -15,15 +15,15 @@ returns-in_err-write_attempt g c =
     (Stopped-before {S = g.row.W.Denot} (flat_map frame_text (map OfAccess (map access c.args.self.now.accesses.items)))
     c.in_err-write_attempt.ensures)
 
-pub write_each-requires : goal.write_each-requires
-write_each-requires g c = all_fit c.as_slice.result.now
+pub write_short-requires : goal.write_short-requires
+write_short-requires g c = all_fit c.as_slice.result.now
 
 pub returns : goal.returns
 returns g c =
     let accesses = c.args.self.now.accesses.items in
     let same = each_as (λ x. frame_text (OfAccess x)) access c.as_slice.result.now accesses c.as_slice.ensures.value
     ∙ sym (flat_map-map frame_text OfAccess (map access accesses)) in
-    let each = subst (Writes g.W.Sink.written g.W.Sink.failures c.write_attempt.new.out c.write_each.new.out
-    c.write_each.result) same c.write_each.ensures in
-    Writes-then {S = g.row.W.Denot} g.W.Sink.written g.W.Sink.failures _ _ _ _ _ c.write_each.result
+    let each = subst (Writes g.W.Sink.written g.W.Sink.failures c.write_attempt.new.out c.write_short.new.out
+    c.write_short.result) same c.write_short.ensures in
+    Writes-then {S = g.row.W.Denot} g.W.Sink.written g.W.Sink.failures _ _ _ _ _ c.write_short.result
     c.in_ok-write_attempt.ensures each
