@@ -48,8 +48,8 @@ fn is_alike(
     token && replies && are_same(balances, others)
 }
 
-/// Whether the peer shows the token of batch n, from 1, to be due: it committed the batch too, with that token and those
-/// replies, and the balances after it are the same.
+/// Whether the peer shows the token of batch n, from 1, to be due: it committed the batch too, with that token and
+/// those replies, and the balances after it are the same.
 fn is_shown(
     trace: &Trace<'_>,
     history: &History<'_>,
@@ -133,10 +133,10 @@ fn first_beside(
 /// Judges the tokens of a replica's committed attempts, as `tokens` does, beside another replica whose tokens are due:
 /// each is that of the balances after its batch and of its replies; else the first that is not.
 ///
-/// docs/MODEL.md, "Due tokens"; docs/TRACE.md, "Token". A batch that both committed with one token, the same replies and
-/// the same balances after it has its due token here as it has there, and nothing of it is hashed; every other batch's
-/// balances are hashed once, as `tokens` hashes them. It keeps the balances of both replicas and goes with them from
-/// batch to batch, in one thread. Refused memory decides nothing.
+/// docs/MODEL.md, "Due tokens"; docs/TRACE.md, "Token". A batch that both committed with one token, the same replies
+/// and the same balances after it has its due token here as it has there, and nothing of it is hashed; every other
+/// batch's balances are hashed once, as `tokens` hashes them. It keeps the balances of both replicas and goes with them
+/// from batch to batch, in one thread. Refused memory decides nothing.
 pub fn tokens_beside(
     alloc: Global,
     trace: &Trace<'_>,

@@ -1,5 +1,6 @@
 -- Sound replicas, beside which others are judged.
-use Rattle.std.proofs.Common.{◌≡◌, ℕ, zero, suc, ◌<◌, List, [], ◌∷◌, ◌++◌, length, get_or, refl, sym, ap, subst, ◌∙◌, arith}
+use Rattle.std.proofs.Common.{◌≡◌, ℕ, zero, suc, ◌<◌, List, [], ◌∷◌, ◌++◌, length, get_or, refl, sym, ap, subst}
+use Rattle.std.proofs.Common.{◌∙◌, arith}
 use Rattle.eve_grammar.specs.Trace.{Trace}
 use Rattle.eve_history.specs.SectionHistory.{SectionHistory}
 use Rattle.eve_chains.specs.Settling.{Settling, settling}

@@ -150,8 +150,8 @@ fn verdict_on<'a, R: Threads + Sync>(
 /// one.
 ///
 /// docs/MODEL.md, "Verdict" and "The audit theorem". Nothing recorded is trusted. Refused memory decides nothing. The
-/// time is linear in the trace, but for the tokens: for each batch all balances are hashed, once where the replicas came
-/// to the same, and compared once for each replica. It waits for nobody.
+/// time is linear in the trace, but for the tokens: for each batch all balances are hashed, once where the replicas
+/// came to the same, and compared once for each replica. It waits for nobody.
 pub fn audit_one<R: Threads + Sync>(
     rt: &R,
     alloc: Global,
@@ -178,8 +178,8 @@ pub fn audit_one<R: Threads + Sync>(
 /// workers, which have ended before a worker begins. Then worker e mod `workers` judges replica e by itself, and enters
 /// the gate with e first; a batch that came to the same in a sound replica that it judged before isn't hashed again. No
 /// more threads than workers work at once: with one worker no thread is started, and a replica has more than one where
-/// there are two workers or more to each. A worker that can't be started is run by the caller, and a replica for which a
-/// worker had no memory is judged again by the caller. What the replicas come to together is judged once all workers
+/// there are two workers or more to each. A worker that can't be started is run by the caller, and a replica for which
+/// a worker had no memory is judged again by the caller. What the replicas come to together is judged once all workers
 /// have ended. Nothing is promised of which threads run, and it returns where the gate does.
 pub fn audit<R: Threads + Wait + Sync, G: Gate>(
     rt: &R,

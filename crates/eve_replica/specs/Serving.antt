@@ -296,4 +296,5 @@ pub record MayAttemptAll (r : Replica) (window : List MixedBatch) : Type 0 where
 -- a live replica went on by attempts of all of them
 abbrev pub AttemptsAll : List MixedBatch → Replica → Vec code.Step Global → Replica → Vec code.Step Global → Type 0
 AttemptsAll window old before new after =
-    GoesOn (attempt_move (length window) (map (λ m. plain m.batch) window)) (server_with old before) (server_with new after)
+    GoesOn (attempt_move (length window) (map (λ m. plain m.batch) window)) (server_with old before)
+    (server_with new after)

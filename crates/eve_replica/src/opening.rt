@@ -51,8 +51,8 @@ pub(crate) fn balances_of(alloc: Global, customers: &[CustomerData]) -> Result<B
     Ok(balances)
 }
 
-/// Each batch, cut into parallelBatches; what was listed of it goes once it is cut. Here alone the names of the requests
-/// are looked up.
+/// Each batch, cut into parallelBatches; what was listed of it goes once it is cut. Here alone the names of the
+/// requests are looked up.
 pub(crate) fn batches_of(
     alloc: Global,
     listed: Vec<Vec<RequestData>>,

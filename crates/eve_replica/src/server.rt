@@ -1,7 +1,7 @@
 //! A replica of a run, with what it did.
 
-ghost use Rattle.std.specs.Prelude.{◌≡◌, true, false, ◌+◌, ◌-◌, ◌<◌, ◌^◌, [], ◌∷◌, ◌++◌, All, IsTrue, IsSome, OnErr, OnOk};
-ghost use Rattle.std.specs.Prelude.{length, map};
+ghost use Rattle.std.specs.Prelude.{◌≡◌, true, false, ◌+◌, ◌-◌, ◌<◌, ◌^◌, [], ◌∷◌, ◌++◌, All, IsTrue, IsSome, OnErr};
+ghost use Rattle.std.specs.Prelude.{OnOk, length, map};
 ghost use Rattle.eve_grammar.specs.Limits.{is_step};
 ghost use Rattle.eve_attempts.specs.Ledgers.{ledger_rows};
 ghost use Rattle.eve_write.specs.Data.{batch, section, step as plain};

@@ -119,9 +119,9 @@ fn part_of<'s>(shared: &Shared<'s>, number: u8, seating: &mut Seating) -> Share<
     }
 }
 
-/// Each worker runs its parts, in a thread of its own where one can be started, and the first worker in this one, as its
-/// caller says. The seats at the tickets of ticks are lent to them and given back. What the caller's part answers, and
-/// the fault of the lowest worker that has one.
+/// Each worker runs its parts, in a thread of its own where one can be started, and the first worker in this one, as
+/// its caller says. The seats at the tickets of ticks are lent to them and given back. What the caller's part answers,
+/// and the fault of the lowest worker that has one.
 pub(crate) fn run_hands<R: Threads + Wait + Sync, G: Gate, A, F: FnMut(&mut Lead<'_>) -> A>(
     rt: &R,
     alloc: Global,

@@ -42,8 +42,8 @@ pub(crate) fn run_parts<R: Wait, G: Gate>(
     }
 }
 
-/// Runs the first worker's part in one batch, and takes what was noted of it, once all of it is. The seat at the tickets
-/// of ticks is given back. Its fault, where it gives a request up, and none where another worker did.
+/// Runs the first worker's part in one batch, and takes what was noted of it, once all of it is. The seat at the
+/// tickets of ticks is given back. Its fault, where it gives a request up, and none where another worker did.
 pub(crate) fn run_turn<R: Wait, G: Gate>(
     rt: &R,
     ticks: &Tickets,

@@ -36,7 +36,8 @@ push_last_some [] a = omega arith
 push_last_some (part ∷ []) a = omega arith
 push_last_some (part ∷ next ∷ parts) a = omega arith
 
-pub push_last_count : (parts : List (List Asked)) (a : Asked) → 1 ≤ length parts → length (push_last parts a) ≡ length parts
+pub push_last_count : (parts : List (List Asked)) (a : Asked) → 1 ≤ length parts
+    → length (push_last parts a) ≡ length parts
 push_last_count [] a some = absurd (omega arith)
 push_last_count (part ∷ []) a some = refl
 push_last_count (part ∷ next ∷ parts) a some = ap suc (push_last_count (next ∷ parts) a (omega arith))

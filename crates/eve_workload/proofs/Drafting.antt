@@ -73,7 +73,8 @@ batch_taken d batches opened before pushed empty room follows keeps =
       last = refl;
       deployment = keeps.deployment;
       customers = keeps.customers;
-      batches = ap asked_lists pushed ∙ map_push (λ (b : Vec RequestData Global). map asked b.items) d.batches.items opened
+      batches = ap asked_lists pushed
+          ∙ map_push (λ (b : Vec RequestData Global). map asked b.items) d.batches.items opened
           ∙ (λ k. keeps.batches k ++ map asked (empty k) ∷ []);
       requests = keeps.requests;
       count = refl;

@@ -47,7 +47,8 @@ returns g c =
     let customers : (trace p).customers ≡ c.args.workload.customers = c.into_lists-customers.ensures.customers in
     let cuts : map (λ m. batch m.batch) mixed ≡ batches_cut c.args.workload c.args.mixer =
     c.in_ok-batches.ensures.cut
-    ∙ (λ k. map (λ requests. batch_with (cut (c.requires k) c.args.mixer requests)) (c.into_lists-customers.ensures.batches k)) in
+    ∙ (λ k. map (λ requests. batch_with (cut (c.requires k) c.args.mixer requests))
+    (c.into_lists-customers.ensures.batches k)) in
     let batches : (trace p).batches ≡ batches_cut c.args.workload c.args.mixer = c.in_ok-plain_batches.ensures ∙ cuts in
     let asked : h ≡ head_asked c.args.workload = c.head-head.ensures.head in
     let many : length (trace p).batches ≡ h.batches =

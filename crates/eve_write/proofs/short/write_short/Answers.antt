@@ -19,8 +19,8 @@ returns-in_err-send g c =
 
 pub loop-item-preserved : goal.loop-item-preserved
 loop-item-preserved g c =
-    let room : AreGathered g.W.Sink.written g.W.Sink.failures g.T.Short.text c.args.items.now c.args.out.now c.if-len.out
-    c.loop-item.item-index c.if-len.texts.items =
+    let room : AreGathered g.W.Sink.written g.W.Sink.failures g.T.Short.text c.args.items.now c.args.out.now
+    c.if-len.out c.loop-item.item-index c.if-len.texts.items =
     elim c.if-len.branch [
       | then-len+in_ok-send w ↦
           let wrote = subst (Wrote g.W.Sink.written g.W.Sink.failures c.loop-item.out w.send.new.out)

@@ -7,7 +7,8 @@ use Rattle.eve_replica.proofs.replica.Replica.run_attempt.Goals as goal
 pub returns-clause-attempted : goal.returns-clause-attempted
 returns-clause-attempted g c =
     let Made : ℕ → Bool → Replica → BatchData → Type 0 =
-    λ view serial r b. IfOk c.attempt_one.result (λ a. Attempts view serial r c.attempt_one.new.account (batch b) (attempt a)) in
+    λ view serial r b. IfOk c.attempt_one.result
+    (λ a. Attempts view serial r c.attempt_one.new.account (batch b) (attempt a)) in
     let old : Replica = c.args.self.now in
     let due = subst (λ (r : Replica). Made r.ledger.view r.ledger.is_next_serial r c.leg_of-leg.result.batch.now)
     c.self.view_is c.attempt_one.ensures.attempted in
