@@ -20,7 +20,7 @@ use std::random::RandomSource;
 use std::sync::Wait;
 use std::thread::Threads;
 use together::{judge_outcomes, judge_replies};
-use workload::{Size, workload};
+use workload::{Clients, Size, workload};
 
 /// All that the header counts at its greatest but the batches, in batches of 256 requests.
 const GREATEST: Size = Size {
@@ -32,7 +32,7 @@ const GREATEST: Size = Size {
     customers: 4096,
     batches: 2,
     requests: 256,
-    first: None,
+    clients: Clients::EachBatch,
 };
 
 /// More than a thousand batches, each decided by all verifiers.
@@ -45,7 +45,7 @@ const LONGEST: Size = Size {
     customers: 2,
     batches: 1030,
     requests: 1,
-    first: None,
+    clients: Clients::EachBatch,
 };
 
 /// A hundred batches, in the last third of which the numbers of the one client begin at 0.
@@ -58,7 +58,20 @@ const FALLING: Size = Size {
     customers: 2,
     batches: 100,
     requests: 1,
-    first: Some(32),
+    clients: Clients::One(32),
+};
+
+/// A client for each of 5,120 requests, past those of which the greatest numbers are kept.
+const CLIENTS: Size = Size {
+    replicas: 1,
+    verifiers: 1,
+    quorum: 1,
+    window: 8,
+    workers: 1,
+    customers: 256,
+    batches: 20,
+    requests: 256,
+    clients: Clients::EachRequest(4096),
 };
 
 /// More than four megabytes, and more than fifty thousand replies sent.
@@ -71,7 +84,7 @@ const WIDEST: Size = Size {
     customers: 256,
     batches: 28,
     requests: 256,
-    first: None,
+    clients: Clients::EachBatch,
 };
 
 /// One window of 256 requests a batch, over as many rows as there may be.
@@ -84,7 +97,7 @@ const WINDOW: Size = Size {
     customers: 4096,
     batches: 8,
     requests: 256,
-    first: None,
+    clients: Clients::EachBatch,
 };
 
 /// How many bytes an Access frame has in front of the last byte of its first entry, which is the last of the value
@@ -245,6 +258,25 @@ fn tell_asked_again<R: AllocGlobal + RandomSource + Threads + Wait + Sync>(
         rt,
         out,
         "a request asked again",
+        trace.as_slice(),
+        batch,
+        THIRD_OF_CLIENT,
+    )
+}
+
+/// The first request of the last batch gets the client of the batch before's first, among more clients than those of
+/// which the greatest numbers are kept.
+fn tell_many_clients<R: AllocGlobal + RandomSource + Threads + Wait + Sync>(
+    rt: &R,
+    out: &mut Vec<u8>,
+) -> io::Result<()> {
+    let trace = run_of(rt, &CLIENTS)?;
+    tell(rt, out, "many clients", trace.as_slice(), NOWHERE)?;
+    let batch = batch_of(rt, trace.as_slice(), CLIENTS.batches)?;
+    tell_changed(
+        rt,
+        out,
+        "a request of many clients asked again",
         trace.as_slice(),
         batch,
         THIRD_OF_CLIENT,
@@ -432,6 +464,7 @@ fn main(rt: HostRuntime) -> io::Result<()> {
     let mut out = Vec::new(rt.alloc());
     tell_runs(&rt, &mut out)?;
     tell_asked_again(&rt, &mut out)?;
+    tell_many_clients(&rt, &mut out)?;
     tell_reruns(&rt, &mut out)?;
     let trace = run_of(&rt, &WIDEST)?;
     tell_widest(&rt, &mut out, trace.as_slice())?;

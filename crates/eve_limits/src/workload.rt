@@ -24,21 +24,34 @@ pub struct Size {
     pub batches: u32,
     /// The requests of each batch.
     pub requests: u32,
-    /// Where all requests are of one client, the number of the first of them: the next one's is one more, and after the
-    /// greatest comes 0. Else each batch has a client of its own.
-    pub first: Option<u32>,
+    /// Whose the requests are.
+    pub clients: Clients,
+}
+
+/// The clients of a workload.
+#[derive(Clone, Copy)]
+pub enum Clients {
+    /// One client, with the number of its first request: the next one's is one more, and after the greatest comes 0.
+    One(u32),
+    /// One for each batch, from 0 on.
+    EachBatch,
+    /// One for each request, from this one on.
+    EachRequest(u32),
 }
 
 impl Size {
     // The client of a request, and the client's number for it.
     fn id_of(&self, batch: u32, request: u32) -> (u32, u32) {
-        let Some(first) = self.first else {
-            return (batch, request);
-        };
         let count = self.batches.wrapping_mul(self.requests);
         let place = batch.wrapping_mul(self.requests).wrapping_add(request);
-        let number = first.wrapping_add(place).checked_rem(count);
-        (0, number.unwrap_or(0))
+        match self.clients {
+            Clients::One(first) => {
+                let number = first.wrapping_add(place).checked_rem(count);
+                (0, number.unwrap_or(0))
+            }
+            Clients::EachBatch => (batch, request),
+            Clients::EachRequest(first) => (first.wrapping_add(place), 0),
+        }
     }
 }
 
