@@ -12,12 +12,12 @@ use eve_accounts::{Cents, Row};
 /// A row's version and value as they are committed.
 #[derive(Clone, Copy, Debug, PartialEq, Eq)]
 pub struct Restore {
-    /// The row.
-    pub row: Row,
-    /// Its version, from 0.
+    /// The row's version, from 0.
     pub version: u64,
     /// Its value.
     pub value: Cents,
+    /// The row.
+    pub row: Row,
 }
 
 /// A restore in 20 bytes, of one of this many rows.

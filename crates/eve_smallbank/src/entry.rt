@@ -30,14 +30,14 @@ impl Kind {
 /// One row that a request read or wrote.
 #[derive(Clone, Copy, Debug, PartialEq, Eq)]
 pub struct Entry {
-    /// The row.
-    pub row: Row,
-    /// Whether it was read or written.
-    pub kind: Kind,
     /// The row's version before the request, from 0.
     pub version: u64,
     /// The row's value before the request.
     pub seen: Cents,
     /// The row's value after the request; a read leaves what it saw.
     pub after: Cents,
+    /// The row.
+    pub row: Row,
+    /// Whether it was read or written.
+    pub kind: Kind,
 }

@@ -94,10 +94,10 @@ impl<T: Copy> UpToThree<T> {
         requires { place < length self.now }
         ensures { slice_get self.now place ≡ Some result }
     {
-        match (self.places, place) {
-            (Places::One(item) | Places::Two(item, _) | Places::Three(item, _, _), 0) => item,
-            (Places::Two(_, item) | Places::Three(_, item, _), 1) => item,
-            (Places::Three(_, _, item), 2) => item,
+        match (&self.places, place) {
+            (Places::One(item) | Places::Two(item, _) | Places::Three(item, _, _), 0) => *item,
+            (Places::Two(_, item) | Places::Three(_, item, _), 1) => *item,
+            (Places::Three(_, _, item), 2) => *item,
             _ => unreachable!(),
         }
     }

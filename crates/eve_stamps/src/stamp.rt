@@ -5,12 +5,12 @@
 /// docs/MODEL.md, "Schedule".
 #[derive(Clone, Copy, Debug, PartialEq, Eq)]
 pub struct Stamp {
-    /// The worker that ran it, from 0.
-    pub worker: u8,
-    /// Its place among what that worker notes, from 0.
+    /// The tick at which it was applied.
+    pub tick: u64,
+    /// Its place among what its worker notes, from 0.
     pub place: u16,
     /// The request's index in its batch, from 0.
     pub index: u16,
-    /// The tick at which it was applied.
-    pub tick: u64,
+    /// The worker that ran it, from 0.
+    pub worker: u8,
 }
