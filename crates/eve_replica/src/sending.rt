@@ -1,7 +1,7 @@
 //! The replies that replicas send.
 
 ghost use Rattle.std.specs.Prelude.{◌≡◌, ◌≤◌, ◌<◌, ◌++◌, ◌∷◌, [], map, slice_get, Some, IfOk, IsTrue, List, OnOk};
-ghost use Rattle.std.specs.Prelude.{length};
+ghost use Rattle.std.specs.Prelude.{◌+◌, length, vec_len, vec_capacity};
 ghost use Rattle.eve_grammar.specs.Trace.{Step as StepValue};
 ghost use Rattle.eve_grammar.specs.Limits.{is_sent};
 ghost use Rattle.eve_write.specs.Data.{asked, attempt as plain_attempt, batch, section, sent as plain};
@@ -114,7 +114,9 @@ fn send_answers(
     ensures sent { OnOk result (map plain replies.new.items ≡ map plain replies.old.items
         ++ answered place seq (map asked requests.now) answers.now) }
 {
-    for index in 0..requests.len().min(answers.len()) {
+    let count = requests.len().min(answers.len());
+    replies.reserve(count)?;
+    for index in 0..count {
         send(
             replies,
             place,
@@ -123,12 +125,12 @@ fn send_answers(
             batches,
             &requests[index],
             answers[index],
-        )?;
+        );
     }
     Ok(())
 }
 
-// The reply to the request, which is in the batch with this number.
+// The reply to the request, which is in the batch with this number, where there is room for it.
 fn send(
     replies: &mut Vec<SentData>,
     place: u8,
@@ -137,13 +139,16 @@ fn send(
     batches: &[MixedBatch],
     request: &RequestData,
     reply: Reply,
-) -> Result<(), AllocError>
+)
     requires there { place < replicas }
     requires seq { (1 ≤ seq) × (seq ≤ length batches.now) }
     requires right { AreReplies replicas (length batches.now) replies.old.items }
-    ensures limits { OnOk result (AreReplies replicas (length batches.now) replies.new.items) }
-    ensures sent { OnOk result (map plain replies.new.items ≡ map plain replies.old.items
-        ++ answered place seq (asked request.now ∷ []) (reply ∷ [])) }
+    requires room { vec_len replies.old < vec_capacity replies.old }
+    ensures limits { AreReplies replicas (length batches.now) replies.new.items }
+    ensures sent { map plain replies.new.items ≡ map plain replies.old.items
+        ++ answered place seq (asked request.now ∷ []) (reply ∷ []) }
+    ensures len { vec_len replies.new ≡ vec_len replies.old + 1 }
+    ensures capacity { vec_capacity replies.new ≡ vec_capacity replies.old }
 {
     let sent = SentData {
         client: request.client,
@@ -153,8 +158,7 @@ fn send(
         reply,
     };
     sent_fits(&sent, replicas, batches.len());
-    replies.push(sent)?;
-    Ok(())
+    replies.push_reserved(sent);
 }
 
 // A reply of one of so many replicas, in one of so many batches.

@@ -10,7 +10,7 @@ loop-index-preserved c =
     let requests = c.args.requests.now in
     let i = c.loop-index.index in
     record {
-      limits = c.in_ok-send.ensures.limits;
+      limits = c.send.ensures.limits;
       sent = answered_more c.args.place c.args.seq (map asked requests) c.args.answers.now i
           (asked c.index-requests-index.result) _ (map sent c.loop-index.replies.items)
           (map sent c.send.new.replies.items) _
@@ -18,7 +18,8 @@ loop-index-preserved c =
           ∙ ap (option_map asked) (slice_get_read requests (length requests) i c.index-requests-index.result refl
           (omega arith) c.index-requests-index.is))
           (slice_get-get_or c.args.answers.now i _ (omega arith))
-          c.in_ok-send.ensures.sent c.loop-index.invariant.sent;
+          c.send.ensures.sent c.loop-index.invariant.sent;
+      room = omega (arith, c.loop-index.invariant.room);
     }
 
 pub returns-clause-sent : goal.returns-clause-sent

@@ -1,4 +1,4 @@
-use Rattle.std.proofs.Common.{◌≡◌, ◌++◌, length, map, drop}
+use Rattle.std.proofs.Common.{◌≡◌, ◌+◌, ◌≤◌, ◌++◌, length, map, drop, vec_len, vec_capacity}
 use Rattle.eve_write.specs.Data.{asked, sent}
 use Rattle.eve_replica.specs.Sending.{answered}
 use Rattle.eve_replica.specs.Serving.{AreReplies}
@@ -10,4 +10,5 @@ invariant-loop-index l = record {
   sent : map sent l.replies.items
       ++ answered l.place l.seq (drop l.index (map asked l.requests)) (drop l.index l.answers)
       ≡ map sent l.fn.replies.items ++ answered l.place l.seq (map asked l.requests) l.answers;
+  room : vec_len l.replies + l.count ≤ vec_capacity l.replies + l.index;
 }
