@@ -1,12 +1,12 @@
 -- A line is spelled once, and its words have no space and no line feed in them.
-use Rattle.std.proofs.Common.{◌≡◌, ◌≢◌, ℕ, ℤ, pos, negsuc, suc, ◌^◌, ◌<◌, ◌≤◌, ◌==◌, true, false, not, ◌&&◌, IsTrue}
+use Rattle.std.proofs.Common.{◌≡◌, ◌≢◌, ℕ, ℤ, pos, negsuc, suc, ◌^◌, ◌<◌, ◌≤◌, true, false, ◌&&◌, IsTrue}
 use Rattle.std.proofs.Common.{nat_le, List, [], ◌∷◌, ◌++◌, length, drop, get_or, refl, sym, ap, ◌∙◌, arith, leb-true}
 use Rattle.std.proofs.Common.{append_assoc, zero, take, length-append}
 use Rattle.std.specs.List.{list_all, join_with_byte}
 use Rattle.std.specs.Fmt.{decimal, signed_decimal}
 use Rattle.std.specs.Int.RustNames.{int_le}
 use Rattle.std.specs.Str.Parse.{AllDigits}
-use Rattle.std.proofs.lemmas.Bool.{and_parts, and_from, ne_eqb, ltb-true, false≢true}
+use Rattle.std.proofs.lemmas.Bool.{and_parts, and_from, lt-ltb, ltb-true, false≢true}
 use Rattle.std.proofs.lemmas.Fmt.{decimal_is_IsNumeral, decimal_injective}
 use Rattle.std.proofs.lemmas.Str.Parse.{digit_from_value}
 use Rattle.std.proofs.lemmas.List.{take-append-drop}
@@ -29,9 +29,7 @@ digits_inside : (digits : List ℕ) → AllDigits 10 digits → IsTrue (list_all
 digits_inside [] all = refl
 digits_inside (c ∷ digits) all =
     let range = digit_from_value c all.0 in
-    and_from (is_inside c) (list_all is_inside digits)
-    (and_from (not (c == 32)) (not (c == 10)) (ap not (ne_eqb c 32 (λ e. omega (arith, range.0, e))))
-    (ap not (ne_eqb c 10 (λ e. omega (arith, range.0, e)))))
+    and_from (is_inside c) (list_all is_inside digits) (lt-ltb 32 c (omega (arith, range.0)))
     (digits_inside digits all.1)
 
 decimal_inside : (n : ℕ) → n < 2 ^ 64 → IsTrue (list_all is_inside (decimal n))
@@ -52,9 +50,7 @@ printable_inside [] all = refl
 printable_inside (c ∷ name) all =
     let parts = and_parts (is_printable c) (list_all is_printable name) all in
     let low = leb-true 33 c (and_parts (nat_le 33 c) (nat_le c 126) parts.0).0 in
-    and_from (is_inside c) (list_all is_inside name)
-    (and_from (not (c == 32)) (not (c == 10)) (ap not (ne_eqb c 32 (λ e. omega (arith, low, e))))
-    (ap not (ne_eqb c 10 (λ e. omega (arith, low, e)))))
+    and_from (is_inside c) (list_all is_inside name) (lt-ltb 32 c (omega (arith, low)))
     (printable_inside name parts.1)
 
 name_inside : (name : List ℕ) → IsTrue (is_name name) → IsTrue (list_all is_inside name)

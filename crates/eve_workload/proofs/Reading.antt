@@ -1,17 +1,19 @@
 -- A text that is read line by line.
-use Rattle.std.proofs.Common.{◌≡◌, ℕ, ◌+◌, ◌*◌, ◌<◌, ◌≤◌, Bool, true, false, IsTrue, List, [], ◌∷◌, ◌++◌, length}
-use Rattle.std.proofs.Common.{take, drop, Some, None, refl, sym, ap, ◌∙◌, arith, length-append, take-add}
+use Rattle.std.proofs.Common.{◌≡◌, ◌≢◌, ℕ, ◌+◌, ◌-◌, ◌*◌, ◌<◌, ◌≤◌, Bool, true, false, IsTrue, List, [], ◌∷◌}
+use Rattle.std.proofs.Common.{◌++◌, length, take, drop, get_or, Some, None, refl, sym, ap, ◌∙◌, arith, length-append}
+use Rattle.std.proofs.Common.{take-add}
 use Rattle.std.proofs.lemmas.Bool.{ltb-true, false≢true}
-use Rattle.std.proofs.lemmas.List.{length-map, take-append-drop, length-drop, take_all, append-nil}
+use Rattle.std.proofs.lemmas.List.{length-map, take-append-drop, length-drop, get_or-drop, take_all}
 use Rattle.eve_grammar.specs.Trace.{Asked}
 use Rattle.eve_write.specs.Data.{customer}
 use Rattle.eve_workload.specs.declared.draft.Draft.{Draft}
-use Rattle.eve_workload.specs.Lines.{Line, HeadLine, CustomerLine, BatchLine, RequestLine, line_text}
+use Rattle.eve_workload.specs.Lines.{Line, HeadLine, CustomerLine, BatchLine, RequestLine, line_words}
 use Rattle.eve_workload.specs.Steps.{customers_in, requests_in, batches_in, last_requests, may_follow, may_end}
 use Rattle.eve_workload.specs.Steps.{AreRightLines, text_before, IsBadLine}
 use Rattle.eve_workload.specs.Drafts.{IsSmall, Keeps, KeepsAll, TakesLine}
 use Rattle.eve_workload.proofs.Drafting.{batches_kept}
-use Rattle.eve_workload.proofs.WholeLines.{line_long}
+use Rattle.eve_workload.specs.Words.{HasLineFeed}
+use Rattle.eve_workload.proofs.Splitting.{no_line_unended}
 
 -- ---- counts that fit
 
@@ -123,15 +125,30 @@ read_bad text at number d next read count more none = record {
   unended = λ empty. absurd (omega (arith, more, length-drop at text, ap length empty));
 }
 
+-- a line feed ends a later line, as long as one is to come
+pub feed_to_come : (text : List ℕ) (at len : ℕ) → at < len → len ≤ length text → get_or text (len - 1) 0 ≡ 10
+    → HasLineFeed (drop at text) 0
+feed_to_come text at len more within feed =
+    let sum : at + ((len - 1) - at) ≡ len - 1 = omega arith in
+    record {
+      at = (len - 1) - at;
+      order = omega arith;
+      within = omega (arith, length-drop at text);
+      is = get_or-drop at text ((len - 1) - at) 0 ∙ ap (λ n. get_or text n 0) sum ∙ feed;
+    }
+
 pub read_early : (text : List ℕ) (at number : ℕ) (d : Draft) → (read : IsRead text at d)
-    → number ≡ length read.before + 1 → length text ≤ at → may_end read.before ≡ false → IsBadLine text number
-read_early text at number d read count whole open_end = record {
+    → number ≡ length read.before + 1 → ((k : ℕ) → at ≤ k → k < length text → get_or text k 0 ≢ 10)
+    → (length text ≤ at → may_end read.before ≡ false) → IsBadLine text number
+read_early text at number d read count none open_end = record {
   before = read.before;
-  rest = [];
-  text = sym (take_all at text whole) ∙ read.text_is ∙ sym (append-nil (text_before read.before));
+  rest = drop at text;
+  text = sym (take-append-drop at text) ∙ ap (λ t. t ++ drop at text) read.text_is;
   right = read.keeps.right;
   count = count;
-  wrong = λ line behind is right. absurd
-      (omega (arith, ap length is, length-append (line_text line) behind, line_long line));
-  unended = λ _. open_end;
+  wrong = λ line behind is right. no_line_unended (drop at text)
+      (λ k there feed. none (at + k) (omega arith) (omega (arith, there, length-drop at text))
+      (sym (get_or-drop at text k 0) ∙ feed))
+      (line_words line) behind is;
+  unended = λ empty. open_end (omega (arith, length-drop at text, ap length empty));
 }

@@ -1,12 +1,13 @@
 -- A line that is split into words.
-use Rattle.std.proofs.Common.{◌≡◌, ◌≢◌, ℕ, zero, suc, ◌+◌, ◌-◌, ◌<◌, ◌≤◌, ◌==◌, true, false, not, inl, inr, ◌&&◌}
+use Rattle.std.proofs.Common.{◌≡◌, ◌≢◌, ℕ, zero, suc, ◌+◌, ◌-◌, ◌<◌, ◌≤◌, nat_le, true, false, inl, inr, ◌&&◌}
 use Rattle.std.proofs.Common.{◌∷◌, ◌++◌, length, take, drop, get_or, sym, ap, subst, ◌∙◌, refl, arith, append_assoc}
 use Rattle.std.proofs.Common.{length-append, below_more, List, [], IsTrue}
 use Rattle.std.specs.List.{list_all, flat_map, join_with_byte}
-use Rattle.std.proofs.lemmas.Bool.{cases_lt, and_from, and_parts, and_cases, eqb-true, eqb-false, not-true, not-false}
+use Rattle.std.proofs.lemmas.Bool.{cases_lt, and_from, and_parts, le-leb, lt-leb, ltb-true, ltb-false, false≢true}
 use Rattle.std.proofs.lemmas.List.{take_more, take-append-drop, take-take, drop-take, get_or_at, append-nil}
 use Rattle.std.proofs.lemmas.List.{length-drop, get_or-drop}
-use Rattle.std.proofs.lemmas.List.Folds.{list_all-append}
+use Rattle.std.proofs.lemmas.List.Folds.{list_all-append, list_all_at}
+use Rattle.std.proofs.Math.ListN.{get_or-append}
 use Rattle.std.proofs.lemmas.List.Concat.{flat_map-append}
 use Rattle.eve_workload.specs.Lines.{text_of_words}
 use Rattle.eve_workload.specs.Words.{is_inside, IsFirstLine}
@@ -95,14 +96,6 @@ split_space text words word from at split there is word_is =
       none = none_more text at split.none (λ feed. omega (arith, feed, is));
     }
 
--- the byte after a word, where it is no line feed
-pub space_here : (byte : ℕ) → is_inside byte ≡ false → byte ≢ 10 → byte ≡ 32
-space_here byte outside no_feed =
-    elim (and_cases (not (byte == 32)) (not (byte == 10)) outside) [
-      | inl space ↦ eqb-true byte 32 (not-false (byte == 32) space)
-      | inr feed ↦ absurd (no_feed (eqb-true byte 10 (not-false (byte == 10) feed)))
-    ]
-
 pub split_inside : (text : List ℕ) (words : List (List ℕ)) (from at : ℕ) → IsSplit text words from at → at < length text
     → is_inside (get_or text at 0) ≡ true → IsSplit text words from (at + 1)
 split_inside text words from at split there inside =
@@ -113,8 +106,7 @@ split_inside text words from at split there inside =
     let read : get_or (drop from text) (at - from) 0 ≡ byte =
     get_or-drop from text (at - from) 0
     ∙ (let sum : from + (at - from) ≡ at = omega arith in ap (λ n. get_or text n 0) sum) in
-    let no_feed : byte ≢ 10 =
-    eqb-false byte 10 (not-true (byte == 10) (and_parts (not (byte == 32)) (not (byte == 10)) inside).1) in
+    let no_feed : byte ≢ 10 = λ feed. omega (arith, ltb-true 32 byte inside, feed) in
     let more : take ((at + 1) - from) (drop from text) ≡ take (at - from) (drop from text) ++ byte ∷ [] =
     ap (λ n. take n (drop from text)) size ∙ take_more (drop from text) (at - from) 0 within
     ∙ ap (λ b. take (at - from) (drop from text) ++ b ∷ []) read in
@@ -128,14 +120,51 @@ split_inside text words from at split there inside =
       none = none_more text at split.none no_feed;
     }
 
-pub split_none : (text : List ℕ) (words : List (List ℕ)) (from at : ℕ) → IsSplit text words from at → length text ≤ at
-    → (ws : List (List ℕ)) (behind : List ℕ) → text ≢ text_of_words ws ++ behind
-split_none text words from at split whole ws behind is =
+-- a text without a line feed begins with no line
+pub no_line_unended : (text : List ℕ) → ((k : ℕ) → k < length text → get_or text k 0 ≢ 10) → (ws : List (List ℕ))
+    (behind : List ℕ) → text ≢ text_of_words ws ++ behind
+no_line_unended text none ws behind is =
     let front = join_with_byte 32 ws in
     let same = is ∙ append_assoc front (10 ∷ []) behind in
     let long = ap length same ∙ length-append front (10 ∷ behind) in
-    split.none (length front) (omega arith) (ap (λ t. get_or t (length front) 0) same
+    none (length front) (omega arith) (ap (λ t. get_or t (length front) 0) same
     ∙ get_or_at front 10 behind 0 (length front) refl)
+
+word_above : (word : List ℕ) → IsTrue (list_all is_inside word) → IsTrue (list_all (nat_le 32) word)
+word_above [] inside = refl
+word_above (c ∷ word) inside =
+    let parts = and_parts (is_inside c) (list_all is_inside word) inside in
+    and_from (nat_le 32 c) (list_all (nat_le 32) word) (le-leb 32 c (omega (arith, ltb-true 32 c parts.0)))
+    (word_above word parts.1)
+
+words_above : (words : List (List ℕ)) → IsTrue (list_all (list_all is_inside) words)
+    → IsTrue (list_all (nat_le 32) (join_with_byte 32 words))
+words_above [] inside = refl
+words_above (word ∷ []) inside = word_above word (and_parts (list_all is_inside word) true inside).0
+words_above (word ∷ next ∷ words) inside =
+    let parts = and_parts (list_all is_inside word) (list_all (list_all is_inside) (next ∷ words)) inside in
+    let rest = words_above (next ∷ words) parts.1 in
+    list_all-append (nat_le 32) word (32 ∷ join_with_byte 32 (next ∷ words))
+    ∙ and_from (list_all (nat_le 32) word) (list_all (nat_le 32) (join_with_byte 32 (next ∷ words)))
+    (word_above word parts.0) rest
+
+-- a text that is split up to a byte that stands in no line begins with none
+pub no_line_with : (text : List ℕ) (words : List (List ℕ)) (from at : ℕ) → IsSplit text words from at
+    → is_inside (get_or text at 0) ≡ false → get_or text at 0 ≢ 10 → get_or text at 0 ≢ 32 → (ws : List (List ℕ))
+    (behind : List ℕ) → IsTrue (list_all (list_all is_inside) ws) → text ≢ text_of_words ws ++ behind
+no_line_with text words from at split outside no_feed no_space ws behind inside is =
+    let front = join_with_byte 32 ws in
+    let same = is ∙ append_assoc front (10 ∷ []) behind in
+    elim (cases_lt at (length front)) [
+      | inl within ↦
+          let here : get_or text at 0 ≡ get_or front at 0 =
+          ap (λ t. get_or t at 0) same ∙ get_or-append front (10 ∷ behind) 0 at within in
+          let low : get_or front at 0 < 32 = omega (arith, ltb-false 32 (get_or text at 0) outside, here, no_space) in
+          false≢true (sym (list_all_at (nat_le 32) front at 0 within (lt-leb 32 (get_or front at 0) low))
+          ∙ words_above ws inside)
+      | inr before ↦ none_more text at split.none no_feed (length front) (omega arith)
+          (ap (λ t. get_or t (length front) 0) same ∙ get_or_at front 10 behind 0 (length front) refl)
+    ]
 
 -- the bytes of a word, one after another
 pub split_word : (text : List ℕ) (words : List (List ℕ)) (from to : ℕ) → IsSplit text words from from → from ≤ to

@@ -1,6 +1,7 @@
 //! A workload, as far as its lines have been read.
 
 ghost use Rattle.std.specs.Prelude.{◌≡◌, ◌≤◌, ℕ, ◌+◌, List, [], not, true, if◌then◌else◌, length, IfOk, IsTrue};
+ghost use Rattle.std.specs.Prelude.{vec_capacity};
 ghost use Rattle.eve_accounts.specs.Names.{same_name};
 ghost use Rattle.eve_grammar.specs.Trace.{Customer, Asked as AskedValue};
 ghost use Rattle.eve_grammar.specs.Limits.{is_customer, is_asked};
@@ -11,6 +12,8 @@ ghost use Rattle.eve_workload.specs.Steps.{may_follow, may_end, is_deployment, i
 ghost use Rattle.eve_workload.specs.Said.{borrowed_customer, line_said};
 ghost use Rattle.eve_workload.specs.Drafts.{last_in, next_of, has_name, IsSmall, Keeps, Takes};
 ghost use Rattle.eve_workload.specs.Drafts.{TakesLine};
+ghost use Rattle.eve_workload.specs.Words.{HasLineFeed};
+ghost use Rattle.eve_workload.specs.declared.words.TheConstants.{MOST_WORDS};
 
 use crate::deployment::Deployment;
 use crate::line::{CustomerFields, Line, line_of};
@@ -79,11 +82,14 @@ impl<'a> Draft<'a> {
         text: &'a [u8],
         words: &mut Vec<&'a [u8]>,
     ) -> Result<Option<usize>, AllocError>
-        requires { (before : List LineValue) × Keeps self.old before }
-        ensures { IfOk result (λ taken. (before : List LineValue) → Keeps self.old before
+        requires keeps { (before : List LineValue) × Keeps self.old before }
+        requires feed { HasLineFeed text.now 0 }
+        requires room { MOST_WORDS ≤ vec_capacity words.old }
+        ensures taken { IfOk result (λ taken. (before : List LineValue) → Keeps self.old before
             → TakesLine self.new before text.entry.now taken) }
+        ensures room { vec_capacity words.new ≡ vec_capacity words.old }
     {
-        let Some(len) = split_line(text, words)? else {
+        let Some(len) = split_line(text, words) else {
             return Ok(None);
         };
         let Some(line) = line_of(words.as_slice()) else {

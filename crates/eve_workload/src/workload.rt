@@ -15,6 +15,7 @@ ghost use Rattle.eve_workload.specs.Drafts.{Keeps, KeepsAll};
 use crate::deployment::Deployment;
 use crate::draft::Draft;
 use crate::fault::WorkloadFault;
+use crate::words::{MOST_WORDS, lines_len};
 use eve_grammar::{Head, MOST_BATCHES, MOST_CUSTOMERS, MOST_REQUESTS};
 use eve_write::{CustomerData, RequestData};
 use std::alloc::{AllocError, Global};
@@ -133,16 +134,17 @@ fn lines_of<'a>(alloc: Global, text: &'a [u8]) -> Result<Draft<'a>, WorkloadFaul
     ensures bad { (number : ℕ) → result ≡ Err (WorkloadFault.Line number) → IsBadLine text.entry.now number }
 {
     let mut draft = Draft::new(alloc);
-    let mut words = Vec::new(alloc);
+    let mut words = Vec::with_capacity(alloc, MOST_WORDS)?;
+    let len = lines_len(text);
     let mut at = 0;
-    while at < text.len() {
+    while at < len {
         let number = draft.next_line();
         match draft.take_line(alloc, &text[at..], &mut words)? {
             Some(len) => at += len,
             None => return Err(WorkloadFault::Line(number)),
         }
     }
-    if !draft.last.may_end() {
+    if at < text.len() || !draft.last.may_end() {
         return Err(WorkloadFault::Line(draft.next_line()));
     }
     Ok(draft)

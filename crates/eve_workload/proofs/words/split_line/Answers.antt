@@ -1,48 +1,66 @@
-use Rattle.std.proofs.Common.{◌≡◌, ℕ, ◌+◌, ◌<◌, List, Bor, get_or, length, refl, sym, subst, ap, ◌∙◌, arith, rules}
+use Rattle.std.proofs.Common.{◌≡◌, ℕ, ◌+◌, ◌<◌, true, List, Bor, get_or, length, refl, sym, subst, ap, ◌∙◌}
+use Rattle.std.proofs.Common.{arith, rules}
 use Rattle.std.proofs.lemmas.List.{length-map, map_push}
-use Rattle.eve_workload.specs.Words.{bytes_of, IsFirstLine}
+use Rattle.eve_workload.specs.Words.{is_inside, bytes_of, IsFirstLine}
 use Rattle.eve_workload.proofs.LineLaws.{no_line_of_few}
-use Rattle.eve_workload.proofs.Splitting.{IsSplit, split_end, split_space, split_word, split_none, space_here}
+use Rattle.eve_workload.proofs.Splitting.{IsSplit, split_end, split_space, split_inside, no_line_with}
 use Rattle.eve_workload.proofs.words.split_line.Goals as goal
 
-pub returns-clause-none : goal.returns-clause-none
-returns-clause-none c = λ ws behind few inside.
-    split_none c.args.text.now _ _ _ c.loop-from.invariant (omega arith) ws behind
+pub returns-then-byte-eq-LINE_FEED-clause-found : goal.returns-then-byte-eq-LINE_FEED-clause-found
+returns-then-byte-eq-LINE_FEED-clause-found c =
+    let there : c.loop-words.at < length c.args.text.now = search rules in
+    let pushed = ap bytes_of c.push_reserved.ensures.items
+    ∙ map_push (λ (word : Bor (List ℕ)). word.now) c.loop-words.words.items _ in
+    subst (λ words. IsFirstLine c.args.text.now words (c.loop-words.at + 1)) (sym pushed)
+    (split_end c.args.text.now _ _ _ c.loop-words.at c.loop-words.invariant.split there c.if-byte-eq-LINE_FEED.true
+    refl)
+
+pub returns-then-byte-ne-SPACE-clause-none : goal.returns-then-byte-ne-SPACE-clause-none
+returns-then-byte-ne-SPACE-clause-none c = λ ws behind few inside.
+    no_line_with c.args.text.now _ c.loop-words.from c.loop-words.at c.loop-words.invariant.split
+    (sym c.is_inside.ensures ∙ c.if-not-is_inside.true) c.if-byte-eq-LINE_FEED.false c.if-byte-ne-SPACE.true ws behind
+    inside
 
 pub returns-then-len-eq-MOST_WORDS-clause-none : goal.returns-then-len-eq-MOST_WORDS-clause-none
 returns-then-len-eq-MOST_WORDS-clause-none c = λ ws behind few inside.
-    let count : c.len.result ≡ length c.loop-from.words.items = search rules in
-    let same = length-map c.loop-from.words.items (λ (word : Bor (List ℕ)). word.now) in
-    no_line_of_few c.args.text.now (bytes_of c.loop-from.words.items) c.loop-from.from c.loop-from.invariant
+    let there : c.loop-words.at < length c.args.text.now = search rules in
+    let pushed = ap bytes_of c.push_reserved.ensures.items
+    ∙ map_push (λ (word : Bor (List ℕ)). word.now) c.loop-words.words.items _ in
+    let count : c.len.result ≡ length c.push_reserved.new.self.items = search rules in
+    let same = length-map c.push_reserved.new.self.items (λ (word : Bor (List ℕ)). word.now) in
+    let split : IsSplit c.args.text.now (bytes_of c.push_reserved.new.self.items) (c.loop-words.at + 1)
+    (c.loop-words.at + 1) = subst (λ words. IsSplit c.args.text.now words (c.loop-words.at + 1) (c.loop-words.at + 1))
+    (sym pushed)
+    (split_space c.args.text.now _ _ _ c.loop-words.at c.loop-words.invariant.split there c.if-byte-ne-SPACE.false refl)
+    in
+    no_line_of_few c.args.text.now (bytes_of c.push_reserved.new.self.items) (c.loop-words.at + 1) split
     (omega (arith, same, count, c.if-len-eq-MOST_WORDS.true)) ws behind
     (omega (arith, same, count, c.if-len-eq-MOST_WORDS.true, few)) inside
 
-pub returns-then-to-text-clause-none : goal.returns-then-to-text-clause-none
-returns-then-to-text-clause-none c = λ ws behind few inside.
-    split_none c.args.text.now _ _ c.word_end-to.result
-    (split_word c.args.text.now _ c.loop-from.from c.word_end-to.result c.loop-from.invariant
-    c.word_end-to.ensures.order c.word_end-to.ensures.within c.word_end-to.ensures.inside)
-    (omega arith) ws behind
-
-pub returns-then-text-to-eq-LINE_FEED-clause-found : goal.returns-then-text-to-eq-LINE_FEED-clause-found
-returns-then-text-to-eq-LINE_FEED-clause-found c =
-    let pushed = ap bytes_of c.in_ok-push.ensures.items
-    ∙ map_push (λ (word : Bor (List ℕ)). word.now) c.loop-from.words.items _ in
-    let there : c.word_end-to.result < length c.args.text.now = omega arith in
-    let word = split_word c.args.text.now _ c.loop-from.from c.word_end-to.result c.loop-from.invariant
-    c.word_end-to.ensures.order c.word_end-to.ensures.within c.word_end-to.ensures.inside in
-    subst (λ words. IsFirstLine c.args.text.now words (c.word_end-to.result + 1)) (sym pushed)
-    (split_end c.args.text.now _ _ _ c.word_end-to.result word there c.if-text-to-eq-LINE_FEED.true refl)
-
-pub loop-from-preserved : goal.loop-from-preserved
-loop-from-preserved c =
-    let to = c.word_end-to.result in
-    let pushed = ap bytes_of c.in_ok-push.ensures.items
-    ∙ map_push (λ (word : Bor (List ℕ)). word.now) c.loop-from.words.items _ in
-    let there : c.word_end-to.result < length c.args.text.now = omega arith in
-    let word = split_word c.args.text.now _ c.loop-from.from to c.loop-from.invariant
-    c.word_end-to.ensures.order c.word_end-to.ensures.within c.word_end-to.ensures.inside in
-    let space = space_here (get_or c.args.text.now to 0) (c.word_end-to.ensures.ends there)
-    c.if-text-to-eq-LINE_FEED.false in
-    subst (λ words. IsSplit c.args.text.now words (to + 1) (to + 1)) (sym pushed)
-    (split_space c.args.text.now _ _ _ to word there space refl)
+pub loop-words-preserved : goal.loop-words-preserved
+loop-words-preserved c =
+    let at = c.loop-words.at in
+    let there : at < length c.args.text.now = search rules in
+    elim c.if-not-is_inside.branch [
+      | goal.then-not-is_inside+else-byte-eq-LINE_FEED+else-byte-ne-SPACE+else-len-eq-MOST_WORDS w ↦
+          let pushed = ap bytes_of w.push_reserved.ensures.items
+          ∙ map_push (λ (word : Bor (List ℕ)). word.now) c.loop-words.words.items _ in
+          let split : IsSplit c.args.text.now (bytes_of w.push_reserved.new.self.items) (at + 1) (at + 1) =
+          subst (λ words. IsSplit c.args.text.now words (at + 1) (at + 1)) (sym pushed)
+          (split_space c.args.text.now _ _ _ at c.loop-words.invariant.split there w.if-byte-ne-SPACE.false refl) in
+          rw (w.words-is, w.from-is)
+          record {
+            split = split;
+            few = omega (arith, w.len.ensures, w.push_reserved.ensures.len, w.if-len-eq-MOST_WORDS.false);
+            room = w.push_reserved.ensures.capacity ∙ c.loop-words.invariant.room;
+          }
+      | goal.else-not-is_inside w ↦
+          let inside : is_inside (get_or c.args.text.now at 0) ≡ true =
+          sym c.is_inside.ensures ∙ w.if-not-is_inside.false in
+          rw (w.words-is, w.from-is)
+          record {
+            split = split_inside c.args.text.now _ c.loop-words.from at c.loop-words.invariant.split there inside;
+            few = c.loop-words.invariant.few;
+            room = c.loop-words.invariant.room;
+          }
+    ]

@@ -6,22 +6,22 @@ use Rattle.eve_workload.specs.Lines.{line_text, line_words, text_of_words}
 use Rattle.eve_workload.proofs.LineLaws.{line_few, line_inside, no_line_here, line_here, some_bytes}
 use Rattle.eve_workload.proofs.draft.Draft.take_line.Goals as goal
 
-pub returns-in_default : goal.returns-in_default
-returns-in_default c = λ before keeps line behind is right.
-    let none = rw c.in_default.is at c.in_ok-len.ensures.none in
+pub returns-in_default-clause-taken : goal.returns-in_default-clause-taken
+returns-in_default-clause-taken c = λ before keeps line behind is right.
+    let none = c.in_default.ensures.none in
     none (line_words line) behind (line_few line) (line_inside line right.ranges) is
 
-pub returns-in_default-line_of : goal.returns-in_default-line_of
-returns-in_default-line_of c = λ before keeps line behind is right.
-    let found = rw c.in-Some.is at c.in_ok-len.ensures.found in
+pub returns-in_default-line_of-clause-taken : goal.returns-in_default-line_of-clause-taken
+returns-in_default-line_of-clause-taken c = λ before keeps line behind is right.
+    let found = c.in-Some.ensures.found in
     let first = subst (λ words. IsFirstLine c.args.text.now (bytes_of words) c.in-Some.len)
     (sym c.as_slice.ensures.value) found in
     no_line_here c.args.text.now (bytes_of c.as_slice.result.now) c.in-Some.len first c.in_default-line_of.ensures.none
     line behind is right.ranges
 
-pub returns-else-taken : goal.returns-else-taken
-returns-else-taken c = λ before keeps line behind is right.
-    let found = rw c.in-Some.is at c.in_ok-len.ensures.found in
+pub returns-else-taken-clause-taken : goal.returns-else-taken-clause-taken
+returns-else-taken-clause-taken c = λ before keeps line behind is right.
+    let found = c.in-Some.ensures.found in
     let first = subst (λ words. IsFirstLine c.args.text.now (bytes_of words) c.in-Some.len)
     (sym c.as_slice.ensures.value) found in
     let some = c.in-Some-line_of.ensures.some in
@@ -31,9 +31,9 @@ returns-else-taken c = λ before keeps line behind is right.
     let refused = rw c.if-taken.false at (c.in_ok-taken.ensures before keeps) in
     refused (subst (IsRightBehind before) same right)
 
-pub returns-then-taken : goal.returns-then-taken
-returns-then-taken c = λ before keeps.
-    let found = rw c.in-Some.is at c.in_ok-len.ensures.found in
+pub returns-then-taken-clause-taken : goal.returns-then-taken-clause-taken
+returns-then-taken-clause-taken c = λ before keeps.
+    let found = c.in-Some.ensures.found in
     let first = subst (λ words. IsFirstLine c.args.text.now (bytes_of words) c.in-Some.len)
     (sym c.as_slice.ensures.value) found in
     let some = c.in-Some-line_of.ensures.some in
