@@ -22,7 +22,7 @@ pub fn look_up(
 {
     let mut all = Vec::with_capacity(alloc, requests.len())?;
     for request in requests {
-        all.push(touched(&request.request(), names))?;
+        all.push_reserved(touched(&request.request(), names));
     }
     Ok(all)
 }
@@ -39,7 +39,7 @@ pub(crate) fn pick(
 {
     let mut picked = Vec::with_capacity(alloc, order.len())?;
     for index in order {
-        picked.push(touched[*index as usize])?;
+        picked.push_reserved(touched[*index as usize]);
     }
     Ok(picked)
 }

@@ -25,7 +25,7 @@ pub(crate) fn listed(
 {
     let mut copies = Vec::with_capacity(alloc, order.len())?;
     for index in order {
-        copies.push(requests[*index as usize])?;
+        copies.push_reserved(requests[*index as usize]);
     }
     Ok(copies)
 }
@@ -35,11 +35,12 @@ fn add_owned(requests: &mut Vec<RequestData>, listed: &Asked<'_>) -> Result<(), 
     requires { IsTrue (is_asked (said listed.now)) }
     ensures { OnOk result (map asked requests.new.items ≡ map asked requests.old.items ++ said listed.now ∷ []) }
 {
-    requests.push(RequestData {
+    requests.reserve(1)?;
+    requests.push_reserved(RequestData {
         client: listed.client,
         number: listed.number,
         transaction: owned(&listed.request),
-    })?;
+    });
     Ok(())
 }
 

@@ -8,7 +8,7 @@ use Rattle.eve_workload.proofs.requests.listed.Goals as goal
 
 pub loop-index-preserved : goal.loop-index-preserved
 loop-index-preserved c =
-    let pushed : c.push.new.self.items ≡ c.loop-index.copies.items ++ c.index-requests-index.result ∷ [] =
+    let pushed : c.push_reserved.new.self.items ≡ c.loop-index.copies.items ++ c.index-requests-index.result ∷ [] =
     search rules in
     let index : ℕ = slice_index_or c.args.order.now c.loop-index.index-index 0 in
     let there : c.loop-index.index-index < length c.args.order.now = omega arith in
@@ -17,11 +17,15 @@ loop-index-preserved c =
     =
     ap asked c.index-requests-index.is
     ∙ sym (get_or-map asked c.args.requests.now index c.index-requests-index.result refused_request bound) in
-    listed_more c.loop-index.copies.items c.index-requests-index.result (map asked c.args.requests.now) c.args.order.now
-    c.loop-index.index-index refused_request c.push.new.self.items
-    c.loop-index.invariant pushed at there
+    record {
+      copies = listed_more c.loop-index.copies.items c.index-requests-index.result (map asked c.args.requests.now)
+          c.args.order.now c.loop-index.index-index refused_request c.push_reserved.new.self.items
+          c.loop-index.invariant.copies pushed at there;
+      len = omega (arith, c.push_reserved.ensures.len, c.loop-index.invariant.len);
+      room = c.push_reserved.ensures.capacity ∙ c.loop-index.invariant.room;
+    }
 
 pub returns : goal.returns
 returns c =
-    c.loop-index.invariant
+    c.loop-index.invariant.copies
     ∙ ap (listed (map asked c.args.requests.now)) (take_all c.loop-index.index-index c.args.order.now (omega arith))
