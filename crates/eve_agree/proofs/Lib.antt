@@ -1,6 +1,7 @@
 pub mod Outcomes
 pub mod Reaching
 pub mod Agreeing
+mod SameBefore
 pub mod Marking
 pub mod Noting
 pub mod Discarding

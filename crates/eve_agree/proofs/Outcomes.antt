@@ -231,20 +231,25 @@ first_there t e n p right at = by (first_to_commit t n) refl
         let low = committed_low t e n p right at in
         absurd (omega (arith, leb-false n (history t e).last out))
 
+-- an item that is there is read whatever stands for those that aren't
+read_default : {A : Type 0} (xs : List A) (i : ℕ) (x y : A) → i < length xs → get_or xs i x ≡ get_or xs i y
+read_default [] i x y lt = absurd (omega arith)
+read_default (z ∷ xs) zero x y lt = refl
+read_default (z ∷ xs) (suc i) x y lt = read_default xs i x y (omega arith)
+
 -- the balances of one replica among those of all
-pub all_balances : (t : Trace) (e n : ℕ) (all : List (List ℤ)) (b : List ℤ) → AreAfter (settlings t) n all
-    → values_in (settling t e) n ≡ values_to t e n → e < length t.sections → b ≡ get_or all e b → b ≡ balances_to t e n
-all_balances t e n all b after law there is =
+pub is_after : (t : Trace) (e n : ℕ) (all : List (List ℤ)) (b : List ℤ) → AreAfter (settlings t) n all
+    → e < length t.sections → b ≡ get_or all e b → IsAfter (settling t e) n b
+is_after t e n all b after there is =
     let count = settlings_count t in
     let many = after.as_many in
     let within : e < length all = omega arith in
-    is ∙ default all e b [] within
-    ∙ balances_are t e n (get_or all e []) (after.each e (settling t e) (settling_at t e there)) law
-  where
-    default : (xs : List (List ℤ)) (i : ℕ) (x y : List ℤ) → i < length xs → get_or xs i x ≡ get_or xs i y
-    default [] i x y lt = absurd (omega arith)
-    default (z ∷ xs) zero x y lt = refl
-    default (z ∷ xs) (suc i) x y lt = default xs i x y (omega arith)
+    subst (IsAfter (settling t e) n) (sym (is ∙ read_default all e b [] within))
+    (after.each e (settling t e) (settling_at t e there))
+
+pub all_balances : (t : Trace) (e n : ℕ) (all : List (List ℤ)) (b : List ℤ) → AreAfter (settlings t) n all
+    → values_in (settling t e) n ≡ values_to t e n → e < length t.sections → b ≡ get_or all e b → b ≡ balances_to t e n
+all_balances t e n all b after law there is = balances_are t e n b (is_after t e n all b after there is) law
 
 -- ---- lists that agree in front
 

@@ -8,12 +8,12 @@ use Rattle.eve_smallbank.specs.Access.{balance_of_row}
 use Rattle.eve_chains.specs.Settling.{Settling, values_in}
 use Rattle.eve_agree.specs.Judging.{IsAfter, AreAfter}
 
-push_left : {A : Type 0} (xs : List A) (x d : A) (i : ℕ) → i < length xs → get_or (xs ++ x ∷ []) i d ≡ get_or xs i d
+pub push_left : {A : Type 0} (xs : List A) (x d : A) (i : ℕ) → i < length xs → get_or (xs ++ x ∷ []) i d ≡ get_or xs i d
 push_left [] x d i lt = absurd (omega arith)
 push_left (y ∷ xs) x d zero lt = refl
 push_left (y ∷ xs) x d (suc i) lt = push_left xs x d i (omega arith)
 
-push_here : {A : Type 0} (xs : List A) (x d : A) → get_or (xs ++ x ∷ []) (length xs) d ≡ x
+pub push_here : {A : Type 0} (xs : List A) (x d : A) → get_or (xs ++ x ∷ []) (length xs) d ≡ x
 push_here [] x d = refl
 push_here (y ∷ xs) x d = push_here xs x d
 

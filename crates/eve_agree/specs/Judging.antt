@@ -6,8 +6,8 @@ use Rattle.eve_grammar.specs.Trace.{Trace}
 use Rattle.eve_views.specs.declared.fault.Code.TheVariants as code
 use Rattle.eve_views.specs.declared.fault.Fault.{Fault}
 use Rattle.eve_history.specs.Section.{Placed}
-use Rattle.eve_history.specs.SectionHistory.{SectionHistory, committed_at}
-use Rattle.eve_chains.specs.Settling.{Settling, values_in}
+use Rattle.eve_history.specs.SectionHistory.{SectionHistory, history, committed_at}
+use Rattle.eve_chains.specs.Settling.{Settling, settling, values_in, HaveSameBalances}
 use Rattle.eve_agree.specs.Agreement.{first_to_commit, HaveSameOutcome, IsOutcomeFault}
 
 -- the balances are those after the first n batches of the replica, or after all where it has fewer
@@ -41,3 +41,8 @@ KeepsFound least now = (at : ℕ) → IsUpToAt least at → IsUpToAt now at
 abbrev pub AgreesOrIsFound : Trace → Option Fault → ℕ → ℕ → Type 0
 AgreesOrIsFound t least e n = (p : Placed) → committed_at t e n ≡ Some p
     → IfSome (first_to_commit t n) (λ f. HaveSameOutcome t e f n) ⊎ IsUpToAt least p.offset
+
+-- the replicas that committed batch n have the same balances after it; all have them before the first
+abbrev pub AllHaveSame : Trace → ℕ → Type 0
+AllHaveSame t n = (e f : ℕ) → n ≤ (history t e).last → n ≤ (history t f).last
+    → HaveSameBalances (settling t e) (settling t f) n

@@ -7,10 +7,11 @@ ghost use Rattle.eve_views.specs.Form.{IfFound, IsLeast, HasNone};
 ghost use Rattle.eve_views.specs.declared.fault.Code.TheVariants as code;
 ghost use Rattle.eve_grammar.specs.Trace.{Trace as TraceValue};
 ghost use Rattle.eve_history.specs.SectionHistory.{ExecutedAttempt, SectionHistory, section_histories, IsRightSection};
-ghost use Rattle.eve_chains.specs.Settling.{settling, settlings, values_in};
+ghost use Rattle.eve_chains.specs.Settling.{settling, settlings, values_in, HaveSameBalances};
 ghost use Rattle.eve_chains.specs.Committed.{values_to};
 ghost use Rattle.eve_agree.specs.Agreement.{first_to_commit, ReplicasAgree, IsOutcomeFault};
-ghost use Rattle.eve_agree.specs.Judging.{NoneBefore, IsAfter, AreAfter, Stand, KeepsFound, AgreesOrIsFound};
+ghost use Rattle.eve_agree.specs.Judging.{NoneBefore, IsAfter, AreAfter, AllHaveSame, Stand, KeepsFound};
+ghost use Rattle.eve_agree.specs.Judging.{AgreesOrIsFound};
 
 use eve_accounts::Balances;
 use eve_chains::Settled;
@@ -25,8 +26,9 @@ use std::alloc::{AllocError, Global};
 /// the lowest-numbered replica that committed it; else the first attempt where it differs.
 ///
 /// docs/MODEL.md, "Agreement". Balances and replies are compared themselves. It keeps the balances of each replica
-/// once, and goes with all of them from batch to batch; of one replica alone nothing is asked. Refused memory decides
-/// nothing.
+/// once, and goes with all of them from batch to batch: as long as no fault was found it is enough to compare of them
+/// what the batch wrote, since before it they were the same. Of one replica alone nothing is asked. Refused memory
+/// decides nothing.
 pub fn equal_balances(
     alloc: Global,
     trace: &Trace<'_>,
@@ -49,7 +51,7 @@ pub fn equal_balances(
     let mut least = None;
     for n in 0..last_of_all(histories) {
         advance_all(settled, n + 1, &mut all);
-        least = judge_batch(trace, histories, &all, n + 1, least);
+        least = judge_batch(trace, histories, settled, &all, n + 1, least);
     }
     match least {
         Some(fault) => Err(CheckFault::Found(fault)),
@@ -106,16 +108,19 @@ pub(crate) fn advance(settled: &Settled<'_>, n: u32, balances: &mut Balances)
 fn judge_batch(
     trace: &Trace<'_>,
     histories: &[History<'_>],
+    settled: &[Settled<'_>],
     all: &[Balances],
     n: u32,
     least: Option<Fault>,
 ) -> Option<Fault>
     requires one { 1 ≤ n }
     requires histories { histories.now ≡ section_histories trace.now }
+    requires settled { settled.now ≡ settlings trace.now }
     requires right { (e : ℕ) → IsRightSection trace.now e }
     requires after { AreAfter (settlings trace.now) n all.now }
     requires law { (e : ℕ) → values_in (settling trace.now e) n ≡ values_to trace.now e n }
     requires stand { Stand trace.now least }
+    requires before { IfNone least (AllHaveSame trace.now (n - 1)) }
     ensures stand { Stand trace.now result }
     ensures lowers { KeepsFound least result }
     ensures judged { (e : ℕ) → AgreesOrIsFound trace.now result e n }
@@ -124,11 +129,22 @@ fn judge_batch(
         return least;
     };
     let reference = committed_attempt(&histories[first], n);
+    let before = least.is_none();
     let mut least = least;
     for e in first + 1..histories.len() {
         if n <= histories[e].committed() {
             let attempt = committed_attempt(&histories[e], n);
-            if !is_same(&attempt, &all[e], &reference, &all[first]) {
+            let same = is_same(
+                &attempt,
+                &settled[e],
+                &all[e],
+                &reference,
+                &settled[first],
+                &all[first],
+                n,
+                before,
+            );
+            if !same {
                 least = first_of(
                     least,
                     Some(fault_at(attempt.offset(), histories[e].replica())),
@@ -176,26 +192,30 @@ pub(crate) fn committed_attempt<'a>(history: &History<'a>, n: u32) -> AttemptVie
     history.attempt(history.committed_attempt(n))
 }
 
-/// Whether two attempts have the same replies, and the balances after them are the same.
+/// Whether two replicas' attempts of batch n have the same replies, and the balances after them are the same. It is
+/// told whether those after the batch before are known to be.
 fn is_same(
     attempt: &AttemptView<'_>,
+    settled: &Settled<'_>,
     balances: &Balances,
     other: &AttemptView<'_>,
+    others_settled: &Settled<'_>,
     others: &Balances,
+    n: u32,
+    before: bool,
 ) -> bool
+    requires one { 1 ≤ n }
+    requires there { n ≤ length settled.now.batches }
+    requires others_there { n ≤ length others_settled.now.batches }
+    requires after { IsAfter settled.now n balances.now }
+    requires others_after { IsAfter others_settled.now n others.now }
+    requires before { IsTrue before → HaveSameBalances settled.now others_settled.now (n - 1) }
     ensures { IsTrue result ↔
         ((balances.now ≡ others.now)
         × ((attempt_said attempt.now).replies ≡ (attempt_said other.now).replies)) }
 {
     let replies = have_same_replies(attempt, other);
-    replies && are_same(balances, others)
-}
-
-/// Whether all balances are the same.
-pub(crate) fn are_same(balances: &Balances, others: &Balances) -> bool
-    ensures { IsTrue result ↔ (balances.now ≡ others.now) }
-{
-    balances.as_slice() == others.as_slice()
+    replies && settled.are_same_after(n, balances, others_settled, others, before)
 }
 
 /// Whether two attempts have the same replies, by request index.

@@ -6,13 +6,13 @@ ghost use Rattle.eve_smallbank.specs.Spelling.{reply_text};
 ghost use Rattle.eve_frames.specs.Said.{attempt_said};
 ghost use Rattle.eve_views.specs.Form.{IfFound, IsLeast, HasNone};
 ghost use Rattle.eve_history.specs.SectionHistory.{section_history};
-ghost use Rattle.eve_chains.specs.Settling.{settling};
+ghost use Rattle.eve_chains.specs.Settling.{settling, HaveSameBalances};
 ghost use Rattle.eve_agree.specs.DueTokens.{TokensAreDue, IsTokenFault, IsDueIn, IsFirstWrong};
 ghost use Rattle.eve_agree.specs.Judging.{IsAfter};
 ghost use Rattle.eve_agree.specs.ShownTokens.{IsDueReplica};
 ghost use Rattle.eve_agree.specs.Stretches.{AreOfSection};
 
-use crate::agreement::{advance, are_same, committed_attempt};
+use crate::agreement::{advance, committed_attempt};
 use crate::due_tokens::{answer, wrong_at};
 use eve_accounts::Balances;
 use eve_chains::Settled;
@@ -31,13 +31,24 @@ pub struct Peer<'b, 'a> {
     pub settled: &'b Settled<'a>,
 }
 
-/// Whether two attempts have the same token and the same replies, and the balances after them are the same.
+/// Whether two replicas' attempts of batch n have the same token and the same replies, and the balances after them are
+/// the same. It is told whether those after the batch before are known to be.
 fn is_alike(
     attempt: &AttemptView<'_>,
+    settled: &Settled<'_>,
     balances: &Balances,
     other: &AttemptView<'_>,
+    others_settled: &Settled<'_>,
     others: &Balances,
+    n: u32,
+    before: bool,
 ) -> bool
+    requires one { 1 ≤ n }
+    requires there { n ≤ length settled.now.batches }
+    requires others_there { n ≤ length others_settled.now.batches }
+    requires after { IsAfter settled.now n balances.now }
+    requires others_after { IsAfter others_settled.now n others.now }
+    requires before { IsTrue before → HaveSameBalances settled.now others_settled.now (n - 1) }
     ensures { IsTrue result ↔ (((attempt_said attempt.now).token ≡ (attempt_said other.now).token)
         × (flat_map reply_text (attempt_said attempt.now).replies
         ≡ flat_map reply_text (attempt_said other.now).replies)
@@ -45,11 +56,12 @@ fn is_alike(
 {
     let token = attempt.token() == other.token();
     let replies = attempt.reply_bytes() == other.reply_bytes();
-    token && replies && are_same(balances, others)
+    token && replies && settled.are_same_after(n, balances, others_settled, others, before)
 }
 
 /// Whether the peer shows the token of batch n, from 1, to be due: it committed the batch too, with that token and
-/// those replies, and the balances after it are the same.
+/// those replies, and the balances after it are the same. It is told whether those after the batch before are known to
+/// be.
 fn is_shown(
     trace: &Trace<'_>,
     history: &History<'_>,
@@ -58,6 +70,7 @@ fn is_shown(
     balances: &Balances,
     peer: Peer<'_, '_>,
     others: &Balances,
+    before: bool,
 ) -> bool
     requires section { AreOfSection trace.now history.now settled.now }
     requires peer { IsDueReplica trace.now peer.history.now peer.settled.now }
@@ -65,7 +78,9 @@ fn is_shown(
     requires there { n ≤ length settled.now.batches }
     requires after { IsAfter settled.now n balances.now }
     requires others { IsAfter peer.settled.now n others.now }
-    ensures { IsTrue result → IsDueIn trace.now history.now.replica n }
+    requires before { IsTrue before → HaveSameBalances settled.now peer.settled.now (n - 1) }
+    ensures due { IsTrue result → IsDueIn trace.now history.now.replica n }
+    ensures same { IsTrue result → HaveSameBalances settled.now peer.entry.settled.now n }
 {
     trace.recall_limits();
     history.recall_right();
@@ -76,7 +91,16 @@ fn is_shown(
     }
     let attempt = committed_attempt(history, n);
     let other = committed_attempt(peer.history, n);
-    is_alike(&attempt, balances, &other, others)
+    is_alike(
+        &attempt,
+        settled,
+        balances,
+        &other,
+        peer.settled,
+        others,
+        n,
+        before,
+    )
 }
 
 /// The offset of the attempt of batch n, from 1, if its token is not the one that is due. Where the peer shows it to be
@@ -87,18 +111,16 @@ fn wrong_beside(
     settled: &Settled<'_>,
     n: u32,
     balances: &Balances,
-    peer: Peer<'_, '_>,
-    others: &Balances,
+    shown: bool,
 ) -> Option<u64>
     requires section { AreOfSection trace.now history.now settled.now }
-    requires peer { IsDueReplica trace.now peer.history.now peer.settled.now }
     requires one { 1 ≤ n }
     requires there { n ≤ length settled.now.batches }
     requires after { IsAfter settled.now n balances.now }
-    requires others { IsAfter peer.settled.now n others.now }
+    requires shown { IsTrue shown → IsDueIn trace.now history.now.replica n }
     ensures { IsFirstWrong trace.now history.now.replica (n - 1) n result }
 {
-    if is_shown(trace, history, settled, n, balances, peer, others) {
+    if shown {
         return None;
     }
     wrong_at(trace, history, settled, n, balances)
@@ -119,10 +141,21 @@ fn first_beside(
 {
     let mut balances = settled.balances_after(alloc, 0)?;
     let mut others = peer.settled.balances_after(alloc, 0)?;
+    let mut same = true;
     for n in 0..settled.committed() {
         settled.advance(n + 1, &mut balances);
         advance(peer.settled, n + 1, &mut others);
-        let wrong = wrong_beside(trace, history, settled, n + 1, &balances, peer, &others);
+        same = is_shown(
+            trace,
+            history,
+            settled,
+            n + 1,
+            &balances,
+            peer,
+            &others,
+            same,
+        );
+        let wrong = wrong_beside(trace, history, settled, n + 1, &balances, same);
         if wrong.is_some() {
             return Ok(wrong);
         }
@@ -136,7 +169,8 @@ fn first_beside(
 /// docs/MODEL.md, "Due tokens"; docs/TRACE.md, "Token". A batch that both committed with one token, the same replies
 /// and the same balances after it has its due token here as it has there, and nothing of it is hashed; every other
 /// batch's balances are hashed once, as `tokens` hashes them. It keeps the balances of both replicas and goes with them
-/// from batch to batch, in one thread. Refused memory decides nothing.
+/// from batch to batch, in one thread: after such a batch it is enough to compare of them what the next one wrote.
+/// Refused memory decides nothing.
 pub fn tokens_beside(
     alloc: Global,
     trace: &Trace<'_>,

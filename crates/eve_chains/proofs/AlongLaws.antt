@@ -73,7 +73,7 @@ entries_along-push xs x =
     flat_map-append (λ (y : ℕ × Access). y.1.entries) xs (x ∷ []) ∙ ap (λ (es : List Entry). entries_along xs ++ es)
     (append-nil x.1.entries)
 
-entries_more : (xs : List (ℕ × Access)) (k : ℕ) (x : ℕ × Access) → slice_get xs k ≡ Some x
+pub entries_more : (xs : List (ℕ × Access)) (k : ℕ) (x : ℕ × Access) → slice_get xs k ≡ Some x
     → entries_along (take (k + 1) xs) ≡ entries_along (take k xs) ++ x.1.entries
 entries_more xs k x at = ap entries_along (take_one_more xs k x at) ∙ entries_along-push (take k xs) x
 

@@ -29,3 +29,4 @@ pub mod Judged
 pub mod Stretches
 mod CommittedBatches
 mod AdvancingBanks
+mod SameAgain

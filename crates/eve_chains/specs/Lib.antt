@@ -10,5 +10,6 @@ pub mod Along
 pub mod Unfit
 pub mod Stretches
 pub mod Settling
+pub mod Written
 pub mod NotedBalances
 pub mod Checking

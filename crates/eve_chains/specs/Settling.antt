@@ -1,6 +1,6 @@
 -- What a replica's committed batches wrote, and the balances after each. docs/MODEL.md, "Bank and replies after a
 -- committed batch".
-use Rattle.std.specs.Prelude.{◌≡◌, ℕ, ℤ, List, map, take}
+use Rattle.std.specs.Prelude.{◌≡◌, ◌<◌, ℕ, ℤ, List, length, map, take}
 use Rattle.std.specs.List.{flat_map}
 use Rattle.eve_smallbank.specs.Access.{balance_of_row, bank_of, values_after}
 use Rattle.eve_grammar.specs.Trace.{Access, Trace, opening_rows}
@@ -30,6 +30,11 @@ settlings t = map (λ s. settling t s.0) (sections_of t)
 -- the balances after the first n batches, by row: the opening balances with what those batches wrote
 unfoldable pub values_in : Settling → ℕ → ℕ → ℤ
 values_in s n = values_after (balance_of_row s.opening) (flat_map entries_along (take n s.batches))
+
+-- after the first n batches of the one and of the other each row has the same balance in both
+pub record HaveSameBalances (s other : Settling) (n : ℕ) : Type 0 where
+  pub rows : length other.opening ≡ length s.opening
+  pub values : (row : ℕ) → row < length s.opening → values_in s n row ≡ values_in other n row
 
 -- the balances are the bank after batch n of each replica with a right section whose batches these are
 abbrev pub AreBankAfter : Settling → ℕ → List ℤ → Type 0

@@ -1,22 +1,27 @@
 //! What a replica committed.
 
-ghost use Rattle.std.specs.Prelude.{◌≡◌, ◌≤◌, ◌-◌, ℕ, List, Some, All, IfOk, IfSome, length, slice_get};
-ghost use Rattle.std.specs.List.{AllByRecursion};
+ghost use Rattle.std.specs.Prelude.{◌≡◌, ◌≤◌, ◌-◌, ◌↔◌, ℕ, List, Some, All, IsTrue, IfOk, IfSome, length, slice_get};
+ghost use Rattle.std.specs.List.{AllByRecursion, list_all};
 ghost use Rattle.eve_smallbank.specs.Access.{balance_of_row, values_after};
 ghost use Rattle.eve_grammar.specs.Trace.{Access, opening_rows};
 ghost use Rattle.eve_history.specs.SectionHistory.{section_history};
 ghost use Rattle.eve_chains.specs.Along.{entries_along, AreWithin};
-ghost use Rattle.eve_chains.specs.Settling.{settling, values_in, AreBankAfter};
+ghost use Rattle.eve_chains.specs.Settling.{settling, values_in, AreBankAfter, HaveSameBalances};
+ghost use Rattle.eve_chains.specs.Written.{is_same_if_written};
 ghost use Rattle.eve_chains.specs.NotedBalances.{AreBalancesAfter};
 
 use crate::noted_balances::BalancesAfter;
 use crate::opening::opening_balances;
-use crate::written::write_values;
+use crate::written::{are_same_where_written, write_values};
 use eve_accounts::Balances;
 use eve_history::{CommittedRecords, History};
 use eve_views::Trace;
 use std::alloc::{AllocError, Global};
 use std::marker::Model;
+
+/// So many balances are compared in the time in which one record of each of two replicas is read, and what it wrote is
+/// compared.
+const ROWS_A_RECORD: usize = 64;
 
 /// The opening balances, and the records of the batches that a replica committed, which give the balances after each.
 ///
@@ -133,6 +138,58 @@ impl<'a> Settled<'a> {
     {
         write_batch(balances, &self.records, n);
     }
+
+    /// Whether the balances after batch n, of the batches from 1 on, are those that another replica has after it. It is
+    /// told whether those after the batch before are known to be the same: then it looks only at the rows that batch n
+    /// wrote in the one or in the other, unless these are so many that all balances are compared sooner.
+    ///
+    /// docs/MODEL.md, "Bank and replies after a committed batch".
+    pub fn are_same_after(
+        &self,
+        n: u32,
+        balances: &Balances,
+        other: &Settled<'_>,
+        others: &Balances,
+        before: bool,
+    ) -> bool
+        requires one { 1 ≤ n }
+        requires there { n ≤ length self.now.batches }
+        requires its { n ≤ length other.now.batches }
+        requires rows { length balances.now ≡ length self.now.opening }
+        requires its_rows { length others.now ≡ length other.now.opening }
+        requires values { balance_of_row balances.now ≡ values_in self.now n }
+        requires its_values { balance_of_row others.now ≡ values_in other.now n }
+        requires before { IsTrue before → HaveSameBalances self.now other.now (n - 1) }
+        ensures { IsTrue result ↔ (balances.now ≡ others.now) }
+    {
+        if before && self.records.len_of(n) <= balances.len() / ROWS_A_RECORD {
+            return self.are_same_again(n, balances, other, others);
+        }
+        are_same(balances, others)
+    }
+
+    /// The same, where the balances after the batch before are the same: it looks only at the rows that batch n wrote
+    /// in the one or in the other.
+    fn are_same_again(
+        &self,
+        n: u32,
+        balances: &Balances,
+        other: &Settled<'_>,
+        others: &Balances,
+    ) -> bool
+        requires one { 1 ≤ n }
+        requires there { n ≤ length self.now.batches }
+        requires its { n ≤ length other.now.batches }
+        requires rows { length balances.now ≡ length self.now.opening }
+        requires its_rows { length others.now ≡ length other.now.opening }
+        requires values { balance_of_row balances.now ≡ values_in self.now n }
+        requires its_values { balance_of_row others.now ≡ values_in other.now n }
+        requires before { HaveSameBalances self.now other.now (n - 1) }
+        ensures { IsTrue result ↔ (balances.now ≡ others.now) }
+    {
+        let own = are_same_in_batch(&self.records, n, balances, others);
+        own && are_same_in_batch(&other.records, n, balances, others)
+    }
 }
 
 /// Changes the balances of the rows that batch n's records write.
@@ -147,4 +204,33 @@ fn write_batch(balances: &mut Balances, records: &CommittedRecords<'_>, n: u32)
     for place in 0..records.len_of(n) {
         write_values(balances, records.record(n, place).entries());
     }
+}
+
+/// Whether both have the same balance in each row that batch n's records write.
+fn are_same_in_batch(
+    records: &CommittedRecords<'_>,
+    n: u32,
+    balances: &Balances,
+    others: &Balances,
+) -> bool
+    requires one { 1 ≤ n }
+    requires there { n ≤ length records.now }
+    requires within { AllByRecursion (AreWithin (length balances.now)) records.now }
+    requires as_many { length others.now ≡ length balances.now }
+    ensures { (xs : List (ℕ × Access)) → slice_get records.now (n - 1) ≡ Some xs
+        → result ≡ list_all (is_same_if_written balances.now others.now) (entries_along xs) }
+{
+    for place in 0..records.len_of(n) {
+        if !are_same_where_written(balances, others, records.record(n, place).entries()) {
+            return false;
+        }
+    }
+    true
+}
+
+/// Whether all balances are the same.
+fn are_same(balances: &Balances, others: &Balances) -> bool
+    ensures { IsTrue result ↔ (balances.now ≡ others.now) }
+{
+    balances.as_slice() == others.as_slice()
 }

@@ -1,5 +1,6 @@
-use Rattle.std.proofs.Common.{Some, None, subst, arith}
+use Rattle.std.proofs.Common.{◌+◌, ◌-◌, Some, None, subst, arith}
 use Rattle.eve_agree.proofs.Agreeing.{Judged, all_judged, they_agree, none_stands, is_least, alone_judged}
+use Rattle.eve_agree.proofs.SameBefore.{all_have_same}
 use Rattle.eve_agree.proofs.agreement.equal_balances.Goals as goal
 
 pub returns-in-Some-clause-least : goal.returns-in-Some-clause-least
@@ -40,3 +41,10 @@ returns-then-histories-lt2-clause-none c =
     let t = c.args.trace.now in
     none_stands t (c.recall_all_right.ensures c.args.trace.now c.requires.histories)
     (alone_judged t c.args.histories.now c.requires.histories c.if-histories-lt2.true)
+
+pub judge_batch-least-requires-clause-before : goal.judge_batch-least-requires-clause-before
+judge_batch-least-requires-clause-before c =
+    let t = c.args.trace.now in
+    let right = c.recall_all_right.ensures t c.requires.histories in
+    all_have_same t (λ e n. c.settled_values_are_the_banks.ensures t e n c.recall_limits.ensures (right e)) right
+    c.loop-n.n (c.loop-n.n + 1 - 1) c.loop-n.least c.loop-n.invariant.judged (omega arith)

@@ -1,4 +1,5 @@
-use Rattle.std.proofs.Common.{None}
+use Rattle.std.proofs.Common.{None, IsTrue}
+use Rattle.eve_chains.specs.Settling.{HaveSameBalances}
 use Rattle.eve_agree.specs.Judging.{IsAfter}
 use Rattle.eve_agree.specs.DueTokens.{IsFirstWrong}
 use Rattle.eve_agree.proofs.shown_tokens.first_beside.Given as goal
@@ -7,5 +8,6 @@ abbrev pub invariant-loop-n : goal.invariant-loop-n
 invariant-loop-n l = record {
   balances : IsAfter l.settled l.n l.balances;
   others : IsAfter l.peer.settled.now l.n l.others;
+  same : IsTrue l.same → HaveSameBalances l.settled l.peer.settled.now l.n;
   due : IsFirstWrong l.trace l.history.replica 0 l.n None;
 }

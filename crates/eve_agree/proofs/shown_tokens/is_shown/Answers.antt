@@ -2,6 +2,7 @@ use Rattle.std.proofs.Common.{arith}
 use Rattle.eve_frames.specs.Views.{attempt_in}
 use Rattle.eve_agree.proofs.Stretched.{commits_there}
 use Rattle.eve_agree.proofs.Shown.{read_of, shown}
+use Rattle.eve_agree.proofs.SameBefore.{same_lists_after}
 use Rattle.eve_agree.proofs.shown_tokens.is_shown.Goals as goal
 
 pub committed_attempt-attempt-requires-clause-there : goal.committed_attempt-attempt-requires-clause-there
@@ -17,8 +18,8 @@ committed_attempt-other-requires-clause-there c =
     c.requires.peer.history c.requires.peer.settled in
     omega (arith, same, c.if-committed-n.false)
 
-pub returns : goal.returns
-returns c alike =
+pub returns-clause-due : goal.returns-clause-due
+returns-clause-due c alike =
     let t = c.args.trace.now in
     let e = c.args.history.now.replica in
     let f = c.args.peer.history.now.replica in
@@ -36,3 +37,8 @@ returns c alike =
     c.committed_attempt-other.ensures c.requires.others in
     shown t e f c.args.n v.offset w.offset (attempt_in v.bytes.now) (attempt_in w.bytes.now) c.args.balances.now
     c.args.others.now own its c.requires.peer.due (c.is_alike.ensures.0 alike)
+
+pub returns-clause-same : goal.returns-clause-same
+returns-clause-same c alike =
+    same_lists_after c.args.settled.now c.args.peer.settled.now c.args.n c.args.balances.now c.args.others.now
+    c.requires.after c.requires.others (c.is_alike.ensures.0 alike).2

@@ -2,7 +2,7 @@ use Rattle.std.proofs.Common.{◌≡◌, sym, ◌∙◌}
 use Rattle.std.specs.Ordering.{int_eq}
 use Rattle.std.specs.Cmp.Lexicographic.{pointwise}
 use Rattle.std.specs.Cmp.Rules.{signed_items}
-use Rattle.eve_agree.proofs.agreement.are_same.Goals as goal
+use Rattle.eve_chains.proofs.settled.are_same.Goals as goal
 
 pub returns : goal.returns
 returns c =
