@@ -1,6 +1,6 @@
 -- The records of a batch become an attempt.
 use Rattle.std.proofs.Common.{◌≡◌, ℕ, ℤ, ◌+◌, ◌<◌, ◌≤◌, ◌==◌, true, false, ltb, leb, IsTrue, List, [], ◌∷◌}
-use Rattle.std.proofs.Common.{◌++◌, map, length, replicate, slice_get, Some, refl, sym, subst, ap, ◌∙◌, append-nil}
+use Rattle.std.proofs.Common.{◌++◌, length, replicate, slice_get, Some, refl, sym, subst, ap, ◌∙◌, append-nil}
 use Rattle.std.proofs.Common.{arith}
 use Rattle.std.specs.List.{AllByRecursion, list_all}
 use Rattle.std.proofs.lemmas.Bool.{and_parts, and_from, eq-eqb, lt-ltb, ltb-true, le-leb}
@@ -17,7 +17,6 @@ use Rattle.eve_grammar.specs.Limits.{is_whole_attempt}
 use Rattle.eve_grammar.specs.Certificate.{is_permutation, is_certificate, keeps_groups}
 use Rattle.eve_grammar.proofs.Grouping.{some_requests}
 use Rattle.eve_stamps.specs.Applied.{Applied}
-use Rattle.eve_write.specs.Data.{access}
 use Rattle.eve_token.specs.Token.{token_of}
 use Rattle.eve_attempts.specs.declared.front.AttemptFront.{AttemptFront}
 use Rattle.eve_attempts.specs.declared.taken.Taken.{Taken}
@@ -50,7 +49,7 @@ attempt_of front t token =
       certificate = t.certificate.items;
       replies = t.replies.items;
       token = token;
-      accesses = map access t.accesses.items;
+      accesses = t.accesses;
     }
 
 module _ (front : AttemptFront) (b : Batch) (touched : List Touched) (records : List Applied) (t : Taken)
@@ -74,7 +73,7 @@ module _ (front : AttemptFront) (b : Batch) (touched : List Touched) (records : 
       let many : length records ≡ length b.requests = noted.many in
       let small : list_all (λ i. ltb i (length b.requests)) t.certificate.items ≡ true =
       (and_parts (list_all (λ i. ltb i (length b.requests)) t.certificate.items) _ permutes).0 in
-      let accesses : length (map access t.accesses.items) ≡ length records =
+      let accesses : length t.accesses ≡ length records =
       ap (λ (xs : List Access). length xs) taken.accesses ∙ length-map records access_noted in
       and_from (is_attempt (attempt_of front t token)) _
       (and_from (is_number 4 front.seq) _ (lt-ltb front.seq 4294967296 (omega arith))
@@ -87,8 +86,8 @@ module _ (front : AttemptFront) (b : Batch) (touched : List Touched) (records : 
       (and_from (length t.replies.items == length t.certificate.items) _
       (eq-eqb (length t.replies.items) (length t.certificate.items) (replies_many ∙ sym long))
       (and_from (list_all is_reply t.replies.items) (is_token token) taken.limits is))))))
-      (and_from (length (map access t.accesses.items) == length t.certificate.items) _
-      (eq-eqb (length (map access t.accesses.items)) (length t.certificate.items) (accesses ∙ sym long))
+      (and_from (length t.accesses == length t.certificate.items) _
+      (eq-eqb (length t.accesses) (length t.certificate.items) (accesses ∙ sym long))
       (ap (list_all (is_access rows)) taken.accesses ∙ noted.limits))
 
   pub is_attempt_of : (balances : List ℤ) (token : List ℕ) → front.seq ≤ 65535 → IsTrue (is_number 4 front.view)

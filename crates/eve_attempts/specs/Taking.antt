@@ -4,7 +4,6 @@ use Rattle.std.specs.List.{AllByRecursion, list_all}
 use Rattle.std.specs.List.Sorted.{IsPermutation}
 use Rattle.eve_smallbank.specs.declared.request.Reply.TheVariants.{Done}
 use Rattle.eve_grammar.specs.Limits.{is_reply}
-use Rattle.eve_write.specs.Data.{access}
 use Rattle.eve_stamps.specs.Applied.{Applied}
 use Rattle.eve_attempts.specs.declared.taken.Taken.{Taken}
 use Rattle.eve_attempts.specs.Closing.{access_noted, indexes_of}
@@ -18,7 +17,7 @@ pub record IsTakenOf (records : List Applied) (t : Taken) : Type 0 where
   pub certificate : t.certificate.items ≡ indexes_of (records_in records t.order.items)
   pub replies : t.replies.items ≡ replies_placed (replicate (length records) Done) records
   pub limits : IsTrue (list_all is_reply t.replies.items)
-  pub accesses : map access t.accesses.items ≡ map access_noted records
+  pub accesses : t.accesses ≡ map access_noted records
   pub none : t.written.items ≡ []
   pub empty : vec_len t.written ≡ 0
   pub room : 3 * length records ≤ vec_capacity t.written

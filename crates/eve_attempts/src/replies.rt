@@ -11,7 +11,7 @@ ghost use Rattle.eve_attempts.specs.Ordering.{replies_placed};
 use eve_grammar::reply_fits;
 use eve_smallbank::Reply;
 use eve_stamps::AccessRecord;
-use eve_write::AccessData;
+use eve_write::AccessList;
 use std::alloc::{AllocError, Global};
 
 /// The replies, each at the index of its record.
@@ -30,18 +30,27 @@ pub fn replies_of(alloc: Global, records: &[AccessRecord]) -> Result<Vec<Reply>,
     Ok(replies)
 }
 
-/// The records as access frames have them.
-pub fn accesses_of(alloc: Global, records: &[AccessRecord]) -> Result<Vec<AccessData>, AllocError>
-    ensures { IfOk result (λ accesses. map access accesses.items ≡ map access_noted records.now) }
-{
-    let mut accesses = Vec::with_capacity(alloc, records.len())?;
+// How many entries the records have together.
+fn entries_in(records: &[AccessRecord]) -> usize {
+    let mut count: usize = 0;
     for record in records {
-        accesses.push_reserved(AccessData {
-            worker: record.worker(),
-            place: record.place(),
-            index: record.index(),
-            entries: *record.entries(),
-        });
+        count = count.saturating_add(record.entries().len());
+    }
+    count
+}
+
+/// The records as access frames have them.
+pub fn accesses_of(alloc: Global, records: &[AccessRecord]) -> Result<AccessList, AllocError>
+    ensures { IfOk result (λ accesses. accesses ≡ map access_noted records.now) }
+{
+    let mut accesses = AccessList::with_capacity(alloc, records.len(), entries_in(records))?;
+    for record in records {
+        accesses.push(
+            record.worker(),
+            record.place(),
+            record.index(),
+            record.entries(),
+        )?;
     }
     Ok(accesses)
 }

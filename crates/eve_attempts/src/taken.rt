@@ -17,7 +17,7 @@ use crate::replies::{accesses_of, replies_of};
 use eve_grammar::{MOST_REQUESTS, is_certificate};
 use eve_smallbank::{Entry, Reply, Touched};
 use eve_stamps::AccessRecord;
-use eve_write::{AccessData, BatchData};
+use eve_write::{AccessList, BatchData};
 use std::alloc::{AllocError, Global};
 
 /// The order of records, and what of an attempt doesn't depend on what the rows have.
@@ -26,7 +26,7 @@ pub struct Taken {
     pub order: Vec<Key>,
     pub certificate: Vec<u16>,
     pub replies: Vec<Reply>,
-    pub accesses: Vec<AccessData>,
+    pub accesses: AccessList,
     // room for what the records write
     pub written: Vec<Entry>,
 }

@@ -10,7 +10,7 @@ use eve_frames::{AttemptView, BatchView, CommitView, RollbackView};
 use eve_streams::SinkOf;
 use eve_views::Accesses;
 use eve_write::{
-    AttemptData, BatchData, CommitData, RollbackData, write_access, write_attempt, write_batch,
+    AttemptData, BatchData, CommitData, RollbackData, write_accesses, write_attempt, write_batch,
     write_commit, write_rollback,
 };
 use std::alloc::{AllocError, Global};
@@ -43,10 +43,8 @@ pub fn is_attempt_of(
         frames.extend_from_slice(accesses.get(place).bytes())?;
     }
     let mut out = SinkOf::new(Vec::with_capacity(alloc, frames.len())?);
-    let mut is_written = write_attempt(&mut out, attempt).is_ok();
-    for access in &attempt.accesses {
-        is_written = is_written && write_access(&mut out, access).is_ok();
-    }
+    let is_written = write_attempt(&mut out, attempt).is_ok()
+        && write_accesses(&mut out, &attempt.accesses).is_ok();
     Ok(is_written && out.writer().as_slice() == frames.as_slice())
 }
 

@@ -5,10 +5,10 @@ ghost use Rattle.std.specs.Prelude.{◌<◌, length};
 use eve_accounts::Name;
 use eve_frames::{AccessView, AttemptView, BatchView, CommitView, RollbackView};
 use eve_grammar::Choice;
-use eve_smallbank::{Request, UpToThree};
+use eve_smallbank::{Entry, Request, UpToThree};
 use eve_views::{Accesses, Step as Seen, Trace};
 use eve_write::{
-    AccessData, AttemptData, BatchData, ChoiceData, CommitData, CustomerData, Parts, RequestData,
+    AccessList, AttemptData, BatchData, ChoiceData, CommitData, CustomerData, Parts, RequestData,
     RollbackData, SentData, Step, TransactionData, VoteData,
 };
 use std::alloc::{AllocError, Global};
@@ -57,19 +57,24 @@ fn token_of(bytes: &[u8]) -> [u8; 32] {
     token
 }
 
-fn access_of(access: AccessView<'_>) -> AccessData {
-    let entries = match access.len() {
+// The access's entries.
+fn entries_of(access: &AccessView<'_>) -> UpToThree<Entry> {
+    match access.len() {
         0 => UpToThree::new(),
         1 => UpToThree::one(access.entry(0)),
         2 => UpToThree::two(access.entry(0), access.entry(1)),
         _ => UpToThree::three(access.entry(0), access.entry(1), access.entry(2)),
-    };
-    AccessData {
-        worker: access.worker(),
-        place: access.place(),
-        index: access.index(),
-        entries,
     }
+}
+
+fn accesses_of(alloc: Global, seen: &Accesses<'_, '_>) -> Result<AccessList, AllocError> {
+    let mut accesses = AccessList::with_capacity(alloc, seen.len(), seen.len())?;
+    for place in 0..seen.len() {
+        let access = seen.get(place);
+        let entries = entries_of(&access);
+        accesses.push(access.worker(), access.place(), access.index(), &entries)?;
+    }
+    Ok(accesses)
 }
 
 fn attempt_of(
@@ -85,10 +90,7 @@ fn attempt_of(
     for reply in attempt.replies() {
         replies.push(reply)?;
     }
-    let mut accesses = Vec::new(alloc);
-    for place in 0..seen.len() {
-        accesses.push(access_of(seen.get(place)))?;
-    }
+    let accesses = accesses_of(alloc, seen)?;
     Ok(AttemptData {
         seq: attempt.seq(),
         view: attempt.view(),

@@ -35,11 +35,8 @@ fn sees_opening(attempt: &AttemptData) -> bool {
 // Whether each entry of the attempt saw this version of its row, with this value.
 fn sees(attempt: &AttemptData, version: u64, value: Cents) -> bool {
     let mut all = true;
-    for access in &attempt.accesses {
-        for place in 0..access.entries.len() {
-            let entry = access.entries.at(place);
-            all = all && entry.version == version && entry.seen == value;
-        }
+    for entry in attempt.accesses.entries() {
+        all = all && entry.version == version && entry.seen == value;
     }
     all
 }

@@ -35,17 +35,13 @@ fn parts_of<R: AllocGlobal + RandomSource + Threads + Wait + Sync>(
 
 /// Notes what the rows that an attempt writes go back to, where no two of its requests write one row.
 fn note_restores(restores: &mut Vec<Restore>, attempt: &AttemptData) -> Result<(), AllocError> {
-    for access in attempt.accesses.iter() {
-        let entries = access.entries;
-        for place in 0..entries.len() {
-            let entry = entries.at(place);
-            if entry.kind.is_write() {
-                restores.push(Restore {
-                    row: entry.row,
-                    version: entry.version,
-                    value: entry.seen,
-                })?;
-            }
+    for entry in attempt.accesses.entries() {
+        if entry.kind.is_write() {
+            restores.push(Restore {
+                row: entry.row,
+                version: entry.version,
+                value: entry.seen,
+            })?;
         }
     }
     Ok(())

@@ -28,8 +28,8 @@ impl GroupSet {
     }
 
     /// Takes other groups in.
-    pub(crate) fn add_all(&mut self, others: GroupSet)
-        ensures { (group : ℕ) → has self.new group ≡ (has self.old group || has others group) }
+    pub(crate) fn add_all(&mut self, others: &GroupSet)
+        ensures { (group : ℕ) → has self.new group ≡ (has self.old group || has others.now group) }
     {
         for place in 0..4 {
             self.words[place] |= others.words[place];
@@ -42,7 +42,8 @@ impl GroupSet {
         ensures before { (group : ℕ) → group < result → has self.now group ≡ true }
     {
         let mut before = 0;
-        for word in self.words {
+        for place in 0..4 {
+            let word = self.words[place];
             if word != u64::MAX {
                 return before + word.trailing_ones() as u16;
             }

@@ -51,22 +51,21 @@ impl RowMarks {
         let mut all = GroupSet::none();
         for index in 0..rows.len() {
             let (row, kind) = rows.at(index);
-            all.add_all(self.barred_of(row, kind));
+            self.add_barred(row, kind, &mut all);
         }
         all
     }
 
-    // The groups in which the row is written, or touched if it is to be written.
-    fn barred_of(&self, row: Row, kind: Kind) -> GroupSet
-        ensures { (group : ℕ) → has result group ≡ is_barred self.now (row, kind) group }
+    // Takes in the groups in which the row is written, or touched if it is to be written.
+    fn add_barred(&self, row: Row, kind: Kind, groups: &mut GroupSet)
+        ensures { (group : ℕ) → has groups.new group ≡ (has groups.old group || is_barred self.now (row, kind) group) }
     {
-        let Some(place) = self.place_of(row) else {
-            return GroupSet::none();
-        };
-        let marks = &self.marks[place];
-        match kind {
-            Kind::Read => marks.written,
-            Kind::Write => marks.touched,
+        if let Some(place) = self.place_of(row) {
+            let marks = &self.marks[place];
+            match kind {
+                Kind::Read => groups.add_all(&marks.written),
+                Kind::Write => groups.add_all(&marks.touched),
+            }
         }
     }
 

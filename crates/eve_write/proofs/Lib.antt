@@ -1,3 +1,4 @@
+pub mod AccessLists
 pub mod Gathered
 pub mod Joined
 pub mod Lengths

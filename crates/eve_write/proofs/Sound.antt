@@ -14,7 +14,7 @@ use Rattle.eve_write.specs.declared.step.Step as code
 use Rattle.eve_write.specs.declared.step.Step.TheVariants.{Attempt, Commit, Rollback}
 use Rattle.eve_write.specs.declared.vote.VoteData.{VoteData}
 use Rattle.eve_write.specs.declared.parts.Parts.{Parts}
-use Rattle.eve_write.specs.Data.{customer, batch, access, attempt, section, votes, step, vote, sent, trace}
+use Rattle.eve_write.specs.Data.{customer, batch, attempt, section, votes, step, vote, sent, trace}
 use Rattle.eve_write.specs.Writable.{fits_vote, HasSpelling}
 use Rattle.eve_write.specs.Passes.{fits_step, right_step, right_vote, are_right_parts}
 use Rattle.eve_grammar.proofs.BodyCodecs.{few_restores}
@@ -23,8 +23,7 @@ use Rattle.eve_grammar.proofs.BodyCodecs.{few_restores}
 step_fits : (rows : ℕ) → rows ≤ 131072 → (s : code.Step) → IsTrue (is_step rows (step s)) → IsTrue (fits_step s)
 step_fits rows few (Attempt a) right =
     (and_parts (is_attempt (attempt a))
-    (eqb (length (map access a.accesses.items)) (length a.certificate.items) && list_all (is_access rows)
-    (map access a.accesses.items)) right).0
+    (eqb (length a.accesses) (length a.certificate.items) && list_all (is_access rows) a.accesses) right).0
 step_fits rows few (Commit x) right = refl
 step_fits rows few (Rollback r) right =
     let restores = map restore r.restores.items in

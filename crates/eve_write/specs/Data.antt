@@ -51,7 +51,7 @@ attempt a =
       certificate = a.certificate.items;
       replies = a.replies.items;
       token = a.token;
-      accesses = map access a.accesses.items;
+      accesses = a.accesses;
     }
 
 abbrev pub commit : CommitData → Commit

@@ -1,3 +1,4 @@
+pub mod AccessLists
 pub mod Writing
 pub mod Data
 pub mod Writable

@@ -13,12 +13,10 @@ ghost use Rattle.eve_grammar.specs.Bodies.{limits};
 ghost use Rattle.eve_write.specs.Data.{attempt as plain};
 ghost use Rattle.eve_write.specs.Writing.{Puts, Writes};
 
-use crate::access::AccessData;
+use crate::access_list::{AccessList, write_accesses};
 use crate::fields::{byte, indexes_fit, put_indexes, put_replies};
-use crate::measure::len_of_each;
 use crate::pieces::{put, send};
-use crate::right::{Judge, all_right};
-use crate::short::write_short;
+use crate::right::{Judge, all_right, row_count};
 use arrayvec::ArrayVec;
 use eve_grammar::{Head, MOST_REQUESTS, token_fits};
 use eve_smallbank::Reply;
@@ -40,7 +38,7 @@ pub struct AttemptData {
     /// The token of the balances after it and the replies.
     pub token: [u8; 32],
     /// What the workers noted, in the order in which it was taken.
-    pub accesses: Vec<AccessData>,
+    pub accesses: AccessList,
 }
 
 fn mode_byte(serial: bool) -> [u8; 1]
@@ -114,7 +112,7 @@ impl AttemptData {
         ensures { result ≡ min (length (frames_text (attempt_frames (plain self.now)))) (2 ^ 64 - 1) }
     {
         let frame = 5 + self.body_len() as u64;
-        len_of_each(self.accesses.as_slice()).saturating_add(frame)
+        self.accesses.text_len().saturating_add(frame)
     }
 
     // Writes its frames, those of its accesses included.
@@ -124,7 +122,7 @@ impl AttemptData {
             (frames_text (attempt_frames (plain self.now))) }
     {
         write_attempt(out, self)?;
-        write_short(out, self.accesses.as_slice())
+        write_accesses(out, &self.accesses)
     }
 
     // Whether its own frame lies within the limits.
@@ -147,7 +145,7 @@ impl AttemptData {
         ensures { result ≡ ((length (plain self.now).accesses == length self.now.certificate.items)
             && list_all (is_access (row_count (limits head.now))) (plain self.now).accesses) }
     {
-        self.accesses.len() == self.certificate.len() && all_right(self.accesses.as_slice(), head)
+        self.accesses.len() == self.certificate.len() && self.accesses.are_within(row_count(head))
     }
 
     // Whether it lies within the limits, with its accesses.

@@ -30,3 +30,15 @@ pub fn are_entries(entries: &UpToThree<Entry>, rows: usize) -> bool
     }
     true
 }
+
+/// As `are_entries`, of entries that stand in a list.
+pub(crate) fn each_entry_fits(entries: &[Entry], rows: usize) -> bool
+    ensures { result ≡ list_all (is_entry rows) entries.now }
+{
+    for entry in entries {
+        if !is_entry(entry, rows) {
+            return false;
+        }
+    }
+    true
+}

@@ -156,6 +156,20 @@ pub(crate) fn put_entries<const N: usize>(frame: &mut ArrayVec<u8, N>, entries: 
     }
 }
 
+/// As `put_entries`, of at most three entries that stand in a list. A loop of three turns, whatever the number, is laid
+/// out by the compiler as three cases, of which each knows how much room there is.
+pub(crate) fn put_few_entries<const N: usize>(frame: &mut ArrayVec<u8, N>, entries: &[Entry])
+    requires few { length entries.now ≤ 3 }
+    requires room { array_vec_len frame.old + 29 * length entries.now ≤ N }
+    ensures { Puts frame.old.items frame.new.items (flat_map entry_text entries.now) }
+{
+    for place in 0..3 {
+        if place < entries.len() {
+            put_entry(frame, entries[place]);
+        }
+    }
+}
+
 // Appends a name after its length.
 fn put_name<const N: usize>(frame: &mut ArrayVec<u8, N>, name: &[u8])
     requires short { length name.now ≤ MOST_NAME_BYTES }

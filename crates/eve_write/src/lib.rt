@@ -2,6 +2,7 @@
 #![tactic(auto)]
 
 mod access;
+mod access_list;
 mod attempt;
 mod batch;
 mod commit;
@@ -26,6 +27,7 @@ mod step;
 mod vote;
 
 pub use access::{AccessData, write_access};
+pub use access_list::{AccessList, write_accesses};
 pub use attempt::{AttemptData, write_attempt};
 pub use batch::{BatchData, write_batch};
 pub use commit::{CommitData, commit_fits, write_commit};

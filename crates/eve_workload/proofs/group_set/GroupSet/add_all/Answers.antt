@@ -10,15 +10,15 @@ pub returns : goal.returns
 returns c group =
     let at : ℕ = group / 64 in
     let long : length c.args.self.now.words ≡ 4 = search rules in
-    let others_long : length c.args.others.words ≡ 4 = search rules in
+    let others_long : length c.args.others.now.words ≡ 4 = search rules in
     let word : slice_index_or c.loop-place.self.words at 0 ≡ bit_or (slice_index_or c.args.self.now.words at 0)
-    (slice_index_or c.args.others.words at 0) =
+    (slice_index_or c.args.others.now.words at 0) =
     elim (cases_lt at c.loop-place.place) [
       | inl below ↦ c.loop-place.invariant.0 at below
       | inr past ↦
           c.loop-place.invariant.1 at past ∙ get_or_past c.args.self.now.words at 0 (omega arith)
           ∙ sym (λ i. bit_or (get_or_past c.args.self.now.words at 0 (let p = past in omega arith) i)
-          (get_or_past c.args.others.words at 0 (let p = past in omega arith) i))
+          (get_or_past c.args.others.now.words at 0 (let p = past in omega arith) i))
     ] in
     ap (λ w. bit_at w (group % 64) == 1) word
-    ∙ bit_of_both (slice_index_or c.args.self.now.words at 0) (slice_index_or c.args.others.words at 0) (group % 64)
+    ∙ bit_of_both (slice_index_or c.args.self.now.words at 0) (slice_index_or c.args.others.now.words at 0) (group % 64)

@@ -1,4 +1,4 @@
-use Rattle.std.proofs.Common.{ℕ, Bool, sym, ap, ap₂, ◌∙◌, take}
+use Rattle.std.proofs.Common.{ℕ, Bool, sym, ap, ◌∙◌, take}
 use Rattle.std.specs.Prelude.{◌||◌}
 use Rattle.std.specs.List.{list_any}
 use Rattle.std.proofs.lemmas.List.Folds.{list_any_more}
@@ -14,7 +14,6 @@ loop-index-preserved c = λ group.
     c.at-row.ensures in
     let bars : ℕ × Kind → Bool = λ row. is_barred c.args.self.now row group in
     let done : Bool = list_any bars (take c.loop-index.index c.args.rows.now) in
-    c.add_all.ensures group
-    ∙ ap₂ (λ (a b : Bool). a || b) (c.loop-index.invariant group) (c.barred_of.ensures group)
+    c.add_barred.ensures group ∙ ap (λ b. b || bars c.at-row.result) (c.loop-index.invariant group)
     ∙ sym (list_any_more bars c.args.rows.now c.loop-index.index c.at-row.result there
     ∙ ap (λ row. done || bars row) here)
