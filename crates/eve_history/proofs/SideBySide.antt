@@ -1,14 +1,14 @@
 -- Attempts that are judged whatever came before them.
 use Rattle.std.proofs.Common.{◌≡◌, ℕ, Bool, ◌^◌, ◌<◌, ◌≤◌, ◌==◌, true, List, [], ◌∷◌, ◌++◌, map, length}
-use Rattle.std.proofs.Common.{get_or, take, drop}
-use Rattle.std.proofs.Common.{◌+◌, ◌-◌, ◌*◌, ◌/◌, inl, inr}
-use Rattle.std.proofs.Common.{Option, Some, None, IfSome, Result, Ok, Err, IfOk, Vec, IsTrue, refl, sym, ap, subst}
+use Rattle.std.proofs.Common.{get_or, take, drop, min}
+use Rattle.std.proofs.Common.{◌+◌, ◌-◌, ◌*◌, ◌/◌}
+use Rattle.std.proofs.Common.{Option, Some, None, IfSome, Result, Ok, Vec, IsTrue, refl, sym, ap, subst}
 use Rattle.std.proofs.Common.{◌∙◌, append_assoc, arith}
 use Rattle.std.specs.List.{AllByRecursion, flat_map, list_all, list_any}
-use Rattle.std.proofs.lemmas.Bool.{and_parts, cases_lt}
-use Rattle.std.proofs.lemmas.List.{append-nil, map-append, length-map, length-append, length_push, length-take}
+use Rattle.std.proofs.lemmas.Bool.{and_parts}
+use Rattle.std.proofs.lemmas.List.{append-nil, map-append, length-map, length-drop}
 use Rattle.std.proofs.lemmas.List.{nil_from_length}
-use Rattle.std.proofs.lemmas.List.{take-append-le, drop-append-le, take_all, drop_all}
+use Rattle.std.proofs.lemmas.List.{take-append-drop, take_min, drop_min, take-map, drop-map}
 use Rattle.std.proofs.Math.Seq.{take-add}
 use Rattle.std.proofs.lemmas.List.Concat.{flat_map-append}
 use Rattle.std.proofs.lemmas.List.Folds.{list_all-append}
@@ -24,7 +24,6 @@ use Rattle.eve_views.specs.declared.steps.Step as met
 use Rattle.eve_views.specs.declared.steps.Step.TheVariants as of
 use Rattle.eve_history.specs.declared.access_marks.AccessMarks.{AccessMarks}
 use Rattle.eve_history.specs.declared.side_by_side.MetAttempt.{MetAttempt}
-use Rattle.eve_history.specs.declared.side_by_side.Ahead.{Ahead}
 use Rattle.eve_history.specs.Section.{request_count, worker_count, is_right_certificate}
 use Rattle.eve_history.specs.SectionHistory.{access_with, ordered, attempts_among}
 use Rattle.eve_history.specs.Faults.{accesses_of}
@@ -32,7 +31,7 @@ use Rattle.eve_history.specs.FirstWrong.{wrong_accesses}
 use Rattle.eve_history.specs.Marking.{AreMarked}
 use Rattle.eve_history.specs.Standing.{IsAccessAt}
 use Rattle.eve_history.specs.Coming.{seen}
-use Rattle.eve_history.specs.SideBySide.{attempt_met, placed_met, AreCounted, IsMet, HaveBeenMet}
+use Rattle.eve_history.specs.SideBySide.{attempt_met, placed_met, IsMet, HaveBeenMet}
 use Rattle.eve_history.specs.SideBySide.{IsRightAlone, AreOrdered}
 use Rattle.eve_history.specs.SideBySide.{IsPart}
 use Rattle.eve_history.proofs.Structure.{accesses_of-at, right_records}
@@ -46,6 +45,10 @@ use Rattle.eve_history.proofs.Standing.{IsSeen, step_stands, each_seen, all_smal
 pub all_behind : {A : Type 0} (P : A → Type 0) (xs ys : List A) → AllByRecursion P (xs ++ ys) → AllByRecursion P ys
 all_behind P [] ys all = all
 all_behind P (x ∷ xs) ys all = all_behind P xs ys all.1
+
+pub all_before : {A : Type 0} (P : A → Type 0) (xs ys : List A) → AllByRecursion P (xs ++ ys) → AllByRecursion P xs
+all_before P [] ys all = tt
+all_before P (x ∷ xs) ys all = (all.0, all_before P xs ys all.1)
 
 -- ---- attempts that are met
 
@@ -143,32 +146,28 @@ both_ordered t xs ys front back first second = record {
 
 -- ---- parts
 
-module _ {A : Type 0} (xs : List A) (x : A) (from most : ℕ) where
-  -- before the place from which a part begins, one more changes nothing
-  part_passes : length xs < from → take most (drop from (xs ++ x ∷ [])) ≡ take most (drop from xs)
-  part_passes lt =
-      ap (take most) (drop_all from (xs ++ x ∷ []) (omega (arith, length_push xs x))
-      ∙ sym (drop_all from xs (omega arith)))
+-- the attempts of a part are those of the section's that stand there
+pub part_met : (t : Trace) (e size from start most : ℕ) (ms : List MetAttempt) → start ≡ min from (length ms)
+    → most ≡ min size (length ms - start) → map placed_met ms ≡ attempts_among (steps_at t e)
+    → map placed_met (take most (drop start ms)) ≡ take size (drop from (attempts_among (steps_at t e)))
+part_met t e size from start most ms first many all =
+    let own : drop start ms ≡ drop from ms = ap (λ (k : ℕ). drop k ms) first ∙ drop_min from ms in
+    let cut : most ≡ min size (length (drop start ms)) =
+    many ∙ ap (min size) (sym (length-drop start ms)) in
+    ap (map placed_met)
+    (ap (λ (k : ℕ). take k (drop start ms)) cut ∙ take_min size (drop start ms) ∙ ap (take size) own)
+    ∙ sym (take-map placed_met size (drop from ms))
+    ∙ ap (take size) (sym (drop-map placed_met from ms))
+    ∙ ap (λ (xs : List (ℕ × Attempt)). take size (drop from xs)) all
 
-  one_behind : from ≤ length xs → drop from (xs ++ x ∷ []) ≡ drop from xs ++ x ∷ []
-  one_behind le = drop-append-le from xs (x ∷ []) le
-
-  -- where it is full, neither
-  part_full : from ≤ length xs → most ≤ length (take most (drop from xs))
-      → take most (drop from (xs ++ x ∷ [])) ≡ take most (drop from xs)
-  part_full le full =
-      ap (take most) (one_behind le)
-      ∙ take-append-le most (drop from xs) (x ∷ []) (omega (arith, length-take most (drop from xs)))
-
-  -- else it is one more of the part
-  part_takes : from ≤ length xs → length (take most (drop from xs)) < most
-      → take most (drop from (xs ++ x ∷ [])) ≡ take most (drop from xs) ++ x ∷ []
-  part_takes le room =
-      let zs = drop from xs in
-      let few : length zs < most = omega (arith, length-take most zs) in
-      ap (take most) (one_behind le)
-      ∙ take_all most (zs ++ x ∷ []) (omega (arith, length-append zs (x ∷ [])))
-      ∙ ap (λ (ys : List A). ys ++ x ∷ []) (sym (take_all most zs (omega arith)))
+-- what holds of all attempts holds of those of a part
+pub part_of_all : {A : Type 0} (P : A → Type 0) (xs : List A) (start most : ℕ) → AllByRecursion P xs
+    → AllByRecursion P (take most (drop start xs))
+part_of_all P xs start most all =
+    let behind = all_behind P (take start xs) (drop start xs)
+    (subst (AllByRecursion P) (sym (take-append-drop start xs)) all) in
+    all_before P (take most (drop start xs)) (drop most (drop start xs))
+    (subst (AllByRecursion P) (sym (take-append-drop most (drop start xs))) behind)
 
 one_more_times : (i size : ℕ) → (i + 1) * size ≡ i * size + size
 one_more_times i size = omega arith
@@ -214,12 +213,12 @@ attempts_next (of.Rollback r) (at, Attempts b) is = absurd is
 attempts_next (of.Rollback r) (at, Commits d) is = absurd is
 
 -- a step that is no attempt
-pub meeting_other : (t : Trace) (e from most : ℕ) (next : ℕ × Step) (rest : List (ℕ × Step)) (ahead : Ahead)
-    (ms : List MetAttempt) (s : met.Step) → attempts_in s ≡ 0 → IsStep s next
-    → HaveBeenMet t e from most (next ∷ rest) ahead ms → HaveBeenMet t e from most rest ahead ms
-meeting_other t e from most next rest ahead ms s none is come =
+pub meeting_other : (t : Trace) (e : ℕ) (next : ℕ × Step) (rest : List (ℕ × Step)) (ms ns : List MetAttempt)
+    (s : met.Step) → attempts_in s ≡ 0 → IsStep s next → ns ≡ ms → HaveBeenMet t e (next ∷ rest) ms
+    → HaveBeenMet t e rest ns
+meeting_other t e next rest ms ns s none is same come =
     let other : attempts_among (next ∷ []) ≡ [] = nil_from_length _ (attempts_next s next is ∙ none) in
-    let same : attempts_among come.front ≡ attempts_among (come.front ++ next ∷ []) =
+    let on : attempts_among come.front ≡ attempts_among (come.front ++ next ∷ []) =
     sym (attempts_among-append come.front (next ∷ [])
     ∙ ap (λ (xs : List (ℕ × Attempt)). attempts_among come.front ++ xs) other
     ∙ append-nil (attempts_among come.front)) in
@@ -227,83 +226,27 @@ meeting_other t e from most next rest ahead ms s none is come =
       spelled = come.spelled;
       front = come.front ++ next ∷ [];
       split = come.split ∙ sym (append_assoc come.front (next ∷ []) rest);
-      met = come.met;
-      all = come.all ∙ ap (λ (xs : List (ℕ × Attempt)). take most (drop from xs)) same;
-      skip = come.skip ∙ ap (λ (xs : List (ℕ × Attempt)). from - length xs) same;
-      keep = come.keep;
+      met = subst (AllByRecursion (IsMet t)) (sym same) come.met;
+      all = ap (map placed_met) same ∙ come.all ∙ on;
     }
 
 -- an attempt that is met
-module _ (t : Trace) (e from most at : ℕ) (b : Attempt) (rest : List (ℕ × Step)) (ahead : Ahead)
-    (ms : List MetAttempt) (m : MetAttempt) (place : m.attempt.offset ≡ at)
-    (said : attempt_in m.attempt.bytes.now ≡ without_accesses b) (accesses : m.accesses ≡ accesses_at at b)
-    (come : HaveBeenMet t e from most ((at, Attempts b) ∷ rest) ahead ms) where
+module _ (t : Trace) (e at : ℕ) (b : Attempt) (rest : List (ℕ × Step)) (ms : List MetAttempt) (m : MetAttempt)
+    (place : m.attempt.offset ≡ at) (said : attempt_in m.attempt.bytes.now ≡ without_accesses b)
+    (accesses : m.accesses ≡ accesses_at at b) (come : HaveBeenMet t e ((at, Attempts b) ∷ rest) ms) where
   abbrev next : ℕ × Step
   next = (at, Attempts b)
-
-  abbrev before : List (ℕ × Attempt)
-  before = attempts_among come.front
 
   its_attempt : attempt_met m ≡ b
   its_attempt =
       let listed : accesses_of m.accesses ≡ b.accesses = ap accesses_of accesses ∙ accesses_of-at at b in
       λ i. record (said i) { accesses = listed i }
 
-  its_split : steps_at t e ≡ come.front ++ (m.attempt.offset, Attempts (attempt_met m)) ∷ rest
-  its_split = come.split ∙ (λ i. come.front ++ (sym place i, Attempts (sym its_attempt i)) ∷ rest)
-
-  after_split : steps_at t e ≡ (come.front ++ next ∷ []) ++ rest
-  after_split = come.split ∙ sym (append_assoc come.front (next ∷ []) rest)
-
-  one_more : attempts_among (come.front ++ next ∷ []) ≡ before ++ (at, b) ∷ []
-  one_more = attempts_among-append come.front (next ∷ [])
-
-  longer : length (attempts_among (come.front ++ next ∷ [])) ≡ length before + 1
-  longer = ap length one_more ∙ length-append before ((at, b) ∷ [])
-
-  listed : length ms ≡ length (take most (drop from before))
-  listed = sym (length-map ms placed_met) ∙ ap length come.all
-
-  -- that is passed over
-  meeting_passed : (after : Ahead) (ns : List MetAttempt) → 0 < ahead.skip → after.skip ≡ ahead.skip - 1
-      → after.keep ≡ ahead.keep → ns ≡ ms → HaveBeenMet t e from most rest after ns
-  meeting_passed after ns some skip keep same = record {
+  meeting_kept : (ns : List MetAttempt) → ns ≡ ms ++ m ∷ [] → HaveBeenMet t e rest ns
+  meeting_kept ns more = record {
     spelled = come.spelled;
     front = come.front ++ next ∷ [];
-    split = after_split;
-    met = subst (AllByRecursion (IsMet t)) (sym same) come.met;
-    all = ap (map placed_met) same ∙ come.all
-        ∙ sym (ap (λ (xs : List (ℕ × Attempt)). take most (drop from xs)) one_more
-        ∙ part_passes before (at, b) from most (omega (arith, come.skip, some)));
-    skip = skip ∙ omega (arith, come.skip, longer);
-    keep = keep ∙ come.keep ∙ ap (λ (xs : List MetAttempt). most - length xs) (sym same);
-  }
-
-  begun : ahead.skip ≡ 0 → from ≤ length before
-  begun none = omega (arith, come.skip, none)
-
-  -- that is past the last to be kept
-  meeting_full : (after : Ahead) (ns : List MetAttempt) → ahead.skip ≡ 0 → ahead.keep ≡ 0 → after.skip ≡ 0
-      → after.keep ≡ 0 → ns ≡ ms → HaveBeenMet t e from most rest after ns
-  meeting_full after ns none full skip keep same = record {
-    spelled = come.spelled;
-    front = come.front ++ next ∷ [];
-    split = after_split;
-    met = subst (AllByRecursion (IsMet t)) (sym same) come.met;
-    all = ap (map placed_met) same ∙ come.all
-        ∙ sym (ap (λ (xs : List (ℕ × Attempt)). take most (drop from xs)) one_more
-        ∙ part_full before (at, b) from most (begun none) (omega (arith, come.keep, full, listed)));
-    skip = skip ∙ omega (arith, come.skip, none, longer);
-    keep = keep ∙ sym full ∙ come.keep ∙ ap (λ (xs : List MetAttempt). most - length xs) (sym same);
-  }
-
-  -- that is kept
-  meeting_kept : (after : Ahead) (ns : List MetAttempt) → ahead.skip ≡ 0 → 0 < ahead.keep → after.skip ≡ 0
-      → after.keep ≡ ahead.keep - 1 → ns ≡ ms ++ m ∷ [] → HaveBeenMet t e from most rest after ns
-  meeting_kept after ns none room skip keep more = record {
-    spelled = come.spelled;
-    front = come.front ++ next ∷ [];
-    split = after_split;
+    split = come.split ∙ sym (append_assoc come.front (next ∷ []) rest);
     met = subst (AllByRecursion (IsMet t)) (sym more)
         (all-push (IsMet t) ms m come.met
         (record {
@@ -311,66 +254,24 @@ module _ (t : Trace) (e from most at : ℕ) (b : Attempt) (rest : List (ℕ × S
           replica = e;
           before = come.front;
           rest = rest;
-          split = its_split;
+          split = come.split ∙ (λ i. come.front ++ (sym place i, Attempts (sym its_attempt i)) ∷ rest);
           said = said ∙ ap without_accesses (sym its_attempt);
           accesses = accesses ∙ (λ i. accesses_at (sym place i) (sym its_attempt i));
         }));
     all = ap (map placed_met) more
         ∙ map-append placed_met ms (m ∷ [])
         ∙ (λ i. come.all i ++ (place i, its_attempt i) ∷ [])
-        ∙ sym (ap (λ (xs : List (ℕ × Attempt)). take most (drop from xs)) one_more
-        ∙ part_takes before (at, b) from most (begun none) (omega (arith, come.keep, room, listed)));
-    skip = skip ∙ omega (arith, come.skip, none, longer);
-    keep = keep ∙ omega (arith, come.keep, ap length more, length-append ms (m ∷ []));
+        ∙ sym (attempts_among-append come.front (next ∷ []));
   }
 
-pub meeting_more : (t : Trace) (e from most : ℕ) (next : ℕ × Step) (rest : List (ℕ × Step)) (ahead after : Ahead)
-    (ms ns : List MetAttempt) (a : AttemptView) (xs : List (ℕ × Access))
-    → (0 < ahead.skip → (after.skip ≡ ahead.skip - 1) × (after.keep ≡ ahead.keep) × (ns ≡ ms))
-    → (ahead.skip ≡ 0 → 0 < ahead.keep → (after.skip ≡ 0) × (after.keep ≡ ahead.keep - 1)
-    × (ns ≡ ms ++ record { attempt = a; accesses = xs } ∷ []))
-    → (ahead.skip ≡ 0 → ahead.keep ≡ 0 → (after.skip ≡ 0) × (after.keep ≡ 0) × (ns ≡ ms))
-    → IsStep (of.Attempt a xs) next → HaveBeenMet t e from most (next ∷ rest) ahead ms
-    → HaveBeenMet t e from most rest after ns
-meeting_more t e from most (at, Attempts b) rest ahead after ms ns a xs passed kept full is come =
-    let m : MetAttempt = record { attempt = a; accesses = xs } in
-    elim (cases_lt 0 ahead.skip) [
-      | inl some ↦
-          let p = passed some in
-          meeting_passed t e from most at b rest ahead ms m is.0 is.1 is.2 come after ns some p.0 p.1 p.2
-      | inr none ↦
-          let zero : ahead.skip ≡ 0 = omega arith in
-          elim (cases_lt 0 ahead.keep) [
-            | inl room ↦
-                let k = kept zero room in
-                meeting_kept t e from most at b rest ahead ms m is.0 is.1 is.2 come after ns zero room k.0 k.1 k.2
-            | inr empty ↦
-                let nothing : ahead.keep ≡ 0 = omega arith in
-                let f = full zero nothing in
-                meeting_full t e from most at b rest ahead ms m is.0 is.1 is.2 come after ns zero nothing f.0 f.1 f.2
-          ]
-    ]
-meeting_more t e from most (at, Commits c) rest ahead after ms ns a xs passed kept full is come = absurd is
-meeting_more t e from most (at, RollsBack r) rest ahead after ms ns a xs passed kept full is come = absurd is
-
-pub where_ok : {E : Type 0} {P Q R S : Ahead → Type 0} (r : Result Ahead E) → IfOk r P → IfOk r Q → IfOk r R
-    → ((after : Ahead) → P after → Q after → R after → S after) → IfOk r S
-where_ok (Ok after) p q r f = f after p q r
-where_ok (Err why) p q r f = tt
-
--- ---- attempts that are counted
+pub meeting_more : (t : Trace) (e : ℕ) (next : ℕ × Step) (rest : List (ℕ × Step)) (ms ns : List MetAttempt)
+    (a : AttemptView) (xs : List (ℕ × Access)) → ns ≡ ms ++ record { attempt = a; accesses = xs } ∷ []
+    → IsStep (of.Attempt a xs) next → HaveBeenMet t e (next ∷ rest) ms → HaveBeenMet t e rest ns
+meeting_more t e (at, Attempts b) rest ms ns a xs more is come =
+    meeting_kept t e at b rest ms (record { attempt = a; accesses = xs }) is.0 is.1 is.2 come ns more
+meeting_more t e (at, Commits c) rest ms ns a xs more is come = absurd is
+meeting_more t e (at, RollsBack r) rest ms ns a xs more is come = absurd is
 
 pub where_some : {P Q : ℕ → Type 0} (o : Option ℕ) → IfSome o P → ((n : ℕ) → P n → Q n) → IfSome o Q
 where_some (Some n) p f = f n p
 where_some None p f = tt
-
-pub counting_on : (t : Trace) (e : ℕ) (next : ℕ × Step) (rest : List (ℕ × Step)) (count after : ℕ) (s : met.Step)
-    → after ≡ count + attempts_in s → IsStep s next → AreCounted t e (next ∷ rest) count → AreCounted t e rest after
-counting_on t e next rest count after s on is come = record {
-  front = come.front ++ next ∷ [];
-  split = come.split ∙ sym (append_assoc come.front (next ∷ []) rest);
-  many = on ∙ ap (λ (n : ℕ). count + n) (sym (attempts_next s next is))
-      ∙ ap (λ (n : ℕ). n + length (attempts_among (next ∷ []))) come.many
-      ∙ sym (ap length (attempts_among-append come.front (next ∷ []))
-      ∙ length-append (attempts_among come.front) (attempts_among (next ∷ [])));
-}

@@ -1,5 +1,5 @@
 -- The attempts of a section, each judged whatever came before it. docs/ARCHITECTURE.md, "Threads of an audit".
-use Rattle.std.specs.Prelude.{◌≡◌, ℕ, ◌+◌, ◌-◌, IsTrue, ◌*◌, List, [], ◌∷◌, ◌++◌, length, map, take, drop}
+use Rattle.std.specs.Prelude.{◌≡◌, ℕ, ◌+◌, IsTrue, ◌*◌, List, [], ◌∷◌, ◌++◌, length, map, take, drop}
 use Rattle.std.specs.Prelude.{Option, Result, Vec, IfOk, IfSome}
 use Rattle.std.specs.List.{AllByRecursion, flat_map}
 use Rattle.eve_grammar.specs.Trace.{Attempt, Step, Attempts, Trace}
@@ -9,7 +9,6 @@ use Rattle.eve_grammar.specs.Limits.{Spells}
 use Rattle.eve_frames.specs.Said.{attempt_said}
 use Rattle.eve_history.specs.declared.notes.Notes.{Notes}
 use Rattle.eve_history.specs.declared.side_by_side.MetAttempt.{MetAttempt}
-use Rattle.eve_history.specs.declared.side_by_side.Ahead.{Ahead}
 use Rattle.eve_history.specs.Section.{request_count, is_right_certificate, are_right_accesses}
 use Rattle.eve_history.specs.SectionHistory.{ordered, attempts_among}
 use Rattle.eve_history.specs.Faults.{accesses_of}
@@ -36,23 +35,13 @@ pub record IsMet (t : Trace) (m : MetAttempt) : Type 0 where
   pub said : attempt_said m.attempt ≡ without_accesses (attempt_met m)
   pub accesses : m.accesses ≡ accesses_at m.attempt.offset (attempt_met m)
 
--- So many steps of replica e's section have come, and of the attempts among them these are those from a place on, at
--- most so many. What is ahead: how many are still to be passed over, and how many may be kept.
-pub record HaveBeenMet (t : Trace) (e from most : ℕ) (rest : List (ℕ × Step)) (ahead : Ahead) (ms : List MetAttempt)
-    : Type 0 where
+-- so many steps of replica e's section have come, and these are the attempts among them
+pub record HaveBeenMet (t : Trace) (e : ℕ) (rest : List (ℕ × Step)) (ms : List MetAttempt) : Type 0 where
   pub spelled : Spells (spelling t) t
   pub front : List (ℕ × Step)
   pub split : steps_at t e ≡ front ++ rest
   pub met : AllByRecursion (IsMet t) ms
-  pub all : map placed_met ms ≡ take most (drop from (attempts_among front))
-  pub skip : ahead.skip ≡ from - length (attempts_among front)
-  pub keep : ahead.keep ≡ most - length ms
-
--- so many attempts are among the steps of replica e's section that have come
-pub record AreCounted (t : Trace) (e : ℕ) (rest : List (ℕ × Step)) (count : ℕ) : Type 0 where
-  pub front : List (ℕ × Step)
-  pub split : steps_at t e ≡ front ++ rest
-  pub many : count ≡ length (attempts_among front)
+  pub all : map placed_met ms ≡ attempts_among front
 
 -- What is right of an attempt whatever came before it: its batch has as many requests, and its certificate and its
 -- access records are right.

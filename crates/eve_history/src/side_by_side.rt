@@ -1,7 +1,7 @@
 //! The attempts of a section, with their certificates and access records judged side by side.
 
 ghost use Rattle.std.specs.Prelude.{◌≡◌, ◌<◌, ◌∷◌, ◌++◌, [], ℕ, List, IsTrue, IfOk, IfSome, Some, length, map};
-ghost use Rattle.std.specs.Prelude.{◌*◌, ◌-◌, ◌+◌, ◌≤◌, Ok, take, drop, slice_index_or};
+ghost use Rattle.std.specs.Prelude.{◌*◌, ◌+◌, ◌≤◌, OnOk, Ok, take, slice_index_or};
 ghost use Rattle.std.specs.List.{AllByRecursion};
 ghost use Rattle.eve_grammar.specs.Trace.{Attempt, Step as StepValue, Trace as TraceValue};
 ghost use Rattle.eve_grammar.specs.Spelling.{steps_at};
@@ -10,7 +10,7 @@ ghost use Rattle.eve_views.specs.StepKinds.{IsStep};
 ghost use Rattle.eve_history.specs.Section.{request_count, is_right_certificate};
 ghost use Rattle.eve_history.specs.SectionHistory.{attempts_among};
 ghost use Rattle.eve_history.specs.Marking.{AreMarked};
-ghost use Rattle.eve_history.specs.SideBySide.{placed_met, AreCounted, IsMet, HaveBeenMet, IsRightAlone, AreOrdered};
+ghost use Rattle.eve_history.specs.SideBySide.{placed_met, IsMet, HaveBeenMet, IsRightAlone, AreOrdered};
 ghost use Rattle.eve_history.specs.SideBySide.{IsPart};
 
 use crate::access_marks::AccessMarks;
@@ -34,60 +34,6 @@ pub struct MetAttempt<'t, 'a> {
 /// one is wrong.
 type Ordered = Result<Option<Vec<u32>>, AllocError>;
 
-/// How many attempts of a section are still to be passed over, and how many are to be kept after these.
-#[derive(Clone, Copy)]
-pub struct Ahead {
-    skip: usize,
-    keep: usize,
-}
-
-/// Keeps an attempt that was met, or passes over it, and says what is to be done after it.
-fn keep<'t, 'a>(
-    mets: &mut Vec<MetAttempt<'t, 'a>>,
-    met: MetAttempt<'t, 'a>,
-    ahead: Ahead,
-) -> Result<Ahead, AllocError>
-    ensures passed { IfOk result (λ after. 0 < ahead.skip → (after.skip ≡ ahead.skip - 1) × (after.keep ≡ ahead.keep)
-        × (mets.new.items ≡ mets.old.items)) }
-    ensures kept { IfOk result (λ after. ahead.skip ≡ 0 → 0 < ahead.keep → (after.skip ≡ 0)
-        × (after.keep ≡ ahead.keep - 1) × (mets.new.items ≡ mets.old.items ++ met.entry ∷ [])) }
-    ensures full { IfOk result (λ after. ahead.skip ≡ 0 → ahead.keep ≡ 0 → (after.skip ≡ 0) × (after.keep ≡ 0)
-        × (mets.new.items ≡ mets.old.items)) }
-{
-    let Ahead { skip, keep } = ahead;
-    if skip > 0 {
-        return Ok(Ahead {
-            skip: skip - 1,
-            keep,
-        });
-    }
-    if keep == 0 {
-        return Ok(ahead);
-    }
-    mets.push(met)?;
-    Ok(Ahead {
-        skip,
-        keep: keep - 1,
-    })
-}
-
-/// Puts the next step of a section behind the attempts that were met, where it is an attempt that is to be kept.
-fn meet<'t, 'a>(
-    mets: &mut Vec<MetAttempt<'t, 'a>>,
-    step: Step<'t, 'a>,
-    ahead: Ahead,
-) -> Result<Ahead, AllocError>
-    ensures { IfOk result (λ after. (t : TraceValue) (e from most : ℕ) (rest : List (ℕ × StepValue))
-        (next : ℕ × StepValue) → HaveBeenMet t e from most (next ∷ rest) ahead mets.old.items → IsStep step.entry next
-        → HaveBeenMet t e from most rest after mets.new.items) }
-{
-    match step {
-        Step::Attempt(attempt, accesses) => keep(mets, MetAttempt { attempt, accesses }, ahead),
-        Step::Commit(_) => Ok(ahead),
-        Step::Rollback(_) => Ok(ahead),
-    }
-}
-
 /// One more than so many; nothing past the largest number.
 fn one_more(count: usize) -> Option<usize>
     ensures { IfSome result (λ n. n ≡ count + 1) }
@@ -95,53 +41,37 @@ fn one_more(count: usize) -> Option<usize>
     count.checked_add(1)
 }
 
-/// How many attempts there are after so many, where the next step is this one; nothing past the largest number.
-fn counted(step: Step<'_, '_>, count: usize) -> Option<usize>
-    ensures { IfSome result (λ after. (t : TraceValue) (e : ℕ) (rest : List (ℕ × StepValue)) (next : ℕ × StepValue)
-        → AreCounted t e (next ∷ rest) count → IsStep step.entry next → AreCounted t e rest after) }
+/// Puts the next step of a section behind the attempts that were met, where it is an attempt.
+fn meet<'t, 'a>(mets: &mut Vec<MetAttempt<'t, 'a>>, step: Step<'t, 'a>) -> Result<(), AllocError>
+    ensures { OnOk result ((t : TraceValue) (e : ℕ) (rest : List (ℕ × StepValue)) (next : ℕ × StepValue)
+        → HaveBeenMet t e (next ∷ rest) mets.old.items → IsStep step.entry next
+        → HaveBeenMet t e rest mets.new.items) }
 {
     match step {
-        Step::Attempt(_, _) => one_more(count),
-        Step::Commit(_) => Some(count),
-        Step::Rollback(_) => Some(count),
+        Step::Attempt(attempt, accesses) => {
+            mets.push(MetAttempt { attempt, accesses })?;
+            Ok(())
+        }
+        Step::Commit(_) => Ok(()),
+        Step::Rollback(_) => Ok(()),
     }
 }
 
-/// How many attempts there are in a replica's section; nothing past the largest number.
-fn attempt_count(trace: &Trace<'_>, e: u8) -> Option<usize>
-    requires { e < length trace.now.sections }
-    ensures { IfSome result (λ count. count ≡ length (attempts_among (steps_at trace.now e))) }
-{
-    let mut count = 0;
-    let mut steps = trace.section(e);
-    while let Some(step) = steps.next() {
-        count = counted(step, count)?;
-    }
-    Some(count)
-}
-
-/// The attempts of a replica's section in the order of their frames, from a place on, and at most so many.
-pub fn attempts_met<'t, 'a>(
+/// The attempts of a replica's section in the order of their frames.
+fn attempts_met<'t, 'a>(
     alloc: Global,
     trace: &'t Trace<'a>,
     e: u8,
-    from: usize,
-    most: usize,
 ) -> Result<Vec<MetAttempt<'t, 'a>>, AllocError>
     requires { e < length trace.now.sections }
     ensures met { IfOk result (λ mets. AllByRecursion (IsMet trace.now) mets.items) }
-    ensures all { IfOk result (λ mets. map placed_met mets.items
-        ≡ take most (drop from (attempts_among (steps_at trace.now e)))) }
+    ensures all { IfOk result (λ mets. map placed_met mets.items ≡ attempts_among (steps_at trace.now e)) }
 {
     let _bytes = trace.bytes();
     let mut mets = Vec::new(alloc);
-    let mut ahead = Ahead {
-        skip: from,
-        keep: most,
-    };
     let mut steps = trace.section(e);
     while let Some(step) = steps.next() {
-        ahead = meet(&mut mets, step, ahead)?;
+        meet(&mut mets, step)?;
     }
     Ok(mets)
 }
@@ -208,13 +138,22 @@ fn order_attempt(
     Ok(true)
 }
 
-/// The access records of a stretch of attempts.
+/// How many access records the attempts have together.
+fn access_count(mets: &[MetAttempt<'_, '_>]) -> usize {
+    let mut count: usize = 0;
+    for met in mets {
+        count = count.saturating_add(met.accesses.len());
+    }
+    count
+}
+
+/// The access records of a stretch of attempts. The room for them is asked for once.
 fn order_stretch(alloc: Global, trace: &Trace<'_>, mets: &[MetAttempt<'_, '_>]) -> Ordered
     requires { AllByRecursion (IsMet trace.now) mets.now }
     ensures { IfOk result (λ found. IfSome found (λ records.
         AreOrdered trace.now (map placed_met mets.now) records.items)) }
 {
-    let mut records = Vec::new(alloc);
+    let mut records = Vec::with_capacity(alloc, access_count(mets))?;
     for met in mets {
         if !order_attempt(&mut records, trace, met)? {
             return Ok(None);
@@ -223,17 +162,26 @@ fn order_stretch(alloc: Global, trace: &Trace<'_>, mets: &[MetAttempt<'_, '_>]) 
     Ok(Some(records))
 }
 
-/// The access records of the i-th part of the attempts of a replica's section, where each part has so many: it goes
-/// over the section, and judges those of the part.
-fn order_part(alloc: Global, trace: &Trace<'_>, e: u8, size: usize, i: usize) -> Ordered
-    requires { e < length trace.now.sections }
+/// The access records of the i-th part of the attempts of a replica's section, which were met, where each part has so
+/// many.
+fn order_part(
+    alloc: Global,
+    trace: &Trace<'_>,
+    e: u8,
+    mets: &[MetAttempt<'_, '_>],
+    size: usize,
+    i: usize,
+) -> Ordered
+    requires met { AllByRecursion (IsMet trace.now) mets.now }
+    requires all { map placed_met mets.now ≡ attempts_among (steps_at trace.now e) }
     ensures { IsPart trace.now e size i result }
 {
     let Some(from) = i.checked_mul(size) else {
         return Ok(None);
     };
-    let mets = attempts_met(alloc, trace, e, from, size)?;
-    order_stretch(alloc, trace, &mets)
+    let start = from.min(mets.len());
+    let most = size.min(mets.len() - start);
+    order_stretch(alloc, trace, &mets[start..start + most])
 }
 
 /// The access records of so many parts of the attempts of a replica's section, each part's in a thread of its own.
@@ -242,10 +190,12 @@ fn order_parts<R: Threads + Sync>(
     alloc: Global,
     trace: &Trace<'_>,
     e: u8,
+    mets: &[MetAttempt<'_, '_>],
     size: usize,
     parts: usize,
 ) -> Result<Vec<Ordered>, AllocError>
-    requires { e < length trace.now.sections }
+    requires met { AllByRecursion (IsMet trace.now) mets.now }
+    requires all { map placed_met mets.now ≡ attempts_among (steps_at trace.now e) }
     ensures len { IfOk result (λ found. length found.items ≡ parts) }
     ensures each { IfOk result (λ found. (i : ℕ) (d : _) → i < length found.items
         → IsPart trace.now e size i (slice_index_or found.items i d)) }
@@ -255,9 +205,10 @@ fn order_parts<R: Threads + Sync>(
         alloc,
         parts,
         &|i: usize|
-            requires { e < length trace.now.sections }
+            requires met { AllByRecursion (IsMet trace.now) mets.now }
+            requires all { map placed_met mets.now ≡ attempts_among (steps_at trace.now e) }
             ensures { IsPart trace.entry.now e size i result }
-        { order_part(alloc, trace, e, size, i) },
+        { order_part(alloc, trace, e, mets, size, i) },
     )
 }
 
@@ -276,15 +227,22 @@ fn put_behind(records: &mut Vec<u32>, part: &Ordered) -> Result<bool, AllocError
     }
 }
 
-/// The records of all parts, one behind the other.
-fn joined(alloc: Global, trace: &Trace<'_>, e: u8, size: usize, parts: &[Ordered]) -> Ordered
+/// The records of all parts, one behind the other, in a list with room for so many.
+fn joined(
+    alloc: Global,
+    trace: &Trace<'_>,
+    e: u8,
+    size: usize,
+    parts: &[Ordered],
+    room: usize,
+) -> Ordered
     requires { (i : ℕ) (d : _) → i < length parts.now
         → IsPart trace.now e size i (slice_index_or parts.now i d) }
     ensures { IfOk result (λ found. IfSome found (λ records.
         AreOrdered trace.now (take (length parts.now * size) (attempts_among (steps_at trace.now e)))
         records.items)) }
 {
-    let mut records = Vec::new(alloc);
+    let mut records = Vec::with_capacity(alloc, room)?;
     for part in parts {
         if !put_behind(&mut records, part)? {
             return Ok(None);
@@ -317,9 +275,8 @@ pub fn order_all<R: Threads + Sync>(
     ensures { IfOk result (λ found. IfSome found (λ records.
         AreOrdered trace.now (attempts_among (steps_at trace.now e)) records.items)) }
 {
-    let Some(count) = attempt_count(trace, e) else {
-        return Ok(None);
-    };
+    let mets = attempts_met(alloc, trace, e)?;
+    let count = mets.len();
     let threads = usize::from(jobs).min(count / LEAST_ATTEMPTS);
     if threads < 2 {
         return Ok(None);
@@ -327,6 +284,6 @@ pub fn order_all<R: Threads + Sync>(
     let Some(size) = part_size(count, threads) else {
         return Ok(None);
     };
-    let parts = order_parts(rt, alloc, trace, e, size, threads)?;
-    joined(alloc, trace, e, size, &parts)
+    let parts = order_parts(rt, alloc, trace, e, mets.as_slice(), size, threads)?;
+    joined(alloc, trace, e, size, &parts, access_count(&mets))
 }
