@@ -4,7 +4,7 @@ use Rattle.std.proofs.Common.{Some, None, refl, sym, ap, ap₂, subst, ◌∙◌
 use Rattle.std.specs.Prelude.{IsTrue, All, slice_index}
 use Rattle.std.specs.Option.{option_map}
 use Rattle.std.proofs.lemmas.Bool.{eq-eqb}
-use Rattle.std.proofs.lemmas.List.{take_rest, take-append-drop, drop_at}
+use Rattle.std.proofs.lemmas.List.{take_rest, take-append-drop, take_at}
 use Rattle.std.proofs.lemmas.List.Elements.{All-cons, All-head, All-tail, All-append}
 use Rattle.byteorder.specs.Endian.{big_number}
 use Rattle.eve_grammar.specs.Trace.{Head, Batch, Attempt, Access}
@@ -102,16 +102,19 @@ access_framed h p bytes kind body is front allowed =
 pub in_two : (xs front back : List ℕ) (n : ℕ) → front ≡ take n xs → back ≡ drop n xs → front ++ back ≡ xs
 in_two xs front back n first second = ap₂ ◌++◌ first second ∙ take-append-drop n xs
 
--- the offsets before, and those that came behind them
-pub right_on : (rows : ℕ) (bytes before first more after behind : List ℕ) (n : ℕ) → first ≡ before → n ≡ length first
-    → after ≡ before ++ more → behind ≡ drop n after → AreRightFrames rows bytes first
-    → AreRightFrames rows bytes behind → AreRightFrames rows bytes after
-right_on rows bytes before first more after behind n same count on cut one two =
-    let wide : length before ≡ n = sym (count ∙ ap length same) in
-    let rest : behind ≡ more = cut ∙ ap (drop n) on ∙ drop_at before more n wide in
-    subst (AreRightFrames rows bytes) (sym on)
-    (All-append (λ (at : ℕ). IsRightFrame rows (drop at bytes)) before more
-    (subst (AreRightFrames rows bytes) same one) (subst (AreRightFrames rows bytes) rest two))
+-- where those up to a place are right, and those behind it, all are
+pub right_whole : (rows : ℕ) (bytes xs back : List ℕ) (n : ℕ) → back ≡ drop n xs → AreRightFrames rows bytes (take n xs)
+    → AreRightFrames rows bytes back → AreRightFrames rows bytes xs
+right_whole rows bytes xs back n cut one two =
+    subst (AreRightFrames rows bytes) (in_two xs (take n xs) back n refl cut)
+    (All-append (λ (at : ℕ). IsRightFrame rows (drop at bytes)) (take n xs) back one two)
+
+-- the offsets before stand in front of those with which the walk goes on
+pub right_front : (rows : ℕ) (bytes before more after : List ℕ) → after ≡ before ++ more
+    → AreRightFrames rows bytes before → AreRightFrames rows bytes (take (length before) after)
+right_front rows bytes before more after on right =
+    subst (AreRightFrames rows bytes)
+    (sym (ap (take (length before)) on ∙ take_at before more (length before) refl)) right
 
 -- ---- one frame more
 

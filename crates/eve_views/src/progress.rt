@@ -163,13 +163,15 @@ impl Progress {
         Ok(true)
     }
 
-    /// Goes on until there are so many frames, or up to the end, where there are fewer; nothing where anything is wrong
-    /// on the way, but for the bodies that aren't judged. Access frames aren't parted from their attempt.
+    /// Goes on until there are so many frames, or this byte is reached, or up to the end, where that comes before;
+    /// nothing where anything is wrong on the way, but for the bodies that aren't judged. Access frames aren't parted
+    /// from their attempt.
     pub fn go_on(
         self,
         head: Head,
         bytes: &[u8],
         most: usize,
+        until: usize,
     ) -> Result<Option<Progress>, AllocError>
         requires says { SaysHead bytes.now (limits head) }
         requires length { length bytes.now ≤ MOST_BYTES }
@@ -179,6 +181,7 @@ impl Progress {
     {
         let mut walked = self;
         'frames: while walked.offsets.len() < most
+            && walked.at < until
             && (!walked.reached.ended || walked.at < bytes.len())
         {
             if !walked.pass_frame(head, bytes)? || !walked.pass_accesses(head, bytes)? {

@@ -1,6 +1,6 @@
 //! The walk over a trace, with the bodies of batches, attempts and access records judged side by side.
 
-ghost use Rattle.std.specs.Prelude.{◌≡◌, ◌≤◌, length, IsTrue, IfOk, IfErr, IfSome};
+ghost use Rattle.std.specs.Prelude.{◌≡◌, ◌≤◌, length, take, IsTrue, IfOk, IfErr, IfSome};
 ghost use denote.Param.Send.{IsSync};
 ghost use Rattle.eve_grammar.specs.Bodies.{limits};
 ghost use Rattle.eve_grammar.specs.Kinds.{kind_byte};
@@ -92,43 +92,142 @@ fn are_right<R: Threads + Sync>(
     first && second
 }
 
-/// Whether the frames at these first offsets have right bodies, by so many threads; and what the walk finds that goes
-/// on from there to the end, by the caller beside them.
+/// Whether the frames at these offsets have right bodies, by so many threads; and what the walk finds that goes on from
+/// there up to a byte, or to the end, by the caller beside them.
 fn judge_and_go_on<R: Threads + Sync>(
     rt: &R,
     head: Head,
     bytes: &[u8],
-    first: Vec<u32>,
+    found: Vec<u32>,
     walked: Progress,
+    until: usize,
     fewer: usize,
 ) -> (bool, Result<Option<Progress>, AllocError>)
     requires says { SaysHead bytes.now (limits head) }
     requires length { length bytes.now ≤ MOST_BYTES }
     requires walked { IsWalkedUnjudged (limits head) bytes.now walked }
-    ensures right { IsTrue result.0 → AreRightFrames (row_count (limits head)) bytes.now first.items }
+    ensures right { IsTrue result.0 → AreRightFrames (row_count (limits head)) bytes.now found.items }
     ensures walked { IfOk result.1 (λ found. IfSome found (IsWalkedUnjudged (limits head) bytes.now)) }
     ensures kept { IfOk result.1 (λ found. IfSome found (WalksOn walked)) }
 {
     let rows = 2 * head.customers;
     let judge = move || -> bool
         requires { IsSync R.row × (rows ≤ MOST_NAMED_ROWS) }
-        ensures { IsTrue result → AreRightFrames rows bytes.entry.now first.items }
-    { are_right(rt, rows, bytes, first.as_slice(), fewer) };
+        ensures { IsTrue result → AreRightFrames rows bytes.entry.now found.items }
+    { are_right(rt, rows, bytes, found.as_slice(), fewer) };
     let go_on = move || -> Result<Option<Progress>, AllocError>
         requires says { SaysHead bytes.now (limits head) }
         requires length { length bytes.now ≤ MOST_BYTES }
         requires walked { IsWalkedUnjudged (limits head) bytes.now walked }
         ensures walked { IfOk result (λ found. IfSome found (IsWalkedUnjudged (limits head) bytes.entry.now)) }
         ensures kept { IfOk result (λ found. IfSome found (WalksOn walked)) }
-    { walked.go_on(head, bytes, usize::MAX) };
+    { walked.go_on(head, bytes, usize::MAX, until) };
     thread::join(rt, judge, go_on)
+}
+
+/// Goes on up to a byte, or to the end, while one thread fewer than so many judge the bodies of the frames that were
+/// found before, from the first on that wasn't judged; nothing where anything is wrong.
+fn go_on_and_judge<R: Threads + Sync>(
+    rt: &R,
+    alloc: Global,
+    head: Head,
+    bytes: &[u8],
+    walked: Progress,
+    judged: usize,
+    until: usize,
+    threads: usize,
+) -> Result<Option<Progress>, AllocError>
+    requires says { SaysHead bytes.now (limits head) }
+    requires length { length bytes.now ≤ MOST_BYTES }
+    requires walked { IsWalkedUnjudged (limits head) bytes.now walked }
+    requires there { judged ≤ length walked.offsets.items }
+    requires judged { AreRightFrames (row_count (limits head)) bytes.now (take judged walked.offsets.items) }
+    requires threads { 1 ≤ threads }
+    ensures walked { IfOk result (λ found. IfSome found (IsWalkedUnjudged (limits head) bytes.now)) }
+    ensures there { IfOk result (λ found. IfSome found (λ on.
+        length walked.offsets.items ≤ length on.offsets.items)) }
+    ensures judged { IfOk result (λ found. IfSome found (λ on.
+        AreRightFrames (row_count (limits head)) bytes.now (take (length walked.offsets.items) on.offsets.items))) }
+{
+    let (_, behind) = walked.offsets.as_slice().split_at(judged);
+    let last = Vec::from_slice(alloc, behind)?;
+    let (right, found) = judge_and_go_on(rt, head, bytes, last, walked, until, threads - 1);
+    let Some(on) = found? else {
+        return Ok(None);
+    };
+    if right { Ok(Some(on)) } else { Ok(None) }
+}
+
+/// The frames up to the end, which was reached, with the bodies judged that weren't yet, by so many threads; nothing
+/// where anything is wrong.
+fn judge_behind<R: Threads + Sync>(
+    rt: &R,
+    head: Head,
+    bytes: &[u8],
+    walked: Progress,
+    judged: usize,
+    threads: usize,
+) -> Option<Index>
+    requires says { SaysHead bytes.now (limits head) }
+    requires walked { IsWalkedUnjudged (limits head) bytes.now walked }
+    requires there { judged ≤ length walked.offsets.items }
+    requires judged { AreRightFrames (row_count (limits head)) bytes.now (take judged walked.offsets.items) }
+    ensures { IfSome result (IsIndex (limits head) bytes.now) }
+{
+    let (_, behind) = walked.offsets.as_slice().split_at(judged);
+    if are_right(rt, 2 * head.customers, bytes, behind, threads) {
+        walked.ended(head, bytes)
+    } else {
+        None
+    }
+}
+
+/// The frames up to the end, where the walk came up to there or so far, and so many bodies were judged; nothing where
+/// anything is wrong.
+fn judge_to_end<R: Threads + Sync>(
+    rt: &R,
+    alloc: Global,
+    head: Head,
+    bytes: &[u8],
+    walked: Progress,
+    judged: usize,
+    threads: usize,
+) -> Result<Option<Index>, AllocError>
+    requires says { SaysHead bytes.now (limits head) }
+    requires length { length bytes.now ≤ MOST_BYTES }
+    requires walked { IsWalkedUnjudged (limits head) bytes.now walked }
+    requires there { judged ≤ length walked.offsets.items }
+    requires judged { AreRightFrames (row_count (limits head)) bytes.now (take judged walked.offsets.items) }
+    requires threads { 1 ≤ threads }
+    ensures { IfOk result (λ found. IfSome found (IsIndex (limits head) bytes.now)) }
+{
+    if bytes.len() <= walked.at {
+        return Ok(judge_behind(rt, head, bytes, walked, judged, threads));
+    }
+    let count = walked.offsets.len();
+    let found = go_on_and_judge(rt, alloc, head, bytes, walked, judged, usize::MAX, threads)?;
+    let Some(on) = found else {
+        return Ok(None);
+    };
+    Ok(judge_behind(rt, head, bytes, on, count, threads))
+}
+
+/// Up to which byte the caller walks while the other threads judge the batches, which end at this byte: with two
+/// threads to the end, else so far that the others judge what was found up to there about as long as the caller walks
+/// on from there.
+fn first_stop(at: usize, end: usize, threads: usize) -> usize {
+    if threads < 3 || end <= at {
+        return usize::MAX;
+    }
+    at + (end - at) / 5 * 3
 }
 
 /// Finds the frames after a header, with the bodies of batches, attempts and access records judged by so many threads;
 /// nothing where anything is wrong.
 ///
 /// The caller walks over the customers and the batches, which have most bytes in few frames. The other threads judge
-/// their bodies, while the caller walks on to the end; then all of them judge the bodies behind the batches.
+/// their bodies while the caller walks on; where there are three threads or more they judge what it found then while it
+/// walks to the end. Then all of them judge the bodies that are left.
 fn index_judged<R: Threads + Sync>(
     rt: &R,
     alloc: Global,
@@ -143,21 +242,16 @@ fn index_judged<R: Threads + Sync>(
     ensures { IfOk result (λ found. IfSome found (IsIndex (limits head) bytes.now)) }
 {
     let most = head.customers as usize + head.batches as usize;
-    let Some(walked) = Progress::start(alloc, head).go_on(head, bytes, most)? else {
+    let Some(walked) = Progress::start(alloc, head).go_on(head, bytes, most, usize::MAX)? else {
         return Ok(None);
     };
-    let first = Vec::from_slice(alloc, walked.offsets.as_slice())?;
-    let count = first.len();
-    let (right, found) = judge_and_go_on(rt, head, bytes, first, walked, threads - 1);
-    let Some(walked) = found? else {
+    let count = walked.offsets.len();
+    let until = first_stop(walked.at, bytes.len(), threads);
+    let found = go_on_and_judge(rt, alloc, head, bytes, walked, 0, until, threads)?;
+    let Some(on) = found else {
         return Ok(None);
     };
-    let (_, behind) = walked.offsets.as_slice().split_at(count);
-    if right && are_right(rt, 2 * head.customers, bytes, behind, threads) {
-        Ok(walked.ended(head, bytes))
-    } else {
-        Ok(None)
-    }
+    judge_to_end(rt, alloc, head, bytes, on, count, threads)
 }
 
 /// Finds the frames after a header, with the bodies of batches, attempts and access records judged in as many threads
