@@ -39,21 +39,43 @@ pub fn set_total(bytes: &mut [u8]) {
     }
 }
 
+/// Adds bytes that are kept, which are there if the change before them lies within the trace and before the next.
+fn push_kept(out: &mut Vec<u8>, kept: Option<&[u8]>) -> Result<()> {
+    Ok(out.extend_from_slice(kept.context("changes in their order, within the trace")?)?)
+}
+
+/// Adds the bytes from a place on up to the change of a word, and those of the change. The place behind it.
+fn push_change(
+    out: &mut Vec<u8>,
+    alloc: Global,
+    bytes: &[u8],
+    done: usize,
+    word: &str,
+) -> Result<usize> {
+    let change = change_of(alloc, word)?;
+    push_kept(out, bytes.get(done..change.from))?;
+    out.extend_from_slice(change.bytes.as_slice())?;
+    Ok(change.to)
+}
+
+/// Adds the bytes up to the last of the changes, with all of them. The place behind it.
+fn push_changes(out: &mut Vec<u8>, alloc: Global, bytes: &[u8], words: &str) -> Result<usize> {
+    let mut done = 0;
+    for word in words.split(' ') {
+        done = push_change(out, alloc, bytes, done, word)?;
+    }
+    Ok(done)
+}
+
 /// The bytes with all changes, which come in the order of their places. Where their number is another than before, the
 /// header gets it as its total.
-pub fn changed(alloc: Global, bytes: &[u8], words: &[&str]) -> Result<Vec<u8>> {
+pub fn changed(alloc: Global, bytes: &[u8], changes: Option<&str>) -> Result<Vec<u8>> {
     let mut out = Vec::new(alloc);
-    let mut done = 0;
-    for word in words {
-        let change = change_of(alloc, word)?;
-        let kept = bytes
-            .get(done..change.from)
-            .context("changes in their order")?;
-        out.extend_from_slice(kept)?;
-        out.extend_from_slice(change.bytes.as_slice())?;
-        done = change.to;
-    }
-    out.extend_from_slice(bytes.get(done..).context("a change within the trace")?)?;
+    let done = match changes {
+        Some(words) => push_changes(&mut out, alloc, bytes, words)?,
+        None => 0,
+    };
+    push_kept(&mut out, bytes.get(done..))?;
     if out.len() != bytes.len() {
         set_total(out.as_mut_slice());
     }

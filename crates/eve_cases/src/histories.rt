@@ -1,6 +1,9 @@
 //! What the libraries find of a trace's replicas and verifiers.
 
-use crate::texts::push_hex;
+ghost use Rattle.std.specs.Prelude.{◌≡◌, ◌<◌, ◌≤◌, length};
+ghost use Rattle.eve_history.specs.SectionHistory.{section_history};
+
+use crate::texts::Text;
 use eve_accounts::Balances;
 use eve_agree::equal_balances;
 use eve_chains::Settled;
@@ -10,161 +13,211 @@ use eve_history::History;
 use eve_views::{CheckFault, Trace};
 use eve_votes::Tally;
 use std::alloc::{AllocError, Global};
-use std::fmt::Write;
 
 /// A replica's attempts, with their fates.
-fn push_attempts(text: &mut String, history: &History) -> Result<(), AllocError> {
+fn push_attempts(text: &mut Text, history: &History) {
     for i in 0..history.attempts() {
         let offset = history.attempt(i).offset();
-        let fate = history.fate(i);
-        write!(text, "\n  attempt {i} at {offset}: {fate:?}")?;
+        text.numbers(&[("\n  attempt ", i as u64), (" at ", offset)]);
+        text.fate(": ", history.fate(i));
     }
-    Ok(())
 }
 
 /// By which attempts it committed its batches.
-fn push_commits(text: &mut String, history: &History) -> Result<(), AllocError> {
+fn push_commits(text: &mut Text, history: &History) {
     for n in 0..history.committed() {
         let attempt = history.committed_attempt(n + 1);
-        write!(text, "\n  batch {} by attempt {attempt}", n + 1)?;
+        text.number("\n  batch ", u64::from(n + 1));
+        text.number(" by attempt ", attempt as u64);
     }
-    Ok(())
 }
 
-fn push_rollbacks(text: &mut String, history: &History) -> Result<(), AllocError> {
+fn push_rollbacks(text: &mut Text, history: &History) {
     for i in 0..history.rollbacks() {
         let offset = history.rollback(i).offset();
-        write!(text, "\n  rollback {i} at {offset}")?;
+        text.numbers(&[("\n  rollback ", i as u64), (" at ", offset)]);
     }
-    Ok(())
 }
 
 /// A replica's attempts with their fates, its committed batches, and its rollbacks.
-fn push_history(text: &mut String, history: &History) -> Result<(), AllocError> {
-    let (replica, committed) = (history.replica(), history.committed());
-    write!(text, "\n replica {replica} committed {committed}")?;
-    push_attempts(text, history)?;
-    push_commits(text, history)?;
-    push_rollbacks(text, history)
+fn push_history(text: &mut Text, history: &History) {
+    text.number("\n replica ", u64::from(history.replica()));
+    text.number(" committed ", u64::from(history.committed()));
+    push_attempts(text, history);
+    push_commits(text, history);
+    push_rollbacks(text, history);
 }
 
-/// All balances, in row order.
-pub fn push_balances(text: &mut String, balances: &Balances) -> Result<(), AllocError> {
+/// All balances, in row order, behind their words.
+pub fn push_balances(text: &mut Text, words: &str, balances: &Balances) {
+    text.words(words);
     for cents in balances.as_slice() {
-        write!(text, " {}", cents.get())?;
+        text.cents(" ", cents.get());
     }
-    Ok(())
 }
 
-/// The balances after a batch, at once and by one batch from those after the batch before.
-fn push_after(
-    text: &mut String,
+/// The balances after so many batches, at once.
+fn push_at_once(
+    text: &mut Text,
+    words: &str,
     alloc: Global,
     settled: &Settled,
     n: u32,
-) -> Result<(), AllocError> {
-    if n >= settled.committed() {
-        return Ok(());
-    }
-    write!(text, "\n  after {}:", n + 1)?;
-    let mut balances = settled.balances_after(alloc, n)?;
-    settled.advance(n + 1, &mut balances);
-    push_balances(text, &balances)?;
-    text.push_str(", at once")?;
-    push_balances(text, &settled.balances_after(alloc, n + 1)?)
+) -> Result<(), AllocError>
+    requires { n ≤ length settled.now.batches }
+{
+    let balances = settled.balances_after(alloc, n)?;
+    push_balances(text, words, &balances);
+    Ok(())
 }
 
-/// The balances at the opening, and after each batch that was committed.
-fn push_settled(text: &mut String, alloc: Global, settled: &Settled) -> Result<(), AllocError> {
-    text.push_str("\n  after 0:")?;
-    push_balances(text, &settled.balances_after(alloc, 0)?)?;
+/// The balances after a batch, by one batch from those after the batch before.
+fn push_advanced(
+    text: &mut Text,
+    alloc: Global,
+    settled: &Settled,
+    n: u32,
+) -> Result<(), AllocError>
+    requires one { 1 ≤ n }
+    requires there { n ≤ length settled.now.batches }
+{
+    let mut balances = settled.balances_after(alloc, n - 1)?;
+    settled.advance(n, &mut balances);
+    push_balances(text, ":", &balances);
+    Ok(())
+}
+
+/// The balances at the opening, and after each batch that was committed: by one batch, and at once.
+fn push_settled(text: &mut Text, alloc: Global, settled: &Settled) -> Result<(), AllocError> {
+    push_at_once(text, "\n  after 0:", alloc, settled, 0)?;
     for n in 0..settled.committed() {
-        push_after(text, alloc, settled, n)?;
+        text.number("\n  after ", u64::from(n + 1));
+        push_advanced(text, alloc, settled, n + 1)?;
+        push_at_once(text, ", at once", alloc, settled, n + 1)?;
     }
     Ok(())
 }
 
+/// The balances after each batch that a replica committed, of its history.
+fn push_settled_of<'a>(
+    text: &mut Text,
+    alloc: Global,
+    trace: &Trace<'a>,
+    history: &History<'a>,
+) -> Result<(), AllocError>
+    requires { history.now ≡ section_history trace.now history.now.replica }
+{
+    let settled = Settled::of(alloc, history, trace)?;
+    push_settled(text, alloc, &settled)
+}
+
 /// A replica's history, and the balances after each batch that it committed.
-fn push_replica(text: &mut String, alloc: Global, trace: &Trace, e: u8) -> Result<(), CheckFault> {
+fn push_replica(text: &mut Text, alloc: Global, trace: &Trace, e: u8) -> Result<(), CheckFault> {
     trace.recall_limits();
     if e >= trace.section_count() {
         return Ok(());
     }
     let history = History::of(alloc, trace, e)?;
-    push_history(text, &history)?;
-    push_settled(text, alloc, &Settled::of(alloc, &history, trace)?)?;
+    push_history(text, &history);
+    push_settled_of(text, alloc, trace, &history)?;
     Ok(())
 }
 
-fn push_backers(
-    text: &mut String,
-    tally: &Tally,
-    n: u32,
-    view: u32,
-    token: &[u8; 32],
-) -> Result<(), AllocError> {
-    write!(text, "{} ", tally.votes_for(n, view, token))
+/// How many vote as a vote does, for its token in the next view, for its token of the next batch, and for no token.
+fn push_backers(text: &mut Text, tally: &Tally, n: u32, view: u32, token: &[u8; 32]) {
+    let its = tally.votes_for(n, view, token);
+    let next_view = tally.votes_for(n, view.saturating_add(1), token);
+    let next_batch = tally.votes_for(n.saturating_add(1), view, token);
+    let none = tally.votes_for(n, view, &[0; 32]);
+    text.numbers(&[
+        ("", u64::from(its)),
+        (" ", u64::from(next_view)),
+        (" ", u64::from(next_batch)),
+        (" ", u64::from(none)),
+    ]);
+    text.words(" ");
 }
 
 /// How many vote as a vote does, for its token in the next view, for its token of the next batch, and for no token; and
 /// whether the view of its batch is rolled back.
-fn push_vote(text: &mut String, tally: &Tally, view: &VoteView) -> Result<(), AllocError> {
+fn push_vote(text: &mut Text, tally: &Tally, view: VoteView) {
     let (n, at) = (view.seq(), view.view());
-    write!(text, "\n  batch {n} in view {at}: ")?;
+    text.numbers(&[("\n  batch ", u64::from(n)), (" in view ", u64::from(at))]);
+    text.words(": ");
     if let Choice::ForCommit(token) = view.choice() {
         if let Some(token) = token.first_chunk() {
-            push_backers(text, tally, n, at, token)?;
-            push_backers(text, tally, n, at.saturating_add(1), token)?;
-            push_backers(text, tally, n.saturating_add(1), at, token)?;
-            push_backers(text, tally, n, at, &[0; 32])?;
+            push_backers(text, tally, n, at, token);
         }
-        push_hex(text, token)?;
-        text.push_str(", ")?;
+        text.hex("", token);
+        text.words(", ");
     }
-    write!(text, "rolled back {}", tally.rolled_back(n, at))
+    text.holds("rolled back ", tally.rolled_back(n, at));
+}
+
+/// What is decided of a batch.
+fn push_decision(text: &mut Text, tally: &Tally, n: u32) {
+    text.number("\n batch ", u64::from(n));
+    match tally.decided(n) {
+        Some(decision) => {
+            let token = decision.1;
+            text.number(" decided in view ", u64::from(decision.0));
+            text.hex(": ", &token);
+        }
+        None => text.words(" not decided"),
+    }
+}
+
+/// How many vote as each vote of a verifier does.
+fn push_votes(text: &mut Text, tally: &Tally, trace: &Trace, verifier: u8)
+    requires { verifier < length trace.now.verifiers }
+{
+    let votes = trace.votes(verifier);
+    for i in 0..votes.len() {
+        push_vote(text, tally, votes.get(i));
+    }
 }
 
 /// What is decided of each batch, and how many vote as each vote does.
-fn push_tally(text: &mut String, alloc: Global, trace: &Trace) -> Result<(), CheckFault> {
-    let tally = Tally::of(alloc, trace)?;
+fn push_tallied(text: &mut Text, tally: &Tally, trace: &Trace) {
     for n in 0..trace.batch_count().saturating_add(2) {
-        write!(text, "\n batch {n} ")?;
-        match tally.decided(n) {
-            Some(decision) => {
-                let token = decision.1;
-                write!(text, "decided in view {}: ", decision.0)?;
-                push_hex(text, &token)?;
-            }
-            None => text.push_str("not decided")?,
-        }
+        push_decision(text, tally, n);
     }
     for verifier in 0..trace.verifier_count() {
-        let votes = trace.votes(verifier);
-        for i in 0..votes.len() {
-            push_vote(text, &tally, &votes.get(i))?;
-        }
+        push_votes(text, tally, trace, verifier);
     }
+}
+
+fn push_tally(text: &mut Text, alloc: Global, trace: &Trace) -> Result<(), CheckFault> {
+    let tally = Tally::of(alloc, trace)?;
+    push_tallied(text, &tally, trace);
     Ok(())
 }
 
 /// What two replicas come to together.
+fn agreement_of_two(alloc: Global, trace: &Trace) -> Result<(), CheckFault>
+    requires { length trace.now.sections ≡ 2 }
+{
+    let first = History::of(alloc, trace, 0)?;
+    let second = History::of(alloc, trace, 1)?;
+    let settled = [
+        Settled::of(alloc, &first, trace)?,
+        Settled::of(alloc, &second, trace)?,
+    ];
+    equal_balances(alloc, trace, &[first, second], &settled)
+}
+
+/// What the replicas of a trace with two come to together.
 pub fn agreement(alloc: Global, bytes: &[u8]) -> Result<(), CheckFault> {
     let trace = Trace::read(alloc, bytes)?;
     trace.recall_limits();
     if trace.section_count() != 2 {
         return Ok(());
     }
-    let first = History::of(alloc, &trace, 0)?;
-    let second = History::of(alloc, &trace, 1)?;
-    let settled = [
-        Settled::of(alloc, &first, &trace)?,
-        Settled::of(alloc, &second, &trace)?,
-    ];
-    equal_balances(alloc, &trace, &[first, second], &settled)
+    agreement_of_two(alloc, &trace)
 }
 
 /// What each replica did and committed, and what the verifiers decided.
-pub fn push_findings(text: &mut String, alloc: Global, trace: &Trace) -> Result<(), CheckFault> {
+pub fn push_findings(text: &mut Text, alloc: Global, trace: &Trace) -> Result<(), CheckFault> {
     for e in 0..trace.section_count() {
         push_replica(text, alloc, trace, e)?;
     }

@@ -30,15 +30,31 @@ mod texts;
 
 use anyhow::{Context, Result, bail};
 use std::fs;
+use std::fs::Files;
 use std::random::RandomSource;
 use std::sync::Wait;
 use std::thread::Threads;
 
 /// The bytes of a trace of `data`.
-fn bytes_of(rt: &HostRuntime, file: &str) -> Result<Vec<u8>> {
+fn bytes_of<R: AllocGlobal + Files>(rt: &R, file: &str) -> Result<Vec<u8>> {
     let mut path = file.to_string(rt.alloc())?;
     path.push_str(".trace")?;
     Ok(fs::read(rt, path.as_str())?)
+}
+
+/// What is said of a trace that is changed first.
+fn changed_answer<R: AllocGlobal + RandomSource + Threads + Wait + Sync>(
+    rt: &R,
+    call: &str,
+    bytes: &[u8],
+    changes: Option<&str>,
+) -> Result<String> {
+    let bytes = change::changed(rt.alloc(), bytes, changes)?;
+    match call {
+        "audit" => Ok(audits::by_all(rt, bytes.as_slice())?),
+        "tell" => findings::told(rt, bytes.as_slice()),
+        _ => bail!("no such call"),
+    }
 }
 
 /// What is said of a trace.
@@ -46,34 +62,37 @@ fn answer_of<R: AllocGlobal + RandomSource + Threads + Wait + Sync>(
     rt: &R,
     call: &str,
     bytes: &[u8],
-    more: &[&str],
+    more: Option<&str>,
 ) -> Result<String> {
     match call {
-        "audit" => audits::by_all(rt, change::changed(rt.alloc(), bytes, more)?.as_slice()),
-        "fronts" => sweeps::fronts(rt, bytes),
-        "lengths" => sweeps::lengths(rt, bytes, more.first().context("a place")?.parse()?),
-        "bytes" => sweeps::bytes(rt, bytes),
-        "each-one-higher" => sweeps::each_one_higher(rt, bytes),
+        "fronts" | "lengths" | "bytes" | "each-one-higher" => {
+            sweeps::swept(rt, call, bytes, more)
+        }
         "one" => sweeps::one(rt, bytes),
         "agree" => findings::agreed(rt, bytes),
         "meet" => meeting::meet(rt, bytes),
-        "tell" => findings::told(rt, change::changed(rt.alloc(), bytes, more)?.as_slice()),
-        _ => bail!("no such call"),
+        _ => changed_answer(rt, call, bytes, more),
     }
+}
+
+/// The answer to a line.
+fn answer_to<R: AllocGlobal + Files + RandomSource + Threads + Wait + Sync>(
+    rt: &R,
+    line: &str,
+) -> Result<String> {
+    let (call, rest) = line.split_once(' ').context("a call and a file")?;
+    let (file, more) = match rest.split_once(' ') {
+        Some((file, more)) => (file, Some(more)),
+        None => (rest, None),
+    };
+    let bytes = bytes_of(rt, file)?;
+    answer_of(rt, call, bytes.as_slice(), more)
 }
 
 fn main(rt: HostRuntime) -> Result<()> {
     for line in rt.lines(rt.alloc()) {
         let line = line?;
-        let mut words = Vec::new(rt.alloc());
-        for word in line.as_str().split(' ') {
-            words.push(word)?;
-        }
-        let [call, file, more @ ..] = words.as_slice() else {
-            bail!("a call and a file");
-        };
-        let bytes = bytes_of(&rt, file)?;
-        let answer = answer_of(&rt, call, bytes.as_slice(), more)?;
+        let answer = answer_to(&rt, line.as_str())?;
         println!(rt; "{line}: {answer}")?;
     }
     Ok(())

@@ -1,5 +1,6 @@
 //! Two workers that are at their replicas at the same time.
 
+use crate::texts::Text;
 use anyhow::Result;
 use eve_audit::{Verdict, audit};
 use eve_recorder::Gate;
@@ -47,6 +48,9 @@ pub fn meet<R: AllocGlobal + RandomSource + Threads + Wait + Sync>(
     let verdict = audit(rt, rt.alloc(), bytes, 2, RandomState::new(rt)?, &gate);
     let entered = gate.entered.load(Ordering::SeqCst);
     let met = gate.met.load(Ordering::SeqCst);
-    let is_yes = matches!(verdict, Ok(Verdict::Yes(_)));
-    Ok(format!(in rt.alloc(); "{entered} entered, {met} met, yes {is_yes}")?)
+    let mut text = Text::new(rt.alloc());
+    text.number("", entered);
+    text.number(" entered, ", met);
+    text.holds(" met, yes ", matches!(verdict, Ok(Verdict::Yes(_))));
+    Ok(text.all()?)
 }

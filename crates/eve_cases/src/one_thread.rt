@@ -1,13 +1,12 @@
 //! What SmallBank on one thread makes of a trace's batches, request after request.
 
 use crate::histories::push_balances;
-use crate::texts::{push_reply, push_request};
+use crate::texts::{Text, push_change, push_done, push_reply, push_request};
 use eve_accounts::{Balances, Cents, MOST_NAMES, Names, Row};
 use eve_history::orders;
-use eve_smallbank::{Kind, Request, Touched, UpToThree, apply, decide, touched};
+use eve_smallbank::{Effect, Kind, Request, Touched, UpToThree, apply, decide, touched};
 use eve_views::{CheckFault, Trace};
 use std::alloc::{AllocError, Global};
-use std::fmt::Write;
 use std::hash::RandomState;
 
 /// Sets the balance of a row that is there.
@@ -44,93 +43,68 @@ fn seen_of(rows: &UpToThree<(Row, Kind)>, balances: &Balances) -> [Cents; 3] {
     seen
 }
 
+fn push_effect(text: &mut Text, row: Row, seen: Cents, effect: Effect) {
+    push_done(text, effect.kind, row);
+    push_change(text, seen, effect.after);
+}
+
 /// What `decide` makes of the rows that a request touches: the reply, and of each row what is done, from which value to
 /// which.
-fn push_decision(
-    text: &mut String,
-    names: &Names,
-    balances: &Balances,
-    request: &Request,
-) -> Result<(), AllocError> {
+fn push_decision(text: &mut Text, names: &Names, balances: &Balances, request: &Request) {
     let reached = touched(request, names);
     let rows = reached.rows();
     let seen = seen_of(&rows, balances);
     let decision = decide(request, &reached, &seen[..rows.len()]);
-    push_reply(text, decision.reply)?;
+    push_reply(text, decision.reply);
     if decision.effects.is_empty() {
-        text.push_str(", no row")?;
+        text.words(", no row");
     }
     for place in 0..rows.len() {
         let (row, _) = rows.at(place);
-        let effect = decision.effects.at(place);
-        let done = if effect.kind.is_write() {
-            "writes"
-        } else {
-            "reads"
-        };
-        write!(text, ", {done} row {}", row.number())?;
-        write!(
-            text,
-            " from {} to {}",
-            seen[place].get(),
-            effect.after.get()
-        )?;
+        push_effect(text, row, seen[place], decision.effects.at(place));
     }
-    Ok(())
 }
 
 /// One request: what is decided of it, and the reply that `apply` makes.
-fn push_served(
-    text: &mut String,
-    names: &Names,
-    balances: &mut Balances,
-    request: &Request,
-) -> Result<(), AllocError> {
+fn push_served(text: &mut Text, names: &Names, balances: &mut Balances, request: &Request) {
     if balances.len() != 2 * names.len() as usize {
-        return Ok(());
+        return;
     }
-    text.push_str("\n  ")?;
-    push_request(text, request)?;
-    text.push_str(": ")?;
-    push_decision(text, names, balances, request)?;
+    text.words("\n  ");
+    push_request(text, request);
+    text.words(": ");
+    push_decision(text, names, balances, request);
     let reply = apply(balances, names, request);
-    text.push_str("; ")?;
-    push_reply(text, reply)
+    text.words("; ");
+    push_reply(text, reply);
 }
 
 /// All requests of all batches, one after another.
-fn push_batches(
-    text: &mut String,
-    trace: &Trace,
-    names: &Names,
-    balances: &mut Balances,
-) -> Result<(), AllocError> {
+fn push_batches(text: &mut Text, trace: &Trace, names: &Names, balances: &mut Balances) {
     for n in 0..trace.batch_count() {
         for asked in trace.batch(n + 1).requests() {
-            push_served(text, names, balances, &asked.request)?;
+            push_served(text, names, balances, &asked.request);
         }
     }
-    Ok(())
 }
 
 /// The balances at the opening, what is made of all requests, and the balances after them.
 fn push_run(
-    text: &mut String,
+    text: &mut Text,
     alloc: Global,
     trace: &Trace,
     names: &Names,
 ) -> Result<(), AllocError> {
     let mut balances = opening_of(alloc, trace)?;
-    text.push_str("\n balances")?;
-    push_balances(text, &balances)?;
-    push_batches(text, trace, names, &mut balances)?;
-    text.push_str("\n balances")?;
-    push_balances(text, &balances)
+    push_balances(text, "\n balances", &balances);
+    push_batches(text, trace, names, &mut balances);
+    push_balances(text, "\n balances", &balances);
+    Ok(())
 }
 
 /// The balances at the opening, all requests of all batches, one after another, and the balances after them.
 pub fn push_served_all(
-    text: &mut String,
+    text: &mut Text,
     alloc: Global,
     trace: &Trace,
     random: RandomState,

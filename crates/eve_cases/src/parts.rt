@@ -1,263 +1,301 @@
 //! The parts of a trace as they are lent, frame by frame.
 
-use crate::texts::{push_entry, push_hex, push_name, push_reply, push_request};
+use crate::texts::{Text, push_entry, push_reply, push_request};
 use eve_frames::{
-    AccessView, AttemptView, BatchView, CommitView, CustomerView, RollbackView, SentView, VoteView,
+    AccessView, AttemptView, BatchView, CommitView, CustomerView, FrameView, RollbackView,
+    SentView, VoteView,
 };
-use eve_grammar::Choice;
+use eve_grammar::{Choice, Restore};
 use eve_views::{Accesses, Step, Trace};
-use std::alloc::AllocError;
-use std::fmt::Write;
 
 /// That what an iterator gives isn't what is lent by place.
-fn push_unlike(text: &mut String, is_unlike: bool) -> Result<(), AllocError> {
-    text.push_str(if is_unlike { "(unlike)" } else { "" })
+fn push_unlike(text: &mut Text, is_unlike: bool) {
+    text.words(if is_unlike { "(unlike)" } else { "" });
 }
 
 /// A customer: its name, saving and checking.
-fn push_customer(text: &mut String, view: &CustomerView) -> Result<(), AllocError> {
-    write!(text, "\n  {} customer ", view.offset())?;
-    push_name(text, view.name())?;
-    write!(
-        text,
-        " saves {} checks {}",
-        view.saving().get(),
-        view.checking().get()
-    )
+fn push_customer(text: &mut Text, view: CustomerView) {
+    text.number("\n  ", view.offset());
+    text.name(" customer ", view.name());
+    text.cents(" saves ", view.saving().get());
+    text.cents(" checks ", view.checking().get());
 }
 
-/// A batch: its number, the sizes of its parallelBatches, and its requests.
-fn push_batch(text: &mut String, view: &BatchView) -> Result<(), AllocError> {
-    write!(text, "\n  {} batch {}, of", view.offset(), view.seq())?;
-    for group in 0..view.groups() {
-        write!(text, " {}", view.group(group))?;
-    }
+/// Who asks.
+fn push_client(text: &mut Text, client: u32, number: u64) {
+    text.numbers(&[("; ", u64::from(client)), ("/", number)]);
+    text.words(" ");
+}
+
+/// The requests of a batch.
+fn push_requests(text: &mut Text, view: BatchView) {
     let mut all = view.requests();
     for i in 0..view.len() {
         if let Some(asked) = all.next() {
-            write!(text, "; {}/{} ", asked.client, asked.number)?;
+            push_client(text, asked.client, asked.number);
         }
-        push_request(text, &view.request(i))?;
+        push_request(text, &view.request(i));
     }
-    Ok(())
+}
+
+/// A batch: its number, the sizes of its parallelBatches, and its requests.
+fn push_batch(text: &mut Text, view: BatchView) {
+    text.numbers(&[("\n  ", view.offset()), (" batch ", u64::from(view.seq()))]);
+    text.words(", of");
+    for group in 0..view.groups() {
+        text.number(" ", u64::from(view.group(group)));
+    }
+    push_requests(text, view);
+}
+
+/// An attempt's certificate.
+fn push_certificate(text: &mut Text, view: AttemptView) {
+    let mut all = view.certificate();
+    for place in 0..view.len() {
+        let index = view.index_at(place);
+        text.number(" ", u64::from(index));
+        push_unlike(text, all.next() != Some(index));
+    }
+}
+
+/// An attempt's replies, by request.
+fn push_replies(text: &mut Text, view: AttemptView) {
+    let mut all = view.replies();
+    for i in 0..view.len() {
+        let reply = view.reply(i);
+        text.words(", ");
+        push_reply(text, reply);
+        push_unlike(text, all.next() != Some(reply));
+    }
 }
 
 /// An attempt: its batch, view and mode, its certificate, and its replies by request.
-fn push_attempt(text: &mut String, view: &AttemptView) -> Result<(), AllocError> {
-    let mode = if view.is_serial() {
-        "serial"
+fn push_attempt(text: &mut Text, view: AttemptView) {
+    text.numbers(&[
+        ("\n  ", view.offset()),
+        (" attempt ", u64::from(view.seq())),
+        (" in view ", u64::from(view.view())),
+    ]);
+    text.words(if view.is_serial() {
+        ", serial, order"
     } else {
-        "parallel"
-    };
-    write!(
-        text,
-        "\n  {} attempt {} in view {}, {mode}, order",
-        view.offset(),
-        view.seq(),
-        view.view()
-    )?;
-    let mut all = view.certificate();
-    for place in 0..view.len() {
-        write!(text, " {}", view.index_at(place))?;
-        push_unlike(text, all.next() != Some(view.index_at(place)))?;
-    }
-    let mut all = view.replies();
+        ", parallel, order"
+    });
+    push_certificate(text, view);
+    push_replies(text, view);
+    text.hex(", token ", view.token());
+}
+
+/// The entries of an access record.
+fn push_entries(text: &mut Text, view: AccessView) {
+    let mut all = view.entries();
     for i in 0..view.len() {
-        text.push_str(", ")?;
-        push_reply(text, view.reply(i))?;
-        push_unlike(text, all.next() != Some(view.reply(i)))?;
+        push_entry(text, view.entry(i));
+        push_unlike(text, all.next() != Some(view.entry(i)));
     }
-    text.push_str(", token ")?;
-    push_hex(text, view.token())
+    push_unlike(text, all.next().is_some());
 }
 
 /// An access record: its worker, the worker's place, its request's index, and its entries.
-fn push_access(text: &mut String, view: &AccessView) -> Result<(), AllocError> {
-    write!(
-        text,
-        "\n  {} access by worker {} at {} of request {}",
-        view.offset(),
-        view.worker(),
-        view.place(),
-        view.index()
-    )?;
-    let mut all = view.entries();
-    for i in 0..view.len() {
-        text.push(',')?;
-        push_entry(text, &view.entry(i))?;
-        push_unlike(text, all.next() != Some(view.entry(i)))?;
-    }
-    push_unlike(text, all.next().is_some())
+fn push_access(text: &mut Text, view: AccessView) {
+    text.numbers(&[
+        ("\n  ", view.offset()),
+        (" access by worker ", u64::from(view.worker())),
+        (" at ", u64::from(view.place())),
+        (" of request ", u64::from(view.index())),
+    ]);
+    push_entries(text, view);
 }
 
-fn push_accesses(text: &mut String, accesses: &Accesses) -> Result<(), AllocError> {
+fn push_accesses(text: &mut Text, accesses: &Accesses) {
     for i in 0..accesses.len() {
-        push_access(text, &accesses.get(i))?;
+        push_access(text, accesses.get(i));
     }
-    Ok(())
 }
 
-fn push_commit(text: &mut String, view: &CommitView) -> Result<(), AllocError> {
-    write!(
-        text,
-        "\n  {} commit {} in view {}, token ",
-        view.offset(),
-        view.seq(),
-        view.view()
-    )?;
-    push_hex(text, view.token())
+fn push_commit(text: &mut Text, view: CommitView) {
+    text.numbers(&[
+        ("\n  ", view.offset()),
+        (" commit ", u64::from(view.seq())),
+        (" in view ", u64::from(view.view())),
+    ]);
+    text.hex(", token ", view.token());
+}
+
+fn push_restore(text: &mut Text, restore: Restore) {
+    text.numbers(&[
+        (", row ", u64::from(restore.row.number())),
+        (" version ", restore.version),
+    ]);
+    text.cents(" value ", restore.value.get());
+}
+
+/// What a rollback restores.
+fn push_restores(text: &mut Text, view: RollbackView) {
+    let mut all = view.restores();
+    for i in 0..view.len() {
+        push_restore(text, view.restore(i));
+        push_unlike(text, all.next() != Some(view.restore(i)));
+    }
+    push_unlike(text, all.next().is_some());
 }
 
 /// A rollback: to which batch, into which view, and what it restores.
-fn push_rollback(text: &mut String, view: &RollbackView) -> Result<(), AllocError> {
-    write!(
-        text,
-        "\n  {} rollback to {} into view {}",
-        view.offset(),
-        view.to(),
-        view.view()
-    )?;
-    let mut all = view.restores();
-    for i in 0..view.len() {
-        let restore = view.restore(i);
-        let row = restore.row.number();
-        let value = restore.value.get();
-        write!(
-            text,
-            ", row {row} version {} value {value}",
-            restore.version
-        )?;
-        push_unlike(text, all.next() != Some(restore))?;
-    }
-    push_unlike(text, all.next().is_some())
+fn push_rollback(text: &mut Text, view: RollbackView) {
+    text.numbers(&[
+        ("\n  ", view.offset()),
+        (" rollback to ", u64::from(view.to())),
+        (" into view ", u64::from(view.view())),
+    ]);
+    push_restores(text, view);
 }
 
-fn push_vote(text: &mut String, view: &VoteView) -> Result<(), AllocError> {
-    write!(
-        text,
-        "\n  {} vote on {} in view {} for ",
-        view.offset(),
-        view.seq(),
-        view.view()
-    )?;
+fn push_vote(text: &mut Text, view: VoteView) {
+    text.numbers(&[
+        ("\n  ", view.offset()),
+        (" vote on ", u64::from(view.seq())),
+        (" in view ", u64::from(view.view())),
+    ]);
     match view.choice() {
-        Choice::ForRollback => text.push_str("rollback"),
-        Choice::ForCommit(token) => push_hex(text, token),
+        Choice::ForRollback => text.words(" for rollback"),
+        Choice::ForCommit(token) => text.hex(" for ", token),
     }
 }
 
-fn push_sent(text: &mut String, view: &SentView) -> Result<(), AllocError> {
-    write!(
-        text,
-        "\n  {} sent to {}/{} by replica {} of batch {}: ",
-        view.offset(),
-        view.client(),
-        view.number(),
-        view.replica(),
-        view.seq()
-    )?;
-    push_reply(text, view.reply())
+fn push_sent(text: &mut Text, view: SentView) {
+    text.numbers(&[
+        ("\n  ", view.offset()),
+        (" sent to ", u64::from(view.client())),
+        ("/", view.number()),
+        (" by replica ", u64::from(view.replica())),
+        (" of batch ", u64::from(view.seq())),
+    ]);
+    text.words(": ");
+    push_reply(text, view.reply());
+}
+
+fn push_step(text: &mut Text, step: Step) {
+    match step {
+        Step::Attempt(view, accesses) => {
+            push_attempt(text, view);
+            push_accesses(text, &accesses)
+        }
+        Step::Commit(view) => push_commit(text, view),
+        Step::Rollback(view) => push_rollback(text, view),
+    }
 }
 
 /// What a replica did, step by step.
-fn push_section(text: &mut String, trace: &Trace, replica: u8) -> Result<(), AllocError> {
+fn push_section(text: &mut Text, trace: &Trace, replica: u8) {
     if replica >= trace.section_count() {
-        return Ok(());
+        return;
     }
-    write!(text, "\n replica {replica}")?;
+    text.number("\n replica ", u64::from(replica));
     let mut steps = trace.section(replica);
     for _ in 0..trace.frame_count() {
         let Some(step) = steps.next() else {
             break;
         };
-        match step {
-            Step::Attempt(view, accesses) => {
-                push_attempt(text, &view)?;
-                push_accesses(text, &accesses)?;
-            }
-            Step::Commit(view) => push_commit(text, &view)?,
-            Step::Rollback(view) => push_rollback(text, &view)?,
-        }
+        push_step(text, step);
     }
-    Ok(())
 }
 
-fn push_votes(text: &mut String, trace: &Trace, verifier: u8) -> Result<(), AllocError> {
+fn push_votes(text: &mut Text, trace: &Trace, verifier: u8) {
     if verifier >= trace.verifier_count() {
-        return Ok(());
+        return;
     }
-    write!(text, "\n verifier {verifier}")?;
+    text.number("\n verifier ", u64::from(verifier));
     let votes = trace.votes(verifier);
     for i in 0..votes.len() {
-        push_vote(text, &votes.get(i))?;
+        push_vote(text, votes.get(i));
     }
-    Ok(())
+}
+
+/// The header's numbers.
+fn push_head(text: &mut Text, trace: &Trace) {
+    let head = trace.head();
+    text.numbers(&[
+        ("\n ", u64::from(head.replicas)),
+        (" replicas, ", u64::from(head.verifiers)),
+        (" verifiers, quorum ", u64::from(head.quorum)),
+        (", window ", u64::from(head.window)),
+        (", workers ", u64::from(head.workers)),
+        (", ", u64::from(head.customers)),
+        (" customers, ", u64::from(head.batches)),
+    ]);
+    text.words(" batches");
+}
+
+fn push_customers(text: &mut Text, trace: &Trace) {
+    for i in 0..trace.customer_count() {
+        push_customer(text, trace.customer(i));
+    }
+}
+
+fn push_batches(text: &mut Text, trace: &Trace) {
+    for n in 0..trace.batch_count() {
+        push_batch(text, trace.batch(n + 1));
+    }
+}
+
+fn push_sections(text: &mut Text, trace: &Trace) {
+    for replica in 0..trace.section_count() {
+        push_section(text, trace, replica);
+    }
+}
+
+fn push_verifiers(text: &mut Text, trace: &Trace) {
+    for verifier in 0..trace.verifier_count() {
+        push_votes(text, trace, verifier);
+    }
+}
+
+fn push_all_sent(text: &mut Text, trace: &Trace) {
+    text.words("\n sent");
+    for i in 0..trace.sent_count() {
+        push_sent(text, trace.sent(i));
+    }
 }
 
 /// The header's numbers, and every part.
-pub fn push_parts(text: &mut String, trace: &Trace) -> Result<(), AllocError> {
-    let head = trace.head();
-    write!(
-        text,
-        "\n {} replicas, {} verifiers, quorum {}",
-        head.replicas, head.verifiers, head.quorum
-    )?;
-    write!(text, ", window {}, workers {}", head.window, head.workers)?;
-    write!(
-        text,
-        ", {} customers, {} batches",
-        head.customers, head.batches
-    )?;
-    for i in 0..trace.customer_count() {
-        push_customer(text, &trace.customer(i))?;
-    }
-    for n in 0..trace.batch_count() {
-        push_batch(text, &trace.batch(n + 1))?;
-    }
-    for replica in 0..trace.section_count() {
-        push_section(text, trace, replica)?;
-    }
-    for verifier in 0..trace.verifier_count() {
-        push_votes(text, trace, verifier)?;
-    }
-    text.push_str("\n sent")?;
-    for i in 0..trace.sent_count() {
-        push_sent(text, &trace.sent(i))?;
-    }
-    Ok(())
+pub fn push_parts(text: &mut Text, trace: &Trace) {
+    push_head(text, trace);
+    push_customers(text, trace);
+    push_batches(text, trace);
+    push_sections(text, trace);
+    push_verifiers(text, trace);
+    push_all_sent(text, trace);
 }
 
 /// The replica in whose section a byte lies.
-fn push_section_of(text: &mut String, trace: &Trace, offset: u64) -> Result<(), AllocError> {
+fn push_section_of(text: &mut Text, trace: &Trace, offset: u64) {
     match trace.section_of(offset) {
-        Some(replica) => write!(text, " of {replica}"),
-        None => Ok(()),
+        Some(replica) => text.number(" of ", u64::from(replica)),
+        None => {}
     }
 }
 
-/// Every frame: where it begins, its kind, the length of its body, in whose section its first and its last byte lie,
-/// and its bytes.
-pub fn push_frames(text: &mut String, trace: &Trace) -> Result<(), AllocError> {
+/// A frame: where it begins, its kind, the length of its body, in whose section its first and its last byte lie, and
+/// its bytes.
+fn push_frame(text: &mut Text, trace: &Trace, frame: FrameView) {
+    let offset = frame.offset();
+    let length = frame.body_len() as u64;
+    text.number("\n  ", offset);
+    text.words(" ");
+    text.words(frame.kind_name());
+    text.number(" ", length);
+    push_section_of(text, trace, offset);
+    push_section_of(text, trace, offset.saturating_add(length + 4));
+    text.hex(": ", frame.bytes());
+}
+
+/// Every frame.
+pub fn push_frames(text: &mut Text, trace: &Trace) {
     let mut frames = trace.frames();
     for _ in 0..trace.frame_count() {
         let Some(frame) = frames.next() else {
             break;
         };
-        let offset = frame.offset();
-        write!(
-            text,
-            "\n  {offset} {} {}",
-            frame.kind_name(),
-            frame.body_len()
-        )?;
-        push_section_of(text, trace, offset)?;
-        push_section_of(
-            text,
-            trace,
-            offset.saturating_add(frame.body_len() as u64 + 4),
-        )?;
-        text.push_str(": ")?;
-        push_hex(text, frame.bytes())?;
+        push_frame(text, trace, frame);
     }
-    Ok(())
 }

@@ -1,32 +1,59 @@
 //! What is said of many numbers, in few lines.
 
-use std::alloc::AllocError;
-use std::fmt::Write;
+use crate::texts::Text;
+use std::alloc::{AllocError, Global};
 
-/// What is said of a number.
+/// A text with a line for each range of numbers, which rise, of which the same is said.
 #[derive(Drop)]
-pub struct Said {
-    pub number: usize,
-    pub line: String,
+pub struct Ranges {
+    text: Text,
+    /// The range that isn't written yet, and what is said of it; nothing where there is none.
+    from: usize,
+    to: usize,
+    line: String,
 }
 
-/// A line for each range of numbers, which rise, of which the same is said.
-pub fn ranges(text: &mut String, all: &[Said]) -> Result<(), AllocError> {
-    let mut begun: Option<&Said> = None;
-    let mut last = 0;
-    for each in all {
-        match begun {
-            Some(first) if first.line != each.line => {
-                write!(text, "\n  {} to {last}: {}", first.number, first.line)?;
-                begun = Some(each);
-            }
-            Some(_) => {}
-            None => begun = Some(each),
+impl Ranges {
+    pub fn new(alloc: Global) -> Ranges {
+        Ranges {
+            text: Text::new(alloc),
+            from: 0,
+            to: 0,
+            line: String::new(alloc),
         }
-        last = each.number;
     }
-    if let Some(first) = begun {
-        write!(text, "\n  {} to {last}: {}", first.number, first.line)?;
+
+    /// Ends the range, and adds words.
+    pub fn head(&mut self, words: &str) {
+        self.end();
+        self.line.clear();
+        self.text.words(words);
     }
-    Ok(())
+
+    /// Says something of the next number.
+    pub fn say(&mut self, number: usize, line: String) {
+        if self.line != line {
+            self.end();
+            self.from = number;
+            self.line = line;
+        }
+        self.to = number;
+    }
+
+    fn end(&mut self) {
+        if self.line.is_empty() {
+            return;
+        }
+        let (from, to) = (self.from as u64, self.to as u64);
+        self.text.numbers(&[("\n  ", from), (" to ", to)]);
+        self.text.words(": ");
+        self.text.words(self.line.as_str());
+    }
+
+    /// The text, with the last range.
+    pub fn all(mut self) -> Result<String, AllocError> {
+        self.end();
+        let Ranges { text, .. } = self;
+        text.all()
+    }
 }

@@ -1,81 +1,142 @@
-//! Texts of what a frame's fields hold.
+//! A text, and what a frame's fields hold.
 
-use eve_accounts::Row;
-use eve_grammar::{Choice, Restore};
-use eve_smallbank::{Abort, Entry, Reply, Request};
-use std::alloc::AllocError;
+use eve_accounts::{Amount, Cents, Row};
+use eve_history::Fate;
+use eve_smallbank::{Abort, Entry, Kind, Reply, Request};
+use std::alloc::{AllocError, Global};
 use std::fmt::Write;
 
-/// A customer's name, of printed ASCII.
-pub fn push_name(text: &mut String, name: &[u8]) -> Result<(), AllocError> {
-    for byte in name {
-        text.push(char::from(*byte))?;
-    }
-    Ok(())
+/// A text that is written piece by piece. Where memory is refused for one, `all` says so.
+#[derive(Drop)]
+pub struct Text {
+    text: String,
+    is_whole: bool,
 }
 
-/// Bytes as hexadecimal digits.
-pub fn push_hex(text: &mut String, bytes: &[u8]) -> Result<(), AllocError> {
-    for byte in bytes {
-        write!(text, "{byte:02x}")?;
+impl Text {
+    pub fn new(alloc: Global) -> Text {
+        Text {
+            text: String::new(alloc),
+            is_whole: true,
+        }
     }
-    Ok(())
+
+    fn done(&mut self, written: Result<(), AllocError>) {
+        self.is_whole = self.is_whole && written.is_ok();
+    }
+
+    pub fn words(&mut self, words: &str) {
+        let written = self.text.push_str(words);
+        self.done(written);
+    }
+
+    /// A number, behind its words.
+    pub fn number(&mut self, words: &str, number: u64) {
+        let written = write!(self.text, "{words}{number}");
+        self.done(written);
+    }
+
+    /// Numbers, each behind its words.
+    pub fn numbers(&mut self, all: &[(&str, u64)]) {
+        for (words, number) in all {
+            self.number(words, *number);
+        }
+    }
+
+    /// A number of cents, behind its words.
+    pub fn cents(&mut self, words: &str, cents: i64) {
+        let written = write!(self.text, "{words}{cents}");
+        self.done(written);
+    }
+
+    /// Whether something holds, behind its words.
+    pub fn holds(&mut self, words: &str, holds: bool) {
+        let written = write!(self.text, "{words}{holds}");
+        self.done(written);
+    }
+
+    /// An attempt's fate, behind its words.
+    pub fn fate(&mut self, words: &str, fate: Fate) {
+        let written = write!(self.text, "{words}{fate:?}");
+        self.done(written);
+    }
+
+    /// A customer's name, of printed ASCII, behind its words.
+    pub fn name(&mut self, words: &str, name: &[u8]) {
+        self.words(words);
+        for byte in name {
+            let written = self.text.push(char::from(*byte));
+            self.done(written);
+        }
+    }
+
+    /// Bytes as hexadecimal digits, behind their words.
+    pub fn hex(&mut self, words: &str, bytes: &[u8]) {
+        self.words(words);
+        for byte in bytes {
+            let written = write!(self.text, "{byte:02x}");
+            self.done(written);
+        }
+    }
+
+    /// All that was written.
+    pub fn all(self) -> Result<String, AllocError> {
+        let Text { text, is_whole } = self;
+        if is_whole { Ok(text) } else { Err(AllocError) }
+    }
 }
 
 /// A request, as a workload has it.
-pub fn push_request(text: &mut String, request: &Request) -> Result<(), AllocError> {
+pub fn push_request(text: &mut Text, request: &Request) {
     match request {
-        Request::Balance(name) => push_call(text, "balance", name),
-        Request::DepositChecking(name, amount) => {
-            push_call(text, "deposit", name)?;
-            write!(text, " {}", amount.get())
-        }
-        Request::TransactSaving(name, amount) => {
-            push_call(text, "transact", name)?;
-            write!(text, " {}", amount.get())
-        }
+        Request::Balance(name) => text.name("balance ", name),
+        Request::DepositChecking(name, amount) => push_paid(text, "deposit ", name, *amount),
+        Request::TransactSaving(name, amount) => push_paid(text, "transact ", name, *amount),
         Request::Amalgamate(name, to) => {
-            push_call(text, "amalgamate", name)?;
-            text.push(' ')?;
-            push_name(text, to)
+            text.name("amalgamate ", name);
+            text.name(" ", to);
         }
-        Request::WriteCheck(name, amount) => {
-            push_call(text, "check", name)?;
-            write!(text, " {}", amount.get())
-        }
+        Request::WriteCheck(name, amount) => push_paid(text, "check ", name, *amount),
     }
 }
 
-fn push_call(text: &mut String, call: &str, name: &[u8]) -> Result<(), AllocError> {
-    write!(text, "{call} ")?;
-    push_name(text, name)
+/// A call with an amount of cents.
+fn push_paid(text: &mut Text, call: &str, name: &[u8], amount: Amount) {
+    text.name(call, name);
+    text.cents(" ", amount.get());
 }
 
 /// What a client is answered.
-pub fn push_reply(text: &mut String, reply: Reply) -> Result<(), AllocError> {
+pub fn push_reply(text: &mut Text, reply: Reply) {
     match reply {
-        Reply::Done => text.push_str("Done"),
-        Reply::Total(cents) => write!(text, "Total {cents}"),
-        Reply::Aborted(Abort::NoSuchName) => text.push_str("NoSuchName"),
-        Reply::Aborted(Abort::BadAmount) => text.push_str("BadAmount"),
-        Reply::Aborted(Abort::Insufficient) => text.push_str("Insufficient"),
-        Reply::Aborted(Abort::OutOfRange) => text.push_str("OutOfRange"),
+        Reply::Done => text.words("Done"),
+        Reply::Total(cents) => text.cents("Total ", cents),
+        Reply::Aborted(Abort::NoSuchName) => text.words("NoSuchName"),
+        Reply::Aborted(Abort::BadAmount) => text.words("BadAmount"),
+        Reply::Aborted(Abort::Insufficient) => text.words("Insufficient"),
+        Reply::Aborted(Abort::OutOfRange) => text.words("OutOfRange"),
     }
 }
 
 /// An entry of a record: what was done to a row, the version and the value seen, and the value after it.
-pub fn push_entry(text: &mut String, entry: &Entry) -> Result<(), AllocError> {
-    let done = if entry.kind.is_write() {
-        "writes"
+pub fn push_entry(text: &mut Text, entry: Entry) {
+    push_done(text, entry.kind, entry.row);
+    text.number(" version ", entry.version);
+    push_change(text, entry.seen, entry.after);
+}
+
+/// What is done to a row.
+pub fn push_done(text: &mut Text, kind: Kind, row: Row) {
+    let words = if kind.is_write() {
+        ", writes row "
     } else {
-        "reads"
+        ", reads row "
     };
-    let row = entry.row.number();
-    let version = entry.version;
-    let seen = entry.seen.get();
-    let after = entry.after.get();
-    write!(
-        text,
-        " {done} row {row} version {version} from {seen} to {after}"
-    )
+    text.number(words, u64::from(row.number()));
+}
+
+/// The value seen, and the value after it.
+pub fn push_change(text: &mut Text, seen: Cents, after: Cents) {
+    text.cents(" from ", seen.get());
+    text.cents(" to ", after.get());
 }
