@@ -83,15 +83,21 @@ pub(crate) fn row_at(number: u32) -> Option<Row> {
     row_of(number / 2, number % 2 == 1)
 }
 
+/// Sets the balance of the row with this number, which must be there.
+pub(crate) fn set_row(balances: &mut Balances, number: u32, cents: &str) -> io::Result<()> {
+    let row = row_at(number).ok_or(ErrorKind::InvalidData)?;
+    if row.number() as usize >= balances.len() {
+        return Err(ErrorKind::InvalidData)?;
+    }
+    balances.set(row, cents_of(cents)?);
+    Ok(())
+}
+
 /// The balances of all rows, separated by commas.
 pub(crate) fn balances_of(alloc: Global, words: &str) -> io::Result<Balances> {
     let mut balances = Balances::new(alloc, words.split(',').count())?;
     for (number, word) in (0..).zip(words.split(',')) {
-        let row = row_at(number).ok_or(ErrorKind::InvalidData)?;
-        if row.number() as usize >= balances.len() {
-            return Err(ErrorKind::InvalidData)?;
-        }
-        balances.set(row, cents_of(word)?);
+        set_row(&mut balances, number, word)?;
     }
     Ok(balances)
 }

@@ -3,6 +3,7 @@
 ghost use Rattle.std.specs.Prelude.{IfOk, ◌≤◌};
 
 use crate::cases::{bytes_of, number_of};
+use crate::said::Said;
 use crate::streams::read_of;
 use eve_streams::{SinkOf, Source, SourceOf, send_all};
 use std::alloc::{AllocError, Global};
@@ -88,50 +89,69 @@ pub(crate) fn tell(
     line: &str,
     what: &str,
     words: &[&str],
-    said: &mut String,
+    said: &mut Said,
 ) -> io::Result<()> {
-    write!(said, "{line}:")?;
+    write!(said, "{line}:");
     match (what, words) {
         ("write-to", [turns, bytes]) => tell_write(alloc, turns, bytes, said),
-        ("tries", [count, turns, bytes]) => {
-            tell_tries(alloc, number_of(count)?, turns, bytes, said)
-        }
-        ("read-from", [turns, limit]) => tell_device_read(alloc, turns, number_of(limit)?, said),
-        ("reads", [count, turns, limit]) => {
-            tell_reads(alloc, number_of(count)?, turns, number_of(limit)?, said)
-        }
+        ("tries", [count, turns, bytes]) => tell_tries(alloc, count, turns, bytes, said),
+        ("read-from", [turns, limit]) => tell_device_read(alloc, turns, limit, said),
+        ("reads", [count, turns, limit]) => tell_reads(alloc, count, turns, limit, said),
         _ => Err(ErrorKind::InvalidData)?,
     }
 }
 
-/// Sends bytes to a device.
-fn tell_write(alloc: Global, turns: &str, bytes: &str, said: &mut String) -> io::Result<()> {
+/// A device's turns, and bytes for it.
+#[derive(Drop)]
+struct Given {
+    bytes: Vec<u8>,
+    turns: Vec<Turn>,
+}
+
+fn given_by(alloc: Global, turns: &str, bytes: &str) -> io::Result<Given> {
     let bytes = bytes_of(alloc, bytes)?;
-    let turns = turns_of(alloc, turns)?;
-    let mut sink = SinkOf::new(Device::of(turns.as_slice()));
-    let sent = send_all(&mut sink, bytes.as_slice());
+    match turns_of(alloc, turns) {
+        Ok(turns) => Ok(Given { bytes, turns }),
+        Err(why) => Err(why),
+    }
+}
+
+/// Tells how often a sink failed, and how many bytes its device moved.
+fn tell_sink(sink: &SinkOf<Device<'_>>, said: &mut Said) {
     let (failed, moved) = (sink.failures(), sink.writer().moved);
-    Ok(write!(said, " {sent:?}, {failed} failed, {moved} moved")?)
+    write!(said, " {failed} failed, {moved} moved");
+}
+
+/// Sends bytes to a device.
+fn tell_write(alloc: Global, turns: &str, bytes: &str, said: &mut Said) -> io::Result<()> {
+    let given = given_by(alloc, turns, bytes)?;
+    let mut sink = SinkOf::new(Device::of(given.turns.as_slice()));
+    let sent = send_all(&mut sink, given.bytes.as_slice());
+    write!(said, " {sent:?},");
+    tell_sink(&sink, said);
+    Ok(())
 }
 
 /// Sends bytes once to a device, which is called so often at most.
 fn tell_tries(
     alloc: Global,
-    count: u32,
+    count: &str,
     turns: &str,
     bytes: &str,
-    said: &mut String,
+    said: &mut Said,
 ) -> io::Result<()> {
-    let bytes = bytes_of(alloc, bytes)?;
-    let turns = turns_of(alloc, turns)?;
-    let mut sink = SinkOf::new(Device::of(turns.as_slice()));
-    let sent = sink.send_within(bytes.as_slice(), count);
-    let (failed, moved) = (sink.failures(), sink.writer().moved);
-    Ok(write!(said, " {sent:?}, {failed} failed, {moved} moved")?)
+    let count = number_of(count)?;
+    let given = given_by(alloc, turns, bytes)?;
+    let mut sink = SinkOf::new(Device::of(given.turns.as_slice()));
+    let sent = sink.send_within(given.bytes.as_slice(), count);
+    write!(said, " {sent:?},");
+    tell_sink(&sink, said);
+    Ok(())
 }
 
 /// Reads a device to its end, or to a limit.
-fn tell_device_read(alloc: Global, turns: &str, limit: u32, said: &mut String) -> io::Result<()> {
+fn tell_device_read(alloc: Global, turns: &str, limit: &str, said: &mut Said) -> io::Result<()> {
+    let limit = number_of(limit)?;
     let turns = turns_of(alloc, turns)?;
     let mut source = SourceOf::new(Device::of(turns.as_slice()));
     Ok(tell_source(alloc, &mut source, limit, said)?)
@@ -140,14 +160,23 @@ fn tell_device_read(alloc: Global, turns: &str, limit: u32, said: &mut String) -
 /// Reads a device to its end, or to a limit, calling it so often at most.
 fn tell_reads(
     alloc: Global,
-    count: u32,
+    count: &str,
     turns: &str,
-    limit: u32,
-    said: &mut String,
+    limit: &str,
+    said: &mut Said,
 ) -> io::Result<()> {
+    let (count, limit) = (number_of(count)?, number_of(limit)?);
     let turns = turns_of(alloc, turns)?;
     let mut source = SourceOf::within(Device::of(turns.as_slice()), count);
     Ok(tell_source(alloc, &mut source, limit, said)?)
+}
+
+/// Tells how many bytes were read, or that the device failed.
+fn tell_length(read: &Option<Vec<u8>>, said: &mut Said) {
+    match read {
+        Some(bytes) => write!(said, " {} bytes,", bytes.len()),
+        None => said.words(" Read,"),
+    }
 }
 
 /// Reads a source, and fetches once more.
@@ -155,17 +184,11 @@ fn tell_source(
     alloc: Global,
     source: &mut SourceOf<Device<'_>>,
     limit: u32,
-    said: &mut String,
+    said: &mut Said,
 ) -> Result<(), AllocError> {
-    match read_of(alloc, source, limit)? {
-        Some(bytes) => write!(said, " {} bytes,", bytes.len())?,
-        None => write!(said, " Read,")?,
-    }
-    write!(
-        said,
-        " {} failed, {} moved",
-        source.failures(),
-        source.reader().moved
-    )?;
-    write!(said, "; {:?}", source.fetch(&mut [0; 1]))
+    tell_length(&read_of(alloc, source, limit)?, said);
+    let (failed, moved) = (source.failures(), source.reader().moved);
+    write!(said, " {failed} failed, {moved} moved");
+    write!(said, "; {:?}", source.fetch(&mut [0; 1]));
+    Ok(())
 }

@@ -28,13 +28,15 @@ mod followed;
 mod money;
 mod names;
 mod roots;
+mod said;
 mod streams;
 
+use crate::said::Said;
 use std::io;
 use std::io::ErrorKind;
 
 /// Tells what came of a line with these words.
-fn tell(rt: &HostRuntime, line: &str, words: &[&str], said: &mut String) -> io::Result<()> {
+fn tell(rt: &HostRuntime, line: &str, words: &[&str], said: &mut Said) -> io::Result<()> {
     let Some((what, words)) = words.split_first() else {
         return Err(ErrorKind::InvalidData)?;
     };
@@ -52,10 +54,10 @@ fn tell(rt: &HostRuntime, line: &str, words: &[&str], said: &mut String) -> io::
 
 /// What is said of a line.
 fn said_of(rt: &HostRuntime, line: &str) -> io::Result<String> {
-    let mut said = String::new(rt.alloc());
     let words: Vec<&str> = line.split(' ').collect(rt.alloc())?;
+    let mut said = Said::nothing(rt.alloc());
     tell(rt, line, words.as_slice(), &mut said)?;
-    Ok(said)
+    Ok(said.all()?)
 }
 
 fn main(rt: HostRuntime) -> io::Result<()> {

@@ -2,9 +2,10 @@
 
 ghost use Rattle.std.specs.Prelude.{◌<◌};
 
-use crate::cases::{cents_of, number_of, row_at};
+use crate::cases::{number_of, row_at, set_row};
+use crate::said::Said;
 use eve_accounts::{Amount, Balances, Cents, MOST_NAMES, Row};
-use std::alloc::{AllocError, Global};
+use std::alloc::Global;
 use std::io;
 use std::io::ErrorKind;
 
@@ -14,19 +15,18 @@ pub(crate) fn tell(
     line: &str,
     what: &str,
     words: &[&str],
-    said: &mut String,
+    said: &mut Said,
 ) -> io::Result<()> {
     let Some((first, rest)) = words.split_first() else {
         return Err(ErrorKind::InvalidData)?;
     };
-    write!(said, "{line}: ")?;
+    write!(said, "{line}: ");
     match what {
-        "cents" => tell_cents(whole_of(first)?, said)?,
-        "amount" => tell_amount(whole_of(first)?, said)?,
-        "rows" => tell_rows(number_of(first)?, said)?,
-        _ => tell_balances(alloc, number_of(first)?, rest, said)?,
+        "cents" => tell_cents(first, said),
+        "amount" => tell_amount(first, said),
+        "rows" => tell_rows(first, said),
+        _ => tell_balances(alloc, first, rest, said),
     }
-    Ok(())
 }
 
 /// A whole number of 64 bits.
@@ -34,42 +34,51 @@ fn whole_of(word: &str) -> io::Result<i64> {
     Ok(word.parse().ok().ok_or(ErrorKind::InvalidData)?)
 }
 
-fn tell_cents(number: i64, said: &mut String) -> Result<(), AllocError> {
-    match Cents::new(number) {
-        Some(cents) => write!(said, "{} cents", cents.get()),
-        None => write!(said, "out of range"),
+/// Tells so many cents, if so many may be.
+fn tell_money(cents: Option<i64>, said: &mut Said) {
+    match cents {
+        Some(cents) => write!(said, "{cents} cents"),
+        None => said.words("out of range"),
     }
 }
 
-fn tell_amount(number: i64, said: &mut String) -> Result<(), AllocError> {
-    match Amount::new(number) {
-        Some(amount) => write!(said, "{} cents", amount.get()),
-        None => write!(said, "out of range"),
-    }
+fn tell_cents(number: &str, said: &mut Said) -> io::Result<()> {
+    let cents = match Cents::new(whole_of(number)?) {
+        Some(cents) => Some(cents.get()),
+        None => None,
+    };
+    tell_money(cents, said);
+    Ok(())
 }
 
-fn tell_rows(customer: u32, said: &mut String) -> io::Result<()> {
+fn tell_amount(number: &str, said: &mut Said) -> io::Result<()> {
+    let cents = match Amount::new(whole_of(number)?) {
+        Some(amount) => Some(amount.get()),
+        None => None,
+    };
+    tell_money(cents, said);
+    Ok(())
+}
+
+fn tell_rows(customer: &str, said: &mut Said) -> io::Result<()> {
+    let customer = number_of(customer)?;
     if customer >= MOST_NAMES {
         return Err(ErrorKind::InvalidData)?;
     }
     let (saving, checking) = (Row::saving(customer), Row::checking(customer));
-    Ok(write!(
+    write!(
         said,
         "saving {}, checking {}",
         saving.number(),
         checking.number()
-    )?)
+    );
+    Ok(())
 }
 
 /// Sets the balance that a word says: `ROW=CENTS`.
 fn set(balances: &mut Balances, word: &str) -> io::Result<()> {
     let (row, cents) = word.split_once('=').ok_or(ErrorKind::InvalidData)?;
-    let row = row_at(number_of(row)?).ok_or(ErrorKind::InvalidData)?;
-    if row.number() as usize >= balances.len() {
-        return Err(ErrorKind::InvalidData)?;
-    }
-    balances.set(row, cents_of(cents)?);
-    Ok(())
+    set_row(balances, number_of(row)?, cents)
 }
 
 /// So many balances, of which some are set.
@@ -82,26 +91,37 @@ fn balances_of(alloc: Global, count: u32, sets: &[&str]) -> io::Result<Balances>
 }
 
 /// Tells of so many balances, of which some are set, and of a copy of them.
-fn tell_balances(alloc: Global, count: u32, sets: &[&str], said: &mut String) -> io::Result<()> {
-    let balances = balances_of(alloc, count, sets)?;
-    tell_all(&balances, said)?;
-    write!(said, "; copied ")?;
-    Ok(tell_all(&balances.copy(alloc)?, said)?)
+fn tell_balances(alloc: Global, count: &str, sets: &[&str], said: &mut Said) -> io::Result<()> {
+    let balances = balances_of(alloc, number_of(count)?, sets)?;
+    tell_all(&balances, said);
+    said.words("; copied ");
+    tell_all(&balances.copy(alloc)?, said);
+    Ok(())
+}
+
+/// Tells the balance of the row with this number, if it is there.
+fn tell_row(balances: &Balances, number: u32, said: &mut Said) {
+    match row_at(number) {
+        Some(row) if (row.number() as usize) < balances.len() => {
+            write!(said, ", {}", balances.get(row).get());
+        }
+        _ => {}
+    }
+}
+
+/// Tells each balance in the slice of all.
+fn tell_slice(balances: &Balances, said: &mut Said) {
+    said.words(", all");
+    for cents in balances.as_slice() {
+        write!(said, " {}", cents.get());
+    }
 }
 
 /// Tells each balance, by its row and in the slice of all.
-fn tell_all(balances: &Balances, said: &mut String) -> Result<(), AllocError> {
-    write!(said, "{}, empty {}", balances.len(), balances.is_empty())?;
+fn tell_all(balances: &Balances, said: &mut Said) {
+    write!(said, "{}, empty {}", balances.len(), balances.is_empty());
     for (number, _) in (0..).zip(balances.as_slice()) {
-        if let Some(row) = row_at(number) {
-            if (row.number() as usize) < balances.len() {
-                write!(said, ", {}", balances.get(row).get())?;
-            }
-        }
+        tell_row(balances, number, said);
     }
-    write!(said, ", all")?;
-    for cents in balances.as_slice() {
-        write!(said, " {}", cents.get())?;
-    }
-    Ok(())
+    tell_slice(balances, said);
 }

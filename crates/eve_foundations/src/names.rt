@@ -1,6 +1,7 @@
 //! Names, one by one and in a list with a limit.
 
 use crate::cases::{bytes_of, number_of};
+use crate::said::Said;
 use eve_accounts::{MOST_NAMES, Name, NameFault, Names, is_name};
 use std::alloc::{AllocError, Global};
 use std::hash::RandomState;
@@ -13,22 +14,30 @@ pub(crate) fn tell(
     line: &str,
     what: &str,
     words: &[&str],
-    said: &mut String,
+    said: &mut Said,
 ) -> io::Result<()> {
     let Some((first, rest)) = words.split_first() else {
         return Err(ErrorKind::InvalidData)?;
     };
-    write!(said, "{line}: ")?;
+    write!(said, "{line}: ");
     match what {
-        "names" => {
-            let names = each_of(rt.alloc(), rest)?;
-            tell_names(rt, number_of(first)?, names.as_slice(), said)
-        }
-        _ => {
-            let name = bytes_of(rt.alloc(), first)?;
-            Ok(tell_name(name.as_slice(), said)?)
-        }
+        "names" => tell_list(rt, first, rest, said),
+        _ => tell_one(rt.alloc(), first, said),
     }
+}
+
+/// Tells what comes of a list with this limit.
+fn tell_list(rt: &HostRuntime, limit: &str, words: &[&str], said: &mut Said) -> io::Result<()> {
+    let limit = number_of(limit)?;
+    let names = each_of(rt.alloc(), words)?;
+    tell_names(rt, limit, names.as_slice(), said)
+}
+
+/// Tells what a word's bytes are.
+fn tell_one(alloc: Global, word: &str, said: &mut Said) -> io::Result<()> {
+    let name = bytes_of(alloc, word)?;
+    tell_name(name.as_slice(), said);
+    Ok(())
 }
 
 /// The bytes of each word.
@@ -57,50 +66,57 @@ fn added<'a>(names: &mut Names<'a>, name: &'a [u8]) -> io::Result<Result<u32, Na
 }
 
 /// Tells what comes of adding these names, one after another.
-fn tell_names(rt: &HostRuntime, limit: u32, all: &[Vec<u8>], said: &mut String) -> io::Result<()> {
+fn tell_names(rt: &HostRuntime, limit: u32, all: &[Vec<u8>], said: &mut Said) -> io::Result<()> {
     if limit > MOST_NAMES {
         return Err(ErrorKind::InvalidData)?;
     }
     let mut names = Names::new(rt.alloc(), RandomState::new(rt)?, limit);
-    write!(said, "empty {}", names.is_empty())?;
     tell_added(&mut names, all, said)?;
-    Ok(tell_numbers(&names, all, said)?)
+    tell_numbers(&names, all, said);
+    Ok(())
 }
 
-/// Tells of each name what adding it answers, its number then, and how many there are.
-fn tell_added<'a>(names: &mut Names<'a>, all: &'a [Vec<u8>], said: &mut String) -> io::Result<()> {
+/// Tells that there is none yet, and of each name what adding it answers, its number then, and how many there are.
+fn tell_added<'a>(names: &mut Names<'a>, all: &'a [Vec<u8>], said: &mut Said) -> io::Result<()> {
+    write!(said, "empty {}", names.is_empty());
     for name in all {
         let answer = added(names, name.as_slice())?;
-        let number = names.number(name.as_slice());
-        write!(said, "; {answer:?} {number:?} {}", names.len())?;
+        write!(said, "; {answer:?}");
+        tell_number(names, name.as_slice(), said);
     }
     Ok(())
+}
+
+/// Tells a name's number, and how many there are.
+fn tell_number(names: &Names, name: &[u8], said: &mut Said) {
+    write!(said, " {:?} {}", names.number(name), names.len());
 }
 
 /// Tells each name's number at the end.
-fn tell_numbers(names: &Names, all: &[Vec<u8>], said: &mut String) -> Result<(), AllocError> {
-    write!(said, "; empty {}, numbers", names.is_empty())?;
+fn tell_numbers(names: &Names, all: &[Vec<u8>], said: &mut Said) {
+    write!(said, "; empty {}, numbers", names.is_empty());
     for name in all {
-        write!(said, " {:?}", names.number(name.as_slice()))?;
+        write!(said, " {:?}", names.number(name.as_slice()));
     }
-    Ok(())
+}
+
+/// Tells of the name that is made of these bytes, if they are one.
+fn tell_new(bytes: &[u8], said: &mut Said) {
+    let Some(name) = Name::new(bytes) else {
+        said.words(", none");
+        return;
+    };
+    let same = name.as_slice() == bytes;
+    write!(said, ", {} bytes, the same {same}", name.as_slice().len());
 }
 
 /// Tells whether these bytes are a name, and the bytes of the one that is made of them.
-fn tell_name(bytes: &[u8], said: &mut String) -> Result<(), AllocError> {
-    write!(said, "{}", is_name(bytes))?;
-    match Name::new(bytes) {
-        Some(name) => write!(
-            said,
-            ", {} bytes, the same {}",
-            name.as_slice().len(),
-            name.as_slice() == bytes
-        )?,
-        None => write!(said, ", none")?,
+fn tell_name(bytes: &[u8], said: &mut Said) {
+    write!(said, "{}", is_name(bytes));
+    tell_new(bytes, said);
+    if !is_name(bytes) {
+        return;
     }
-    if is_name(bytes) {
-        let name = Name::of(bytes);
-        write!(said, ", and {}", name.as_slice() == bytes)?;
-    }
-    Ok(())
+    let same = Name::of(bytes).as_slice() == bytes;
+    write!(said, ", and {same}");
 }

@@ -4,6 +4,7 @@ ghost use Rattle.std.specs.Prelude.{◌≡◌, ◌<◌, ◌⊎◌, length};
 
 use crate::cases::{balances_of, cents_of, number_of, replies_of};
 use crate::followed::{Followed, tree_over};
+use crate::said::Said;
 use eve_accounts::{Balances, Cents};
 use eve_smallbank::Reply;
 use eve_token::{token, token_of};
@@ -29,22 +30,42 @@ pub(crate) fn tell(
     rt: &HostRuntime,
     what: &str,
     words: &[&str],
-    said: &mut String,
+    said: &mut Said,
 ) -> io::Result<()> {
     match (what, words) {
-        ("token", [name, "1", number, balances, replies]) => {
-            tell_token(rt, name, 1, number_of(number)?, balances, replies, said)
-        }
-        ("token", [name, "2", number, balances, replies]) => {
-            tell_token(rt, name, 2, number_of(number)?, balances, replies, said)
-        }
+        ("token", [name, "1", rest @ ..]) => tell_token(rt, name, 1, rest, said),
+        ("token", [name, "2", rest @ ..]) => tell_token(rt, name, 2, rest, said),
         ("writes", [name, balances, writes @ ..]) => {
             tell_writes(rt.alloc(), name, balances, writes, said)
         }
         ("random", [name, count, balances]) => {
-            tell_random(rt.alloc(), name, number_of(count)?, balances, said)
+            tell_random(rt.alloc(), name, count, balances, said)
         }
         _ => Err(ErrorKind::InvalidData)?,
+    }
+}
+
+/// A batch with its replies, and the balances after it.
+#[derive(Drop)]
+struct Batch {
+    number: u32,
+    balances: Balances,
+    replies: Vec<Reply>,
+}
+
+fn batch_of(alloc: Global, words: &[&str]) -> io::Result<Batch> {
+    let [number, balances, replies] = words else {
+        return Err(ErrorKind::InvalidData)?;
+    };
+    let number = number_of(number)?;
+    let balances = balances_of(alloc, balances)?;
+    match replies_of(alloc, replies) {
+        Ok(replies) => Ok(Batch {
+            number,
+            balances,
+            replies,
+        }),
+        Err(why) => Err(why),
     }
 }
 
@@ -53,73 +74,77 @@ fn tell_token(
     rt: &HostRuntime,
     name: &str,
     version: u16,
-    number: u32,
-    balances: &str,
-    replies: &str,
-    said: &mut String,
+    words: &[&str],
+    said: &mut Said,
 ) -> io::Result<()>
     requires version { (version ≡ 1) ⊎ (version ≡ 2) }
 {
-    let balances = balances_of(rt.alloc(), balances)?;
-    let replies = replies_of(rt.alloc(), replies)?;
-    if balances.is_empty() || replies.is_empty() {
+    let batch = batch_of(rt.alloc(), words)?;
+    tell_batch(rt, name, version, &batch, said)
+}
+
+fn tell_batch(
+    rt: &HostRuntime,
+    name: &str,
+    version: u16,
+    batch: &Batch,
+    said: &mut Said,
+) -> io::Result<()>
+    requires version { (version ≡ 1) ⊎ (version ≡ 2) }
+{
+    let replies = batch.replies.as_slice();
+    if batch.balances.is_empty() || replies.is_empty() {
         return Err(ErrorKind::InvalidData)?;
     }
-    let due = token(version, number, &balances, replies.as_slice());
+    let due = token(version, batch.number, &batch.balances, replies);
     tell_due(rt, name, &due, said)?;
     if version == 2 {
-        tell_root(
-            rt.alloc(),
-            name,
-            number,
-            &balances,
-            replies.as_slice(),
-            said,
-        )?;
+        tell_root(rt.alloc(), name, batch, said)?;
     }
     Ok(())
 }
 
-/// Tells the root that a tree over these balances gives, and its token.
-fn tell_root(
-    alloc: Global,
-    name: &str,
-    number: u32,
-    balances: &Balances,
-    replies: &[Reply],
-    said: &mut String,
-) -> Result<(), AllocError>
-    requires rows { 0 < length balances.now }
-    requires replies { 0 < length replies.now }
+/// Tells the root that a tree over the balances gives, and its token.
+fn tell_root(alloc: Global, name: &str, batch: &Batch, said: &mut Said) -> Result<(), AllocError>
+    requires rows { 0 < length batch.now.balances }
+    requires replies { 0 < length batch.now.replies.items }
 {
-    let root = tree_over(alloc, balances)?.root();
-    let made = token_of(number, &root, replies);
+    let root = tree_over(alloc, &batch.balances)?.root();
+    let made = token_of(batch.number, &root, batch.replies.as_slice());
     write!(
         said,
         "\n{name}: root {}, whose token is {}",
         Hex(root),
         Hex(made)
-    )
+    );
+    Ok(())
 }
 
 /// Tells this token, and how often the trace of that name has it, if there is one.
-fn tell_due(rt: &HostRuntime, name: &str, due: &[u8; 32], said: &mut String) -> io::Result<()> {
-    write!(said, "{name}: token {}", Hex(*due))?;
+fn tell_due(rt: &HostRuntime, name: &str, due: &[u8; 32], said: &mut Said) -> io::Result<()> {
+    write!(said, "{name}: token {}", Hex(*due));
+    tell_trace(rt, name, due, said)
+}
+
+fn tell_trace(rt: &HostRuntime, name: &str, due: &[u8; 32], said: &mut Said) -> io::Result<()> {
     let file = format!(in rt.alloc(); "{name}.trace")?;
     match fs::read(rt, file.as_str()) {
-        Ok(trace) => Ok(tell_times(trace.as_slice(), due, said)?),
+        Ok(trace) => {
+            tell_times(trace.as_slice(), due, said);
+            Ok(())
+        }
         Err(fault) if fault.kind() == ErrorKind::NotFound => Ok(()),
         Err(fault) => Err(fault),
     }
 }
 
 /// Tells how often a trace has this token.
-fn tell_times(trace: &[u8], due: &[u8; 32], said: &mut String) -> Result<(), AllocError> {
+fn tell_times(trace: &[u8], due: &[u8; 32], said: &mut Said) {
     let times = trace
         .windows(32)
         .filter(|part| *part == due.as_slice())
         .count();
-    write!(said, ", {times} times in its trace")
+    write!(said, ", {times} times in its trace");
 }
 
 /// Tells the root that a tree gives at first, and after each write.
@@ -128,11 +153,17 @@ fn tell_writes(
     name: &str,
     balances: &str,
     writes: &[&str],
-    said: &mut String,
+    said: &mut Said,
 ) -> io::Result<()> {
     let mut followed = Followed::new(alloc, balances_of(alloc, balances)?)?;
-    write!(said, "{name}: {}", Hex(followed.root()))?;
+    write!(said, "{name}: {}", Hex(followed.root()));
     tell_each(&mut followed, name, writes, said)
+}
+
+/// Sets the balance that a word says: `ROW=CENTS`.
+fn set(followed: &mut Followed, word: &str) -> io::Result<()> {
+    let (row, cents) = word.split_once('=').ok_or(ErrorKind::InvalidData)?;
+    followed.set(number_of(row)?, cents_of(cents)?)
 }
 
 /// Does each write, and tells the root after it.
@@ -140,12 +171,11 @@ fn tell_each(
     followed: &mut Followed,
     name: &str,
     writes: &[&str],
-    said: &mut String,
+    said: &mut Said,
 ) -> io::Result<()> {
     for word in writes {
-        let (row, cents) = word.split_once('=').ok_or(ErrorKind::InvalidData)?;
-        followed.set(number_of(row)?, cents_of(cents)?)?;
-        write!(said, "\n{name}: {word} {}", Hex(followed.root()))?;
+        set(followed, word)?;
+        write!(said, "\n{name}: {word} {}", Hex(followed.root()));
     }
     Ok(())
 }
@@ -154,25 +184,36 @@ fn tell_each(
 fn tell_random(
     alloc: Global,
     name: &str,
-    count: u32,
+    count: &str,
     balances: &str,
-    said: &mut String,
+    said: &mut Said,
 ) -> io::Result<()> {
+    let count = number_of(count)?;
     let mut followed = Followed::new(alloc, balances_of(alloc, balances)?)?;
-    match last_root(alloc, &mut followed, count)? {
+    let last = last_root(alloc, &mut followed, count)?;
+    write!(said, "{name}: ");
+    tell_last(last, count, said);
+    Ok(())
+}
+
+fn tell_last(last: Result<[u8; 32], u32>, count: u32, said: &mut Said) {
+    match last {
         Ok(root) => {
             let last = Hex(root);
             write!(
                 said,
-                "{name}: {count} roots are those of new trees, the last is {last}"
-            )?;
+                "{count} roots are those of new trees, the last is {last}"
+            );
         }
-        Err(i) => write!(
-            said,
-            "{name}: after write {i} another root than that of a new tree"
-        )?,
+        Err(i) => write!(said, "after write {i} another root than that of a new tree"),
     }
-    Ok(())
+}
+
+/// Writes the balance that was drawn to the row that was.
+fn write_drawn(followed: &mut Followed, drawn: u64) -> io::Result<()> {
+    let row = (drawn >> 33) % followed.rows() as u64;
+    let cents = Cents::new((drawn >> 61) as i64 - 4).ok_or(ErrorKind::InvalidData)?;
+    followed.set(row as u32, cents)
 }
 
 /// The last root, after so many random writes, of which some write the balance that is there; or the first write after
@@ -188,9 +229,7 @@ fn last_root(
         drawn = drawn
             .wrapping_mul(6_364_136_223_846_793_005)
             .wrapping_add(1_442_695_040_888_963_407);
-        let row = (drawn >> 33) % followed.rows() as u64;
-        let cents = Cents::new((drawn >> 61) as i64 - 4).ok_or(ErrorKind::InvalidData)?;
-        followed.set(row as u32, cents)?;
+        write_drawn(followed, drawn)?;
         root = followed.root();
         if root != followed.new_root(alloc)? {
             return Ok(Err(i));

@@ -1,6 +1,7 @@
 //! Sinks and sources that move a byte a call, or fail at one.
 
 use crate::cases::{bytes_of, call_of, number_of};
+use crate::said::Said;
 use eve_streams::failing::FailsAt;
 use eve_streams::one_byte::OneByte;
 use eve_streams::{ReadFault, Sink, SinkOf, Source, SourceOf, read_all, send_all};
@@ -47,25 +48,13 @@ pub(crate) fn tell(
     line: &str,
     what: &str,
     words: &[&str],
-    said: &mut String,
+    said: &mut Said,
 ) -> io::Result<()> {
-    write!(said, "{line}:")?;
+    write!(said, "{line}:");
     match (what, words) {
-        ("send", [call, parts @ ..]) => tell_send(alloc, call_of(call)?, parts, line.len(), said),
-        ("fetch", [call, limit, bytes]) => {
-            let bytes = bytes_of(alloc, bytes)?;
-            Ok(tell_fetch(
-                alloc,
-                call_of(call)?,
-                number_of(limit)?,
-                bytes.as_slice(),
-                said,
-            )?)
-        }
-        ("read", [limit, bytes]) => {
-            let bytes = bytes_of(alloc, bytes)?;
-            Ok(tell_read(alloc, number_of(limit)?, bytes.as_slice(), said)?)
-        }
+        ("send", [call, parts @ ..]) => tell_send(alloc, call, parts, line.len(), said),
+        ("fetch", [call, limit, bytes]) => tell_fetch(alloc, call, limit, bytes, said),
+        ("read", [limit, bytes]) => tell_read(alloc, limit, bytes, said),
         _ => Err(ErrorKind::InvalidData)?,
     }
 }
@@ -73,15 +62,17 @@ pub(crate) fn tell(
 /// Sends each part to a sink with so much room, of which one call fails.
 fn tell_send(
     alloc: Global,
-    call: u64,
+    call: &str,
     parts: &[&str],
     room: usize,
-    said: &mut String,
+    said: &mut Said,
 ) -> io::Result<()> {
+    let call = call_of(call)?;
     let mut sink = FailsAt::new(OneByte::new(memory(alloc, room)?), call);
     send_parts(alloc, &mut sink, parts, said)?;
     let taken = Shown(sink.stream().stream().writer().as_slice());
-    Ok(write!(said, " {} failed, taken {taken}", sink.failures())?)
+    write!(said, " {} failed, taken {taken}", sink.failures());
+    Ok(())
 }
 
 /// Sends each part, and tells what that answers.
@@ -89,41 +80,72 @@ fn send_parts<S: Sink>(
     alloc: Global,
     sink: &mut S,
     parts: &[&str],
-    said: &mut String,
+    said: &mut Said,
 ) -> io::Result<()> {
     for part in parts {
-        let bytes = bytes_of(alloc, part)?;
-        write!(said, " {:?},", send_all(sink, bytes.as_slice()))?;
+        send_part(alloc, sink, part, said)?;
     }
     Ok(())
 }
 
+fn send_part<S: Sink>(alloc: Global, sink: &mut S, part: &str, said: &mut Said) -> io::Result<()> {
+    let bytes = bytes_of(alloc, part)?;
+    let sent = send_all(sink, bytes.as_slice());
+    write!(said, " {sent:?},");
+    Ok(())
+}
+
 /// Tells the bytes that were read, or that the source failed.
-fn tell_bytes(read: &Option<Vec<u8>>, said: &mut String) -> Result<(), AllocError> {
+fn tell_bytes(read: &Option<Vec<u8>>, said: &mut Said) {
     match read {
         Some(bytes) => write!(said, " read {},", Shown(bytes.as_slice())),
-        None => write!(said, " Read,"),
+        None => said.words(" Read,"),
     }
 }
 
 /// Reads a source of which one call fails.
 fn tell_fetch(
     alloc: Global,
-    call: u64,
+    call: &str,
+    limit: &str,
+    bytes: &str,
+    said: &mut Said,
+) -> io::Result<()> {
+    let bytes = bytes_of(alloc, bytes)?;
+    let source = FailsAt::new(
+        OneByte::new(SourceOf::new(bytes.as_slice())),
+        call_of(call)?,
+    );
+    Ok(tell_failing(alloc, source, number_of(limit)?, said)?)
+}
+
+fn tell_failing(
+    alloc: Global,
+    mut source: FailsAt<OneByte<SourceOf<&[u8]>>>,
     limit: u32,
-    bytes: &[u8],
-    said: &mut String,
+    said: &mut Said,
 ) -> Result<(), AllocError> {
-    let mut source = FailsAt::new(OneByte::new(SourceOf::new(bytes)), call);
-    tell_bytes(&read_of(alloc, &mut source, limit)?, said)?;
+    tell_bytes(&read_of(alloc, &mut source, limit)?, said);
     let left = Shown(*source.stream().stream().reader());
-    write!(said, " {} failed, left {left}", source.failures())
+    write!(said, " {} failed, left {left}", source.failures());
+    Ok(())
 }
 
 /// Reads a source.
-fn tell_read(alloc: Global, limit: u32, bytes: &[u8], said: &mut String) -> Result<(), AllocError> {
-    let mut source = SourceOf::new(bytes);
-    tell_bytes(&read_of(alloc, &mut source, limit)?, said)?;
+fn tell_read(alloc: Global, limit: &str, bytes: &str, said: &mut Said) -> io::Result<()> {
+    let limit = number_of(limit)?;
+    let bytes = bytes_of(alloc, bytes)?;
+    Ok(tell_whole(alloc, SourceOf::new(bytes.as_slice()), limit, said)?)
+}
+
+fn tell_whole(
+    alloc: Global,
+    mut source: SourceOf<&[u8]>,
+    limit: u32,
+    said: &mut Said,
+) -> Result<(), AllocError> {
+    tell_bytes(&read_of(alloc, &mut source, limit)?, said);
     let left = Shown(*source.reader());
-    write!(said, " {} failed, left {left}", source.failures())
+    write!(said, " {} failed, left {left}", source.failures());
+    Ok(())
 }
