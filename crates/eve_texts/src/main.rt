@@ -9,11 +9,12 @@
 mod drawn;
 mod greatest;
 mod model;
+mod said;
 mod texts;
 
 use crate::drawn::drawn;
 use crate::greatest::greatest;
-use crate::texts::{bytes_of, cut, mixed, told};
+use crate::texts::{bytes_of, cut, mixed, read};
 use std::io;
 use std::io::Write;
 
@@ -24,17 +25,20 @@ fn act(rt: &HostRuntime, line: &str) -> io::Result<()> {
     let what = words.next().unwrap_or("");
     let name = words.next().unwrap_or("");
     let text = bytes_of(alloc, words.next().unwrap_or(""))?;
+    act_on(rt, what, name, text.as_slice())
+}
+
+/// Does what is asked for with a text.
+fn act_on(rt: &HostRuntime, what: &str, name: &str, text: &[u8]) -> io::Result<()> {
+    let alloc = rt.alloc();
     let mut out = io::writer(rt);
     match what {
-        "read" => {
-            let said = told(alloc, text.as_slice())?;
-            writeln!(out, "{name}: {said}")
-        }
-        "cut" => cut(alloc, &mut out, name, text.as_slice()),
-        "mix" => mixed(rt, &mut out, name, text.as_slice()),
+        "read" => read(alloc, &mut out, name, text),
+        "cut" => cut(alloc, &mut out, name, text),
+        "mix" => mixed(rt, &mut out, name, text),
         "greatest" => greatest(rt, &mut out),
         "drawn" => drawn(rt, &mut out, name),
-        _ => writeln!(out, "{line}: no such word"),
+        _ => writeln!(out, "{what} {name}: no such word"),
     }
 }
 

@@ -46,52 +46,47 @@ fn checking(customer: u32, is_written: bool) -> Touch {
 }
 
 // What the request touches, where there are so many customers: nothing, if it is refused whatever the balances are.
-fn touches(alloc: Global, request: &Drawn, customers: u32) -> Result<Vec<Touch>, AllocError> {
+fn touches(request: &Drawn, customers: u32) -> [Option<Touch>; 3] {
     let Drawn {
         kind,
         customer,
         other,
         amount,
     } = *request;
-    let mut all = Vec::new(alloc);
     if customer >= customers {
-        return Ok(all);
+        return [None; 3];
     }
     match kind {
-        DrawnKind::Balance => {
-            all.push(saving(customer, false))?;
-            all.push(checking(customer, false))?;
-        }
-        DrawnKind::DepositChecking => {
-            if amount >= 0 {
-                all.push(checking(customer, true))?;
-            }
-        }
-        DrawnKind::TransactSaving => all.push(saving(customer, true))?,
-        DrawnKind::Amalgamate => {
-            if other < customers {
-                all.push(saving(customer, true))?;
-                all.push(checking(customer, true))?;
-                all.push(checking(other, true))?;
-            }
-        }
-        DrawnKind::WriteCheck => {
-            if amount >= 0 {
-                all.push(saving(customer, false))?;
-                all.push(checking(customer, true))?;
-            }
-        }
+        DrawnKind::Balance => [
+            Some(saving(customer, false)),
+            Some(checking(customer, false)),
+            None,
+        ],
+        DrawnKind::DepositChecking if amount >= 0 => [Some(checking(customer, true)), None, None],
+        DrawnKind::TransactSaving => [Some(saving(customer, true)), None, None],
+        DrawnKind::Amalgamate if other < customers => [
+            Some(saving(customer, true)),
+            Some(checking(customer, true)),
+            Some(checking(other, true)),
+        ],
+        DrawnKind::WriteCheck if amount >= 0 => [
+            Some(saving(customer, false)),
+            Some(checking(customer, true)),
+            None,
+        ],
+        _ => [None; 3],
     }
-    Ok(all)
 }
 
 // Whether they touch one balance that at least one of them writes.
-fn are_in_conflict(some: &[Touch], others: &[Touch]) -> bool {
+fn are_in_conflict(some: &[Option<Touch>], others: &[Option<Touch>]) -> bool {
     for a in some {
         for b in others {
-            let is_same = a.customer == b.customer && a.is_saving == b.is_saving;
-            if is_same && (a.is_written || b.is_written) {
-                return true;
+            if let (Some(a), Some(b)) = (a, b) {
+                let is_same = a.customer == b.customer && a.is_saving == b.is_saving;
+                if is_same && (a.is_written || b.is_written) {
+                    return true;
+                }
             }
         }
     }
@@ -99,11 +94,11 @@ fn are_in_conflict(some: &[Touch], others: &[Touch]) -> bool {
 }
 
 /// A request that stands in a parallelBatch.
-#[derive(Drop)]
+#[derive(Clone, Copy)]
 pub struct Member {
     /// Which request, from 0.
     pub index: usize,
-    touches: Vec<Touch>,
+    touches: [Option<Touch>; 3],
 }
 
 /// The parallelBatches of these requests.
@@ -114,20 +109,26 @@ pub fn cut_of(
 ) -> Result<Vec<Vec<Member>>, AllocError> {
     let mut groups: Vec<Vec<Member>> = Vec::new(alloc);
     for index in 0..requests.len() {
-        let touches = touches(alloc, &requests[index], customers)?;
-        let place = first_without_conflict(groups.as_slice(), touches.as_slice());
-        if place >= groups.len() {
-            groups.push(Vec::new(alloc))?;
-        }
-        if let Some(group) = groups.get_mut(place) {
-            group.push(Member { index, touches })?;
-        }
+        let touches = touches(&requests[index], customers);
+        put(alloc, &mut groups, Member { index, touches })?;
     }
     Ok(groups)
 }
 
+// Puts a request into the first group that holds none in conflict with it; past the last if there is none.
+fn put(alloc: Global, groups: &mut Vec<Vec<Member>>, member: Member) -> Result<(), AllocError> {
+    let place = first_without_conflict(groups.as_slice(), &member.touches);
+    if place >= groups.len() {
+        groups.push(Vec::new(alloc))?;
+    }
+    if let Some(group) = groups.get_mut(place) {
+        group.push(member)?;
+    }
+    Ok(())
+}
+
 // The place of the first group that holds no request in conflict with these touches; past the last if there is none.
-fn first_without_conflict(groups: &[Vec<Member>], touches: &[Touch]) -> usize {
+fn first_without_conflict(groups: &[Vec<Member>], touches: &[Option<Touch>]) -> usize {
     for place in 0..groups.len() {
         if !holds_conflict(groups[place].as_slice(), touches) {
             return place;
@@ -136,9 +137,9 @@ fn first_without_conflict(groups: &[Vec<Member>], touches: &[Touch]) -> usize {
     groups.len()
 }
 
-fn holds_conflict(group: &[Member], touches: &[Touch]) -> bool {
+fn holds_conflict(group: &[Member], touches: &[Option<Touch>]) -> bool {
     for member in group {
-        if are_in_conflict(touches, member.touches.as_slice()) {
+        if are_in_conflict(touches, &member.touches) {
             return true;
         }
     }

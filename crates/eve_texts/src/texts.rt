@@ -2,6 +2,7 @@
 
 ghost use Rattle.std.specs.Prelude.{◌≤◌, length};
 
+use crate::said::Said;
 use eve_accounts::{Name, Names};
 use eve_workload::{Mixer, Workload, WorkloadFault, mix};
 use eve_write::{BatchData, CustomerData};
@@ -49,6 +50,12 @@ fn digit_of(digit: u8) -> u8 {
 /// `right`, or the line that isn't.
 pub fn told(alloc: Global, text: &[u8]) -> Result<String, AllocError> {
     words_of(alloc, wrong_line(alloc, text)?)
+}
+
+/// Says what the text comes to.
+pub fn read<W: Write>(alloc: Global, out: &mut W, name: &str, text: &[u8]) -> io::Result<()> {
+    let said = told(alloc, text)?;
+    writeln!(out, "{name}: {said}")
 }
 
 // The line of the text that isn't right, if there is one.
@@ -115,59 +122,62 @@ pub fn add<'a>(names: &mut Names<'a>, name: &'a Name) -> Result<(), AllocError> 
 /// Cuts each batch of the text by both mixers.
 pub fn mixed<W: Write>(rt: &HostRuntime, out: &mut W, name: &str, text: &[u8]) -> io::Result<()> {
     match Workload::read(rt.alloc(), text) {
-        Ok(workload) => mixed_batches(rt, out, name, &workload),
+        Ok(workload) => {
+            let said = mixed_batches(rt, &workload)?;
+            writeln!(out, "{name}:{said}")
+        }
         Err(WorkloadFault::Line(_)) => writeln!(out, "{name}: not right"),
         Err(WorkloadFault::Memory) => Err(AllocError.into()),
     }
 }
 
-fn mixed_batches<W: Write>(
-    rt: &HostRuntime,
-    out: &mut W,
-    name: &str,
-    workload: &Workload,
-) -> io::Result<()> {
+// Cuts each batch by both mixers.
+fn mixed_batches(rt: &HostRuntime, workload: &Workload) -> io::Result<String> {
     let names = names_of(rt, workload.customers())?;
-    write!(out, "{name}:")?;
+    Ok(each_mixed(rt.alloc(), workload, &names)?)
+}
+
+fn each_mixed(alloc: Global, workload: &Workload, names: &Names) -> Result<String, AllocError> {
+    let mut said = Said::nothing(alloc);
     for n in 0..workload.batches() {
         if n > 0 {
-            write!(out, ";")?;
+            write!(said, ";");
         }
-        mixed_batch(rt.alloc(), out, workload, &names, n + 1)?;
+        mixed_batch(alloc, &mut said, workload, names, n + 1)?;
     }
-    writeln!(out, "")
+    said.all()
 }
 
 // Cuts this batch by both mixers.
-fn mixed_batch<W: Write>(
+fn mixed_batch(
     alloc: Global,
-    out: &mut W,
+    said: &mut Said,
     workload: &Workload,
     names: &Names,
     n: u32,
-) -> io::Result<()>
+) -> Result<(), AllocError>
     requires from_one { 1 ≤ n }
     requires there { n ≤ length workload.now.batches }
 {
     let requests = workload.batch(n);
-    write!(out, " first")?;
-    list(out, &mix(alloc, requests, names, Mixer::First)?)?;
-    write!(out, ", whole")?;
-    list(out, &mix(alloc, requests, names, Mixer::Whole)?)
+    write!(said, " first");
+    list(said, &mix(alloc, requests, names, Mixer::First)?);
+    write!(said, ", whole");
+    list(said, &mix(alloc, requests, names, Mixer::Whole)?);
+    Ok(())
 }
 
 // Lists the numbers of the requests of each parallelBatch.
-fn list<W: Write>(out: &mut W, batch: &BatchData) -> io::Result<()> {
+fn list(said: &mut Said, batch: &BatchData) {
     let mut requests = batch.requests.iter();
     for size in &batch.sizes {
-        write!(out, " [")?;
+        write!(said, " [");
         for place in 0..*size {
             if let Some(request) = requests.next() {
                 let gap = if place > 0 { " " } else { "" };
-                write!(out, "{gap}{}", request.number)?;
+                write!(said, "{gap}{}", request.number);
             }
         }
-        write!(out, "]")?;
+        write!(said, "]");
     }
-    Ok(())
 }
