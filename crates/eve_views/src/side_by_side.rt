@@ -182,8 +182,8 @@ fn judge_behind<R: Threads + Sync>(
     }
 }
 
-/// The frames up to the end, where the walk came up to there or so far, and so many bodies were judged; nothing where
-/// anything is wrong.
+/// The frames up to the end: the walk goes on to there, if it hasn't come so far, and all bodies are judged but the
+/// first so many, which were; nothing where anything is wrong.
 fn judge_to_end<R: Threads + Sync>(
     rt: &R,
     alloc: Global,

@@ -1,6 +1,7 @@
 -- Accesses whose entries stand in one list.
 use Rattle.std.proofs.Common.{◌≡◌, ℕ, suc, zero, ◌+◌, ◌*◌, ◌<◌, ◌≤◌, ◌&&◌, IsTrue, List, [], ◌∷◌, ◌++◌, length, get_or}
-use Rattle.std.proofs.Common.{take, drop, refl, sym, ◌∙◌, ap, arith, leb, leb-true, length-append, length-drop, drop-drop}
+use Rattle.std.proofs.Common.{take, drop, refl, sym, ◌∙◌, ap, arith, leb, leb-true, length-append, length-drop}
+use Rattle.std.proofs.Common.{drop-drop}
 use Rattle.std.specs.List.{flat_map, list_all, sum_by}
 use Rattle.std.proofs.lemmas.Bool.{and_parts, and_from, le-leb}
 use Rattle.std.proofs.lemmas.List.{nil_from_length, take_all, take-append-le, drop-append-le, take-append-drop}

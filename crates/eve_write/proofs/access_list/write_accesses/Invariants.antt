@@ -8,5 +8,5 @@ use Rattle.eve_write.proofs.access_list.write_accesses.Given as goal
 abbrev pub invariant-loop-note : goal.invariant-loop-note
 invariant-loop-note g l =
     (l.left ≡ drop (counted (take l.note-index l.note-items)) l.initial.left)
-    × AreGathered g.W.Sink.written g.W.Sink.failures access_text (accesses_listed l.note-items l.initial.left) l.initial.out
-    l.out l.note-index l.texts.items
+    × AreGathered g.W.Sink.written g.W.Sink.failures access_text (accesses_listed l.note-items l.initial.left)
+    l.initial.out l.out l.note-index l.texts.items
